@@ -1,6 +1,7 @@
 //! The types, limits and definitions that all crates of the compiler share.
 #![tactic(auto)]
 
+pub mod arithmetic;
 pub mod faults;
 pub mod form;
 pub mod ids;
