@@ -1,4 +1,4 @@
-ghost use Rattle.std.specs.Prelude.{◌≡◌, [], ◌∷◌, ◌++◌, ◌<◌, length, slice_get, slice_set, insert, remove, IfOk, MatchOption, OnOk, OnErr};
+ghost use Rattle.std.specs.Prelude.{◌≡◌, [], ◌∷◌, ◌++◌, ◌<◌, length, slice_get, slice_set, take, remove, IfOk, MatchOption, OnOk, OnErr};
 
 use crate::exact::ExactClone;
 use std::alloc::{AllocError, Global};
@@ -83,6 +83,14 @@ impl<T: Copy> Items<T> {
         let items = Vec::from_slice(alloc, items)?;
         Ok(Items { items })
     }
+
+    /// Puts a copy of `more` at the end.
+    pub fn extend_from_slice(&mut self, more: &[T]) -> Result<(), AllocError>
+        ensures ok { OnOk result (self.new ≡ self.old ++ more.now) }
+        ensures err { OnErr result (self.new ≡ self.old) }
+    {
+        self.items.extend_from_slice(more)
+    }
 }
 
 impl<T: Drop> Items<T> {
@@ -110,6 +118,13 @@ impl<T: Drop> Items<T> {
         ensures { self.new ≡ slice_set self.old at item }
     {
         self.items[at] = item;
+    }
+
+    /// Keeps the first `len` elements.
+    pub fn truncate(&mut self, len: usize)
+        ensures { self.new ≡ take len self.old }
+    {
+        self.items.truncate(len);
     }
 
     /// Takes the element at `at` out; the later ones move up.

@@ -37,7 +37,9 @@ fn lists_are_made_and_changed(rt: HostRuntime) -> Result<(), Fail> {
     }
     assert_eq!(rt; last, 3);
     assert_eq!(rt; copy.as_vec().len(), 4);
-    assert_eq!(rt; more.into_vec().as_slice(), [7, 8, 9, 3].as_slice());
+    more.extend_from_slice(&[5, 6])?;
+    more.truncate(5);
+    assert_eq!(rt; more.into_vec().as_slice(), [7, 8, 9, 3, 5].as_slice());
     Ok(())
 }
 
