@@ -1,0 +1,5 @@
+pub mod Grammar
+pub mod Machine
+pub mod Trees
+pub mod Laws
+pub mod Reading
