@@ -4,6 +4,7 @@
 pub mod faults;
 pub mod form;
 pub mod ids;
+pub mod lexical;
 pub mod limits;
 pub mod lists;
 pub mod operations;
