@@ -5,6 +5,7 @@ pub mod arithmetic;
 pub mod faults;
 pub mod form;
 pub mod ids;
+pub mod lexical;
 pub mod limits;
 pub mod lists;
 pub mod operations;
