@@ -9,7 +9,12 @@ use crate::Op;
 pub fn apply(op: Op, operands: &[u32]) -> u32
     ensures { result ≡ result_of op operands.now }
 {
-    combine(op, operand(operands, 0), operand(operands, 1), operand(operands, 2))
+    combine(
+        op,
+        operand(operands, 0),
+        operand(operands, 1),
+        operand(operands, 2),
+    )
 }
 
 fn operand(operands: &[u32], at: usize) -> u32
@@ -42,13 +47,7 @@ pub fn combine(op: Op, x: u32, y: u32, z: u32) -> u32
         Op::Le => u32::from(x <= y),
         Op::Min => x.min(y),
         Op::Max => x.max(y),
-        Op::Mux => {
-            if x % 2 == 1 {
-                y
-            } else {
-                z
-            }
-        }
+        Op::Mux => { if x % 2 == 1 { y } else { z } }
     }
 }
 
@@ -62,4 +61,41 @@ fn shift_right(x: u32, bits: u32) -> u32
     ensures { result ≡ x / 2 ^ bits }
 {
     if bits < u32::BITS { x >> bits } else { 0 }
+}
+
+#[cfg(test)]
+mod tests {
+    use super::*;
+
+    #[test]
+    fn each_operation(rt: HostRuntime) {
+        let rows = [
+            (Op::Add, [4_294_967_295, 2, 0], 1),
+            (Op::Sub, [3, 5, 0], 4_294_967_294),
+            (Op::Mul, [65_536, 65_537, 0], 65_536),
+            (Op::Scale(3), [2_147_483_648, 0, 0], 2_147_483_648),
+            (Op::Div, [7, 2, 0], 3),
+            (Op::Div, [7, 0, 0], 0),
+            (Op::Rem, [7, 4, 0], 3),
+            (Op::Rem, [7, 0, 0], 7),
+            (Op::And, [12, 10, 0], 8),
+            (Op::Or, [12, 10, 0], 14),
+            (Op::Xor, [12, 10, 0], 6),
+            (Op::Not, [1, 0, 0], 4_294_967_294),
+            (Op::Flip, [5, 0, 0], 4),
+            (Op::Shl(31), [3, 0, 0], 2_147_483_648),
+            (Op::Shr(4), [4_294_967_295, 0, 0], 268_435_455),
+            (Op::Eq, [5, 5, 0], 1),
+            (Op::Ne, [5, 5, 0], 0),
+            (Op::Lt, [5, 4_294_967_295, 0], 1),
+            (Op::Le, [5, 5, 0], 1),
+            (Op::Min, [5, 4_294_967_295, 0], 5),
+            (Op::Max, [5, 4_294_967_295, 0], 4_294_967_295),
+            (Op::Mux, [1, 8, 9], 8),
+            (Op::Mux, [2, 8, 9], 9),
+        ];
+        for (op, operands, word) in rows {
+            assert_eq!(rt; apply(op, operands.as_slice()), word);
+        }
+    }
 }
