@@ -1,1 +1,5 @@
 pub mod Operations
+pub mod HostSets
+pub mod Protocols
+pub mod Costs
+pub mod Moves
