@@ -4,12 +4,14 @@
 pub mod arithmetic;
 pub mod faults;
 pub mod form;
+pub mod host_sets;
 pub mod ids;
 pub mod lexical;
 pub mod limits;
 pub mod lists;
 pub mod operations;
 pub mod protocols;
+pub mod rows;
 pub mod text;
 
 pub use faults::{CallFault, Failed};
@@ -18,4 +20,5 @@ pub use ids::{HostId, SlotId, Span};
 pub use lists::{Bytes, Inputs, Name, Names, Outputs, Words};
 pub use operations::{Kind, Op};
 pub use protocols::{HostSet, Proto};
+pub use rows::Row;
 pub use text::{Text, Texts};

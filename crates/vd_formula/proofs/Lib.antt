@@ -1,0 +1,6 @@
+pub mod Words
+pub mod Tables
+pub mod Closure
+pub mod Implies
+pub mod FormSteps
+pub mod Antichains

@@ -1,0 +1,5 @@
+pub mod TruthTable
+pub mod MinimalSets
+pub mod Forms
+pub mod Faults
+pub mod Labels
