@@ -53,7 +53,7 @@ module _ (hosts : List (List ℕ)) (bytes : List ℕ) (host : ℕ) (words : List
       ∙ ap (next hosts bytes ts) (other_kind t.kind h)
       ∙ sym (unfold_step hosts bytes ts between (slice_set sections host (Some words)) t)
 
-behind_more : (bytes : List ℕ) (end : ℕ) (k : TokenKind) → k ≢ kind.End → behind_kind bytes end k ≡ tokens_at bytes end
+pub behind_more : (bytes : List ℕ) (end : ℕ) (k : TokenKind) → k ≢ kind.End → behind_kind bytes end k ≡ tokens_at bytes end
 behind_more bytes end kind.End h = absurd (h refl)
 behind_more bytes end _ h = refl
 

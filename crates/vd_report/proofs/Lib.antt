@@ -1,2 +1,3 @@
 pub mod TokenSteps
 pub mod InputsSteps
+pub mod ScheduleSteps

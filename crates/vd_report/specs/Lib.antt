@@ -3,3 +3,4 @@ pub mod Lines
 pub mod Tokens
 pub mod Inputs
 pub mod Outcome
+pub mod Schedule
