@@ -1,3 +1,5 @@
 pub mod TokenSteps
 pub mod InputsSteps
 pub mod ScheduleSteps
+pub mod InputsLaw
+pub mod ScheduleLaw

@@ -2,12 +2,11 @@
 use Rattle.std.proofs.Common.{◌≡◌, ◌≢◌, ℕ, false, List, ◌∷◌, ap, ◌∙◌, Result, Ok}
 use Rattle.vd_base.specs.declared.ids.HostId.{HostId}
 use Rattle.vd_report.specs.declared.fault.ReadFault.{ReadFault}
-use Rattle.vd_report.specs.declared.token.TokenKind.{TokenKind}
 use Rattle.vd_report.specs.declared.token.TokenKind.TheVariants as kind
 use Rattle.vd_report.specs.declared.token.Token.{Token}
 use Rattle.vd_report.specs.declared.schedule.Schedule.{Schedule}
 use Rattle.vd_report.specs.Tokens.{tokens_at, behind_kind, behind, text_of}
-use Rattle.vd_report.specs.Schedule.{Turn, go, all, stop, at_entry, entry_step, last_step, behind_all, reads_last, reads_entries}
+use Rattle.vd_report.specs.Schedule.{Turn, go, all, stop, at_entry, entry_step, last_step, reads_last, reads_entries}
 use Rattle.vd_report.proofs.InputsSteps.{behind_more}
 
 module _ (hosts : List (List ℕ)) (bytes : List ℕ) (entries : List HostId) (at : ℕ) (t : Token) (first : tokens_at bytes at ≡ t ∷ behind bytes t) where

@@ -4,3 +4,5 @@ pub mod Tokens
 pub mod Inputs
 pub mod Outcome
 pub mod Schedule
+pub mod InputsText
+pub mod ScheduleText

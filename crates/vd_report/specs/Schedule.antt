@@ -1,5 +1,5 @@
 -- What a schedule file says, token by token.
-use Rattle.std.specs.Prelude.{ℕ, Bool, true, false, List, [], ◌∷◌, ◌++◌, Option, Some, None, Result, Ok, Err, length, nat_lt, if◌then◌else◌}
+use Rattle.std.specs.Prelude.{ℕ, true, false, List, [], ◌∷◌, ◌++◌, Option, Some, None, Result, Ok, Err, length, nat_lt, if◌then◌else◌}
 use Rattle.vd_base.specs.declared.ids.HostId.{HostId}
 use Rattle.vd_report.specs.declared.token.TokenKind.{TokenKind}
 use Rattle.vd_report.specs.declared.token.TokenKind.TheVariants as kind

