@@ -17,9 +17,9 @@ use Rattle.vd_report.specs.InputsText.{Numbers, no_number, one_number, AreSectio
 use Rattle.vd_report.proofs.InputsSteps.{next, unfold_step, reads_go, reads_stop, word_taken, section_closed}
 
 -- the sections so far are those of these hosts
-record Fits (hosts : List (List ℕ)) (earlier : List ℕ) (s : Sections) : Type 0 where
-  len : length s ≡ length hosts
-  same : (i : ℕ) → is_some (slice_index_or s i None) ≡ list_any (nat_eq i) earlier
+pub record Fits (hosts : List (List ℕ)) (earlier : List ℕ) (s : Sections) : Type 0 where
+  pub len : length s ≡ length hosts
+  pub same : (i : ℕ) → is_some (slice_index_or s i None) ≡ list_any (nat_eq i) earlier
 
 none_at : (n i : ℕ) → slice_index_or {A = Option (List ℕ)} (replicate n None) i None ≡ None
 none_at zero i = refl
@@ -30,7 +30,7 @@ all_none : (n : ℕ) → length {A = Option (List ℕ)} (replicate n None) ≡ n
 all_none zero = refl
 all_none (suc n) = let rest = all_none n in omega arith
 
-fits_start : (hosts : List (List ℕ)) → Fits hosts [] (replicate (length hosts) None)
+pub fits_start : (hosts : List (List ℕ)) → Fits hosts [] (replicate (length hosts) None)
 fits_start hosts = record { len = all_none (length hosts); same = λ i. ap is_some (none_at (length hosts) i) }
 
 module _ (hosts : List (List ℕ)) (earlier : List ℕ) (s : Sections) (fits : Fits hosts earlier s) (host : ℕ) (declared : host < length hosts) (words : List ℕ) where
@@ -78,7 +78,7 @@ module _ (hosts : List (List ℕ)) (bytes : List ℕ) where
       ∙ reads_go hosts bytes ts (named host) s colon _ _ (ap (at_colon host s colon.start) is_colon)
       ∙ numbers_read numbers s host [] (omega arith)
 
-  accept : {earlier : List ℕ} {ts : List Token} {sections : List (ℕ × List ℕ)} → AreSections hosts bytes earlier ts sections → (s : Sections) → Fits hosts earlier s → reads hosts bytes between s ts ≡ Ok (filled (map words_of s) sections)
+  pub accept : {earlier : List ℕ} {ts : List Token} {sections : List (ℕ × List ℕ)} → AreSections hosts bytes earlier ts sections → (s : Sections) → Fits hosts earlier s → reads hosts bytes between s ts ≡ Ok (filled (map words_of s) sections)
   accept (no_section {t = t} {ts = ts} e) s fits = reads_stop hosts bytes ts between s t _ (ap (at_section hosts s t.start (text_of bytes t)) e)
   accept (one_section {earlier = earlier} {words = words} {name = name} {colon = colon} {ts = ts} {rest = rest} {host = host} {sections = sections} is_name found new is_colon numbers few more) s fits =
       let declared = declared_host hosts (text_of bytes name) host found in
@@ -89,10 +89,10 @@ module _ (hosts : List (List ℕ)) (bytes : List ℕ) where
 
 -- what is read is given by the grammar
 module _ (hosts : List (List ℕ)) (bytes : List ℕ) (inputs : List (List ℕ)) where
-  record Rest (earlier : List ℕ) (s : Sections) (ts : List Token) : Type 0 where
-    sections : List (ℕ × List ℕ)
-    are : AreSections hosts bytes earlier ts sections
-    is : filled (map words_of s) sections ≡ inputs
+  pub record Rest (earlier : List ℕ) (s : Sections) (ts : List Token) : Type 0 where
+    pub sections : List (ℕ × List ℕ)
+    pub are : AreSections hosts bytes earlier ts sections
+    pub is : filled (map words_of s) sections ≡ inputs
 
   record InSection (earlier : List ℕ) (s : Sections) (host : ℕ) (before : List ℕ) (ts : List Token) : Type 0 where
     words : List ℕ
@@ -206,7 +206,7 @@ module _ (hosts : List (List ℕ)) (bytes : List ℕ) (inputs : List (List ℕ))
     listing_known = λ earlier s host before fits declared few h. at_listing t ts known earlier s host before fits declared few h;
   }
 
-  between_known : (ts : List Token) (s : Sections) → Fits hosts [] s → reads hosts bytes between s ts ≡ Ok inputs → Rest [] s ts
+  pub between_known : (ts : List Token) (s : Sections) → Fits hosts [] s → reads hosts bytes between s ts ≡ Ok inputs → Rest [] s ts
   between_known [] s fits h = absurd (no_token between s h)
   between_known (t ∷ ts) s fits h = at_between t ts (known_of ts) [] s fits h
 
@@ -214,16 +214,13 @@ module _ (hosts : List (List ℕ)) (bytes : List ℕ) (inputs : List (List ℕ))
   no_words zero = refl
   no_words (suc n) = ap (λ xs. [] ∷ xs) (no_words n)
 
-  given_inputs : inputs_read hosts bytes ≡ Ok inputs → Gives hosts bytes inputs
+  pub given_inputs : inputs_read hosts bytes ≡ Ok inputs → Gives hosts bytes inputs
   given_inputs h =
       let r = between_known (tokens_at bytes 0) (replicate (length hosts) None) (fits_start hosts) h in
       record { sections = r.sections; are = r.are; inputs_are = ap (λ xs. filled xs r.sections) (sym (no_words (length hosts))) ∙ r.is }
 
-  accepted_inputs : Gives hosts bytes inputs → inputs_read hosts bytes ≡ Ok inputs
+  pub accepted_inputs : Gives hosts bytes inputs → inputs_read hosts bytes ≡ Ok inputs
   accepted_inputs g =
       accept hosts bytes g.are (replicate (length hosts) None) (fits_start hosts)
       ∙ ap (λ xs. Ok (filled xs g.sections)) (no_words (length hosts))
       ∙ ap Ok g.inputs_are
-
-pub follows_grammar : (hosts : List (List ℕ)) (bytes : List ℕ) → FollowsGrammar hosts bytes
-follows_grammar hosts bytes = record { given = λ inputs h. given_inputs hosts bytes inputs h; accepted = λ inputs g. accepted_inputs hosts bytes inputs g }

@@ -3,3 +3,4 @@ pub mod InputsSteps
 pub mod ScheduleSteps
 pub mod InputsLaw
 pub mod ScheduleLaw
+pub mod InputsFaults
