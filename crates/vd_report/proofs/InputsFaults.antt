@@ -9,26 +9,11 @@ use Rattle.vd_report.specs.declared.token.Token.{Token}
 use Rattle.vd_report.specs.Hosts.{host_of}
 use Rattle.vd_report.specs.Tokens.{tokens_at, tokens_from, token_of, token_len, end_of, text_of}
 use Rattle.vd_report.specs.Inputs.{Sections, words_of, Place, between, named, listing, Step, go, stop, at_name, at_section, at_colon, at_word, step, reads, inputs_read}
-use Rattle.vd_report.specs.InputsText.{IsFaultAt, FirstWrong, AreSections, FollowsGrammar}
+use Rattle.vd_report.specs.Outcome.{IsFaultAt, FirstWrong}
+use Rattle.vd_report.specs.InputsText.{AreSections, IsInputsText, FollowsGrammar}
+use Rattle.vd_report.proofs.TokenSteps.{HasEnd, has_end}
 use Rattle.vd_report.proofs.InputsSteps.{next, unfold_step, reads_go, reads_stop}
 use Rattle.vd_report.proofs.InputsLaw.{Fits, fits_start, accept, Rest, between_known, given_inputs, accepted_inputs}
-
--- a list of tokens has its end
-abbrev HasEnd : List Token → Type 0
-HasEnd [] = ⊥
-HasEnd (t ∷ ts) = (t.kind ≡ kind.End) ⊎ HasEnd ts
-
-one_of : (b : Bool) (xs ys : List Token) → HasEnd xs → HasEnd ys → HasEnd (if b then xs else ys)
-one_of true xs ys p q = p
-one_of false xs ys p q = q
-
-has_end : (bs : List ℕ) (at inside : ℕ) → HasEnd (tokens_from at inside bs)
-unfolding tokens_from
-has_end [] at inside = inl refl
-has_end (b ∷ bs) at (suc inside) = has_end bs (at + 1) inside
-has_end (b ∷ bs) at zero =
-    one_of (is_space b) (tokens_from (at + 1) 0 bs) (token_of at (b ∷ bs) ∷ tokens_from (at + 1) (token_len (b ∷ bs) - 1) bs)
-    (has_end bs (at + 1) 0) (inr (has_end bs (at + 1) (token_len (b ∷ bs) - 1)))
 
 module _ (hosts : List (List ℕ)) (bytes : List ℕ) where
   text_at : (t : Token) (fault : ReadFault) → Step.stop (Err (Text t.start)) ≡ stop (Err fault) → IsFaultAt hosts bytes t fault
@@ -140,7 +125,7 @@ module _ (hosts : List (List ℕ)) (bytes : List ℕ) where
     none_accepted : (ts : List Token) (s : Sections) → Fits hosts [] s → reads hosts bytes between s ts ≡ Err fault → (sections : List (ℕ × List ℕ)) → AreSections hosts bytes [] ts sections → ⊥
     none_accepted ts s fits h sections are = let read = accept hosts bytes are s fits in absurd cc
 
-    refused : inputs_read hosts bytes ≡ Err fault → FirstWrong hosts bytes (tokens_at bytes 0) fault
+    refused : inputs_read hosts bytes ≡ Err fault → FirstWrong hosts bytes (IsInputsText hosts bytes) (tokens_at bytes 0) fault
     refused h =
         let s : Sections = replicate (length hosts) None in
         let r = stops (tokens_at bytes 0) between s (has_end bytes 0 0) h in
@@ -151,8 +136,8 @@ module _ (hosts : List (List ℕ)) (bytes : List ℕ) where
           behind = r.behind;
           are = r.are;
           at_wrong = r.at_wrong;
-          begins = (r.goes.more, g.sections, g.are);
-          none_begins = λ more sections are. none_accepted (r.front ++ r.wrong ∷ more) s (fits_start hosts) (r.always more) sections are;
+          begins = (r.goes.more, (g.sections, g.are));
+          none_begins = λ more text. none_accepted (r.front ++ r.wrong ∷ more) s (fits_start hosts) (r.always more) text.0 text.1;
         }
 
 pub follows_grammar : (hosts : List (List ℕ)) (bytes : List ℕ) → FollowsGrammar hosts bytes

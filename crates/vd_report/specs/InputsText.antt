@@ -1,13 +1,13 @@
 -- The grammar of inputs files: sections, each of them the name of a host, a colon and numbers.
-use Rattle.std.specs.Prelude.{◌≡◌, ℕ, ◌≤◌, nat_eq, false, List, [], ◌∷◌, ◌++◌, Some, None, Ok, Err, length, replicate, slice_set}
+use Rattle.std.specs.Prelude.{◌≡◌, ℕ, ◌≤◌, nat_eq, false, List, [], ◌∷◌, Some, Ok, Err, length, replicate, slice_set}
 use Rattle.std.specs.List.{list_any}
 use Rattle.vd_report.specs.declared.fault.ReadFault.{ReadFault}
-use Rattle.vd_report.specs.declared.fault.ReadFault.TheVariants.{Text, UnknownHost, Memory}
 use Rattle.vd_report.specs.declared.token.TokenKind.TheVariants as kind
 use Rattle.vd_report.specs.declared.token.Token.{Token}
 use Rattle.vd_report.specs.Hosts.{host_of}
 use Rattle.vd_report.specs.Tokens.{tokens_at, text_of}
 use Rattle.vd_report.specs.Inputs.{inputs_read}
+use Rattle.vd_report.specs.Outcome.{FirstWrong}
 
 -- number tokens with these values, and the tokens behind them
 pub data Numbers : List Token → List ℕ → List Token → Type 0 where
@@ -33,24 +33,12 @@ pub record Gives (hosts : List (List ℕ)) (bytes : List ℕ) (inputs : List (Li
   pub are : AreSections hosts bytes [] (tokens_at bytes 0) sections
   pub inputs_are : filled (replicate (length hosts) []) sections ≡ inputs
 
--- a fault at a token
-abbrev pub IsFaultAt : List (List ℕ) → List ℕ → Token → ReadFault → Type 0
-IsFaultAt hosts bytes t (Text at) = at ≡ t.start
-IsFaultAt hosts bytes t (UnknownHost at) = (at ≡ t.start) × (t.kind ≡ kind.Name) × (host_of hosts (text_of bytes t) ≡ None)
-IsFaultAt hosts bytes t Memory = ⊥
-
--- The first token that cannot stand where it stands: with the tokens in front of it some text of the grammar begins, and with them and it none.
-pub record FirstWrong (hosts : List (List ℕ)) (bytes : List ℕ) (tokens : List Token) (fault : ReadFault) : Type 0 where
-  pub front : List Token
-  pub wrong : Token
-  pub behind : List Token
-  pub are : front ++ wrong ∷ behind ≡ tokens
-  pub at_wrong : IsFaultAt hosts bytes wrong fault
-  pub begins : (more : List Token) × (sections : List (ℕ × List ℕ)) × AreSections hosts bytes [] (front ++ more) sections
-  pub none_begins : (more : List Token) (sections : List (ℕ × List ℕ)) → AreSections hosts bytes [] (front ++ wrong ∷ more) sections → ⊥
+-- The tokens are a text of the grammar.
+abbrev pub IsInputsText : List (List ℕ) → List ℕ → List Token → Type 0
+IsInputsText hosts bytes tokens = (sections : List (ℕ × List ℕ)) × AreSections hosts bytes [] tokens sections
 
 -- What is read is what the grammar gives, each text of the grammar is read, and a refusal is at the first token that cannot stand there.
 pub record FollowsGrammar (hosts : List (List ℕ)) (bytes : List ℕ) : Type 0 where
   pub given : (inputs : List (List ℕ)) → inputs_read hosts bytes ≡ Ok inputs → Gives hosts bytes inputs
   pub accepted : (inputs : List (List ℕ)) → Gives hosts bytes inputs → inputs_read hosts bytes ≡ Ok inputs
-  pub refused : (fault : ReadFault) → inputs_read hosts bytes ≡ Err fault → FirstWrong hosts bytes (tokens_at bytes 0) fault
+  pub refused : (fault : ReadFault) → inputs_read hosts bytes ≡ Err fault → FirstWrong hosts bytes (IsInputsText hosts bytes) (tokens_at bytes 0) fault

@@ -1,5 +1,7 @@
 -- The grammar of schedule files: names of hosts, and `all` behind them or not.
-use Rattle.std.specs.Prelude.{◌≡◌, ℕ, ◌≤◌, Bool, true, false, List, [], ◌∷◌, Some, Ok, length}
+use Rattle.std.specs.Prelude.{◌≡◌, ℕ, ◌≤◌, Bool, true, false, List, [], ◌∷◌, Some, Ok, Err, length}
+use Rattle.vd_report.specs.declared.fault.ReadFault.{ReadFault}
+use Rattle.vd_report.specs.Outcome.{FirstWrong}
 use Rattle.vd_base.specs.declared.ids.HostId.{HostId}
 use Rattle.vd_report.specs.declared.token.TokenKind.TheVariants as kind
 use Rattle.vd_report.specs.declared.token.Token.{Token}
@@ -16,12 +18,16 @@ pub data AreEntries : List (List ℕ) → List ℕ → List Token → List HostI
       name.kind ≡ kind.Name → host_of hosts (text_of bytes name) ≡ Some host → AreEntries hosts bytes ts entries all →
       AreEntries hosts bytes (name ∷ ts) (record { 0 = host } ∷ entries) all
 
--- The bytes are a text of the grammar that gives this schedule.
-pub record GivesSchedule (hosts : List (List ℕ)) (bytes : List ℕ) (schedule : Schedule) : Type 0 where
-  pub are : AreEntries hosts bytes (tokens_at bytes 0) schedule.entries schedule.all
+-- The tokens are a text of the grammar that gives this schedule.
+pub record AreSchedule (hosts : List (List ℕ)) (bytes : List ℕ) (tokens : List Token) (schedule : Schedule) : Type 0 where
+  pub are : AreEntries hosts bytes tokens schedule.entries schedule.all
   pub few : length schedule.entries ≤ 1048576
 
--- What is read is what the grammar gives, and each text of the grammar is read.
+abbrev pub IsScheduleText : List (List ℕ) → List ℕ → List Token → Type 0
+IsScheduleText hosts bytes tokens = (schedule : Schedule) × AreSchedule hosts bytes tokens schedule
+
+-- What is read is what the grammar gives, each text of the grammar is read, and a refusal is at the first token that cannot stand there.
 pub record SchedulesFollowGrammar (hosts : List (List ℕ)) (bytes : List ℕ) : Type 0 where
-  pub given : (schedule : Schedule) → schedule_read hosts bytes ≡ Ok schedule → GivesSchedule hosts bytes schedule
-  pub accepted : (schedule : Schedule) → GivesSchedule hosts bytes schedule → schedule_read hosts bytes ≡ Ok schedule
+  pub given : (schedule : Schedule) → schedule_read hosts bytes ≡ Ok schedule → AreSchedule hosts bytes (tokens_at bytes 0) schedule
+  pub accepted : (schedule : Schedule) → AreSchedule hosts bytes (tokens_at bytes 0) schedule → schedule_read hosts bytes ≡ Ok schedule
+  pub refused : (fault : ReadFault) → schedule_read hosts bytes ≡ Err fault → FirstWrong hosts bytes (IsScheduleText hosts bytes) (tokens_at bytes 0) fault
