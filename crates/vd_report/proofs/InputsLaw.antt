@@ -13,7 +13,7 @@ use Rattle.vd_report.specs.declared.token.Token.{Token}
 use Rattle.vd_report.specs.Hosts.{host_of}
 use Rattle.vd_report.specs.Tokens.{tokens_at, text_of}
 use Rattle.vd_report.specs.Inputs.{Sections, words_of, Place, between, named, listing, go, stop, at_name, at_section, at_colon, at_word, step, reads, inputs_read}
-use Rattle.vd_report.specs.InputsText.{Numbers, no_number, one_number, AreSections, no_section, one_section, filled, Gives, FollowsGrammar}
+use Rattle.vd_report.specs.InputsText.{Numbers, no_number, one_number, AreSections, no_section, one_section, filled, Gives}
 use Rattle.vd_report.proofs.InputsSteps.{next, unfold_step, reads_go, reads_stop, word_taken, section_closed}
 
 -- the sections so far are those of these hosts

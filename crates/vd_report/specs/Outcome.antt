@@ -1,5 +1,5 @@
 -- The answer of a reader against what a text says: want of memory may come in its place.
-use Rattle.std.specs.Prelude.{◌≡◌, ℕ, List, ◌∷◌, ◌++◌, None, Result, Ok, Err}
+use Rattle.std.specs.Prelude.{◌≡◌, ℕ, List, ◌∷◌, ◌++◌, None, Result, Err}
 use Rattle.vd_report.specs.Hosts.{host_of}
 use Rattle.vd_report.specs.Tokens.{text_of}
 use Rattle.vd_report.specs.declared.token.TokenKind.TheVariants as kind
