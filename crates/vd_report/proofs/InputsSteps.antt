@@ -11,10 +11,10 @@ use Rattle.vd_report.specs.Inputs.{Sections, Place, between, named, listing, Ste
 use Rattle.vd_report.specs.Outcome.{IsFaultOf}
 
 module _ (hosts : List (List ℕ)) (bytes : List ℕ) (ts : List Token) where
-  abbrev next : Step → Result (List (List ℕ)) ReadFault
+  abbrev pub next : Step → Result (List (List ℕ)) ReadFault
   next s = elim s [ go place sections ↦ reads hosts bytes place sections ts | stop result ↦ result ]
 
-  unfold_step : (place : Place) (sections : Sections) (t : Token) → reads hosts bytes place sections (t ∷ ts) ≡ next (step hosts bytes place sections t)
+  pub unfold_step : (place : Place) (sections : Sections) (t : Token) → reads hosts bytes place sections (t ∷ ts) ≡ next (step hosts bytes place sections t)
   unfolding reads
   unfold_step place sections t = refl
 
@@ -24,11 +24,11 @@ module _ (hosts : List (List ℕ)) (bytes : List ℕ) (ts : List Token) where
   pub reads_stop : (place : Place) (sections : Sections) (t : Token) (r : Result (List (List ℕ)) ReadFault) → step hosts bytes place sections t ≡ stop r → reads hosts bytes place sections (t ∷ ts) ≡ r
   reads_stop place sections t r e = unfold_step place sections t ∙ ap next e
 
-lt_true : {m : ℕ} → m < 65536 → nat_lt m 65536 ≡ true
-lt_true h = grind (arith, nat_tests)
+pub below_limit : {m n : ℕ} → m < n → nat_lt m n ≡ true
+below_limit h = grind (arith, nat_tests)
 
-lt_false : {m : ℕ} → 65536 ≤ m → nat_lt m 65536 ≡ false
-lt_false h = grind (arith, nat_tests)
+not_below : {m n : ℕ} → n ≤ m → nat_lt m n ≡ false
+not_below h = grind (arith, nat_tests)
 
 -- a token of a section
 module _ (hosts : List (List ℕ)) (bytes : List ℕ) (host : ℕ) (words : List ℕ) (sections : Sections) (t : Token) where
@@ -38,10 +38,10 @@ module _ (hosts : List (List ℕ)) (bytes : List ℕ) (host : ℕ) (words : List
       ∙ ap (λ c. if c then go (listing host (words ++ v ∷ [])) sections else stop (Err (Text t.start))) few
 
   pub word_taken : (v : ℕ) → t.kind ≡ kind.Number v → length words < 65536 → step hosts bytes (listing host words) sections t ≡ go (listing host (words ++ v ∷ [])) sections
-  word_taken v e few = chosen true (lt_true few) v e
+  word_taken v e few = chosen true (below_limit few) v e
 
   pub word_refused : (v : ℕ) → t.kind ≡ kind.Number v → 65536 ≤ length words → step hosts bytes (listing host words) sections t ≡ stop (Err (Text t.start))
-  word_refused v e many = chosen false (lt_false many) v e
+  word_refused v e many = chosen false (not_below many) v e
 
   other_kind : (k : TokenKind) → ((v : ℕ) → k ≡ kind.Number v → ⊥) → at_word hosts host words sections t.start (text_of bytes t) k ≡ at_section hosts (slice_set sections host (Some words)) t.start (text_of bytes t) k
   other_kind (kind.Number v) h = absurd (h v refl)
@@ -53,7 +53,7 @@ module _ (hosts : List (List ℕ)) (bytes : List ℕ) (host : ℕ) (words : List
       ∙ ap (next hosts bytes ts) (other_kind t.kind h)
       ∙ sym (unfold_step hosts bytes ts between (slice_set sections host (Some words)) t)
 
-behind_more : (bytes : List ℕ) (end : ℕ) (k : TokenKind) → k ≢ kind.End → behind_kind bytes end k ≡ tokens_at bytes end
+pub behind_more : (bytes : List ℕ) (end : ℕ) (k : TokenKind) → k ≢ kind.End → behind_kind bytes end k ≡ tokens_at bytes end
 behind_more bytes end kind.End h = absurd (h refl)
 behind_more bytes end _ h = refl
 

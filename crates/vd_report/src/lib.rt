@@ -5,6 +5,7 @@ pub mod fault;
 pub mod hosts;
 pub mod inputs;
 pub mod lines;
+pub mod schedule;
 #[cfg(test)]
 mod tests;
 pub mod token;
@@ -12,3 +13,4 @@ pub mod token;
 pub use fault::ReadFault;
 pub use inputs::read_inputs;
 pub use lines::{outputs_text, push_words_line};
+pub use schedule::{Schedule, read_schedule};

@@ -2,7 +2,7 @@ use super::*;
 use std::alloc::Global;
 use std::process::Abort;
 use std::test::Fail;
-use vd_base::{Bytes, Names, Words};
+use vd_base::{Bytes, HostId, Names, Words};
 use vd_items::Items;
 
 fn two_hosts(alloc: Global) -> Result<Names, Fail> {
@@ -112,4 +112,94 @@ fn outputs_are_printed_a_line_for_each_host(rt: HostRuntime) -> Result<(), Fail>
         b"alice 2 0 4294967295\nbob 0\n".as_slice()
     );
     Ok(())
+}
+
+fn expect_schedule(
+    rt: &impl Abort,
+    alloc: Global,
+    text: &str,
+    entries: &[HostId],
+    all: bool,
+) -> Result<(), Fail> {
+    let hosts = two_hosts(alloc)?;
+    let bytes = text.as_bytes();
+    assert!(rt; bytes.len() < 1000);
+    assert!(rt; hosts.as_slice().len() <= 4);
+    let schedule = read_schedule(alloc, bytes, &hosts)?;
+    assert_eq!(rt; schedule.entries.as_slice(), entries, "{text}");
+    assert_eq!(rt; schedule.all, all, "{text}");
+    Ok(())
+}
+
+fn expect_schedule_fault(
+    rt: &impl Abort,
+    alloc: Global,
+    bytes: &[u8],
+    fault: ReadFault,
+) -> Result<(), Fail> {
+    let hosts = two_hosts(alloc)?;
+    assert!(rt; bytes.len() < 10_000_000);
+    assert!(rt; hosts.as_slice().len() <= 4);
+    match read_schedule(alloc, bytes, &hosts) {
+        Err(found) => assert!(rt; found == fault, "{bytes:?}"),
+        Ok(_) => panic!(rt; "{bytes:?} is refused"),
+    }
+    Ok(())
+}
+
+#[test]
+fn schedules_are_read(rt: HostRuntime) -> Result<(), Fail> {
+    let cases: [(&str, &[HostId], bool); 5] = [
+        ("", &[], false),
+        (
+            "bob bob\tbob\r\n",
+            &[HostId(1), HostId(1), HostId(1)],
+            false,
+        ),
+        ("alice bob all", &[HostId(0), HostId(1)], true),
+        ("all", &[], true),
+        ("alice all \n", &[HostId(0)], true),
+    ];
+    for (text, entries, all) in cases {
+        expect_schedule(&rt, rt.alloc(), text, entries, all)?;
+    }
+    Ok(())
+}
+
+#[test]
+fn refused_schedules_have_the_place_of_their_first_wrong_token(
+    rt: HostRuntime,
+) -> Result<(), Fail> {
+    let cases: [(&[u8], ReadFault); 11] = [
+        (b"bob carol", ReadFault::UnknownHost(4)),
+        (b"carol!", ReadFault::UnknownHost(0)),
+        (b"bob!", ReadFault::Text(3)),
+        (b"all bob", ReadFault::Text(4)),
+        (b"all all", ReadFault::Text(4)),
+        (b"all carol", ReadFault::Text(4)),
+        (b"bob host", ReadFault::Text(4)),
+        (b"array", ReadFault::Text(0)),
+        (b"bob // turns", ReadFault::Text(4)),
+        (b"bob 5", ReadFault::Text(4)),
+        (b"bob:", ReadFault::Text(3)),
+    ];
+    for (bytes, fault) in cases {
+        expect_schedule_fault(&rt, rt.alloc(), bytes, fault)?;
+    }
+    Ok(())
+}
+
+#[test]
+fn a_schedule_has_at_most_1048576_entries(rt: HostRuntime) -> Result<(), Fail> {
+    let mut text = Bytes::new(rt.alloc());
+    for _ in 0..1_048_576 {
+        text.extend_from_slice(b"bob ")?;
+    }
+    let hosts = two_hosts(rt.alloc())?;
+    assert!(rt; hosts.as_slice().len() <= 4);
+    assert!(rt; text.as_slice().len() < 10_000_000);
+    let schedule = read_schedule(rt.alloc(), text.as_slice(), &hosts)?;
+    assert_eq!(rt; schedule.entries.as_slice().len(), 1_048_576);
+    text.extend_from_slice(b"carol")?;
+    expect_schedule_fault(&rt, rt.alloc(), text.as_slice(), ReadFault::Text(4_194_304))
 }

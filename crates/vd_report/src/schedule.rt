@@ -1,0 +1,104 @@
+//! The reader of schedules.
+
+ghost use Rattle.std.specs.Prelude.{◌≡◌, ◌≢◌, ℕ, ◌^◌, ◌<◌, ◌≤◌, ◌∷◌, [], ◌++◌, List, length, IfOk, IfErr, OnOk, MatchResult};
+ghost use Rattle.vd_report.specs.declared.token.TokenKind.TheVariants as token_kind;
+ghost use Rattle.vd_report.specs.declared.schedule.Schedule.{Schedule};
+ghost use Rattle.vd_base.specs.declared.ids.HostId.{HostId};
+ghost use Rattle.vd_report.specs.Outcome.{IsFaultOf};
+ghost use Rattle.vd_report.specs.Schedule.{go, stop, entry_step, last_step, schedule_read};
+ghost use Rattle.vd_report.specs.ScheduleText.{SchedulesFollowGrammar};
+
+use crate::fault::ReadFault;
+use crate::hosts::host_of;
+use crate::token::{Token, TokenKind, next_token};
+use std::alloc::Global;
+use vd_base::limits::{HOSTS, SCHEDULE_ENTRIES};
+use vd_base::{HostId, Names};
+use vd_items::Items;
+
+/// In which order hosts step.
+#[derive(PartialEq, Eq, Debug, Drop)]
+pub struct Schedule {
+    /// The hosts that step in turn, one step each where they can.
+    pub entries: Items<HostId>,
+    /// Whether rounds over all hosts follow, until none can step.
+    pub all: bool,
+}
+
+/// The schedule that a file gives.
+pub fn read_schedule(alloc: Global, bytes: &[u8], hosts: &Names) -> Result<Schedule, ReadFault>
+    requires small { length bytes.now < 2 ^ 32 }
+    requires few_hosts { length hosts.now ≤ HOSTS }
+    ensures ok { IfOk result (λ schedule. schedule_read hosts.now bytes.now ≡ Ok schedule) }
+    ensures err { IfErr result (λ fault. IsFaultOf (schedule_read hosts.now bytes.now) fault) }
+{
+    let mut entries = Items::new(alloc);
+    let mut at = 0;
+    'entries: loop {
+        let token = next_token(bytes, at);
+        match token.kind {
+            TokenKind::End => return Ok(Schedule {
+                entries,
+                all: false,
+            }),
+            TokenKind::All => {
+                let last = next_token(bytes, token.end);
+                expect_end(last)?;
+                return Ok(Schedule { entries, all: true });
+            }
+            _ => {
+                let host = entry_host(bytes, hosts, &entries, token)?;
+                entries.push(host)?;
+                at = token.end;
+            }
+        }
+    }
+}
+
+/// The host that a token names as the next entry.
+fn entry_host(
+    bytes: &[u8],
+    hosts: &Names,
+    entries: &Items<HostId>,
+    token: Token,
+) -> Result<HostId, ReadFault>
+    requires start { token.start ≤ token.end }
+    requires end { token.end ≤ length bytes.now }
+    requires small { length bytes.now < 2 ^ 32 }
+    requires few_hosts { length hosts.now ≤ HOSTS }
+    requires not_end { token.kind ≢ token_kind.End }
+    requires not_all { token.kind ≢ token_kind.All }
+    ensures { MatchResult result
+        (λ host. entry_step hosts.now bytes.now entries.now token ≡ go (entries.now ++ host ∷ []))
+        (λ fault. entry_step hosts.now bytes.now entries.now token ≡ stop (Err fault)) }
+{
+    let TokenKind::Name = token.kind else {
+        return Err(ReadFault::Text(token.start as u32));
+    };
+    if entries.as_slice().len() >= SCHEDULE_ENTRIES as usize {
+        return Err(ReadFault::Text(token.start as u32));
+    }
+    match host_of(hosts, &bytes[token.start..token.end]) {
+        Some(host) => Ok(HostId(host as u8)),
+        None => Err(ReadFault::UnknownHost(token.start as u32)),
+    }
+}
+
+fn expect_end(token: Token) -> Result<(), ReadFault>
+    requires { token.start < 2 ^ 32 }
+    ensures ok { OnOk result (token.kind ≡ token_kind.End) }
+    ensures err { IfErr result (λ fault. (entries : List HostId) → last_step entries token ≡ Err fault) }
+{
+    match token.kind {
+        TokenKind::End => Ok(()),
+        _ => Err(ReadFault::Text(token.start as u32)),
+    }
+}
+
+/// A schedule file is read exactly where it is a text of the grammar, and then as that text says.
+pub fn schedules_follow_the_grammar(bytes: &[u8], hosts: &Names)
+    ensures { SchedulesFollowGrammar hosts.now bytes.now }
+{
+    let _ = bytes;
+    let _ = hosts;
+}
