@@ -1,4 +1,4 @@
-ghost use Rattle.std.specs.Prelude.{◌≡◌, ◌++◌, length, OnOk, IfOk};
+ghost use Rattle.std.specs.Prelude.{◌≡◌, ◌++◌, OnOk, IfOk};
 ghost use Rattle.vd_report.specs.Lines.{number_field, words_line, output_lines};
 
 use itoa::Buffer;
@@ -7,7 +7,6 @@ use vd_base::{Bytes, Names, Outputs};
 
 /// One line for each host: its name, how many words it was given, and the words.
 pub fn outputs_text(alloc: Global, hosts: &Names, outputs: &Outputs) -> Result<Bytes, AllocError>
-    requires { length outputs.now ≡ length hosts.now }
     ensures { IfOk result (λ text. text ≡ output_lines hosts.now outputs.now) }
 {
     let mut text = Bytes::new(alloc);
