@@ -1,0 +1,4 @@
+pub mod Capped
+pub mod Tables
+pub mod Lookups
+pub mod SameKinds
