@@ -14,9 +14,10 @@ capped_max a b x y s p q r = omega arith
 pub capped_product : (a x n s : ℕ) → a ≡ capped x → s ≡ capped (a * n) → s ≡ capped (x * n)
 capped_product a x zero s p q = omega arith
 capped_product a x (suc n) s p q = elim (cases_lt x (2 ^ 32)) [
-    inl small ↦ (let same : a ≡ x = omega arith in q ∙ ap (λ z. capped (z * suc n)) same)
+  | inl small ↦ (let same : a ≡ x = omega arith in q ∙ ap (λ z. capped (z * suc n)) same)
   | inr large ↦
       (let top : a ≡ 4294967295 = omega arith in
       let grows : x * 1 ≤ x * suc n = mul-le-mul_left x (omega arith) in
       let grows' : a * 1 ≤ a * suc n = mul-le-mul_left a (omega arith) in
-      omega (arith, grows, grows')) ]
+      omega (arith, grows, grows'))
+]

@@ -25,11 +25,12 @@ pub insert_named : {V : Type 0} (es : List (Bor (List ℕ) × V)) (k : Bor (List
 insert_named [] k v none = refl
 insert_named {V} (e ∷ es) k v none =
     let P : Bool → Type 0 = λ b. is_some (if b then Some e.1 else at_name (names_of es) k.now) ≡ false
-        → names_of (if b then (e.0, v) ∷ es else e ∷ insert_entry (λ x y. bytes_eq x.now y.now) es k v) ≡ names_of (e ∷ es) ++ (k.now, v) ∷ [] in
+    → names_of (if b then (e.0, v) ∷ es else e ∷ insert_entry (λ x y. bytes_eq x.now y.now) es k v) ≡ names_of (e ∷ es) ++ (k.now, v) ∷ [] in
     rw (bytes_eq_sym k.now e.0.now)
-      ((elim (bytes_eq e.0.now k.now) as P [
-        true ↦ λ none. absurd (true≢false none)
-      | false ↦ λ none. ap (λ z. (e.0.now, e.1) ∷ z) (insert_named es k v none) ]) none)
+    ((elim (bytes_eq e.0.now k.now) as P [
+      | true ↦ λ none. absurd (true≢false none)
+      | false ↦ λ none. ap (λ z. (e.0.now, e.1) ∷ z) (insert_named es k v none)
+    ]) none)
 
 pub take_named : {V : Type 0} (n : ℕ) (es : List (Bor (List ℕ) × V)) → names_of (take n es) ≡ take n (names_of es)
 take_named zero es = refl

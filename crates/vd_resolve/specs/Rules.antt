@@ -211,7 +211,6 @@ typing_of_link = fold-Link Typing LinkTyping expr_typing link_typing
 abbrev pub Checking : Type 0
 Checking = Scope → Named Symbol → Result (Named Symbol) NameFault
 
-
 abbrev pub is_stored : Span → Kind → Option Symbol → Result (Unit {0}) NameFault
 is_stored at value None = Err (fault.Unknown at)
 is_stored at value (Some (Constant kind)) = Err (fault.Kind at)
@@ -289,10 +288,14 @@ functions_check principals hosts before (f ∷ fs) =
     and_then (function_check (record { principals = principals; hosts = hosts; functions = before; later = function_names (f ∷ fs) }) f) (λ done.
     functions_check principals hosts (before ++ (f.name.name, signature_of f) ∷ []) fs))
 
+-- the functions and then main
+abbrev pub bodies_check : Names → Names → List Function → List Statement → Result (Unit {0}) NameFault
+bodies_check principals hosts fs main =
+    and_then (functions_check principals hosts [] fs) (λ functions.
+    and_then (block_check (map checking main) (record { principals = principals; hosts = hosts; functions = functions; later = [] }) []) (λ left. Ok tt))
+
 -- the first fault of a source on names and kinds
 abbrev pub source_check : Source → Result (Unit {0}) NameFault
 source_check source =
     and_then (distinct [] source.principals) (λ principals.
-    and_then (hosts_check principals [] source.hosts) (λ hosts.
-    and_then (functions_check principals hosts [] source.functions) (λ functions.
-    and_then (block_check (map checking source.main) (record { principals = principals; hosts = hosts; functions = functions; later = [] }) []) (λ left. Ok tt))))
+    and_then (hosts_check principals [] source.hosts) (λ hosts. bodies_check principals hosts source.functions source.main))

@@ -8,7 +8,7 @@ use Rattle.vd_resolve.specs.Sizes.{function_sizes}
 use Rattle.vd_resolve.specs.Walks.{signatures}
 
 abbrev pub scope_of : Declarations → Scope
-scope_of d = record { principals = d.principals; hosts = d.hosts; functions = signatures d.callees; later = function_names d.later.now }
+scope_of d = record { principals = d.principals.now; hosts = d.hosts.now; functions = signatures d.callees.now; later = function_names d.later.now }
 
 -- the exact sizes of the functions before this place
 abbrev pub sizes_of : Declarations → Named Size

@@ -96,7 +96,9 @@ expr_sizing (Expr-F.Element x index) = made (λ functions variables. also (index
 expr_sizing (Expr-F.Input host) = made (λ functions variables. one)
 expr_sizing (Expr-F.Call f arguments) = record {
   size = λ functions variables. also (sizes_after nothing arguments functions variables) (call_size (at_name functions f.name));
-  plain = λ variables. true; bare = false }
+  plain = λ variables. true;
+  bare = false;
+}
 expr_sizing (Expr-F.Min at x y) = made (λ functions variables. also (also (x.size functions variables) (y.size functions variables)) one)
 expr_sizing (Expr-F.Max at x y) = made (λ functions variables. also (also (x.size functions variables) (y.size functions variables)) one)
 expr_sizing (Expr-F.Mux at c x y) = made (λ functions variables. also (also (also (c.size functions variables) (x.size functions variables)) (y.size functions variables)) one)
@@ -184,5 +186,8 @@ abbrev pub function_sizes : Named Size → List Function → Named Size
 function_sizes before [] = before
 function_sizes before (f ∷ fs) = function_sizes (before ++ (f.name.name, function_size before f) ∷ []) fs
 
+abbrev pub bodies_size : List Function → List Statement → Size
+bodies_size fs main = block_size (map statement_size main) (function_sizes [] fs) []
+
 abbrev pub source_size : Source → Size
-source_size source = block_size (map statement_size source.main) (function_sizes [] source.functions) []
+source_size source = bodies_size source.functions source.main

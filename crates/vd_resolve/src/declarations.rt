@@ -13,10 +13,10 @@ use vd_core::source::Function;
 #[derive(Drop)]
 pub(crate) struct Declarations<'a> {
     pub alloc: Global,
-    pub principals: NameTable<'a, ()>,
-    pub hosts: NameTable<'a, ()>,
-    pub callees: NameTable<'a, Callee>,
+    pub principals: &'a NameTable<'a, ()>,
+    pub hosts: &'a NameTable<'a, ()>,
+    pub callees: &'a NameTable<'a, Callee>,
     pub earlier: &'a [Function],
     pub later: &'a [Function],
-    ghost sized: { HaveSizes callees (function_sizes [] earlier.now) },
+    ghost sized: { HaveSizes callees.now (function_sizes [] earlier.now) },
 }

@@ -135,7 +135,7 @@ impl<'a> Declarations<'a> {
                 })
             }
             Expr::Input(host) => {
-                known(&self.hosts, host)?;
+                known(self.hosts, host)?;
                 Ok(Typed {
                     kind: Kind::Word,
                     size: Size::one(),
@@ -162,7 +162,7 @@ impl<'a> Declarations<'a> {
             }
             Expr::Declassify(inner, to) | Expr::Endorse(inner, to) => {
                 let inner = self.expr(values, inner)?;
-                check_form(&self.principals, to)?;
+                check_form(self.principals, to)?;
                 Ok(Typed {
                     kind: inner.kind,
                     size: inner.size.also(Size::one()),

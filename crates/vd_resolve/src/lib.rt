@@ -4,11 +4,20 @@
 mod declarations;
 mod expression;
 mod fault;
+mod function;
 mod kinds;
+mod limits;
 mod names;
+mod resolved;
 mod size;
 mod statement;
 mod symbol;
 mod table;
+mod whole;
 
 pub use fault::{NameFault, Quantity};
+pub use resolved::Resolved;
+pub use whole::resolve;
+
+#[cfg(test)]
+mod tests;

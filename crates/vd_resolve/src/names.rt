@@ -1,7 +1,7 @@
 //! Names that are looked up, and labels that name principals.
 
 ghost use Rattle.std.specs.Prelude.{◌≡◌, Ok, OnOk, IfErr, IfOk};
-ghost use Rattle.vd_resolve.specs.Rules.{known as known_name, is_new, declared, form_check, label_check, written_label_check};
+ghost use Rattle.vd_resolve.specs.Rules.{known as known_name, declared, form_check, label_check, written_label_check};
 ghost use Rattle.vd_resolve.specs.Walks.{IsFaultOf};
 
 use crate::fault::NameFault;
@@ -16,18 +16,6 @@ pub(crate) fn known(names: &NameTable<'_, ()>, name: &Ident) -> Result<(), NameF
         Ok(())
     } else {
         Err(NameFault::Unknown(name.span))
-    }
-}
-
-/// Whether a name may be declared.
-pub(crate) fn fresh<V>(names: &NameTable<'_, V>, name: &Ident) -> Result<(), NameFault>
-    ensures ok { OnOk result (is_new name.now names.now ≡ Ok tt) }
-    ensures fault { IfErr result (IsFaultOf (is_new name.now names.now)) }
-{
-    if names.contains(name.name.as_slice()) {
-        Err(NameFault::Twice(name.span))
-    } else {
-        Ok(())
     }
 }
 
@@ -47,7 +35,10 @@ pub(crate) fn declare<'a, V: Drop>(
 }
 
 /// Whether the principals of a form are declared.
-pub(crate) fn check_form(principals: &NameTable<'_, ()>, form: &WrittenForm) -> Result<(), NameFault>
+pub(crate) fn check_form(
+    principals: &NameTable<'_, ()>,
+    form: &WrittenForm,
+) -> Result<(), NameFault>
     ensures ok { OnOk result (form_check form.now principals.now ≡ Ok tt) }
     ensures fault { IfErr result (IsFaultOf (form_check form.now principals.now)) }
 {
@@ -63,7 +54,10 @@ pub(crate) fn check_form(principals: &NameTable<'_, ()>, form: &WrittenForm) -> 
     }
 }
 
-pub(crate) fn check_label(principals: &NameTable<'_, ()>, label: &WrittenLabel) -> Result<(), NameFault>
+pub(crate) fn check_label(
+    principals: &NameTable<'_, ()>,
+    label: &WrittenLabel,
+) -> Result<(), NameFault>
     ensures ok { OnOk result (label_check label.now principals.now ≡ Ok tt) }
     ensures fault { IfErr result (IsFaultOf (label_check label.now principals.now)) }
 {

@@ -96,7 +96,11 @@ impl<'a> Declarations<'a> {
 
     /// One statement; a value that it declares stays in sight.
     #[cycle(checking)]
-    fn statement(&self, values: &mut Values<'a>, statement: &'a Statement) -> Result<Size, NameFault>
+    fn statement(
+        &self,
+        values: &mut Values<'a>,
+        statement: &'a Statement,
+    ) -> Result<Size, NameFault>
         ensures checked { OnOk result (checking statement.now (scope_of self.now) values.old ≡ Ok values.new) }
         ensures sized { IfOk result (λ size. IsSized size values.new (statement_size statement.now (sizes_of self.now) (variables values.old))) }
         ensures kept { OnOk result (take (length values.old) values.new ≡ values.old) }
@@ -112,7 +116,7 @@ impl<'a> Declarations<'a> {
                 let typed = self.expr(values, value)?;
                 let plain = is_plain(values, value);
                 declare(values, name, Symbol::Constant(typed.kind))?;
-                check_written_label(&self.principals, label)?;
+                check_written_label(self.principals, label)?;
                 Ok(if plain {
                     typed.size.also(Size::one())
                 } else {
@@ -129,7 +133,7 @@ impl<'a> Declarations<'a> {
                 let typed = self.expr(values, value)?;
                 declare(values, name, Symbol::Variable(*kind))?;
                 expect_kind(name.span, *kind, typed.kind)?;
-                check_written_label(&self.principals, label)?;
+                check_written_label(self.principals, label)?;
                 Ok(typed.size.also(Size::one()))
             }
             Statement::Array {
@@ -140,7 +144,7 @@ impl<'a> Declarations<'a> {
                 label,
             } => {
                 declare(values, name, Symbol::Array(*kind))?;
-                check_written_label(&self.principals, label)?;
+                check_written_label(self.principals, label)?;
                 Ok(Size::array_of(*length))
             }
             Statement::Store { name, value } => {
@@ -156,7 +160,7 @@ impl<'a> Declarations<'a> {
             }
             Statement::Output { at: _, value, host } => {
                 let typed = self.expr(values, value)?;
-                known(&self.hosts, host)?;
+                known(self.hosts, host)?;
                 Ok(typed.size.also(Size::one()))
             }
             Statement::If {

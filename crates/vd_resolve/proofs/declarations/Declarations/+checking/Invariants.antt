@@ -11,5 +11,5 @@ invariant-statements-loop-statement l =
     (in_sequence (map checking (drop l.statement-index l.statements)) (scope_of l.self) l.values ≡ in_sequence (map checking l.statements) (scope_of l.self) l.initial.values)
     × (take (length l.initial.values) l.values ≡ l.initial.values)
     × ((exact : Size) × IsCapped l.size exact
-      × (statements_after exact (map statement_size (drop l.statement-index l.statements)) (sizes_of l.self) (variables l.values)
-        ≡ statements_after nothing (map statement_size l.statements) (sizes_of l.self) (variables l.initial.values)))
+    × (statements_after exact (map statement_size (drop l.statement-index l.statements)) (sizes_of l.self) (variables l.values)
+    ≡ statements_after nothing (map statement_size l.statements) (sizes_of l.self) (variables l.initial.values)))
