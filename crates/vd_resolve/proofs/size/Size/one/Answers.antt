@@ -1,0 +1,7 @@
+use Rattle.std.proofs.Common.{refl}
+use Rattle.vd_resolve.specs.Sizes.{capped_size, IsCapped}
+use Rattle.vd_resolve.proofs.size.Size.one.Goals as goal
+
+pub returns : goal.returns
+unfolding capped_size IsCapped
+returns c = refl

@@ -1,0 +1,6 @@
+pub mod Names
+pub mod Sizes
+pub mod Rules
+pub mod Limits
+pub mod Walks
+pub mod Scopes

@@ -1,0 +1,311 @@
+//! Expressions: kinds and sizes.
+
+ghost use Rattle.std.specs.Prelude.{◌≡◌, [], map, Ok, OnOk, IfErr, IfOk};
+ghost use Rattle.vd_resolve.specs.Rules.{typing, typing_of_link, typings, chain_typing, value_kind, element_kind, call_kind, kind_or, and_then, function_names};
+ghost use Rattle.vd_resolve.specs.Names.{at_name, is_name};
+ghost use Rattle.vd_resolve.specs.Sizes.{IsCapped, expr_size, sizing, sizing_of_link, links_after, sizes_after, is_variable, is_scale, call_size, nothing, also};
+ghost use Rattle.vd_resolve.specs.Walks.{IsFaultOf, variables};
+ghost use Rattle.vd_resolve.specs.Scopes.{scope_of, sizes_of};
+
+use crate::declarations::Declarations;
+use crate::fault::NameFault;
+use crate::kinds::{of_infix, of_mux, of_prefix, of_shift, on_words, same_kinds};
+use crate::names::{check_form, known};
+use crate::size::Size;
+use crate::symbol::Symbol;
+use crate::table::NameTable;
+use vd_base::{Kind, Span};
+use vd_core::source::{Expr, Function, Ident, Infix, Link};
+use vd_items::Items;
+
+/// The values in sight.
+pub(crate) type Values<'a> = NameTable<'a, Symbol>;
+
+/// The kind of an expression, and its size.
+#[derive(Clone, Copy)]
+pub(crate) struct Typed {
+    pub kind: Kind,
+    pub size: Size,
+}
+
+/// The kinds of arguments, and their sizes together.
+#[derive(Drop)]
+struct Arguments {
+    kinds: Items<Kind>,
+    size: Size,
+}
+
+fn kind_at(at: Span, kind: Option<Kind>) -> Result<Kind, NameFault>
+    ensures ok { IfOk result (λ given. kind_or at kind ≡ Ok given) }
+    ensures fault { IfErr result (IsFaultOf (kind_or at kind)) }
+{
+    kind.ok_or(NameFault::Kind(at))
+}
+
+#[tactic(auto, using(crate::proofs::Lookups::variable_at))]
+fn is_variable(values: &Values<'_>, name: &[u8]) -> bool
+    ensures { result ≡ is_variable (variables values.now) name.now }
+{
+    matches!(values.get(name), Some(Symbol::Variable(_)))
+}
+
+fn value(values: &Values<'_>, name: &Ident) -> Result<Kind, NameFault>
+    ensures ok { IfOk result (λ kind. value_kind name.now.span (at_name values.now name.now.name) ≡ Ok kind) }
+    ensures fault { IfErr result (IsFaultOf (value_kind name.now.span (at_name values.now name.now.name))) }
+{
+    match values.get(name.name.as_slice()) {
+        None => Err(NameFault::Unknown(name.span)),
+        Some(Symbol::Constant(kind) | Symbol::Variable(kind)) => Ok(*kind),
+        Some(Symbol::Array(_)) => Err(NameFault::Kind(name.span)),
+    }
+}
+
+/// An element of an array, by an index of this kind.
+pub(crate) fn element(values: &Values<'_>, name: &Ident, index: Kind) -> Result<Kind, NameFault>
+    ensures ok { IfOk result (λ kind. element_kind name.now.span index (at_name values.now name.now.name) ≡ Ok kind) }
+    ensures fault { IfErr result (IsFaultOf (element_kind name.now.span index (at_name values.now name.now.name))) }
+{
+    match (values.get(name.name.as_slice()), index) {
+        (None, _) => Err(NameFault::Unknown(name.span)),
+        (Some(Symbol::Array(kind)), Kind::Word) => Ok(*kind),
+        (Some(_), _) => Err(NameFault::Kind(name.span)),
+    }
+}
+
+/// Whether a `let` of the expression copies a binding that there is or that a call gives.
+pub(crate) fn is_plain(values: &Values<'_>, expr: &Expr) -> bool
+    ensures { result ≡ (sizing expr.now).plain (variables values.now) }
+{
+    match expr {
+        Expr::Value(name) => !is_variable(values, name.name.as_slice()),
+        Expr::Call(_, _) => true,
+        Expr::Brackets(inner) => is_plain(values, inner),
+        _ => false,
+    }
+}
+
+/// Whether a `*` with this right operand is an operation with a number.
+fn is_scale(operator: Infix, right: &Expr) -> bool
+    ensures { result ≡ is_scale operator (sizing right.now).bare }
+{
+    match operator {
+        Infix::Mul => is_bare(right),
+        _ => false,
+    }
+}
+
+fn is_bare(expr: &Expr) -> bool
+    ensures { result ≡ (sizing expr.now).bare }
+{
+    matches!(expr, Expr::Number(_))
+}
+
+impl<'a> Declarations<'a> {
+    /// The kind and size of an expression.
+    #[cycle(typing)]
+    pub fn expr(&self, values: &Values<'a>, expr: &Expr) -> Result<Typed, NameFault>
+        ensures kind { IfOk result (λ typed. typing expr.now (scope_of self.now) values.now ≡ Ok typed.kind) }
+        ensures size { IfOk result (λ typed. IsCapped typed.size (expr_size expr.now (sizes_of self.now) (variables values.now))) }
+        ensures fault { IfErr result (IsFaultOf (typing expr.now (scope_of self.now) values.now)) }
+    {
+        match expr {
+            Expr::Number(_) => Ok(Typed {
+                kind: Kind::Word,
+                size: Size::one(),
+            }),
+            Expr::Truth(_) => Ok(Typed {
+                kind: Kind::Bool,
+                size: Size::one(),
+            }),
+            Expr::Value(name) => {
+                let kind = value(values, name)?;
+                let size = if is_variable(values, name.name.as_slice()) {
+                    Size::one()
+                } else {
+                    Size::nothing()
+                };
+                Ok(Typed { kind, size })
+            }
+            Expr::Element(name, index) => {
+                let index = self.expr(values, index)?;
+                let kind = element(values, name, index.kind)?;
+                Ok(Typed {
+                    kind,
+                    size: index.size.also(Size::one()),
+                })
+            }
+            Expr::Input(host) => {
+                known(self.hosts, host)?;
+                Ok(Typed {
+                    kind: Kind::Word,
+                    size: Size::one(),
+                })
+            }
+            Expr::Min(at, left, right) | Expr::Max(at, left, right) => {
+                let left = self.expr(values, left)?;
+                let right = self.expr(values, right)?;
+                let kind = kind_at(*at, on_words(Kind::Word, left.kind, right.kind))?;
+                Ok(Typed {
+                    kind,
+                    size: left.size.also(right.size).also(Size::one()),
+                })
+            }
+            Expr::Mux(at, test, left, right) => {
+                let test = self.expr(values, test)?;
+                let left = self.expr(values, left)?;
+                let right = self.expr(values, right)?;
+                let kind = kind_at(*at, of_mux(test.kind, left.kind, right.kind))?;
+                Ok(Typed {
+                    kind,
+                    size: test.size.also(left.size).also(right.size).also(Size::one()),
+                })
+            }
+            Expr::Declassify(inner, to) | Expr::Endorse(inner, to) => {
+                let inner = self.expr(values, inner)?;
+                check_form(self.principals, to)?;
+                Ok(Typed {
+                    kind: inner.kind,
+                    size: inner.size.also(Size::one()),
+                })
+            }
+            Expr::Unary(operator, at, inner) => {
+                let inner = self.expr(values, inner)?;
+                let kind = kind_at(*at, of_prefix(*operator, inner.kind))?;
+                Ok(Typed {
+                    kind,
+                    size: inner.size.also(Size::one()),
+                })
+            }
+            Expr::Brackets(inner) => self.expr(values, inner),
+            Expr::Chain(first, links) => {
+                let first = self.expr(values, first)?;
+                let rest = self.chain(values, first.kind, links.as_slice())?;
+                Ok(Typed {
+                    kind: rest.kind,
+                    size: first.size.also(rest.size),
+                })
+            }
+            Expr::Call(name, arguments) => self.call(values, name, arguments.as_slice()),
+        }
+    }
+
+    /// The steps of a chain from the left, on an operand of this kind.
+    #[cycle(typing)]
+    fn chain(&self, values: &Values<'a>, first: Kind, links: &[Link]) -> Result<Typed, NameFault>
+        ensures kind { IfOk result (λ typed. chain_typing (map typing_of_link links.now) (scope_of self.now) values.now first ≡ Ok typed.kind) }
+        ensures size { IfOk result (λ typed. IsCapped typed.size (links_after nothing (map sizing_of_link links.now) (sizes_of self.now) (variables values.now))) }
+        ensures fault { IfErr result (IsFaultOf (chain_typing (map typing_of_link links.now) (scope_of self.now) values.now first)) }
+    {
+        let mut kind = first;
+        let mut size = Size::nothing();
+        for link in links {
+            let step = self.link(values, kind, link)?;
+            kind = step.kind;
+            size = size.also(step.size);
+        }
+        Ok(Typed { kind, size })
+    }
+
+    /// One step of a chain, on an operand of this kind.
+    #[cycle(typing)]
+    fn link(&self, values: &Values<'a>, left: Kind, link: &Link) -> Result<Typed, NameFault>
+        ensures kind { IfOk result (λ typed. typing_of_link link.now (scope_of self.now) values.now left ≡ Ok typed.kind) }
+        ensures size { IfOk result (λ typed. IsCapped typed.size (sizing_of_link link.now (sizes_of self.now) (variables values.now))) }
+        ensures fault { IfErr result (IsFaultOf (typing_of_link link.now (scope_of self.now) values.now left)) }
+    {
+        match link {
+            Link::Infix(operator, at, operand) => {
+                let right = self.expr(values, operand)?;
+                let kind = kind_at(*at, of_infix(*operator, left, right.kind))?;
+                let size = if is_scale(*operator, operand) {
+                    Size::one()
+                } else {
+                    right.size.also(Size::one())
+                };
+                Ok(Typed { kind, size })
+            }
+            Link::Shift(_, at, bits) => {
+                let kind = kind_at(*at, of_shift(left, *bits))?;
+                Ok(Typed {
+                    kind,
+                    size: Size::one(),
+                })
+            }
+        }
+    }
+
+    /// The arguments of a call, from left to right.
+    #[cycle(typing)]
+    fn arguments(&self, values: &Values<'a>, exprs: &[Expr]) -> Result<Arguments, NameFault>
+        ensures kinds { IfOk result (λ given. typings [] (map typing exprs.now) (scope_of self.now) values.now ≡ Ok given.kinds) }
+        ensures size { IfOk result (λ given. IsCapped given.size (sizes_after nothing (map sizing exprs.now) (sizes_of self.now) (variables values.now))) }
+        ensures fault { IfErr result (IsFaultOf (typings [] (map typing exprs.now) (scope_of self.now) values.now)) }
+    {
+        let mut kinds = Items::new(self.alloc);
+        let mut size = Size::nothing();
+        for expr in exprs {
+            let argument = self.expr(values, expr)?;
+            kinds.push(argument.kind)?;
+            size = size.also(argument.size);
+        }
+        Ok(Arguments { kinds, size })
+    }
+
+    /// A call of a function that is declared before.
+    #[cycle(typing)]
+    fn call(&self, values: &Values<'a>, name: &Ident, exprs: &[Expr]) -> Result<Typed, NameFault>
+        ensures kind { IfOk result (λ typed. and_then (typings [] (map typing exprs.now) (scope_of self.now) values.now) (λ kinds. call_kind name.now.span kinds (is_name (scope_of self.now).later name.now.name) (at_name (scope_of self.now).functions name.now.name)) ≡ Ok typed.kind) }
+        ensures size { IfOk result (λ typed. IsCapped typed.size (also (sizes_after nothing (map sizing exprs.now) (sizes_of self.now) (variables values.now)) (call_size (at_name (sizes_of self.now) name.now.name)))) }
+        ensures fault { IfErr result (IsFaultOf (and_then (typings [] (map typing exprs.now) (scope_of self.now) values.now) (λ kinds. call_kind name.now.span kinds (is_name (scope_of self.now).later name.now.name) (at_name (scope_of self.now).functions name.now.name)))) }
+    {
+        let arguments = self.arguments(values, exprs)?;
+        let inlined = self.callee(name, arguments.kinds.as_slice())?;
+        Ok(Typed {
+            kind: inlined.kind,
+            size: arguments.size.also(inlined.size),
+        })
+    }
+
+    /// What a call with arguments of these kinds gives, and the size of what is put in its place.
+    #[tactic(auto, using(crate::proofs::Lookups::signature_at))]
+    fn callee(&self, name: &Ident, kinds: &[Kind]) -> Result<Typed, NameFault>
+        ensures kind { IfOk result (λ typed. call_kind name.now.span kinds.now (is_name (scope_of self.now).later name.now.name) (at_name (scope_of self.now).functions name.now.name) ≡ Ok typed.kind) }
+        ensures size { IfOk result (λ typed. IsCapped typed.size (call_size (at_name (sizes_of self.now) name.now.name))) }
+        ensures fault { IfErr result (IsFaultOf (call_kind name.now.span kinds.now (is_name (scope_of self.now).later name.now.name) (at_name (scope_of self.now).functions name.now.name))) }
+    {
+        match self.callees.get(name.name.as_slice()) {
+            None => {
+                if is_declared(self.later, name.name.as_slice()) {
+                    Err(NameFault::Recursive(name.span))
+                } else {
+                    Err(NameFault::Unknown(name.span))
+                }
+            }
+            Some(callee) => {
+                let parameters = callee.signature.parameters.as_slice();
+                if kinds.len() != parameters.len() {
+                    Err(NameFault::Arity(name.span))
+                } else if same_kinds(kinds, parameters) {
+                    Ok(Typed {
+                        kind: callee.signature.result,
+                        size: callee.size.inlined(),
+                    })
+                } else {
+                    Err(NameFault::Kind(name.span))
+                }
+            }
+        }
+    }
+}
+
+/// Whether one of the functions has the name.
+fn is_declared(functions: &[Function], name: &[u8]) -> bool
+    ensures { result ≡ is_name (function_names functions.now) name.now }
+{
+    for function in functions {
+        if function.name.name.as_slice() == name {
+            return true;
+        }
+    }
+    false
+}

@@ -1,0 +1,79 @@
+//! Names that are looked up, and labels that name principals.
+
+ghost use Rattle.std.specs.Prelude.{◌≡◌, Ok, OnOk, IfErr, IfOk};
+ghost use Rattle.vd_resolve.specs.Rules.{known as known_name, declared, form_check, label_check, written_label_check};
+ghost use Rattle.vd_resolve.specs.Walks.{IsFaultOf};
+
+use crate::fault::NameFault;
+use crate::table::NameTable;
+use vd_core::source::{Ident, WrittenForm, WrittenLabel};
+
+pub(crate) fn known(names: &NameTable<'_, ()>, name: &Ident) -> Result<(), NameFault>
+    ensures ok { OnOk result (known_name names.now name.now ≡ Ok tt) }
+    ensures fault { IfErr result (IsFaultOf (known_name names.now name.now)) }
+{
+    if names.contains(name.name.as_slice()) {
+        Ok(())
+    } else {
+        Err(NameFault::Unknown(name.span))
+    }
+}
+
+/// Adds a name, which is not there yet.
+pub(crate) fn declare<'a, V: Drop>(
+    names: &mut NameTable<'a, V>,
+    name: &'a Ident,
+    value: V,
+) -> Result<(), NameFault>
+    ensures ok { OnOk result (declared name.now value names.old ≡ Ok names.new) }
+    ensures fault { IfErr result (IsFaultOf (declared name.now value names.old)) }
+{
+    if names.contains(name.name.as_slice()) {
+        return Err(NameFault::Twice(name.span));
+    }
+    names.add(name.name.as_slice(), value)
+}
+
+/// Whether the principals of a form are declared.
+pub(crate) fn check_form(
+    principals: &NameTable<'_, ()>,
+    form: &WrittenForm,
+) -> Result<(), NameFault>
+    ensures ok { OnOk result (form_check form.now principals.now ≡ Ok tt) }
+    ensures fault { IfErr result (IsFaultOf (form_check form.now principals.now)) }
+{
+    match form {
+        WrittenForm::Any | WrittenForm::Never => Ok(()),
+        WrittenForm::Name(name) => known(principals, name),
+        WrittenForm::Both(parts) | WrittenForm::Either(parts) => {
+            for part in parts.as_slice() {
+                check_form(principals, part)?;
+            }
+            Ok(())
+        }
+    }
+}
+
+pub(crate) fn check_label(
+    principals: &NameTable<'_, ()>,
+    label: &WrittenLabel,
+) -> Result<(), NameFault>
+    ensures ok { OnOk result (label_check label.now principals.now ≡ Ok tt) }
+    ensures fault { IfErr result (IsFaultOf (label_check label.now principals.now)) }
+{
+    check_form(principals, &label.conf)?;
+    check_form(principals, &label.integ)
+}
+
+pub(crate) fn check_written_label(
+    principals: &NameTable<'_, ()>,
+    label: &Option<WrittenLabel>,
+) -> Result<(), NameFault>
+    ensures ok { OnOk result (written_label_check label.now principals.now ≡ Ok tt) }
+    ensures fault { IfErr result (IsFaultOf (written_label_check label.now principals.now)) }
+{
+    match label {
+        Some(label) => check_label(principals, label),
+        None => Ok(()),
+    }
+}

@@ -1,0 +1,29 @@
+//! What names stand for.
+
+use crate::size::Size;
+use vd_base::Kind;
+use vd_items::Items;
+
+/// What the name of a value stands for.
+#[derive(Clone, Copy, PartialEq, Eq, Debug)]
+pub enum Symbol {
+    /// A `let` name, a parameter or a loop's name.
+    Constant(Kind),
+    /// A `var` name.
+    Variable(Kind),
+    Array(Kind),
+}
+
+/// The kinds of a function.
+#[derive(PartialEq, Eq, Debug, Drop)]
+pub struct Signature {
+    pub parameters: Items<Kind>,
+    pub result: Kind,
+}
+
+/// A function that may be called, with the size of its body.
+#[derive(Drop)]
+pub(crate) struct Callee {
+    pub signature: Signature,
+    pub size: Size,
+}
