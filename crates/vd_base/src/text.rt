@@ -1,0 +1,95 @@
+ghost use Rattle.std.specs.Prelude.{◌≡◌, IfOk, OnOk, OnErr, [], ◌∷◌, ◌++◌};
+
+use std::alloc::{AllocError, Global};
+use std::marker::Model;
+use vd_items::Items;
+
+/// A text that contracts see as its bytes.
+#[derive(Debug, Drop)]
+pub struct Text {
+    text: String,
+}
+
+impl Model for Text {
+    ghost use Rattle.std.specs.Prelude.{List, ℕ};
+    ghost use Rattle.std.specs.String.{string_bytes};
+
+    ghost Value = { List ℕ };
+
+    ghost view = { λ it. string_bytes it.text };
+}
+
+impl Text {
+    /// A copy.
+    pub fn copy_of(alloc: Global, text: &str) -> Result<Text, AllocError>
+        ensures { IfOk result (λ copy. copy ≡ text.now) }
+    {
+        let text = String::from_str(alloc, text)?;
+        Ok(Text { text })
+    }
+
+    pub fn as_str(&self) -> &str
+        ensures { result.now ≡ self.now }
+    {
+        self.text.as_str()
+    }
+}
+
+/// A list of texts that owns copies of them.
+#[derive(Debug, Drop)]
+pub struct Texts {
+    alloc: Global,
+    texts: Items<Text>,
+}
+
+impl Model for Texts {
+    ghost use Rattle.std.specs.Prelude.{List, ℕ};
+
+    ghost Value = { List (List ℕ) };
+
+    ghost view = { λ it. it.texts };
+}
+
+impl Texts {
+    pub fn new(alloc: Global) -> Texts
+        ensures { result ≡ [] }
+    {
+        Texts {
+            alloc,
+            texts: Items::new(alloc),
+        }
+    }
+
+    /// Puts a copy at the end.
+    pub fn push(&mut self, text: &str) -> Result<(), AllocError>
+        ensures ok { OnOk result (self.new ≡ self.old ++ text.now ∷ []) }
+        ensures err { OnErr result (self.new ≡ self.old) }
+    {
+        let copy = Text::copy_of(self.alloc, text)?;
+        self.texts.push(copy)
+    }
+
+    pub fn as_slice(&self) -> &[Text]
+        ensures { result.now ≡ self.now }
+    {
+        self.texts.as_slice()
+    }
+}
+
+#[cfg(test)]
+mod tests {
+    use crate::Texts;
+    use std::test::Fail;
+
+    #[test]
+    fn texts_keep_copies_in_order(rt: HostRuntime) -> Result<(), Fail> {
+        let mut texts = Texts::new(rt.alloc());
+        texts.push("clear")?;
+        texts.push("")?;
+        let slice = texts.as_slice();
+        assert_eq!(rt; slice.len(), 2);
+        assert_eq!(rt; slice[0].as_str(), "clear");
+        assert_eq!(rt; slice[1].as_str(), "");
+        Ok(())
+    }
+}

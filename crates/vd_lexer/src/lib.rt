@@ -1,0 +1,6 @@
+//! Stand-in.
+#![tactic(auto)]
+
+pub mod token;
+
+pub use token::{LexFault, Token, TokenKind};

@@ -1,0 +1,4 @@
+pub mod Language
+pub mod Syntax
+pub mod Parsing
+pub mod Levels

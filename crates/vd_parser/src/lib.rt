@@ -1,0 +1,7 @@
+//! Text to tree.
+#![tactic(auto)]
+
+mod cursor;
+mod forms;
+mod operators;
+mod parser;
