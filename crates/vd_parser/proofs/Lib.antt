@@ -1,3 +1,4 @@
 pub mod Ready
 pub mod Steps
 pub mod Meanings
+pub mod Precedence

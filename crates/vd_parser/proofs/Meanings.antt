@@ -20,7 +20,7 @@ use Rattle.vd_core.specs.declared.source.Statement.{Statement}
 use Rattle.vd_core.specs.declared.source.Statement.TheVariants as stmt
 use Rattle.vd_core.specs.declared.source.Function.{Function}
 use Rattle.vd_lexer.specs.declared.token.Token.{Token}
-use Rattle.vd_parser.specs.Syntax.{arguments_of, array_of, assign_of, assigned, atom_of, block_of, bor_of, both_of, chained, conj_of, conjs_of, direction_of, either_of, else_of, expr_of, exprs_of, fatom_of, fatoms_of, first_of, for_of, form_of, function_of, functions_of, host_name_of, host_of, hosts_of, ident_of, idents_of, if_of, index_of, index_option_of, infix_of, kind_of, label_of, label_option_of, let_of, more_exprs_of, more_idents_of, more_parameters_of, named_of, new_form_of, number_of, other_atom_of, output_of, parameter_list_of, parameter_of, parameters_of, prefixed, relabelled_of, second_of, shift_links_of, shift_of, source_of, span_of, statement_of, statements_of, sum_of, third_of, three_of, token_of, two_of, unary_of, var_of, word_atom_of}
+use Rattle.vd_parser.specs.Syntax.{arguments_of, array_of, assign_of, assigned, atom_of, block_of, body_of, bor_of, both_of, chained, conj_of, conjs_of, direction_of, either_of, else_of, expr_of, exprs_of, fatom_of, fatoms_of, first_of, for_of, form_of, function_of, functions_of, host_list_of, host_name_of, host_of, hosts_of, ident_of, idents_of, if_of, index_of, index_option_of, infix_of, kind_of, label_of, label_option_of, length_of, let_of, more_exprs_of, more_idents_of, more_parameters_of, named_of, new_form_of, number_of, other_atom_of, output_of, parameter_list_of, parameter_of, parameters_of, prefixed, principals_of, relabelled_of, return_of, returned_of, second_of, shift_links_of, shift_of, source_of, span_of, statement_of, statements_of, sum_of, third_of, three_of, token_of, two_of, typed_kind_of, typed_name_of, typed_of, unary_of, var_of, whole_body_of, word_atom_of}
 
 pub idents_first : (text : List ℕ) (x : Tree Token) (v : Ident) → v ≡ ident_of text x → (y : Tree Token) → idents_of text (Both x y) ≡ (v ∷ []) ++ more_idents_of text y
 unfolding idents_of
@@ -218,13 +218,21 @@ pub let_is : (text : List ℕ) (k n l e x s : Tree Token) (at : Span) (i : Ident
 unfolding let_of
 let_is text k n l e x s at i lb v e0 e1 e2 e3 = ap (λ it. stmt.Let it i lb v) e0 ∙ ap (λ it. stmt.Let (span_of k) it lb v) e1 ∙ ap (λ it. stmt.Let (span_of k) (ident_of text n) it v) e2 ∙ ap (λ it. stmt.Let (span_of k) (ident_of text n) (label_option_of text l) it) e3
 
-pub var_is : (text : List ℕ) (k n c w l e x s : Tree Token) (at : Span) (i : Ident) (kd : Kind) (lb : Option WrittenLabel) (v : Expr) → at ≡ span_of k → i ≡ ident_of text n → kd ≡ kind_of w → lb ≡ label_option_of text l → v ≡ expr_of text x → stmt.Var at i kd lb v ≡ var_of text (Both k (Both n (Both c (Both w (Both l (Both e (Both x s)))))))
-unfolding var_of
-var_is text k n c w l e x s at i kd lb v e0 e1 e2 e3 e4 = ap (λ it. stmt.Var it i kd lb v) e0 ∙ ap (λ it. stmt.Var (span_of k) it kd lb v) e1 ∙ ap (λ it. stmt.Var (span_of k) (ident_of text n) it lb v) e2 ∙ ap (λ it. stmt.Var (span_of k) (ident_of text n) (kind_of w) it v) e3 ∙ ap (λ it. stmt.Var (span_of k) (ident_of text n) (kind_of w) (label_option_of text l) it) e4
+pub typed_is : (text : List ℕ) (n c k : Tree Token) (i : Ident) (kd : Kind) → i ≡ ident_of text n → kd ≡ kind_of k → (i, kd) ≡ typed_of text (Both n (Both c k))
+unfolding typed_name_of typed_kind_of
+typed_is text n c k i kd e0 e1 = ap (λ it. (it, kd)) e0 ∙ ap (λ it. ((ident_of text n), it)) e1
 
-pub array_is : (text : List ℕ) (k n c w o m p l s : Tree Token) (at : Span) (i : Ident) (kd : Kind) (len : ℕ) (lb : Option WrittenLabel) → at ≡ span_of k → i ≡ ident_of text n → kd ≡ kind_of w → len ≡ number_of m → lb ≡ label_option_of text l → stmt.Array at i kd len lb ≡ array_of text (Both k (Both n (Both c (Both w (Both o (Both m (Both p (Both l s))))))))
+pub var_is : (text : List ℕ) (k t l e x s : Tree Token) (at : Span) (i : Ident) (kd : Kind) (lb : Option WrittenLabel) (v : Expr) → at ≡ span_of k → i ≡ typed_name_of text t → kd ≡ typed_kind_of t → lb ≡ label_option_of text l → v ≡ expr_of text x → stmt.Var at i kd lb v ≡ var_of text (Both k (Both t (Both l (Both e (Both x s)))))
+unfolding var_of
+var_is text k t l e x s at i kd lb v e0 e1 e2 e3 e4 = ap (λ it. stmt.Var it i kd lb v) e0 ∙ ap (λ it. stmt.Var (span_of k) it kd lb v) e1 ∙ ap (λ it. stmt.Var (span_of k) (typed_name_of text t) it lb v) e2 ∙ ap (λ it. stmt.Var (span_of k) (typed_name_of text t) (typed_kind_of t) it v) e3 ∙ ap (λ it. stmt.Var (span_of k) (typed_name_of text t) (typed_kind_of t) (label_option_of text l) it) e4
+
+pub length_is : (text : List ℕ) (o n p : Tree Token) (len : ℕ) → len ≡ number_of n → len ≡ length_of (Both o (Both n p))
+unfolding length_of
+length_is text o n p len e0 = ap (λ it. it) e0
+
+pub array_is : (text : List ℕ) (k t m l s : Tree Token) (at : Span) (i : Ident) (kd : Kind) (len : ℕ) (lb : Option WrittenLabel) → at ≡ span_of k → i ≡ typed_name_of text t → kd ≡ typed_kind_of t → len ≡ length_of m → lb ≡ label_option_of text l → stmt.Array at i kd len lb ≡ array_of text (Both k (Both t (Both m (Both l s))))
 unfolding array_of
-array_is text k n c w o m p l s at i kd len lb e0 e1 e2 e3 e4 = ap (λ it. stmt.Array it i kd len lb) e0 ∙ ap (λ it. stmt.Array (span_of k) it kd len lb) e1 ∙ ap (λ it. stmt.Array (span_of k) (ident_of text n) it len lb) e2 ∙ ap (λ it. stmt.Array (span_of k) (ident_of text n) (kind_of w) it lb) e3 ∙ ap (λ it. stmt.Array (span_of k) (ident_of text n) (kind_of w) (number_of m) it) e4
+array_is text k t m l s at i kd len lb e0 e1 e2 e3 e4 = ap (λ it. stmt.Array it i kd len lb) e0 ∙ ap (λ it. stmt.Array (span_of k) it kd len lb) e1 ∙ ap (λ it. stmt.Array (span_of k) (typed_name_of text t) it len lb) e2 ∙ ap (λ it. stmt.Array (span_of k) (typed_name_of text t) (typed_kind_of t) it lb) e3 ∙ ap (λ it. stmt.Array (span_of k) (typed_name_of text t) (typed_kind_of t) (length_of m) it) e4
 
 pub index_some : (text : List ℕ) (x : Tree Token) (e : Expr) → e ≡ index_of text x → Some e ≡ index_option_of text (First x)
 unfolding index_option_of
@@ -298,10 +306,6 @@ pub for_is : (text : List ℕ) (k n t c b : Tree Token) (at : Span) (i : Ident) 
 unfolding for_of
 for_is text k n t c b at i m ss e0 e1 e2 e3 = ap (λ it. stmt.For it i m ss) e0 ∙ ap (λ it. stmt.For (span_of k) it m ss) e1 ∙ ap (λ it. stmt.For (span_of k) (ident_of text n) it ss) e2 ∙ ap (λ it. stmt.For (span_of k) (ident_of text n) (number_of c) it) e3
 
-pub parameter_is : (text : List ℕ) (n c k : Tree Token) (i : Ident) (kd : Kind) → i ≡ ident_of text n → kd ≡ kind_of k → record { name = i; kind = kd } ≡ parameter_of text (Both n (Both c k))
-unfolding parameter_of
-parameter_is text n c k i kd e0 e1 = ap (λ it. record { name = it; kind = kd }) e0 ∙ ap (λ it. record { name = (ident_of text n); kind = it }) e1
-
 pub parameters_first : (text : List ℕ) (x : Tree Token) (v : Parameter) → v ≡ parameter_of text x → (y : Tree Token) → parameter_list_of text (Both x y) ≡ (v ∷ []) ++ more_parameters_of text y
 unfolding parameter_list_of
 parameters_first text x v e0 y = sym (ap (λ it. (it ∷ []) ++ more_parameters_of text y) e0)
@@ -314,17 +318,21 @@ pub parameters_none : (text : List ℕ) → more_parameters_of text Empty ≡ []
 unfolding more_parameters_of
 parameters_none text = refl
 
-pub parameters_some : (text : List ℕ) (x : Tree Token) (ps : List Parameter) → ps ≡ parameter_list_of text x → ps ≡ parameters_of text (First x)
+pub parameters_some : (text : List ℕ) (o x p : Tree Token) (ps : List Parameter) → ps ≡ parameter_list_of text x → ps ≡ parameters_of text (Both o (Both (First x) p))
 unfolding parameters_of
-parameters_some text x ps e0 = ap (λ it. it) e0
+parameters_some text o x p ps e0 = ap (λ it. it) e0
 
-pub parameters_empty : (text : List ℕ) (x : Tree Token) → [] ≡ parameters_of text (Second x)
+pub parameters_empty : (text : List ℕ) (o x p : Tree Token) → [] ≡ parameters_of text (Both o (Both (Second x) p))
 unfolding parameters_of
-parameters_empty text x = refl
+parameters_empty text o x p = refl
 
 pub host_is : (text : List ℕ) (k n l s : Tree Token) (i : Ident) (lb : WrittenLabel) → i ≡ ident_of text n → lb ≡ label_of text l → record { name = i; label = lb } ≡ host_of text (Both k (Both n (Both l s)))
 unfolding host_of
 host_is text k n l s i lb e0 e1 = ap (λ it. record { name = it; label = lb }) e0 ∙ ap (λ it. record { name = (ident_of text n); label = it }) e1
+
+pub hosts_first : (text : List ℕ) (x : Tree Token) (v : Host) → v ≡ host_of text x → (y : Tree Token) → host_list_of text (Both x y) ≡ (v ∷ []) ++ hosts_of text y
+unfolding host_list_of
+hosts_first text x v e0 y = sym (ap (λ it. (it ∷ []) ++ hosts_of text y) e0)
 
 pub hosts_more : (text : List ℕ) (x : Tree Token) (v : Host) → v ≡ host_of text x → (y : Tree Token) → hosts_of text (Both x y) ≡ v ∷ hosts_of text y
 unfolding hosts_of
@@ -334,9 +342,13 @@ pub hosts_none : (text : List ℕ) → hosts_of text Empty ≡ []
 unfolding hosts_of
 hosts_none text = refl
 
-pub function_is : (text : List ℕ) (f n o ps c l k b ss r x s d : Tree Token) (i : Ident) (pl : List Parameter) (kd : Kind) (body : List Statement) (at : Span) (v : Expr) → i ≡ ident_of text n → pl ≡ parameters_of text ps → kd ≡ kind_of k → body ≡ statements_of text ss → at ≡ span_of r → v ≡ expr_of text x → record { name = i; parameters = pl; kind = kd; body = body; at_return = at; gives = v } ≡ function_of text (Both f (Both n (Both o (Both ps (Both c (Both l (Both k (Both b (Both ss (Both r (Both x (Both s d))))))))))))
+pub body_is : (text : List ℕ) (o ss r x s d : Tree Token) (body : List Statement) (at : Span) (v : Expr) → body ≡ statements_of text ss → at ≡ span_of r → v ≡ expr_of text x → (body, at, v) ≡ whole_body_of text (Both o (Both ss (Both r (Both x (Both s d)))))
+unfolding body_of return_of returned_of
+body_is text o ss r x s d body at v e0 e1 e2 = ap (λ it. (it, at, v)) e0 ∙ ap (λ it. ((statements_of text ss), it, v)) e1 ∙ ap (λ it. ((statements_of text ss), (span_of r), it)) e2
+
+pub function_is : (text : List ℕ) (f n ps c k b : Tree Token) (i : Ident) (pl : List Parameter) (kd : Kind) (body : List Statement) (at : Span) (v : Expr) → i ≡ ident_of text n → pl ≡ parameters_of text ps → kd ≡ kind_of k → body ≡ body_of text b → at ≡ return_of b → v ≡ returned_of text b → record { name = i; parameters = pl; kind = kd; body = body; at_return = at; gives = v } ≡ function_of text (Both f (Both n (Both ps (Both c (Both k b)))))
 unfolding function_of
-function_is text f n o ps c l k b ss r x s d i pl kd body at v e0 e1 e2 e3 e4 e5 = ap (λ it. record { name = it; parameters = pl; kind = kd; body = body; at_return = at; gives = v }) e0 ∙ ap (λ it. record { name = (ident_of text n); parameters = it; kind = kd; body = body; at_return = at; gives = v }) e1 ∙ ap (λ it. record { name = (ident_of text n); parameters = (parameters_of text ps); kind = it; body = body; at_return = at; gives = v }) e2 ∙ ap (λ it. record { name = (ident_of text n); parameters = (parameters_of text ps); kind = (kind_of k); body = it; at_return = at; gives = v }) e3 ∙ ap (λ it. record { name = (ident_of text n); parameters = (parameters_of text ps); kind = (kind_of k); body = (statements_of text ss); at_return = it; gives = v }) e4 ∙ ap (λ it. record { name = (ident_of text n); parameters = (parameters_of text ps); kind = (kind_of k); body = (statements_of text ss); at_return = (span_of r); gives = it }) e5
+function_is text f n ps c k b i pl kd body at v e0 e1 e2 e3 e4 e5 = ap (λ it. record { name = it; parameters = pl; kind = kd; body = body; at_return = at; gives = v }) e0 ∙ ap (λ it. record { name = (ident_of text n); parameters = it; kind = kd; body = body; at_return = at; gives = v }) e1 ∙ ap (λ it. record { name = (ident_of text n); parameters = (parameters_of text ps); kind = it; body = body; at_return = at; gives = v }) e2 ∙ ap (λ it. record { name = (ident_of text n); parameters = (parameters_of text ps); kind = (kind_of k); body = it; at_return = at; gives = v }) e3 ∙ ap (λ it. record { name = (ident_of text n); parameters = (parameters_of text ps); kind = (kind_of k); body = (body_of text b); at_return = it; gives = v }) e4 ∙ ap (λ it. record { name = (ident_of text n); parameters = (parameters_of text ps); kind = (kind_of k); body = (body_of text b); at_return = (return_of b); gives = it }) e5
 
 pub functions_more : (text : List ℕ) (x : Tree Token) (v : Function) → v ≡ function_of text x → (y : Tree Token) → functions_of text (Both x y) ≡ v ∷ functions_of text y
 unfolding functions_of
@@ -346,6 +358,10 @@ pub functions_none : (text : List ℕ) → functions_of text Empty ≡ []
 unfolding functions_of
 functions_none text = refl
 
-pub source_is : (text : List ℕ) (p ns s h hs fs m b : Tree Token) (names : List Ident) (g : Host) (gs : List Host) (fns : List Function) (ss : List Statement) → names ≡ idents_of text ns → g ≡ host_of text h → gs ≡ hosts_of text hs → fns ≡ functions_of text fs → ss ≡ block_of text b → record { principals = names; hosts = g ∷ gs; functions = fns; main = ss } ≡ source_of text (Both p (Both ns (Both s (Both h (Both hs (Both fs (Both m b)))))))
+pub principals_is : (text : List ℕ) (p ns s : Tree Token) (names : List Ident) → names ≡ idents_of text ns → names ≡ principals_of text (Both p (Both ns s))
+unfolding principals_of
+principals_is text p ns s names e0 = ap (λ it. it) e0
+
+pub source_is : (text : List ℕ) (ps hs fs m b : Tree Token) (names : List Ident) (gs : List Host) (fns : List Function) (ss : List Statement) → names ≡ principals_of text ps → gs ≡ host_list_of text hs → fns ≡ functions_of text fs → ss ≡ block_of text b → record { principals = names; hosts = gs; functions = fns; main = ss } ≡ source_of text (Both ps (Both hs (Both fs (Both m b))))
 unfolding source_of
-source_is text p ns s h hs fs m b names g gs fns ss e0 e1 e2 e3 e4 = ap (λ it. record { principals = it; hosts = g ∷ gs; functions = fns; main = ss }) e0 ∙ ap (λ it. record { principals = (idents_of text ns); hosts = it ∷ gs; functions = fns; main = ss }) e1 ∙ ap (λ it. record { principals = (idents_of text ns); hosts = (host_of text h) ∷ it; functions = fns; main = ss }) e2 ∙ ap (λ it. record { principals = (idents_of text ns); hosts = (host_of text h) ∷ (hosts_of text hs); functions = it; main = ss }) e3 ∙ ap (λ it. record { principals = (idents_of text ns); hosts = (host_of text h) ∷ (hosts_of text hs); functions = (functions_of text fs); main = it }) e4
+source_is text ps hs fs m b names gs fns ss e0 e1 e2 e3 = ap (λ it. record { principals = it; hosts = gs; functions = fns; main = ss }) e0 ∙ ap (λ it. record { principals = (principals_of text ps); hosts = it; functions = fns; main = ss }) e1 ∙ ap (λ it. record { principals = (principals_of text ps); hosts = (host_list_of text hs); functions = it; main = ss }) e2 ∙ ap (λ it. record { principals = (principals_of text ps); hosts = (host_list_of text hs); functions = (functions_of text fs); main = it }) e3

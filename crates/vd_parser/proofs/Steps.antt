@@ -16,7 +16,7 @@ use Rattle.vd_parser.specs.Syntax.{token_of}
 use Rattle.vd_parser.specs.Parsing.{language, next_kind, Refused, Parses}
 use Rattle.vd_parser.proofs.Ready.{F, E, language_ll1}
 
-head_is : (ts : List Token) → head language ts ≡ next_kind ts
+pub head_is : (ts : List Token) → head language ts ≡ next_kind ts
 unfolding language
 head_is [] = refl
 head_is (t ∷ ts) = refl
@@ -100,14 +100,24 @@ pub left_out : {X : Type 0} {a : Ebnf Symbol} {of : Tree Token → X} {v : X} (k
 unfolding language
 left_out {a = a} k ts e h m same = record { tree = Second Empty; read = readings.read_left_out language E language_ll1 ts (subst (λ xs. has (head language ts) xs ≡ false) (sym h) (unlike (code_of k) ts e)) m; value = same }
 
--- before a token that closes
-pub next_open : {X : Type 0} {e a : Ebnf Symbol} {ts us vs : List Token} {up : Tree Token → Tree Token} {of : Tree Token → X} {v : X} (k : TokenKind) {rest : Ebnf Symbol} → Within language e ts (Seq (Alt a Eps) (Seq (tok k) rest)) us up → nullable a ≡ false → nat_eq (next_kind us) (code_of k) ≡ false → (r : Gives language a of us vs v) → Within language e ts (Seq (tok k) rest) vs (λ y. up (Both (First r.tree) y))
+-- an optional part is left out before a known token
+pub skip_known : {e a b : Ebnf Symbol} {ts us : List Token} {up : Tree Token → Tree Token} (k : TokenKind) → Within language e ts (Seq (Alt a Eps) b) us up → nat_eq (next_kind us) (code_of k) ≡ true → has (code_of k) (first F a) ≡ false → nullable a ≡ false → Within language e ts b us (λ y. up (Both (Second Empty) y))
 unfolding language
-next_open {us = us} k w m h r = readings.next_open language E language_ll1 w m refl (unlike (code_of k) us h) r.read
+skip_known {a = a} {us = us} k w e h m = readings.next_read language E language_ll1 w (readings.read_left_out language E language_ll1 us (known k us false a e h) m)
 
-pub refused_open : {e a : Ebnf Symbol} {ts us vs : List Token} {up : Tree Token → Tree Token} {f : Refusal} (k : TokenKind) {rest : Ebnf Symbol} → Within language e ts (Seq (Alt a Eps) (Seq (tok k) rest)) us up → nullable a ≡ false → nat_eq (next_kind us) (code_of k) ≡ false → Refused a us vs f → Refused e ts vs f
+-- before a token that closes
+pub next_open : {X : Type 0} {e a b : Ebnf Symbol} {ts us vs : List Token} {up : Tree Token → Tree Token} {of : Tree Token → X} {v : X} (k : TokenKind) → Within language e ts (Seq (Alt a Eps) b) us up → nullable a ≡ false → nullable b ≡ false → first F b ≡ code_of k ∷ [] → nat_eq (next_kind us) (code_of k) ≡ false → (r : Gives language a of us vs v) → Within language e ts b vs (λ y. up (Both (First r.tree) y))
 unfolding language
-refused_open {us = us} k w m h r = record { stops = λ e. readings.stop_open language E language_ll1 w m refl (unlike (code_of k) us h) (r.stops e) }
+next_open {us = us} k w m o same h r = readings.next_open language E language_ll1 w m o (subst (λ xs. has (head language us) xs ≡ false) (sym same) (unlike (code_of k) us h)) r.read
+
+pub refused_open : {e a b : Ebnf Symbol} {ts us vs : List Token} {up : Tree Token → Tree Token} {f : Refusal} (k : TokenKind) → Within language e ts (Seq (Alt a Eps) b) us up → nullable a ≡ false → nullable b ≡ false → first F b ≡ code_of k ∷ [] → nat_eq (next_kind us) (code_of k) ≡ false → Refused a us vs f → Refused e ts vs f
+unfolding language
+refused_open {us = us} k w m o same h r = record { stops = λ e. readings.stop_open language E language_ll1 w m o (subst (λ xs. has (head language us) xs ≡ false) (sym same) (unlike (code_of k) us h)) (r.stops e) }
+
+-- the first begins with two kinds, and the next token is of another
+pub past_two : {e a b : Ebnf Symbol} {ts us : List Token} {up : Tree Token → Tree Token} (k l : TokenKind) → Within language e ts (Alt a b) us up → nat_eq (next_kind us) (code_of k) ≡ false → nat_eq (next_kind us) (code_of l) ≡ false → first F a ≡ code_of k ∷ code_of l ∷ [] → nullable a ≡ false → Within language e ts b us (λ x. up (Second x))
+unfolding language
+past_two {a = a} {us = us} k l w e f h m = readings.into_right language E language_ll1 w (subst (λ xs. has (head language us) xs ≡ false) (sym h) (or_from _ _ (ap (λ d. nat_eq d (code_of k)) (head_is us) ∙ e) (unlike (code_of l) us f))) m
 
 -- repetitions
 pub collects_first : {X : Type 0} {e d : Ebnf Symbol} {of more : Tree Token → List X} {ts us : List Token} {up : Tree Token → Tree Token} {xs : List X} → Within language e ts (Star d) us up → ((y : Tree Token) → of (up y) ≡ xs ++ more y) → Collects language e of d more ts us xs

@@ -25,11 +25,19 @@ chain_of e o = e ▸ Star (o ▸ e)
 abbrev pub let_rule : Ebnf Symbol
 let_rule = tok kind.Let ▸ tok kind.Name ▸ optional (Sym LABEL) ▸ tok kind.Equal ▸ Sym EXPR ▸ tok kind.Semicolon
 
+-- NAME ":" kind
+abbrev pub typed_rule : Ebnf Symbol
+typed_rule = tok kind.Name ▸ tok kind.Colon ▸ Sym KIND
+
 abbrev pub var_rule : Ebnf Symbol
-var_rule = tok kind.Var ▸ tok kind.Name ▸ tok kind.Colon ▸ Sym KIND ▸ optional (Sym LABEL) ▸ tok kind.Equal ▸ Sym EXPR ▸ tok kind.Semicolon
+var_rule = tok kind.Var ▸ typed_rule ▸ optional (Sym LABEL) ▸ tok kind.Equal ▸ Sym EXPR ▸ tok kind.Semicolon
+
+-- "[" NUM "]"
+abbrev pub length_rule : Ebnf Symbol
+length_rule = tok kind.OpenBracket ▸ tok kind.Number ▸ tok kind.CloseBracket
 
 abbrev pub array_rule : Ebnf Symbol
-array_rule = tok kind.Array ▸ tok kind.Name ▸ tok kind.Colon ▸ Sym KIND ▸ tok kind.OpenBracket ▸ tok kind.Number ▸ tok kind.CloseBracket ▸ optional (Sym LABEL) ▸ tok kind.Semicolon
+array_rule = tok kind.Array ▸ typed_rule ▸ length_rule ▸ optional (Sym LABEL) ▸ tok kind.Semicolon
 
 -- "[" expr "]"
 abbrev pub index_rule : Ebnf Symbol
@@ -94,8 +102,21 @@ other_atom_rule =
 abbrev pub word_atom_rule : Ebnf Symbol
 word_atom_rule = named_rule ∣ tok kind.Min ▸ two_rule ∣ tok kind.Max ▸ two_rule ∣ other_atom_rule
 
+-- "(" [param {"," param}] ")"
 abbrev pub parameters_rule : Ebnf Symbol
-parameters_rule = optional (commas (Sym PARAM))
+parameters_rule = tok kind.OpenParen ▸ optional (commas (Sym PARAM)) ▸ tok kind.CloseParen
+
+-- "{" {stmt} "return" expr ";" "}"
+abbrev pub body_rule : Ebnf Symbol
+body_rule = tok kind.OpenBrace ▸ Star (Sym STMT) ▸ tok kind.Return ▸ Sym EXPR ▸ tok kind.Semicolon ▸ tok kind.CloseBrace
+
+-- "principals" NAME {"," NAME} ";"
+abbrev pub principals_rule : Ebnf Symbol
+principals_rule = tok kind.Principals ▸ commas (tok kind.Name) ▸ tok kind.Semicolon
+
+-- host {host}
+abbrev pub hosts_rule : Ebnf Symbol
+hosts_rule = Sym HOST ▸ Star (Sym HOST)
 
 abbrev pub comparison_ops : Ebnf Symbol
 comparison_ops = any_of kind.EqualEqual (kind.NotEqual ∷ kind.Less ∷ kind.LessEqual ∷ kind.Greater ∷ kind.GreaterEqual ∷ [])
@@ -113,16 +134,14 @@ abbrev pub prefix_ops : Ebnf Symbol
 prefix_ops = any_of kind.Bang (kind.Tilde ∷ [])
 
 abbrev pub rule : Symbol → Ebnf Symbol
-rule SOURCE = tok kind.Principals ▸ commas (tok kind.Name) ▸ tok kind.Semicolon ▸ Sym HOST ▸ Star (Sym HOST) ▸ Star (Sym FUN) ▸ tok kind.Main ▸ Sym BLOCK
+rule SOURCE = principals_rule ▸ hosts_rule ▸ Star (Sym FUN) ▸ tok kind.Main ▸ Sym BLOCK
 rule HOST = tok kind.Host ▸ tok kind.Name ▸ Sym LABEL ▸ tok kind.Semicolon
 rule LABEL = tok kind.OpenBrace ▸ Sym FORM ▸ tok kind.Semicolon ▸ Sym FORM ▸ tok kind.CloseBrace
 rule FORM = chain_of (Sym CONJ) (tok kind.Pipe)
 rule CONJ = chain_of (Sym FATOM) (tok kind.Ampersand)
 rule FATOM = tok kind.Any ∣ tok kind.Nothing ∣ tok kind.Name ∣ tok kind.OpenParen ▸ Sym FORM ▸ tok kind.CloseParen
-rule FUN =
-    tok kind.Fun ▸ tok kind.Name ▸ tok kind.OpenParen ▸ parameters_rule ▸ tok kind.CloseParen ▸ tok kind.Colon ▸ Sym KIND
-    ▸ tok kind.OpenBrace ▸ Star (Sym STMT) ▸ tok kind.Return ▸ Sym EXPR ▸ tok kind.Semicolon ▸ tok kind.CloseBrace
-rule PARAM = tok kind.Name ▸ tok kind.Colon ▸ Sym KIND
+rule FUN = tok kind.Fun ▸ tok kind.Name ▸ parameters_rule ▸ tok kind.Colon ▸ Sym KIND ▸ body_rule
+rule PARAM = typed_rule
 rule KIND = tok kind.Word ∣ tok kind.Bool
 rule BLOCK = tok kind.OpenBrace ▸ Star (Sym STMT) ▸ tok kind.CloseBrace
 rule STMT = let_rule ∣ var_rule ∣ array_rule ∣ assign_rule ∣ output_rule ∣ if_rule ∣ for_rule

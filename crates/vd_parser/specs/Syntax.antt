@@ -284,12 +284,28 @@ unfoldable pub let_of : List ℕ → Tree Token → Statement
 let_of text (Both k (Both n (Both l (Both e (Both x s))))) = stmt.Let (span_of k) (ident_of text n) (label_option_of text l) (expr_of text x)
 let_of text _ = stmt.Let (span_of Empty) (ident_of text Empty) None (expr.Number 0)
 
+-- a name and its kind
+unfoldable pub typed_name_of : List ℕ → Tree Token → Ident
+typed_name_of text (Both n (Both c k)) = ident_of text n
+typed_name_of text _ = ident_of text Empty
+
+unfoldable pub typed_kind_of : Tree Token → Kind
+typed_kind_of (Both n (Both c k)) = kind_of k
+typed_kind_of _ = kind_of Empty
+
+abbrev pub typed_of : List ℕ → Tree Token → Ident × Kind
+typed_of text x = (typed_name_of text x, typed_kind_of x)
+
 unfoldable pub var_of : List ℕ → Tree Token → Statement
-var_of text (Both k (Both n (Both c (Both w (Both l (Both e (Both x s))))))) = stmt.Var (span_of k) (ident_of text n) (kind_of w) (label_option_of text l) (expr_of text x)
+var_of text (Both k (Both t (Both l (Both e (Both x s))))) = stmt.Var (span_of k) (typed_name_of text t) (typed_kind_of t) (label_option_of text l) (expr_of text x)
 var_of text _ = stmt.Let (span_of Empty) (ident_of text Empty) None (expr.Number 0)
 
+unfoldable pub length_of : Tree Token → ℕ
+length_of (Both o (Both n p)) = number_of n
+length_of _ = 0
+
 unfoldable pub array_of : List ℕ → Tree Token → Statement
-array_of text (Both k (Both n (Both c (Both w (Both o (Both m (Both p (Both l s)))))))) = stmt.Array (span_of k) (ident_of text n) (kind_of w) (number_of m) (label_option_of text l)
+array_of text (Both k (Both t (Both m (Both l s)))) = stmt.Array (span_of k) (typed_name_of text t) (typed_kind_of t) (length_of m) (label_option_of text l)
 array_of text _ = stmt.Let (span_of Empty) (ident_of text Empty) None (expr.Number 0)
 
 unfoldable pub index_option_of : List ℕ → Tree Token → Option Expr
@@ -339,9 +355,8 @@ unfoldable mutual
   for_of text (Both k (Both n (Both t (Both c b)))) = stmt.For (span_of k) (ident_of text n) (number_of c) (block_of text b)
   for_of text _ = stmt.Let (span_of Empty) (ident_of text Empty) None (expr.Number 0)
 
-unfoldable pub parameter_of : List ℕ → Tree Token → Parameter
-parameter_of text (Both n (Both c k)) = record { name = ident_of text n; kind = kind_of k }
-parameter_of text _ = record { name = ident_of text Empty; kind = kind_of Empty }
+abbrev pub parameter_of : List ℕ → Tree Token → Parameter
+parameter_of text x = record { name = typed_name_of text x; kind = typed_kind_of x }
 
 unfoldable pub more_parameters_of : List ℕ → Tree Token → List Parameter
 more_parameters_of text (Both (Both c x) r) = parameter_of text x ∷ more_parameters_of text r
@@ -352,7 +367,7 @@ parameter_list_of text (Both x r) = parameter_of text x ∷ more_parameters_of t
 parameter_list_of text _ = []
 
 unfoldable pub parameters_of : List ℕ → Tree Token → List Parameter
-parameters_of text (First x) = parameter_list_of text x
+parameters_of text (Both o (Both (First x) p)) = parameter_list_of text x
 parameters_of text _ = []
 
 unfoldable pub host_of : List ℕ → Tree Token → Host
@@ -363,16 +378,40 @@ unfoldable pub hosts_of : List ℕ → Tree Token → List Host
 hosts_of text (Both x r) = host_of text x ∷ hosts_of text r
 hosts_of text _ = []
 
+-- the parts of a function's body
+unfoldable pub body_of : List ℕ → Tree Token → List Statement
+body_of text (Both o (Both ss r)) = statements_of text ss
+body_of text _ = []
+
+unfoldable pub return_of : Tree Token → Span
+return_of (Both o (Both ss (Both r x))) = span_of r
+return_of _ = span_of Empty
+
+unfoldable pub returned_of : List ℕ → Tree Token → Expr
+returned_of text (Both o (Both ss (Both r (Both x y)))) = expr_of text x
+returned_of text _ = expr.Number 0
+
+abbrev pub whole_body_of : List ℕ → Tree Token → List Statement × Span × Expr
+whole_body_of text x = (body_of text x, return_of x, returned_of text x)
+
 unfoldable pub function_of : List ℕ → Tree Token → Function
-function_of text (Both f (Both n (Both o (Both ps (Both c (Both l (Both k (Both b (Both ss (Both r (Both x (Both s d)))))))))))) =
-    record { name = ident_of text n; parameters = parameters_of text ps; kind = kind_of k; body = statements_of text ss; at_return = span_of r; gives = expr_of text x }
+function_of text (Both f (Both n (Both ps (Both c (Both k b))))) =
+    record { name = ident_of text n; parameters = parameters_of text ps; kind = kind_of k; body = body_of text b; at_return = return_of b; gives = returned_of text b }
 function_of text _ = record { name = ident_of text Empty; parameters = []; kind = kind_of Empty; body = []; at_return = span_of Empty; gives = expr.Number 0 }
 
 unfoldable pub functions_of : List ℕ → Tree Token → List Function
 functions_of text (Both x r) = function_of text x ∷ functions_of text r
 functions_of text _ = []
 
+unfoldable pub principals_of : List ℕ → Tree Token → List Ident
+principals_of text (Both p (Both ns s)) = idents_of text ns
+principals_of text _ = []
+
+unfoldable pub host_list_of : List ℕ → Tree Token → List Host
+host_list_of text (Both h r) = host_of text h ∷ hosts_of text r
+host_list_of text _ = []
+
 unfoldable pub source_of : List ℕ → Tree Token → Source
-source_of text (Both p (Both ns (Both s (Both h (Both hs (Both fs (Both m b))))))) =
-    record { principals = idents_of text ns; hosts = host_of text h ∷ hosts_of text hs; functions = functions_of text fs; main = block_of text b }
+source_of text (Both ps (Both hs (Both fs (Both m b)))) =
+    record { principals = principals_of text ps; hosts = host_list_of text hs; functions = functions_of text fs; main = block_of text b }
 source_of text _ = record { principals = []; hosts = []; functions = []; main = [] }

@@ -2,6 +2,8 @@
 #![tactic(auto)]
 
 mod cursor;
+mod exprs;
 mod forms;
 mod operators;
 mod parser;
+mod prefixes;

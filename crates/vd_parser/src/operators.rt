@@ -26,9 +26,21 @@ pub fn infix(level: Level, kind: TokenKind) -> Option<Infix>
     ensures { result ≡ infix_at level kind }
 {
     match level {
-        Level::Or => if is(kind, TokenKind::Pipe) { Some(Infix::Or) } else { None },
-        Level::Xor => if is(kind, TokenKind::Caret) { Some(Infix::Xor) } else { None },
-        Level::And => if is(kind, TokenKind::Ampersand) { Some(Infix::And) } else { None },
+        Level::Or => if is(kind, TokenKind::Pipe) {
+            Some(Infix::Or)
+        } else {
+            None
+        },
+        Level::Xor => if is(kind, TokenKind::Caret) {
+            Some(Infix::Xor)
+        } else {
+            None
+        },
+        Level::And => if is(kind, TokenKind::Ampersand) {
+            Some(Infix::And)
+        } else {
+            None
+        },
         Level::Sum => {
             if is(kind, TokenKind::Plus) {
                 Some(Infix::Add)

@@ -1,8 +1,8 @@
 ghost use Rattle.std.specs.Prelude.{◌≡◌, ◌<◌, length, IfOk};
 ghost use Rattle.vd_grammar.specs.Grammar.{Sym};
 ghost use Rattle.vd_lexer.specs.declared.token.TokenKind.TheVariants as kind;
-ghost use Rattle.vd_parser.specs.Language.{tok, commas, KIND};
-ghost use Rattle.vd_parser.specs.Syntax.{word_at, ident_of, idents_of, kind_of};
+ghost use Rattle.vd_parser.specs.Language.{tok, commas, typed_rule, KIND};
+ghost use Rattle.vd_parser.specs.Syntax.{word_at, ident_of, idents_of, kind_of, typed_of};
 ghost use Rattle.vd_parser.specs.Parsing.{Parses};
 
 use crate::cursor::{Cursor, Refusal};
@@ -70,5 +70,15 @@ impl<'a> Parser<'a> {
             cursor.expect(TokenKind::Bool)?;
             Ok(Kind::Bool)
         }
+    }
+
+    /// NAME ":" kind
+    pub fn typed(&self, cursor: &mut Cursor) -> Result<(Ident, Kind), Refusal>
+        ensures { Parses typed_rule (typed_of self.now.text.now) cursor.old cursor.new result }
+    {
+        let name = self.ident(cursor)?;
+        cursor.expect(TokenKind::Colon)?;
+        let kind = self.kind(cursor)?;
+        Ok((name, kind))
     }
 }
