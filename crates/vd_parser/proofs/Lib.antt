@@ -2,3 +2,4 @@ pub mod Ready
 pub mod Steps
 pub mod Meanings
 pub mod Precedence
+pub mod Progress

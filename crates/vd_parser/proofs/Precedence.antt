@@ -14,6 +14,7 @@ use Rattle.vd_base.specs.declared.ids.Span.{Span}
 use Rattle.vd_parser.specs.declared.prefixes.PrefixAt.{PrefixAt}
 use Rattle.vd_parser.specs.Prefixes.{prefixes_of, with_prefixes}
 use Rattle.vd_core.specs.declared.source.Link.{Link}
+use Rattle.vd_core.specs.declared.source.Statement.{Statement}
 use Rattle.vd_core.specs.declared.source.Link.TheVariants as link
 use Rattle.vd_lexer.specs.Kinds.{code_of}
 use Rattle.vd_lexer.specs.declared.token.Token.{Token}
@@ -22,13 +23,13 @@ use Rattle.vd_lexer.specs.declared.token.TokenKind.TheVariants as kind
 use Rattle.vd_parser.specs.declared.operators.Level.{Level}
 use Rattle.vd_parser.specs.declared.operators.Level.TheVariants as level
 use Rattle.vd_parser.specs.declared.cursor.Refusal.{Refusal}
-use Rattle.vd_parser.specs.Language.{Symbol, rule, tok, BOR, BXOR, BAND, SUM, PROD, any_of, comparison_ops, shift_ops, prefix_ops}
-use Rattle.vd_parser.specs.Syntax.{token_of, span_of, infix_of, direction_of, prefix_of, chained, link_of, bor_of, bor_links_of, bxor_of, bxor_links_of, band_of, band_links_of, sum_of, sum_links_of, prod_of, prod_links_of, prefixed, shift_links_of, atom_of, unary_of}
+use Rattle.vd_parser.specs.Language.{Symbol, rule, tok, BOR, BXOR, BAND, SUM, PROD, STMT, any_of, comparison_ops, shift_ops, prefix_ops}
+use Rattle.vd_parser.specs.Syntax.{token_of, span_of, infix_of, direction_of, prefix_of, chained, link_of, bor_of, bor_links_of, bxor_of, bxor_links_of, band_of, band_links_of, sum_of, sum_links_of, prod_of, prod_links_of, prefixed, shift_links_of, atom_of, unary_of, statements_of, statement_of}
 use Rattle.vd_parser.specs.Parsing.{language, next_kind, kind_at, Refused}
-use Rattle.vd_parser.specs.Levels.{comparison_at, infix_at, prefix_at, direction_at, ops_of, symbol_of, operand_symbol, level_of, operand_of, links_of}
+use Rattle.vd_parser.specs.Levels.{begins_statement, comparison_at, infix_at, prefix_at, direction_at, ops_of, symbol_of, operand_symbol, level_of, operand_of, links_of}
 use Rattle.vd_parser.proofs.Ready.{F, E, language_ll1}
 use Rattle.vd_grammar.proofs.Readings as readings
-use Rattle.vd_parser.proofs.Meanings.{unary_is, shifts_more, shifts_none}
+use Rattle.vd_parser.proofs.Meanings.{statements_more, statements_none, unary_is, shifts_more, shifts_none}
 use Rattle.vd_parser.proofs.Steps.{head_is, took, start, rule_start, next, last, refused_last, collects_known, stop_known, end_known}
 
 -- one token of several kinds
@@ -327,3 +328,37 @@ stop_shift text {us = us} {vs = vs} {t = t} {o = o} p e s r = stop_known p (shif
 pub no_shift : (text : List ℕ) {ts us : List Token} {ls : List Link} → Collects language (Star (Seq shift_ops (tok kind.Number))) (shift_links_of text) (Seq shift_ops (tok kind.Number)) (shift_links_of text) ts us ls → direction_at (kind_at us) ≡ None → Gives language (Star (Seq shift_ops (tok kind.Number))) (shift_links_of text) ts us ls
 unfolding language
 no_shift text {us = us} p e = end_known p (subst (λ c. has c (first F (Seq shift_ops (tok kind.Number))) ≡ false) (sym (head_is us)) (direction_none (kind_at us) e)) (shifts_none text)
+
+-- statements
+begins_true : (k : TokenKind) → begins_statement k ≡ true → has (code_of k) (first F (Sym STMT)) ≡ true
+begins_true kind.Let h = refl
+begins_true kind.Var h = refl
+begins_true kind.Array h = refl
+begins_true kind.Name h = refl
+begins_true kind.Output h = refl
+begins_true kind.If h = refl
+begins_true kind.For h = refl
+begins_true _ h = absurd (true≢false (sym h))
+
+begins_false : (k : TokenKind) → begins_statement k ≡ false → has (code_of k) (first F (Sym STMT)) ≡ false
+begins_false kind.Let h = absurd (true≢false h)
+begins_false kind.Var h = absurd (true≢false h)
+begins_false kind.Array h = absurd (true≢false h)
+begins_false kind.Name h = absurd (true≢false h)
+begins_false kind.Output h = absurd (true≢false h)
+begins_false kind.If h = absurd (true≢false h)
+begins_false kind.For h = absurd (true≢false h)
+begins_false _ h = refl
+
+statement_known : (us : List Token) (b : Bool) → has (code_of (kind_at us)) (first F (Sym STMT)) ≡ b → has (head language us) (first language.firsts (Sym STMT)) ≡ b
+unfolding language
+statement_known us b h = subst (λ c. has c (first F (Sym STMT)) ≡ b) (sym (head_is us)) h
+
+pub more_statement : (text : List ℕ) {ts us vs : List Token} {ss : List Statement} {v : Statement} → Collects language (Star (Sym STMT)) (statements_of text) (Sym STMT) (statements_of text) ts us ss → begins_statement (kind_at us) ≡ true → Gives language (Sym STMT) (statement_of text) us vs v → Collects language (Star (Sym STMT)) (statements_of text) (Sym STMT) (statements_of text) ts vs (ss ++ v ∷ [])
+more_statement text {us = us} {v = v} p h r = collects_known p (statement_known us true (begins_true (kind_at us) h)) r.read (statements_more text r.tree v r.value)
+
+pub stop_statement : (text : List ℕ) {ts us vs : List Token} {ss : List Statement} {f : Refusal} → Collects language (Star (Sym STMT)) (statements_of text) (Sym STMT) (statements_of text) ts us ss → begins_statement (kind_at us) ≡ true → Refused (Sym STMT) us vs f → Refused (Star (Sym STMT)) ts vs f
+stop_statement text {us = us} p h r = stop_known p (statement_known us true (begins_true (kind_at us) h)) r
+
+pub no_statement : (text : List ℕ) {ts us : List Token} {ss : List Statement} → Collects language (Star (Sym STMT)) (statements_of text) (Sym STMT) (statements_of text) ts us ss → begins_statement (kind_at us) ≡ false → Gives language (Star (Sym STMT)) (statements_of text) ts us ss
+no_statement text {us = us} p h = end_known p (statement_known us false (begins_false (kind_at us) h)) (statements_none text)

@@ -136,6 +136,17 @@ pub end_known : {X : Type 0} {e d : Ebnf Symbol} {of more : Tree Token → List 
 unfolding language
 end_known p h none = readings.collects_end language E language_ll1 p h none
 
+-- one more, whose first token is of a known kind
+pub more_kind : {X Y : Type 0} {e d : Ebnf Symbol} {of more : Tree Token → List X} {to : Tree Token → Y} {ts us vs : List Token} {xs : List X} {w : Y} {v : X} (k : TokenKind) → Collects language e of d more ts us xs → nat_eq (next_kind us) (code_of k) ≡ true → has (code_of k) (first F d) ≡ true → (r : Gives language d to us vs w) → ((y : Tree Token) → more (Both r.tree y) ≡ v ∷ more y) → Collects language e of d more ts vs (xs ++ v ∷ [])
+more_kind {d = d} {us = us} k p h m r same = collects_known p (known k us true d h m) r.read same
+
+pub stop_kind : {X : Type 0} {e d : Ebnf Symbol} {of more : Tree Token → List X} {ts us vs : List Token} {xs : List X} {f : Refusal} (k : TokenKind) → Collects language e of d more ts us xs → nat_eq (next_kind us) (code_of k) ≡ true → has (code_of k) (first F d) ≡ true → Refused d us vs f → Refused e ts vs f
+stop_kind {d = d} {us = us} k p h m r = stop_known p (known k us true d h m) r
+
+pub end_kind : {X : Type 0} {e d : Ebnf Symbol} {of more : Tree Token → List X} {ts us : List Token} {xs : List X} (k : TokenKind) → Collects language e of d more ts us xs → nat_eq (next_kind us) (code_of k) ≡ false → first F d ≡ code_of k ∷ [] → more Empty ≡ [] → Gives language e of ts us xs
+unfolding language
+end_kind {us = us} k p h same none = end_known p (subst (λ xs. has (head language us) xs ≡ false) (sym same) (unlike (code_of k) us h)) none
+
 -- one more, each behind a token of one kind
 pub more_after : {X Y : Type 0} {e d : Ebnf Symbol} {of more : Tree Token → List X} {to : Tree Token → Y} {ts us vs ws : List Token} {xs : List X} {t : Token} {w : Y} {v : X} (k : TokenKind) → Collects language e of (Seq (tok k) d) more ts us xs → nat_eq (next_kind us) (code_of k) ≡ true → us ≡ t ∷ vs → (r : Gives language d to vs ws w) → ((c y : Tree Token) → more (Both (Both c r.tree) y) ≡ v ∷ more y) → Collects language e of (Seq (tok k) d) more ts ws (xs ++ v ∷ [])
 unfolding language

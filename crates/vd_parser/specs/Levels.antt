@@ -1,5 +1,5 @@
 -- The levels of precedence: their operators and the symbols of the grammar.
-use Rattle.std.specs.Prelude.{ℕ, Bool, List, Option, Some, None, nat_eq, if◌then◌else◌}
+use Rattle.std.specs.Prelude.{ℕ, Bool, ◌||◌, List, Option, Some, None, nat_eq, if◌then◌else◌}
 use Rattle.vd_grammar.specs.Grammar.{Ebnf, Tok}
 use Rattle.vd_grammar.specs.Trees.{Tree}
 use Rattle.vd_core.specs.declared.source.Prefix.{Prefix}
@@ -43,6 +43,11 @@ infix_at level.Product k =
     else if is_kind k kind.Slash then Some op.Div
     else if is_kind k kind.Percent then Some op.Rem
     else None
+
+-- whether a statement can begin with a token of this kind
+abbrev pub begins_statement : TokenKind → Bool
+begins_statement k =
+    ((((((is_kind k kind.Let || is_kind k kind.Var) || is_kind k kind.Array) || is_kind k kind.Name) || is_kind k kind.Output) || is_kind k kind.If) || is_kind k kind.For)
 
 abbrev pub prefix_at : TokenKind → Option Prefix
 prefix_at k = if is_kind k kind.Bang then Some prefix.Flip else if is_kind k kind.Tilde then Some prefix.Not else None

@@ -7,3 +7,5 @@ mod forms;
 mod operators;
 mod parser;
 mod prefixes;
+mod sources;
+mod statements;

@@ -15,7 +15,7 @@ pub enum Level {
     Product,
 }
 
-fn is(kind: TokenKind, wanted: TokenKind) -> bool
+pub fn is(kind: TokenKind, wanted: TokenKind) -> bool
     ensures { result ≡ nat_eq (code_of kind) (code_of wanted) }
 {
     kind.code() == wanted.code()

@@ -22,12 +22,12 @@ expr-returns-in_err-right t c =
     let p = err_from_is_err_and c.from_residual-in_err-right.result c.from_residual-in_err-right.ensures.1 in
     rw (p.1, p.2) (refused_last w2 c.in_err-right.ensures)
 
-pub expr-returns-in-Some : goal.expr-returns-in-Some
-expr-returns-in-Some t c =
+pub expr-returns-in_ok-left-2 : goal.expr-returns-in_ok-left-2
+expr-returns-in_ok-left-2 t c =
     let w1 = next (rule_start EXPR) c.in_ok-left.ensures in
     let op = comparison_token _ _ _ _ (ap comparison_at (sym c.kind.ensures) ∙ sym c.comparison.ensures ∙ c.in-Some.is) c.advance-token.ensures in
     let w2 = next (compared w1 (ap comparison_at (sym c.kind.ensures) ∙ sym c.comparison.ensures ∙ c.in-Some.is)) op in
-    last w2 c.in_ok-right.ensures (rw (c.in_ok-left-2.ensures, c.in_ok-push.ensures.ok, c.new-links.ensures) (expr_compared _ _ _ _ _ _ _ _ c.in_ok-left.ensures.value (comparison_op _ _ _ _ _ (ap comparison_at (sym c.kind.ensures) ∙ sym c.comparison.ensures ∙ c.in-Some.is) c.advance-token.ensures op.value) (ap (λ z. z.span) op.value) c.in_ok-right.ensures.value))
+    last w2 c.in_ok-right.ensures (rw (c.in_ok-left-2.ensures, c.in_ok-push.ensures.ok, c.new-links.ensures) (expr_compared _ _ op.tree _ _ _ _ _ c.in_ok-left.ensures.value (comparison_op _ _ _ _ op.tree (ap comparison_at (sym c.kind.ensures) ∙ sym c.comparison.ensures ∙ c.in-Some.is) c.advance-token.ensures op.value) (ap (λ z. z.span) op.value) c.in_ok-right.ensures.value))
 
 pub expr-returns-in_default : goal.expr-returns-in_default
 expr-returns-in_default t c =
