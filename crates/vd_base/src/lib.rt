@@ -1,9 +1,11 @@
 //! The types, limits and definitions that all crates of the compiler share.
 #![tactic(auto)]
 
+pub mod arithmetic;
 pub mod faults;
 pub mod form;
 pub mod ids;
+pub mod lexical;
 pub mod limits;
 pub mod lists;
 pub mod operations;

@@ -1,1 +1,4 @@
-
+pub mod Pieces
+pub mod TokenSteps
+pub mod TokenLaws
+pub mod TokenFacts

@@ -1,0 +1,55 @@
+ghost use Rattle.std.specs.Prelude.{◌≤◌, length, All, IfOk, IfErr};
+ghost use Rattle.vd_lexer.specs.Tokens.{token_at, Lexes, BadFits, LexesOnce, EndsOnce, IsSpelled, kinds};
+ghost use Rattle.std.specs.Prelude.{◌≡◌, ◌+◌, ◌^◌, ◌<◌};
+
+use crate::piece::{Piece, first_piece};
+use crate::token::{LexFault, Token, TokenKind};
+use std::alloc::Global;
+use vd_base::Span;
+use vd_base::limits::SOURCE_BYTES;
+use vd_items::Items;
+
+/// The tokens of a source in text order, the end last.
+pub fn tokens(alloc: Global, bytes: &[u8]) -> Result<Items<Token>, LexFault>
+    requires { length bytes.now ≤ SOURCE_BYTES }
+    ensures ok { IfOk result (λ found. Lexes bytes.now 0 found) }
+    ensures bad { IfErr result (λ fault. BadFits bytes.now fault) }
+    ensures ended { IfOk result (λ found. EndsOnce (kinds found)) }
+    ensures spelled { IfOk result (λ found. All (IsSpelled bytes.now) found) }
+{
+    let mut found = Items::new(alloc);
+    let mut at = 0;
+    while at < bytes.len() {
+        match first_piece(&bytes[at..]) {
+            Piece::Blank(len) => at += len,
+            Piece::Lexeme(kind, len, value) => {
+                found.push(token(kind, at, len, value))?;
+                at += len;
+            }
+            Piece::Bad => return Err(LexFault::BadByte(at as u32)),
+        }
+    }
+    found.push(token(TokenKind::End, at, 0, 0))?;
+    Ok(found)
+}
+
+fn token(kind: TokenKind, start: usize, len: usize, value: u32) -> Token
+    requires { start + len < 2 ^ 32 }
+    ensures { result ≡ token_at kind start len value }
+{
+    Token {
+        kind,
+        span: Span {
+            start: start as u32,
+            end: (start + len) as u32,
+        },
+        value,
+    }
+}
+
+/// A text has either tokens or a first bad byte, and only one of each.
+pub fn lexing_is_determined(bytes: &[u8])
+    ensures { LexesOnce bytes.now }
+{
+    let _ = bytes;
+}

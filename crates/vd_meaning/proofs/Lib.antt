@@ -1,0 +1,3 @@
+pub mod Puts
+pub mod Lookup
+pub mod Sizes

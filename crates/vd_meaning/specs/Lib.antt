@@ -1,0 +1,8 @@
+pub mod World
+pub mod Names
+pub mod Stores
+pub mod Turns
+pub mod Functions
+pub mod SourceMeaning
+pub mod ProgramMeaning
+pub mod Entries

@@ -1,0 +1,16 @@
+//! What a source and a let-normal program mean in clear: what each host is told, from what the hosts hand in.
+#![tactic(auto)]
+
+mod entry;
+pub mod held;
+mod names;
+mod program;
+mod source;
+mod stores;
+mod world;
+
+pub use program::clear_core;
+pub use source::clear_source;
+
+#[cfg(test)]
+mod tests;

@@ -1,0 +1,141 @@
+//! The names in sight, with what each of them holds.
+
+ghost use Rattle.std.specs.Prelude.{◌≡◌, [], ◌∷◌, ◌++◌, OnOk, IfOk};
+ghost use Rattle.vd_meaning.specs.Names.{at_name, bound, place_of};
+ghost use Rattle.vd_meaning.specs.declared.held.Held.TheVariants.{Bound};
+ghost use Rattle.vd_meaning.specs.SourceMeaning.{held_word, held_element, store_word, store_element, changed, parameter_names, host_names};
+ghost use Rattle.vd_meaning.specs.Entries.{named};
+
+use crate::entry::Entry;
+use crate::held::Held;
+use crate::stores::set_element;
+use std::alloc::{AllocError, Global};
+use vd_core::source::{Host, Parameter};
+use vd_items::Items;
+
+/// The word that a name holds, or 0.
+pub(crate) fn word(env: &[Entry], name: &[u8]) -> u32
+    ensures { result ≡ held_word (at_name (named env.now) name.now) }
+{
+    for entry in env {
+        if entry.name.as_slice() == name {
+            return match &entry.held {
+                Held::Bound(word) => *word,
+                Held::Cell(word) => *word,
+                Held::Elements(_) => 0,
+            };
+        }
+    }
+    0
+}
+
+/// The element of an array that a name holds, or 0.
+pub(crate) fn element(env: &[Entry], name: &[u8], index: u32) -> u32
+    ensures { result ≡ held_element (at_name (named env.now) name.now) index }
+{
+    for entry in env {
+        if entry.name.as_slice() == name {
+            return match &entry.held {
+                Held::Bound(_) => 0,
+                Held::Cell(_) => 0,
+                Held::Elements(words) => words.as_slice().get(index as usize).copied().unwrap_or(0),
+            };
+        }
+    }
+    0
+}
+
+/// The place of a host, or the number of hosts where none has the name.
+pub(crate) fn place(hosts: &[Host], name: &[u8]) -> usize
+    ensures { result ≡ place_of (host_names hosts.now) name.now }
+{
+    for (at, host) in hosts.iter().enumerate() {
+        if host.name.name.as_slice() == name {
+            return at;
+        }
+    }
+    hosts.len()
+}
+
+/// The parameters of a call, bound to its arguments.
+pub(crate) fn bind(
+    alloc: Global,
+    parameters: &[Parameter],
+    words: &[u32],
+) -> Result<Vec<Entry>, AllocError>
+    ensures { IfOk result (λ env. named env.items ≡ bound Bound (parameter_names parameters.now) words.now) }
+{
+    let mut env = Vec::new(alloc);
+    let mut left = words;
+    for parameter in parameters {
+        match left.split_first() {
+            None => return Ok(env),
+            Some((word, rest)) => {
+                env.push(Entry {
+                    name: Items::from_slice(alloc, parameter.name.name.as_slice())?,
+                    held: Held::Bound(*word),
+                })?;
+                left = rest;
+            }
+        }
+    }
+    Ok(env)
+}
+
+/// Brings one more name into sight.
+pub(crate) fn add(
+    alloc: Global,
+    env: &mut Vec<Entry>,
+    name: &[u8],
+    held: Held,
+) -> Result<(), AllocError>
+    ensures { OnOk result (named env.new.items ≡ named env.old.items ++ (name.now, held) ∷ []) }
+{
+    let name = Items::from_slice(alloc, name)?;
+    env.push(Entry { name, held })?;
+    Ok(())
+}
+
+/// Stores a word in a variable.
+pub(crate) fn store(env: &mut Vec<Entry>, name: &[u8], word: u32)
+    ensures { named env.new.items ≡ changed (store_word word) name.now (named env.old.items) }
+{
+    for i in 0..env.len() {
+        if env[i].name.as_slice() == name {
+            hold_word(&mut env[i].held, word);
+            return;
+        }
+    }
+}
+
+/// Writes one word of an array.
+pub(crate) fn write(env: &mut Vec<Entry>, name: &[u8], index: u32, word: u32)
+    ensures { named env.new.items ≡ changed (store_element index word) name.now (named env.old.items) }
+{
+    for i in 0..env.len() {
+        if env[i].name.as_slice() == name {
+            hold_element(&mut env[i].held, index, word);
+            return;
+        }
+    }
+}
+
+fn hold_word(held: &mut Held, word: u32)
+    ensures { held.new ≡ store_word word held.old }
+{
+    match held {
+        Held::Bound(_) => {}
+        Held::Cell(cell) => *cell = word,
+        Held::Elements(_) => {}
+    }
+}
+
+fn hold_element(held: &mut Held, index: u32, word: u32)
+    ensures { held.new ≡ store_element index word held.old }
+{
+    match held {
+        Held::Bound(_) => {}
+        Held::Cell(_) => {}
+        Held::Elements(words) => set_element(words, index, word),
+    }
+}

@@ -1,0 +1,5 @@
+pub mod Hosts
+pub mod Lines
+pub mod Tokens
+pub mod Inputs
+pub mod Outcome
