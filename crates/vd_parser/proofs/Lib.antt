@@ -3,3 +3,4 @@ pub mod Steps
 pub mod Meanings
 pub mod Precedence
 pub mod Progress
+pub mod Document

@@ -3,3 +3,7 @@ pub mod Syntax
 pub mod Parsing
 pub mod Levels
 pub mod Prefixes
+pub mod Document
+pub mod Nesting
+pub mod Whole
+pub mod Outcomes

@@ -1,11 +1,15 @@
-//! Text to tree.
+//! Text to tree: the parser of sources, whose contract is exact for trees and for refusals.
 #![tactic(auto)]
 
 mod cursor;
 mod exprs;
+mod fault;
 mod forms;
+pub mod laws;
 mod operators;
 mod parser;
 mod prefixes;
 mod sources;
 mod statements;
+
+pub use fault::ParseFault;
