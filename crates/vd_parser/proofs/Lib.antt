@@ -4,3 +4,6 @@ pub mod Meanings
 pub mod Precedence
 pub mod Progress
 pub mod Document
+pub mod Outcomes
+pub mod OutcomeLaws
+pub mod OutcomeTotal

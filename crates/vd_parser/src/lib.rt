@@ -6,10 +6,16 @@ mod exprs;
 mod fault;
 mod forms;
 pub mod laws;
+mod nesting;
 mod operators;
 mod parser;
 mod prefixes;
 mod sources;
 mod statements;
+mod whole;
 
 pub use fault::ParseFault;
+pub use whole::parse;
+
+#[cfg(test)]
+mod tests;
