@@ -4,7 +4,7 @@ use Rattle.std.proofs.lemmas.Bool.{or_left, or_from, cases_Bool}
 use Rattle.vd_grammar.specs.Grammar.{Ebnf, Tok, Sym, Eps, Seq, Alt, Star}
 use Rattle.vd_grammar.specs.Machine.{has, nullable, first, after, enter, step, go_on, run, IsLL1}
 use Rattle.vd_grammar.specs.Trees.{Tree, Leaf, Both, First, Second, Empty, m-tok, m-sym, m-eps, m-seq, m-left, m-right, m-stop, m-more}
-use Rattle.vd_grammar.specs.Reading.{Grammar, kinds, head, Read, Stops, Within, Gives, each_of, Repeats}
+use Rattle.vd_grammar.specs.Reading.{Grammar, kinds, head, Read, Stops, Within, Gives, Collects}
 use Rattle.vd_grammar.proofs.Exact.{has-left}
 use Rattle.vd_grammar.proofs.Runs.{choose_true, choose_false, enter_mono, enters_all, some_of}
 
@@ -175,34 +175,61 @@ module _ {S T : Type 0} (g : Grammar S T) (E : S → List ℕ) (ll1 : IsLL1 S g.
     shorter = omega (arith, w.shorter, r.shorter);
   }
 
-  -- repetitions
-  pub repeats_none : {X : Type 0} {e : Ebnf S} {of : Tree T → X} {ts : List T} → Repeats g e of ts ts []
-  repeats_none = record { up = λ x. x; within = begin; values = λ x. refl }
+  -- an optional part that is there, or is not
+  pub read_some : {a : Ebnf S} {ts us : List T} {x : Tree T} → has (head g ts) (first g.firsts a) ≡ true → Read g a ts us x → Read g (Alt a Eps) ts us (First x)
+  read_some h r = last_read (into_left begin h) r
 
-  more : {e a : Ebnf S} {ts us : List T} {up : Tree T → Tree T} → Within g e ts (Star a) us up → has (head g us) (first g.firsts a) ≡ true → (ks : List (Ebnf S)) → run g.rule g.firsts g.bound (e ∷ ks) (kinds g ts) ≡ run g.rule g.firsts g.bound (a ∷ Star a ∷ ks) (kinds g us)
-  more {a = a} {us = us} w h ks = w.runs ks ∙ same_step us _ _ (step_more S g.rule g.firsts E g.bound ll1 (head g us) ks a h)
+  pub read_left_out : {a : Ebnf S} (ts : List T) → has (head g ts) (first g.firsts a) ≡ false → nullable a ≡ false → Read g (Alt a Eps) ts ts (Second Empty)
+  read_left_out ts h m = last_read (into_right begin h m) (read_none ts)
 
-  pub repeats_more : {X : Type 0} {e : Ebnf S} {of : Tree T → X} {ts us vs : List T} {xs : List X} {v : X} → Repeats g e of ts us xs → has (head g us) (first g.firsts e) ≡ true → Gives g e of us vs v → Repeats g e of ts vs (xs ++ v ∷ [])
-  repeats_more {e = e} {of = of} {us = us} {xs = xs} {v = v} p h r = record {
-    up = λ y. p.up (Both r.tree y);
-    within = record {
-      runs = λ ks. more p.within h ks ∙ r.read.runs (Star e ∷ ks);
-      makes = λ ws y m. p.within.makes ws (Both r.tree y) (m-more r.read.makes m);
-      shorter = omega (arith, p.within.shorter, r.read.shorter);
-    };
-    values = λ y. p.values (Both r.tree y) ∙ ap (λ w. xs ++ w ∷ each_of of y) (sym r.value) ∙ sym (append_assoc xs (v ∷ []) (each_of of y));
+  -- Before a token that closes, what isn't that token is read as an optional part.
+  open_step : (ts : List T) (ks : List (Ebnf S)) (a b : Ebnf S) → nullable a ≡ false → nullable b ≡ false → has (head g ts) (first g.firsts b) ≡ false → run g.rule g.firsts g.bound (Alt a Eps ∷ b ∷ ks) (kinds g ts) ≡ run g.rule g.firsts g.bound (a ∷ b ∷ ks) (kinds g ts)
+  open_step ts ks a b m o e = same_step ts _ _ (elim (cases_Bool (has (head g ts) (first g.firsts a))) [
+    | inl c ↦ step_left S g.rule g.firsts E g.bound ll1 (head g ts) (b ∷ ks) a Eps c
+    | inr c ↦ step_right S g.rule g.firsts E g.bound ll1 (head g ts) (b ∷ ks) a Eps c m ∙ step_past S g.rule g.firsts E g.bound ll1 (head g ts) (b ∷ ks) Eps refl refl ∙ step_wrong S g.rule g.firsts E g.bound ll1 (head g ts) ks b e o ∙ sym (step_wrong S g.rule g.firsts E g.bound ll1 (head g ts) (b ∷ ks) a c m)
+  ])
+
+  pub next_open : {e a b : Ebnf S} {ts us vs : List T} {up : Tree T → Tree T} {x : Tree T} → Within g e ts (Seq (Alt a Eps) b) us up → nullable a ≡ false → nullable b ≡ false → has (head g us) (first g.firsts b) ≡ false → Read g a us vs x → Within g e ts b vs (λ y. up (Both (First x) y))
+  next_open {a = a} {b = b} {us = us} {x = x} w m o h r = record {
+    runs = λ ks. w.runs ks ∙ same_step us _ _ (step_seq S g.rule g.firsts E g.bound ll1 (head g us) ks (Alt a Eps) b) ∙ open_step us ks a b m o h ∙ r.runs (b ∷ ks);
+    makes = λ ws y n. w.makes ws (Both (First x) y) (m-seq (m-left r.makes) n);
+    shorter = omega (arith, w.shorter, r.shorter);
   }
 
-  pub repeats_stop : {X : Type 0} {e : Ebnf S} {of : Tree T → X} {ts us vs : List T} {xs : List X} → Repeats g e of ts us xs → has (head g us) (first g.firsts e) ≡ true → Stops g e us vs → Stops g (Star e) ts vs
-  repeats_stop {e = e} p h r = record { runs = λ ks. more p.within h ks ∙ r.runs (Star e ∷ ks); shorter = omega (arith, p.within.shorter, r.shorter) }
+  pub stop_open : {e a b : Ebnf S} {ts us vs : List T} {up : Tree T → Tree T} → Within g e ts (Seq (Alt a Eps) b) us up → nullable a ≡ false → nullable b ≡ false → has (head g us) (first g.firsts b) ≡ false → Stops g a us vs → Stops g e ts vs
+  stop_open {a = a} {b = b} {us = us} w m o h r = record {
+    runs = λ ks. w.runs ks ∙ same_step us _ _ (step_seq S g.rule g.firsts E g.bound ll1 (head g us) ks (Alt a Eps) b) ∙ open_step us ks a b m o h ∙ r.runs (b ∷ ks);
+    shorter = omega (arith, w.shorter, r.shorter);
+  }
 
-  pub repeats_end : {X : Type 0} {e : Ebnf S} {of : Tree T → X} {ts us : List T} {xs : List X} → Repeats g e of ts us xs → has (head g us) (first g.firsts e) ≡ false → Gives g (Star e) (each_of of) ts us xs
-  repeats_end {e = e} {us = us} {xs = xs} p h = record {
+  -- repetitions
+  pub collects_first : {X : Type 0} {e d : Ebnf S} {of more : Tree T → List X} {ts us : List T} {up : Tree T → Tree T} {xs : List X} → Within g e ts (Star d) us up → ((y : Tree T) → of (up y) ≡ xs ++ more y) → Collects g e of d more ts us xs
+  collects_first {up = up} w same = record { up = up; within = w; values = same }
+
+  once_more : {e a : Ebnf S} {ts us : List T} {up : Tree T → Tree T} → Within g e ts (Star a) us up → has (head g us) (first g.firsts a) ≡ true → (ks : List (Ebnf S)) → run g.rule g.firsts g.bound (e ∷ ks) (kinds g ts) ≡ run g.rule g.firsts g.bound (a ∷ Star a ∷ ks) (kinds g us)
+  once_more {a = a} {us = us} w h ks = w.runs ks ∙ same_step us _ _ (step_more S g.rule g.firsts E g.bound ll1 (head g us) ks a h)
+
+  pub collects_more : {X : Type 0} {e d : Ebnf S} {of more : Tree T → List X} {ts us vs : List T} {xs : List X} {x : Tree T} {v : X} → Collects g e of d more ts us xs → has (head g us) (first g.firsts d) ≡ true → Read g d us vs x → ((y : Tree T) → more (Both x y) ≡ v ∷ more y) → Collects g e of d more ts vs (xs ++ v ∷ [])
+  collects_more {d = d} {more = more} {xs = xs} {x = x} {v = v} p h r same = record {
+    up = λ y. p.up (Both x y);
+    within = record {
+      runs = λ ks. once_more p.within h ks ∙ r.runs (Star d ∷ ks);
+      makes = λ ws y m. p.within.makes ws (Both x y) (m-more r.makes m);
+      shorter = omega (arith, p.within.shorter, r.shorter);
+    };
+    values = λ y. p.values (Both x y) ∙ ap (λ w. xs ++ w) (same y) ∙ sym (append_assoc xs (v ∷ []) (more y));
+  }
+
+  pub collects_stop : {X : Type 0} {e d : Ebnf S} {of more : Tree T → List X} {ts us vs : List T} {xs : List X} → Collects g e of d more ts us xs → has (head g us) (first g.firsts d) ≡ true → Stops g d us vs → Stops g e ts vs
+  collects_stop {d = d} p h r = record { runs = λ ks. once_more p.within h ks ∙ r.runs (Star d ∷ ks); shorter = omega (arith, p.within.shorter, r.shorter) }
+
+  pub collects_end : {X : Type 0} {e d : Ebnf S} {of more : Tree T → List X} {ts us : List T} {xs : List X} → Collects g e of d more ts us xs → has (head g us) (first g.firsts d) ≡ false → more Empty ≡ [] → Gives g e of ts us xs
+  collects_end {d = d} {us = us} {xs = xs} p h none = record {
     tree = p.up Empty;
     read = record {
-      runs = λ ks. p.within.runs ks ∙ same_step us _ _ (step_past S g.rule g.firsts E g.bound ll1 (head g us) ks (Star e) h refl);
+      runs = λ ks. p.within.runs ks ∙ same_step us _ _ (step_past S g.rule g.firsts E g.bound ll1 (head g us) ks (Star d) h refl);
       makes = p.within.makes us Empty m-stop;
       shorter = p.within.shorter;
     };
-    value = sym (append-nil xs) ∙ sym (p.values Empty);
+    value = sym (append-nil xs) ∙ ap (λ w. xs ++ w) (sym none) ∙ sym (p.values Empty);
   }

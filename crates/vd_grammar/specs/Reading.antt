@@ -2,7 +2,7 @@
 use Rattle.std.specs.Prelude.{◌≡◌, ℕ, ◌≤◌, List, [], ◌∷◌, ◌++◌, map, length, Err}
 use Rattle.vd_grammar.specs.Grammar.{Ebnf, Star}
 use Rattle.vd_grammar.specs.Machine.{run}
-use Rattle.vd_grammar.specs.Trees.{Tree, Both, Makes}
+use Rattle.vd_grammar.specs.Trees.{Tree, Makes}
 
 -- a grammar over tokens: its rules, the kind of each token, the kind of the end, first sets and the bound of the test
 pub record Grammar (S T : Type 0) : Type 0 where
@@ -44,13 +44,9 @@ pub record Gives {S T X : Type 0} (g : Grammar S T) (e : Ebnf S) (of : Tree T �
   pub read : Read g e ts us tree
   pub value : v ≡ of tree
 
--- what the trees of a repetition stand for, one after another
-abbrev pub each_of : {T X : Type 0} → (Tree T → X) → Tree T → List X
-each_of of (Both x y) = of x ∷ each_of of y
-each_of of _ = []
-
--- any number of e so far, and they stand for vs
-pub record Repeats {S T X : Type 0} (g : Grammar S T) (e : Ebnf S) (of : Tree T → X) (ts us : List T) (vs : List X) : Type 0 where
+-- From e before ts the machine has come, before us, to any number of d. The trees so far give vs, and a tree of the
+-- rest of them gives more; together they give what e's tree stands for.
+pub record Collects {S T X : Type 0} (g : Grammar S T) (e : Ebnf S) (of : Tree T → List X) (d : Ebnf S) (more : Tree T → List X) (ts us : List T) (vs : List X) : Type 0 where
   pub up : Tree T → Tree T
-  pub within : Within g (Star e) ts (Star e) us up
-  pub values : (x : Tree T) → each_of of (up x) ≡ vs ++ each_of of x
+  pub within : Within g e ts (Star d) us up
+  pub values : (x : Tree T) → of (up x) ≡ vs ++ more x

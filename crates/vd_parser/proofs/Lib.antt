@@ -1,0 +1,9 @@
+pub mod Ready
+pub mod Steps
+pub mod Meanings
+pub mod Precedence
+pub mod Progress
+pub mod Document
+pub mod Outcomes
+pub mod OutcomeLaws
+pub mod OutcomeTotal

@@ -1,0 +1,66 @@
+use Rattle.std.proofs.Common.{ap}
+use Rattle.std.proofs.lemmas.Result.{err_from_is_err_and}
+use Rattle.vd_parser.proofs.Steps.{last, next, refused_first, refused_last, start}
+use Rattle.vd_parser.proofs.Meanings.{let_is}
+use Rattle.vd_parser.proofs.parser.Parser.let_statement.Goals as goal
+
+pub returns-in_err-first : goal.returns-in_err-first
+returns-in_err-first c =
+    let w0 = start in
+    let p = err_from_is_err_and c.from_residual.result c.from_residual.ensures.1 in
+    rw (p.1, p.2) (refused_first w0 c.in_err-first.ensures.token)
+
+pub returns-in_err-name : goal.returns-in_err-name
+returns-in_err-name c =
+    let w0 = start in
+    let w1 = next w0 c.in_ok-first.ensures.token in
+    let p = err_from_is_err_and c.from_residual-in_err-name.result c.from_residual-in_err-name.ensures.1 in
+    rw (p.1, p.2) (refused_first w1 c.in_err-name.ensures.tree)
+
+pub returns-in_err-label : goal.returns-in_err-label
+returns-in_err-label c =
+    let w0 = start in
+    let w1 = next w0 c.in_ok-first.ensures.token in
+    let w2 = next w1 c.in_ok-name.ensures.tree in
+    let p = err_from_is_err_and c.from_residual-in_err-label.result c.from_residual-in_err-label.ensures.1 in
+    rw (p.1, p.2) (refused_first w2 c.in_err-label.ensures)
+
+pub returns-in_err-expect : goal.returns-in_err-expect
+returns-in_err-expect c =
+    let w0 = start in
+    let w1 = next w0 c.in_ok-first.ensures.token in
+    let w2 = next w1 c.in_ok-name.ensures.tree in
+    let w3 = next w2 c.in_ok-label.ensures in
+    let p = err_from_is_err_and c.from_residual-in_err-expect.result c.from_residual-in_err-expect.ensures.1 in
+    rw (p.1, p.2) (refused_first w3 c.in_err-expect.ensures.token)
+
+pub returns-in_err-value : goal.returns-in_err-value
+returns-in_err-value c =
+    let w0 = start in
+    let w1 = next w0 c.in_ok-first.ensures.token in
+    let w2 = next w1 c.in_ok-name.ensures.tree in
+    let w3 = next w2 c.in_ok-label.ensures in
+    let w4 = next w3 c.in_ok-expect.ensures.token in
+    let p = err_from_is_err_and c.from_residual-in_err-value.result c.from_residual-in_err-value.ensures.1 in
+    rw (p.1, p.2) (refused_first w4 c.in_err-value.ensures)
+
+pub returns-in_err-expect-2 : goal.returns-in_err-expect-2
+returns-in_err-expect-2 c =
+    let w0 = start in
+    let w1 = next w0 c.in_ok-first.ensures.token in
+    let w2 = next w1 c.in_ok-name.ensures.tree in
+    let w3 = next w2 c.in_ok-label.ensures in
+    let w4 = next w3 c.in_ok-expect.ensures.token in
+    let w5 = next w4 c.in_ok-value.ensures in
+    let p = err_from_is_err_and c.from_residual-in_err-expect-2.result c.from_residual-in_err-expect-2.ensures.1 in
+    rw (p.1, p.2) (refused_last w5 c.in_err-expect-2.ensures.token)
+
+pub returns : goal.returns
+returns c =
+    let w0 = start in
+    let w1 = next w0 c.in_ok-first.ensures.token in
+    let w2 = next w1 c.in_ok-name.ensures.tree in
+    let w3 = next w2 c.in_ok-label.ensures in
+    let w4 = next w3 c.in_ok-expect.ensures.token in
+    let w5 = next w4 c.in_ok-value.ensures in
+    last w5 c.in_ok-expect-2.ensures.token (let_is _ _ _ _ _ _ _ _ _ _ _ (ap (λ z. z.span) c.in_ok-first.ensures.token.value) c.in_ok-name.ensures.tree.value c.in_ok-label.ensures.value c.in_ok-value.ensures.value)

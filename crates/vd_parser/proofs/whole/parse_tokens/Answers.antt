@@ -1,0 +1,6 @@
+use Rattle.std.proofs.Common.{sym}
+use Rattle.vd_parser.proofs.Outcomes.{deep_within}
+use Rattle.vd_parser.proofs.whole.parse_tokens.Goals as goal
+
+pub parse_through-requires-clause-within : goal.parse_through-requires-clause-within
+parse_through-requires-clause-within c = deep_within c.args.tokens.now _ c.requires.ended (sym c.in-Some.ensures)

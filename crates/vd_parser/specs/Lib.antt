@@ -1,0 +1,9 @@
+pub mod Language
+pub mod Syntax
+pub mod Parsing
+pub mod Levels
+pub mod Prefixes
+pub mod Document
+pub mod Nesting
+pub mod Whole
+pub mod Outcomes

@@ -1,0 +1,22 @@
+-- What is promised of a function that reads a whole text.
+use Rattle.std.specs.Prelude.{◌≡◌, ◌≢◌, List, [], ◌∷◌, Result, Ok, Err}
+use Rattle.vd_grammar.specs.Grammar.{Ebnf, ◌▸◌}
+use Rattle.vd_grammar.specs.Trees.{Tree}
+use Rattle.vd_grammar.specs.Reading.{Gives}
+use Rattle.vd_lexer.specs.Kinds.{code_of}
+use Rattle.vd_lexer.specs.declared.token.Token.{Token}
+use Rattle.vd_lexer.specs.declared.token.TokenKind.TheVariants as kind
+use Rattle.vd_parser.specs.declared.cursor.Refusal.{Refusal}
+use Rattle.vd_parser.specs.Language.{Symbol, tok}
+use Rattle.vd_parser.specs.Parsing.{language, Refused}
+
+-- no token is the end
+abbrev pub NoEnd : List Token → Type 0
+NoEnd [] = Unit {0}
+NoEnd (t ∷ ts) = (code_of t.kind ≢ 0) × NoEnd ts
+
+-- The tokens ts are a whole text of e, v is what it stands for, and none is left. Or they are refused before us: no text
+-- of e with the end after it goes on with the first token of us, which is the end where us is empty.
+abbrev pub ParsesWhole : {X : Type 0} → Ebnf Symbol → (Tree Token → X) → List Token → List Token → Result X Refusal → Type 0
+ParsesWhole e of ts us (Ok v) = Gives language e of ts [] v × (us ≡ [])
+ParsesWhole e of ts us (Err f) = Refused (e ▸ tok kind.End) ts us f

@@ -1,0 +1,20 @@
+//! Laws of the grammar and of the parser's answers. The functions here do nothing: the contract of each is a law.
+
+ghost use Rattle.std.specs.Prelude.{ℕ, List};
+ghost use Rattle.vd_parser.specs.Document.{SameLanguage};
+ghost use Rattle.vd_parser.specs.Outcomes.{ParsesOnce, ParsesSomehow};
+
+/// The rules that the parser goes by, in which one token decides each choice, are those of the language.
+pub fn same_language()
+    ensures { SameLanguage }
+{}
+
+/// No bytes have two outcomes: one tree, or one refusal.
+pub fn outcomes_are_single()
+    ensures { (bytes : List ℕ) → ParsesOnce bytes }
+{}
+
+/// All bytes have an outcome.
+pub fn outcomes_are_total()
+    ensures { (bytes : List ℕ) → ParsesSomehow bytes }
+{}

@@ -1,0 +1,57 @@
+ghost use Rattle.std.specs.Prelude.{◌≡◌, ◌≤◌};
+ghost use Rattle.vd_parser.specs.Nesting as nesting;
+
+use crate::operators::is;
+use vd_base::limits::OPEN_BRACKETS;
+use vd_lexer::{Token, TokenKind};
+
+fn opens(kind: TokenKind) -> bool
+    ensures { result ≡ nesting.opens kind }
+{
+    is(kind, TokenKind::OpenBrace)
+        || is(kind, TokenKind::OpenParen)
+        || is(kind, TokenKind::OpenBracket)
+}
+
+fn closes(kind: TokenKind) -> bool
+    ensures { result ≡ nesting.closes kind }
+{
+    is(kind, TokenKind::CloseBrace)
+        || is(kind, TokenKind::CloseParen)
+        || is(kind, TokenKind::CloseBracket)
+}
+
+/// How many brackets are open behind a token.
+fn open_behind(kind: TokenKind, depth: u32) -> u32
+    requires { depth ≤ 64 }
+    ensures { result ≡ nesting.open_behind kind depth }
+{
+    if opens(kind) {
+        depth + 1
+    } else if closes(kind) {
+        depth.saturating_sub(1)
+    } else {
+        depth
+    }
+}
+
+/// Whether a token opens a bracket beyond the limit.
+fn is_too_deep(kind: TokenKind, depth: u32) -> bool
+    ensures { result ≡ nesting.is_too_deep kind depth }
+{
+    opens(kind) && OPEN_BRACKETS <= depth
+}
+
+/// The number of the first token that opens a bracket beyond the limit.
+pub fn first_deep(tokens: &[Token]) -> Option<usize>
+    ensures { result ≡ nesting.first_deep tokens.now }
+{
+    let mut depth = 0;
+    for (number, token) in tokens.iter().enumerate() {
+        if is_too_deep(token.kind, depth) {
+            return Some(number);
+        }
+        depth = open_behind(token.kind, depth);
+    }
+    None
+}

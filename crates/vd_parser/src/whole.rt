@@ -1,0 +1,119 @@
+ghost use Rattle.std.specs.Prelude.{◌≡◌, ◌⊎◌, ◌+◌, ◌<◌, ◌≤◌, ◌^◌, length, Some, None, Err};
+ghost use Rattle.vd_grammar.specs.Grammar.{Sym};
+ghost use Rattle.vd_lexer.specs.Tokens.{EndsOnce, kinds};
+ghost use Rattle.vd_parser.specs.Language.{SOURCE};
+ghost use Rattle.vd_parser.specs.Syntax.{source_of};
+ghost use Rattle.vd_parser.specs.Nesting as nesting;
+ghost use Rattle.vd_parser.specs.Outcomes.{IsParse, IsOutcome};
+ghost use Rattle.vd_parser.specs.Whole.{NoEnd, ParsesWhole};
+
+use crate::cursor::{Cursor, Refusal};
+use crate::fault::ParseFault;
+use crate::nesting::first_deep;
+use crate::parser::Parser;
+use std::alloc::Global;
+use vd_base::limits::SOURCE_BYTES;
+use vd_core::source::Source;
+use vd_lexer::{LexFault, Token, TokenKind, tokens};
+
+impl<'a> Parser<'a> {
+    /// A source, and no token behind it.
+    fn whole_source(&self, cursor: &mut Cursor) -> Result<Source, Refusal>
+        requires { NoEnd cursor.old }
+        ensures { ParsesWhole (Sym SOURCE) (source_of self.now.text.now) cursor.old cursor.new result }
+    {
+        let source = self.source(cursor)?;
+        if cursor.is(TokenKind::End) {
+            Ok(source)
+        } else {
+            Err(Refusal::Unexpected)
+        }
+    }
+}
+
+/// The one tree of the bytes of a source, or the one refusal of other bytes.
+///
+/// A text that is too long is refused before it is read. A bad byte anywhere comes before a token that cannot stand
+/// where it stands and before a bracket that is nested too deep; of these two the earlier token is answered.
+pub fn parse(alloc: Global, bytes: &[u8]) -> Result<Source, ParseFault>
+    ensures { (result ≡ Err ParseFault.Memory) ⊎ IsParse bytes.now result }
+{
+    if bytes.len() > SOURCE_BYTES as usize {
+        return Err(ParseFault::TooLong(bytes.len() as u64));
+    }
+    match tokens(alloc, bytes) {
+        Ok(found) => parse_tokens(alloc, bytes, found.as_slice()),
+        Err(LexFault::BadByte(offset)) => Err(ParseFault::BadByte(offset)),
+        Err(LexFault::Memory) => Err(ParseFault::Memory),
+    }
+}
+
+fn parse_tokens(alloc: Global, text: &[u8], tokens: &[Token]) -> Result<Source, ParseFault>
+    requires ended { EndsOnce (kinds tokens.now) }
+    requires few { length tokens.now < 2 ^ 32 }
+    ensures { (result ≡ Err ParseFault.Memory) ⊎ IsOutcome text.now tokens.now result }
+{
+    match first_deep(tokens) {
+        None => parse_all(alloc, text, tokens),
+        Some(number) => parse_through(alloc, text, tokens, number),
+    }
+}
+
+/// Reads all tokens but the end.
+fn parse_all(alloc: Global, text: &[u8], tokens: &[Token]) -> Result<Source, ParseFault>
+    requires ended { EndsOnce (kinds tokens.now) }
+    requires few { length tokens.now < 2 ^ 32 }
+    requires shallow { nesting.first_deep tokens.now ≡ None }
+    ensures { (result ≡ Err ParseFault.Memory) ⊎ IsOutcome text.now tokens.now result }
+{
+    let end = tokens.len() - 1;
+    let mut cursor = Cursor::new(&tokens[..end]);
+    let parser = Parser { alloc, text };
+    let source = parser.whole_source(&mut cursor);
+    let Parser { alloc: _, text: _ } = parser;
+    match source {
+        Ok(source) => Ok(source),
+        Err(refusal) => match refusal {
+            Refusal::Memory => Err(ParseFault::Memory),
+            Refusal::Unexpected => {
+                let number = end - cursor.len();
+                Err(ParseFault::Unexpected(number as u32, tokens[number].span.start))
+            }
+        },
+    }
+}
+
+/// Reads the tokens through the first that is nested too deep: where nothing before refuses them, that one is refused.
+fn parse_through(
+    alloc: Global,
+    text: &[u8],
+    tokens: &[Token],
+    deep: usize,
+) -> Result<Source, ParseFault>
+    requires ended { EndsOnce (kinds tokens.now) }
+    requires few { length tokens.now < 2 ^ 32 }
+    requires deep { nesting.first_deep tokens.now ≡ Some deep }
+    requires within { deep + 2 ≤ length tokens.now }
+    ensures { (result ≡ Err ParseFault.Memory) ⊎ IsOutcome text.now tokens.now result }
+{
+    let end = deep + 1;
+    let mut cursor = Cursor::new(&tokens[..end]);
+    let parser = Parser { alloc, text };
+    let source = parser.whole_source(&mut cursor);
+    let Parser { alloc: _, text: _ } = parser;
+    match source {
+        Ok(_) => Err(ParseFault::TooDeep(tokens[deep].span.start)),
+        Err(refusal) => match refusal {
+            Refusal::Memory => Err(ParseFault::Memory),
+            Refusal::Unexpected => {
+                let left = cursor.len();
+                if left == 0 {
+                    Err(ParseFault::TooDeep(tokens[deep].span.start))
+                } else {
+                    let number = end - left;
+                    Err(ParseFault::Unexpected(number as u32, tokens[number].span.start))
+                }
+            }
+        },
+    }
+}
