@@ -1,3 +1,5 @@
+ghost use Rattle.std.specs.Prelude.{◌<◌};
+
 use crate::{NameFault, Quantity, resolve};
 use std::alloc::{AllocError, Global};
 use std::test::Fail;
