@@ -9,7 +9,6 @@ use Rattle.vd_core.specs.declared.source.WrittenForm.TheVariants as form
 use Rattle.vd_core.specs.declared.source.WrittenLabel.{WrittenLabel}
 use Rattle.vd_core.specs.declared.source.Host.{Host}
 use Rattle.vd_core.specs.declared.source.Parameter.{Parameter}
-use Rattle.vd_core.specs.declared.source.Prefix.{Prefix}
 use Rattle.vd_core.specs.declared.source.Infix.{Infix}
 use Rattle.vd_core.specs.declared.source.Direction.{Direction}
 use Rattle.vd_core.specs.declared.source.Expr.{Expr}
