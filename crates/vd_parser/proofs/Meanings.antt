@@ -1,4 +1,4 @@
--- What the trees of the grammar stand for, a rule at a time. A script wrote most of it.
+-- What the trees of the grammar stand for, a rule at a time.
 use Rattle.std.proofs.Common.{◌≡◌, ℕ, true, false, List, [], ◌∷◌, ◌++◌, Option, Some, None, refl, sym, ap, ◌∙◌}
 use Rattle.vd_grammar.specs.Trees.{Tree, Both, First, Second, Empty}
 use Rattle.vd_base.specs.declared.ids.Span.{Span}
