@@ -1,4 +1,4 @@
--- What the trees of the grammar stand for, a rule at a time. A script wrote most of it.
+-- What the trees of the grammar stand for, a rule at a time.
 use Rattle.std.proofs.Common.{◌≡◌, ℕ, true, false, List, [], ◌∷◌, ◌++◌, Option, Some, None, refl, sym, ap, ◌∙◌}
 use Rattle.vd_grammar.specs.Trees.{Tree, Both, First, Second, Empty}
 use Rattle.vd_base.specs.declared.ids.Span.{Span}
@@ -9,7 +9,6 @@ use Rattle.vd_core.specs.declared.source.WrittenForm.TheVariants as form
 use Rattle.vd_core.specs.declared.source.WrittenLabel.{WrittenLabel}
 use Rattle.vd_core.specs.declared.source.Host.{Host}
 use Rattle.vd_core.specs.declared.source.Parameter.{Parameter}
-use Rattle.vd_core.specs.declared.source.Prefix.{Prefix}
 use Rattle.vd_core.specs.declared.source.Infix.{Infix}
 use Rattle.vd_core.specs.declared.source.Direction.{Direction}
 use Rattle.vd_core.specs.declared.source.Expr.{Expr}

@@ -1,12 +1,12 @@
 -- Some bytes have one outcome.
-use Rattle.std.proofs.Common.{◌≡◌, ℕ, zero, suc, ◌+◌, ◌<◌, ◌≤◌, Bool, true, false, List, [], ◌∷◌, ◌++◌, ◌⊎◌, inl, inr, length, take, drop, get_or, Option, Some, None, Result, Ok, Err, refl, sym, ap, ◌∙◌, subst, arith, ◌-◌, append_assoc}
+use Rattle.std.proofs.Common.{◌≡◌, ℕ, zero, suc, ◌≤◌, List, [], ◌∷◌, ◌++◌, inl, inr, length, take, drop, get_or, Some, None, Result, Ok, Err, refl, sym, ap, ◌∙◌, subst, arith, ◌-◌, append_assoc}
 use Rattle.std.proofs.lemmas.Bool.{cases_lt}
 use Rattle.vd_grammar.specs.Grammar.{Spells, Starts}
-use Rattle.vd_grammar.specs.Trees.{Tree, Both, Makes}
+use Rattle.vd_grammar.specs.Trees.{Tree, Both}
 use Rattle.vd_grammar.proofs.Lawful.{fronts, only_tree, texts_trees}
 use Rattle.vd_core.specs.declared.source.Source.{Source}
 use Rattle.vd_lexer.specs.Kinds.{code_of}
-use Rattle.vd_lexer.specs.Tokens.{Lexes, FirstBad, LexesOnce, kinds}
+use Rattle.vd_lexer.specs.Tokens.{kinds}
 use Rattle.vd_lexer.specs.declared.token.Token.{Token}
 use Rattle.vd_lexer.proofs.TokenLaws.{lexes_once}
 use Rattle.vd_parser.specs.declared.fault.ParseFault.{ParseFault}
@@ -14,7 +14,7 @@ use Rattle.vd_parser.specs.declared.fault.ParseFault.TheVariants as fault
 use Rattle.vd_parser.specs.Language.{Symbol, rule}
 use Rattle.vd_parser.specs.Syntax.{no_token, source_of}
 use Rattle.vd_parser.specs.Nesting.{first_deep}
-use Rattle.vd_parser.specs.Outcomes.{sentence, BeginSource, IsSource, NoneBefore, IsUnexpected, IsTooDeep, IsShallow, IsOutcome, HasTokens, IsParse, ParsesOnce}
+use Rattle.vd_parser.specs.Outcomes.{sentence, BeginSource, IsSource, NoneBefore, IsUnexpected, IsTooDeep, IsOutcome, HasTokens, ParsesOnce}
 use Rattle.vd_parser.proofs.Ready.{F, E, language_ll1, ones}
 use Rattle.vd_parser.proofs.Outcomes.{get_at, take_at, kinds-append}
 

@@ -1,8 +1,8 @@
 -- All bytes have an outcome.
-use Rattle.std.proofs.Common.{◌≡◌, ℕ, suc, ◌+◌, ◌-◌, ◌<◌, ◌≤◌, Bool, true, false, ◌||◌, List, [], ◌∷◌, ◌++◌, ◌⊎◌, inl, inr, length, take, get_or, Option, Some, None, Result, Ok, Err, nat_eq, refl, sym, ap, ◌∙◌, subst, true≢false, arith}
+use Rattle.std.proofs.Common.{◌≡◌, ℕ, ◌+◌, ◌-◌, ◌≤◌, true, List, [], ◌∷◌, ◌++◌, ◌⊎◌, inl, inr, length, take, get_or, Option, Some, None, Result, Ok, Err, nat_eq, refl, sym, ap, ◌∙◌, subst, true≢false, arith}
 use Rattle.std.proofs.lemmas.List.{take_all}
 use Rattle.std.proofs.Math.Seq.{take-length}
-use Rattle.std.proofs.lemmas.Bool.{cases_lt, or_left, or_right, both_ways}
+use Rattle.std.proofs.lemmas.Bool.{cases_lt, or_right, both_ways}
 use Rattle.vd_grammar.specs.Grammar.{Ebnf, Tok, Sym, Seq, Derives, d-seq, d-tok, Begins, b-none, b-tok, b-first, b-next, Spells, Starts, NothingLeft}
 use Rattle.vd_grammar.specs.Machine.{has, run}
 use Rattle.vd_grammar.specs.Trees.{Tree, Both, Makes, m-seq}
@@ -11,7 +11,7 @@ use Rattle.vd_grammar.proofs.Extra.{absent, starts_absent}
 use Rattle.vd_grammar.proofs.Lawful.{exact, texts_trees}
 use Rattle.vd_core.specs.declared.source.Source.{Source}
 use Rattle.vd_lexer.specs.Kinds.{code_of}
-use Rattle.vd_lexer.specs.Tokens.{EndsOnce, kinds, Lexes, LexesOnce}
+use Rattle.vd_lexer.specs.Tokens.{EndsOnce, kinds, Lexes}
 use Rattle.vd_lexer.specs.declared.token.Token.{Token}
 use Rattle.vd_lexer.proofs.TokenLaws.{lexes_once}
 use Rattle.vd_lexer.proofs.TokenFacts.{ends_once}
@@ -22,7 +22,7 @@ use Rattle.vd_parser.specs.Syntax.{no_token, source_of}
 use Rattle.vd_parser.specs.Nesting.{first_deep}
 use Rattle.vd_parser.specs.Outcomes.{sentence, BeginSource, NoneBefore, IsUnexpected, IsOutcome, IsParse, ParsesSomehow}
 use Rattle.vd_parser.proofs.Ready.{F, E, language_ll1}
-use Rattle.vd_parser.proofs.Outcomes.{closed_of, kinds-append, split, too_deep, take_at}
+use Rattle.vd_parser.proofs.Outcomes.{closed_of, kinds-append, split, too_deep}
 use Rattle.vd_parser.proofs.OutcomeLaws.{begins_less, take_front}
 
 -- the end stands in no rule

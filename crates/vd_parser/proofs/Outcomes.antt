@@ -1,12 +1,12 @@
 -- What the machine says of kinds, said of tokens.
-use Rattle.std.proofs.Common.{◌≡◌, ◌≢◌, ℕ, zero, suc, ◌+◌, ◌-◌, ◌<◌, ◌≤◌, Bool, true, false, ◌&&◌, ◌||◌, List, [], ◌∷◌, ◌++◌, ◌⊎◌, inl, inr, length, map, take, drop, get_or, Option, Some, None, nat_eq, nat_le, refl, sym, ap, ◌∙◌, subst, true≢false, arith, length-append, append-nil, append_assoc, add-one, drop-cons, if◌then◌else◌, ◌^◌, Result, Ok, Err, length-drop}
+use Rattle.std.proofs.Common.{◌≡◌, ℕ, zero, suc, ◌+◌, ◌-◌, ◌<◌, ◌≤◌, Bool, true, false, ◌&&◌, List, [], ◌∷◌, ◌++◌, ◌⊎◌, inl, inr, length, take, drop, get_or, Some, None, nat_le, refl, sym, ap, ◌∙◌, subst, true≢false, arith, length-append, append_assoc, add-one, drop-cons, if◌then◌else◌, ◌^◌, Result, Ok, Err, length-drop}
 use Rattle.std.proofs.lemmas.List.{drop_all, length-map}
-use Rattle.std.proofs.lemmas.Bool.{cases_Bool, and_parts, or_cases, leb-false, cases_lt}
-use Rattle.vd_grammar.specs.Grammar.{Ebnf, Tok, Sym, Seq, Starts, Begins, b-none, b-next, Derives}
+use Rattle.std.proofs.lemmas.Bool.{cases_Bool, and_parts, leb-false, cases_lt}
+use Rattle.vd_grammar.specs.Grammar.{Ebnf, Sym, Starts, b-none, b-next}
 use Rattle.vd_grammar.specs.Trees.{Tree, Leaf, Both, Makes, m-tok, m-sym, m-eps, m-seq, m-left, m-right, m-stop, m-more}
 use Rattle.vd_grammar.specs.Laws.{FirstUnexpected}
 use Rattle.vd_grammar.specs.Reading.{Stops, Gives}
-use Rattle.vd_grammar.proofs.Lawful.{exact, fronts}
+use Rattle.vd_grammar.proofs.Lawful.{exact}
 use Rattle.vd_grammar.proofs.OneTree.{makes_derives}
 use Rattle.vd_core.specs.declared.source.Source.{Source}
 use Rattle.vd_lexer.specs.Kinds.{code_of}
@@ -20,12 +20,12 @@ use Rattle.vd_lexer.specs.declared.token.TokenKind.{TokenKind}
 use Rattle.vd_lexer.specs.declared.token.TokenKind.TheVariants as kind
 use Rattle.vd_parser.specs.declared.cursor.Refusal.{Refusal}
 use Rattle.vd_parser.specs.declared.cursor.Refusal.TheVariants as refusal
-use Rattle.vd_parser.specs.Language.{Symbol, rule, tok, SOURCE}
+use Rattle.vd_parser.specs.Language.{Symbol, rule, SOURCE}
 use Rattle.vd_parser.specs.Syntax.{source_of}
 use Rattle.vd_parser.specs.Parsing.{language, next_kind, Refused}
 use Rattle.vd_parser.specs.Nesting.{opens, closes, is_too_deep, open_behind, first_deep_from, first_deep}
 use Rattle.vd_parser.specs.Whole.{NoEnd, ParsesWhole}
-use Rattle.vd_parser.specs.Outcomes.{sentence, BeginSource, IsSource, NoneBefore, IsUnexpected, IsTooDeep, IsShallow, IsOutcome, IsParse}
+use Rattle.vd_parser.specs.Outcomes.{sentence, BeginSource, IsSource, NoneBefore, IsUnexpected, IsTooDeep, IsOutcome, IsParse}
 use Rattle.vd_parser.proofs.Ready.{F, E, language_ll1}
 
 code : Token → ℕ

@@ -1,5 +1,5 @@
 -- Operators as the parser tests them and as the grammar has them.
-use Rattle.std.proofs.Common.{◌≡◌, ◌≢◌, ℕ, ◌<◌, Bool, true, false, ◌||◌, inl, inr, true≢false, List, [], ◌∷◌, ◌++◌, length, Option, Some, None, nat_eq, refl, sym, ap, ◌∙◌, subst, arith, eqb-true}
+use Rattle.std.proofs.Common.{◌≡◌, ℕ, ◌<◌, Bool, true, false, ◌||◌, inl, inr, true≢false, List, [], ◌∷◌, ◌++◌, length, Some, None, nat_eq, refl, sym, ap, ◌∙◌, subst, arith, eqb-true}
 use Rattle.std.proofs.lemmas.Bool.{or_left, or_from, cases_Bool, or_cases}
 use Rattle.vd_grammar.specs.Grammar.{Ebnf, Tok, Sym, Eps, Seq, Alt, Star, one_of}
 use Rattle.vd_grammar.specs.Machine.{has, first}
@@ -23,14 +23,14 @@ use Rattle.vd_lexer.specs.declared.token.TokenKind.TheVariants as kind
 use Rattle.vd_parser.specs.declared.operators.Level.{Level}
 use Rattle.vd_parser.specs.declared.operators.Level.TheVariants as level
 use Rattle.vd_parser.specs.declared.cursor.Refusal.{Refusal}
-use Rattle.vd_parser.specs.Language.{Symbol, rule, tok, BOR, BXOR, BAND, SUM, PROD, STMT, any_of, comparison_ops, shift_ops, prefix_ops}
+use Rattle.vd_parser.specs.Language.{Symbol, tok, BOR, BXOR, BAND, SUM, PROD, STMT, comparison_ops, shift_ops, prefix_ops}
 use Rattle.vd_parser.specs.Syntax.{token_of, span_of, infix_of, direction_of, prefix_of, chained, link_of, bor_of, bor_links_of, bxor_of, bxor_links_of, band_of, band_links_of, sum_of, sum_links_of, prod_of, prod_links_of, prefixed, shift_links_of, atom_of, unary_of, statements_of, statement_of}
 use Rattle.vd_parser.specs.Parsing.{language, next_kind, kind_at, Refused}
 use Rattle.vd_parser.specs.Levels.{begins_statement, comparison_at, infix_at, prefix_at, direction_at, ops_of, symbol_of, operand_symbol, level_of, operand_of, links_of}
 use Rattle.vd_parser.proofs.Ready.{F, E, language_ll1}
 use Rattle.vd_grammar.proofs.Readings as readings
 use Rattle.vd_parser.proofs.Meanings.{statements_more, statements_none, unary_is, shifts_more, shifts_none}
-use Rattle.vd_parser.proofs.Steps.{head_is, took, start, rule_start, next, last, refused_last, collects_known, stop_known, end_known}
+use Rattle.vd_parser.proofs.Steps.{head_is, start, rule_start, next, last, refused_last, collects_known, stop_known, end_known}
 
 -- one token of several kinds
 one : (c : ℕ) (cs : List ℕ) (t : Token) (ts : List Token) → has (code_of t.kind) (c ∷ cs) ≡ true → Gives language (one_of c cs) token_of (t ∷ ts) ts t

@@ -1,7 +1,7 @@
 -- What is read is at least a token, but for parts that may be empty.
-use Rattle.std.proofs.Common.{◌≡◌, ℕ, ◌<◌, ◌≤◌, Bool, true, false, ◌&&◌, ◌||◌, List, [], ◌∷◌, length, inl, inr, refl, sym, ◌∙◌, true≢false, arith}
+use Rattle.std.proofs.Common.{◌≡◌, ◌<◌, ◌≤◌, Bool, true, false, ◌||◌, List, length, inl, inr, refl, sym, ◌∙◌, true≢false, arith}
 use Rattle.std.proofs.lemmas.Bool.{and_from, cases_Bool}
-use Rattle.vd_grammar.specs.Grammar.{Ebnf, Tok, Sym, Eps, Seq, Alt, Star}
+use Rattle.vd_grammar.specs.Grammar.{Ebnf, Sym}
 use Rattle.vd_grammar.specs.Machine.{nullable}
 use Rattle.vd_grammar.specs.Trees.{Tree, Makes, m-tok, m-sym, m-eps, m-seq, m-left, m-right, m-stop, m-more}
 use Rattle.vd_grammar.specs.Reading.{Gives}

@@ -1,6 +1,6 @@
 -- The levels of precedence: their operators and the symbols of the grammar.
 use Rattle.std.specs.Prelude.{ℕ, Bool, ◌||◌, List, Option, Some, None, nat_eq, if◌then◌else◌}
-use Rattle.vd_grammar.specs.Grammar.{Ebnf, Tok}
+use Rattle.vd_grammar.specs.Grammar.{Ebnf}
 use Rattle.vd_grammar.specs.Trees.{Tree}
 use Rattle.vd_core.specs.declared.source.Prefix.{Prefix}
 use Rattle.vd_core.specs.declared.source.Prefix.TheVariants as prefix

@@ -1,5 +1,5 @@
 -- The syntax tree that a tree of the grammar stands for. text is the bytes of the source, in which names stand.
-use Rattle.std.specs.Prelude.{ℕ, ◌-◌, Bool, true, false, List, [], ◌∷◌, drop, take, Option, Some, None}
+use Rattle.std.specs.Prelude.{ℕ, ◌-◌, true, false, List, [], ◌∷◌, drop, take, Option, Some, None}
 use Rattle.vd_grammar.specs.Trees.{Tree, Leaf, Both, First, Second, Empty}
 use Rattle.vd_base.specs.declared.ids.Span.{Span}
 use Rattle.vd_base.specs.declared.operations.Kind.{Kind}

@@ -1,4 +1,4 @@
-use Rattle.vd_parser.proofs.Outcomes.{few_tokens, has_tokens}
+use Rattle.vd_parser.proofs.Outcomes.{few_tokens}
 use Rattle.vd_parser.proofs.whole.parse.Goals as goal
 
 pub parse_tokens-requires-clause-few : goal.parse_tokens-requires-clause-few

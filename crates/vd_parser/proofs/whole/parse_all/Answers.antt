@@ -1,4 +1,4 @@
-use Rattle.std.proofs.Common.{◌≡◌, ◌-◌, inr, length, take, refl, sym, ap, ◌∙◌, subst, arith}
+use Rattle.std.proofs.Common.{◌≡◌, ◌-◌, inr, length, take, sym, subst, arith}
 use Rattle.vd_grammar.specs.Grammar.{Sym}
 use Rattle.vd_grammar.specs.Reading.{Gives}
 use Rattle.vd_parser.specs.declared.cursor.Refusal.TheVariants as refusal
@@ -7,7 +7,7 @@ use Rattle.vd_parser.specs.Syntax.{source_of}
 use Rattle.vd_parser.specs.Parsing.{language, Refused}
 use Rattle.vd_parser.specs.Whole.{NoEnd}
 use Rattle.vd_parser.specs.Outcomes.{sentence}
-use Rattle.vd_parser.proofs.Outcomes.{no_end, closed_of, one_at_least, is_source, refused_of, unexpected_shallow}
+use Rattle.vd_parser.proofs.Outcomes.{no_end, closed_of, one_at_least, is_source, unexpected_shallow}
 use Rattle.vd_parser.proofs.whole.parse_all.Goals as goal
 
 pub whole_source-source-requires : goal.whole_source-source-requires

@@ -1,4 +1,4 @@
-use Rattle.std.proofs.Common.{◌≡◌, ◌≤◌, [], ◌+◌, ◌-◌, inl, inr, length, take, refl, sym, ap, ◌∙◌, subst, arith}
+use Rattle.std.proofs.Common.{◌≡◌, ◌≤◌, [], ◌+◌, inl, inr, length, take, refl, sym, ◌∙◌, subst, arith}
 use Rattle.vd_grammar.specs.Grammar.{Sym}
 use Rattle.vd_grammar.specs.Reading.{Gives}
 use Rattle.vd_parser.specs.declared.cursor.Refusal.TheVariants as refusal
@@ -7,7 +7,7 @@ use Rattle.vd_parser.specs.Syntax.{source_of}
 use Rattle.vd_parser.specs.Parsing.{language, Refused}
 use Rattle.vd_parser.specs.Whole.{NoEnd}
 use Rattle.vd_parser.specs.Outcomes.{sentence}
-use Rattle.vd_parser.proofs.Outcomes.{no_end, refused_of, whole_of, too_deep_whole, too_deep_end, unexpected_deep, no_tokens, some_left}
+use Rattle.vd_parser.proofs.Outcomes.{no_end, too_deep_whole, too_deep_end, unexpected_deep, no_tokens, some_left}
 use Rattle.vd_parser.proofs.whole.parse_through.Goals as goal
 use Rattle.vd_parser.proofs.whole.parse_through.Goals.{in-Ok, in-Err+in-Memory, in-Err+in-Unexpected+then-left-eq0, in-Err+in-Unexpected+else-left-eq0}
 

@@ -1,6 +1,5 @@
 use Rattle.std.proofs.Common.{◌∙◌}
 use Rattle.std.proofs.lemmas.Result.{err_from_is_err_and}
-use Rattle.vd_parser.specs.Syntax.{assigned}
 use Rattle.vd_parser.proofs.Steps.{last, next, refused_first, refused_last, start}
 use Rattle.vd_parser.proofs.Meanings.{assign_is}
 use Rattle.vd_parser.proofs.parser.Parser.assignment.Goals as goal

@@ -1,6 +1,5 @@
 use Rattle.std.proofs.Common.{ap}
 use Rattle.std.proofs.lemmas.Result.{err_from_is_err_and}
-use Rattle.vd_lexer.specs.declared.token.TokenKind.TheVariants as kind
 use Rattle.vd_parser.specs.Language.{FUN}
 use Rattle.vd_parser.proofs.Steps.{last, next, refused_first, refused_last, rule_start}
 use Rattle.vd_parser.proofs.Meanings.{function_is}

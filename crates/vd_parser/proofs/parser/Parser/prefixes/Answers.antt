@@ -1,5 +1,4 @@
 use Rattle.std.proofs.Common.{sym, ap, ◌∙◌, refl}
-use Rattle.vd_lexer.specs.declared.token.TokenKind.TheVariants as kind
 use Rattle.vd_parser.specs.Levels.{prefix_at}
 use Rattle.vd_parser.proofs.Steps.{collects_first, start}
 use Rattle.vd_parser.proofs.Precedence.{more_prefix, no_prefix}

@@ -1,5 +1,4 @@
 use Rattle.std.proofs.lemmas.Result.{err_from_is_err_and}
-use Rattle.vd_lexer.specs.declared.token.TokenKind.TheVariants as kind
 use Rattle.vd_parser.proofs.Steps.{last, next, refused_first, refused_last, start}
 use Rattle.vd_parser.proofs.Meanings.{typed_is}
 use Rattle.vd_parser.proofs.parser.Parser.typed.Goals as goal
