@@ -1,0 +1,247 @@
+//! The command `clear`.
+
+use crate::world::{Failing, clear, run_words, source_and_inputs};
+use std::test::Fail;
+use vd_base::Bytes;
+use vd_items::Items;
+
+/// Source, inputs, status, and what is printed to the output and to the error stream.
+const CASES: [(&str, &str, u8, &str, &str); 22] = [
+    (
+        "principals P;\nhost alice {P ; P};\nhost bob {P ; P};\nmain {\n  let x = input(alice);\n  let y = input(bob);\n  output x + y * 2 to alice;\n  output x - y to bob;\n}\n",
+        "alice: 3\nbob: 5\n",
+        0,
+        "alice 1 13\nbob 1 4294967294\n",
+        "",
+    ),
+    (
+        "principals P;\nhost alice {P ; P};\nhost bob {P ; P};\nmain {\n  let b = input(bob);\n  output b to bob;\n  output 7 to alice;\n}\n",
+        "",
+        0,
+        "alice 1 7\nbob 1 0\n",
+        "",
+    ),
+    (
+        "principals A;host alice {A ; A};main {}",
+        "",
+        0,
+        "alice 0\n",
+        "",
+    ),
+    (
+        "principals A, B;\nhost alice {A ; A & B};\nhost bob {B ; A & B};\nmain {\n  let a = input(alice);\n  let b = input(bob);\n  let r = declassify(a < b, {A | B});\n  output r to alice;\n  output r to bob;\n}\n",
+        "alice: 5\nbob: 9\n",
+        0,
+        "alice 1 1\nbob 1 1\n",
+        "",
+    ),
+    (
+        "principals A, B;\nhost alice {A ; A & B};\nhost bob {B ; A & B};\nmain {\n  let a = input(alice);\n  let b = input(bob);\n  let r = declassify(a < b, {A | B});\n  output r to alice;\n  output r to bob;\n}\n",
+        "alice: 4294967295\nbob: 0\n",
+        0,
+        "alice 1 0\nbob 1 0\n",
+        "",
+    ),
+    (
+        "principals A, B;\nhost alice {A ; A & B};\nhost bob {B ; A & B};\nmain {\n  let a = input(alice);\n  let b = input(bob);\n  let r = declassify(a * b, {A | B});\n  output r to alice;\n  output r to bob;\n}\n",
+        "alice: 7\nbob: 6\n",
+        0,
+        "alice 1 42\nbob 1 42\n",
+        "",
+    ),
+    (
+        "principals P;\nhost alice {P ; P};\nhost bob {P ; P};\nmain {\n  for i to 65535 { }\n}\n",
+        "",
+        0,
+        "alice 0\nbob 0\n",
+        "",
+    ),
+    (
+        "principals P;\nhost alice {P ; P};\nhost bob {P ; P};\nmain {\n  for i to 65536 { }\n}\n",
+        "",
+        7,
+        "",
+        "viaduct: limit weights 65537\n",
+    ),
+    (
+        "principals P;\nhost alice {P ; P};\nhost bob {P ; P};\nmain {\n  output 7 / 0 to alice;\n  output 7 % 0 to alice;\n}\n",
+        "",
+        0,
+        "alice 2 0 7\nbob 0\n",
+        "",
+    ),
+    (
+        "principals P;\nhost alice {P ; P};\nhost bob {P ; P};\nfun sq(x: word): word { return x * x; }\nmain {\n  var s: word = 0;\n  for i to 3 { s := s + sq(i); }\n  output s to alice;\n}\n",
+        "",
+        0,
+        "alice 1 5\nbob 0\n",
+        "",
+    ),
+    (
+        "principals P;\nhost alice {P ; P};\nhost bob {P ; P};\nmain {\n  for i to 0 { output 1 to alice; }\n}\n",
+        "",
+        0,
+        "alice 0\nbob 0\n",
+        "",
+    ),
+    (
+        "principals P;\nhost alice {P ; P};\nhost bob {P ; P};\nmain {\n  array t: word[3];\n  t[1] := input(alice);\n  t[3] := 9;\n  output t[1] + t[3] to bob;\n}\n",
+        "alice: 4\n",
+        0,
+        "alice 0\nbob 1 4\n",
+        "",
+    ),
+    (
+        "principals P;\nhost alice {P ; P};\nhost bob {P ; P};\nmain {\n  array t: word[65537];\n}\n",
+        "",
+        7,
+        "",
+        "viaduct: limit cells 65537\n",
+    ),
+    (
+        "principals P;\nhost alice {P ; P};\nhost bob {P ; P};\nmain {\n  let k = 1;\n  output k[0] to bob;\n}\n",
+        "",
+        7,
+        "",
+        "viaduct: kind at 81\n",
+    ),
+    (
+        "principals P;\nhost alice {P ; P};\nhost bob {P ; P};\nmain {\n  output zz to alice;\n}\n",
+        "",
+        7,
+        "",
+        "viaduct: unknown name at 68\n",
+    ),
+    (
+        "principals P;\nhost alice {P ; P};\nhost bob {P ; P};\nmain {\n  let k = 1 + true;\n}\n",
+        "",
+        7,
+        "",
+        "viaduct: kind at 71\n",
+    ),
+    ("", "", 6, "", "viaduct: unexpected token at 0\n"),
+    (
+        "principals A;host alice {A ; A};main { let x = 05; }",
+        "",
+        6,
+        "",
+        "viaduct: bad byte at 47\n",
+    ),
+    (
+        "principals A;host alice {A ; A};main { let x = (((((((((((((((((((((((((((((((((((((((((((((((((((((((((((((1))))))))))))))))))))))))))))))))))))))))))))))))))))))))))))); }",
+        "",
+        0,
+        "alice 0\n",
+        "",
+    ),
+    (
+        "principals A, B;\nhost alice {A ; A & B};\nhost bob {B ; A & B};\nmain {\n  let a = input(alice);\n  let b = input(bob);\n  let r = declassify(a < b, {A | B});\n  output r to alice;\n  output r to bob;\n}\n",
+        "alice: 5 x",
+        11,
+        "",
+        "viaduct: input host at 9\n",
+    ),
+    (
+        "principals A, B;\nhost alice {A ; A & B};\nhost bob {B ; A & B};\nmain {\n  let a = input(alice);\n  let b = input(bob);\n  let r = declassify(a < b, {A | B});\n  output r to alice;\n  output r to bob;\n}\n",
+        "alice: 05",
+        11,
+        "",
+        "viaduct: input text at 7\n",
+    ),
+    (
+        "principals A, B;\nhost alice {A ; A & B};\nhost bob {B ; A & B};\nmain {\n  let a = input(alice);\n  let b = input(bob);\n  let r = declassify(a < b, {A | B});\n  output r to alice;\n  output r to bob;\n}\n",
+        "alice 5",
+        11,
+        "",
+        "viaduct: input text at 6\n",
+    ),
+];
+
+const TWO_HOSTS: &str =
+    "principals P;\nhost alice {P ; P};\nhost bob {P ; P};\nmain {\n  let x = input(alice);\n  output x to bob;\n}\n";
+
+#[test]
+fn sources_print_what_they_mean(rt: HostRuntime) -> Result<(), Fail> {
+    for (source, inputs, code, out, err) in CASES {
+        let left = clear(rt.alloc(), source, inputs)?;
+        assert_eq!(rt;
+            left.err.as_slice(),
+            err.as_bytes(),
+            "the error line of {source}"
+        );
+        assert_eq!(rt;
+            left.out.as_slice(),
+            out.as_bytes(),
+            "the output of {source}"
+        );
+        assert_eq!(rt; left.code, code, "the status of {source}");
+    }
+    Ok(())
+}
+
+#[test]
+fn a_failed_fetch_names_its_file(rt: HostRuntime) -> Result<(), Fail> {
+    let alloc = rt.alloc();
+    let mut failing = Failing::nothing(alloc);
+    failing.files.push(0)?;
+    let stored = source_and_inputs(alloc, TWO_HOSTS.as_bytes(), b"")?;
+    let left = run_words(alloc, &["clear", "S1", "I"], stored, failing)?;
+    assert_eq!(rt; left.code, 3);
+    assert_eq!(rt; left.err.as_slice(), b"viaduct: read fault S1\n".as_slice());
+    assert_eq!(rt; left.out.len(), 0);
+    assert_eq!(rt; left.fetches, 1);
+    Ok(())
+}
+
+#[test]
+fn a_failed_write_leaves_a_front_of_the_report(rt: HostRuntime) -> Result<(), Fail> {
+    let alloc = rt.alloc();
+    let mut failing = Failing::nothing(alloc);
+    failing.out.push(1)?;
+    failing.most = 3;
+    let stored = source_and_inputs(alloc, TWO_HOSTS.as_bytes(), b"alice: 42\n")?;
+    let left = run_words(alloc, &["clear", "S1", "I"], stored, failing)?;
+    assert_eq!(rt; left.code, 4);
+    assert_eq!(rt; left.out.as_slice(), b"ali".as_slice());
+    assert_eq!(rt; left.err.as_slice(), b"viaduct: write fault\n".as_slice());
+    Ok(())
+}
+
+#[test]
+fn a_source_above_the_limit_is_too_long(rt: HostRuntime) -> Result<(), Fail> {
+    let alloc = rt.alloc();
+    let source = vec![in alloc; b' '; 65_537]?;
+    let stored = source_and_inputs(alloc, source.as_slice(), b"")?;
+    let left = run_words(
+        alloc,
+        &["clear", "S1", "I"],
+        stored,
+        Failing::nothing(alloc),
+    )?;
+    assert_eq!(rt; left.code, 5);
+    assert_eq!(rt;
+        left.err.as_slice(),
+        b"viaduct: too long S1 65536\n".as_slice()
+    );
+    assert_eq!(rt; left.out.len(), 0);
+    Ok(())
+}
+
+#[test]
+fn other_words_are_no_command(rt: HostRuntime) -> Result<(), Fail> {
+    let alloc = rt.alloc();
+    let lines: [&[&str]; 4] = [
+        &[],
+        &["clear"],
+        &["clear", "S1", "I", "I"],
+        &["clean", "S1", "I"],
+    ];
+    for line in lines {
+        let stored = source_and_inputs(alloc, TWO_HOSTS.as_bytes(), b"")?;
+        let left = run_words(alloc, line, stored, Failing::nothing(alloc))?;
+        assert_eq!(rt; left.code, 2);
+        assert_eq!(rt; left.err.as_slice(), b"viaduct: usage\n".as_slice());
+        assert_eq!(rt; left.fetches, 0);
+    }
+    Ok(())
+}
