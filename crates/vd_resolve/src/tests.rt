@@ -5,8 +5,7 @@ use std::alloc::{AllocError, Global};
 use std::test::Fail;
 use vd_base::{Kind, Name, Span};
 use vd_core::source::{
-    Expr, Function, Host, Ident, Infix, Link, Parameter, Prefix, Source, Statement, WrittenForm,
-    WrittenLabel,
+    Expr, Function, Host, Ident, Infix, Link, Prefix, Source, Statement, WrittenForm, WrittenLabel,
 };
 use vd_items::{Boxed, Items};
 
@@ -115,22 +114,6 @@ fn call(alloc: Global, text: &str, start: u32, arguments: Items<Expr>) -> Result
     Ok(Expr::Call(ident(alloc, text, start)?, arguments))
 }
 
-/// `fun NAME(x: word): word { return GIVES; }`
-fn function(alloc: Global, name: Ident, gives: Expr) -> Result<Function, AllocError> {
-    let parameter = Parameter {
-        name: ident(alloc, "x", 50)?,
-        kind: Kind::Word,
-    };
-    Ok(Function {
-        name,
-        parameters: only(alloc, parameter)?,
-        kind: Kind::Word,
-        body: Items::new(alloc),
-        at_return: at(60),
-        gives,
-    })
-}
-
 fn host(alloc: Global, name: Ident) -> Result<Host, AllocError> {
     Ok(Host {
         name,
@@ -209,55 +192,6 @@ fn names_are_declared_once(rt: HostRuntime) -> Result<(), Fail> {
     };
     let after = both(alloc, block, bind(alloc, "x", 5, Expr::Number(1))?)?;
     assert_eq!(rt; fault(alloc, after)?, None);
-    Ok(())
-}
-
-#[test]
-fn functions_call_earlier_ones(rt: HostRuntime) -> Result<(), Fail> {
-    let alloc = rt.alloc();
-    let own = call(alloc, "f", 11, only(alloc, value(alloc, "x", 12)?)?)?;
-    let functions = only(alloc, function(alloc, ident(alloc, "f", 4)?, own)?)?;
-    assert_eq!(rt;
-        fault_with(alloc, functions, Items::new(alloc))?,
-        Some(NameFault::Recursive(at(11)))
-    );
-    let later = call(alloc, "g", 11, only(alloc, value(alloc, "x", 12)?)?)?;
-    let first = function(alloc, ident(alloc, "f", 4)?, later)?;
-    let second = function(alloc, ident(alloc, "g", 5)?, Expr::Number(1))?;
-    let functions = both(alloc, first, second)?;
-    assert_eq!(rt;
-        fault_with(alloc, functions, Items::new(alloc))?,
-        Some(NameFault::Recursive(at(11)))
-    );
-    let functions = only(
-        alloc,
-        function(alloc, ident(alloc, "f", 4)?, Expr::Number(1))?,
-    )?;
-    let empty = output(alloc, call(alloc, "f", 11, Items::new(alloc))?)?;
-    assert_eq!(rt;
-        fault_with(alloc, functions, only(alloc, empty)?)?,
-        Some(NameFault::Arity(at(11)))
-    );
-    let functions = only(
-        alloc,
-        function(alloc, ident(alloc, "f", 4)?, Expr::Number(1))?,
-    )?;
-    let wrong = output(
-        alloc,
-        call(alloc, "f", 11, only(alloc, Expr::Truth(true))?)?,
-    )?;
-    assert_eq!(rt;
-        fault_with(alloc, functions, only(alloc, wrong)?)?,
-        Some(NameFault::Kind(at(11)))
-    );
-    let functions = only(
-        alloc,
-        function(alloc, ident(alloc, "f", 4)?, Expr::Truth(true))?,
-    )?;
-    assert_eq!(rt;
-        fault_with(alloc, functions, Items::new(alloc))?,
-        Some(NameFault::Kind(at(60)))
-    );
     Ok(())
 }
 
@@ -397,47 +331,6 @@ fn principals_and_hosts_have_limits(rt: HostRuntime) -> Result<(), Fail> {
     assert_eq!(rt;
         crowd(alloc, 6, 5)?,
         Some(NameFault::Limit(Quantity::Hosts, 5))
-    );
-    Ok(())
-}
-
-/// Functions of which each calls the one before twice.
-fn doubling(alloc: Global, count: u8) -> Result<Items<Function>, AllocError>
-    requires { count < 60 }
-{
-    let mut functions = only(
-        alloc,
-        function(alloc, letter(alloc, b'A')?, Expr::Number(1))?,
-    )?;
-    for k in 0..count {
-        let left = Expr::Call(
-            letter(alloc, b'A' + k)?,
-            only(alloc, value(alloc, "x", 3)?)?,
-        );
-        let right = Expr::Call(
-            letter(alloc, b'A' + k)?,
-            only(alloc, value(alloc, "x", 3)?)?,
-        );
-        let sum = chain(alloc, left, Infix::Add, 5, right)?;
-        functions.push(function(alloc, letter(alloc, b'B' + k)?, sum)?)?;
-    }
-    Ok(functions)
-}
-
-#[test]
-fn sizes_are_found_without_inlining(rt: HostRuntime) -> Result<(), Fail> {
-    let alloc = rt.alloc();
-    let functions = doubling(alloc, 40)?;
-    let last = Expr::Call(letter(alloc, b'A' + 40)?, only(alloc, Expr::Number(1))?);
-    let main = only(alloc, output(alloc, last)?)?;
-    let found = fault_with(alloc, functions, main)?;
-    assert_eq!(rt;
-        found,
-        Some(NameFault::Limit(Quantity::Statements, 4294967295))
-    );
-    assert_eq!(rt;
-        fault_with(alloc, doubling(alloc, 40)?, Items::new(alloc))?,
-        None
     );
     Ok(())
 }
