@@ -62,7 +62,7 @@ pub struct Slot {
 
 /// A let-normal program. `labels` has one entry for each host, and `slots` are numbered from 0 in program order.
 #[derive(PartialEq, Eq, Debug, Drop)]
-pub struct Program {
+pub struct NormalForm {
     pub principals: Names,
     pub hosts: Names,
     pub labels: Items<Written>,

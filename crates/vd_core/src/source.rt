@@ -54,6 +54,13 @@ pub enum Prefix {
     Not,
 }
 
+/// An operator that stands before an operand, and its span.
+#[derive(Clone, Copy, PartialEq, Eq, Debug)]
+pub struct Sign {
+    pub prefix: Prefix,
+    pub span: Span,
+}
+
 /// An operator between two operands.
 #[derive(Clone, Copy, PartialEq, Eq, Debug)]
 pub enum Infix {
@@ -100,7 +107,9 @@ pub enum Expr {
     Declassify(Boxed<Expr>, WrittenForm),
     /// With the new integrity.
     Endorse(Boxed<Expr>, WrittenForm),
-    Unary(Prefix, Span, Boxed<Expr>),
+    /// An operand, and the operators before it, of which there is at least one: the nearest first, which is the last in
+    /// the text and the first to be applied.
+    Unary(Boxed<Expr>, Items<Sign>),
     /// An operand, and what is then done to it, from the left. It has at least one link, and the links are of one
     /// level of precedence.
     Chain(Boxed<Expr>, Items<Link>),

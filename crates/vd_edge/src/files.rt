@@ -17,7 +17,9 @@ pub struct RealFiles<R: Disk + Drop> {
 }
 
 impl<R: Disk + Drop> RealFiles<R> {
-    pub fn new(rt: R, alloc: Global) -> RealFiles<R> {
+    pub fn new(rt: R, alloc: Global) -> RealFiles<R>
+        ensures { result.faults ≡ 0 }
+    {
         RealFiles {
             rt,
             alloc,

@@ -1,4 +1,4 @@
-ghost use Rattle.std.specs.Prelude.{false, []};
+ghost use Rattle.std.specs.Prelude.{◌≡◌, false, []};
 
 use std::io::Write;
 use vd_base::Failed;
@@ -14,7 +14,9 @@ pub struct RealSink<W: Write + Drop> {
 }
 
 impl<W: Write + Drop> RealSink<W> {
-    pub fn new(stream: W) -> RealSink<W> {
+    pub fn new(stream: W) -> RealSink<W>
+        ensures { result.faults ≡ 0 }
+    {
         RealSink { stream, faults: 0 }
     }
 }

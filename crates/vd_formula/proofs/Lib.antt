@@ -3,4 +3,5 @@ pub mod Tables
 pub mod Closure
 pub mod Implies
 pub mod FormSteps
+pub mod FormTruths
 pub mod Antichains

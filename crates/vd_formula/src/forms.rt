@@ -2,6 +2,7 @@ ghost use Rattle.std.specs.Prelude.{◌≡◌, ◌≤◌, IfOk, IfErr, None, OnO
 ghost use Rattle.std.specs.Str.{bytes_eq};
 ghost use Rattle.vd_formula.specs.Faults.{IsFaultOf};
 ghost use Rattle.vd_formula.specs.Forms.{first_unknown, formula_of};
+ghost use Rattle.vd_formula.specs.TruthTable.{IsFormula};
 ghost use Rattle.vd_formula.specs.declared.forms.FormFault.TheVariants as form_fault;
 
 use crate::Formula;
@@ -56,6 +57,38 @@ impl Formula {
                     formula = formula.either(&Formula::of(alloc, part, names)?);
                 }
                 Ok(formula)
+            }
+        }
+    }
+
+    /// The formula of a written form over these names, where a name that is not among them is in no set.
+    pub fn over(form: &Form, names: &Names) -> Formula
+        requires { length names.now ≤ 6 }
+        ensures formula { result ≡ formula_of form.now names.now }
+        ensures names { result.names ≡ length names.now }
+        ensures valid { IsFormula result }
+    {
+        let count = names.as_slice().len() as u8;
+        match form {
+            Form::Any => Formula::any(count),
+            Form::Never => Formula::never(count),
+            Form::Name(name) => match place_of(name, names) {
+                Some(place) => Formula::name(place as u8, count),
+                None => Formula::never(count),
+            },
+            Form::Both(parts) => {
+                let mut whole = Formula::any(count);
+                for part in parts.iter() {
+                    whole = whole.both(&Formula::over(part, names));
+                }
+                whole
+            }
+            Form::Either(parts) => {
+                let mut whole = Formula::never(count);
+                for part in parts.iter() {
+                    whole = whole.either(&Formula::over(part, names));
+                }
+                whole
             }
         }
     }

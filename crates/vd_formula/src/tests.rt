@@ -96,6 +96,20 @@ fn the_first_unknown_name_is_told(rt: HostRuntime) -> Result<(), Fail> {
     Ok(())
 }
 
+#[test]
+fn an_unknown_name_is_in_no_set(rt: HostRuntime) -> Result<(), Fail> {
+    let alloc = rt.alloc();
+    let names = letters(alloc, 2)?;
+    assert!(rt; names.as_slice().len() <= 6);
+    let known_or_not = either(alloc, name(alloc, "zz")?, name(alloc, "B")?)?;
+    let formula = Formula::over(&known_or_not, &names);
+    assert_eq!(rt; true_sets(alloc, &formula)?.as_slice(), [2, 3].as_slice());
+    let known_and_not = both(alloc, name(alloc, "A")?, name(alloc, "zz")?)?;
+    let formula = Formula::over(&known_and_not, &names);
+    assert_eq!(rt; true_sets(alloc, &formula)?.as_slice(), [].as_slice());
+    Ok(())
+}
+
 /// The implication, where both are over as many names.
 fn implication(first: &Formula, second: &Formula) -> Option<Formula> {
     if first.names() == second.names() {

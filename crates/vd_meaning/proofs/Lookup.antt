@@ -4,7 +4,7 @@ use Rattle.vd_core.specs.declared.source.Function.{Function}
 use Rattle.vd_meaning.specs.declared.held.Held.{Held}
 use Rattle.vd_meaning.specs.declared.entry.Entry.{Entry}
 use Rattle.vd_meaning.specs.World.{World}
-use Rattle.vd_meaning.specs.Names.{Named, at_name}
+use Rattle.vd_base.specs.Names.{Named, at_name}
 use Rattle.vd_meaning.specs.Functions.{in_text_order}
 use Rattle.vd_meaning.specs.SourceMeaning.{State, left_block, changed}
 use Rattle.vd_meaning.specs.Entries.{named}

@@ -1,5 +1,4 @@
 pub mod World
-pub mod Names
 pub mod Stores
 pub mod Turns
 pub mod Functions

@@ -7,7 +7,7 @@ use Rattle.vd_core.specs.declared.normal.Right.TheVariants.{Lit, Turn, Copy, App
 use Rattle.vd_core.specs.declared.normal.Stmt.{Stmt}
 use Rattle.vd_core.specs.declared.normal.Stmt.TheOpen.{Stmt-F}
 use Rattle.vd_core.specs.declared.normal.Stmt.TheFolds.{fold-Stmt}
-use Rattle.vd_core.specs.declared.normal.Program.{Program}
+use Rattle.vd_core.specs.declared.normal.NormalForm.{NormalForm}
 use Rattle.vd_meaning.specs.World.{World, world_at_start, input_word, after_input, after_output}
 use Rattle.vd_meaning.specs.Stores.{put}
 use Rattle.vd_meaning.specs.Turns.{turns}
@@ -87,5 +87,5 @@ abbrev pub state_at_start : World → SlotState
 state_at_start w = record { words = []; arrays = []; world = w }
 
 -- what each host is told
-abbrev pub program_outputs : Program → List (List ℕ) → List (List ℕ)
+abbrev pub program_outputs : NormalForm → List (List ℕ) → List (List ℕ)
 program_outputs p inputs = (block_effect p.body 0 (state_at_start (world_at_start (length p.hosts) inputs))).world.outputs

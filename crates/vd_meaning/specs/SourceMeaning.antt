@@ -6,6 +6,7 @@ use Rattle.vd_base.specs.declared.operations.Op.TheVariants as op
 use Rattle.vd_base.specs.Operations.{truth_word, result_of}
 use Rattle.vd_core.specs.declared.source.Prefix.{Prefix}
 use Rattle.vd_core.specs.declared.source.Prefix.TheVariants as prefix'
+use Rattle.vd_core.specs.declared.source.Sign.{Sign}
 use Rattle.vd_core.specs.declared.source.Infix.{Infix}
 use Rattle.vd_core.specs.declared.source.Infix.TheVariants as infix'
 use Rattle.vd_core.specs.declared.source.Direction.{Direction}
@@ -24,7 +25,7 @@ use Rattle.vd_core.specs.declared.source.Source.{Source}
 use Rattle.vd_meaning.specs.declared.held.Held.{Held}
 use Rattle.vd_meaning.specs.declared.held.Held.TheVariants.{Bound, Cell, Elements}
 use Rattle.vd_meaning.specs.World.{World, world_at_start, input_word, after_input, after_output}
-use Rattle.vd_meaning.specs.Names.{Named, at_name, bound, place_of}
+use Rattle.vd_base.specs.Names.{Named, at_name, bound, place_of}
 use Rattle.vd_meaning.specs.Turns.{turns}
 use Rattle.vd_meaning.specs.Functions.{in_text_order}
 
@@ -48,6 +49,11 @@ LinkEvaluation = Named Callee → Named Held → ℕ → World → ℕ × World
 abbrev pub prefix_word : Prefix → ℕ → ℕ
 prefix_word prefix'.Flip x = result_of op.Flip (x ∷ [])
 prefix_word prefix'.Not x = result_of op.Not (x ∷ [])
+
+-- the operators before an operand, the nearest first
+abbrev pub prefixes_word : List Sign → ℕ → ℕ
+prefixes_word [] x = x
+prefixes_word (s ∷ ss) x = prefixes_word ss (prefix_word s.prefix x)
 
 abbrev pub infix_word : Infix → ℕ → ℕ → ℕ
 infix_word infix'.Equal x y = result_of op.Eq (x ∷ y ∷ [])
@@ -117,7 +123,7 @@ expr_evaluation hosts (Expr-F.Max at x y) callees env w = applied op.Max (evalua
 expr_evaluation hosts (Expr-F.Mux at x y z) callees env w = applied op.Mux (evaluations (x ∷ y ∷ z ∷ []) callees env w)
 expr_evaluation hosts (Expr-F.Declassify x to) callees env w = x callees env w
 expr_evaluation hosts (Expr-F.Endorse x to) callees env w = x callees env w
-expr_evaluation hosts (Expr-F.Unary o at x) callees env w = let p = x callees env w in (prefix_word o p.0, p.1)
+expr_evaluation hosts (Expr-F.Unary x signs) callees env w = let p = x callees env w in (prefixes_word signs p.0, p.1)
 expr_evaluation hosts (Expr-F.Chain x links) callees env w = let p = x callees env w in chain_evaluation links callees env p.0 p.1
 expr_evaluation hosts (Expr-F.Brackets x) callees env w = x callees env w
 

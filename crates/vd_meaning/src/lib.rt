@@ -3,6 +3,7 @@
 
 mod entry;
 pub mod held;
+pub mod hosts;
 mod names;
 mod program;
 mod source;

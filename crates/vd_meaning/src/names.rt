@@ -1,16 +1,16 @@
 //! The names in sight, with what each of them holds.
 
 ghost use Rattle.std.specs.Prelude.{◌≡◌, [], ◌∷◌, ◌++◌, OnOk, IfOk};
-ghost use Rattle.vd_meaning.specs.Names.{at_name, bound, place_of};
+ghost use Rattle.vd_base.specs.Names.{at_name, bound};
 ghost use Rattle.vd_meaning.specs.declared.held.Held.TheVariants.{Bound};
-ghost use Rattle.vd_meaning.specs.SourceMeaning.{held_word, held_element, store_word, store_element, changed, parameter_names, host_names};
+ghost use Rattle.vd_meaning.specs.SourceMeaning.{held_word, held_element, store_word, store_element, changed, parameter_names};
 ghost use Rattle.vd_meaning.specs.Entries.{named};
 
 use crate::entry::Entry;
 use crate::held::Held;
 use crate::stores::set_element;
 use std::alloc::{AllocError, Global};
-use vd_core::source::{Host, Parameter};
+use vd_core::source::Parameter;
 use vd_items::Items;
 
 /// The word that a name holds, or 0.
@@ -43,18 +43,6 @@ pub(crate) fn element(env: &[Entry], name: &[u8], index: u32) -> u32
         }
     }
     0
-}
-
-/// The place of a host, or the number of hosts where none has the name.
-pub(crate) fn place(hosts: &[Host], name: &[u8]) -> usize
-    ensures { result ≡ place_of (host_names hosts.now) name.now }
-{
-    for (at, host) in hosts.iter().enumerate() {
-        if host.name.name.as_slice() == name {
-            return at;
-        }
-    }
-    hosts.len()
 }
 
 /// The parameters of a call, bound to its arguments.

@@ -9,10 +9,14 @@ use std::alloc::{AllocError, Global};
 use std::marker::Model;
 use vd_base::arithmetic::combine;
 use vd_base::{Inputs, Outputs, SlotId, Words};
-use vd_core::normal::{Program, Right, Stmt};
+use vd_core::normal::{NormalForm, Right, Stmt};
 
 /// What each host is told by a let-normal program. The inputs of a host are followed by zeros.
-pub fn clear_core(alloc: Global, program: &Program, inputs: &Inputs) -> Result<Outputs, AllocError>
+pub fn clear_core(
+    alloc: Global,
+    program: &NormalForm,
+    inputs: &Inputs,
+) -> Result<Outputs, AllocError>
     ensures { IfOk result (λ outputs. outputs ≡ program_outputs program.now inputs.now) }
 {
     let world = World::at_start(alloc, program.hosts.as_slice().len(), inputs)?;

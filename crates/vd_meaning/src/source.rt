@@ -2,19 +2,22 @@
 
 ghost use Rattle.std.specs.Prelude.{◌≡◌, [], ◌∷◌, ◌++◌, OnOk, IfOk, map, ℕ, List};
 ghost use Rattle.vd_meaning.specs.World.{World as Outside};
-ghost use Rattle.vd_meaning.specs.Names.{at_name};
+ghost use Rattle.vd_base.specs.Names.{at_name};
 ghost use Rattle.vd_meaning.specs.Entries.{named};
-ghost use Rattle.vd_meaning.specs.SourceMeaning.{State, prefix_word, infix_word, shift_word, called, chain_evaluation, evaluations, evaluation, evaluation_of_link, in_sequence, block_execution, turn_execution, execution, callee_of, callees_of, host_names, source_outputs};
+ghost use Rattle.vd_meaning.specs.SourceMeaning.{State, prefix_word, prefixes_word, infix_word, shift_word, called, chain_evaluation, evaluations, evaluation, evaluation_of_link, in_sequence, block_execution, turn_execution, execution, callee_of, callees_of, host_names, source_outputs};
 
 use crate::entry::Entry;
 use crate::held::Held;
-use crate::names::{add, bind, element, place, store, word, write};
+use crate::hosts::place;
+use crate::names::{add, bind, element, store, word, write};
 use crate::stores::zeros;
 use crate::world::World;
 use std::alloc::{AllocError, Global};
 use vd_base::arithmetic::combine;
 use vd_base::{Inputs, Op, Outputs, Words};
-use vd_core::source::{Direction, Expr, Function, Host, Infix, Link, Prefix, Source, Statement};
+use vd_core::source::{
+    Direction, Expr, Function, Host, Infix, Link, Prefix, Sign, Source, Statement,
+};
 use vd_items::Items;
 
 /// What each host is told by a source. The inputs of a host are followed by zeros.
@@ -42,6 +45,17 @@ fn prefix(op: Prefix, x: u32) -> u32
         Prefix::Flip => combine(Op::Flip, x, 0, 0),
         Prefix::Not => combine(Op::Not, x, 0, 0),
     }
+}
+
+/// The operators before an operand, the nearest first.
+fn prefixes(signs: &[Sign], operand: u32) -> u32
+    ensures { result ≡ prefixes_word signs.now operand }
+{
+    let mut x = operand;
+    for sign in signs {
+        x = prefix(sign.prefix, x);
+    }
+    x
 }
 
 fn infix(op: Infix, x: u32, y: u32) -> u32
@@ -119,9 +133,9 @@ impl<'a> Scope<'a> {
             }
             Expr::Declassify(x, _) => self.evaluate(env, world, x),
             Expr::Endorse(x, _) => self.evaluate(env, world, x),
-            Expr::Unary(op, _, x) => {
+            Expr::Unary(x, signs) => {
                 let x = self.evaluate(env, world, x)?;
-                Ok(prefix(*op, x))
+                Ok(prefixes(signs.as_slice(), x))
             }
             Expr::Chain(first, links) => {
                 let x = self.evaluate(env, world, first)?;

@@ -1,7 +1,7 @@
 use crate::{clear_core, clear_source};
 use std::alloc::{AllocError, Global};
 use vd_base::{HostId, Inputs, Name, Names, Op, SlotId, Span};
-use vd_core::normal::{Program, Right, Stmt};
+use vd_core::normal::{NormalForm, Right, Stmt};
 use vd_core::source::{Expr, Host, Ident, Source, Statement, WrittenForm, WrittenLabel};
 use vd_items::Items;
 
@@ -77,7 +77,7 @@ fn a_let_normal_program_gives_each_host_its_words(rt: HostRuntime) -> Result<(),
     let name: Name = Items::from_slice(alloc, b"alice")?;
     let mut hosts: Names = Items::new(alloc);
     hosts.push(name)?;
-    let program = Program {
+    let program = NormalForm {
         principals: Items::new(alloc),
         hosts,
         labels: Items::new(alloc),

@@ -5,8 +5,10 @@ use Rattle.vd_outside.specs.Net.{NetView}
 use Rattle.vd_outside.specs.SureLink.{SureLinkState, link_view}
 use Rattle.vd_outside.specs.declared.net.NetCall.{NetCall}
 
--- the address of each listener, how many links were given, those that came back, and the calls that were asked
+-- the room of its links, the address of each listener, how many links were given, those that came back, and the calls
+-- that were asked
 pub record SureNetState : Type 0 where
+  pub room : ℕ
   pub listeners : List (List ℕ)
   pub links : ℕ
   pub back : List SureLinkState

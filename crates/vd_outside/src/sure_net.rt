@@ -25,7 +25,7 @@ impl Model for SureNet {
 
     ghost Value = { SureNetState };
 
-    ghost view = { λ net. record { listeners = net.listeners; links = net.links; back = net.back.items; asked = net.asked } };
+    ghost view = { λ net. record { room = net.room; listeners = net.listeners; links = net.links; back = net.back.items; asked = net.asked } };
 
     ghost invariant = { λ net. net.links ≤ vec_capacity net.back };
 }
@@ -33,7 +33,7 @@ impl Model for SureNet {
 impl SureNet {
     /// A net whose links have room for so many bytes that are sent.
     pub fn new(alloc: Global, room: usize) -> SureNet
-        ensures { result ≡ record { listeners = []; links = 0; back = []; asked = [] } }
+        ensures { result ≡ record { room = room; listeners = []; links = 0; back = []; asked = [] } }
     {
         SureNet {
             alloc,
@@ -62,6 +62,7 @@ impl SureNet {
     // A link without bytes, with a place for its return.
     fn give(&mut self, call: NetCall) -> Result<SureLink, CallFault>
         ensures link { IfOk result (λ link. link_view link ≡ empty_link) }
+        ensures room { IfOk result (λ link. link.sent.room ≡ self.old.room) }
         ensures given { OnOk result (self.new ≡ record self.old { links = self.old.links + 1; asked = self.old.asked ++ call ∷ [] }) }
         ensures memory { IfErr result (λ fault. fault ≡ CallFault.Memory) }
         ensures err { OnErr result (self.new ≡ self.old) }

@@ -2,8 +2,10 @@ pub mod Ready
 pub mod Steps
 pub mod Meanings
 pub mod Precedence
+pub mod Signs
 pub mod Progress
 pub mod Document
 pub mod Outcomes
 pub mod OutcomeLaws
 pub mod OutcomeTotal
+pub mod Named

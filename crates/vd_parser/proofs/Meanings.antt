@@ -9,6 +9,7 @@ use Rattle.vd_core.specs.declared.source.WrittenForm.TheVariants as form
 use Rattle.vd_core.specs.declared.source.WrittenLabel.{WrittenLabel}
 use Rattle.vd_core.specs.declared.source.Host.{Host}
 use Rattle.vd_core.specs.declared.source.Parameter.{Parameter}
+use Rattle.vd_core.specs.declared.source.Sign.{Sign}
 use Rattle.vd_core.specs.declared.source.Infix.{Infix}
 use Rattle.vd_core.specs.declared.source.Direction.{Direction}
 use Rattle.vd_core.specs.declared.source.Expr.{Expr}
@@ -19,7 +20,7 @@ use Rattle.vd_core.specs.declared.source.Statement.{Statement}
 use Rattle.vd_core.specs.declared.source.Statement.TheVariants as stmt
 use Rattle.vd_core.specs.declared.source.Function.{Function}
 use Rattle.vd_lexer.specs.declared.token.Token.{Token}
-use Rattle.vd_parser.specs.Syntax.{arguments_of, array_of, assign_of, assigned, atom_of, block_of, body_of, bor_of, both_of, chained, conj_of, conjs_of, direction_of, either_of, else_of, expr_of, exprs_of, fatom_of, fatoms_of, first_of, for_of, form_of, function_of, functions_of, host_list_of, host_name_of, host_of, hosts_of, ident_of, idents_of, if_of, index_of, index_option_of, infix_of, kind_of, label_of, label_option_of, length_of, let_of, more_exprs_of, more_idents_of, more_parameters_of, named_of, new_form_of, number_of, other_atom_of, output_of, parameter_list_of, parameter_of, parameters_of, prefixed, principals_of, relabelled_of, return_of, returned_of, second_of, shift_links_of, shift_of, source_of, span_of, statement_of, statements_of, sum_of, third_of, three_of, token_of, two_of, typed_kind_of, typed_name_of, typed_of, unary_of, var_of, whole_body_of, word_atom_of}
+use Rattle.vd_parser.specs.Syntax.{arguments_of, array_of, assign_of, assigned, atom_of, block_of, body_of, bor_of, both_of, chained, conj_of, conjs_of, direction_of, either_of, else_of, expr_of, exprs_of, fatom_of, fatoms_of, first_of, for_of, form_of, function_of, functions_of, host_list_of, host_name_of, host_of, hosts_of, ident_of, idents_of, if_of, index_of, index_option_of, infix_of, kind_of, label_of, label_option_of, length_of, let_of, more_exprs_of, more_idents_of, more_parameters_of, named_of, new_form_of, number_of, other_atom_of, output_of, parameter_list_of, parameter_of, parameters_of, principals_of, relabelled_of, return_of, returned_of, second_of, shift_links_of, shift_of, signed, signs_of, source_of, span_of, statement_of, statements_of, sum_of, third_of, three_of, token_of, two_of, typed_kind_of, typed_name_of, typed_of, unary_of, var_of, whole_body_of, word_atom_of}
 
 pub idents_first : (text : List ℕ) (x : Tree Token) (v : Ident) → v ≡ ident_of text x → (y : Tree Token) → idents_of text (Both x y) ≡ (v ∷ []) ++ more_idents_of text y
 unfolding idents_of
@@ -105,9 +106,9 @@ pub shifts_none : (text : List ℕ) → shift_links_of text Empty ≡ []
 unfolding shift_links_of
 shifts_none text = refl
 
-pub unary_is : (text : List ℕ) (p a : Tree Token) (e : Expr) → e ≡ atom_of text a → prefixed p e ≡ unary_of text (Both p a)
+pub unary_is : (text : List ℕ) (p a : Tree Token) (e : Expr) (ss : List Sign) → e ≡ atom_of text a → ss ≡ signs_of p → signed e ss ≡ unary_of text (Both p a)
 unfolding unary_of
-unary_is text p a e e0 = ap (λ it. prefixed p it) e0
+unary_is text p a e ss e0 e1 = ap (λ it. signed it ss) e0 ∙ ap (λ it. signed (atom_of text a) it) e1
 
 pub atom_number : (text : List ℕ) (x : Tree Token) (m : ℕ) → m ≡ number_of x → expr.Number m ≡ atom_of text (First x)
 unfolding atom_of

@@ -9,10 +9,9 @@ use Rattle.vd_core.specs.declared.source.Infix.{Infix}
 use Rattle.vd_core.specs.declared.source.Prefix.{Prefix}
 use Rattle.vd_core.specs.declared.source.Direction.{Direction}
 use Rattle.vd_core.specs.declared.source.Expr.{Expr}
-use Rattle.vd_core.specs.declared.source.Expr.TheVariants as expr
 use Rattle.vd_base.specs.declared.ids.Span.{Span}
-use Rattle.vd_parser.specs.declared.prefixes.PrefixAt.{PrefixAt}
-use Rattle.vd_parser.specs.Prefixes.{prefixes_of, with_prefixes}
+use Rattle.vd_core.specs.declared.source.Sign.{Sign}
+use Rattle.vd_parser.specs.Prefixes.{prefixes_of}
 use Rattle.vd_core.specs.declared.source.Link.{Link}
 use Rattle.vd_core.specs.declared.source.Statement.{Statement}
 use Rattle.vd_core.specs.declared.source.Link.TheVariants as link
@@ -24,12 +23,12 @@ use Rattle.vd_parser.specs.declared.operators.Level.{Level}
 use Rattle.vd_parser.specs.declared.operators.Level.TheVariants as level
 use Rattle.vd_parser.specs.declared.cursor.Refusal.{Refusal}
 use Rattle.vd_parser.specs.Language.{Symbol, tok, BOR, BXOR, BAND, SUM, PROD, STMT, comparison_ops, shift_ops, prefix_ops}
-use Rattle.vd_parser.specs.Syntax.{token_of, span_of, infix_of, direction_of, prefix_of, chained, link_of, bor_of, bor_links_of, bxor_of, bxor_links_of, band_of, band_links_of, sum_of, sum_links_of, prod_of, prod_links_of, prefixed, shift_links_of, atom_of, unary_of, statements_of, statement_of}
+use Rattle.vd_parser.specs.Syntax.{token_of, span_of, infix_of, direction_of, prefix_of, chained, link_of, bor_of, bor_links_of, bxor_of, bxor_links_of, band_of, band_links_of, sum_of, sum_links_of, prod_of, prod_links_of, shift_links_of, statements_of, statement_of}
 use Rattle.vd_parser.specs.Parsing.{language, next_kind, kind_at, Refused}
 use Rattle.vd_parser.specs.Levels.{begins_statement, comparison_at, infix_at, prefix_at, direction_at, ops_of, symbol_of, operand_symbol, level_of, operand_of, links_of}
 use Rattle.vd_parser.proofs.Ready.{F, E, language_ll1}
 use Rattle.vd_grammar.proofs.Readings as readings
-use Rattle.vd_parser.proofs.Meanings.{statements_more, statements_none, unary_is, shifts_more, shifts_none}
+use Rattle.vd_parser.proofs.Meanings.{statements_more, statements_none, shifts_more, shifts_none}
 use Rattle.vd_parser.proofs.Steps.{head_is, start, rule_start, next, last, refused_last, collects_known, stop_known, end_known}
 
 -- one token of several kinds
@@ -275,36 +274,16 @@ prefixes_none : prefixes_of Empty ≡ []
 unfolding prefixes_of
 prefixes_none = refl
 
-pub more_prefix : {ts us vs : List Token} {ps : List PrefixAt} {t : Token} {p : Prefix} → Collects language (Star prefix_ops) prefixes_of prefix_ops prefixes_of ts us ps → prefix_at (kind_at us) ≡ Some p → us ≡ t ∷ vs → Collects language (Star prefix_ops) prefixes_of prefix_ops prefixes_of ts vs (ps ++ record { prefix = p; span = t.span } ∷ [])
+pub more_prefix : {ts us vs : List Token} {ps : List Sign} {t : Token} {p : Prefix} → Collects language (Star prefix_ops) prefixes_of prefix_ops prefixes_of ts us ps → prefix_at (kind_at us) ≡ Some p → us ≡ t ∷ vs → Collects language (Star prefix_ops) prefixes_of prefix_ops prefixes_of ts vs (ps ++ record { prefix = p; span = t.span } ∷ [])
 unfolding language
 more_prefix {us = us} {vs = vs} {t = t} {p = p} q e s =
     let c = prefix_token us vs t p e s in
     collects_known q (subst (λ c. has c (first F prefix_ops) ≡ true) (sym (head_is us)) (prefix_has (kind_at us) p e)) c.read
     (λ y. prefixes_more c.tree y p t.span (prefix_is t.kind p (ap prefix_at (sym (kind_of_first us vs t s)) ∙ e) ∙ ap (λ z. prefix_of z.kind) c.value) (ap (λ z. z.span) c.value))
 
-pub no_prefix : {ts us : List Token} {ps : List PrefixAt} → Collects language (Star prefix_ops) prefixes_of prefix_ops prefixes_of ts us ps → prefix_at (kind_at us) ≡ None → Gives language (Star prefix_ops) prefixes_of ts us ps
+pub no_prefix : {ts us : List Token} {ps : List Sign} → Collects language (Star prefix_ops) prefixes_of prefix_ops prefixes_of ts us ps → prefix_at (kind_at us) ≡ None → Gives language (Star prefix_ops) prefixes_of ts us ps
 unfolding language
 no_prefix {us = us} q e = end_known q (subst (λ c. has c (first F prefix_ops) ≡ false) (sym (head_is us)) (prefix_none (kind_at us) e)) prefixes_none
-
-prefixed_same : (x : Tree Token) (v : Expr) → with_prefixes (prefixes_of x) v ≡ prefixed x v
-unfolding with_prefixes prefixes_of prefixed
-prefixed_same (Both o r) v = ap (λ z. expr.Unary (prefix_of (token_of o).kind) (span_of o) z) (prefixed_same r v)
-prefixed_same (Leaf t) v = refl
-prefixed_same (First x) v = refl
-prefixed_same (Second x) v = refl
-prefixed_same Empty v = refl
-
-pub unary_whole : (text : List ℕ) (p a : Tree Token) (ps : List PrefixAt) (v : Expr) → ps ≡ prefixes_of p → v ≡ atom_of text a → with_prefixes ps v ≡ unary_of text (Both p a)
-unary_whole text p a ps v e f = ap (λ z. with_prefixes z v) e ∙ prefixed_same p v ∙ unary_is text p a v f
-
-pub with_last : (ps : List PrefixAt) (p : PrefixAt) (v : Expr) → with_prefixes (ps ++ p ∷ []) v ≡ with_prefixes ps (expr.Unary p.prefix p.span v)
-unfolding with_prefixes
-with_last [] p v = refl
-with_last (q ∷ ps) p v = ap (λ z. expr.Unary q.prefix q.span z) (with_last ps p v)
-
-pub with_none : (v : Expr) → with_prefixes [] v ≡ v
-unfolding with_prefixes
-with_none v = refl
 
 -- shifts
 shift_token : (us vs : List Token) (t : Token) (o : Direction) → direction_at (kind_at us) ≡ Some o → us ≡ t ∷ vs → Gives language shift_ops token_of us vs t

@@ -1,5 +1,5 @@
 -- The syntax tree that a tree of the grammar stands for. text is the bytes of the source, in which names stand.
-use Rattle.std.specs.Prelude.{ℕ, ◌-◌, true, false, List, [], ◌∷◌, drop, take, Option, Some, None}
+use Rattle.std.specs.Prelude.{ℕ, ◌-◌, true, false, List, [], ◌∷◌, ◌++◌, drop, take, Option, Some, None}
 use Rattle.vd_grammar.specs.Trees.{Tree, Leaf, Both, First, Second, Empty}
 use Rattle.vd_base.specs.declared.ids.Span.{Span}
 use Rattle.vd_base.specs.declared.operations.Kind.{Kind}
@@ -12,6 +12,7 @@ use Rattle.vd_core.specs.declared.source.Host.{Host}
 use Rattle.vd_core.specs.declared.source.Parameter.{Parameter}
 use Rattle.vd_core.specs.declared.source.Prefix.{Prefix}
 use Rattle.vd_core.specs.declared.source.Prefix.TheVariants as prefix
+use Rattle.vd_core.specs.declared.source.Sign.{Sign}
 use Rattle.vd_core.specs.declared.source.Infix.{Infix}
 use Rattle.vd_core.specs.declared.source.Infix.TheVariants as op
 use Rattle.vd_core.specs.declared.source.Direction.{Direction}
@@ -141,6 +142,9 @@ abbrev pub prefix_of : TokenKind → Prefix
 prefix_of kind.Bang = prefix.Flip
 prefix_of _ = prefix.Not
 
+abbrev pub sign_of : Tree Token → Sign
+sign_of o = record { prefix = prefix_of (token_of o).kind; span = span_of o }
+
 abbrev pub link_of : Tree Token → Expr → Link
 link_of o x = link.Infix (infix_of (token_of o).kind) (span_of o) x
 
@@ -149,10 +153,15 @@ abbrev pub chained : Expr → List Link → Expr
 chained x [] = x
 chained x (l ∷ ls) = expr.Chain x (l ∷ ls)
 
--- {"!" | "~"} before an operand
-unfoldable pub prefixed : Tree Token → Expr → Expr
-prefixed (Both o r) x = expr.Unary (prefix_of (token_of o).kind) (span_of o) (prefixed r x)
-prefixed _ x = x
+-- {"!" | "~"}, the nearest to the operand first
+unfoldable pub signs_of : Tree Token → List Sign
+signs_of (Both o r) = signs_of r ++ sign_of o ∷ []
+signs_of _ = []
+
+-- an operand alone is itself
+abbrev pub signed : Expr → List Sign → Expr
+signed x [] = x
+signed x (s ∷ ss) = expr.Unary x (s ∷ ss)
 
 unfoldable mutual
   pub expr_of : List ℕ → Tree Token → Expr
@@ -209,7 +218,7 @@ unfoldable mutual
   prod_links_of text _ = []
 
   pub unary_of : List ℕ → Tree Token → Expr
-  unary_of text (Both p a) = prefixed p (atom_of text a)
+  unary_of text (Both p a) = signed (atom_of text a) (signs_of p)
   unary_of text _ = expr.Number 0
 
   pub atom_of : List ℕ → Tree Token → Expr

@@ -6,7 +6,7 @@ ghost use Rattle.vd_parser.specs.Levels.{symbol_of, operand_symbol, level_of, op
 ghost use Rattle.vd_parser.specs.Parsing.{Parses};
 
 use crate::cursor::{Cursor, Refusal};
-use crate::operators::{Level, comparison, direction, infix, prefix};
+use crate::operators::{Level, comparison, direction, infix};
 use crate::parser::Parser;
 use std::alloc::AllocError;
 use vd_core::source::{Expr, Ident, Link, WrittenForm};
@@ -104,9 +104,9 @@ impl<'a> Parser<'a> {
     fn unary(&self, cursor: &mut Cursor) -> Result<Expr, Refusal>
         ensures { Parses (Sym UNARY) (unary_of self.now.text.now) cursor.old cursor.new result }
     {
-        let prefixes = self.prefixes(cursor)?;
+        let signs = self.signs(cursor)?;
         let atom = self.atom(cursor)?;
-        let expr = self.prefixed(prefixes, atom)?;
+        let expr = self.signed(atom, signs)?;
         Ok(expr)
     }
 

@@ -1,33 +1,26 @@
 ghost use Rattle.std.specs.Prelude.{◌≡◌, IfOk};
 ghost use Rattle.vd_grammar.specs.Grammar.{Star};
 ghost use Rattle.vd_parser.specs.Language.{prefix_ops};
-ghost use Rattle.vd_parser.specs.Prefixes.{prefixes_of, with_prefixes};
+ghost use Rattle.vd_parser.specs.Prefixes.{prefixes_of};
+ghost use Rattle.vd_parser.specs.Syntax.{signs_of, signed};
 ghost use Rattle.vd_parser.specs.Parsing.{Parses};
 
 use crate::cursor::{Cursor, Refusal};
 use crate::operators::prefix;
 use crate::parser::Parser;
 use std::alloc::AllocError;
-use vd_base::Span;
-use vd_core::source::{Expr, Prefix};
+use vd_core::source::{Expr, Sign};
 use vd_items::{Boxed, Items};
 
-/// An operator before an operand, and where it stands.
-#[derive(Clone, Copy)]
-pub struct PrefixAt {
-    pub prefix: Prefix,
-    pub span: Span,
-}
-
 impl<'a> Parser<'a> {
-    /// {"!" | "~"}
-    pub fn prefixes(&self, cursor: &mut Cursor) -> Result<Items<PrefixAt>, Refusal>
+    /// {"!" | "~"}, in the order of the text.
+    fn prefixes(&self, cursor: &mut Cursor) -> Result<Items<Sign>, Refusal>
         ensures { Parses (Star prefix_ops) prefixes_of cursor.old cursor.new result }
     {
         let mut prefixes = Items::new(self.alloc);
         'prefixes: while let Some(prefix) = prefix(cursor.kind()) {
             let token = cursor.advance();
-            prefixes.push(PrefixAt {
+            prefixes.push(Sign {
                 prefix,
                 span: token.span,
             })?;
@@ -35,15 +28,25 @@ impl<'a> Parser<'a> {
         Ok(prefixes)
     }
 
-    /// The operand with the operators before it, of which the last is applied first.
-    pub fn prefixed(&self, mut prefixes: Items<PrefixAt>, operand: Expr) -> Result<Expr, AllocError>
-        ensures { IfOk result (λ expr. expr ≡ with_prefixes prefixes operand) }
+    /// {"!" | "~"}, the nearest to the operand first.
+    pub fn signs(&self, cursor: &mut Cursor) -> Result<Items<Sign>, Refusal>
+        ensures { Parses (Star prefix_ops) signs_of cursor.old cursor.new result }
     {
-        let mut expr = operand;
-        'inward: while let Some(last) = prefixes.pop() {
-            let operand = Boxed::new(self.alloc, expr)?;
-            expr = Expr::Unary(last.prefix, last.span, operand);
+        let prefixes = self.prefixes(cursor)?;
+        let mut signs = prefixes.into_vec();
+        signs.reverse();
+        Ok(Items::from_vec(signs))
+    }
+
+    /// An operand alone is itself.
+    pub fn signed(&self, operand: Expr, signs: Items<Sign>) -> Result<Expr, AllocError>
+        ensures { IfOk result (λ expr. expr ≡ signed operand signs) }
+    {
+        if signs.is_empty() {
+            Ok(operand)
+        } else {
+            let operand = Boxed::new(self.alloc, operand)?;
+            Ok(Expr::Unary(operand, signs))
         }
-        Ok(expr)
     }
 }

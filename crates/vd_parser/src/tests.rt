@@ -113,4 +113,5 @@ fn the_laws_hold() {
     laws::same_language();
     laws::outcomes_are_single();
     laws::outcomes_are_total();
+    laws::names_are_names();
 }

@@ -1,4 +1,5 @@
-ghost use Rattle.std.specs.Prelude.{◌≡◌, ◌⊎◌, ◌+◌, ◌<◌, ◌≤◌, ◌^◌, length, Some, None, Err};
+ghost use Rattle.std.specs.Prelude.{◌≡◌, ◌⊎◌, ◌+◌, ◌<◌, ◌≤◌, ◌^◌, length, Some, None, Err, IfOk};
+ghost use Rattle.vd_core.specs.Named.{HasNames};
 ghost use Rattle.vd_grammar.specs.Grammar.{Sym};
 ghost use Rattle.vd_lexer.specs.Tokens.{EndsOnce, kinds};
 ghost use Rattle.vd_parser.specs.Language.{SOURCE};
@@ -36,7 +37,8 @@ impl<'a> Parser<'a> {
 /// A text that is too long is refused before it is read. A bad byte anywhere comes before a token that cannot stand
 /// where it stands and before a bracket that is nested too deep; of these two the earlier token is answered.
 pub fn parse(alloc: Global, bytes: &[u8]) -> Result<Source, ParseFault>
-    ensures { (result ≡ Err ParseFault.Memory) ⊎ IsParse bytes.now result }
+    ensures outcome { (result ≡ Err ParseFault.Memory) ⊎ IsParse bytes.now result }
+    ensures named { IfOk result HasNames }
 {
     if bytes.len() > SOURCE_BYTES as usize {
         return Err(ParseFault::TooLong(bytes.len() as u64));

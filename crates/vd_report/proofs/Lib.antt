@@ -4,3 +4,4 @@ pub mod ScheduleSteps
 pub mod InputsLaw
 pub mod ScheduleLaw
 pub mod InputsFaults
+pub mod Members

@@ -1,5 +1,6 @@
 pub mod Hosts
 pub mod Lines
+pub mod LabelLines
 pub mod Tokens
 pub mod Inputs
 pub mod Outcome

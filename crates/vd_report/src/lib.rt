@@ -4,6 +4,7 @@
 pub mod fault;
 pub mod hosts;
 pub mod inputs;
+pub mod labels;
 pub mod lines;
 pub mod schedule;
 #[cfg(test)]
@@ -12,5 +13,6 @@ pub mod token;
 
 pub use fault::ReadFault;
 pub use inputs::read_inputs;
+pub use labels::labels_text;
 pub use lines::{outputs_text, push_words_line};
 pub use schedule::{Schedule, read_schedule};

@@ -4,7 +4,7 @@ use Rattle.std.specs.Option.{option_map}
 use Rattle.vd_resolve.specs.declared.size.Size.{Size}
 use Rattle.vd_resolve.specs.declared.symbol.Callee.{Callee}
 use Rattle.vd_resolve.specs.declared.symbol.Symbol.{Symbol}
-use Rattle.vd_resolve.specs.Names.{Named, at_name}
+use Rattle.vd_base.specs.Names.{Named, at_name}
 use Rattle.vd_resolve.specs.Sizes.{is_true, is_variable, capped_size, IsCapped}
 use Rattle.vd_resolve.specs.Walks.{is_variable_symbol, variables, signatures, HaveSizes}
 

@@ -7,7 +7,7 @@ use Rattle.vd_resolve.specs.declared.fault.NameFault.{NameFault}
 use Rattle.vd_resolve.specs.declared.size.Size.{Size}
 use Rattle.vd_resolve.specs.declared.symbol.Callee.{Callee}
 use Rattle.vd_resolve.specs.declared.symbol.Signature.{Signature}
-use Rattle.vd_resolve.specs.Names.{Named}
+use Rattle.vd_base.specs.Names.{Named}
 use Rattle.vd_resolve.specs.Sizes.{IsCapped, capped_size, function_size, function_sizes}
 use Rattle.vd_resolve.specs.Rules.{Names, is_new, checking, block_check, function_check, functions_check, bodies_check, function_names, signature_of}
 use Rattle.vd_resolve.specs.Walks.{HaveSizes, IsFaultOf, signatures}

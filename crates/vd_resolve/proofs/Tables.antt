@@ -2,7 +2,7 @@
 use Rattle.std.proofs.Common.{◌≡◌, ℕ, zero, suc, Bool, true, false, true≢false, List, [], ◌∷◌, ◌++◌, map, take, Option, Some, None, is_some, refl, sym, ap, ◌∙◌, nat_eq, bytes_eq, if◌then◌else◌, rules, arith, Bor}
 use Rattle.std.specs.Map.{lookup}
 use Rattle.indexmap.specs.IndexMap.{insert_entry}
-use Rattle.vd_resolve.specs.Names.{Named, at_name}
+use Rattle.vd_base.specs.Names.{Named, at_name}
 
 pub nat_eq_sym : (m n : ℕ) → nat_eq m n ≡ nat_eq n m
 nat_eq_sym m n = grind arith

@@ -1,4 +1,3 @@
-pub mod Names
 pub mod Sizes
 pub mod Rules
 pub mod Limits

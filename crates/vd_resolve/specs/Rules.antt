@@ -11,6 +11,7 @@ use Rattle.vd_core.specs.declared.source.WrittenLabel.{WrittenLabel}
 use Rattle.vd_core.specs.declared.source.Host.{Host}
 use Rattle.vd_core.specs.declared.source.Parameter.{Parameter}
 use Rattle.vd_core.specs.declared.source.Prefix.{Prefix}
+use Rattle.vd_core.specs.declared.source.Sign.{Sign}
 use Rattle.vd_core.specs.declared.source.Prefix.TheVariants.{Flip, Not}
 use Rattle.vd_core.specs.declared.source.Infix.{Infix}
 use Rattle.vd_core.specs.declared.source.Infix.TheVariants as infix'
@@ -28,7 +29,7 @@ use Rattle.vd_resolve.specs.declared.symbol.Symbol.TheVariants.{Constant, Variab
 use Rattle.vd_resolve.specs.declared.symbol.Signature.{Signature}
 use Rattle.vd_resolve.specs.declared.fault.NameFault.{NameFault}
 use Rattle.vd_resolve.specs.declared.fault.NameFault.TheVariants as fault
-use Rattle.vd_resolve.specs.Names.{Named, at_name, is_name}
+use Rattle.vd_base.specs.Names.{Named, at_name, is_among}
 
 -- names that stand for nothing but themselves
 abbrev pub Names : Type 0
@@ -180,19 +181,24 @@ abbrev pub chain_typing : List LinkTyping → LinkTyping
 chain_typing [] scope env kind = Ok kind
 chain_typing (l ∷ ls) scope env kind = and_then (l scope env kind) (λ next. chain_typing ls scope env next)
 
+-- the operators before an operand, the nearest first
+abbrev pub signs_typing : List Sign → Kind → Result Kind NameFault
+signs_typing [] kind = Ok kind
+signs_typing (s ∷ ss) kind = and_then (kind_or s.span (prefix_kind s.prefix kind)) (λ next. signs_typing ss next)
+
 abbrev pub expr_typing : Expr-F Typing LinkTyping → Typing
 expr_typing (Expr-F.Number n) scope env = Ok Word
 expr_typing (Expr-F.Truth b) scope env = Ok Truth
 expr_typing (Expr-F.Value x) scope env = value_kind x.span (at_name env x.name)
 expr_typing (Expr-F.Element x index) scope env = and_then (index scope env) (λ kind. element_kind x.span kind (at_name env x.name))
 expr_typing (Expr-F.Input host) scope env = and_then (known scope.hosts host) (λ done. Ok Word)
-expr_typing (Expr-F.Call f arguments) scope env = and_then (typings [] arguments scope env) (λ kinds. call_kind f.span kinds (is_name scope.later f.name) (at_name scope.functions f.name))
+expr_typing (Expr-F.Call f arguments) scope env = and_then (typings [] arguments scope env) (λ kinds. call_kind f.span kinds (is_among scope.later f.name) (at_name scope.functions f.name))
 expr_typing (Expr-F.Min at x y) scope env = and_then (x scope env) (λ left. and_then (y scope env) (λ right. kind_or at (of_words Word left right)))
 expr_typing (Expr-F.Max at x y) scope env = and_then (x scope env) (λ left. and_then (y scope env) (λ right. kind_or at (of_words Word left right)))
 expr_typing (Expr-F.Mux at c x y) scope env = and_then (c scope env) (λ test. and_then (x scope env) (λ left. and_then (y scope env) (λ right. kind_or at (mux_kind test left right))))
 expr_typing (Expr-F.Declassify x to) scope env = and_then (x scope env) (λ kind. and_then (form_check to scope.principals) (λ done. Ok kind))
 expr_typing (Expr-F.Endorse x to) scope env = and_then (x scope env) (λ kind. and_then (form_check to scope.principals) (λ done. Ok kind))
-expr_typing (Expr-F.Unary o at x) scope env = and_then (x scope env) (λ kind. kind_or at (prefix_kind o kind))
+expr_typing (Expr-F.Unary x signs) scope env = and_then (x scope env) (λ kind. signs_typing signs kind)
 expr_typing (Expr-F.Chain x links) scope env = and_then (x scope env) (λ kind. chain_typing links scope env kind)
 expr_typing (Expr-F.Brackets x) scope env = x scope env
 

@@ -2,7 +2,7 @@
 use Rattle.std.specs.Prelude.{ℕ, List, []}
 use Rattle.vd_resolve.specs.declared.declarations.Declarations.{Declarations}
 use Rattle.vd_resolve.specs.declared.size.Size.{Size}
-use Rattle.vd_resolve.specs.Names.{Named}
+use Rattle.vd_base.specs.Names.{Named}
 use Rattle.vd_resolve.specs.Rules.{Scope, function_names}
 use Rattle.vd_resolve.specs.Sizes.{function_sizes}
 use Rattle.vd_resolve.specs.Walks.{signatures}

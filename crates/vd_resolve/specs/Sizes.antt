@@ -11,9 +11,10 @@ use Rattle.vd_core.specs.declared.source.Statement.{Statement}
 use Rattle.vd_core.specs.declared.source.Statement.TheOpen.{Statement-F}
 use Rattle.vd_core.specs.declared.source.Statement.TheFolds.{fold-Statement}
 use Rattle.vd_core.specs.declared.source.Function.{Function}
+use Rattle.vd_core.specs.declared.source.Sign.{Sign}
 use Rattle.vd_core.specs.declared.source.Source.{Source}
 use Rattle.vd_resolve.specs.declared.size.Size.{Size}
-use Rattle.vd_resolve.specs.Names.{Named, at_name}
+use Rattle.vd_base.specs.Names.{Named, at_name}
 
 abbrev pub nothing : Size
 nothing = record { statements = 0; weights = 0; nesting = 0; cells = 0 }
@@ -84,6 +85,16 @@ abbrev pub links_after : Size → List LinkSizing → Named Size → Variables �
 links_after before [] functions variables = before
 links_after before (s ∷ ss) functions variables = links_after (also before (s functions variables)) ss functions variables
 
+-- an operation for each operator before an operand
+abbrev pub signs_after : Size → List Sign → Size
+signs_after before [] = before
+signs_after before (s ∷ ss) = signs_after (also before one) ss
+
+-- an operand to which nothing is done is itself
+abbrev pub plain_alone : {A : Type 0} → List A → Bool → Bool
+plain_alone [] plain = plain
+plain_alone (a ∷ rest) plain = false
+
 abbrev pub call_size : Option Size → Size
 call_size None = nothing
 call_size (Some s) = inlined s
@@ -104,8 +115,16 @@ expr_sizing (Expr-F.Max at x y) = made (λ functions variables. also (also (x.si
 expr_sizing (Expr-F.Mux at c x y) = made (λ functions variables. also (also (also (c.size functions variables) (x.size functions variables)) (y.size functions variables)) one)
 expr_sizing (Expr-F.Declassify x to) = made (λ functions variables. also (x.size functions variables) one)
 expr_sizing (Expr-F.Endorse x to) = made (λ functions variables. also (x.size functions variables) one)
-expr_sizing (Expr-F.Unary o at x) = made (λ functions variables. also (x.size functions variables) one)
-expr_sizing (Expr-F.Chain x links) = made (λ functions variables. also (x.size functions variables) (links_after nothing links functions variables))
+expr_sizing (Expr-F.Unary x signs) = record {
+  size = λ functions variables. signs_after (x.size functions variables) signs;
+  plain = λ variables. plain_alone signs (x.plain variables);
+  bare = false;
+}
+expr_sizing (Expr-F.Chain x links) = record {
+  size = λ functions variables. also (x.size functions variables) (links_after nothing links functions variables);
+  plain = λ variables. plain_alone links (x.plain variables);
+  bare = false;
+}
 expr_sizing (Expr-F.Brackets x) = record { size = x.size; plain = x.plain; bare = false }
 
 -- a bare number right of `*` is a part of the operation, and so is the amount of a shift

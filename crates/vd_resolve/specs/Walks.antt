@@ -7,7 +7,7 @@ use Rattle.vd_resolve.specs.declared.symbol.Symbol.{Symbol}
 use Rattle.vd_resolve.specs.declared.symbol.Symbol.TheVariants.{Constant, Variable, Array}
 use Rattle.vd_resolve.specs.declared.symbol.Signature.{Signature}
 use Rattle.vd_resolve.specs.declared.symbol.Callee.{Callee}
-use Rattle.vd_resolve.specs.Names.{Named}
+use Rattle.vd_base.specs.Names.{Named}
 use Rattle.vd_resolve.specs.Sizes.{Variables, capped_size, IsCapped}
 
 -- want of memory may come at any step; every other fault is the one that the rules give

@@ -1,9 +1,9 @@
 //! Expressions: kinds and sizes.
 
 ghost use Rattle.std.specs.Prelude.{◌≡◌, [], map, Ok, OnOk, IfErr, IfOk};
-ghost use Rattle.vd_resolve.specs.Rules.{typing, typing_of_link, typings, chain_typing, value_kind, element_kind, call_kind, kind_or, and_then, function_names};
-ghost use Rattle.vd_resolve.specs.Names.{at_name, is_name};
-ghost use Rattle.vd_resolve.specs.Sizes.{IsCapped, expr_size, sizing, sizing_of_link, links_after, sizes_after, is_variable, is_scale, call_size, nothing, also};
+ghost use Rattle.vd_resolve.specs.Rules.{typing, typing_of_link, typings, chain_typing, signs_typing, value_kind, element_kind, call_kind, kind_or, and_then, function_names};
+ghost use Rattle.vd_base.specs.Names.{at_name, is_among};
+ghost use Rattle.vd_resolve.specs.Sizes.{IsCapped, expr_size, sizing, sizing_of_link, links_after, signs_after, sizes_after, is_variable, is_scale, call_size, nothing, also};
 ghost use Rattle.vd_resolve.specs.Walks.{IsFaultOf, variables};
 ghost use Rattle.vd_resolve.specs.Scopes.{scope_of, sizes_of};
 
@@ -15,7 +15,7 @@ use crate::size::Size;
 use crate::symbol::Symbol;
 use crate::table::NameTable;
 use vd_base::{Kind, Span};
-use vd_core::source::{Expr, Function, Ident, Infix, Link};
+use vd_core::source::{Expr, Function, Ident, Infix, Link, Sign};
 use vd_items::Items;
 
 /// The values in sight.
@@ -40,6 +40,21 @@ fn kind_at(at: Span, kind: Option<Kind>) -> Result<Kind, NameFault>
     ensures fault { IfErr result (IsFaultOf (kind_or at kind)) }
 {
     kind.ok_or(NameFault::Kind(at))
+}
+
+/// The operators before an operand, the nearest first.
+fn with_signs(operand: Typed, signs: &[Sign]) -> Result<Typed, NameFault>
+    ensures kind { IfOk result (λ typed. signs_typing signs.now operand.kind ≡ Ok typed.kind) }
+    ensures size { IfOk result (λ typed. (exact : Size) → IsCapped operand.size exact → IsCapped typed.size (signs_after exact signs.now)) }
+    ensures fault { IfErr result (IsFaultOf (signs_typing signs.now operand.kind)) }
+{
+    let mut typed = operand;
+    for sign in signs {
+        let kind = kind_at(sign.span, of_prefix(sign.prefix, typed.kind))?;
+        let size = typed.size.also(Size::one());
+        typed = Typed { kind, size };
+    }
+    Ok(typed)
 }
 
 #[tactic(auto, using(crate::proofs::Lookups::variable_at))]
@@ -79,6 +94,8 @@ pub(crate) fn is_plain(values: &Values<'_>, expr: &Expr) -> bool
     match expr {
         Expr::Value(name) => !is_variable(values, name.name.as_slice()),
         Expr::Call(_, _) => true,
+        Expr::Unary(inner, signs) => signs.as_slice().is_empty() && is_plain(values, inner),
+        Expr::Chain(first, links) => links.as_slice().is_empty() && is_plain(values, first),
         Expr::Brackets(inner) => is_plain(values, inner),
         _ => false,
     }
@@ -168,13 +185,9 @@ impl<'a> Declarations<'a> {
                     size: inner.size.also(Size::one()),
                 })
             }
-            Expr::Unary(operator, at, inner) => {
+            Expr::Unary(inner, signs) => {
                 let inner = self.expr(values, inner)?;
-                let kind = kind_at(*at, of_prefix(*operator, inner.kind))?;
-                Ok(Typed {
-                    kind,
-                    size: inner.size.also(Size::one()),
-                })
+                with_signs(inner, signs.as_slice())
             }
             Expr::Brackets(inner) => self.expr(values, inner),
             Expr::Chain(first, links) => {
@@ -254,9 +267,9 @@ impl<'a> Declarations<'a> {
     /// A call of a function that is declared before.
     #[cycle(typing)]
     fn call(&self, values: &Values<'a>, name: &Ident, exprs: &[Expr]) -> Result<Typed, NameFault>
-        ensures kind { IfOk result (λ typed. and_then (typings [] (map typing exprs.now) (scope_of self.now) values.now) (λ kinds. call_kind name.now.span kinds (is_name (scope_of self.now).later name.now.name) (at_name (scope_of self.now).functions name.now.name)) ≡ Ok typed.kind) }
+        ensures kind { IfOk result (λ typed. and_then (typings [] (map typing exprs.now) (scope_of self.now) values.now) (λ kinds. call_kind name.now.span kinds (is_among (scope_of self.now).later name.now.name) (at_name (scope_of self.now).functions name.now.name)) ≡ Ok typed.kind) }
         ensures size { IfOk result (λ typed. IsCapped typed.size (also (sizes_after nothing (map sizing exprs.now) (sizes_of self.now) (variables values.now)) (call_size (at_name (sizes_of self.now) name.now.name)))) }
-        ensures fault { IfErr result (IsFaultOf (and_then (typings [] (map typing exprs.now) (scope_of self.now) values.now) (λ kinds. call_kind name.now.span kinds (is_name (scope_of self.now).later name.now.name) (at_name (scope_of self.now).functions name.now.name)))) }
+        ensures fault { IfErr result (IsFaultOf (and_then (typings [] (map typing exprs.now) (scope_of self.now) values.now) (λ kinds. call_kind name.now.span kinds (is_among (scope_of self.now).later name.now.name) (at_name (scope_of self.now).functions name.now.name)))) }
     {
         let arguments = self.arguments(values, exprs)?;
         let inlined = self.callee(name, arguments.kinds.as_slice())?;
@@ -269,9 +282,9 @@ impl<'a> Declarations<'a> {
     /// What a call with arguments of these kinds gives, and the size of what is put in its place.
     #[tactic(auto, using(crate::proofs::Lookups::signature_at))]
     fn callee(&self, name: &Ident, kinds: &[Kind]) -> Result<Typed, NameFault>
-        ensures kind { IfOk result (λ typed. call_kind name.now.span kinds.now (is_name (scope_of self.now).later name.now.name) (at_name (scope_of self.now).functions name.now.name) ≡ Ok typed.kind) }
+        ensures kind { IfOk result (λ typed. call_kind name.now.span kinds.now (is_among (scope_of self.now).later name.now.name) (at_name (scope_of self.now).functions name.now.name) ≡ Ok typed.kind) }
         ensures size { IfOk result (λ typed. IsCapped typed.size (call_size (at_name (sizes_of self.now) name.now.name))) }
-        ensures fault { IfErr result (IsFaultOf (call_kind name.now.span kinds.now (is_name (scope_of self.now).later name.now.name) (at_name (scope_of self.now).functions name.now.name))) }
+        ensures fault { IfErr result (IsFaultOf (call_kind name.now.span kinds.now (is_among (scope_of self.now).later name.now.name) (at_name (scope_of self.now).functions name.now.name))) }
     {
         match self.callees.get(name.name.as_slice()) {
             None => {
@@ -300,7 +313,7 @@ impl<'a> Declarations<'a> {
 
 /// Whether one of the functions has the name.
 fn is_declared(functions: &[Function], name: &[u8]) -> bool
-    ensures { result ≡ is_name (function_names functions.now) name.now }
+    ensures { result ≡ is_among (function_names functions.now) name.now }
 {
     for function in functions {
         if function.name.name.as_slice() == name {

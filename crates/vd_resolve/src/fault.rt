@@ -4,7 +4,6 @@ ghost use Rattle.std.specs.Prelude.{◌≡◌};
 ghost use Rattle.vd_resolve.specs.declared.fault.NameFault.TheVariants.{Memory as want_of_memory};
 
 use std::alloc::AllocError;
-use std::fmt::{Display, Error as FormatError, Formatter, Write};
 use thiserror::Error;
 use vd_base::Span;
 
@@ -21,19 +20,6 @@ pub enum Quantity {
     Weights,
     /// The lengths of all arrays together.
     Cells,
-}
-
-impl Display for Quantity {
-    fn fmt<W: Write>(&self, f: &mut Formatter<W>) -> Result<(), FormatError> {
-        f.write_str(match self {
-            Quantity::Principals => "principals",
-            Quantity::Hosts => "hosts",
-            Quantity::Nesting => "nesting",
-            Quantity::Statements => "statements",
-            Quantity::Weights => "weights",
-            Quantity::Cells => "cells",
-        })
-    }
 }
 
 /// The first fault of a source. A span is that of the token at which it is found.
@@ -55,7 +41,7 @@ pub enum NameFault {
     #[error("kind at {}", .0.start)]
     Kind(Span),
     /// A quantity above its limit, with the count, or 4294967295 where that is larger.
-    #[error("limit {0} {1}")]
+    #[error("limit {0:?} {1}")]
     Limit(Quantity, u32),
     /// There was no memory left.
     #[error("out of memory")]

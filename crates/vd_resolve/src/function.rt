@@ -1,7 +1,7 @@
 //! Functions in order, and main.
 
 ghost use Rattle.std.specs.Prelude.{◌≡◌, [], ◌++◌, map, false, is_some, Ok, OnOk, IfErr, IfOk};
-ghost use Rattle.vd_resolve.specs.Names.{at_name};
+ghost use Rattle.vd_base.specs.Names.{at_name};
 ghost use Rattle.vd_resolve.specs.Rules.{parameters_check, function_check, bodies_check, block_check, checking, is_new, signature_of};
 ghost use Rattle.vd_resolve.specs.Sizes.{IsCapped, function_size, bodies_size, block_size, statement_size, parameter_variables};
 ghost use Rattle.vd_resolve.specs.Walks.{IsFaultOf, variables, signatures};

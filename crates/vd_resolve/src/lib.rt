@@ -18,6 +18,3 @@ mod whole;
 pub use fault::{NameFault, Quantity};
 pub use resolved::Resolved;
 pub use whole::resolve;
-
-#[cfg(test)]
-mod tests;

@@ -1,12 +1,13 @@
 //! A source that has no fault.
 
 ghost use Rattle.std.specs.Prelude.{◌≡◌};
+ghost use Rattle.vd_core.specs.Named.{HasNames};
 ghost use Rattle.vd_resolve.specs.Limits.{IsResolved};
 
 use std::marker::Model;
 use vd_core::source::Source;
 
-/// A source that keeps every rule on names, kinds and limits.
+/// A source with names that keeps every rule on names, kinds and limits.
 #[derive(Debug, Drop)]
 pub struct Resolved {
     source: Source,
@@ -15,6 +16,7 @@ pub struct Resolved {
 impl Model for Resolved {
     ghost use Rattle.vd_core.specs.declared.source.Source.{Source as Tree};
     ghost use Rattle.vd_core.specs.contracts.source.Source as tree_contract;
+    ghost use Rattle.vd_core.specs.Named.{HasNames as Named};
     ghost use Rattle.vd_resolve.specs.Limits.{IsResolved as Holds};
 
     ghost Value = { Tree };
@@ -23,12 +25,13 @@ impl Model for Resolved {
 
     ghost view = { λ resolved. resolved.source };
 
-    ghost invariant = { λ resolved. ∥ Holds resolved.source ∥₁ };
+    ghost invariant = { λ resolved. ∥ Holds resolved.source ∥₁ × Named resolved.source };
 }
 
 impl Resolved {
     pub(crate) fn new(source: Source) -> Self
-        requires { IsResolved source }
+        requires resolved { IsResolved source }
+        requires named { HasNames source }
         ensures { result ≡ source }
     {
         Resolved { source }
@@ -37,6 +40,7 @@ impl Resolved {
     pub fn source(&self) -> &Source
         ensures same { result.now ≡ self.now }
         ensures resolved { IsResolved self.now }
+        ensures named { HasNames self.now }
     {
         &self.source
     }

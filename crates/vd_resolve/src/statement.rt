@@ -2,7 +2,7 @@
 
 ghost use Rattle.std.specs.Prelude.{◌≡◌, map, length, take, Ok, OnOk, IfErr, IfOk};
 ghost use Rattle.vd_resolve.specs.Rules.{checking, in_sequence, block_check, is_kind, is_stored, is_put};
-ghost use Rattle.vd_resolve.specs.Names.{at_name};
+ghost use Rattle.vd_base.specs.Names.{at_name};
 ghost use Rattle.vd_resolve.specs.Sizes.{IsCapped, statement_size, statements_after, block_size, nothing};
 ghost use Rattle.vd_resolve.specs.Walks.{IsFaultOf, IsSized, variables};
 ghost use Rattle.vd_resolve.specs.Scopes.{scope_of, sizes_of};

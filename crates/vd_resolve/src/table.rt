@@ -1,7 +1,7 @@
 //! Tables of names.
 
 ghost use Rattle.std.specs.Prelude.{◌≡◌, [], ◌∷◌, ◌++◌, length, take, is_some, option_copied, OnOk, IfErr, false};
-ghost use Rattle.vd_resolve.specs.Names.{at_name};
+ghost use Rattle.vd_base.specs.Names.{at_name};
 ghost use Rattle.vd_resolve.specs.declared.fault.NameFault.TheVariants.{Memory as want_of_memory};
 
 use crate::fault::NameFault;

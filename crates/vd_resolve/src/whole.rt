@@ -1,6 +1,7 @@
 //! A whole source.
 
 ghost use Rattle.std.specs.Prelude.{◌≡◌, ◌⊎◌, [], Ok, Err, OnOk, IfErr, IfOk};
+ghost use Rattle.vd_core.specs.Named.{HasNames};
 ghost use Rattle.vd_resolve.specs.declared.fault.NameFault.TheVariants.{Memory as want_of_memory};
 ghost use Rattle.vd_resolve.specs.Limits.{resolution, IsResolved};
 ghost use Rattle.vd_resolve.specs.Rules.{distinct, hosts_check, source_check};
@@ -59,9 +60,10 @@ fn check_source(alloc: Global, source: &Source) -> Result<Size, NameFault>
     check_bodies(alloc, principals, hosts, functions, main)
 }
 
-/// A source that keeps every rule on names, kinds and limits, or its first fault. Faults on names and kinds come first, in the
+/// A source with names that keeps every rule on names, kinds and limits, or its first fault. Faults on names and kinds come first, in the
 /// order of a walk through the text; then the limits, in the order of [`Quantity`](crate::Quantity).
 pub fn resolve(alloc: Global, source: Source) -> Result<Resolved, NameFault>
+    requires { HasNames source }
     ensures same { IfOk result (λ resolved. resolved ≡ source) }
     ensures resolved { OnOk result (IsResolved source) }
 

@@ -4,4 +4,8 @@
 #[cfg(test)]
 mod clear;
 #[cfg(test)]
+mod labels;
+#[cfg(test)]
+mod large;
+#[cfg(test)]
 mod world;

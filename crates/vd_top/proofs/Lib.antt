@@ -4,3 +4,4 @@ pub mod Storing
 pub mod Written
 pub mod WholeRuns
 pub mod Reading
+pub mod Labelled

@@ -7,6 +7,7 @@ use Rattle.vd_parser.specs.declared.fault.ParseFault.{ParseFault}
 use Rattle.vd_parser.specs.declared.fault.ParseFault.TheVariants as parse_fault
 use Rattle.vd_parser.proofs.OutcomeLaws.{parses_once}
 use Rattle.vd_parser.proofs.OutcomeTotal.{parses_somehow}
+use Rattle.vd_least.proofs.Function.{labelling_of, labelling_is}
 use Rattle.vd_top.specs.declared.status.Status.{Status}
 use Rattle.vd_top.specs.declared.status.Status.TheVariants.{Memory}
 use Rattle.vd_top.specs.Plans.{Plan, Checks, ExecutesStep, file_then, check_then}
@@ -47,4 +48,9 @@ parsed readers name bytes result (inr is) other = ap (as_source name) (parses_on
 
 -- there is a function that gives each text its one outcome
 pub some_readers : Readers
-some_readers = record { parse = λ bytes. (parses_somehow bytes).0; parse_is = λ bytes. (parses_somehow bytes).1 }
+some_readers = record {
+  parse = λ bytes. (parses_somehow bytes).0;
+  parse_is = λ bytes. (parses_somehow bytes).1;
+  label = labelling_of;
+  label_is = labelling_is;
+}

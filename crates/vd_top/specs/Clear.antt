@@ -13,6 +13,9 @@ use Rattle.vd_report.specs.Lines.{output_lines}
 use Rattle.vd_report.specs.declared.fault.ReadFault.{ReadFault}
 use Rattle.vd_report.specs.declared.fault.ReadFault.TheVariants as read_fault
 use Rattle.vd_meaning.specs.SourceMeaning.{source_outputs, host_names}
+use Rattle.vd_constraints.specs.Systems.{Constraints, IsSystem}
+use Rattle.vd_constraints.specs.Outcomes.{IsLabelled}
+use Rattle.vd_constraints.specs.declared.labels.Labels.{Labels}
 use Rattle.vd_top.specs.Plans.{Plan, file_then, check_then, answer_then, ended}
 use Rattle.vd_top.specs.declared.status.Status.{Status}
 use Rattle.vd_top.specs.declared.status.Status.TheVariants.{Memory, TooLong, Syntax, Names, InputText}
@@ -20,10 +23,13 @@ use Rattle.vd_top.specs.declared.status.RuleFault.TheVariants.{Unknown, Twice, R
 use Rattle.vd_top.specs.declared.status.TextFault.TheVariants.{Text, UnknownHost}
 use Rattle.vd_top.specs.declared.status.SyntaxFault.TheVariants.{BadByte, Unexpected, Nesting}
 
--- For each kind of text, the function that gives each text its one outcome.
+-- The function that gives each text its one tree or fault, and the one that gives each system of flow rules its least
+-- labelling or the first check that fails.
 pub record Readers : Type 0 where
   pub parse : List ℕ → Result Source ParseFault
   pub parse_is : (bytes : List ℕ) → IsParse bytes (parse bytes)
+  pub label : Constraints → Result Labels ℕ
+  pub label_is : (system : Constraints) → IsSystem system → IsLabelled system (label system)
 
 -- the tree of a text, or the status of its refusal
 abbrev pub as_source : List ℕ → Result Source ParseFault → Result Source Status

@@ -12,7 +12,7 @@ use Rattle.vd_top.specs.declared.status.RuleFault.TheVariants as rule
 use Rattle.vd_top.specs.declared.status.TextFault.{TextFault}
 use Rattle.vd_top.specs.declared.status.TextFault.TheVariants.{Text, UnknownHost}
 use Rattle.vd_top.specs.declared.status.Status.{Status}
-use Rattle.vd_top.specs.declared.status.Status.TheVariants.{Ended, Memory, Usage, ReadFault, WriteFault, TooLong, Syntax, Names, InputText}
+use Rattle.vd_top.specs.declared.status.Status.TheVariants.{Ended, Memory, Usage, ReadFault, WriteFault, TooLong, Syntax, Names, FlowCheck, InputText}
 
 abbrev pub code_of : Status → ℕ
 code_of Ended = 0
@@ -23,6 +23,7 @@ code_of WriteFault = 4
 code_of (TooLong name limit) = 5
 code_of (Syntax fault) = 6
 code_of (Names fault) = 7
+code_of (FlowCheck check offset) = 8
 code_of (InputText fault) = 11
 
 -- a text that ends in an offset
@@ -64,6 +65,7 @@ status_line WriteFault = codes "viaduct: write fault\n"
 status_line (TooLong name limit) = codes "viaduct: too long " ++ (name ++ (codes " " ++ (decimal limit ++ codes "\n")))
 status_line (Syntax fault) = syntax_line fault
 status_line (Names fault) = rule_line fault
+status_line (FlowCheck check offset) = codes "viaduct: flow check " ++ (decimal check ++ (codes " at " ++ (decimal offset ++ codes "\n")))
 status_line (InputText fault) = input_line fault
 
 -- the line goes to err, whole unless err failed

@@ -9,6 +9,8 @@ use vd_base::Text;
 pub enum Command {
     /// `clear SOURCE INPUTS`.
     Clear(Text, Text),
+    /// `labels SOURCE`.
+    Labels(Text),
 }
 
 /// The command that the words are, if they have a form.
@@ -16,6 +18,14 @@ pub fn read_words(alloc: Global, words: &[Text]) -> Result<Option<Command>, Allo
     ensures { IfOk result (λ command. command ≡ form_of words.now) }
 {
     match words {
+        [word, source] => {
+            if word.as_str() == "labels" {
+                let source = Text::copy_of(alloc, source.as_str())?;
+                Ok(Some(Command::Labels(source)))
+            } else {
+                Ok(None)
+            }
+        }
         [word, source, inputs] => {
             if word.as_str() == "clear" {
                 let source = Text::copy_of(alloc, source.as_str())?;

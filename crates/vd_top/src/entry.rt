@@ -8,6 +8,7 @@ ghost use Rattle.vd_top.specs.Lines.{Says, status_line};
 use crate::clear::clear;
 use crate::command::{Command, read_words};
 use crate::deliver::deliver;
+use crate::labels::labels;
 use crate::tell::tell;
 use crate::{Answer, Status};
 use std::alloc::Global;
@@ -20,6 +21,7 @@ fn perform<F: Files>(alloc: Global, command: &Command, files: &mut F) -> Result<
 {
     match command {
         Command::Clear(source, inputs) => clear(alloc, files, source.as_str(), inputs.as_str()),
+        Command::Labels(source) => labels(alloc, files, source.as_str()),
     }
 }
 
@@ -45,7 +47,8 @@ fn act<F: Files, O: Sink>(alloc: Global, words: &Texts, files: &mut F, out: &mut
 }
 
 /// Runs a command line: reads its files, writes what it prints to `out`, and says on `err` how it ended, where that is
-/// not well. The readers of a clause are the functions that give each text its one outcome.
+/// not well. The readers of a clause are the functions that give each text its one tree or fault, and each system of flow rules
+/// its least labelling or the first check that fails.
 pub fn run<F: Files, O: Sink, E: Sink, N: Net, S: Spawner>(
     alloc: Global,
     words: &Texts,

@@ -6,6 +6,7 @@ mod clear;
 mod command;
 mod deliver;
 mod entry;
+mod labels;
 mod load;
 mod status;
 mod tell;

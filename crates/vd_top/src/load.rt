@@ -1,4 +1,5 @@
 ghost use Rattle.std.specs.Prelude.{◌≡◌, ◌≤◌, ℕ, List, length, IfOk};
+ghost use Rattle.vd_core.specs.Named.{HasNames};
 ghost use Rattle.vd_meaning.specs.SourceMeaning.{host_names};
 ghost use Rattle.vd_top.specs.Plans.{Checks, ExecutesStep};
 ghost use Rattle.vd_top.specs.Loads.{Loads};
@@ -30,7 +31,8 @@ pub fn load<F: Files>(alloc: Global, files: &mut F, name: &str, limit: u32) -> R
 // The tree of a text, or why it is no source.
 fn read_source(alloc: Global, bytes: &[u8]) -> Result<Source, Status>
     requires { length bytes.now ≤ 65536 }
-    ensures { (readers : Readers) (name : List ℕ) → Checks (source_of readers name bytes.now) result }
+    ensures reads { (readers : Readers) (name : List ℕ) → Checks (source_of readers name bytes.now) result }
+    ensures named { IfOk result HasNames }
 {
     match parse(alloc, bytes) {
         Ok(source) => Ok(source),
@@ -46,7 +48,8 @@ fn read_source(alloc: Global, bytes: &[u8]) -> Result<Source, Status>
 
 // Fetches a source, and reads it.
 fn load_tree<F: Files>(alloc: Global, files: &mut F, name: &str) -> Result<Source, Status>
-    ensures { (readers : Readers) → ExecutesStep (tree_then readers name.now) (F.view files.old) (F.view files.new) result }
+    ensures loads { (readers : Readers) → ExecutesStep (tree_then readers name.now) (F.view files.old) (F.view files.new) result }
+    ensures named { IfOk result HasNames }
 {
     let bytes = load(alloc, files, name, SOURCE_BYTES)?;
     read_source(alloc, bytes.as_slice())
@@ -54,6 +57,7 @@ fn load_tree<F: Files>(alloc: Global, files: &mut F, name: &str) -> Result<Sourc
 
 // The source, if it meets every rule on names, kinds and limits.
 fn resolve_source(alloc: Global, source: Source) -> Result<Resolved, Status>
+    requires { HasNames source }
     ensures { Checks (resolved_of source) result }
 {
     match resolve(alloc, source) {

@@ -53,6 +53,8 @@ pub enum Status {
     TooLong(Text, u32),
     Syntax(SyntaxFault),
     Names(RuleFault),
+    /// No labelling satisfies the flow rules: the number of the first check that fails, and the offset of its statement.
+    FlowCheck(u32, u32),
     InputText(TextFault),
 }
 
@@ -70,6 +72,7 @@ impl Status {
             Status::TooLong(_, _) => 5,
             Status::Syntax(_) => 6,
             Status::Names(_) => 7,
+            Status::FlowCheck(_, _) => 8,
             Status::InputText(_) => 11,
         }
     }

@@ -1,6 +1,7 @@
 ghost use Rattle.std.specs.Prelude.{◌≡◌};
 ghost use Rattle.vd_top.specs.Deliver.{WritesAll};
 ghost use Rattle.vd_top.specs.declared.status.RuleFault.TheVariants as rule;
+ghost use Rattle.vd_top.specs.declared.status.Status.TheVariants.{FlowCheck};
 ghost use Rattle.vd_top.specs.Lines.{status_line, syntax_line, rule_line, input_line, offset_line, quantity_name};
 
 use crate::deliver::write_parts;
@@ -33,6 +34,7 @@ pub fn tell<E: Sink>(err: &mut E, status: &Status) -> Result<(), Failed>
         }
         Status::Syntax(fault) => tell_syntax(err, *fault),
         Status::Names(fault) => tell_rule(err, *fault),
+        Status::FlowCheck(check, offset) => tell_check(err, *check, *offset),
         Status::InputText(fault) => tell_input(err, *fault),
     }
 }
@@ -91,6 +93,19 @@ fn tell_limit<E: Sink>(err: &mut E, which: Quantity, count: u32) -> Result<(), F
             number,
             b"\n",
         ],
+    )
+}
+
+fn tell_check<E: Sink>(err: &mut E, check: u32, offset: u32) -> Result<(), Failed>
+    ensures { WritesAll (status_line (FlowCheck check offset)) (E.view err.old) (E.view err.new) result }
+{
+    let mut check_buffer = Buffer::new();
+    let check = check_buffer.format(check).as_bytes();
+    let mut offset_buffer = Buffer::new();
+    let offset = offset_buffer.format(offset).as_bytes();
+    write_parts(
+        err,
+        &[b"viaduct: flow check ", check, b" at ", offset, b"\n"],
     )
 }
 

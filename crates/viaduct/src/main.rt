@@ -15,6 +15,7 @@ const HELP: &str =
 
 usage:
   viaduct clear SOURCE INPUTS   run SOURCE in clear on one machine, and print each host's words
+  viaduct labels SOURCE         print the least label of each slot of SOURCE's let-normal form
   viaduct --help                print this text
   viaduct --version             print the version
 

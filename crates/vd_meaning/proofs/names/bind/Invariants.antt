@@ -1,6 +1,6 @@
 use Rattle.std.proofs.Common.{◌≡◌, ◌++◌, drop}
 use Rattle.vd_meaning.specs.declared.held.Held.TheVariants.{Bound}
-use Rattle.vd_meaning.specs.Names.{bound}
+use Rattle.vd_base.specs.Names.{bound}
 use Rattle.vd_meaning.specs.SourceMeaning.{parameter_names}
 use Rattle.vd_meaning.specs.Entries.{named}
 use Rattle.vd_meaning.proofs.names.bind.Given as goal

@@ -1,5 +1,5 @@
 use Rattle.std.proofs.Common.{◌≡◌, take, None}
-use Rattle.vd_meaning.specs.Names.{at_name}
+use Rattle.vd_base.specs.Names.{at_name}
 use Rattle.vd_meaning.specs.Entries.{named}
 use Rattle.vd_meaning.proofs.names.write.Given as goal
 

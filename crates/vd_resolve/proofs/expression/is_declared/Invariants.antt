@@ -1,7 +1,7 @@
 use Rattle.std.proofs.Common.{◌≡◌, drop}
-use Rattle.vd_resolve.specs.Names.{is_name}
+use Rattle.vd_base.specs.Names.{is_among}
 use Rattle.vd_resolve.specs.Rules.{function_names}
 use Rattle.vd_resolve.proofs.expression.is_declared.Given as goal
 
 abbrev pub invariant-loop-function : goal.invariant-loop-function
-invariant-loop-function l = is_name (function_names (drop l.function-index l.functions)) l.name ≡ is_name (function_names l.functions) l.name
+invariant-loop-function l = is_among (function_names (drop l.function-index l.functions)) l.name ≡ is_among (function_names l.functions) l.name

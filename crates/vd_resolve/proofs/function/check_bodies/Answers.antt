@@ -2,7 +2,7 @@ use Rattle.std.proofs.Common.{◌≡◌, ◌+◌, List, [], ◌∷◌, ◌++◌,
 use Rattle.std.proofs.lemmas.Grind.{common_steps}
 use Rattle.std.proofs.lemmas.Result.{on_ok_weaker, MatchResult-weaker, err_from_is_err_and}
 use Rattle.vd_resolve.specs.declared.symbol.Callee.{Callee}
-use Rattle.vd_resolve.specs.Names.{Named}
+use Rattle.vd_base.specs.Names.{Named}
 use Rattle.vd_resolve.specs.Rules.{functions_check, function_check, function_names}
 use Rattle.vd_resolve.specs.Sizes.{function_sizes}
 use Rattle.vd_resolve.specs.Walks.{HaveSizes, signatures}

@@ -9,8 +9,8 @@ returns-in_err-check_limits-clause-fault c =
     rw (p.1, p.2)
     (memory_or _ (λ other. resolution_is c.args.source c.in_ok-size.size _ _ _ c.in_ok-size.ensures.ok c.in_ok-size.ensures.size (search rules) (search rules) (c.in_err-check_limits.ensures.fault other)))
 
-pub new-requires : goal.new-requires
-new-requires c = resolution_is c.args.source c.in_ok-size.size c.len.result c.len-2.result (Ok tt) c.in_ok-size.ensures.ok c.in_ok-size.ensures.size (search rules) (search rules) c.in_ok-check_limits.ensures.ok
+pub new-requires-clause-resolved : goal.new-requires-clause-resolved
+new-requires-clause-resolved c = resolution_is c.args.source c.in_ok-size.size c.len.result c.len-2.result (Ok tt) c.in_ok-size.ensures.ok c.in_ok-size.ensures.size (search rules) (search rules) c.in_ok-check_limits.ensures.ok
 
 pub returns-clause-resolved : goal.returns-clause-resolved
 returns-clause-resolved c = resolution_is c.args.source c.in_ok-size.size c.len.result c.len-2.result (Ok tt) c.in_ok-size.ensures.ok c.in_ok-size.ensures.size (search rules) (search rules) c.in_ok-check_limits.ensures.ok

@@ -1,6 +1,6 @@
 use Rattle.std.proofs.Common.{◌≡◌, ℕ, ◌+◌, ◌*◌, ◌++◌, map, take, drop, None, List}
 use Rattle.vd_meaning.specs.World.{World}
-use Rattle.vd_meaning.specs.Names.{at_name}
+use Rattle.vd_base.specs.Names.{at_name}
 use Rattle.vd_meaning.specs.Turns.{turns}
 use Rattle.vd_meaning.specs.Entries.{named}
 use Rattle.vd_meaning.specs.SourceMeaning.{State, chain_evaluation, evaluations, evaluation, evaluation_of_link, in_sequence, turn_execution, execution, callees_of, host_names}

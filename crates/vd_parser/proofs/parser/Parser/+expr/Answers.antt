@@ -5,8 +5,8 @@ use Rattle.vd_parser.specs.Language.{ATOM, EXPR, SHIFT, UNARY, named_rule, other
 use Rattle.vd_parser.specs.Syntax.{atom_of, named_of, other_atom_of, word_atom_of}
 use Rattle.vd_parser.specs.Levels.{comparison_at, direction_at, infix_at}
 use Rattle.vd_parser.proofs.Steps.{as_given, collects_first, end_after, into_left, into_right, last, last_none, more_after, next, next_open, past_two, refused_first, refused_last, refused_open, rule_start, skip_known, start, stop_after}
-use Rattle.vd_parser.proofs.Meanings.{arguments_empty, arguments_some, atom_false, atom_number, atom_true, atom_word, expr_alone, expr_compared, exprs_first, exprs_more, exprs_none, index_is, named_call, named_element, named_value, other_brackets, other_declassify, other_endorse, other_input, other_mux, relabelled_is, shift_is, three_is, two_is, word_max, word_min, word_named, word_other}
-use Rattle.vd_parser.proofs.Precedence.{compared, comparison_op, comparison_token, level_is, level_start, no_more, no_shift, not_compared, one_more, one_shift, stop_more, stop_shift, unary_whole}
+use Rattle.vd_parser.proofs.Meanings.{arguments_empty, arguments_some, atom_false, atom_number, atom_true, atom_word, expr_alone, expr_compared, exprs_first, exprs_more, exprs_none, index_is, named_call, named_element, named_value, other_brackets, other_declassify, other_endorse, other_input, other_mux, relabelled_is, shift_is, three_is, two_is, unary_is, word_max, word_min, word_named, word_other}
+use Rattle.vd_parser.proofs.Precedence.{compared, comparison_op, comparison_token, level_is, level_start, no_more, no_shift, not_compared, one_more, one_shift, stop_more, stop_shift}
 use Rattle.vd_parser.proofs.parser.Parser.+expr.Goals as goal
 
 pub expr-returns-in_err-left : goal.expr-returns-in_err-left
@@ -92,24 +92,24 @@ shift-returns t c =
     let rest = no_shift _ c.links.invariant.collects (ap direction_at (sym c.kind.ensures) ∙ sym c.direction.ensures ∙ c.in_default.is) in
     last w1 rest (c.in_ok-expr.ensures ∙ shift_is _ _ _ _ _ (c.links.invariant.same ∙ c.in_ok-first.ensures.value) rest.value)
 
-pub unary-returns-in_err-prefixes : goal.unary-returns-in_err-prefixes
-unary-returns-in_err-prefixes t c =
+pub unary-returns-in_err-signs : goal.unary-returns-in_err-signs
+unary-returns-in_err-signs t c =
     let w0 = rule_start UNARY in
     let p = err_from_is_err_and c.from_residual.result c.from_residual.ensures.1 in
-    rw (p.1, p.2) (refused_first w0 c.in_err-prefixes.ensures)
+    rw (p.1, p.2) (refused_first w0 c.in_err-signs.ensures)
 
 pub unary-returns-in_err-atom : goal.unary-returns-in_err-atom
 unary-returns-in_err-atom t c =
     let w0 = rule_start UNARY in
-    let w1 = next w0 c.in_ok-prefixes.ensures in
+    let w1 = next w0 c.in_ok-signs.ensures in
     let p = err_from_is_err_and c.from_residual-in_err-atom.result c.from_residual-in_err-atom.ensures.1 in
     rw (p.1, p.2) (refused_last w1 c.in_err-atom.ensures)
 
 pub unary-returns : goal.unary-returns
 unary-returns t c =
     let w0 = rule_start UNARY in
-    let w1 = next w0 c.in_ok-prefixes.ensures in
-    last w1 c.in_ok-atom.ensures (c.in_ok-expr.ensures ∙ unary_whole _ _ _ _ _ c.in_ok-prefixes.ensures.value c.in_ok-atom.ensures.value)
+    let w1 = next w0 c.in_ok-signs.ensures in
+    last w1 c.in_ok-atom.ensures (c.in_ok-expr.ensures ∙ unary_is _ _ _ _ _ c.in_ok-atom.ensures.value c.in_ok-signs.ensures.value)
 
 pub atom-returns-in_err-number : goal.atom-returns-in_err-number
 atom-returns-in_err-number t c =

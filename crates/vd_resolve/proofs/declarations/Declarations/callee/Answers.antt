@@ -1,5 +1,5 @@
 use Rattle.std.proofs.Common.{◌≡◌, Some, rules}
-use Rattle.vd_resolve.specs.Names.{at_name}
+use Rattle.vd_base.specs.Names.{at_name}
 use Rattle.vd_resolve.specs.Scopes.{sizes_of}
 use Rattle.vd_resolve.proofs.Lookups.{size_at}
 use Rattle.vd_resolve.proofs.declarations.Declarations.callee.Goals as goal

@@ -9,4 +9,4 @@ use Rattle.vd_resolve.proofs.resolved.Resolved.source.Goals as goal
 pub returns-clause-resolved : goal.returns-clause-resolved
 returns-clause-resolved c =
     let code : Coded (Result (Unit {0}) NameFault) = hlevel (codes, fault.the_row.coded) in
-    subst IsResolved c.self.view_is (∥∥₁_elim c.self.invariant (Coded-set code (resolution c.self.inside.source) (Ok tt)) (λ x. x))
+    subst IsResolved c.self.view_is (∥∥₁_elim c.self.invariant.0 (Coded-set code (resolution c.self.inside.source) (Ok tt)) (λ x. x))

@@ -1,5 +1,5 @@
 use Rattle.std.proofs.Common.{◌∙◌, ap, is_some, [], ◌∷◌, ◌++◌}
-use Rattle.vd_resolve.specs.Names.{Named, at_name}
+use Rattle.vd_base.specs.Names.{Named, at_name}
 use Rattle.vd_resolve.proofs.Tables.{names_of, insert_named}
 use Rattle.vd_resolve.proofs.table.NameTable.add.Goals as goal
 

@@ -1,5 +1,5 @@
 use Rattle.std.proofs.Common.{ℕ, List, ◌∙◌, ap, is_some}
-use Rattle.vd_resolve.specs.Names.{Named, at_name}
+use Rattle.vd_base.specs.Names.{Named, at_name}
 use Rattle.vd_resolve.proofs.Tables.{lookup_named}
 use Rattle.vd_resolve.proofs.table.NameTable.contains.Goals as goal
 

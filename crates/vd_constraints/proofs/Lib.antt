@@ -1,0 +1,6 @@
+pub mod Kept
+pub mod Fits
+pub mod Sizes
+pub mod Walks
+pub mod Labellings
+pub mod InSight

@@ -1,0 +1,70 @@
+use Rattle.std.proofs.Common.{sym, ap, ◌∙◌, subst, arith}
+use Rattle.std.specs.Prelude.{IsTrue}
+use Rattle.vd_constraints.specs.Scoped.{slots_below}
+use Rattle.vd_constraints.specs.declared.system.Place.TheVariants.{Slot}
+use Rattle.vd_constraints.proofs.Sizes.{stmt_size, body_size, if_size, stmt_fits}
+use Rattle.vd_constraints.proofs.Walks.{extends-trans, place_kept, stmt_below_at, branches_below, branch_extends, branch_place, still_below}
+use Rattle.vd_constraints.proofs.rules.+walk.Goals as goal
+
+pub add_body-add_stmt-requires : goal.add_body-add_stmt-requires
+add_body-add_stmt-requires t c =
+    let more = c.loop-stmt.invariant.extends in (
+      omega (arith, stmt_fits c.args.body.now c.loop-stmt.stmt-index c.stmt-item.result c.loop-stmt-test.true c.stmt-item.is),
+      (
+        place_kept c.args.system.now c.loop-stmt.system c.args.pc more c.requires.place,
+        (
+          c.requires.few,
+          (
+            more.principals ∙ c.requires.principals,
+            subst (λ n. IsTrue (slots_below n c.stmt-item.result)) (sym more.slots)
+                (subst (λ stmt. IsTrue (slots_below c.args.system.now.slots stmt)) (sym c.stmt-item.is)
+                (stmt_below_at c.args.system.now.slots c.args.body.now c.loop-stmt.stmt-index c.stmt-item.result c.loop-stmt-test.true c.requires.slots)),
+          ),
+        ),
+      ),
+    )
+
+pub add_stmt-add_body-requires : goal.add_stmt-add_body-requires
+add_stmt-add_body-requires t c =
+    let size = ap stmt_size c.in-If.is ∙ if_size c.in-If.guard c.in-If.then_block c.in-If.else_block c.in-If.field-3 in
+    let same = ap body_size c.as_slice.ensures in
+    let branch = c.in_ok-branch-in-If.ensures {u = tt} in
+    let more = branch_extends c.args.system.now c.add_branch.new.self (Slot c.in-If.guard) c.args.pc branch.added in
+    let below = branches_below c.args.system.now.slots c.in-If.guard c.in-If.then_block c.in-If.else_block c.in-If.field-3
+    (subst (λ stmt. IsTrue (slots_below c.args.system.now.slots stmt)) c.in-If.is c.requires.slots) in (
+      omega arith,
+      (
+        branch_place c.args.system.now c.add_branch.new.self (Slot c.in-If.guard) c.args.pc branch.added c.in_ok-branch-in-If.branch branch.place,
+        (
+          c.requires.few,
+          (
+            more.principals ∙ c.requires.principals,
+            still_below c.args.system.now c.add_branch.new.self c.in-If.then_block c.as_slice.result.now more c.as_slice.ensures below.0,
+          ),
+        ),
+      ),
+    )
+
+pub add_stmt-add_body-requires-in-If : goal.add_stmt-add_body-requires-in-If
+add_stmt-add_body-requires-in-If t c =
+    let size = ap stmt_size c.in-If.is ∙ if_size c.in-If.guard c.in-If.then_block c.in-If.else_block c.in-If.field-3 in
+    let same = ap body_size c.as_slice-in-If.ensures in
+    let branch = c.in_ok-branch-in-If.ensures {u = tt} in
+    let first = branch_extends c.args.system.now c.add_branch.new.self (Slot c.in-If.guard) c.args.pc branch.added in
+    let second = (c.in_ok-add_body-in-If.ensures {u = tt}).extends in
+    let more = extends-trans c.args.system.now c.add_branch.new.self c.add_body.new.system first second in
+    let place = branch_place c.args.system.now c.add_branch.new.self (Slot c.in-If.guard) c.args.pc branch.added c.in_ok-branch-in-If.branch branch.place in
+    let below = branches_below c.args.system.now.slots c.in-If.guard c.in-If.then_block c.in-If.else_block c.in-If.field-3
+    (subst (λ stmt. IsTrue (slots_below c.args.system.now.slots stmt)) c.in-If.is c.requires.slots) in (
+      omega arith,
+      (
+        place_kept c.add_branch.new.self c.add_body.new.system c.in_ok-branch-in-If.branch second place,
+        (
+          c.requires.few,
+          (
+            more.principals ∙ c.requires.principals,
+            still_below c.args.system.now c.add_body.new.system c.in-If.else_block c.as_slice-in-If.result.now more c.as_slice-in-If.ensures below.1,
+          ),
+        ),
+      ),
+    )

@@ -1,0 +1,6 @@
+pub mod Systems
+pub mod Satisfies
+pub mod Scoped
+pub mod Extends
+pub mod Rules
+pub mod Outcomes

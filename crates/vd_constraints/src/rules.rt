@@ -1,0 +1,262 @@
+//! The walk over a let-normal program that collects its flow rules.
+
+ghost use Rattle.std.specs.Prelude.{◌≡◌, ◌<◌, ◌≤◌, ◌++◌, length, IsTrue, IfOk, IfSome, OnOk};
+ghost use Rattle.std.specs.List.{flat_map, list_all};
+ghost use Rattle.vd_constraints.specs.Extends.{Extends};
+ghost use Rattle.vd_constraints.specs.Rules.{flows, host_label as label_of_host, label as label_over, written_at as label_written_at, offset_of, right_rules, right_checks, with_checks, with_rules, with_written, with_stmt, with_body, system_of};
+ghost use Rattle.vd_constraints.specs.Scoped.{IsScoped, is_below, right_below, slots_below, block_below};
+ghost use Rattle.vd_constraints.specs.Systems.{IsLabelOver, IsPlaceOf};
+ghost use Rattle.vd_constraints.specs.declared.system.Place.TheVariants as place;
+
+use crate::system::{Place, System};
+use std::alloc::{AllocError, Global};
+use vd_base::{HostId, SlotId};
+use vd_core::normal::{NormalForm, Right, Stmt, Written};
+use vd_core::program::Program;
+use vd_formula::{Formula, Label};
+use vd_items::Items;
+
+/// The rules and checks of a program, in program order.
+pub fn constraints(alloc: Global, program: &Program) -> Result<System, AllocError>
+    ensures { IfOk result (λ system. system ≡ system_of program.now) }
+{
+    constraints_of(alloc, program.form())
+}
+
+/// The rules and checks of a let-normal form, in program order.
+pub fn constraints_of(alloc: Global, form: &NormalForm) -> Result<System, AllocError>
+    requires { IsScoped form.now }
+    ensures { IfOk result (λ system. system ≡ system_of form.now) }
+{
+    let slots = form.slots.as_slice().len();
+    if slots > u32::MAX as usize {
+        return Err(AllocError);
+    }
+    let mut system = System::new(
+        form.principals.clone()?,
+        slots as u32,
+        1,
+        Items::new(alloc),
+        Items::new(alloc),
+    );
+    add_body(&mut system, form, Place::Block(0), form.body.as_slice())?;
+    Ok(system)
+}
+
+/// Adds what statements ask, in a block whose label is at `pc`.
+#[cycle(walk)]
+fn add_body(
+    system: &mut System,
+    program: &NormalForm,
+    pc: Place,
+    body: &[Stmt],
+) -> Result<(), AllocError>
+    requires place { IsPlaceOf system.old pc }
+    requires few { length program.now.principals ≤ 6 }
+    requires principals { system.old.principals ≡ program.now.principals }
+    requires slots { IsTrue (block_below system.old.slots body.now) }
+    ensures added { OnOk result (system.new ≡ with_body body.now program.now pc system.old) }
+    ensures extends { OnOk result (Extends system.old system.new) }
+{
+    for stmt in body {
+        add_stmt(system, program, pc, stmt)?;
+    }
+    Ok(())
+}
+
+/// Adds what a statement asks, in a block whose label is at `pc`.
+#[cycle(walk)]
+fn add_stmt(
+    system: &mut System,
+    program: &NormalForm,
+    pc: Place,
+    stmt: &Stmt,
+) -> Result<(), AllocError>
+    requires place { IsPlaceOf system.old pc }
+    requires few { length program.now.principals ≤ 6 }
+    requires principals { system.old.principals ≡ program.now.principals }
+    requires slots { IsTrue (slots_below system.old.slots stmt.now) }
+    ensures added { OnOk result (system.new ≡ with_stmt stmt.now program.now pc system.old) }
+    ensures extends { OnOk result (Extends system.old system.new) }
+{
+    match stmt {
+        Stmt::Let(slot, right) => {
+            add_right(system, program, pc, *slot, right)?;
+            add_label(system, program, *slot)
+        }
+        Stmt::NewVar(variable, value) => {
+            add_stored(system, pc, *variable, *value)?;
+            add_label(system, program, *variable)
+        }
+        Stmt::NewArray(array, _) => {
+            system.add_flow(pc, Place::Slot(*array))?;
+            add_label(system, program, *array)
+        }
+        Stmt::Store(variable, value) => add_stored(system, pc, *variable, *value),
+        Stmt::Put(array, index, value) => add_put(system, pc, *array, *index, *value),
+        Stmt::Output(slot, host, offset) => {
+            let host = host_label(program, *host);
+            system.add_output(host, pc, Place::Slot(*slot), *offset)
+        }
+        Stmt::If(guard, then_block, else_block, _) => {
+            let branch = system.add_branch(Place::Slot(*guard), pc)?;
+            add_body(system, program, branch, then_block.as_slice())?;
+            add_body(system, program, branch, else_block.as_slice())
+        }
+        Stmt::For(_, body) => add_body(system, program, pc, body.as_slice()),
+    }
+}
+
+/// Adds what a right side asks of the slot that it makes.
+fn add_right(
+    system: &mut System,
+    program: &NormalForm,
+    pc: Place,
+    slot: SlotId,
+    right: &Right,
+) -> Result<(), AllocError>
+    requires place { IsPlaceOf system.old pc }
+    requires few { length program.now.principals ≤ 6 }
+    requires principals { system.old.principals ≡ program.now.principals }
+    requires slot { slot.0 < system.old.slots }
+    requires slots { IsTrue (right_below system.old.slots right.now) }
+    ensures { OnOk result (system.new ≡ with_checks (right_checks program.now pc slot right.now) (with_rules (right_rules program.now pc slot right.now) system.old)) }
+{
+    let x = Place::Slot(slot);
+    match right {
+        Right::Lit(_) => Ok(()),
+        Right::Turn => Ok(()),
+        Right::Copy(value) => system.add_flow(Place::Slot(*value), x),
+        Right::Load(variable) => system.add_flow(Place::Slot(*variable), x),
+        Right::Apply(_, operands) => add_operands(system, slot, operands.as_slice()),
+        Right::Get(array, index) => {
+            system.add_flow(Place::Slot(*array), x)?;
+            system.add_flow(Place::Slot(*index), x)
+        }
+        Right::Input(host) => {
+            let host = host_label(program, *host);
+            system.add_input(host, pc, x, offset(program, slot))
+        }
+        Right::Declassify(value, form) => {
+            let to = Formula::over(form, &program.principals);
+            system.add_declassified(to, pc, x, Place::Slot(*value))
+        }
+        Right::Endorse(value, form) => {
+            let to = Formula::over(form, &program.principals);
+            system.add_endorsed(to, pc, x, Place::Slot(*value), offset(program, slot))
+        }
+    }
+}
+
+fn add_operands(system: &mut System, slot: SlotId, operands: &[SlotId]) -> Result<(), AllocError>
+    requires slot { slot.0 < system.old.slots }
+    requires operands { IsTrue (list_all (is_below system.old.slots) operands.now) }
+    ensures { OnOk result (system.new ≡ with_rules (flat_map (λ y. flows (place.Slot y) (place.Slot slot)) operands.now) system.old) }
+{
+    for operand in operands {
+        system.add_flow(Place::Slot(*operand), Place::Slot(slot))?;
+    }
+    Ok(())
+}
+
+/// Adds that a value is stored in a variable.
+fn add_stored(
+    system: &mut System,
+    pc: Place,
+    variable: SlotId,
+    value: SlotId,
+) -> Result<(), AllocError>
+    requires place { IsPlaceOf system.old pc }
+    requires variable { variable.0 < system.old.slots }
+    requires value { value.0 < system.old.slots }
+    ensures { OnOk result (system.new ≡ with_rules (flows (place.Slot value) (place.Slot variable) ++ flows pc (place.Slot variable)) system.old) }
+{
+    system.add_flow(Place::Slot(value), Place::Slot(variable))?;
+    system.add_flow(pc, Place::Slot(variable))
+}
+
+/// Adds that a value is put into an array.
+fn add_put(
+    system: &mut System,
+    pc: Place,
+    array: SlotId,
+    index: SlotId,
+    value: SlotId,
+) -> Result<(), AllocError>
+    requires place { IsPlaceOf system.old pc }
+    requires array { array.0 < system.old.slots }
+    requires index { index.0 < system.old.slots }
+    requires value { value.0 < system.old.slots }
+    ensures { OnOk result (system.new ≡ with_rules (flows (place.Slot value) (place.Slot array) ++ flows (place.Slot index) (place.Slot array) ++ flows pc (place.Slot array)) system.old) }
+{
+    let array = Place::Slot(array);
+    system.add_flow(Place::Slot(value), array)?;
+    system.add_flow(Place::Slot(index), array)?;
+    system.add_flow(pc, array)
+}
+
+/// Adds the label that the source writes at a slot, if it does.
+fn add_label(system: &mut System, program: &NormalForm, slot: SlotId) -> Result<(), AllocError>
+    requires few { length program.now.principals ≤ 6 }
+    requires principals { system.old.principals ≡ program.now.principals }
+    requires slot { slot.0 < system.old.slots }
+    ensures { OnOk result (system.new ≡ with_written program.now slot system.old) }
+{
+    match written_at(program, slot) {
+        Some(written) => { system.add_written(written, Place::Slot(slot), offset(program, slot)) }
+        None => Ok(()),
+    }
+}
+
+/// The label of a host. One that is not declared acts for no one.
+fn host_label(program: &NormalForm, host: HostId) -> Label
+    requires { length program.now.principals ≤ 6 }
+    ensures same { result ≡ label_of_host program.now host }
+    ensures over { IsLabelOver (length program.now.principals) result }
+{
+    match program.labels.as_slice().get(usize::from(host.0)) {
+        Some(written) => label(program, written),
+        None => {
+            let names = program.principals.as_slice().len() as u8;
+            Label {
+                conf: Formula::any(names),
+                integ: Formula::any(names),
+            }
+        }
+    }
+}
+
+/// A written label, over the program's principals.
+fn label(program: &NormalForm, written: &Written) -> Label
+    requires { length program.now.principals ≤ 6 }
+    ensures same { result ≡ label_over program.now written.now }
+    ensures over { IsLabelOver (length program.now.principals) result }
+{
+    Label {
+        conf: Formula::over(&written.conf, &program.principals),
+        integ: Formula::over(&written.integ, &program.principals),
+    }
+}
+
+/// The label that the source writes at a slot, if it does.
+fn written_at(program: &NormalForm, slot: SlotId) -> Option<Label>
+    requires { length program.now.principals ≤ 6 }
+    ensures same { result ≡ label_written_at program.now slot }
+    ensures over { IfSome result (IsLabelOver (length program.now.principals)) }
+{
+    let slot = program.slots.as_slice().get(usize::from(slot.0))?;
+    match &slot.label {
+        Some(written) => Some(label(program, written)),
+        None => None,
+    }
+}
+
+/// Where in the source a slot is made.
+fn offset(program: &NormalForm, slot: SlotId) -> u32
+    ensures { result ≡ offset_of program.now slot }
+{
+    match program.slots.as_slice().get(usize::from(slot.0)) {
+        Some(slot) => slot.offset,
+        None => 0,
+    }
+}

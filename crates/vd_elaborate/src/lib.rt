@@ -1,0 +1,11 @@
+//! Brings a resolved source into let-normal form.
+#![tactic(auto)]
+
+mod forms;
+mod made;
+mod names;
+mod steps;
+mod visible;
+mod walk;
+
+pub use walk::elaborate;

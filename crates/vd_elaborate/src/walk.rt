@@ -1,0 +1,545 @@
+//! The walk over a source that makes its let-normal form.
+
+ghost use Rattle.std.specs.Prelude.{◌≡◌, ℕ, [], ◌∷◌, ◌++◌, IfOk, OnOk, List, map};
+ghost use Rattle.vd_base.specs.Names.{at_name};
+ghost use Rattle.vd_meaning.specs.SourceMeaning.{host_names, source_outputs};
+ghost use Rattle.vd_meaning.specs.ProgramMeaning.{program_outputs};
+ghost use Rattle.vd_normal.specs.Normal.{Made as Making, Place, lowering, lowering_of_link, chain_made, all_made, call_made, lowering_of, statements_made, inner_made, loop_made, with_body, inlining_of, inlinings_of, main_made, host_id, normal_form, written};
+ghost use Rattle.vd_elaborate.specs.Seen.{seen};
+
+use crate::forms::{copy_form, copy_label, copy_name};
+use crate::made::{Made, slot_of_name};
+use crate::names::{add, bind, find};
+use crate::steps::{
+    choose, copy, factor, infix, infix_gives, is_plain, of_element, of_name, operation, prefixes,
+    put, shift_operation, store,
+};
+use crate::visible::Visible;
+use std::alloc::{AllocError, Global};
+use vd_base::{HostId, Kind, Names, Op, SlotId};
+use vd_core::normal::{NormalForm, Right, Stmt, Written};
+use vd_core::program::Program;
+use vd_core::source::{Expr, Function, Host, Ident, Link, Source, Statement};
+use vd_items::Items;
+use vd_meaning::hosts::place;
+use vd_normal::here::Here;
+use vd_normal::spot::Spot;
+use vd_resolve::Resolved;
+
+/// The number of a host. One that 8 bits cannot number is answered like want of memory.
+fn host_of(hosts: &[Host], host: &Ident) -> Result<HostId, AllocError>
+    ensures { IfOk result (λ id. id ≡ host_id (host_names hosts.now) host.now) }
+{
+    match u8::try_from(place(hosts, host.name.as_slice())) {
+        Ok(at) => Ok(HostId(at)),
+        Err(_) => Err(AllocError),
+    }
+}
+
+/// What a statement sees besides the names of values: the hosts, and the functions before it.
+#[derive(Drop)]
+struct Scope<'a> {
+    alloc: Global,
+    hosts: &'a [Host],
+    functions: &'a [Function],
+}
+
+impl<'a> Scope<'a> {
+    /// Makes an expression, and gives the slot of its value.
+    #[cycle(walk)]
+    fn lower(
+        &self,
+        names: &[Visible],
+        made: &mut Made,
+        here: Here,
+        expr: &Expr,
+    ) -> Result<u16, AllocError>
+        ensures { IfOk result (λ x. ◌≡◌ {A = ℕ × Making} (x, made.new) ((lowering (host_names self.now.hosts.now) expr.now).run (inlinings_of (host_names self.now.hosts.now) self.now.functions.now) (seen names.now) here made.old)) }
+    {
+        match expr {
+            Expr::Number(number) => made.emit(self.alloc, here, Kind::Word, Right::Lit(*number)),
+            Expr::Truth(truth) => made.emit(
+                self.alloc,
+                here,
+                Kind::Bool,
+                Right::Lit(u32::from(*truth)),
+            ),
+            Expr::Value(name) => of_name(self.alloc, made, here, find(names, name.name.as_slice())),
+            Expr::Element(name, index) => {
+                let index = self.lower(names, made, here, index)?;
+                of_element(
+                    self.alloc,
+                    made,
+                    here,
+                    find(names, name.name.as_slice()),
+                    index,
+                )
+            }
+            Expr::Input(host) => {
+                let host = host_of(self.hosts, host)?;
+                made.emit(self.alloc, here, Kind::Word, Right::Input(host))
+            }
+            Expr::Call(name, arguments) => {
+                let slots = self.lower_all(names, made, here, arguments.as_slice())?;
+                self.call(made, here, name.name.as_slice(), slots.as_slice())
+            }
+            Expr::Min(_, x, y) => {
+                let x = self.lower(names, made, here, x)?;
+                let y = self.lower(names, made, here, y)?;
+                operation(
+                    self.alloc,
+                    made,
+                    here,
+                    Op::Min,
+                    Kind::Word,
+                    &[SlotId(x), SlotId(y)],
+                )
+            }
+            Expr::Max(_, x, y) => {
+                let x = self.lower(names, made, here, x)?;
+                let y = self.lower(names, made, here, y)?;
+                operation(
+                    self.alloc,
+                    made,
+                    here,
+                    Op::Max,
+                    Kind::Word,
+                    &[SlotId(x), SlotId(y)],
+                )
+            }
+            Expr::Mux(_, x, y, z) => {
+                let x = self.lower(names, made, here, x)?;
+                let y = self.lower(names, made, here, y)?;
+                let z = self.lower(names, made, here, z)?;
+                choose(self.alloc, made, here, x, y, z)
+            }
+            Expr::Declassify(x, to) => {
+                let x = self.lower(names, made, here, x)?;
+                let to = copy_form(self.alloc, to)?;
+                let kind = made.kind(x);
+                made.emit(self.alloc, here, kind, Right::Declassify(SlotId(x), to))
+            }
+            Expr::Endorse(x, to) => {
+                let x = self.lower(names, made, here, x)?;
+                let to = copy_form(self.alloc, to)?;
+                let kind = made.kind(x);
+                made.emit(self.alloc, here, kind, Right::Endorse(SlotId(x), to))
+            }
+            Expr::Unary(x, signs) => {
+                let x = self.lower(names, made, here, x)?;
+                prefixes(self.alloc, made, here, x, signs.as_slice())
+            }
+            Expr::Chain(first, links) => {
+                let x = self.lower(names, made, here, first)?;
+                self.chain(names, made, here, x, links.as_slice())
+            }
+            Expr::Brackets(x) => self.lower(names, made, here, x),
+        }
+    }
+
+    /// Makes the steps of a chain, from the slot of its first operand.
+    #[cycle(walk)]
+    fn chain(
+        &self,
+        names: &[Visible],
+        made: &mut Made,
+        here: Here,
+        first: u16,
+        links: &[Link],
+    ) -> Result<u16, AllocError>
+        ensures { IfOk result (λ x. ◌≡◌ {A = ℕ × Making} (x, made.new) (chain_made (map (lowering_of_link (host_names self.now.hosts.now)) links.now) (inlinings_of (host_names self.now.hosts.now) self.now.functions.now) (seen names.now) here first made.old)) }
+    {
+        let mut x = first;
+        for link in links {
+            x = self.link(names, made, here, x, link)?;
+        }
+        Ok(x)
+    }
+
+    /// Makes one step of a chain.
+    #[cycle(walk)]
+    fn link(
+        &self,
+        names: &[Visible],
+        made: &mut Made,
+        here: Here,
+        x: u16,
+        link: &Link,
+    ) -> Result<u16, AllocError>
+        ensures { IfOk result (λ r. ◌≡◌ {A = ℕ × Making} (r, made.new) (lowering_of_link (host_names self.now.hosts.now) link.now (inlinings_of (host_names self.now.hosts.now) self.now.functions.now) (seen names.now) here x made.old)) }
+    {
+        match link {
+            Link::Infix(op, _, right) => match factor(self.hosts, *op, right) {
+                Some(number) => {
+                    operation(
+                        self.alloc,
+                        made,
+                        here,
+                        Op::Scale(number),
+                        Kind::Word,
+                        &[SlotId(x)],
+                    )
+                }
+                None => {
+                    let y = self.lower(names, made, here, right)?;
+                    let kind = infix_gives(*op, made.kind(x));
+                    let right = infix(self.alloc, *op, x, y)?;
+                    made.emit(self.alloc, here, kind, right)
+                }
+            },
+            Link::Shift(direction, _, bits) => {
+                operation(
+                    self.alloc,
+                    made,
+                    here,
+                    shift_operation(*direction, *bits),
+                    Kind::Word,
+                    &[SlotId(x)],
+                )
+            }
+        }
+    }
+
+    /// Makes expressions, from left to right.
+    #[cycle(walk)]
+    fn lower_all(
+        &self,
+        names: &[Visible],
+        made: &mut Made,
+        here: Here,
+        exprs: &[Expr],
+    ) -> Result<Items<u16>, AllocError>
+        ensures { IfOk result (λ xs. ◌≡◌ {A = List ℕ × Making} (xs, made.new) (all_made (map (lowering (host_names self.now.hosts.now)) exprs.now) (inlinings_of (host_names self.now.hosts.now) self.now.functions.now) (seen names.now) here made.old)) }
+    {
+        let mut slots = Items::new(self.alloc);
+        for expr in exprs {
+            let slot = self.lower(names, made, here, expr)?;
+            slots.push(slot)?;
+        }
+        Ok(slots)
+    }
+
+    /// Makes a call of the first function with this name.
+    #[cycle(walk)]
+    fn call(
+        &self,
+        made: &mut Made,
+        here: Here,
+        name: &[u8],
+        slots: &[u16],
+    ) -> Result<u16, AllocError>
+        ensures { IfOk result (λ x. ◌≡◌ {A = ℕ × Making} (x, made.new) (call_made (at_name (inlinings_of (host_names self.now.hosts.now) self.now.functions.now) name.now) here (slots.now, made.old))) }
+    {
+        for k in 0..self.functions.len() {
+            let function = &self.functions[k];
+            if function.name.name.as_slice() == name {
+                let earlier = Scope {
+                    alloc: self.alloc,
+                    hosts: self.hosts,
+                    functions: &self.functions[..k],
+                };
+                return earlier.enter(function, made, here, slots);
+            }
+        }
+        made.emit(self.alloc, here, Kind::Word, Right::Lit(0))
+    }
+
+    /// Makes a function's statements at a call; the function sees these functions.
+    #[cycle(walk)]
+    fn enter(
+        &self,
+        function: &Function,
+        made: &mut Made,
+        here: Here,
+        slots: &[u16],
+    ) -> Result<u16, AllocError>
+        ensures { IfOk result (λ x. ◌≡◌ {A = ℕ × Making} (x, made.new) (inlining_of (host_names self.now.hosts.now) function.now (inlinings_of (host_names self.now.hosts.now) self.now.functions.now) here slots.now made.old)) }
+    {
+        let mut names = bind(self.alloc, function.parameters.as_slice(), slots)?;
+        self.sequence(&mut names, made, here.block, function.body.as_slice())?;
+        self.lower(names.as_slice(), made, here, &function.gives)
+    }
+
+    /// Makes statements in order, in the block of that number.
+    #[cycle(walk)]
+    fn sequence(
+        &self,
+        names: &mut Vec<Visible>,
+        made: &mut Made,
+        block: u32,
+        statements: &[Statement],
+    ) -> Result<(), AllocError>
+        ensures { OnOk result (◌≡◌ {A = Place} (record { names = seen names.new.items; made = made.new }) (statements_made (map (lowering_of (host_names self.now.hosts.now)) statements.now) (inlinings_of (host_names self.now.hosts.now) self.now.functions.now) block (record { names = seen names.old.items; made = made.old }))) }
+    {
+        for statement in statements {
+            self.statement(names, made, block, statement)?;
+        }
+        Ok(())
+    }
+
+    /// Makes a statement.
+    #[cycle(walk)]
+    fn statement(
+        &self,
+        names: &mut Vec<Visible>,
+        made: &mut Made,
+        block: u32,
+        statement: &Statement,
+    ) -> Result<(), AllocError>
+        ensures { OnOk result (◌≡◌ {A = Place} (record { names = seen names.new.items; made = made.new }) (lowering_of (host_names self.now.hosts.now) statement.now (inlinings_of (host_names self.now.hosts.now) self.now.functions.now) block (record { names = seen names.old.items; made = made.old }))) }
+    {
+        match statement {
+            Statement::Let {
+                at,
+                name,
+                label,
+                value,
+            } => {
+                let here = Here {
+                    offset: at.start,
+                    block,
+                };
+                let plain = is_plain(self.hosts, names.as_slice(), value);
+                let x = self.lower(names.as_slice(), made, here, value)?;
+                let x = copy(self.alloc, made, here, plain, x)?;
+                made.rename(self.alloc, x, name, label)?;
+                add(self.alloc, names, &name.name, Spot::Binding(x))
+            }
+            Statement::Var {
+                at,
+                name,
+                kind,
+                label,
+                value,
+            } => {
+                let here = Here {
+                    offset: at.start,
+                    block,
+                };
+                let x = self.lower(names.as_slice(), made, here, value)?;
+                let slot = slot_of_name(self.alloc, here, name, *kind, label)?;
+                let next = made.next();
+                let variable = made.add(slot, Stmt::NewVar(SlotId(next), SlotId(x)))?;
+                add(self.alloc, names, &name.name, Spot::Variable(variable))
+            }
+            Statement::Array {
+                at,
+                name,
+                kind,
+                length,
+                label,
+            } => {
+                let here = Here {
+                    offset: at.start,
+                    block,
+                };
+                let slot = slot_of_name(self.alloc, here, name, *kind, label)?;
+                let next = made.next();
+                let array = made.add(slot, Stmt::NewArray(SlotId(next), *length))?;
+                add(self.alloc, names, &name.name, Spot::Array(array))
+            }
+            Statement::Store { name, value } => {
+                let here = Here {
+                    offset: name.span.start,
+                    block,
+                };
+                let x = self.lower(names.as_slice(), made, here, value)?;
+                store(made, find(names.as_slice(), name.name.as_slice()), x)
+            }
+            Statement::Put { name, index, value } => {
+                let here = Here {
+                    offset: name.span.start,
+                    block,
+                };
+                let index = self.lower(names.as_slice(), made, here, index)?;
+                let x = self.lower(names.as_slice(), made, here, value)?;
+                put(made, find(names.as_slice(), name.name.as_slice()), index, x)
+            }
+            Statement::Output { at, value, host } => {
+                let here = Here {
+                    offset: at.start,
+                    block,
+                };
+                let x = self.lower(names.as_slice(), made, here, value)?;
+                let host = host_of(self.hosts, host)?;
+                made.push(Stmt::Output(SlotId(x), host, at.start))
+            }
+            Statement::If {
+                at,
+                guard,
+                then_block,
+                else_block,
+            } => {
+                let here = Here {
+                    offset: at.start,
+                    block,
+                };
+                let x = self.lower(names.as_slice(), made, here, guard)?;
+                let inner = made.begin_block()?;
+                let (then_body, else_body) = self.branches(
+                    names,
+                    made,
+                    inner,
+                    then_block.as_slice(),
+                    else_block.as_slice(),
+                )?;
+                made.push(Stmt::If(SlotId(x), then_body, else_body, at.start))?;
+                Ok(())
+            }
+            Statement::For {
+                at,
+                name,
+                count,
+                body,
+            } => {
+                let here = Here {
+                    offset: at.start,
+                    block,
+                };
+                let body = self.turn(names, made, here, name, body.as_slice())?;
+                made.push(Stmt::For(*count, body))
+            }
+        }
+    }
+
+    /// Makes the statements of both branches of an If, which are one block.
+    #[cycle(walk)]
+    fn branches(
+        &self,
+        names: &mut Vec<Visible>,
+        made: &mut Made,
+        block: u32,
+        then_block: &[Statement],
+        else_block: &[Statement],
+    ) -> Result<(Items<Stmt>, Items<Stmt>), AllocError>
+        ensures then_body { IfOk result (λ bodies. bodies.0 ≡ (inner_made (map (lowering_of (host_names self.now.hosts.now)) then_block.now) (inlinings_of (host_names self.now.hosts.now) self.now.functions.now) block (seen names.old.items) made.old).body) }
+        ensures else_body { IfOk result (λ bodies. bodies.1 ≡ (inner_made (map (lowering_of (host_names self.now.hosts.now)) else_block.now) (inlinings_of (host_names self.now.hosts.now) self.now.functions.now) block (seen names.old.items) (inner_made (map (lowering_of (host_names self.now.hosts.now)) then_block.now) (inlinings_of (host_names self.now.hosts.now) self.now.functions.now) block (seen names.old.items) made.old)).body) }
+        ensures made { OnOk result (made.new ≡ with_body made.old.body (inner_made (map (lowering_of (host_names self.now.hosts.now)) else_block.now) (inlinings_of (host_names self.now.hosts.now) self.now.functions.now) block (seen names.old.items) (inner_made (map (lowering_of (host_names self.now.hosts.now)) then_block.now) (inlinings_of (host_names self.now.hosts.now) self.now.functions.now) block (seen names.old.items) made.old))) }
+        ensures names { OnOk result (seen names.new.items ≡ seen names.old.items) }
+    {
+        let then_body = self.inner(names, made, block, then_block)?;
+        let else_body = self.inner(names, made, block, else_block)?;
+        Ok((then_body, else_body))
+    }
+
+    /// Makes the statements of an inner block, whose names end with it.
+    #[cycle(walk)]
+    fn inner(
+        &self,
+        names: &mut Vec<Visible>,
+        made: &mut Made,
+        block: u32,
+        body: &[Statement],
+    ) -> Result<Items<Stmt>, AllocError>
+        ensures body { IfOk result (λ stmts. stmts ≡ (inner_made (map (lowering_of (host_names self.now.hosts.now)) body.now) (inlinings_of (host_names self.now.hosts.now) self.now.functions.now) block (seen names.old.items) made.old).body) }
+        ensures made { OnOk result (made.new ≡ with_body made.old.body (inner_made (map (lowering_of (host_names self.now.hosts.now)) body.now) (inlinings_of (host_names self.now.hosts.now) self.now.functions.now) block (seen names.old.items) made.old)) }
+        ensures names { OnOk result (seen names.new.items ≡ seen names.old.items) }
+    {
+        let outer = made.set_aside(self.alloc);
+        let count = names.len();
+        self.sequence(names, made, block, body)?;
+        names.truncate(count);
+        Ok(made.take_back(outer))
+    }
+
+    /// Makes the statements of a loop's body, which begin with its name.
+    #[cycle(walk)]
+    fn turn(
+        &self,
+        names: &mut Vec<Visible>,
+        made: &mut Made,
+        here: Here,
+        name: &Ident,
+        body: &[Statement],
+    ) -> Result<Items<Stmt>, AllocError>
+        ensures body { IfOk result (λ stmts. stmts ≡ (loop_made name.now (map (lowering_of (host_names self.now.hosts.now)) body.now) (inlinings_of (host_names self.now.hosts.now) self.now.functions.now) here (seen names.old.items) made.old).body) }
+        ensures made { OnOk result (made.new ≡ with_body made.old.body (loop_made name.now (map (lowering_of (host_names self.now.hosts.now)) body.now) (inlinings_of (host_names self.now.hosts.now) self.now.functions.now) here (seen names.old.items) made.old)) }
+        ensures names { OnOk result (seen names.new.items ≡ seen names.old.items) }
+    {
+        let outer = made.set_aside(self.alloc);
+        let count = names.len();
+        let slot = slot_of_name(self.alloc, here, name, Kind::Word, &None)?;
+        let next = made.next();
+        let turn = made.add(slot, Stmt::Let(SlotId(next), Right::Turn))?;
+        add(self.alloc, names, &name.name, Spot::Binding(turn))?;
+        self.sequence(names, made, here.block, body)?;
+        names.truncate(count);
+        Ok(made.take_back(outer))
+    }
+}
+
+fn all_names(alloc: Global, idents: &[Ident]) -> Result<Names, AllocError>
+    ensures { IfOk result (λ names. names ≡ map (λ x. x.name) idents.now) }
+{
+    let mut names = Items::new(alloc);
+    for ident in idents {
+        let name = copy_name(alloc, &ident.name)?;
+        names.push(name)?;
+    }
+    Ok(names)
+}
+
+fn all_hosts(alloc: Global, hosts: &[Host]) -> Result<Names, AllocError>
+    ensures { IfOk result (λ names. names ≡ host_names hosts.now) }
+{
+    let mut names = Items::new(alloc);
+    for host in hosts {
+        let name = copy_name(alloc, &host.name.name)?;
+        names.push(name)?;
+    }
+    Ok(names)
+}
+
+fn all_labels(alloc: Global, hosts: &[Host]) -> Result<Items<Written>, AllocError>
+    ensures { IfOk result (λ labels. labels ≡ map (λ h. written h.label) hosts.now) }
+{
+    let mut labels = Items::new(alloc);
+    for host in hosts {
+        let label = copy_label(alloc, &host.label)?;
+        labels.push(label)?;
+    }
+    Ok(labels)
+}
+
+fn make_main(alloc: Global, source: &Source) -> Result<Made, AllocError>
+    ensures { IfOk result (λ made. made ≡ main_made source.now) }
+{
+    let scope = Scope {
+        alloc,
+        hosts: source.hosts.as_slice(),
+        functions: source.functions.as_slice(),
+    };
+    let mut made = Made::at_start(alloc);
+    let mut names = Vec::new(alloc);
+    scope.sequence(&mut names, &mut made, 0, source.main.as_slice())?;
+    Ok(made)
+}
+
+/// The let-normal form of a source, with every call inlined.
+///
+/// A resolved source makes far fewer slots than 16 bits can number. Were there more, they would be answered like want
+/// of memory.
+pub fn elaborate(alloc: Global, resolved: &Resolved) -> Result<Program, AllocError>
+    ensures form { IfOk result (λ program. program ≡ normal_form resolved.now) }
+    ensures outputs { IfOk result (λ program. (inputs : List (List ℕ)) → program_outputs program inputs ≡ source_outputs resolved.now inputs) }
+{
+    let form = make_form(alloc, resolved.source())?;
+    Ok(Program::new(form))
+}
+
+fn make_form(alloc: Global, source: &Source) -> Result<NormalForm, AllocError>
+    ensures { IfOk result (λ form. form ≡ normal_form source.now) }
+{
+    let principals = all_names(alloc, source.principals.as_slice())?;
+    let hosts = all_hosts(alloc, source.hosts.as_slice())?;
+    let labels = all_labels(alloc, source.hosts.as_slice())?;
+    let made = make_main(alloc, source)?;
+    let (slots, body) = made.into_parts();
+    Ok(NormalForm {
+        principals,
+        hosts,
+        labels,
+        slots,
+        body,
+    })
+}

@@ -1,0 +1,64 @@
+//! Laws of the let-normal form of a source. Nothing is computed.
+
+ghost use Rattle.vd_core.specs.Facts.{SlotsInOrder, SlotsMadeBefore, OperandsFit, ShiftsFit, TurnsInLoops, AreNames, HostsDeclared, PrincipalsDeclared, LabelForEachHost, WithinLimits, IsWellMade};
+ghost use Rattle.vd_core.specs.Named.{HasNames};
+ghost use Rattle.vd_normal.specs.Normal.{normal_form};
+ghost use Rattle.vd_resolve.specs.Limits.{IsResolved};
+
+use vd_core::source::Source;
+
+/// Each slot is made once, and they are numbered in program order. Holds of every tree.
+pub fn slots_are_in_order(_source: &Source)
+    ensures { SlotsInOrder (normal_form _source.now) }
+{}
+
+/// A slot that is named is made before, in the same list of statements or in one around it. Holds of every tree.
+pub fn slots_are_made_before(_source: &Source)
+    ensures { SlotsMadeBefore (normal_form _source.now) }
+{}
+
+/// Each operation has as many operands as it takes. Holds of every tree.
+pub fn operands_fit(_source: &Source)
+    ensures { OperandsFit (normal_form _source.now) }
+{}
+
+/// The number of a turn is asked for in a loop. Holds of every tree.
+pub fn turns_stand_in_loops(_source: &Source)
+    ensures { TurnsInLoops (normal_form _source.now) }
+{}
+
+/// There is one label for each host. Holds of every tree.
+pub fn each_host_has_a_label(_source: &Source)
+    ensures { LabelForEachHost (normal_form _source.now) }
+{}
+
+/// Shifts are by at most 31 bits.
+pub fn shifts_fit(_source: &Source)
+    ensures { IsResolved _source.now → ShiftsFit (normal_form _source.now) }
+{}
+
+/// The hosts of inputs and outputs are declared.
+pub fn hosts_are_declared(_source: &Source)
+    ensures { IsResolved _source.now → HostsDeclared (normal_form _source.now) }
+{}
+
+/// The principals in right sides and in labels are declared.
+pub fn principals_are_declared(_source: &Source)
+    ensures { IsResolved _source.now → PrincipalsDeclared (normal_form _source.now) }
+{}
+
+/// Principals and hosts have names, and no two of either have the same.
+pub fn names_are_distinct(_source: &Source)
+    ensures principals { IsResolved _source.now → HasNames _source.now → AreNames (normal_form _source.now).principals }
+    ensures hosts { IsResolved _source.now → HasNames _source.now → AreNames (normal_form _source.now).hosts }
+{}
+
+/// All that is counted is within its limit.
+pub fn limits_are_kept(_source: &Source)
+    ensures { IsResolved _source.now → HasNames _source.now → WithinLimits (normal_form _source.now) }
+{}
+
+/// All facts together.
+pub fn normal_form_is_well_made(_source: &Source)
+    ensures { IsResolved _source.now → HasNames _source.now → IsWellMade (normal_form _source.now) }
+{}

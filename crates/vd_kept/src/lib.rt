@@ -1,0 +1,4 @@
+//! What every let-normal form keeps.
+#![tactic(auto)]
+
+pub mod law;

@@ -1,0 +1,9 @@
+pub mod Firsts
+pub mod Formulas
+pub mod Parts
+pub mod Raising
+pub mod Free
+pub mod Once
+pub mod Somehow
+pub mod Decided
+pub mod Function

@@ -1,0 +1,123 @@
+ghost use Rattle.std.specs.Prelude.{◌≡◌, ◌++◌, if◌then◌else◌, codes, map, OnOk, IfOk};
+ghost use Rattle.vd_formula.specs.TruthTable.{has};
+ghost use Rattle.vd_report.specs.LabelLines.{all_behind, set_text, sets_text, formula_text, label_line, label_lines};
+
+use itoa::Buffer;
+use std::alloc::{AllocError, Global};
+use vd_base::{Bytes, Names};
+use vd_constraints::Labels;
+use vd_core::normal::{NormalForm, Slot};
+use vd_formula::{Formula, Label};
+
+/// One line for each slot: its number, its name and its label.
+pub fn labels_text(
+    alloc: Global,
+    program: &NormalForm,
+    labels: &Labels,
+) -> Result<Bytes, AllocError>
+    ensures { IfOk result (λ text. text ≡ label_lines program.now.principals 0 program.now.slots labels.now.slots) }
+{
+    let mut text = Bytes::new(alloc);
+    let pairs = program.slots.iter().zip(labels.slots.iter());
+    for (number, (slot, label)) in pairs.enumerate() {
+        push_label_line(
+            alloc,
+            &mut text,
+            &program.principals,
+            number as u64,
+            slot,
+            label,
+        )?;
+    }
+    Ok(text)
+}
+
+fn push_label_line(
+    alloc: Global,
+    text: &mut Bytes,
+    principals: &Names,
+    number: u64,
+    slot: &Slot,
+    label: &Label,
+) -> Result<(), AllocError>
+    ensures { OnOk result (text.new ≡ text.old ++ label_line principals.now number slot.now label.now) }
+{
+    text.extend_from_slice(Buffer::new().format(number).as_bytes())?;
+    text.extend_from_slice(b" ")?;
+    text.extend_from_slice(slot.name.as_slice())?;
+    text.extend_from_slice(b" {")?;
+    push_formula(alloc, text, principals, &label.conf)?;
+    text.extend_from_slice(b" ; ")?;
+    push_formula(alloc, text, principals, &label.integ)?;
+    text.extend_from_slice(b"}\n")
+}
+
+fn push_formula(
+    alloc: Global,
+    text: &mut Bytes,
+    principals: &Names,
+    formula: &Formula,
+) -> Result<(), AllocError>
+    ensures { OnOk result (text.new ≡ text.old ++ formula_text principals.now formula.now) }
+{
+    if formula.at(0) {
+        text.extend_from_slice(b"any")
+    } else {
+        let sets = formula.minimal_sets(alloc)?;
+        push_sets(text, principals, sets.as_slice())
+    }
+}
+
+fn push_sets(text: &mut Bytes, principals: &Names, sets: &[u8]) -> Result<(), AllocError>
+    ensures { OnOk result (text.new ≡ text.old ++ sets_text principals.now sets.now) }
+{
+    match sets.split_first() {
+        None => text.extend_from_slice(b"none"),
+        Some((first, others)) => {
+            push_set(text, principals, *first)?;
+            push_more_sets(text, principals, others)
+        }
+    }
+}
+
+/// Further sets, each behind its separator.
+fn push_more_sets(text: &mut Bytes, principals: &Names, sets: &[u8]) -> Result<(), AllocError>
+    ensures { OnOk result (text.new ≡ text.old ++ all_behind (codes " | ") (map (set_text principals.now) sets.now)) }
+{
+    for set in sets {
+        text.extend_from_slice(b" | ")?;
+        push_set(text, principals, *set)?;
+    }
+    Ok(())
+}
+
+/// The names in a set.
+fn push_set(text: &mut Bytes, principals: &Names, set: u8) -> Result<(), AllocError>
+    ensures { OnOk result (text.new ≡ text.old ++ set_text principals.now set) }
+{
+    let names = principals.as_slice();
+    let mut is_first = true;
+    for place in 0..names.len() {
+        if is_member(set, place) {
+            push_member(text, names[place].as_slice(), is_first)?;
+            is_first = false;
+        }
+    }
+    Ok(())
+}
+
+/// A name in a set, behind its separator where it is not the first.
+fn push_member(text: &mut Bytes, name: &[u8], is_first: bool) -> Result<(), AllocError>
+    ensures { OnOk result (text.new ≡ text.old ++ (if is_first then name.now else codes " & " ++ name.now)) }
+{
+    if !is_first {
+        text.extend_from_slice(b" & ")?;
+    }
+    text.extend_from_slice(name)
+}
+
+fn is_member(set: u8, place: usize) -> bool
+    ensures { result ≡ has set place }
+{
+    place < 8 && set >> place & 1 == 1
+}

@@ -1,0 +1,4 @@
+pub mod Raising
+pub mod Reading
+pub mod Visits
+pub mod Faults

@@ -1,0 +1,10 @@
+//! The least labelling of a system.
+#![tactic(auto)]
+
+mod checking;
+mod raising;
+mod readers;
+mod solving;
+mod waiting;
+
+pub use solving::{SolveFault, solve};
