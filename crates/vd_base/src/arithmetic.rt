@@ -1,27 +1,9 @@
 //! The operations on words, computed.
 
-ghost use Rattle.std.specs.Prelude.{◌≡◌, ◌*◌, ◌/◌, ◌%◌, ◌^◌, slice_index};
-ghost use Rattle.vd_base.specs.Operations.{operation, result_of};
+ghost use Rattle.std.specs.Prelude.{◌≡◌, ◌*◌, ◌/◌, ◌%◌, ◌^◌};
+ghost use Rattle.vd_base.specs.Operations.{operation};
 
 use crate::Op;
-
-/// The word that an operation gives of its operands. One that is missing counts as 0.
-pub fn apply(op: Op, operands: &[u32]) -> u32
-    ensures { result ≡ result_of op operands.now }
-{
-    combine(
-        op,
-        operand(operands, 0),
-        operand(operands, 1),
-        operand(operands, 2),
-    )
-}
-
-fn operand(operands: &[u32], at: usize) -> u32
-    ensures { result ≡ slice_index operands.now at }
-{
-    operands.get(at).copied().unwrap_or(0)
-}
 
 /// The word that an operation gives of these operands; it looks at no more of them than it takes.
 pub fn combine(op: Op, x: u32, y: u32, z: u32) -> u32
@@ -94,8 +76,8 @@ mod tests {
             (Op::Mux, [1, 8, 9], 8),
             (Op::Mux, [2, 8, 9], 9),
         ];
-        for (op, operands, word) in rows {
-            assert_eq!(rt; apply(op, operands.as_slice()), word);
+        for (op, [x, y, z], word) in rows {
+            assert_eq!(rt; combine(op, x, y, z), word);
         }
     }
 }

@@ -11,6 +11,7 @@ pub fn is_space(byte: u8) -> bool
     matches!(byte, b' ' | b'\t' | b'\r' | b'\n')
 }
 
+/// A decimal digit.
 pub fn is_digit(byte: u8) -> bool
     ensures { result ≡ lexical.is_digit byte }
 {
@@ -75,6 +76,7 @@ const KEYWORDS: [&[u8]; 26] = [
     b"array",
 ];
 
+/// Whether the word is a keyword.
 pub fn is_keyword(word: &[u8]) -> bool
     ensures { result ≡ lexical.is_keyword word.now }
 {

@@ -30,7 +30,8 @@ pub const INPUT_WORDS: u32 = 65_536;
 /// Bytes of an inputs file.
 pub const INPUTS_BYTES: u32 = 4_194_304;
 
-/// Bytes of a schedule file, and its entries.
+/// Bytes of a schedule file.
 pub const SCHEDULE_BYTES: u32 = 16_777_216;
 
+/// Entries of a schedule file.
 pub const SCHEDULE_ENTRIES: u32 = 1_048_576;

@@ -5,7 +5,7 @@ use crate::{HostId, Op};
 pub enum Row {
     /// A number, or the number of a loop's turn.
     Constant,
-    /// A value that is handed on: copied, loaded, declassified or endorsed.
+    /// A value that is handed on: copied, loaded, read from an array, declassified or endorsed.
     Carry,
     /// The next input word of a host.
     Input(HostId),

@@ -28,6 +28,7 @@ impl Text {
         Ok(Text { text })
     }
 
+    /// The text itself.
     pub fn as_str(&self) -> &str
         ensures { result.now ≡ self.now }
     {
@@ -51,6 +52,7 @@ impl Model for Texts {
 }
 
 impl Texts {
+    /// The empty list.
     pub fn new(alloc: Global) -> Texts
         ensures { result ≡ [] }
     {
@@ -69,6 +71,7 @@ impl Texts {
         self.texts.push(copy)
     }
 
+    /// The texts in order.
     pub fn as_slice(&self) -> &[Text]
         ensures { result.now ≡ self.now }
     {

@@ -1,5 +1,5 @@
 -- What a labelling gives to the places, parts and bounds of its system is over the principals.
-use Rattle.std.proofs.Common.{ℕ, ◌<◌, Bool, true, false, length, sym, ◌∙◌, subst}
+use Rattle.std.proofs.Common.{◌≡◌, ℕ, ◌<◌, Bool, true, false, length, sym, ◌∙◌, subst}
 use Rattle.vd_formula.specs.TruthTable.{TruthTable, either_of, implies_of}
 use Rattle.vd_formula.specs.declared.label.Label.{Label}
 use Rattle.vd_formula.proofs.Tables.{is_formula-either}
@@ -9,9 +9,11 @@ use Rattle.vd_constraints.specs.declared.system.Place.TheVariants.{Slot, Block}
 use Rattle.vd_constraints.specs.declared.system.Part.{Part}
 use Rattle.vd_constraints.specs.declared.system.Bound.{Bound}
 use Rattle.vd_constraints.specs.declared.system.Bound.TheVariants.{Constant, Same, Given, Or}
+use Rattle.vd_constraints.specs.declared.system.Lower.{Lower}
+use Rattle.vd_constraints.specs.declared.system.Check.{Check}
 use Rattle.vd_constraints.specs.declared.labels.Labels.{Labels}
-use Rattle.vd_constraints.specs.Systems.{Constraints, IsOver, IsLabelOver, IsPlaceOf, IsPartOf, IsBoundOf}
-use Rattle.vd_constraints.specs.Satisfies.{no_label, label_at, part_of, formula_at, bound_at, IsLabelling}
+use Rattle.vd_constraints.specs.Systems.{Constraints, IsOver, IsLabelOver, IsPlaceOf, IsPartOf, IsBoundOf, IsRuleOf, IsCheckOf}
+use Rattle.vd_constraints.specs.Satisfies.{no_label, label_at, part_of, formula_at, bound_at, IsBoundOver, IsLabelling}
 
 over-part_of : (n : ℕ) (label : Label) → IsLabelOver n label → (integ : Bool) → IsOver n (part_of label integ)
 over-part_of n label is false = is.conf
@@ -38,3 +40,19 @@ module _ (s : Constraints) (l : Labels) (labelling : IsLabelling s l) where
   over-bound (Same part) is = over-part part is
   over-bound (Given f part) is = over-implies (length s.principals) f (formula_at l part) is.0 (over-part part is.1)
   over-bound (Or f part) is = over-either (length s.principals) f (formula_at l part) is.0 (over-part part is.1)
+
+  -- ---- the formulas of a rule, and of a check, are over the same names
+  names-part : (part : Part) → IsPartOf s part → length s.principals ≡ (formula_at l part).names
+  names-part part low = sym (over-part part low).over
+
+  names-bound : (bound : Bound) → IsBoundOf s bound → IsBoundOver (length s.principals) l bound
+  names-bound (Constant f) over = sym over.over
+  names-bound (Same part) low = names-part part low
+  names-bound (Given f part) (over, low) = (sym over.over, names-part part low)
+  names-bound (Or f part) (over, low) = (sym over.over, names-part part low)
+
+  pub names-rule : (rule : Lower) → IsRuleOf s rule → IsBoundOver (formula_at l rule.part).names l rule.bound
+  names-rule rule valid = subst (λ n. IsBoundOver n l rule.bound) (names-part rule.part valid.part) (names-bound rule.bound valid.bound)
+
+  pub names-check : (check : Check) → IsCheckOf s check → check.constant.names ≡ (formula_at l check.part).names
+  names-check check valid = valid.constant.over ∙ names-part check.part valid.part

@@ -3,4 +3,5 @@ pub mod Fits
 pub mod Sizes
 pub mod Walks
 pub mod Labellings
+pub mod Firsts
 pub mod InSight

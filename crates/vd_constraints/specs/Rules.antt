@@ -63,15 +63,15 @@ offset_of p x = option_map_or (λ slot. slot.offset) (slice_get p.slots x.0) 0
 abbrev pub written_at : NormalForm → SlotId → Option Label
 written_at p x = option_and_then (λ slot. option_map (label p) slot.label) (slice_get p.slots x.0)
 
--- what is taken from a host at x may be read by whom the host lets read, and is trusted as the host is;
--- the host is told whether it is asked
+-- what comes from a host: its slot is as secret as the host and trusted no more;
+-- the host learns that it is asked, and the block is trusted as the host is
 abbrev pub input_rules : Label → Place → Place → List Lower
 input_rules host pc x = rule (conf x) (Constant host.conf) ∷ rule (integ pc) (Constant host.integ) ∷ []
 
 abbrev pub input_checks : Label → Place → Place → ℕ → List Check
 input_checks host pc x offset = check host.integ (integ x) offset ∷ check host.conf (conf pc) offset ∷ []
 
--- x is y for more readers: those that y is kept from have to be able to trust that this is done, and what is read so
+-- the new confidentiality; y, and the block, must be trusted by all who could not read y before
 abbrev pub declassify_rules : TruthTable → Place → Place → Place → List Lower
 declassify_rules to pc x y =
     rule (conf x) (Constant to)
@@ -82,7 +82,7 @@ declassify_rules to pc x y =
     ∷ rule (integ pc) (Given to (conf y))
     ∷ []
 
--- x is y with more trust: whoever wrote y could have read it, or was trusted so far
+-- the new integrity; those who answered for y may read it, or are among the new ones
 abbrev pub endorse_rules : TruthTable → Place → Place → Place → List Lower
 endorse_rules to pc x y =
     rule (conf x) (Same (conf y))

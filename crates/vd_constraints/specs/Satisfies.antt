@@ -33,6 +33,13 @@ bound_at l (Same part) = formula_at l part
 bound_at l (Given f part) = implies_of f (formula_at l part)
 bound_at l (Or f part) = either_of f (formula_at l part)
 
+-- the formulas of a bound are over so many names
+abbrev pub IsBoundOver : ℕ → Labels → Bound → Type 0
+IsBoundOver names l (Constant f) = names ≡ f.names
+IsBoundOver names l (Same part) = names ≡ (formula_at l part).names
+IsBoundOver names l (Given f part) = (names ≡ f.names) × (names ≡ (formula_at l part).names)
+IsBoundOver names l (Or f part) = (names ≡ f.names) × (names ≡ (formula_at l part).names)
+
 -- the part acts for the bound
 abbrev pub HoldsRule : Labels → Lower → Type 0
 HoldsRule l rule = ActsFor (formula_at l rule.part) (bound_at l rule.bound)

@@ -2,13 +2,10 @@
 #![tactic(auto)]
 
 mod labels;
-pub mod law;
 mod rules;
-mod scoped;
 mod steps;
 mod system;
 
 pub use labels::Labels;
-pub use rules::{constraints, constraints_of};
-pub use scoped::is_scoped;
+pub use rules::constraints;
 pub use system::{Bound, Check, Lower, Part, Place, System};

@@ -24,7 +24,10 @@ pub fn constraints(alloc: Global, program: &Program) -> Result<System, AllocErro
 }
 
 /// The rules and checks of a let-normal form, in program order.
-pub fn constraints_of(alloc: Global, form: &NormalForm) -> Result<System, AllocError>
+///
+/// A well-made form has at most 512 statements, each with at most one slot, one block, eight rules and four checks, so
+/// its counts never meet the bounds at which want of memory is answered.
+fn constraints_of(alloc: Global, form: &NormalForm) -> Result<System, AllocError>
     requires { IsScoped form.now }
     ensures { IfOk result (λ system. system ≡ system_of form.now) }
 {

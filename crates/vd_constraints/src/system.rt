@@ -26,12 +26,14 @@ pub struct Part {
 }
 
 impl Part {
+    /// The confidentiality of the label at a place.
     pub fn conf(at: Place) -> Part
         ensures { result ≡ conf at }
     {
         Part { at, integ: false }
     }
 
+    /// The integrity of the label at a place.
     pub fn integ(at: Place) -> Part
         ensures { result ≡ integ at }
     {
@@ -58,6 +60,7 @@ pub struct Lower {
 }
 
 impl Lower {
+    /// The rule that a part acts for a bound.
     pub fn new(part: Part, bound: Bound) -> Lower
         ensures { result ≡ rule part bound }
     {
@@ -74,6 +77,7 @@ pub struct Check {
 }
 
 impl Check {
+    /// The check that a constant acts for a part, of the statement at an offset.
     pub fn new(constant: Formula, part: Part, offset: u32) -> Check
         ensures { result ≡ check constant part offset }
     {
@@ -201,5 +205,5 @@ impl System {
     }
 }
 
-/// The largest number of rules, and of checks.
+/// The largest number of rules, and of checks. A program of 512 statements never reaches it.
 const MAX_COUNT: usize = 4_294_967_295;

@@ -5,3 +5,5 @@ pub mod named;
 pub mod normal;
 pub mod program;
 pub mod source;
+#[cfg(test)]
+mod tests;

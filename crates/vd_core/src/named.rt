@@ -1,6 +1,6 @@
 //! Whether a source has names.
 
-ghost use Rattle.std.specs.Prelude.{IsTrue};
+ghost use Rattle.std.specs.Prelude.{◌↔◌, IsTrue};
 ghost use Rattle.vd_core.specs.Named.{HasNames};
 
 use crate::source::Source;
@@ -9,8 +9,7 @@ use vd_base::lexical::is_name;
 /// Whether the principals and the hosts have names, and there is at least one of each, as in every source that was read
 /// from a text.
 pub fn has_names(source: &Source) -> bool
-    ensures has { IsTrue result → HasNames source.now }
-    ensures all { HasNames source.now → IsTrue result }
+    ensures { IsTrue result ↔ HasNames source.now }
 {
     !source.principals.is_empty()
         && !source.hosts.is_empty()

@@ -2,10 +2,9 @@
 #![tactic(auto)]
 
 ghost use Rattle.std.specs.Prelude.{◌≡◌, ◌↔◌, All, IfErr, IsOk, IsTrue};
-ghost use Rattle.vd_constraints.specs.Satisfies.{HoldsCheck, HoldsRule, IsLabelling, Satisfies, formula_at};
+ghost use Rattle.vd_constraints.specs.Satisfies.{HoldsCheck, HoldsRule, IsBoundOver, IsLabelling, Satisfies, formula_at};
 ghost use Rattle.vd_constraints.specs.Systems.{IsLabelOver};
 ghost use Rattle.vd_flow.specs.Faults.{IsFaultOf};
-ghost use Rattle.vd_flow.specs.Names.{IsBoundOver};
 
 use vd_constraints::{Bound, Check, Labels, Lower, System};
 use vd_formula::Label;

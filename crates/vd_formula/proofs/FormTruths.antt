@@ -1,4 +1,4 @@
--- The steps of the loops over the parts of a written form, whose names need not be known.
+-- The steps of the loops over the parts of a written form.
 use Rattle.std.proofs.Common.{◌≡◌, ℕ, ◌+◌, ◌<◌, ◌≤◌, Bool, false, None, List, length, get_or, take, map, refl, sym, ap, ◌∙◌}
 use Rattle.std.specs.List.{list_any, list_all}
 use Rattle.std.specs.Prelude.{position}
@@ -6,19 +6,14 @@ use Rattle.std.specs.Option.{option_map_or}
 use Rattle.std.specs.Str.{bytes_eq}
 use Rattle.std.proofs.lemmas.List.{take_all, get_or-map}
 use Rattle.std.proofs.Math.ListN.{length-map}
-use Rattle.std.proofs.Common.{rules}
 use Rattle.vd_base.specs.declared.form.Form.{Form}
 use Rattle.vd_base.specs.declared.form.Form.TheVariants as form
-use Rattle.vd_base.specs.declared.form.Form.TheFolds.{the_lemmas}
-use Rattle.vd_formula.specs.Forms.{truth, formula_of, has_name}
+use Rattle.vd_formula.specs.Forms.{truth, formula_of}
 use Rattle.vd_formula.specs.TruthTable.{has, TruthTable, formula_where, IsFormula, both_of, either_of, any_of, never_of}
 use Rattle.vd_formula.proofs.Tables.{is_formula-any, is_formula-never, is_formula-both, is_formula-either}
-use Rattle.vd_formula.proofs.FormSteps.{both_more, either_more}
+use Rattle.vd_formula.proofs.FormSteps.{both_more, either_more, truth-name, truth-both, truth-either}
 
 -- a name that is not among the names is in no set
-truth-name : (name : List ℕ) → truth (form.Name name) ≡ (λ names set. has_name names name set)
-truth-name name = search (rules, the_lemmas)
-
 pub formula_of-unknown : (names : List (List ℕ)) (name : List ℕ) → position (bytes_eq name) names ≡ None → never_of (length names) ≡ formula_of (form.Name name) names
 unfolding never_of formula_of
 formula_of-unknown names name at_no_place =
@@ -61,20 +56,14 @@ module _ (names : List (List ℕ)) (parts : List Form) (i : ℕ) (f : TruthTable
   }
 
 module _ (names : List (List ℕ)) (parts : List Form) (i : ℕ) (f : TruthTable) (high : length parts ≤ i) where
-  truth-both : truth (form.Both parts) ≡ (λ names set. list_all (λ part. part names set) (map truth parts))
-  truth-both = search (rules, the_lemmas)
-
-  truth-either : truth (form.Either parts) ≡ (λ names set. list_any (λ part. part names set) (map truth parts))
-  truth-either = search (rules, the_lemmas)
-
   pub both_last : Joined list_all names parts i f → f ≡ formula_of (form.Both parts) names
   unfolding formula_of
   both_last joined =
       joined.formula_is ∙ ap (λ ts. formula_where (length names) (λ set. list_all (λ part. part names set) ts)) (take_all i (map truth parts) (simp length-map high))
-      ∙ ap (λ t. formula_where (length names) (t names)) (sym truth-both)
+      ∙ ap (λ t. formula_where (length names) (t names)) (sym (truth-both parts))
 
   pub either_last : Joined list_any names parts i f → f ≡ formula_of (form.Either parts) names
   unfolding formula_of
   either_last joined =
       joined.formula_is ∙ ap (λ ts. formula_where (length names) (λ set. list_any (λ part. part names set) ts)) (take_all i (map truth parts) (simp length-map high))
-      ∙ ap (λ t. formula_where (length names) (t names)) (sym truth-either)
+      ∙ ap (λ t. formula_where (length names) (t names)) (sym (truth-either parts))

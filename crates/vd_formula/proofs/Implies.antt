@@ -36,11 +36,11 @@ implication true true = refl
 implication true false = refl
 implication false b = refl
 
-if_so : (a b : Bool) → (not a || b) ≡ true → a ≡ true → b ≡ true
+pub if_so : (a b : Bool) → (not a || b) ≡ true → a ≡ true → b ≡ true
 if_so true b h _ = h
 if_so false b h e = absurd (true≢false (sym e))
 
-then_so : (a b : Bool) → (a ≡ true → b ≡ true) → (not a || b) ≡ true
+pub then_so : (a b : Bool) → (a ≡ true → b ≡ true) → (not a || b) ≡ true
 then_so true b h = h refl
 then_so false b h = refl
 
@@ -160,8 +160,8 @@ module _ (f g : TruthTable) (is_f : IsFormula f) (is_g : IsFormula g) (names : f
       above set h = subst (λ n. set < 2 ^ n) (sym same) h
 
   -- two formulas that act for each other are equal
-  pub equal_if_both : ActsFor f g → ActsFor g f → f ≡ g
-  equal_if_both there back = same_truths f g is_f is_g names (λ set h. same_tests _ _ (there set h) (back set (subst (λ n. set < 2 ^ n) names h)))
+  pub antisymmetric : ActsFor f g → ActsFor g f → f ≡ g
+  antisymmetric there back = same_truths f g is_f is_g names (λ set h. same_tests _ _ (there set h) (back set (subst (λ n. set < 2 ^ n) names h)))
 
 -- ---- a name
 pub name_is : (place n : ℕ) → n ≤ 6 → (word : ℕ) → ((set : ℕ) → set < 64 → has word set ≡ has set place) → table n (bit_and (2 ^ (2 ^ n) - 1) word) ≡ name_of place n

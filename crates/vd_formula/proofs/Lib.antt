@@ -2,6 +2,8 @@ pub mod Words
 pub mod Tables
 pub mod Closure
 pub mod Implies
+pub mod Acting
 pub mod FormSteps
 pub mod FormTruths
+pub mod FormNames
 pub mod Antichains

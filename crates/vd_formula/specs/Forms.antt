@@ -1,8 +1,9 @@
 -- What a written form means over a list of names.
-use Rattle.std.specs.Prelude.{ℕ, Bool, true, false, Option, List, [], ◌∷◌, length, position}
+use Rattle.std.specs.Prelude.{ℕ, Bool, true, false, not, Option, List, [], ◌∷◌, length, position}
 use Rattle.std.specs.List.{find, list_any, list_all, flat_map}
-use Rattle.std.specs.Option.{is_none, option_map_or}
+use Rattle.std.specs.Option.{option_map_or}
 use Rattle.std.specs.Str.{bytes_eq}
+use Rattle.vd_base.specs.Names.{is_among}
 use Rattle.vd_base.specs.declared.form.Form.{Form}
 use Rattle.vd_base.specs.declared.form.Form.TheOpen.{Form-F}
 use Rattle.vd_base.specs.declared.form.Form.TheFolds.{fold-Form}
@@ -38,9 +39,9 @@ names_step (Form-F.Either parts) = flat_map (λ names. names) parts
 abbrev pub names_in : Form → List (List ℕ)
 names_in = fold-Form (List (List ℕ)) names_step
 
--- the name has no place among the names
+-- the name is none of the names
 abbrev pub is_unknown : List (List ℕ) → List ℕ → Bool
-is_unknown names name = is_none (position (bytes_eq name) names)
+is_unknown names name = not (is_among names name)
 
 -- its first name that is not among these
 abbrev pub first_unknown : List (List ℕ) → Form → Option (List ℕ)

@@ -54,7 +54,7 @@ unfoldable pub either_of : TruthTable → TruthTable → TruthTable
 either_of f g = formula_where f.names (λ set. at f set || at g set)
 
 -- The weakest formula whose conjunction with f acts for g: true at the sets
--- such that g is true at every larger set at which f is true.
+-- such that g is true at every set that contains it, itself included, at which f is true.
 unfoldable pub implies_of : TruthTable → TruthTable → TruthTable
 implies_of f g = formula_where f.names (λ set. list_all (λ larger. not (is_subset set larger && at f larger) || at g larger) (sets f.names))
 

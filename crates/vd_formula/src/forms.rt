@@ -1,7 +1,9 @@
 ghost use Rattle.std.specs.Prelude.{◌≡◌, ◌≤◌, IfOk, IfErr, None, OnOk, length, position};
+ghost use Rattle.std.specs.List.{list_any};
+ghost use Rattle.std.specs.Option.{option_copied};
 ghost use Rattle.std.specs.Str.{bytes_eq};
 ghost use Rattle.vd_formula.specs.Faults.{IsFaultOf};
-ghost use Rattle.vd_formula.specs.Forms.{first_unknown, formula_of};
+ghost use Rattle.vd_formula.specs.Forms.{first_unknown, formula_of, is_unknown};
 ghost use Rattle.vd_formula.specs.TruthTable.{IsFormula};
 ghost use Rattle.vd_formula.specs.declared.forms.FormFault.TheVariants as form_fault;
 
@@ -36,28 +38,9 @@ impl Formula {
         ensures known { OnOk result (first_unknown names.now form.now ≡ None) }
         ensures fault { IfErr result (IsFaultOf names.now form.now) }
     {
-        let count = names.as_slice().len() as u8;
-        match form {
-            Form::Any => Ok(Formula::any(count)),
-            Form::Never => Ok(Formula::never(count)),
-            Form::Name(name) => match place_of(name, names) {
-                Some(place) => Ok(Formula::name(place as u8, count)),
-                None => Err(FormFault::NoName(Items::from_slice(alloc, name.as_slice())?)),
-            },
-            Form::Both(parts) => {
-                let mut formula = Formula::any(count);
-                for part in parts.iter() {
-                    formula = formula.both(&Formula::of(alloc, part, names)?);
-                }
-                Ok(formula)
-            }
-            Form::Either(parts) => {
-                let mut formula = Formula::never(count);
-                for part in parts.iter() {
-                    formula = formula.either(&Formula::of(alloc, part, names)?);
-                }
-                Ok(formula)
-            }
+        match first_unknown(form, names) {
+            None => Ok(Formula::over(form, names)),
+            Some(name) => Err(FormFault::NoName(Items::from_slice(alloc, name.as_slice())?)),
         }
     }
 
@@ -92,6 +75,42 @@ impl Formula {
             }
         }
     }
+}
+
+/// The form's first name, in the order of the text, that is not among the names.
+#[tactic(auto, using(crate::proofs::FormNames::no_part, crate::proofs::FormNames::unknown_both, crate::proofs::FormNames::unknown_either))]
+fn first_unknown<'a>(form: &'a Form, names: &Names) -> Option<&'a Name>
+    ensures { option_copied result ≡ first_unknown names.now form.now }
+{
+    match form {
+        Form::Any | Form::Never => None,
+        Form::Name(name) => if is_unknown(name, names) {
+            Some(name)
+        } else {
+            None
+        },
+        Form::Both(parts) | Form::Either(parts) => {
+            for part in parts.as_slice() {
+                if let Some(name) = first_unknown(part, names) {
+                    return Some(name);
+                }
+            }
+            None
+        }
+    }
+}
+
+/// Whether the name is none of these.
+fn is_unknown(name: &Name, names: &Names) -> bool
+    ensures { result ≡ is_unknown names.now name.now }
+{
+    !contains(names, name)
+}
+
+fn contains(names: &Names, name: &Name) -> bool
+    ensures { result ≡ list_any (λ other. bytes_eq other name.now) names.now }
+{
+    names.iter().any(|other| *other == *name)
 }
 
 /// The place of a name among the names, the first if it stands there twice.

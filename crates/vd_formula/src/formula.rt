@@ -3,9 +3,6 @@ ghost use Rattle.vd_formula.specs.TruthTable.{ActsFor, IsFormula, IsWeakestWith,
 
 use std::marker::Model;
 
-/// The largest number of names of a formula.
-pub const MAX_NAMES: u8 = 6;
-
 /// A monotone formula over at most 6 names: where it is true at a set of names, it is true at each larger one.
 ///
 /// A set of names has the number whose bit `i` stands for name number `i`.
@@ -16,6 +13,9 @@ pub struct Formula {
     names: u8,
 }
 
+/// Contracts see a formula as its number of names and its word of truths. No bit from 2 ^ names on is 1, and what is
+/// true at a set is true at all larger sets. So two formulas over as many names that are true at the same sets are
+/// equal (clause `antisymmetric` of `acts_for`).
 impl Model for Formula {
     ghost use Rattle.vd_formula.specs.TruthTable.{IsFormula, TruthTable};
 
@@ -107,7 +107,7 @@ impl Formula {
     pub fn acts_for(&self, other: &Formula) -> bool
         requires { self.now.names ≡ other.now.names }
         ensures acts_for { IsTrue result ↔ ActsFor self.now other.now }
-        ensures equal_if_both { ActsFor self.now other.now → ActsFor other.now self.now → self.now ≡ other.now }
+        ensures antisymmetric { ActsFor self.now other.now → ActsFor other.now self.now → self.now ≡ other.now }
     {
         self.truths & !other.truths == 0
     }

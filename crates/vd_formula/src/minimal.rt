@@ -21,7 +21,7 @@ impl Formula {
     }
 
     /// Whether the formula is true at the set and at none of its proper subsets.
-    pub fn is_minimal(&self, set: u8) -> bool
+    fn is_minimal(&self, set: u8) -> bool
         requires { set < 2 ^ self.now.names }
         ensures { result ≡ is_minimal self.now set }
     {

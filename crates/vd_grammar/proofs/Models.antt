@@ -30,7 +30,7 @@ module _ (S : Type 0) (rule : S → Ebnf S) (F E : S → List ℕ) (tables : Tab
   pub derives_head : {e : Ebnf S} {us rest : List ℕ} → Derives S rule e us rest → ((nullable e ≡ true) × (us ≡ rest)) ⊎ Headed (first F e) us
   derives_head (d-tok {c = c} {ts = ts}) = inr (has_itself c)
   derives_head (d-sym {s = s} {ts = ts} g) = elim (derives_head g) [
-    | inl x ↦ absurd (true≢false (sym x.0 ∙ tables.some s))
+    | inl x ↦ absurd (true≢false (sym x.0 ∙ tables.nonempty s))
     | inr x ↦ inr (subst (λ fs. Headed fs ts) (tables.firsts s) x)
   ]
   derives_head d-eps = inl (refl, refl)

@@ -31,7 +31,7 @@ module _ (S T : Type 0) (rule : S → Ebnf S) (kind : T → ℕ) where
     makes_head : {e : Ebnf S} {ts rest : List T} {x : Tree T} → Makes S T rule kind e ts rest x → Empties e ts rest ⊎ Headed (first F e) (map kind ts)
     makes_head (m-tok {c = c} {t = t} e) = inr (subst (λ k. has k (c ∷ []) ≡ true) (sym e) (has_itself c))
     makes_head (m-sym {s = s} {ts = ts} g) = elim (makes_head g) [
-      | inl x ↦ absurd (true≢false (sym x.0 ∙ tables.some s))
+      | inl x ↦ absurd (true≢false (sym x.0 ∙ tables.nonempty s))
       | inr x ↦ inr (subst (λ fs. Headed fs (map kind ts)) (tables.firsts s) x)
     ]
     makes_head m-eps = inl (refl, refl)

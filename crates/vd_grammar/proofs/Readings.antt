@@ -84,7 +84,7 @@ module _ (S : Type 0) (rule : S → Ebnf S) (F E : S → List ℕ) (n : ℕ) (ll
           choose_true (has t (F s)) _ _ _ c o.1
           ∙ sym (choose_true (has t (first F (rule s))) _ _ _ (subst (λ fs. has t fs ≡ true) (sym (ll1.tables.firsts s)) c) (enter_mono S rule F t n s ks o.0 o.1)))
       | inr c ↦ choose_false (has t (F s)) _ _ _ c refl
-          ∙ sym (step_wrong (rule s) (subst (λ fs. has t fs ≡ false) (sym (ll1.tables.firsts s)) c) (ll1.tables.some s))
+          ∙ sym (step_wrong (rule s) (subst (λ fs. has t fs ≡ false) (sym (ll1.tables.firsts s)) c) (ll1.tables.nonempty s))
     ]
 
 module _ {S T : Type 0} (g : Grammar S T) (E : S → List ℕ) (ll1 : IsLL1 S g.rule g.firsts E g.bound) where

@@ -1,7 +1,7 @@
 -- Grammars in extended Backus-Naur form, and their texts. Tokens are seen by their kinds, which are numbers.
 use Rattle.std.specs.Prelude.{ℕ, List, [], ◌∷◌, ◌⊎◌}
 
--- A d-right side: a token of a kind, another symbol, nothing, one part after another, one of two, any number.
+-- A right side: a token of a kind, another symbol, nothing, one part after another, one of two, any number.
 pub data Ebnf (S : Type 0) : Type 0 where
   Tok : ℕ → Ebnf S
   Sym : S → Ebnf S

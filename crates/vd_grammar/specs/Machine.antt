@@ -39,7 +39,7 @@ follow_last F E (Seq a b) = follow_last F E b ++ (elim (nullable b) [ true ↦ f
 follow_last F E (Alt a b) = (follow_last F E a ++ follow_last F E b) ++ ((elim (nullable a) [ true ↦ first F b | false ↦ [] ]) ++ (elim (nullable b) [ true ↦ first F a | false ↦ [] ]))
 follow_last F E (Star a) = first F a ++ follow_last F E a
 
--- one token ll1 each choice
+-- one token decides each choice
 abbrev pub is_ll1 : {S : Type 0} → (S → List ℕ) → (S → List ℕ) → Ebnf S → Bool
 is_ll1 F E (Tok c) = true
 is_ll1 F E (Sym s) = true
@@ -95,7 +95,7 @@ run rule F n ks (t ∷ ts) = go_on (t ∷ ts) (step rule F n t ks) (λ next. run
 pub record Tables (S : Type 0) (rule : S → Ebnf S) (F E : S → List ℕ) : Type 0 where
   pub firsts : (s : S) → first F (rule s) ≡ F s
   pub follow_lasts : (s : S) → follow_last F E (rule s) ≡ E s
-  pub some : (s : S) → nullable (rule s) ≡ false
+  pub nonempty : (s : S) → nullable (rule s) ≡ false
   pub ll1 : (s : S) → is_ll1 F E (rule s) ≡ true
 
 -- The grammar is LL(1), by a test that computes; each token of a first set is reached through at most n symbols.

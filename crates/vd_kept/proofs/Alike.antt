@@ -66,31 +66,31 @@ parameters_alike (q ∷ qs) env after p names vars (k ∷ ks) h n =
     less : (a b : ℕ) → suc a ≡ suc b → a ≡ b
     less a b e = omega arith
 
--- a call of a function makes at most its size
-abbrev pub CallFits : Signature → Inlining → Size → Type 0
-CallFits sig i s = (here : Here) (ks : List ℕ) (m : Made) → length ks ≡ length sig.parameters → Fits m.body (i here ks m).1.body s
+-- a call of a function makes its size
+abbrev pub CallFits : Signature → Inlining → Size → ℕ → Type 0
+CallFits sig i s c = (here : Here) (ks : List ℕ) (m : Made) → length ks ≡ length sig.parameters → Fits m.body (i here ks m).1.body s c
 
-abbrev pub Callees : Named Signature → Named Inlining → Named Size → Type 0
-Callees [] [] [] = Unit {0}
-Callees (f ∷ fs) (i ∷ is) (s ∷ ss) = (i.0 ≡ f.0) × (s.0 ≡ f.0) × CallFits f.1 i.1 s.1 × Callees fs is ss
-Callees fs is ss = ⊥
+abbrev pub Callees : Named Signature → Named Inlining → Named Size → Named ℕ → Type 0
+Callees [] [] [] [] = Unit {0}
+Callees (f ∷ fs) (i ∷ is) (s ∷ ss) (c ∷ cs) = (i.0 ≡ f.0) × (s.0 ≡ f.0) × (c.0 ≡ f.0) × CallFits f.1 i.1 s.1 c.1 × Callees fs is ss cs
+Callees fs is ss cs = ⊥
 
-abbrev pub MaybeCallee : Option Signature → Option Inlining → Option Size → Type 0
-MaybeCallee None None None = Unit {0}
-MaybeCallee (Some f) (Some i) (Some s) = CallFits f i s
-MaybeCallee f i s = ⊥
+abbrev pub MaybeCallee : Option Signature → Option Inlining → Option Size → Option ℕ → Type 0
+MaybeCallee None None None None = Unit {0}
+MaybeCallee (Some f) (Some i) (Some s) (Some c) = CallFits f i s c
+MaybeCallee f i s c = ⊥
 
-pub callee_at : (fs : Named Signature) (is : Named Inlining) (ss : Named Size) (x : List ℕ) → Callees fs is ss → MaybeCallee (at_name fs x) (at_name is x) (at_name ss x)
-callee_at [] [] [] x h = tt
-callee_at (f ∷ fs) (i ∷ is) (s ∷ ss) x h =
-    rw (h.0, h.1) (elim (bytes_eq f.0 x) as (λ b. MaybeCallee (if b then Some f.1 else at_name fs x) (if b then Some i.1 else at_name is x) (if b then Some s.1 else at_name ss x)) [
-      | true ↦ h.2
-      | false ↦ callee_at fs is ss x h.3
+pub callee_at : (fs : Named Signature) (is : Named Inlining) (ss : Named Size) (cs : Named ℕ) (x : List ℕ) → Callees fs is ss cs → MaybeCallee (at_name fs x) (at_name is x) (at_name ss x) (at_name cs x)
+callee_at [] [] [] [] x h = tt
+callee_at (f ∷ fs) (i ∷ is) (s ∷ ss) (c ∷ cs) x h =
+    rw (h.0, h.1, h.2) (elim (bytes_eq f.0 x) as (λ b. MaybeCallee (if b then Some f.1 else at_name fs x) (if b then Some i.1 else at_name is x) (if b then Some s.1 else at_name ss x) (if b then Some c.1 else at_name cs x)) [
+      | true ↦ h.3
+      | false ↦ callee_at fs is ss cs x h.4
     ])
-callee_at fs is ss x h = absurd h
+callee_at fs is ss cs x h = absurd h
 
-pub callee_push : (fs : Named Signature) (is : Named Inlining) (ss : Named Size) (x : List ℕ) (f : Signature) (i : Inlining) (s : Size) → Callees fs is ss → CallFits f i s
-    → Callees (fs ++ (x, f) ∷ []) (is ++ (x, i) ∷ []) (ss ++ (x, s) ∷ [])
-callee_push [] [] [] x f i s h one = (refl, refl, one, tt)
-callee_push (f ∷ fs) (i ∷ is) (s ∷ ss) x g j t h one = (h.0, h.1, h.2, callee_push fs is ss x g j t h.3 one)
-callee_push fs is ss x f i s h one = absurd h
+pub callee_push : (fs : Named Signature) (is : Named Inlining) (ss : Named Size) (cs : Named ℕ) (x : List ℕ) (f : Signature) (i : Inlining) (s : Size) (c : ℕ) → Callees fs is ss cs → CallFits f i s c
+    → Callees (fs ++ (x, f) ∷ []) (is ++ (x, i) ∷ []) (ss ++ (x, s) ∷ []) (cs ++ (x, c) ∷ [])
+callee_push [] [] [] [] x f i s c h one = (refl, refl, refl, one, tt)
+callee_push (f ∷ fs) (i ∷ is) (s ∷ ss) (c ∷ cs) x g j t d h one = (h.0, h.1, h.2, h.3, callee_push fs is ss cs x g j t d h.4 one)
+callee_push fs is ss cs x f i s c h one = absurd h

@@ -20,5 +20,6 @@ pub mod Fits
 pub mod Alike
 pub mod ExprFits
 pub mod SourceFits
+pub mod Exact
 pub mod WellMade
 pub mod Examples

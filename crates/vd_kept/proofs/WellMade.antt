@@ -19,7 +19,7 @@ use Rattle.vd_kept.proofs.Operands.{operands_fit_all}
 use Rattle.vd_kept.proofs.Turns.{turns_in_loops}
 use Rattle.vd_kept.proofs.Resolved.{resolved_limited}
 use Rattle.vd_kept.proofs.Declared.{shifts_fit_all, hosts_declared, principals_declared, principals_are_names, hosts_are_names}
-use Rattle.vd_kept.proofs.SourceFits.{main_fits}
+use Rattle.vd_kept.proofs.Exact.{exact_statements, exact_weights, exact_nesting, exact_cells}
 
 idents_length : (xs : List Ident) → length (idents xs) ≡ length xs
 idents_length [] = refl
@@ -33,7 +33,6 @@ pub within_limits : (source : Source) → IsResolved source → HasNames source 
 within_limits source resolved named =
     let checked = passed (source_check source) (λ done. limits_check (length source.principals) (length source.hosts) (source_size source)) tt resolved in
     let limits = resolved_limited source resolved in
-    let fits = main_fits source checked.1 in
     let principals = idents_length source.principals in
     let hosts = hosts_length source.hosts in
     let l1 = limits.principals in
@@ -42,10 +41,10 @@ within_limits source resolved named =
     let l4 = limits.statements in
     let l5 = limits.weights in
     let l6 = limits.cells in
-    let f3 = fits.nesting in
-    let f4 = fits.statements in
-    let f5 = fits.weights in
-    let f6 = fits.cells in
+    let f3 = exact_nesting source checked.1 in
+    let f4 = exact_statements source checked.1 in
+    let f5 = exact_weights source checked.1 in
+    let f6 = exact_cells source checked.1 in
     let n1 = named.some_principal in
     let n2 = named.some_host in
     record {

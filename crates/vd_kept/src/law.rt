@@ -1,9 +1,13 @@
 //! Laws of the let-normal form of a source. Nothing is computed.
 
-ghost use Rattle.vd_core.specs.Facts.{SlotsInOrder, SlotsMadeBefore, OperandsFit, ShiftsFit, TurnsInLoops, AreNames, HostsDeclared, PrincipalsDeclared, LabelForEachHost, WithinLimits, IsWellMade};
+ghost use Rattle.std.specs.Prelude.{◌≡◌, ◌+◌, Ok};
+ghost use Rattle.vd_core.specs.Facts.{SlotsInOrder, SlotsMadeBefore, OperandsFit, ShiftsFit, TurnsInLoops, AreNames, HostsDeclared, PrincipalsDeclared, LabelForEachHost, WithinLimits, IsWellMade, statement_count, weight_sum, nesting, cell_count};
 ghost use Rattle.vd_core.specs.Named.{HasNames};
 ghost use Rattle.vd_normal.specs.Normal.{normal_form};
+ghost use Rattle.vd_kept.specs.Calls.{inlined_calls};
 ghost use Rattle.vd_resolve.specs.Limits.{IsResolved};
+ghost use Rattle.vd_resolve.specs.Rules.{source_check};
+ghost use Rattle.vd_resolve.specs.Sizes.{source_size};
 
 use vd_core::source::Source;
 
@@ -51,6 +55,15 @@ pub fn principals_are_declared(_source: &Source)
 pub fn names_are_distinct(_source: &Source)
     ensures principals { IsResolved _source.now → HasNames _source.now → AreNames (normal_form _source.now).principals }
     ensures hosts { IsResolved _source.now → HasNames _source.now → AreNames (normal_form _source.now).hosts }
+{}
+
+/// What a source without faults on names and kinds counts is what its let-normal form has; each inlined call counts as
+/// one statement more.
+pub fn counts_are_exact(_source: &Source)
+    ensures statements { source_check _source.now ≡ Ok tt → (source_size _source.now).statements ≡ statement_count (normal_form _source.now).body + inlined_calls _source.now }
+    ensures weights { source_check _source.now ≡ Ok tt → (source_size _source.now).weights ≡ weight_sum (normal_form _source.now).body }
+    ensures nesting { source_check _source.now ≡ Ok tt → (source_size _source.now).nesting ≡ nesting (normal_form _source.now).body }
+    ensures cells { source_check _source.now ≡ Ok tt → (source_size _source.now).cells ≡ cell_count (normal_form _source.now).body }
 {}
 
 /// All that is counted is within its limit.

@@ -11,7 +11,7 @@ use Rattle.vd_constraints.specs.declared.system.Bound.TheVariants.{Constant, Sam
 use Rattle.vd_constraints.specs.declared.system.Lower.{Lower}
 use Rattle.vd_constraints.specs.declared.system.Check.{Check}
 use Rattle.vd_constraints.specs.Systems.{Constraints, IsOver, IsPlaceIn, IsBoundIn, IsRuleIn, IsCheckIn, IsRuleOf, IsCheckOf, IsSystem}
-use Rattle.vd_least.proofs.Firsts.{item_has, all_or_first}
+use Rattle.vd_constraints.proofs.Firsts.{item_has, all_or_first}
 
 -- it holds, or it does not
 abbrev pub Decided : Type 0 → Type 0

@@ -1,8 +1,7 @@
-pub mod Firsts
-pub mod Formulas
 pub mod Parts
 pub mod Raising
 pub mod Free
+pub mod Checks
 pub mod Once
 pub mod Somehow
 pub mod Decided

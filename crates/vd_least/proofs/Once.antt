@@ -4,18 +4,18 @@ use Rattle.std.specs.Prelude.{All, Result, Ok, Err}
 use Rattle.std.proofs.lemmas.List.{same_lists, get_or_default}
 use Rattle.vd_formula.specs.declared.label.Label.{Label}
 use Rattle.vd_formula.specs.TruthTable.{TruthTable, ActsFor}
-use Rattle.vd_formula.proofs.Implies.{equal_if_both}
+use Rattle.vd_formula.proofs.Implies.{antisymmetric}
 use Rattle.vd_constraints.specs.declared.system.Place.TheVariants.{Slot, Block}
 use Rattle.vd_constraints.specs.declared.labels.Labels.{Labels}
 use Rattle.vd_constraints.specs.Systems.{Constraints, IsOver, IsLabelOver}
 use Rattle.vd_constraints.specs.Satisfies.{HoldsCheck, no_label, part_of, IsLabelling, SolvesRules, Satisfies, IsBelow, IsLeastOf, IsFirstWithout}
 use Rattle.vd_constraints.specs.Outcomes.{IsLabelled}
-use Rattle.vd_least.proofs.Firsts.{first_once}
+use Rattle.vd_constraints.proofs.Firsts.{first_once}
 
 -- ---- what is above each other is equal
 module _ (names : ℕ) where
   same_formula : (f g : TruthTable) → IsOver names f → IsOver names g → ActsFor f g → ActsFor g f → f ≡ g
-  same_formula f g is_f is_g there back = equal_if_both f g is_f.is_formula is_g.is_formula (is_f.over ∙ sym is_g.over) there back
+  same_formula f g is_f is_g there back = antisymmetric f g is_f.is_formula is_g.is_formula (is_f.over ∙ sym is_g.over) there back
 
   same_label : (a b : Label) → IsLabelOver names a → IsLabelOver names b → ((integ : Bool) → ActsFor (part_of a integ) (part_of b integ)) → ((integ : Bool) → ActsFor (part_of b integ) (part_of a integ)) → a ≡ b
   same_label a b is_a is_b there back =

@@ -1,5 +1,5 @@
 -- The parts of a labelling, and one of them changed.
-use Rattle.std.proofs.Common.{◌≡◌, ℕ, ◌+◌, ◌<◌, Bool, true, false, length, set, refl, sym, ap, ◌∙◌, arith, inl, inr, ◌⊎◌}
+use Rattle.std.proofs.Common.{◌≡◌, ℕ, ◌+◌, ◌<◌, Bool, true, false, length, refl, sym, ap, ◌∙◌, arith, inl, inr, ◌⊎◌}
 use Rattle.std.specs.List.{sum_by}
 use Rattle.std.proofs.lemmas.Bool.{cases_eq}
 use Rattle.std.proofs.lemmas.List.{length-set, get_or-set_same, get_or-set_other}
@@ -15,33 +15,17 @@ use Rattle.vd_constraints.specs.declared.labels.Labels.{Labels}
 use Rattle.vd_constraints.specs.Systems.{Constraints, IsOver, IsLabelOver, IsPlaceOf, IsPartOf}
 use Rattle.vd_constraints.specs.Satisfies.{no_label, label_at, part_of, formula_at, IsLabelling}
 use Rattle.vd_constraints.proofs.Labellings.{over-label}
-
--- the labelling has a label at the place
-abbrev pub IsWithin : Labels → Place → Type 0
-IsWithin l (Slot x) = x.0 < length l.slots
-IsWithin l (Block b) = b < length l.blocks
-
-abbrev with_side : Label → Bool → TruthTable → Label
-with_side label true f = record label { integ = f }
-with_side label false f = record label { conf = f }
-
-abbrev with_label : Labels → Place → Label → Labels
-with_label l (Slot x) label = record l { slots = set l.slots x.0 label }
-with_label l (Block b) label = record l { blocks = set l.blocks b label }
-
--- the labelling with this formula for the part
-abbrev pub with_part : Labels → Part → TruthTable → Labels
-with_part l part f = with_label l part.at (with_side (label_at l part.at) part.integ f)
+use Rattle.vd_least.specs.Raising.{IsWithin, with_side, with_label_at, with_part}
 
 -- ---- one label changed
-label-same : (l : Labels) (at : Place) (label : Label) → IsWithin l at → label_at (with_label l at label) at ≡ label
+label-same : (l : Labels) (at : Place) (label : Label) → IsWithin l at → label_at (with_label_at l at label) at ≡ label
 label-same l (Slot x) label low = get_or-set_same l.slots x.0 label no_label low
 label-same l (Block b) label low = get_or-set_same l.blocks b label no_label low
 
 same_slot : (x y : SlotId) → x.0 ≡ y.0 → Slot x ≡ Slot y
 same_slot x y e = ap (λ (n : ℕ). Slot (record { 0 = n })) e
 
-label-other : (l : Labels) (at other : Place) (label : Label) → (label_at (with_label l at label) other ≡ label_at l other) ⊎ (other ≡ at)
+label-other : (l : Labels) (at other : Place) (label : Label) → (label_at (with_label_at l at label) other ≡ label_at l other) ⊎ (other ≡ at)
 label-other l (Slot x) (Slot y) label = elim (cases_eq y.0 x.0) [ inl e ↦ inr (same_slot y x e) | inr ne ↦ inl (get_or-set_other l.slots x.0 y.0 label no_label ne) ]
 label-other l (Slot x) (Block c) label = inl refl
 label-other l (Block b) (Slot y) label = inl refl
@@ -87,7 +71,7 @@ module _ (s : Constraints) (l : Labels) (is : IsLabelling s l) where
   within (Slot x) low = let same = is.slots in omega arith
   within (Block b) low = let same = is.blocks in omega arith
 
-  with_label_is : (at : Place) (label : Label) → IsLabelOver (length s.principals) label → IsLabelling s (with_label l at label)
+  with_label_is : (at : Place) (label : Label) → IsLabelOver (length s.principals) label → IsLabelling s (with_label_at l at label)
   with_label_is (Slot x) label over = record {
     slots = length-set l.slots x.0 label ∙ is.slots;
     blocks = is.blocks;
@@ -119,7 +103,7 @@ less_side : (label : Label) (integ : Bool) (f : TruthTable) → f.truths < (part
 less_side label true f less = omega arith
 less_side label false f less = omega arith
 
-less_label : (l : Labels) (at : Place) (label : Label) → IsWithin l at → truths_of label < truths_of (label_at l at) → all_truths (with_label l at label) < all_truths l
+less_label : (l : Labels) (at : Place) (label : Label) → IsWithin l at → truths_of label < truths_of (label_at l at) → all_truths (with_label_at l at label) < all_truths l
 less_label l (Slot x) label low less = let changed = sum_by-set truths_of l.slots x.0 label no_label low in omega (arith, changed)
 less_label l (Block b) label low less = let changed = sum_by-set truths_of l.blocks b label no_label low in omega (arith, changed)
 

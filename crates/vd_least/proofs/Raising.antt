@@ -10,8 +10,9 @@ use Rattle.vd_constraints.specs.declared.labels.Labels.{Labels}
 use Rattle.vd_constraints.specs.Systems.{Constraints, IsOver, IsPartOf, IsBoundOf, IsRuleOf}
 use Rattle.vd_constraints.specs.Satisfies.{formula_at, bound_at, HoldsRule, IsLabelling, SolvesRules, IsBelow}
 use Rattle.vd_constraints.proofs.Labellings.{over-part, over-bound}
-use Rattle.vd_least.proofs.Formulas.{acts_refl, acts_trans, acts_for_both, both_less, names-both, either_grows, implies_grows}
-use Rattle.vd_least.proofs.Parts.{IsWithin, within, with_part, formula-same, formula-other, with_part_is, all_truths, fewer_truths}
+use Rattle.vd_formula.proofs.Acting.{acts_refl, acts_trans, acts_for_both, both_less, names-both, either_grows, implies_grows}
+use Rattle.vd_least.specs.Raising.{IsWithin, with_part}
+use Rattle.vd_least.proofs.Parts.{within, formula-same, formula-other, with_part_is, all_truths, fewer_truths}
 
 -- each labelling at which all rules hold is above this one
 pub record IsReached (s : Constraints) (l : Labels) : Type 0 where
@@ -41,16 +42,16 @@ module _ (s : Constraints) (l : Labels) (reached : IsReached s l) (rule : Lower)
   names : (formula_at l rule.part).names ≡ (bound_at l rule.bound).names
   names = part_is.over ∙ sym bound_is.over
 
-  abbrev joined : TruthTable
+  abbrev pub joined : TruthTable
   joined = both_of (formula_at l rule.part) (bound_at l rule.bound)
 
   abbrev pub raised : Labels
   raised = with_part l rule.part joined
 
-  low : IsWithin l rule.part.at
+  pub low : IsWithin l rule.part.at
   low = within s l reached.labelling rule.part.at valid.part
 
-  is_labelling : IsLabelling s raised
+  pub is_labelling : IsLabelling s raised
   is_labelling = with_part_is s l reached.labelling rule.part joined valid.part (record {
     is_formula = is_formula-both (formula_at l rule.part) (bound_at l rule.bound) part_is.is_formula bound_is.is_formula names;
     over = names-both (formula_at l rule.part) (bound_at l rule.bound) ∙ part_is.over;

@@ -1,6 +1,8 @@
 ghost use Rattle.std.specs.Prelude.{◌≤◌, length, All, IfOk, IfErr};
 ghost use Rattle.vd_lexer.specs.Tokens.{token_at, Lexes, BadFits, LexesOnce, EndsOnce, IsSpelled, kinds};
-ghost use Rattle.std.specs.Prelude.{◌≡◌, ◌+◌, ◌^◌, ◌<◌};
+ghost use Rattle.std.specs.Prelude.{◌≡◌, ◌+◌, ◌^◌, ◌<◌, ℕ, List, map};
+ghost use Rattle.vd_base.specs.Lexical.{keywords};
+ghost use Rattle.vd_lexer.specs.Tables.{keyword_kinds};
 
 use crate::piece::{Piece, first_piece};
 use crate::token::{LexFault, Token, TokenKind};
@@ -48,8 +50,11 @@ fn token(kind: TokenKind, start: usize, len: usize, value: u32) -> Token
 }
 
 /// A text has either tokens or a first bad byte, and only one of each.
-pub fn lexing_is_determined(bytes: &[u8])
-    ensures { LexesOnce bytes.now }
-{
-    let _ = bytes;
-}
+pub fn lexing_is_determined()
+    ensures { (bytes : List ℕ) → LexesOnce bytes }
+{}
+
+/// The words that the table of keywords has are those that are no names.
+pub fn keywords_are_those_of_names()
+    ensures { map (λ entry. entry.0) keyword_kinds ≡ keywords }
+{}

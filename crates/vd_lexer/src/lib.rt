@@ -1,11 +1,11 @@
 //! The tokens of a source: its names, numbers, keywords and symbols, in order.
 #![tactic(auto)]
 
-pub mod lexer;
-pub mod piece;
+mod lexer;
+mod piece;
 #[cfg(test)]
 mod tests;
-pub mod token;
+mod token;
 
-pub use lexer::{lexing_is_determined, tokens};
+pub use lexer::{keywords_are_those_of_names, lexing_is_determined, tokens};
 pub use token::{LexFault, Token, TokenKind};

@@ -117,5 +117,10 @@ fn kinds_are_numbered_from_the_end(rt: HostRuntime) {
     assert_eq!(rt; TokenKind::End.code(), 0);
     assert_eq!(rt; TokenKind::Number.code(), 2);
     assert_eq!(rt; TokenKind::Greater.code(), 57);
-    lexing_is_determined(b"fun");
+}
+
+#[test]
+fn the_laws_hold() {
+    lexing_is_determined();
+    keywords_are_those_of_names();
 }

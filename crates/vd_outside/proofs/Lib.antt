@@ -1,2 +1,3 @@
 mod Children
 mod Receiving
+mod Waiting

@@ -2,6 +2,7 @@
 //! faults and, where it tells, shows what it holds. Objects in memory stand in for the real ones.
 #![tactic(auto)]
 
+pub mod child;
 pub mod failures;
 pub mod faults;
 pub mod files;
@@ -20,6 +21,7 @@ pub mod sure_net;
 pub mod sure_sink;
 pub mod sure_spawner;
 
+pub use child::Child;
 pub use failures::Failures;
 pub use faults::FetchFault;
 pub use files::{Files, FilesCall};

@@ -1,19 +1,21 @@
-ghost use Rattle.std.specs.Prelude.{◌≡◌, [], ◌∷◌, ◌++◌, ◌+◌, IfOk, IfErr, OnOk, OnErr};
-ghost use Rattle.vd_outside.specs.SureLink.{link_view};
+ghost use Rattle.std.specs.Prelude.{◌≡◌, [], ◌∷◌, ◌++◌, ◌+◌, ◌<◌, length, remove, slice_get, Some, None, option_map, IfOk, IfErr, OnOk, OnErr, MatchOption};
+ghost use Rattle.vd_outside.specs.Net.{link_at, without_link_at};
 ghost use Rattle.vd_outside.specs.SureNet.{empty_link};
 
 use crate::{Net, NetCall, SureLink};
-use std::alloc::Global;
+use std::alloc::{AllocError, Global};
 use std::marker::Model;
 use vd_base::{Bytes, CallFault, Text};
 use vd_items::Items;
 
-/// A net in memory that never fails: at each address it gives links without bytes.
+/// A net in memory that never fails: at each address it gives the links that it holds for it in their order, and where
+/// none is left links without bytes.
 #[derive(Debug, Drop)]
 pub struct SureNet {
     alloc: Global,
     room: usize,
     listeners: Items<Text>,
+    waiting: Items<(Text, SureLink)>,
     links: usize,
     back: Vec<SureLink>,
     asked: Items<NetCall>,
@@ -25,20 +27,28 @@ impl Model for SureNet {
 
     ghost Value = { SureNetState };
 
-    ghost view = { λ net. record { room = net.room; listeners = net.listeners; links = net.links; back = net.back.items; asked = net.asked } };
+    ghost view = { λ net. record { room = net.room; listeners = net.listeners; waiting = net.waiting; links = net.links; back = net.back.items; asked = net.asked } };
 
     ghost invariant = { λ net. net.links ≤ vec_capacity net.back };
 }
 
 impl SureNet {
-    /// A net whose links have room for so many bytes that are sent.
+    /// A net that holds no link. The links without bytes have room for so many bytes that are sent.
     pub fn new(alloc: Global, room: usize) -> SureNet
-        ensures { result ≡ record { room = room; listeners = []; links = 0; back = []; asked = [] } }
+        ensures { result ≡ record { room = room; listeners = []; waiting = []; links = 0; back = []; asked = [] } }
+    {
+        SureNet::with_links(alloc, room, Items::new(alloc))
+    }
+
+    /// A net that will give these links, each at its address.
+    pub fn with_links(alloc: Global, room: usize, waiting: Items<(Text, SureLink)>) -> SureNet
+        ensures { result ≡ record { room = room; listeners = []; waiting = waiting; links = 0; back = []; asked = [] } }
     {
         SureNet {
             alloc,
             room,
             listeners: Items::new(alloc),
+            waiting,
             links: 0,
             back: Vec::new(alloc),
             asked: Items::new(alloc),
@@ -59,23 +69,56 @@ impl SureNet {
         self.asked.as_slice()
     }
 
-    // A link without bytes, with a place for its return.
-    fn give(&mut self, call: NetCall) -> Result<SureLink, CallFault>
-        ensures link { IfOk result (λ link. link_view link ≡ empty_link) }
-        ensures room { IfOk result (λ link. link.sent.room ≡ self.old.room) }
-        ensures given { OnOk result (self.new ≡ record self.old { links = self.old.links + 1; asked = self.old.asked ++ call ∷ [] }) }
+    // A copy of the address of a listener.
+    fn address_of(&self, listener: u32) -> Result<Text, AllocError>
+        requires { listener < length self.now.listeners }
+        ensures { IfOk result (λ address. slice_get self.now.listeners listener ≡ Some address) }
+    {
+        let address = self.listeners.as_slice()[listener as usize].as_str();
+        Text::copy_of(self.alloc, address)
+    }
+
+    // A link at an address, with a place for its return.
+    fn give(&mut self, address: &str, call: NetCall) -> Result<SureLink, CallFault>
+        ensures link { IfOk result (λ link. link_at address.now self.old.waiting (Some (empty_link self.old.room)) ≡ Some link) }
+        ensures given { OnOk result (self.new ≡ record self.old { waiting = without_link_at address.now self.old.waiting; links = self.old.links + 1; asked = self.old.asked ++ call ∷ [] }) }
         ensures memory { IfErr result (λ fault. fault ≡ CallFault.Memory) }
         ensures err { OnErr result (self.new ≡ self.old) }
     {
-        let link = SureLink::new(self.alloc, Bytes::new(self.alloc), self.room)?;
+        let empty = SureLink::new(self.alloc, Bytes::new(self.alloc), self.room)?;
         let links = self.links.checked_add(1).ok_or(CallFault::Memory)?;
         if self.back.len() < links {
             self.back.reserve(links - self.back.len())?;
         }
         self.asked.push(call)?;
         self.links = links;
-        Ok(link)
+        Ok(take_link(&mut self.waiting, address, empty))
     }
+}
+
+/// Takes the first link that waits at an address, and where none does this one.
+#[tactic(auto, using(crate::proofs::Waiting::otherwise_given))]
+fn take_link(waiting: &mut Items<(Text, SureLink)>, address: &str, otherwise: SureLink) -> SureLink
+    ensures link { link_at address.now waiting.old (Some otherwise) ≡ Some result }
+    ensures rest { waiting.new ≡ without_link_at address.now waiting.old }
+{
+    match place_at(waiting.as_slice(), address) {
+        Some(place) => waiting.remove(place).1,
+        None => otherwise,
+    }
+}
+
+/// The place of the first link that waits at an address.
+fn place_at(waiting: &[(Text, SureLink)], address: &str) -> Option<usize>
+    ensures link { MatchOption result (link_at address.now waiting.now None ≡ None) (λ place. link_at address.now waiting.now None ≡ option_map (λ each. each.1) (slice_get waiting.now place)) }
+    ensures rest { MatchOption result (without_link_at address.now waiting.now ≡ waiting.now) (λ place. (place < length waiting.now) × (without_link_at address.now waiting.now ≡ remove waiting.now place)) }
+{
+    for (place, link) in waiting.iter().enumerate() {
+        if link.0.as_str().as_bytes() == address.as_bytes() {
+            return Some(place);
+        }
+    }
+    None
 }
 
 impl Net for SureNet {
@@ -102,13 +145,14 @@ impl Net for SureNet {
     }
 
     fn accept(&mut self, listener: u32) -> Result<SureLink, CallFault> {
-        let link = self.give(NetCall::Accept(listener))?;
+        let address = self.address_of(listener)?;
+        let link = self.give(address.as_str(), NetCall::Accept(listener))?;
         Ok(link)
     }
 
     fn connect(&mut self, address: &str) -> Result<SureLink, CallFault> {
         let call = NetCall::Connect(Text::copy_of(self.alloc, address)?);
-        let link = self.give(call)?;
+        let link = self.give(address, call)?;
         Ok(link)
     }
 

@@ -5,6 +5,7 @@ pub mod Precedence
 pub mod Signs
 pub mod Progress
 pub mod Document
+pub mod Scan
 pub mod Outcomes
 pub mod OutcomeLaws
 pub mod OutcomeTotal

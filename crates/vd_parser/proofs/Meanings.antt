@@ -20,7 +20,7 @@ use Rattle.vd_core.specs.declared.source.Statement.{Statement}
 use Rattle.vd_core.specs.declared.source.Statement.TheVariants as stmt
 use Rattle.vd_core.specs.declared.source.Function.{Function}
 use Rattle.vd_lexer.specs.declared.token.Token.{Token}
-use Rattle.vd_parser.specs.Syntax.{arguments_of, array_of, assign_of, assigned, atom_of, block_of, body_of, bor_of, both_of, chained, conj_of, conjs_of, direction_of, either_of, else_of, expr_of, exprs_of, fatom_of, fatoms_of, first_of, for_of, form_of, function_of, functions_of, host_list_of, host_name_of, host_of, hosts_of, ident_of, idents_of, if_of, index_of, index_option_of, infix_of, kind_of, label_of, label_option_of, length_of, let_of, more_exprs_of, more_idents_of, more_parameters_of, named_of, new_form_of, number_of, other_atom_of, output_of, parameter_list_of, parameter_of, parameters_of, principals_of, relabelled_of, return_of, returned_of, second_of, shift_links_of, shift_of, signed, signs_of, source_of, span_of, statement_of, statements_of, sum_of, third_of, three_of, token_of, two_of, typed_kind_of, typed_name_of, typed_of, unary_of, var_of, whole_body_of, word_atom_of}
+use Rattle.vd_parser.specs.Syntax.{arguments_of, array_of, assign_of, assigned, atom_of, block_of, body_of, bor_of, both_of, chained, conj_of, conjs_of, direction_of, either_of, else_of, expr_of, exprs_of, fatom_of, fatoms_of, first_of, for_of, form_of, function_of, functions_of, host_list_of, host_name_of, host_of, hosts_of, ident_of, idents_of, if_of, index_of, index_option_of, infix_of, kind_of, label_of, label_option_of, length_of, let_of, more_exprs_of, more_idents_of, more_parameters_of, named_of, new_form_of, value_of, other_atom_of, output_of, parameter_list_of, parameter_of, parameters_of, principals_of, relabelled_of, return_of, returned_of, second_of, shift_links_of, shift_of, signed, signs_of, source_of, span_of, statement_of, statements_of, sum_of, third_of, three_of, token_of, two_of, typed_kind_of, typed_name_of, typed_of, unary_of, var_of, whole_body_of, word_atom_of}
 
 pub idents_first : (text : List ℕ) (x : Tree Token) (v : Ident) → v ≡ ident_of text x → (y : Tree Token) → idents_of text (Both x y) ≡ (v ∷ []) ++ more_idents_of text y
 unfolding idents_of
@@ -98,7 +98,7 @@ pub shift_is : (text : List ℕ) (x r : Tree Token) (e : Expr) (ls : List Link) 
 unfolding shift_of
 shift_is text x r e ls e0 e1 = ap (λ it. chained it ls) e0 ∙ ap (λ it. chained (sum_of text x) it) e1
 
-pub shifts_more : (text : List ℕ) (o n : Tree Token) (d : Direction) (s : Span) (m : ℕ) → d ≡ direction_of (token_of o).kind → s ≡ span_of o → m ≡ number_of n → (y : Tree Token) → shift_links_of text (Both (Both o n) y) ≡ link.Shift d s m ∷ shift_links_of text y
+pub shifts_more : (text : List ℕ) (o n : Tree Token) (d : Direction) (s : Span) (m : ℕ) → d ≡ direction_of (token_of o).kind → s ≡ span_of o → m ≡ value_of n → (y : Tree Token) → shift_links_of text (Both (Both o n) y) ≡ link.Shift d s m ∷ shift_links_of text y
 unfolding shift_links_of
 shifts_more text o n d s m e0 e1 e2 y = sym (ap (λ it. link.Shift it s m ∷ shift_links_of text y) e0 ∙ ap (λ it. link.Shift (direction_of (token_of o).kind) it m ∷ shift_links_of text y) e1 ∙ ap (λ it. link.Shift (direction_of (token_of o).kind) (span_of o) it ∷ shift_links_of text y) e2)
 
@@ -110,7 +110,7 @@ pub unary_is : (text : List ℕ) (p a : Tree Token) (e : Expr) (ss : List Sign) 
 unfolding unary_of
 unary_is text p a e ss e0 e1 = ap (λ it. signed it ss) e0 ∙ ap (λ it. signed (atom_of text a) it) e1
 
-pub atom_number : (text : List ℕ) (x : Tree Token) (m : ℕ) → m ≡ number_of x → expr.Number m ≡ atom_of text (First x)
+pub atom_number : (text : List ℕ) (x : Tree Token) (m : ℕ) → m ≡ value_of x → expr.Number m ≡ atom_of text (First x)
 unfolding atom_of
 atom_number text x m e0 = ap (λ it. expr.Number it) e0
 
@@ -226,7 +226,7 @@ pub var_is : (text : List ℕ) (k t l e x s : Tree Token) (at : Span) (i : Ident
 unfolding var_of
 var_is text k t l e x s at i kd lb v e0 e1 e2 e3 e4 = ap (λ it. stmt.Var it i kd lb v) e0 ∙ ap (λ it. stmt.Var (span_of k) it kd lb v) e1 ∙ ap (λ it. stmt.Var (span_of k) (typed_name_of text t) it lb v) e2 ∙ ap (λ it. stmt.Var (span_of k) (typed_name_of text t) (typed_kind_of t) it v) e3 ∙ ap (λ it. stmt.Var (span_of k) (typed_name_of text t) (typed_kind_of t) (label_option_of text l) it) e4
 
-pub length_is : (text : List ℕ) (o n p : Tree Token) (len : ℕ) → len ≡ number_of n → len ≡ length_of (Both o (Both n p))
+pub length_is : (text : List ℕ) (o n p : Tree Token) (len : ℕ) → len ≡ value_of n → len ≡ length_of (Both o (Both n p))
 unfolding length_of
 length_is text o n p len e0 = ap (λ it. it) e0
 
@@ -302,9 +302,9 @@ pub else_none : (text : List ℕ) (x : Tree Token) → [] ≡ else_of text (Seco
 unfolding else_of
 else_none text x = refl
 
-pub for_is : (text : List ℕ) (k n t c b : Tree Token) (at : Span) (i : Ident) (m : ℕ) (ss : List Statement) → at ≡ span_of k → i ≡ ident_of text n → m ≡ number_of c → ss ≡ block_of text b → stmt.For at i m ss ≡ for_of text (Both k (Both n (Both t (Both c b))))
+pub for_is : (text : List ℕ) (k n t c b : Tree Token) (at : Span) (i : Ident) (m : ℕ) (ss : List Statement) → at ≡ span_of k → i ≡ ident_of text n → m ≡ value_of c → ss ≡ block_of text b → stmt.For at i m ss ≡ for_of text (Both k (Both n (Both t (Both c b))))
 unfolding for_of
-for_is text k n t c b at i m ss e0 e1 e2 e3 = ap (λ it. stmt.For it i m ss) e0 ∙ ap (λ it. stmt.For (span_of k) it m ss) e1 ∙ ap (λ it. stmt.For (span_of k) (ident_of text n) it ss) e2 ∙ ap (λ it. stmt.For (span_of k) (ident_of text n) (number_of c) it) e3
+for_is text k n t c b at i m ss e0 e1 e2 e3 = ap (λ it. stmt.For it i m ss) e0 ∙ ap (λ it. stmt.For (span_of k) it m ss) e1 ∙ ap (λ it. stmt.For (span_of k) (ident_of text n) it ss) e2 ∙ ap (λ it. stmt.For (span_of k) (ident_of text n) (value_of c) it) e3
 
 pub parameters_first : (text : List ℕ) (x : Tree Token) (v : Parameter) → v ≡ parameter_of text x → (y : Tree Token) → parameter_list_of text (Both x y) ≡ (v ∷ []) ++ more_parameters_of text y
 unfolding parameter_list_of

@@ -100,7 +100,7 @@ sentence_named text (m-seq g e) spelled = source_named text g spelled
 
 pub names_are_names : (bytes : List ℕ) (source : Source) → IsParse bytes (Ok source) → HasNames source
 names_are_names bytes source p =
-    subst HasNames (sym p.outcome.source.stands) (sentence_named bytes p.outcome.source.makes (tokens_spelled bytes p.tokens p.lexes))
+    subst HasNames (sym p.holds.source.stands) (sentence_named bytes p.holds.source.makes (tokens_spelled bytes p.tokens p.lexes))
 
 pub answer_named : (bytes : List ℕ) (r : Result Source ParseFault) → (r ≡ Err fault.Memory) ⊎ IsParse bytes r → IfOk r HasNames
 answer_named bytes (Ok source) (inl e) = absurd cc

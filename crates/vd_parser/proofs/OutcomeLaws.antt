@@ -1,5 +1,5 @@
 -- Some bytes have one outcome.
-use Rattle.std.proofs.Common.{◌≡◌, ℕ, zero, suc, ◌≤◌, List, [], ◌∷◌, ◌++◌, inl, inr, length, take, drop, get_or, Some, None, Result, Ok, Err, refl, sym, ap, ◌∙◌, subst, arith, ◌-◌, append_assoc}
+use Rattle.std.proofs.Common.{◌≡◌, ℕ, zero, suc, ◌≤◌, List, [], ◌∷◌, ◌++◌, inl, inr, length, take, drop, get_or, Some, Result, Ok, Err, refl, sym, ap, ◌∙◌, subst, arith, ◌-◌, append_assoc}
 use Rattle.std.proofs.lemmas.Bool.{cases_lt}
 use Rattle.vd_grammar.specs.Grammar.{Spells, Starts}
 use Rattle.vd_grammar.specs.Trees.{Tree, Both}
@@ -13,9 +13,10 @@ use Rattle.vd_parser.specs.declared.fault.ParseFault.{ParseFault}
 use Rattle.vd_parser.specs.declared.fault.ParseFault.TheVariants as fault
 use Rattle.vd_parser.specs.Language.{Symbol, rule}
 use Rattle.vd_parser.specs.Syntax.{no_token, source_of}
-use Rattle.vd_parser.specs.Nesting.{first_deep}
-use Rattle.vd_parser.specs.Outcomes.{sentence, BeginSource, IsSource, NoneBefore, IsUnexpected, IsTooDeep, IsOutcome, HasTokens, ParsesOnce}
+use Rattle.vd_parser.specs.Outcomes.{sentence, BeginSource, IsSource, IsUnexpected, IsTooDeep, HasTokens, ParsesOnce}
+use Rattle.vd_parser.specs.Whole.{IsOutcome}
 use Rattle.vd_parser.proofs.Ready.{F, E, language_ll1, ones}
+use Rattle.vd_parser.proofs.Scan.{first_deep, NoneBefore, none_before, scan_finds}
 use Rattle.vd_parser.proofs.Outcomes.{get_at, take_at, kinds-append}
 
 pub take_front : (xs : List Token) (t : Token) (ys : List Token) → take (length xs) (xs ++ t ∷ ys) ≡ xs
@@ -51,7 +52,7 @@ unexpected_facts ts k o p =
     let front : take k ts ≡ p.before = ap (λ n. take n ts) p.number ∙ ap (take (length p.before)) p.all ∙ take_front p.before p.token p.behind in
     let through : take (suc k) ts ≡ p.before ++ p.token ∷ [] = ap (λ n. take (suc n) ts) p.number ∙ ap (take (suc (length p.before))) p.all ∙ take_at p.before p.token p.behind in
     let here : get_or ts k no_token ≡ p.token = ap (λ n. get_or ts n no_token) p.number ∙ ap (λ xs. get_or xs (length p.before) no_token) p.all ∙ get_at p.before p.token p.behind no_token in
-    record { at = p.at ∙ ap (λ t. t.span.start) (sym here); begins = subst BeginSource (sym front) p.begins; ends = λ q. p.ends (subst BeginSource through q); shallow = p.shallow }
+    record { at = p.at ∙ ap (λ t. t.span.start) (sym here); begins = subst BeginSource (sym front) p.begins; ends = λ q. p.ends (subst BeginSource through q); shallow = subst (λ n. NoneBefore n (first_deep ts)) (sym p.number) (none_before ts p.before (p.token ∷ p.behind) p.all p.shallow) }
 
 record TooDeep' (ts : List Token) (offset d : ℕ) : Type 0 where
   pub at : offset ≡ (get_or ts d no_token).span.start
@@ -62,7 +63,7 @@ too_deep_facts : (ts : List Token) (o : ℕ) (p : IsTooDeep ts o) → TooDeep' t
 too_deep_facts ts o p =
     let through : take (suc (length p.before)) ts ≡ p.before ++ p.token ∷ [] = ap (take (suc (length p.before))) p.all ∙ take_at p.before p.token p.behind in
     let here : get_or ts (length p.before) no_token ≡ p.token = ap (λ xs. get_or xs (length p.before) no_token) p.all ∙ get_at p.before p.token p.behind no_token in
-    record { at = p.at ∙ ap (λ t. t.span.start) (sym here); deep = p.deep; begins = subst BeginSource (sym through) p.begins }
+    record { at = p.at ∙ ap (λ t. t.span.start) (sym here); deep = scan_finds ts (length p.before) (record { before = p.before; token = p.token; behind = p.behind; all = p.all; is_number = refl; deep = p.deep; first = p.shallow }); begins = subst BeginSource (sym through) p.begins }
 
 -- a source begins by each of its fronts
 source_begins : (text : List ℕ) (ts : List Token) (v : Source) → IsSource text ts v → (before : List Token) (token : Token) (behind : List Token) → ts ≡ before ++ token ∷ behind → BeginSource (before ++ token ∷ [])
@@ -83,8 +84,8 @@ tokens_once text ts (Ok v) (Ok w) p q =
     ap Ok (p.source.stands ∙ ap (source_of text) trees ∙ sym q.source.stands)
 tokens_once text ts (Ok v) (Err (fault.Unexpected k o)) p q = absurd (q.ends (source_begins text ts v p.source q.before q.token q.behind q.all))
 tokens_once text ts (Err (fault.Unexpected k o)) (Ok v) p q = absurd (p.ends (source_begins text ts v q.source p.before p.token p.behind p.all))
-tokens_once text ts (Ok v) (Err (fault.TooDeep o)) p q = absurd (let h : None ≡ Some (length q.before) = sym p.shallow ∙ q.deep in cc)
-tokens_once text ts (Err (fault.TooDeep o)) (Ok v) p q = absurd (let h : None ≡ Some (length p.before) = sym q.shallow ∙ p.deep in cc)
+tokens_once text ts (Ok v) (Err (fault.TooDeep o)) p q = absurd (p.shallow q.before q.token q.behind q.all q.deep)
+tokens_once text ts (Err (fault.TooDeep o)) (Ok v) p q = absurd (q.shallow p.before p.token p.behind p.all p.deep)
 tokens_once text ts (Err (fault.Unexpected k o)) (Err (fault.Unexpected l u)) p q =
     let x = unexpected_facts ts k o p in
     let y = unexpected_facts ts l u q in
@@ -109,7 +110,7 @@ tokens_once text ts (Err (fault.TooDeep u)) (Err (fault.Unexpected k o)) p q =
 tokens_once text ts (Err (fault.TooDeep o)) (Err (fault.TooDeep u)) p q =
     let x = too_deep_facts ts o p in
     let y = too_deep_facts ts u q in
-    let h : Some (length p.before) ≡ Some (length q.before) = sym p.deep ∙ q.deep in
+    let h : Some (length p.before) ≡ Some (length q.before) = sym x.deep ∙ y.deep in
     let same : length p.before ≡ length q.before = cc in
     ap (λ n. Err (fault.TooDeep n)) (x.at ∙ ap (λ n. (get_or ts n no_token).span.start) same ∙ sym y.at)
 tokens_once text ts (Ok v) (Err (fault.BadByte b2)) p q = absurd q
@@ -140,10 +141,10 @@ tokens_once text ts (Err fault.Memory) (Err (fault.BadByte b2)) p q = absurd p
 tokens_once text ts (Err fault.Memory) (Err (fault.TooLong n2)) p q = absurd p
 tokens_once text ts (Err fault.Memory) (Err fault.Memory) p q = absurd p
 
-has_tokens_once : (bytes : List ℕ) (r s : Result Source ParseFault) → HasTokens bytes r → HasTokens bytes s → r ≡ s
+has_tokens_once : (bytes : List ℕ) (r s : Result Source ParseFault) → HasTokens bytes (λ ts. IsOutcome bytes ts r) → HasTokens bytes (λ ts. IsOutcome bytes ts s) → r ≡ s
 has_tokens_once bytes r s p q =
     let same = (lexes_once bytes).one_list p.tokens q.tokens p.lexes q.lexes in
-    tokens_once bytes q.tokens r s (subst (λ ts. IsOutcome bytes ts r) same p.outcome) q.outcome
+    tokens_once bytes q.tokens r s (subst (λ ts. IsOutcome bytes ts r) same p.holds) q.holds
 
 pub parses_once : (bytes : List ℕ) → ParsesOnce bytes
 parses_once bytes (Ok v) (Ok w) p q = has_tokens_once bytes (Ok v) (Ok w) p q

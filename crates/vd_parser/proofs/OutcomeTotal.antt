@@ -19,9 +19,10 @@ use Rattle.vd_parser.specs.declared.fault.ParseFault.{ParseFault}
 use Rattle.vd_parser.specs.declared.fault.ParseFault.TheVariants as fault
 use Rattle.vd_parser.specs.Language.{Symbol, rule, SOURCE, HOST, LABEL, FORM, CONJ, FATOM, FUN, PARAM, KIND, BLOCK, STMT, EXPR, BOR, BXOR, BAND, SHIFT, SUM, PROD, UNARY, ATOM}
 use Rattle.vd_parser.specs.Syntax.{no_token, source_of}
-use Rattle.vd_parser.specs.Nesting.{first_deep}
-use Rattle.vd_parser.specs.Outcomes.{sentence, BeginSource, NoneBefore, IsUnexpected, IsOutcome, IsParse, ParsesSomehow}
+use Rattle.vd_parser.specs.Outcomes.{sentence, BeginSource, IsUnexpected, IsParse, ParsesSomehow}
+use Rattle.vd_parser.specs.Whole.{IsOutcome}
 use Rattle.vd_parser.proofs.Ready.{F, E, language_ll1}
+use Rattle.vd_parser.proofs.Scan.{first_deep, NoneBefore, none_in_front, none_deep}
 use Rattle.vd_parser.proofs.Outcomes.{closed_of, kinds-append, split, too_deep}
 use Rattle.vd_parser.proofs.OutcomeLaws.{begins_less, take_front}
 
@@ -97,7 +98,7 @@ module _ (text : List ℕ) (ts : List Token) (ended : EndsOnce (kinds ts)) where
         at = refl;
         begins = begins;
         ends = λ q. r.ends (subst (Starts Symbol rule (sentence ∷ [])) through q);
-        shallow = shallow;
+        shallow = none_in_front ts s.before (s.token ∷ s.behind) s.all shallow;
       }) in
       go o e (length s.before) s.token.span.start here (subst BeginSource (sym (ap (take (length s.before)) s.all ∙ take_front s.before s.token s.behind)) begins)
     where
@@ -115,7 +116,7 @@ module _ (text : List ℕ) (ts : List Token) (ended : EndsOnce (kinds ts)) where
         Ok (source_of text i.0),
         record {
           source = record { tree = i.0; end = i.1; makes = subst (λ y. Makes Symbol Token rule (λ t. code_of t.kind) sentence ts [] y) (sym i.2) x.1; stands = refl };
-          shallow = e;
+          shallow = none_deep ts e;
         },
       )
   taken q (Some d) e =
@@ -136,9 +137,9 @@ module _ (text : List ℕ) (ts : List Token) (ended : EndsOnce (kinds ts)) where
       go (Err us) e = refused us ((exact Symbol rule F E 10 language_ll1 (sentence ∷ []) refl (kinds ts)).refusals us e) (first_deep ts) refl
 
 parse_of : (bytes : List ℕ) (ts : List Token) (r : Result Source ParseFault) → length bytes ≤ 65536 → Lexes bytes 0 ts → IsOutcome bytes ts r → IsParse bytes r
-parse_of bytes ts (Ok v) h l p = record { short = h; tokens = ts; lexes = l; outcome = p }
-parse_of bytes ts (Err (fault.Unexpected k o)) h l p = record { short = h; tokens = ts; lexes = l; outcome = p }
-parse_of bytes ts (Err (fault.TooDeep o)) h l p = record { short = h; tokens = ts; lexes = l; outcome = p }
+parse_of bytes ts (Ok v) h l p = record { short = h; tokens = ts; lexes = l; holds = p }
+parse_of bytes ts (Err (fault.Unexpected k o)) h l p = record { short = h; tokens = ts; lexes = l; holds = p }
+parse_of bytes ts (Err (fault.TooDeep o)) h l p = record { short = h; tokens = ts; lexes = l; holds = p }
 parse_of bytes ts (Err (fault.BadByte o)) h l p = absurd p
 parse_of bytes ts (Err (fault.TooLong o)) h l p = absurd p
 parse_of bytes ts (Err fault.Memory) h l p = absurd p

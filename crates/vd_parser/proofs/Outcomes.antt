@@ -1,7 +1,7 @@
 -- What the machine says of kinds, said of tokens.
-use Rattle.std.proofs.Common.{◌≡◌, ℕ, zero, suc, ◌+◌, ◌-◌, ◌<◌, ◌≤◌, Bool, true, false, ◌&&◌, List, [], ◌∷◌, ◌++◌, ◌⊎◌, inl, inr, length, take, drop, get_or, Some, None, nat_le, refl, sym, ap, ◌∙◌, subst, true≢false, arith, length-append, append_assoc, add-one, drop-cons, if◌then◌else◌, ◌^◌, Result, Ok, Err, length-drop}
-use Rattle.std.proofs.lemmas.List.{drop_all, length-map}
-use Rattle.std.proofs.lemmas.Bool.{cases_Bool, and_parts, leb-false, cases_lt}
+use Rattle.std.proofs.Common.{◌≡◌, ℕ, zero, suc, ◌+◌, ◌-◌, ◌<◌, ◌≤◌, true, false, List, [], ◌∷◌, ◌++◌, ◌⊎◌, inl, inr, length, take, drop, get_or, Some, None, refl, sym, ap, ◌∙◌, subst, true≢false, arith, length-append, append_assoc, ◌^◌, Result, Ok, Err, length-drop}
+use Rattle.std.proofs.lemmas.List.{length-map}
+use Rattle.std.proofs.lemmas.Bool.{cases_lt}
 use Rattle.vd_grammar.specs.Grammar.{Ebnf, Sym, Starts, b-none, b-next}
 use Rattle.vd_grammar.specs.Trees.{Tree, Leaf, Both, Makes, m-tok, m-sym, m-eps, m-seq, m-left, m-right, m-stop, m-more}
 use Rattle.vd_grammar.specs.Laws.{FirstUnexpected}
@@ -23,10 +23,11 @@ use Rattle.vd_parser.specs.declared.cursor.Refusal.TheVariants as refusal
 use Rattle.vd_parser.specs.Language.{Symbol, rule, SOURCE}
 use Rattle.vd_parser.specs.Syntax.{source_of}
 use Rattle.vd_parser.specs.Parsing.{language, next_kind, Refused}
-use Rattle.vd_parser.specs.Nesting.{opens, closes, is_too_deep, open_behind, first_deep_from, first_deep}
-use Rattle.vd_parser.specs.Whole.{NoEnd, ParsesWhole}
-use Rattle.vd_parser.specs.Outcomes.{sentence, BeginSource, IsSource, NoneBefore, IsUnexpected, IsTooDeep, IsOutcome, IsParse}
+use Rattle.vd_parser.specs.Nesting.{opens}
+use Rattle.vd_parser.specs.Whole.{NoEnd, ParsesWhole, IsOutcome}
+use Rattle.vd_parser.specs.Outcomes.{sentence, BeginSource, IsSource, IsUnexpected, IsTooDeep, IsParse}
 use Rattle.vd_parser.proofs.Ready.{F, E, language_ll1}
+use Rattle.vd_parser.proofs.Scan.{first_deep, NoneBefore, deep_at, none_in_front}
 
 code : Token → ℕ
 code t = code_of t.kind
@@ -202,7 +203,7 @@ unexpected all ts us r rest k d agree number shallow =
       at = ap (λ t. t.span.start) at;
       begins = subst (Starts Symbol rule (sentence ∷ [])) (sym s.kinds_are) r.begins;
       ends = λ q. r.ends (subst (Starts Symbol rule (sentence ∷ [])) through q);
-      shallow = shallow;
+      shallow = none_in_front all s.before (s.token ∷ s.behind) s.all (subst (λ n. NoneBefore n (first_deep all)) len shallow);
     }
 
 -- with no bracket too deep, all tokens but the end are read
@@ -216,36 +217,6 @@ unexpected_shallow ts us m d c len none refused =
     unexpected ts (take m ts) us r r.behind (m - length us) d (whole ∙ r.all) number (subst (NoneBefore (m - length us)) (sym none) tt)
 
 -- brackets
-pub record Deep (ts : List Token) (i d : ℕ) : Type 0 where
-  pub before : List Token
-  pub token : Token
-  pub behind : List Token
-  pub all : ts ≡ before ++ token ∷ behind
-  pub number : d ≡ i + length before
-  pub opened : opens token.kind ≡ true
-
-pub deep_step : (i n : ℕ) (t : Token) (ts : List Token) → is_too_deep t.kind n ≡ false → first_deep_from i n (t ∷ ts) ≡ first_deep_from (i + 1) (open_behind t.kind n) ts
-unfolding first_deep_from
-deep_step i n t ts h = rw h refl
-
-pub deep_here : (i n : ℕ) (t : Token) (ts : List Token) → is_too_deep t.kind n ≡ true → first_deep_from i n (t ∷ ts) ≡ Some i
-unfolding first_deep_from
-deep_here i n t ts h = rw h refl
-
-pub deep_none : (i n : ℕ) → first_deep_from i n [] ≡ None
-unfolding first_deep_from
-deep_none i n = refl
-
-deep_at : (ts : List Token) (i n d : ℕ) → first_deep_from i n ts ≡ Some d → Deep ts i d
-deep_at [] i n d e = absurd (let h : None ≡ Some d = sym (deep_none i n) ∙ e in cc)
-deep_at (t ∷ ts) i n d e = elim (cases_Bool (is_too_deep t.kind n)) [
-  | inl h ↦ (let here : Some i ≡ Some d = sym (deep_here i n t ts h) ∙ e in
-      let same : i ≡ d = cc in
-      record { before = []; token = t; behind = ts; all = refl; number = omega (arith, same); opened = (and_parts (opens t.kind) (nat_le 64 n) h).0 })
-  | inr h ↦ (let r = deep_at ts (i + 1) (open_behind t.kind n) d (sym (deep_step i n t ts h) ∙ e) in
-      record { before = t ∷ r.before; token = r.token; behind = r.behind; all = ap (λ us. t ∷ us) r.all; number = omega (arith, r.number); opened = r.opened })
-]
-
 not_end : (k : TokenKind) → opens k ≡ true → code_of k ≡ 0 → ⊥
 not_end kind.End h e = true≢false (sym h)
 not_end _ h e = absurd cc
@@ -264,7 +235,7 @@ deep_within ts d h e =
           let place : length ts - 1 ≡ length r.before = omega (arith, len, one) in
           let there : kinds ts ≡ kinds r.before ++ code_of r.token.kind ∷ kinds r.behind = ap kinds r.all ∙ kinds-append r.before (r.token ∷ r.behind) in
           let full : length (kinds ts) ≡ length ts = length-map ts (λ t. code_of t.kind) in
-          not_end r.token.kind r.opened (sym (get_kind r.before (code_of r.token.kind) (kinds r.behind)) ∙ sym (ap (λ xs. get_or xs (length r.before) 0) there) ∙ sym (ap (λ n. get_or (kinds ts) n 0) place) ∙ sym (ap (λ n. get_or (kinds ts) (n - 1) 0) full) ∙ h.end)
+          not_end r.token.kind r.deep.0 (sym (get_kind r.before (code_of r.token.kind) (kinds r.behind)) ∙ sym (ap (λ xs. get_or xs (length r.before) 0) there) ∙ sym (ap (λ n. get_or (kinds ts) n 0) place) ∙ sym (ap (λ n. get_or (kinds ts) (n - 1) 0) full) ∙ h.end)
           )
     ]
   where
@@ -294,9 +265,10 @@ module _ (ts : List Token) (d : ℕ) (e : first_deep ts ≡ Some d) where
         token = r.token;
         behind = r.behind;
         all = r.all;
-        deep = e ∙ ap Some n;
         at = ap (λ t. t.span.start) at;
         begins = subst BeginSource through q;
+        deep = r.deep;
+        shallow = r.first;
       }
 
   -- the whole of them is a text, which cannot be, or begins one
@@ -325,32 +297,6 @@ module _ (ts : List Token) (d : ℕ) (e : first_deep ts ≡ Some d) where
           let number : d + 1 - length (u ∷ us) ≡ length r.before = ap (λ n. n - length (u ∷ us)) (sym len) ∙ sym (number_before (take (d + 1) ts) (u ∷ us) s.shorter r) in
           let few : d + 1 - length (u ∷ us) ≤ d = omega arith in
           unexpected ts (take (d + 1) ts) (u ∷ us) r (kinds us ++ kinds (drop (d + 1) ts)) (d + 1 - length (u ∷ us)) x whole number (subst (NoneBefore (d + 1 - length (u ∷ us))) (sym e) few)
-
--- the scan for the first token that is too deep
-pub deep_next : (ts : List Token) (i n : ℕ) (d : Token) → i < length ts → is_too_deep (get_or ts i d).kind n ≡ false → first_deep_from i n (drop i ts) ≡ first_deep_from (i + 1) (open_behind (get_or ts i d).kind n) (drop (i + 1) ts)
-deep_next ts i n d h e =
-    ap (first_deep_from i n) (drop-cons ts i d h) ∙ deep_step i n (get_or ts i d) (drop (suc i) ts) e
-    ∙ ap (λ k. first_deep_from (i + 1) (open_behind (get_or ts i d).kind n) (drop k ts)) (sym (add-one i))
-
-pub deep_found : (ts : List Token) (i n : ℕ) (d : Token) → i < length ts → is_too_deep (get_or ts i d).kind n ≡ true → first_deep_from i n (drop i ts) ≡ Some i
-deep_found ts i n d h e = ap (first_deep_from i n) (drop-cons ts i d h) ∙ deep_here i n (get_or ts i d) (drop (suc i) ts) e
-
-pub deep_over : (ts : List Token) (i n : ℕ) → length ts ≤ i → first_deep_from i n (drop i ts) ≡ None
-deep_over ts i n h = ap (first_deep_from i n) (drop_all i ts h) ∙ deep_none i n
-
-pub few_open : (k : TokenKind) (n : ℕ) → n ≤ 64 → is_too_deep k n ≡ false → open_behind k n ≤ 64
-few_open k n h e = go (opens k) (closes k) e
-  where
-    go : (b c : Bool) → (b && nat_le 64 n) ≡ false → (if b then n + 1 else if c then n - 1 else n) ≤ 64
-    go true c e = (let few : n < 64 = leb-false 64 n e in omega (arith, few))
-    go false true e = omega (arith, h)
-    go false false e = h
-
-pub deep_turn : (ts : List Token) (i n m : ℕ) (d : Token) → i < length ts → is_too_deep (get_or ts i d).kind n ≡ false → n ≤ 64 → m ≡ open_behind (get_or ts i d).kind n → first_deep_from i n (drop i ts) ≡ first_deep_from 0 0 ts → (first_deep_from (i + 1) m (drop (i + 1) ts) ≡ first_deep_from 0 0 ts) × (m ≤ 64)
-deep_turn ts i n m d h e few same before = (
-  ap (λ k. first_deep_from (i + 1) k (drop (i + 1) ts)) same ∙ sym (deep_next ts i n d h e) ∙ before,
-  subst (λ k. k ≤ 64) (sym same) (few_open (get_or ts i d).kind n few e),
-)
 
 -- what the functions that read all tokens cite
 pub one_at_least : (ts : List Token) → EndsOnce (kinds ts) → length ts - 1 + 1 ≡ length ts
@@ -383,9 +329,9 @@ few_tokens bytes ts h l = let r = tokens_few l in let n : length ts < 65538 = om
 
 pub has_tokens : (bytes : List ℕ) (ts : List Token) (r : Result Source ParseFault) → length bytes ≤ 65536 → Lexes bytes 0 ts → (r ≡ Err fault.Memory) ⊎ IsOutcome bytes ts r → (r ≡ Err fault.Memory) ⊎ IsParse bytes r
 has_tokens bytes ts r h l (inl m) = inl m
-has_tokens bytes ts (Ok v) h l (inr p) = inr (record { short = h; tokens = ts; lexes = l; outcome = p })
-has_tokens bytes ts (Err (fault.Unexpected k o)) h l (inr p) = inr (record { short = h; tokens = ts; lexes = l; outcome = p })
-has_tokens bytes ts (Err (fault.TooDeep o)) h l (inr p) = inr (record { short = h; tokens = ts; lexes = l; outcome = p })
+has_tokens bytes ts (Ok v) h l (inr p) = inr (record { short = h; tokens = ts; lexes = l; holds = p })
+has_tokens bytes ts (Err (fault.Unexpected k o)) h l (inr p) = inr (record { short = h; tokens = ts; lexes = l; holds = p })
+has_tokens bytes ts (Err (fault.TooDeep o)) h l (inr p) = inr (record { short = h; tokens = ts; lexes = l; holds = p })
 has_tokens bytes ts (Err (fault.BadByte o)) h l (inr p) = absurd p
 has_tokens bytes ts (Err (fault.TooLong o)) h l (inr p) = absurd p
 has_tokens bytes ts (Err fault.Memory) h l (inr p) = absurd p

@@ -11,7 +11,6 @@ use Rattle.vd_core.specs.declared.source.Direction.{Direction}
 use Rattle.vd_core.specs.declared.source.Expr.{Expr}
 use Rattle.vd_base.specs.declared.ids.Span.{Span}
 use Rattle.vd_core.specs.declared.source.Sign.{Sign}
-use Rattle.vd_parser.specs.Prefixes.{prefixes_of}
 use Rattle.vd_core.specs.declared.source.Link.{Link}
 use Rattle.vd_core.specs.declared.source.Statement.{Statement}
 use Rattle.vd_core.specs.declared.source.Link.TheVariants as link
@@ -23,7 +22,7 @@ use Rattle.vd_parser.specs.declared.operators.Level.{Level}
 use Rattle.vd_parser.specs.declared.operators.Level.TheVariants as level
 use Rattle.vd_parser.specs.declared.cursor.Refusal.{Refusal}
 use Rattle.vd_parser.specs.Language.{Symbol, tok, BOR, BXOR, BAND, SUM, PROD, STMT, comparison_ops, shift_ops, prefix_ops}
-use Rattle.vd_parser.specs.Syntax.{token_of, span_of, infix_of, direction_of, prefix_of, chained, link_of, bor_of, bor_links_of, bxor_of, bxor_links_of, band_of, band_links_of, sum_of, sum_links_of, prod_of, prod_links_of, shift_links_of, statements_of, statement_of}
+use Rattle.vd_parser.specs.Syntax.{token_of, span_of, infix_of, direction_of, prefix_of, prefixes_of, chained, link_of, bor_of, bor_links_of, bxor_of, bxor_links_of, band_of, band_links_of, sum_of, sum_links_of, prod_of, prod_links_of, shift_links_of, statements_of, statement_of}
 use Rattle.vd_parser.specs.Parsing.{language, next_kind, kind_at, Refused}
 use Rattle.vd_parser.specs.Levels.{begins_statement, comparison_at, infix_at, prefix_at, direction_at, ops_of, symbol_of, operand_symbol, level_of, operand_of, links_of}
 use Rattle.vd_parser.proofs.Ready.{F, E, language_ll1}

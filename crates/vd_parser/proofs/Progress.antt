@@ -17,7 +17,7 @@ record Less (e : Ebnf Symbol) (ts us : List Token) : Type 0 where
 
 less : {e : Ebnf Symbol} {ts us : List Token} {x : Tree Token} → Makes Symbol Token rule (λ t. code_of t.kind) e ts us x → Less e ts us
 less (m-tok e) = record { most = omega arith; some = λ n. omega arith }
-less (m-sym {s = s} g) = let r = less g in record { most = r.most; some = λ n. r.some (language_ll1.tables.some s) }
+less (m-sym {s = s} g) = let r = less g in record { most = r.most; some = λ n. r.some (language_ll1.tables.nonempty s) }
 less m-eps = record { most = omega arith; some = λ n. absurd (true≢false n) }
 less (m-seq {a = a} {b = b} g h) =
     let l = less g in

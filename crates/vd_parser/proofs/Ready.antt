@@ -54,27 +54,27 @@ same_follow_lasts PROD = refl
 same_follow_lasts UNARY = refl
 same_follow_lasts ATOM = refl
 
-some : (s : Symbol) → nullable (rule s) ≡ false
-some SOURCE = refl
-some HOST = refl
-some LABEL = refl
-some FORM = refl
-some CONJ = refl
-some FATOM = refl
-some FUN = refl
-some PARAM = refl
-some KIND = refl
-some BLOCK = refl
-some STMT = refl
-some EXPR = refl
-some BOR = refl
-some BXOR = refl
-some BAND = refl
-some SHIFT = refl
-some SUM = refl
-some PROD = refl
-some UNARY = refl
-some ATOM = refl
+nonempty : (s : Symbol) → nullable (rule s) ≡ false
+nonempty SOURCE = refl
+nonempty HOST = refl
+nonempty LABEL = refl
+nonempty FORM = refl
+nonempty CONJ = refl
+nonempty FATOM = refl
+nonempty FUN = refl
+nonempty PARAM = refl
+nonempty KIND = refl
+nonempty BLOCK = refl
+nonempty STMT = refl
+nonempty EXPR = refl
+nonempty BOR = refl
+nonempty BXOR = refl
+nonempty BAND = refl
+nonempty SHIFT = refl
+nonempty SUM = refl
+nonempty PROD = refl
+nonempty UNARY = refl
+nonempty ATOM = refl
 
 ll1 : (s : Symbol) → is_ll1 F E (rule s) ≡ true
 ll1 SOURCE = refl
@@ -143,4 +143,4 @@ ones UNARY = refl
 ones ATOM = refl
 
 pub language_ll1 : IsLL1 Symbol rule F E 10
-language_ll1 = record { tables = record { firsts = same_firsts; follow_lasts = same_follow_lasts; some = some; ll1 = ll1 }; enters = enters }
+language_ll1 = record { tables = record { firsts = same_firsts; follow_lasts = same_follow_lasts; nonempty = nonempty; ll1 = ll1 }; enters = enters }

@@ -90,7 +90,7 @@ after_name = optional (arguments_rule ∣ index_rule)
 abbrev pub named_rule : Ebnf Symbol
 named_rule = tok kind.Name ▸ after_name
 
--- the atoms that begin with none of the words of a rule before them
+-- the other atoms; the rule is in three parts only to keep the functions short
 abbrev pub other_atom_rule : Ebnf Symbol
 other_atom_rule =
     tok kind.Mux ▸ three_rule

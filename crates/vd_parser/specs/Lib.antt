@@ -2,7 +2,6 @@ pub mod Language
 pub mod Syntax
 pub mod Parsing
 pub mod Levels
-pub mod Prefixes
 pub mod Document
 pub mod Nesting
 pub mod Whole

@@ -1,5 +1,6 @@
 -- Open brackets. Round, curly and square ones all count.
-use Rattle.std.specs.Prelude.{ℕ, ◌+◌, ◌-◌, Bool, ◌&&◌, ◌||◌, List, [], ◌∷◌, Option, Some, None, nat_le, if◌then◌else◌}
+use Rattle.std.specs.Prelude.{◌≡◌, ℕ, ◌+◌, ◌-◌, ◌≤◌, Bool, true, ◌||◌, List, ◌∷◌, ◌++◌, length, Option, Some, None, if◌then◌else◌}
+use Rattle.std.specs.List.{fold}
 use Rattle.vd_lexer.specs.declared.token.TokenKind.{TokenKind}
 use Rattle.vd_lexer.specs.declared.token.TokenKind.TheVariants as kind
 use Rattle.vd_lexer.specs.declared.token.Token.{Token}
@@ -15,14 +16,33 @@ closes k = (is_kind k kind.CloseBrace || is_kind k kind.CloseParen) || is_kind k
 abbrev pub open_behind : TokenKind → ℕ → ℕ
 open_behind k n = if opens k then n + 1 else if closes k then n - 1 else n
 
--- whether a token of this kind opens a 65th bracket
-abbrev pub is_too_deep : TokenKind → ℕ → Bool
-is_too_deep k n = opens k && nat_le 64 n
+-- how many are open behind all of these tokens
+abbrev pub open_behind_all : List Token → ℕ
+open_behind_all = fold (λ n t. open_behind t.kind n) 0
 
--- The number of the first token that opens a 65th bracket, where the list's first has the number i and n are open before it.
-unfoldable pub first_deep_from : ℕ → ℕ → List Token → Option ℕ
-first_deep_from i n [] = None
-first_deep_from i n (t ∷ ts) = if is_too_deep t.kind n then Some i else first_deep_from (i + 1) (open_behind t.kind n) ts
+-- how many may be open at once
+abbrev pub most_open : ℕ
+most_open = 64
 
-abbrev pub first_deep : List Token → Option ℕ
-first_deep ts = first_deep_from 0 0 ts
+-- behind the tokens before, the token opens a bracket beyond the limit
+abbrev pub OpensTooDeep : List Token → Token → Type 0
+OpensTooDeep before token = (opens token.kind ≡ true) × (most_open ≤ open_behind_all before)
+
+-- none of the tokens opens a bracket beyond the limit
+abbrev pub NoneTooDeep : List Token → Type 0
+NoneTooDeep ts = (before : List Token) (token : Token) (behind : List Token) → ts ≡ before ++ token ∷ behind → OpensTooDeep before token → ⊥
+
+-- The token with this number opens a bracket beyond the limit, and none before it does.
+pub record IsFirstDeep (ts : List Token) (number : ℕ) : Type 0 where
+  pub before : List Token
+  pub token : Token
+  pub behind : List Token
+  pub all : ts ≡ before ++ token ∷ behind
+  pub is_number : number ≡ length before
+  pub deep : OpensTooDeep before token
+  pub first : NoneTooDeep before
+
+-- the first token that opens a bracket beyond the limit, if there is one
+abbrev pub IsFirstDeepIn : List Token → Option ℕ → Type 0
+IsFirstDeepIn ts None = NoneTooDeep ts
+IsFirstDeepIn ts (Some number) = IsFirstDeep ts number

@@ -1,5 +1,5 @@
 -- What parsing some bytes gives: the one tree of the bytes, or the one refusal.
-use Rattle.std.specs.Prelude.{◌≡◌, ℕ, ◌<◌, ◌≤◌, List, [], ◌∷◌, ◌++◌, length, Option, Some, None, Result, Ok, Err}
+use Rattle.std.specs.Prelude.{◌≡◌, ℕ, ◌<◌, ◌≤◌, List, [], ◌∷◌, ◌++◌, length, Result, Ok, Err}
 use Rattle.vd_grammar.specs.Grammar.{Ebnf, Sym, Starts, ◌▸◌}
 use Rattle.vd_grammar.specs.Trees.{Tree, Both, Makes}
 use Rattle.vd_core.specs.declared.source.Source.{Source}
@@ -11,7 +11,7 @@ use Rattle.vd_parser.specs.declared.fault.ParseFault.{ParseFault}
 use Rattle.vd_parser.specs.declared.fault.ParseFault.TheVariants as fault
 use Rattle.vd_parser.specs.Language.{Symbol, rule, tok, SOURCE}
 use Rattle.vd_parser.specs.Syntax.{source_of}
-use Rattle.vd_parser.specs.Nesting.{first_deep}
+use Rattle.vd_parser.specs.Nesting.{OpensTooDeep, NoneTooDeep}
 
 -- a source, and the end of the text
 abbrev pub sentence : Ebnf Symbol
@@ -28,12 +28,8 @@ pub record IsSource (text : List ℕ) (ts : List Token) (source : Source) : Type
   pub makes : Makes Symbol Token rule (λ t. code_of t.kind) sentence ts [] (Both tree end)
   pub stands : source ≡ source_of text tree
 
--- no token before number k opens a 65th bracket
-abbrev pub NoneBefore : ℕ → Option ℕ → Type 0
-NoneBefore k None = Unit {0}
-NoneBefore k (Some d) = k ≤ d
-
--- The tokens before number k begin a source, and those through it begin none; it stands at the offset.
+-- The tokens before number k begin a source, and those through it begin none; it stands at the offset. None before it opens
+-- a 65th bracket.
 pub record IsUnexpected (ts : List Token) (k offset : ℕ) : Type 0 where
   pub before : List Token
   pub token : Token
@@ -43,7 +39,7 @@ pub record IsUnexpected (ts : List Token) (k offset : ℕ) : Type 0 where
   pub at : offset ≡ token.span.start
   pub begins : BeginSource before
   pub ends : BeginSource (before ++ token ∷ []) → ⊥
-  pub shallow : NoneBefore k (first_deep ts)
+  pub shallow : NoneTooDeep before
 
 -- The token at the offset is the first that opens a 65th bracket, and the tokens through it begin a source.
 pub record IsTooDeep (ts : List Token) (offset : ℕ) : Type 0 where
@@ -51,38 +47,34 @@ pub record IsTooDeep (ts : List Token) (offset : ℕ) : Type 0 where
   pub token : Token
   pub behind : List Token
   pub all : ts ≡ before ++ token ∷ behind
-  pub deep : first_deep ts ≡ Some (length before)
   pub at : offset ≡ token.span.start
   pub begins : BeginSource (before ++ token ∷ [])
+  pub deep : OpensTooDeep before token
+  pub shallow : NoneTooDeep before
 
 -- a source in which no token opens a 65th bracket
 pub record IsShallow (text : List ℕ) (ts : List Token) (v : Source) : Type 0 where
   pub source : IsSource text ts v
-  pub shallow : first_deep ts ≡ None
+  pub shallow : NoneTooDeep ts
 
--- the same by the tokens
-abbrev pub IsOutcome : List ℕ → List Token → Result Source ParseFault → Type 0
-IsOutcome text ts (Ok source) = IsShallow text ts source
-IsOutcome text ts (Err (fault.BadByte offset)) = ⊥
-IsOutcome text ts (Err (fault.Unexpected k offset)) = IsUnexpected ts k offset
-IsOutcome text ts (Err (fault.TooDeep offset)) = IsTooDeep ts offset
-IsOutcome text ts (Err (fault.TooLong len)) = ⊥
-IsOutcome text ts (Err fault.Memory) = ⊥
+-- how many bytes a source may have
+abbrev pub most_bytes : ℕ
+most_bytes = 65536
 
--- the bytes have tokens, and those have the outcome
-pub record HasTokens (bytes : List ℕ) (result : Result Source ParseFault) : Type 0 where
-  pub short : length bytes ≤ 65536
+-- the bytes are not too many, and have tokens of which P holds
+pub record HasTokens (bytes : List ℕ) (P : List Token → Type 0) : Type 0 where
+  pub short : length bytes ≤ most_bytes
   pub tokens : List Token
   pub lexes : Lexes bytes 0 tokens
-  pub outcome : IsOutcome bytes tokens result
+  pub holds : P tokens
 
 -- The one outcome of these bytes. Want of memory is none.
 abbrev pub IsParse : List ℕ → Result Source ParseFault → Type 0
-IsParse bytes (Ok source) = HasTokens bytes (Ok source)
-IsParse bytes (Err (fault.BadByte offset)) = (length bytes ≤ 65536) × FirstBad bytes 0 offset
-IsParse bytes (Err (fault.Unexpected k offset)) = HasTokens bytes (Err (fault.Unexpected k offset))
-IsParse bytes (Err (fault.TooDeep offset)) = HasTokens bytes (Err (fault.TooDeep offset))
-IsParse bytes (Err (fault.TooLong len)) = (65536 < length bytes) × (len ≡ length bytes)
+IsParse bytes (Ok source) = HasTokens bytes (λ ts. IsShallow bytes ts source)
+IsParse bytes (Err (fault.BadByte offset)) = (length bytes ≤ most_bytes) × FirstBad bytes 0 offset
+IsParse bytes (Err (fault.Unexpected k offset)) = HasTokens bytes (λ ts. IsUnexpected ts k offset)
+IsParse bytes (Err (fault.TooDeep offset)) = HasTokens bytes (λ ts. IsTooDeep ts offset)
+IsParse bytes (Err (fault.TooLong len)) = (most_bytes < length bytes) × (len ≡ length bytes)
 IsParse bytes (Err fault.Memory) = ⊥
 
 -- Some bytes have one outcome, and no second one.

@@ -1,7 +1,7 @@
 -- What each function of the parser promises.
 use Rattle.std.specs.Prelude.{◌≡◌, ℕ, List, [], ◌∷◌, Result, Ok, Err}
 use Rattle.vd_grammar.specs.Grammar.{Ebnf}
-use Rattle.vd_grammar.specs.Machine.{firsts}
+use Rattle.vd_grammar.specs.Machine.{firsts, IsLL1}
 use Rattle.vd_grammar.specs.Trees.{Tree}
 use Rattle.vd_grammar.specs.Reading.{Grammar, Stops, Gives}
 use Rattle.vd_lexer.specs.Kinds.{code_of}
@@ -14,6 +14,10 @@ use Rattle.vd_parser.specs.Language.{Symbol, rule}
 
 unfoldable pub language : Grammar Symbol Token
 language = record { rule = rule; kind = λ t. code_of t.kind; end = 0; firsts = λ s. firsts rule 10 s; bound = 10 }
+
+-- there are tables of the rules, and by them one token decides each choice
+abbrev pub OneTokenDecides : Type 0
+OneTokenDecides = (F : Symbol → List ℕ) × (E : Symbol → List ℕ) × IsLL1 Symbol rule F E 10
 
 -- the kind of the next token, or that of the end
 abbrev pub kind_at : List Token → TokenKind

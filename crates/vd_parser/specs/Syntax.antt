@@ -1,5 +1,6 @@
 -- The syntax tree that a tree of the grammar stands for. text is the bytes of the source, in which names stand.
 use Rattle.std.specs.Prelude.{ℕ, ◌-◌, true, false, List, [], ◌∷◌, ◌++◌, drop, take, Option, Some, None}
+use mathlib.Core.List.{reverse}
 use Rattle.vd_grammar.specs.Trees.{Tree, Leaf, Both, First, Second, Empty}
 use Rattle.vd_base.specs.declared.ids.Span.{Span}
 use Rattle.vd_base.specs.declared.operations.Kind.{Kind}
@@ -43,8 +44,8 @@ token_of Empty = no_token
 abbrev pub span_of : Tree Token → Span
 span_of x = (token_of x).span
 
-abbrev pub number_of : Tree Token → ℕ
-number_of x = (token_of x).value
+abbrev pub value_of : Tree Token → ℕ
+value_of x = (token_of x).value
 
 -- the bytes of a span
 abbrev pub word_at : List ℕ → Span → List ℕ
@@ -153,10 +154,14 @@ abbrev pub chained : Expr → List Link → Expr
 chained x [] = x
 chained x (l ∷ ls) = expr.Chain x (l ∷ ls)
 
--- {"!" | "~"}, the nearest to the operand first
-unfoldable pub signs_of : Tree Token → List Sign
-signs_of (Both o r) = signs_of r ++ sign_of o ∷ []
-signs_of _ = []
+-- {"!" | "~"}, in the order of the text
+unfoldable pub prefixes_of : Tree Token → List Sign
+prefixes_of (Both o r) = sign_of o ∷ prefixes_of r
+prefixes_of _ = []
+
+-- the nearest to the operand first
+abbrev pub signs_of : Tree Token → List Sign
+signs_of x = reverse (prefixes_of x)
 
 -- an operand alone is itself
 abbrev pub signed : Expr → List Sign → Expr
@@ -198,7 +203,7 @@ unfoldable mutual
   shift_of text _ = expr.Number 0
 
   pub shift_links_of : List ℕ → Tree Token → List Link
-  shift_links_of text (Both (Both o n) r) = link.Shift (direction_of (token_of o).kind) (span_of o) (number_of n) ∷ shift_links_of text r
+  shift_links_of text (Both (Both o n) r) = link.Shift (direction_of (token_of o).kind) (span_of o) (value_of n) ∷ shift_links_of text r
   shift_links_of text _ = []
 
   pub sum_of : List ℕ → Tree Token → Expr
@@ -222,7 +227,7 @@ unfoldable mutual
   unary_of text _ = expr.Number 0
 
   pub atom_of : List ℕ → Tree Token → Expr
-  atom_of text (First n) = expr.Number (number_of n)
+  atom_of text (First n) = expr.Number (value_of n)
   atom_of text (Second (First t)) = expr.Truth true
   atom_of text (Second (Second (First t))) = expr.Truth false
   atom_of text (Second (Second (Second x))) = word_atom_of text x
@@ -310,7 +315,7 @@ var_of text (Both k (Both t (Both l (Both e (Both x s))))) = stmt.Var (span_of k
 var_of text _ = stmt.Let (span_of Empty) (ident_of text Empty) None (expr.Number 0)
 
 unfoldable pub length_of : Tree Token → ℕ
-length_of (Both o (Both n p)) = number_of n
+length_of (Both o (Both n p)) = value_of n
 length_of _ = 0
 
 unfoldable pub array_of : List ℕ → Tree Token → Statement
@@ -361,7 +366,7 @@ unfoldable mutual
   else_of text _ = []
 
   pub for_of : List ℕ → Tree Token → Statement
-  for_of text (Both k (Both n (Both t (Both c b)))) = stmt.For (span_of k) (ident_of text n) (number_of c) (block_of text b)
+  for_of text (Both k (Both n (Both t (Both c b)))) = stmt.For (span_of k) (ident_of text n) (value_of c) (block_of text b)
   for_of text _ = stmt.Let (span_of Empty) (ident_of text Empty) None (expr.Number 0)
 
 abbrev pub parameter_of : List ℕ → Tree Token → Parameter

@@ -48,12 +48,14 @@ impl<'a> Model for Cursor<'a> {
 }
 
 impl<'a> Cursor<'a> {
+    /// All these tokens are still to be read.
     pub fn new(tokens: &'a [Token]) -> Cursor<'a>
         ensures { result ≡ tokens.now }
     {
         Cursor { left: tokens }
     }
 
+    /// How many tokens are still to be read.
     pub fn len(&self) -> usize
         ensures { result ≡ length self.now }
     {

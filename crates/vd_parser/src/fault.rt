@@ -15,6 +15,7 @@ pub enum ParseFault {
     /// The length of a text that is longer than a source may be.
     #[error("{0} bytes are too long for a source")]
     TooLong(u64),
+    /// There was no memory for the tokens or for the tree.
     #[error("out of memory")]
     Memory,
 }

@@ -4,11 +4,17 @@ ghost use Rattle.std.specs.Prelude.{ℕ, List, Ok};
 ghost use Rattle.vd_core.specs.Named.{HasNames};
 ghost use Rattle.vd_core.specs.declared.source.Source.{Source};
 ghost use Rattle.vd_parser.specs.Document.{SameLanguage};
+ghost use Rattle.vd_parser.specs.Parsing.{OneTokenDecides};
 ghost use Rattle.vd_parser.specs.Outcomes.{IsParse, ParsesOnce, ParsesSomehow};
 
 /// The rules that the parser goes by, in which one token decides each choice, are those of the language.
 pub fn same_language()
     ensures { SameLanguage }
+{}
+
+/// The rules pass the test that one token decides each choice.
+pub fn one_token_decides()
+    ensures { OneTokenDecides }
 {}
 
 /// No bytes have two outcomes: one tree, or one refusal.

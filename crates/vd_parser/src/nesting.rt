@@ -1,4 +1,4 @@
-ghost use Rattle.std.specs.Prelude.{◌≡◌, ◌≤◌};
+ghost use Rattle.std.specs.Prelude.{◌≡◌, ◌≤◌, ◌&&◌, nat_le};
 ghost use Rattle.vd_parser.specs.Nesting as nesting;
 
 use crate::operators::is;
@@ -37,14 +37,14 @@ fn open_behind(kind: TokenKind, depth: u32) -> u32
 
 /// Whether a token opens a bracket beyond the limit.
 fn is_too_deep(kind: TokenKind, depth: u32) -> bool
-    ensures { result ≡ nesting.is_too_deep kind depth }
+    ensures { result ≡ (nesting.opens kind && nat_le nesting.most_open depth) }
 {
     opens(kind) && OPEN_BRACKETS <= depth
 }
 
 /// The number of the first token that opens a bracket beyond the limit.
 pub fn first_deep(tokens: &[Token]) -> Option<usize>
-    ensures { result ≡ nesting.first_deep tokens.now }
+    ensures { nesting.IsFirstDeepIn tokens.now result }
 {
     let mut depth = 0;
     for (number, token) in tokens.iter().enumerate() {

@@ -15,6 +15,7 @@ pub enum Level {
     Product,
 }
 
+/// Whether a kind is the wanted one.
 pub fn is(kind: TokenKind, wanted: TokenKind) -> bool
     ensures { result ≡ nat_eq (code_of kind) (code_of wanted) }
 {
@@ -64,6 +65,7 @@ pub fn infix(level: Level, kind: TokenKind) -> Option<Infix>
     }
 }
 
+/// The comparison that a token of this kind is.
 pub fn comparison(kind: TokenKind) -> Option<Infix>
     ensures { result ≡ comparison_at kind }
 {
@@ -84,6 +86,7 @@ pub fn comparison(kind: TokenKind) -> Option<Infix>
     }
 }
 
+/// The operator before an operand that a token of this kind is.
 pub fn prefix(kind: TokenKind) -> Option<Prefix>
     ensures { result ≡ prefix_at kind }
 {

@@ -13,6 +13,7 @@ use vd_items::Items;
 use vd_lexer::TokenKind;
 
 /// Reads the parts of a source, each by a method, from the tokens that a cursor has.
+#[derive(Drop)]
 pub struct Parser<'a> {
     pub alloc: Global,
     /// The bytes of the source, in which the names stand.

@@ -1,8 +1,7 @@
 ghost use Rattle.std.specs.Prelude.{◌≡◌, IfOk};
 ghost use Rattle.vd_grammar.specs.Grammar.{Star};
 ghost use Rattle.vd_parser.specs.Language.{prefix_ops};
-ghost use Rattle.vd_parser.specs.Prefixes.{prefixes_of};
-ghost use Rattle.vd_parser.specs.Syntax.{signs_of, signed};
+ghost use Rattle.vd_parser.specs.Syntax.{prefixes_of, signs_of, signed};
 ghost use Rattle.vd_parser.specs.Parsing.{Parses};
 
 use crate::cursor::{Cursor, Refusal};

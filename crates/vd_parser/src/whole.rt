@@ -1,12 +1,14 @@
-ghost use Rattle.std.specs.Prelude.{◌≡◌, ◌⊎◌, ◌+◌, ◌<◌, ◌≤◌, ◌^◌, length, Some, None, Err, IfOk};
+ghost use Rattle.std.specs.Prelude.{◌≡◌, ◌⊎◌, ◌+◌, ◌<◌, ◌≤◌, ◌^◌, length, Result, Err, IfOk};
 ghost use Rattle.vd_core.specs.Named.{HasNames};
+ghost use Rattle.vd_core.specs.declared.source.Source.{Source};
+ghost use Rattle.vd_parser.specs.declared.fault.ParseFault.{ParseFault};
 ghost use Rattle.vd_grammar.specs.Grammar.{Sym};
 ghost use Rattle.vd_lexer.specs.Tokens.{EndsOnce, kinds};
 ghost use Rattle.vd_parser.specs.Language.{SOURCE};
 ghost use Rattle.vd_parser.specs.Syntax.{source_of};
-ghost use Rattle.vd_parser.specs.Nesting as nesting;
-ghost use Rattle.vd_parser.specs.Outcomes.{IsParse, IsOutcome};
-ghost use Rattle.vd_parser.specs.Whole.{NoEnd, ParsesWhole};
+ghost use Rattle.vd_parser.specs.Nesting.{NoneTooDeep, IsFirstDeep};
+ghost use Rattle.vd_parser.specs.Outcomes.{IsParse};
+ghost use Rattle.vd_parser.specs.Whole.{NoEnd, ParsesWhole, IsOutcome};
 
 use crate::cursor::{Cursor, Refusal};
 use crate::fault::ParseFault;
@@ -35,8 +37,17 @@ impl<'a> Parser<'a> {
 /// The one tree of the bytes of a source, or the one refusal of other bytes.
 ///
 /// A text that is too long is refused before it is read. A bad byte anywhere comes before a token that cannot stand
-/// where it stands and before a bracket that is nested too deep; of these two the earlier token is answered.
+/// where it stands and before a bracket that is nested too deep; of these two the earlier token is answered. Whatever
+/// outcome the bytes have, that one is answered, unless memory runs out.
 pub fn parse(alloc: Global, bytes: &[u8]) -> Result<Source, ParseFault>
+    ensures outcome { (result ≡ Err ParseFault.Memory) ⊎ IsParse bytes.now result }
+    ensures exact { (answer : Result Source ParseFault) → IsParse bytes.now answer → (result ≡ Err ParseFault.Memory) ⊎ (result ≡ answer) }
+    ensures named { IfOk result HasNames }
+{
+    parse_bytes(alloc, bytes)
+}
+
+fn parse_bytes(alloc: Global, bytes: &[u8]) -> Result<Source, ParseFault>
     ensures outcome { (result ≡ Err ParseFault.Memory) ⊎ IsParse bytes.now result }
     ensures named { IfOk result HasNames }
 {
@@ -65,14 +76,13 @@ fn parse_tokens(alloc: Global, text: &[u8], tokens: &[Token]) -> Result<Source, 
 fn parse_all(alloc: Global, text: &[u8], tokens: &[Token]) -> Result<Source, ParseFault>
     requires ended { EndsOnce (kinds tokens.now) }
     requires few { length tokens.now < 2 ^ 32 }
-    requires shallow { nesting.first_deep tokens.now ≡ None }
+    requires shallow { NoneTooDeep tokens.now }
     ensures { (result ≡ Err ParseFault.Memory) ⊎ IsOutcome text.now tokens.now result }
 {
     let end = tokens.len() - 1;
     let mut cursor = Cursor::new(&tokens[..end]);
     let parser = Parser { alloc, text };
     let source = parser.whole_source(&mut cursor);
-    let Parser { alloc: _, text: _ } = parser;
     match source {
         Ok(source) => Ok(source),
         Err(refusal) => match refusal {
@@ -94,7 +104,7 @@ fn parse_through(
 ) -> Result<Source, ParseFault>
     requires ended { EndsOnce (kinds tokens.now) }
     requires few { length tokens.now < 2 ^ 32 }
-    requires deep { nesting.first_deep tokens.now ≡ Some deep }
+    requires deep { IsFirstDeep tokens.now deep }
     requires within { deep + 2 ≤ length tokens.now }
     ensures { (result ≡ Err ParseFault.Memory) ⊎ IsOutcome text.now tokens.now result }
 {
@@ -102,7 +112,6 @@ fn parse_through(
     let mut cursor = Cursor::new(&tokens[..end]);
     let parser = Parser { alloc, text };
     let source = parser.whole_source(&mut cursor);
-    let Parser { alloc: _, text: _ } = parser;
     match source {
         Ok(_) => Err(ParseFault::TooDeep(tokens[deep].span.start)),
         Err(refusal) => match refusal {

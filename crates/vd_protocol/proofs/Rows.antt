@@ -1,5 +1,5 @@
 -- One more host: the lists that loops over hosts build.
-use Rattle.std.proofs.Common.{◌≡◌, ℕ, zero, suc, ◌+◌, ◌<◌, Bool, true, false, cond, List, [], ◌∷◌, ◌++◌, map, refl, sym, ap, ◌∙◌, subst, arith}
+use Rattle.std.proofs.Common.{◌≡◌, ℕ, ◌+◌, Bool, true, false, cond, List, [], ◌∷◌, ◌++◌, map, refl, sym, ap, ◌∙◌, arith}
 use Rattle.std.specs.Prelude.{filter}
 use Rattle.std.specs.List.{range_with_len, flat_map}
 use Rattle.std.proofs.lemmas.List.Elements.{filter-append}
@@ -7,12 +7,7 @@ use Rattle.std.proofs.lemmas.Grind.{flat_map-append}
 use Rattle.std.proofs.lemmas.List.{map-append, append-nil, append_assoc}
 use Rattle.vd_base.specs.declared.ids.HostId.{HostId}
 use Rattle.vd_base.specs.HostSets.{host, hosts}
-
-pub range_more : (a n b : ℕ) → a + n ≡ b → range_with_len a (n + 1) ≡ range_with_len a n ++ b ∷ []
-range_more a zero b e = ap (λ x. x ∷ []) (let f : a ≡ b = omega arith in f)
-range_more a (suc n) b e =
-    let more : suc n + 1 ≡ suc (n + 1) = omega arith in
-    ap (range_with_len a) more ∙ ap (λ xs. a ∷ xs) (range_more (a + 1) n b (omega arith))
+use Rattle.vd_formula.proofs.Antichains.{range_more}
 
 -- the elements that pass, each changed, of one more number
 pub passing_more : {A B : Type 0} (make : ℕ → A) (test : A → Bool) (change : A → B) (n : ℕ) → map change (filter test (map make (range_with_len 0 (n + 1)))) ≡ map change (filter test (map make (range_with_len 0 n))) ++ cond (test (make n)) (change (make n) ∷ []) []

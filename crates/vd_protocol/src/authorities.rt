@@ -1,5 +1,5 @@
 ghost use Rattle.std.specs.Prelude.{◌≡◌, ◌<◌, ◌≤◌, length};
-ghost use Rattle.vd_protocol.specs.Authority.{AreOverSameNames, HasHosts, authority_of, committed_of, copies_of, shared_of};
+ghost use Rattle.vd_protocol.specs.Authority.{AreOverSameNames, HasHosts, IsOver, authority_of, committed_of, copies_of, names_of, shared_of};
 
 use vd_base::{HostId, HostSet, Proto};
 use vd_formula::{Formula, Label};
@@ -14,9 +14,19 @@ pub fn authority(protocol: Proto, hosts: &HostLabels) -> Label
     requires few { length hosts.now ≤ 4 }
     requires names { AreOverSameNames hosts.now }
     requires declared { HasHosts (length hosts.now) protocol }
+    ensures authority { result ≡ authority_of protocol hosts.now }
+    ensures names { IsOver (names_of hosts.now) result }
+{
+    authority_among(protocol, hosts.as_slice())
+}
+
+fn authority_among(protocol: Proto, hosts: &[Label]) -> Label
+    requires some { 0 < length hosts.now }
+    requires few { length hosts.now ≤ 4 }
+    requires names { AreOverSameNames hosts.now }
+    requires declared { HasHosts (length hosts.now) protocol }
     ensures { result ≡ authority_of protocol hosts.now }
 {
-    let hosts = hosts.as_slice();
     match protocol {
         Proto::Local(host) => hosts[host.0 as usize],
         Proto::Rep(set) => copies(set, hosts),

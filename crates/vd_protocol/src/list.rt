@@ -1,7 +1,8 @@
 ghost use Rattle.std.specs.Prelude.{◌≡◌, ◌≤◌, ◌++◌, IfOk, OnOk, map};
 ghost use Rattle.vd_base.specs.HostSets.{hosts as hosts_of};
-ghost use Rattle.vd_base.specs.Protocols.{differ, groups, is_earlier, pairs, protocols_of};
+ghost use Rattle.vd_base.specs.Protocols.{groups, pairs, protocols_of};
 ghost use Rattle.vd_base.specs.declared.protocols.Proto.TheVariants as proto;
+ghost use Rattle.vd_protocol.specs.Pairings.{protocol_of, takes};
 
 use std::alloc::{AllocError, Global};
 use vd_base::{HostId, HostSet, Proto};
@@ -15,9 +16,9 @@ pub fn protocols(alloc: Global, hosts: u8) -> Result<Items<Proto>, AllocError>
     let mut list = Items::new(alloc);
     push_local(&mut list, hosts)?;
     push_copies(&mut list, hosts)?;
-    push_commitments(&mut list, hosts)?;
-    push_added(&mut list, hosts)?;
-    push_xored(&mut list, hosts)?;
+    push_pairs(&mut list, Pairing::Commit, hosts)?;
+    push_pairs(&mut list, Pairing::Add, hosts)?;
+    push_pairs(&mut list, Pairing::Xor, hosts)?;
     Ok(list)
 }
 
@@ -43,39 +44,46 @@ fn push_copies(list: &mut Items<Proto>, hosts: u8) -> Result<(), AllocError>
     Ok(())
 }
 
-fn push_commitments(list: &mut Items<Proto>, hosts: u8) -> Result<(), AllocError>
-    ensures { OnOk result (list.new ≡ list.old ++ pairs differ proto.Commit hosts) }
-{
-    for prover in 0..hosts {
-        for verifier in 0..hosts {
-            if prover != verifier {
-                list.push(Proto::Commit(HostId(prover), HostId(verifier)))?;
-            }
-        }
-    }
-    Ok(())
+/// A kind of protocol that two hosts hold together.
+#[derive(Clone, Copy)]
+enum Pairing {
+    Commit,
+    Add,
+    Xor,
 }
 
-fn push_added(list: &mut Items<Proto>, hosts: u8) -> Result<(), AllocError>
-    ensures { OnOk result (list.new ≡ list.old ++ pairs is_earlier proto.Add hosts) }
+impl Pairing {
+    ghost use Rattle.vd_protocol.specs.Pairings.{protocol_of, takes};
+
+    /// Whether there is one of these hosts in this order.
+    fn takes(self, first: HostId, second: HostId) -> bool
+        ensures { result ≡ takes self first second }
+    {
+        match self {
+            Pairing::Commit => first != second,
+            Pairing::Add | Pairing::Xor => first.0 < second.0,
+        }
+    }
+
+    /// The one of these hosts.
+    fn protocol(self, first: HostId, second: HostId) -> Proto
+        ensures { result ≡ protocol_of self first second }
+    {
+        match self {
+            Pairing::Commit => Proto::Commit(first, second),
+            Pairing::Add => Proto::Add(first, second),
+            Pairing::Xor => Proto::Xor(first, second),
+        }
+    }
+}
+
+fn push_pairs(list: &mut Items<Proto>, pairing: Pairing, hosts: u8) -> Result<(), AllocError>
+    ensures { OnOk result (list.new ≡ list.old ++ pairs (takes pairing) (protocol_of pairing) hosts) }
 {
     for first in 0..hosts {
         for second in 0..hosts {
-            if first < second {
-                list.push(Proto::Add(HostId(first), HostId(second)))?;
-            }
-        }
-    }
-    Ok(())
-}
-
-fn push_xored(list: &mut Items<Proto>, hosts: u8) -> Result<(), AllocError>
-    ensures { OnOk result (list.new ≡ list.old ++ pairs is_earlier proto.Xor hosts) }
-{
-    for first in 0..hosts {
-        for second in 0..hosts {
-            if first < second {
-                list.push(Proto::Xor(HostId(first), HostId(second)))?;
+            if pairing.takes(HostId(first), HostId(second)) {
+                list.push(pairing.protocol(HostId(first), HostId(second)))?;
             }
         }
     }

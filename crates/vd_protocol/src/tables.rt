@@ -72,7 +72,9 @@ fn committed_joins(prover: HostId, verifier: HostId, to: Proto) -> bool
     match to {
         Proto::Local(host) => host == prover || host == verifier,
         Proto::Rep(hosts) => hosts.is_pair(prover, verifier),
-        Proto::Commit(other, witness) => prover == other && verifier == witness,
+        Proto::Commit(other_prover, other_verifier) => {
+            prover == other_prover && verifier == other_verifier
+        },
         Proto::Add(_, _) | Proto::Xor(_, _) => false,
     }
 }

@@ -1,7 +1,13 @@
+ghost use Rattle.std.specs.Prelude.{IsTrue};
+ghost use Rattle.vd_protocol.specs.Authority.{HasHosts};
+
 use super::*;
+use std::alloc::Global;
 use std::process::Abort;
 use std::test::Fail;
 use vd_base::{HostId, HostSet, Op, Proto};
+use vd_formula::{Formula, Label};
+use vd_items::Items;
 
 // The protocols over two, three and four hosts in order, each with the protocols that it joins: a mark for each
 // protocol, in the same order. L0 is the local protocol of host 0, R5 copies at hosts 0 and 2, C02 a commitment of
@@ -123,19 +129,32 @@ fn protocols_are_listed_and_joined(rt: HostRuntime) -> Result<(), Fail> {
 }
 
 /// Whether each row can stand at a local protocol, at copies, at a commitment, and on additive and xor shares.
-const STANDING: [(Row, [bool; 5]); 12] = [
+const STANDING: [(Row, [bool; 5]); 25] = [
     (Row::Constant, [true, true, false, true, true]),
     (Row::Carry, [true, true, true, true, true]),
     (Row::Input(HostId(0)), [true, false, false, false, false]),
     (Row::Input(HostId(1)), [false, false, false, false, false]),
     (Row::Variable, [true, true, false, true, true]),
+    (Row::Apply(Op::Add), [true, true, false, true, true]),
     (Row::Apply(Op::Sub), [true, true, false, true, true]),
     (Row::Apply(Op::Scale(3)), [true, true, false, true, false]),
     (Row::Apply(Op::Mul), [true, true, false, true, false]),
     (Row::Apply(Op::Div), [true, true, false, false, false]),
+    (Row::Apply(Op::Rem), [true, true, false, false, false]),
+    (Row::Apply(Op::Xor), [true, true, false, false, true]),
+    (Row::Apply(Op::Not), [true, true, false, false, true]),
+    (Row::Apply(Op::Flip), [true, true, false, false, true]),
     (Row::Apply(Op::Shl(1)), [true, true, false, false, true]),
-    (Row::Apply(Op::Lt), [true, true, false, false, true]),
+    (Row::Apply(Op::Shr(1)), [true, true, false, false, true]),
+    (Row::Apply(Op::And), [true, true, false, false, true]),
+    (Row::Apply(Op::Or), [true, true, false, false, true]),
     (Row::Apply(Op::Mux), [true, true, false, false, true]),
+    (Row::Apply(Op::Eq), [true, true, false, false, true]),
+    (Row::Apply(Op::Ne), [true, true, false, false, true]),
+    (Row::Apply(Op::Lt), [true, true, false, false, true]),
+    (Row::Apply(Op::Le), [true, true, false, false, true]),
+    (Row::Apply(Op::Min), [true, true, false, false, true]),
+    (Row::Apply(Op::Max), [true, true, false, false, true]),
 ];
 
 #[test]
@@ -151,8 +170,76 @@ fn operations_stand_where_the_table_says(rt: HostRuntime) {
     for (row, wanted) in STANDING {
         for (at, stands) in places.iter().zip(wanted.iter()) {
             assert_eq!(rt; holds(row, *at), *stands, "{row:?} at {at:?}");
+            if let Row::Apply(op) = row {
+                assert_eq!(rt; can(op, *at), *stands, "{op:?} at {at:?}");
+            }
         }
     }
-    assert!(rt; can(Op::Mul, Proto::Add(alice, bob)));
-    assert!(rt; !can(Op::Mul, Proto::Xor(alice, bob)));
+}
+
+/// Whether the hosts of the protocol are among the first three.
+fn is_of_three(protocol: Proto) -> bool
+    ensures { IsTrue result → HasHosts 3 protocol }
+{
+    match protocol {
+        Proto::Local(host) => host.0 < 3,
+        Proto::Rep(set) => set.bits < 8,
+        Proto::Commit(first, second) | Proto::Add(first, second) | Proto::Xor(first, second) => {
+            first.0 < 3 && second.0 < 3
+        }
+    }
+}
+
+/// The authority over three hosts, where host number i has the label {i ; i}.
+#[tactic(auto, using(crate::proofs::Over::three_over))]
+fn authority_of_three(alloc: Global, protocol: Proto) -> Result<Label, Fail> {
+    if !is_of_three(protocol) {
+        return Err("no such host".into());
+    }
+    let first = Formula::name(0, 3);
+    let second = Formula::name(1, 3);
+    let third = Formula::name(2, 3);
+    let labels = [
+        Label {
+            conf: first,
+            integ: first,
+        },
+        Label {
+            conf: second,
+            integ: second,
+        },
+        Label {
+            conf: third,
+            integ: third,
+        },
+    ];
+    let hosts = Items::from_slice(alloc, labels.as_slice())?;
+    Ok(authority(protocol, &hosts))
+}
+
+/// For each protocol the minimal sets of both parts of its authority.
+#[test]
+fn authorities_are_those_of_the_table(rt: HostRuntime) -> Result<(), Fail> {
+    let alloc = rt.alloc();
+    let (alice, bob, carol) = (HostId(0), HostId(1), HostId(2));
+    let table: [(Proto, &[u8], &[u8]); 8] = [
+        (Proto::Local(bob), &[2], &[2]),
+        (Proto::Rep(HostSet { bits: 0b101 }), &[1, 4], &[5]),
+        (Proto::Rep(HostSet { bits: 0b111 }), &[1, 2, 4], &[7]),
+        (Proto::Commit(alice, carol), &[1], &[5]),
+        (Proto::Commit(carol, alice), &[4], &[5]),
+        (Proto::Add(alice, bob), &[3], &[1, 2]),
+        (Proto::Xor(alice, bob), &[3], &[1, 2]),
+        (Proto::Xor(bob, carol), &[6], &[2, 4]),
+    ];
+    for (at, conf, integ) in table {
+        let label = authority_of_three(alloc, at)?;
+        assert_eq!(rt; label.conf.minimal_sets(alloc)?.as_slice(), conf, "{at:?}");
+        assert_eq!(rt;
+            label.integ.minimal_sets(alloc)?.as_slice(),
+            integ,
+            "{at:?}"
+        );
+    }
+    Ok(())
 }

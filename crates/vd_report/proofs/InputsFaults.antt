@@ -6,29 +6,31 @@ use Rattle.vd_report.specs.declared.token.TokenKind.{TokenKind}
 use Rattle.vd_report.specs.declared.token.TokenKind.TheVariants as kind
 use Rattle.vd_report.specs.declared.token.Token.{Token}
 use Rattle.vd_report.specs.Hosts.{host_of}
-use Rattle.vd_report.specs.Tokens.{tokens_at, end_of, text_of}
+use Rattle.vd_report.specs.Tokens.{tokens_at, end_of, text_of, capped}
 use Rattle.vd_report.specs.Inputs.{Sections, words_of, Place, between, named, listing, Step, go, stop, at_name, at_section, at_colon, at_word, step, reads, inputs_read}
-use Rattle.vd_report.specs.Outcome.{IsFaultAt, FirstWrong}
-use Rattle.vd_report.specs.InputsText.{AreSections, IsInputsText, FollowsGrammar}
+use Rattle.vd_report.specs.Outcome.{Begins, BeginsWith, FirstWrong}
+use Rattle.vd_report.specs.InputsText.{AreSections, IsInputsText, GivesInputs, InputsFollowGrammar}
 use Rattle.vd_report.proofs.TokenSteps.{HasEnd, has_end}
 use Rattle.vd_report.proofs.InputsSteps.{next, unfold_step, reads_go, reads_stop}
 use Rattle.vd_report.proofs.InputsLaw.{Fits, fits_start, accept, between_known, given_inputs, accepted_inputs}
+use Rattle.vd_report.proofs.InputsFurther.{GoesOn, goes_on, name_could_stand, text_could_not}
+use Rattle.vd_report.proofs.Outcomes.{IsToldAt, fault_is_at, fault_said}
 
 module _ (hosts : List (List ℕ)) (bytes : List ℕ) where
-  text_at : (t : Token) (fault : ReadFault) → Step.stop (Err (Text t.start)) ≡ stop (Err fault) → IsFaultAt hosts bytes t fault
-  text_at t fault h = let e : Text t.start ≡ fault = cc in subst (IsFaultAt hosts bytes t) e refl
+  text_at : (t : Token) (fault : ReadFault) → Step.stop (Err (Text (capped t.start))) ≡ stop (Err fault) → IsToldAt hosts bytes t fault
+  text_at t fault h = let e : Text (capped t.start) ≡ fault = cc in subst (IsToldAt hosts bytes t) e refl
 
   -- which fault a token has that is refused
   module _ (t : Token) (fault : ReadFault) where
-    at_old : (s : Sections) (host : ℕ) (old : Bool) → (if old then stop (Err (Text t.start)) else go (named host) s) ≡ stop (Err fault) → IsFaultAt hosts bytes t fault
+    at_old : (s : Sections) (host : ℕ) (old : Bool) → (if old then stop (Err (Text (capped t.start))) else go (named host) s) ≡ stop (Err fault) → IsToldAt hosts bytes t fault
     at_old s host true h = text_at t fault h
     at_old s host false h = absurd cc
 
-    at_found : (s : Sections) → t.kind ≡ kind.Name → (o : Option ℕ) → host_of hosts (text_of bytes t) ≡ o → at_name s t.start o ≡ stop (Err fault) → IsFaultAt hosts bytes t fault
-    at_found s e None found h = let is : UnknownHost t.start ≡ fault = cc in subst (IsFaultAt hosts bytes t) is (refl, e, found)
+    at_found : (s : Sections) → t.kind ≡ kind.Name → (o : Option ℕ) → host_of hosts (text_of bytes t) ≡ o → at_name s (capped t.start) o ≡ stop (Err fault) → IsToldAt hosts bytes t fault
+    at_found s e None found h = let is : UnknownHost (capped t.start) ≡ fault = cc in subst (IsToldAt hosts bytes t) is (refl, e, found)
     at_found s e (Some host) found h = at_old s host (is_some (slice_index_or s host None)) h
 
-    at_start : (s : Sections) (k : TokenKind) → t.kind ≡ k → at_section hosts s t.start (text_of bytes t) k ≡ stop (Err fault) → IsFaultAt hosts bytes t fault
+    at_start : (s : Sections) (k : TokenKind) → t.kind ≡ k → at_section hosts s (capped t.start) (text_of bytes t) k ≡ stop (Err fault) → IsToldAt hosts bytes t fault
     at_start s kind.End e h = absurd cc
     at_start s kind.Name e h = at_found s e (host_of hosts (text_of bytes t)) refl h
     at_start s kind.All e h = text_at t fault h
@@ -36,7 +38,7 @@ module _ (hosts : List (List ℕ)) (bytes : List ℕ) where
     at_start s (kind.Number v) e h = text_at t fault h
     at_start s kind.Other e h = text_at t fault h
 
-    behind_name : (s : Sections) (host : ℕ) (k : TokenKind) → at_colon host s t.start k ≡ stop (Err fault) → IsFaultAt hosts bytes t fault
+    behind_name : (s : Sections) (host : ℕ) (k : TokenKind) → at_colon host s (capped t.start) k ≡ stop (Err fault) → IsToldAt hosts bytes t fault
     behind_name s host kind.Colon h = absurd cc
     behind_name s host kind.End h = text_at t fault h
     behind_name s host kind.Name h = text_at t fault h
@@ -44,11 +46,11 @@ module _ (hosts : List (List ℕ)) (bytes : List ℕ) where
     behind_name s host (kind.Number v) h = text_at t fault h
     behind_name s host kind.Other h = text_at t fault h
 
-    at_limit : (s : Sections) (host : ℕ) (words : List ℕ) (v : ℕ) (b : Bool) → (if b then go (listing host (words ++ v ∷ [])) s else stop (Err (Text t.start))) ≡ stop (Err fault) → IsFaultAt hosts bytes t fault
+    at_limit : (s : Sections) (host : ℕ) (words : List ℕ) (v : ℕ) (b : Bool) → (if b then go (listing host (words ++ v ∷ [])) s else stop (Err (Text (capped t.start)))) ≡ stop (Err fault) → IsToldAt hosts bytes t fault
     at_limit s host words v true h = absurd cc
     at_limit s host words v false h = text_at t fault h
 
-    in_section : (s : Sections) (host : ℕ) (words : List ℕ) (k : TokenKind) → t.kind ≡ k → at_word hosts host words s t.start (text_of bytes t) k ≡ stop (Err fault) → IsFaultAt hosts bytes t fault
+    in_section : (s : Sections) (host : ℕ) (words : List ℕ) (k : TokenKind) → t.kind ≡ k → at_word hosts host words s (capped t.start) (text_of bytes t) k ≡ stop (Err fault) → IsToldAt hosts bytes t fault
     in_section s host words (kind.Number v) e h = at_limit s host words v (nat_lt (length words) 65536) h
     in_section s host words kind.End e h = at_start (slice_set s host (Some words)) kind.End e h
     in_section s host words kind.Name e h = at_start (slice_set s host (Some words)) kind.Name e h
@@ -56,41 +58,24 @@ module _ (hosts : List (List ℕ)) (bytes : List ℕ) where
     in_section s host words kind.Colon e h = at_start (slice_set s host (Some words)) kind.Colon e h
     in_section s host words kind.Other e h = at_start (slice_set s host (Some words)) kind.Other e h
 
-    fault_at : (place : Place) (s : Sections) → step hosts bytes place s t ≡ stop (Err fault) → IsFaultAt hosts bytes t fault
+    fault_at : (place : Place) (s : Sections) → step hosts bytes place s t ≡ stop (Err fault) → IsToldAt hosts bytes t fault
     fault_at between s h = at_start s t.kind refl h
     fault_at (named host) s h = behind_name s host t.kind h
     fault_at (listing host words) s h = in_section s host words t.kind refl h
 
   -- the end is never gone past
   past_end : (place : Place) (s : Sections) (t : Token) → t.kind ≡ kind.End → (place' : Place) (s' : Sections) → step hosts bytes place s t ≡ go place' s' → ⊥
-  past_end between s t e place' s' h = let stopped = ap (at_section hosts s t.start (text_of bytes t)) e in absurd cc
-  past_end (named host) s t e place' s' h = let stopped = ap (at_colon host s t.start) e in absurd cc
-  past_end (listing host words) s t e place' s' h = let stopped = ap (at_word hosts host words s t.start (text_of bytes t)) e in absurd cc
-
-  -- from each place some text goes on
-  record GoesOn (place : Place) (s : Sections) (front : List Token) : Type 0 where
-    more : List Token
-    inputs : List (List ℕ)
-    read : reads hosts bytes place s (front ++ more) ≡ Ok inputs
-
-  goes_on : (place : Place) (s : Sections) → GoesOn place s []
-  goes_on between s = record { more = end_of 0 ∷ []; inputs = map words_of s; read = reads_stop hosts bytes [] between s (end_of 0) _ refl }
-  goes_on (listing host words) s = record { more = end_of 0 ∷ []; inputs = map words_of (slice_set s host (Some words)); read = reads_stop hosts bytes [] (listing host words) s (end_of 0) _ refl }
-  goes_on (named host) s =
-      let colon : Token = record { kind = kind.Colon; start = 0; end = 0 } in
-      record {
-        more = colon ∷ end_of 0 ∷ [];
-        inputs = map words_of (slice_set s host (Some []));
-        read = reads_go hosts bytes (end_of 0 ∷ []) (named host) s colon (listing host []) s refl ∙ reads_stop hosts bytes [] (listing host []) s (end_of 0) _ refl;
-      }
+  past_end between s t e place' s' h = let stopped = ap (at_section hosts s (capped t.start) (text_of bytes t)) e in absurd cc
+  past_end (named host) s t e place' s' h = let stopped = ap (at_colon host s (capped t.start)) e in absurd cc
+  past_end (listing host words) s t e place' s' h = let stopped = ap (at_word hosts host words s (capped t.start) (text_of bytes t)) e in absurd cc
 
   record Stops (place : Place) (s : Sections) (ts : List Token) (fault : ReadFault) : Type 0 where
     front : List Token
     wrong : Token
     behind : List Token
     are : front ++ wrong ∷ behind ≡ ts
-    at_wrong : IsFaultAt hosts bytes wrong fault
-    goes : GoesOn place s front
+    at_wrong : IsToldAt hosts bytes wrong fault
+    goes : GoesOn hosts bytes place s front
     always : (more : List Token) → reads hosts bytes place s (front ++ wrong ∷ more) ≡ Err fault
 
   module _ (fault : ReadFault) where
@@ -101,7 +86,7 @@ module _ (hosts : List (List ℕ)) (bytes : List ℕ) where
       behind = ts;
       are = refl;
       at_wrong = fault_at t fault place s (e ∙ ap stop h);
-      goes = goes_on place s;
+      goes = goes_on hosts bytes place s;
       always = λ more. reads_stop hosts bytes more place s t r e ∙ h;
     }
     stops_by place s t ts (inl is_end) rest (go place' s') e h = absurd (past_end place s t is_end place' s' e)
@@ -124,7 +109,7 @@ module _ (hosts : List (List ℕ)) (bytes : List ℕ) where
     none_accepted : (ts : List Token) (s : Sections) → Fits hosts [] s → reads hosts bytes between s ts ≡ Err fault → (sections : List (ℕ × List ℕ)) → AreSections hosts bytes [] ts sections → ⊥
     none_accepted ts s fits h sections are = let read = accept hosts bytes are s fits in absurd cc
 
-    refused : inputs_read hosts bytes ≡ Err fault → FirstWrong hosts bytes (IsInputsText hosts bytes) (tokens_at bytes 0) fault
+    refused : inputs_read hosts bytes ≡ Err fault → FirstWrong IsInputsText hosts bytes fault
     refused h =
         let s : Sections = replicate (length hosts) None in
         let r = stops (tokens_at bytes 0) between s (has_end bytes 0 0) h in
@@ -134,14 +119,21 @@ module _ (hosts : List (List ℕ)) (bytes : List ℕ) where
           wrong = r.wrong;
           behind = r.behind;
           are = r.are;
-          at_wrong = r.at_wrong;
           begins = (r.goes.more, (g.sections, g.are));
-          none_begins = λ more text. none_accepted (r.front ++ r.wrong ∷ more) s (fits_start hosts) (r.always more) text.0 text.1;
+          none_begins = λ b. none_accepted (r.front ++ r.wrong ∷ b.0) s (fits_start hosts) (r.always b.0) b.1.0 b.1.1;
+          at_wrong = fault_is_at hosts bytes r.wrong (BeginsWith (IsInputsText (hosts ++ text_of bytes r.wrong ∷ []) bytes) r.front r.wrong) fault r.at_wrong
+              (λ at e. name_could_stand hosts bytes r.wrong at r.front r.goes (r.always [] ∙ ap Err e))
+              (λ at e b. text_could_not hosts bytes r.wrong at (r.front ++ r.wrong ∷ b.0) (r.always b.0 ∙ ap Err e) b.1);
         }
 
-pub follows_grammar : (hosts : List (List ℕ)) (bytes : List ℕ) → FollowsGrammar hosts bytes
+  has_sections : (inputs : List (List ℕ)) → inputs_read hosts bytes ≡ Ok inputs → IsInputsText hosts bytes (tokens_at bytes 0)
+  has_sections inputs h = let g = given_inputs hosts bytes inputs h in (g.sections, g.are)
+
+pub follows_grammar : (hosts : List (List ℕ)) (bytes : List ℕ) → InputsFollowGrammar hosts bytes
 follows_grammar hosts bytes = record {
-  given = λ inputs h. given_inputs hosts bytes inputs h;
-  accepted = λ inputs g. accepted_inputs hosts bytes inputs g;
-  refused = λ fault h. refused hosts bytes fault h;
+  given = λ inputs. (λ h. given_inputs hosts bytes inputs h, λ g. accepted_inputs hosts bytes inputs g);
+  refused = λ fault. (
+    λ h. refused hosts bytes fault h,
+    λ f. fault_said IsInputsText hosts bytes (inputs_read hosts bytes) (has_sections hosts bytes) (refused hosts bytes) (inputs_read hosts bytes) refl fault f,
+  );
 }

@@ -11,9 +11,9 @@ use Rattle.vd_report.specs.declared.token.TokenKind.{TokenKind}
 use Rattle.vd_report.specs.declared.token.TokenKind.TheVariants as kind
 use Rattle.vd_report.specs.declared.token.Token.{Token}
 use Rattle.vd_report.specs.Hosts.{host_of}
-use Rattle.vd_report.specs.Tokens.{tokens_at, text_of}
+use Rattle.vd_report.specs.Tokens.{tokens_at, text_of, capped}
 use Rattle.vd_report.specs.Inputs.{Sections, words_of, Place, between, named, listing, go, stop, at_name, at_section, at_colon, at_word, step, reads, inputs_read}
-use Rattle.vd_report.specs.InputsText.{Numbers, no_number, one_number, AreSections, no_section, one_section, filled, Gives}
+use Rattle.vd_report.specs.InputsText.{Numbers, no_number, one_number, AreSections, no_section, one_section, filled, GivesInputs}
 use Rattle.vd_report.proofs.InputsSteps.{next, unfold_step, reads_go, reads_stop, word_taken, section_closed}
 
 -- the sections so far are those of these hosts
@@ -21,12 +21,12 @@ pub record Fits (hosts : List (List ℕ)) (earlier : List ℕ) (s : Sections) : 
   pub len : length s ≡ length hosts
   pub same : (i : ℕ) → is_some (slice_index_or s i None) ≡ list_any (nat_eq i) earlier
 
-none_at : (n i : ℕ) → slice_index_or {A = Option (List ℕ)} (replicate n None) i None ≡ None
+pub none_at : (n i : ℕ) → slice_index_or {A = Option (List ℕ)} (replicate n None) i None ≡ None
 none_at zero i = refl
 none_at (suc n) zero = refl
 none_at (suc n) (suc i) = none_at n i
 
-all_none : (n : ℕ) → length {A = Option (List ℕ)} (replicate n None) ≡ n
+pub all_none : (n : ℕ) → length {A = Option (List ℕ)} (replicate n None) ≡ n
 all_none zero = refl
 all_none (suc n) = let rest = all_none n in omega arith
 
@@ -49,7 +49,7 @@ module _ (hosts : List (List ℕ)) (earlier : List ℕ) (s : Sections) (fits : F
     same = λ i. same_host i (nat_eq i host) refl;
   }
 
-declared_host : (hosts : List (List ℕ)) (name : List ℕ) (host : ℕ) → host_of hosts name ≡ Some host → host < length hosts
+pub declared_host : (hosts : List (List ℕ)) (name : List ℕ) (host : ℕ) → host_of hosts name ≡ Some host → host < length hosts
 declared_host hosts name host e = (position-Some (λ h. bytes_eq h name) hosts host [] e).0
 
 -- each text of the grammar is read
@@ -68,18 +68,18 @@ module _ (hosts : List (List ℕ)) (bytes : List ℕ) where
 
   name_step : (s : Sections) (name : Token) (host : ℕ) → name.kind ≡ kind.Name → host_of hosts (text_of bytes name) ≡ Some host → is_some (slice_index_or s host None) ≡ false → step hosts bytes between s name ≡ go (named host) s
   name_step s name host e found new =
-      ap (at_section hosts s name.start (text_of bytes name)) e
-      ∙ ap (at_name s name.start) found
-      ∙ ap (λ t. if t then stop (Err (Text name.start)) else go (named host) s) new
+      ap (at_section hosts s (capped name.start) (text_of bytes name)) e
+      ∙ ap (at_name s (capped name.start)) found
+      ∙ ap (λ t. if t then stop (Err (Text (capped name.start))) else go (named host) s) new
 
   section_read : (s : Sections) (name colon : Token) (ts rest : List Token) (host : ℕ) (words : List ℕ) → step hosts bytes between s name ≡ go (named host) s → colon.kind ≡ kind.Colon → Numbers ts words rest → length words ≤ 65536 → reads hosts bytes between s (name ∷ colon ∷ ts) ≡ reads hosts bytes (listing host words) s rest
   section_read s name colon ts rest host words named_host is_colon numbers few =
       reads_go hosts bytes (colon ∷ ts) between s name _ _ named_host
-      ∙ reads_go hosts bytes ts (named host) s colon _ _ (ap (at_colon host s colon.start) is_colon)
+      ∙ reads_go hosts bytes ts (named host) s colon _ _ (ap (at_colon host s (capped colon.start)) is_colon)
       ∙ numbers_read numbers s host [] (omega arith)
 
   pub accept : {earlier : List ℕ} {ts : List Token} {sections : List (ℕ × List ℕ)} → AreSections hosts bytes earlier ts sections → (s : Sections) → Fits hosts earlier s → reads hosts bytes between s ts ≡ Ok (filled (map words_of s) sections)
-  accept (no_section {t = t} {ts = ts} e) s fits = reads_stop hosts bytes ts between s t _ (ap (at_section hosts s t.start (text_of bytes t)) e)
+  accept (no_section {t = t} {ts = ts} e) s fits = reads_stop hosts bytes ts between s t _ (ap (at_section hosts s (capped t.start) (text_of bytes t)) e)
   accept (one_section {earlier = earlier} {words = words} {name = name} {colon = colon} {ts = ts} {rest = rest} {host = host} {sections = sections} is_name found new is_colon numbers few more) s fits =
       let declared = declared_host hosts (text_of bytes name) host found in
       section_read s name colon ts rest host words (name_step s name host is_name found (fits.same host ∙ new)) is_colon numbers few
@@ -124,17 +124,17 @@ module _ (hosts : List (List ℕ)) (bytes : List ℕ) (inputs : List (List ℕ))
           is = ap (λ xs. filled xs more.sections) (sym (map-set words_of s host (Some a.section.words))) ∙ more.is;
         }
 
-    at_new : (earlier : List ℕ) (s : Sections) → Fits hosts earlier s → (host : ℕ) → t.kind ≡ kind.Name → host_of hosts (text_of bytes t) ≡ Some host → (old : Bool) → is_some (slice_index_or s host None) ≡ old → next hosts bytes ts (if old then stop (Err (Text t.start)) else go (named host) s) ≡ Ok inputs → Rest earlier s (t ∷ ts)
+    at_new : (earlier : List ℕ) (s : Sections) → Fits hosts earlier s → (host : ℕ) → t.kind ≡ kind.Name → host_of hosts (text_of bytes t) ≡ Some host → (old : Bool) → is_some (slice_index_or s host None) ≡ old → next hosts bytes ts (if old then stop (Err (Text (capped t.start))) else go (named host) s) ≡ Ok inputs → Rest earlier s (t ∷ ts)
     at_new earlier s fits host e found true old h = absurd cc
     at_new earlier s fits host e found false old h =
         section_from earlier s host e found (sym (fits.same host) ∙ old)
         (known.named_known earlier s host fits (declared_host hosts (text_of bytes t) host found) h)
 
-    at_found : (earlier : List ℕ) (s : Sections) → Fits hosts earlier s → t.kind ≡ kind.Name → (o : Option ℕ) → host_of hosts (text_of bytes t) ≡ o → next hosts bytes ts (at_name s t.start o) ≡ Ok inputs → Rest earlier s (t ∷ ts)
+    at_found : (earlier : List ℕ) (s : Sections) → Fits hosts earlier s → t.kind ≡ kind.Name → (o : Option ℕ) → host_of hosts (text_of bytes t) ≡ o → next hosts bytes ts (at_name s (capped t.start) o) ≡ Ok inputs → Rest earlier s (t ∷ ts)
     at_found earlier s fits e None found h = absurd cc
     at_found earlier s fits e (Some host) found h = at_new earlier s fits host e found (is_some (slice_index_or s host None)) refl h
 
-    by_kind : (earlier : List ℕ) (s : Sections) → Fits hosts earlier s → (k : TokenKind) → t.kind ≡ k → next hosts bytes ts (at_section hosts s t.start (text_of bytes t) k) ≡ Ok inputs → Rest earlier s (t ∷ ts)
+    by_kind : (earlier : List ℕ) (s : Sections) → Fits hosts earlier s → (k : TokenKind) → t.kind ≡ k → next hosts bytes ts (at_section hosts s (capped t.start) (text_of bytes t) k) ≡ Ok inputs → Rest earlier s (t ∷ ts)
     by_kind earlier s fits kind.End e h = record { sections = []; are = no_section e; is = cc }
     by_kind earlier s fits kind.Name e h = at_found earlier s fits e (host_of hosts (text_of bytes t)) refl h
     by_kind earlier s fits kind.All e h = absurd cc
@@ -145,7 +145,7 @@ module _ (hosts : List (List ℕ)) (bytes : List ℕ) (inputs : List (List ℕ))
     at_between : (earlier : List ℕ) (s : Sections) → Fits hosts earlier s → reads hosts bytes between s (t ∷ ts) ≡ Ok inputs → Rest earlier s (t ∷ ts)
     at_between earlier s fits h = by_kind earlier s fits t.kind refl (sym (unfold_step hosts bytes ts between s t) ∙ h)
 
-    colon_kind : (earlier : List ℕ) (s : Sections) (host : ℕ) → Fits hosts earlier s → host < length hosts → (k : TokenKind) → t.kind ≡ k → next hosts bytes ts (at_colon host s t.start k) ≡ Ok inputs → AfterName earlier s host (t ∷ ts)
+    colon_kind : (earlier : List ℕ) (s : Sections) (host : ℕ) → Fits hosts earlier s → host < length hosts → (k : TokenKind) → t.kind ≡ k → next hosts bytes ts (at_colon host s (capped t.start) k) ≡ Ok inputs → AfterName earlier s host (t ∷ ts)
     colon_kind earlier s host fits declared kind.Colon e h = record { colon = t; later = ts; is = refl; is_colon = e; section = known.listing_known earlier s host [] fits declared (omega arith) h }
     colon_kind earlier s host fits declared kind.End e h = absurd cc
     colon_kind earlier s host fits declared kind.Name e h = absurd cc
@@ -165,7 +165,7 @@ module _ (hosts : List (List ℕ)) (bytes : List ℕ) (inputs : List (List ℕ))
       more = subst (λ words. Rest (host ∷ earlier) (slice_set s host (Some words)) i.rest) (append_assoc before (v ∷ []) i.words) i.more;
     }
 
-    number_at : (earlier : List ℕ) (s : Sections) (host : ℕ) (before : List ℕ) → Fits hosts earlier s → host < length hosts → (v : ℕ) → t.kind ≡ kind.Number v → (b : Bool) → nat_lt (length before) 65536 ≡ b → next hosts bytes ts (if b then go (listing host (before ++ v ∷ [])) s else stop (Err (Text t.start))) ≡ Ok inputs → InSection earlier s host before (t ∷ ts)
+    number_at : (earlier : List ℕ) (s : Sections) (host : ℕ) (before : List ℕ) → Fits hosts earlier s → host < length hosts → (v : ℕ) → t.kind ≡ kind.Number v → (b : Bool) → nat_lt (length before) 65536 ≡ b → next hosts bytes ts (if b then go (listing host (before ++ v ∷ [])) s else stop (Err (Text (capped t.start)))) ≡ Ok inputs → InSection earlier s host before (t ∷ ts)
     number_at earlier s host before fits declared v e true few h =
         let fewer : length before < 65536 = ltb-true (length before) 65536 few in
         one_more earlier s host before v e (known.listing_known earlier s host (before ++ v ∷ []) fits declared (omega (arith, length-append before (v ∷ []))) h)
@@ -181,7 +181,7 @@ module _ (hosts : List (List ℕ)) (bytes : List ℕ) (inputs : List (List ℕ))
           (at_between (host ∷ earlier) (slice_set s host (Some before)) (fits_more hosts earlier s fits host declared before) (sym (section_closed hosts bytes host before s t ts other) ∙ h));
     }
 
-    listing_kind : (earlier : List ℕ) (s : Sections) (host : ℕ) (before : List ℕ) → Fits hosts earlier s → host < length hosts → length before ≤ 65536 → reads hosts bytes (listing host before) s (t ∷ ts) ≡ Ok inputs → (k : TokenKind) → t.kind ≡ k → next hosts bytes ts (at_word hosts host before s t.start (text_of bytes t) k) ≡ Ok inputs → InSection earlier s host before (t ∷ ts)
+    listing_kind : (earlier : List ℕ) (s : Sections) (host : ℕ) (before : List ℕ) → Fits hosts earlier s → host < length hosts → length before ≤ 65536 → reads hosts bytes (listing host before) s (t ∷ ts) ≡ Ok inputs → (k : TokenKind) → t.kind ≡ k → next hosts bytes ts (at_word hosts host before s (capped t.start) (text_of bytes t) k) ≡ Ok inputs → InSection earlier s host before (t ∷ ts)
     listing_kind earlier s host before fits declared few r (kind.Number v) e h = number_at earlier s host before fits declared v e (nat_lt (length before) 65536) refl h
     listing_kind earlier s host before fits declared few r kind.End e h = closing earlier s host before fits declared few (λ v f. absurd cc) r
     listing_kind earlier s host before fits declared few r kind.Name e h = closing earlier s host before fits declared few (λ v f. absurd cc) r
@@ -214,12 +214,12 @@ module _ (hosts : List (List ℕ)) (bytes : List ℕ) (inputs : List (List ℕ))
   no_words zero = refl
   no_words (suc n) = ap (λ xs. [] ∷ xs) (no_words n)
 
-  pub given_inputs : inputs_read hosts bytes ≡ Ok inputs → Gives hosts bytes inputs
+  pub given_inputs : inputs_read hosts bytes ≡ Ok inputs → GivesInputs hosts bytes inputs
   given_inputs h =
       let r = between_known (tokens_at bytes 0) (replicate (length hosts) None) (fits_start hosts) h in
       record { sections = r.sections; are = r.are; inputs_are = ap (λ xs. filled xs r.sections) (sym (no_words (length hosts))) ∙ r.is }
 
-  pub accepted_inputs : Gives hosts bytes inputs → inputs_read hosts bytes ≡ Ok inputs
+  pub accepted_inputs : GivesInputs hosts bytes inputs → inputs_read hosts bytes ≡ Ok inputs
   accepted_inputs g =
       accept hosts bytes g.are (replicate (length hosts) None) (fits_start hosts)
       ∙ ap (λ xs. Ok (filled xs g.sections)) (no_words (length hosts))

@@ -6,7 +6,7 @@ use Rattle.vd_report.specs.declared.fault.ReadFault.TheVariants.{Text, UnknownHo
 use Rattle.vd_report.specs.declared.token.TokenKind.{TokenKind}
 use Rattle.vd_report.specs.declared.token.TokenKind.TheVariants as kind
 use Rattle.vd_report.specs.declared.token.Token.{Token}
-use Rattle.vd_report.specs.Tokens.{tokens_at, behind_kind, behind, text_of}
+use Rattle.vd_report.specs.Tokens.{tokens_at, behind_kind, behind, text_of, capped}
 use Rattle.vd_report.specs.Inputs.{Sections, Place, between, named, listing, Step, go, stop, at_section, at_colon, at_word, step, reads, Fails}
 use Rattle.vd_report.specs.Outcome.{IsFaultOf}
 
@@ -32,18 +32,18 @@ not_below h = grind (arith, nat_tests)
 
 -- a token of a section
 module _ (hosts : List (List ℕ)) (bytes : List ℕ) (host : ℕ) (words : List ℕ) (sections : Sections) (t : Token) where
-  chosen : (b : Bool) → nat_lt (length words) 65536 ≡ b → (v : ℕ) → t.kind ≡ kind.Number v → step hosts bytes (listing host words) sections t ≡ (if b then go (listing host (words ++ v ∷ [])) sections else stop (Err (Text t.start)))
+  chosen : (b : Bool) → nat_lt (length words) 65536 ≡ b → (v : ℕ) → t.kind ≡ kind.Number v → step hosts bytes (listing host words) sections t ≡ (if b then go (listing host (words ++ v ∷ [])) sections else stop (Err (Text (capped t.start))))
   chosen b few v e =
-      ap (at_word hosts host words sections t.start (text_of bytes t)) e
-      ∙ ap (λ c. if c then go (listing host (words ++ v ∷ [])) sections else stop (Err (Text t.start))) few
+      ap (at_word hosts host words sections (capped t.start) (text_of bytes t)) e
+      ∙ ap (λ c. if c then go (listing host (words ++ v ∷ [])) sections else stop (Err (Text (capped t.start)))) few
 
   pub word_taken : (v : ℕ) → t.kind ≡ kind.Number v → length words < 65536 → step hosts bytes (listing host words) sections t ≡ go (listing host (words ++ v ∷ [])) sections
   word_taken v e few = chosen true (below_limit few) v e
 
-  pub word_refused : (v : ℕ) → t.kind ≡ kind.Number v → 65536 ≤ length words → step hosts bytes (listing host words) sections t ≡ stop (Err (Text t.start))
+  pub word_refused : (v : ℕ) → t.kind ≡ kind.Number v → 65536 ≤ length words → step hosts bytes (listing host words) sections t ≡ stop (Err (Text (capped t.start)))
   word_refused v e many = chosen false (not_below many) v e
 
-  other_kind : (k : TokenKind) → ((v : ℕ) → k ≡ kind.Number v → ⊥) → at_word hosts host words sections t.start (text_of bytes t) k ≡ at_section hosts (slice_set sections host (Some words)) t.start (text_of bytes t) k
+  other_kind : (k : TokenKind) → ((v : ℕ) → k ≡ kind.Number v → ⊥) → at_word hosts host words sections (capped t.start) (text_of bytes t) k ≡ at_section hosts (slice_set sections host (Some words)) (capped t.start) (text_of bytes t) k
   other_kind (kind.Number v) h = absurd (h v refl)
   other_kind _ h = refl
 
@@ -68,7 +68,7 @@ module _ (hosts : List (List ℕ)) (bytes : List ℕ) (sections : Sections) (at 
   pub colon_read : t.kind ≡ kind.Colon → reads hosts bytes (named host) sections (tokens_at bytes at) ≡ reads hosts bytes (listing host []) sections (tokens_at bytes t.end)
   colon_read e =
       ap (reads hosts bytes (named host) sections) first
-      ∙ reads_go hosts bytes (behind bytes t) (named host) sections t (listing host []) sections (ap (at_colon host sections t.start) e)
+      ∙ reads_go hosts bytes (behind bytes t) (named host) sections t (listing host []) sections (ap (at_colon host sections (capped t.start)) e)
       ∙ ap (λ k. reads hosts bytes (listing host []) sections (behind_kind bytes t.end k)) e
 
   pub stopped : (place : Place) (r : Result (List (List ℕ)) ReadFault) → step hosts bytes place sections t ≡ stop r → reads hosts bytes place sections (tokens_at bytes at) ≡ r

@@ -3,5 +3,10 @@ pub mod InputsSteps
 pub mod ScheduleSteps
 pub mod InputsLaw
 pub mod ScheduleLaw
+pub mod ScheduleFurther
+pub mod ScheduleFaults
+pub mod Outcomes
+pub mod FurtherHost
+pub mod InputsFurther
 pub mod InputsFaults
 pub mod Members

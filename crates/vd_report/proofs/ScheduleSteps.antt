@@ -5,13 +5,13 @@ use Rattle.vd_report.specs.declared.fault.ReadFault.{ReadFault}
 use Rattle.vd_report.specs.declared.token.TokenKind.TheVariants as kind
 use Rattle.vd_report.specs.declared.token.Token.{Token}
 use Rattle.vd_report.specs.declared.schedule.Schedule.{Schedule}
-use Rattle.vd_report.specs.Tokens.{tokens_at, behind_kind, behind, text_of}
-use Rattle.vd_report.specs.Schedule.{Turn, go, all, stop, at_entry, entry_step, last_step, reads_last, reads_entries}
+use Rattle.vd_report.specs.Tokens.{tokens_at, behind_kind, behind, text_of, capped}
+use Rattle.vd_report.specs.Schedule.{Step, go, all, stop, at_entry, entry_step, last_step, reads_last, reads_entries}
 use Rattle.vd_report.proofs.InputsSteps.{behind_more}
 
 module _ (hosts : List (List ℕ)) (bytes : List ℕ) (entries : List HostId) (at : ℕ) (t : Token) (first : tokens_at bytes at ≡ t ∷ behind bytes t) where
-  abbrev next : Turn → Result Schedule ReadFault
-  next turn = elim turn [
+  abbrev next : Step → Result Schedule ReadFault
+  next st = elim st [
     | go entries' ↦ reads_entries hosts bytes entries' (behind bytes t)
     | all ↦ reads_last bytes entries (behind bytes t)
     | stop result ↦ result
@@ -28,11 +28,11 @@ module _ (hosts : List (List ℕ)) (bytes : List ℕ) (entries : List HostId) (a
   entries_stop r e = by_step ∙ ap next e
 
   pub entries_end : t.kind ≡ kind.End → reads_entries hosts bytes entries (tokens_at bytes at) ≡ Ok (record { entries = entries; all = false })
-  entries_end e = entries_stop _ (ap (at_entry hosts entries t.start (text_of bytes t)) e)
+  entries_end e = entries_stop _ (ap (at_entry hosts entries (capped t.start) (text_of bytes t)) e)
 
   pub last_read : (l : Token) → tokens_at bytes t.end ≡ l ∷ behind bytes l → t.kind ≡ kind.All → reads_entries hosts bytes entries (tokens_at bytes at) ≡ last_step entries l
   last_read l last e =
       by_step
-      ∙ ap next (ap (at_entry hosts entries t.start (text_of bytes t)) e)
+      ∙ ap next (ap (at_entry hosts entries (capped t.start) (text_of bytes t)) e)
       ∙ ap (λ k. reads_last bytes entries (behind_kind bytes t.end k)) e
       ∙ ap (reads_last bytes entries) last

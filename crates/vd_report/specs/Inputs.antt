@@ -6,7 +6,7 @@ use Rattle.vd_report.specs.declared.token.Token.{Token}
 use Rattle.vd_report.specs.declared.fault.ReadFault.{ReadFault}
 use Rattle.vd_report.specs.declared.fault.ReadFault.TheVariants.{Text, UnknownHost, Memory}
 use Rattle.vd_report.specs.Hosts.{host_of}
-use Rattle.vd_report.specs.Tokens.{tokens_at, text_of}
+use Rattle.vd_report.specs.Tokens.{tokens_at, text_of, capped}
 
 -- for each host the words of its section, if it has had one
 abbrev pub Sections : Type 0
@@ -48,13 +48,13 @@ at_word hosts host words sections at text (kind.Number word) = if nat_lt (length
 at_word hosts host words sections at text other = at_section hosts (slice_set sections host (Some words)) at text other
 
 abbrev pub step : List (List ℕ) → List ℕ → Place → Sections → Token → Step
-step hosts bytes between sections t = at_section hosts sections t.start (text_of bytes t) t.kind
-step hosts bytes (named host) sections t = at_colon host sections t.start t.kind
-step hosts bytes (listing host words) sections t = at_word hosts host words sections t.start (text_of bytes t) t.kind
+step hosts bytes between sections t = at_section hosts sections (capped t.start) (text_of bytes t) t.kind
+step hosts bytes (named host) sections t = at_colon host sections (capped t.start) t.kind
+step hosts bytes (listing host words) sections t = at_word hosts host words sections (capped t.start) (text_of bytes t) t.kind
 
 -- What the tokens say from a place on. The end is the last of them, so there is always a token.
 unfoldable pub reads : List (List ℕ) → List ℕ → Place → Sections → List Token → Result (List (List ℕ)) ReadFault
-reads hosts bytes place sections [] = Err (Text (length bytes))
+reads hosts bytes place sections [] = Err (Text (capped (length bytes)))
 reads hosts bytes place sections (t ∷ ts) = elim (step hosts bytes place sections t) [
   | go place' sections' ↦ reads hosts bytes place' sections' ts
   | stop result ↦ result
@@ -64,7 +64,7 @@ reads hosts bytes place sections (t ∷ ts) = elim (step hosts bytes place secti
 abbrev pub inputs_read : List (List ℕ) → List ℕ → Result (List (List ℕ)) ReadFault
 inputs_read hosts bytes = reads hosts bytes between (replicate (length hosts) None) (tokens_at bytes 0)
 
--- A section's words end before an offset: whoever reads them stands there where the section is closed.
+-- Reading a section from `start` gives what closing it with these words and going on from `end` gives.
 abbrev pub Ends : List ℕ → ℕ → List ℕ → ℕ → Type 0
 Ends bytes start words end = (hosts : List (List ℕ)) (host : ℕ) (sections : Sections) →
     reads hosts bytes (listing host []) sections (tokens_at bytes start) ≡ reads hosts bytes between (slice_set sections host (Some words)) (tokens_at bytes end)

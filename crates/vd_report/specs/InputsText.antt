@@ -1,5 +1,5 @@
 -- The grammar of inputs files: sections, each of them the name of a host, a colon and numbers.
-use Rattle.std.specs.Prelude.{◌≡◌, ℕ, ◌≤◌, nat_eq, false, List, [], ◌∷◌, Some, Ok, Err, length, replicate, slice_set}
+use Rattle.std.specs.Prelude.{◌≡◌, ℕ, ◌≤◌, ◌↔◌, nat_eq, false, List, [], ◌∷◌, Some, Ok, Err, length, replicate, slice_set}
 use Rattle.std.specs.List.{list_any}
 use Rattle.vd_report.specs.declared.fault.ReadFault.{ReadFault}
 use Rattle.vd_report.specs.declared.token.TokenKind.TheVariants as kind
@@ -28,7 +28,7 @@ filled inputs [] = inputs
 filled inputs (section ∷ sections) = filled (slice_set inputs section.0 section.1) sections
 
 -- The bytes are a text of the grammar that gives these inputs.
-pub record Gives (hosts : List (List ℕ)) (bytes : List ℕ) (inputs : List (List ℕ)) : Type 0 where
+pub record GivesInputs (hosts : List (List ℕ)) (bytes : List ℕ) (inputs : List (List ℕ)) : Type 0 where
   pub sections : List (ℕ × List ℕ)
   pub are : AreSections hosts bytes [] (tokens_at bytes 0) sections
   pub inputs_are : filled (replicate (length hosts) []) sections ≡ inputs
@@ -37,8 +37,7 @@ pub record Gives (hosts : List (List ℕ)) (bytes : List ℕ) (inputs : List (Li
 abbrev pub IsInputsText : List (List ℕ) → List ℕ → List Token → Type 0
 IsInputsText hosts bytes tokens = (sections : List (ℕ × List ℕ)) × AreSections hosts bytes [] tokens sections
 
--- What is read is what the grammar gives, each text of the grammar is read, and a refusal is at the first token that cannot stand there.
-pub record FollowsGrammar (hosts : List (List ℕ)) (bytes : List ℕ) : Type 0 where
-  pub given : (inputs : List (List ℕ)) → inputs_read hosts bytes ≡ Ok inputs → Gives hosts bytes inputs
-  pub accepted : (inputs : List (List ℕ)) → Gives hosts bytes inputs → inputs_read hosts bytes ≡ Ok inputs
-  pub refused : (fault : ReadFault) → inputs_read hosts bytes ≡ Err fault → FirstWrong hosts bytes (IsInputsText hosts bytes) (tokens_at bytes 0) fault
+-- What a file says is the one outcome that the grammar has for it: the inputs that it gives, or the fault of the first token that cannot stand there.
+pub record InputsFollowGrammar (hosts : List (List ℕ)) (bytes : List ℕ) : Type 0 where
+  pub given : (inputs : List (List ℕ)) → (inputs_read hosts bytes ≡ Ok inputs) ↔ GivesInputs hosts bytes inputs
+  pub refused : (fault : ReadFault) → (inputs_read hosts bytes ≡ Err fault) ↔ FirstWrong IsInputsText hosts bytes fault

@@ -8,26 +8,26 @@ use Rattle.vd_report.specs.declared.fault.ReadFault.{ReadFault}
 use Rattle.vd_report.specs.declared.fault.ReadFault.TheVariants.{Text, UnknownHost}
 use Rattle.vd_report.specs.declared.schedule.Schedule.{Schedule}
 use Rattle.vd_report.specs.Hosts.{host_of}
-use Rattle.vd_report.specs.Tokens.{tokens_at, text_of}
+use Rattle.vd_report.specs.Tokens.{tokens_at, text_of, capped}
 
-pub data Turn : Type 0 where
-  go : List HostId → Turn  -- one more entry
-  all : Turn  -- the word `all`, which is the last
-  stop : Result Schedule ReadFault → Turn
+pub data Step : Type 0 where
+  go : List HostId → Step  -- one more entry
+  all : Step  -- the word `all`, which is the last
+  stop : Result Schedule ReadFault → Step
 
-abbrev pub at_host : List HostId → ℕ → Option ℕ → Turn
+abbrev pub at_host : List HostId → ℕ → Option ℕ → Step
 at_host entries at None = stop (Err (UnknownHost at))
 at_host entries at (Some host) = go (entries ++ record { 0 = host } ∷ [])
 
 -- a token behind these entries, of which there are at most 1048576
-abbrev pub at_entry : List (List ℕ) → List HostId → ℕ → List ℕ → TokenKind → Turn
+abbrev pub at_entry : List (List ℕ) → List HostId → ℕ → List ℕ → TokenKind → Step
 at_entry hosts entries at text kind.End = stop (Ok (record { entries = entries; all = false }))
 at_entry hosts entries at text kind.All = all
 at_entry hosts entries at text kind.Name = if nat_lt (length entries) 1048576 then at_host entries at (host_of hosts text) else stop (Err (Text at))
 at_entry hosts entries at text _ = stop (Err (Text at))
 
-abbrev pub entry_step : List (List ℕ) → List ℕ → List HostId → Token → Turn
-entry_step hosts bytes entries t = at_entry hosts entries t.start (text_of bytes t) t.kind
+abbrev pub entry_step : List (List ℕ) → List ℕ → List HostId → Token → Step
+entry_step hosts bytes entries t = at_entry hosts entries (capped t.start) (text_of bytes t) t.kind
 
 -- a token behind `all`
 abbrev pub behind_all : List HostId → ℕ → TokenKind → Result Schedule ReadFault
@@ -35,15 +35,15 @@ behind_all entries at kind.End = Ok (record { entries = entries; all = true })
 behind_all entries at _ = Err (Text at)
 
 abbrev pub last_step : List HostId → Token → Result Schedule ReadFault
-last_step entries t = behind_all entries t.start t.kind
+last_step entries t = behind_all entries (capped t.start) t.kind
 
 abbrev pub reads_last : List ℕ → List HostId → List Token → Result Schedule ReadFault
-reads_last bytes entries [] = Err (Text (length bytes))
+reads_last bytes entries [] = Err (Text (capped (length bytes)))
 reads_last bytes entries (t ∷ ts) = last_step entries t
 
 -- What the tokens say behind these entries. The end is the last of them, so there is always a token.
 unfoldable pub reads_entries : List (List ℕ) → List ℕ → List HostId → List Token → Result Schedule ReadFault
-reads_entries hosts bytes entries [] = Err (Text (length bytes))
+reads_entries hosts bytes entries [] = Err (Text (capped (length bytes)))
 reads_entries hosts bytes entries (t ∷ ts) = elim (entry_step hosts bytes entries t) [
   | go entries' ↦ reads_entries hosts bytes entries' ts
   | all ↦ reads_last bytes entries ts

@@ -1,5 +1,5 @@
 -- The grammar of schedule files: names of hosts, and `all` behind them or not.
-use Rattle.std.specs.Prelude.{◌≡◌, ℕ, ◌≤◌, Bool, true, false, List, [], ◌∷◌, Some, Ok, Err, length}
+use Rattle.std.specs.Prelude.{◌≡◌, ℕ, ◌≤◌, ◌↔◌, Bool, true, false, List, [], ◌∷◌, Some, Ok, Err, length}
 use Rattle.vd_report.specs.declared.fault.ReadFault.{ReadFault}
 use Rattle.vd_report.specs.Outcome.{FirstWrong}
 use Rattle.vd_base.specs.declared.ids.HostId.{HostId}
@@ -18,16 +18,20 @@ pub data AreEntries : List (List ℕ) → List ℕ → List Token → List HostI
       name.kind ≡ kind.Name → host_of hosts (text_of bytes name) ≡ Some host → AreEntries hosts bytes ts entries all →
       AreEntries hosts bytes (name ∷ ts) (record { 0 = host } ∷ entries) all
 
--- The tokens are a text of the grammar that gives this schedule.
+-- The tokens are a text of the grammar with this schedule.
 pub record AreSchedule (hosts : List (List ℕ)) (bytes : List ℕ) (tokens : List Token) (schedule : Schedule) : Type 0 where
   pub are : AreEntries hosts bytes tokens schedule.entries schedule.all
   pub few : length schedule.entries ≤ 1048576
 
+-- The bytes are a text of the grammar that gives this schedule.
+abbrev pub GivesSchedule : List (List ℕ) → List ℕ → Schedule → Type 0
+GivesSchedule hosts bytes schedule = AreSchedule hosts bytes (tokens_at bytes 0) schedule
+
+-- The tokens are a text of the grammar.
 abbrev pub IsScheduleText : List (List ℕ) → List ℕ → List Token → Type 0
 IsScheduleText hosts bytes tokens = (schedule : Schedule) × AreSchedule hosts bytes tokens schedule
 
--- What is read is what the grammar gives, each text of the grammar is read, and a refusal is at the first token that cannot stand there.
+-- What a file says is the one outcome that the grammar has for it: the schedule that it gives, or the fault of the first token that cannot stand there.
 pub record SchedulesFollowGrammar (hosts : List (List ℕ)) (bytes : List ℕ) : Type 0 where
-  pub given : (schedule : Schedule) → schedule_read hosts bytes ≡ Ok schedule → AreSchedule hosts bytes (tokens_at bytes 0) schedule
-  pub accepted : (schedule : Schedule) → AreSchedule hosts bytes (tokens_at bytes 0) schedule → schedule_read hosts bytes ≡ Ok schedule
-  pub refused : (fault : ReadFault) → schedule_read hosts bytes ≡ Err fault → FirstWrong hosts bytes (IsScheduleText hosts bytes) (tokens_at bytes 0) fault
+  pub given : (schedule : Schedule) → (schedule_read hosts bytes ≡ Ok schedule) ↔ GivesSchedule hosts bytes schedule
+  pub refused : (fault : ReadFault) → (schedule_read hosts bytes ≡ Err fault) ↔ FirstWrong IsScheduleText hosts bytes fault

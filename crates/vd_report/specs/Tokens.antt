@@ -1,5 +1,5 @@
 -- The tokens of inputs and schedules, by cases on bytes.
-use Rattle.std.specs.Prelude.{ℕ, zero, suc, ◌+◌, ◌-◌, ◌<◌, ◌≤◌, ◌==◌, List, [], ◌∷◌, Option, Some, None, codes, take, drop, slice_index, if◌then◌else◌}
+use Rattle.std.specs.Prelude.{ℕ, zero, suc, ◌+◌, ◌-◌, ◌^◌, min, ◌<◌, ◌≤◌, ◌==◌, List, [], ◌∷◌, Option, Some, None, codes, take, drop, slice_index, if◌then◌else◌}
 use Rattle.std.specs.List.{prefix_len, take_while}
 use Rattle.std.specs.Str.{bytes_eq}
 use Rattle.vd_base.specs.Lexical.{is_space, is_digit, is_letter, is_word_byte, is_keyword, number_of}
@@ -51,6 +51,10 @@ behind_kind bytes end _ = tokens_at bytes end
 
 abbrev pub behind : List ℕ → Token → List Token
 behind bytes t = behind_kind bytes t.end t.kind
+
+-- an offset as a fault tells it: 2^32 - 1 where it would be larger
+abbrev pub capped : ℕ → ℕ
+capped at = min at (2 ^ 32 - 1)
 
 abbrev pub text_of : List ℕ → Token → List ℕ
 text_of bytes t = take (t.end - t.start) (drop t.start bytes)

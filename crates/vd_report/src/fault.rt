@@ -1,15 +1,19 @@
+//! The faults of the readers.
+
 ghost use Rattle.std.specs.Prelude.{◌≡◌};
 ghost use Rattle.vd_report.specs.declared.fault.ReadFault.TheVariants as read_fault;
+ghost use Rattle.vd_report.specs.Tokens.{capped};
 
 use std::alloc::AllocError;
 
-/// Why a file was refused. An offset counts bytes.
+/// Why a file was refused. An offset counts bytes, and is `u32::MAX` where it would be larger.
 #[derive(Clone, Copy, PartialEq, Eq, Debug)]
 pub enum ReadFault {
     /// The token at this offset cannot stand there. The end of the file is a token at its length.
     Text(u32),
     /// The name at this offset is no declared host's.
     UnknownHost(u32),
+    /// Want of memory.
     Memory,
 }
 
@@ -19,4 +23,11 @@ impl From<AllocError> for ReadFault {
     fn from(_: AllocError) -> ReadFault {
         ReadFault::Memory
     }
+}
+
+/// An offset as a fault tells it.
+pub(crate) fn offset(at: usize) -> u32
+    ensures { result ≡ capped at }
+{
+    u32::try_from(at).unwrap_or(u32::MAX)
 }

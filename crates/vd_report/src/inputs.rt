@@ -1,12 +1,13 @@
 //! The reader of inputs.
 
-ghost use Rattle.std.specs.Prelude.{◌≡◌, ◌≢◌, ℕ, ◌^◌, ◌<◌, ◌≤◌, map, length, replicate, IfOk, IfErr, OnOk, MatchResult};
+ghost use Rattle.std.specs.Prelude.{◌≡◌, ◌≢◌, ℕ, ◌<◌, ◌≤◌, map, length, replicate, IfOk, IfErr, OnOk, MatchResult};
 ghost use Rattle.vd_report.specs.declared.token.TokenKind.TheVariants as token_kind;
 ghost use Rattle.vd_report.specs.Inputs.{Sections, words_of, between, named, go, stop, step, at_colon, Ends, Fails, inputs_read};
-ghost use Rattle.vd_report.specs.InputsText.{FollowsGrammar};
-ghost use Rattle.vd_report.specs.Outcome.{IsFaultOf};
+ghost use Rattle.vd_report.specs.InputsText.{GivesInputs, IsInputsText, InputsFollowGrammar};
+ghost use Rattle.vd_report.specs.Outcome.{IsFaultOf, Accepts, Refuses, FirstWrong};
+ghost use Rattle.vd_report.specs.Tokens.{capped};
 
-use crate::fault::ReadFault;
+use crate::fault::{ReadFault, offset};
 use crate::hosts::host_of;
 use crate::token::{Token, TokenKind, next_token};
 use std::alloc::{AllocError, Global};
@@ -16,7 +17,16 @@ use vd_items::Items;
 
 /// The words that an inputs file gives to each host, in order of declaration. A host without a section has none.
 pub fn read_inputs(alloc: Global, bytes: &[u8], hosts: &Names) -> Result<Inputs, ReadFault>
-    requires { length bytes.now < 2 ^ 32 }
+    ensures given { Accepts result (GivesInputs hosts.now bytes.now) }
+    ensures refused { Refuses result (FirstWrong IsInputsText hosts.now bytes.now) }
+    ensures ok { IfOk result (λ inputs. inputs_read hosts.now bytes.now ≡ Ok inputs) }
+    ensures err { IfErr result (λ fault. IsFaultOf (inputs_read hosts.now bytes.now) fault) }
+{
+    read_sections(alloc, bytes, hosts)
+}
+
+/// The words of each host, read section by section.
+fn read_sections(alloc: Global, bytes: &[u8], hosts: &Names) -> Result<Inputs, ReadFault>
     ensures ok { IfOk result (λ inputs. inputs_read hosts.now bytes.now ≡ Ok inputs) }
     ensures err { IfErr result (λ fault. IsFaultOf (inputs_read hosts.now bytes.now) fault) }
 {
@@ -36,6 +46,7 @@ pub fn read_inputs(alloc: Global, bytes: &[u8], hosts: &Names) -> Result<Inputs,
     }
 }
 
+/// For each of so many hosts no section.
 fn no_sections(alloc: Global, count: usize) -> Result<Items<Option<Words>>, AllocError>
     ensures { IfOk result (λ sections. sections ≡ replicate count None) }
 {
@@ -46,6 +57,7 @@ fn no_sections(alloc: Global, count: usize) -> Result<Items<Option<Words>>, Allo
     Ok(sections)
 }
 
+/// The words of each host, none where it has no section.
 fn inputs_of(alloc: Global, sections: Items<Option<Words>>) -> Result<Inputs, AllocError>
     ensures { IfOk result (λ inputs. inputs ≡ map words_of sections) }
 {
@@ -69,7 +81,6 @@ fn section_host(
 ) -> Result<usize, ReadFault>
     requires within { name.start ≤ name.end }
     requires end { name.end ≤ length bytes.now }
-    requires small { length bytes.now < 2 ^ 32 }
     requires hosts { length sections.now ≡ length hosts.now }
     requires more { name.kind ≢ token_kind.End }
     ensures ok { IfOk result (λ host. host < length hosts.now) }
@@ -78,33 +89,32 @@ fn section_host(
         (λ fault. step hosts.now bytes.now between sections.now name ≡ stop (Err fault)) }
 {
     let TokenKind::Name = name.kind else {
-        return Err(ReadFault::Text(name.start as u32));
+        return Err(ReadFault::Text(offset(name.start)));
     };
     let Some(host) = host_of(hosts, &bytes[name.start..name.end]) else {
-        return Err(ReadFault::UnknownHost(name.start as u32));
+        return Err(ReadFault::UnknownHost(offset(name.start)));
     };
     if sections[host].is_some() {
-        return Err(ReadFault::Text(name.start as u32));
+        return Err(ReadFault::Text(offset(name.start)));
     }
     Ok(host)
 }
 
+/// Refuses a token that is no colon.
 fn expect_colon(colon: Token) -> Result<(), ReadFault>
-    requires { colon.start < 2 ^ 32 }
     ensures ok { OnOk result (colon.kind ≡ token_kind.Colon) }
     ensures err { IfErr result (λ fault. (host : ℕ) (sections : Sections) →
-        at_colon host sections colon.start colon.kind ≡ stop (Err fault)) }
+        at_colon host sections (capped colon.start) colon.kind ≡ stop (Err fault)) }
 {
     match colon.kind {
         TokenKind::Colon => Ok(()),
-        _ => Err(ReadFault::Text(colon.start as u32)),
+        _ => Err(ReadFault::Text(offset(colon.start))),
     }
 }
 
 /// The words of a section and the offset behind them.
 fn read_words(alloc: Global, bytes: &[u8], start: usize) -> Result<(Words, usize), ReadFault>
-    requires within { start ≤ length bytes.now }
-    requires small { length bytes.now < 2 ^ 32 }
+    requires { start ≤ length bytes.now }
     ensures within { IfOk result (λ read. (start ≤ read.1) × (read.1 ≤ length bytes.now)) }
     ensures ok { IfOk result (λ read. Ends bytes.now start read.0 read.1) }
     ensures err { IfErr result (λ fault. Fails bytes.now start fault) }
@@ -117,16 +127,16 @@ fn read_words(alloc: Global, bytes: &[u8], start: usize) -> Result<(Words, usize
             return Ok((words, at));
         };
         if words.as_slice().len() == INPUT_WORDS as usize {
-            return Err(ReadFault::Text(token.start as u32));
+            return Err(ReadFault::Text(offset(token.start)));
         }
         words.push(word)?;
         at = token.end;
     }
 }
 
-/// An inputs file is read exactly where it is a text of the grammar, and then with the words of its sections.
+/// Each inputs file either is a text of the grammar, and gives the words of its sections, or has one first token that cannot stand there, and the fault of that token.
 pub fn inputs_follow_the_grammar(bytes: &[u8], hosts: &Names)
-    ensures { FollowsGrammar hosts.now bytes.now }
+    ensures { InputsFollowGrammar hosts.now bytes.now }
 {
     let _ = bytes;
     let _ = hosts;

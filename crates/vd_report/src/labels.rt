@@ -1,3 +1,5 @@
+//! The lines that tell the labels of slots.
+
 ghost use Rattle.std.specs.Prelude.{◌≡◌, ◌++◌, if◌then◌else◌, codes, map, OnOk, IfOk};
 ghost use Rattle.vd_formula.specs.TruthTable.{has};
 ghost use Rattle.vd_report.specs.LabelLines.{all_behind, set_text, sets_text, formula_text, label_line, label_lines};
@@ -7,23 +9,27 @@ use std::alloc::{AllocError, Global};
 use vd_base::{Bytes, Names};
 use vd_constraints::Labels;
 use vd_core::normal::{NormalForm, Slot};
+use vd_core::program::Program;
 use vd_formula::{Formula, Label};
 
 /// One line for each slot: its number, its name and its label.
-pub fn labels_text(
-    alloc: Global,
-    program: &NormalForm,
-    labels: &Labels,
-) -> Result<Bytes, AllocError>
+pub fn labels_text(alloc: Global, program: &Program, labels: &Labels) -> Result<Bytes, AllocError>
     ensures { IfOk result (λ text. text ≡ label_lines program.now.principals 0 program.now.slots labels.now.slots) }
 {
+    slot_lines(alloc, program.form(), labels)
+}
+
+/// The lines of a let-normal form.
+fn slot_lines(alloc: Global, form: &NormalForm, labels: &Labels) -> Result<Bytes, AllocError>
+    ensures { IfOk result (λ text. text ≡ label_lines form.now.principals 0 form.now.slots labels.now.slots) }
+{
     let mut text = Bytes::new(alloc);
-    let pairs = program.slots.iter().zip(labels.slots.iter());
+    let pairs = form.slots.iter().zip(labels.slots.iter());
     for (number, (slot, label)) in pairs.enumerate() {
         push_label_line(
             alloc,
             &mut text,
-            &program.principals,
+            &form.principals,
             number as u64,
             slot,
             label,
@@ -32,6 +38,7 @@ pub fn labels_text(
     Ok(text)
 }
 
+/// Puts the line of a slot at the end.
 fn push_label_line(
     alloc: Global,
     text: &mut Bytes,
@@ -52,6 +59,7 @@ fn push_label_line(
     text.extend_from_slice(b"}\n")
 }
 
+/// Puts a formula at the end.
 fn push_formula(
     alloc: Global,
     text: &mut Bytes,
@@ -68,6 +76,7 @@ fn push_formula(
     }
 }
 
+/// Puts the minimal sets of a formula at the end.
 fn push_sets(text: &mut Bytes, principals: &Names, sets: &[u8]) -> Result<(), AllocError>
     ensures { OnOk result (text.new ≡ text.old ++ sets_text principals.now sets.now) }
 {
@@ -80,7 +89,7 @@ fn push_sets(text: &mut Bytes, principals: &Names, sets: &[u8]) -> Result<(), Al
     }
 }
 
-/// Further sets, each behind its separator.
+/// Puts further sets at the end, each behind its separator.
 fn push_more_sets(text: &mut Bytes, principals: &Names, sets: &[u8]) -> Result<(), AllocError>
     ensures { OnOk result (text.new ≡ text.old ++ all_behind (codes " | ") (map (set_text principals.now) sets.now)) }
 {
@@ -91,7 +100,7 @@ fn push_more_sets(text: &mut Bytes, principals: &Names, sets: &[u8]) -> Result<(
     Ok(())
 }
 
-/// The names in a set.
+/// Puts the names in a set at the end.
 fn push_set(text: &mut Bytes, principals: &Names, set: u8) -> Result<(), AllocError>
     ensures { OnOk result (text.new ≡ text.old ++ set_text principals.now set) }
 {
@@ -106,7 +115,7 @@ fn push_set(text: &mut Bytes, principals: &Names, set: u8) -> Result<(), AllocEr
     Ok(())
 }
 
-/// A name in a set, behind its separator where it is not the first.
+/// Puts a name in a set at the end, behind its separator where it is not the first.
 fn push_member(text: &mut Bytes, name: &[u8], is_first: bool) -> Result<(), AllocError>
     ensures { OnOk result (text.new ≡ text.old ++ (if is_first then name.now else codes " & " ++ name.now)) }
 {
@@ -116,6 +125,7 @@ fn push_member(text: &mut Bytes, name: &[u8], is_first: bool) -> Result<(), Allo
     text.extend_from_slice(name)
 }
 
+/// Whether the principal with this number is in a set.
 fn is_member(set: u8, place: usize) -> bool
     ensures { result ≡ has set place }
 {

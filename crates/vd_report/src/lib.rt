@@ -1,18 +1,18 @@
 //! Readers of the files that people write beside a source, and the texts that are printed.
 #![tactic(auto)]
 
-pub mod fault;
-pub mod hosts;
-pub mod inputs;
-pub mod labels;
-pub mod lines;
-pub mod schedule;
+mod fault;
+mod hosts;
+mod inputs;
+mod labels;
+mod lines;
+mod schedule;
 #[cfg(test)]
 mod tests;
-pub mod token;
+mod token;
 
 pub use fault::ReadFault;
-pub use inputs::read_inputs;
+pub use inputs::{inputs_follow_the_grammar, read_inputs};
 pub use labels::labels_text;
 pub use lines::{outputs_text, push_words_line};
-pub use schedule::{Schedule, read_schedule};
+pub use schedule::{Schedule, read_schedule, schedules_follow_the_grammar};

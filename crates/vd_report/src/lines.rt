@@ -1,3 +1,5 @@
+//! The lines that tell words.
+
 ghost use Rattle.std.specs.Prelude.{◌≡◌, ◌++◌, OnOk, IfOk};
 ghost use Rattle.vd_report.specs.Lines.{number_field, words_line, output_lines};
 
@@ -28,6 +30,7 @@ pub fn push_words_line(text: &mut Bytes, head: &[u8], words: &[u32]) -> Result<(
     text.push(b'\n')
 }
 
+/// Puts a number at the end, behind a space.
 fn push_number(text: &mut Bytes, number: u64) -> Result<(), AllocError>
     ensures { OnOk result (text.new ≡ text.old ++ number_field number) }
 {

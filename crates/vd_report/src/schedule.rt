@@ -1,14 +1,14 @@
 //! The reader of schedules.
 
-ghost use Rattle.std.specs.Prelude.{◌≡◌, ◌≢◌, ℕ, ◌^◌, ◌<◌, ◌≤◌, ◌∷◌, [], ◌++◌, List, length, IfOk, IfErr, OnOk, MatchResult};
+ghost use Rattle.std.specs.Prelude.{◌≡◌, ◌≢◌, ℕ, ◌≤◌, ◌∷◌, [], ◌++◌, List, length, IfOk, IfErr, OnOk, MatchResult};
 ghost use Rattle.vd_report.specs.declared.token.TokenKind.TheVariants as token_kind;
 ghost use Rattle.vd_report.specs.declared.schedule.Schedule.{Schedule};
 ghost use Rattle.vd_base.specs.declared.ids.HostId.{HostId};
-ghost use Rattle.vd_report.specs.Outcome.{IsFaultOf};
+ghost use Rattle.vd_report.specs.Outcome.{IsFaultOf, Accepts, Refuses, FirstWrong};
 ghost use Rattle.vd_report.specs.Schedule.{go, stop, entry_step, last_step, schedule_read};
-ghost use Rattle.vd_report.specs.ScheduleText.{SchedulesFollowGrammar};
+ghost use Rattle.vd_report.specs.ScheduleText.{GivesSchedule, IsScheduleText, SchedulesFollowGrammar};
 
-use crate::fault::ReadFault;
+use crate::fault::{ReadFault, offset};
 use crate::hosts::host_of;
 use crate::token::{Token, TokenKind, next_token};
 use std::alloc::Global;
@@ -27,8 +27,18 @@ pub struct Schedule {
 
 /// The schedule that a file gives.
 pub fn read_schedule(alloc: Global, bytes: &[u8], hosts: &Names) -> Result<Schedule, ReadFault>
-    requires small { length bytes.now < 2 ^ 32 }
-    requires few_hosts { length hosts.now ≤ HOSTS }
+    requires { length hosts.now ≤ HOSTS }
+    ensures given { Accepts result (GivesSchedule hosts.now bytes.now) }
+    ensures refused { Refuses result (FirstWrong IsScheduleText hosts.now bytes.now) }
+    ensures ok { IfOk result (λ schedule. schedule_read hosts.now bytes.now ≡ Ok schedule) }
+    ensures err { IfErr result (λ fault. IsFaultOf (schedule_read hosts.now bytes.now) fault) }
+{
+    read_entries(alloc, bytes, hosts)
+}
+
+/// The schedule, read entry by entry.
+fn read_entries(alloc: Global, bytes: &[u8], hosts: &Names) -> Result<Schedule, ReadFault>
+    requires { length hosts.now ≤ HOSTS }
     ensures ok { IfOk result (λ schedule. schedule_read hosts.now bytes.now ≡ Ok schedule) }
     ensures err { IfErr result (λ fault. IsFaultOf (schedule_read hosts.now bytes.now) fault) }
 {
@@ -64,7 +74,6 @@ fn entry_host(
 ) -> Result<HostId, ReadFault>
     requires start { token.start ≤ token.end }
     requires end { token.end ≤ length bytes.now }
-    requires small { length bytes.now < 2 ^ 32 }
     requires few_hosts { length hosts.now ≤ HOSTS }
     requires not_end { token.kind ≢ token_kind.End }
     requires not_all { token.kind ≢ token_kind.All }
@@ -73,29 +82,29 @@ fn entry_host(
         (λ fault. entry_step hosts.now bytes.now entries.now token ≡ stop (Err fault)) }
 {
     let TokenKind::Name = token.kind else {
-        return Err(ReadFault::Text(token.start as u32));
+        return Err(ReadFault::Text(offset(token.start)));
     };
     if entries.as_slice().len() >= SCHEDULE_ENTRIES as usize {
-        return Err(ReadFault::Text(token.start as u32));
+        return Err(ReadFault::Text(offset(token.start)));
     }
     match host_of(hosts, &bytes[token.start..token.end]) {
         Some(host) => Ok(HostId(host as u8)),
-        None => Err(ReadFault::UnknownHost(token.start as u32)),
+        None => Err(ReadFault::UnknownHost(offset(token.start))),
     }
 }
 
+/// Refuses a token that is not the end.
 fn expect_end(token: Token) -> Result<(), ReadFault>
-    requires { token.start < 2 ^ 32 }
     ensures ok { OnOk result (token.kind ≡ token_kind.End) }
     ensures err { IfErr result (λ fault. (entries : List HostId) → last_step entries token ≡ Err fault) }
 {
     match token.kind {
         TokenKind::End => Ok(()),
-        _ => Err(ReadFault::Text(token.start as u32)),
+        _ => Err(ReadFault::Text(offset(token.start))),
     }
 }
 
-/// A schedule file is read exactly where it is a text of the grammar, and then as that text says.
+/// Each schedule file either is a text of the grammar, and gives its schedule, or has one first token that cannot stand there, and the fault of that token.
 pub fn schedules_follow_the_grammar(bytes: &[u8], hosts: &Names)
     ensures { SchedulesFollowGrammar hosts.now bytes.now }
 {

@@ -21,7 +21,6 @@ fn expect_inputs(
 ) -> Result<(), Fail> {
     let hosts = two_hosts(alloc)?;
     let bytes = text.as_bytes();
-    assert!(rt; bytes.len() < 1000);
     let inputs = read_inputs(alloc, bytes, &hosts)?;
     assert_eq!(rt; inputs.as_slice().len(), 2, "{text}");
     assert_eq!(rt; inputs[0].as_slice(), alice, "{text}");
@@ -36,7 +35,6 @@ fn expect_fault(
     fault: ReadFault,
 ) -> Result<(), Fail> {
     let hosts = two_hosts(alloc)?;
-    assert!(rt; bytes.len() < 1_000_000);
     match read_inputs(alloc, bytes, &hosts) {
         Err(found) => assert!(rt; found == fault, "{bytes:?}"),
         Ok(_) => panic!(rt; "{bytes:?} is refused"),
@@ -62,12 +60,13 @@ fn inputs_are_read(rt: HostRuntime) -> Result<(), Fail> {
 
 #[test]
 fn refused_inputs_have_the_place_of_their_first_wrong_token(rt: HostRuntime) -> Result<(), Fail> {
-    let cases: [(&[u8], ReadFault); 15] = [
+    let cases: [(&[u8], ReadFault); 16] = [
         (b"alice: 5 x", ReadFault::UnknownHost(9)),
         (b"carol!", ReadFault::UnknownHost(0)),
         (b"alice: 05", ReadFault::Text(7)),
         (b"alice: 4294967296", ReadFault::Text(7)),
         (b"alice 5", ReadFault::Text(6)),
+        (b"alice carol", ReadFault::Text(6)),
         (b"alice", ReadFault::Text(5)),
         (b"alice \n", ReadFault::Text(7)),
         (b"alice: bob", ReadFault::Text(10)),
@@ -91,7 +90,6 @@ fn a_section_has_at_most_65536_words(rt: HostRuntime) -> Result<(), Fail> {
     for _ in 0..65_536 {
         text.extend_from_slice(b" 1")?;
     }
-    assert!(rt; text.as_slice().len() < 1_000_000);
     let inputs = read_inputs(rt.alloc(), text.as_slice(), &two_hosts(rt.alloc())?)?;
     assert_eq!(rt; inputs.as_slice().len(), 2);
     assert_eq!(rt; inputs[0].as_slice().len(), 65_536);
@@ -123,7 +121,6 @@ fn expect_schedule(
 ) -> Result<(), Fail> {
     let hosts = two_hosts(alloc)?;
     let bytes = text.as_bytes();
-    assert!(rt; bytes.len() < 1000);
     assert!(rt; hosts.as_slice().len() <= 4);
     let schedule = read_schedule(alloc, bytes, &hosts)?;
     assert_eq!(rt; schedule.entries.as_slice(), entries, "{text}");
@@ -138,7 +135,6 @@ fn expect_schedule_fault(
     fault: ReadFault,
 ) -> Result<(), Fail> {
     let hosts = two_hosts(alloc)?;
-    assert!(rt; bytes.len() < 10_000_000);
     assert!(rt; hosts.as_slice().len() <= 4);
     match read_schedule(alloc, bytes, &hosts) {
         Err(found) => assert!(rt; found == fault, "{bytes:?}"),
@@ -197,7 +193,6 @@ fn a_schedule_has_at_most_1048576_entries(rt: HostRuntime) -> Result<(), Fail> {
     }
     let hosts = two_hosts(rt.alloc())?;
     assert!(rt; hosts.as_slice().len() <= 4);
-    assert!(rt; text.as_slice().len() < 10_000_000);
     let schedule = read_schedule(rt.alloc(), text.as_slice(), &hosts)?;
     assert_eq!(rt; schedule.entries.as_slice().len(), 1_048_576);
     text.extend_from_slice(b"carol")?;

@@ -12,9 +12,11 @@ use vd_base::lexical::{digits_len, is_digit, is_keyword, is_letter, is_space, nu
 pub enum TokenKind {
     /// The end of the file.
     End,
+    /// A NAME of the source language.
     Name,
     /// The keyword `all`.
     All,
+    /// A `:`.
     Colon,
     /// A decimal number of at most 32 bits.
     Number(u32),
@@ -25,8 +27,11 @@ pub enum TokenKind {
 /// A token and the offsets where it starts and ends.
 #[derive(Clone, Copy)]
 pub struct Token {
+    /// What it is.
     pub kind: TokenKind,
+    /// The offset of its first byte.
     pub start: usize,
+    /// The offset behind its last byte.
     pub end: usize,
 }
 
@@ -52,12 +57,14 @@ pub fn next_token(bytes: &[u8], at: usize) -> Token
     }
 }
 
+/// How many bytes of white space a text begins with.
 fn blank_len(text: &[u8]) -> usize
     ensures { result ≡ prefix_len lexical.is_space text.now }
 {
     text.iter().take_while(|byte| is_space(**byte)).count()
 }
 
+/// What the token is with which a text begins, and how many bytes it has.
 fn first_token(text: &[u8]) -> (TokenKind, usize)
     requires { 0 < length text.now }
     ensures kind { result.0 ≡ tokens.token_kind text.now }
@@ -77,6 +84,7 @@ fn first_token(text: &[u8]) -> (TokenKind, usize)
     }
 }
 
+/// What a word is.
 fn word_kind(word: &[u8]) -> TokenKind
     ensures { result ≡ tokens.word_kind word.now }
 {
@@ -89,6 +97,7 @@ fn word_kind(word: &[u8]) -> TokenKind
     }
 }
 
+/// What a run of digits is.
 fn digits_kind(digits: &[u8]) -> TokenKind
     ensures { result ≡ tokens.number_kind (lexical.number_of digits.now) }
 {

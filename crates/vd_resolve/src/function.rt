@@ -122,5 +122,5 @@ pub(crate) fn check_bodies<'a>(
         earlier: functions,
         later: &functions[functions.len()..],
     };
-    declarations.main_block(&*main)
+    declarations.main_block(main)
 }

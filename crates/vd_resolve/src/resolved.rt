@@ -37,6 +37,7 @@ impl Resolved {
         Resolved { source }
     }
 
+    /// The source, with its names, which has no fault.
     pub fn source(&self) -> &Source
         ensures same { result.now ≡ self.now }
         ensures resolved { IsResolved self.now }

@@ -1,12 +1,16 @@
 //! The command `clear`.
 
 use crate::world::{Failing, clear, run_words, source_and_inputs};
+use std::process::Abort;
 use std::test::Fail;
 use vd_base::Bytes;
 use vd_items::Items;
 
 /// Source, inputs, status, and what is printed to the output and to the error stream.
-const CASES: [(&str, &str, u8, &str, &str); 22] = [
+type Row = (&'static str, &'static str, u8, &'static str, &'static str);
+
+/// Sources with their inputs.
+const CASES: [Row; 22] = [
     (
         "principals P;\nhost alice {P ; P};\nhost bob {P ; P};\nmain {\n  let x = input(alice);\n  let y = input(bob);\n  output x + y * 2 to alice;\n  output x - y to bob;\n}\n",
         "alice: 3\nbob: 5\n",
@@ -157,8 +161,8 @@ const CASES: [(&str, &str, u8, &str, &str); 22] = [
     ),
 ];
 
-/// Sources that break a rule.
-const REFUSED: [(&str, &str, u8, &str, &str); 12] = [
+/// Sources that break a rule. The last two stand beside inputs that would be refused as well.
+const REFUSED: [Row; 14] = [
     (
         "principals P;\nhost alice {P ; P};\nhost bob {P ; P};\nfun f(x: word): word { return f(x); }\nmain {\n}\n",
         "",
@@ -243,14 +247,30 @@ const REFUSED: [(&str, &str, u8, &str, &str); 12] = [
         "",
         "viaduct: limit principals 7\n",
     ),
+    ("", "alice: 05", 6, "", "viaduct: unexpected token at 0\n"),
+    (
+        "principals P;\nhost alice {P ; P};\nhost bob {P ; P};\nmain {\n  output zz to alice;\n}\n",
+        "alice: 05",
+        7,
+        "",
+        "viaduct: unknown name at 68\n",
+    ),
 ];
 
 const TWO_HOSTS: &str =
     "principals P;\nhost alice {P ; P};\nhost bob {P ; P};\nmain {\n  let x = input(alice);\n  output x to bob;\n}\n";
 
-#[test]
-fn sources_print_what_they_mean(rt: HostRuntime) -> Result<(), Fail> {
-    for (source, inputs, code, out, err) in CASES {
+/// How many files a run that ends with this status has fetched: the inputs only after a source that meets every rule.
+fn fetches_of(code: u8) -> usize {
+    match code {
+        6 | 7 => 1,
+        _ => 2,
+    }
+}
+
+/// Runs each row, and compares what it leaves.
+fn compare(rt: &(impl Abort + AllocGlobal), rows: &[Row]) -> Result<(), Fail> {
+    for (source, inputs, code, out, err) in rows {
         let left = clear(rt.alloc(), source, inputs)?;
         assert_eq!(rt;
             left.err.as_slice(),
@@ -262,41 +282,39 @@ fn sources_print_what_they_mean(rt: HostRuntime) -> Result<(), Fail> {
             out.as_bytes(),
             "the output of {source}"
         );
-        assert_eq!(rt; left.code, code, "the status of {source}");
+        assert_eq!(rt; left.code, *code, "the status of {source}");
+        assert_eq!(rt; left.fetches, fetches_of(*code), "the fetches of {source}");
     }
     Ok(())
 }
 
 #[test]
+fn sources_print_what_they_mean(rt: HostRuntime) -> Result<(), Fail> {
+    compare(&rt, &CASES)
+}
+
+#[test]
 fn sources_that_break_a_rule_are_refused(rt: HostRuntime) -> Result<(), Fail> {
-    for (source, inputs, code, out, err) in REFUSED {
-        let left = clear(rt.alloc(), source, inputs)?;
-        assert_eq!(rt;
-            left.err.as_slice(),
-            err.as_bytes(),
-            "the error line of {source}"
-        );
-        assert_eq!(rt;
-            left.out.as_slice(),
-            out.as_bytes(),
-            "the output of {source}"
-        );
-        assert_eq!(rt; left.code, code, "the status of {source}");
-    }
-    Ok(())
+    compare(&rt, &REFUSED)
 }
 
 #[test]
 fn a_failed_fetch_names_its_file(rt: HostRuntime) -> Result<(), Fail> {
     let alloc = rt.alloc();
-    let mut failing = Failing::nothing(alloc);
-    failing.files.push(0)?;
-    let stored = source_and_inputs(alloc, TWO_HOSTS.as_bytes(), b"")?;
-    let left = run_words(alloc, &["clear", "S1", "I"], stored, failing)?;
-    assert_eq!(rt; left.code, 3);
-    assert_eq!(rt; left.err.as_slice(), b"viaduct: read fault S1\n".as_slice());
-    assert_eq!(rt; left.out.len(), 0);
-    assert_eq!(rt; left.fetches, 1);
+    let lines: [(u64, &str); 2] = [
+        (0, "viaduct: read fault S1\n"),
+        (1, "viaduct: read fault I\n"),
+    ];
+    for (call, line) in lines {
+        let mut failing = Failing::nothing(alloc);
+        failing.files.push(call)?;
+        let stored = source_and_inputs(alloc, TWO_HOSTS.as_bytes(), b"")?;
+        let left = run_words(alloc, &["clear", "S1", "I"], stored, failing)?;
+        assert_eq!(rt; left.code, 3);
+        assert_eq!(rt; left.err.as_slice(), line.as_bytes());
+        assert_eq!(rt; left.out.len(), 0);
+        assert_eq!(rt; left.fetches as u64, call + 1);
+    }
     Ok(())
 }
 
@@ -314,11 +332,15 @@ fn a_failed_write_leaves_a_front_of_the_report(rt: HostRuntime) -> Result<(), Fa
     Ok(())
 }
 
-#[test]
-fn a_source_above_the_limit_is_too_long(rt: HostRuntime) -> Result<(), Fail> {
+/// Runs `clear S1 I` over files of which one is above its limit, and compares the error line.
+fn compare_too_long(
+    rt: &(impl Abort + AllocGlobal),
+    source: &[u8],
+    inputs: &[u8],
+    line: &str,
+) -> Result<(), Fail> {
     let alloc = rt.alloc();
-    let source = vec![in alloc; b' '; 65_537]?;
-    let stored = source_and_inputs(alloc, source.as_slice(), b"")?;
+    let stored = source_and_inputs(alloc, source, inputs)?;
     let left = run_words(
         alloc,
         &["clear", "S1", "I"],
@@ -326,12 +348,26 @@ fn a_source_above_the_limit_is_too_long(rt: HostRuntime) -> Result<(), Fail> {
         Failing::nothing(alloc),
     )?;
     assert_eq!(rt; left.code, 5);
-    assert_eq!(rt;
-        left.err.as_slice(),
-        b"viaduct: too long S1 65536\n".as_slice()
-    );
+    assert_eq!(rt; left.err.as_slice(), line.as_bytes());
     assert_eq!(rt; left.out.len(), 0);
     Ok(())
+}
+
+#[test]
+fn a_source_above_the_limit_is_too_long(rt: HostRuntime) -> Result<(), Fail> {
+    let source = vec![in rt.alloc(); b' '; 65_537]?;
+    compare_too_long(&rt, source.as_slice(), b"", "viaduct: too long S1 65536\n")
+}
+
+#[test]
+fn inputs_above_the_limit_are_too_long(rt: HostRuntime) -> Result<(), Fail> {
+    let inputs = vec![in rt.alloc(); b' '; 4_194_305]?;
+    compare_too_long(
+        &rt,
+        TWO_HOSTS.as_bytes(),
+        inputs.as_slice(),
+        "viaduct: too long I 4194304\n",
+    )
 }
 
 #[test]

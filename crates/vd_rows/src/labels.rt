@@ -18,7 +18,7 @@ const COMPARISON: &str =
     "principals A, B;\nhost alice {A ; A & B};\nhost bob {B ; A & B};\nmain {\n  let a = input(alice);\n  let b = input(bob);\n  let r = declassify(a < b, {A | B});\n  output r to alice;\n  output r to bob;\n}\n";
 
 /// Source, status, and what is printed to the output and to the error stream.
-const CASES: [(&str, u8, &str, &str); 6] = [
+const CASES: [(&str, u8, &str, &str); 9] = [
     (
         COMPARISON,
         0,
@@ -36,6 +36,24 @@ const CASES: [(&str, u8, &str, &str); 6] = [
         8,
         "",
         "viaduct: flow check 3 at 110\n",
+    ),
+    (
+        "principals A, B;\nhost alice {A ; A & B};\nhost bob {B ; A & B};\nmain {\n  let a = input(alice);\n  array t: word[4];\n  t[a] := 1;\n  output t[0] to bob;\n}\n",
+        8,
+        "",
+        "viaduct: flow check 2 at 129\n",
+    ),
+    (
+        "principals A, B;\nhost alice {A ; A & B};\nhost bob {B ; A & B};\nmain {\n  let a = input(alice);\n  array t: word[4];\n  t[a] := 1;\n}\n",
+        0,
+        "0 a {A ; any}\n1 t {A ; any}\n2 _ {any ; any}\n",
+        "",
+    ),
+    (
+        "principals A, B;\nhost alice {A ; A & B};\nhost bob {B ; A & B};\nmain {\n  let a = input(alice);\n  let x {B ; any} = a + 1;\n}\n",
+        8,
+        "",
+        "viaduct: flow check 2 at 96\n",
     ),
     (
         "principals A, B, C;\nhost alice {A ; A};\nmain {\n  let k = 1;\n  let x {A & C | A & B ; none} = k + 2;\n}\n",
@@ -96,19 +114,24 @@ fn confirmed(system: &System, labels: &Labels) -> Result<Result<(), FlowFault>, 
     }
 }
 
-/// The labels with `A` for the confidentiality of slot 2.
-fn told_to_alice(labels: &mut Labels) -> Result<(), Fail> {
-    if labels.slots.as_slice().len() <= 2 {
+/// Puts a formula into one part of the label of a slot: the integrity where `integ` is true, else the confidentiality.
+fn put(labels: &mut Labels, slot: usize, integ: bool, formula: Formula) -> Result<(), Fail> {
+    if labels.slots.as_slice().len() <= slot {
         return Err("too few slots".into());
     }
-    let integ = labels.slots.as_slice()[2].integ;
-    labels.slots.set(
-        2,
+    let old = labels.slots.as_slice()[slot];
+    let label = if integ {
         Label {
-            conf: Formula::name(0, 2),
-            integ,
-        },
-    );
+            integ: formula,
+            ..old
+        }
+    } else {
+        Label {
+            conf: formula,
+            ..old
+        }
+    };
+    labels.slots.set(slot, label);
     Ok(())
 }
 
@@ -119,7 +142,9 @@ fn least_labels_are_confirmed_and_others_refused(rt: HostRuntime) -> Result<(), 
     match solve(alloc, &system) {
         Ok(mut labels) => {
             assert_eq!(rt; confirmed(&system, &labels)?, Ok(()));
-            told_to_alice(&mut labels)?;
+            put(&mut labels, 0, true, Formula::never(2))?;
+            assert_eq!(rt; confirmed(&system, &labels)?, Err(FlowFault::Upper(0)));
+            put(&mut labels, 2, false, Formula::name(0, 2))?;
             assert_eq!(rt; confirmed(&system, &labels)?, Err(FlowFault::Lower(6)));
             Ok(())
         }

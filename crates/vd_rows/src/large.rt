@@ -45,6 +45,42 @@ fn doublings(alloc: Global) -> Result<Bytes, AllocError> {
     Ok(text)
 }
 
+/// Puts the name with this number, below 1000, at the end.
+fn push_name(text: &mut Bytes, number: u32) -> Result<(), AllocError> {
+    text.push(b'x')?;
+    text.push(b'0' + (number / 100 % 10) as u8)?;
+    text.push(b'0' + (number / 10 % 10) as u8)?;
+    text.push(b'0' + (number % 10) as u8)
+}
+
+/// An input, its double, the double of that, and so on 510 times, and an output.
+fn doubled_input(alloc: Global) -> Result<Bytes, AllocError> {
+    let mut text = Bytes::from_slice(alloc, HEAD)?;
+    text.extend_from_slice(b"main {\nlet x000 = input(alice);\n")?;
+    for number in 0..510u32 {
+        text.extend_from_slice(b"let ")?;
+        push_name(&mut text, number + 1)?;
+        text.extend_from_slice(b" = ")?;
+        push_name(&mut text, number)?;
+        text.extend_from_slice(b" + ")?;
+        push_name(&mut text, number)?;
+        text.extend_from_slice(b";\n")?;
+    }
+    text.extend_from_slice(b"output x510 to alice;\n}\n")?;
+    Ok(text)
+}
+
+#[test]
+fn labels_of_as_many_statements_as_there_may_be(rt: HostRuntime) -> Result<(), Fail> {
+    let alloc = rt.alloc();
+    let source = doubled_input(alloc)?;
+    let stored = source_and_inputs(alloc, source.as_slice(), b"")?;
+    let left = run_words(alloc, &["labels", "S1"], stored, Failing::nothing(alloc))?;
+    assert_eq!(rt; left.code, 0);
+    assert_eq!(rt; left.out.as_slice().len(), 8577);
+    Ok(())
+}
+
 #[test]
 fn sixty_thousand_operators_before_an_operand(rt: HostRuntime) -> Result<(), Fail> {
     let alloc = rt.alloc();

@@ -1,34 +1,26 @@
 -- How far the rules are solved: what stays while one rule after another is visited.
-use Rattle.std.proofs.Common.{◌≡◌, ℕ, ◌+◌, ◌*◌, ◌<◌, ◌≤◌, Bool, true, false, Option, Some, None, List, [], ◌∷◌, length, get_or, set, replicate, refl, sym, ap, ◌∙◌, subst, arith, inl, inr, ◌⊎◌}
-use Rattle.std.specs.Prelude.{All, Contains, IfSome, IsTrue}
-use Rattle.std.proofs.lemmas.Bool.{cases_eq, cases_lt, cases_Bool, true≢false}
-use Rattle.std.proofs.lemmas.List.{length-replicate, length-set, get_or_default, get_or-replicate, get_or_past, get_or-set_other}
-use Rattle.std.proofs.lemmas.List.Elements.{All-replicate, All-contains}
+use Rattle.std.proofs.Common.{◌≡◌, ℕ, ◌+◌, ◌*◌, ◌<◌, ◌≤◌, false, Option, Some, None, List, [], length, get_or, refl, sym, ap, ◌∙◌, subst, arith, inl, inr, ◌⊎◌}
+use Rattle.std.specs.Prelude.{Contains, IfSome}
+use Rattle.std.proofs.lemmas.Bool.{cases_eq, cases_Bool, true≢false}
+use Rattle.std.proofs.lemmas.List.{length-set, get_or_default, get_or-set_other}
+use Rattle.std.proofs.lemmas.List.Elements.{All-contains}
 use Rattle.std.proofs.Math.Nat.{mul-le-mul_right}
-use Rattle.vd_formula.specs.declared.label.Label.{Label}
-use Rattle.vd_formula.specs.TruthTable.{TruthTable, ActsFor, IsFormula, any_of, both_of}
-use Rattle.vd_formula.proofs.Tables.{is_formula-any, is_formula-both}
-use Rattle.vd_constraints.specs.declared.system.Place.{Place}
-use Rattle.vd_constraints.specs.declared.system.Place.TheVariants.{Slot, Block}
+use Rattle.vd_formula.specs.TruthTable.{TruthTable, ActsFor, both_of}
+use Rattle.vd_formula.proofs.Acting.{acts_refl, acts_trans, both_first, both_second}
 use Rattle.vd_constraints.specs.declared.system.Part.{Part}
 use Rattle.vd_constraints.specs.declared.system.Bound.{Bound}
 use Rattle.vd_constraints.specs.declared.system.Lower.{Lower}
 use Rattle.vd_constraints.specs.declared.labels.Labels.{Labels}
-use Rattle.vd_constraints.specs.Systems.{Constraints, IsOver, IsLabelOver, IsPartOf, IsRuleOf, IsSystem}
-use Rattle.vd_constraints.specs.Satisfies.{no_label, label_at, part_of, formula_at, bound_at, HoldsRule, IsLabelling, SolvesRules, IsBelow, IsLeastSolution}
+use Rattle.vd_constraints.specs.Systems.{Constraints, IsRuleOf, IsSystem}
+use Rattle.vd_constraints.specs.Satisfies.{formula_at, bound_at, HoldsRule, SolvesRules, IsLeastSolution}
+use Rattle.vd_constraints.proofs.Labellings.{over-part}
+use Rattle.vd_least.specs.Raising.{IsWithin, with_part}
+use Rattle.vd_least.proofs.Parts.{formula-same, formula-other, all_truths}
+use Rattle.vd_least.proofs.Raising.{IsReached, joined, raised, low, is_labelling, raised_reached, fewer}
 use Rattle.vd_solver.specs.declared.waiting.Waiting.{Waiting}
-use Rattle.vd_solver.specs.Raising.{IsWithin, with_part, Raises}
 use Rattle.vd_solver.specs.Reading.{read_part, part_number, IsIndex}
 use Rattle.vd_solver.specs.Visits.{IsWaiting, IsQueue, TakesRule, AddsRules}
-use Rattle.vd_solver.specs.Faults.{IsFree, free_label}
-use Rattle.vd_solver.proofs.Formulas.{acts_refl, acts_trans, acts_for_any, acts_for_both, both_first, both_second, both_less, names-both, names-any}
-use Rattle.vd_solver.proofs.Parts.{within, part_over, formula-same, formula-other, with_part_is, all_truths, fewer_truths}
-use Rattle.vd_solver.proofs.Bounds.{bound_over, bound_grows, bound_kept}
-
--- no labelling at which all rules hold is below this one
-pub record IsReached (s : Constraints) (l : Labels) : Type 0 where
-  pub labelling : IsLabelling s l
-  pub below : (other : Labels) → SolvesRules s other → IsBelow l other
+use Rattle.vd_solver.proofs.Bounds.{bound_kept}
 
 -- the rules that do not wait hold
 pub record IsUnderWay (s : Constraints) (l : Labels) (w : Waiting) : Type 0 where
@@ -39,76 +31,47 @@ pub record IsUnderWay (s : Constraints) (l : Labels) (w : Waiting) : Type 0 wher
 
 -- ---- one rule raises its part
 module _ (s : Constraints) (l : Labels) (reached : IsReached s l) (rule : Lower) (valid : IsRuleOf s rule) where
-  part_is : IsOver (length s.principals) (formula_at l rule.part)
-  part_is = part_over s l reached.labelling rule.part valid.part
+  abbrev next : Labels
+  next = raised s l reached rule valid
 
-  bound_is : IsOver (length s.principals) (bound_at l rule.bound)
-  bound_is = bound_over s l reached.labelling rule.bound valid.bound
+  within_it : IsWithin l rule.part.at
+  within_it = low s l reached rule valid
 
-  names : (formula_at l rule.part).names ≡ (bound_at l rule.bound).names
-  names = part_is.over ∙ sym bound_is.over
+  -- the part is the conjunction of what it was and of the bound
+  is_joined : formula_at next rule.part ≡ joined s l reached rule valid
+  is_joined = formula-same l rule.part (joined s l reached rule valid) within_it
 
-  abbrev joined : TruthTable
-  joined = both_of (formula_at l rule.part) (bound_at l rule.bound)
-
-  abbrev raised : Labels
-  raised = with_part l rule.part joined
-
-  low : IsWithin l rule.part.at
-  low = within s l reached.labelling rule.part.at valid.part
+  other_stays : (part : Part) → (formula_at next part ≡ formula_at l part) ⊎ (part ≡ rule.part)
+  other_stays = formula-other l rule.part (joined s l reached rule valid) within_it
 
   -- every part acts for what it was
-  grows : (part : Part) → ActsFor (formula_at raised part) (formula_at l part)
-  grows part = elim (formula-other l rule.part joined low part) [
+  grows : (part : Part) → ActsFor (formula_at next part) (formula_at l part)
+  grows part = elim (other_stays part) [
     | inl same ↦ subst (λ (f : TruthTable). ActsFor f (formula_at l part)) (sym same) (acts_refl (formula_at l part))
-    | inr e ↦ subst (λ (q : Part). ActsFor (formula_at raised q) (formula_at l q)) (sym e)
-        (subst (λ (f : TruthTable). ActsFor f (formula_at l rule.part)) (sym (formula-same l rule.part joined low)) (both_first (formula_at l rule.part) (bound_at l rule.bound)))
+    | inr e ↦ subst (λ (q : Part). ActsFor (formula_at next q) (formula_at l q)) (sym e)
+        (subst (λ (f : TruthTable). ActsFor f (formula_at l rule.part)) (sym is_joined) (both_first (formula_at l rule.part) (bound_at l rule.bound)))
   ]
 
-  is_labelling : IsLabelling s raised
-  is_labelling = with_part_is s l reached.labelling rule.part joined valid.part (record {
-    is_formula = is_formula-both (formula_at l rule.part) (bound_at l rule.bound) part_is.is_formula bound_is.is_formula names;
-    over = names-both (formula_at l rule.part) (bound_at l rule.bound) ∙ part_is.over;
-  })
-
-  pub raised_reached : ((other : Labels) → SolvesRules s other → HoldsRule other rule) → IsReached s raised
-  raised_reached holds = record {
-    labelling = is_labelling;
-    below = λ other solves part. elim (formula-other l rule.part joined low part) [
-      | inl same ↦ subst (ActsFor (formula_at other part)) (sym same) (reached.below other solves part)
-      | inr e ↦ subst (λ (q : Part). ActsFor (formula_at other q) (formula_at raised q)) (sym e)
-          (subst (ActsFor (formula_at other rule.part)) (sym (formula-same l rule.part joined low))
-          (let over = part_over s other solves.labelling rule.part valid.part in
-          let bound = bound_over s other solves.labelling rule.bound valid.bound in
-          acts_for_both (formula_at other rule.part) (formula_at l rule.part) (bound_at l rule.bound) (over.over ∙ sym part_is.over) (reached.below other solves rule.part)
-          (acts_trans (formula_at other rule.part) (bound_at other rule.bound) (bound_at l rule.bound) (over.over ∙ sym bound.over) (holds other solves)
-          (bound_grows s other l solves.labelling reached.labelling (reached.below other solves) rule.bound valid.bound))))
-    ];
-  }
-
   -- a rule that reads another part holds where it held
-  still_holds : (x : Lower) → IsRuleOf s x → HoldsRule l x → bound_at raised x.bound ≡ bound_at l x.bound → HoldsRule raised x
+  still_holds : (x : Lower) → IsRuleOf s x → HoldsRule l x → bound_at next x.bound ≡ bound_at l x.bound → HoldsRule next x
   still_holds x valid_x held same =
-      subst (ActsFor (formula_at raised x.part)) (sym same)
-      (acts_trans (formula_at raised x.part) (formula_at l x.part) (bound_at l x.bound)
-      ((part_over s raised is_labelling x.part valid_x.part).over ∙ sym (part_over s l reached.labelling x.part valid_x.part).over) (grows x.part) held)
+      subst (ActsFor (formula_at next x.part)) (sym same)
+      (acts_trans (formula_at next x.part) (formula_at l x.part) (bound_at l x.bound)
+      ((over-part s next (is_labelling s l reached rule valid) x.part valid_x.part).over ∙ sym (over-part s l reached.labelling x.part valid_x.part).over) (grows x.part) held)
 
   -- the rule itself holds where it reads another part
-  now_holds : bound_at raised rule.bound ≡ bound_at l rule.bound → HoldsRule raised rule
+  now_holds : bound_at next rule.bound ≡ bound_at l rule.bound → HoldsRule next rule
   now_holds same =
-      subst (ActsFor (formula_at raised rule.part)) (sym same)
-      (subst (λ (f : TruthTable). ActsFor f (bound_at l rule.bound)) (sym (formula-same l rule.part joined low)) (both_second (formula_at l rule.part) (bound_at l rule.bound)))
-
-  pub fewer : (HoldsRule l rule → ⊥) → all_truths raised < all_truths l
-  fewer failed = fewer_truths l rule.part joined low (both_less (formula_at l rule.part) (bound_at l rule.bound) part_is.is_formula bound_is.is_formula names failed)
+      subst (ActsFor (formula_at next rule.part)) (sym same)
+      (subst (λ (f : TruthTable). ActsFor f (bound_at l rule.bound)) (sym is_joined) (both_second (formula_at l rule.part) (bound_at l rule.bound)))
 
   -- a bound that does not read the part stays
-  stays : (bound : Bound) → (read_part bound ≡ Some rule.part → ⊥) → bound_at raised bound ≡ bound_at l bound
-  stays bound other = bound_kept l raised bound (go (read_part bound) other)
+  stays : (bound : Bound) → (read_part bound ≡ Some rule.part → ⊥) → bound_at next bound ≡ bound_at l bound
+  stays bound other = bound_kept l next bound (go (read_part bound) other)
     where
-      go : (read : Option Part) → (read ≡ Some rule.part → ⊥) → IfSome read (λ part. formula_at raised part ≡ formula_at l part)
+      go : (read : Option Part) → (read ≡ Some rule.part → ⊥) → IfSome read (λ part. formula_at next part ≡ formula_at l part)
       go None other = tt
-      go (Some part) other = elim (formula-other l rule.part joined low part) [ inl same ↦ same | inr e ↦ absurd (other (ap Some e)) ]
+      go (Some part) other = elim (other_stays part) [ inl same ↦ same | inr e ↦ absurd (other (ap Some e)) ]
 
 -- ---- one visit
 module _ (s : Constraints) (system : IsSystem s) (l : Labels) (old new : Waiting) (place : ℕ) (rule : Lower) (so_far : IsUnderWay s l old) (takes : TakesRule old place new) (is : rule ≡ get_or s.lower place rule) where
@@ -181,46 +144,6 @@ module _ (s : Constraints) (system : IsSystem s) (l : Labels) (old new : Waiting
         let shorter = takes.shorter in
         let short : length list ≤ length s.lower = subst (λ xs. length xs ≤ length s.lower) (sym reads) (index.short (part_number s.slots rule.part) list number_low) in
         omega arith
-
--- ---- the start
-module _ (names : ℕ) where
-  any_side : (label : Label) (integ : Bool) → IsLabelOver names label → ActsFor (part_of label integ) (part_of (free_label names) integ)
-  any_side label true over = acts_for_any names label.integ over.integ.over
-  any_side label false over = acts_for_any names label.conf over.conf.over
-
-  -- at one place of two lists of as many labels
-  free_place : (count x : ℕ) (labels others : List Label) (integ : Bool) → length others ≡ count → All (IsLabelOver names) others → labels ≡ replicate count (free_label names) → ActsFor (part_of (get_or others x no_label) integ) (part_of (get_or labels x no_label) integ)
-  free_place count x labels others integ same over e = elim (cases_lt x count) [
-    | inl low ↦
-        let here : get_or labels x no_label ≡ free_label names = ap (λ xs. get_or xs x no_label) e ∙ get_or-replicate count x (free_label names) no_label low in
-        subst (λ (label : Label). ActsFor (part_of (get_or others x no_label) integ) (part_of label integ)) (sym here) (any_side (get_or others x no_label) integ (over x no_label (omega arith)))
-    | inr past ↦
-        let none : get_or labels x no_label ≡ no_label = get_or_past labels x no_label (let long = ap length e ∙ length-replicate count (free_label names) in omega arith) in
-        let none_other : get_or others x no_label ≡ no_label = get_or_past others x no_label (omega arith) in
-        subst (λ (label : Label). ActsFor (part_of (get_or others x no_label) integ) (part_of label integ)) (none_other ∙ sym none) (acts_refl (part_of (get_or others x no_label) integ))
-  ]
-
-module _ (s : Constraints) (system : IsSystem s) (l : Labels) (free : IsFree s l) where
-  abbrev names_of_system : ℕ
-  names_of_system = length s.principals
-
-  free_is : IsLabelling s l
-  free_is =
-      let any_over : IsOver names_of_system (any_of names_of_system) = record { is_formula = is_formula-any names_of_system system.few_principals; over = names-any names_of_system } in
-      let over : IsLabelOver names_of_system (free_label names_of_system) = record { conf = any_over; integ = any_over } in
-      record {
-        slots = ap length free.slots ∙ length-replicate s.slots (free_label names_of_system);
-        blocks = ap length free.blocks ∙ length-replicate s.blocks (free_label names_of_system);
-        slot_labels = subst (All (IsLabelOver names_of_system)) (sym free.slots) (All-replicate (IsLabelOver names_of_system) s.slots (free_label names_of_system) over);
-        block_labels = subst (All (IsLabelOver names_of_system)) (sym free.blocks) (All-replicate (IsLabelOver names_of_system) s.blocks (free_label names_of_system) over);
-      }
-
-  free_below : (other : Labels) → IsLabelling s other → (at : Place) (integ : Bool) → ActsFor (part_of (label_at other at) integ) (part_of (label_at l at) integ)
-  free_below other is (Slot x) integ = free_place names_of_system s.slots x.0 l.slots other.slots integ is.slots is.slot_labels free.slots
-  free_below other is (Block b) integ = free_place names_of_system s.blocks b l.blocks other.blocks integ is.blocks is.block_labels free.blocks
-
-  pub free_reached : IsReached s l
-  free_reached = record { labelling = free_is; below = λ other solves part. free_below other solves.labelling part.at part.integ }
 
 -- ---- the end
 pub solved : (s : Constraints) (l : Labels) (w : Waiting) → IsUnderWay s l w → w.queue.items ≡ [] → IsLeastSolution s l

@@ -1,8 +1,9 @@
 //! The least labelling of a system.
 
 ghost use Rattle.std.specs.Prelude.{◌≡◌, IfErr, IfOk};
-ghost use Rattle.vd_constraints.specs.Satisfies.{IsLabelling, IsLeast, IsLeastSolution};
-ghost use Rattle.vd_solver.specs.Faults.{IsFaultOf, IsFree};
+ghost use Rattle.vd_constraints.specs.Satisfies.{IsLeast, IsLeastSolution};
+ghost use Rattle.vd_least.specs.Free.{free};
+ghost use Rattle.vd_solver.specs.Faults.{IsFaultOf};
 ghost use Rattle.vd_solver.specs.declared.solving.SolveFault.TheVariants as solve_fault;
 
 use crate::checking::first_failing;
@@ -65,7 +66,7 @@ fn solve_rules(alloc: Global, system: &System) -> Result<Labels, AllocError>
 
 /// The labelling that gives every part the formula that is true at every set.
 fn free_labels(alloc: Global, system: &System) -> Result<Labels, AllocError>
-    ensures { IfOk result (IsFree system.now) }
+    ensures { IfOk result (λ labels. labels ≡ free system.now) }
 {
     let any = Formula::any(system.principals().as_slice().len() as u8);
     let free = Label {

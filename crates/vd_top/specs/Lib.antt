@@ -1,6 +1,7 @@
 pub mod Plans
 pub mod Loads
 pub mod Deliver
+pub mod Outcomes
 pub mod Clear
 pub mod Labelling
 pub mod Commands

@@ -7,11 +7,12 @@ mod command;
 mod deliver;
 mod entry;
 mod labels;
+mod lines;
 mod load;
 mod status;
-mod tell;
 
-pub use answer::{Answer, NewFile};
+pub use answer::Answer;
 pub use command::Command;
 pub use entry::{run, texts_have_outcomes};
+pub use lines::write_status;
 pub use status::{RuleFault, Status, SyntaxFault, TextFault};

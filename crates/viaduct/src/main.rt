@@ -7,11 +7,11 @@ use std::process::ExitCode;
 use std::{env, io};
 use vd_base::Texts;
 use vd_edge::{RealFiles, RealSink};
-use vd_outside::{SureNet, SureSpawner};
-use vd_top::run;
+use vd_outside::{Sink, SureNet, SureSpawner};
+use vd_top::{Status, run, write_status};
 
 const HELP: &str =
-    "Viaduct compiles one program over several hosts' secrets into a program for each host.
+    "Viaduct reads one program over several hosts' secrets: it runs it in clear, and finds its least labels.
 
 usage:
   viaduct clear SOURCE INPUTS   run SOURCE in clear on one machine, and print each host's words
@@ -25,7 +25,7 @@ SOURCE and INPUTS are files. A run that does not end well writes a line that beg
 
 const VERSION: &str = "viaduct 0.1.0\n";
 
-// The words of the command line after the program's own. Words that are no text make no command line.
+/// The words of the command line after the program's own. Words that are no text make no command line.
 fn words(rt: &(impl Env + AllocGlobal)) -> Result<Texts, AllocError> {
     let mut words = Texts::new(rt.alloc());
     match env::args(rt) {
@@ -40,7 +40,7 @@ fn words(rt: &(impl Env + AllocGlobal)) -> Result<Texts, AllocError> {
     }
 }
 
-// What a lone word asks of the program itself.
+/// What a lone word asks of the program itself.
 fn own_text(words: &Texts) -> Option<&'static str> {
     match words.as_slice() {
         [word] => match word.as_str() {
@@ -52,24 +52,31 @@ fn own_text(words: &Texts) -> Option<&'static str> {
     }
 }
 
-fn print(rt: &impl Print, text: &str) -> ExitCode {
+/// Prints a text of the program's own.
+fn print(rt: &impl Print, text: &str) -> Status {
     match rt.print(text) {
-        Ok(()) => ExitCode::SUCCESS,
-        Err(_) => ExitCode::from(4),
+        Ok(()) => Status::Ended,
+        Err(_) => Status::WriteFault,
     }
+}
+
+/// Ends a program that ran no command: writes the line of its status to the error stream.
+fn end(err: &mut impl Sink, status: Status) -> ExitCode {
+    let _ = write_status(err, &status);
+    ExitCode::from(status.code())
 }
 
 fn main(rt: HostRuntime) -> ExitCode {
     let alloc: Global = rt.alloc();
+    let mut err = RealSink::new(rt.stderr());
     let words = match words(&rt) {
         Ok(words) => words,
-        Err(_) => return ExitCode::from(1),
+        Err(_) => return end(&mut err, Status::Memory),
     };
     if let Some(text) = own_text(&words) {
-        return print(&rt, text);
+        return end(&mut err, print(&rt, text));
     }
     let mut out = RealSink::new(rt.stdout());
-    let mut err = RealSink::new(rt.stderr());
     let mut net = SureNet::new(alloc, 0);
     let mut spawner = SureSpawner::new(alloc);
     let mut files = RealFiles::new(rt, alloc);

@@ -5,14 +5,14 @@ use Rattle.std.proofs.lemmas.List.Elements.{All-nil}
 use Rattle.std.proofs.lemmas.Bool.{true≢false}
 use Rattle.vd_constraints.specs.Systems.{IsRuleOf, IsCheckOf}
 use Rattle.vd_constraints.specs.Satisfies.{HoldsCheck, HoldsRule}
-use Rattle.vd_flow.proofs.Parts.{rule_over, check_over}
-use Rattle.vd_flow.proofs.Firsts.{has_it, one_more, first_without, not_all}
+use Rattle.vd_constraints.proofs.Labellings.{names-rule, names-check}
+use Rattle.vd_constraints.proofs.Firsts.{has_it, one_more, first_without, not_all}
 use Rattle.vd_flow.proofs.confirm.Goals as goal
 
 pub holds_rule-requires : goal.holds_rule-requires
 holds_rule-requires c =
     let read = c.lower-rule-items.ensures in
-    rule_over c.args.system.now c.args.labels.now c.requires c.rule-item.result
+    names-rule c.args.system.now c.args.labels.now c.requires c.rule-item.result
     (has_it _ _ read.same c.loop-place.place c.rule-item.result c.loop-place-test.true c.rule-item.is (IsRuleOf c.args.system.now) read.valid.rules)
 
 pub loop-place-preserved : goal.loop-place-preserved
@@ -39,7 +39,7 @@ loop-place-2-init c =
 pub holds_check-requires : goal.holds_check-requires
 holds_check-requires c =
     let read = c.checks-check-items.ensures in
-    check_over c.args.system.now c.args.labels.now c.requires c.check-item.result
+    names-check c.args.system.now c.args.labels.now c.requires c.check-item.result
     (has_it _ _ read.same c.loop-place-2.place c.check-item.result c.loop-place-2-test.true c.check-item.is (IsCheckOf c.args.system.now) read.valid.checks)
 
 pub loop-place-2-preserved : goal.loop-place-2-preserved

@@ -2,7 +2,8 @@ use Rattle.std.proofs.Common.{sym, ap, ◌∙◌, subst, arith}
 use Rattle.std.specs.Prelude.{IsTrue}
 use Rattle.vd_constraints.specs.Scoped.{slots_below}
 use Rattle.vd_constraints.specs.declared.system.Place.TheVariants.{Slot}
-use Rattle.vd_constraints.proofs.Sizes.{stmt_size, body_size, if_size, stmt_fits}
+use Rattle.vd_core.specs.Facts.{count_of, statement_count}
+use Rattle.vd_constraints.proofs.Sizes.{if_size, stmt_fits}
 use Rattle.vd_constraints.proofs.Walks.{extends-trans, place_kept, stmt_below_at, branches_below, branch_extends, branch_place, still_below}
 use Rattle.vd_constraints.proofs.rules.+walk.Goals as goal
 
@@ -26,8 +27,8 @@ add_body-add_stmt-requires t c =
 
 pub add_stmt-add_body-requires : goal.add_stmt-add_body-requires
 add_stmt-add_body-requires t c =
-    let size = ap stmt_size c.in-If.is ∙ if_size c.in-If.guard c.in-If.then_block c.in-If.else_block c.in-If.field-3 in
-    let same = ap body_size c.as_slice.ensures in
+    let size = ap count_of c.in-If.is ∙ if_size c.in-If.guard c.in-If.then_block c.in-If.else_block c.in-If.field-3 in
+    let same = ap statement_count c.as_slice.ensures in
     let branch = c.in_ok-branch-in-If.ensures {u = tt} in
     let more = branch_extends c.args.system.now c.add_branch.new.self (Slot c.in-If.guard) c.args.pc branch.added in
     let below = branches_below c.args.system.now.slots c.in-If.guard c.in-If.then_block c.in-If.else_block c.in-If.field-3
@@ -47,8 +48,8 @@ add_stmt-add_body-requires t c =
 
 pub add_stmt-add_body-requires-in-If : goal.add_stmt-add_body-requires-in-If
 add_stmt-add_body-requires-in-If t c =
-    let size = ap stmt_size c.in-If.is ∙ if_size c.in-If.guard c.in-If.then_block c.in-If.else_block c.in-If.field-3 in
-    let same = ap body_size c.as_slice-in-If.ensures in
+    let size = ap count_of c.in-If.is ∙ if_size c.in-If.guard c.in-If.then_block c.in-If.else_block c.in-If.field-3 in
+    let same = ap statement_count c.as_slice-in-If.ensures in
     let branch = c.in_ok-branch-in-If.ensures {u = tt} in
     let first = branch_extends c.args.system.now c.add_branch.new.self (Slot c.in-If.guard) c.args.pc branch.added in
     let second = (c.in_ok-add_body-in-If.ensures {u = tt}).extends in

@@ -1,5 +1,5 @@
 use Rattle.std.proofs.Common.{◌≡◌, ◌≤◌, drop}
-use Rattle.vd_parser.specs.Nesting.{first_deep_from}
+use Rattle.vd_parser.proofs.Scan.{first_deep_from}
 use Rattle.vd_parser.proofs.nesting.first_deep.Given as goal
 
 abbrev pub invariant-loop-number : goal.invariant-loop-number

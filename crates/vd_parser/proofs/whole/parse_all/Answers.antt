@@ -8,6 +8,7 @@ use Rattle.vd_parser.specs.Parsing.{language, Refused}
 use Rattle.vd_parser.specs.Whole.{NoEnd}
 use Rattle.vd_parser.specs.Outcomes.{sentence}
 use Rattle.vd_parser.proofs.Outcomes.{no_end, closed_of, one_at_least, is_source, unexpected_shallow}
+use Rattle.vd_parser.proofs.Scan.{scan_none}
 use Rattle.vd_parser.proofs.whole.parse_all.Goals as goal
 
 pub whole_source-source-requires : goal.whole_source-source-requires
@@ -31,4 +32,4 @@ returns-in-Unexpected c =
     let us = c.whole_source-source.new.cursor in
     let body : c.new-cursor.result ≡ take (length ts - 1) ts = grind arith in
     let refused = subst (λ f. Refused sentence c.new-cursor.result us f) c.in-Unexpected.is c.in-Err.ensures in
-    inr (rw c.len.ensures (unexpected_shallow ts us (length ts - 1) _ (closed_of ts c.requires.ended) (one_at_least ts c.requires.ended) c.requires.shallow (subst (λ xs. Refused sentence xs us refusal.Unexpected) body refused)))
+    inr (rw c.len.ensures (unexpected_shallow ts us (length ts - 1) _ (closed_of ts c.requires.ended) (one_at_least ts c.requires.ended) (scan_none ts c.requires.shallow) (subst (λ xs. Refused sentence xs us refusal.Unexpected) body refused)))

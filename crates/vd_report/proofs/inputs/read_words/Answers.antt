@@ -1,4 +1,5 @@
-use Rattle.std.proofs.Common.{◌<◌, [], ◌∷◌, length, arith, sym, ap, ◌∙◌, length-append}
+use Rattle.std.proofs.Common.{◌<◌, [], ◌∷◌, length, arith, sym, ap, ◌∙◌, length-append, Err}
+use Rattle.vd_report.specs.declared.fault.ReadFault.TheVariants.{Text}
 use Rattle.vd_report.specs.Tokens.{tokens_at, behind, behind_kind}
 use Rattle.vd_report.specs.Inputs.{listing, reads, between}
 use Rattle.vd_report.proofs.InputsSteps.{reads_go, reads_stop, word_taken, word_refused, section_closed}
@@ -26,6 +27,7 @@ returns-then-as_slice-clause-err c = λ hosts host sections.
     c.words.invariant.reads hosts host sections
     ∙ ap (reads hosts bytes (listing host c.words.words) sections) c.next_token-token.ensures.first
     ∙ reads_stop hosts bytes (behind bytes t) (listing host c.words.words) sections t _ (word_refused hosts bytes host c.words.words sections t c.in-Number.word c.in-Number.is (omega (arith, c.if-as_slice.true, ap length c.as_slice.ensures)))
+    ∙ ap (λ at. Err (Text at)) (sym c.offset.ensures)
 
 pub words-preserved : goal.words-preserved
 words-preserved c =

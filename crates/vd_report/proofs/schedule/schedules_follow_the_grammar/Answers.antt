@@ -1,4 +1,4 @@
-use Rattle.vd_report.proofs.ScheduleLaw.{schedules_follow}
+use Rattle.vd_report.proofs.ScheduleFaults.{schedules_follow}
 use Rattle.vd_report.proofs.schedule.schedules_follow_the_grammar.Goals as goal
 
 pub returns : goal.returns

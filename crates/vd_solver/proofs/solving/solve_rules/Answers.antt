@@ -3,10 +3,12 @@ use Rattle.std.proofs.lemmas.Bool.{true≢false}
 use Rattle.vd_constraints.specs.declared.labels.Labels.{Labels}
 use Rattle.vd_constraints.specs.Systems.{IsRuleOf}
 use Rattle.vd_solver.specs.Reading.{part_number, IsIndex}
-use Rattle.vd_solver.proofs.Parts.{within}
-use Rattle.vd_solver.proofs.Bounds.{rule_names}
+use Rattle.vd_constraints.proofs.Labellings.{names-rule}
+use Rattle.vd_least.proofs.Parts.{within}
+use Rattle.vd_least.proofs.Raising.{IsReached}
+use Rattle.vd_least.proofs.Free.{free_reached}
 use Rattle.vd_solver.proofs.Indexes.{number_low}
-use Rattle.vd_solver.proofs.Progress.{IsUnderWay, free_reached, valid_rule, after_held, after_raised, measure_falls, solved}
+use Rattle.vd_solver.proofs.Progress.{IsUnderWay, valid_rule, after_held, after_raised, measure_falls, solved}
 use Rattle.vd_solver.proofs.solving.solve_rules.Goals as goal
 
 -- what is read from a list is read from an equal one
@@ -19,12 +21,12 @@ valid c = valid_rule c.args.system.now c.lower-rules.ensures.valid c.loop-place.
 pub raise-requires : goal.raise-requires
 raise-requires c = record {
   within = within c.args.system.now c.loop-place.labels c.loop-place.invariant.reached.labelling c.index-rules-place.result.part.at (valid c).part;
-  names = rule_names c.args.system.now c.loop-place.labels c.loop-place.invariant.reached.labelling c.index-rules-place.result (valid c);
+  names = names-rule c.args.system.now c.loop-place.labels c.loop-place.invariant.reached.labelling c.index-rules-place.result (valid c);
 }
 
 pub loop-place-init : goal.loop-place-init
 loop-place-init c = record {
-  reached = free_reached c.args.system.now c.lower-rules.ensures.valid c.in_ok-labels.labels c.in_ok-labels.ensures;
+  reached = subst (IsReached c.args.system.now) (sym c.in_ok-labels.ensures) (free_reached c.args.system.now c.lower-rules.ensures.valid);
   count = c.in_ok-waiting.ensures.count ∙ ap length c.lower-rules.ensures.same;
   queue = c.in_ok-waiting.ensures.queue;
   settled = λ rule d low idle.

@@ -1,25 +1,21 @@
-use Rattle.std.proofs.Common.{rules, [], get_or, refl}
-use Rattle.std.proofs.lemmas.Option.{slice_get-get_or}
+use Rattle.std.proofs.Common.{◌≡◌, Some, slice_get, rules, refl, sym, ap, ◌∙◌}
+use Rattle.vd_outside.proofs.Waiting.{gives_link}
 use Rattle.vd_outside.proofs.sure_net.SureNetNet.accept.Goals as goal
 
 pub returns : goal.returns
-returns c = record {
-  later = search rules;
-  failed = search rules;
-  fresh = refl;
-  listeners = search rules;
-  still_told = search rules;
-  asked = search rules;
-  gives = λ told. (
-    get_or c.args.self.now.listeners c.args.listener [],
-    slice_get-get_or _ _ [] c.requires,
+returns c =
+    let at : slice_get c.args.self.now.listeners c.args.listener ≡ Some c.as_str.result.now = c.in_ok-address.ensures ∙ ap Some (sym c.as_str.ensures) in
     record {
-      at_address = search rules;
-      waiting = search rules;
-      otherwise = search rules;
-      links = search rules;
-      back = search rules;
-    },
-  );
-  no_link = search rules;
-}
+      later = search rules;
+      failed = search rules;
+      fresh = refl;
+      listeners = search rules;
+      still_told = search rules;
+      asked = search rules;
+      gives = λ told. (
+        c.as_str.result.now,
+        at,
+        gives_link c.as_str.result.now c.args.self.now c.give.new.self c.in_ok-link.link _ c.in_ok-link.ensures.link c.in_ok-link.ensures.given,
+      );
+      no_link = search rules;
+    }

@@ -2,7 +2,7 @@ use Rattle.std.proofs.Common.{length}
 use Rattle.vd_grammar.specs.Grammar.{Star}
 use Rattle.vd_grammar.specs.Reading.{Collects}
 use Rattle.vd_parser.specs.Language.{prefix_ops}
-use Rattle.vd_parser.specs.Prefixes.{prefixes_of}
+use Rattle.vd_parser.specs.Syntax.{prefixes_of}
 use Rattle.vd_parser.specs.Parsing.{language}
 use Rattle.vd_parser.proofs.parser.Parser.prefixes.Given as goal
 
