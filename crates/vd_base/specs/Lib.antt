@@ -6,3 +6,5 @@ pub mod Protocols
 pub mod Costs
 pub mod Moves
 pub mod Arity
+pub mod Limits
+pub mod Packets

@@ -1,24 +1,33 @@
 //! The types, limits and definitions that all crates of the compiler share.
 #![tactic(auto)]
 
-pub mod arithmetic;
-pub mod faults;
-pub mod form;
-pub mod host_sets;
-pub mod ids;
-pub mod lexical;
+mod arithmetic;
+mod faults;
+mod form;
+mod host_sets;
+mod host_state;
+mod ids;
+mod lexical;
 pub mod limits;
-pub mod lists;
-pub mod operations;
-pub mod protocols;
-pub mod rows;
-pub mod text;
+mod lists;
+mod operations;
+mod packet;
+mod protocols;
+mod rows;
+mod text;
 
+pub use arithmetic::combine;
 pub use faults::{CallFault, Failed};
 pub use form::Form;
+pub use host_state::HostState;
 pub use ids::{HostId, SlotId, Span};
+pub use lexical::{
+    digits_len, is_digit, is_keyword, is_letter, is_name, is_numeral, is_space, is_word_byte,
+    number, word_len,
+};
 pub use lists::{Bytes, Inputs, Name, Names, Outputs, Words};
 pub use operations::{Kind, Op};
+pub use packet::Packet;
 pub use protocols::{HostSet, Proto};
 pub use rows::Row;
 pub use text::{Text, Texts};

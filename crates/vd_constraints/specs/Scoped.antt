@@ -1,6 +1,7 @@
 -- Programs that name their own slots alone.
 use Rattle.std.specs.Prelude.{ℕ, ◌≤◌, Bool, true, ◌&&◌, IsTrue, List, length, map, nat_lt}
 use Rattle.std.specs.List.{list_all}
+use Rattle.vd_base.specs.Limits.{most_principals}
 use Rattle.vd_base.specs.declared.ids.SlotId.{SlotId}
 use Rattle.vd_core.specs.declared.normal.Right.{Right}
 use Rattle.vd_core.specs.declared.normal.Right.TheVariants.{Lit, Turn, Copy, Apply, Input, Declassify, Endorse, Load, Get}
@@ -42,5 +43,5 @@ block_below n body = list_all (λ below. below) (map (slots_below n) body)
 
 -- at most six principals, and each named slot is one of the program's
 pub record IsScoped (p : NormalForm) : Type 0 where
-  pub few_principals : length p.principals ≤ 6
+  pub few_principals : length p.principals ≤ most_principals
   pub named_slots : IsTrue (block_below (length p.slots) p.body)

@@ -1,5 +1,6 @@
 -- Systems of rules and checks on the labels of slots and blocks.
 use Rattle.std.specs.Prelude.{◌≡◌, ℕ, ◌^◌, ◌<◌, ◌≤◌, List, length, All}
+use Rattle.vd_base.specs.Limits.{most_principals}
 use Rattle.vd_formula.specs.declared.label.Label.{Label}
 use Rattle.vd_formula.specs.TruthTable.{TruthTable, IsFormula}
 use Rattle.vd_constraints.specs.declared.system.Place.{Place}
@@ -70,7 +71,7 @@ IsCheckOf s = IsCheckIn (length s.principals) s.slots s.blocks
 
 -- what every system keeps
 pub record IsSystem (s : Constraints) : Type 0 where
-  pub few_principals : length s.principals ≤ 6
+  pub few_principals : length s.principals ≤ most_principals
   pub rules : All (IsRuleOf s) s.lower
   pub checks : All (IsCheckOf s) s.checks
   pub few_rules : length s.lower < 2 ^ 32

@@ -2,6 +2,7 @@
 
 ghost use Rattle.std.specs.Prelude.{◌≡◌, ◌<◌, ◌≤◌, ◌++◌, length, IsTrue, IfOk, IfSome, OnOk};
 ghost use Rattle.std.specs.List.{flat_map, list_all};
+ghost use Rattle.vd_base.specs.Limits.{most_principals};
 ghost use Rattle.vd_constraints.specs.Extends.{Extends};
 ghost use Rattle.vd_constraints.specs.Rules.{flows, host_label as label_of_host, label as label_over, written_at as label_written_at, offset_of, right_rules, right_checks, with_checks, with_rules, with_written, with_stmt, with_body, system_of};
 ghost use Rattle.vd_constraints.specs.Scoped.{IsScoped, is_below, right_below, slots_below, block_below};
@@ -11,8 +12,7 @@ ghost use Rattle.vd_constraints.specs.declared.system.Place.TheVariants as place
 use crate::system::{Place, System};
 use std::alloc::{AllocError, Global};
 use vd_base::{HostId, SlotId};
-use vd_core::normal::{NormalForm, Right, Stmt, Written};
-use vd_core::program::Program;
+use vd_core::{NormalForm, Program, Right, Stmt, Written};
 use vd_formula::{Formula, Label};
 use vd_items::Items;
 
@@ -55,7 +55,7 @@ fn add_body(
     body: &[Stmt],
 ) -> Result<(), AllocError>
     requires place { IsPlaceOf system.old pc }
-    requires few { length program.now.principals ≤ 6 }
+    requires few { length program.now.principals ≤ most_principals }
     requires principals { system.old.principals ≡ program.now.principals }
     requires slots { IsTrue (block_below system.old.slots body.now) }
     ensures added { OnOk result (system.new ≡ with_body body.now program.now pc system.old) }
@@ -76,7 +76,7 @@ fn add_stmt(
     stmt: &Stmt,
 ) -> Result<(), AllocError>
     requires place { IsPlaceOf system.old pc }
-    requires few { length program.now.principals ≤ 6 }
+    requires few { length program.now.principals ≤ most_principals }
     requires principals { system.old.principals ≡ program.now.principals }
     requires slots { IsTrue (slots_below system.old.slots stmt.now) }
     ensures added { OnOk result (system.new ≡ with_stmt stmt.now program.now pc system.old) }
@@ -119,7 +119,7 @@ fn add_right(
     right: &Right,
 ) -> Result<(), AllocError>
     requires place { IsPlaceOf system.old pc }
-    requires few { length program.now.principals ≤ 6 }
+    requires few { length program.now.principals ≤ most_principals }
     requires principals { system.old.principals ≡ program.now.principals }
     requires slot { slot.0 < system.old.slots }
     requires slots { IsTrue (right_below system.old.slots right.now) }
@@ -200,7 +200,7 @@ fn add_put(
 
 /// Adds the label that the source writes at a slot, if it does.
 fn add_label(system: &mut System, program: &NormalForm, slot: SlotId) -> Result<(), AllocError>
-    requires few { length program.now.principals ≤ 6 }
+    requires few { length program.now.principals ≤ most_principals }
     requires principals { system.old.principals ≡ program.now.principals }
     requires slot { slot.0 < system.old.slots }
     ensures { OnOk result (system.new ≡ with_written program.now slot system.old) }
@@ -213,7 +213,7 @@ fn add_label(system: &mut System, program: &NormalForm, slot: SlotId) -> Result<
 
 /// The label of a host. One that is not declared acts for no one.
 fn host_label(program: &NormalForm, host: HostId) -> Label
-    requires { length program.now.principals ≤ 6 }
+    requires { length program.now.principals ≤ most_principals }
     ensures same { result ≡ label_of_host program.now host }
     ensures over { IsLabelOver (length program.now.principals) result }
 {
@@ -231,7 +231,7 @@ fn host_label(program: &NormalForm, host: HostId) -> Label
 
 /// A written label, over the program's principals.
 fn label(program: &NormalForm, written: &Written) -> Label
-    requires { length program.now.principals ≤ 6 }
+    requires { length program.now.principals ≤ most_principals }
     ensures same { result ≡ label_over program.now written.now }
     ensures over { IsLabelOver (length program.now.principals) result }
 {
@@ -243,7 +243,7 @@ fn label(program: &NormalForm, written: &Written) -> Label
 
 /// The label that the source writes at a slot, if it does.
 fn written_at(program: &NormalForm, slot: SlotId) -> Option<Label>
-    requires { length program.now.principals ≤ 6 }
+    requires { length program.now.principals ≤ most_principals }
     ensures same { result ≡ label_written_at program.now slot }
     ensures over { IfSome result (IsLabelOver (length program.now.principals)) }
 {

@@ -2,6 +2,7 @@
 use Rattle.std.specs.Prelude.{◌≡◌, ℕ, ◌+◌, ◌*◌, ◌<◌, ◌≤◌, max, nat_eq, nat_le, nat_lt, Bool, true, false, ◌&&◌, not, List, [], ◌∷◌, ◌++◌, map, length, Option, Some, None}
 use Rattle.std.specs.List.{list_all, list_any, concat, range_with_len, sum, IsDistinct, AllPass}
 use Rattle.std.specs.Str.{bytes_eq}
+use Rattle.vd_base.specs.Limits.{most_cells, most_hosts, most_nesting, most_principals, most_statements, most_weights}
 use Rattle.vd_base.specs.declared.ids.SlotId.{SlotId}
 use Rattle.vd_base.specs.declared.form.Form.{Form}
 use Rattle.vd_base.specs.declared.form.Form.TheOpen.{Form-F}
@@ -285,13 +286,13 @@ LabelForEachHost program = length program.labels ≡ length program.hosts
 
 pub record WithinLimits (program : NormalForm) : Type 0 where
   pub some_principal : 0 < length program.principals
-  pub principals : length program.principals ≤ 6
+  pub principals : length program.principals ≤ most_principals
   pub some_host : 0 < length program.hosts
-  pub hosts : length program.hosts ≤ 4
-  pub statements : statement_count program.body ≤ 512
-  pub loops : nesting program.body ≤ 8
-  pub weights : weight_sum program.body ≤ 65536
-  pub cells : cell_count program.body ≤ 65536
+  pub hosts : length program.hosts ≤ most_hosts
+  pub statements : statement_count program.body ≤ most_statements
+  pub loops : nesting program.body ≤ most_nesting
+  pub weights : weight_sum program.body ≤ most_weights
+  pub cells : cell_count program.body ≤ most_cells
 
 pub record IsWellMade (program : NormalForm) : Type 0 where
   pub in_order : SlotsInOrder program

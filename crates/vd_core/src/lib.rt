@@ -1,9 +1,18 @@
 //! The syntax tree of a source, and the let-normal program.
 #![tactic(auto)]
 
-pub mod named;
-pub mod normal;
-pub mod program;
-pub mod source;
+mod named;
+mod normal;
+mod program;
+mod source;
+
+pub use named::has_names;
+pub use normal::{NormalForm, Right, Slot, Stmt, Written};
+pub use program::Program;
+pub use source::{
+    Direction, Expr, Function, Host, Ident, Infix, Link, Parameter, Prefix, Sign, Source,
+    Statement, WrittenForm, WrittenLabel,
+};
+
 #[cfg(test)]
 mod tests;

@@ -4,7 +4,7 @@ ghost use Rattle.std.specs.Prelude.{◌↔◌, IsTrue};
 ghost use Rattle.vd_core.specs.Named.{HasNames};
 
 use crate::source::Source;
-use vd_base::lexical::is_name;
+use vd_base::is_name;
 
 /// Whether the principals and the hosts have names, and there is at least one of each, as in every source that was read
 /// from a text.

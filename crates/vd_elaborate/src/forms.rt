@@ -5,8 +5,7 @@ ghost use Rattle.vd_normal.specs.Normal.{form_of, written};
 
 use std::alloc::{AllocError, Global};
 use vd_base::{Form, Name};
-use vd_core::normal::Written;
-use vd_core::source::{WrittenForm, WrittenLabel};
+use vd_core::{Written, WrittenForm, WrittenLabel};
 use vd_items::Items;
 
 /// A copy of a name.

@@ -8,8 +8,7 @@ use std::alloc::{AllocError, Global};
 use std::marker::Model;
 use std::mem;
 use vd_base::{Kind, SlotId};
-use vd_core::normal::{Right, Slot, Stmt};
-use vd_core::source::{Ident, WrittenLabel};
+use vd_core::{Ident, Right, Slot, Stmt, WrittenLabel};
 use vd_items::Items;
 use vd_normal::here::Here;
 

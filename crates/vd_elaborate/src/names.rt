@@ -10,7 +10,7 @@ use crate::forms::copy_name;
 use crate::visible::Visible;
 use std::alloc::{AllocError, Global};
 use vd_base::Name;
-use vd_core::source::Parameter;
+use vd_core::Parameter;
 use vd_normal::spot::Spot;
 
 /// What a name stands for.

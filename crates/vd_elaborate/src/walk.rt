@@ -17,9 +17,9 @@ use crate::steps::{
 use crate::visible::Visible;
 use std::alloc::{AllocError, Global};
 use vd_base::{HostId, Kind, Names, Op, SlotId};
-use vd_core::normal::{NormalForm, Right, Stmt, Written};
-use vd_core::program::Program;
-use vd_core::source::{Expr, Function, Host, Ident, Link, Source, Statement};
+use vd_core::{
+    Expr, Function, Host, Ident, Link, NormalForm, Program, Right, Source, Statement, Stmt, Written,
+};
 use vd_items::Items;
 use vd_meaning::hosts::place;
 use vd_normal::here::Here;

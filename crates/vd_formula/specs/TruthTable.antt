@@ -2,6 +2,7 @@
 use Rattle.std.specs.Prelude.{◌≡◌, ℕ, zero, suc, ◌+◌, ◌*◌, ◌^◌, ◌<◌, ◌≤◌, Bool, true, false, not, ◌&&◌, ◌||◌, ◌==◌, if◌then◌else◌, ◌↔◌, IsTrue, List, bit_and}
 use Rattle.std.specs.Int.{bit_at}
 use Rattle.std.specs.List.{list_all, range_with_len}
+use Rattle.vd_base.specs.Limits.{most_principals}
 
 -- A set of names is told by its number: bit i of it is 1 exactly where name number i is in the set.
 abbrev pub has : ℕ → ℕ → Bool
@@ -68,7 +69,7 @@ IsMonotone f = (set larger : ℕ) → larger < 2 ^ f.names → IsTrue (is_subset
 
 -- what every formula keeps
 pub record IsFormula (f : TruthTable) : Type 0 where
-  pub few_names : f.names ≤ 6
+  pub few_names : f.names ≤ most_principals
   pub no_other_bits : f.truths < 2 ^ (2 ^ f.names)
   pub monotone : IsMonotone f
 

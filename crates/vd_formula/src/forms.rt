@@ -2,6 +2,7 @@ ghost use Rattle.std.specs.Prelude.{◌≡◌, ◌≤◌, IfOk, IfErr, None, OnO
 ghost use Rattle.std.specs.List.{list_any};
 ghost use Rattle.std.specs.Option.{option_copied};
 ghost use Rattle.std.specs.Str.{bytes_eq};
+ghost use Rattle.vd_base.specs.Limits.{most_principals};
 ghost use Rattle.vd_formula.specs.Faults.{IsFaultOf};
 ghost use Rattle.vd_formula.specs.Forms.{first_unknown, formula_of, is_unknown};
 ghost use Rattle.vd_formula.specs.TruthTable.{IsFormula};
@@ -32,7 +33,7 @@ impl From<AllocError> for FormFault {
 impl Formula {
     /// The formula of a written form over these names.
     pub fn of(alloc: Global, form: &Form, names: &Names) -> Result<Formula, FormFault>
-        requires { length names.now ≤ 6 }
+        requires { length names.now ≤ most_principals }
         ensures formula { IfOk result (λ formula. formula ≡ formula_of form.now names.now) }
         ensures names { IfOk result (λ formula. formula.names ≡ length names.now) }
         ensures known { OnOk result (first_unknown names.now form.now ≡ None) }
@@ -46,7 +47,7 @@ impl Formula {
 
     /// The formula of a written form over these names, where a name that is not among them is in no set.
     pub fn over(form: &Form, names: &Names) -> Formula
-        requires { length names.now ≤ 6 }
+        requires { length names.now ≤ most_principals }
         ensures formula { result ≡ formula_of form.now names.now }
         ensures names { result.names ≡ length names.now }
         ensures valid { IsFormula result }

@@ -1,4 +1,5 @@
 ghost use Rattle.std.specs.Prelude.{◌≡◌, ℕ, ◌-◌, ◌^◌, ◌<◌, ◌≤◌, ◌↔◌, IsTrue};
+ghost use Rattle.vd_base.specs.Limits.{most_principals};
 ghost use Rattle.vd_formula.specs.TruthTable.{ActsFor, IsFormula, IsWeakestWith, any_of, at, both_of, either_of, has, implies_of, name_of, never_of};
 
 use std::marker::Model;
@@ -31,7 +32,7 @@ impl Model for Formula {
 impl Formula {
     /// The formula that is true at every set of so many names.
     pub fn any(names: u8) -> Formula
-        requires { names ≤ 6 }
+        requires { names ≤ most_principals }
         ensures any { result ≡ any_of names }
         ensures names { result.names ≡ names }
     {
@@ -43,7 +44,7 @@ impl Formula {
 
     /// The formula that is true at no set of so many names.
     pub fn never(names: u8) -> Formula
-        requires { names ≤ 6 }
+        requires { names ≤ most_principals }
         ensures never { result ≡ never_of names }
         ensures names { result.names ≡ names }
     {
@@ -52,7 +53,7 @@ impl Formula {
 
     /// The formula that is true at the sets, of so many names, that have the name at `place`.
     pub fn name(place: u8, names: u8) -> Formula
-        requires few_names { names ≤ 6 }
+        requires few_names { names ≤ most_principals }
         requires within { place < names }
         ensures name { result ≡ name_of place names }
         ensures names { result.names ≡ names }
@@ -132,7 +133,7 @@ impl Formula {
 
 /// The word with a bit for each set of so many names.
 fn every_set(names: u8) -> u64
-    requires { names ≤ 6 }
+    requires { names ≤ most_principals }
     ensures { result ≡ 2 ^ (2 ^ names) - 1 }
 {
     let words = [

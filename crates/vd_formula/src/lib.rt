@@ -1,10 +1,10 @@
 //! Formulas over names, which are true or false at each set of them, and labels made of two formulas.
 #![tactic(auto)]
 
-pub mod forms;
-pub mod formula;
-pub mod label;
-pub mod minimal;
+mod forms;
+mod formula;
+mod label;
+mod minimal;
 
 pub use forms::FormFault;
 pub use formula::Formula;

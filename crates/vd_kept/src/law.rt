@@ -9,7 +9,7 @@ ghost use Rattle.vd_resolve.specs.Limits.{IsResolved};
 ghost use Rattle.vd_resolve.specs.Rules.{source_check};
 ghost use Rattle.vd_resolve.specs.Sizes.{source_size};
 
-use vd_core::source::Source;
+use vd_core::Source;
 
 /// Each slot is made once, and they are numbered in program order. Holds of every tree.
 pub fn slots_are_in_order(_source: &Source)

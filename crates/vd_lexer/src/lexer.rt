@@ -1,6 +1,7 @@
 ghost use Rattle.std.specs.Prelude.{◌≤◌, length, All, IfOk, IfErr};
 ghost use Rattle.vd_lexer.specs.Tokens.{token_at, Lexes, BadFits, LexesOnce, EndsOnce, IsSpelled, kinds};
 ghost use Rattle.std.specs.Prelude.{◌≡◌, ◌+◌, ◌^◌, ◌<◌, ℕ, List, map};
+ghost use Rattle.vd_base.specs.Limits.{most_source_bytes};
 ghost use Rattle.vd_base.specs.Lexical.{keywords};
 ghost use Rattle.vd_lexer.specs.Tables.{keyword_kinds};
 
@@ -8,12 +9,11 @@ use crate::piece::{Piece, first_piece};
 use crate::token::{LexFault, Token, TokenKind};
 use std::alloc::Global;
 use vd_base::Span;
-use vd_base::limits::SOURCE_BYTES;
 use vd_items::Items;
 
 /// The tokens of a source in text order, the end last.
 pub fn tokens(alloc: Global, bytes: &[u8]) -> Result<Items<Token>, LexFault>
-    requires { length bytes.now ≤ SOURCE_BYTES }
+    requires { length bytes.now ≤ most_source_bytes }
     ensures ok { IfOk result (λ found. Lexes bytes.now 0 found) }
     ensures bad { IfErr result (λ fault. BadFits bytes.now fault) }
     ensures ended { IfOk result (λ found. EndsOnce (kinds found)) }

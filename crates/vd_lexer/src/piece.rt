@@ -8,7 +8,7 @@ ghost use Rattle.vd_lexer.specs.Tokens.{keyword_or_name, symbol_piece};
 ghost use Rattle.vd_lexer.specs.Tables.{entries};
 
 use crate::token::TokenKind;
-use vd_base::lexical::{digits_len, is_digit, is_letter, is_space, number, word_len};
+use vd_base::{digits_len, is_digit, is_letter, is_space, number, word_len};
 
 /// The front of a text.
 #[derive(Clone, Copy)]

@@ -4,7 +4,7 @@ ghost use Rattle.std.specs.Prelude.{◌≡◌};
 ghost use Rattle.vd_base.specs.Names.{place_of};
 ghost use Rattle.vd_meaning.specs.SourceMeaning.{host_names};
 
-use vd_core::source::Host;
+use vd_core::Host;
 
 /// The place of a host, or the number of hosts where none has the name.
 pub fn place(hosts: &[Host], name: &[u8]) -> usize

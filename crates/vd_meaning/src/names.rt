@@ -10,7 +10,7 @@ use crate::entry::Entry;
 use crate::held::Held;
 use crate::stores::set_element;
 use std::alloc::{AllocError, Global};
-use vd_core::source::Parameter;
+use vd_core::Parameter;
 use vd_items::Items;
 
 /// The word that a name holds, or 0.

@@ -7,9 +7,8 @@ use crate::stores::{put_array, put_element, put_word, zeros};
 use crate::world::World;
 use std::alloc::{AllocError, Global};
 use std::marker::Model;
-use vd_base::arithmetic::combine;
-use vd_base::{Inputs, Outputs, SlotId, Words};
-use vd_core::normal::{NormalForm, Right, Stmt};
+use vd_base::{Inputs, Outputs, SlotId, Words, combine};
+use vd_core::{NormalForm, Right, Stmt};
 
 /// What each host is told by a let-normal program. The inputs of a host are followed by zeros.
 pub fn clear_core(

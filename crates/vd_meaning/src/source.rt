@@ -13,11 +13,8 @@ use crate::names::{add, bind, element, store, word, write};
 use crate::stores::zeros;
 use crate::world::World;
 use std::alloc::{AllocError, Global};
-use vd_base::arithmetic::combine;
-use vd_base::{Inputs, Op, Outputs, Words};
-use vd_core::source::{
-    Direction, Expr, Function, Host, Infix, Link, Prefix, Sign, Source, Statement,
-};
+use vd_base::{Inputs, Op, Outputs, Words, combine};
+use vd_core::{Direction, Expr, Function, Host, Infix, Link, Prefix, Sign, Source, Statement};
 use vd_items::Items;
 
 /// What each host is told by a source. The inputs of a host are followed by zeros.

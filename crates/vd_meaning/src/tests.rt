@@ -1,8 +1,9 @@
 use crate::{clear_core, clear_source};
 use std::alloc::{AllocError, Global};
 use vd_base::{HostId, Inputs, Name, Names, Op, SlotId, Span};
-use vd_core::normal::{NormalForm, Right, Stmt};
-use vd_core::source::{Expr, Host, Ident, Source, Statement, WrittenForm, WrittenLabel};
+use vd_core::{
+    Expr, Host, Ident, NormalForm, Right, Source, Statement, Stmt, WrittenForm, WrittenLabel,
+};
 use vd_items::Items;
 
 const NOWHERE: Span = Span { start: 0, end: 0 };

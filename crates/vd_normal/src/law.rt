@@ -6,7 +6,7 @@ ghost use Rattle.vd_meaning.specs.ProgramMeaning.{program_outputs};
 ghost use Rattle.vd_normal.specs.Normal.{normal_form};
 
 use vd_base::Inputs;
-use vd_core::source::Source;
+use vd_core::Source;
 
 /// Holds of every tree and of all inputs; nothing is computed.
 pub fn outputs_are_kept(_source: &Source, _inputs: &Inputs)

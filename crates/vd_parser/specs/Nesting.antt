@@ -1,6 +1,7 @@
 -- Open brackets. Round, curly and square ones all count.
 use Rattle.std.specs.Prelude.{◌≡◌, ℕ, ◌+◌, ◌-◌, ◌≤◌, Bool, true, ◌||◌, List, ◌∷◌, ◌++◌, length, Option, Some, None, if◌then◌else◌}
 use Rattle.std.specs.List.{fold}
+use Rattle.vd_base.specs.Limits.{most_open_brackets}
 use Rattle.vd_lexer.specs.declared.token.TokenKind.{TokenKind}
 use Rattle.vd_lexer.specs.declared.token.TokenKind.TheVariants as kind
 use Rattle.vd_lexer.specs.declared.token.Token.{Token}
@@ -20,13 +21,9 @@ open_behind k n = if opens k then n + 1 else if closes k then n - 1 else n
 abbrev pub open_behind_all : List Token → ℕ
 open_behind_all = fold (λ n t. open_behind t.kind n) 0
 
--- how many may be open at once
-abbrev pub most_open : ℕ
-most_open = 64
-
 -- behind the tokens before, the token opens a bracket beyond the limit
 abbrev pub OpensTooDeep : List Token → Token → Type 0
-OpensTooDeep before token = (opens token.kind ≡ true) × (most_open ≤ open_behind_all before)
+OpensTooDeep before token = (opens token.kind ≡ true) × (most_open_brackets ≤ open_behind_all before)
 
 -- none of the tokens opens a bracket beyond the limit
 abbrev pub NoneTooDeep : List Token → Type 0

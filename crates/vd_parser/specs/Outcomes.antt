@@ -1,5 +1,6 @@
 -- What parsing some bytes gives: the one tree of the bytes, or the one refusal.
 use Rattle.std.specs.Prelude.{◌≡◌, ℕ, ◌<◌, ◌≤◌, List, [], ◌∷◌, ◌++◌, length, Result, Ok, Err}
+use Rattle.vd_base.specs.Limits.{most_source_bytes}
 use Rattle.vd_grammar.specs.Grammar.{Ebnf, Sym, Starts, ◌▸◌}
 use Rattle.vd_grammar.specs.Trees.{Tree, Both, Makes}
 use Rattle.vd_core.specs.declared.source.Source.{Source}
@@ -57,13 +58,9 @@ pub record IsShallow (text : List ℕ) (ts : List Token) (v : Source) : Type 0 w
   pub source : IsSource text ts v
   pub shallow : NoneTooDeep ts
 
--- how many bytes a source may have
-abbrev pub most_bytes : ℕ
-most_bytes = 65536
-
 -- the bytes are not too many, and have tokens of which P holds
 pub record HasTokens (bytes : List ℕ) (P : List Token → Type 0) : Type 0 where
-  pub short : length bytes ≤ most_bytes
+  pub short : length bytes ≤ most_source_bytes
   pub tokens : List Token
   pub lexes : Lexes bytes 0 tokens
   pub holds : P tokens
@@ -71,10 +68,10 @@ pub record HasTokens (bytes : List ℕ) (P : List Token → Type 0) : Type 0 whe
 -- The one outcome of these bytes. Want of memory is none.
 abbrev pub IsParse : List ℕ → Result Source ParseFault → Type 0
 IsParse bytes (Ok source) = HasTokens bytes (λ ts. IsShallow bytes ts source)
-IsParse bytes (Err (fault.BadByte offset)) = (length bytes ≤ most_bytes) × FirstBad bytes 0 offset
+IsParse bytes (Err (fault.BadByte offset)) = (length bytes ≤ most_source_bytes) × FirstBad bytes 0 offset
 IsParse bytes (Err (fault.Unexpected k offset)) = HasTokens bytes (λ ts. IsUnexpected ts k offset)
 IsParse bytes (Err (fault.TooDeep offset)) = HasTokens bytes (λ ts. IsTooDeep ts offset)
-IsParse bytes (Err (fault.TooLong len)) = (most_bytes < length bytes) × (len ≡ length bytes)
+IsParse bytes (Err (fault.TooLong len)) = (most_source_bytes < length bytes) × (len ≡ length bytes)
 IsParse bytes (Err fault.Memory) = ⊥
 
 -- Some bytes have one outcome, and no second one.

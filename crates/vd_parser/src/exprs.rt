@@ -9,7 +9,7 @@ use crate::cursor::{Cursor, Refusal};
 use crate::operators::{Level, comparison, direction, infix};
 use crate::parser::Parser;
 use std::alloc::AllocError;
-use vd_core::source::{Expr, Ident, Link, WrittenForm};
+use vd_core::{Expr, Ident, Link, WrittenForm};
 use vd_items::{Boxed, Items};
 use vd_lexer::TokenKind;
 

@@ -7,7 +7,7 @@ ghost use Rattle.vd_parser.specs.Parsing.{Parses};
 use crate::cursor::{Cursor, Refusal};
 use crate::parser::Parser;
 use std::alloc::AllocError;
-use vd_core::source::{WrittenForm, WrittenLabel};
+use vd_core::{WrittenForm, WrittenLabel};
 use vd_items::Items;
 use vd_lexer::TokenKind;
 

@@ -1,4 +1,5 @@
 ghost use Rattle.std.specs.Prelude.{◌≡◌, ◌≤◌, ◌&&◌, nat_le};
+ghost use Rattle.vd_base.specs.Limits.{most_open_brackets};
 ghost use Rattle.vd_parser.specs.Nesting as nesting;
 
 use crate::operators::is;
@@ -23,7 +24,7 @@ fn closes(kind: TokenKind) -> bool
 
 /// How many brackets are open behind a token.
 fn open_behind(kind: TokenKind, depth: u32) -> u32
-    requires { depth ≤ 64 }
+    requires { depth ≤ most_open_brackets }
     ensures { result ≡ nesting.open_behind kind depth }
 {
     if opens(kind) {
@@ -37,7 +38,7 @@ fn open_behind(kind: TokenKind, depth: u32) -> u32
 
 /// Whether a token opens a bracket beyond the limit.
 fn is_too_deep(kind: TokenKind, depth: u32) -> bool
-    ensures { result ≡ (nesting.opens kind && nat_le nesting.most_open depth) }
+    ensures { result ≡ (nesting.opens kind && nat_le most_open_brackets depth) }
 {
     opens(kind) && OPEN_BRACKETS <= depth
 }

@@ -8,7 +8,7 @@ ghost use Rattle.vd_parser.specs.Parsing.{Parses};
 use crate::cursor::{Cursor, Refusal};
 use std::alloc::Global;
 use vd_base::{Kind, Span};
-use vd_core::source::Ident;
+use vd_core::Ident;
 use vd_items::Items;
 use vd_lexer::TokenKind;
 

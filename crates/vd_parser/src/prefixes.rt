@@ -8,7 +8,7 @@ use crate::cursor::{Cursor, Refusal};
 use crate::operators::prefix;
 use crate::parser::Parser;
 use std::alloc::AllocError;
-use vd_core::source::{Expr, Sign};
+use vd_core::{Expr, Sign};
 use vd_items::{Boxed, Items};
 
 impl<'a> Parser<'a> {

@@ -7,7 +7,7 @@ ghost use Rattle.vd_parser.specs.Parsing.{Parses};
 use crate::cursor::{Cursor, Refusal};
 use crate::parser::Parser;
 use vd_base::Span;
-use vd_core::source::{Expr, Function, Host, Ident, Parameter, Source, Statement};
+use vd_core::{Expr, Function, Host, Ident, Parameter, Source, Statement};
 use vd_items::Items;
 use vd_lexer::TokenKind;
 

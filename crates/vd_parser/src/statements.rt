@@ -8,7 +8,7 @@ ghost use Rattle.vd_parser.specs.Parsing.{Parses};
 use crate::cursor::{Cursor, Refusal};
 use crate::operators::is;
 use crate::parser::Parser;
-use vd_core::source::{Expr, Ident, Statement};
+use vd_core::{Expr, Ident, Statement};
 use vd_items::Items;
 use vd_lexer::TokenKind;
 

@@ -1,7 +1,7 @@
 use super::*;
 use std::alloc::Global;
 use std::test::Fail;
-use vd_core::source::{Expr, Source, Statement};
+use vd_core::{Expr, Source, Statement};
 
 /// What parsing a text is to give.
 #[derive(Clone, Copy)]

@@ -16,7 +16,7 @@ use crate::nesting::first_deep;
 use crate::parser::Parser;
 use std::alloc::Global;
 use vd_base::limits::SOURCE_BYTES;
-use vd_core::source::Source;
+use vd_core::Source;
 use vd_lexer::{LexFault, Token, TokenKind, tokens};
 
 impl<'a> Parser<'a> {

@@ -1,4 +1,5 @@
 ghost use Rattle.std.specs.Prelude.{◌≡◌, ◌<◌, ◌≤◌, length};
+ghost use Rattle.vd_base.specs.Limits.{most_hosts};
 ghost use Rattle.vd_protocol.specs.Authority.{AreOverSameNames, HasHosts, IsOver, authority_of, committed_of, copies_of, names_of, shared_of};
 
 use vd_base::{HostId, HostSet, Proto};
@@ -11,7 +12,7 @@ pub type HostLabels = Items<Label>;
 /// The label that the hosts of a protocol have together.
 pub fn authority(protocol: Proto, hosts: &HostLabels) -> Label
     requires some { 0 < length hosts.now }
-    requires few { length hosts.now ≤ 4 }
+    requires few { length hosts.now ≤ most_hosts }
     requires names { AreOverSameNames hosts.now }
     requires declared { HasHosts (length hosts.now) protocol }
     ensures authority { result ≡ authority_of protocol hosts.now }
@@ -22,7 +23,7 @@ pub fn authority(protocol: Proto, hosts: &HostLabels) -> Label
 
 fn authority_among(protocol: Proto, hosts: &[Label]) -> Label
     requires some { 0 < length hosts.now }
-    requires few { length hosts.now ≤ 4 }
+    requires few { length hosts.now ≤ most_hosts }
     requires names { AreOverSameNames hosts.now }
     requires declared { HasHosts (length hosts.now) protocol }
     ensures { result ≡ authority_of protocol hosts.now }
@@ -44,7 +45,7 @@ fn authority_among(protocol: Proto, hosts: &[Label]) -> Label
 /// Of copies at some hosts: who may read one copy may read the value, and who is trusted by all is trusted with it.
 fn copies(set: HostSet, hosts: &[Label]) -> Label
     requires some { 0 < length hosts.now }
-    requires few { length hosts.now ≤ 4 }
+    requires few { length hosts.now ≤ most_hosts }
     requires names { AreOverSameNames hosts.now }
     ensures { result ≡ copies_of set hosts.now }
 {

@@ -1,4 +1,5 @@
 ghost use Rattle.std.specs.Prelude.{◌≡◌, ◌≤◌, ◌++◌, IfOk, OnOk, map};
+ghost use Rattle.vd_base.specs.Limits.{most_hosts};
 ghost use Rattle.vd_base.specs.HostSets.{hosts as hosts_of};
 ghost use Rattle.vd_base.specs.Protocols.{groups, pairs, protocols_of};
 ghost use Rattle.vd_base.specs.declared.protocols.Proto.TheVariants as proto;
@@ -10,7 +11,7 @@ use vd_items::Items;
 
 /// The protocols over so many hosts, in order.
 pub fn protocols(alloc: Global, hosts: u8) -> Result<Items<Proto>, AllocError>
-    requires { hosts ≤ 4 }
+    requires { hosts ≤ most_hosts }
     ensures { IfOk result (λ list. list ≡ protocols_of hosts) }
 {
     let mut list = Items::new(alloc);
@@ -32,7 +33,7 @@ fn push_local(list: &mut Items<Proto>, hosts: u8) -> Result<(), AllocError>
 }
 
 fn push_copies(list: &mut Items<Proto>, hosts: u8) -> Result<(), AllocError>
-    requires { hosts ≤ 4 }
+    requires { hosts ≤ most_hosts }
     ensures { OnOk result (list.new ≡ list.old ++ map proto.Rep (groups hosts)) }
 {
     for bits in 0..1u8 << hosts {

@@ -1,5 +1,6 @@
 -- What an inputs file says, token by token.
 use Rattle.std.specs.Prelude.{◌≡◌, ℕ, List, [], ◌∷◌, ◌++◌, Option, Some, None, is_some, Result, Ok, Err, length, map, replicate, slice_index_or, slice_set, nat_lt, unwrap_or, if◌then◌else◌}
+use Rattle.vd_base.specs.Limits.{most_input_words}
 use Rattle.vd_report.specs.declared.token.TokenKind.{TokenKind}
 use Rattle.vd_report.specs.declared.token.TokenKind.TheVariants as kind
 use Rattle.vd_report.specs.declared.token.Token.{Token}
@@ -42,9 +43,9 @@ abbrev pub at_colon : ℕ → Sections → ℕ → TokenKind → Step
 at_colon host sections at kind.Colon = go (listing host []) sections
 at_colon host sections at _ = stop (Err (Text at))
 
--- a token in a section: a word, of which a section has at most 65536, or what may stand behind the section
+-- a token in a section: a word, of which a section has at most so many, or what may stand behind the section
 abbrev pub at_word : List (List ℕ) → ℕ → List ℕ → Sections → ℕ → List ℕ → TokenKind → Step
-at_word hosts host words sections at text (kind.Number word) = if nat_lt (length words) 65536 then go (listing host (words ++ word ∷ [])) sections else stop (Err (Text at))
+at_word hosts host words sections at text (kind.Number word) = if nat_lt (length words) most_input_words then go (listing host (words ++ word ∷ [])) sections else stop (Err (Text at))
 at_word hosts host words sections at text other = at_section hosts (slice_set sections host (Some words)) at text other
 
 abbrev pub step : List (List ℕ) → List ℕ → Place → Sections → Token → Step

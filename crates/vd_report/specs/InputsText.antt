@@ -1,6 +1,7 @@
 -- The grammar of inputs files: sections, each of them the name of a host, a colon and numbers.
 use Rattle.std.specs.Prelude.{◌≡◌, ℕ, ◌≤◌, ◌↔◌, nat_eq, false, List, [], ◌∷◌, Some, Ok, Err, length, replicate, slice_set}
 use Rattle.std.specs.List.{list_any}
+use Rattle.vd_base.specs.Limits.{most_input_words}
 use Rattle.vd_report.specs.declared.fault.ReadFault.{ReadFault}
 use Rattle.vd_report.specs.declared.token.TokenKind.TheVariants as kind
 use Rattle.vd_report.specs.declared.token.Token.{Token}
@@ -19,7 +20,7 @@ pub data AreSections : List (List ℕ) → List ℕ → List ℕ → List Token 
   no_section : {hosts : List (List ℕ)} {bytes earlier : List ℕ} {t : Token} {ts : List Token} → t.kind ≡ kind.End → AreSections hosts bytes earlier (t ∷ ts) []
   one_section : {hosts : List (List ℕ)} {bytes earlier words : List ℕ} {name colon : Token} {ts rest : List Token} {host : ℕ} {sections : List (ℕ × List ℕ)} →
       name.kind ≡ kind.Name → host_of hosts (text_of bytes name) ≡ Some host → list_any (nat_eq host) earlier ≡ false → colon.kind ≡ kind.Colon →
-      Numbers ts words rest → length words ≤ 65536 → AreSections hosts bytes (host ∷ earlier) rest sections →
+      Numbers ts words rest → length words ≤ most_input_words → AreSections hosts bytes (host ∷ earlier) rest sections →
       AreSections hosts bytes earlier (name ∷ colon ∷ ts) ((host, words) ∷ sections)
 
 -- each section's words in the place of its host

@@ -1,5 +1,6 @@
 -- What a schedule file says, token by token.
 use Rattle.std.specs.Prelude.{ℕ, true, false, List, [], ◌∷◌, ◌++◌, Option, Some, None, Result, Ok, Err, length, nat_lt, if◌then◌else◌}
+use Rattle.vd_base.specs.Limits.{most_schedule_entries}
 use Rattle.vd_base.specs.declared.ids.HostId.{HostId}
 use Rattle.vd_report.specs.declared.token.TokenKind.{TokenKind}
 use Rattle.vd_report.specs.declared.token.TokenKind.TheVariants as kind
@@ -19,11 +20,11 @@ abbrev pub at_host : List HostId → ℕ → Option ℕ → Step
 at_host entries at None = stop (Err (UnknownHost at))
 at_host entries at (Some host) = go (entries ++ record { 0 = host } ∷ [])
 
--- a token behind these entries, of which there are at most 1048576
+-- a token behind these entries, of which there are at most so many
 abbrev pub at_entry : List (List ℕ) → List HostId → ℕ → List ℕ → TokenKind → Step
 at_entry hosts entries at text kind.End = stop (Ok (record { entries = entries; all = false }))
 at_entry hosts entries at text kind.All = all
-at_entry hosts entries at text kind.Name = if nat_lt (length entries) 1048576 then at_host entries at (host_of hosts text) else stop (Err (Text at))
+at_entry hosts entries at text kind.Name = if nat_lt (length entries) most_schedule_entries then at_host entries at (host_of hosts text) else stop (Err (Text at))
 at_entry hosts entries at text _ = stop (Err (Text at))
 
 abbrev pub entry_step : List (List ℕ) → List ℕ → List HostId → Token → Step

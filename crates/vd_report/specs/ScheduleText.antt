@@ -1,5 +1,6 @@
 -- The grammar of schedule files: names of hosts, and `all` behind them or not.
 use Rattle.std.specs.Prelude.{◌≡◌, ℕ, ◌≤◌, ◌↔◌, Bool, true, false, List, [], ◌∷◌, Some, Ok, Err, length}
+use Rattle.vd_base.specs.Limits.{most_schedule_entries}
 use Rattle.vd_report.specs.declared.fault.ReadFault.{ReadFault}
 use Rattle.vd_report.specs.Outcome.{FirstWrong}
 use Rattle.vd_base.specs.declared.ids.HostId.{HostId}
@@ -21,7 +22,7 @@ pub data AreEntries : List (List ℕ) → List ℕ → List Token → List HostI
 -- The tokens are a text of the grammar with this schedule.
 pub record AreSchedule (hosts : List (List ℕ)) (bytes : List ℕ) (tokens : List Token) (schedule : Schedule) : Type 0 where
   pub are : AreEntries hosts bytes tokens schedule.entries schedule.all
-  pub few : length schedule.entries ≤ 1048576
+  pub few : length schedule.entries ≤ most_schedule_entries
 
 -- The bytes are a text of the grammar that gives this schedule.
 abbrev pub GivesSchedule : List (List ℕ) → List ℕ → Schedule → Type 0

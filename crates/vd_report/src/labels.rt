@@ -8,8 +8,7 @@ use itoa::Buffer;
 use std::alloc::{AllocError, Global};
 use vd_base::{Bytes, Names};
 use vd_constraints::Labels;
-use vd_core::normal::{NormalForm, Slot};
-use vd_core::program::Program;
+use vd_core::{NormalForm, Program, Slot};
 use vd_formula::{Formula, Label};
 
 /// One line for each slot: its number, its name and its label.

@@ -5,7 +5,7 @@ ghost use Rattle.std.specs.List.{prefix_len};
 ghost use Rattle.vd_base.specs.Lexical as lexical;
 ghost use Rattle.vd_report.specs.Tokens as tokens;
 
-use vd_base::lexical::{digits_len, is_digit, is_keyword, is_letter, is_space, number, word_len};
+use vd_base::{digits_len, is_digit, is_keyword, is_letter, is_space, number, word_len};
 
 /// What a token is.
 #[derive(Clone, Copy)]

@@ -7,7 +7,7 @@ ghost use Rattle.vd_resolve.specs.Walks.{HaveSizes};
 use crate::symbol::Callee;
 use crate::table::NameTable;
 use std::alloc::Global;
-use vd_core::source::Function;
+use vd_core::Function;
 
 /// Principals and hosts, the functions before a place of the source, and the function there with those after it.
 #[derive(Drop)]

@@ -15,7 +15,7 @@ use crate::size::Size;
 use crate::symbol::Symbol;
 use crate::table::NameTable;
 use vd_base::{Kind, Span};
-use vd_core::source::{Expr, Function, Ident, Infix, Link, Sign};
+use vd_core::{Expr, Function, Ident, Infix, Link, Sign};
 use vd_items::Items;
 
 /// The values in sight.

@@ -16,7 +16,7 @@ use crate::statement::expect_kind;
 use crate::symbol::{Callee, Signature, Symbol};
 use crate::table::NameTable;
 use std::alloc::{AllocError, Global};
-use vd_core::source::{Function, Ident, Parameter, Statement};
+use vd_core::{Function, Ident, Parameter, Statement};
 use vd_items::Items;
 
 fn declare_parameters<'a>(

@@ -4,7 +4,7 @@ ghost use Rattle.std.specs.Prelude.{◌≡◌};
 ghost use Rattle.vd_resolve.specs.Rules.{kind_eq, kinds_eq, prefix_kind, of_words, of_one_kind, infix_kind, shift_kind, mux_kind};
 
 use vd_base::Kind;
-use vd_core::source::{Infix, Prefix};
+use vd_core::{Infix, Prefix};
 
 pub(crate) fn same_kinds(left: &[Kind], right: &[Kind]) -> bool
     ensures { result ≡ kinds_eq left.now right.now }

@@ -6,7 +6,7 @@ ghost use Rattle.vd_resolve.specs.Walks.{IsFaultOf};
 
 use crate::fault::NameFault;
 use crate::table::NameTable;
-use vd_core::source::{Ident, WrittenForm, WrittenLabel};
+use vd_core::{Ident, WrittenForm, WrittenLabel};
 
 pub(crate) fn known(names: &NameTable<'_, ()>, name: &Ident) -> Result<(), NameFault>
     ensures ok { OnOk result (known_name names.now name.now ≡ Ok tt) }

@@ -5,7 +5,7 @@ ghost use Rattle.vd_core.specs.Named.{HasNames};
 ghost use Rattle.vd_resolve.specs.Limits.{IsResolved};
 
 use std::marker::Model;
-use vd_core::source::Source;
+use vd_core::Source;
 
 /// A source with names that keeps every rule on names, kinds and limits.
 #[derive(Debug, Drop)]

@@ -14,7 +14,7 @@ use crate::names::{check_written_label, declare, known};
 use crate::size::Size;
 use crate::symbol::Symbol;
 use vd_base::{Kind, Span};
-use vd_core::source::{Ident, Statement};
+use vd_core::{Ident, Statement};
 
 /// Whether a value has the kind that its place wants.
 pub(crate) fn expect_kind(at: Span, wanted: Kind, kind: Kind) -> Result<(), NameFault>

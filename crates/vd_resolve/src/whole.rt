@@ -16,7 +16,7 @@ use crate::resolved::Resolved;
 use crate::size::Size;
 use crate::table::NameTable;
 use std::alloc::Global;
-use vd_core::source::{Host, Ident, Source};
+use vd_core::{Host, Ident, Source};
 
 fn declare_principals<'a>(alloc: Global, names: &'a [Ident]) -> Result<NameTable<'a, ()>, NameFault>
     ensures ok { IfOk result (λ principals. distinct [] names.now ≡ Ok principals) }
