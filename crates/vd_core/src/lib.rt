@@ -13,6 +13,3 @@ pub use source::{
     Direction, Expr, Function, Host, Ident, Infix, Link, Parameter, Prefix, Sign, Source,
     Statement, WrittenForm, WrittenLabel,
 };
-
-#[cfg(test)]
-mod tests;

@@ -6,6 +6,3 @@ mod operations;
 
 pub use moves::move_cost;
 pub use operations::op_cost;
-
-#[cfg(test)]
-mod tests;

@@ -9,6 +9,3 @@ mod minimal;
 pub use forms::FormFault;
 pub use formula::Formula;
 pub use label::Label;
-
-#[cfg(test)]
-mod tests;

@@ -27,6 +27,3 @@ pub fn texts_have_trees<S, T>()
 pub fn one_tree<S, T>()
     ensures { OneTree S T }
 {}
-
-#[cfg(test)]
-mod tests;

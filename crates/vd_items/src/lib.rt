@@ -9,6 +9,3 @@ mod items;
 pub use boxed::Boxed;
 pub use exact::ExactClone;
 pub use items::Items;
-
-#[cfg(test)]
-mod tests;

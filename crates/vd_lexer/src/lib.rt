@@ -3,8 +3,6 @@
 
 mod lexer;
 mod piece;
-#[cfg(test)]
-mod tests;
 mod token;
 
 pub use lexer::{keywords_are_those_of_names, lexing_is_determined, tokens};

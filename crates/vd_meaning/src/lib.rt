@@ -12,6 +12,3 @@ mod world;
 
 pub use program::clear_core;
 pub use source::clear_source;
-
-#[cfg(test)]
-mod tests;

@@ -38,6 +38,3 @@ pub use sure_link::SureLink;
 pub use sure_net::SureNet;
 pub use sure_sink::SureSink;
 pub use sure_spawner::SureSpawner;
-
-#[cfg(test)]
-mod tests;

@@ -16,6 +16,3 @@ mod whole;
 
 pub use fault::ParseFault;
 pub use whole::parse;
-
-#[cfg(test)]
-mod tests;

@@ -9,6 +9,3 @@ pub use authorities::{HostLabels, authority};
 pub use list::protocols;
 pub use tables::{can, holds, joins};
 pub use vd_base::Row;
-
-#[cfg(test)]
-mod tests;

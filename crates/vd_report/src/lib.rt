@@ -7,8 +7,6 @@ mod inputs;
 mod labels;
 mod lines;
 mod schedule;
-#[cfg(test)]
-mod tests;
 mod token;
 
 pub use fault::ReadFault;

@@ -1,11 +1,25 @@
-//! Worked examples through the top call, as tests.
+//! Tests of the libraries through their public calls.
 #![tactic(auto)]
 
 #[cfg(test)]
-mod clear;
+mod cost_tables;
+#[cfg(test)]
+mod declared_names;
+#[cfg(test)]
+mod formulas;
 #[cfg(test)]
 mod labels;
 #[cfg(test)]
-mod large;
+mod lexer;
 #[cfg(test)]
-mod world;
+mod lists;
+#[cfg(test)]
+mod meaning;
+#[cfg(test)]
+mod outside;
+#[cfg(test)]
+mod parser;
+#[cfg(test)]
+mod protocol_tables;
+#[cfg(test)]
+mod readers;

@@ -1,0 +1,14 @@
+-- What the program says of itself.
+use Rattle.std.specs.Prelude.{ℕ, List, [], ◌∷◌, Option, Some, None, if◌then◌else◌, codes}
+use Rattle.std.specs.Str.{bytes_eq}
+
+unfoldable pub help_text : List ℕ
+help_text = codes "Viaduct reads one program over several hosts' secrets: it runs it in clear, and finds its least labels.\n\nusage:\n  viaduct clear SOURCE INPUTS   run SOURCE in clear on one machine, and print each host's words\n  viaduct labels SOURCE         print the least label of each slot of SOURCE's let-normal form\n  viaduct --help                print this text\n  viaduct --version             print the version\n\nSOURCE and INPUTS are files. A run that does not end well writes a line that begins\n'viaduct: ' to standard error, and ends with the status that belongs to it.\n"
+
+unfoldable pub version_text : List ℕ
+version_text = codes "viaduct 0.1.0\n"
+
+-- what a lone word asks for
+abbrev pub own_text_of : List (List ℕ) → Option (List ℕ)
+own_text_of (word ∷ []) = if bytes_eq word (codes "--help") then Some help_text else if bytes_eq word (codes "--version") then Some version_text else None
+own_text_of words = None

@@ -1,0 +1,8 @@
+//! The words of the command line.
+#![tactic(auto)]
+
+mod command;
+mod own;
+
+pub use command::{Command, CommandFault, read_words};
+pub use own::own_text;

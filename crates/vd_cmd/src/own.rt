@@ -1,0 +1,49 @@
+//! What the program says of itself.
+
+ghost use Rattle.std.specs.Prelude.{◌≡◌};
+ghost use Rattle.std.specs.Option.{option_map};
+ghost use Rattle.vd_cmd.specs.Own.{help_text, version_text, own_text_of};
+
+use vd_base::Texts;
+
+/// The text of `--help`.
+const HELP: &str =
+    "Viaduct reads one program over several hosts' secrets: it runs it in clear, and finds its least labels.
+
+usage:
+  viaduct clear SOURCE INPUTS   run SOURCE in clear on one machine, and print each host's words
+  viaduct labels SOURCE         print the least label of each slot of SOURCE's let-normal form
+  viaduct --help                print this text
+  viaduct --version             print the version
+
+SOURCE and INPUTS are files. A run that does not end well writes a line that begins
+'viaduct: ' to standard error, and ends with the status that belongs to it.
+";
+
+/// The text of `--version`.
+const VERSION: &str = "viaduct 0.1.0\n";
+
+#[tactic(auto, unfolding(crate::specs::Own::help_text))]
+fn help() -> &'static str
+    ensures { result.now ≡ help_text }
+{
+    HELP
+}
+
+#[tactic(auto, unfolding(crate::specs::Own::version_text))]
+fn version() -> &'static str
+    ensures { result.now ≡ version_text }
+{
+    VERSION
+}
+
+/// What a lone word asks the program to say of itself: `--help` or `--version`.
+pub fn own_text(words: &Texts) -> Option<&'static str>
+    ensures { option_map (λ text. text.now) result ≡ own_text_of words.now }
+{
+    match words.as_slice() {
+        [word] if word.as_str() == "--help" => Some(help()),
+        [word] if word.as_str() == "--version" => Some(version()),
+        _ => None,
+    }
+}

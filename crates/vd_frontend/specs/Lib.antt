@@ -1,0 +1,5 @@
+pub mod Outcomes
+pub mod Sources
+pub mod Inputs
+pub mod Clear
+pub mod Labelling

@@ -1,0 +1,16 @@
+use Rattle.vd_plan.proofs.lines.write_status.Goals as goal
+
+pub returns-in-Memory : goal.returns-in-Memory
+returns-in-Memory g c = rw c.in-Memory.is c.write_parts.ensures
+
+pub returns-in-Usage : goal.returns-in-Usage
+returns-in-Usage g c = rw c.in-Usage.is c.write_parts-in-Usage.ensures
+
+pub returns-in-ReadFault : goal.returns-in-ReadFault
+returns-in-ReadFault g c = rw (c.in-ReadFault.is, ← c.as_str.ensures, ← c.as_bytes.ensures.value) c.write_parts-in-ReadFault.ensures
+
+pub returns-in-TooLong : goal.returns-in-TooLong
+returns-in-TooLong g c = rw (c.in-TooLong.is, ← c.as_str-in-TooLong.ensures, ← c.as_bytes-name.ensures.value, ← c.format.ensures.text, ← c.as_bytes-number.ensures.value) c.write_parts-in-TooLong.ensures
+
+pub returns-in-WriteFault : goal.returns-in-WriteFault
+returns-in-WriteFault g c = rw c.in-WriteFault.is c.write_parts-in-WriteFault.ensures

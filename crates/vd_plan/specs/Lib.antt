@@ -1,0 +1,5 @@
+pub mod Plans
+pub mod Loads
+pub mod Deliver
+pub mod Runs
+pub mod Lines

@@ -1,0 +1,76 @@
+-- The number of each status, and its line.
+use Rattle.std.specs.Prelude.{◌≡◌, ◌≤◌, ◌⊎◌, ℕ, IsTrue, List, [], ◌++◌, take, codes}
+use Rattle.std.specs.Fmt.{decimal}
+use Rattle.vd_outside.specs.Causes.{Rose}
+use Rattle.vd_outside.specs.Sink.{SinkView}
+use Rattle.vd_plan.specs.declared.status.SyntaxFault.{SyntaxFault}
+use Rattle.vd_plan.specs.declared.status.SyntaxFault.TheVariants.{BadByte, Unexpected, Nesting}
+use Rattle.vd_resolve.specs.declared.fault.Quantity.{Quantity}
+use Rattle.vd_resolve.specs.declared.fault.Quantity.TheVariants as quantity
+use Rattle.vd_plan.specs.declared.status.RuleFault.{RuleFault}
+use Rattle.vd_plan.specs.declared.status.RuleFault.TheVariants as rule
+use Rattle.vd_plan.specs.declared.status.TextFault.{TextFault}
+use Rattle.vd_plan.specs.declared.status.TextFault.TheVariants.{Text, UnknownHost}
+use Rattle.vd_plan.specs.declared.status.Status.{Status}
+use Rattle.vd_plan.specs.declared.status.Status.TheVariants.{Ended, Memory, Usage, ReadFault, WriteFault, TooLong, Syntax, Names, Flow, InputText}
+
+abbrev pub code_of : Status → ℕ
+code_of Ended = 0
+code_of Memory = 1
+code_of Usage = 2
+code_of (ReadFault name) = 3
+code_of WriteFault = 4
+code_of (TooLong name limit) = 5
+code_of (Syntax fault) = 6
+code_of (Names fault) = 7
+code_of (Flow check offset) = 8
+code_of (InputText fault) = 11
+
+-- a text that ends in an offset
+abbrev pub offset_line : List ℕ → ℕ → List ℕ
+offset_line text offset = text ++ (decimal offset ++ codes "\n")
+
+abbrev pub syntax_line : SyntaxFault → List ℕ
+syntax_line (BadByte offset) = offset_line (codes "viaduct: bad byte at ") offset
+syntax_line (Unexpected offset) = offset_line (codes "viaduct: unexpected token at ") offset
+syntax_line (Nesting offset) = offset_line (codes "viaduct: nesting at ") offset
+
+abbrev pub quantity_name : Quantity → List ℕ
+quantity_name quantity.Principals = codes "principals"
+quantity_name quantity.Hosts = codes "hosts"
+quantity_name quantity.Nesting = codes "nesting"
+quantity_name quantity.Statements = codes "statements"
+quantity_name quantity.Weights = codes "weights"
+quantity_name quantity.Cells = codes "cells"
+
+abbrev pub rule_line : RuleFault → List ℕ
+rule_line (rule.Unknown offset) = offset_line (codes "viaduct: unknown name at ") offset
+rule_line (rule.Twice offset) = offset_line (codes "viaduct: name twice at ") offset
+rule_line (rule.Recursive offset) = offset_line (codes "viaduct: recursive call at ") offset
+rule_line (rule.Arity offset) = offset_line (codes "viaduct: arity at ") offset
+rule_line (rule.Kind offset) = offset_line (codes "viaduct: kind at ") offset
+rule_line (rule.Limit which count) = codes "viaduct: limit " ++ (quantity_name which ++ (codes " " ++ (decimal count ++ codes "\n")))
+
+abbrev pub input_line : TextFault → List ℕ
+input_line (Text offset) = offset_line (codes "viaduct: input text at ") offset
+input_line (UnknownHost offset) = offset_line (codes "viaduct: input host at ") offset
+
+-- Ended has no line.
+abbrev pub status_line : Status → List ℕ
+status_line Ended = []
+status_line Memory = codes "viaduct: memory\n"
+status_line Usage = codes "viaduct: usage\n"
+status_line (ReadFault name) = codes "viaduct: read fault " ++ (name ++ codes "\n")
+status_line WriteFault = codes "viaduct: write fault\n"
+status_line (TooLong name limit) = codes "viaduct: too long " ++ (name ++ (codes " " ++ (decimal limit ++ codes "\n")))
+status_line (Syntax fault) = syntax_line fault
+status_line (Names fault) = rule_line fault
+status_line (Flow check offset) = codes "viaduct: flow check " ++ (decimal check ++ (codes " at " ++ (decimal offset ++ codes "\n")))
+status_line (InputText fault) = input_line fault
+
+-- the line goes to err, whole unless err failed
+pub record Says (line : List ℕ) (before now : SinkView) : Type 0 where
+  pub later : before.faults ≤ now.faults
+  pub was_told : IsTrue now.told → IsTrue before.told
+  pub part : IsTrue now.told → (count : ℕ) × (now.taken ≡ before.taken ++ take count line)
+  pub whole : IsTrue now.told → Rose before.faults now.faults ⊎ (now.taken ≡ before.taken ++ line)

@@ -1,0 +1,15 @@
+//! The plan of a command: the files that it fetches, the files that it stores, what it prints, and how a run of it ends.
+#![tactic(auto)]
+
+mod answer;
+mod deliver;
+mod ending;
+mod lines;
+mod loading;
+mod status;
+
+pub use answer::Answer;
+pub use ending::{finish, print_text};
+pub use lines::tell;
+pub use loading::load;
+pub use status::{RuleFault, Status, SyntaxFault, TextFault};

@@ -1,0 +1,143 @@
+//! The line that says how a run ended.
+
+ghost use Rattle.std.specs.Prelude.{◌≡◌};
+ghost use Rattle.vd_plan.specs.Deliver.{WritesAll};
+ghost use Rattle.vd_plan.specs.declared.status.RuleFault.TheVariants as rule;
+ghost use Rattle.vd_plan.specs.declared.status.Status.TheVariants.{Flow};
+ghost use Rattle.vd_plan.specs.Lines.{Says, status_line, syntax_line, rule_line, input_line, offset_line, quantity_name};
+
+use crate::deliver::write_parts;
+use crate::{RuleFault, Status, SyntaxFault, TextFault};
+use itoa::Buffer;
+use vd_base::Failed;
+use vd_outside::Sink;
+use vd_resolve::Quantity;
+
+/// Writes the line of a status, as far as the stream takes it.
+pub fn tell<E: Sink>(err: &mut E, status: &Status)
+    ensures { Says (status_line status.now) (E.view err.old) (E.view err.new) }
+{
+    let _ = write_status(err, status);
+}
+
+/// Writes the line of a status.
+fn write_status<E: Sink>(err: &mut E, status: &Status) -> Result<(), Failed>
+    ensures { WritesAll (status_line status.now) (E.view err.old) (E.view err.new) result }
+{
+    match status {
+        Status::Ended => Ok(()),
+        Status::Memory => write_parts(err, &[b"viaduct: memory\n"]),
+        Status::Usage => write_parts(err, &[b"viaduct: usage\n"]),
+        Status::ReadFault(name) => {
+            write_parts(
+                err,
+                &[b"viaduct: read fault ", name.as_str().as_bytes(), b"\n"],
+            )
+        }
+        Status::WriteFault => write_parts(err, &[b"viaduct: write fault\n"]),
+        Status::TooLong(name, limit) => {
+            let mut buffer = Buffer::new();
+            let number = buffer.format(*limit).as_bytes();
+            let name = name.as_str().as_bytes();
+            write_parts(err, &[b"viaduct: too long ", name, b" ", number, b"\n"])
+        }
+        Status::Syntax(fault) => write_syntax_fault(err, *fault),
+        Status::Names(fault) => write_rule_fault(err, *fault),
+        Status::Flow(check, offset) => write_flow(err, *check, *offset),
+        Status::InputText(fault) => write_text_fault(err, *fault),
+    }
+}
+
+/// Writes the line of a fault of a source's text.
+fn write_syntax_fault<E: Sink>(err: &mut E, fault: SyntaxFault) -> Result<(), Failed>
+    ensures { WritesAll (syntax_line fault) (E.view err.old) (E.view err.new) result }
+{
+    match fault {
+        SyntaxFault::BadByte(offset) => write_offset(err, b"viaduct: bad byte at ", offset),
+        SyntaxFault::Unexpected(offset) => write_offset(
+            err,
+            b"viaduct: unexpected token at ",
+            offset,
+        ),
+        SyntaxFault::Nesting(offset) => write_offset(err, b"viaduct: nesting at ", offset),
+    }
+}
+
+/// The word for a quantity.
+fn quantity_name(quantity: Quantity) -> &'static [u8]
+    ensures { result.now ≡ quantity_name quantity }
+{
+    match quantity {
+        Quantity::Principals => b"principals",
+        Quantity::Hosts => b"hosts",
+        Quantity::Nesting => b"nesting",
+        Quantity::Statements => b"statements",
+        Quantity::Weights => b"weights",
+        Quantity::Cells => b"cells",
+    }
+}
+
+/// Writes the line of a broken rule on names, kinds or sizes.
+fn write_rule_fault<E: Sink>(err: &mut E, fault: RuleFault) -> Result<(), Failed>
+    ensures { WritesAll (rule_line fault) (E.view err.old) (E.view err.new) result }
+{
+    match fault {
+        RuleFault::Unknown(offset) => write_offset(err, b"viaduct: unknown name at ", offset),
+        RuleFault::Twice(offset) => write_offset(err, b"viaduct: name twice at ", offset),
+        RuleFault::Recursive(offset) => write_offset(err, b"viaduct: recursive call at ", offset),
+        RuleFault::Arity(offset) => write_offset(err, b"viaduct: arity at ", offset),
+        RuleFault::Kind(offset) => write_offset(err, b"viaduct: kind at ", offset),
+        RuleFault::Limit(which, count) => write_limit(err, which, count),
+    }
+}
+
+/// Writes the line of a quantity above its limit.
+fn write_limit<E: Sink>(err: &mut E, which: Quantity, count: u32) -> Result<(), Failed>
+    ensures { WritesAll (rule_line (rule.Limit which count)) (E.view err.old) (E.view err.new) result }
+{
+    let mut buffer = Buffer::new();
+    let number = buffer.format(count).as_bytes();
+    write_parts(
+        err,
+        &[
+            b"viaduct: limit ",
+            quantity_name(which),
+            b" ",
+            number,
+            b"\n",
+        ],
+    )
+}
+
+/// Writes the line of a failed flow check.
+fn write_flow<E: Sink>(err: &mut E, check: u32, offset: u32) -> Result<(), Failed>
+    ensures { WritesAll (status_line (Flow check offset)) (E.view err.old) (E.view err.new) result }
+{
+    let mut check_buffer = Buffer::new();
+    let check = check_buffer.format(check).as_bytes();
+    let mut offset_buffer = Buffer::new();
+    let offset = offset_buffer.format(offset).as_bytes();
+    write_parts(
+        err,
+        &[b"viaduct: flow check ", check, b" at ", offset, b"\n"],
+    )
+}
+
+/// Writes the line of a fault of a hand-written file.
+fn write_text_fault<E: Sink>(err: &mut E, fault: TextFault) -> Result<(), Failed>
+    ensures { WritesAll (input_line fault) (E.view err.old) (E.view err.new) result }
+{
+    match fault {
+        TextFault::Text(offset) => write_offset(err, b"viaduct: input text at ", offset),
+        TextFault::UnknownHost(offset) => write_offset(err, b"viaduct: input host at ", offset),
+    }
+}
+
+/// Writes a text, an offset behind it and the line's end.
+fn write_offset<E: Sink>(err: &mut E, text: &[u8], offset: u32) -> Result<(), Failed>
+    ensures { WritesAll (offset_line text.now offset) (E.view err.old) (E.view err.new) result }
+{
+    let mut buffer = Buffer::new();
+    let number = buffer.format(offset).as_bytes();
+    write_parts(err, &[text, number, b"\n"])
+}
