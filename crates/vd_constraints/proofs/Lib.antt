@@ -5,3 +5,5 @@ pub mod Walks
 pub mod Labellings
 pub mod Firsts
 pub mod InSight
+pub mod Growth
+pub mod Few

@@ -131,6 +131,7 @@ right_checks p pc x (Input h) = input_checks (host_label p h) pc (Slot x) (offse
 right_checks p pc x (Declassify y form) = []
 right_checks p pc x (Endorse y form) = endorse_checks (formula p form) (Slot x) (offset_of p x)
 
+-- the system with rules, with checks, or with a block more
 abbrev pub with_rules : List Lower → Constraints → Constraints
 with_rules rules s = record s { lower = s.lower ++ rules }
 
@@ -140,13 +141,47 @@ with_checks checks s = record s { checks = s.checks ++ checks }
 abbrev pub with_block : Constraints → Constraints
 with_block s = record s { blocks = s.blocks + 1 }
 
--- with the label that the source writes at a slot, if it does
-abbrev pub with_label : Option Label → Place → ℕ → Constraints → Constraints
-with_label None x offset s = s
-with_label (Some written) x offset s = with_checks (written_checks written x offset) (with_rules (written_rules written x) s)
+-- the system with what each step of a program asks
+abbrev pub with_flow : Place → Place → Constraints → Constraints
+with_flow from to = with_rules (flows from to)
+
+abbrev pub with_input : Label → Place → Place → ℕ → Constraints → Constraints
+with_input host pc x offset s = with_checks (input_checks host pc x offset) (with_rules (input_rules host pc x) s)
+
+abbrev pub with_declassified : TruthTable → Place → Place → Place → Constraints → Constraints
+with_declassified to pc x y = with_rules (declassify_rules to pc x y)
+
+abbrev pub with_endorsed : TruthTable → Place → Place → Place → ℕ → Constraints → Constraints
+with_endorsed to pc x y offset s = with_checks (endorse_checks to x offset) (with_rules (endorse_rules to pc x y) s)
+
+abbrev pub with_output : Label → Place → Place → ℕ → Constraints → Constraints
+with_output host pc y offset s = with_checks (output_checks host pc y offset) (with_rules (output_rules host pc y) s)
+
+abbrev pub with_label : Label → Place → ℕ → Constraints → Constraints
+with_label written x offset s = with_checks (written_checks written x offset) (with_rules (written_rules written x) s)
+
+-- a right side, in a block whose label is at pc
+abbrev pub with_right : NormalForm → Place → SlotId → Right → Constraints → Constraints
+with_right p pc x r s = with_checks (right_checks p pc x r) (with_rules (right_rules p pc x r) s)
+
+-- operands that are used for a slot
+abbrev pub with_operands : List SlotId → SlotId → Constraints → Constraints
+with_operands ys x = with_rules (flat_map (λ y. flows (Slot y) (Slot x)) ys)
+
+-- a value that is stored in a variable, and one that is put into an array
+abbrev pub with_stored : Place → SlotId → SlotId → Constraints → Constraints
+with_stored pc v y = with_rules (flows (Slot y) (Slot v) ++ flows pc (Slot v))
+
+abbrev pub with_put : Place → SlotId → SlotId → SlotId → Constraints → Constraints
+with_put pc v i y = with_rules (flows (Slot y) (Slot v) ++ flows (Slot i) (Slot v) ++ flows pc (Slot v))
+
+-- the label that the source writes at a slot, if it does
+abbrev pub with_optional : Option Label → Place → ℕ → Constraints → Constraints
+with_optional None x offset s = s
+with_optional (Some written) x offset s = with_label written x offset s
 
 abbrev pub with_written : NormalForm → SlotId → Constraints → Constraints
-with_written p x s = with_label (written_at p x) (Slot x) (offset_of p x) s
+with_written p x s = with_optional (written_at p x) (Slot x) (offset_of p x) s
 
 -- both branches of an If are one block, which tells of the guard and of the block around it
 abbrev pub with_branch : Place → Place → Constraints → Constraints
@@ -158,12 +193,12 @@ in_order [] p pc s = s
 in_order (f ∷ fs) p pc s = in_order fs p pc (f p pc s)
 
 abbrev pub stmt_step : Stmt-F (NormalForm → Place → Constraints → Constraints) → NormalForm → Place → Constraints → Constraints
-stmt_step (Stmt-F.Let x r) p pc s = with_written p x (with_checks (right_checks p pc x r) (with_rules (right_rules p pc x r) s))
-stmt_step (Stmt-F.NewVar v y) p pc s = with_written p v (with_rules (flows (Slot y) (Slot v) ++ flows pc (Slot v)) s)
-stmt_step (Stmt-F.NewArray v size) p pc s = with_written p v (with_rules (flows pc (Slot v)) s)
-stmt_step (Stmt-F.Store v y) p pc s = with_rules (flows (Slot y) (Slot v) ++ flows pc (Slot v)) s
-stmt_step (Stmt-F.Put v i y) p pc s = with_rules (flows (Slot y) (Slot v) ++ flows (Slot i) (Slot v) ++ flows pc (Slot v)) s
-stmt_step (Stmt-F.Output y h offset) p pc s = with_checks (output_checks (host_label p h) pc (Slot y) offset) (with_rules (output_rules (host_label p h) pc (Slot y)) s)
+stmt_step (Stmt-F.Let x r) p pc s = with_written p x (with_right p pc x r s)
+stmt_step (Stmt-F.NewVar v y) p pc s = with_written p v (with_stored pc v y s)
+stmt_step (Stmt-F.NewArray v size) p pc s = with_written p v (with_flow pc (Slot v) s)
+stmt_step (Stmt-F.Store v y) p pc s = with_stored pc v y s
+stmt_step (Stmt-F.Put v i y) p pc s = with_put pc v i y s
+stmt_step (Stmt-F.Output y h offset) p pc s = with_output (host_label p h) pc (Slot y) offset s
 stmt_step (Stmt-F.If y then_block else_block offset) p pc s =
     in_order else_block p (Block s.blocks) (in_order then_block p (Block s.blocks) (with_branch (Slot y) pc s))
 stmt_step (Stmt-F.For count body) p pc s = in_order body p pc s

@@ -1,5 +1,5 @@
 -- Systems of rules and checks on the labels of slots and blocks.
-use Rattle.std.specs.Prelude.{◌≡◌, ℕ, ◌^◌, ◌<◌, ◌≤◌, List, length, All}
+use Rattle.std.specs.Prelude.{◌≡◌, ℕ, ◌+◌, ◌^◌, ◌<◌, ◌≤◌, List, length, All}
 use Rattle.vd_base.specs.Limits.{most_principals}
 use Rattle.vd_formula.specs.declared.label.Label.{Label}
 use Rattle.vd_formula.specs.TruthTable.{TruthTable, IsFormula}
@@ -18,6 +18,14 @@ pub record Constraints : Type 0 where
   pub blocks : ℕ
   pub lower : List Lower
   pub checks : List Check
+
+-- rules, checks and blocks together
+abbrev pub size : Constraints → ℕ
+size s = length s.lower + length s.checks + s.blocks
+
+-- 32 bits number them all
+abbrev pub IsSmall : Constraints → Type 0
+IsSmall s = size s < 2 ^ 32
 
 -- a formula over so many names
 pub record IsOver (names : ℕ) (formula : TruthTable) : Type 0 where

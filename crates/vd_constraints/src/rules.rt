@@ -1,13 +1,12 @@
 //! The walk over a let-normal program that collects its flow rules.
 
-ghost use Rattle.std.specs.Prelude.{◌≡◌, ◌<◌, ◌≤◌, ◌++◌, length, IsTrue, IfOk, IfSome, OnOk};
-ghost use Rattle.std.specs.List.{flat_map, list_all};
+ghost use Rattle.std.specs.Prelude.{◌≡◌, ◌^◌, ◌<◌, ◌≤◌, length, IsTrue, IfOk, IfSome, OnOk};
+ghost use Rattle.std.specs.List.{list_all};
 ghost use Rattle.vd_base.specs.Limits.{most_principals};
 ghost use Rattle.vd_constraints.specs.Extends.{Extends};
-ghost use Rattle.vd_constraints.specs.Rules.{flows, host_label as label_of_host, label as label_over, written_at as label_written_at, offset_of, right_rules, right_checks, with_checks, with_rules, with_written, with_stmt, with_body, system_of};
+ghost use Rattle.vd_constraints.specs.Rules.{host_label as label_of_host, label as label_over, written_at as label_written_at, offset_of, with_body, with_operands, with_put, with_right, with_stmt, with_stored, with_written, system_of};
 ghost use Rattle.vd_constraints.specs.Scoped.{IsScoped, is_below, right_below, slots_below, block_below};
-ghost use Rattle.vd_constraints.specs.Systems.{IsLabelOver, IsPlaceOf};
-ghost use Rattle.vd_constraints.specs.declared.system.Place.TheVariants as place;
+ghost use Rattle.vd_constraints.specs.Systems.{IsLabelOver, IsPlaceOf, IsSmall};
 
 use crate::system::{Place, System};
 use std::alloc::{AllocError, Global};
@@ -16,7 +15,7 @@ use vd_core::{NormalForm, Program, Right, Stmt, Written};
 use vd_formula::{Formula, Label};
 use vd_items::Items;
 
-/// The rules and checks of a program, in program order.
+/// The rules and checks of a program, in program order. Only want of memory refuses it.
 pub fn constraints(alloc: Global, program: &Program) -> Result<System, AllocError>
     ensures { IfOk result (λ system. system ≡ system_of program.now) }
 {
@@ -24,20 +23,15 @@ pub fn constraints(alloc: Global, program: &Program) -> Result<System, AllocErro
 }
 
 /// The rules and checks of a let-normal form, in program order.
-///
-/// A well-made form has at most 512 statements, each with at most one slot, one block, eight rules and four checks, so
-/// its counts never meet the bounds at which want of memory is answered.
 fn constraints_of(alloc: Global, form: &NormalForm) -> Result<System, AllocError>
-    requires { IsScoped form.now }
+    requires scoped { IsScoped form.now }
+    requires slots { length form.now.slots < 2 ^ 32 }
+    requires small { IsSmall (system_of form.now) }
     ensures { IfOk result (λ system. system ≡ system_of form.now) }
 {
-    let slots = form.slots.as_slice().len();
-    if slots > u32::MAX as usize {
-        return Err(AllocError);
-    }
     let mut system = System::new(
         form.principals.clone()?,
-        slots as u32,
+        form.slots.as_slice().len() as u32,
         1,
         Items::new(alloc),
         Items::new(alloc),
@@ -58,6 +52,7 @@ fn add_body(
     requires few { length program.now.principals ≤ most_principals }
     requires principals { system.old.principals ≡ program.now.principals }
     requires slots { IsTrue (block_below system.old.slots body.now) }
+    requires small { IsSmall (with_body body.now program.now pc system.old) }
     ensures added { OnOk result (system.new ≡ with_body body.now program.now pc system.old) }
     ensures extends { OnOk result (Extends system.old system.new) }
 {
@@ -79,6 +74,7 @@ fn add_stmt(
     requires few { length program.now.principals ≤ most_principals }
     requires principals { system.old.principals ≡ program.now.principals }
     requires slots { IsTrue (slots_below system.old.slots stmt.now) }
+    requires small { IsSmall (with_stmt stmt.now program.now pc system.old) }
     ensures added { OnOk result (system.new ≡ with_stmt stmt.now program.now pc system.old) }
     ensures extends { OnOk result (Extends system.old system.new) }
 {
@@ -123,7 +119,8 @@ fn add_right(
     requires principals { system.old.principals ≡ program.now.principals }
     requires slot { slot.0 < system.old.slots }
     requires slots { IsTrue (right_below system.old.slots right.now) }
-    ensures { OnOk result (system.new ≡ with_checks (right_checks program.now pc slot right.now) (with_rules (right_rules program.now pc slot right.now) system.old)) }
+    requires small { IsSmall (with_right program.now pc slot right.now system.old) }
+    ensures { OnOk result (system.new ≡ with_right program.now pc slot right.now system.old) }
 {
     let x = Place::Slot(slot);
     match right {
@@ -154,7 +151,8 @@ fn add_right(
 fn add_operands(system: &mut System, slot: SlotId, operands: &[SlotId]) -> Result<(), AllocError>
     requires slot { slot.0 < system.old.slots }
     requires operands { IsTrue (list_all (is_below system.old.slots) operands.now) }
-    ensures { OnOk result (system.new ≡ with_rules (flat_map (λ y. flows (place.Slot y) (place.Slot slot)) operands.now) system.old) }
+    requires small { IsSmall (with_operands operands.now slot system.old) }
+    ensures { OnOk result (system.new ≡ with_operands operands.now slot system.old) }
 {
     for operand in operands {
         system.add_flow(Place::Slot(*operand), Place::Slot(slot))?;
@@ -172,7 +170,8 @@ fn add_stored(
     requires place { IsPlaceOf system.old pc }
     requires variable { variable.0 < system.old.slots }
     requires value { value.0 < system.old.slots }
-    ensures { OnOk result (system.new ≡ with_rules (flows (place.Slot value) (place.Slot variable) ++ flows pc (place.Slot variable)) system.old) }
+    requires small { IsSmall (with_stored pc variable value system.old) }
+    ensures { OnOk result (system.new ≡ with_stored pc variable value system.old) }
 {
     system.add_flow(Place::Slot(value), Place::Slot(variable))?;
     system.add_flow(pc, Place::Slot(variable))
@@ -190,7 +189,8 @@ fn add_put(
     requires array { array.0 < system.old.slots }
     requires index { index.0 < system.old.slots }
     requires value { value.0 < system.old.slots }
-    ensures { OnOk result (system.new ≡ with_rules (flows (place.Slot value) (place.Slot array) ++ flows (place.Slot index) (place.Slot array) ++ flows pc (place.Slot array)) system.old) }
+    requires small { IsSmall (with_put pc array index value system.old) }
+    ensures { OnOk result (system.new ≡ with_put pc array index value system.old) }
 {
     let array = Place::Slot(array);
     system.add_flow(Place::Slot(value), array)?;
@@ -203,6 +203,7 @@ fn add_label(system: &mut System, program: &NormalForm, slot: SlotId) -> Result<
     requires few { length program.now.principals ≤ most_principals }
     requires principals { system.old.principals ≡ program.now.principals }
     requires slot { slot.0 < system.old.slots }
+    requires small { IsSmall (with_written program.now slot system.old) }
     ensures { OnOk result (system.new ≡ with_written program.now slot system.old) }
 {
     match written_at(program, slot) {

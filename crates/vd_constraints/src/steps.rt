@@ -1,8 +1,8 @@
 //! What the steps of a program ask of the labels around them.
 
 ghost use Rattle.std.specs.Prelude.{◌≡◌, IfOk, OnOk};
-ghost use Rattle.vd_constraints.specs.Rules.{flows, input_rules, input_checks, declassify_rules, endorse_rules, endorse_checks, output_rules, output_checks, written_rules, written_checks, with_branch, with_checks, with_rules};
-ghost use Rattle.vd_constraints.specs.Systems.{IsFormulaOf, IsLabelOf, IsPlaceOf};
+ghost use Rattle.vd_constraints.specs.Rules.{with_branch, with_declassified, with_endorsed, with_flow, with_input, with_label, with_output};
+ghost use Rattle.vd_constraints.specs.Systems.{IsFormulaOf, IsLabelOf, IsPlaceOf, IsSmall};
 ghost use Rattle.vd_constraints.specs.declared.system.Place.TheVariants as place;
 
 use crate::system::{Bound, Check, Lower, Part, Place, System};
@@ -14,7 +14,8 @@ impl System {
     pub(crate) fn add_flow(&mut self, from: Place, to: Place) -> Result<(), AllocError>
         requires from { IsPlaceOf self.old from }
         requires to { IsPlaceOf self.old to }
-        ensures { OnOk result (self.new ≡ with_rules (flows from to) self.old) }
+        requires small { IsSmall (with_flow from to self.old) }
+        ensures { OnOk result (self.new ≡ with_flow from to self.old) }
     {
         self.add_rules(&[
             Lower::new(Part::conf(to), Bound::Same(Part::conf(from))),
@@ -26,10 +27,11 @@ impl System {
     pub(crate) fn add_branch(&mut self, guard: Place, pc: Place) -> Result<Place, AllocError>
         requires guard { IsPlaceOf self.old guard }
         requires pc { IsPlaceOf self.old pc }
+        requires small { IsSmall (with_branch guard pc self.old) }
         ensures place { IfOk result (λ branch. branch ≡ place.Block self.old.blocks) }
         ensures added { OnOk result (self.new ≡ with_branch guard pc self.old) }
     {
-        let branch = Place::Block(self.add_block()?);
+        let branch = Place::Block(self.add_block());
         self.add_flow(guard, branch)?;
         self.add_flow(pc, branch)?;
         Ok(branch)
@@ -46,7 +48,8 @@ impl System {
         requires host { IsLabelOf self.old host }
         requires pc { IsPlaceOf self.old pc }
         requires x { IsPlaceOf self.old x }
-        ensures { OnOk result (self.new ≡ with_checks (input_checks host pc x offset) (with_rules (input_rules host pc x) self.old)) }
+        requires small { IsSmall (with_input host pc x offset self.old) }
+        ensures { OnOk result (self.new ≡ with_input host pc x offset self.old) }
     {
         self.add_rules(&[
             Lower::new(Part::conf(x), Bound::Constant(host.conf)),
@@ -70,7 +73,8 @@ impl System {
         requires pc { IsPlaceOf self.old pc }
         requires x { IsPlaceOf self.old x }
         requires y { IsPlaceOf self.old y }
-        ensures { OnOk result (self.new ≡ with_rules (declassify_rules to pc x y) self.old) }
+        requires small { IsSmall (with_declassified to pc x y self.old) }
+        ensures { OnOk result (self.new ≡ with_declassified to pc x y self.old) }
     {
         self.add_rules(&[
             Lower::new(Part::conf(x), Bound::Constant(to)),
@@ -95,7 +99,8 @@ impl System {
         requires pc { IsPlaceOf self.old pc }
         requires x { IsPlaceOf self.old x }
         requires y { IsPlaceOf self.old y }
-        ensures { OnOk result (self.new ≡ with_checks (endorse_checks to x offset) (with_rules (endorse_rules to pc x y) self.old)) }
+        requires small { IsSmall (with_endorsed to pc x y offset self.old) }
+        ensures { OnOk result (self.new ≡ with_endorsed to pc x y offset self.old) }
     {
         self.add_rules(&[
             Lower::new(Part::conf(x), Bound::Same(Part::conf(y))),
@@ -117,7 +122,8 @@ impl System {
         requires host { IsLabelOf self.old host }
         requires pc { IsPlaceOf self.old pc }
         requires y { IsPlaceOf self.old y }
-        ensures { OnOk result (self.new ≡ with_checks (output_checks host pc y offset) (with_rules (output_rules host pc y) self.old)) }
+        requires small { IsSmall (with_output host pc y offset self.old) }
+        ensures { OnOk result (self.new ≡ with_output host pc y offset self.old) }
     {
         self.add_rules(&[
             Lower::new(Part::integ(y), Bound::Constant(host.integ)),
@@ -138,7 +144,8 @@ impl System {
     ) -> Result<(), AllocError>
         requires written { IsLabelOf self.old written }
         requires x { IsPlaceOf self.old x }
-        ensures { OnOk result (self.new ≡ with_checks (written_checks written x offset) (with_rules (written_rules written x) self.old)) }
+        requires small { IsSmall (with_label written x offset self.old) }
+        ensures { OnOk result (self.new ≡ with_label written x offset self.old) }
     {
         self.add_rules(&[
             Lower::new(Part::conf(x), Bound::Constant(written.conf)),

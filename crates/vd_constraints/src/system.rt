@@ -1,6 +1,6 @@
 //! Systems of rules and checks on the labels of slots and blocks.
 
-ghost use Rattle.std.specs.Prelude.{◌≡◌, ◌+◌, All, OnOk, IfOk};
+ghost use Rattle.std.specs.Prelude.{◌≡◌, ◌+◌, ◌^◌, ◌<◌, All, OnOk, length};
 ghost use Rattle.vd_constraints.specs.Systems.{IsSystem, IsRuleOf, IsCheckOf};
 ghost use Rattle.vd_constraints.specs.Rules.{conf, integ, rule, check, with_rules, with_checks, with_block};
 
@@ -174,36 +174,30 @@ impl System {
 
     /// Puts rules at the end.
     pub(crate) fn add_rules(&mut self, rules: &[Lower]) -> Result<(), AllocError>
-        requires { All (IsRuleOf self.old) rules.now }
+        requires fit { All (IsRuleOf self.old) rules.now }
+        requires few { length self.old.lower + length rules.now < 2 ^ 32 }
         ensures { OnOk result (self.new ≡ with_rules rules.now self.old) }
     {
-        if rules.len() > MAX_COUNT.saturating_sub(self.lower.as_slice().len()) {
-            return Err(AllocError);
-        }
         self.lower.extend_from_slice(rules)
     }
 
     /// Puts checks at the end.
     pub(crate) fn add_checks(&mut self, checks: &[Check]) -> Result<(), AllocError>
-        requires { All (IsCheckOf self.old) checks.now }
+        requires fit { All (IsCheckOf self.old) checks.now }
+        requires few { length self.old.checks + length checks.now < 2 ^ 32 }
         ensures { OnOk result (self.new ≡ with_checks checks.now self.old) }
     {
-        if checks.len() > MAX_COUNT.saturating_sub(self.checks.as_slice().len()) {
-            return Err(AllocError);
-        }
         self.checks.extend_from_slice(checks)
     }
 
-    /// Makes room for the label of one more block, and gives its number.
-    pub(crate) fn add_block(&mut self) -> Result<u32, AllocError>
-        ensures number { IfOk result (λ block. block ≡ self.old.blocks) }
-        ensures more { OnOk result (self.new ≡ with_block self.old) }
+    /// Has the label of one more block, and gives its number.
+    pub(crate) fn add_block(&mut self) -> u32
+        requires { self.old.blocks + 1 < 2 ^ 32 }
+        ensures number { result ≡ self.old.blocks }
+        ensures more { self.new ≡ with_block self.old }
     {
         let block = self.blocks;
-        self.blocks = block.checked_add(1).ok_or(AllocError)?;
-        Ok(block)
+        self.blocks = block + 1;
+        block
     }
 }
-
-/// The largest number of rules, and of checks. A program of 512 statements never reaches it.
-const MAX_COUNT: usize = 4_294_967_295;

@@ -4,6 +4,7 @@
 mod forms;
 mod made;
 mod names;
+mod scope;
 mod steps;
 mod visible;
 mod walk;

@@ -1,7 +1,8 @@
 //! The statements of a let-normal program as far as they are made.
 
-ghost use Rattle.std.specs.Prelude.{◌≡◌, ℕ, ◌+◌, [], IfOk, OnOk};
-ghost use Rattle.vd_normal.specs.Normal.{Made as Making, with_slot, with_stmt, with_name_at, with_body, nameless, named_slot, emitted, kind_at, emptied, renamed};
+ghost use Rattle.std.specs.Prelude.{◌≡◌, ◌+◌, [], IfOk, OnOk};
+ghost use Rattle.vd_normal.specs.Normal.{with_slot, with_stmt, with_name_at, with_body, nameless, named_slot, emitted, kind_at, emptied, renamed};
+ghost use Rattle.vd_elaborate.specs.Scopes.{Fits, Gives};
 
 use crate::forms::{copy_name, copy_optional};
 use std::alloc::{AllocError, Global};
@@ -54,14 +55,12 @@ impl Made {
         self.next
     }
 
-    /// Appends a statement that makes the next slot. Where no number is left, that is answered like want of memory.
+    /// Appends a statement that makes the next slot, and gives its number.
     pub(crate) fn add(&mut self, slot: Slot, stmt: Stmt) -> Result<u16, AllocError>
-        ensures { IfOk result (λ x. ◌≡◌ {A = ℕ × Making} (x, self.new) (with_slot slot stmt self.old)) }
+        requires { Fits (with_slot slot stmt self.old).1 }
+        ensures { Gives result self.new (with_slot slot stmt self.old) }
     {
         let next = self.next;
-        if next == u16::MAX {
-            return Err(AllocError);
-        }
         self.slots.push(slot)?;
         self.body.push(stmt)?;
         self.next = next + 1;
@@ -76,7 +75,8 @@ impl Made {
         kind: Kind,
         right: Right,
     ) -> Result<u16, AllocError>
-        ensures { IfOk result (λ x. ◌≡◌ {A = ℕ × Making} (x, self.new) (emitted here kind right self.old)) }
+        requires { Fits (emitted here kind right self.old).1 }
+        ensures { Gives result self.new (emitted here kind right self.old) }
     {
         let slot = nameless_slot(alloc, here, kind)?;
         let next = self.next();
@@ -115,15 +115,14 @@ impl Made {
     }
 
     /// Begins a block: its number.
-    pub(crate) fn begin_block(&mut self) -> Result<u32, AllocError>
-        ensures { IfOk result (λ block. ◌≡◌ {A = ℕ × Making} (block, self.new) (self.old.blocks, record { next = self.old.next; slots = self.old.slots; blocks = self.old.blocks + 1; body = self.old.body })) }
+    pub(crate) fn begin_block(&mut self) -> u32
+        requires { Fits (record self.old { blocks = self.old.blocks + 1 }) }
+        ensures number { result ≡ self.old.blocks }
+        ensures more { self.new ≡ record self.old { blocks = self.old.blocks + 1 } }
     {
         let block = self.blocks;
-        if block == u32::MAX {
-            return Err(AllocError);
-        }
         self.blocks = block + 1;
-        Ok(block)
+        block
     }
 
     /// Sets the statements so far aside.

@@ -1,9 +1,10 @@
 //! The single steps by which a let-normal form is made.
 
-ghost use Rattle.std.specs.Prelude.{◌≡◌, ℕ, [], ◌∷◌, IfOk, OnOk};
+ghost use Rattle.std.specs.Prelude.{◌≡◌, [], ◌∷◌, IfOk, OnOk};
 ghost use Rattle.vd_meaning.specs.SourceMeaning.{host_names};
-ghost use Rattle.vd_normal.specs.Normal.{Made as Making, emitted, lowering, infix_right, infix_kind, prefix_op, prefix_kind, prefixes_made, shift_op, name_made, get_made, copied, stored, put_made, scale_of, operation_made, kind_at, two as two_slots};
+ghost use Rattle.vd_normal.specs.Normal.{emitted, lowering, infix_right, infix_kind, prefix_op, prefix_kind, prefixes_made, shift_op, name_made, get_made, copied, stored, put_made, scale_of, operation_made, kind_at, two as two_slots};
 ghost use Rattle.vd_elaborate.specs.Seen.{seen};
+ghost use Rattle.vd_elaborate.specs.Scopes.{Fits, Gives};
 
 use crate::made::Made;
 use crate::names::find;
@@ -41,7 +42,8 @@ pub(crate) fn prefixes(
     operand: u16,
     signs: &[Sign],
 ) -> Result<u16, AllocError>
-    ensures { IfOk result (λ r. ◌≡◌ {A = ℕ × Making} (r, made.new) (prefixes_made signs.now here operand made.old)) }
+    requires { Fits (prefixes_made signs.now here operand made.old).1 }
+    ensures { Gives result made.new (prefixes_made signs.now here operand made.old) }
 {
     let mut x = operand;
     for sign in signs {
@@ -115,7 +117,8 @@ pub(crate) fn operation(
     kind: Kind,
     slots: &[SlotId],
 ) -> Result<u16, AllocError>
-    ensures { IfOk result (λ x. ◌≡◌ {A = ℕ × Making} (x, made.new) (emitted here kind (Right.Apply op slots.now) made.old)) }
+    requires { Fits (emitted here kind (Right.Apply op slots.now) made.old).1 }
+    ensures { Gives result made.new (emitted here kind (Right.Apply op slots.now) made.old) }
 {
     let slots = Items::from_slice(alloc, slots)?;
     made.emit(alloc, here, kind, Right::Apply(op, slots))
@@ -128,7 +131,8 @@ pub(crate) fn of_name(
     here: Here,
     spot: Option<Spot>,
 ) -> Result<u16, AllocError>
-    ensures { IfOk result (λ x. ◌≡◌ {A = ℕ × Making} (x, made.new) (name_made spot here made.old)) }
+    requires { Fits (name_made spot here made.old).1 }
+    ensures { Gives result made.new (name_made spot here made.old) }
 {
     match spot {
         None => made.emit(alloc, here, Kind::Word, Right::Lit(0)),
@@ -149,7 +153,8 @@ pub(crate) fn of_element(
     spot: Option<Spot>,
     index: u16,
 ) -> Result<u16, AllocError>
-    ensures { IfOk result (λ x. ◌≡◌ {A = ℕ × Making} (x, made.new) (get_made spot here (index, made.old))) }
+    requires { Fits (get_made spot here (index, made.old)).1 }
+    ensures { Gives result made.new (get_made spot here (index, made.old)) }
 {
     match spot {
         None => made.emit(alloc, here, Kind::Word, Right::Lit(0)),
@@ -170,7 +175,8 @@ pub(crate) fn copy(
     is_plain: bool,
     slot: u16,
 ) -> Result<u16, AllocError>
-    ensures { IfOk result (λ x. ◌≡◌ {A = ℕ × Making} (x, made.new) (copied is_plain here (slot, made.old))) }
+    requires { Fits (copied is_plain here (slot, made.old)).1 }
+    ensures { Gives result made.new (copied is_plain here (slot, made.old)) }
 {
     if is_plain {
         let kind = made.kind(slot);
@@ -251,7 +257,8 @@ pub(crate) fn choose(
     y: u16,
     z: u16,
 ) -> Result<u16, AllocError>
-    ensures { IfOk result (λ r. ◌≡◌ {A = ℕ × Making} (r, made.new) (operation_made Op.Mux (kind_at made.old y) here (x ∷ y ∷ z ∷ [], made.old))) }
+    requires { Fits (operation_made Op.Mux (kind_at made.old y) here (x ∷ y ∷ z ∷ [], made.old)).1 }
+    ensures { Gives result made.new (operation_made Op.Mux (kind_at made.old y) here (x ∷ y ∷ z ∷ [], made.old)) }
 {
     let kind = made.kind(y);
     operation(

@@ -1,15 +1,17 @@
 //! The walk over a source that makes its let-normal form.
 
-ghost use Rattle.std.specs.Prelude.{◌≡◌, ℕ, [], ◌∷◌, ◌++◌, IfOk, OnOk, List, map};
-ghost use Rattle.vd_base.specs.Names.{at_name};
-ghost use Rattle.vd_meaning.specs.SourceMeaning.{host_names, source_outputs};
-ghost use Rattle.vd_meaning.specs.ProgramMeaning.{program_outputs};
-ghost use Rattle.vd_normal.specs.Normal.{Made as Making, Place, lowering, lowering_of_link, chain_made, all_made, call_made, lowering_of, statements_made, inner_made, loop_made, with_body, inlining_of, inlinings_of, main_made, host_id, normal_form, written};
+ghost use Rattle.std.specs.Prelude.{◌≡◌, ◌≤◌, IfOk, OnOk, length, map};
+ghost use Rattle.vd_base.specs.Limits.{most_hosts};
+ghost use Rattle.vd_meaning.specs.SourceMeaning.{host_names};
+ghost use Rattle.vd_normal.specs.Normal.{main_made, host_id, normal_form, written};
+ghost use Rattle.vd_elaborate.specs.Outputs.{KeepsOutputs};
 ghost use Rattle.vd_elaborate.specs.Seen.{seen};
+ghost use Rattle.vd_elaborate.specs.Scopes.{Fits, Gives, lowered, all_lowered, linked, chained, called, entered, place as at, stated, sequenced, inside, both, branched, in_turn, around};
 
 use crate::forms::{copy_form, copy_label, copy_name};
 use crate::made::{Made, slot_of_name};
 use crate::names::{add, bind, find};
+use crate::scope::Scope;
 use crate::steps::{
     choose, copy, factor, infix, infix_gives, is_plain, of_element, of_name, operation, prefixes,
     put, shift_operation, store,
@@ -26,22 +28,12 @@ use vd_normal::here::Here;
 use vd_normal::spot::Spot;
 use vd_resolve::Resolved;
 
-/// The number of a host. One that 8 bits cannot number is answered like want of memory.
-fn host_of(hosts: &[Host], host: &Ident) -> Result<HostId, AllocError>
-    ensures { IfOk result (λ id. id ≡ host_id (host_names hosts.now) host.now) }
+/// The number of a host.
+fn host_of(hosts: &[Host], host: &Ident) -> HostId
+    requires { length hosts.now ≤ most_hosts }
+    ensures { result ≡ host_id (host_names hosts.now) host.now }
 {
-    match u8::try_from(place(hosts, host.name.as_slice())) {
-        Ok(at) => Ok(HostId(at)),
-        Err(_) => Err(AllocError),
-    }
-}
-
-/// What a statement sees besides the names of values: the hosts, and the functions before it.
-#[derive(Drop)]
-struct Scope<'a> {
-    alloc: Global,
-    hosts: &'a [Host],
-    functions: &'a [Function],
+    HostId(place(hosts, host.name.as_slice()) as u8)
 }
 
 impl<'a> Scope<'a> {
@@ -54,7 +46,8 @@ impl<'a> Scope<'a> {
         here: Here,
         expr: &Expr,
     ) -> Result<u16, AllocError>
-        ensures { IfOk result (λ x. ◌≡◌ {A = ℕ × Making} (x, made.new) ((lowering (host_names self.now.hosts.now) expr.now).run (inlinings_of (host_names self.now.hosts.now) self.now.functions.now) (seen names.now) here made.old)) }
+        requires { Fits (lowered self.now names.now here expr.now made.old).1 }
+        ensures { Gives result made.new (lowered self.now names.now here expr.now made.old) }
     {
         match expr {
             Expr::Number(number) => made.emit(self.alloc, here, Kind::Word, Right::Lit(*number)),
@@ -76,7 +69,7 @@ impl<'a> Scope<'a> {
                 )
             }
             Expr::Input(host) => {
-                let host = host_of(self.hosts, host)?;
+                let host = host_of(self.hosts, host);
                 made.emit(self.alloc, here, Kind::Word, Right::Input(host))
             }
             Expr::Call(name, arguments) => {
@@ -147,7 +140,8 @@ impl<'a> Scope<'a> {
         first: u16,
         links: &[Link],
     ) -> Result<u16, AllocError>
-        ensures { IfOk result (λ x. ◌≡◌ {A = ℕ × Making} (x, made.new) (chain_made (map (lowering_of_link (host_names self.now.hosts.now)) links.now) (inlinings_of (host_names self.now.hosts.now) self.now.functions.now) (seen names.now) here first made.old)) }
+        requires { Fits (chained self.now names.now here links.now first made.old).1 }
+        ensures { Gives result made.new (chained self.now names.now here links.now first made.old) }
     {
         let mut x = first;
         for link in links {
@@ -166,7 +160,8 @@ impl<'a> Scope<'a> {
         x: u16,
         link: &Link,
     ) -> Result<u16, AllocError>
-        ensures { IfOk result (λ r. ◌≡◌ {A = ℕ × Making} (r, made.new) (lowering_of_link (host_names self.now.hosts.now) link.now (inlinings_of (host_names self.now.hosts.now) self.now.functions.now) (seen names.now) here x made.old)) }
+        requires { Fits (linked self.now names.now here link.now x made.old).1 }
+        ensures { Gives result made.new (linked self.now names.now here link.now x made.old) }
     {
         match link {
             Link::Infix(op, _, right) => match factor(self.hosts, *op, right) {
@@ -209,7 +204,8 @@ impl<'a> Scope<'a> {
         here: Here,
         exprs: &[Expr],
     ) -> Result<Items<u16>, AllocError>
-        ensures { IfOk result (λ xs. ◌≡◌ {A = List ℕ × Making} (xs, made.new) (all_made (map (lowering (host_names self.now.hosts.now)) exprs.now) (inlinings_of (host_names self.now.hosts.now) self.now.functions.now) (seen names.now) here made.old)) }
+        requires { Fits (all_lowered self.now names.now here exprs.now made.old).1 }
+        ensures { Gives result made.new (all_lowered self.now names.now here exprs.now made.old) }
     {
         let mut slots = Items::new(self.alloc);
         for expr in exprs {
@@ -228,7 +224,8 @@ impl<'a> Scope<'a> {
         name: &[u8],
         slots: &[u16],
     ) -> Result<u16, AllocError>
-        ensures { IfOk result (λ x. ◌≡◌ {A = ℕ × Making} (x, made.new) (call_made (at_name (inlinings_of (host_names self.now.hosts.now) self.now.functions.now) name.now) here (slots.now, made.old))) }
+        requires { Fits (called self.now here name.now slots.now made.old).1 }
+        ensures { Gives result made.new (called self.now here name.now slots.now made.old) }
     {
         for k in 0..self.functions.len() {
             let function = &self.functions[k];
@@ -253,7 +250,8 @@ impl<'a> Scope<'a> {
         here: Here,
         slots: &[u16],
     ) -> Result<u16, AllocError>
-        ensures { IfOk result (λ x. ◌≡◌ {A = ℕ × Making} (x, made.new) (inlining_of (host_names self.now.hosts.now) function.now (inlinings_of (host_names self.now.hosts.now) self.now.functions.now) here slots.now made.old)) }
+        requires { Fits (entered self.now here function.now slots.now made.old).1 }
+        ensures { Gives result made.new (entered self.now here function.now slots.now made.old) }
     {
         let mut names = bind(self.alloc, function.parameters.as_slice(), slots)?;
         self.sequence(&mut names, made, here.block, function.body.as_slice())?;
@@ -269,7 +267,8 @@ impl<'a> Scope<'a> {
         block: u32,
         statements: &[Statement],
     ) -> Result<(), AllocError>
-        ensures { OnOk result (◌≡◌ {A = Place} (record { names = seen names.new.items; made = made.new }) (statements_made (map (lowering_of (host_names self.now.hosts.now)) statements.now) (inlinings_of (host_names self.now.hosts.now) self.now.functions.now) block (record { names = seen names.old.items; made = made.old }))) }
+        requires { Fits (sequenced self.now block statements.now (at names.old.items made.old)).made }
+        ensures { OnOk result (at names.new.items made.new ≡ sequenced self.now block statements.now (at names.old.items made.old)) }
     {
         for statement in statements {
             self.statement(names, made, block, statement)?;
@@ -286,7 +285,8 @@ impl<'a> Scope<'a> {
         block: u32,
         statement: &Statement,
     ) -> Result<(), AllocError>
-        ensures { OnOk result (◌≡◌ {A = Place} (record { names = seen names.new.items; made = made.new }) (lowering_of (host_names self.now.hosts.now) statement.now (inlinings_of (host_names self.now.hosts.now) self.now.functions.now) block (record { names = seen names.old.items; made = made.old }))) }
+        requires { Fits (stated self.now block statement.now (at names.old.items made.old)).made }
+        ensures { OnOk result (at names.new.items made.new ≡ stated self.now block statement.now (at names.old.items made.old)) }
     {
         match statement {
             Statement::Let {
@@ -361,7 +361,7 @@ impl<'a> Scope<'a> {
                     block,
                 };
                 let x = self.lower(names.as_slice(), made, here, value)?;
-                let host = host_of(self.hosts, host)?;
+                let host = host_of(self.hosts, host);
                 made.push(Stmt::Output(SlotId(x), host, at.start))
             }
             Statement::If {
@@ -375,7 +375,7 @@ impl<'a> Scope<'a> {
                     block,
                 };
                 let x = self.lower(names.as_slice(), made, here, guard)?;
-                let inner = made.begin_block()?;
+                let inner = made.begin_block();
                 let (then_body, else_body) = self.branches(
                     names,
                     made,
@@ -412,9 +412,10 @@ impl<'a> Scope<'a> {
         then_block: &[Statement],
         else_block: &[Statement],
     ) -> Result<(Items<Stmt>, Items<Stmt>), AllocError>
-        ensures then_body { IfOk result (λ bodies. bodies.0 ≡ (inner_made (map (lowering_of (host_names self.now.hosts.now)) then_block.now) (inlinings_of (host_names self.now.hosts.now) self.now.functions.now) block (seen names.old.items) made.old).body) }
-        ensures else_body { IfOk result (λ bodies. bodies.1 ≡ (inner_made (map (lowering_of (host_names self.now.hosts.now)) else_block.now) (inlinings_of (host_names self.now.hosts.now) self.now.functions.now) block (seen names.old.items) (inner_made (map (lowering_of (host_names self.now.hosts.now)) then_block.now) (inlinings_of (host_names self.now.hosts.now) self.now.functions.now) block (seen names.old.items) made.old)).body) }
-        ensures made { OnOk result (made.new ≡ with_body made.old.body (inner_made (map (lowering_of (host_names self.now.hosts.now)) else_block.now) (inlinings_of (host_names self.now.hosts.now) self.now.functions.now) block (seen names.old.items) (inner_made (map (lowering_of (host_names self.now.hosts.now)) then_block.now) (inlinings_of (host_names self.now.hosts.now) self.now.functions.now) block (seen names.old.items) made.old))) }
+        requires { Fits (both self.now block names.old.items then_block.now else_block.now made.old) }
+        ensures then_body { IfOk result (λ b. b.0 ≡ (inside self.now block names.old.items then_block.now made.old).body) }
+        ensures else_body { IfOk result (λ b. b.1 ≡ (both self.now block names.old.items then_block.now else_block.now made.old).body) }
+        ensures made { OnOk result (made.new ≡ branched self.now block names.old.items then_block.now else_block.now made.old) }
         ensures names { OnOk result (seen names.new.items ≡ seen names.old.items) }
     {
         let then_body = self.inner(names, made, block, then_block)?;
@@ -431,8 +432,9 @@ impl<'a> Scope<'a> {
         block: u32,
         body: &[Statement],
     ) -> Result<Items<Stmt>, AllocError>
-        ensures body { IfOk result (λ stmts. stmts ≡ (inner_made (map (lowering_of (host_names self.now.hosts.now)) body.now) (inlinings_of (host_names self.now.hosts.now) self.now.functions.now) block (seen names.old.items) made.old).body) }
-        ensures made { OnOk result (made.new ≡ with_body made.old.body (inner_made (map (lowering_of (host_names self.now.hosts.now)) body.now) (inlinings_of (host_names self.now.hosts.now) self.now.functions.now) block (seen names.old.items) made.old)) }
+        requires { Fits (inside self.now block names.old.items body.now made.old) }
+        ensures body { IfOk result (λ stmts. stmts ≡ (inside self.now block names.old.items body.now made.old).body) }
+        ensures made { OnOk result (made.new ≡ around made.old (inside self.now block names.old.items body.now made.old)) }
         ensures names { OnOk result (seen names.new.items ≡ seen names.old.items) }
     {
         let outer = made.set_aside(self.alloc);
@@ -452,8 +454,9 @@ impl<'a> Scope<'a> {
         name: &Ident,
         body: &[Statement],
     ) -> Result<Items<Stmt>, AllocError>
-        ensures body { IfOk result (λ stmts. stmts ≡ (loop_made name.now (map (lowering_of (host_names self.now.hosts.now)) body.now) (inlinings_of (host_names self.now.hosts.now) self.now.functions.now) here (seen names.old.items) made.old).body) }
-        ensures made { OnOk result (made.new ≡ with_body made.old.body (loop_made name.now (map (lowering_of (host_names self.now.hosts.now)) body.now) (inlinings_of (host_names self.now.hosts.now) self.now.functions.now) here (seen names.old.items) made.old)) }
+        requires { Fits (in_turn self.now here name.now names.old.items body.now made.old) }
+        ensures body { IfOk result (λ stmts. stmts ≡ (in_turn self.now here name.now names.old.items body.now made.old).body) }
+        ensures made { OnOk result (made.new ≡ around made.old (in_turn self.now here name.now names.old.items body.now made.old)) }
         ensures names { OnOk result (seen names.new.items ≡ seen names.old.items) }
     {
         let outer = made.set_aside(self.alloc);
@@ -502,6 +505,8 @@ fn all_labels(alloc: Global, hosts: &[Host]) -> Result<Items<Written>, AllocErro
 }
 
 fn make_main(alloc: Global, source: &Source) -> Result<Made, AllocError>
+    requires few_hosts { length source.now.hosts ≤ most_hosts }
+    requires fits { Fits (main_made source.now) }
     ensures { IfOk result (λ made. made ≡ main_made source.now) }
 {
     let scope = Scope {
@@ -515,19 +520,18 @@ fn make_main(alloc: Global, source: &Source) -> Result<Made, AllocError>
     Ok(made)
 }
 
-/// The let-normal form of a source, with every call inlined.
-///
-/// A resolved source makes far fewer slots than 16 bits can number. Were there more, they would be answered like want
-/// of memory.
+/// The let-normal form of a source, with every call inlined. Only want of memory refuses it.
 pub fn elaborate(alloc: Global, resolved: &Resolved) -> Result<Program, AllocError>
     ensures form { IfOk result (λ program. program ≡ normal_form resolved.now) }
-    ensures outputs { IfOk result (λ program. (inputs : List (List ℕ)) → program_outputs program inputs ≡ source_outputs resolved.now inputs) }
+    ensures outputs { IfOk result (KeepsOutputs resolved.now) }
 {
     let form = make_form(alloc, resolved.source())?;
     Ok(Program::new(form))
 }
 
 fn make_form(alloc: Global, source: &Source) -> Result<NormalForm, AllocError>
+    requires few_hosts { length source.now.hosts ≤ most_hosts }
+    requires fits { Fits (main_made source.now) }
     ensures { IfOk result (λ form. form ≡ normal_form source.now) }
 {
     let principals = all_names(alloc, source.principals.as_slice())?;

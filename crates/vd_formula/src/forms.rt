@@ -1,4 +1,4 @@
-ghost use Rattle.std.specs.Prelude.{◌≡◌, ◌≤◌, IfOk, IfErr, None, OnOk, length, position};
+ghost use Rattle.std.specs.Prelude.{◌≡◌, ◌≤◌, IfOk, IfErr, IsOk, None, OnOk, length, position};
 ghost use Rattle.std.specs.List.{list_any};
 ghost use Rattle.std.specs.Option.{option_copied};
 ghost use Rattle.std.specs.Str.{bytes_eq};
@@ -36,6 +36,7 @@ impl Formula {
         requires { length names.now ≤ most_principals }
         ensures formula { IfOk result (λ formula. formula ≡ formula_of form.now names.now) }
         ensures names { IfOk result (λ formula. formula.names ≡ length names.now) }
+        ensures succeeds { first_unknown names.now form.now ≡ None → IsOk result }
         ensures known { OnOk result (first_unknown names.now form.now ≡ None) }
         ensures fault { IfErr result (IsFaultOf names.now form.now) }
     {

@@ -18,7 +18,7 @@ use Rattle.vd_core.specs.declared.source.Sign.{Sign}
 use Rattle.vd_core.specs.declared.source.Link.{Link}
 use Rattle.vd_core.specs.declared.source.Expr.{Expr, roll-Expr}
 use Rattle.vd_core.specs.declared.source.Expr.TheOpen.{Expr-F, Link-F}
-use Rattle.vd_core.specs.declared.source.Expr.TheFolds.{map-Expr, map-Link, ind-Expr, fold-roll-Expr, fold-roll-Link}
+use Rattle.vd_core.specs.declared.source.Expr.TheFolds.{map-Expr, map-Link, ind-Expr, ind-Link, fold-roll-Expr, fold-roll-Link}
 use Rattle.vd_core.specs.declared.source.Expr.TheViews.{roll-Link}
 use Rattle.vd_normal.specs.declared.here.Here.{Here}
 use Rattle.vd_normal.specs.declared.spot.Spot.{Spot}
@@ -106,11 +106,11 @@ module _ (hosts : List (List ℕ)) (tests : Tests) (W : Type 0) (Keeps : W → M
   get_makes (Some (Variable k)) here w p at h = emit_makes w p.1 here Word (Lit 0) tt
   get_makes (Some (Array k)) here w p at h = emit_makes w p.1 here (kind_at p.1 k) (Get (slot k) (slot p.0)) (h (Array k) refl, at)
 
-  abbrev MaybeCall : Option Inlining → Type 0
+  abbrev pub MaybeCall : Option Inlining → Type 0
   MaybeCall None = Unit {0}
   MaybeCall (Some c) = CallKeeps c
 
-  at_calls : (is : Named Inlining) (f : List ℕ) → Calls is → MaybeCall (at_name is f)
+  pub at_calls : (is : Named Inlining) (f : List ℕ) → Calls is → MaybeCall (at_name is f)
   at_calls [] f h = tt
   at_calls (c ∷ cs) f h =
       elim (bytes_eq c.0 f) as (λ b. MaybeCall (if b then Some c.1 else at_name cs f)) [
@@ -118,7 +118,7 @@ module _ (hosts : List (List ℕ)) (tests : Tests) (W : Type 0) (Keeps : W → M
         | false ↦ at_calls cs f h.1
       ]
 
-  call_makes : (o : Option Inlining) → MaybeCall o → (here : Here) (w : W) (p : List ℕ × Made) → Bindings w p.1 p.0 → Makes w p.1 (call_made o here p)
+  pub call_makes : (o : Option Inlining) → MaybeCall o → (here : Here) (w : W) (p : List ℕ × Made) → Bindings w p.1 p.0 → Makes w p.1 (call_made o here p)
   call_makes None c here w p h = emit_makes w p.1 here Word (Lit 0) tt
   call_makes (Some i) c here w p h = c w here p.0 p.1 h
 
@@ -283,5 +283,10 @@ module _ (hosts : List (List ℕ)) (tests : Tests) (W : Type 0) (Keeps : W → M
 
   pub expr_keeps : (e : Expr) → passes hosts tests e ≡ true → ExprKeeps (lowering hosts e)
   expr_keeps = ind-Expr (λ e. passes hosts tests e ≡ true → ExprKeeps (lowering hosts e)) (λ l. passes_link hosts tests l ≡ true → LinkKeeps (lowering_of_link hosts l))
+      (λ x y is. subst (λ z. passes hosts tests (roll-Expr z) ≡ true → ExprKeeps (lowering hosts (roll-Expr z))) is (at_roll y))
+      (λ x y is. subst (λ z. passes_link hosts tests (roll-Link z) ≡ true → LinkKeeps (lowering_of_link hosts (roll-Link z))) is (at_link_roll y))
+
+  pub link_keeps : (l : Link) → passes_link hosts tests l ≡ true → LinkKeeps (lowering_of_link hosts l)
+  link_keeps = ind-Link (λ e. passes hosts tests e ≡ true → ExprKeeps (lowering hosts e)) (λ l. passes_link hosts tests l ≡ true → LinkKeeps (lowering_of_link hosts l))
       (λ x y is. subst (λ z. passes hosts tests (roll-Expr z) ≡ true → ExprKeeps (lowering hosts (roll-Expr z))) is (at_roll y))
       (λ x y is. subst (λ z. passes_link hosts tests (roll-Link z) ≡ true → LinkKeeps (lowering_of_link hosts (roll-Link z))) is (at_link_roll y))

@@ -21,5 +21,6 @@ pub mod Alike
 pub mod ExprFits
 pub mod SourceFits
 pub mod Exact
+pub mod Growth
 pub mod WellMade
 pub mod Examples

@@ -3,7 +3,7 @@ use Rattle.std.proofs.Common.{◌≡◌, Bool, true, List, [], ◌∷◌, map, O
 use Rattle.vd_core.specs.declared.source.Link.{Link}
 use Rattle.vd_core.specs.declared.source.Expr.{Expr, roll-Expr}
 use Rattle.vd_core.specs.declared.source.Expr.TheOpen.{Expr-F, Link-F}
-use Rattle.vd_core.specs.declared.source.Expr.TheFolds.{map-Expr, map-Link, ind-Expr, fold-roll-Expr, fold-roll-Link}
+use Rattle.vd_core.specs.declared.source.Expr.TheFolds.{map-Expr, map-Link, ind-Expr, ind-Link, fold-roll-Expr, fold-roll-Link}
 use Rattle.vd_core.specs.declared.source.Expr.TheViews.{roll-Link}
 use Rattle.vd_core.specs.declared.source.WrittenLabel.{WrittenLabel}
 use Rattle.vd_core.specs.declared.source.Statement.{Statement, roll-Statement, map-Statement, ind-Statement}
@@ -12,7 +12,7 @@ use Rattle.vd_core.specs.declared.source.Statement.TheFolds.{fold-roll-Statement
 use Rattle.vd_core.specs.declared.source.Function.{Function}
 use Rattle.vd_core.specs.declared.source.Source.{Source}
 use Rattle.vd_meaning.specs.SourceMeaning.{host_names}
-use Rattle.vd_kept.proofs.Tests.{Tests, all_true, label_passes, expr_passes, link_passes, passes, passes_link, statement_passes, passes_statement, functions_pass}
+use Rattle.vd_kept.proofs.Tests.{Tests, all_true, label_passes, expr_passes, link_passes, passes, passes_link, statement_passes, passes_statement, passes_function, functions_pass}
 use Rattle.vd_kept.proofs.Walk.{source_passes}
 
 abbrev pub always : Tests
@@ -69,8 +69,13 @@ module _ (hosts : List (List ℕ)) where
   at_link_roll : (y : Link-F E L) → passes_link hosts always (roll-Link (link_layer y)) ≡ true
   at_link_roll y = subst (λ (b : Bool). b ≡ true) (sym (fold-roll-Link Bool Bool (expr_passes hosts always) (link_passes always) (link_layer y))) (link_step y)
 
-  expr_always : (e : Expr) → passes hosts always e ≡ true
+  pub expr_always : (e : Expr) → passes hosts always e ≡ true
   expr_always = ind-Expr (λ e. passes hosts always e ≡ true) (λ l. passes_link hosts always l ≡ true)
+      (λ x y is. subst (λ z. passes hosts always (roll-Expr z) ≡ true) is (at_roll y))
+      (λ x y is. subst (λ z. passes_link hosts always (roll-Link z) ≡ true) is (at_link_roll y))
+
+  pub link_always : (l : Link) → passes_link hosts always l ≡ true
+  link_always = ind-Link (λ e. passes hosts always e ≡ true) (λ l. passes_link hosts always l ≡ true)
       (λ x y is. subst (λ z. passes hosts always (roll-Expr z) ≡ true) is (at_roll y))
       (λ x y is. subst (λ z. passes_link hosts always (roll-Link z) ≡ true) is (at_link_roll y))
 
@@ -94,16 +99,19 @@ module _ (hosts : List (List ℕ)) where
   statement_step (Statement-F.If at c a b) = rw (expr_always c, statements a, statements b) refl
   statement_step (Statement-F.For at x count body) = statements body
 
-  statement_always : (s : Statement) → passes_statement hosts always s ≡ true
+  pub statement_always : (s : Statement) → passes_statement hosts always s ≡ true
   statement_always = ind-Statement (λ s. passes_statement hosts always s ≡ true)
       (λ x y is. subst (λ z. passes_statement hosts always (roll-Statement z) ≡ true) is
       (subst (λ (b : Bool). b ≡ true) (sym (fold-roll-Statement Bool (statement_passes hosts always) (layer y))) (statement_step y)))
 
-  body_always : (ss : List Statement) → all_true (map (passes_statement hosts always) ss) ≡ true
+  pub body_always : (ss : List Statement) → all_true (map (passes_statement hosts always) ss) ≡ true
   body_always [] = refl
   body_always (s ∷ ss) = rw (statement_always s, body_always ss) refl
 
-  functions_always : (fs : List Function) → functions_pass hosts always fs ≡ true
+  pub function_always : (f : Function) → passes_function hosts always f ≡ true
+  function_always f = rw (body_always f.body, expr_always f.gives) refl
+
+  pub functions_always : (fs : List Function) → functions_pass hosts always fs ≡ true
   functions_always [] = refl
   functions_always (f ∷ fs) = rw (body_always f.body, expr_always f.gives, functions_always fs) refl
 

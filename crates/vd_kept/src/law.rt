@@ -1,9 +1,10 @@
 //! Laws of the let-normal form of a source. Nothing is computed.
 
-ghost use Rattle.std.specs.Prelude.{◌≡◌, ◌+◌, Ok};
+ghost use Rattle.std.specs.Prelude.{◌≡◌, ◌+◌, ◌≤◌, Ok};
 ghost use Rattle.vd_core.specs.Facts.{SlotsInOrder, SlotsMadeBefore, OperandsFit, ShiftsFit, TurnsInLoops, AreNames, HostsDeclared, PrincipalsDeclared, LabelForEachHost, WithinLimits, IsWellMade, statement_count, weight_sum, nesting, cell_count};
+ghost use Rattle.vd_core.specs.declared.source.Source.{Source as Tree};
 ghost use Rattle.vd_core.specs.Named.{HasNames};
-ghost use Rattle.vd_normal.specs.Normal.{normal_form};
+ghost use Rattle.vd_normal.specs.Normal.{main_made, normal_form};
 ghost use Rattle.vd_kept.specs.Calls.{inlined_calls};
 ghost use Rattle.vd_resolve.specs.Limits.{IsResolved};
 ghost use Rattle.vd_resolve.specs.Rules.{source_check};
@@ -64,6 +65,12 @@ pub fn counts_are_exact(_source: &Source)
     ensures weights { source_check _source.now ≡ Ok tt → (source_size _source.now).weights ≡ weight_sum (normal_form _source.now).body }
     ensures nesting { source_check _source.now ≡ Ok tt → (source_size _source.now).nesting ≡ nesting (normal_form _source.now).body }
     ensures cells { source_check _source.now ≡ Ok tt → (source_size _source.now).cells ≡ cell_count (normal_form _source.now).body }
+{}
+
+/// The slots, and the blocks other than that of main, are together at most as many as the statements. Holds of every
+/// tree.
+pub fn slots_and_blocks_are_few()
+    ensures { (source : Tree) → (main_made source).next + (main_made source).blocks ≤ statement_count (main_made source).body + 1 }
 {}
 
 /// All that is counted is within its limit.

@@ -86,7 +86,7 @@ impl SureNet {
         ensures err { OnErr result (self.new ≡ self.old) }
     {
         let empty = SureLink::new(self.alloc, Bytes::new(self.alloc), self.room)?;
-        let links = self.links.checked_add(1).ok_or(CallFault::Memory)?;
+        let links = self.links + 1;
         if self.back.len() < links {
             self.back.reserve(links - self.back.len())?;
         }
@@ -137,9 +137,9 @@ impl Net for SureNet {
         let listener = Text::copy_of(self.alloc, address)?;
         let number = self.listeners.len() as u32;
         self.listeners.push(listener)?;
-        if self.asked.push(call).is_err() {
+        if let Err(error) = self.asked.push(call) {
             self.listeners.pop();
-            return Err(CallFault::Memory);
+            return Err(error.into());
         }
         Ok(number)
     }

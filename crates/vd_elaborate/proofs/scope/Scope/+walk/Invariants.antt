@@ -4,7 +4,7 @@ use Rattle.vd_meaning.specs.SourceMeaning.{host_names}
 use Rattle.vd_meaning.proofs.Sizes.{code_size, size_of, sizes, function_size}
 use Rattle.vd_normal.specs.Normal.{Made, lowering, lowering_of_link, chain_made, all_made, lowering_of, statements_made, inlinings_of}
 use Rattle.vd_elaborate.specs.Seen.{seen}
-use Rattle.vd_elaborate.proofs.walk.Scope.+walk.Given as goal
+use Rattle.vd_elaborate.proofs.scope.Scope.+walk.Given as goal
 
 abbrev pub decreases-lower : goal.decreases-lower
 decreases-lower l = 4 * (code_size l.self.now.functions.now + goal.size-lower l)
