@@ -1,6 +1,6 @@
 //! The reader of inputs.
 
-ghost use Rattle.std.specs.Prelude.{◌≡◌, ◌≢◌, ℕ, ◌<◌, ◌≤◌, map, length, replicate, IfOk, IfErr, OnOk, MatchResult};
+ghost use Rattle.std.specs.Prelude.{◌≡◌, ◌≢◌, ℕ, ◌<◌, ◌≤◌, map, length, replicate, IfOk, IfErr, OnOk, MatchResult, List};
 ghost use Rattle.vd_report.specs.declared.token.TokenKind.TheVariants as token_kind;
 ghost use Rattle.vd_report.specs.Inputs.{Sections, words_of, between, named, go, stop, step, at_colon, Ends, Fails, inputs_read};
 ghost use Rattle.vd_report.specs.InputsText.{GivesInputs, IsInputsText, InputsFollowGrammar};
@@ -135,9 +135,6 @@ fn read_words(alloc: Global, bytes: &[u8], start: usize) -> Result<(Words, usize
 }
 
 /// Each inputs file either is a text of the grammar, and gives the words of its sections, or has one first token that cannot stand there, and the fault of that token.
-pub fn inputs_follow_the_grammar(bytes: &[u8], hosts: &Names)
-    ensures { InputsFollowGrammar hosts.now bytes.now }
-{
-    let _ = bytes;
-    let _ = hosts;
-}
+pub fn inputs_follow_the_grammar()
+    ensures { (hosts : List (List ℕ)) (bytes : List ℕ) → InputsFollowGrammar hosts bytes }
+{}

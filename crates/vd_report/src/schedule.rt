@@ -105,9 +105,6 @@ fn expect_end(token: Token) -> Result<(), ReadFault>
 }
 
 /// Each schedule file either is a text of the grammar, and gives its schedule, or has one first token that cannot stand there, and the fault of that token.
-pub fn schedules_follow_the_grammar(bytes: &[u8], hosts: &Names)
-    ensures { SchedulesFollowGrammar hosts.now bytes.now }
-{
-    let _ = bytes;
-    let _ = hosts;
-}
+pub fn schedules_follow_the_grammar()
+    ensures { (hosts : List (List ℕ)) (bytes : List ℕ) → SchedulesFollowGrammar hosts bytes }
+{}

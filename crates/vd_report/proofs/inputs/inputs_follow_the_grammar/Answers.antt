@@ -2,4 +2,4 @@ use Rattle.vd_report.proofs.InputsFaults.{follows_grammar}
 use Rattle.vd_report.proofs.inputs.inputs_follow_the_grammar.Goals as goal
 
 pub returns : goal.returns
-returns c = follows_grammar c.args.hosts.now c.args.bytes.now
+returns c = follows_grammar

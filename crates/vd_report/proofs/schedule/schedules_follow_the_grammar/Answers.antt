@@ -2,4 +2,4 @@ use Rattle.vd_report.proofs.ScheduleFaults.{schedules_follow}
 use Rattle.vd_report.proofs.schedule.schedules_follow_the_grammar.Goals as goal
 
 pub returns : goal.returns
-returns c = schedules_follow c.args.hosts.now c.args.bytes.now
+returns c = schedules_follow
