@@ -3,8 +3,8 @@ use Rattle.vd_kept.proofs.law.counts_are_exact.Goals as goal
 
 pub returns : goal.returns
 returns c = record {
-  statements = exact_statements c.args._source.now;
-  weights = exact_weights c.args._source.now;
-  nesting = exact_nesting c.args._source.now;
-  cells = exact_cells c.args._source.now;
+  statements = exact_statements;
+  weights = exact_weights;
+  nesting = exact_nesting;
+  cells = exact_cells;
 }

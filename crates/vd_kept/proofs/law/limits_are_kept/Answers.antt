@@ -2,4 +2,4 @@ use Rattle.vd_kept.proofs.WellMade.{within_limits}
 use Rattle.vd_kept.proofs.law.limits_are_kept.Goals as goal
 
 pub returns : goal.returns
-returns c = within_limits c.args._source.now
+returns c = within_limits

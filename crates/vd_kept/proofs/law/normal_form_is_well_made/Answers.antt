@@ -2,4 +2,4 @@ use Rattle.vd_kept.proofs.WellMade.{well_made}
 use Rattle.vd_kept.proofs.law.normal_form_is_well_made.Goals as goal
 
 pub returns : goal.returns
-returns c = well_made c.args._source.now
+returns c = well_made

@@ -2,4 +2,4 @@ use Rattle.vd_kept.proofs.Declared.{principals_declared}
 use Rattle.vd_kept.proofs.law.principals_are_declared.Goals as goal
 
 pub returns : goal.returns
-returns c = principals_declared c.args._source.now
+returns c = principals_declared

@@ -2,4 +2,4 @@ use Rattle.vd_kept.proofs.Turns.{turns_in_loops}
 use Rattle.vd_kept.proofs.law.turns_stand_in_loops.Goals as goal
 
 pub returns : goal.returns
-returns c = turns_in_loops c.args._source.now
+returns c = turns_in_loops
