@@ -11,7 +11,7 @@ use std::mem;
 use vd_base::{Kind, SlotId};
 use vd_core::{Ident, Right, Slot, Stmt, WrittenLabel};
 use vd_items::Items;
-use vd_normal::here::Here;
+use vd_normal::Here;
 
 /// The slots and statements so far, and the numbers of the next slot and block.
 #[derive(Drop)]

@@ -11,7 +11,7 @@ use crate::visible::Visible;
 use std::alloc::{AllocError, Global};
 use vd_base::Name;
 use vd_core::Parameter;
-use vd_normal::spot::Spot;
+use vd_normal::Spot;
 
 /// What a name stands for.
 pub(crate) fn find(names: &[Visible], name: &[u8]) -> Option<Spot>

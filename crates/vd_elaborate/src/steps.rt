@@ -13,8 +13,7 @@ use std::alloc::{AllocError, Global};
 use vd_base::{Kind, Op, SlotId};
 use vd_core::{Direction, Expr, Host, Infix, Prefix, Right, Sign, Stmt};
 use vd_items::Items;
-use vd_normal::here::Here;
-use vd_normal::spot::Spot;
+use vd_normal::{Here, Spot};
 
 pub(crate) fn prefix_operation(op: Prefix) -> Op
     ensures { result ≡ prefix_op op }

@@ -1,5 +1,5 @@
 use vd_base::Name;
-use vd_normal::spot::Spot;
+use vd_normal::Spot;
 
 /// A name in sight, and what it stands for.
 #[derive(Drop)]

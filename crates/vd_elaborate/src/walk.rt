@@ -24,8 +24,7 @@ use vd_core::{
 };
 use vd_items::Items;
 use vd_meaning::hosts::place;
-use vd_normal::here::Here;
-use vd_normal::spot::Spot;
+use vd_normal::{Here, Spot};
 use vd_resolve::Resolved;
 
 /// The number of a host.

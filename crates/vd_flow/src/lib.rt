@@ -6,6 +6,8 @@ ghost use Rattle.vd_constraints.specs.Satisfies.{HoldsCheck, HoldsRule, IsBoundO
 ghost use Rattle.vd_constraints.specs.Systems.{IsLabelOver};
 ghost use Rattle.vd_flow.specs.Faults.{IsFaultOf};
 
+use std::error::Error;
+use std::fmt;
 use vd_constraints::{Bound, Check, Labels, Lower, System};
 use vd_formula::Label;
 
@@ -17,6 +19,17 @@ pub enum FlowFault {
     /// Where all rules hold, the first check that fails, by its place in the system.
     Upper(u32),
 }
+
+impl fmt::Display for FlowFault {
+    fn fmt<W: fmt::Write>(&self, f: &mut fmt::Formatter<W>) -> fmt::Result {
+        match self {
+            FlowFault::Lower(rule) => write!(f, "rule {rule} fails"),
+            FlowFault::Upper(check) => write!(f, "check {check} fails"),
+        }
+    }
+}
+
+impl Error for FlowFault {}
 
 /// Whether the labels are a labelling of the system, which can be confirmed or refused.
 pub fn is_labelling(system: &System, labels: &Labels) -> bool

@@ -10,6 +10,8 @@ ghost use Rattle.vd_formula.specs.declared.forms.FormFault.TheVariants as form_f
 
 use crate::Formula;
 use std::alloc::{AllocError, Global};
+use std::error::Error;
+use std::fmt;
 use vd_base::{Form, Name, Names};
 use vd_items::Items;
 
@@ -21,6 +23,17 @@ pub enum FormFault {
     /// There was no memory left.
     Memory,
 }
+
+impl fmt::Display for FormFault {
+    fn fmt<W: fmt::Write>(&self, f: &mut fmt::Formatter<W>) -> fmt::Result {
+        match self {
+            FormFault::NoName(_) => write!(f, "a name that is not among the names"),
+            FormFault::Memory => write!(f, "out of memory"),
+        }
+    }
+}
+
+impl Error for FormFault {}
 
 impl From<AllocError> for FormFault {
     ghost from_gives = { λ _ fault. fault ≡ form_fault.Memory };

@@ -11,7 +11,9 @@ use Rattle.vd_core.specs.declared.source.Statement.TheOpen.{Statement-F}
 use Rattle.vd_core.specs.declared.source.Statement.TheFolds.{fold-Statement}
 use Rattle.vd_core.specs.declared.source.Function.{Function}
 use Rattle.vd_core.specs.declared.source.Source.{Source}
+use Rattle.vd_core.specs.Facts.{statement_count}
 use Rattle.vd_meaning.specs.Functions.{in_text_order}
+use Rattle.vd_normal.specs.Normal.{normal_form}
 
 -- by how many are inlined in the body of each function
 abbrev pub Calls : Type 0
@@ -70,3 +72,7 @@ function_calls f inside = total (map calls_of f.body) inside + calls f.gives ins
 
 abbrev pub inlined_calls : Source → ℕ
 inlined_calls source = total (map calls_of source.main) (in_text_order function_calls [] source.functions)
+
+-- the statements of the let-normal form of a source, with one more for each inlined call
+abbrev pub counted_statements : Source → ℕ
+counted_statements source = statement_count (normal_form source).body + inlined_calls source

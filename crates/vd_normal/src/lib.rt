@@ -1,6 +1,10 @@
 //! The let-normal form of a source: its definition, and what is true of it.
 #![tactic(auto)]
 
-pub mod here;
-pub mod law;
-pub mod spot;
+mod here;
+mod law;
+mod spot;
+
+pub use here::Here;
+pub use law::outputs_are_kept;
+pub use spot::Spot;

@@ -39,3 +39,7 @@ abbrev pub StoreFailsAsListed : {T : Type 0} → Failures → Result T CallFault
 StoreFailsAsListed before (Ok done) now = (fails_next before ≡ false) × (now ≡ with_call before)
 StoreFailsAsListed before (Err call_fault.Failed) now = (fails_next before ≡ true) × (now ≡ with_fault before)
 StoreFailsAsListed before (Err call_fault.Memory) now = now ≡ with_call before
+
+-- failures at the calls with these numbers, before the first call
+abbrev pub failures_at : List ℕ → Failures
+failures_at failing = record { failing = failing; calls = 0; faults = 0 }

@@ -1,6 +1,6 @@
 ghost use Rattle.std.specs.Prelude.{◌≡◌, [], ◌∷◌, ◌++◌, ◌+◌, ◌<◌, length, remove, slice_get, Some, None, option_map, IfOk, IfErr, OnOk, OnErr, MatchOption};
 ghost use Rattle.vd_outside.specs.Net.{link_at, without_link_at};
-ghost use Rattle.vd_outside.specs.SureNet.{empty_link};
+ghost use Rattle.vd_outside.specs.SureNet.{FirstWaits, IsTakenOut, NoneWaits, after_given, empty_link};
 
 use crate::{Net, NetCall, SureLink};
 use std::alloc::{AllocError, Global};
@@ -81,7 +81,7 @@ impl SureNet {
     // A link at an address, with a place for its return.
     fn give(&mut self, address: &str, call: NetCall) -> Result<SureLink, CallFault>
         ensures link { IfOk result (λ link. link_at address.now self.old.waiting (Some (empty_link self.old.room)) ≡ Some link) }
-        ensures given { OnOk result (self.new ≡ record self.old { waiting = without_link_at address.now self.old.waiting; links = self.old.links + 1; asked = self.old.asked ++ call ∷ [] }) }
+        ensures given { OnOk result (self.new ≡ after_given address.now call self.old) }
         ensures memory { IfErr result (λ fault. fault ≡ CallFault.Memory) }
         ensures err { OnErr result (self.new ≡ self.old) }
     {
@@ -110,8 +110,8 @@ fn take_link(waiting: &mut Items<(Text, SureLink)>, address: &str, otherwise: Su
 
 /// The place of the first link that waits at an address.
 fn place_at(waiting: &[(Text, SureLink)], address: &str) -> Option<usize>
-    ensures link { MatchOption result (link_at address.now waiting.now None ≡ None) (λ place. link_at address.now waiting.now None ≡ option_map (λ each. each.1) (slice_get waiting.now place)) }
-    ensures rest { MatchOption result (without_link_at address.now waiting.now ≡ waiting.now) (λ place. (place < length waiting.now) × (without_link_at address.now waiting.now ≡ remove waiting.now place)) }
+    ensures link { MatchOption result (NoneWaits address.now waiting.now) (FirstWaits address.now waiting.now) }
+    ensures rest { MatchOption result (without_link_at address.now waiting.now ≡ waiting.now) (IsTakenOut address.now waiting.now) }
 {
     for (place, link) in waiting.iter().enumerate() {
         if link.0.as_str().as_bytes() == address.as_bytes() {

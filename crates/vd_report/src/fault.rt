@@ -5,6 +5,8 @@ ghost use Rattle.vd_report.specs.declared.fault.ReadFault.TheVariants as read_fa
 ghost use Rattle.vd_report.specs.Tokens.{capped};
 
 use std::alloc::AllocError;
+use std::error::Error;
+use std::fmt;
 
 /// Why a file was refused. An offset counts bytes, and is `u32::MAX` where it would be larger.
 #[derive(Clone, Copy, PartialEq, Eq, Debug)]
@@ -16,6 +18,18 @@ pub enum ReadFault {
     /// Want of memory.
     Memory,
 }
+
+impl fmt::Display for ReadFault {
+    fn fmt<W: fmt::Write>(&self, f: &mut fmt::Formatter<W>) -> fmt::Result {
+        match self {
+            ReadFault::Text(at) => write!(f, "unexpected text at {at}"),
+            ReadFault::UnknownHost(at) => write!(f, "unknown host at {at}"),
+            ReadFault::Memory => write!(f, "out of memory"),
+        }
+    }
+}
+
+impl Error for ReadFault {}
 
 impl From<AllocError> for ReadFault {
     ghost from_gives = { λ _ fault. fault ≡ read_fault.Memory };

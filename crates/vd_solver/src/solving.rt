@@ -11,6 +11,8 @@ use crate::raising::raise;
 use crate::readers::{number, readers};
 use crate::waiting::Waiting;
 use std::alloc::{AllocError, Global};
+use std::error::Error;
+use std::fmt;
 use vd_constraints::{Labels, System};
 use vd_formula::{Formula, Label};
 use vd_items::Items;
@@ -23,6 +25,17 @@ pub enum SolveFault {
     /// There was no memory left.
     Memory,
 }
+
+impl fmt::Display for SolveFault {
+    fn fmt<W: fmt::Write>(&self, f: &mut fmt::Formatter<W>) -> fmt::Result {
+        match self {
+            SolveFault::Flow(check) => write!(f, "flow check {check}"),
+            SolveFault::Memory => write!(f, "out of memory"),
+        }
+    }
+}
+
+impl Error for SolveFault {}
 
 impl From<AllocError> for SolveFault {
     ghost from_gives = { λ _ fault. fault ≡ solve_fault.Memory };
