@@ -1,6 +1,6 @@
 -- Exact readings of parts, one behind the other.
 use Rattle.std.proofs.Common.{◌≡◌, ℕ, zero, suc, Bool, true, false, cond, eqb, List, [], ◌∷◌, ◌++◌, length, Some, Ok, Err, refl, sym, ap, subst, ◌∙◌, append_assoc, arith}
-use Rattle.std.specs.List.{flat_map}
+use Rattle.std.specs.List.{flat_map, AllByRecursion}
 use Rattle.std.proofs.lemmas.List.{append-nil}
 use Rattle.std.proofs.lemmas.Bool.{eqb-true, eqb-false}
 use Rattle.std.proofs.lemmas.List.Concat.{flat_map-cons}
@@ -152,12 +152,8 @@ then_exact FitsPart part Fits text left pick picks bytes (Err over) f exact rest
 
 -- ---- values one behind the other
 
-abbrev pub Each : {X : Type 0} → (X → Type 0) → List X → Type 0
-Each Fits [] = Unit {0}
-Each Fits (x ∷ xs) = Fits x × Each Fits xs
-
 abbrev pub AreEach : {X : Type 0} → (X → Type 0) → ℕ → List X → Type 0
-AreEach Fits n xs = (length xs ≡ n) × Each Fits xs
+AreEach Fits n xs = (length xs ≡ n) × AllByRecursion Fits xs
 
 abbrev pub head_or : {X : Type 0} → X → List X → X
 head_or x [] = x
@@ -215,3 +211,22 @@ each_exact Fits text some one (suc n) bytes starts filled exact =
     (λ others over h. done_exact (λ xs. (AreEach Fits (suc n) xs × (head_or some xs ≡ a)) × (tail xs ≡ others)) (a ∷ others) over
     (((ap suc h.0, (fits, h.1)), refl), refl)
     (λ ys g. same_cons some a n others ys g.0.0.0 g.0.1 g.1)))
+
+-- ---- the same values by another word
+
+pub exact_for : {X : Type 0} (Fits Same : X → Type 0) (text : X → List ℕ) (bytes : List ℕ) (r : Reading X) → ((x : X) → Fits x → Same x) → ((x : X) → Same x → Fits x)
+    → IsExact Fits text bytes r → IsExact Same text bytes r
+exact_for Fits Same text bytes (Ok x) there back exact = record {
+  fits = there x.0 exact.fits;
+  split = exact.split;
+  only = λ y behind more h. exact.only y behind more (back y h);
+}
+exact_for Fits Same text bytes (Err left) there back exact = record {
+  taken = exact.taken;
+  split = exact.split;
+  begun = exact.begun;
+  fits = there exact.begun exact.fits;
+  rest = exact.rest;
+  begins = exact.begins;
+  none = λ y behind more h. exact.none y behind more (back y h);
+}

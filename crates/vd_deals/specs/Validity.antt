@@ -1,6 +1,8 @@
 -- When the deals of all hosts keep the identities, and which item is the first that breaks one.
-use Rattle.std.specs.Prelude.{◌≡◌, ◌≢◌, ℕ, ◌+◌, ◌-◌, ◌<◌, ◌≤◌, List, [], Some, length, slice_get, unwrap_or, nat_lt, if◌then◌else◌}
+use Rattle.std.specs.Prelude.{◌≡◌, ◌≢◌, ℕ, ◌+◌, ◌-◌, ◌^◌, ◌<◌, ◌≤◌, List, [], Some, length, slice_get, unwrap_or, All, nat_lt, if◌then◌else◌}
 use Rattle.vd_base.specs.Limits.{most_hosts, most_deal_items}
+use Rattle.vd_deals.specs.declared.items.Triple.{Triple}
+use Rattle.vd_deals.specs.declared.items.PairItem.{PairItem}
 use Rattle.vd_deals.specs.declared.deal.Deal.{Deal}
 use Rattle.vd_deals.specs.declared.deal.DealKind.{DealKind}
 use Rattle.vd_deals.specs.declared.deal.DealKind.TheVariants.{Own, Mul, And, Pair}
@@ -10,6 +12,10 @@ use Rattle.vd_deals.specs.Identities.{mul_sides, and_sides, pair_sides, triple_a
 -- where a peer stands among the peers of a host, whose own number is left out
 abbrev pub peer_place : (me peer : ℕ) → ℕ
 peer_place me peer = if nat_lt peer me then peer else peer - 1
+
+-- which peer stands there
+abbrev pub peer_at : (me place : ℕ) → ℕ
+peer_at me place = if nat_lt place me then place else place + 1
 
 -- the list that a host shares with a peer
 abbrev pub shared_with : {X : Type 0} → List (List X) → (me peer : ℕ) → List X
@@ -28,9 +34,26 @@ Meets p q kind i = AreEqual (sides p q kind i)
 
 -- ---- which deals there are
 
--- each list of each peer is within the limit
+-- a word of 32 bits
+abbrev pub IsWord : ℕ → Type 0
+IsWord x = x < 2 ^ 32
+
+abbrev pub AreTripleWords : Triple → Type 0
+AreTripleWords t = IsWord t.a × IsWord t.b × IsWord t.c
+
+abbrev pub ArePairWords : PairItem → Type 0
+ArePairWords p = IsWord p.s × IsWord p.x
+
+-- the words of a deal, which every deal of a program has
+pub record HasWords (deal : Deal) : Type 0 where
+  pub own : All IsWord deal.own
+  pub triples : All (All AreTripleWords) deal.triples
+  pub bits : All (All AreTripleWords) deal.bits
+  pub pairs : All (All ArePairWords) deal.pairs
+
+-- no list is longer than the limit
 abbrev pub AreWithin : {X : Type 0} → List (List X) → Type 0
-AreWithin {X} lists = (place : ℕ) (items : List X) → slice_get lists place ≡ Some items → length items ≤ most_deal_items
+AreWithin lists = All (λ items. length items ≤ most_deal_items) lists
 
 -- the deal of one host: a list of each kind for each peer, none longer than the limit
 pub record IsDeal (deal : Deal) : Type 0 where
