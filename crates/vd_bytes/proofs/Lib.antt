@@ -2,3 +2,4 @@ pub mod Parts
 pub mod Numbers
 pub mod Whole
 pub mod Steps
+pub mod Loops

@@ -151,7 +151,7 @@ digit_spelled b is =
     let same : 48 + (b - 48) ≡ b = omega (arith, range.0) in
     decimal_digit (b - 48) (omega (arith, range.0, range.1)) ∙ ap (λ d. d ∷ []) same
 
-number_spelled : (most b : ℕ) (bytes : List ℕ) (read : ℕ × List ℕ) → most < 2 ^ 64 → is_digit b ≡ true → Longest most (b - 48) bytes read → Spells (AtMost most) decimal (b ∷ bytes) read.0 read.1
+number_spelled : (most b : ℕ) (bytes : List ℕ) (read : ℕ × List ℕ) → most < 2 ^ 64 → is_digit b ≡ true → Longest most (b - 48) bytes read → Spells IsBreak (AtMost most) decimal (b ∷ bytes) read.0 read.1
 number_spelled most b bytes read small is longest =
     let whole : decimal read.0 ≡ b ∷ longest.digits =
     written_on (b - 48) longest.digits read.0 longest.continues (omega (arith, longest.within)) ∙ ap (λ bs. bs ++ longest.digits) (digit_spelled b is) in
@@ -167,7 +167,7 @@ number_spelled most b bytes read small is longest =
           longest.only digits.behind behind more y (subst (λ d. Continues (d - 48) digits.behind y) same digits.continues) h k rest f;
     }
 
-number_missing : (most : ℕ) (bytes : List ℕ) → most < 2 ^ 64 → ((b : ℕ) → first bytes ≡ Some b → is_digit b ≡ true → b - 48 ≤ most → ⊥) → Stops (AtMost most) decimal bytes bytes
+number_missing : (most : ℕ) (bytes : List ℕ) → most < 2 ^ 64 → ((b : ℕ) → first bytes ≡ Some b → is_digit b ≡ true → b - 48 ≤ most → ⊥) → Stops IsBreak (AtMost most) decimal bytes bytes
 number_missing most bytes small none = record {
   taken = [];
   split = refl;
@@ -186,7 +186,7 @@ abbrev pub begins_number : ℕ → ℕ → Bool
 begins_number most b = is_digit b && nat_le (b - 48) most
 
 number_tested : (most b : ℕ) (bytes : List ℕ) (t : Bool) → begins_number most b ≡ t → most < 2 ^ 64
-    → let r : Reading ℕ = cond t (Ok (longest_at most (b - 48) bytes)) (Err (b ∷ bytes)) in IsExact (AtMost most) decimal (b ∷ bytes) r
+    → let r : Reading ℕ = cond t (Ok (longest_at most (b - 48) bytes)) (Err (b ∷ bytes)) in IsExact IsBreak (AtMost most) decimal (b ∷ bytes) r
 number_tested most b bytes true test small =
     let p = and_parts (is_digit b) (nat_le (b - 48) most) test in
     number_spelled most b bytes (longest_at most (b - 48) bytes) small p.0 (longest_exact most (b - 48) bytes (leb-true (b - 48) most p.1))
@@ -195,9 +195,9 @@ number_tested most b bytes false test small =
     let same : b ≡ c = cc in
     true≢false (sym (and_from (is_digit c) (nat_le (c - 48) most) is (le-leb (c - 48) most le)) ∙ ap (begins_number most) (sym same) ∙ test))
 
-pub number_exact : (most : ℕ) (bytes : List ℕ) → most < 2 ^ 64 → IsExact (AtMost most) decimal bytes (number_at most bytes)
+pub number_exact : (most : ℕ) (bytes : List ℕ) → most < 2 ^ 64 → IsExact IsBreak (AtMost most) decimal bytes (number_at most bytes)
 number_exact most [] small = number_missing most [] small (λ b f is le. cc)
 number_exact most (b ∷ bytes) small = number_tested most b bytes (begins_number most b) refl small
 
-pub field_exact : (most : ℕ) (bytes : List ℕ) → most < 2 ^ 64 → IsExact (AtMost most) field bytes (field_at most bytes)
-field_exact most bytes small = byte_exact (AtMost most) decimal 32 bytes 0 (number_at most) (omega arith) (λ mid. number_exact most mid small)
+pub field_exact : (most : ℕ) (bytes : List ℕ) → most < 2 ^ 64 → IsExact IsBreak (AtMost most) field bytes (field_at most bytes)
+field_exact most bytes small = byte_exact IsBreak (AtMost most) decimal 32 bytes 0 (number_at most) (omega arith) (λ mid. number_exact most mid small)

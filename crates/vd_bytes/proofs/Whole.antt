@@ -32,13 +32,13 @@ stops_at Fits text taken (b ∷ bs) rest begun fits begins none = record {
 offset_is : (bytes taken left : List ℕ) → bytes ≡ taken ++ left → length bytes - length left ≡ length taken
 offset_is bytes taken left e = omega (arith, ap length e, length-append taken left)
 
-pub whole_exact : {X : Type 0} (Fits : X → Type 0) (text : X → List ℕ) (bytes : List ℕ) (r : Reading X) → IsExact Fits text bytes r → IsExactWhole Fits text bytes (whole bytes r)
-whole_exact Fits text bytes (Err left) exact =
+pub whole_exact : {X : Type 0} (Behind : List ℕ → Type 0) (Fits : X → Type 0) (text : X → List ℕ) (bytes : List ℕ) (r : Reading X) → Behind [] → IsExact Behind Fits text bytes r → IsExactWhole Fits text bytes (whole bytes r)
+whole_exact Behind Fits text bytes (Err left) none_behind exact =
     rw (offset_is bytes exact.taken left exact.split, exact.split)
     (stops_at Fits text exact.taken left exact.rest exact.begun exact.fits exact.begins
-    (λ y more h e f. exact.none y [] more h tt (append-nil (text y) ∙ e) f))
-whole_exact Fits text bytes (Ok (x, [])) exact = (exact.fits, sym (exact.split ∙ append-nil (text x)))
-whole_exact Fits text bytes (Ok (x, b ∷ left)) exact =
+    (λ y more h e f. exact.none y [] more h none_behind (append-nil (text y) ∙ e) f))
+whole_exact Behind Fits text bytes (Ok (x, [])) none_behind exact = (exact.fits, sym (exact.split ∙ append-nil (text x)))
+whole_exact Behind Fits text bytes (Ok (x, b ∷ left)) none_behind exact =
     rw (offset_is bytes (text x) (b ∷ left) exact.split, exact.split)
     (stops_at Fits text (text x) (b ∷ left) [] x exact.fits (sym (append-nil (text x)))
-    (λ y more h e f. let same : [] ≡ more = (exact.only y [] more h tt (append-nil (text y) ∙ e) f).1 in cc))
+    (λ y more h e f. let same : [] ≡ more = (exact.only y [] more h none_behind (append-nil (text y) ∙ e) f).1 in cc))

@@ -18,31 +18,34 @@ pub record StopsAt (IsText : List ℕ → Type 0) (bytes : List ℕ) (at : ℕ) 
 
 -- ---- a part of a file: which values fit there, and the text of each
 
--- what may stand behind a number or a name: a space, a line end, or nothing
+-- what may stand behind a number or a name: a space, a line end, or nothing. Behind other parts anything may stand.
 abbrev pub IsBreak : List ℕ → Type 0
 IsBreak [] = Unit {0}
 IsBreak (b ∷ bs) = (b ≡ 32) ⊎ (b ≡ 10)
 
--- The bytes begin with the text of x; and whatever follows, no other value is spelled by what agrees with them as far as the byte behind.
-pub record Spells {X : Type 0} (Fits : X → Type 0) (text : X → List ℕ) (bytes : List ℕ) (x : X) (left : List ℕ) : Type 0 where
+abbrev pub IsAnything : List ℕ → Type 0
+IsAnything bs = Unit {0}
+
+-- The bytes begin with the text of x; and whatever may stand behind it, no other value is spelled by what agrees with them as far as the byte behind.
+pub record Spells {X : Type 0} (Behind : List ℕ → Type 0) (Fits : X → Type 0) (text : X → List ℕ) (bytes : List ℕ) (x : X) (left : List ℕ) : Type 0 where
   pub fits : Fits x
   pub split : bytes ≡ text x ++ left
-  pub only : (y : X) (behind more : List ℕ) → Fits y → IsBreak behind → text y ++ behind ≡ text x ++ more → first more ≡ first left →
+  pub only : (y : X) (behind more : List ℕ) → Fits y → Behind behind → text y ++ behind ≡ text x ++ more → first more ≡ first left →
       (y ≡ x) × (behind ≡ more)
 
--- What was taken begins the text of a value; whatever follows, none goes on behind it with the next byte, or ends where the bytes end.
-pub record Stops {X : Type 0} (Fits : X → Type 0) (text : X → List ℕ) (bytes left : List ℕ) : Type 0 where
+-- What was taken begins the text of a value; whatever may stand behind it, none goes on behind it with the next byte, or ends where the bytes end.
+pub record Stops {X : Type 0} (Behind : List ℕ → Type 0) (Fits : X → Type 0) (text : X → List ℕ) (bytes left : List ℕ) : Type 0 where
   pub taken : List ℕ
   pub split : bytes ≡ taken ++ left
   pub begun : X
   pub fits : Fits begun
   pub rest : List ℕ
   pub begins : text begun ≡ taken ++ rest
-  pub none : (y : X) (behind more : List ℕ) → Fits y → IsBreak behind → text y ++ behind ≡ taken ++ more → first more ≡ first left → ⊥
+  pub none : (y : X) (behind more : List ℕ) → Fits y → Behind behind → text y ++ behind ≡ taken ++ more → first more ≡ first left → ⊥
 
-abbrev pub IsExact : {X : Type 0} → (X → Type 0) → (X → List ℕ) → List ℕ → Reading X → Type 0
-IsExact Fits text bytes (Ok x) = Spells Fits text bytes x.0 x.1
-IsExact Fits text bytes (Err left) = Stops Fits text bytes left
+abbrev pub IsExact : {X : Type 0} → (List ℕ → Type 0) → (X → Type 0) → (X → List ℕ) → List ℕ → Reading X → Type 0
+IsExact Behind Fits text bytes (Ok x) = Spells Behind Fits text bytes x.0 x.1
+IsExact Behind Fits text bytes (Err left) = Stops Behind Fits text bytes left
 
 -- ---- a whole file
 

@@ -4,6 +4,7 @@ ghost use Rattle.std.specs.Prelude.{◌≡◌, ◌+◌, ◌*◌, ◌≤◌, ◌<
 ghost use Rattle.vd_bytes.specs.Reading as reading;
 
 use crate::fault::Stopped;
+use itoa::Buffer;
 use std::marker::Model;
 use vd_base::is_digit;
 
@@ -122,6 +123,15 @@ impl<'a> Cursor<'a> {
     {
         self.byte(b' ')?;
         self.number(most)
+    }
+
+    /// Takes a space and this number.
+    #[tactic(auto, unfolding(crate::specs::Reading::literal_at))]
+    pub fn expect_field(&mut self, number: u32) -> Result<(), Stopped>
+        ensures { reading.Gives result self.new (reading.literal_at (reading.field number) self.old) }
+    {
+        self.byte(b' ')?;
+        self.literal(Buffer::new().format(number).as_bytes())
     }
 
     /// Whether nothing is left to read.
