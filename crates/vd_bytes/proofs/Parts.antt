@@ -186,7 +186,7 @@ picks_tail Behind Fits text some a n fits = record {
   break = λ xs behind h k. k;
 }
 
-same_cons : {X : Type 0} (some a : X) (n : ℕ) (others ys : List X) → length ys ≡ suc n → head_or some ys ≡ a → tail ys ≡ others → ys ≡ a ∷ others
+pub same_cons : {X : Type 0} (some a : X) (n : ℕ) (others ys : List X) → length ys ≡ suc n → head_or some ys ≡ a → tail ys ≡ others → ys ≡ a ∷ others
 same_cons some a n others [] e h t = absurd (omega (arith, e))
 same_cons some a n others (y ∷ ys) e h t = cc
 
@@ -229,4 +229,22 @@ exact_for Behind Fits Same text bytes (Err left) there back exact = record {
   rest = exact.rest;
   begins = exact.begins;
   none = λ y behind more h. exact.none y behind more (back y h);
+}
+
+-- the same texts of the values that fit
+pub exact_as : {X : Type 0} (Behind : List ℕ → Type 0) (Fits : X → Type 0) (text other : X → List ℕ) (bytes : List ℕ) (r : Reading X) → ((x : X) → Fits x → other x ≡ text x)
+    → IsExact Behind Fits text bytes r → IsExact Behind Fits other bytes r
+exact_as Behind Fits text other bytes (Ok x) same exact = record {
+  fits = exact.fits;
+  split = exact.split ∙ ap (λ bs. bs ++ x.1) (sym (same x.0 exact.fits));
+  only = λ y behind more h k e. exact.only y behind more h k (ap (λ bs. bs ++ behind) (sym (same y h)) ∙ e ∙ ap (λ bs. bs ++ more) (same x.0 exact.fits));
+}
+exact_as Behind Fits text other bytes (Err left) same exact = record {
+  taken = exact.taken;
+  split = exact.split;
+  begun = exact.begun;
+  fits = exact.fits;
+  rest = exact.rest;
+  begins = same exact.begun exact.fits ∙ exact.begins;
+  none = λ y behind more h k e. exact.none y behind more h k (ap (λ bs. bs ++ behind) (sym (same y h)) ∙ e);
 }

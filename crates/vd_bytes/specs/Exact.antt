@@ -61,7 +61,7 @@ outcome bytes (Err left) = Err (length bytes - length left)
 abbrev pub whole : {X : Type 0} → List ℕ → Reading X → Result X ℕ
 whole bytes reading = outcome bytes (to_the_end reading)
 
--- A value exactly where the bytes are its text, else the first offset at which they go on as no text does.
+-- A value exactly where the bytes are its text and no other's, else the first offset at which they go on as no text does.
 abbrev pub IsExactWhole : {X : Type 0} → (X → Type 0) → (X → List ℕ) → List ℕ → Result X ℕ → Type 0
-IsExactWhole Fits text bytes (Ok x) = Fits x × (text x ≡ bytes)
+IsExactWhole {X} Fits text bytes (Ok x) = Fits x × (text x ≡ bytes) × ((y : X) → Fits y → text y ≡ bytes → y ≡ x)
 IsExactWhole Fits text bytes (Err at) = StopsAt (IsTextOf Fits text) bytes at

@@ -8,7 +8,7 @@ use std::alloc::AllocError;
 use vd_base::Bytes;
 
 /// Puts a number at the end, behind a space.
-pub fn push_field(text: &mut Bytes, number: u32) -> Result<(), AllocError>
+pub fn push_field(text: &mut Bytes, number: u64) -> Result<(), AllocError>
     ensures { OnOk result (text.new ≡ text.old ++ field number) }
 {
     text.push(b' ')?;

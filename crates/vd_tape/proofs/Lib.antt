@@ -1,0 +1,5 @@
+pub mod ShareLoop
+pub mod ItemsExact
+pub mod SharesExact
+pub mod DealExact
+pub mod Outcomes

@@ -1,0 +1,12 @@
+//! Deals: the dealer's files, their validity, and the deal that a key makes.
+#![tactic(auto)]
+
+mod fault;
+mod files;
+mod item;
+mod laws;
+mod reading;
+
+pub use fault::TapeFault;
+pub use files::read_deal;
+pub use laws::{deals_follow_the_grammar, written_deals_are_read};
