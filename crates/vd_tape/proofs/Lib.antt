@@ -3,3 +3,4 @@ pub mod ItemsExact
 pub mod SharesExact
 pub mod DealExact
 pub mod Outcomes
+pub mod SharesWritten

@@ -30,10 +30,10 @@ same_shares f g t b p = ap (λ ts. shares_of ts f.bits f.pairs) t ∙ ap (λ bs.
 regroup : (front : Shares) (s : Share) (read : Reading Shares) → with_front front (read >>= λ ss. Ok (with_share s ss.0, ss.1)) ≡ with_front (and_share front s) read
 regroup front s (Ok ss) =
     let e : joined front (with_share s ss.0) ≡ joined (and_share front s) ss.0 =
-        same_shares (joined front (with_share s ss.0)) (joined (and_share front s) ss.0)
-        (sym (append_assoc front.triples (s.triples ∷ []) ss.0.triples))
-        (sym (append_assoc front.bits (s.bits ∷ []) ss.0.bits))
-        (sym (append_assoc front.pairs (s.pairs ∷ []) ss.0.pairs)) in
+    same_shares (joined front (with_share s ss.0)) (joined (and_share front s) ss.0)
+    (sym (append_assoc front.triples (s.triples ∷ []) ss.0.triples))
+    (sym (append_assoc front.bits (s.bits ∷ []) ss.0.bits))
+    (sym (append_assoc front.pairs (s.pairs ∷ []) ss.0.pairs)) in
     ap (λ (f : Shares). Ok (f, ss.1)) e
 regroup front s (Err left) = refl
 
@@ -43,7 +43,7 @@ unfolding shares_at
 next_share me front count i bytes after s total lt h so_far =
     let k : count - i ≡ suc (count - (i + 1)) = omega arith in
     let here : with_front front (shares_at me i (count - i) bytes) ≡ with_front (and_share front s) (shares_at me (i + 1) (count - (i + 1)) after) =
-        rw (k, h) (regroup front s (shares_at me (i + 1) (count - (i + 1)) after)) in
+    rw (k, h) (regroup front s (shares_at me (i + 1) (count - (i + 1)) after)) in
     sym here ∙ so_far
 
 pub no_share : (me : ℕ) (front : Shares) (count i : ℕ) (bytes left : List ℕ) (total : Reading Shares) → i < count → share_at (peer_at me i) bytes ≡ Err left

@@ -68,14 +68,17 @@ deal_at hosts me bs = do
   line ← literal_at (codes "\nown") second.1
   own ← list_at word_at line.1
   shares ← shares_at me 0 (hosts - 1) own.1
-  Ok (record {
-    hosts = hosts;
-    me = record { 0 = me };
-    own = own.0;
-    triples = shares.0.triples;
-    bits = shares.0.bits;
-    pairs = shares.0.pairs;
-  }, shares.1)
+  Ok (
+    record {
+      hosts = hosts;
+      me = record { 0 = me };
+      own = own.0;
+      triples = shares.0.triples;
+      bits = shares.0.bits;
+      pairs = shares.0.pairs;
+    },
+    shares.1,
+  )
 
 -- what the bytes say: a deal, or the offset of the first byte that cannot stand
 abbrev pub deal_read : ℕ → ℕ → List ℕ → Result Deal ℕ

@@ -6,7 +6,9 @@ mod files;
 mod item;
 mod laws;
 mod reading;
+mod writing;
 
 pub use fault::TapeFault;
 pub use files::read_deal;
 pub use laws::{deals_follow_the_grammar, written_deals_are_read};
+pub use writing::write_deal;

@@ -47,12 +47,7 @@ pub(crate) fn read_file(
 
 /// All lines.
 #[tactic(auto, unfolding(crate::specs::Reading::deal_at))]
-fn read_deal(
-    alloc: Global,
-    cursor: &mut Cursor,
-    hosts: u8,
-    me: HostId,
-) -> Result<Deal, ReadFault>
+fn read_deal(alloc: Global, cursor: &mut Cursor, hosts: u8, me: HostId) -> Result<Deal, ReadFault>
     requires { 0 < hosts }
     ensures { GivesOrMemory result cursor.new (deal_at hosts me.0 cursor.old) }
 {
