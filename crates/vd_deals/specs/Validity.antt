@@ -1,5 +1,5 @@
 -- When the deals of all hosts keep the identities, and which item is the first that breaks one.
-use Rattle.std.specs.Prelude.{◌≡◌, ◌≢◌, ℕ, ◌+◌, ◌-◌, ◌^◌, ◌<◌, ◌≤◌, List, [], Some, length, slice_get, unwrap_or, All, nat_lt, if◌then◌else◌}
+use Rattle.std.specs.Prelude.{◌≡◌, ◌≢◌, ◌⊎◌, ℕ, ◌+◌, ◌-◌, ◌^◌, ◌<◌, ◌≤◌, List, [], Some, length, slice_get, unwrap_or, All, nat_lt, if◌then◌else◌}
 use Rattle.vd_base.specs.Limits.{most_hosts, most_deal_items}
 use Rattle.vd_deals.specs.declared.items.Triple.{Triple}
 use Rattle.vd_deals.specs.declared.items.PairItem.{PairItem}
@@ -91,11 +91,9 @@ rank Pair = 3
 abbrev pub Place : Type 0
 Place = ℕ × ℕ × ℕ × ℕ
 
-pub data IsBefore : Place → Place → Type 0 where
-  by_first : {f g s t k l i j : ℕ} → f < g → IsBefore (f, s, k, i) (g, t, l, j)
-  by_second : {f s t k l i j : ℕ} → s < t → IsBefore (f, s, k, i) (f, t, l, j)
-  by_kind : {f s k l i j : ℕ} → k < l → IsBefore (f, s, k, i) (f, s, l, j)
-  by_index : {f s k i j : ℕ} → i < j → IsBefore (f, s, k, i) (f, s, k, j)
+abbrev pub IsBefore : Place → Place → Type 0
+IsBefore x y =
+    (x.0 < y.0) ⊎ ((x.0 ≡ y.0) × ((x.1 < y.1) ⊎ ((x.1 ≡ y.1) × ((x.2 < y.2) ⊎ ((x.2 ≡ y.2) × (x.3 < y.3))))))
 
 abbrev pub place_of : BadItem → Place
 place_of bad = (bad.first.0, bad.second.0, rank bad.kind, bad.index)

@@ -4,3 +4,4 @@ pub mod SharesExact
 pub mod DealExact
 pub mod Outcomes
 pub mod SharesWritten
+pub mod TwoByTwo
