@@ -1,0 +1,5 @@
+pub mod Parts
+pub mod Numbers
+pub mod Whole
+pub mod Steps
+pub mod Loops

@@ -1,0 +1,18 @@
+//! What the reader of deals is, as laws.
+
+ghost use Rattle.std.specs.Prelude.{◌≡◌, ℕ, ◌≤◌, ◌<◌, List, Ok};
+ghost use Rattle.vd_base.specs.Limits.{most_hosts};
+ghost use Rattle.vd_deals.specs.declared.deal.Deal.{Deal};
+ghost use Rattle.vd_tape.specs.Text.{deal_text, IsDealOf};
+ghost use Rattle.vd_tape.specs.Reading.{deal_read};
+ghost use Rattle.vd_tape.specs.Outcome.{DealsFollowGrammar};
+
+/// All bytes either are the text of one deal, or have one first offset at which they go on as no deal file does.
+pub fn deals_follow_the_grammar()
+    ensures { (hosts me : ℕ) (bytes : List ℕ) → hosts ≤ most_hosts → me < hosts → DealsFollowGrammar hosts me bytes }
+{}
+
+/// What is written is read.
+pub fn written_deals_are_read()
+    ensures { (hosts me : ℕ) (deal : Deal) → IsDealOf hosts me deal → deal_read hosts me (deal_text deal) ≡ Ok deal }
+{}
