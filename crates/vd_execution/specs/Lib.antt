@@ -10,3 +10,4 @@ pub mod Acts
 pub mod States
 pub mod Gadgets
 pub mod Plans
+pub mod Ranges
