@@ -130,6 +130,13 @@ impl Machine {
         })
     }
 
+    /// How many hosts there are.
+    pub fn hosts(&self) -> u8
+        ensures { result ≡ self.now.lists.deal.hosts }
+    {
+        self.lists.deal.hosts
+    }
+
     /// What the next instruction needs.
     pub fn want(&self) -> Want
         ensures host { IsFromHost self.now.lists.deal.hosts result }
