@@ -1,0 +1,13 @@
+pub mod Registers
+pub mod Code
+pub mod Step
+pub mod Schedule
+pub mod World
+pub mod Joint
+pub mod Deals
+pub mod Text
+pub mod Acts
+pub mod States
+pub mod Gadgets
+pub mod Plans
+pub mod Ranges

@@ -1,0 +1,13 @@
+pub mod Writes
+pub mod Digests
+pub mod Items
+pub mod Taking
+pub mod Spans
+pub mod Framing
+pub mod Steps
+pub mod Resolving
+pub mod Whole
+pub mod Loading
+pub mod Places
+pub mod Rooms
+pub mod Packets

@@ -1,0 +1,17 @@
+//! One host's machine: what its next instruction needs, and one step.
+#![tactic(auto)]
+
+mod did;
+mod digest;
+mod frames;
+mod lists;
+mod machine;
+mod ops;
+mod perform;
+mod registers;
+mod resolve;
+mod want;
+
+pub use did::Did;
+pub use machine::Machine;
+pub use want::Want;

@@ -1,0 +1,161 @@
+-- What a host wants, and what it is given.
+use Rattle.std.proofs.Common.{◌≡◌, ℕ, ◌+◌, ◌<◌, ◌≤◌, ◌^◌, Bool, true, false, List, [], ◌∷◌, length, refl, sym, ap, ◌∙◌, subst, arith, rules, ◌⊎◌, inl, inr}
+use Rattle.std.specs.Prelude.{Some, None, slice_get, slice_index, slice_index_or, nat_lt, nat_eq, if◌then◌else◌}
+use Rattle.std.proofs.lemmas.Option.{slice_get_past}
+use borrow.Author.Tests.{ltb-true}
+use Rattle.vd_base.specs.declared.ids.HostId.{HostId}
+use Rattle.vd_execution.specs.Step.{Source, Inputs, OwnWords, Triples, BitTriples, Pairs, Cursors, Need, Nothing, Item, Packet, Unequal, Ended, Given, answer, of_length}
+use Rattle.vd_machine.specs.declared.lists.Lists.{Lists}
+use Rattle.vd_machine.specs.declared.want.Want.{Want}
+use Rattle.vd_machine.specs.declared.want.Want.TheVariants as want
+use Rattle.vd_machine.specs.Machines.{items_of, item_or_none, or_empty, IsLeft, IsMet, words_for}
+use Rattle.vd_machine.specs.Wants.{want_of, short, count_of}
+use Rattle.vd_machine.proofs.Items.{get_there}
+use Rattle.vd_base.specs.HostSets.{host}
+use Rattle.vd_base.specs.declared.host_state.HostState.TheVariants as state
+use Rattle.vd_execution.specs.States.{state_for, ready_or, short_of}
+use Rattle.vd_world.specs.Hosts.{HasRoom, stuck_state}
+use Rattle.vd_world.proofs.Noting.{wants_words}
+
+-- ---- the items of a list
+
+some_item : {X : Type 0} (f : X → List ℕ) (xs : List X) (i : ℕ) → i < length xs → item_or_none f (slice_get xs i) ≡ Some (or_empty (item_or_none f (slice_get xs i)))
+some_item f [] i h = absurd (omega (arith, h))
+some_item f (x ∷ xs) i h =
+    let e : slice_get (x ∷ xs) i ≡ Some (slice_index_or (x ∷ xs) i x) = get_there (x ∷ xs) i x h in
+    ap (item_or_none f) e ∙ ap (λ o. Some (or_empty (item_or_none f o))) (sym e)
+
+item_there : (l : Lists) (s : Source) (i : ℕ) → i < count_of l s → items_of l s i ≡ Some (or_empty (items_of l s i))
+item_there l Inputs i h = some_item _ l.inputs i h
+item_there l OwnWords i h = some_item _ l.deal.own i h
+item_there l (Triples p) i h = some_item _ _ i h
+item_there l (BitTriples p) i h = some_item _ _ i h
+item_there l (Pairs p) i h = some_item _ _ i h
+
+item_left : (l : Lists) (s : Source) (i : ℕ) → i < count_of l s → IsLeft l s i
+item_left l Inputs i h = h
+item_left l OwnWords i h = h
+item_left l (Triples p) i h = h
+item_left l (BitTriples p) i h = h
+item_left l (Pairs p) i h = h
+
+item_past : (l : Lists) (s : Source) (i : ℕ) → count_of l s ≤ i → items_of l s i ≡ None
+item_past l Inputs i h = ap (item_or_none _) (slice_get_past l.inputs i h)
+item_past l OwnWords i h = ap (item_or_none _) (slice_get_past l.deal.own i h)
+item_past l (Triples p) i h = ap (item_or_none _) (slice_get_past _ i h)
+item_past l (BitTriples p) i h = ap (item_or_none _) (slice_get_past _ i h)
+item_past l (Pairs p) i h = ap (item_or_none _) (slice_get_past _ i h)
+
+-- ---- nothing is wanted
+
+pub record Goes (g : Given) (l : Lists) (c : Cursors) (n : Need) (xs : List ℕ) : Type 0 where
+  pub met : IsMet l c xs n
+  pub given : answer g c n ≡ Some (words_for l c xs n)
+
+short_is : (s : Source) (i j : ℕ) → want.Nothing ≡ short s i j → ⊥
+short_is Inputs i j e = cc
+short_is OwnWords i j e = cc
+short_is (Triples p) i j e = cc
+short_is (BitTriples p) i j e = cc
+short_is (Pairs p) i j e = cc
+
+is_left : (b : Bool) (s : Source) (i j : ℕ) → want.Nothing ≡ (if b then want.Nothing else short s i j) → b ≡ true
+is_left true s i j e = refl
+is_left false s i j e = absurd (short_is s i j e)
+
+pub goes_alone : (g : Given) (l : Lists) (c : Cursors) (n : Need) → g.item ≡ items_of l → want.Nothing ≡ want_of l c n → Goes g l c n []
+goes_alone g l c Nothing items e = record { met = refl; given = refl }
+goes_alone g l c (Item s) items e =
+    let less : c s < count_of l s = ltb-true (c s) (count_of l s) (is_left (nat_lt (c s) (count_of l s)) s (c s) (count_of l s) e) in
+    record { met = (item_left l s (c s) less, refl); given = ap (λ f. f s (c s)) items ∙ item_there l s (c s) less }
+goes_alone g l c (Packet p k) items e = absurd cc
+goes_alone g l c (Unequal x y) items e = absurd cc
+goes_alone g l c Ended items e = absurd cc
+
+pub room_alone : (taken : List ℕ) (l : Lists) (c : Cursors) (n : Need) → want.Nothing ≡ want_of l c n → HasRoom taken n
+room_alone taken l c n e p k is = absurd (let z = e ∙ ap (want_of l c) is in cc)
+
+-- ---- words are wanted
+
+equal : (n k : ℕ) → n ≡ k → nat_eq n k ≡ true
+equal n k e = grind (arith, rules, e)
+
+pub goes_on : (g : Given) (l : Lists) (c : Cursors) (n : Need) (p : HostId) (k : ℕ) (xs : List ℕ) → want.Words p k ≡ want_of l c n → g.front p.0 ≡ Some xs → length xs ≡ k → Goes g l c n xs
+goes_on g l c n p k xs e f h =
+    let is : n ≡ Packet p.0 k = wants_words l c n p k e in
+    record {
+      met = subst (IsMet l c xs) (sym is) h;
+      given = ap (answer g c) is ∙ ap (of_length k) f ∙ ap (λ b. if b then Some xs else None) (equal (length xs) k h) ∙ ap (λ m. Some (words_for l c xs m)) (sym is);
+    }
+
+pub room_on : (taken : List ℕ) (l : Lists) (c : Cursors) (n : Need) (p : HostId) (k : ℕ) → want.Words p k ≡ want_of l c n → slice_index taken p.0 + 1 < 2 ^ 64 → HasRoom taken n
+room_on taken l c n p k e h q m is =
+    subst (λ x. slice_index taken x + 1 < 2 ^ 64) (the_peer p.0 q k m (sym (wants_words l c n p k e) ∙ is)) h
+  where
+    the_peer : (a b i j : ℕ) → Packet a i ≡ Packet b j → a ≡ b
+    the_peer a b i j e = cc
+
+unequal : (n k : ℕ) → (n ≡ k → ⊥) → nat_eq n k ≡ false
+unequal n k e = grind (arith, rules, e)
+
+pub waits : (g : Given) (l : Lists) (c : Cursors) (n : Need) (p : HostId) (k : ℕ) → want.Words p k ≡ want_of l c n → g.front p.0 ≡ None → answer g c n ≡ None
+waits g l c n p k e f = ap (answer g c) (wants_words l c n p k e) ∙ ap (of_length k) f
+
+pub waits_long : (g : Given) (l : Lists) (c : Cursors) (n : Need) (p : HostId) (k : ℕ) (xs : List ℕ) → want.Words p k ≡ want_of l c n → g.front p.0 ≡ Some xs → (length xs ≡ k → ⊥) → answer g c n ≡ None
+waits_long g l c n p k xs e f h =
+    ap (answer g c) (wants_words l c n p k e) ∙ ap (of_length k) f ∙ ap (λ b. if b then Some xs else None) (unequal (length xs) k h)
+
+-- ---- nothing can be done
+
+abbrev pub stops : Want → Bool
+stops want.Nothing = false
+stops (want.Words p n) = false
+stops want.Ended = true
+stops (want.ShortInput i j) = true
+stops (want.ShortDeal kind i j) = true
+stops (want.Unequal x y) = true
+
+is_past : (b : Bool) (s : Source) (i j : ℕ) → stops (if b then want.Nothing else short s i j) ≡ true → b ≡ false
+is_past true s i j e = absurd cc
+is_past false s i j e = refl
+
+pub stopped : (g : Given) (l : Lists) (c : Cursors) (n : Need) (w : Want) → g.item ≡ items_of l → w ≡ want_of l c n → stops w ≡ true → answer g c n ≡ None
+stopped g l c n w items e stop = at n (ap stops (sym e) ∙ stop)
+  where
+    at : (m : Need) → stops (want_of l c m) ≡ true → answer g c m ≡ None
+    at Nothing f = absurd cc
+    at (Item s) f =
+        let b = is_past (nat_lt (c s) (count_of l s)) s (c s) (count_of l s) f in
+        let past : count_of l s ≤ c s = grind (arith, rules, b) in
+        ap (λ h. h s (c s)) items ∙ item_past l s (c s) past
+    at (Packet p k) f = absurd cc
+    at (Unequal x y) f = refl
+    at Ended f = refl
+
+-- ---- how a host stands that can not step
+
+short_state : (s : Source) (i j : ℕ) → stuck_state (short s i j) ≡ short_of s
+short_state Inputs i j = refl
+short_state OwnWords i j = refl
+short_state (Triples p) i j = refl
+short_state (BitTriples p) i j = refl
+short_state (Pairs p) i j = refl
+
+less_or_not : (m n : ℕ) → (m < n) ⊎ (n ≤ m)
+less_or_not m n = grind arith
+
+pub stands : (g : Given) (l : Lists) (c : Cursors) (n : Need) (w : Want) → g.item ≡ items_of l → w ≡ want_of l c n → answer g c n ≡ None → stuck_state w ≡ state_for g c n
+stands g l c n w items e none = ap stuck_state e ∙ at n none
+  where
+    at : (m : Need) → answer g c m ≡ None → stuck_state (want_of l c m) ≡ state_for g c m
+    at Nothing f = absurd cc
+    at (Item s) f =
+        elim (less_or_not (c s) (count_of l s)) [
+          | inl less ↦ absurd (let z = sym (ap (λ h. h s (c s)) items) ∙ f in let y = item_there l s (c s) less in let x = sym y ∙ z in cc)
+          | inr past ↦
+              let b : nat_lt (c s) (count_of l s) ≡ false = grind (arith, rules, past) in
+              ap (λ t. stuck_state (if t then want.Nothing else short s (c s) (count_of l s))) b ∙ short_state s (c s) (count_of l s) ∙ sym (ap (ready_or (short_of s)) f)
+        ]
+    at (Packet p k) f = sym (ap (ready_or (state.Waiting (host p))) f)
+    at (Unequal x y) f = refl
+    at Ended f = refl

@@ -1,0 +1,137 @@
+-- What a step shows, and what is kept of it.
+use Rattle.std.proofs.Common.{◌≡◌, ℕ, suc, ◌+◌, ◌<◌, Bool, true, false, List, [], ◌∷◌, ◌++◌, length, get_or, get_or-set_same, get_or-set_other, sym, ap, ◌∙◌, inl, inr, add-one}
+use Rattle.std.specs.Prelude.{slice_set, slice_index, slice_index_or, nat_eq, nat_lt, if◌then◌else◌}
+use Rattle.std.proofs.lemmas.List.{get_or_default}
+use mathlib.Core.Path.{fun_ext}
+use Rattle.vd_base.specs.declared.ids.HostId.{HostId}
+use Rattle.vd_base.specs.HostSets.{host}
+use Rattle.vd_execution.specs.declared.instructions.Action.{Action}
+use Rattle.vd_execution.specs.declared.instructions.Action.TheVariants as action
+use Rattle.vd_execution.specs.Registers.{Registers, put}
+use Rattle.vd_execution.specs.Code.{Code, Finished, Then, Send, Recv, Choose, Repeat}
+use Rattle.vd_execution.specs.Step.{Source, Inputs, OwnWords, Triples, BitTriples, Pairs, State, Cursors, Need, Nothing, Item, Packet, Unequal, Ended, need_of_action, need_of, need, Deed, Quiet, Said, Heard, Printed, deed_of, deed}
+use Rattle.vd_execution.specs.World.{done}
+use Rattle.vd_schedules.proofs.Puts.{put_same, put_other}
+use Rattle.vd_schedules.proofs.Confluence.{same_or_not}
+use Rattle.vd_machine.specs.declared.lists.Lists.{Lists}
+use Rattle.vd_machine.specs.declared.want.Want.{Want}
+use Rattle.vd_machine.specs.declared.want.Want.TheVariants as want
+use Rattle.vd_machine.specs.Wants.{want_of, short, count_of}
+use Rattle.vd_machine.specs.Dids.{seen}
+use Rattle.vd_world.specs.Hosts.{local}
+
+-- ---- what was wanted
+
+peer_in : Want → ℕ
+peer_in (want.Words p n) = p.0
+peer_in w = 0
+
+count_in : Want → ℕ
+count_in (want.Words p n) = n
+count_in w = 0
+
+no_words : (b : Bool) (s : Source) (i j : ℕ) (p : HostId) (n : ℕ) → want.Words p n ≡ (if b then want.Nothing else short s i j) → ⊥
+no_words true s i j p n e = cc
+no_words false Inputs i j p n e = cc
+no_words false OwnWords i j p n e = cc
+no_words false (Triples q) i j p n e = cc
+no_words false (BitTriples q) i j p n e = cc
+no_words false (Pairs q) i j p n e = cc
+
+same_peer : (p q : HostId) (n m : ℕ) → want.Words p n ≡ want.Words q m → p.0 ≡ q.0
+same_peer p q n m e = cc
+
+same_count : (p q : HostId) (n m : ℕ) → want.Words p n ≡ want.Words q m → n ≡ m
+same_count p q n m e = cc
+
+pub wants_words : (l : Lists) (c : Cursors) (n : Need) (p : HostId) (k : ℕ) → want.Words p k ≡ want_of l c n → n ≡ Packet p.0 k
+wants_words l c Nothing p k e = absurd cc
+wants_words l c (Item s) p k e = absurd (no_words (nat_lt (c s) (count_of l s)) s (c s) (count_of l s) p k e)
+wants_words l c (Packet q m) p k e = ap (λ x. Packet x m) (sym (same_peer p (host q) k m e)) ∙ ap (λ x. Packet p.0 x) (sym (same_count p (host q) k m e))
+wants_words l c (Unequal x y) p k e = absurd cc
+wants_words l c Ended p k e = absurd cc
+
+no_packet : (b : Bool) (x y p n : ℕ) → (if b then Nothing else Unequal x y) ≡ Packet p n → ⊥
+no_packet true x y p n e = cc
+no_packet false x y p n e = cc
+
+acts_alone : (f : Registers) (a : Action) (p n : ℕ) → need_of_action f a ≡ Packet p n → ⊥
+acts_alone f (action.Const r k) p n e = cc
+acts_alone f (action.Copy r x) p n e = cc
+acts_alone f (action.Apply o r x y) p n e = cc
+acts_alone f (action.Shl r x k) p n e = cc
+acts_alone f (action.Shr r x k) p n e = cc
+acts_alone f (action.Mux r c x y) p n e = cc
+acts_alone f (action.Own r) p n e = cc
+acts_alone f (action.Triple q a b c) p n e = cc
+acts_alone f (action.Bits q a b c) p n e = cc
+acts_alone f (action.Pair q s x) p n e = cc
+acts_alone f (action.Input r) p n e = cc
+acts_alone f (action.Print r) p n e = cc
+acts_alone f (action.Hash d m v) p n e = cc
+acts_alone f (action.Same x y) p n e = no_packet (nat_eq (f x.0) (f y.0)) (f x.0) (f y.0) p n e
+acts_alone f (action.Zero r count) p n e = cc
+acts_alone f (action.Get r x count i) p n e = cc
+acts_alone f (action.Put x count i s) p n e = cc
+
+hears_code : (f : Registers) (c : Code) (p n : ℕ) → need_of f c ≡ Packet p n → deed_of f c ≡ Heard p
+hears_code f Finished p n e = absurd cc
+hears_code f (Then a c) p n e = absurd (acts_alone f a p n e)
+hears_code f (Send q rs c) p n e = absurd cc
+hears_code f (Recv q rs c) p n e = ap Heard (the_peer q p (length rs) n e)
+  where
+    the_peer : (q p m n : ℕ) → Packet q m ≡ Packet p n → q ≡ p
+    the_peer q p m n e = cc
+hears_code f (Choose g first other c) p n e = absurd cc
+hears_code f (Repeat r turn count body c) p n e = absurd cc
+
+pub hears : (m : State) (p n : ℕ) → need m ≡ Packet p n → deed m ≡ Heard p
+hears m p n e = hears_code m.registers m.pending p n e
+
+-- ---- what was said
+
+pub seen_said : (d : Deed) (p : ℕ) (xs : List ℕ) → Said p xs ≡ seen d → d ≡ Said p xs
+seen_said Quiet p xs e = absurd cc
+seen_said (Said q ys) p xs e = sym e
+seen_said (Heard q) p xs e = absurd cc
+seen_said (Printed x) p xs e = absurd cc
+
+said_at : (links : List (List (List ℕ))) (p : ℕ) (old new : List (List ℕ)) (words : List ℕ) → p < length links → old ≡ get_or links p old → new ≡ old ++ words ∷ [] → (q : ℕ)
+    → slice_index_or (slice_set links p new) q [] ≡ put (λ i. slice_index_or links i []) p (slice_index_or links p [] ++ words ∷ []) q
+said_at links p old new words h e f q =
+    elim (same_or_not q p) [
+      | inl s ↦
+          ap (λ i. get_or (slice_set links p new) i []) s ∙ get_or-set_same links p new [] h ∙ f
+          ∙ ap (λ l. l ++ words ∷ []) (e ∙ get_or_default links p old [] h)
+          ∙ sym (ap (put (λ i. slice_index_or links i []) p (slice_index_or links p [] ++ words ∷ [])) s ∙ put_same (λ i. slice_index_or links i []) p (slice_index_or links p [] ++ words ∷ []))
+      | inr d ↦ get_or-set_other links p q new [] d ∙ sym (put_other (λ i. slice_index_or links i []) p (slice_index_or links p [] ++ words ∷ []) q d)
+    ]
+
+pub noted_said : (m s : State) (printed taken : List ℕ) (links : List (List (List ℕ))) (p : ℕ) (old new : List (List ℕ)) (words : List ℕ) (d : Deed)
+    → p < length links → old ≡ get_or links p old → new ≡ old ++ words ∷ [] → Said p words ≡ seen d
+    → local m printed (slice_set links p new) taken ≡ done (local s printed links taken) m d
+noted_said m s printed taken links p old new words d h e f k =
+    let g = fun_ext (said_at links p old new words h e f) in
+    (λ i. record { state = m; printed = printed; sent = g i; taken = λ q. slice_index taken q })
+    ∙ ap (done (local s printed links taken) m) (sym (seen_said d p words k))
+
+-- ---- what was heard
+
+heard_at : (taken : List ℕ) (p x : ℕ) → p < length taken → x ≡ get_or taken p x → (q : ℕ)
+    → slice_index (slice_set taken p (x + 1)) q ≡ put (λ i. slice_index taken i) p (suc (slice_index taken p)) q
+heard_at taken p x h e q =
+    elim (same_or_not q p) [
+      | inl s ↦
+          ap (λ i. get_or (slice_set taken p (x + 1)) i 0) s ∙ get_or-set_same taken p (x + 1) 0 h ∙ add-one x
+          ∙ ap suc (e ∙ get_or_default taken p x 0 h)
+          ∙ sym (ap (put (λ i. slice_index taken i) p (suc (slice_index taken p))) s ∙ put_same (λ i. slice_index taken i) p (suc (slice_index taken p)))
+      | inr d ↦ get_or-set_other taken p q (x + 1) 0 d ∙ sym (put_other (λ i. slice_index taken i) p (suc (slice_index taken p)) q d)
+    ]
+
+pub noted_heard : (m s : State) (printed taken : List ℕ) (links : List (List (List ℕ))) (p x : ℕ) (d : Deed)
+    → p < length taken → x ≡ get_or taken p x → d ≡ Heard p
+    → local m printed links (slice_set taken p (x + 1)) ≡ done (local s printed links taken) m d
+noted_heard m s printed taken links p x d h e k =
+    let g = fun_ext (heard_at taken p x h e) in
+    (λ i. record { state = m; printed = printed; sent = λ q. slice_index_or links q []; taken = g i })
+    ∙ ap (done (local s printed links taken) m) (sym k)

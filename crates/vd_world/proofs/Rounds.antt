@@ -1,0 +1,86 @@
+-- Rounds over the hosts.
+use Rattle.std.proofs.Common.{◌≡◌, ℕ, ◌+◌, ◌<◌, ◌≤◌, Bool, true, false, cond, subst, List, [], ◌∷◌, ◌++◌, length, refl, sym, ap, ◌∙◌, ◌⊎◌, inl, inr, arith}
+use Rattle.std.specs.Prelude.{Option, Some, None, if◌then◌else◌}
+use Rattle.std.proofs.lemmas.Option.{slice_get_past}
+use Rattle.vd_execution.specs.Schedule.{after}
+use Rattle.vd_execution.specs.World.{World, Supply, EndedFrom, step, run, left, IsStuck, all_rounds}
+use Rattle.vd_schedules.specs.Claims.{then_all}
+use Rattle.vd_schedules.proofs.Confluence.{one_end}
+use Rattle.vd_schedules.proofs.Diamond.{diamond}
+use Rattle.vd_schedules.proofs.Rounds.{step_falls, all_stuck, run_both}
+use Rattle.vd_world.specs.Hosts.{HostKept, local_or_nobody, world_of, supply_of, is_step, Reaches}
+use Rattle.vd_world.proofs.Worlds.{absent}
+
+pub reach_refl : (s : Supply) (w : World) → Reaches s w w
+reach_refl s w = ([], refl)
+
+pub reach_trans : (s : Supply) (w u v : World) → Reaches s w u → Reaches s u v → Reaches s w v
+reach_trans s w u v p q = (p.0 ++ q.0, q.1 ∙ ap (run s q.0) p.1 ∙ sym (run_both s p.0 q.0 w))
+
+pub reach_on : (s : Supply) (h : ℕ) (w0 w v : World) → Reaches s w0 w → v ≡ after (step s h w) w → Reaches s w0 v
+reach_on s h w0 w v r e = reach_trans s w0 w v r (h ∷ [], e)
+
+-- hosts that are not declared have ended
+pub ended_past : (hosts : List HostKept) → EndedFrom (length hosts) (world_of hosts)
+ended_past hosts h past = ap (λ (o : Option HostKept). (local_or_nobody o).state.pending) (slice_get_past hosts h past)
+
+-- a round that has come to host h
+pub record Round (s : Supply) (n : ℕ) (w0 : World) (moved : Bool) (h : ℕ) (w : World) : Type 0 where
+  pub reached : Reaches s w0 w
+  pub falls : moved ≡ true → left n w < left n w0
+  pub no_more : left n w ≤ left n w0
+  pub still : moved ≡ false → w ≡ w0
+  pub stuck : moved ≡ false → (g : ℕ) → g < h → step s g w ≡ None
+
+pub round_start : (s : Supply) (n : ℕ) (w : World) → Round s n w false 0 w
+round_start s n w = record { reached = ([], refl); falls = λ e. absurd cc; no_more = omega arith; still = λ e. refl; stuck = λ e g h. absurd (omega arith) }
+
+same_or_less : (h g : ℕ) → g < h + 1 → (g < h) ⊎ (g ≡ h)
+same_or_less h g e = grind arith
+
+-- a host that steps, and one that does not
+round_moved : (s : Supply) (n : ℕ) (w0 w v : World) (moved : Bool) (h : ℕ) (u : World) → EndedFrom n w → Round s n w0 moved h w → step s h w ≡ Some u → v ≡ after (step s h w) w → Round s n w0 true (h + 1) v
+round_moved s n w0 w v moved h u ended r e is =
+    let z : v ≡ u = is ∙ ap (λ o. after o w) e in
+    let less : left n u < left n w = step_falls s n h w u ended e in
+    let more = r.no_more in
+    let lv = ap (left n) z in
+    record { reached = reach_on s h w0 w v r.reached is; falls = λ q. omega arith; no_more = omega arith; still = λ q. absurd cc; stuck = λ q. absurd cc }
+
+round_waits : (s : Supply) (n : ℕ) (w0 w v : World) (moved : Bool) (h : ℕ) → Round s n w0 moved h w → step s h w ≡ None → v ≡ after (step s h w) w → Round s n w0 moved (h + 1) v
+round_waits s n w0 w v moved h r e is =
+    let z : v ≡ w = is ∙ ap (λ o. after o w) e in
+    let lv = ap (left n) z in
+    let more = r.no_more in
+    record {
+      reached = reach_on s h w0 w v r.reached is;
+      falls = λ q. let f = r.falls q in omega arith;
+      no_more = omega arith;
+      still = λ q. z ∙ r.still q;
+      stuck = λ q g lt. subst (λ x. step s g x ≡ None) (sym z) (elim (same_or_less h g lt) [ inl p ↦ r.stuck q g p | inr p ↦ ap (λ i. step s i w) p ∙ e ]);
+    }
+
+round_at : (s : Supply) (n : ℕ) (w0 w v : World) (moved : Bool) (h : ℕ) (o : Option World) → EndedFrom n w → Round s n w0 moved h w → step s h w ≡ o → v ≡ after (step s h w) w
+    → Round s n w0 (cond (is_step o) true moved) (h + 1) v
+round_at s n w0 w v moved h None ended r e is = round_waits s n w0 w v moved h r e is
+round_at s n w0 w v moved h (Some u) ended r e is = round_moved s n w0 w v moved h u ended r e is
+
+pub round_on : (s : Supply) (n : ℕ) (w0 w v : World) (moved b new : Bool) (h : ℕ) → EndedFrom n w → Round s n w0 moved h w → b ≡ is_step (step s h w) → v ≡ after (step s h w) w
+    → new ≡ (if b then true else moved) → Round s n w0 new (h + 1) v
+round_on s n w0 w v moved b new h ended r e is k =
+    subst (λ x. Round s n w0 x (h + 1) v) (sym (k ∙ ap (λ x. cond x true moved) e)) (round_at s n w0 w v moved h (step s h w) ended r refl is)
+
+less_or_not : (m n : ℕ) → (m < n) ⊎ (n ≤ m)
+less_or_not m n = grind arith
+
+pub round_stuck : (s : Supply) (n : ℕ) (w0 : World) (moved : Bool) (h : ℕ) (hosts : List HostKept) → Round s n w0 moved h (world_of hosts) → supply_of hosts ≡ s → length hosts ≤ h → moved ≡ false → IsStuck s (world_of hosts)
+round_stuck s n w0 moved h hosts r supply len e g =
+    elim (less_or_not g h) [
+      | inl p ↦ r.stuck e g p
+      | inr p ↦ ap (λ t. step t g (world_of hosts)) (sym supply) ∙ absent hosts g (slice_get_past hosts g (omega (arith, len, p)))
+    ]
+
+-- where none can step, all rounds lead
+pub all_are : (s : Supply) (n : ℕ) (w v : World) → EndedFrom n w → Reaches s w v → IsStuck s v → v ≡ then_all s n w
+all_are s n w v ended r stuck =
+    r.1 ∙ (one_end (step s) (diamond s) w (all_rounds n w) r.0 (all_stuck s n w ended) (subst (IsStuck s) r.1 stuck)).0

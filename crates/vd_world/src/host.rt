@@ -1,0 +1,163 @@
+//! One host of a world.
+
+ghost use Rattle.std.specs.Prelude.{◌≡◌, ◌<◌, length, replicate, [], OnOk, OnErr, IfOk, IfSome, slice_get, slice_index, ◌+◌, ◌^◌};
+ghost use Rattle.vd_execution.specs.Step.{State, need, deed};
+ghost use Rattle.vd_execution.specs.World.{done, moved_on, words_of};
+ghost use Rattle.vd_machine.specs.Machines.{cursors_of, IsMet, words_for};
+ghost use Rattle.vd_machine.specs.Kept.{state_of};
+ghost use Rattle.vd_machine.specs.Wants.{want_of, IsFromHost};
+ghost use Rattle.vd_world.specs.Links.{IsPlace};
+ghost use Rattle.vd_world.specs.Hosts.{local, local_of, host_at_start, HasRoom};
+
+use crate::link::Link;
+use std::alloc::{AllocError, Global};
+use std::marker::Model;
+use vd_machine::{Did, Machine, Want};
+
+/// A host: its machine, what it printed, what it sent to each host, and how many packets it took from each.
+#[derive(Drop)]
+pub struct Host {
+    machine: Machine,
+    printed: Vec<u32>,
+    links: Vec<Link>,
+    taken: Vec<usize>,
+}
+
+impl Model for Host {
+    ghost use Rattle.std.specs.Prelude.{◌≡◌, length};
+    ghost use Rattle.vd_world.specs.Hosts.{HostKept};
+
+    ghost Value = { HostKept };
+
+    ghost view = { λ h. record { machine = h.machine; printed = h.printed.items; links = h.links.items; taken = h.taken.items } };
+
+    ghost invariant = { λ h. (length h.links.items ≡ h.machine.lists.deal.hosts) × (length h.taken.items ≡ h.machine.lists.deal.hosts) };
+}
+
+fn no_links(alloc: Global, hosts: usize) -> Result<Vec<Link>, AllocError>
+    ensures { IfOk result (λ links. links.items ≡ replicate hosts []) }
+{
+    let mut links = Vec::new(alloc);
+    let mut i = 0;
+    while i < hosts {
+        links.push(Link::new(alloc))?;
+        i += 1;
+    }
+    Ok(links)
+}
+
+fn none_taken(alloc: Global, hosts: usize) -> Result<Vec<usize>, AllocError>
+    ensures { IfOk result (λ taken. taken.items ≡ replicate hosts 0) }
+{
+    vec![in alloc; 0usize; hosts]
+}
+
+/// Keeps what the next step of a machine will show. Out of memory changes nothing.
+fn note(
+    machine: &Machine,
+    printed: &mut Vec<u32>,
+    links: &mut Vec<Link>,
+    taken: &mut Vec<usize>,
+) -> Result<(), AllocError>
+    requires links { length links.old.items ≡ machine.now.lists.deal.hosts }
+    requires taken { length taken.old.items ≡ machine.now.lists.deal.hosts }
+    requires room { HasRoom taken.old.items (need (state_of machine.now)) }
+    ensures ok { (m : State) → OnOk result (local m printed.new.items links.new.items taken.new.items ≡ done (local (state_of machine.now) printed.old.items links.old.items taken.old.items) m (deed (state_of machine.now))) }
+    ensures err { OnErr result ((printed.new.items ≡ printed.old.items) × (links.new.items ≡ links.old.items) × (taken.new.items ≡ taken.old.items)) }
+    ensures links { length links.new.items ≡ length links.old.items }
+    ensures taken { length taken.new.items ≡ length taken.old.items }
+{
+    match machine.deed() {
+        Did::Print(word) => printed.push(word)?,
+        Did::Say(peer, packet) => {
+            links[peer.0 as usize].send(&packet.words[..packet.count as usize])?
+        }
+        Did::Quiet => {
+            if let Want::Words(peer, _) = machine.want() {
+                taken[peer.0 as usize] += 1;
+            }
+        }
+    }
+    Ok(())
+}
+
+impl Host {
+    /// A host before its first step.
+    pub fn start(alloc: Global, machine: Machine) -> Result<Host, AllocError>
+        ensures { IfOk result (λ h. h ≡ host_at_start machine) }
+    {
+        let hosts = machine.hosts() as usize;
+        let links = no_links(alloc, hosts)?;
+        let taken = none_taken(alloc, hosts)?;
+        Ok(Host {
+            machine,
+            printed: Vec::new(alloc),
+            links,
+            taken,
+        })
+    }
+
+    /// What its next instruction needs.
+    pub fn want(&self) -> Want
+        ensures host { IsFromHost self.now.machine.lists.deal.hosts result }
+        ensures need { result ≡ want_of self.now.machine.lists (cursors_of self.now.machine.taken) (need (state_of self.now.machine)) }
+    {
+        self.machine.want()
+    }
+
+    /// How many packets it took from a host.
+    pub fn taken_from(&self, peer: usize) -> usize
+        ensures { result ≡ slice_index self.now.taken peer }
+    {
+        match self.taken.get(peer) {
+            Some(count) => *count,
+            None => 0,
+        }
+    }
+
+    /// A packet that it sent to a host, by its place among those, if it sent so many.
+    pub fn packet_to(&self, peer: usize, place: usize) -> Option<&[u32]>
+        ensures packet { IsPlace result (slice_get ((local_of self.now).sent peer) place) }
+        ensures room { IfSome result (λ _. place + 1 < 2 ^ 64) }
+    {
+        match self.links.get(peer) {
+            Some(link) => link.packet(place),
+            None => None,
+        }
+    }
+
+    /// All words that it sent to a host.
+    pub fn words_to(&self, peer: usize) -> &[u32]
+        ensures { result.now ≡ words_of ((local_of self.now).sent peer) }
+    {
+        match self.links.get(peer) {
+            Some(link) => link.words(),
+            None => &[],
+        }
+    }
+
+    /// What it printed.
+    pub fn printed(&self) -> &[u32]
+        ensures { result.now ≡ self.now.printed }
+    {
+        &self.printed
+    }
+
+    /// One step, on the words that the next instruction waits for. Out of memory changes nothing.
+    pub fn go(&mut self, heard: &[u32]) -> Result<(), AllocError>
+        requires met { IsMet self.old.machine.lists (cursors_of self.old.machine.taken) heard.now (need (state_of self.old.machine)) }
+        requires room { HasRoom self.old.taken (need (state_of self.old.machine)) }
+        ensures ok { OnOk result (local_of self.new ≡ moved_on (local_of self.old) (words_for self.old.machine.lists (cursors_of self.old.machine.taken) heard.now (need (state_of self.old.machine)))) }
+        ensures lists { self.new.machine.lists ≡ self.old.machine.lists }
+        ensures err { OnErr result (self.new ≡ self.old) }
+    {
+        note(
+            &self.machine,
+            &mut self.printed,
+            &mut self.links,
+            &mut self.taken,
+        )?;
+        self.machine.step(heard);
+        Ok(())
+    }
+}

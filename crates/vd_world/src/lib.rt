@@ -1,0 +1,11 @@
+//! All hosts in one process, under any schedule: their machines, what they printed, and the links between them.
+#![tactic(auto)]
+
+mod heard;
+mod host;
+mod laws;
+mod link;
+mod world;
+
+pub use laws::worlds_start_at_their_joint_code;
+pub use world::World;

@@ -1,0 +1,96 @@
+//! What one host sends to another.
+
+ghost use Rattle.std.specs.Prelude.{◌≡◌, ◌++◌, ◌∷◌, [], OnOk, OnErr, slice_get, IfSome, ◌+◌, ◌-◌, ◌^◌, ◌<◌, ◌≤◌, length, take, drop};
+ghost use Rattle.vd_execution.specs.World.{words_of};
+ghost use Rattle.vd_world.specs.Links.{IsPlace, begin};
+
+use std::alloc::{AllocError, Global};
+use std::marker::Model;
+
+/// All packets that were ever sent from one host to another, in order. The words of all of them stand in one list.
+#[derive(Drop)]
+pub struct Link {
+    words: Vec<u32>,
+    /// Where each packet ends among the words.
+    ends: Vec<usize>,
+}
+
+impl Model for Link {
+    ghost use Rattle.std.specs.Prelude.{ℕ, List, length};
+    ghost use Rattle.vd_world.specs.Links.{cut, Rises};
+
+    ghost Value = { List (List ℕ) };
+
+    ghost view = { λ l. cut 0 l.ends.items l.words.items };
+
+    ghost invariant = { λ l. Rises 0 l.ends.items (length l.words.items) };
+}
+
+/// Where the packet at a place begins.
+fn start_of(ends: &[usize], place: usize) -> usize
+    ensures { result ≡ begin 0 ends.now place }
+{
+    if place == 0 {
+        return 0;
+    }
+    match ends.get(place - 1) {
+        Some(end) => *end,
+        None => 0,
+    }
+}
+
+fn between(words: &[u32], start: usize, end: usize) -> &[u32]
+    requires order { start ≤ end }
+    requires within { end ≤ length words.now }
+    ensures { result.now ≡ take (end - start) (drop start words.now) }
+{
+    &words[start..end]
+}
+
+impl Link {
+    /// Nothing was sent.
+    pub fn new(alloc: Global) -> Link
+        ensures { result ≡ [] }
+    {
+        Link {
+            words: Vec::new(alloc),
+            ends: Vec::new(alloc),
+        }
+    }
+
+    /// One more packet, at the end. Out of memory changes nothing.
+    pub fn send(&mut self, packet: &[u32]) -> Result<(), AllocError>
+        ensures ok { OnOk result (self.new ≡ self.old ++ packet.now ∷ []) }
+        ensures err { OnErr result (self.new ≡ self.old) }
+    {
+        let old = self.words.len();
+        self.words.extend_from_slice(packet)?;
+        let end = self.words.len();
+        match self.ends.push(end) {
+            Ok(()) => Ok(()),
+            Err(fault) => {
+                self.words.truncate(old);
+                Err(AllocError::from(fault))
+            }
+        }
+    }
+
+    /// The packet at a place, if so many were sent.
+    pub fn packet(&self, place: usize) -> Option<&[u32]>
+        ensures packet { IsPlace result (slice_get self.now place) }
+        ensures room { IfSome result (λ _. place + 1 < 2 ^ 64) }
+    {
+        if self.ends.len() <= place {
+            return None;
+        }
+        let end = self.ends[place];
+        Some(between(&self.words, start_of(&self.ends, place), end))
+    }
+
+    /// The words of all packets.
+    pub fn words(&self) -> &[u32]
+        ensures { result.now ≡ words_of self.now }
+    {
+        &self.words
+    }
+}

@@ -1,0 +1,176 @@
+//! All hosts.
+
+ghost use Rattle.std.specs.Prelude.{◌≡◌, ◌<◌, IfOk, OnOk, OnErr, length, true, false, if◌then◌else◌};
+ghost use Rattle.vd_execution.specs.States.{host_state};
+ghost use Rattle.vd_execution.specs.World.{words_of, IsStuck};
+ghost use Rattle.vd_world.specs.Hosts.{world_of, supply_of, turned, can_step, steps_left, stuck_state, Reaches};
+ghost use Rattle.vd_world.specs.Hosts.{AreMachines, hosts_at_start};
+ghost use Rattle.vd_schedules.specs.Claims.{then_all};
+
+use crate::heard::heard;
+use crate::host::Host;
+use std::alloc::{AllocError, Global};
+use std::marker::Model;
+use vd_base::{HostId, HostState};
+use vd_machine::{Machine, Want};
+
+fn started(alloc: Global, machines: Vec<Machine>) -> Result<Vec<Host>, AllocError>
+    ensures { IfOk result (λ hosts. hosts.items ≡ hosts_at_start machines.items) }
+{
+    let mut hosts = Vec::new(alloc);
+    for machine in machines {
+        hosts.push(Host::start(alloc, machine)?)?;
+    }
+    Ok(hosts)
+}
+
+fn either(first: bool, second: bool) -> bool
+    ensures { result ≡ (if first then true else second) }
+{
+    first || second
+}
+
+/// How a host stands that cannot step, by what it wants.
+fn state_of_want(want: Want) -> HostState
+    ensures { result ≡ stuck_state want }
+{
+    match want {
+        Want::Nothing => HostState::Ready,
+        Want::Words(peer, _) => HostState::Waiting(peer),
+        Want::Ended => HostState::Ended,
+        Want::ShortInput(_, _) => HostState::ShortInput,
+        Want::ShortDeal(_, _, _) => HostState::ShortDeal,
+        Want::Unequal(_, _) => HostState::Ready,
+    }
+}
+
+/// All hosts, which step one at a time.
+#[derive(Drop)]
+pub struct World {
+    hosts: Vec<Host>,
+}
+
+impl Model for World {
+    ghost use Rattle.std.specs.Prelude.{List, length};
+    ghost use Rattle.vd_world.specs.Hosts.{HostKept, AreOf};
+
+    ghost Value = { List HostKept };
+
+    ghost view = { λ w. w.hosts.items };
+
+    ghost invariant = { λ w. AreOf (length w.hosts.items) w.hosts.items };
+}
+
+impl World {
+    /// The hosts before their first step. There is one machine for each host, in order, and each is one of so many.
+    pub fn start(alloc: Global, machines: Vec<Machine>) -> Result<World, AllocError>
+        requires { AreMachines machines.items }
+        ensures { IfOk result (λ w. w ≡ hosts_at_start machines.items) }
+    {
+        let hosts = started(alloc, machines)?;
+        Ok(World { hosts })
+    }
+
+    /// One step of a host and true, or false and no change where it cannot step. Out of memory changes nothing.
+    pub fn step(&mut self, h: HostId) -> Result<bool, AllocError>
+        ensures world { OnOk result (world_of self.new ≡ turned self.old h.0) }
+        ensures moved { IfOk result (λ b. b ≡ can_step self.old h.0) }
+        ensures supply { supply_of self.new ≡ supply_of self.old }
+        ensures hosts { length self.new ≡ length self.old }
+        ensures memory { OnErr result (self.new ≡ self.old) }
+    {
+        self.step_at(h.0 as usize)
+    }
+
+    fn step_at(&mut self, at: usize) -> Result<bool, AllocError>
+        ensures world { OnOk result (world_of self.new ≡ turned self.old at) }
+        ensures moved { IfOk result (λ b. b ≡ can_step self.old at) }
+        ensures supply { supply_of self.new ≡ supply_of self.old }
+        ensures hosts { length self.new ≡ length self.old }
+        ensures memory { OnErr result (self.new ≡ self.old) }
+    {
+        if self.hosts.len() <= at {
+            return Ok(false);
+        }
+        match heard(&self.hosts, at, &self.hosts[at]) {
+            None => Ok(false),
+            Some(packet) => {
+                self.hosts[at].go(&packet.words[..packet.count as usize])?;
+                Ok(true)
+            }
+        }
+    }
+
+    fn count(&self) -> usize
+        ensures { result ≡ length self.now }
+    {
+        self.hosts.len()
+    }
+
+    /// One turn of each host in order. Answers whether any could step.
+    fn round(&mut self) -> Result<bool, AllocError>
+        ensures supply { supply_of self.new ≡ supply_of self.old }
+        ensures hosts { length self.new ≡ length self.old }
+        ensures reached { Reaches (supply_of self.old) (world_of self.old) (world_of self.new) }
+        ensures falls { IfOk result (λ b. b ≡ true → steps_left self.new < steps_left self.old) }
+        ensures stuck { IfOk result (λ b. b ≡ false → IsStuck (supply_of self.old) (world_of self.new)) }
+    {
+        let mut moved = false;
+        let count = self.count();
+        for at in 0..count {
+            let stepped = self.step_at(at)?;
+            moved = either(stepped, moved);
+        }
+        Ok(moved)
+    }
+
+    /// Rounds over the hosts in order, until none can step. After want of memory the world is one that some steps reach.
+    pub fn run_all(&mut self) -> Result<(), AllocError>
+        ensures all { OnOk result (world_of self.new ≡ then_all (supply_of self.old) (length self.old) (world_of self.old)) }
+        ensures reached { Reaches (supply_of self.old) (world_of self.old) (world_of self.new) }
+        ensures supply { supply_of self.new ≡ supply_of self.old }
+        ensures hosts { length self.new ≡ length self.old }
+    {
+        loop {
+            let moved = self.round()?;
+            if !moved {
+                return Ok(());
+            }
+        }
+    }
+
+    /// How a host stands.
+    pub fn state(&self, h: HostId) -> HostState
+        ensures { result ≡ host_state (supply_of self.now) (world_of self.now) h.0 }
+    {
+        let at = h.0 as usize;
+        if self.hosts.len() <= at {
+            return HostState::Ended;
+        }
+        let host = &self.hosts[at];
+        match heard(&self.hosts, at, host) {
+            Some(_) => HostState::Ready,
+            None => state_of_want(host.want()),
+        }
+    }
+
+    /// The words that a host has printed.
+    pub fn printed(&self, h: HostId) -> &[u32]
+        ensures { result.now ≡ (world_of self.now h.0).printed }
+    {
+        match self.hosts.get(h.0 as usize) {
+            Some(host) => host.printed(),
+            None => &[],
+        }
+    }
+
+    /// All words that a host has sent to another.
+    pub fn talk(&self, from: HostId, to: HostId) -> &[u32]
+        ensures { result.now ≡ words_of ((world_of self.now from.0).sent to.0) }
+    {
+        match self.hosts.get(from.0 as usize) {
+            Some(host) => host.words_to(to.0 as usize),
+            None => &[],
+        }
+    }
+}
