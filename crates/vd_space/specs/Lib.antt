@@ -6,3 +6,4 @@ pub mod Spaces
 pub mod Growth
 pub mod Usual
 pub mod Laws
+pub mod Steps

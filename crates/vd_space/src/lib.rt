@@ -3,6 +3,7 @@
 
 mod laws;
 mod problem;
+mod reading;
 mod sums;
 mod validity;
 
