@@ -1,0 +1,7 @@
+pub mod Numbers
+pub mod Scans
+pub mod Whole
+pub mod Outcomes
+pub mod Steps
+pub mod Answers
+pub mod Forms

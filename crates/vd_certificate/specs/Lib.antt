@@ -1,0 +1,4 @@
+pub mod Texts
+pub mod Outcomes
+pub mod Scan
+pub mod Steps

@@ -1,0 +1,9 @@
+//! Lists that are made one choice at a time, walked from prefix to prefix: what a search for the least of them needs. And
+//! the shifts of costs under which their bounds are taken.
+#![tactic(auto)]
+
+mod prefixes;
+mod shift;
+
+pub use prefixes::Prefixes;
+pub use shift::Shift;

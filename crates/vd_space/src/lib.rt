@@ -1,0 +1,15 @@
+//! The choice of a protocol for each slot: which lists of protocols are valid, what they cost, and bounds below that.
+#![tactic(auto)]
+
+mod laws;
+mod problem;
+mod reading;
+mod sums;
+mod validity;
+
+pub use laws::{
+    bounds_are_below_costs, bounds_end_in_costs, prefixes_grow, problems_are_bounded,
+    terms_go_by_place,
+};
+pub use problem::{Guard, Index, Making, Output, Problem, Use};
+pub use sums::least_of;
