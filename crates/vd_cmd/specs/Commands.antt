@@ -1,11 +1,52 @@
 -- The forms of a command line.
-use Rattle.std.specs.Prelude.{ℕ, List, [], ◌∷◌, Option, Some, None, if◌then◌else◌, codes}
+use Rattle.std.specs.Prelude.{◌≡◌, ◌↔◌, ◌<◌, ◌≤◌, ℕ, ◌-◌, ◌^◌, List, [], ◌∷◌, Option, Some, None, Result, Err, IfOk, if◌then◌else◌, codes}
 use Rattle.std.specs.Str.{bytes_eq}
+use Rattle.vd_base.specs.Limits.{most_hosts, most_deal_items}
+use Rattle.vd_deals.specs.declared.deal.Counts.{Counts}
+use Rattle.vd_cmd.specs.Numbers.{number_within}
 use Rattle.vd_cmd.specs.declared.command.Command.{Command}
-use Rattle.vd_cmd.specs.declared.command.Command.TheVariants.{Clear, Labels}
+use Rattle.vd_cmd.specs.declared.command.Command.TheVariants.{Clear, Labels, Deal}
+use Rattle.vd_cmd.specs.declared.command.CommandFault.{CommandFault}
+use Rattle.vd_cmd.specs.declared.command.CommandFault.TheVariants.{Usage}
+
+abbrev pub number_of_items : List ℕ → Option ℕ
+number_of_items = number_within 0 most_deal_items
+
+-- how much is dealt, if these are numbers of hosts and of items
+abbrev pub counts_of : Option ℕ → Option ℕ → Option ℕ → Option ℕ → Option ℕ → Option Counts
+counts_of (Some hosts) (Some own) (Some muls) (Some ands) (Some pairs) = Some (record { hosts = hosts; own = own; muls = muls; ands = ands; pairs = pairs })
+counts_of hosts own muls ands pairs = None
+
+abbrev pub deal_of : Option Counts → Option ℕ → List ℕ → Option Command
+deal_of (Some counts) (Some key) prefix = Some (Deal counts key prefix)
+deal_of counts key prefix = None
 
 -- the command that the words are, if they have a form
 abbrev pub form_of : List (List ℕ) → Option Command
 form_of (word ∷ source ∷ []) = if bytes_eq word (codes "labels") then Some (Labels source) else None
 form_of (word ∷ source ∷ inputs ∷ []) = if bytes_eq word (codes "clear") then Some (Clear source inputs) else None
+form_of (word ∷ hosts ∷ own ∷ muls ∷ ands ∷ pairs ∷ key ∷ prefix ∷ []) =
+    if bytes_eq word (codes "deal")
+    then deal_of (counts_of (number_within 1 most_hosts hosts) (number_of_items own) (number_of_items muls) (number_of_items ands) (number_of_items pairs)) (number_within 0 (2 ^ 64 - 1) key) prefix
+    else None
 form_of words = None
+
+-- the limits of what is dealt
+pub record AreWithin (counts : Counts) : Type 0 where
+  pub some_host : 0 < counts.hosts
+  pub hosts : counts.hosts ≤ most_hosts
+  pub own : counts.own ≤ most_deal_items
+  pub muls : counts.muls ≤ most_deal_items
+  pub ands : counts.ands ≤ most_deal_items
+  pub pairs : counts.pairs ≤ most_deal_items
+
+-- what the numbers of a command keep
+abbrev pub KeepsLimits : Command → Type 0
+KeepsLimits (Deal counts key prefix) = AreWithin counts
+KeepsLimits command = Unit {0}
+
+-- The answer to words of this form: the command, and a fault of usage exactly where there is none.
+pub record Reads (form : Option Command) (result : Result Command CommandFault) : Type 0 where
+  pub command : IfOk result (λ command. form ≡ Some command)
+  pub limits : IfOk result KeepsLimits
+  pub usage : (result ≡ Err Usage) ↔ (form ≡ None)

@@ -2,6 +2,7 @@
 #![tactic(auto)]
 
 mod command;
+mod numbers;
 mod own;
 
 pub use command::{Command, CommandFault, read_words};

@@ -3,3 +3,4 @@ pub mod Loads
 pub mod Deliver
 pub mod Runs
 pub mod Lines
+pub mod Numbered

@@ -6,10 +6,12 @@ mod deliver;
 mod ending;
 mod lines;
 mod loading;
+mod numbered;
 mod status;
 
 pub use answer::Answer;
 pub use ending::{finish, print_text};
 pub use lines::tell;
 pub use loading::load;
+pub use numbered::{file_name, numbered_files};
 pub use status::{RuleFault, Status, SyntaxFault, TextFault};
