@@ -3,8 +3,6 @@ ghost use Rattle.vd_lexer.specs.Kinds.{code_of};
 ghost use Rattle.vd_lexer.specs.declared.token.LexFault.TheVariants as lex_fault;
 
 use std::alloc::AllocError;
-use std::error::Error;
-use std::fmt;
 use vd_base::Span;
 
 /// What a token is.
@@ -99,17 +97,6 @@ pub enum LexFault {
     BadByte(u32),
     Memory,
 }
-
-impl fmt::Display for LexFault {
-    fn fmt<W: fmt::Write>(&self, f: &mut fmt::Formatter<W>) -> fmt::Result {
-        match self {
-            LexFault::BadByte(at) => write!(f, "bad byte at {at}"),
-            LexFault::Memory => write!(f, "out of memory"),
-        }
-    }
-}
-
-impl Error for LexFault {}
 
 impl From<AllocError> for LexFault {
     ghost from_gives = { λ _ fault. fault ≡ lex_fault.Memory };
