@@ -5,3 +5,6 @@ pub mod DealExact
 pub mod Outcomes
 pub mod SharesWritten
 pub mod TwoByTwo
+pub mod Streams
+pub mod Drawn
+pub mod MadeValid

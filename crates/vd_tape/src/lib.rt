@@ -6,6 +6,7 @@ mod fault;
 mod files;
 mod item;
 mod laws;
+mod making;
 mod reading;
 mod writing;
 
@@ -13,4 +14,5 @@ pub use consistency::consistent;
 pub use fault::TapeFault;
 pub use files::read_deal;
 pub use laws::{deals_follow_the_grammar, written_deals_are_read};
+pub use making::make;
 pub use writing::write_deal;

@@ -86,7 +86,7 @@ fn read_shares(alloc: Global, cursor: &mut Cursor, count: u8, me: u8) -> Result<
 }
 
 /// The peer that stands at a place among the peers of a host.
-fn peer(me: u8, place: u8) -> u8
+pub(crate) fn peer(me: u8, place: u8) -> u8
     requires { place < 255 }
     ensures { result ≡ peer_at me place }
 {

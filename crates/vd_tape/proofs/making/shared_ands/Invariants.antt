@@ -1,0 +1,7 @@
+use Rattle.std.proofs.Common.{◌≡◌}
+use Rattle.vd_deals.specs.Validity.{peer_at}
+use Rattle.vd_tape.specs.Made.{first_of, and_item}
+use Rattle.vd_tape.proofs.making.shared_ands.Given as goal
+
+abbrev pub invariant-loop-place : goal.invariant-loop-place
+invariant-loop-place l = l.lists ≡ first_of l.place (λ place. first_of l.count (and_item l.key l.me (peer_at l.me place)))
