@@ -1,15 +1,15 @@
 -- A refusal of an inputs file is at the first token that cannot stand there.
-use Rattle.std.proofs.Common.{◌≡◌, ℕ, Bool, true, false, inl, inr, List, [], ◌∷◌, ◌++◌, length, map, refl, ap, sym, ◌∙◌, subst, Option, Some, None, is_some, Ok, Err, replicate, slice_set, slice_index_or, nat_lt, if◌then◌else◌}
+use Rattle.std.proofs.Common.{◌≡◌, ℕ, Bool, true, false, inl, inr, List, [], ◌∷◌, ◌++◌, length, refl, ap, sym, ◌∙◌, subst, Option, Some, None, is_some, Ok, Err, replicate, slice_set, slice_index_or, nat_lt, if◌then◌else◌}
 use Rattle.vd_report.specs.declared.fault.ReadFault.{ReadFault}
 use Rattle.vd_report.specs.declared.fault.ReadFault.TheVariants.{Text, UnknownHost}
 use Rattle.vd_report.specs.declared.token.TokenKind.{TokenKind}
 use Rattle.vd_report.specs.declared.token.TokenKind.TheVariants as kind
 use Rattle.vd_report.specs.declared.token.Token.{Token}
 use Rattle.vd_report.specs.Hosts.{host_of}
-use Rattle.vd_report.specs.Tokens.{tokens_at, end_of, text_of, capped}
-use Rattle.vd_report.specs.Inputs.{Sections, words_of, Place, between, named, listing, Step, go, stop, at_name, at_section, at_colon, at_word, step, reads, inputs_read}
-use Rattle.vd_report.specs.Outcome.{Begins, BeginsWith, FirstWrong}
-use Rattle.vd_report.specs.InputsText.{AreSections, IsInputsText, GivesInputs, InputsFollowGrammar}
+use Rattle.vd_report.specs.Tokens.{tokens_at, text_of, capped}
+use Rattle.vd_report.specs.Inputs.{Sections, Place, between, named, listing, Step, go, stop, at_name, at_section, at_colon, at_word, step, reads, inputs_read}
+use Rattle.vd_report.specs.Outcome.{BeginsWith, FirstWrong}
+use Rattle.vd_report.specs.InputsText.{AreSections, IsInputsText, InputsFollowGrammar}
 use Rattle.vd_report.proofs.TokenSteps.{HasEnd, has_end}
 use Rattle.vd_report.proofs.InputsSteps.{next, unfold_step, reads_go, reads_stop}
 use Rattle.vd_report.proofs.InputsLaw.{Fits, fits_start, accept, between_known, given_inputs, accepted_inputs}

@@ -10,7 +10,7 @@ use Rattle.vd_report.specs.declared.schedule.Schedule.{Schedule}
 use Rattle.vd_report.specs.Hosts.{host_of}
 use Rattle.vd_report.specs.Tokens.{end_of, tokens_at, text_of, capped}
 use Rattle.vd_report.specs.Schedule.{Step, go, all, stop, at_host, at_entry, entry_step, behind_all, reads_last, reads_entries, schedule_read}
-use Rattle.vd_report.specs.ScheduleText.{AreSchedule, GivesSchedule, IsScheduleText, SchedulesFollowGrammar}
+use Rattle.vd_report.specs.ScheduleText.{AreSchedule, IsScheduleText, SchedulesFollowGrammar}
 use Rattle.vd_report.specs.Outcome.{BeginsWith, FirstWrong}
 use Rattle.vd_report.proofs.TokenSteps.{HasEnd, has_end}
 use Rattle.vd_report.proofs.ScheduleLaw.{next, by_step, given_text, accepted_text}

@@ -1,5 +1,5 @@
 -- What a schedule says where one host more is declared, which has the text of a token as its name.
-use Rattle.std.proofs.Common.{◌≡◌, ℕ, Bool, true, false, List, [], ◌∷◌, ◌++◌, length, refl, ap, sym, ◌∙◌, subst, arith, Option, Some, None, Ok, Err, nat_lt, if◌then◌else◌}
+use Rattle.std.proofs.Common.{◌≡◌, ℕ, Bool, true, false, List, [], ◌∷◌, ◌++◌, length, refl, ap, sym, ◌∙◌, subst, Option, Some, None, Ok, Err, nat_lt, if◌then◌else◌}
 use Rattle.vd_base.specs.declared.ids.HostId.{HostId}
 use Rattle.vd_report.specs.declared.fault.ReadFault.TheVariants.{Text, UnknownHost, Memory}
 use Rattle.vd_report.specs.declared.token.TokenKind.{TokenKind}

@@ -1,16 +1,16 @@
 -- What a schedule file says is what its grammar gives.
-use Rattle.std.proofs.Common.{◌≡◌, inl, inr, ℕ, ◌+◌, ◌<◌, ◌≤◌, Bool, true, false, List, [], ◌∷◌, ◌++◌, length, refl, ap, sym, ◌∙◌, subst, arith, Option, Some, None, Result, Ok, Err, nat_lt, append_assoc, append-nil, length-append, if◌then◌else◌}
+use Rattle.std.proofs.Common.{◌≡◌, ℕ, ◌+◌, ◌<◌, ◌≤◌, Bool, true, false, List, [], ◌∷◌, ◌++◌, length, refl, ap, sym, ◌∙◌, subst, arith, Option, Some, None, Result, Ok, Err, nat_lt, append_assoc, append-nil, length-append, if◌then◌else◌}
 use Rattle.std.proofs.lemmas.Bool.{ltb-true}
 use Rattle.vd_base.specs.declared.ids.HostId.{HostId}
 use Rattle.vd_report.specs.declared.fault.ReadFault.{ReadFault}
-use Rattle.vd_report.specs.declared.fault.ReadFault.TheVariants.{Text, UnknownHost}
+use Rattle.vd_report.specs.declared.fault.ReadFault.TheVariants.{Text}
 use Rattle.vd_report.specs.declared.token.TokenKind.{TokenKind}
 use Rattle.vd_report.specs.declared.token.TokenKind.TheVariants as kind
 use Rattle.vd_report.specs.declared.token.Token.{Token}
 use Rattle.vd_report.specs.declared.schedule.Schedule.{Schedule}
 use Rattle.vd_report.specs.Hosts.{host_of}
-use Rattle.vd_report.specs.Tokens.{end_of, tokens_at, text_of, capped}
-use Rattle.vd_report.specs.Schedule.{Step, go, all, stop, at_host, at_entry, entry_step, behind_all, reads_last, reads_entries, schedule_read}
+use Rattle.vd_report.specs.Tokens.{text_of, capped}
+use Rattle.vd_report.specs.Schedule.{Step, go, all, stop, at_host, at_entry, entry_step, behind_all, reads_last, reads_entries}
 use Rattle.vd_report.specs.ScheduleText.{AreEntries, no_entry, only_all, one_entry, AreSchedule}
 use Rattle.vd_report.proofs.InputsSteps.{below_limit}
 

@@ -7,3 +7,4 @@ pub mod Outcome
 pub mod Schedule
 pub mod InputsText
 pub mod ScheduleText
+pub mod ReportLines

@@ -6,6 +6,7 @@ mod hosts;
 mod inputs;
 mod labels;
 mod lines;
+mod reports;
 mod schedule;
 mod token;
 
@@ -13,4 +14,5 @@ pub use fault::ReadFault;
 pub use inputs::{inputs_follow_the_grammar, read_inputs};
 pub use labels::labels_text;
 pub use lines::{outputs_text, push_words_line};
+pub use reports::{HostLine, HostLines, Talk, hosts_text, talk_text};
 pub use schedule::{Schedule, read_schedule, schedules_follow_the_grammar};
