@@ -4,3 +4,4 @@ pub mod InSteps
 pub mod Storing
 pub mod Written
 pub mod WholeRuns
+pub mod Numbering

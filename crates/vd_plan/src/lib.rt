@@ -13,5 +13,5 @@ pub use answer::Answer;
 pub use ending::{finish, print_text};
 pub use lines::tell;
 pub use loading::load;
-pub use numbered::{file_name, numbered_files};
+pub use numbered::file_name;
 pub use status::{RuleFault, Status, SyntaxFault, TextFault};

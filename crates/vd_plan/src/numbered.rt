@@ -1,12 +1,10 @@
-//! Files of the hosts, by their numbers.
+//! Names of the hosts' files.
 
-ghost use Rattle.std.specs.Prelude.{◌≡◌, ◌≤◌, length, IfOk};
-ghost use Rattle.vd_plan.specs.Numbered.{file_name, numbered};
+ghost use Rattle.std.specs.Prelude.{◌≡◌, IfOk};
+ghost use Rattle.vd_plan.specs.Numbered.{file_name};
 
 use std::alloc::{AllocError, Global};
-use vd_base::{Bytes, Text};
-use vd_items::Items;
-use vd_outside::Stored;
+use vd_base::Text;
 
 /// The name of a host's file: `PREFIX.i` and an ending.
 pub fn file_name(
@@ -19,23 +17,4 @@ pub fn file_name(
 {
     let name = format!(in alloc; "{prefix}.{number}{ending}")?;
     Text::copy_of(alloc, name.as_str())
-}
-
-/// A file for each host, in order, with these contents.
-pub fn numbered_files(
-    alloc: Global,
-    prefix: &str,
-    ending: &str,
-    contents: Items<Bytes>,
-) -> Result<Items<Stored>, AllocError>
-    ensures { IfOk result (λ files. files ≡ numbered prefix.now ending.now 0 contents) }
-{
-    let mut files = Items::new(alloc);
-    let mut number: usize = 0;
-    for content in contents.into_vec() {
-        let name = file_name(alloc, prefix, number, ending)?;
-        files.push(Stored { name, content })?;
-        number += 1;
-    }
-    Ok(files)
 }

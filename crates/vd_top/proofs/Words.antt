@@ -1,7 +1,9 @@
 -- The words of a command line, where their form is known.
 use Rattle.std.proofs.Common.{◌≡◌, ℕ, Bool, true, List, Some, Result, Ok, Err, IfOk}
 use Rattle.vd_outside.specs.Files.{FilesView}
-use Rattle.vd_cmd.specs.Commands.{form_of}
+use Rattle.vd_deals.specs.declared.deal.Counts.{Counts}
+use Rattle.vd_tape.specs.Made.{AreCounts}
+use Rattle.vd_cmd.specs.Commands.{AreWithin, form_of}
 use Rattle.vd_cmd.specs.declared.command.Command.{Command}
 use Rattle.vd_plan.specs.Plans.{Executes, IsProper, IsGiven}
 use Rattle.vd_plan.specs.declared.status.Status.{Status}
@@ -21,3 +23,7 @@ given fits (Err status) proper = tt
 -- there are outcomes
 pub some_outcomes : Outcomes
 some_outcomes = record { texts = some_texts; labels = some_labels }
+
+-- the limits of what is dealt are those of what is made
+pub are_counts : (counts : Counts) → AreWithin counts → AreCounts counts
+are_counts counts within = record { hosts = within.hosts; own = within.own; muls = within.muls; ands = within.ands; pairs = within.pairs }
