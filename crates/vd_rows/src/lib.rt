@@ -4,6 +4,8 @@
 #[cfg(test)]
 mod clear;
 #[cfg(test)]
+mod deals;
+#[cfg(test)]
 mod labels;
 #[cfg(test)]
 mod large;
