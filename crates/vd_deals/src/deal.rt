@@ -1,6 +1,8 @@
 //! What a dealer hands out.
 
 use crate::items::{PairItem, Triple};
+use std::fmt;
+use thiserror::Error;
 use vd_base::{HostId, Words};
 use vd_items::Items;
 
@@ -37,6 +39,18 @@ pub enum DealKind {
     Pair,
 }
 
+impl fmt::Display for DealKind {
+    fn fmt<W: fmt::Write>(&self, f: &mut fmt::Formatter<W>) -> fmt::Result {
+        let name = match self {
+            DealKind::Own => "own",
+            DealKind::Mul => "mul",
+            DealKind::And => "and",
+            DealKind::Pair => "pair",
+        };
+        write!(f, "{name}")
+    }
+}
+
 /// How much is dealt: to how many hosts, how many words to each, and how many items of each kind to each two.
 #[derive(Clone, Copy, PartialEq, Eq, Debug)]
 pub struct Counts {
@@ -48,7 +62,8 @@ pub struct Counts {
 }
 
 /// An item that breaks its identity, and the two sides.
-#[derive(Clone, Copy, PartialEq, Eq, Debug)]
+#[derive(Clone, Copy, PartialEq, Eq, Debug, Error)]
+#[error("bad deal {kind} {} {} {index} {left} {right}", .first.0, .second.0)]
 pub struct BadItem {
     pub kind: DealKind,
     pub first: HostId,

@@ -8,6 +8,8 @@ mod declared_names;
 #[cfg(test)]
 mod formulas;
 #[cfg(test)]
+mod deals;
+#[cfg(test)]
 mod labels;
 #[cfg(test)]
 mod lexer;

@@ -8,3 +8,4 @@ pub mod TwoByTwo
 pub mod Streams
 pub mod Drawn
 pub mod MadeValid
+pub mod EachHost

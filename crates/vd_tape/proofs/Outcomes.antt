@@ -7,7 +7,7 @@ use Rattle.vd_bytes.proofs.Whole.{stops_single, left_within}
 use Rattle.vd_deals.specs.declared.deal.Deal.{Deal}
 use Rattle.vd_tape.specs.declared.fault.TapeFault.{TapeFault}
 use Rattle.vd_tape.specs.declared.fault.TapeFault.TheVariants.{Text, Memory}
-use Rattle.vd_tape.specs.Text.{deal_text, IsDealText}
+use Rattle.vd_tape.specs.Text.{deal_text, IsDealText, IsDealOf}
 use Rattle.vd_tape.specs.Reading.{deal_at, deal_read}
 use Rattle.vd_tape.specs.Outcome.{IsFaultOf, IsFirstWrong, Accepts, Refuses, DealsFollowGrammar}
 use Rattle.vd_tape.proofs.DealExact.{Fit, deal_exact}
@@ -51,3 +51,8 @@ pub refuses : (hosts me : ℕ) (bytes : List ℕ) (r : Result Deal TapeFault) �
 refuses hosts me bytes (Ok d) follows ok err = λ some. refuses_none hosts me bytes d follows ok
 refuses hosts me bytes (Err (Text at)) follows ok err = λ some. refuses_one hosts me bytes at follows err
 refuses hosts me bytes (Err Memory) follows ok err = λ some fault. absurd (some refl)
+
+pub is_deal_of : (hosts me : ℕ) (bytes : List ℕ) (r : Result Deal TapeFault) → DealsFollowGrammar hosts me bytes
+    → IfOk r (λ d. deal_read hosts me bytes ≡ Ok d) → IfOk r (IsDealOf hosts me)
+is_deal_of hosts me bytes (Ok d) follows ok = ((follows.given d).0 ok).0
+is_deal_of hosts me bytes (Err fault) follows ok = tt

@@ -1,5 +1,5 @@
 -- The file of a deal.
-use Rattle.std.specs.Prelude.{◌≡◌, ℕ, ◌+◌, List, [], ◌∷◌, ◌++◌, codes, length, flat_map}
+use Rattle.std.specs.Prelude.{◌≡◌, ℕ, ◌+◌, List, [], ◌∷◌, ◌++◌, Some, codes, length, slice_get, flat_map}
 use Rattle.vd_bytes.specs.Reading.{field}
 use Rattle.vd_deals.specs.declared.items.Triple.{Triple}
 use Rattle.vd_deals.specs.declared.items.PairItem.{PairItem}
@@ -51,3 +51,7 @@ IsFileOf hosts me bytes deal = IsDealOf hosts me deal × (deal_text deal ≡ byt
 -- The bytes are the text of a deal.
 abbrev pub IsDealText : (hosts me : ℕ) → List ℕ → Type 0
 IsDealText hosts me bytes = (deal : Deal) × IsFileOf hosts me bytes deal
+
+-- The deals of the first hosts among so many, in order.
+abbrev pub AreDealsOf : (hosts : ℕ) → List Deal → Type 0
+AreDealsOf hosts deals = (host : ℕ) (deal : Deal) → slice_get deals host ≡ Some deal → IsDealOf hosts host deal

@@ -1,8 +1,8 @@
 //! Deal files.
 
-ghost use Rattle.std.specs.Prelude.{◌≡◌, ◌≤◌, ◌<◌, ◌++◌, Ok, IfOk, IfErr};
+ghost use Rattle.std.specs.Prelude.{◌≡◌, ◌≤◌, ◌<◌, Ok, IfOk, IfErr};
 ghost use Rattle.vd_base.specs.Limits.{most_hosts};
-ghost use Rattle.vd_tape.specs.Text.{deal_text};
+ghost use Rattle.vd_tape.specs.Text.{IsDealOf};
 ghost use Rattle.vd_tape.specs.Reading.{deal_read};
 ghost use Rattle.vd_tape.specs.Outcome.{Accepts, Refuses, IsFaultOf};
 
@@ -19,6 +19,7 @@ use vd_deals::Deal;
 pub fn read_deal(alloc: Global, bytes: &[u8], hosts: u8, me: HostId) -> Result<Deal, TapeFault>
     requires few { hosts ≤ most_hosts }
     requires declared { me.0 < hosts }
+    ensures deal { IfOk result (IsDealOf hosts me.0) }
     ensures given { Accepts hosts me.0 bytes.now result }
     ensures refused { Refuses hosts me.0 bytes.now result }
     ensures ok { IfOk result (λ deal. deal_read hosts me.0 bytes.now ≡ Ok deal) }

@@ -1,9 +1,10 @@
 //! What the reader of deals is, as laws.
 
-ghost use Rattle.std.specs.Prelude.{◌≡◌, ℕ, ◌≤◌, ◌<◌, List, Ok};
+ghost use Rattle.std.specs.Prelude.{◌≡◌, ℕ, ◌≤◌, ◌<◌, List, [], ◌∷◌, ◌++◌, length, Ok};
 ghost use Rattle.vd_base.specs.Limits.{most_hosts};
 ghost use Rattle.vd_deals.specs.declared.deal.Deal.{Deal};
-ghost use Rattle.vd_tape.specs.Text.{deal_text, IsDealOf};
+ghost use Rattle.vd_deals.specs.Validity.{AreDeals};
+ghost use Rattle.vd_tape.specs.Text.{deal_text, IsDealOf, AreDealsOf};
 ghost use Rattle.vd_tape.specs.Reading.{deal_read};
 ghost use Rattle.vd_tape.specs.Outcome.{DealsFollowGrammar};
 
@@ -15,4 +16,12 @@ pub fn deals_follow_the_grammar()
 /// What is written is read.
 pub fn written_deals_are_read()
     ensures { (hosts me : ℕ) (deal : Deal) → IsDealOf hosts me deal → deal_read hosts me (deal_text deal) ≡ Ok deal }
+{}
+
+/// The deals of as many hosts as there are, each from its own file, are the deals of all hosts.
+pub fn deals_of_each_host_are_deals()
+    ensures none { (hosts : ℕ) → AreDealsOf hosts [] }
+    ensures more { (hosts : ℕ) (deals : List Deal) (deal : Deal) → AreDealsOf hosts deals → IsDealOf hosts (length deals) deal →
+        AreDealsOf hosts (deals ++ deal ∷ []) }
+    ensures all { (deals : List Deal) → length deals ≤ most_hosts → AreDealsOf (length deals) deals → AreDeals deals }
 {}
