@@ -4,6 +4,8 @@
 #[cfg(test)]
 mod clear;
 #[cfg(test)]
+mod hosts;
+#[cfg(test)]
 mod labels;
 #[cfg(test)]
 mod large;
