@@ -11,3 +11,4 @@ pub mod Loading
 pub mod Places
 pub mod Rooms
 pub mod Packets
+pub mod Widths

@@ -1,7 +1,8 @@
 -- What a machine keeps, and the state that it stands for.
-use Rattle.std.specs.Prelude.{◌≡◌, ℕ, zero, suc, ◌+◌, ◌-◌, ◌<◌, ◌≤◌, List, [], ◌∷◌, take, drop, length, All, max}
+use Rattle.std.specs.Prelude.{◌≡◌, ℕ, zero, suc, ◌+◌, ◌-◌, ◌<◌, ◌≤◌, List, [], ◌∷◌, ◌++◌, take, drop, length, All, max, nat_lt, if◌then◌else◌}
 use Rattle.vd_base.specs.Limits.{most_packet_words}
-use Rattle.vd_execution.specs.Registers.{Registers, put_each, written}
+use Rattle.vd_execution.specs.declared.instructions.Action.{Action}
+use Rattle.vd_execution.specs.Registers.{Registers, put, put_each, written}
 use Rattle.vd_execution.specs.Code.{Code, Finished, Then, Send, Recv, Choose, Repeat, followed_by}
 use Rattle.vd_execution.specs.Ranges.{ActionFits, IsPacketRange, depth}
 use Rattle.vd_execution.specs.Step.{State, Need, Nothing, Packet, Deed, Quiet, Said, Heard, next, need, need_of_action, word_printed, deed_of_print, words_in}
@@ -14,7 +15,7 @@ use Rattle.vd_machine.specs.declared.ops.Op.TheVariants.{Plain as One, If, For}
 use Rattle.vd_machine.specs.declared.frames.Frame.{Frame}
 use Rattle.vd_machine.specs.declared.frames.LoopFrame.{LoopFrame}
 use Rattle.vd_machine.specs.declared.frames.Frame.TheVariants.{Run, Loop}
-use Rattle.vd_machine.specs.Machines.{held, cursors_of, words_for, SamePeers}
+use Rattle.vd_machine.specs.Machines.{held, cursors_of, IsMet, words_for, SamePeers}
 
 abbrev pub plain_then : Plain → Code → Code
 plain_then (plain.Do a) c = Then a c
@@ -30,6 +31,13 @@ abbrev pub plain_written : Registers → Plain → List ℕ → Registers
 plain_written f (plain.Do a) xs = written f a xs
 plain_written f (plain.Send p rs) xs = f
 plain_written f (plain.Recv p rs) xs = put_each f rs xs
+
+-- the registers after an instruction, on what was heard
+abbrev pub plain_after : Registers → Lists → Taken → List ℕ → Plain → Registers
+plain_after f l t heard i = plain_written f i (words_for l (cursors_of t) heard (plain_need f i))
+
+abbrev pub action_after : Registers → Lists → Taken → Action → Registers
+action_after f l t a = written f a (words_for l (cursors_of t) [] (need_of_action f a))
 
 abbrev pub plain_deed : Registers → Plain → Deed
 plain_deed f (plain.Do a) = deed_of_print (word_printed f a)
@@ -139,6 +147,10 @@ state_of m = record {
 abbrev pub at_start : Code → State
 at_start c = record { pending = c; registers = λ r. 0; cursors = λ s. 0 }
 
+-- what the next instruction needs is there, where these words were heard
+abbrev pub CanHear : Kept → List ℕ → Type 0
+CanHear m heard = IsMet m.lists (cursors_of m.taken) heard (need (state_of m))
+
 -- the state after one step, on the words that were heard
 abbrev pub stepped : Kept → List ℕ → State
 stepped m heard = next (state_of m) (words_for m.lists (cursors_of m.taken) heard (need (state_of m)))
@@ -175,3 +187,13 @@ pub record Same (top : Frame) (below : List Frame) (top' : Frame) (below' : List
 
 abbrev pub loop_of : LoopFrame → ℕ → Frame
 loop_of l turn = Loop l.register turn l.turns l.from l.mid l.to
+
+-- a loop's next turn, or what follows it: the top frame, those below, and the registers
+abbrev pub turn_top : LoopFrame → Frame
+turn_top l = if nat_lt l.turn l.turns then Run l.from l.mid else Run l.mid l.to
+
+abbrev pub turn_below : LoopFrame → List Frame → List Frame
+turn_below l below = if nat_lt l.turn l.turns then below ++ loop_of l (l.turn + 1) ∷ [] else below
+
+abbrev pub turn_registers : LoopFrame → Registers → Registers
+turn_registers l f = if nat_lt l.turn l.turns then put f l.register l.turn else f

@@ -2,10 +2,11 @@
 use Rattle.std.specs.Prelude.{ℕ, ◌<◌, ◌≤◌, nat_lt, if◌then◌else◌, length}
 use Rattle.vd_base.specs.Limits.{most_packet_words}
 use Rattle.vd_base.specs.HostSets.{host}
-use Rattle.vd_execution.specs.Step.{Source, Inputs, OwnWords, Triples, BitTriples, Pairs, Cursors, Need, Nothing, Item, Packet, Unequal, Ended}
+use Rattle.vd_execution.specs.Step.{need, Source, Inputs, OwnWords, Triples, BitTriples, Pairs, Cursors, Need, Nothing, Item, Packet, Unequal, Ended}
+use Rattle.vd_machine.specs.Kept.{Kept, state_of}
 use Rattle.vd_machine.specs.declared.lists.Lists.{Lists}
 use Rattle.vd_deals.specs.declared.deal.DealKind.TheVariants as kind
-use Rattle.vd_machine.specs.Machines.{list_of}
+use Rattle.vd_machine.specs.Machines.{list_of, cursors_of}
 use Rattle.vd_machine.specs.declared.want.Want.{Want}
 use Rattle.vd_machine.specs.declared.want.Want.TheVariants as want
 
@@ -40,3 +41,7 @@ IsFromHost hosts want.Ended = Unit {0}
 IsFromHost hosts (want.ShortInput at count) = Unit {0}
 IsFromHost hosts (want.ShortDeal kind at count) = Unit {0}
 IsFromHost hosts (want.Unequal left right) = Unit {0}
+
+-- what the next instruction of a machine needs
+abbrev pub wanted : Kept → Want
+wanted m = want_of m.lists (cursors_of m.taken) (need (state_of m))

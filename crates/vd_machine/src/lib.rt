@@ -11,6 +11,7 @@ mod perform;
 mod registers;
 mod resolve;
 mod want;
+mod width;
 
 pub use did::Did;
 pub use machine::Machine;

@@ -3,13 +3,13 @@
 ghost use Rattle.std.specs.Prelude.{◌≡◌, ◌≤◌, length, IfOk, replicate};
 ghost use Rattle.vd_execution.specs.Code.{Code};
 ghost use Rattle.vd_execution.specs.Text.{IsCodeOf};
-ghost use Rattle.vd_machine.specs.Wants.{want_of, IsFromHost};
+ghost use Rattle.vd_machine.specs.Wants.{wanted, IsFromHost};
 ghost use Rattle.vd_machine.specs.Dids.{deed_of_did, seen, IsToHost};
 ghost use Rattle.vd_execution.specs.Ranges.{IsInRange};
 ghost use Rattle.vd_deals.specs.Validity.{IsDeal};
 ghost use Rattle.vd_execution.specs.Step.{next, need, advanced, deed};
 ghost use Rattle.vd_machine.specs.Machines.{held, cursors_of, IsMet, words_for, SamePeers};
-ghost use Rattle.vd_machine.specs.Kept.{state_of, at_start, stepped, IsWithin, plain_need, plain_written};
+ghost use Rattle.vd_machine.specs.Kept.{state_of, at_start, stepped, CanHear, IsWithin, plain_need, plain_after};
 
 use crate::did::{Did, did_at};
 use crate::frames::{Frame, LoopFrame, choose, settle, turn};
@@ -19,10 +19,11 @@ use crate::perform::perform;
 use crate::registers::write_each;
 use crate::resolve::resolve;
 use crate::want::{Want, want_at};
+use crate::width::width;
 use std::alloc::{AllocError, Global};
 use std::marker::Model;
 use vd_base::Words;
-use vd_base::limits::{OPEN_BLOCKS, REGISTERS};
+use vd_base::limits::OPEN_BLOCKS;
 use vd_deals::Deal;
 use vd_execution::Instr;
 use vd_items::Items;
@@ -54,7 +55,7 @@ fn execute(registers: &mut Vec<u32>, taken: &mut Taken, lists: &Lists, plain: &P
     requires within { IsWithin (length registers.old.items) plain.now }
     requires same { SamePeers lists.now taken.old }
     requires met { IsMet lists.now (cursors_of taken.old) heard.now (plain_need (held registers.old.items) plain.now) }
-    ensures value { held registers.new.items ≡ plain_written (held registers.old.items) plain.now (words_for lists.now (cursors_of taken.old) heard.now (plain_need (held registers.old.items) plain.now)) }
+    ensures value { held registers.new.items ≡ plain_after (held registers.old.items) lists.now taken.old heard.now plain.now }
     ensures len { length registers.new.items ≡ length registers.old.items }
     ensures cursors { cursors_of taken.new ≡ advanced (cursors_of taken.old) (plain_need (held registers.old.items) plain.now) }
     ensures same { SamePeers lists.now taken.new }
@@ -112,8 +113,8 @@ impl Machine {
         ensures inputs { IfOk result (λ m. m.lists.inputs ≡ inputs) }
         ensures deal { IfOk result (λ m. m.lists.deal ≡ deal) }
     {
+        let registers = zero_words(alloc, width(code.as_slice()) as usize)?;
         let code = resolve(alloc, code)?;
-        let registers = zero_words(alloc, REGISTERS as usize)?;
         let taken = nothing_taken(alloc, deal.hosts as usize)?;
         let top = Frame::Run {
             from: 0,
@@ -140,7 +141,7 @@ impl Machine {
     /// What the next instruction needs.
     pub fn want(&self) -> Want
         ensures host { IsFromHost self.now.lists.deal.hosts result }
-        ensures need { result ≡ want_of self.now.lists (cursors_of self.now.taken) (need (state_of self.now)) }
+        ensures need { result ≡ wanted self.now }
     {
         match self.top {
             Frame::Loop { .. } => Want::Nothing,
@@ -172,7 +173,7 @@ impl Machine {
     /// One step, on the words that the next instruction waits for: those of a packet where it wants one, and else none.
     /// Answers what others see of it. It takes no memory.
     pub fn step(&mut self, heard: &[u32]) -> Did
-        requires { IsMet self.old.lists (cursors_of self.old.taken) heard.now (need (state_of self.old)) }
+        requires { CanHear self.old heard.now }
         ensures state { state_of self.new ≡ stepped self.old heard.now }
         ensures lists { self.new.lists ≡ self.old.lists }
         ensures did { deed_of_did result ≡ seen (deed (state_of self.old)) }
@@ -184,8 +185,8 @@ impl Machine {
 
     /// One step, on the words that the next instruction waits for.
     fn advance(&mut self, heard: &[u32])
-        requires { IsMet self.old.lists (cursors_of self.old.taken) heard.now (need (state_of self.old)) }
-        ensures state { state_of self.new ≡ next (state_of self.old) (words_for self.old.lists (cursors_of self.old.taken) heard.now (need (state_of self.old))) }
+        requires { CanHear self.old heard.now }
+        ensures state { state_of self.new ≡ stepped self.old heard.now }
         ensures lists { self.new.lists ≡ self.old.lists }
     {
         match self.top {

@@ -4,6 +4,7 @@ ghost use Rattle.std.specs.Prelude.{◌≡◌, ◌+◌, ◌<◌, [], Some, lengt
 ghost use Rattle.vd_execution.specs.Registers.{applied, written};
 ghost use Rattle.vd_execution.specs.Ranges.{ActionFits};
 ghost use Rattle.vd_execution.specs.Step.{need_of_action, advanced};
+ghost use Rattle.vd_machine.specs.Kept.{action_after};
 ghost use Rattle.vd_machine.specs.Machines.{held, list_of, cursors_of, IsMet, words_for, SamePeers};
 
 use crate::digest::digest;
@@ -79,7 +80,7 @@ pub fn perform(registers: &mut Vec<u32>, taken: &mut Taken, lists: &Lists, actio
     requires fits { ActionFits (length registers.old.items) action.now }
     requires same { SamePeers lists.now taken.old }
     requires met { IsMet lists.now (cursors_of taken.old) [] (need_of_action (held registers.old.items) action.now) }
-    ensures value { held registers.new.items ≡ written (held registers.old.items) action.now (words_for lists.now (cursors_of taken.old) [] (need_of_action (held registers.old.items) action.now)) }
+    ensures value { held registers.new.items ≡ action_after (held registers.old.items) lists.now taken.old action.now }
     ensures len { length registers.new.items ≡ length registers.old.items }
     ensures cursors { cursors_of taken.new ≡ advanced (cursors_of taken.old) (need_of_action (held registers.old.items) action.now) }
     ensures same { SamePeers lists.now taken.new }

@@ -10,6 +10,8 @@ mod formulas;
 #[cfg(test)]
 mod deals;
 #[cfg(test)]
+mod hosts;
+#[cfg(test)]
 mod labels;
 #[cfg(test)]
 mod lexer;

@@ -1,8 +1,10 @@
 -- What holds in each world that some schedule reaches.
 use Rattle.std.specs.Prelude.{◌≡◌, ◌≢◌, ◌⊎◌, ℕ, ◌<◌, List, None, length}
 use Rattle.vd_base.specs.declared.host_state.HostState.TheVariants as state
-use Rattle.vd_execution.specs.Step.{Source, Deed, deed}
-use Rattle.vd_execution.specs.World.{Local, World, Supply, Tape, run, effective, IsStuck, all_rounds, IsPrefixOf, AllEnded, HasNoFault, CanStep, IsShort, words_of, followed_by_zeros}
+use Rattle.vd_execution.specs.Step.{Source}
+use Rattle.vd_execution.specs.declared.instructions.Act.{Act}
+use Rattle.vd_execution.specs.Acts.{do_then, run_acts, ActsAgree}
+use Rattle.vd_execution.specs.World.{Local, World, Supply, Tape, run, effective, IsStuck, all_rounds, EndedFrom, IsPrefixOf, AllEnded, HasNoFault, CanStep, IsShort, words_of, followed_by_zeros}
 use Rattle.vd_execution.specs.Joint.{Joint, Hosts, fresh, joint, program_order, IsTidy, IsSmooth, started, at_end}
 use Rattle.vd_execution.specs.States.{host_state}
 use Rattle.vd_execution.specs.Deals.{IsValidDeal}
@@ -75,9 +77,17 @@ then_all s n w = run s (all_rounds n w) w
 abbrev pub IsReady : Supply → World → ℕ → Type 0
 IsReady s w h = host_state s w h ≡ state.Ready
 
--- what the next step of a host does
-abbrev pub deed_in : World → ℕ → Deed
-deed_in w h = deed (w h).state
+-- only the first n hosts have code
+abbrev pub IsOf : ℕ → Joint → Type 0
+IsOf n j = EndedFrom n (started j)
+
+-- a host ends as it began
+abbrev pub Stays : Tape → Joint → ℕ → Type 0
+Stays t j h = (w : Hosts) → joint t j w h ≡ w h
+
+-- where compared words are the same along acts and the rest runs smoothly from there, both run smoothly
+abbrev pub KeepsSmooth : Tape → List Act → Joint → Type 0
+KeepsSmooth t acts j = (w : Hosts) → ActsAgree t acts w → IsSmooth t j (run_acts t acts w) → IsSmooth t (do_then acts j) w
 
 -- with valid deals, what leads sound states to sound states
 abbrev pub KeepsSound : (Tape → Hosts → Hosts) → Type 0

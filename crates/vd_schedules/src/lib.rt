@@ -13,10 +13,10 @@ ghost use Rattle.vd_execution.specs.Acts.{do_then, run_acts, ActsAreTidy, ActsAg
 ghost use Rattle.vd_execution.specs.Gadgets.{Gadget, acts_of_gadget, acts_of_gadgets, GadgetIsTidy, GadgetsAreTidy};
 ghost use Rattle.vd_execution.specs.Plans.{Plan, joint_of, PlanIsTidy};
 ghost use Rattle.vd_execution.specs.Text.{text, IsCodeOf, flat, pick};
-ghost use Rattle.vd_schedules.specs.Queues.{QueuesGo};
+ghost use Rattle.vd_schedules.specs.Queues.{QueuesStep};
 ghost use Rattle.vd_schedules.specs.Example.{example, one_input};
 ghost use Rattle.vd_schedules.specs.Claims.{RunsWell, RunsToItsEnd, IsOnTheWay, Suffices, last_of, order_of, work_of};
-ghost use Rattle.vd_schedules.specs.Claims.{reached, steps_of, IsWhole, HasOneEnd, then_all, IsReady, deed_in, KeepsSound};
+ghost use Rattle.vd_schedules.specs.Claims.{reached, steps_of, IsWhole, HasOneEnd, then_all, IsReady, IsOf, KeepsSmooth, Stays, KeepsSound};
 
 /// The steps of two different hosts commute, so every schedule that leaves no host able to step ends in one world, after
 /// equally many steps.
@@ -43,7 +43,7 @@ pub fn every_schedule()
 /// of the joint run.
 pub fn rounds_end()
     ensures stuck { (s : Supply) (n : ℕ) (w : World) → EndedFrom n w → IsStuck s (then_all s n w) }
-    ensures whole { (s : Supply) (j : Joint) (n : ℕ) (b : List ℕ) → RunsToItsEnd s j → EndedFrom n (started j) → then_all s n (reached s j b) ≡ at_end (last_of s j) }
+    ensures whole { (s : Supply) (j : Joint) (n : ℕ) (b : List ℕ) → RunsToItsEnd s j → IsOf n j → then_all s n (reached s j b) ≡ at_end (last_of s j) }
 {}
 
 /// In every world that some schedule reaches, the hosts that are ready are those that can step.
@@ -63,7 +63,7 @@ pub fn code_is_text()
 pub fn acts_come_first()
     ensures runs { (t : Tape) (acts : List Act) (j : Joint) (w : Hosts) → joint t (do_then acts j) w ≡ joint t j (run_acts t acts w) }
     ensures tidy { (acts : List Act) (j : Joint) → ActsAreTidy acts → IsTidy j → IsTidy (do_then acts j) }
-    ensures smooth { (t : Tape) (acts : List Act) (j : Joint) (w : Hosts) → ActsAgree t acts w → IsSmooth t j (run_acts t acts w) → IsSmooth t (do_then acts j) w }
+    ensures smooth { (t : Tape) (acts : List Act) (j : Joint) → KeepsSmooth t acts j }
     ensures within { (ps : List Part) (acts : List Act) (j : Joint) → ActsAreWithin ps acts → Within ps j → Within ps (do_then acts j) }
     ensures lines { (acts : List Act) (j : Joint) (behind : List Line) → flat (do_then acts j) behind ≡ lines_of acts ++ flat j behind }
 {}
@@ -72,13 +72,13 @@ pub fn acts_come_first()
 /// code takes part, all that act do.
 pub fn parts_are_those_that_act()
     ensures no_code { (ps : List Part) (h : ℕ) (j : Joint) → Within ps j → (TakesPart ps h → ⊥) → code_of h j ≡ Finished }
-    ensures stays { (t : Tape) (ps : List Part) (h : ℕ) (j : Joint) → IsTidy j → Within ps j → (TakesPart ps h → ⊥) → (w : Hosts) → joint t j w h ≡ w h }
+    ensures stays { (t : Tape) (ps : List Part) (h : ℕ) (j : Joint) → IsTidy j → Within ps j → (TakesPart ps h → ⊥) → Stays t j h }
     ensures all_act { (ps : List Part) (j : Joint) → ((h : ℕ) → (code_of h j ≡ Finished → ⊥) → TakesPart ps h) → Within ps j }
 {}
 
 /// Each link is a queue: what a host sends goes to its end, and what a host receives was at its front.
 pub fn first_in_first_out()
-    ensures { (s : Supply) (j : Joint) (b : List ℕ) (h : ℕ) (u : World) → let w = reached s j b in step s h w ≡ Some u → QueuesGo w u h (deed_in w h) }
+    ensures { (s : Supply) (j : Joint) (b : List ℕ) (h : ℕ) (u : World) → step s h (reached s j b) ≡ Some u → QueuesStep (reached s j b) u h }
 {}
 
 /// A tidy gadget leads sound states to sound states, for every valid deal; so do tidy gadgets in a row, and a tidy plan.

@@ -7,8 +7,8 @@ use Rattle.vd_machine.specs.declared.want.Want.TheVariants as want
 use Rattle.vd_base.specs.declared.packet.Packet.{Packet}
 use Rattle.vd_base.specs.Packets.{packet_words}
 use Rattle.vd_execution.specs.Code.{Finished}
-use Rattle.vd_execution.specs.Step.{Source, State, Need, Packet as Awaited, answer, need}
-use Rattle.vd_execution.specs.World.{Local, World, Supply, given, step, run, left}
+use Rattle.vd_execution.specs.Step.{Source, State, Need, Packet as Awaited, answer, need, deed}
+use Rattle.vd_execution.specs.World.{Local, World, Supply, given, step, run, left, done, moved_on}
 use Rattle.vd_execution.specs.Schedule.{after}
 use Rattle.vd_machine.specs.Machines.{items_of, cursors_of, IsMet, words_for}
 use Rattle.vd_machine.specs.Kept.{Kept, state_of, at_start}
@@ -113,3 +113,11 @@ stuck_state want.Ended = state.Ended
 stuck_state (want.ShortInput i j) = state.ShortInput
 stuck_state (want.ShortDeal kind i j) = state.ShortDeal
 stuck_state (want.Unequal x y) = state.Ready
+
+-- a host after its next step, on the words that it heard
+abbrev pub gone_on : HostKept → List ℕ → Local
+gone_on k heard = moved_on (local_of k) (words_for k.machine.lists (cursors_of k.machine.taken) heard (need (state_of k.machine)))
+
+-- a host of which what the next step shows is kept, in this state
+abbrev pub noted : Kept → List ℕ → List (List (List ℕ)) → List ℕ → State → Local
+noted machine printed links taken m = done (local (state_of machine) printed links taken) m (deed (state_of machine))

@@ -4,10 +4,10 @@ ghost use Rattle.std.specs.Prelude.{◌≡◌, ◌<◌, length, replicate, [], O
 ghost use Rattle.vd_execution.specs.Step.{State, need, deed};
 ghost use Rattle.vd_execution.specs.World.{done, moved_on, words_of};
 ghost use Rattle.vd_machine.specs.Machines.{cursors_of, IsMet, words_for};
-ghost use Rattle.vd_machine.specs.Kept.{state_of};
-ghost use Rattle.vd_machine.specs.Wants.{want_of, IsFromHost};
+ghost use Rattle.vd_machine.specs.Kept.{state_of, CanHear};
+ghost use Rattle.vd_machine.specs.Wants.{wanted, IsFromHost};
 ghost use Rattle.vd_world.specs.Links.{IsPlace};
-ghost use Rattle.vd_world.specs.Hosts.{local, local_of, host_at_start, HasRoom};
+ghost use Rattle.vd_world.specs.Hosts.{local, local_of, gone_on, noted, host_at_start, HasRoom};
 
 use crate::link::Link;
 use std::alloc::{AllocError, Global};
@@ -62,10 +62,12 @@ fn note(
     requires links { length links.old.items ≡ machine.now.lists.deal.hosts }
     requires taken { length taken.old.items ≡ machine.now.lists.deal.hosts }
     requires room { HasRoom taken.old.items (need (state_of machine.now)) }
-    ensures ok { (m : State) → OnOk result (local m printed.new.items links.new.items taken.new.items ≡ done (local (state_of machine.now) printed.old.items links.old.items taken.old.items) m (deed (state_of machine.now))) }
-    ensures err { OnErr result ((printed.new.items ≡ printed.old.items) × (links.new.items ≡ links.old.items) × (taken.new.items ≡ taken.old.items)) }
-    ensures links { length links.new.items ≡ length links.old.items }
-    ensures taken { length taken.new.items ≡ length taken.old.items }
+    ensures ok { (m : State) → OnOk result (local m printed.new.items links.new.items taken.new.items ≡ noted machine.now printed.old.items links.old.items taken.old.items m) }
+    ensures printed { OnErr result (printed.new.items ≡ printed.old.items) }
+    ensures links { OnErr result (links.new.items ≡ links.old.items) }
+    ensures taken { OnErr result (taken.new.items ≡ taken.old.items) }
+    ensures links_len { length links.new.items ≡ length links.old.items }
+    ensures taken_len { length taken.new.items ≡ length taken.old.items }
 {
     match machine.deed() {
         Did::Print(word) => printed.push(word)?,
@@ -100,7 +102,7 @@ impl Host {
     /// What its next instruction needs.
     pub fn want(&self) -> Want
         ensures host { IsFromHost self.now.machine.lists.deal.hosts result }
-        ensures need { result ≡ want_of self.now.machine.lists (cursors_of self.now.machine.taken) (need (state_of self.now.machine)) }
+        ensures need { result ≡ wanted self.now.machine }
     {
         self.machine.want()
     }
@@ -145,9 +147,9 @@ impl Host {
 
     /// One step, on the words that the next instruction waits for. Out of memory changes nothing.
     pub fn go(&mut self, heard: &[u32]) -> Result<(), AllocError>
-        requires met { IsMet self.old.machine.lists (cursors_of self.old.machine.taken) heard.now (need (state_of self.old.machine)) }
+        requires met { CanHear self.old.machine heard.now }
         requires room { HasRoom self.old.taken (need (state_of self.old.machine)) }
-        ensures ok { OnOk result (local_of self.new ≡ moved_on (local_of self.old) (words_for self.old.machine.lists (cursors_of self.old.machine.taken) heard.now (need (state_of self.old.machine)))) }
+        ensures ok { OnOk result (local_of self.new ≡ gone_on self.old heard.now) }
         ensures lists { self.new.machine.lists ≡ self.old.machine.lists }
         ensures err { OnErr result (self.new ≡ self.old) }
     {
