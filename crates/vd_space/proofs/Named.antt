@@ -1,6 +1,5 @@
 -- The parts of a program name its own slots, and the labels of what it makes are those of the labelling.
-use Rattle.std.proofs.Common.{◌≡◌, ℕ, zero, suc, ◌+◌, ◌*◌, ◌<◌, Bool, true, false, ◌&&◌, List, [], ◌∷◌, ◌++◌, map, length, refl, sym, ap, ◌∙◌, subst, subst₂, arith}
-use Rattle.std.specs.Prelude.{nat_lt}
+use Rattle.std.proofs.Common.{◌≡◌, ℕ, ◌*◌, ◌<◌, Bool, true, ◌&&◌, List, [], ◌∷◌, ◌++◌, map, sym, subst, subst₂}
 use Rattle.std.specs.List.{AllByRecursion, list_all}
 use Rattle.std.proofs.lemmas.Bool.{and_parts, ltb-true}
 use Rattle.vd_base.specs.declared.ids.SlotId.{SlotId}
@@ -14,11 +13,9 @@ use Rattle.vd_core.specs.declared.normal.Stmt.TheFolds.{fold-roll-Stmt}
 use Rattle.vd_constraints.specs.declared.labels.Labels.{Labels}
 use Rattle.vd_constraints.specs.Scoped.{is_below, right_below, stmt_below, slots_below, block_below}
 use Rattle.vd_space.specs.declared.problem.Making.{Making}
-use Rattle.vd_space.specs.declared.problem.Use.{Use}
 use Rattle.vd_space.specs.declared.problem.Output.{Output}
 use Rattle.vd_space.specs.declared.problem.Guard.{Guard}
-use Rattle.vd_space.specs.declared.problem.Index.{Index}
-use Rattle.vd_space.specs.Reading.{Parts, Read, no_parts, joined, all_parts, making_of, use_of, index_of, operands_of, indexes_of, row_of, guard_of, binding_parts, read_step, read_stmt}
+use Rattle.vd_space.specs.Reading.{Parts, Read, no_parts, joined, all_parts, making_of, use_of, row_of, guard_of, binding_parts, read_step, read_stmt}
 use Rattle.vd_space.specs.Spaces.{IsUse, IsIndex}
 
 both : {X : Type 0} (P : X → Type 0) (xs ys : List X) → AllByRecursion P xs → AllByRecursion P ys → AllByRecursion P (xs ++ ys)

@@ -1,7 +1,6 @@
 -- What the problem of a well-made program keeps.
-use Rattle.std.proofs.Common.{◌≡◌, ℕ, ◌<◌, ◌≤◌, List, [], ◌∷◌, map, length, get_or, refl, sym, ap, ◌∙◌, subst, arith}
+use Rattle.std.proofs.Common.{◌≡◌, ℕ, ◌<◌, List, [], ◌∷◌, map, length, refl, sym, subst, arith}
 use Rattle.std.specs.Prelude.{All}
-use Rattle.std.specs.List.{AllByRecursion}
 use Rattle.std.proofs.lemmas.List.{length-map}
 use Rattle.std.proofs.lemmas.List.Elements.{All-map, All-from_recursion}
 use Rattle.vd_base.specs.declared.ids.SlotId.{SlotId}
@@ -9,7 +8,6 @@ use Rattle.vd_base.specs.declared.rows.Row.{Row}
 use Rattle.vd_core.specs.Facts.{IsWellMade}
 use Rattle.vd_core.specs.declared.normal.NormalForm.{NormalForm}
 use Rattle.vd_core.specs.declared.normal.Written.{Written}
-use Rattle.vd_formula.specs.declared.label.Label.{Label}
 use Rattle.vd_formula.specs.Forms.{formula_of}
 use Rattle.vd_protocol.specs.Authority.{IsOver, names_of}
 use Rattle.vd_constraints.specs.declared.labels.Labels.{Labels}
@@ -19,7 +17,7 @@ use Rattle.vd_constraints.proofs.InSight.{well_made_scoped}
 use Rattle.vd_space.specs.declared.problem.Making.{Making}
 use Rattle.vd_space.specs.Reading.{making_of, problem_of}
 use Rattle.vd_space.specs.Labelled.{IsLabelled, HasLabels, NamesBelow}
-use Rattle.vd_space.proofs.Named.{PartsFit, body_fits}
+use Rattle.vd_space.proofs.Named.{body_fits}
 
 pub names_below : (p : NormalForm) (l : Labels) → IsWellMade p → NamesBelow (length p.slots) (problem_of p l)
 names_below p l is =

@@ -1,5 +1,5 @@
 -- The steps of the walk that reads a problem off a program.
-use Rattle.std.proofs.Common.{◌≡◌, ℕ, zero, suc, ◌+◌, ◌*◌, ◌<◌, ◌≤◌, Ok, Err, List, [], ◌∷◌, ◌++◌, length, get_or, drop, map, refl, sym, ap, ◌∙◌, subst, arith, rules, append_assoc, append-nil, add-one, drop-cons}
+use Rattle.std.proofs.Common.{◌≡◌, ℕ, suc, ◌+◌, ◌*◌, ◌<◌, ◌≤◌, Ok, Err, List, [], ◌∷◌, ◌++◌, length, get_or, drop, map, refl, sym, ap, ◌∙◌, subst, arith, rules, append_assoc, append-nil, add-one, drop-cons}
 use Rattle.std.specs.Prelude.{Result, OnOk, ⊤, sum}
 use Rattle.std.specs.List.{sum_by}
 use Rattle.std.proofs.lemmas.List.{drop_all}
@@ -11,8 +11,7 @@ use Rattle.vd_core.specs.declared.normal.Stmt.{Stmt, roll-Stmt, map-Stmt, ind-St
 use Rattle.vd_core.specs.declared.normal.Stmt.TheVariants.{If, For}
 use Rattle.vd_core.specs.declared.normal.Stmt.TheOpen.{Stmt-F}
 use Rattle.vd_core.specs.declared.normal.Stmt.TheFolds.{the_lemmas, fold-roll-Stmt}
-use Rattle.vd_core.specs.Facts.{Weighing, weigh_all, weigh_step, weighing, count_of, statement_count}
-use Rattle.vd_constraints.proofs.Sizes.{if_size, stmt_fits}
+use Rattle.vd_core.specs.Facts.{Weighing, weigh_all, weigh_step, weighing}
 use Rattle.vd_constraints.specs.declared.labels.Labels.{Labels}
 use Rattle.vd_space.specs.declared.problem.Problem.{Problem}
 use Rattle.vd_space.specs.declared.problem.Guard.{Guard}
