@@ -1,6 +1,7 @@
 -- What the problem of a well-made program keeps.
 use Rattle.std.proofs.Common.{◌≡◌, ℕ, ◌<◌, List, [], ◌∷◌, map, length, refl, sym, subst, arith}
 use Rattle.std.specs.Prelude.{All}
+use Rattle.std.specs.List.{AllByRecursion}
 use Rattle.std.proofs.lemmas.List.{length-map}
 use Rattle.std.proofs.lemmas.List.Elements.{All-map, All-from_recursion}
 use Rattle.vd_base.specs.declared.ids.SlotId.{SlotId}
@@ -16,13 +17,24 @@ use Rattle.vd_constraints.specs.Satisfies.{no_label}
 use Rattle.vd_constraints.proofs.InSight.{well_made_scoped}
 use Rattle.vd_space.specs.declared.problem.Making.{Making}
 use Rattle.vd_space.specs.Reading.{making_of, problem_of}
-use Rattle.vd_space.specs.Labelled.{IsLabelled, HasLabels, NamesBelow}
+use Rattle.vd_space.specs.Labelled.{IsLabelled, HasLabels, NamesOwnSlots}
+use Rattle.vd_space.specs.declared.problem.Output.{Output}
+use Rattle.vd_space.specs.declared.problem.Guard.{Guard}
+use Rattle.vd_space.specs.Spaces.{IsUse, IsIndex}
+use Rattle.vd_space.proofs.Counted.{as_many}
 use Rattle.vd_space.proofs.Named.{body_fits}
 
-pub names_below : (p : NormalForm) (l : Labels) → IsWellMade p → NamesBelow (length p.slots) (problem_of p l)
+pub names_below : (p : NormalForm) (l : Labels) → IsWellMade p → NamesOwnSlots (problem_of p l)
 names_below p l is =
     let fits = body_fits (length p.slots) (λ making. Unit {0}) l (λ row weight x low. tt) p.body (well_made_scoped p is).named_slots 1 in
-    record { uses = fits.uses; outputs = fits.outputs; guards = fits.guards; indexes = fits.indexes }
+    let many = as_many p l is in
+    let problem = problem_of p l in
+    record {
+      uses = subst (λ n. AllByRecursion (IsUse n) problem.uses) (sym many) fits.uses;
+      outputs = subst (λ n. AllByRecursion (λ (o : Output). o.slot.0 < n) problem.outputs) (sym many) fits.outputs;
+      guards = subst (λ n. AllByRecursion (λ (guard : Guard). guard.slot.0 < n) problem.guards) (sym many) fits.guards;
+      indexes = subst (λ n. AllByRecursion (IsIndex n) problem.indexes) (sym many) fits.indexes;
+    }
 
 label_over : (p : NormalForm) (written : Written) → IsOver (length p.principals) (label p written)
 unfolding formula_of

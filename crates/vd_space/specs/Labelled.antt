@@ -24,9 +24,9 @@ pub record HasLabels (p : NormalForm) (l : Labels) : Type 0 where
   pub slots : length l.slots ≡ length p.slots
   pub over : All (IsLabelOver (length p.principals)) l.slots
 
--- the slots that are named are among so many
-pub record NamesBelow (slots : ℕ) (problem : Problem) : Type 0 where
-  pub uses : AllByRecursion (IsUse slots) problem.uses
-  pub outputs : AllByRecursion (λ (o : Output). o.slot.0 < slots) problem.outputs
-  pub guards : AllByRecursion (λ (guard : Guard). guard.slot.0 < slots) problem.guards
-  pub indexes : AllByRecursion (IsIndex slots) problem.indexes
+-- the slots that are named exist
+pub record NamesOwnSlots (problem : Problem) : Type 0 where
+  pub uses : AllByRecursion (IsUse (length problem.slots)) problem.uses
+  pub outputs : AllByRecursion (λ (o : Output). o.slot.0 < length problem.slots) problem.outputs
+  pub guards : AllByRecursion (λ (guard : Guard). guard.slot.0 < length problem.slots) problem.guards
+  pub indexes : AllByRecursion (IsIndex (length problem.slots)) problem.indexes

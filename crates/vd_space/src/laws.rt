@@ -1,6 +1,6 @@
 //! What is true of every problem. The functions here do nothing: the contract of each is a law.
 
-ghost use Rattle.std.specs.Prelude.{List, length, ℕ};
+ghost use Rattle.std.specs.Prelude.{◌≡◌, List, length, ℕ};
 ghost use Rattle.vd_prefixes.specs.Trees.{IsBounded};
 ghost use Rattle.vd_space.specs.Bounds.{high, low};
 ghost use Rattle.vd_space.specs.Growth.{OneByPlace, PairByPlace};
@@ -8,7 +8,7 @@ ghost use Rattle.vd_space.specs.Costs.{One, Pair};
 ghost use Rattle.vd_core.specs.Facts.{IsWellMade};
 ghost use Rattle.vd_core.specs.declared.normal.NormalForm.{NormalForm as Programs};
 ghost use Rattle.vd_constraints.specs.declared.labels.Labels.{Labels as Labellings};
-ghost use Rattle.vd_space.specs.Labelled.{HasLabels, IsLabelled, NamesBelow};
+ghost use Rattle.vd_space.specs.Labelled.{HasLabels, IsLabelled, NamesOwnSlots};
 ghost use Rattle.vd_space.specs.Reading.{problem_of};
 ghost use Rattle.vd_space.specs.Laws.{EndsInCost, IsBelowCosts, SumGrows, ValidGrows};
 ghost use Rattle.vd_space.specs.Spaces.{IsProblem, tree_of};
@@ -44,8 +44,9 @@ pub fn terms_go_by_place()
     ensures pair { (problem : Problems) (prefix : List ℕ) (pair : Pair) → PairByPlace problem prefix pair }
 {}
 
-/// The problem of a program names slots of the program alone, and has labels that can be compared.
+/// The problem of a program has the program's slots, names no others, and has labels that can be compared.
 pub fn programs_have_problems()
-    ensures named { (p : Programs) (l : Labellings) → IsWellMade p → NamesBelow (length p.slots) (problem_of p l) }
+    ensures slots { (p : Programs) (l : Labellings) → IsWellMade p → length (problem_of p l).slots ≡ length p.slots }
+    ensures named { (p : Programs) (l : Labellings) → IsWellMade p → NamesOwnSlots (problem_of p l) }
     ensures labelled { (p : Programs) (l : Labellings) → IsWellMade p → HasLabels p l → IsLabelled (problem_of p l) }
 {}
