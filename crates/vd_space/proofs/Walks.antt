@@ -1,5 +1,5 @@
 -- The steps of the walk that reads a problem off a program.
-use Rattle.std.proofs.Common.{◌≡◌, ℕ, zero, suc, ◌+◌, ◌*◌, ◌<◌, ◌≤◌, Ok, Err, List, [], ◌∷◌, ◌++◌, length, get_or, drop, map, refl, sym, ap, ◌∙◌, subst, arith, rules, append_assoc, append-nil, add-one, drop-cons}
+use Rattle.std.proofs.Common.{◌≡◌, ℕ, suc, ◌+◌, ◌*◌, ◌<◌, ◌≤◌, Ok, Err, List, [], ◌∷◌, ◌++◌, length, get_or, drop, map, refl, sym, ap, ◌∙◌, subst, arith, rules, append_assoc, append-nil, add-one, drop-cons}
 use Rattle.std.specs.Prelude.{Result, OnOk, ⊤, sum}
 use Rattle.std.specs.List.{sum_by}
 use Rattle.std.proofs.lemmas.List.{drop_all}
@@ -11,8 +11,7 @@ use Rattle.vd_core.specs.declared.normal.Stmt.{Stmt, roll-Stmt, map-Stmt, ind-St
 use Rattle.vd_core.specs.declared.normal.Stmt.TheVariants.{If, For}
 use Rattle.vd_core.specs.declared.normal.Stmt.TheOpen.{Stmt-F}
 use Rattle.vd_core.specs.declared.normal.Stmt.TheFolds.{the_lemmas, fold-roll-Stmt}
-use Rattle.vd_core.specs.Facts.{Weighing, weigh_all, weigh_step, weighing, count_of, statement_count}
-use Rattle.vd_constraints.proofs.Sizes.{if_size, stmt_fits}
+use Rattle.vd_core.specs.Facts.{Weighing, weigh_all, weigh_step, weighing}
 use Rattle.vd_constraints.specs.declared.labels.Labels.{Labels}
 use Rattle.vd_space.specs.declared.problem.Problem.{Problem}
 use Rattle.vd_space.specs.declared.problem.Guard.{Guard}
@@ -82,7 +81,11 @@ module _ (l : Labels) where
 
   guard_alone : (problem : Problem) (guard : Guard) → with_parts problem (record no_parts { guards = guard ∷ [] }) ≡ record problem { guards = problem.guards ++ guard ∷ [] }
   guard_alone problem guard = λ i. record problem {
-    slots = append-nil problem.slots i; uses = append-nil problem.uses i; outputs = append-nil problem.outputs i; guards = problem.guards ++ guard ∷ []; indexes = append-nil problem.indexes i;
+    slots = append-nil problem.slots i;
+    uses = append-nil problem.uses i;
+    outputs = append-nil problem.outputs i;
+    guards = problem.guards ++ guard ∷ [];
+    indexes = append-nil problem.indexes i;
   }
 
   pub add_if : (problem second third : Problem) (guards : List Guard) (guard first last : Guard) (weight : ℕ) (y : SlotId) (a b a_ b_ c_ d_ : List Stmt) (offset : ℕ) (stmt : Stmt) → stmt ≡ If y a b offset
@@ -94,8 +97,8 @@ module _ (l : Labels) where
       let ra = map (read_stmt l) a in
       let rb = map (read_stmt l) b in
       let whole : last ≡ guard_of y weight (ra ++ rb) =
-          named_b ∙ (λ i. with_branch (named_a i) l (same_b i)) ∙ (λ i. with_branch (with_branch (begins i) l (same_a i)) l b)
-          ∙ (λ i. record { slot = y; weight = weight; slots = sym (flat_map-append (λ (read : Read). read.named) ra rb) i; hosts = sym (flat_map-append (λ (read : Read). read.told) ra rb) i }) in
+      named_b ∙ (λ i. with_branch (named_a i) l (same_b i)) ∙ (λ i. with_branch (with_branch (begins i) l (same_a i)) l b)
+      ∙ (λ i. record { slot = y; weight = weight; slots = sym (flat_map-append (λ (read : Read). read.named) ra rb) i; hosts = sym (flat_map-append (λ (read : Read). read.told) ra rb) i }) in
       let guards_are : guards ≡ problem.guards ++ guard_of y weight (ra ++ rb) ∷ [] = pushed ∙ ap (λ g. problem.guards ++ g ∷ []) whole in
       let one = record no_parts { guards = guard_of y weight (ra ++ rb) ∷ [] } in
       let start : record problem { guards = problem.guards ++ guard_of y weight (ra ++ rb) ∷ [] } ≡ with_parts problem one = sym (guard_alone problem (guard_of y weight (ra ++ rb))) in

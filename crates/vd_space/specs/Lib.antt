@@ -7,3 +7,4 @@ pub mod Growth
 pub mod Usual
 pub mod Laws
 pub mod Steps
+pub mod Labelled

@@ -1,10 +1,11 @@
 -- The problem with what further statements bring.
-use Rattle.std.specs.Prelude.{ℕ, List, ◌++◌, map}
+use Rattle.std.specs.Prelude.{ℕ, List, [], ◌∷◌, ◌++◌, map}
 use Rattle.vd_core.specs.declared.normal.Stmt.{Stmt}
 use Rattle.vd_constraints.specs.declared.labels.Labels.{Labels}
 use Rattle.vd_space.specs.declared.problem.Problem.{Problem}
+use Rattle.vd_space.specs.declared.problem.Making.{Making}
 use Rattle.vd_space.specs.declared.problem.Guard.{Guard}
-use Rattle.vd_space.specs.Reading.{Parts, Read, all_parts, all_named, all_told, read_stmt}
+use Rattle.vd_space.specs.Reading.{Parts, all_parts, all_named, all_told, read_stmt}
 
 abbrev pub with_parts : Problem → Parts → Problem
 with_parts problem parts = record problem {
@@ -14,6 +15,9 @@ with_parts problem parts = record problem {
   guards = problem.guards ++ parts.guards;
   indexes = problem.indexes ++ parts.indexes;
 }
+
+abbrev pub with_slot : Problem → Making → Problem
+with_slot problem making = record problem { slots = problem.slots ++ making ∷ [] }
 
 -- with what a block brings that is executed so often
 abbrev pub with_block : Problem → Labels → ℕ → List Stmt → Problem

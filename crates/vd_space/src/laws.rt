@@ -1,10 +1,15 @@
 //! What is true of every problem. The functions here do nothing: the contract of each is a law.
 
-ghost use Rattle.std.specs.Prelude.{List, ℕ};
+ghost use Rattle.std.specs.Prelude.{◌≡◌, List, length, ℕ};
 ghost use Rattle.vd_prefixes.specs.Trees.{IsBounded};
 ghost use Rattle.vd_space.specs.Bounds.{high, low};
 ghost use Rattle.vd_space.specs.Growth.{OneByPlace, PairByPlace};
 ghost use Rattle.vd_space.specs.Costs.{One, Pair};
+ghost use Rattle.vd_core.specs.Facts.{IsWellMade};
+ghost use Rattle.vd_core.specs.declared.normal.NormalForm.{NormalForm as Programs};
+ghost use Rattle.vd_constraints.specs.declared.labels.Labels.{Labels as Labellings};
+ghost use Rattle.vd_space.specs.Labelled.{HasLabels, IsLabelled, NamesOwnSlots};
+ghost use Rattle.vd_space.specs.Reading.{problem_of};
 ghost use Rattle.vd_space.specs.Laws.{EndsInCost, IsBelowCosts, SumGrows, ValidGrows};
 ghost use Rattle.vd_space.specs.Spaces.{IsProblem, tree_of};
 ghost use Rattle.vd_space.specs.declared.problem.Problem.{Problem as Problems};
@@ -37,4 +42,11 @@ pub fn prefixes_grow()
 pub fn terms_go_by_place()
     ensures one { (problem : Problems) (prefix : List ℕ) (one : One) → OneByPlace problem prefix one }
     ensures pair { (problem : Problems) (prefix : List ℕ) (pair : Pair) → PairByPlace problem prefix pair }
+{}
+
+/// The problem of a program has the program's slots, names no others, and has labels that can be compared.
+pub fn programs_have_problems()
+    ensures slots { (p : Programs) (l : Labellings) → IsWellMade p → length (problem_of p l).slots ≡ length p.slots }
+    ensures named { (p : Programs) (l : Labellings) → IsWellMade p → NamesOwnSlots (problem_of p l) }
+    ensures labelled { (p : Programs) (l : Labellings) → IsWellMade p → HasLabels p l → IsLabelled (problem_of p l) }
 {}

@@ -9,7 +9,7 @@ mod validity;
 
 pub use laws::{
     bounds_are_below_costs, bounds_end_in_costs, prefixes_grow, problems_are_bounded,
-    terms_go_by_place,
+    programs_have_problems, terms_go_by_place,
 };
 pub use problem::{Guard, Index, Making, Output, Problem, Use};
 pub use sums::least_of;

@@ -6,7 +6,7 @@ ghost use Rattle.vd_constraints.specs.Rules.{label as label_over};
 ghost use Rattle.vd_constraints.specs.declared.labels.Labels.{Labels as Labellings};
 ghost use Rattle.vd_core.specs.Facts.{weigh_all, weighing, weight_sum};
 ghost use Rattle.vd_space.specs.Reading.{binding_parts, index_of, making_of, named_by, operands_of, problem_of, read_stmt, row_of, use_of};
-ghost use Rattle.vd_space.specs.Steps.{with_block, with_branch, with_parts, with_stmt};
+ghost use Rattle.vd_space.specs.Steps.{with_block, with_branch, with_parts, with_slot, with_stmt};
 
 use crate::problem::{Guard, Index, Making, Output, Problem, Use};
 use std::alloc::{AllocError, Global};
@@ -180,7 +180,7 @@ fn add_slot(
     weight: u32,
     slot: SlotId,
 ) -> Result<(), AllocError>
-    ensures { OnOk result (problem.new ≡ record problem.old { slots = problem.old.slots ++ making_of labels.now row weight slot ∷ [] }) }
+    ensures { OnOk result (problem.new ≡ with_slot problem.old (making_of labels.now row weight slot)) }
 {
     let making = Making {
         row,

@@ -1,5 +1,4 @@
-use Rattle.std.proofs.Common.{sym, ap, ◌∙◌, arith}
-use Rattle.vd_core.specs.Facts.{count_of, statement_count}
+use Rattle.std.proofs.Common.{sym, ◌∙◌, arith}
 use Rattle.vd_constraints.proofs.Sizes.{stmt_fits}
 use Rattle.vd_space.proofs.Walks.{on_ok, branch_next, branch_done, name_if, name_for}
 use Rattle.vd_space.proofs.reading.+names.Goals as goal
