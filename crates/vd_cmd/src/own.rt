@@ -8,11 +8,15 @@ use vd_base::Texts;
 
 /// The text of `--help`.
 const HELP: &str =
-    "Viaduct reads one program over several hosts' secrets: it runs it in clear, and finds its least labels.
+    "Viaduct reads one program over several hosts' secrets: it runs it in clear, and finds its least labels. It makes the
+dealer's files of correlated words.
 
 usage:
   viaduct clear SOURCE INPUTS   run SOURCE in clear on one machine, and print each host's words
   viaduct labels SOURCE         print the least label of each slot of SOURCE's let-normal form
+  viaduct deal HOSTS OWN MULS ANDS PAIRS KEY PREFIX
+                                store PREFIX.i.deal for each host i: OWN own words, and with each other host
+                                MULS and ANDS products and PAIRS pairs, all made from the number KEY
   viaduct --help                print this text
   viaduct --version             print the version
 
