@@ -1,15 +1,11 @@
 -- The form of eight words that begin with `deal`.
 use Rattle.std.proofs.Common.{◌≡◌, ℕ, ◌<◌, ◌≤◌, ◌-◌, ◌^◌, true, List, [], ◌∷◌, length, get_or, Option, Result, codes, refl, arith}
 use Rattle.std.specs.Str.{bytes_eq}
-use Rattle.vd_base.specs.Limits.{most_hosts}
 use Rattle.vd_deals.specs.declared.deal.Counts.{Counts}
 use Rattle.vd_cmd.specs.Numbers.{number_within}
-use Rattle.vd_cmd.specs.Commands.{Reads, number_of_items, counts_of, deal_of, form_of}
+use Rattle.vd_cmd.specs.Commands.{Reads, counts_in, deal_of, form_of}
 use Rattle.vd_cmd.specs.declared.command.Command.{Command}
 use Rattle.vd_cmd.specs.declared.command.CommandFault.{CommandFault}
-
-abbrev counts_in : List ℕ → List ℕ → List ℕ → List ℕ → List ℕ → Option Counts
-counts_in h o m a p = counts_of (number_within 1 most_hosts h) (number_of_items o) (number_of_items m) (number_of_items a) (number_of_items p)
 
 same : (w h o m a p k x : List ℕ) (counts : Option Counts) (key : Option ℕ) (r : Result Command CommandFault) → bytes_eq w (codes "deal") ≡ true
     → counts ≡ counts_in h o m a p → key ≡ number_within 0 (2 ^ 64 - 1) k → Reads (deal_of counts key x) r → Reads (form_of (w ∷ h ∷ o ∷ m ∷ a ∷ p ∷ k ∷ x ∷ [])) r

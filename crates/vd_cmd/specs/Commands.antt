@@ -17,6 +17,10 @@ abbrev pub counts_of : Option ℕ → Option ℕ → Option ℕ → Option ℕ �
 counts_of (Some hosts) (Some own) (Some muls) (Some ands) (Some pairs) = Some (record { hosts = hosts; own = own; muls = muls; ands = ands; pairs = pairs })
 counts_of hosts own muls ands pairs = None
 
+-- the same, of texts
+abbrev pub counts_in : List ℕ → List ℕ → List ℕ → List ℕ → List ℕ → Option Counts
+counts_in hosts own muls ands pairs = counts_of (number_within 1 most_hosts hosts) (number_of_items own) (number_of_items muls) (number_of_items ands) (number_of_items pairs)
+
 abbrev pub deal_of : Option Counts → Option ℕ → List ℕ → Option Command
 deal_of (Some counts) (Some key) prefix = Some (Deal counts key prefix)
 deal_of counts key prefix = None
@@ -27,7 +31,7 @@ form_of (word ∷ source ∷ []) = if bytes_eq word (codes "labels") then Some (
 form_of (word ∷ source ∷ inputs ∷ []) = if bytes_eq word (codes "clear") then Some (Clear source inputs) else None
 form_of (word ∷ hosts ∷ own ∷ muls ∷ ands ∷ pairs ∷ key ∷ prefix ∷ []) =
     if bytes_eq word (codes "deal")
-    then deal_of (counts_of (number_within 1 most_hosts hosts) (number_of_items own) (number_of_items muls) (number_of_items ands) (number_of_items pairs)) (number_within 0 (2 ^ 64 - 1) key) prefix
+    then deal_of (counts_in hosts own muls ands pairs) (number_within 0 (2 ^ 64 - 1) key) prefix
     else None
 form_of words = None
 

@@ -1,13 +1,13 @@
 //! The forms of a command line.
 
 ghost use Rattle.std.specs.Prelude.{◌≡◌, IfSome};
-ghost use Rattle.vd_base.specs.Limits.{most_hosts};
-ghost use Rattle.vd_cmd.specs.Numbers.{number_within};
-ghost use Rattle.vd_cmd.specs.Commands.{Reads, AreWithin, number_of_items, counts_of, deal_of, form_of};
+ghost use Rattle.vd_cmd.specs.Commands.{Reads, AreWithin, counts_in, deal_of, form_of};
 ghost use Rattle.vd_cmd.specs.declared.command.CommandFault.TheVariants.{Memory};
 
 use crate::numbers::number_within;
 use std::alloc::{AllocError, Global};
+use std::error::Error;
+use std::fmt;
 use vd_base::limits::{DEAL_ITEMS, HOSTS};
 use vd_base::{Text, Texts};
 use vd_deals::Counts;
@@ -32,6 +32,17 @@ pub enum CommandFault {
     Memory,
 }
 
+impl fmt::Display for CommandFault {
+    fn fmt<W: fmt::Write>(&self, f: &mut fmt::Formatter<W>) -> fmt::Result {
+        match self {
+            CommandFault::Usage => write!(f, "the words have no form"),
+            CommandFault::Memory => write!(f, "out of memory"),
+        }
+    }
+}
+
+impl Error for CommandFault {}
+
 impl From<AllocError> for CommandFault {
     ghost from_gives = { λ _ fault. fault ≡ Memory };
 
@@ -42,7 +53,7 @@ impl From<AllocError> for CommandFault {
 
 /// How much is dealt, if these are numbers of hosts, of own words and of items of each kind.
 fn read_counts(hosts: &Text, own: &Text, muls: &Text, ands: &Text, pairs: &Text) -> Option<Counts>
-    ensures counts { result ≡ counts_of (number_within 1 most_hosts hosts.now) (number_of_items own.now) (number_of_items muls.now) (number_of_items ands.now) (number_of_items pairs.now) }
+    ensures counts { result ≡ counts_in hosts.now own.now muls.now ands.now pairs.now }
     ensures within { IfSome result AreWithin }
 {
     let most = u64::from(DEAL_ITEMS);

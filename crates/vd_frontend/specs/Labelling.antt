@@ -1,7 +1,7 @@
 -- The command `labels`.
-use Rattle.std.specs.Prelude.{ℕ, List, [], Result, Ok, Err, slice_get}
+use Rattle.std.specs.Prelude.{ℕ, true, List, [], Result, Ok, Err, slice_get}
 use Rattle.std.specs.Option.{option_map_or}
-use Rattle.vd_outside.specs.Files.{Contents}
+use Rattle.vd_outside.specs.Files.{FilesView, Contents}
 use Rattle.vd_core.specs.declared.source.Source.{Source}
 use Rattle.vd_core.specs.declared.normal.NormalForm.{NormalForm}
 use Rattle.vd_normal.specs.Normal.{normal_form}
@@ -10,9 +10,10 @@ use Rattle.vd_constraints.specs.Rules.{system_of}
 use Rattle.vd_constraints.specs.declared.labels.Labels.{Labels}
 use Rattle.vd_constraints.specs.declared.system.Check.{Check}
 use Rattle.vd_report.specs.LabelLines.{label_lines}
-use Rattle.vd_plan.specs.Plans.{Plan, check_then, answer_then, ended}
+use Rattle.vd_plan.specs.Plans.{Plan, Executes, check_then, answer_then, ended}
 use Rattle.vd_frontend.specs.Outcomes.{TextOutcomes, LabelOutcomes}
 use Rattle.vd_frontend.specs.Sources.{source_then}
+use Rattle.vd_plan.specs.declared.answer.Answer.{Answer}
 use Rattle.vd_plan.specs.declared.status.Status.{Status}
 use Rattle.vd_plan.specs.declared.status.Status.TheVariants.{Flow}
 
@@ -42,3 +43,6 @@ labelled_plan least source = program_plan least (normal_form source)
 
 abbrev pub labels_plan : TextOutcomes → LabelOutcomes → List ℕ → Contents → Plan
 labels_plan texts least source = source_then texts source (labelled_plan least)
+
+abbrev pub ExecutesLabels : List ℕ → FilesView → FilesView → Result Answer Status → Type 0
+ExecutesLabels source before now result = (texts : TextOutcomes) (least : LabelOutcomes) → Executes true (labels_plan texts least source) before now result

@@ -3,8 +3,8 @@
 ghost use Rattle.std.specs.Prelude.{◌≡◌, true, []};
 ghost use Rattle.vd_outside.specs.Files.{FilesView};
 ghost use Rattle.vd_plan.specs.Plans.{Checks, Computes, Executes, ended};
-ghost use Rattle.vd_frontend.specs.Outcomes.{TextOutcomes, LabelOutcomes};
-ghost use Rattle.vd_frontend.specs.Labelling.{labels_of, offset_at, labels_text as text_of_labels, program_plan, labelled_plan, labels_plan};
+ghost use Rattle.vd_frontend.specs.Outcomes.{LabelOutcomes};
+ghost use Rattle.vd_frontend.specs.Labelling.{labels_of, offset_at, labels_text as text_of_labels, program_plan, labelled_plan, ExecutesLabels};
 
 use crate::sources::load_source;
 use std::alloc::Global;
@@ -71,7 +71,7 @@ fn label_source(alloc: Global, source: &Resolved) -> Result<Answer, Status>
 
 /// The command `labels`: the least label of each slot of the let-normal program.
 pub fn labels<F: Files>(alloc: Global, files: &mut F, source: &str) -> Result<Answer, Status>
-    ensures { (texts : TextOutcomes) (least : LabelOutcomes) → Executes true (labels_plan texts least source.now) (F.view files.old) (F.view files.new) result }
+    ensures { ExecutesLabels source.now (F.view files.old) (F.view files.new) result }
 {
     let resolved = load_source(alloc, files, source)?;
     label_source(alloc, &resolved)
