@@ -39,9 +39,9 @@ whole_exact Behind Fits text bytes (Err left) none_behind exact =
     (stops_at Fits text exact.taken left exact.rest exact.begun exact.fits exact.begins
     (λ y more h e f. exact.none y [] more h none_behind (append-nil (text y) ∙ e) f))
 whole_exact Behind Fits text bytes (Ok (x, [])) none_behind exact = (
-    exact.fits,
-    sym (exact.split ∙ append-nil (text x)),
-    λ y h e. (exact.only y [] [] h none_behind (append-nil (text y) ∙ e ∙ exact.split) refl).0,
+  exact.fits,
+  sym (exact.split ∙ append-nil (text x)),
+  λ y h e. (exact.only y [] [] h none_behind (append-nil (text y) ∙ e ∙ exact.split) refl).0,
 )
 whole_exact Behind Fits text bytes (Ok (x, b ∷ left)) none_behind exact =
     rw (offset_is bytes (text x) (b ∷ left) exact.split, exact.split)
@@ -51,10 +51,10 @@ whole_exact Behind Fits text bytes (Ok (x, b ∷ left)) none_behind exact =
 begins_shorter : (IsText : List ℕ → Type 0) (bytes : List ℕ) (i j : ℕ) → i < j → j ≤ length bytes → Begins IsText (take j bytes) → Begins IsText (take (i + 1) bytes)
 begins_shorter IsText bytes i j h le b =
     let e : take (i + 1) (take j bytes) ++ drop (i + 1) (take j bytes) ≡ take j bytes = take-append-drop (i + 1) (take j bytes) in
-    let f : take (i + 1) (take j bytes) ≡ take (i + 1) bytes = 
-        sym (take-append-le (i + 1) (take j bytes) (drop j bytes) (omega (arith, length-take-le j bytes le))) ∙ ap (take (i + 1)) (take-append-drop j bytes) in
+    let f : take (i + 1) (take j bytes) ≡ take (i + 1) bytes =
+    sym (take-append-le (i + 1) (take j bytes) (drop j bytes) (omega (arith, length-take-le j bytes le))) ∙ ap (take (i + 1)) (take-append-drop j bytes) in
     let g : take (i + 1) bytes ++ (drop (i + 1) (take j bytes) ++ b.0) ≡ take j bytes ++ b.0 =
-        sym (append_assoc (take (i + 1) bytes) (drop (i + 1) (take j bytes)) b.0) ∙ ap (λ front. (front ++ drop (i + 1) (take j bytes)) ++ b.0) (sym f) ∙ ap (λ front. front ++ b.0) e in
+    sym (append_assoc (take (i + 1) bytes) (drop (i + 1) (take j bytes)) b.0) ∙ ap (λ front. (front ++ drop (i + 1) (take j bytes)) ++ b.0) (sym f) ∙ ap (λ front. front ++ b.0) e in
     (drop (i + 1) (take j bytes) ++ b.0, subst IsText (sym g) b.1)
 
 -- the first place at which bytes go on as no text does is one
