@@ -4,11 +4,11 @@
 #[cfg(test)]
 mod cost_tables;
 #[cfg(test)]
+mod deals;
+#[cfg(test)]
 mod declared_names;
 #[cfg(test)]
 mod formulas;
-#[cfg(test)]
-mod deals;
 #[cfg(test)]
 mod hosts;
 #[cfg(test)]
