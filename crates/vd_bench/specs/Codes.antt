@@ -1,5 +1,6 @@
 -- Code made by hand, for one of two hosts.
 use Rattle.std.specs.Prelude.{ℕ, List, [], ◌∷◌}
+use Rattle.vd_base.specs.HostSets.{host}
 use Rattle.vd_execution.specs.declared.instructions.Binary.TheVariants as binary
 use Rattle.vd_execution.specs.declared.instructions.Instr.{Instr}
 use Rattle.vd_execution.specs.declared.instructions.Instr.TheVariants as instr
@@ -19,6 +20,20 @@ counting turns =
     ∷ instr.Do (action.Apply binary.Xor (register 1) (register 1) (register 3))
     ∷ instr.End
     ∷ instr.Do (action.Print (register 1))
+    ∷ []
+
+-- turns in which their number is sent to host 1
+abbrev pub speaker : (turns : ℕ) → List Instr
+speaker turns = instr.For (register 0) turns ∷ instr.Send (host 1) (register 0 ∷ []) ∷ instr.End ∷ []
+
+-- turns in which a word comes from host 0 and is added; then the sum is printed
+abbrev pub listener : (turns : ℕ) → List Instr
+listener turns =
+    instr.For (register 1) turns
+    ∷ instr.Recv (host 0) (register 0 ∷ [])
+    ∷ instr.Do (action.Apply binary.Add (register 2) (register 2) (register 0))
+    ∷ instr.End
+    ∷ instr.Do (action.Print (register 2))
     ∷ []
 
 -- one of two hosts can load the code

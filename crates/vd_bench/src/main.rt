@@ -2,10 +2,11 @@
 //!
 //!     deal N     makes, writes and reads the deals of two hosts with N own words and N items of each kind
 //!     world N    runs a loop of N turns at one of two hosts
+//!     talk N     runs N turns of two hosts, in each of which a word goes from one to the other
 #![tactic(auto)]
 
-mod counting;
 mod dealing;
+mod hosts;
 
 use anyhow::bail;
 use std::env;
@@ -23,8 +24,12 @@ fn main(rt: HostRuntime) -> anyhow::Result<()> {
             println!(rt; "deal {count} ok {bytes}")?;
         }
         "world" => {
-            let run = counting::world(alloc, count)?;
+            let run = hosts::world(alloc, count)?;
             println!(rt; "world {count} {} {}", run.steps, run.printed)?;
+        }
+        "talk" => {
+            let run = hosts::talk(alloc, count)?;
+            println!(rt; "talk {count} {} {}", run.steps, run.printed)?;
         }
         _ => bail!("no such job"),
     }
