@@ -193,7 +193,7 @@ fn is_of_three(protocol: Proto) -> bool
 }
 
 /// The authority over three hosts, where host number i has the label {i ; i}.
-#[tactic(auto, using(crate::proofs::Over::three_over))]
+#[tactic(auto, using(crate::proofs::ThreeHosts::three_over))]
 fn authority_of_three(alloc: Global, protocol: Proto) -> Result<Label, Fail> {
     if !is_of_three(protocol) {
         return Err("no such host".into());
