@@ -1,5 +1,6 @@
 -- Both bounds of a prefix are at most the cost of each valid list that it begins, and are the cost at a whole one.
-use Rattle.std.proofs.Common.{◌≡◌, ℕ, List, ◌++◌, length, sym, ◌∙◌, subst, ◌≤ℤ◌}
+use Rattle.std.proofs.Common.{◌≡◌, ℕ, ◌<◌, List, ◌++◌, length, refl, sym, ◌∙◌, subst, arith, ℤ, pos, negsuc, ◌≤ℤ◌, ◌<ℤ◌}
+use Rattle.std.proofs.lemmas.Int.{ints}
 use Rattle.std.specs.Prelude.{IsTrue}
 use Rattle.vd_prefixes.specs.Trees.{IsBounded}
 use Rattle.vd_space.specs.declared.problem.Problem.{Problem}
@@ -13,6 +14,10 @@ use Rattle.vd_space.proofs.Least.{max_above, max_same}
 use Rattle.vd_space.proofs.Terms.{sum_at, sum_low, sum_same}
 use Rattle.vd_space.proofs.Valued.{terms_have}
 use Rattle.vd_space.proofs.Shifted.{shifted_have, shifted_sum}
+
+number_of : (z : ℤ) → pos 0 ≤ℤ z → z <ℤ pos 4294967296 → (number : ℕ) × (number < 4294967296) × (z ≡ pos number)
+number_of (pos n) low high = (n, omega (arith, ints, high), refl)
+number_of (negsuc n) low high = absurd (omega (arith, ints, low))
 
 module _ (problem : Problem) (is : IsProblem problem) where
   pub low_below : (prefix rest : List ℕ) → length (prefix ++ rest) ≡ length problem.slots → IsTrue (is_valid problem (prefix ++ rest)) → low problem prefix ≤ℤ cost problem (prefix ++ rest)
@@ -47,5 +52,5 @@ module _ (problem : Problem) (is : IsProblem problem) where
       closed = valid_kept problem;
       listed = valid_listed problem;
       below = λ prefix rest whole. subst (λ c. high problem shifts prefix ≤ℤ c) (sym (high_whole (prefix ++ rest) whole.full whole.valid)) (high_below prefix rest whole.full whole.valid);
-      fits = λ list whole. let fits = is.fits list whole.full whole.valid in (fits.0, fits.1, high_whole list whole.full whole.valid ∙ fits.2);
+      fits = λ list whole. let small = is.fits list whole.full whole.valid in let fits = number_of (cost problem list) small.0 small.1 in (fits.0, fits.1, high_whole list whole.full whole.valid ∙ fits.2);
     }

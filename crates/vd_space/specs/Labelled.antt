@@ -1,5 +1,5 @@
 -- Problems whose labels can be compared.
-use Rattle.std.specs.Prelude.{◌≡◌, ℕ, ◌<◌, ◌≤◌, length, All}
+use Rattle.std.specs.Prelude.{◌≡◌, ◌<◌, ◌≤◌, length, All}
 use Rattle.std.specs.List.{AllByRecursion}
 use Rattle.vd_base.specs.Limits.{most_hosts}
 use Rattle.vd_protocol.specs.Authority.{AreOverSameNames, IsOver, names_of}

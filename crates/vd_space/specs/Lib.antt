@@ -8,3 +8,4 @@ pub mod Usual
 pub mod Laws
 pub mod Steps
 pub mod Labelled
+pub mod Sizes

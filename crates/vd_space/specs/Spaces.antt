@@ -1,5 +1,5 @@
 -- The tree of all lists of protocols of a problem, and what a problem keeps.
-use Rattle.std.specs.Prelude.{◌≡◌, ℕ, ◌<◌, List, length, IsTrue, pos}
+use Rattle.std.specs.Prelude.{◌≡◌, ℕ, ◌<◌, List, length, IsTrue, pos, ◌≤ℤ◌, ◌<ℤ◌}
 use Rattle.std.specs.List.{AllByRecursion}
 use Rattle.vd_prefixes.specs.Trees.{Tree}
 use Rattle.vd_space.specs.declared.problem.Problem.{Problem}
@@ -35,4 +35,4 @@ pub record IsProblem (problem : Problem) : Type 0 where
   pub outputs : AllByRecursion (λ (o : Output). o.slot.0 < length problem.slots) problem.outputs
   pub guards : AllByRecursion (λ (guard : Guard). guard.slot.0 < length problem.slots) problem.guards
   pub indexes : AllByRecursion (IsIndex (length problem.slots)) problem.indexes
-  pub fits : (list : List ℕ) → length list ≡ length problem.slots → IsTrue (is_valid problem list) → (number : ℕ) × (number < 4294967296) × (cost problem list ≡ pos number)
+  pub fits : (list : List ℕ) → length list ≡ length problem.slots → IsTrue (is_valid problem list) → (pos 0 ≤ℤ cost problem list) × (cost problem list <ℤ pos 4294967296)

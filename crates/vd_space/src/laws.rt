@@ -11,6 +11,7 @@ ghost use Rattle.vd_constraints.specs.declared.labels.Labels.{Labels as Labellin
 ghost use Rattle.vd_space.specs.Labelled.{HasLabels, IsLabelled, NamesOwnSlots};
 ghost use Rattle.vd_space.specs.Reading.{problem_of};
 ghost use Rattle.vd_space.specs.Laws.{EndsInCost, IsBelowCosts, SumGrows, ValidGrows};
+ghost use Rattle.vd_space.specs.Sizes.{IsWithinLimits};
 ghost use Rattle.vd_space.specs.Spaces.{IsProblem, tree_of};
 ghost use Rattle.vd_space.specs.declared.problem.Problem.{Problem as Problems};
 ghost use Rattle.vd_prefixes.specs.declared.shift.Shift.{Shift as Shifts};
@@ -44,9 +45,12 @@ pub fn terms_go_by_place()
     ensures pair { (problem : Problems) (prefix : List ℕ) (pair : Pair) → PairByPlace problem prefix pair }
 {}
 
-/// The problem of a program has the program's slots, names no others, and has labels that can be compared.
+/// The problem of a program has the program's slots, names no others, has labels that can be compared, and is small: the
+/// cost of a whole valid list is a number of 32 bits.
 pub fn programs_have_problems()
     ensures slots { (p : Programs) (l : Labellings) → IsWellMade p → length (problem_of p l).slots ≡ length p.slots }
     ensures named { (p : Programs) (l : Labellings) → IsWellMade p → NamesOwnSlots (problem_of p l) }
     ensures labelled { (p : Programs) (l : Labellings) → IsWellMade p → HasLabels p l → IsLabelled (problem_of p l) }
+    ensures limits { (p : Programs) (l : Labellings) → IsWellMade p → IsWithinLimits (problem_of p l) }
+    ensures problem { (p : Programs) (l : Labellings) → IsWellMade p → IsProblem (problem_of p l) }
 {}

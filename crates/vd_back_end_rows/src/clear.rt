@@ -1,0 +1,108 @@
+//! Words in clear at three hosts.
+
+ghost use Rattle.std.specs.Prelude.{◌≡◌, ◌<◌, IfOk, OnOk, length, replicate};
+ghost use Rattle.vd_duet.specs.Builder.{HasRoom, TakesAtMost};
+ghost use Rattle.vd_duet.specs.Calls.{holders, hosts_of, placed};
+ghost use Rattle.vd_duet.specs.Laws.{AreKnown};
+
+use std::alloc::{AllocError, Global};
+use std::test::Fail;
+use vd_base::{HostId, HostSet, Op};
+use vd_clear::{LocalHost, Replica, spread};
+use vd_duet::{Backend, Clear, Duet, Parts};
+use vd_execution::{Line, Reg};
+use vd_items::Items;
+
+/// A number that is kept, and written over by itself.
+fn kept<B: Backend>(back_end: &B, to: &mut Duet) -> Result<Parts<B::Part>, AllocError>
+    requires known { AreKnown (holders (B.calls back_end.now).proto) to.old.next }
+    requires room { HasRoom 8192 to.old.next }
+    ensures hosts { IfOk result (λ x. hosts_of (placed B.register x) ≡ holders (B.calls back_end.now).proto) }
+    ensures few { OnOk result (TakesAtMost 4096 to.old.next to.new.next) }
+{
+    let word = back_end.literal(7, to)?;
+    let kept = back_end.keep(&word, to)?;
+    back_end.renew(&kept, &word, to)?;
+    Ok(kept)
+}
+
+/// The lines of code, each as it is printed for a person.
+fn text_of(alloc: Global, lines: &[Line]) -> Result<String, AllocError> {
+    let mut text = String::new(alloc);
+    for line in lines {
+        text.push_str(format!(in alloc; "{line:?}")?.as_str())?;
+        text.push('\n')?;
+    }
+    Ok(text)
+}
+
+/// Two hosts keep a copy; host 1 is shown it.
+const SHOWN: &str = "Act(Do(HostId(0), Const(Reg(0), 7)))
+Act(Do(HostId(2), Const(Reg(0), 7)))
+Act(Do(HostId(0), Copy(Reg(1), Reg(0))))
+Act(Do(HostId(2), Copy(Reg(1), Reg(0))))
+Act(Do(HostId(0), Copy(Reg(1), Reg(0))))
+Act(Do(HostId(2), Copy(Reg(1), Reg(0))))
+Act(Msg(HostId(0), Items { items: [Reg(1)] }, HostId(1), Items { items: [Reg(0)] }))
+Act(Msg(HostId(2), Items { items: [Reg(1)] }, HostId(1), Items { items: [Reg(1)] }))
+Act(Do(HostId(1), Same(Reg(0), Reg(1))))
+";
+
+fn shown(to: &mut Duet) -> Result<Clear, AllocError>
+    requires hosts { to.old.next ≡ replicate 3 0 }
+{
+    let replica = Replica(HostSet { bits: 0b101 });
+    let kept = kept(&replica, to)?;
+    replica.show(&kept, HostId(1), to)
+}
+
+#[test]
+fn copies_are_compared(rt: HostRuntime) -> Result<(), Fail> {
+    let alloc = rt.alloc();
+    let mut duet = Duet::new(alloc, 3)?;
+    let at = shown(&mut duet)?;
+    assert_eq!(rt; at, Clear(Reg(0)));
+    assert_eq!(rt; text_of(alloc, duet.lines())?.as_str(), SHOWN);
+    Ok(())
+}
+
+/// Host 1 shares a number with host 0; both tell host 2, which turns its lowest bit.
+const MOVED: &str = "Act(Do(HostId(1), Const(Reg(0), 5)))
+Act(Msg(HostId(1), Items { items: [Reg(0)] }, HostId(0), Items { items: [Reg(0)] }))
+Act(Msg(HostId(0), Items { items: [Reg(0)] }, HostId(2), Items { items: [Reg(0)] }))
+Act(Msg(HostId(1), Items { items: [Reg(0)] }, HostId(2), Items { items: [Reg(1)] }))
+Act(Do(HostId(2), Same(Reg(0), Reg(1))))
+Act(Do(HostId(2), Const(Reg(2), 1)))
+Act(Do(HostId(2), Apply(Xor, Reg(3), Reg(0), Reg(2))))
+";
+
+fn moved(to: &mut Duet) -> Result<Parts<Clear>, AllocError>
+    requires hosts { length to.old.next ≡ 3 }
+    requires room { HasRoom 16384 to.old.next }
+{
+    let one = LocalHost(HostId(1)).literal(5, to)?;
+    let two = Replica(HostSet { bits: 0b011 }).share(HostId(1), first_of(&one), to)?;
+    let three = spread(&two, HostSet { bits: 0b011 }, HostSet { bits: 0b111 }, to)?;
+    let all = Replica(HostSet { bits: 0b111 }).show_all(&three, to)?;
+    let last = LocalHost(HostId(2)).adopt(&all, to)?;
+    let mut operands = Items::new(to.alloc());
+    operands.push(last)?;
+    LocalHost(HostId(2)).apply(Op::Flip, &operands, to)
+}
+
+fn first_of(x: &Parts<Clear>) -> Reg {
+    match x.as_slice() {
+        [part, ..] => part.1.0,
+        [] => Reg(0),
+    }
+}
+
+#[test]
+fn copies_are_moved(rt: HostRuntime) -> Result<(), Fail> {
+    let alloc = rt.alloc();
+    let mut duet = Duet::new(alloc, 3)?;
+    let flipped = moved(&mut duet)?;
+    assert_eq!(rt; first_of(&flipped), Reg(3));
+    assert_eq!(rt; text_of(alloc, duet.lines())?.as_str(), MOVED);
+    Ok(())
+}

@@ -1,0 +1,5 @@
+//! Worked code of the back ends, as tests.
+#![tactic(auto)]
+
+#[cfg(test)]
+mod clear;

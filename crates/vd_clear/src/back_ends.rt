@@ -1,0 +1,183 @@
+ghost use Rattle.std.specs.Prelude.{◌≡◌, ◌≤◌, IfOk, OnOk, length};
+ghost use Rattle.vd_base.specs.HostSets.{members as members_of};
+ghost use Rattle.vd_base.specs.declared.protocols.Proto.TheVariants as proto;
+ghost use Rattle.vd_duet.specs.Builder.{HasRoom, TakesFew};
+ghost use Rattle.vd_duet.specs.Calls.{Makes, appended, in_clear, holders, hosts_of};
+ghost use Rattle.vd_duet.specs.Laws.{AreKnown};
+ghost use Rattle.vd_clear.specs.Copies.{clear_calls, renewed, spread_to};
+
+use crate::apply::Apply;
+use crate::each::each;
+use crate::registers::register_at;
+use crate::show::show;
+use crate::steps::{Adopt, Keep, Literal, Share, Show};
+use std::alloc::{AllocError, Global};
+use vd_base::{HostId, HostSet, Op, Proto};
+use vd_duet::{Args, Backend, Clear, Duet, Parts};
+use vd_execution::{Act, Action, Reg};
+use vd_items::Items;
+
+/// One host that holds words in clear.
+#[derive(Clone, Copy, PartialEq, Eq, Debug)]
+pub struct LocalHost(pub HostId);
+
+/// Hosts that each hold a copy of words in clear.
+#[derive(Clone, Copy, PartialEq, Eq, Debug)]
+pub struct Replica(pub HostSet);
+
+/// Writes `x` over the copies of `kept`.
+fn renew(kept: &Parts<Clear>, x: &Parts<Clear>, to: &mut Duet) -> Result<(), AllocError>
+    ensures { OnOk result (to.new ≡ appended (renewed (in_clear kept.now) (in_clear x.now)) to.old) }
+{
+    for part in kept.as_slice() {
+        let from = register_at(x, part.0);
+        to.add(Act::Do(part.0, Action::Copy(part.1.0, from)))?;
+    }
+    Ok(())
+}
+
+impl Backend for LocalHost {
+    type Part = Clear;
+
+    ghost calls = { λ b. clear_calls (proto.Local b.0) };
+
+    ghost register = { λ c. c.0 };
+
+    fn proto(&self) -> Proto {
+        Proto::Local(self.0)
+    }
+
+    fn serves(&self, op: Op) -> bool {
+        true
+    }
+
+    fn literal(&self, word: u32, to: &mut Duet) -> Result<Parts<Clear>, AllocError> {
+        each(&[self.0], &Literal(word), to)
+    }
+
+    fn share(&self, from: HostId, x: Reg, to: &mut Duet) -> Result<Parts<Clear>, AllocError> {
+        each(&[self.0], &Share(from, x), to)
+    }
+
+    fn adopt(&self, x: &Parts<Clear>, to: &mut Duet) -> Result<Parts<Clear>, AllocError> {
+        each(&[self.0], &Adopt(x), to)
+    }
+
+    fn show(&self, x: &Parts<Clear>, at: HostId, to: &mut Duet) -> Result<Clear, AllocError> {
+        Ok(Clear(show(x, at, to)?))
+    }
+
+    fn show_all(&self, x: &Parts<Clear>, to: &mut Duet) -> Result<Parts<Clear>, AllocError> {
+        Ok(Items::from_slice(to.alloc(), x.as_slice())?)
+    }
+
+    fn keep(&self, x: &Parts<Clear>, to: &mut Duet) -> Result<Parts<Clear>, AllocError> {
+        each(&[self.0], &Keep(x), to)
+    }
+
+    fn renew(
+        &self,
+        kept: &Parts<Clear>,
+        x: &Parts<Clear>,
+        to: &mut Duet,
+    ) -> Result<(), AllocError> {
+        renew(kept, x, to)
+    }
+
+    fn apply(&self, op: Op, args: &Args<Clear>, to: &mut Duet) -> Result<Parts<Clear>, AllocError> {
+        each(&[self.0], &Apply(op, args), to)
+    }
+}
+
+/// The hosts of a set, in order.
+#[tactic(auto, using(crate::proofs::Members::few_hosts))]
+fn members(set: HostSet, alloc: Global) -> Result<Items<HostId>, AllocError>
+    ensures exact { IfOk result (λ hosts. hosts ≡ members_of 8 set) }
+    ensures few { IfOk result (λ hosts. length hosts ≤ 8) }
+{
+    let mut hosts = Items::new(alloc);
+    for number in 0..8 {
+        let host = HostId(number);
+        if set.has(host) {
+            hosts.push(host)?;
+        }
+    }
+    Ok(hosts)
+}
+
+impl Backend for Replica {
+    type Part = Clear;
+
+    ghost calls = { λ b. clear_calls (proto.Rep b.0) };
+
+    ghost register = { λ c. c.0 };
+
+    fn proto(&self) -> Proto {
+        Proto::Rep(self.0)
+    }
+
+    fn serves(&self, op: Op) -> bool {
+        true
+    }
+
+    fn literal(&self, word: u32, to: &mut Duet) -> Result<Parts<Clear>, AllocError> {
+        let hosts = members(self.0, to.alloc())?;
+        each(hosts.as_slice(), &Literal(word), to)
+    }
+
+    fn share(&self, from: HostId, x: Reg, to: &mut Duet) -> Result<Parts<Clear>, AllocError> {
+        let hosts = members(self.0, to.alloc())?;
+        each(hosts.as_slice(), &Share(from, x), to)
+    }
+
+    fn adopt(&self, x: &Parts<Clear>, to: &mut Duet) -> Result<Parts<Clear>, AllocError> {
+        let hosts = members(self.0, to.alloc())?;
+        each(hosts.as_slice(), &Adopt(x), to)
+    }
+
+    fn show(&self, x: &Parts<Clear>, at: HostId, to: &mut Duet) -> Result<Clear, AllocError> {
+        Ok(Clear(show(x, at, to)?))
+    }
+
+    fn show_all(&self, x: &Parts<Clear>, to: &mut Duet) -> Result<Parts<Clear>, AllocError> {
+        Ok(Items::from_slice(to.alloc(), x.as_slice())?)
+    }
+
+    fn keep(&self, x: &Parts<Clear>, to: &mut Duet) -> Result<Parts<Clear>, AllocError> {
+        let hosts = members(self.0, to.alloc())?;
+        each(hosts.as_slice(), &Keep(x), to)
+    }
+
+    fn renew(
+        &self,
+        kept: &Parts<Clear>,
+        x: &Parts<Clear>,
+        to: &mut Duet,
+    ) -> Result<(), AllocError> {
+        renew(kept, x, to)
+    }
+
+    fn apply(&self, op: Op, args: &Args<Clear>, to: &mut Duet) -> Result<Parts<Clear>, AllocError> {
+        let hosts = members(self.0, to.alloc())?;
+        each(hosts.as_slice(), &Apply(op, args), to)
+    }
+}
+
+/// The move of a word from copies at one set of hosts to copies at another. `x` has a part for exactly each host of `from`.
+#[tactic(auto, using(crate::proofs::Members::few_parts))]
+pub fn spread(
+    x: &Parts<Clear>,
+    from: HostSet,
+    to: HostSet,
+    code: &mut Duet,
+) -> Result<Parts<Clear>, AllocError>
+    requires known { AreKnown (holders (proto.Rep to)) code.old.next }
+    requires room { HasRoom 0 code.old.next }
+    requires placed { hosts_of (in_clear x.now) ≡ holders (proto.Rep from) }
+    ensures exact { IfOk result (λ y. Makes (spread_to to (in_clear x.now)) code.old (in_clear y) code.new) }
+    ensures hosts { IfOk result (λ y. hosts_of (in_clear y) ≡ holders (proto.Rep to)) }
+    ensures few { OnOk result (TakesFew code.old.next code.new.next) }
+{
+    let hosts = members(to, code.alloc())?;
+    each(hosts.as_slice(), &Show(x), code)
+}

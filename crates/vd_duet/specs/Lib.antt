@@ -1,0 +1,4 @@
+pub mod Builder
+pub mod Calls
+pub mod Acting
+pub mod Laws

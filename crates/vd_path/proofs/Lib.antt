@@ -1,0 +1,9 @@
+pub mod Fills
+pub mod Changes
+pub mod Found
+pub mod Choices
+pub mod Paths
+pub mod Greater
+pub mod Numbering
+pub mod Placed
+pub mod Growing

@@ -1,0 +1,5 @@
+pub mod Transfers
+pub mod Naming
+pub mod Steps
+pub mod Guards
+pub mod Tables

@@ -1,0 +1,8 @@
+use Rattle.vd_suite.proofs.PlanRuns.{runs_alike, goes_smoothly}
+use Rattle.vd_suite.proofs.plans_run_as_their_code.Goals as goal
+
+pub returns-clause-runs : goal.returns-clause-runs
+returns-clause-runs c = runs_alike
+
+pub returns-clause-smooth : goal.returns-clause-smooth
+returns-clause-smooth c = goes_smoothly
