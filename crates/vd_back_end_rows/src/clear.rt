@@ -27,7 +27,7 @@ fn kept<B: Backend>(back_end: &B, to: &mut Duet) -> Result<Parts<B::Part>, Alloc
 }
 
 /// The lines of code, each as it is printed for a person.
-fn text_of(alloc: Global, lines: &[Line]) -> Result<String, AllocError> {
+pub(crate) fn text_of(alloc: Global, lines: &[Line]) -> Result<String, AllocError> {
     let mut text = String::new(alloc);
     for line in lines {
         text.push_str(format!(in alloc; "{line:?}")?.as_str())?;

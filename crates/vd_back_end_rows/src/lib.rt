@@ -3,3 +3,5 @@
 
 #[cfg(test)]
 mod clear;
+#[cfg(test)]
+mod words;

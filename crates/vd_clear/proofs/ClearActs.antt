@@ -29,7 +29,7 @@ none_any : {X : Type 0} (xs : List X) → list_any (λ x. false) xs ≡ false
 none_any [] = refl
 none_any (x ∷ xs) = none_any xs
 
-each_acts : (h : ℕ) (f : HostId → List ℕ → Made Reg) (g : HostId → Bool) → ((k : HostId) (next : List ℕ) → acts_at (f k next).gadgets h ≡ g k)
+pub each_acts : (h : ℕ) (f : HostId → List ℕ → Made Reg) (g : HostId → Bool) → ((k : HostId) (next : List ℕ) → acts_at (f k next).gadgets h ≡ g k)
     → (hs : List HostId) (next : List ℕ) → acts_at (each_made f hs next).gadgets h ≡ list_any g hs
 each_acts h f g law [] next = refl
 each_acts h f g law (k ∷ hs) next =

@@ -60,14 +60,14 @@ copy_one h w [] v at c = absurd (none 0 (ap (λ (l : List HostId). length l) at)
 copy_one h w (q ∷ []) v at c = ap (λ z. z ∷ []) c.0
 copy_one h w (q ∷ p ∷ x) v at c = absurd (too_long (length (hosts_of x)) (ap (λ (l : List HostId). length l) at))
 
-copies_of : (p : Proto) → IsClear p → (w : Hosts) (x : Places) (v : ℕ) → StandFor (clear_calls p) w x v → Copies w x v
+pub copies_of : (p : Proto) → IsClear p → (w : Hosts) (x : Places) (v : ℕ) → StandFor (clear_calls p) w x v → Copies w x v
 copies_of (Local h) clear w x v s = one_copy w x v s.word
 copies_of (Rep set) clear w x v s = all_copies w x v s.word
 copies_of (Commit p v) clear w x u s = absurd clear
 copies_of (Add a b) clear w x v s = absurd clear
 copies_of (Xor a b) clear w x v s = absurd clear
 
-stand_for : (p : Proto) → IsClear p → (w : Hosts) (x : Places) (v : ℕ) → hosts_of x ≡ holders p → Copies w x v → StandFor (clear_calls p) w x v
+pub stand_for : (p : Proto) → IsClear p → (w : Hosts) (x : Places) (v : ℕ) → hosts_of x ≡ holders p → Copies w x v → StandFor (clear_calls p) w x v
 stand_for (Local h) clear w x v at c = record { at = at; word = copy_one h w x v at c }
 stand_for (Rep set) clear w x v at c = record { at = at; word = copies_all w x v c }
 stand_for (Commit p v) clear w x u at c = absurd clear
@@ -195,7 +195,7 @@ module _ (p : Proto) (clear : IsClear p) (t : Tape) (next : List ℕ) (w : Hosts
         is = stand_for p clear g.reached (each_made f (holders p) next).given v g.is.0 g.is.1;
       }
 
-  operand_found : (x : Places) (v : ℕ) → Operand (clear_calls p) next w x v → (h : HostId) → IsHost (holders p) h.0 → Found next w x h v
+  pub operand_found : (x : Places) (v : ℕ) → Operand (clear_calls p) next w x v → (h : HostId) → IsHost (holders p) h.0 → Found next w x h v
   operand_found x v o h i =
       found next w x h v (subst (λ (l : List HostId). IsHost l h.0) (sym o.stands.at) i) o.below (copies_of p clear w x v o.stands)
 

@@ -11,3 +11,4 @@ mod steps;
 
 pub use back_ends::{LocalHost, Replica, spread};
 pub use laws::{copies_are_a_back_end, one_host_is_a_back_end, spread_keeps_the_word};
+pub use registers::register_at;

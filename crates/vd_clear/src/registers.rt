@@ -20,7 +20,7 @@ pub(crate) fn has_part(x: &Parts<Clear>, host: HostId) -> bool
 }
 
 /// The register of a host's part.
-pub(crate) fn register_at(x: &Parts<Clear>, host: HostId) -> Reg
+pub fn register_at(x: &Parts<Clear>, host: HostId) -> Reg
     ensures { result ≡ register_of (in_clear x.now) host.0 }
 {
     for part in x.as_slice() {

@@ -11,9 +11,13 @@ pub record Builder : Type 0 where
   pub lines : List Line
   pub next : List ℕ
 
+-- a line at the end
+abbrev pub marked : Line → Builder → Builder
+marked l b = record { lines = b.lines ++ l ∷ []; next = b.next }
+
 -- an act at the end
 abbrev pub added : Act → Builder → Builder
-added act b = record { lines = b.lines ++ line.Act act ∷ []; next = b.next }
+added act b = marked (line.Act act) b
 
 -- the next free register of a host
 abbrev pub next_at : List ℕ → HostId → Reg

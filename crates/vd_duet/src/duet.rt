@@ -1,5 +1,5 @@
 ghost use Rattle.std.specs.Prelude.{◌≡◌, ◌<◌, ◌+◌, ◌-◌, ◌^◌, [], OnOk, IfOk, length, replicate, slice_index};
-ghost use Rattle.vd_duet.specs.Builder.{added, reserved, HasRoom, register_bound};
+ghost use Rattle.vd_duet.specs.Builder.{added, marked, reserved, HasRoom, register_bound};
 
 use std::alloc::{AllocError, Global};
 use std::marker::Model;
@@ -47,6 +47,13 @@ impl Duet {
         self.lines.push(Line::Act(act))
     }
 
+    /// Puts a line at the end: a mark of a block at one host.
+    pub fn mark(&mut self, line: Line) -> Result<(), AllocError>
+        ensures { OnOk result (self.new ≡ marked line self.old) }
+    {
+        self.lines.push(line)
+    }
+
     /// The first of `count` fresh registers of a host.
     pub fn reserve(&mut self, host: HostId, count: u32) -> Reg
         requires known { host.0 < length self.old.next }
@@ -64,6 +71,20 @@ impl Duet {
         ensures { result.now ≡ self.now.lines }
     {
         self.lines.as_slice()
+    }
+
+    /// The lines, given up to the caller.
+    pub fn into_lines(self) -> Items<Line>
+        ensures { result ≡ self.lines }
+    {
+        self.lines
+    }
+
+    /// The next free register of each host.
+    pub fn next(&self) -> &[u32]
+        ensures { result.now ≡ self.now.next }
+    {
+        self.next.as_slice()
     }
 
     /// The allocator of the code.

@@ -32,13 +32,13 @@ module _ (m : Hosts) (s : Suite m) (proto : ℕ → Proto) (laws : Laws m s) (de
   abbrev at : ℕ → ℕ → Bool
   at x h = is_at (proto x) (host h)
 
-  abbrev emits : Block → Emission s.calls proto
+  abbrev pub emits : Block → Emission s.calls proto
   emits = emission_of m s proto
 
-  turn_here : (x : SlotId) (right : Right) (rest : Block) (h : ℕ) → right ≡ Turn → at x.0 h ≡ true → turns_at m s proto (Let x right rest) h ≡ true
+  pub turn_here : (x : SlotId) (right : Right) (rest : Block) (h : ℕ) → right ≡ Turn → at x.0 h ≡ true → turns_at m s proto (Let x right rest) h ≡ true
   turn_here x right rest h is a = subst (λ z. turns_at m s proto (Let x z rest) h ≡ true) (sym is) (or_left (at x.0 h) (turns_at m s proto rest h) a)
 
-  turn_later : (x : SlotId) (right : Right) (rest : Block) (h : ℕ) → turns_at m s proto rest h ≡ true → turns_at m s proto (Let x right rest) h ≡ true
+  pub turn_later : (x : SlotId) (right : Right) (rest : Block) (h : ℕ) → turns_at m s proto rest h ≡ true → turns_at m s proto (Let x right rest) h ≡ true
   turn_later x (Lit n) rest h a = a
   turn_later x Turn rest h a = or_right (at x.0 h) (turns_at m s proto rest h) a
   turn_later x (Copy y) rest h a = a
@@ -92,7 +92,7 @@ module _ (m : Hosts) (s : Suite m) (proto : ℕ → Proto) (laws : Laws m s) (de
   turns_take_part (For count body rest) h a = or_right _ _ (turns_take_part rest h a)
 
   -- and has an instruction
-  turns_act : (b : Block) (h : ℕ) → turns_at m s proto b h ≡ true → (emits b).acts_at h ≡ true
+  pub turns_act : (b : Block) (h : ℕ) → turns_at m s proto b h ≡ true → (emits b).acts_at h ≡ true
   turns_act End h a = a
   turns_act (Let x right rest) h a = split (turns_act rest h) (turn_split x right rest h a)
     where
@@ -123,7 +123,7 @@ module _ (m : Hosts) (s : Suite m) (proto : ℕ → Proto) (laws : Laws m s) (de
       split r (inr p) = or_right _ _ (r p)
   turns_act (For count body rest) h a = or_right _ _ (turns_act rest h a)
 
-  abbrev Nobody : Block → Type 0
+  abbrev pub Nobody : Block → Type 0
   Nobody b = (h : ℕ) → h < s.calls.hosts → (emits b).takes_part h ≡ false
 
   -- a slot is somewhere
@@ -141,7 +141,7 @@ module _ (m : Hosts) (s : Suite m) (proto : ℕ → Proto) (laws : Laws m s) (de
   no_turns f idle (suc n) c = idle n (turns n f c) ∙ no_turns f idle n c
 
   -- where nobody takes part nothing happens
-  idle : (b : Block) → Nobody b → (turn : ℕ) (c : SlotState) → effect_of b turn c ≡ c
+  pub idle : (b : Block) → Nobody b → (turn : ℕ) (c : SlotState) → effect_of b turn c ≡ c
   idle End none turn c = refl
   idle (Let x right rest) none turn c = absurd (somebody x.0 (λ h lt. or_none_left _ _ (or_none_left _ _ (none h lt))))
   idle (NewVar v x rest) none turn c = absurd (somebody v.0 (λ h lt. or_none_left _ _ (or_none_left _ _ (none h lt))))
@@ -152,6 +152,12 @@ module _ (m : Hosts) (s : Suite m) (proto : ℕ → Proto) (laws : Laws m s) (de
   idle (If x t e offset rest) none turn c = absurd (somebody x.0 (λ h lt. or_none_left _ _ (or_none_left _ _ (or_none_left _ _ (none h lt)))))
   idle (For count body rest) none turn c =
       ap (effect_of rest turn) (no_turns (effect_of body) (idle body (λ h lt. or_none_left _ _ (none h lt))) count c) ∙ idle rest (λ h lt. or_none_right _ _ (none h lt)) turn c
+
+  -- where nobody takes part in either block nothing happens
+  pub both_idle : (tb eb : Block) → ((h : ℕ) → h < s.calls.hosts → ((emits tb).takes_part h || (emits eb).takes_part h) ≡ false) → (b : Bool) (turn : ℕ) (c : SlotState)
+      → in_order (if b then each stmt_effect eb else each stmt_effect tb) turn c ≡ c
+  both_idle tb eb none true turn c = idle eb (λ h lt. or_none_right _ _ (none h lt)) turn c
+  both_idle tb eb none false turn c = idle tb (λ h lt. or_none_left _ _ (none h lt)) turn c
 
   count_as : (o o' : Sight) (e : E m s proto) (made : Emitted s.calls proto) (n n' : ℕ) (w : m.World) (c' : SlotState) → n ≡ n' → After m s proto o o' e made n w c' → After m s proto o o' e made n' w c'
   count_as o o' e made n n' w c' is a = subst (λ z. After m s proto o o' e made z w c') is a
@@ -179,7 +185,7 @@ module _ (m : Hosts) (s : Suite m) (proto : ℕ → Proto) (laws : Laws m s) (de
   none_more : (n : ℕ) → 0 + n ≡ n
   none_more n = omega arith
 
-  no_slots : (k : ℕ) (xs : List ℕ) → InRow k xs → InRow (k + 0) xs
+  pub no_slots : (k : ℕ) (xs : List ℕ) → InRow k xs → InRow (k + 0) xs
   no_slots k xs r = subst (λ z. InRow z xs) (none k) r
     where
       none : (k : ℕ) → k ≡ k + 0
@@ -220,7 +226,7 @@ module _ (m : Hosts) (s : Suite m) (proto : ℕ → Proto) (laws : Laws m s) (de
       let a = branch_after m s proto laws declared o (sees tb o).after (sees eb o).after (emits tb) (emits eb) (each stmt_effect tb) (each stmt_effect eb) (length (slots tb)) (length (slots eb)) k (turns_at m s proto tb) (turns_at m s proto eb)
       (means tb o k (row_front k (slots tb) (slots eb) row1) (and_right _ _ (and_left _ _ here)) fits.0 placed.1)
       (means eb o (k + length (slots tb)) (row_back k (slots tb) (slots eb) row1) (and_right _ _ here) fits.1 placed.2)
-      x (and_left _ _ (and_left _ _ here)) placed.0 (both_idle (idle tb) (idle eb)) e w c turn has is
+      x (and_left _ _ (and_left _ _ here)) placed.0 (both_idle tb eb) e w c turn has is
       (λ h p. needs h (or_left _ _ (or_left _ _ p))) (λ h p. needs h (or_left _ _ (or_right _ _ p))) small t ts in
       count_as o _ e _ _ _ w _ (lengths (slots tb) (slots eb) (slots rest))
       (and_rest rest (means rest) o o e _ (length (slots tb) + length (slots eb)) k w c _ turn has is (subst (λ z. InRow (k + z) (slots rest)) (length-append (slots tb) (slots eb)) row2) (and_right _ _ all) fits.2 placed.3
@@ -228,11 +234,6 @@ module _ (m : Hosts) (s : Suite m) (proto : ℕ → Proto) (laws : Laws m s) (de
     where
       lengths : (xs ys zs : List ℕ) → length xs + length ys + length zs ≡ length ((xs ++ ys) ++ zs)
       lengths xs ys zs = let a = length-append xs ys in let b = length-append (xs ++ ys) zs in omega (arith, a, b)
-
-      both_idle : (Nobody tb → (turn : ℕ) (c : SlotState) → effect_of tb turn c ≡ c) → (Nobody eb → (turn : ℕ) (c : SlotState) → effect_of eb turn c ≡ c)
-          → ((h : ℕ) → h < s.calls.hosts → ((emits tb).takes_part h || (emits eb).takes_part h) ≡ false) → (b : Bool) (turn : ℕ) (c : SlotState) → in_order (if b then each stmt_effect eb else each stmt_effect tb) turn c ≡ c
-      both_idle f g none true turn c = g (λ h lt. or_none_right _ _ (none h lt)) turn c
-      both_idle f g none false turn c = f (λ h lt. or_none_left _ _ (none h lt)) turn c
   means (For count body rest) o k row all fits placed e w c turn has is needs small t ts =
       let row1 = row_front k (slots body) (slots rest) row in
       let row2 = row_back k (slots body) (slots rest) row in

@@ -167,7 +167,7 @@ module _ (m : Hosts) (s : Suite m) where
           → Movable next w source q p x v → Movable next1 a.reached source q p x v
       movable_past next w xs next1 source q p x v a o = record { declared = o.declared; joins = o.joins; operand = operand_past next w xs next1 p x v a o.operand; from = o.from }
 
-      all_past : (next : List ℕ) (w : m.World) (acts : List m.Act) (next1 : List ℕ) (source : ℕ → ℕ → Type 0) (q : Proto) (e : Emitting s.calls proto) (word : SlotId → ℕ) (a : Between next w acts next1) (xs : List SlotId)
+      pub all_past : (next : List ℕ) (w : m.World) (acts : List m.Act) (next1 : List ℕ) (source : ℕ → ℕ → Type 0) (q : Proto) (e : Emitting s.calls proto) (word : SlotId → ℕ) (a : Between next w acts next1) (xs : List SlotId)
           → Each (λ x. Movable next w source q (proto x.0) (slice_index_or e.held x.0 s.calls.nowhere) (word x)) xs → Each (λ x. Movable next1 a.reached source q (proto x.0) (slice_index_or e.held x.0 s.calls.nowhere) (word x)) xs
       all_past next w acts next1 source q e word a [] h = tt
       all_past next w acts next1 source q e word a (x ∷ xs) h =

@@ -1,6 +1,8 @@
 -- Lists that grow, numbers in a row, tests.
 use Rattle.std.proofs.Common.{◌≡◌, ℕ, zero, suc, ◌+◌, ◌<◌, Bool, true, false, ◌&&◌, ◌||◌, List, [], ◌∷◌, ◌++◌, length, slice_index_or, ◌⊎◌, inl, inr, refl, ap, subst, arith}
 use Rattle.std.specs.List.{range_with_len}
+use Rattle.vd_base.specs.declared.ids.HostId.{HostId}
+use Rattle.vd_duet.specs.Laws.{IsHost}
 
 pub front_kept : {A : Type 0} (xs ys : List A) (k : ℕ) (d : A) → k < length xs → slice_index_or (xs ++ ys) k d ≡ slice_index_or xs k d
 front_kept [] ys k d lt = absurd (omega arith)
@@ -69,3 +71,8 @@ row_back k (x ∷ xs) ys r = subst (λ n. InRow n ys) (more k (length xs)) (row_
   where
     more : (k n : ℕ) → k + 1 + n ≡ k + suc n
     more k n = omega arith
+
+-- no host twice
+abbrev pub AreApart : List HostId → Type 0
+AreApart [] = Unit {0}
+AreApart (h ∷ hs) = (IsHost hs h.0 → ⊥) × AreApart hs

@@ -121,25 +121,25 @@ module _ (m : Hosts) (s : Suite m) (proto : ℕ → Proto) (laws : Laws m s) (de
 
   module _ (o o' : Sight) (body : Emission s.calls proto) (effect : ℕ → SlotState → SlotState) (n k : ℕ) (needs : ℕ → Bool) (comes : Comes body effect o o' n needs k)
       (covers : (h : ℕ) → needs h ≡ true → body.acts_at h ≡ true) (e : E m s proto) (w : m.World) (c : SlotState) (is : length e.held ≡ k) (t : Ties m s proto o e w c) where
-    abbrev ps : List (ℕ × ℕ)
+    abbrev pub ps : List (ℕ × ℕ)
     ps = loop_registers body.acts_at 0 e.next
 
-    abbrev inner : E m s proto
+    abbrev pub inner : E m s proto
     inner = record { next = after_loop_registers body.acts_at 0 e.next; held = e.held; loop = e.next }
 
-    abbrev made : Emitted s.calls proto
+    abbrev pub made : Emitted s.calls proto
     made = body.emit inner
 
-    abbrev at_turn : ℕ → m.World
+    abbrev pub at_turn : ℕ → m.World
     at_turn i = turns i (λ j v. joint m made.tree (m.begun ps j v)) w
 
-    abbrev clear_at : ℕ → SlotState
+    abbrev pub clear_at : ℕ → SlotState
     clear_at i = turns i effect c
 
     -- where a loop stands before turn i
-    record Turned (i : ℕ) : Type 0 where
-      tied : Ties m s proto o e (at_turn i) (clear_at i)
-      kept : (h r : ℕ) → r < slice_index e.next h → Unchanging m s proto o e.held h r → m.word (at_turn i) h r ≡ m.word w h r
+    pub record Turned (i : ℕ) : Type 0 where
+      pub tied : Ties m s proto o e (at_turn i) (clear_at i)
+      pub kept : (h r : ℕ) → r < slice_index e.next h → Unchanging m s proto o e.held h r → m.word (at_turn i) h r ≡ m.word w h r
 
     fresh_ones : (h r : ℕ) → r < slice_index e.next h → IsIn ps h r → ⊥
     fresh_ones h r lt q =
@@ -149,13 +149,13 @@ module _ (m : Hosts) (s : Suite m) (proto : ℕ → Proto) (laws : Laws m s) (de
         let same : slice_index e.next h ≡ slice_index e.next p.0 = ap (slice_index e.next) (a ∙ from_zero p.0) in
         omega (arith, lt, b, same)
 
-    begins : (i : ℕ) → i < 2 ^ 32 → Turned i → Tied m s proto o inner.next inner.held (m.begun ps i (at_turn i)) (clear_at i)
+    pub begins : (i : ℕ) → i < 2 ^ 32 → Turned i → Tied m s proto o inner.next inner.held (m.begun ps i (at_turn i)) (clear_at i)
     begins i small u =
         tied_on m s proto laws o e.next inner.next e.held (at_turn i) (m.begun ps i (at_turn i)) (clear_at i) u.tied (laws.begun_sound (at_turn i) ps i small u.tied.ready.sound)
         (record { printed = laws.begun_prints (at_turn i) ps i; waiting = laws.begun_waits (at_turn i) ps i }) (λ h r lt. laws.begun_keeps (at_turn i) ps i h r (fresh_ones h r lt))
         (after_known body.acts_at 0 e.next) (after_longer body.acts_at 0 e.next)
 
-    turning : (i : ℕ) → Turned i → TurnsIn m s proto body.acts_at o inner (m.begun ps i (at_turn i)) i
+    pub turning : (i : ℕ) → Turned i → TurnsIn m s proto body.acts_at o inner (m.begun ps i (at_turn i)) i
     turning i u h within has =
         let lt : h < length e.next = subst (λ z. h < z) (sym t.ready.known) within in
         (laws.begun_sets (at_turn i) ps i h (slice_index e.next h) (has_register body.acts_at e.next h lt has), register_taken body.acts_at e.next h lt has, λ v y j q named. above h (t.below v y j h (slice_index e.next h) named))
@@ -166,7 +166,7 @@ module _ (m : Hosts) (s : Suite m) (proto : ℕ → Proto) (laws : Laws m s) (de
     turn_after : (i : ℕ) → i < 2 ^ 32 → Turned i → After m s proto o o' inner made n (m.begun ps i (at_turn i)) (effect i (clear_at i))
     turn_after i small u = comes inner (m.begun ps i (at_turn i)) (clear_at i) i body.acts_at is covers small (begins i small u) (turning i u)
 
-    all_turns : (i : ℕ) → i ≤ 2 ^ 32 → Turned i
+    pub all_turns : (i : ℕ) → i ≤ 2 ^ 32 → Turned i
     all_turns zero small = record { tied = t; kept = λ h r lt u. refl }
     all_turns (suc i) small =
         let u = all_turns i (omega arith) in
@@ -239,13 +239,13 @@ module _ (m : Hosts) (s : Suite m) (proto : ℕ → Proto) (laws : Laws m s) (de
       (idle : ((h : ℕ) → h < s.calls.hosts → (then_do.takes_part h || else_do.takes_part h) ≡ false) → (b : Bool) (turn : ℕ) (c : SlotState) → in_order (if b then fs else gs) turn c ≡ c)
       (e : E m s proto) (w : m.World) (c : SlotState) (turn : ℕ) (has : ℕ → Bool) (is : length e.held ≡ k) (covers1 : (h : ℕ) → needs1 h ≡ true → has h ≡ true) (covers2 : (h : ℕ) → needs2 h ≡ true → has h ≡ true)
       (small : turn < 2 ^ 32) (t : Ties m s proto o e w c) (ts : TurnsIn m s proto has o e w turn) where
-    abbrev test : ℕ → Bool
+    abbrev pub test : ℕ → Bool
     test h = then_do.takes_part h || else_do.takes_part h
 
-    abbrev guard : Made m.Act (List (ℕ × ℕ))
+    abbrev pub guard : Made m.Act (List (ℕ × ℕ))
     guard = delivered s.calls proto (proto x.0) (part m s proto e.held x.0) (picked 0 s.calls.hosts test) e.next
 
-    reached : Reached m s laws e.next w (picked 0 s.calls.hosts test) guard (word_at c x)
+    pub reached : Reached m s laws e.next w (picked 0 s.calls.hosts test) guard (word_at c x)
     reached =
         deliver m s laws proto (proto x.0) (declared x.0) (part m s proto e.held x.0) (word_at c x) (picked 0 s.calls.hosts test)
         (picked_join m s laws proto (proto x.0) test 0 s.calls.hosts (λ h lt i. reaches h (within lt) i) (omega arith)) e.next w t.ready (operand_of m s proto laws declared o e.next e.held w c t x.0 sees)
@@ -253,10 +253,10 @@ module _ (m : Hosts) (s : Suite m) (proto : ℕ → Proto) (laws : Laws m s) (de
         within : {h : ℕ} → h < 0 + s.calls.hosts → h < s.calls.hosts
         within lt = omega arith
 
-    abbrev w1 : m.World
+    abbrev pub w1 : m.World
     w1 = reached.between.reached
 
-    abbrev e1 : E m s proto
+    abbrev pub e1 : E m s proto
     e1 = record { next = guard.next; held = e.held; loop = e.loop }
 
     tied1 : Ties m s proto o e1 w1 c
@@ -265,7 +265,7 @@ module _ (m : Hosts) (s : Suite m) (proto : ℕ → Proto) (laws : Laws m s) (de
     turns1 : TurnsIn m s proto has o e1 w1 turn
     turns1 = let b = reached.between in turns_wider o e e1 w w1 turn has [] t.made (sym (append-nil e.held)) refl b.longer (λ h r lt. b.leads.kept h r lt (λ z. z)) ts
 
-    abbrev first : Emitted s.calls proto
+    abbrev pub first : Emitted s.calls proto
     first = then_do.emit e1
 
     after1 : After m s proto o o1 e1 first n1 w1 (in_order gs turn c)
@@ -285,11 +285,15 @@ module _ (m : Hosts) (s : Suite m) (proto : ℕ → Proto) (laws : Laws m s) (de
         sum : {i j : ℕ} → i ≡ k → j ≡ n1 → i + j ≡ k + n1
         sum p q = omega arith
 
-    abbrev second : Emitted s.calls proto
+    abbrev pub second : Emitted s.calls proto
     second = else_do.emit first.state
 
     after2 : After m s proto o o2 first.state second n2 w1 (in_order fs turn c)
     after2 = comes2 first.state w1 c turn has held2 covers2 small tied2 turns2
+
+    -- where the first and the other block begin
+    pub begins_at : (Ties m s proto o e1 w1 c × TurnsIn m s proto has o e1 w1 turn) × (Ties m s proto o first.state w1 c × TurnsIn m s proto has o first.state w1 turn × (length first.state.held ≡ k + n1))
+    begins_at = ((tied1, turns1), (tied2, turns2, held2))
 
     -- where a branch leads
     record Branched (given : List (ℕ × ℕ)) (c' : SlotState) : Type 0 where

@@ -1,5 +1,5 @@
--- Emitted trees are tidy: whoever has an instruction inside a branch or a loop takes part in it.
-use Rattle.std.proofs.Common.{◌≡◌, ◌≢◌, ℕ, zero, suc, ◌+◌, ◌<◌, ◌≤◌, nat_eq, Bool, true, false, ◌||◌, if◌then◌else◌, List, [], ◌∷◌, ◌++◌, length, replicate, slice_index, ◌⊎◌, inl, inr, refl, sym, ap, ◌∙◌, subst, arith}
+-- Plans of programs are tidy: each act is well formed, and whoever has an instruction inside a branch or a loop takes part in it.
+use Rattle.std.proofs.Common.{◌≡◌, ◌≢◌, ℕ, zero, suc, ◌+◌, ◌^◌, ◌<◌, ◌≤◌, nat_eq, Bool, true, false, ◌||◌, if◌then◌else◌, List, [], ◌∷◌, ◌++◌, length, slice_index, ◌⊎◌, inl, inr, refl, sym, ap, ◌∙◌, subst, arith, length-append}
 use Rattle.std.proofs.lemmas.Bool.{eq-eqb, eqb-true}
 use Rattle.std.specs.List.{list_any}
 use native.Mathlib.Decide.{ℕ_discrete}
@@ -8,39 +8,114 @@ use Rattle.vd_base.specs.declared.ids.SlotId.{SlotId}
 use Rattle.vd_base.specs.declared.protocols.Proto.{Proto}
 use Rattle.vd_base.specs.declared.protocols.Proto.TheVariants.{Local}
 use Rattle.vd_base.specs.HostSets.{host}
-use Rattle.vd_joint.specs.Block.{Block, End, Let, NewVar, NewArray, Store, Put, Output, If as IfB, For as ForB, block_of}
+use Rattle.vd_core.specs.Facts.{Sight}
+use Rattle.vd_meaning.specs.ProgramMeaning.{SlotState, stmt_effect}
+use Rattle.vd_execution.specs.Joint.{Apart, TakesPart}
 use Rattle.vd_execution.specs.Plans.{Plan, Ends, Then, Branch, Loop}
-use Rattle.vd_joint.specs.Joint.{Hosts, IsIn, acts_then, and_then}
-use Rattle.vd_joint.specs.Suite.{is_at, picked, Made, Suite, hosts_of}
-use Rattle.vd_joint.specs.Emission.{Emission, Emitting, Emitted, delivered, delivered_at, and_on, right_made, right_acts_at, parts_at, if_made, for_made, in_turn, stmt_emission, emitting_at_start, loop_registers, after_loop_registers}
-use Rattle.vd_joint.specs.Validity.{emission_of, Placed}
+use Rattle.vd_duet.specs.Laws.{IsHost}
+use Rattle.vd_joint.specs.Block.{Block, End, Let, NewVar, NewArray, Store, Put, Output, If as IfB, For as ForB, each}
+use Rattle.vd_joint.specs.Joint.{Hosts, Each, IsIn, acts_then, and_then}
+use Rattle.vd_joint.specs.Suite.{is_at, picked, Made, Suite, Laws, hosts_of}
+use Rattle.vd_joint.specs.Emission.{Emission, Emitted, delivered, delivered_at, right_acts_at, loop_registers, after_loop_registers}
+use Rattle.vd_joint.specs.Validity.{Fits, emission_of, turns_at, Placed}
 use Rattle.vd_joint.specs.Places.{is_part, acting, active, Tidy, Where, Places}
-use Rattle.vd_core.specs.declared.normal.NormalForm.{NormalForm}
-use Rattle.vd_joint.specs.Outcome.{plan_of, ValidAt}
-use Rattle.vd_joint.proofs.Folds.{fold_each}
-use Rattle.vd_joint.proofs.Lists.{or_left, or_right, or_cases}
-use Rattle.vd_joint.proofs.Loops.{has_register, after_known}
-use Rattle.vd_joint.proofs.Tidy.{acting_append, and_where, delivered_where, right_where, any_picked, or_both, acts_inside}
+use Rattle.vd_joint.proofs.Lists.{and_left, and_right, or_left, or_right, or_cases, AreApart, InRow, row_front, row_back}
+use Rattle.vd_joint.proofs.Sight.{Binding, Variable, Array, with_use}
+use Rattle.vd_joint.proofs.Tied.{part}
+use Rattle.vd_joint.proofs.Calls.{picked_join}
+use Rattle.vd_joint.proofs.Rights.{operand_of}
+use Rattle.vd_joint.proofs.Steps.{E, Ties, TurnsIn, After, turns_past, let_after, var_after, array_after, store_after, put_after, output_after}
+use Rattle.vd_joint.proofs.Loops.{has_register, begins, turning, all_turns, loop_after, branch_after, begins_at}
+use Rattle.vd_joint.proofs.Blocks.{slots, sees, effect_of, turn_here, turn_later, turns_act, both_idle, no_slots, means}
+use Rattle.vd_joint.proofs.Tidy.{or_both, acts_inside}
+use Rattle.vd_joint.proofs.Wheres.{right_where, delivered_where, variable_where, store_where, put_where, output_where}
 
-part_of : (ps : List (ℕ × ℕ)) (h r : ℕ) → IsIn ps h r → is_part ps h ≡ true
-part_of [] h r i = absurd i
-part_of (p ∷ ps) h r (inl e) = or_left (nat_eq h p.0) (is_part ps h) (eq-eqb h p.0 e.0)
-part_of (p ∷ ps) h r (inr i) = or_right (nat_eq h p.0) (is_part ps h) (part_of ps h r i)
+-- ---- the hosts of a loop, and those that are picked
 
-part_has : (has : ℕ → Bool) (k : ℕ) (next : List ℕ) (h : ℕ) → is_part (loop_registers has k next) h ≡ true → has h ≡ true
-part_has has k [] h e = absurd (wrong e)
+takes_part : (ps : List (ℕ × ℕ)) (h r : ℕ) → IsIn ps h r → is_part ps h ≡ true
+takes_part [] h r i = absurd i
+takes_part (p ∷ ps) h r (inl e) = or_left (nat_eq h p.0) (is_part ps h) (eq-eqb h p.0 e.0)
+takes_part (p ∷ ps) h r (inr i) = or_right (nat_eq h p.0) (is_part ps h) (takes_part ps h r i)
+
+part_in : (has : ℕ → Bool) (k : ℕ) (next : List ℕ) (h : ℕ) → is_part (loop_registers has k next) h ≡ true → (h < k + length next) × (has h ≡ true)
+part_in has k [] h e = absurd (wrong e)
   where
     wrong : false ≡ true → ⊥
     wrong e = cc
-part_has has k (r ∷ rs) h e = at (part_has has (k + 1) rs h) (has k) refl e
+part_in has k (r ∷ rs) h e = at (part_in has (k + 1) rs h) (has k) refl e
   where
-    split : has k ≡ true → (is_part (loop_registers has (k + 1) rs) h ≡ true → has h ≡ true) → (nat_eq h k ≡ true) ⊎ (is_part (loop_registers has (k + 1) rs) h ≡ true) → has h ≡ true
-    split t ih (inl i) = ap has (eqb-true h k i) ∙ t
-    split t ih (inr i) = ih i
+    further : (h < k + 1 + length rs) × (has h ≡ true) → (h < k + length (r ∷ rs)) × (has h ≡ true)
+    further p = (let lt = p.0 in omega (arith, lt), p.1)
 
-    at : (is_part (loop_registers has (k + 1) rs) h ≡ true → has h ≡ true) → (b : Bool) → has k ≡ b → is_part (if b then (k, r) ∷ loop_registers has (k + 1) rs else loop_registers has (k + 1) rs) h ≡ true → has h ≡ true
+    split : has k ≡ true → (is_part (loop_registers has (k + 1) rs) h ≡ true → (h < k + 1 + length rs) × (has h ≡ true))
+        → (nat_eq h k ≡ true) ⊎ (is_part (loop_registers has (k + 1) rs) h ≡ true) → (h < k + length (r ∷ rs)) × (has h ≡ true)
+    split t ih (inl i) = (let e = eqb-true h k i in omega (arith, e), ap has (eqb-true h k i) ∙ t)
+    split t ih (inr i) = further (ih i)
+
+    at : (is_part (loop_registers has (k + 1) rs) h ≡ true → (h < k + 1 + length rs) × (has h ≡ true)) → (b : Bool) → has k ≡ b
+        → is_part (if b then (k, r) ∷ loop_registers has (k + 1) rs else loop_registers has (k + 1) rs) h ≡ true → (h < k + length (r ∷ rs)) × (has h ≡ true)
     at ih true t e = split t ih (or_cases (nat_eq h k) (is_part (loop_registers has (k + 1) rs) h) e)
-    at ih false t e = ih e
+    at ih false t e = further (ih e)
+
+later_part : (has : ℕ → Bool) (k : ℕ) (next : List ℕ) (h : ℕ) → TakesPart (loop_registers has k next) h → k ≤ h
+later_part has k [] h i = absurd i
+later_part has k (r ∷ rs) h i = at (later_part has (k + 1) rs h) (has k) i
+  where
+    further : k + 1 ≤ h → k ≤ h
+    further le = omega (arith, le)
+
+    at : (TakesPart (loop_registers has (k + 1) rs) h → k + 1 ≤ h) → (b : Bool) → TakesPart (if b then (k, r) ∷ loop_registers has (k + 1) rs else loop_registers has (k + 1) rs) h → k ≤ h
+    at ih true (inl e) = omega (arith, e)
+    at ih true (inr j) = further (ih j)
+    at ih false j = further (ih j)
+
+loop_apart : (has : ℕ → Bool) (k : ℕ) (next : List ℕ) → Apart (loop_registers has k next)
+loop_apart has k [] = tt
+loop_apart has k (r ∷ rs) = at (loop_apart has (k + 1) rs) (has k)
+  where
+    at : Apart (loop_registers has (k + 1) rs) → (b : Bool) → Apart (if b then (k, r) ∷ loop_registers has (k + 1) rs else loop_registers has (k + 1) rs)
+    at ih true = ((λ i. let le = later_part has (k + 1) rs k i in omega (arith, le)), ih)
+    at ih false = ih
+
+later_picked : (test : ℕ → Bool) (from k h : ℕ) → IsHost (picked from k test) h → from ≤ h
+later_picked test from zero h i = absurd i
+later_picked test from (suc k) h i = at (later_picked test (from + 1) k h) (test from) i
+  where
+    further : from + 1 ≤ h → from ≤ h
+    further le = omega (arith, le)
+
+    at : (IsHost (picked (from + 1) k test) h → from + 1 ≤ h) → (b : Bool) → IsHost (if b then host from ∷ picked (from + 1) k test else picked (from + 1) k test) h → from ≤ h
+    at ih true (inl e) = omega (arith, e)
+    at ih true (inr j) = further (ih j)
+    at ih false j = further (ih j)
+
+picked_apart : (test : ℕ → Bool) (from k : ℕ) → AreApart (picked from k test)
+picked_apart test from zero = tt
+picked_apart test from (suc k) = at (picked_apart test (from + 1) k) (test from)
+  where
+    at : AreApart (picked (from + 1) k test) → (b : Bool) → AreApart (if b then host from ∷ picked (from + 1) k test else picked (from + 1) k test)
+    at ih true = ((λ i. let le = later_picked test (from + 1) k from i in omega (arith, le)), ih)
+    at ih false = ih
+
+picked_bound : (test : ℕ → Bool) (from k h : ℕ) → list_any (λ (q : HostId). nat_eq h q.0) (picked from k test) ≡ true → (h < from + k) × (test h ≡ true)
+picked_bound test from zero h e = absurd (wrong e)
+  where
+    wrong : false ≡ true → ⊥
+    wrong e = cc
+picked_bound test from (suc k) h e = at (picked_bound test (from + 1) k h) (test from) refl e
+  where
+    further : (h < from + 1 + k) × (test h ≡ true) → (h < from + suc k) × (test h ≡ true)
+    further p = (let lt = p.0 in omega (arith, lt), p.1)
+
+    split : test from ≡ true → (list_any (λ (q : HostId). nat_eq h q.0) (picked (from + 1) k test) ≡ true → (h < from + 1 + k) × (test h ≡ true))
+        → (nat_eq h from ≡ true) ⊎ (list_any (λ (q : HostId). nat_eq h q.0) (picked (from + 1) k test) ≡ true) → (h < from + suc k) × (test h ≡ true)
+    split t ih (inl i) = (let e = eqb-true h from i in omega (arith, e), ap test (eqb-true h from i) ∙ t)
+    split t ih (inr i) = further (ih i)
+
+    at : (list_any (λ (q : HostId). nat_eq h q.0) (picked (from + 1) k test) ≡ true → (h < from + 1 + k) × (test h ≡ true)) → (b : Bool) → test from ≡ b
+        → list_any (λ (q : HostId). nat_eq h q.0) (if b then host from ∷ picked (from + 1) k test else picked (from + 1) k test) ≡ true → (h < from + suc k) × (test h ≡ true)
+    at ih true t e = split t ih (or_cases (nat_eq h from) (list_any (λ (q : HostId). nat_eq h q.0) (picked (from + 1) k test)) e)
+    at ih false t e = further (ih e)
 
 picked_has : (test : ℕ → Bool) (from k h : ℕ) → from ≤ h → h < from + k → test h ≡ true → list_any (λ (q : HostId). nat_eq h q.0) (picked from k test) ≡ true
 picked_has test from zero h le lt t = absurd (omega arith)
@@ -64,13 +139,15 @@ or_false : (b : Bool) → (b || false) ≡ true → b ≡ true
 or_false true e = refl
 or_false false e = e
 
-module _ (m : Hosts) (s : Suite m) (proto : ℕ → Proto) (laws : Places m s) where
-  abbrev n : ℕ
-  n = s.calls.hosts
+-- what holds of a host below a bound, from either of two tests
+in_either : (n h : ℕ) (a b c : Bool) → (a ≡ true → (h < n) × (c ≡ true)) → (b ≡ true → (h < n) × (c ≡ true)) → (a || b) ≡ true → (h < n) × (c ≡ true)
+in_either n h a b c f g e = at (or_cases a b e)
+  where
+    at : (a ≡ true) ⊎ (b ≡ true) → (h < n) × (c ≡ true)
+    at (inl i) = f i
+    at (inr i) = g i
 
-  abbrev emits : Block → Emission s.calls proto
-  emits = emission_of m s proto
-
+module _ (m : Hosts) where
   active_acts : (xs : List m.Act) (j : Plan m.Act) (h : ℕ) → active m (acts_then xs j) h ≡ true → (acting m xs h || active m j h) ≡ true
   active_acts [] j h e = e
   active_acts (x ∷ xs) j h e =
@@ -96,70 +173,57 @@ module _ (m : Hosts) (s : Suite m) (proto : ℕ → Proto) (laws : Places m s) w
       regroup true b c d f e = refl
       regroup false b c d f e = f e
 
-  tidy_acts : (xs : List m.Act) (j : Plan m.Act) → Tidy m n j → Tidy m n (acts_then xs j)
-  tidy_acts [] j t = t
-  tidy_acts (x ∷ xs) j t = tidy_acts xs j t
+  tidy_acts : (xs : List m.Act) (j : Plan m.Act) → Each m.IsTidy xs → Tidy m j → Tidy m (acts_then xs j)
+  tidy_acts [] j e t = t
+  tidy_acts (x ∷ xs) j e t = (e.0, tidy_acts xs j e.1 t)
 
-  tidy_then : (j k : Plan m.Act) → Tidy m n j → Tidy m n k → Tidy m n (and_then j k)
+  tidy_then : (j k : Plan m.Act) → Tidy m j → Tidy m k → Tidy m (and_then j k)
   tidy_then Ends k t u = u
-  tidy_then (Then x r) k t u = tidy_then r k t u
-  tidy_then (Branch ps a b r) k t u = (t.0, t.1, t.2, tidy_then r k t.3 u)
-  tidy_then (Loop ps count b r) k t u = (t.0, t.1, tidy_then r k t.2 u)
+  tidy_then (Then x r) k t u = (t.0, tidy_then r k t.1 u)
+  tidy_then (Branch ps a b r) k t u = (t.0, t.1, t.2, t.3, tidy_then r k t.4 u)
+  tidy_then (Loop ps count b r) k t u = (t.0, t.1, t.2, t.3, tidy_then r k t.4 u)
 
-  -- a tree acts at these hosts alone, and is tidy
-  pub record Orderly (e : Emitting s.calls proto) (made : Emitted s.calls proto) (place : ℕ → Bool) : Type 0 where
-    pub at : (h : ℕ) → h < n → active m made.tree h ≡ true → place h ≡ true
-    pub tidy : Tidy m n made.tree
-    pub known : length made.state.next ≡ length e.next
+  -- a plan acts at these of the first hosts alone, and is tidy
+  pub record Orderly (n : ℕ) (plan : Plan m.Act) (place : ℕ → Bool) : Type 0 where
+    pub at : (h : ℕ) → active m plan h ≡ true → (h < n) × (place h ≡ true)
+    pub tidy : Tidy m plan
 
-  of_acts : (e : Emitting s.calls proto) (acts : List m.Act) (state : Emitting s.calls proto) (place : ℕ → Bool) → length state.next ≡ length e.next → ((h : ℕ) → h < n → acting m acts h ≡ true → place h ≡ true)
-      → Orderly e (record { tree = acts_then acts Ends; state = state }) place
-  of_acts e acts state place known at = record { at = λ h lt i. at h lt (or_false (acting m acts h) (active_acts acts Ends h i)); tidy = tidy_acts acts Ends tt; known = known }
+  of_acts : (n : ℕ) (acts : List m.Act) (place : ℕ → Bool) → Where m n acts place → Orderly n (acts_then acts Ends) place
+  of_acts n acts place a = record { at = λ h i. a.at h (or_false (acting m acts h) (active_acts acts Ends h i)); tidy = tidy_acts acts Ends a.tidy tt }
 
-  and_next : (e : Emitting s.calls proto) (one : Emitted s.calls proto) (f : Emitting s.calls proto → Emitted s.calls proto) (p q : ℕ → Bool) → Orderly e one p → Orderly one.state (f one.state) q
-      → Orderly e (record { tree = and_then one.tree (f one.state).tree; state = (f one.state).state }) (λ h. p h || q h)
-  and_next e one f p q a b = record {
-    at = λ h lt i. or_both (active m one.tree h) (active m (f one.state).tree h) (p h || q h) (λ j. or_left (p h) (q h) (a.at h lt j)) (λ j. or_right (p h) (q h) (b.at h lt j)) (active_then one.tree (f one.state).tree h i);
-    tidy = tidy_then one.tree (f one.state).tree a.tidy b.tidy;
-    known = b.known ∙ a.known;
+  and_next : (n : ℕ) (one two : Plan m.Act) (p q : ℕ → Bool) → Orderly n one p → Orderly n two q → Orderly n (and_then one two) (λ h. p h || q h)
+  and_next n one two p q a b = record {
+    at = λ h i. in_either n h (active m one h) (active m two h) (p h || q h) (λ j. let z = a.at h j in (z.0, or_left (p h) (q h) z.1)) (λ j. let z = b.at h j in (z.0, or_right (p h) (q h) z.1))
+        (active_then one two h i);
+    tidy = tidy_then one two a.tidy b.tidy;
   }
+
+module _ (m : Hosts) (s : Suite m) (proto : ℕ → Proto) (laws : Laws m s) (places : Places m s) (declared : (x : ℕ) → s.Declared (proto x)) where
+  abbrev n : ℕ
+  n = s.calls.hosts
+
+  abbrev emits : Block → Emission s.calls proto
+  emits = emission_of m s proto
 
   -- the hosts to which a word was moved
   told : (p : Proto) (x : s.Parts) (hs : List HostId) (next : List ℕ) (h : ℕ) → is_part (delivered s.calls proto p x hs next).given h ≡ list_any (λ (q : HostId). nat_eq h q.0) hs
   told p x [] next h = refl
   told p x (k ∷ hs) next h = ap (λ (b : Bool). nat_eq h k.0 || b) (told p x hs (s.calls.move p (Local k) x next).next h)
 
-  two_calls : (xs ys : List m.Act) (p q : ℕ → Bool) (h : ℕ) → (acting m xs h ≡ true → p h ≡ true) → (acting m ys h ≡ true → q h ≡ true) → acting m (xs ++ ys) h ≡ true → (p h || q h) ≡ true
-  two_calls xs ys p q h f g i = at (acting_append m s proto laws xs ys h i)
-    where
-      at : (acting m xs h ≡ true) ⊎ (acting m ys h ≡ true) → (p h || q h) ≡ true
-      at (inl j) = or_left (p h) (q h) (f j)
-      at (inr j) = or_right (p h) (q h) (g j)
+  told_part : (p : Proto) (x : s.Parts) (hs : List HostId) (next : List ℕ) (h : ℕ) → TakesPart (delivered s.calls proto p x hs next).given h → IsHost hs h
+  told_part p x [] next h i = i
+  told_part p x (k ∷ hs) next h (inl e) = inl e
+  told_part p x (k ∷ hs) next h (inr i) = inr (told_part p x hs (s.calls.move p (Local k) x next).next h i)
 
-  abbrev Does : Block → Type 0
-  Does b = (e : Emitting s.calls proto) → length e.next ≡ n → Orderly e ((emits b).emit e) (emits b).acts_at
+  told_apart : (p : Proto) (x : s.Parts) (hs : List HostId) (next : List ℕ) → AreApart hs → Apart (delivered s.calls proto p x hs next).given
+  told_apart p x [] next a = tt
+  told_apart p x (k ∷ hs) next a =
+      ((λ i. a.0 (told_part p x hs (s.calls.move p (Local k) x next).next k.0 i)), told_apart p x hs (s.calls.move p (Local k) x next).next a.1)
 
-  module _ (x : SlotId) (t f : Block) (pt : Placed m s proto t) (pf : Placed m s proto f) (ot : Does t) (of : Does f) (e : Emitting s.calls proto) (len : length e.next ≡ n) where
+  -- a branch, where its guard was told to each host that takes part
+  module _ (x : SlotId) (t f : Block) (pt : Placed m s proto t) (pf : Placed m s proto f) (guard : Made m.Act (List (ℕ × ℕ))) (first second : Plan m.Act) where
     abbrev takes : ℕ → Bool
     takes h = (emits t).takes_part h || (emits f).takes_part h
-
-    abbrev guard : Made m.Act (List (ℕ × ℕ))
-    guard = delivered s.calls proto (proto x.0) (parts_at s.calls proto e x) (picked 0 n takes) e.next
-
-    d : Where m n e.next guard (delivered_at s.calls proto (proto x.0) (picked 0 n takes))
-    d = delivered_where m s proto laws (proto x.0) (parts_at s.calls proto e x) (picked 0 n takes) e.next
-
-    abbrev first : Emitted s.calls proto
-    first = (emits t).emit (record { next = guard.next; held = e.held; loop = e.loop })
-
-    a : Orderly (record { next = guard.next; held = e.held; loop = e.loop }) first (emits t).acts_at
-    a = ot (record { next = guard.next; held = e.held; loop = e.loop }) (d.known ∙ len)
-
-    abbrev second : Emitted s.calls proto
-    second = (emits f).emit first.state
-
-    b : Orderly first.state second (emits f).acts_at
-    b = of first.state (a.known ∙ d.known ∙ len)
 
     abbrev place : ℕ → Bool
     place h = delivered_at s.calls proto (proto x.0) (picked 0 n takes) h || (emits t).takes_part h || (emits f).takes_part h
@@ -167,101 +231,159 @@ module _ (m : Hosts) (s : Suite m) (proto : ℕ → Proto) (laws : Places m s) w
     by_guard : (h : ℕ) → delivered_at s.calls proto (proto x.0) (picked 0 n takes) h ≡ true → place h ≡ true
     by_guard h i = or_left (delivered_at s.calls proto (proto x.0) (picked 0 n takes) h || (emits t).takes_part h) ((emits f).takes_part h) (or_left (delivered_at s.calls proto (proto x.0) (picked 0 n takes) h) ((emits t).takes_part h) i)
 
-    by_first : (h : ℕ) → (emits t).takes_part h ≡ true → place h ≡ true
-    by_first h i = or_left (delivered_at s.calls proto (proto x.0) (picked 0 n takes) h || (emits t).takes_part h) ((emits f).takes_part h) (or_right (delivered_at s.calls proto (proto x.0) (picked 0 n takes) h) ((emits t).takes_part h) i)
+    by_taking : (h : ℕ) → takes h ≡ true → place h ≡ true
+    by_taking h i =
+        or_both ((emits t).takes_part h) ((emits f).takes_part h) (place h)
+        (λ j. or_left (delivered_at s.calls proto (proto x.0) (picked 0 n takes) h || (emits t).takes_part h) ((emits f).takes_part h) (or_right (delivered_at s.calls proto (proto x.0) (picked 0 n takes) h) ((emits t).takes_part h) j))
+        (λ j. or_right (delivered_at s.calls proto (proto x.0) (picked 0 n takes) h || (emits t).takes_part h) ((emits f).takes_part h) j) i
 
-    by_second : (h : ℕ) → (emits f).takes_part h ≡ true → place h ≡ true
-    by_second h i = or_right (delivered_at s.calls proto (proto x.0) (picked 0 n takes) h || (emits t).takes_part h) ((emits f).takes_part h) i
-
-    in_first : (h : ℕ) → h < n → active m first.tree h ≡ true → (emits t).takes_part h ≡ true
-    in_first h lt i = acts_inside m s proto laws t h pt (a.at h lt i)
-
-    in_second : (h : ℕ) → h < n → active m second.tree h ≡ true → (emits f).takes_part h ≡ true
-    in_second h lt i = acts_inside m s proto laws f h pf (b.at h lt i)
-
-    is_taker : (h : ℕ) → is_part guard.given h ≡ true → takes h ≡ true
-    is_taker h i =
-        let q = any_picked m s proto laws (λ (k : HostId). nat_eq h k.0) takes 0 n (sym (told (proto x.0) (parts_at s.calls proto e x) (picked 0 n takes) e.next h) ∙ i) in
-        ap takes (eqb-true h q.0 q.2) ∙ q.1
-
-    pub branch_orderly : Orderly e (if_made s.calls proto x (emits t) (emits f) e) place
-    branch_orderly = record {
-      at = λ h lt i. or_both (acting m guard.acts h) (active m (Branch guard.given first.tree second.tree Ends) h) (place h) (λ j. by_guard h (d.at h lt j))
-          (λ j. or_both (is_part guard.given h || active m first.tree h) (active m second.tree h) (place h)
-          (or_both (is_part guard.given h) (active m first.tree h) (place h) (λ k. or_both ((emits t).takes_part h) ((emits f).takes_part h) (place h) (by_first h) (by_second h) (is_taker h k)) (λ k. by_first h (in_first h lt k)))
-          (λ k. by_second h (in_second h lt k)) (or_false (is_part guard.given h || active m first.tree h || active m second.tree h) j))
-          (active_acts guard.acts (Branch guard.given first.tree second.tree Ends) h i);
-      tidy = tidy_acts guard.acts (Branch guard.given first.tree second.tree Ends) (
-        (λ h lt i. told (proto x.0) (parts_at s.calls proto e x) (picked 0 n takes) e.next h
-            ∙ picked_has takes 0 n h (omega arith) (within h lt)
-            (or_both (active m first.tree h) (active m second.tree h) (takes h) (λ j. or_left ((emits t).takes_part h) ((emits f).takes_part h) (in_first h lt j)) (λ j. or_right ((emits t).takes_part h) ((emits f).takes_part h) (in_second h lt j)) i)),
+    pub branch_orderly : Where m n guard.acts (delivered_at s.calls proto (proto x.0) (picked 0 n takes)) → ((h : ℕ) → is_part guard.given h ≡ list_any (λ (q : HostId). nat_eq h q.0) (picked 0 n takes))
+        → Apart guard.given → Orderly m n first (emits t).acts_at → Orderly m n second (emits f).acts_at
+        → Orderly m n (acts_then guard.acts (Branch guard.given first second Ends)) place
+    branch_orderly d is_told apart a b = record {
+      at = λ h i. in_either n h (acting m guard.acts h) (active m (Branch guard.given first second Ends) h) (place h) (λ j. let z = d.at h j in (z.0, by_guard h z.1))
+          (λ j. in_either n h (is_part guard.given h || active m first h) (active m second h) (place h)
+          (in_either n h (is_part guard.given h) (active m first h) (place h) (λ k. let z = picked_bound takes 0 n h (sym (is_told h) ∙ k) in (below z.0, by_taking h z.1)) (λ k. taken h (in_first h k)))
+          (λ k. taken h (in_second h k)) (or_false (is_part guard.given h || active m first h || active m second h) j))
+          (active_acts m guard.acts (Branch guard.given first second Ends) h i);
+      tidy = tidy_acts m guard.acts (Branch guard.given first second Ends) d.tidy (
+        apart,
+        (λ h i. is_told h ∙ inside h (in_either n h (active m first h) (active m second h) (takes h) (in_first h) (in_second h) i)),
         a.tidy,
         b.tidy,
         tt,
       );
-      known = b.known ∙ a.known ∙ d.known;
     }
       where
-        within : (h : ℕ) → h < n → h < 0 + n
-        within h lt = omega arith
+        below : {h : ℕ} → h < 0 + n → h < n
+        below lt = omega (arith, lt)
 
-  pub loop_orderly : (count : ℕ) (body : Block) → Does body → (e : Emitting s.calls proto) → length e.next ≡ n → Orderly e (for_made s.calls proto count (emits body) e) (emits body).acts_at
-  loop_orderly count body o e len =
-      let has = (emits body).acts_at in
-      let inner : Emitting s.calls proto = record { next = after_loop_registers has 0 e.next; held = e.held; loop = e.next } in
-      let a = o inner (after_known has 0 e.next ∙ len) in
-      let tree = ((emits body).emit inner).tree in
-      record {
-        at = λ h lt i. or_both (is_part (loop_registers has 0 e.next) h) (active m tree h) (has h) (part_has has 0 e.next h) (a.at h lt) (or_false (is_part (loop_registers has 0 e.next) h || active m tree h) i);
-        tidy = ((λ h lt i. part_of (loop_registers has 0 e.next) h (slice_index e.next h) (has_register has e.next h (subst (λ z. h < z) (sym len) lt) (a.at h lt i))), a.tidy, tt);
-        known = a.known ∙ after_known has 0 e.next;
-      }
+        in_first : (h : ℕ) → active m first h ≡ true → (h < n) × (takes h ≡ true)
+        in_first h i = let z = a.at h i in (z.0, or_left ((emits t).takes_part h) ((emits f).takes_part h) (acts_inside m s proto places t h pt z.1))
 
-  pub orderly : (b : Block) → Placed m s proto b → (e : Emitting s.calls proto) → length e.next ≡ n → Orderly e ((emits b).emit e) (emits b).acts_at
-  orderly End p e len = record { at = λ h lt i. i; tidy = tt; known = refl }
-  orderly (Let x right rest) p e len =
-      let w = right_where m s proto laws (proto x.0) right e in
-      let a = of_acts e (right_made s.calls proto (proto x.0) right e).acts _ (right_acts_at s.calls proto (proto x.0) right) w.known w.at in
-      and_next e _ (emits rest).emit _ _ a (orderly rest p.1 _ (w.known ∙ len))
-  orderly (NewVar v x rest) p e len =
-      let w = and_where m s proto laws e.next (s.calls.move (proto x.0) (proto v.0) _ e.next) (s.calls.keep (proto v.0)) _ _ (laws.move_at (proto x.0) (proto v.0) _ e.next) (laws.keep_at (proto v.0) _ _) in
-      let a = of_acts e (and_on s.calls proto (s.calls.move (proto x.0) (proto v.0) _ e.next) (s.calls.keep (proto v.0))).acts _ (λ h. s.calls.moves_at (proto x.0) (proto v.0) h || is_at (proto v.0) (host h)) w.known w.at in
-      and_next e _ (emits rest).emit _ _ a (orderly rest p.2 _ (w.known ∙ len))
-  orderly (NewArray v cells rest) p e len =
-      let w = laws.cells_at (proto v.0) cells e.next in
-      let a = of_acts e (s.calls.cells (proto v.0) cells e.next).acts _ (λ h. is_at (proto v.0) (host h)) w.known w.at in
-      and_next e _ (emits rest).emit _ _ a (orderly rest p.1 _ (w.known ∙ len))
-  orderly (Store v x rest) p e len =
-      let w = laws.move_at (proto x.0) (proto v.0) _ e.next in
-      let a = of_acts e _ _ (λ h. s.calls.moves_at (proto x.0) (proto v.0) h || is_at (proto v.0) (host h)) w.known
-      (λ h lt. two_calls _ _ (s.calls.moves_at (proto x.0) (proto v.0)) (λ h. is_at (proto v.0) (host h)) h (w.at h lt) (laws.renew_at (proto v.0) _ _ h lt)) in
-      and_next e _ (emits rest).emit _ _ a (orderly rest p.2 _ (w.known ∙ len))
-  orderly (Put v i x rest) p e len =
-      let d = delivered_where m s proto laws (proto i.0) _ (hosts_of s.calls (proto v.0)) e.next in
-      let w = laws.move_at (proto x.0) (proto v.0) _ _ in
-      let a = of_acts e _ _ (λ h. delivered_at s.calls proto (proto i.0) (hosts_of s.calls (proto v.0)) h || s.calls.moves_at (proto x.0) (proto v.0) h || is_at (proto v.0) (host h)) (w.known ∙ d.known)
-      (λ h lt. two_calls _ _ (λ h. delivered_at s.calls proto (proto i.0) (hosts_of s.calls (proto v.0)) h || s.calls.moves_at (proto x.0) (proto v.0) h) (λ h. is_at (proto v.0) (host h)) h
-      (two_calls _ _ (delivered_at s.calls proto (proto i.0) (hosts_of s.calls (proto v.0))) (s.calls.moves_at (proto x.0) (proto v.0)) h (d.at h lt) (w.at h lt)) (laws.put_at (proto v.0) _ _ _ h lt)) in
-      and_next e _ (emits rest).emit _ _ a (orderly rest p.3 _ (w.known ∙ d.known ∙ len))
-  orderly (Output x k offset rest) p e len =
-      let w = laws.move_at (proto x.0) (Local k) _ e.next in
-      let a = of_acts e _ _ (λ h. s.calls.moves_at (proto x.0) (Local k) h || nat_eq k.0 h) w.known
-      (λ h lt. two_calls _ _ (s.calls.moves_at (proto x.0) (Local k)) (nat_eq k.0) h (w.at h lt) (laws.output_at k _ h lt)) in
-      and_next e _ (emits rest).emit _ _ a (orderly rest p.1 _ (w.known ∙ len))
-  orderly (IfB x t f offset rest) p e len =
-      let a = branch_orderly x t f p.1 p.2 (orderly t p.1) (orderly f p.2) e len in
-      and_next e (if_made s.calls proto x (emits t) (emits f) e) (emits rest).emit _ _ a (orderly rest p.3 _ (a.known ∙ len))
-  orderly (ForB count body rest) p e len =
-      let a = loop_orderly count body (orderly body p.0) e len in
-      and_next e (for_made s.calls proto count (emits body) e) (emits rest).emit _ _ a (orderly rest p.1 _ (a.known ∙ len))
+        in_second : (h : ℕ) → active m second h ≡ true → (h < n) × (takes h ≡ true)
+        in_second h i = let z = b.at h i in (z.0, or_right ((emits t).takes_part h) ((emits f).takes_part h) (acts_inside m s proto places f h pf z.1))
 
-  many_zeros : (k : ℕ) → let zs : List ℕ = replicate k 0 in length zs ≡ k
-  many_zeros zero = refl
-  many_zeros (suc k) = ap suc (many_zeros k)
+        taken : (h : ℕ) → (h < n) × (takes h ≡ true) → (h < n) × (place h ≡ true)
+        taken h z = (z.0, by_taking h z.1)
 
-  -- the tree of a program at protocols where each use joins
-  pub program_tidy : (program : NormalForm) → ValidAt m s proto program → Tidy m n (plan_of m s proto program)
-  program_tidy program valid =
-      let start = emitting_at_start s.calls proto in
-      subst (λ (l : List (Emission s.calls proto)). Tidy m n ((in_turn s.calls proto l).emit start).tree) (sym (fold_each (stmt_emission s.calls proto) program.body))
-      (orderly (block_of program.body) valid start (many_zeros n)).tidy
+        inside : (h : ℕ) → (h < n) × (takes h ≡ true) → list_any (λ (q : HostId). nat_eq h q.0) (picked 0 n takes) ≡ true
+        inside h z = picked_has takes 0 n h (omega arith) (let lt = z.0 in omega (arith, lt)) z.1
+
+  loop_orderly : (has : ℕ → Bool) (next : List ℕ) (count : ℕ) (tree : Plan m.Act) → length next ≡ n → count ≤ 2 ^ 32 → Orderly m n tree has → Orderly m n (Loop (loop_registers has 0 next) count tree Ends) has
+  loop_orderly has next count tree len small a = record {
+    at = λ h i. in_either n h (is_part (loop_registers has 0 next) h) (active m tree h) (has h) (λ j. let z = part_in has 0 next h j in (below z.0, z.1)) (a.at h)
+        (or_false (is_part (loop_registers has 0 next) h || active m tree h) i);
+    tidy = (
+      loop_apart has 0 next,
+      (λ h i. let z = a.at h i in takes_part (loop_registers has 0 next) h (slice_index next h) (has_register has next h (subst (λ k. h < k) (sym len) z.0) z.1)),
+      small,
+      a.tidy,
+      tt,
+    );
+  }
+    where
+      below : {h : ℕ} → h < 0 + length next → h < n
+      below lt = omega (arith, lt, len)
+
+  abbrev Does : Block → Type 0
+  Does b =
+      (o : Sight) (k : ℕ) → InRow k (slots b) → (sees b o).all ≡ true → Fits s.calls.hosts b → Placed m s proto b
+      → (e : E m s proto) (w : m.World) (c : SlotState) (turn : ℕ) (has : ℕ → Bool) → length e.held ≡ k → ((h : ℕ) → turns_at m s proto b h ≡ true → has h ≡ true) → turn < 2 ^ 32
+      → Ties m s proto o e w c → TurnsIn m s proto has o e w turn → Orderly m n ((emits b).emit e).tree (emits b).acts_at
+
+  -- the rest after a statement
+  rest_does : (rest : Block) → Does rest → (o o1 : Sight) (e : E m s proto) (one : Emitted s.calls proto) (j k : ℕ) (w : m.World) (c c1 : SlotState) (turn : ℕ) (has : ℕ → Bool) → length e.held ≡ k
+      → InRow (k + j) (slots rest) → (sees rest o1).all ≡ true → Fits s.calls.hosts rest → Placed m s proto rest → ((h : ℕ) → turns_at m s proto rest h ≡ true → has h ≡ true) → turn < 2 ^ 32
+      → Ties m s proto o e w c → TurnsIn m s proto has o e w turn → (a : After m s proto o o1 e one j w c1)
+      → Orderly m n ((emits rest).emit one.state).tree (emits rest).acts_at
+  rest_does rest does o o1 e one j k w c c1 turn has is row all fits placed needs small t ts a =
+      does o1 (k + j) row all fits placed one.state a.reached c1 turn has (ap length a.held ∙ length-append e.held a.more ∙ sum is a.many) needs small a.tied
+      (turns_past m s proto has turn o o1 e one j w c c1 t a ts)
+    where
+      sum : {i l : ℕ} → i ≡ k → l ≡ j → i + l ≡ k + j
+      sum p q = omega arith
+
+  pub orderly : (b : Block) → Does b
+  orderly End o k row all fits placed e w c turn has is needs small t ts = record { at = λ h i. absurd (wrong i); tidy = tt }
+    where
+      wrong : false ≡ true → ⊥
+      wrong e = cc
+  orderly (Let x right rest) o k row all fits placed e w c turn has is needs small t ts =
+      let a = let_after m s proto laws declared o e w c turn has x right t (row.0 ∙ sym is) (and_left _ _ all) fits.0 placed.0 small (λ i h p. needs h (turn_here m s proto laws declared x right rest h i p)) ts in
+      and_next m n _ _ (right_acts_at s.calls proto (proto x.0) right) (emits rest).acts_at
+      (of_acts m n _ (right_acts_at s.calls proto (proto x.0) right) (right_where m s proto laws places declared o e w c t x.0 right (and_left _ _ all) fits.0 placed.0))
+      (rest_does rest (orderly rest) o (with_use Binding x.0 o) e _ 1 k w c _ turn has is row.1 (and_right _ _ all) fits.1 placed.1 (λ h p. needs h (turn_later m s proto laws declared x right rest h p)) small t ts a)
+  orderly (NewVar v x rest) o k row all fits placed e w c turn has is needs small t ts =
+      let a = var_after m s proto laws declared o e w c v x t (row.0 ∙ sym is) (and_left _ _ all) placed.0 placed.1 in
+      and_next m n _ _ (λ h. s.calls.moves_at (proto x.0) (proto v.0) h || is_at (proto v.0) (host h)) (emits rest).acts_at
+      (of_acts m n _ (λ h. s.calls.moves_at (proto x.0) (proto v.0) h || is_at (proto v.0) (host h)) (variable_where m s proto laws places declared o e w c t v x (and_left _ _ all) placed.0 placed.1))
+      (rest_does rest (orderly rest) o (with_use Variable v.0 o) e _ 1 k w c _ turn has is row.1 (and_right _ _ all) fits placed.2 needs small t ts a)
+  orderly (NewArray v cells rest) o k row all fits placed e w c turn has is needs small t ts =
+      let a = array_after m s proto laws declared o e w c v cells t (row.0 ∙ sym is) placed.0 in
+      and_next m n _ _ (λ h. is_at (proto v.0) (host h)) (emits rest).acts_at
+      (of_acts m n _ (λ h. is_at (proto v.0) (host h)) (places.cells_at (proto v.0) (declared v.0) placed.0 cells e.next))
+      (rest_does rest (orderly rest) o (with_use Array v.0 o) e _ 1 k w c _ turn has is row.1 all fits placed.1 needs small t ts a)
+  orderly (Store v x rest) o k row all fits placed e w c turn has is needs small t ts =
+      let here = and_left _ _ all in
+      let a = store_after m s proto laws declared o e w c v x t (and_left _ _ here) (and_right _ _ here) placed.0 placed.1 in
+      and_next m n _ _ (λ h. s.calls.moves_at (proto x.0) (proto v.0) h || is_at (proto v.0) (host h)) (emits rest).acts_at
+      (of_acts m n _ (λ h. s.calls.moves_at (proto x.0) (proto v.0) h || is_at (proto v.0) (host h)) (store_where m s proto laws places declared o e w c t v x (and_left _ _ here) (and_right _ _ here) placed.0 placed.1))
+      (rest_does rest (orderly rest) o o e _ 0 k w c _ turn has is (no_slots m s proto laws declared k _ row) (and_right _ _ all) fits placed.2 needs small t ts a)
+  orderly (Put v i x rest) o k row all fits placed e w c turn has is needs small t ts =
+      let here = and_left _ _ all in
+      let a = put_after m s proto laws declared o e w c v i x t (and_left _ _ (and_left _ _ here)) (and_right _ _ (and_left _ _ here)) (and_right _ _ here) placed.0 placed.1 placed.2 in
+      and_next m n _ _ (λ h. delivered_at s.calls proto (proto i.0) (hosts_of s.calls (proto v.0)) h || s.calls.moves_at (proto x.0) (proto v.0) h || is_at (proto v.0) (host h)) (emits rest).acts_at
+      (of_acts m n _ (λ h. delivered_at s.calls proto (proto i.0) (hosts_of s.calls (proto v.0)) h || s.calls.moves_at (proto x.0) (proto v.0) h || is_at (proto v.0) (host h))
+      (put_where m s proto laws places declared o e w c t v i x (and_right _ _ (and_left _ _ here)) (and_right _ _ here) placed.0 placed.1 placed.2))
+      (rest_does rest (orderly rest) o o e _ 0 k w c _ turn has is (no_slots m s proto laws declared k _ row) (and_right _ _ all) fits placed.3 needs small t ts a)
+  orderly (Output x h offset rest) o k row all fits placed e w c turn has is needs small t ts =
+      let a = output_after m s proto laws declared o e w c x h t (and_left _ _ all) fits.0 placed.0 in
+      and_next m n _ _ (λ q. s.calls.moves_at (proto x.0) (Local h) q || nat_eq h.0 q) (emits rest).acts_at
+      (of_acts m n _ (λ q. s.calls.moves_at (proto x.0) (Local h) q || nat_eq h.0 q) (output_where m s proto laws places declared o e w c t x h (and_left _ _ all) fits.0 placed.0))
+      (rest_does rest (orderly rest) o o e _ 0 k w c _ turn has is (no_slots m s proto laws declared k _ row) (and_right _ _ all) fits.1 placed.1 needs small t ts a)
+  orderly (IfB x tb eb offset rest) o k row all fits placed e w c turn has is needs small t ts =
+      let here = and_left _ _ all in
+      let sees_x = and_left _ _ (and_left _ _ here) in
+      let row1 = row_front k (slots tb ++ slots eb) (slots rest) row in
+      let row2 = row_back k (slots tb ++ slots eb) (slots rest) row in
+      let first_row = row_front k (slots tb) (slots eb) row1 in
+      let other_row = row_back k (slots tb) (slots eb) row1 in
+      let a = branch_after m s proto laws declared o (sees tb o).after (sees eb o).after (emits tb) (emits eb) (each stmt_effect tb) (each stmt_effect eb) (length (slots tb)) (length (slots eb)) k (turns_at m s proto tb) (turns_at m s proto eb)
+      (means m s proto laws declared tb o k first_row (and_right _ _ (and_left _ _ here)) fits.0 placed.1)
+      (means m s proto laws declared eb o (k + length (slots tb)) other_row (and_right _ _ here) fits.1 placed.2)
+      x sees_x placed.0 (both_idle m s proto laws declared tb eb) e w c turn has is
+      (λ h p. needs h (or_left _ _ (or_left _ _ p))) (λ h p. needs h (or_left _ _ (or_right _ _ p))) small t ts in
+      let inside = begins_at m s proto laws declared o (sees tb o).after (sees eb o).after (emits tb) (emits eb) (each stmt_effect tb) (each stmt_effect eb) (length (slots tb)) (length (slots eb)) k (turns_at m s proto tb) (turns_at m s proto eb)
+      (means m s proto laws declared tb o k first_row (and_right _ _ (and_left _ _ here)) fits.0 placed.1)
+      (means m s proto laws declared eb o (k + length (slots tb)) other_row (and_right _ _ here) fits.1 placed.2)
+      x sees_x placed.0 (both_idle m s proto laws declared tb eb) e w c turn has is
+      (λ h p. needs h (or_left _ _ (or_left _ _ p))) (λ h p. needs h (or_left _ _ (or_right _ _ p))) small t ts in
+      let test : ℕ → Bool = λ h. (emits tb).takes_part h || (emits eb).takes_part h in
+      let guard = delivered s.calls proto (proto x.0) (part m s proto e.held x.0) (picked 0 s.calls.hosts test) e.next in
+      let told_where = delivered_where m s proto laws places declared (proto x.0) (declared x.0) (part m s proto e.held x.0) (slice_index c.words x.0) (picked 0 s.calls.hosts test)
+      (picked_join m s laws proto (proto x.0) test 0 s.calls.hosts (λ h lt i. placed.0 h (below h lt) i) (omega arith)) e.next w t.ready (operand_of m s proto laws declared o e.next e.held w c t x.0 sees_x) in
+      and_next m n _ _ _ (emits rest).acts_at
+      (branch_orderly x tb eb placed.1 placed.2 guard _ _ told_where (told (proto x.0) (part m s proto e.held x.0) (picked 0 s.calls.hosts test) e.next)
+      (told_apart (proto x.0) (part m s proto e.held x.0) (picked 0 s.calls.hosts test) e.next (picked_apart test 0 s.calls.hosts))
+      (orderly tb o k first_row (and_right _ _ (and_left _ _ here)) fits.0 placed.1 _ _ c turn has is (λ h p. needs h (or_left _ _ (or_left _ _ p))) small inside.0.0 inside.0.1)
+      (orderly eb o (k + length (slots tb)) other_row (and_right _ _ here) fits.1 placed.2 _ _ c turn has inside.1.2 (λ h p. needs h (or_left _ _ (or_right _ _ p))) small inside.1.0 inside.1.1))
+      (rest_does rest (orderly rest) o o e _ (length (slots tb) + length (slots eb)) k w c _ turn has is (subst (λ z. InRow (k + z) (slots rest)) (length-append (slots tb) (slots eb)) row2) (and_right _ _ all) fits.2 placed.3
+      (λ h p. needs h (or_right _ _ p)) small t ts a)
+    where
+      below : (h : ℕ) → h < 0 + s.calls.hosts → h < s.calls.hosts
+      below h lt = omega (arith, lt)
+  orderly (ForB count body rest) o k row all fits placed e w c turn has is needs small t ts =
+      let row1 = row_front k (slots body) (slots rest) row in
+      let row2 = row_back k (slots body) (slots rest) row in
+      let comes = means m s proto laws declared body o k row1 (and_left _ _ all) fits.1 placed.0 in
+      let covers = turns_act m s proto laws declared body in
+      let a = loop_after m s proto laws declared o (sees body o).after (emits body) (effect_of body) (length (slots body)) k (turns_at m s proto body) comes covers e w c is t count fits.0 in
+      let start = all_turns m s proto laws declared o (sees body o).after (emits body) (effect_of body) (length (slots body)) k (turns_at m s proto body) comes covers e w c is t 0 (omega arith) in
+      let begun = begins m s proto laws declared o (sees body o).after (emits body) (effect_of body) (length (slots body)) k (turns_at m s proto body) comes covers e w c is t 0 (omega arith) start in
+      let turned = turning m s proto laws declared o (sees body o).after (emits body) (effect_of body) (length (slots body)) k (turns_at m s proto body) comes covers e w c is t 0 start in
+      let inner : E m s proto = record { next = after_loop_registers (emits body).acts_at 0 e.next; held = e.held; loop = e.next } in
+      and_next m n _ _ (emits body).acts_at (emits rest).acts_at
+      (loop_orderly (emits body).acts_at e.next count _ t.ready.known fits.0
+      (orderly body o k row1 (and_left _ _ all) fits.1 placed.0 inner (m.begun (loop_registers (emits body).acts_at 0 e.next) 0 w) c 0 (emits body).acts_at is covers (omega arith) begun turned))
+      (rest_does rest (orderly rest) o o e _ (length (slots body)) k w c _ turn has is row2 (and_right _ _ all) fits.2 placed.1 needs small t ts a)

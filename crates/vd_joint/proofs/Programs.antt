@@ -27,7 +27,9 @@ use Rattle.vd_joint.proofs.Sight.{Use, Binding, Variable, Array, Sees}
 use Rattle.vd_joint.proofs.Tied.{Tied}
 use Rattle.vd_joint.proofs.Steps.{After}
 use Rattle.vd_joint.proofs.Folds.{fold_each}
+use Rattle.vd_joint.specs.Places.{active, Tidy, Places}
 use Rattle.vd_joint.proofs.Blocks.{slots, sees, effect_of, means}
+use Rattle.vd_joint.proofs.Orderly.{Orderly, orderly}
 
 abbrev holds : (Stmt-F Bool → Bool) → Block → Bool
 holds test b = list_all (λ x. x) (each (λ s. test s && blocks_meet s) b)
@@ -235,3 +237,18 @@ module _ (m : Hosts) (s : Suite m) (proto : ℕ → Proto) where
       where
         from_zero : (i : ℕ) → 0 + i ≡ i
         from_zero i = omega arith
+
+    -- the plan is tidy, and acts at declared hosts alone
+    plan_orderly : Places m s → Orderly m s.calls.hosts ((emission_of m s proto b).emit (emitting_at_start s.calls proto)).tree (emission_of m s proto b).acts_at
+    plan_orderly places =
+        orderly m s proto laws places declared b nothing_seen 0 row seen all_fit valid (emitting_at_start s.calls proto) w (state_at_start (world_at_start (length program.hosts) inputs)) 0 (λ h. false) refl
+        (λ h i. absurd (no_turn b h turns_free i)) (omega arith) tied (λ h lt i. absurd (wrong i))
+      where
+        wrong : false ≡ true → ⊥
+        wrong e = cc
+
+    pub program_tidy : Places m s → Tidy m (plan_of m s proto program)
+    program_tidy places = subst (Tidy m) (sym same_tree) (plan_orderly places).tidy
+
+    pub program_within : Places m s → (h : ℕ) → active m (plan_of m s proto program) h ≡ true → h < s.calls.hosts
+    program_within places h i = ((plan_orderly places).at h (subst (λ (j : Plan m.Act). active m j h ≡ true) same_tree i)).0

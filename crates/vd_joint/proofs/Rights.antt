@@ -91,14 +91,14 @@ module _ (m : Hosts) (s : Suite m) (proto : ℕ → Proto) (laws : Laws m s) (de
     none_named h r n = absurd n
 
     -- the operands of an operation
-    movables : (q : Proto) (ys : List SlotId) → list_all (is_binding o) ys ≡ true → Each (λ y. s.joins (proto y.0) q ≡ true) ys
+    pub movables : (q : Proto) (ys : List SlotId) → list_all (is_binding o) ys ≡ true → Each (λ y. s.joins (proto y.0) q ≡ true) ys
         → Each (λ y. Movable m s laws proto next w (Kept o held) q (proto y.0) (held_at held y.0) (word_at c y)) ys
     movables q [] i j = tt
     movables q (y ∷ ys) i j =
         let here : Sees o Binding y.0 = and_left (is_binding o y) (list_all (is_binding o) ys) i in
         (record { declared = declared y.0; joins = j.0; operand = operand_of y.0 here; from = binding_kept y.0 here }, movables q ys (and_right (is_binding o y) (list_all (is_binding o) ys) i) j.1)
 
-    length_map : (f : SlotId → ℕ) (ys : List SlotId) → length (map f ys) ≡ length ys
+    pub length_map : (f : SlotId → ℕ) (ys : List SlotId) → length (map f ys) ≡ length ys
     length_map f [] = refl
     length_map f (y ∷ ys) = ap suc (length_map f ys)
 

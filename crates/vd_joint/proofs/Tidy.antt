@@ -1,7 +1,6 @@
--- The hosts that have an instruction inside a branch or a loop take part in it.
-use Rattle.std.proofs.Common.{◌≡◌, ℕ, zero, suc, ◌+◌, ◌<◌, nat_eq, Bool, true, false, ◌||◌, if◌then◌else◌, List, [], ◌∷◌, ◌++◌, ◌⊎◌, inl, inr, refl, sym, ap, ◌∙◌}
+-- The hosts that have an instruction of a block take part in it.
+use Rattle.std.proofs.Common.{◌≡◌, ℕ, zero, suc, ◌+◌, nat_eq, Bool, true, false, ◌||◌, if◌then◌else◌, List, [], ◌∷◌, ◌⊎◌, inl, inr, refl, sym, ap, ◌∙◌}
 use Rattle.std.proofs.lemmas.Bool.{eq-eqb, eqb-true}
-use Rattle.std.proofs.lemmas.List.Folds.{list_any-append}
 use Rattle.std.specs.List.{list_any}
 use Rattle.vd_base.specs.declared.ids.HostId.{HostId}
 use Rattle.vd_base.specs.declared.ids.SlotId.{SlotId}
@@ -12,10 +11,10 @@ use Rattle.vd_core.specs.declared.normal.Right.{Right}
 use Rattle.vd_core.specs.declared.normal.Right.TheVariants.{Lit, Turn, Copy, Apply, Input, Declassify, Endorse, Load, Get}
 use Rattle.vd_joint.specs.Block.{Block, End, Let, NewVar, NewArray, Store, Put, Output, If as IfB, For as ForB}
 use Rattle.vd_joint.specs.Joint.{Hosts}
-use Rattle.vd_joint.specs.Suite.{is_at, picked, Made, Suite, hosts_of}
-use Rattle.vd_joint.specs.Emission.{Emission, Emitting, delivered, delivered_at, all_moved, and_on, right_made, right_acts_at, right_takes_part}
+use Rattle.vd_joint.specs.Suite.{is_at, picked, Suite, hosts_of}
+use Rattle.vd_joint.specs.Emission.{Emission, delivered_at, right_acts_at, right_takes_part}
 use Rattle.vd_joint.specs.Validity.{emission_of, RightPlaced, Placed}
-use Rattle.vd_joint.specs.Places.{acting, Where, Places}
+use Rattle.vd_joint.specs.Places.{Places}
 use Rattle.vd_joint.proofs.Lists.{or_left, or_right, or_cases}
 
 pub or_both : (a b c : Bool) → (a ≡ true → c ≡ true) → (b ≡ true → c ≡ true) → (a || b) ≡ true → c ≡ true
@@ -28,64 +27,6 @@ or_both a b c f g e = at (or_cases a b e)
 module _ (m : Hosts) (s : Suite m) (proto : ℕ → Proto) (laws : Places m s) where
   abbrev n : ℕ
   n = s.calls.hosts
-
-  abbrev Goes : {X : Type 0} → List ℕ → Made m.Act X → (ℕ → Bool) → Type 0
-  Goes next made place = Where m n next made place
-
-  -- acts that follow each other
-  pub acting_append : (xs ys : List m.Act) (h : ℕ) → acting m (xs ++ ys) h ≡ true → (acting m xs h ≡ true) ⊎ (acting m ys h ≡ true)
-  acting_append xs ys h e = or_cases (acting m xs h) (acting m ys h) (sym (list_any-append (λ a. m.acts_at a h) xs ys) ∙ e)
-
-  pub and_where : {X Y : Type 0} (next : List ℕ) (one : Made m.Act X) (f : X → List ℕ → Made m.Act Y) (p q : ℕ → Bool) → Goes next one p → Goes one.next (f one.given one.next) q
-      → Goes next (and_on s.calls proto one f) (λ h. p h || q h)
-  and_where next one f p q a b = record {
-    at = λ h lt e. split h lt (acting_append one.acts (f one.given one.next).acts h e);
-    known = b.known ∙ a.known;
-  }
-    where
-      split : (h : ℕ) → h < n → (acting m one.acts h ≡ true) ⊎ (acting m (f one.given one.next).acts h ≡ true) → (p h || q h) ≡ true
-      split h lt (inl e) = or_left (p h) (q h) (a.at h lt e)
-      split h lt (inr e) = or_right (p h) (q h) (b.at h lt e)
-
-  pub delivered_where : (p : Proto) (x : s.Parts) (hs : List HostId) (next : List ℕ) → Goes next (delivered s.calls proto p x hs next) (delivered_at s.calls proto p hs)
-  delivered_where p x [] next = record { at = λ h lt e. e; known = refl }
-  delivered_where p x (k ∷ hs) next =
-      let one = s.calls.move p (Local k) x next in
-      let a = laws.move_at p (Local k) x next in
-      let b = delivered_where p x hs one.next in
-      record { at = λ h lt e. split one (delivered s.calls proto p x hs one.next) a b h lt (acting_append one.acts (delivered s.calls proto p x hs one.next).acts h e); known = b.known ∙ a.known }
-    where
-      split : {Y : Type 0} {next1 : List ℕ} (one : Made m.Act s.Parts) (rest : Made m.Act Y) → Goes next one (s.calls.moves_at p (Local k)) → Goes next1 rest (delivered_at s.calls proto p hs) → (h : ℕ) → h < n
-          → (acting m one.acts h ≡ true) ⊎ (acting m rest.acts h ≡ true) → (s.calls.moves_at p (Local k) h || delivered_at s.calls proto p hs h) ≡ true
-      split one rest a b h lt (inl e) = or_left (s.calls.moves_at p (Local k) h) (delivered_at s.calls proto p hs h) (a.at h lt e)
-      split one rest a b h lt (inr e) = or_right (s.calls.moves_at p (Local k) h) (delivered_at s.calls proto p hs h) (b.at h lt e)
-
-  moved_where : (q : Proto) (e : Emitting s.calls proto) (xs : List SlotId) (next : List ℕ) → Goes next (all_moved s.calls proto q e xs next) (λ h. list_any (λ y. s.calls.moves_at (proto y.0) q h) xs)
-  moved_where q e [] next = record { at = λ h lt i. i; known = refl }
-  moved_where q e (x ∷ xs) next =
-      let one = s.calls.move (proto x.0) q _ next in
-      let a = laws.move_at (proto x.0) q _ next in
-      let b = moved_where q e xs one.next in
-      record { at = λ h lt i. split one (all_moved s.calls proto q e xs one.next) a b h lt (acting_append one.acts (all_moved s.calls proto q e xs one.next).acts h i); known = b.known ∙ a.known }
-    where
-      split : {Y : Type 0} {next1 : List ℕ} (one : Made m.Act s.Parts) (rest : Made m.Act Y) → Goes next one (s.calls.moves_at (proto x.0) q) → Goes next1 rest (λ h. list_any (λ y. s.calls.moves_at (proto y.0) q h) xs) → (h : ℕ) → h < n
-          → (acting m one.acts h ≡ true) ⊎ (acting m rest.acts h ≡ true) → (s.calls.moves_at (proto x.0) q h || list_any (λ y. s.calls.moves_at (proto y.0) q h) xs) ≡ true
-      split one rest a b h lt (inl i) = or_left (s.calls.moves_at (proto x.0) q h) (list_any (λ y. s.calls.moves_at (proto y.0) q h) xs) (a.at h lt i)
-      split one rest a b h lt (inr i) = or_right (s.calls.moves_at (proto x.0) q h) (list_any (λ y. s.calls.moves_at (proto y.0) q h) xs) (b.at h lt i)
-
-  pub right_where : (q : Proto) (right : Right) (e : Emitting s.calls proto) → Goes e.next (right_made s.calls proto q right e) (right_acts_at s.calls proto q right)
-  right_where q (Lit v) e = laws.literal_at q v e.next
-  right_where q Turn e = laws.turn_at q e.loop e.next
-  right_where q (Copy y) e = laws.move_at (proto y.0) q _ e.next
-  right_where q (Apply o ys) e = and_where e.next (all_moved s.calls proto q e ys e.next) (s.calls.apply o q) _ _ (moved_where q e ys e.next) (laws.apply_at o q _ _)
-  right_where q (Input k) e = laws.input_at k e.next
-  right_where q (Declassify y to) e = laws.move_at (proto y.0) q _ e.next
-  right_where q (Endorse y to) e = laws.move_at (proto y.0) q _ e.next
-  right_where q (Load v) e = and_where e.next (s.calls.keep (proto v.0) _ e.next) (s.calls.move (proto v.0) q) _ _ (laws.keep_at (proto v.0) _ e.next) (laws.move_at (proto v.0) q _ _)
-  right_where q (Get v i) e =
-      and_where e.next (and_on s.calls proto (delivered s.calls proto (proto i.0) _ (hosts_of s.calls (proto v.0)) e.next) (s.calls.get (proto v.0) _)) (s.calls.move (proto v.0) q) _ _
-      (and_where e.next (delivered s.calls proto (proto i.0) _ (hosts_of s.calls (proto v.0)) e.next) (s.calls.get (proto v.0) _) _ _ (delivered_where (proto i.0) _ (hosts_of s.calls (proto v.0)) e.next) (laws.get_at (proto v.0) _ _ _))
-      (laws.move_at (proto v.0) q _ _)
 
   -- a test that some picked host passes
   pub any_picked : (f : HostId → Bool) (test : ℕ → Bool) (from k : ℕ) → list_any f (picked from k test) ≡ true → (h : ℕ) × (test h ≡ true) × (f (host h) ≡ true)

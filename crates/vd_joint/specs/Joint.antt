@@ -18,6 +18,8 @@ pub record Hosts : Type 1 where
   pub begun : List (ℕ × ℕ) → ℕ → World → World
   -- the act can be taken: the words that it compares are equal
   pub Fine : Act → World → Type 0
+  -- the act is well formed, whatever the state
+  pub IsTidy : Act → Type 0
   -- the deal is valid, and the two hosts of each pair stand at the same places in their lists
   pub Sound : World → Type 0
   -- the hosts that have an instruction of the act

@@ -1,14 +1,16 @@
 -- By the tables a prefix grows by a choice as it should.
-use Rattle.std.proofs.Common.{◌≡◌, ℕ, List, length, sym, subst, arith, ℤ, ◌+ℤ◌, ◌-ℤ◌, FitsSigned, to_z, of_z, w64}
+use Rattle.std.proofs.Common.{◌≡◌, ℕ, ◌<◌, List, [], ◌∷◌, length, sym, subst, arith, ℤ, ◌+ℤ◌, ◌-ℤ◌, FitsSigned, to_z, of_z, w64}
 use Rattle.std.proofs.lemmas.Int.{ints}
+use Rattle.std.proofs.lemmas.List.Elements.{All-append, All-cons, All-nil}
 use Rattle.vd_space.specs.declared.problem.Problem.{Problem}
+use Rattle.vd_space.specs.Validity.{protocols}
 use Rattle.vd_space.specs.Growth.{extends}
 use Rattle.vd_path.specs.declared.tables.Tables.{Tables}
 use Rattle.vd_path.specs.Steps.{changes}
 use Rattle.vd_path.specs.Guards.{guard_changes}
 use Rattle.vd_path.specs.Naming.{allows}
 use Rattle.vd_path.specs.Transfers.{IsWithin}
-use Rattle.vd_path.specs.Tables.{low_part, shifted_part, common_part, naming_at, gain_at, AreTables, IsStep, GrowsBy}
+use Rattle.vd_path.specs.Tables.{low_part, shifted_part, common_part, naming_at, gain_at, AreListed, AreTables, IsStep, GrowsBy}
 
 -- a sum of a small number and what it grows by
 abbrev Sum : ℤ → ℤ → ℤ → ℤ
@@ -28,6 +30,11 @@ pub small_sum_turned : (old gain growth before after : ℤ) → old ≡ before �
 small_sum_turned old gain growth before after is grows first second gain_small growth_small =
     let same : Sum old gain growth ≡ after = omega (arith, ints, is, grows, first.low, first.high, second.low, second.high, gain_small.low, gain_small.high, growth_small.low, growth_small.high) in
     (omega (arith, ints, same, second.low, second.high), omega (arith, ints, same, second.low, second.high))
+
+pub listed_after : (problem : Problem) (before : List ℕ) (choice : ℕ) (after : List ℕ) → IsStep problem before choice after → AreListed problem after
+listed_after problem before choice after step =
+    subst (AreListed problem) (sym step.grown)
+    (All-append (λ p. p < length (protocols problem)) before (choice ∷ []) step.listed (All-cons (λ p. p < length (protocols problem)) choice [] step.choice_listed (All-nil (λ p. p < length (protocols problem)))))
 
 module _ (problem : Problem) (tables : Tables) (before : List ℕ) (choice : ℕ) (after : List ℕ) (are : AreTables problem tables) (step : IsStep problem before choice after) where
   grows : GrowsBy problem tables before choice

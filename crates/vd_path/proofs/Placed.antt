@@ -17,7 +17,7 @@ use Rattle.vd_path.specs.Transfers.{by_place, cell, least_where, row_of, column_
 use Rattle.vd_path.specs.Steps.{at_places, under}
 use Rattle.vd_path.specs.Tables.{AreListed}
 
-same_least : (n : ℕ) (f g : ℕ → Option ℤ) → ((k : ℕ) → k < n → f k ≡ g k) → least_below n f ≡ least_below n g
+pub same_least : (n : ℕ) (f g : ℕ → Option ℤ) → ((k : ℕ) → k < n → f k ≡ g k) → least_below n f ≡ least_below n g
 same_least zero f g same = refl
 same_least (suc n) f g same = ap₂ lesser (same_least n f g (λ k low. same k (omega (arith, low)))) (same n (omega arith))
 
@@ -35,17 +35,17 @@ module _ (problem : Problem) where
   abbrev pub candidates : ℕ → List Bool
   candidates slot = by_place many (is_candidate problem slot)
 
-  where_same : (slot : ℕ) (f g : ℕ → Option ℤ) → ((k : ℕ) → k < many → f k ≡ g k) → least_where (candidates slot) f ≡ least_free problem slot g
+  pub where_same : (slot : ℕ) (f g : ℕ → Option ℤ) → ((k : ℕ) → k < many → f k ≡ g k) → least_where (candidates slot) f ≡ least_free problem slot g
   where_same slot f g same =
       ap (λ n. least_below n (λ k. only_if (get_or (candidates slot) k false) (f k))) (size_by_place many (is_candidate problem slot))
       ∙ same_least many (λ k. only_if (get_or (candidates slot) k false) (f k)) (λ k. only_if (is_candidate problem slot k) (g k)) (λ k low. ap₂ only_if (at_place many (is_candidate problem slot) k false low) (same k low))
 
   -- a decided slot stands at a place of the list, and another is past the end
-  data Decided (prefix : List ℕ) (slot : ℕ) : Type 0 where
+  pub data Decided (prefix : List ℕ) (slot : ℕ) : Type 0 where
     stands : (p : ℕ) → StandsAt problem prefix slot p → Decided prefix slot
     past : length prefix ≤ slot → slice_get prefix slot ≡ None → Decided prefix slot
 
-  decided : (prefix : List ℕ) (slot : ℕ) → AreListed problem prefix → Decided prefix slot
+  pub decided : (prefix : List ℕ) (slot : ℕ) → AreListed problem prefix → Decided prefix slot
   decided prefix slot listed = elim (slice_get_cases prefix slot).1 [
     | inl found ↦ stands found.0 (record { at = found.2; listed = subst (λ p. p < many) found.3 (listed slot found.0 found.1) })
     | inr none ↦ past none.0 none.1

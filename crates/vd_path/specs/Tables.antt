@@ -85,7 +85,7 @@ pub record AreTables (problem : Problem) (tables : Tables) : Type 0 where
   pub gains : (slot choice : ℕ) → IsWithin 2305843009213693952 (gain_at tables.gains slot choice)
   pub shifted_gains : (slot choice : ℕ) → IsWithin 2305843009213693952 (gain_at tables.shifted_gains slot choice)
   pub few : (slot : ℕ) → IsFew (naming_at tables slot)
-  pub small : (prefix : List ℕ) → AreSmallAt problem tables.shifts prefix
+  pub small : (prefix : List ℕ) → AreListed problem prefix → AreSmallAt problem tables.shifts prefix
   pub start : AreSumsOf problem tables.shifts [] tables.start
   pub grows : (prefix : List ℕ) (choice : ℕ) → AreListed problem prefix → length prefix < length problem.slots → choice < length (protocols problem) → GrowsBy problem tables prefix choice
 

@@ -15,4 +15,4 @@ pub use numbers::namings;
 pub use path::Path;
 pub use steps::{cost_under, growth_of};
 pub use tables::{Sums, Tables, can_grow, grown};
-pub use transfers::{Link, Transfer};
+pub use transfers::{Link, Transfer, amount_at, number_of};

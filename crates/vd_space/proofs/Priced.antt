@@ -22,15 +22,12 @@ use Rattle.vd_space.specs.declared.problem.Guard.{Guard}
 use Rattle.vd_space.specs.declared.problem.Index.{Index}
 use Rattle.vd_space.specs.Validity.{protocols, protocol, move, move_to_host, all_hosts, holds_at, takes_part}
 use Rattle.vd_space.specs.Costs.{Pair, weigh, plus, moves_to, hosts_at, operation_value, operation_term, output_term, use_term, index_term, guard_term, total, slots_of, one_at, pair_at, cost}
+use Rattle.vd_space.specs.Sizes.{heft, amount}
 use Rattle.vd_space.proofs.Listed.{has_hosts_at}
 use Rattle.vd_space.proofs.Prices.{IsSmall, row_price, move_price}
 use Rattle.vd_space.proofs.Totals.{total_append, total_map}
 
 -- ---- sums of weights
-
-abbrev pub heft : {X : Type 0} → (X → ℕ) → List X → ℕ
-heft f [] = 0
-heft f (x ∷ xs) = f x + heft f xs
 
 pub heft_append : {X : Type 0} (f : X → ℕ) (xs ys : List X) → heft f (xs ++ ys) ≡ heft f xs + heft f ys
 heft_append f [] ys = omega arith
@@ -39,11 +36,6 @@ heft_append f (x ∷ xs) ys = let rest = heft_append f xs ys in omega (arith, re
 heft_same : {X : Type 0} (most : ℕ) (xs : List X) → heft (λ x. most) xs ≡ most * length xs
 heft_same most [] = omega arith
 heft_same most (x ∷ xs) = let rest = heft_same most xs in omega (arith, rest)
-
--- what everything costs at most
-abbrev pub amount : List Making → List Use → List Output → List Guard → List Index → ℕ
-amount slots uses outputs guards indexes =
-    heft (λ (m : Making). 220 * m.weight) slots + heft (λ (u : Use). 212 * u.weight) uses + heft (λ (o : Output). 212 * o.weight) outputs + heft (λ (guard : Guard). 848 * guard.weight) guards + heft (λ (i : Index). 848 * i.weight) indexes
 
 pub listed_or_not : (many p : ℕ) → (p < many) ⊎ (many ≤ p)
 listed_or_not many p = elim (cases_Bool (ltb p many)) [
@@ -105,7 +97,7 @@ plus_price None b m n first second = omega (arith, second)
 plus_price (Some a) None m n first second = omega arith
 plus_price (Some a) (Some b) m n first second = omega (arith, first, second)
 
-fewer : {X : Type 0} (test : X → Bool) (xs : List X) → length (filter test xs) ≤ length xs
+pub fewer : {X : Type 0} (test : X → Bool) (xs : List X) → length (filter test xs) ≤ length xs
 fewer test [] = omega arith
 fewer test (x ∷ xs) = elim (cases_Bool (test x)) [
   | inl passes ↦ let rest = fewer test xs in let here = ap length (cond-true (test x) (x ∷ filter test xs) (filter test xs) passes) in omega (arith, rest, here)
@@ -123,7 +115,7 @@ module _ (problem : Problem) (few : length problem.hosts ≤ 4) where
   small_at (Add a b) has = tt
   small_at (Xor a b) has = tt
 
-  small : (p : ℕ) → IsSmall (protocol problem p)
+  pub small : (p : ℕ) → IsSmall (protocol problem p)
   small p = elim (listed_or_not (length (protocols problem)) p) [
     | inl within ↦ small_at (protocol problem p) (has_hosts_at (length problem.hosts) p (Local (host 0)) within)
     | inr past ↦ subst IsSmall (sym (get_or_past (protocols problem) p (Local (host 0)) past)) tt
@@ -132,7 +124,7 @@ module _ (problem : Problem) (few : length problem.hosts ≤ 4) where
   move_up : (weight p q : ℕ) → UpTo (212 * weight) (unwrap_or (weigh weight (move problem p q)) (pos 0))
   move_up weight p q = weigh_up 212 weight (move problem p q) (move_price (protocol problem p) (protocol problem q) (small p) (small q))
 
-  told_price : (h : HostId) (p : ℕ) → unwrap_or (move_to_host problem h p) 0 ≤ 212
+  pub told_price : (h : HostId) (p : ℕ) → unwrap_or (move_to_host problem h p) 0 ≤ 212
   told_price h p = move_price (protocol problem p) (Local h) (small p) tt
 
   told_up : (weight : ℕ) (h : HostId) (p : ℕ) → UpTo (212 * weight) (unwrap_or (weigh weight (move_to_host problem h p)) (pos 0))
@@ -147,7 +139,7 @@ module _ (problem : Problem) (few : length problem.hosts ≤ 4) where
   host_count : length (all_hosts problem) ≤ 4
   host_count = let many = length-map (range_with_len 0 (length problem.hosts)) host in let range = length-range_with_len 0 (length problem.hosts) in omega (arith, many, range, few)
 
-  index_price : (p q : ℕ) → unwrap_or (moves_to problem q (hosts_at problem p)) 0 ≤ 848
+  pub index_price : (p q : ℕ) → unwrap_or (moves_to problem q (hosts_at problem p)) 0 ≤ 848
   index_price p q =
       let all = moves_price q (hosts_at problem p) in
       let fewer_hosts = fewer (λ h. holds_at problem h p) (all_hosts problem) in

@@ -37,7 +37,7 @@ both_tests : (a b : Bool) (v : ℤ) → cond (a && b) v (pos 0) ≡ cond a (cond
 both_tests true b v = refl
 both_tests false b v = refl
 
-each_at : {X : Type 0} (P : X → Type 0) (xs : List X) (i : ℕ) (x : X) → slice_get xs i ≡ Some x → AllByRecursion P xs → P x
+pub each_at : {X : Type 0} (P : X → Type 0) (xs : List X) (i : ℕ) (x : X) → slice_get xs i ≡ Some x → AllByRecursion P xs → P x
 each_at P [] i x is each = absurd (true≢false (sym (ap is_some is)))
 each_at P (y ∷ xs) zero x is each = subst P (ap (λ o. unwrap_or o y) is) each.0
 each_at P (y ∷ xs) (suc i) x is each = each_at P xs i x is each.1

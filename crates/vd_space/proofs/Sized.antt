@@ -23,7 +23,7 @@ use Rattle.vd_space.specs.declared.problem.Guard.{Guard}
 use Rattle.vd_space.specs.declared.problem.Index.{Index}
 use Rattle.vd_space.specs.Reading.{Parts, Read, no_parts, joined, all_parts, use_of, guard_of, binding_parts, read_step, read_stmt, problem_of}
 use Rattle.vd_space.specs.Sizes.{IsWithinLimits}
-use Rattle.vd_space.proofs.Weighed.{few_operands, weigh_next}
+use Rattle.vd_space.proofs.Weighed.{few_operands, weigh_next, costs_low}
 
 count_next : (n : ℕ) (ns : List ℕ) → sum (n ∷ ns) ≡ n + sum ns
 count_next n ns = sum_by-cons (λ (k : ℕ). k) n ns
@@ -39,6 +39,7 @@ module _ (most : ℕ) (l : Labels) where
   -- parts of so many statements, none executed more often than `most`
   record AreFew (count : ℕ) (parts : Parts) : Type 0 where
     few : size parts ≤ 4 * count
+    few_uses : length parts.uses ≤ 3 * count
     slots : AllByRecursion (λ (m : Making). m.weight ≤ most) parts.slots
     uses : AllByRecursion (λ (u : Use). u.weight ≤ most) parts.uses
     outputs : AllByRecursion (λ (o : Output). o.weight ≤ most) parts.outputs
@@ -46,7 +47,7 @@ module _ (most : ℕ) (l : Labels) where
     indexes : AllByRecursion (λ (i : Index). i.weight ≤ most) parts.indexes
 
   none_few : AreFew 0 no_parts
-  none_few = record { few = omega arith; slots = tt; uses = tt; outputs = tt; guards = tt; indexes = tt }
+  none_few = record { few = omega arith; few_uses = omega arith; slots = tt; uses = tt; outputs = tt; guards = tt; indexes = tt }
 
   joined_size : (a b : Parts) → size (joined a b) ≡ size a + size b
   joined_size a b =
@@ -60,8 +61,10 @@ module _ (most : ℕ) (l : Labels) where
   joined_few : (m n : ℕ) (a b : Parts) → AreFew m a → AreFew n b → AreFew (m + n) (joined a b)
   joined_few m n a b first second =
       let whole = joined_size a b in let first_few = first.few in let second_few = second.few in
+      let both_uses = length-append a.uses b.uses in let first_uses = first.few_uses in let second_uses = second.few_uses in
       record {
         few = omega (arith, whole, first_few, second_few);
+        few_uses = omega (arith, both_uses, first_uses, second_uses);
         slots = both (λ (making : Making). making.weight ≤ most) a.slots b.slots first.slots second.slots;
         uses = both (λ (u : Use). u.weight ≤ most) a.uses b.uses first.uses second.uses;
         outputs = both (λ (o : Output). o.weight ≤ most) a.outputs b.outputs first.outputs second.outputs;
@@ -70,26 +73,26 @@ module _ (most : ℕ) (l : Labels) where
       }
 
   more_few : (m n : ℕ) (parts : Parts) → m ≤ n → AreFew m parts → AreFew n parts
-  more_few m n parts low is = let few = is.few in record { few = omega (arith, few, low); slots = is.slots; uses = is.uses; outputs = is.outputs; guards = is.guards; indexes = is.indexes }
+  more_few m n parts low is = let few = is.few in let few_uses = is.few_uses in record { few = omega (arith, few, low); few_uses = omega (arith, few_uses, low); slots = is.slots; uses = is.uses; outputs = is.outputs; guards = is.guards; indexes = is.indexes }
 
   uses_low : (weight : ℕ) (x : SlotId) (ys : List SlotId) → weight ≤ most → AllByRecursion (λ (u : Use). u.weight ≤ most) (map (use_of weight x) ys)
   uses_low weight x [] low = tt
   uses_low weight x (y ∷ ys) low = (low, uses_low weight x ys low)
 
   binding_few : (weight : ℕ) (x : SlotId) (r : Right) → weight ≤ most → operands_fit r ≡ true → AreFew 1 (binding_parts l weight x r)
-  binding_few weight x (Lit k) low fits = record { few = omega arith; slots = (low, tt); uses = tt; outputs = tt; guards = tt; indexes = tt }
-  binding_few weight x Turn low fits = record { few = omega arith; slots = (low, tt); uses = tt; outputs = tt; guards = tt; indexes = tt }
-  binding_few weight x (Copy y) low fits = record { few = omega arith; slots = (low, tt); uses = (low, tt); outputs = tt; guards = tt; indexes = tt }
+  binding_few weight x (Lit k) low fits = record { few = omega arith; few_uses = omega arith; slots = (low, tt); uses = tt; outputs = tt; guards = tt; indexes = tt }
+  binding_few weight x Turn low fits = record { few = omega arith; few_uses = omega arith; slots = (low, tt); uses = tt; outputs = tt; guards = tt; indexes = tt }
+  binding_few weight x (Copy y) low fits = record { few = omega arith; few_uses = omega arith; slots = (low, tt); uses = (low, tt); outputs = tt; guards = tt; indexes = tt }
   binding_few weight x (Apply o ys) low fits =
       let many : length ys ≡ arity o = eqb-true (length ys) (arity o) fits in
       let three = few_operands o in
       let uses = length-map ys (use_of weight x) in
-      record { few = omega (arith, many, three, uses); slots = (low, tt); uses = uses_low weight x ys low; outputs = tt; guards = tt; indexes = tt }
-  binding_few weight x (Input h) low fits = record { few = omega arith; slots = (low, tt); uses = tt; outputs = tt; guards = tt; indexes = tt }
-  binding_few weight x (Declassify y to) low fits = record { few = omega arith; slots = (low, tt); uses = (low, tt); outputs = tt; guards = tt; indexes = tt }
-  binding_few weight x (Endorse y to) low fits = record { few = omega arith; slots = (low, tt); uses = (low, tt); outputs = tt; guards = tt; indexes = tt }
-  binding_few weight x (Load v) low fits = record { few = omega arith; slots = (low, tt); uses = (low, tt); outputs = tt; guards = tt; indexes = tt }
-  binding_few weight x (Get v i) low fits = record { few = omega arith; slots = (low, tt); uses = (low, tt); outputs = tt; guards = tt; indexes = (low, tt) }
+      record { few = omega (arith, many, three, uses); few_uses = omega (arith, many, three, uses); slots = (low, tt); uses = uses_low weight x ys low; outputs = tt; guards = tt; indexes = tt }
+  binding_few weight x (Input h) low fits = record { few = omega arith; few_uses = omega arith; slots = (low, tt); uses = tt; outputs = tt; guards = tt; indexes = tt }
+  binding_few weight x (Declassify y to) low fits = record { few = omega arith; few_uses = omega arith; slots = (low, tt); uses = (low, tt); outputs = tt; guards = tt; indexes = tt }
+  binding_few weight x (Endorse y to) low fits = record { few = omega arith; few_uses = omega arith; slots = (low, tt); uses = (low, tt); outputs = tt; guards = tt; indexes = tt }
+  binding_few weight x (Load v) low fits = record { few = omega arith; few_uses = omega arith; slots = (low, tt); uses = (low, tt); outputs = tt; guards = tt; indexes = tt }
+  binding_few weight x (Get v i) low fits = record { few = omega arith; few_uses = omega arith; slots = (low, tt); uses = (low, tt); outputs = tt; guards = tt; indexes = (low, tt) }
 
   abbrev Few : Bool → Read → Weighing → ℕ → Type 0
   Few fits read weigh count = fits ≡ true → (weight : ℕ) → weigh weight ≤ most → AreFew count (read.parts weight)
@@ -124,11 +127,11 @@ module _ (most : ℕ) (l : Labels) where
 
   step : (y : Stmt-F M) → Few (fits_step (map-Stmt Stmt Bool fits_stmt (layer y))) (read_step l (map-Stmt Stmt Read (read_stmt l) (layer y))) (weigh_step (map-Stmt Stmt Weighing weighing (layer y))) (count_step (map-Stmt Stmt ℕ count_of (layer y)))
   step (Stmt-F.Let x r) fits weight low = binding_few weight x r low (and_parts (operands_fit r) true fits).0
-  step (Stmt-F.NewVar v y) fits weight low = record { few = omega arith; slots = (low, tt); uses = (low, tt); outputs = tt; guards = tt; indexes = tt }
-  step (Stmt-F.NewArray v cells) fits weight low = record { few = omega arith; slots = (low, tt); uses = tt; outputs = tt; guards = tt; indexes = tt }
-  step (Stmt-F.Store v y) fits weight low = record { few = omega arith; slots = tt; uses = (low, tt); outputs = tt; guards = tt; indexes = tt }
-  step (Stmt-F.Put v i y) fits weight low = record { few = omega arith; slots = tt; uses = (low, tt); outputs = tt; guards = tt; indexes = (low, tt) }
-  step (Stmt-F.Output y h offset) fits weight low = record { few = omega arith; slots = tt; uses = tt; outputs = (low, tt); guards = tt; indexes = tt }
+  step (Stmt-F.NewVar v y) fits weight low = record { few = omega arith; few_uses = omega arith; slots = (low, tt); uses = (low, tt); outputs = tt; guards = tt; indexes = tt }
+  step (Stmt-F.NewArray v cells) fits weight low = record { few = omega arith; few_uses = omega arith; slots = (low, tt); uses = tt; outputs = tt; guards = tt; indexes = tt }
+  step (Stmt-F.Store v y) fits weight low = record { few = omega arith; few_uses = omega arith; slots = tt; uses = (low, tt); outputs = tt; guards = tt; indexes = tt }
+  step (Stmt-F.Put v i y) fits weight low = record { few = omega arith; few_uses = omega arith; slots = tt; uses = (low, tt); outputs = tt; guards = tt; indexes = (low, tt) }
+  step (Stmt-F.Output y h offset) fits weight low = record { few = omega arith; few_uses = omega arith; slots = tt; uses = tt; outputs = (low, tt); guards = tt; indexes = tt }
   step (Stmt-F.If y a b offset) fits weight low =
       let parts = and_parts (list_all (λ b. b) (map fits_stmt (statements a))) (list_all (λ b. b) (map fits_stmt (statements b))) fits in
       let ra = map (read_stmt l) (statements a) in
@@ -143,7 +146,7 @@ module _ (most : ℕ) (l : Labels) where
           → AreFew (1 + ca + cb) (joined (record no_parts { guards = guard_of y weight (ra ++ rb) ∷ [] }) (joined (all_parts ra weight) (all_parts rb weight)))
       if_few y weight ra rb wa wb ca cb low first second =
           let guard : Parts = record no_parts { guards = guard_of y weight (ra ++ rb) ∷ [] } in
-          let here : AreFew 1 guard = record { few = omega arith; slots = tt; uses = tt; outputs = tt; guards = (omega (arith, low), tt); indexes = tt } in
+          let here : AreFew 1 guard = record { few = omega arith; few_uses = omega arith; slots = tt; uses = tt; outputs = tt; guards = (omega (arith, low), tt); indexes = tt } in
           more_few (1 + (ca + cb)) (1 + ca + cb) (joined guard (joined (all_parts ra weight) (all_parts rb weight))) (omega arith)
           (joined_few 1 (ca + cb) guard (joined (all_parts ra weight) (all_parts rb weight)) here (joined_few ca cb (all_parts ra weight) (all_parts rb weight) (first (omega (arith, low))) (second (omega (arith, low)))))
   step (Stmt-F.For count body) fits weight low =
@@ -172,9 +175,12 @@ is_within_limits p l is =
     let few = body_few 65536 l p.body is.operands 1 is.limits.weights in
     let problem = problem_of p l in
     let count = few.few in
+    let uses = few.few_uses in
     let statements_few = is.limits.statements in
     record {
       count = omega (arith, count, statements_few);
+      few_uses = omega (arith, uses, statements_few);
+      costs = costs_low p l is;
       slots = All-from_recursion (λ (m : Making). m.weight ≤ 65536) problem.slots few.slots;
       uses = All-from_recursion (λ (u : Use). u.weight ≤ 65536) problem.uses few.uses;
       outputs = All-from_recursion (λ (o : Output). o.weight ≤ 65536) problem.outputs few.outputs;

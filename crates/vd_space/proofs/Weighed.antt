@@ -25,7 +25,8 @@ use Rattle.vd_space.specs.declared.problem.Guard.{Guard}
 use Rattle.vd_space.specs.declared.problem.Index.{Index}
 use Rattle.vd_space.specs.Reading.{Parts, Read, no_parts, joined, all_parts, use_of, guard_of, binding_parts, read_step, read_stmt, problem_of}
 use Rattle.vd_space.specs.Spaces.{IsProblem}
-use Rattle.vd_space.proofs.Priced.{heft, heft_append, amount, cost_up}
+use Rattle.vd_space.specs.Sizes.{heft, amount}
+use Rattle.vd_space.proofs.Priced.{heft_append, cost_up}
 use Rattle.vd_space.proofs.Programs.{names_below}
 
 abbrev parts_amount : Parts → ℕ
@@ -148,6 +149,12 @@ module _ (l : Labels) where
   body_costs (s ∷ body) fits weight =
       let parts = and_parts (fits_stmt s) (all_meet (of_rights operands_fit) body) fits in
       next_cost ((read_stmt l s).parts weight) (all_parts (map (read_stmt l) body) weight) (weighing s) (map weighing body) weight (stmt_costs s parts.0 weight) (body_costs body parts.1 weight)
+
+pub costs_low : (p : NormalForm) (l : Labels) → IsWellMade p → parts_amount (all_parts (map (read_stmt l) p.body) 1) ≤ 1704 * 65536
+costs_low p l is =
+    let most = body_costs l p.body is.operands 1 in
+    let weights = is.limits.weights in
+    omega (arith, most, weights)
 
 pub is_problem : (p : NormalForm) (l : Labels) → IsWellMade p → IsProblem (problem_of p l)
 is_problem p l is =

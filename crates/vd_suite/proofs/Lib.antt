@@ -1,3 +1,15 @@
-pub mod Gives
+pub mod Standing
+pub mod Over
 pub mod Moves
+pub mod Gives
+pub mod BackEnds
+pub mod Alone
+pub mod Outside
+pub mod Arrays
+pub mod Written
+pub mod SuiteLaws
+pub mod SuitePlaces
+pub mod PlanTidy
 pub mod PlanRuns
+pub mod Whole
+pub mod Given

@@ -25,6 +25,7 @@ machine t inputs = record {
   waiting = λ w h. drop ((w h).cursors Inputs) (inputs h);
   begun = λ ps turn w h. record (w h) { registers = given_turn ps turn h (w h).registers };
   Fine = λ g w. ActsAgree t (acts_of_gadget g) w × GadgetIsTidy g;
+  IsTidy = GadgetIsTidy;
   Sound = IsSound;
   acts_at = λ g h. acts_in h g;
 }

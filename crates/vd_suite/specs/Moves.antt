@@ -1,20 +1,18 @@
--- Moves that are composed of the calls of two back ends, and the suite of all back ends.
-use Rattle.std.specs.Prelude.{◌≡◌, ℕ, Bool, List, [], ◌∷◌}
+-- Moves that are composed of the calls of two back ends.
+use Rattle.std.specs.Prelude.{◌≡◌, ℕ, Bool, false, List, [], ◌∷◌}
+use Rattle.std.specs.List.{list_any}
 use Rattle.vd_base.specs.declared.ids.HostId.{HostId}
 use Rattle.vd_base.specs.declared.protocols.HostSet.{HostSet}
 use Rattle.vd_base.specs.declared.protocols.Proto.{Proto}
 use Rattle.vd_base.specs.declared.protocols.Proto.TheVariants.{Local, Rep}
-use Rattle.vd_base.specs.declared.rows.Row.{Row}
 use Rattle.vd_execution.specs.declared.instructions.Reg.{Reg}
 use Rattle.vd_execution.specs.World.{Tape}
 use Rattle.vd_execution.specs.Joint.{Hosts}
-use Rattle.vd_execution.specs.Gadgets.{Gadget}
 use Rattle.vd_execution.specs.Text.{register}
 use Rattle.vd_duet.specs.Calls.{Places, holders, Made, Calls}
-use Rattle.vd_duet.specs.Laws.{Joins, IsIn, IsHost, at_host, StandFor, IsReady, Operand, GivesWord, BackendLaws}
+use Rattle.vd_duet.specs.Laws.{Joins, IsIn, IsHost, at_host, IsReady, Operand, GivesWord, BackendLaws}
+use Rattle.vd_duet.specs.Acting.{share_at, adopt_at, told_at, show_at, show_all_at}
 use Rattle.vd_clear.specs.Copies.{clear_calls, spread_to}
-use Rattle.vd_joint.specs.Suite.{Calls as AllCalls, Made as AnyMade, Suite, Content, Word, Cells}
-use Rattle.vd_suite.specs.Machine.{machine}
 
 -- how a word gets from one protocol to another
 pub data Route : Type 0 where
@@ -37,6 +35,15 @@ moved (Show k) p q x next = at_host k (p.show x k next)
 moved ShowAll p q x next = p.show_all x next
 moved (Spread to) p q x next = spread_to to x next
 
+-- the hosts that act in it, where it leads from p to q
+abbrev pub moved_at : Route → Proto → Proto → ℕ → Bool
+moved_at Stay p q h = false
+moved_at (Share k) p q h = share_at k q h
+moved_at Adopt p q h = adopt_at q h
+moved_at (Show k) p q h = show_at p k h
+moved_at ShowAll p q h = show_all_at p h
+moved_at (Spread to) p q h = list_any (λ k. told_at (holders p) k h) (holders (Rep to))
+
 -- when a route leads from a back end to another
 abbrev pub IsRoute : Route → Calls → Calls → Type 0
 IsRoute Stay p q = p ≡ q
@@ -51,31 +58,3 @@ abbrev pub MovesKeepTheWord : Type 0
 MovesKeepTheWord = (route : Route) (p q : Calls) → BackendLaws p → BackendLaws q → IsRoute route p q
     → (t : Tape) (next : List ℕ) (w : Hosts) → IsReady p t next w → IsReady q t next w → (x : Places) (v : ℕ) → Operand p next w x v
     → GivesWord q t next (IsIn x) (moved route p q x next) w v
-
--- what a call makes, as the theory of splitting has it
-abbrev pub made_of : Made Places → AnyMade Gadget Places
-made_of made = record { given = made.given; acts = made.gadgets; next = made.next }
-
--- what a slot has stands for its content
-abbrev pub stands : (Proto → Calls) → (Hosts → Proto → Places → List ℕ → Type 0) → Hosts → Proto → Places → Content → Type 0
-stands b cells w p x (Word v) = StandFor (b p) w x v
-stands b cells w p x (Cells vs) = cells w p x vs
-
--- the suite of back ends: the calls that no back end has are given beside them
-abbrev pub suite_of : (t : Tape) (inputs : ℕ → List ℕ) → (Proto → Calls) → (Proto → Proto → Route) → AllCalls Gadget Places
-    → (Hosts → Proto → Places → List ℕ → Type 0) → (Proto → Type 0) → (Row → Proto → Bool) → (Proto → Proto → Bool) → Suite (machine t inputs)
-suite_of t inputs b route others cells declared holds joins = record {
-  Parts = Places;
-  calls = record others {
-    literal = λ p v next. made_of ((b p).literal v next);
-    move = λ p q x next. made_of (moved (route p q) (b p) (b q) x next);
-    apply = λ o p xs next. made_of ((b p).apply o xs next);
-    keep = λ p x next. made_of ((b p).keep x next);
-    renew = λ p kept x. (b p).renew kept x;
-  };
-  Names = IsIn;
-  Stands = stands b cells;
-  Declared = declared;
-  holds = holds;
-  joins = joins;
-}

@@ -1,3 +1,4 @@
+use Rattle.vd_suite.proofs.PlanTidy.{tidy_alike}
 use Rattle.vd_suite.proofs.PlanRuns.{runs_alike, goes_smoothly}
 use Rattle.vd_suite.proofs.plans_run_as_their_code.Goals as goal
 
@@ -6,3 +7,6 @@ returns-clause-runs c = runs_alike
 
 pub returns-clause-smooth : goal.returns-clause-smooth
 returns-clause-smooth c = goes_smoothly
+
+pub returns-clause-tidy : goal.returns-clause-tidy
+returns-clause-tidy c = tidy_alike

@@ -3,7 +3,7 @@ use Rattle.vd_path.specs.declared.naming.Naming.{Naming}
 use Rattle.vd_path.specs.Steps.{changes}
 use Rattle.vd_path.specs.Tables.{gain_at, shifted_part}
 use Rattle.vd_path.specs.Transfers.{IsWithin}
-use Rattle.vd_path.proofs.Choices.{shifted_grows, small_gain, small_sum}
+use Rattle.vd_path.proofs.Choices.{listed_after, shifted_grows, small_gain, small_sum}
 use Rattle.vd_path.proofs.tables.grown_shifted.Goals as goal
 
 pub overflow_add-result : goal.overflow_add-result
@@ -21,8 +21,8 @@ overflow_add-result-2 c =
     let uses_are = c.as_slice-4.ensures ∙ ap (λ (n : Naming). n.uses) c.naming_of-naming.ensures in
     let growth = c.growth_of-growth.ensures.growth ∙ (λ i. changes (c.as_slice-2.ensures i) (c.as_slice-3.ensures i) (uses_are i) before after) in
     let old = c.requires.shifted in
-    let first = (c.requires.tables.small before).shifted in
-    let second = (c.requires.tables.small after).shifted in
+    let first = (c.requires.tables.small before c.requires.step.listed).shifted in
+    let second = (c.requires.tables.small after (listed_after c.args.problem.now before c.args.choice after c.requires.step)).shifted in
     let gain_small = c.requires.tables.shifted_gains (length before) c.args.choice in
     let growth_small = c.growth_of-growth.ensures.within in
     let sum = small_sum c.args.shifted c.gain_of-gain.result c.growth_of-growth.result (shifted_part c.args.problem.now c.args.tables.now.shifts before) (shifted_part c.args.problem.now c.args.tables.now.shifts after) old (ap₂ (λ a b. a +ℤ b) gain growth ∙ step) first second (subst (IsWithin 2305843009213693952) (sym gain) gain_small) growth_small in
@@ -38,8 +38,8 @@ returns c =
     let uses_are = c.as_slice-4.ensures ∙ ap (λ (n : Naming). n.uses) c.naming_of-naming.ensures in
     let growth = c.growth_of-growth.ensures.growth ∙ (λ i. changes (c.as_slice-2.ensures i) (c.as_slice-3.ensures i) (uses_are i) before after) in
     let old = c.requires.shifted in
-    let first = (c.requires.tables.small before).shifted in
-    let second = (c.requires.tables.small after).shifted in
+    let first = (c.requires.tables.small before c.requires.step.listed).shifted in
+    let second = (c.requires.tables.small after (listed_after c.args.problem.now before c.args.choice after c.requires.step)).shifted in
     let gain_small = c.requires.tables.shifted_gains (length before) c.args.choice in
     let growth_small = c.growth_of-growth.ensures.within in
     let sum = small_sum c.args.shifted c.gain_of-gain.result c.growth_of-growth.result (shifted_part c.args.problem.now c.args.tables.now.shifts before) (shifted_part c.args.problem.now c.args.tables.now.shifts after) old (ap₂ (λ a b. a +ℤ b) gain growth ∙ step) first second (subst (IsWithin 2305843009213693952) (sym gain) gain_small) growth_small in

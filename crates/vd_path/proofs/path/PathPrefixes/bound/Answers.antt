@@ -14,7 +14,7 @@ overflow_add-result c =
     let prefix = take path.depth path.room in
     let known = path.kept.sums path.depth none (ltb-true path.depth path.valid (sym (path.kept.validity path.depth (omega arith)) ∙ c.requires)) in
     let are = subst (λ list. AreSumsOf path.problem.now path.tables.now.shifts prefix (get_or list path.depth none)) (sym c.as_slice.ensures) known in
-    (max_sum path.problem.now path.tables.now.shifts prefix (get_or c.as_slice.result.now path.depth none) c.max.result are (path.tabled.small prefix) c.max.ensures.value).0
+    (max_sum path.problem.now path.tables.now.shifts prefix (get_or c.as_slice.result.now path.depth none) c.max.result are (path.tabled.small prefix path.kept.listed) c.max.ensures.value).0
 
 pub returns : goal.returns
 returns c =
@@ -22,4 +22,4 @@ returns c =
     let prefix = take path.depth path.room in
     let known = path.kept.sums path.depth none (ltb-true path.depth path.valid (sym (path.kept.validity path.depth (omega arith)) ∙ c.requires)) in
     let are = subst (λ list. AreSumsOf path.problem.now path.tables.now.shifts prefix (get_or list path.depth none)) (sym c.as_slice.ensures) known in
-    (max_sum path.problem.now path.tables.now.shifts prefix (get_or c.as_slice.result.now path.depth none) c.max.result are (path.tabled.small prefix) c.max.ensures.value).1
+    (max_sum path.problem.now path.tables.now.shifts prefix (get_or c.as_slice.result.now path.depth none) c.max.result are (path.tabled.small prefix path.kept.listed) c.max.ensures.value).1

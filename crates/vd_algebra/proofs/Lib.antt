@@ -1,0 +1,11 @@
+pub mod Bits
+pub mod Carries
+pub mod Sums
+pub mod Comparisons
+pub mod Choices
+pub mod Computing
+pub mod Gates
+pub mod Parts
+pub mod BitProducts
+pub mod WordProducts
+pub mod Conversions

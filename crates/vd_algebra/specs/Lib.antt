@@ -1,0 +1,6 @@
+pub mod Circuits
+pub mod Computing
+pub mod Gates
+pub mod Sharing
+pub mod Products
+pub mod Conversions

@@ -1,0 +1,10 @@
+pub mod Made
+pub mod Mapped
+pub mod Telling
+pub mod Small
+pub mod Counting
+pub mod Cells
+pub mod Linking
+pub mod Placing
+pub mod Few
+pub mod Stepping

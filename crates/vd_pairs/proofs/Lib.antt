@@ -1,0 +1,13 @@
+pub mod Adds
+pub mod Deeds
+pub mod Runs
+pub mod Blocks
+pub mod Fresh
+pub mod Joined
+pub mod Parts
+pub mod PairLaws
+pub mod PairActs
+pub mod Operations
+pub mod Rooms
+pub mod Emitted
+pub mod Chains

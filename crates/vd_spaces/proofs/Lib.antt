@@ -1,0 +1,6 @@
+pub mod Positions
+pub mod Kept
+pub mod Lows
+pub mod Smalls
+pub mod Costed
+pub mod Telling

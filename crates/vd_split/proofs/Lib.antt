@@ -1,0 +1,12 @@
+pub mod Drops
+pub mod EachStatement
+pub mod Flat
+pub mod Onto
+pub mod Opening
+pub mod Picked
+pub mod Picks
+pub mod Rooms
+pub mod Steps
+pub mod Turns
+pub mod Variants
+pub mod WellMade

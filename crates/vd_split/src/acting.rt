@@ -1,0 +1,183 @@
+ghost use Rattle.std.specs.Prelude.{◌≡◌, ◌||◌};
+ghost use Rattle.std.specs.List.{list_any};
+ghost use Rattle.vd_base.specs.declared.protocols.Proto.TheVariants.{Local as AtHost};
+ghost use Rattle.vd_joint.specs.Suite.{picked, hosts_of};
+ghost use Rattle.vd_joint.specs.Emission.{right_acts_at, emission};
+ghost use Rattle.vd_split.specs.Offer.{proto_in};
+ghost use Rattle.vd_split.specs.Places.{takers, acting, guard_acts, branch_acts};
+
+use crate::protocols::Protocols;
+use crate::slots::{proto_of, stands_at};
+use crate::taking::any_takes;
+use vd_base::{HostId, Proto, SlotId};
+use vd_core::{Right, Stmt};
+
+/// Whether a host has an instruction where a word is moved to each host of a protocol.
+#[tactic(auto, using(crate::proofs::Picked::any_none, crate::proofs::Picked::any_here, crate::proofs::Picked::any_absent, crate::proofs::Picked::any_fails))]
+fn acts_in_index<P: Protocols>(protocols: &P, from: Proto, proto: Proto, host: HostId) -> bool
+    ensures { result ≡ list_any (λ k. (P.offer protocols.now).calls.moves_at from (AtHost k) host.0) (hosts_of (P.offer protocols.now).calls proto) }
+{
+    for number in 0..protocols.hosts() {
+        if stands_at(proto, HostId(number)) {
+            if protocols.moves_at(from, Proto::Local(HostId(number)), host) {
+                return true;
+            }
+        }
+    }
+    false
+}
+
+/// Whether a host has an instruction where the guard of two blocks is moved.
+#[tactic(auto, using(crate::proofs::Picked::any_none, crate::proofs::Picked::any_here, crate::proofs::Picked::any_absent, crate::proofs::Picked::any_fails))]
+fn acts_in_guard<P: Protocols>(
+    protocols: &P,
+    protos: &[Proto],
+    from: Proto,
+    then_block: &[Stmt],
+    else_block: &[Stmt],
+    host: HostId,
+) -> bool
+    ensures { result ≡ guard_acts (P.offer protocols.now).calls protos.now from then_block.now else_block.now host.0 }
+{
+    for number in 0..protocols.hosts() {
+        let takes = any_takes(protocols, protos, then_block, HostId(number))
+            || any_takes(protocols, protos, else_block, HostId(number));
+        if takes {
+            if protocols.moves_at(from, Proto::Local(HostId(number)), host) {
+                return true;
+            }
+        }
+    }
+    false
+}
+
+/// Whether a host has an instruction of a branch.
+fn acts_in_branch<P: Protocols>(
+    protocols: &P,
+    protos: &[Proto],
+    from: Proto,
+    then_block: &[Stmt],
+    else_block: &[Stmt],
+    host: HostId,
+) -> bool
+    ensures { result ≡ branch_acts (P.offer protocols.now).calls protos.now from then_block.now else_block.now host.0 }
+{
+    acts_in_guard(protocols, protos, from, then_block, else_block, host)
+        || any_takes(protocols, protos, then_block, host)
+        || any_takes(protocols, protos, else_block, host)
+}
+
+/// Whether a host has an instruction where operands are moved.
+fn acts_in_operands<P: Protocols>(
+    protocols: &P,
+    protos: &[Proto],
+    slots: &[SlotId],
+    onto: Proto,
+    host: HostId,
+) -> bool
+    ensures { result ≡ list_any (λ slot. (P.offer protocols.now).calls.moves_at (proto_in protos.now slot.0) onto host.0) slots.now }
+{
+    for slot in slots {
+        if protocols.moves_at(proto_of(protos, *slot), onto, host) {
+            return true;
+        }
+    }
+    false
+}
+
+/// Whether a host has an instruction of a right side.
+fn right_acts<P: Protocols>(
+    protocols: &P,
+    protos: &[Proto],
+    at: Proto,
+    right: &Right,
+    host: HostId,
+) -> bool
+    ensures { result ≡ right_acts_at (P.offer protocols.now).calls (proto_in protos.now) at right.now host.0 }
+{
+    match right {
+        Right::Lit(_) => stands_at(at, host),
+        Right::Turn => stands_at(at, host),
+        Right::Copy(slot) => protocols.moves_at(proto_of(protos, *slot), at, host),
+        Right::Apply(op, slots) => {
+            acts_in_operands(protocols, protos, slots.as_slice(), at, host)
+                || protocols.applies_at(*op, at, host)
+        }
+        Right::Input(from) => from.0 == host.0,
+        Right::Declassify(slot, _) => protocols.moves_at(proto_of(protos, *slot), at, host),
+        Right::Endorse(slot, _) => protocols.moves_at(proto_of(protos, *slot), at, host),
+        Right::Load(variable) => {
+            let proto = proto_of(protos, *variable);
+            stands_at(proto, host) || protocols.moves_at(proto, at, host)
+        }
+        Right::Get(array, index) => {
+            let proto = proto_of(protos, *array);
+            acts_in_index(protocols, proto_of(protos, *index), proto, host)
+                || stands_at(proto, host)
+                || protocols.moves_at(proto, at, host)
+        }
+    }
+}
+
+/// Whether a host has an instruction of a statement.
+#[cycle(acts)]
+fn acts<P: Protocols>(protocols: &P, protos: &[Proto], stmt: &Stmt, host: HostId) -> bool
+    ensures { result ≡ (emission (P.offer protocols.now).calls (proto_in protos.now) stmt.now).acts_at host.0 }
+{
+    match stmt {
+        Stmt::Let(slot, right) => right_acts(
+            protocols,
+            protos,
+            proto_of(protos, *slot),
+            right,
+            host,
+        ),
+        Stmt::NewVar(variable, slot) => {
+            let proto = proto_of(protos, *variable);
+            protocols.moves_at(proto_of(protos, *slot), proto, host) || stands_at(proto, host)
+        }
+        Stmt::NewArray(array, _) => stands_at(proto_of(protos, *array), host),
+        Stmt::Store(variable, slot) => {
+            let proto = proto_of(protos, *variable);
+            protocols.moves_at(proto_of(protos, *slot), proto, host) || stands_at(proto, host)
+        }
+        Stmt::Put(array, index, slot) => {
+            let proto = proto_of(protos, *array);
+            acts_in_index(protocols, proto_of(protos, *index), proto, host)
+                || protocols.moves_at(proto_of(protos, *slot), proto, host)
+                || stands_at(proto, host)
+        }
+        Stmt::Output(slot, at, _) => {
+            protocols.moves_at(proto_of(protos, *slot), Proto::Local(*at), host) || at.0 == host.0
+        }
+        Stmt::If(guard, then_block, else_block, _) => {
+            acts_in_branch(
+                protocols,
+                protos,
+                proto_of(protos, *guard),
+                then_block.as_slice(),
+                else_block.as_slice(),
+                host,
+            )
+        }
+        Stmt::For(_, body) => any_acts(protocols, protos, body.as_slice(), host),
+    }
+}
+
+/// Whether a host has an instruction of some of the statements.
+#[cycle(acts)]
+pub(crate) fn any_acts<P: Protocols>(
+    protocols: &P,
+    protos: &[Proto],
+    body: &[Stmt],
+    host: HostId,
+) -> bool
+    ensures { result ≡ acting (P.offer protocols.now).calls protos.now body.now host.0 }
+{
+    for stmt in body {
+        if acts(protocols, protos, stmt, host) {
+            return true;
+        }
+    }
+    false
+}

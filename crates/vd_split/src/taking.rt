@@ -1,0 +1,116 @@
+ghost use Rattle.std.specs.Prelude.{◌≡◌, IfOk};
+ghost use Rattle.std.specs.List.{list_any};
+ghost use Rattle.vd_joint.specs.Suite.{is_at};
+ghost use Rattle.vd_joint.specs.Emission.{right_takes_part, emission, block_emission};
+ghost use Rattle.vd_split.specs.Offer.{proto_in};
+ghost use Rattle.vd_split.specs.Places.{all_takers};
+
+use crate::protocols::Protocols;
+use crate::slots::{proto_of, stands_at};
+use std::alloc::AllocError;
+use vd_base::{HostId, Proto, SlotId};
+use vd_core::{Right, Stmt};
+use vd_duet::Duet;
+use vd_items::Items;
+
+/// Whether some slot stands at a host.
+fn any_stands_at(protos: &[Proto], slots: &[SlotId], host: HostId) -> bool
+    ensures { result ≡ list_any (λ slot. is_at (proto_in protos.now slot.0) host) slots.now }
+{
+    for slot in slots {
+        if stands_at(proto_of(protos, *slot), host) {
+            return true;
+        }
+    }
+    false
+}
+
+/// Whether a host takes part in a right side.
+fn right_takes<P: Protocols>(protocols: &P, protos: &[Proto], right: &Right, host: HostId) -> bool
+    ensures { result ≡ right_takes_part (P.offer protocols.now).calls (proto_in protos.now) right.now host.0 }
+{
+    match right {
+        Right::Lit(_) => false,
+        Right::Turn => false,
+        Right::Input(_) => false,
+        Right::Copy(slot) => stands_at(proto_of(protos, *slot), host),
+        Right::Declassify(slot, _) => stands_at(proto_of(protos, *slot), host),
+        Right::Endorse(slot, _) => stands_at(proto_of(protos, *slot), host),
+        Right::Load(slot) => stands_at(proto_of(protos, *slot), host),
+        Right::Apply(_, slots) => any_stands_at(protos, slots.as_slice(), host),
+        Right::Get(array, index) => {
+            stands_at(proto_of(protos, *array), host) || stands_at(proto_of(protos, *index), host)
+        }
+    }
+}
+
+/// Whether a host takes part in a statement.
+#[cycle(takes)]
+fn takes<P: Protocols>(protocols: &P, protos: &[Proto], stmt: &Stmt, host: HostId) -> bool
+    ensures { result ≡ (emission (P.offer protocols.now).calls (proto_in protos.now) stmt.now).takes_part host.0 }
+{
+    match stmt {
+        Stmt::Let(slot, right) => {
+            stands_at(proto_of(protos, *slot), host) || right_takes(protocols, protos, right, host)
+        }
+        Stmt::NewVar(variable, slot) => {
+            stands_at(proto_of(protos, *variable), host) || stands_at(proto_of(protos, *slot), host)
+        }
+        Stmt::NewArray(array, _) => stands_at(proto_of(protos, *array), host),
+        Stmt::Store(variable, slot) => {
+            stands_at(proto_of(protos, *variable), host) || stands_at(proto_of(protos, *slot), host)
+        }
+        Stmt::Put(array, index, slot) => {
+            stands_at(proto_of(protos, *array), host)
+                || stands_at(proto_of(protos, *index), host)
+                || stands_at(proto_of(protos, *slot), host)
+        }
+        Stmt::Output(slot, at, _) => at.0 == host.0 || stands_at(proto_of(protos, *slot), host),
+        Stmt::If(guard, then_block, else_block, _) => {
+            stands_at(proto_of(protos, *guard), host)
+                || any_takes(protocols, protos, then_block.as_slice(), host)
+                || any_takes(protocols, protos, else_block.as_slice(), host)
+        }
+        Stmt::For(_, body) => any_takes(protocols, protos, body.as_slice(), host),
+    }
+}
+
+/// Whether a host takes part in some of the statements.
+#[cycle(takes)]
+pub(crate) fn any_takes<P: Protocols>(
+    protocols: &P,
+    protos: &[Proto],
+    body: &[Stmt],
+    host: HostId,
+) -> bool
+    ensures { result ≡ (block_emission (P.offer protocols.now).calls (proto_in protos.now) body.now).takes_part host.0 }
+{
+    for stmt in body {
+        if takes(protocols, protos, stmt, host) {
+            return true;
+        }
+    }
+    false
+}
+
+/// The hosts that take part in either of two blocks, in order.
+#[tactic(auto, using(crate::proofs::Picked::picked_yes, crate::proofs::Picked::picked_no, crate::proofs::Picked::picked_none))]
+pub(crate) fn takers_of<P: Protocols>(
+    protocols: &P,
+    protos: &[Proto],
+    then_block: &[Stmt],
+    else_block: &[Stmt],
+    to: &Duet,
+) -> Result<Items<HostId>, AllocError>
+    ensures { let s = (P.offer protocols.now).calls in IfOk result (λ hosts. hosts ≡ all_takers s protos.now then_block.now else_block.now) }
+{
+    let mut hosts = Items::new(to.alloc());
+    for number in 0..protocols.hosts() {
+        let takes = any_takes(protocols, protos, then_block, HostId(number))
+            || any_takes(protocols, protos, else_block, HostId(number));
+        if takes {
+            hosts.push(HostId(number))?;
+        }
+    }
+    Ok(hosts)
+}

@@ -1,0 +1,8 @@
+use Rattle.vd_suite.proofs.Whole.{code_tells_the_same, code_runs_well}
+use Rattle.vd_suite.proofs.code_tells_the_same.Goals as goal
+
+pub returns-clause-tells : goal.returns-clause-tells
+returns-clause-tells c = code_tells_the_same
+
+pub returns-clause-runs_well : goal.returns-clause-runs_well
+returns-clause-runs_well c = code_runs_well

@@ -1,0 +1,61 @@
+-- The suite of all protocols: what the parts of a slot stand for, what can stand where, and which protocols join.
+use Rattle.std.specs.Prelude.{◌≡◌, ℕ, ◌+◌, ◌<◌, Bool, ◌&&◌, is_some, List, [], ◌∷◌, length, map, slice_index}
+use Rattle.vd_base.specs.declared.protocols.Proto.{Proto}
+use Rattle.vd_base.specs.declared.rows.Row.{Row}
+use Rattle.vd_base.specs.Costs.{cost_at}
+use Rattle.vd_base.specs.Moves.{move_at}
+use Rattle.vd_execution.specs.Registers.{nth}
+use Rattle.vd_execution.specs.Step.{Inputs}
+use Rattle.vd_execution.specs.World.{Tape}
+use Rattle.vd_execution.specs.Joint.{Hosts}
+use Rattle.vd_execution.specs.Text.{register}
+use Rattle.vd_duet.specs.Calls.{Places, hosts_of, holders, Stand}
+use Rattle.vd_duet.specs.Laws.{Each, IsIn, IsHost, words_at}
+use Rattle.vd_joint.specs.Suite.{Suite, Content, Word, Cells}
+use Rattle.vd_suite.specs.Machine.{machine}
+use Rattle.vd_suite.specs.Parts.{Parts, is_built, suite_calls}
+
+-- the registers of a slot's cell at all hosts
+abbrev pub cell : ℕ → Places → Places
+cell i x = map (λ q. (q.0, register (q.1.0 + i))) x
+
+-- a register of a host is one of the slot's
+abbrev pub Names : Parts → ℕ → ℕ → Type 0
+Names x h r = (i : ℕ) × (i < x.size) × IsIn (cell i x.at) h r
+
+-- at the hosts of the protocol, each cell stands for its word
+pub record StandForCells (w : Hosts) (p : Proto) (x : Parts) (vs : List ℕ) : Type 0 where
+  pub size : x.size ≡ length vs
+  pub at : hosts_of x.at ≡ holders p
+  pub cells : (i : ℕ) → i < x.size → Stand p (words_at w (cell i x.at)) (slice_index vs i)
+
+abbrev pub stands : Hosts → Proto → Parts → Content → Type 0
+stands w p x (Word v) = StandForCells w p x (v ∷ [])
+stands w p x (Cells vs) = StandForCells w p x vs
+
+-- the protocol has a host, and its hosts are among the first ones
+pub record IsOver (hosts : ℕ) (p : Proto) : Type 0 where
+  pub some : (h : ℕ) × IsHost (holders p) h
+  pub known : Each (λ h. h.0 < hosts) (holders p)
+
+-- the tables, as far as back ends are built
+abbrev pub holds : Row → Proto → Bool
+holds row p = is_built p && is_some (cost_at row p)
+
+abbrev pub joins : Proto → Proto → Bool
+joins p q = is_built p && is_built q && is_some (move_at p q)
+
+abbrev pub suite : (t : Tape) (inputs : ℕ → List ℕ) → ℕ → Suite (machine t inputs)
+suite t inputs hosts = record {
+  Parts = Parts;
+  calls = suite_calls hosts;
+  Names = Names;
+  Stands = stands;
+  Declared = IsOver hosts;
+  holds = holds;
+  joins = joins;
+}
+
+-- the inputs that each host is given are these, followed by zeros
+abbrev pub AreGiven : (ℕ → List ℕ) → Tape → Type 0
+AreGiven inputs t = (h i : ℕ) → nth (t h Inputs i) 0 ≡ slice_index (inputs h) i

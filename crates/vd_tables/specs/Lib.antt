@@ -1,0 +1,5 @@
+pub mod Values
+pub mod Charges
+pub mod Gains
+pub mod Start
+pub mod Parts

@@ -1,0 +1,11 @@
+pub mod Loops
+pub mod Sums
+pub mod Numbers
+pub mod Burden
+pub mod Tables
+pub mod Steps
+pub mod Walk
+pub mod Costs
+pub mod Few
+pub mod Handing
+pub mod Rounds

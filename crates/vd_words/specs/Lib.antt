@@ -1,0 +1,3 @@
+pub mod AddCalls
+pub mod Law
+pub mod Example
