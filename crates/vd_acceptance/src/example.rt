@@ -31,6 +31,10 @@ pub struct Example {
     failing_out: Items<u64>,
     failing_err: Items<u64>,
     most: u32,
+    /// Whether the example goes on with the files that the one before left.
+    pub keeps: bool,
+    /// Whether the contents of stored files are left out.
+    pub quiet: bool,
 }
 
 /// What a run leaves.
@@ -53,6 +57,8 @@ impl Example {
             failing_out: Items::new(alloc),
             failing_err: Items::new(alloc),
             most: 65_536,
+            keeps: false,
+            quiet: false,
         })
     }
 
@@ -81,6 +87,8 @@ impl Example {
             "words" => self.add_words(rest)?,
             "file" => self.files.push(Stored::copy_of(alloc, rest, b"")?)?,
             "most" => self.most = number(rest).max(1),
+            "keep" => self.keeps = true,
+            "quiet" => self.quiet = true,
             "fail" => return self.fail(rest),
             _ => return Ok(false),
         }
@@ -120,6 +128,11 @@ impl Example {
             _ => return Ok(false),
         }
         Ok(true)
+    }
+
+    /// Adds files that stand there.
+    pub fn add_files(&mut self, files: Items<Stored>) -> Result<(), AllocError> {
+        self.files.append(files)
     }
 
     /// Runs the words over the files.

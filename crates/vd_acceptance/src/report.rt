@@ -42,8 +42,13 @@ fn print_content<W: Write>(to: &mut W, files: &[Stored], name: &str) -> io::Resu
     Ok(())
 }
 
-/// Prints a call of the files; of a store what stands there then.
-fn print_call<W: Write>(to: &mut W, files: &[Stored], call: &FilesCall) -> io::Result<()> {
+/// Prints a call of the files; of a store what stands there then, unless that is left out.
+fn print_call<W: Write>(
+    to: &mut W,
+    files: &[Stored],
+    call: &FilesCall,
+    quiet: bool,
+) -> io::Result<()> {
     match call {
         FilesCall::Fetch(name) => {
             to.write_all(b"fetch ")?;
@@ -54,13 +59,16 @@ fn print_call<W: Write>(to: &mut W, files: &[Stored], call: &FilesCall) -> io::R
             to.write_all(b"store ")?;
             to.write_all(name.as_str().as_bytes())?;
             to.write_all(b"\n")?;
+            if quiet {
+                return Ok(());
+            }
             print_content(to, files, name.as_str())
         }
     }
 }
 
 /// Prints the status of a run, what was written to its streams, and the calls of its files.
-pub fn report<W: Write>(to: &mut W, name: &str, left: &Left) -> io::Result<()> {
+pub fn report<W: Write>(to: &mut W, name: &str, left: &Left, quiet: bool) -> io::Result<()> {
     let code = left.code;
     to.write_all(b"case ")?;
     to.write_all(name.as_bytes())?;
@@ -68,7 +76,7 @@ pub fn report<W: Write>(to: &mut W, name: &str, left: &Left) -> io::Result<()> {
     print_stream(to, b"out\n", left.out.as_slice())?;
     print_stream(to, b"err\n", left.err.as_slice())?;
     for call in left.asked.as_slice() {
-        print_call(to, left.files.as_slice(), call)?;
+        print_call(to, left.files.as_slice(), call, quiet)?;
     }
     to.write_all(b"\n")
 }

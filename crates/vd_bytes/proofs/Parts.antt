@@ -11,7 +11,8 @@ pub bind_assoc : {A B C : Type 0} (r : Reading A) (f : A × List ℕ → Reading
 bind_assoc (Ok x) f g = refl
 bind_assoc (Err left) f g = refl
 
-first_append : (xs more left : List ℕ) → first more ≡ first left → first (xs ++ more) ≡ first (xs ++ left)
+-- the first byte of what was taken and what is behind it
+pub first_append : (xs more left : List ℕ) → first more ≡ first left → first (xs ++ more) ≡ first (xs ++ left)
 first_append [] more left e = e
 first_append (x ∷ xs) more left e = refl
 
@@ -89,7 +90,7 @@ regrouped : {A X : Type 0} (BehindPart : List ℕ → Type 0) (FitsPart : A → 
 regrouped BehindPart FitsPart part Behind Fits text left pick picks x behind fits =
     ap (λ bs. bs ++ behind) (picks.split x fits) ∙ append_assoc (part (pick x)) (left x) behind
 
-stopped_first : {A X : Type 0} (BehindPart : List ℕ → Type 0) (FitsPart : A → Type 0) (part : A → List ℕ) (Behind : List ℕ → Type 0) (Fits : X → Type 0) (text left : X → List ℕ) (pick : X → A) → Picks BehindPart FitsPart part Behind Fits text left pick
+pub stopped_first : {A X : Type 0} (BehindPart : List ℕ → Type 0) (FitsPart : A → Type 0) (part : A → List ℕ) (Behind : List ℕ → Type 0) (Fits : X → Type 0) (text left : X → List ℕ) (pick : X → A) → Picks BehindPart FitsPart part Behind Fits text left pick
     → (bytes over : List ℕ) → Stops BehindPart FitsPart part bytes over → Stops Behind Fits text bytes over
 stopped_first BehindPart FitsPart part Behind Fits text left pick picks bytes over stops =
     let x = picks.some stops.begun stops.fits in
@@ -139,7 +140,8 @@ spelled_later BehindPart FitsPart part Behind Fits text left pick picks bytes a 
           rest.only y behind more (h, same.0) k same.1 f;
     }
 
-later : {A X : Type 0} (BehindPart : List ℕ → Type 0) (FitsPart : A → Type 0) (part : A → List ℕ) (Behind : List ℕ → Type 0) (Fits : X → Type 0) (text left : X → List ℕ) (pick : X → A) → Picks BehindPart FitsPart part Behind Fits text left pick
+-- so does what is read behind a part
+pub later : {A X : Type 0} (BehindPart : List ℕ → Type 0) (FitsPart : A → Type 0) (part : A → List ℕ) (Behind : List ℕ → Type 0) (Fits : X → Type 0) (text left : X → List ℕ) (pick : X → A) → Picks BehindPart FitsPart part Behind Fits text left pick
     → (bytes : List ℕ) (a : A) (mid : List ℕ) → Spells BehindPart FitsPart part bytes a mid → (r : Reading X) → IsExact Behind (λ x. Fits x × (pick x ≡ a)) left mid r → IsExact Behind Fits text bytes r
 later BehindPart FitsPart part Behind Fits text left pick picks bytes a mid spells (Ok x) exact = spelled_later BehindPart FitsPart part Behind Fits text left pick picks bytes a mid spells x.0 x.1 exact
 later BehindPart FitsPart part Behind Fits text left pick picks bytes a mid spells (Err over) exact = stopped_later BehindPart FitsPart part Behind Fits text left pick picks bytes a mid spells over exact

@@ -7,7 +7,7 @@ ghost use Rattle.vd_duet.specs.Laws.{AreKnown};
 ghost use Rattle.vd_clear.specs.Copies.{clear_calls, renewed, spread_to};
 
 use crate::apply::Apply;
-use crate::each::each;
+use crate::each::each_host;
 use crate::registers::register_at;
 use crate::show::show;
 use crate::steps::{Adopt, Keep, Literal, Share, Show};
@@ -52,15 +52,15 @@ impl Backend for LocalHost {
     }
 
     fn literal(&self, word: u32, to: &mut Duet) -> Result<Parts<Clear>, AllocError> {
-        each(&[self.0], &Literal(word), to)
+        each_host(&[self.0], &Literal(word), to)
     }
 
     fn share(&self, from: HostId, x: Reg, to: &mut Duet) -> Result<Parts<Clear>, AllocError> {
-        each(&[self.0], &Share(from, x), to)
+        each_host(&[self.0], &Share(from, x), to)
     }
 
     fn adopt(&self, x: &Parts<Clear>, to: &mut Duet) -> Result<Parts<Clear>, AllocError> {
-        each(&[self.0], &Adopt(x), to)
+        each_host(&[self.0], &Adopt(x), to)
     }
 
     fn show(&self, x: &Parts<Clear>, at: HostId, to: &mut Duet) -> Result<Clear, AllocError> {
@@ -72,7 +72,7 @@ impl Backend for LocalHost {
     }
 
     fn keep(&self, x: &Parts<Clear>, to: &mut Duet) -> Result<Parts<Clear>, AllocError> {
-        each(&[self.0], &Keep(x), to)
+        each_host(&[self.0], &Keep(x), to)
     }
 
     fn renew(
@@ -85,13 +85,13 @@ impl Backend for LocalHost {
     }
 
     fn apply(&self, op: Op, args: &Args<Clear>, to: &mut Duet) -> Result<Parts<Clear>, AllocError> {
-        each(&[self.0], &Apply(op, args), to)
+        each_host(&[self.0], &Apply(op, args), to)
     }
 }
 
 /// The hosts of a set, in order.
 #[tactic(auto, using(crate::proofs::Members::few_hosts))]
-fn members(set: HostSet, alloc: Global) -> Result<Items<HostId>, AllocError>
+pub fn hosts_in(set: HostSet, alloc: Global) -> Result<Items<HostId>, AllocError>
     ensures exact { IfOk result (λ hosts. hosts ≡ members_of 8 set) }
     ensures few { IfOk result (λ hosts. length hosts ≤ 8) }
 {
@@ -121,18 +121,18 @@ impl Backend for Replica {
     }
 
     fn literal(&self, word: u32, to: &mut Duet) -> Result<Parts<Clear>, AllocError> {
-        let hosts = members(self.0, to.alloc())?;
-        each(hosts.as_slice(), &Literal(word), to)
+        let hosts = hosts_in(self.0, to.alloc())?;
+        each_host(hosts.as_slice(), &Literal(word), to)
     }
 
     fn share(&self, from: HostId, x: Reg, to: &mut Duet) -> Result<Parts<Clear>, AllocError> {
-        let hosts = members(self.0, to.alloc())?;
-        each(hosts.as_slice(), &Share(from, x), to)
+        let hosts = hosts_in(self.0, to.alloc())?;
+        each_host(hosts.as_slice(), &Share(from, x), to)
     }
 
     fn adopt(&self, x: &Parts<Clear>, to: &mut Duet) -> Result<Parts<Clear>, AllocError> {
-        let hosts = members(self.0, to.alloc())?;
-        each(hosts.as_slice(), &Adopt(x), to)
+        let hosts = hosts_in(self.0, to.alloc())?;
+        each_host(hosts.as_slice(), &Adopt(x), to)
     }
 
     fn show(&self, x: &Parts<Clear>, at: HostId, to: &mut Duet) -> Result<Clear, AllocError> {
@@ -144,8 +144,8 @@ impl Backend for Replica {
     }
 
     fn keep(&self, x: &Parts<Clear>, to: &mut Duet) -> Result<Parts<Clear>, AllocError> {
-        let hosts = members(self.0, to.alloc())?;
-        each(hosts.as_slice(), &Keep(x), to)
+        let hosts = hosts_in(self.0, to.alloc())?;
+        each_host(hosts.as_slice(), &Keep(x), to)
     }
 
     fn renew(
@@ -158,8 +158,8 @@ impl Backend for Replica {
     }
 
     fn apply(&self, op: Op, args: &Args<Clear>, to: &mut Duet) -> Result<Parts<Clear>, AllocError> {
-        let hosts = members(self.0, to.alloc())?;
-        each(hosts.as_slice(), &Apply(op, args), to)
+        let hosts = hosts_in(self.0, to.alloc())?;
+        each_host(hosts.as_slice(), &Apply(op, args), to)
     }
 }
 
@@ -178,6 +178,6 @@ pub fn spread(
     ensures hosts { IfOk result (λ y. hosts_of (in_clear y) ≡ holders (proto.Rep to)) }
     ensures few { OnOk result (TakesFew code.old.next code.new.next) }
 {
-    let hosts = members(to, code.alloc())?;
-    each(hosts.as_slice(), &Show(x), code)
+    let hosts = hosts_in(to, code.alloc())?;
+    each_host(hosts.as_slice(), &Show(x), code)
 }

@@ -13,11 +13,12 @@ use vd_execution::Reg;
 use vd_items::Items;
 
 /// What each of some hosts does to have its copy of a word.
-pub(crate) trait Step {
+pub trait Step {
     ghost made: { Self → Host → List ℕ → Made Register };
 
     ghost is_small: { Self → Type 0 };
 
+    /// The step of a host: the register of its copy.
     fn at(&self, host: HostId, to: &mut Duet) -> Result<Reg, AllocError>
         requires small { is_small self.now }
         requires known { host.0 < length to.old.next }
@@ -28,7 +29,7 @@ pub(crate) trait Step {
 
 /// Each of these hosts takes the step, in order.
 #[tactic(auto, using(crate::proofs::Loops::behind_end))]
-pub(crate) fn each<S: Step>(
+pub fn each_host<S: Step>(
     hosts: &[HostId],
     step: &S,
     to: &mut Duet,

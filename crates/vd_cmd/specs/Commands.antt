@@ -1,11 +1,12 @@
 -- The forms of a command line.
 use Rattle.std.specs.Prelude.{◌≡◌, ◌↔◌, ◌<◌, ◌≤◌, ℕ, ◌-◌, ◌^◌, List, [], ◌∷◌, Option, Some, None, Result, Err, IfOk, if◌then◌else◌, codes}
 use Rattle.std.specs.Str.{bytes_eq}
-use Rattle.vd_base.specs.Limits.{most_hosts, most_deal_items}
+use Rattle.vd_base.specs.Limits.{most_hosts, most_deal_items, most_search_budget}
 use Rattle.vd_deals.specs.declared.deal.Counts.{Counts}
+use Rattle.vd_gen.specs.Sizes.{most_coordinates}
 use Rattle.vd_cmd.specs.Numbers.{number_within}
 use Rattle.vd_cmd.specs.declared.command.Command.{Command}
-use Rattle.vd_cmd.specs.declared.command.Command.TheVariants.{Clear, Labels, Deal}
+use Rattle.vd_cmd.specs.declared.command.Command.TheVariants.{Clear, Labels, Choose, Certify, Deal, Gen}
 use Rattle.vd_cmd.specs.declared.command.CommandFault.{CommandFault}
 use Rattle.vd_cmd.specs.declared.command.CommandFault.TheVariants.{Usage}
 
@@ -25,10 +26,26 @@ abbrev pub deal_of : Option Counts → Option ℕ → List ℕ → Option Comman
 deal_of (Some counts) (Some key) prefix = Some (Deal counts key prefix)
 deal_of counts key prefix = None
 
+abbrev pub gen_of : Option ℕ → Option Command
+gen_of (Some coordinates) = Some (Gen coordinates)
+gen_of None = None
+
+abbrev pub choose_of : List ℕ → Option ℕ → Option Command
+choose_of source (Some budget) = Some (Choose source budget)
+choose_of source None = None
+
 -- the command that the words are, if they have a form
 abbrev pub form_of : List (List ℕ) → Option Command
-form_of (word ∷ source ∷ []) = if bytes_eq word (codes "labels") then Some (Labels source) else None
-form_of (word ∷ source ∷ inputs ∷ []) = if bytes_eq word (codes "clear") then Some (Clear source inputs) else None
+form_of (word ∷ argument ∷ []) =
+    if bytes_eq word (codes "labels") then Some (Labels argument)
+    else if bytes_eq word (codes "choose") then Some (Choose argument most_search_budget)
+    else if bytes_eq word (codes "gen") then gen_of (number_within 1 most_coordinates argument)
+    else None
+form_of (word ∷ source ∷ other ∷ []) =
+    if bytes_eq word (codes "clear") then Some (Clear source other)
+    else if bytes_eq word (codes "certify") then Some (Certify source other)
+    else if bytes_eq word (codes "choose") then choose_of source (number_within 1 most_search_budget other)
+    else None
 form_of (word ∷ hosts ∷ own ∷ muls ∷ ands ∷ pairs ∷ key ∷ prefix ∷ []) =
     if bytes_eq word (codes "deal")
     then deal_of (counts_in hosts own muls ands pairs) (number_within 0 (2 ^ 64 - 1) key) prefix
@@ -44,9 +61,17 @@ pub record AreWithin (counts : Counts) : Type 0 where
   pub ands : counts.ands ≤ most_deal_items
   pub pairs : counts.pairs ≤ most_deal_items
 
+abbrev pub IsSize : ℕ → Type 0
+IsSize coordinates = (1 ≤ coordinates) × (coordinates ≤ most_coordinates)
+
+abbrev pub IsBudget : ℕ → Type 0
+IsBudget budget = (1 ≤ budget) × (budget ≤ most_search_budget)
+
 -- what the numbers of a command keep
 abbrev pub KeepsLimits : Command → Type 0
 KeepsLimits (Deal counts key prefix) = AreWithin counts
+KeepsLimits (Gen coordinates) = IsSize coordinates
+KeepsLimits (Choose source budget) = IsBudget budget
 KeepsLimits command = Unit {0}
 
 -- The answer to words of this form: the command, and a fault of usage exactly where there is none.

@@ -8,19 +8,24 @@ use vd_base::Texts;
 
 /// The text of `--help`.
 const HELP: &str =
-    "Viaduct reads one program over several hosts' secrets: it runs it in clear, and finds its least labels. It makes the
-dealer's files of correlated words.
+    "Viaduct reads one program over several hosts' secrets: it runs it in clear, finds its least labels, and chooses
+the cheapest protocols for it. It makes the dealer's files of correlated words.
 
 usage:
   viaduct clear SOURCE INPUTS   run SOURCE in clear on one machine, and print each host's words
   viaduct labels SOURCE         print the least label of each slot of SOURCE's let-normal form
+  viaduct choose SOURCE [BUDGET]
+                                print the cheapest protocol of each slot, and store SOURCE.cert, which shows that;
+                                the search opens at most BUDGET prefixes, 1 to 200000
+  viaduct certify SOURCE CERT   print what the certificate CERT shows: the least cost, or that there is none
   viaduct deal HOSTS OWN MULS ANDS PAIRS KEY PREFIX
                                 store PREFIX.i.deal for each host i: OWN own words, and with each other host
                                 MULS and ANDS products and PAIRS pairs, all made from the number KEY
+  viaduct gen N                 print a source of N coordinates, 1 to 100: whether two hosts' points are near
   viaduct --help                print this text
   viaduct --version             print the version
 
-SOURCE and INPUTS are files. A run that does not end well writes a line that begins
+SOURCE, INPUTS and CERT are files. A run that does not end well writes a line that begins
 'viaduct: ' to standard error, and ends with the status that belongs to it.
 ";
 

@@ -1,6 +1,8 @@
 //! The command `labels`.
 
-ghost use Rattle.std.specs.Prelude.{◌≡◌, true, []};
+ghost use Rattle.std.specs.Prelude.{◌≡◌, true, [], IfOk};
+ghost use Rattle.vd_constraints.specs.Rules.{system_of};
+ghost use Rattle.vd_constraints.specs.Satisfies.{IsLeast};
 ghost use Rattle.vd_outside.specs.Files.{FilesView};
 ghost use Rattle.vd_plan.specs.Plans.{Checks, Computes, Executes, ended};
 ghost use Rattle.vd_frontend.specs.Outcomes.{LabelOutcomes};
@@ -20,7 +22,8 @@ use vd_solver::{SolveFault, solve};
 
 /// The least labels of a program, or the first check that fails.
 pub fn least_labels(alloc: Global, program: &Program) -> Result<Labels, Status>
-    ensures { (least : LabelOutcomes) → Checks (labels_of least program.now) result }
+    ensures checks { (least : LabelOutcomes) → Checks (labels_of least program.now) result }
+    ensures least { IfOk result (IsLeast (system_of program.now)) }
 {
     let system = constraints(alloc, program)?;
     let checks = system.checks();

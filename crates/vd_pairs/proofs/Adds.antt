@@ -27,7 +27,7 @@ kept_by_all w h new k f e =
       | no d ↦ ap f (put_other w h new k d)
     ]
 
-put_adds : (h from : ℕ) (ws : List ℕ) (new : Host) (u : Hosts) → ((i : ℕ) → i < length ws → new.registers (from + i) ≡ nth ws i)
+pub put_adds : (h from : ℕ) (ws : List ℕ) (new : Host) (u : Hosts) → ((i : ℕ) → i < length ws → new.registers (from + i) ≡ nth ws i)
     → ((r : ℕ) → r < from → new.registers r ≡ (u h).registers r) → new.printed ≡ (u h).printed → new.cursors Inputs ≡ (u h).cursors Inputs
     → Adds h from ws u (put u h new)
 put_adds h from ws new u there below printed inputs = record {
@@ -123,7 +123,7 @@ module _ (a : ℕ) (said : List Reg) (b : ℕ) (heard : List Reg) (u : Hosts) (a
   pub msg_cursors : (k : ℕ) (s : Source) → (after_msg a said b heard u k).cursors s ≡ (u k).cursors s
   msg_cursors k s = kept_in_message k (λ (x : Host). x.cursors s) refl refl
 
-  msg_adds : (from : ℕ) (ws : List ℕ) → ((i : ℕ) → i < length ws → hears.registers (from + i) ≡ nth ws i)
+  pub msg_adds : (from : ℕ) (ws : List ℕ) → ((i : ℕ) → i < length ws → hears.registers (from + i) ≡ nth ws i)
       → ((r : ℕ) → r < from → hears.registers r ≡ (u b).registers r) → Adds b from ws u (after_msg a said b heard u)
   msg_adds from ws there below = record {
     there = λ i low. ap (λ (s : Host). s.registers (from + i)) (put_same (put u a speaks) b hears) ∙ there i low;

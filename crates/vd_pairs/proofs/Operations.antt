@@ -35,7 +35,7 @@ product_part s d e a b c = joined s (joined s (multiplied s d b) c) (multiplied 
 
 -- the two parts of a product join to the product
 abbrev pub ItemsMultiply : Sharing → Type 0
-ItemsMultiply s = (x0 x1 y0 y1 a0 a1 b0 b1 c0 c1 : ℕ) → a0 < 2 ^ 32 → a1 < 2 ^ 32 → b0 < 2 ^ 32 → b1 < 2 ^ 32 → IsItem s a0 a1 b0 b1 c0 c1
+ItemsMultiply s = (x0 x1 y0 y1 a0 a1 b0 b1 c0 c1 : ℕ) → a0 < 2 ^ 32 → a1 < 2 ^ 32 → b0 < 2 ^ 32 → b1 < 2 ^ 32 → c0 < 2 ^ 32 → c1 < 2 ^ 32 → IsItem s a0 a1 b0 b1 c0 c1
     → let d : ℕ = joined s (hidden s x0 a0) (hidden s x1 a1) in
     let e : ℕ = joined s (hidden s y0 b0) (hidden s y1 b1) in
     let d' : ℕ = joined s (hidden s x1 a1) (hidden s x0 a0) in
@@ -115,5 +115,5 @@ module _ (s : Sharing) (a b : HostId) (apart : a.0 ≢ b.0) (serves : Op → Boo
       (λ r h. stands_by a b serves apply s r (register (slice_index next a.0 + 14)) (register (slice_index next b.0 + 12)) (multiplied s u v)
       (ap₂ (joined s) h.0 h.1.0
       ∙ law (word_first x) (word_second x) (word_first y) (word_second y) (item x y First 0) (item x y Second 0) (item x y First 1) (item x y Second 1)
-      (item x y First 2) (item x y Second 2) (item_small x y First 0) (item_small x y Second 0) (item_small x y First 1) (item_small x y Second 1) (item_meets s x y)
+      (item x y First 2) (item x y Second 2) (item_small x y First 0) (item_small x y Second 0) (item_small x y First 1) (item_small x y Second 1) (item_small x y First 2) (item_small x y Second 2) (item_meets s x y)
       ∙ ap₂ (multiplied s) p.word q.word))

@@ -1,5 +1,5 @@
 -- The calls of two hosts that share words. Where both take fresh registers, the first host's come first.
-use Rattle.std.specs.Prelude.{ℕ, zero, suc, ◌+◌, nat_eq, Bool, if◌then◌else◌, List, [], ◌∷◌, ◌++◌, slice_index}
+use Rattle.std.specs.Prelude.{ℕ, zero, suc, ◌+◌, ◌<◌, nat_eq, Bool, if◌then◌else◌, List, [], ◌∷◌, ◌++◌, slice_index}
 use Rattle.vd_base.specs.declared.ids.HostId.{HostId}
 use Rattle.vd_base.specs.declared.operations.Op.{Op}
 use Rattle.vd_execution.specs.declared.instructions.Reg.{Reg}
@@ -19,6 +19,14 @@ use Rattle.vd_pairs.specs.Sharings.{shared_by, join, multiply}
 -- the registers of two parts
 abbrev pub two : ℕ → ℕ → Shares
 two r q = record { first = register r; second = register q }
+
+-- the next free registers are below a number
+abbrev pub AreUnder : ℕ → List ℕ → Type 0
+AreUnder bound next = (h : ℕ) → slice_index next h < bound
+
+-- so far below 2^32 that fresh registers have numbers
+abbrev pub AreLow : List ℕ → Type 0
+AreLow next = AreUnder 4000000000 next
 
 -- both hosts take fresh registers, i of the first and j of the second, beginning at n and at m
 abbrev pub fresh_at : {X : Type 0} → HostId → ℕ → HostId → ℕ → (ℕ → ℕ → X) → (ℕ → ℕ → List Gadget) → List ℕ → Made X

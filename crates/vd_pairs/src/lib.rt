@@ -5,5 +5,5 @@ mod pair;
 mod product;
 mod shares;
 
-pub use pair::Pair;
+pub use pair::{Pair, tell};
 pub use shares::{Shares, Sharing};

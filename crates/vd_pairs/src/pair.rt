@@ -1,10 +1,10 @@
 ghost use Rattle.std.specs.Prelude.{◌≡◌, ◌<◌, ◌≤◌, ◌+◌, ◌∷◌, [], IfOk, OnOk, length, slice_index};
-ghost use Rattle.vd_duet.specs.Builder.{HasRoom, TakesFew, added};
+ghost use Rattle.vd_duet.specs.Builder.{TakesAtMost, added};
 ghost use Rattle.vd_duet.specs.Calls.{Makes, appended, in_clear};
 ghost use Rattle.vd_duet.specs.Laws.{AreKnown};
 ghost use Rattle.vd_execution.specs.declared.instructions.Act.TheVariants as act;
 ghost use Rattle.vd_pairs.specs.Sharings.{sharing_of};
-ghost use Rattle.vd_pairs.specs.PairCalls.{reserved_both, literal_shares, split_off, exchanged, shared_from, adopted_shares, opened_by, shown_at, shown_to_both, kept_shares, renewed_shares, applied_shares, numbered_shares};
+ghost use Rattle.vd_pairs.specs.PairCalls.{AreLow, reserved_both, literal_shares, split_off, exchanged, shared_from, adopted_shares, opened_by, shown_at, shown_to_both, kept_shares, renewed_shares, applied_shares, numbered_shares};
 
 use crate::shares::{Shares, Sharing};
 use std::alloc::AllocError;
@@ -23,7 +23,13 @@ pub struct Pair {
 }
 
 /// A host tells another the word of a register.
-fn tell(from: HostId, said: Reg, to: HostId, heard: Reg, code: &mut Duet) -> Result<(), AllocError>
+pub fn tell(
+    from: HostId,
+    said: Reg,
+    to: HostId,
+    heard: Reg,
+    code: &mut Duet,
+) -> Result<(), AllocError>
     ensures { OnOk result (code.new ≡ added (act.Msg from (said ∷ []) to (heard ∷ [])) code.old) }
 {
     let words = Items::from_slice(code.alloc(), &[said])?;
@@ -34,15 +40,15 @@ fn tell(from: HostId, said: Reg, to: HostId, heard: Reg, code: &mut Duet) -> Res
 impl Pair {
     /// The first of some fresh registers of each host.
     #[tactic(auto, using(crate::proofs::Rooms::both_few))]
-    pub(crate) fn reserve(&self, first: u32, second: u32, to: &mut Duet) -> Shares
+    pub fn reserve(&self, first: u32, second: u32, to: &mut Duet) -> Shares
         requires known { AreKnown (self.now.first ∷ self.now.second ∷ []) to.old.next }
-        requires room { HasRoom 0 to.old.next }
+        requires room { AreLow to.old.next }
         requires few_first { first ≤ 16 }
         requires few_second { second ≤ 16 }
         ensures exact { (result, to.new) ≡ reserved_both self.now.first first self.now.second second to.old }
-        ensures low_first { result.first.0 < 3000000016 }
-        ensures low_second { result.second.0 < 3000000016 }
-        ensures few { TakesFew to.old.next to.new.next }
+        ensures low_first { result.first.0 < 4000000016 }
+        ensures low_second { result.second.0 < 4000000016 }
+        ensures few { TakesAtMost 32 to.old.next to.new.next }
     {
         Shares {
             first: to.reserve(self.first, first),
@@ -53,9 +59,9 @@ impl Pair {
     /// A number: the first host has it, and the second 0.
     pub fn literal(&self, word: u32, to: &mut Duet) -> Result<Shares, AllocError>
         requires known { AreKnown (self.now.first ∷ self.now.second ∷ []) to.old.next }
-        requires room { HasRoom 0 to.old.next }
+        requires room { AreLow to.old.next }
         ensures exact { IfOk result (λ x. Makes (literal_shares self.now.first self.now.second word) to.old x to.new) }
-        ensures few { OnOk result (TakesFew to.old.next to.new.next) }
+        ensures few { OnOk result (TakesAtMost 32 to.old.next to.new.next) }
     {
         let at = self.reserve(1, 1, to);
         to.add(Act::Do(self.first, Action::Const(at.first, word)))?;
@@ -66,9 +72,9 @@ impl Pair {
     /// The move of a word from one of the two hosts, which has it in clear.
     pub fn share(&self, from: HostId, x: Reg, to: &mut Duet) -> Result<Shares, AllocError>
         requires known { AreKnown (self.now.first ∷ self.now.second ∷ []) to.old.next }
-        requires room { HasRoom 0 to.old.next }
+        requires room { AreLow to.old.next }
         ensures exact { IfOk result (λ y. Makes (shared_from (sharing_of self.now.sharing) self.now.first self.now.second from x) to.old y to.new) }
-        ensures few { OnOk result (TakesFew to.old.next to.new.next) }
+        ensures few { OnOk result (TakesAtMost 32 to.old.next to.new.next) }
     {
         if from.0 == self.first.0 {
             return self.split_off(x, to);
@@ -96,9 +102,9 @@ impl Pair {
     /// The first host gives an own word to the second, and keeps its word without that.
     fn split_off(&self, x: Reg, to: &mut Duet) -> Result<Shares, AllocError>
         requires known { AreKnown (self.now.first ∷ self.now.second ∷ []) to.old.next }
-        requires room { HasRoom 0 to.old.next }
+        requires room { AreLow to.old.next }
         ensures exact { IfOk result (λ y. Makes (split_off (sharing_of self.now.sharing) self.now.first self.now.second x) to.old y to.new) }
-        ensures few { OnOk result (TakesFew to.old.next to.new.next) }
+        ensures few { OnOk result (TakesAtMost 32 to.old.next to.new.next) }
     {
         let at = self.reserve(2, 1, to);
         let kept = Reg(at.first.0 + 1);
@@ -117,9 +123,9 @@ impl Pair {
     /// The move of a word that both hosts have in clear: the first keeps its copy, and the second has 0.
     pub fn adopt(&self, x: &Parts<Clear>, to: &mut Duet) -> Result<Shares, AllocError>
         requires known { AreKnown (self.now.first ∷ self.now.second ∷ []) to.old.next }
-        requires room { HasRoom 0 to.old.next }
+        requires room { AreLow to.old.next }
         ensures exact { IfOk result (λ y. Makes (adopted_shares self.now.first self.now.second (in_clear x.now)) to.old y to.new) }
-        ensures few { OnOk result (TakesFew to.old.next to.new.next) }
+        ensures few { OnOk result (TakesAtMost 32 to.old.next to.new.next) }
     {
         let first = register_at(x, self.first);
         let second = to.reserve(self.second, 1);
@@ -130,9 +136,9 @@ impl Pair {
     /// The move of a word to one of the two hosts, in clear.
     pub fn show(&self, x: Shares, at: HostId, to: &mut Duet) -> Result<Reg, AllocError>
         requires known { AreKnown (self.now.first ∷ self.now.second ∷ []) to.old.next }
-        requires room { HasRoom 0 to.old.next }
+        requires room { AreLow to.old.next }
         ensures exact { IfOk result (λ y. Makes (shown_at (sharing_of self.now.sharing) self.now.first self.now.second x at) to.old y to.new) }
-        ensures few { OnOk result (TakesFew to.old.next to.new.next) }
+        ensures few { OnOk result (TakesAtMost 32 to.old.next to.new.next) }
     {
         if at.0 == self.first.0 {
             self.open(x.second, x.first, to)
@@ -144,9 +150,9 @@ impl Pair {
     /// The second host opens its part to the first, which joins them.
     fn open(&self, part: Reg, own: Reg, to: &mut Duet) -> Result<Reg, AllocError>
         requires known { AreKnown (self.now.first ∷ self.now.second ∷ []) to.old.next }
-        requires room { HasRoom 0 to.old.next }
+        requires room { AreLow to.old.next }
         ensures exact { IfOk result (λ y. Makes (opened_by (sharing_of self.now.sharing) self.now.second part self.now.first own) to.old y to.new) }
-        ensures few { OnOk result (TakesFew to.old.next to.new.next) }
+        ensures few { OnOk result (TakesAtMost 32 to.old.next to.new.next) }
     {
         let heard = to.reserve(self.first, 2);
         let word = Reg(heard.0 + 1);
@@ -161,9 +167,9 @@ impl Pair {
     /// The move of a word to copies in clear at both hosts.
     pub fn show_all(&self, x: Shares, to: &mut Duet) -> Result<Shares, AllocError>
         requires known { AreKnown (self.now.first ∷ self.now.second ∷ []) to.old.next }
-        requires room { HasRoom 0 to.old.next }
+        requires room { AreLow to.old.next }
         ensures exact { IfOk result (λ y. Makes (shown_to_both (sharing_of self.now.sharing) self.now.first self.now.second x) to.old y to.new) }
-        ensures few { OnOk result (TakesFew to.old.next to.new.next) }
+        ensures few { OnOk result (TakesAtMost 32 to.old.next to.new.next) }
     {
         let at = self.reserve(2, 2, to);
         let word = Shares {
@@ -184,9 +190,9 @@ impl Pair {
     /// A copy in fresh registers.
     pub fn keep(&self, x: Shares, to: &mut Duet) -> Result<Shares, AllocError>
         requires known { AreKnown (self.now.first ∷ self.now.second ∷ []) to.old.next }
-        requires room { HasRoom 0 to.old.next }
+        requires room { AreLow to.old.next }
         ensures exact { IfOk result (λ y. Makes (kept_shares self.now.first self.now.second x) to.old y to.new) }
-        ensures few { OnOk result (TakesFew to.old.next to.new.next) }
+        ensures few { OnOk result (TakesAtMost 32 to.old.next to.new.next) }
     {
         let at = self.reserve(1, 1, to);
         self.renew(at, x, to)?;
@@ -210,9 +216,9 @@ impl Pair {
         to: &mut Duet,
     ) -> Result<Shares, AllocError>
         requires known { AreKnown (self.now.first ∷ self.now.second ∷ []) to.old.next }
-        requires room { HasRoom 0 to.old.next }
+        requires room { AreLow to.old.next }
         ensures exact { IfOk result (λ r. Makes (applied_shares op self.now.first self.now.second x y) to.old r to.new) }
-        ensures few { OnOk result (TakesFew to.old.next to.new.next) }
+        ensures few { OnOk result (TakesAtMost 32 to.old.next to.new.next) }
     {
         let at = self.reserve(1, 1, to);
         to.add(Act::Do(self.first, Action::Apply(op, at.first, x.first, y.first)))?;
@@ -232,9 +238,9 @@ impl Pair {
         to: &mut Duet,
     ) -> Result<Shares, AllocError>
         requires known { AreKnown (self.now.first ∷ self.now.second ∷ []) to.old.next }
-        requires room { HasRoom 0 to.old.next }
+        requires room { AreLow to.old.next }
         ensures exact { IfOk result (λ r. Makes (numbered_shares op number self.now.first self.now.second x) to.old r to.new) }
-        ensures few { OnOk result (TakesFew to.old.next to.new.next) }
+        ensures few { OnOk result (TakesAtMost 32 to.old.next to.new.next) }
     {
         let at = self.reserve(2, 2, to);
         let word = Shares {

@@ -1,10 +1,10 @@
 ghost use Rattle.std.specs.Prelude.{◌≡◌, ◌<◌, ◌∷◌, [], IfOk, OnOk};
-ghost use Rattle.vd_duet.specs.Builder.{HasRoom, TakesFew};
+ghost use Rattle.vd_duet.specs.Builder.{TakesAtMost};
 ghost use Rattle.vd_duet.specs.Calls.{Makes, appended};
 ghost use Rattle.vd_duet.specs.Laws.{AreKnown};
 ghost use Rattle.vd_execution.specs.Gadgets.{Masked, masking};
 ghost use Rattle.vd_pairs.specs.Sharings.{sharing_of};
-ghost use Rattle.vd_pairs.specs.PairCalls.{masking_from, unmasked, completed, product_shares, with_acts, masked_told};
+ghost use Rattle.vd_pairs.specs.PairCalls.{AreLow, masking_from, unmasked, completed, product_shares, with_acts, masked_told};
 
 use crate::pair::Pair;
 use crate::shares::{Shares, Sharing};
@@ -18,9 +18,9 @@ impl Pair {
     /// The product of two words, by one dealt item: of sums by a multiplication triple, and else, bit by bit, by a bit triple.
     pub fn product(&self, x: Shares, y: Shares, to: &mut Duet) -> Result<Shares, AllocError>
         requires known { AreKnown (self.now.first ∷ self.now.second ∷ []) to.old.next }
-        requires room { HasRoom 0 to.old.next }
+        requires room { AreLow to.old.next }
         ensures exact { IfOk result (λ r. Makes (product_shares (sharing_of self.now.sharing) self.now.first self.now.second x y) to.old r to.new) }
-        ensures few { OnOk result (TakesFew to.old.next to.new.next) }
+        ensures few { OnOk result (TakesAtMost 32 to.old.next to.new.next) }
     {
         let at = self.reserve(15, 13, to);
         self.mask(x, y, at, to)?;
@@ -35,8 +35,8 @@ impl Pair {
 
     /// Both hosts take an item, mask their operands by it and tell them to each other.
     fn mask(&self, x: Shares, y: Shares, at: Shares, to: &mut Duet) -> Result<(), AllocError>
-        requires low_first { at.first.0 < 3000000016 }
-        requires low_second { at.second.0 < 3000000016 }
+        requires low_first { at.first.0 < 4000000016 }
+        requires low_second { at.second.0 < 4000000016 }
         ensures { OnOk result (to.new ≡ appended (Masked (sharing_of self.now.sharing) (masking_from self.now.first x.first y.first at.first.0)
             (masking_from self.now.second x.second y.second at.second.0) ∷ []) to.old) }
     {
@@ -74,7 +74,7 @@ fn hide(
     at: u32,
     to: &mut Duet,
 ) -> Result<(), AllocError>
-    requires { at < 3000000016 }
+    requires { at < 4000000016 }
     ensures { OnOk result (to.new ≡ with_acts (masking (sharing_of sharing) (masking_from host x y at) peer) to.old) }
 {
     let (a, b, c) = (Reg(at), Reg(at + 1), Reg(at + 2));
@@ -95,8 +95,8 @@ fn tell_masked(
     heard: u32,
     to: &mut Duet,
 ) -> Result<(), AllocError>
-    requires low_said { said < 3000000016 }
-    requires low_heard { heard < 3000000016 }
+    requires low_said { said < 4000000016 }
+    requires low_heard { heard < 4000000016 }
     ensures { OnOk result (to.new ≡ with_acts (masked_told from said host heard) to.old) }
 {
     let words = Items::from_slice(to.alloc(), &[Reg(said + 3), Reg(said + 4)])?;
@@ -106,7 +106,7 @@ fn tell_masked(
 
 /// From the opened words d and e, a host's part of the product without d * e: d * b + c + e * a.
 fn unmask(sharing: Sharing, host: HostId, at: u32, to: &mut Duet) -> Result<(), AllocError>
-    requires { at < 3000000016 }
+    requires { at < 4000000016 }
     ensures { OnOk result (to.new ≡ appended (unmasked (sharing_of sharing) host at) to.old) }
 {
     let (join, multiply) = (sharing.join(), sharing.multiply());
@@ -127,7 +127,7 @@ fn unmask(sharing: Sharing, host: HostId, at: u32, to: &mut Duet) -> Result<(), 
 
 /// Joins d * e to the part of one host.
 fn complete(sharing: Sharing, host: HostId, at: u32, to: &mut Duet) -> Result<(), AllocError>
-    requires { at < 3000000016 }
+    requires { at < 4000000016 }
     ensures { OnOk result (to.new ≡ appended (completed (sharing_of sharing) host at) to.old) }
 {
     let (join, multiply) = (sharing.join(), sharing.multiply());

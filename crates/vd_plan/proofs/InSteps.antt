@@ -2,7 +2,7 @@
 use Rattle.std.proofs.Common.{◌≡◌, ℕ, true, List, Result, Ok, Err, refl, sym, subst, arith}
 use Rattle.vd_outside.specs.Files.{FilesView, Contents}
 use Rattle.vd_plan.specs.declared.status.Status.{Status}
-use Rattle.vd_plan.specs.declared.status.Status.TheVariants.{Ended, Memory, Usage, ReadFault, WriteFault, TooLong}
+use Rattle.vd_plan.specs.declared.status.Status.TheVariants.{Ended, Memory, Usage, ReadFault, WriteFault, TooLong, NoAssignment}
 use Rattle.vd_plan.specs.declared.answer.Answer.{Answer}
 use Rattle.vd_plan.specs.Loads.{Loads}
 use Rattle.vd_plan.specs.Plans.{Plan, Executes, Computes, Checks, ExecutesStep, file_then, check_then, answer_then, only, refused}
@@ -42,6 +42,7 @@ pub check_step : {T : Type 0} (wanted : Result T Status) (now : FilesView) (resu
 check_step wanted now (Ok value) c = λ rest last result w. subst (λ (t : Contents → Plan). Executes true t now last result) (sym (check_ok wanted value c.ok rest)) w
 check_step wanted now (Err Memory) c = λ rest. any_memory (check_then wanted rest) now
 check_step wanted now (Err Ended) c = absurd c.err
+check_step wanted now (Err NoAssignment) c = absurd c.err
 check_step wanted now (Err Usage) c = absurd c.err
 check_step wanted now (Err (ReadFault name)) c = absurd c.err
 check_step wanted now (Err WriteFault) c = absurd c.err

@@ -5,3 +5,5 @@ pub mod Storing
 pub mod Written
 pub mod WholeRuns
 pub mod Numbering
+pub mod Following
+pub mod SignedLines

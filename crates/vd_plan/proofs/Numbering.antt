@@ -1,5 +1,5 @@
 -- One more numbered file.
-use Rattle.std.proofs.Common.{◌≡◌, ℕ, ◌+◌, List, [], ◌∷◌, ◌++◌, length, refl, ap, ◌∙◌, arith}
+use Rattle.std.proofs.Common.{◌≡◌, ℕ, ◌+◌, List, [], ◌∷◌, ◌++◌, length, ap, arith}
 use Rattle.vd_outside.specs.declared.stored.Stored.{Stored}
 use Rattle.vd_plan.specs.Numbered.{file_name, numbered}
 

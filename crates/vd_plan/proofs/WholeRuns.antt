@@ -1,18 +1,18 @@
 -- A whole run from its two halves.
-use Rattle.std.proofs.Common.{◌≡◌, ◌≤◌, ◌⊎◌, inl, inr, ⊎_elim, ℕ, true, false, List, [], ◌∷◌, ◌++◌, length, take, Bool, Ok, Err, IsTrue, refl, sym, ◌∙◌, ap, subst, append_assoc, arith}
-use Rattle.std.proofs.lemmas.List.{take_all}
+use Rattle.std.proofs.Common.{◌≡◌, ◌≤◌, inl, inr, ⊎_elim, ℕ, true, false, List, [], ◌∷◌, ◌++◌, length, take, Bool, Ok, Err, IsTrue, refl, sym, ◌∙◌, ap, subst, append_assoc, arith}
+use Rattle.std.proofs.lemmas.List.{take_all, append-nil}
 use Rattle.vd_outside.specs.Causes.{Rose}
 use Rattle.vd_outside.specs.Files.{FilesView, Contents}
 use Rattle.vd_outside.specs.Sink.{SinkView}
 use Rattle.vd_outside.specs.declared.files.FilesCall.{FilesCall}
 use Rattle.vd_outside.specs.declared.files.FilesCall.TheVariants.{Store}
 use Rattle.vd_plan.specs.declared.status.Status.{Status}
-use Rattle.vd_plan.specs.declared.status.Status.TheVariants.{Ended, Memory, Usage, ReadFault, WriteFault}
+use Rattle.vd_plan.specs.declared.status.Status.TheVariants.{Ended, Memory, Usage, ReadFault, WriteFault, NoAssignment}
 use Rattle.vd_plan.specs.declared.answer.Answer.{Answer}
 use Rattle.vd_outside.specs.declared.stored.Stored.{Stored}
 use Rattle.vd_plan.specs.Plans.{Plan, Executes, GrowsWithin, fetch_calls, IsGiven}
 use Rattle.vd_plan.proofs.Fronts.{more_within, later_within}
-use Rattle.vd_plan.specs.Deliver.{Delivers, StoresAll, WritesAll, IsEnded, IsLeft, IsPartlyStored, IsLastStore, store_calls, stored}
+use Rattle.vd_plan.specs.Deliver.{Delivers, StoresAll, WritesAll, IsEnded, IsDone, IsLeft, IsPartlyStored, IsLastStore, store_calls, stored}
 use Rattle.vd_plan.specs.Runs.{Runs, IsAnswered, calls}
 
 rose_earlier : (before mid now : ℕ) → before ≤ mid → Rose mid now → Rose before now
@@ -21,13 +21,14 @@ rose_earlier before mid now h r = omega arith
 no_form : (fits : Bool) → fits ≡ true → fits ≡ false → ⊥
 no_form fits e n = cc (e, n)
 
-given_ended : (status : Status) (printed : List ℕ) → IsGiven status printed → IsEnded status
-given_ended Ended printed given = tt
-given_ended other printed given = absurd given
+given_done : (status : Status) (printed : List ℕ) → IsGiven status printed → IsDone status
+given_done Ended printed given = tt
+given_done NoAssignment printed given = tt
+given_done other printed given = absurd given
 
 runs_quiet : (fits : Bool) (plan : Contents → Plan) (before now : FilesView) (out : SinkView) (status : Status) → Executes fits plan before now (Err status)
     → (status ≡ Usage → fits ≡ false) → (fits ≡ false → status ≡ Usage) → (status ≡ WriteFault → ⊥)
-    → (IsTrue before.told → IsAnswered (plan before.contents).answer.status status) → (IsEnded status → ⊥) → ((p : List ℕ) → IsLeft p out.taken out.taken status)
+    → (IsTrue before.told → IsAnswered (plan before.contents).answer.status status) → (IsDone status → ⊥) → ((p : List ℕ) → IsLeft p out.taken out.taken status)
     → (IsTrue before.told → IsPartlyStored status (plan before.contents).answer.stores before.contents now.contents)
     → Runs fits plan before now out out status
 runs_quiet fits plan before now out status w usage comes no_write answered no_end left none_stored = record {
@@ -52,6 +53,7 @@ runs_quiet fits plan before now out status w usage comes no_write answered no_en
 
 pub runs_err : (fits : Bool) (plan : Contents → Plan) (before now : FilesView) (out : SinkView) (status : Status) → Executes fits plan before now (Err status) → Runs fits plan before now out out status
 runs_err fits plan before now out Ended w = absurd w.proper
+runs_err fits plan before now out NoAssignment w = absurd w.proper
 runs_err fits plan before now out WriteFault w = absurd w.proper
 runs_err fits plan before now out Memory w = runs_quiet fits plan before now out Memory w (λ e. absurd (cc e)) (λ e. absurd (no_form fits w.proper e)) (λ e. cc e) (λ t. tt) (λ e. e) (λ p. refl) (λ t. (0, w.contents t))
 runs_err fits plan before now out Usage w = runs_quiet fits plan before now out Usage w (λ e. w.proper) (λ e. refl) (λ e. cc e) (λ t. ap (λ (a : Answer). a.status) (w.settled t)) (λ e. e) (λ p. refl) (λ t. (0, w.contents t))
@@ -101,8 +103,9 @@ runs_given fits plan before mid now out_before out_now given status w d no_usage
 
 pub runs_ok : (fits : Bool) (plan : Contents → Plan) (before mid now : FilesView) (out_before out_now : SinkView) (given : Answer) (status : Status) → Executes fits plan before mid (Ok given) → Delivers given mid now out_before out_now status → Runs fits plan before now out_before out_now status
 runs_ok fits plan before mid now out_before out_now given Ended w d = runs_given fits plan before mid now out_before out_now given Ended w d (λ e. cc e) (λ name e. cc e) (λ t. d.ends ∙ ap (λ (a : Answer). a.status) (w.settled t)) (λ o e f. absurd (e tt))
+runs_ok fits plan before mid now out_before out_now given NoAssignment w d = runs_given fits plan before mid now out_before out_now given NoAssignment w d (λ e. cc e) (λ name e. cc e) (λ t. d.ends ∙ ap (λ (a : Answer). a.status) (w.settled t)) (λ o e f. d.left o)
 runs_ok fits plan before mid now out_before out_now given Memory w d = runs_given fits plan before mid now out_before out_now given Memory w d (λ e. cc e) (λ name e. cc e) (λ t. tt) (λ o e f. d.left o)
-runs_ok fits plan before mid now out_before out_now given WriteFault w d = runs_given fits plan before mid now out_before out_now given WriteFault w d (λ e. cc e) (λ name e. cc e) (λ t. subst (λ (a : Answer). IsEnded a.status) (w.settled t) (given_ended given.status given.printed w.proper.0)) (λ o e f. absurd (f refl))
+runs_ok fits plan before mid now out_before out_now given WriteFault w d = runs_given fits plan before mid now out_before out_now given WriteFault w d (λ e. cc e) (λ name e. cc e) (λ t. subst (λ (a : Answer). IsDone a.status) (w.settled t) (given_done given.status given.printed w.proper.0)) (λ o e f. absurd (f refl))
 runs_ok fits plan before mid now out_before out_now given other w d = absurd (subst (λ (s : Status). IsGiven s given.printed) (sym d.ends) w.proper.0)
 
 all_stored : (pieces : List Stored) (before now : Contents) → now ≡ stored pieces before → now ≡ stored (take (length pieces) pieces) before
@@ -122,6 +125,20 @@ deliver_ok given Ended before now out_before out_now is fits p w = record {
   part = λ t. (length given.stores, all_stored given.stores before.contents now.contents (p.contents t));
   was_told = w.was_told;
   left = w.whole;
+}
+deliver_ok given NoAssignment before now out_before out_now is fits p w = record {
+  later = p.later;
+  out_later = w.later;
+  ends = sym is;
+  fault = λ e. absurd (cc e);
+  cause = λ t e. absurd (cc e);
+  still_told = p.still_told;
+  front = p.front;
+  whole = λ t e. p.whole t;
+  contents = λ t e. p.contents t;
+  part = λ t. (length given.stores, all_stored given.stores before.contents now.contents (p.contents t));
+  was_told = w.was_told;
+  left = λ o. w.whole o ∙ ap (λ (l : List ℕ). out_before.taken ++ l) fits ∙ append-nil out_before.taken;
 }
 deliver_ok given other before now out_before out_now is fits p w = absurd fits
 

@@ -9,7 +9,7 @@ use Rattle.vd_outside.specs.declared.files.FilesCall.{FilesCall}
 use Rattle.vd_outside.specs.declared.files.FilesCall.TheVariants.{Store}
 use Rattle.vd_plan.specs.Plans.{GrowsWithin, IsLast}
 use Rattle.vd_plan.specs.declared.status.Status.{Status}
-use Rattle.vd_plan.specs.declared.status.Status.TheVariants.{Ended, Memory, WriteFault}
+use Rattle.vd_plan.specs.declared.status.Status.TheVariants.{Ended, Memory, WriteFault, NoAssignment}
 use Rattle.vd_plan.specs.declared.answer.Answer.{Answer}
 
 pub record WritesAll {E : Type 0} (bytes : List ℕ) (before now : SinkView) (result : Result (Unit {0}) E) : Type 0 where
@@ -90,7 +90,13 @@ abbrev pub IsEnded : Status → Type 0
 IsEnded Ended = Unit {0}
 IsEnded status = ⊥
 
--- after a given answer whose status is Ended
+-- the statuses of a command that was carried out: all files stand
+abbrev pub IsDone : Status → Type 0
+IsDone Ended = Unit {0}
+IsDone NoAssignment = Unit {0}
+IsDone status = ⊥
+
+-- after a given answer
 pub record Delivers (given : Answer) (before now : FilesView) (out_before out_now : SinkView) (status : Status) : Type 0 where
   pub later : before.faults ≤ now.faults
   pub out_later : out_before.faults ≤ out_now.faults
@@ -99,8 +105,8 @@ pub record Delivers (given : Answer) (before now : FilesView) (out_before out_no
   pub cause : IsTrue before.told → status ≡ WriteFault → (Rose before.faults now.faults × IsLastStore before.asked now.asked) ⊎ Rose out_before.faults out_now.faults
   pub still_told : IsTrue before.told → IsTrue now.told
   pub front : IsTrue before.told → GrowsWithin before.asked now.asked (store_calls given.stores)
-  pub whole : IsTrue before.told → IsEnded status → now.asked ≡ before.asked ++ store_calls given.stores
-  pub contents : IsTrue before.told → IsEnded status → now.contents ≡ stored given.stores before.contents
+  pub whole : IsTrue before.told → IsDone status → now.asked ≡ before.asked ++ store_calls given.stores
+  pub contents : IsTrue before.told → IsDone status → now.contents ≡ stored given.stores before.contents
   pub part : IsTrue before.told → IsPartlyStored status given.stores before.contents now.contents
   pub was_told : IsTrue out_now.told → IsTrue out_before.told
   pub left : IsTrue out_now.told → IsLeft given.printed out_before.taken out_now.taken status

@@ -1,6 +1,6 @@
 -- The number of each status, and its line.
-use Rattle.std.specs.Prelude.{◌≡◌, ◌≤◌, ◌⊎◌, ℕ, IsTrue, List, [], ◌++◌, take, codes}
-use Rattle.std.specs.Fmt.{decimal}
+use Rattle.std.specs.Prelude.{◌≡◌, ◌≤◌, ◌⊎◌, ℕ, ℤ, IsTrue, List, [], ◌++◌, take, codes}
+use Rattle.std.specs.Fmt.{decimal, signed_decimal}
 use Rattle.vd_outside.specs.Causes.{Rose}
 use Rattle.vd_outside.specs.Sink.{SinkView}
 use Rattle.vd_plan.specs.declared.status.SyntaxFault.{SyntaxFault}
@@ -11,8 +11,10 @@ use Rattle.vd_plan.specs.declared.status.RuleFault.{RuleFault}
 use Rattle.vd_plan.specs.declared.status.RuleFault.TheVariants as rule
 use Rattle.vd_plan.specs.declared.status.TextFault.{TextFault}
 use Rattle.vd_plan.specs.declared.status.TextFault.TheVariants.{Text, UnknownHost}
+use Rattle.vd_plan.specs.declared.status.CertificateFault.{CertificateFault}
+use Rattle.vd_plan.specs.declared.status.CertificateFault.TheVariants as cert
 use Rattle.vd_plan.specs.declared.status.Status.{Status}
-use Rattle.vd_plan.specs.declared.status.Status.TheVariants.{Ended, Memory, Usage, ReadFault, WriteFault, TooLong, Syntax, Names, Flow, InputText}
+use Rattle.vd_plan.specs.declared.status.Status.TheVariants.{Ended, Memory, Usage, ReadFault, WriteFault, TooLong, Syntax, Names, Flow, NoAssignment, Spent, InputText, CertificateText, CertificateRefused}
 
 abbrev pub code_of : Status → ℕ
 code_of Ended = 0
@@ -24,9 +26,13 @@ code_of (TooLong name limit) = 5
 code_of (Syntax fault) = 6
 code_of (Names fault) = 7
 code_of (Flow check offset) = 8
+code_of NoAssignment = 9
+code_of (Spent budget) = 10
 code_of (InputText fault) = 11
+code_of (CertificateText offset) = 15
+code_of (CertificateRefused fault) = 17
 
--- a text that ends in an offset
+-- a text that ends in a number
 abbrev pub offset_line : List ℕ → ℕ → List ℕ
 offset_line text offset = text ++ (decimal offset ++ codes "\n")
 
@@ -55,6 +61,21 @@ abbrev pub input_line : TextFault → List ℕ
 input_line (Text offset) = offset_line (codes "viaduct: input text at ") offset
 input_line (UnknownHost offset) = offset_line (codes "viaduct: input host at ") offset
 
+abbrev pub cost_line : ℕ → ℤ → List ℕ
+cost_line stated own = codes "viaduct: cert refused cost " ++ (decimal stated ++ (codes " " ++ (signed_decimal own ++ codes "\n")))
+
+abbrev pub bound_line : ℕ → ℤ → ℕ → List ℕ
+bound_line mark bound cost =
+    codes "viaduct: cert refused not bounded " ++ (decimal mark ++ (codes " " ++ (signed_decimal bound ++ (codes " " ++ (decimal cost ++ codes "\n")))))
+
+abbrev pub certificate_line : CertificateFault → List ℕ
+certificate_line (cert.Shift shift) = offset_line (codes "viaduct: cert refused shift ") shift
+certificate_line (cert.Shape mark) = offset_line (codes "viaduct: cert refused shape ") mark
+certificate_line cert.BestInvalid = codes "viaduct: cert refused best invalid\n"
+certificate_line (cert.Cost stated own) = cost_line stated own
+certificate_line (cert.NotViolated mark) = offset_line (codes "viaduct: cert refused not violated ") mark
+certificate_line (cert.NotBounded mark bound cost) = bound_line mark bound cost
+
 -- Ended has no line.
 abbrev pub status_line : Status → List ℕ
 status_line Ended = []
@@ -66,7 +87,11 @@ status_line (TooLong name limit) = codes "viaduct: too long " ++ (name ++ (codes
 status_line (Syntax fault) = syntax_line fault
 status_line (Names fault) = rule_line fault
 status_line (Flow check offset) = codes "viaduct: flow check " ++ (decimal check ++ (codes " at " ++ (decimal offset ++ codes "\n")))
+status_line NoAssignment = codes "viaduct: no assignment\n"
+status_line (Spent budget) = offset_line (codes "viaduct: budget spent ") budget
 status_line (InputText fault) = input_line fault
+status_line (CertificateText offset) = offset_line (codes "viaduct: cert text at ") offset
+status_line (CertificateRefused fault) = certificate_line fault
 
 -- the line goes to err, whole unless err failed
 pub record Says (line : List ℕ) (before now : SinkView) : Type 0 where

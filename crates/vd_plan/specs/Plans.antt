@@ -8,7 +8,7 @@ use Rattle.vd_outside.specs.declared.files.FilesCall.TheVariants.{Fetch}
 use Rattle.vd_outside.specs.declared.faults.FetchFault.{FetchFault}
 use Rattle.vd_outside.specs.declared.faults.FetchFault.TheVariants as fetch_fault
 use Rattle.vd_plan.specs.declared.status.Status.{Status}
-use Rattle.vd_plan.specs.declared.status.Status.TheVariants.{Ended, Memory, Usage, ReadFault, WriteFault, TooLong}
+use Rattle.vd_plan.specs.declared.status.Status.TheVariants.{Ended, Memory, Usage, ReadFault, WriteFault, TooLong, NoAssignment}
 use Rattle.vd_plan.specs.declared.answer.Answer.{Answer}
 
 abbrev pub refused : Status → Answer
@@ -66,15 +66,17 @@ Settles answer (Err Memory) = Unit {0}
 Settles answer (Err (ReadFault name)) = Unit {0}
 Settles answer (Err status) = refused status ≡ answer
 
--- the statuses with which an answer may be delivered
+-- the statuses with which an answer may be delivered; it prints with Ended alone
 abbrev pub IsGiven : Status → List ℕ → Type 0
 IsGiven Ended printed = Unit {0}
+IsGiven NoAssignment printed = printed ≡ []
 IsGiven status printed = ⊥
 
 -- Whatever is told: Usage comes exactly where the words have no form, and a write's fault never before the writing.
 abbrev pub IsProper : Bool → Result Answer Status → Type 0
 IsProper fits (Ok given) = IsGiven given.status given.printed × (fits ≡ true)
 IsProper fits (Err Ended) = ⊥
+IsProper fits (Err NoAssignment) = ⊥
 IsProper fits (Err Usage) = fits ≡ false
 IsProper fits (Err WriteFault) = ⊥
 IsProper fits (Err status) = fits ≡ true
@@ -105,6 +107,7 @@ pub record Computes (answer : Answer) (result : Result Answer Status) : Type 0 w
 -- a test refuses where its definition does, and with no outside fault
 abbrev pub IsRefusal : {T : Type 0} → Result T Status → Status → Type 0
 IsRefusal wanted Ended = ⊥
+IsRefusal wanted NoAssignment = ⊥
 IsRefusal wanted Memory = Unit {0}
 IsRefusal wanted Usage = ⊥
 IsRefusal wanted (ReadFault name) = ⊥

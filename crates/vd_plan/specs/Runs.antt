@@ -6,7 +6,7 @@ use Rattle.vd_outside.specs.Sink.{SinkView}
 use Rattle.vd_outside.specs.declared.files.FilesCall.{FilesCall}
 use Rattle.vd_outside.specs.declared.files.FilesCall.TheVariants.{Fetch}
 use Rattle.vd_plan.specs.Plans.{Plan, Executes, GrowsWithin, IsLast, fetch_calls}
-use Rattle.vd_plan.specs.Deliver.{store_calls, stored, IsPartlyStored, IsLastStore, IsLeft, IsEnded}
+use Rattle.vd_plan.specs.Deliver.{store_calls, stored, IsPartlyStored, IsLastStore, IsLeft, IsEnded, IsDone}
 use Rattle.vd_plan.specs.declared.answer.Answer.{Answer}
 use Rattle.vd_plan.specs.declared.status.Status.{Status}
 use Rattle.vd_plan.specs.declared.status.Status.TheVariants.{Ended, Memory, Usage, ReadFault, WriteFault}
@@ -14,12 +14,12 @@ use Rattle.vd_plan.specs.declared.status.Status.TheVariants.{Ended, Memory, Usag
 abbrev pub calls : Plan → List FilesCall
 calls plan = fetch_calls plan.fetches ++ store_calls plan.answer.stores
 
--- The status is the definition's. Memory and outside faults stand apart; a write's fault comes only where there is
--- something to write.
+-- The status is the definition's. Memory and outside faults stand apart; a write's fault comes only where the command
+-- would be carried out.
 abbrev pub IsAnswered : Status → Status → Type 0
 IsAnswered wanted Memory = Unit {0}
 IsAnswered wanted (ReadFault name) = Unit {0}
-IsAnswered wanted WriteFault = IsEnded wanted
+IsAnswered wanted WriteFault = IsDone wanted
 IsAnswered wanted status = status ≡ wanted
 
 -- Why each status came, and what it left. fits tells whether the words have a form.
@@ -35,8 +35,8 @@ pub record Runs (fits : Bool) (plan : Contents → Plan) (before now : FilesView
   pub answered : IsTrue before.told → IsAnswered (plan before.contents).answer.status status
   pub still_told : IsTrue before.told → IsTrue now.told
   pub front : IsTrue before.told → GrowsWithin before.asked now.asked (calls (plan before.contents))
-  pub whole : IsTrue before.told → IsEnded status → now.asked ≡ before.asked ++ calls (plan before.contents)
-  pub stores : IsTrue before.told → IsEnded status → now.contents ≡ stored (plan before.contents).answer.stores before.contents
+  pub whole : IsTrue before.told → IsDone status → now.asked ≡ before.asked ++ calls (plan before.contents)
+  pub stores : IsTrue before.told → IsDone status → now.contents ≡ stored (plan before.contents).answer.stores before.contents
   pub part : IsTrue before.told → IsPartlyStored status (plan before.contents).answer.stores before.contents now.contents
   pub was_told : IsTrue out_now.told → IsTrue out_before.told
   pub left : IsTrue before.told → IsTrue out_now.told → IsLeft (plan before.contents).answer.printed out_before.taken out_now.taken status

@@ -14,4 +14,4 @@ pub use ending::{finish, print_text};
 pub use lines::tell;
 pub use loading::load;
 pub use numbered::file_name;
-pub use status::{RuleFault, Status, SyntaxFault, TextFault};
+pub use status::{CertificateFault, RuleFault, Status, SyntaxFault, TextFault};

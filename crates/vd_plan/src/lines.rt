@@ -4,10 +4,10 @@ ghost use Rattle.std.specs.Prelude.{◌≡◌};
 ghost use Rattle.vd_plan.specs.Deliver.{WritesAll};
 ghost use Rattle.vd_plan.specs.declared.status.RuleFault.TheVariants as rule;
 ghost use Rattle.vd_plan.specs.declared.status.Status.TheVariants.{Flow};
-ghost use Rattle.vd_plan.specs.Lines.{Says, status_line, syntax_line, rule_line, input_line, offset_line, quantity_name};
+ghost use Rattle.vd_plan.specs.Lines.{Says, bound_line, certificate_line, cost_line, status_line, syntax_line, rule_line, input_line, offset_line, quantity_name};
 
 use crate::deliver::write_parts;
-use crate::{RuleFault, Status, SyntaxFault, TextFault};
+use crate::{CertificateFault, RuleFault, Status, SyntaxFault, TextFault};
 use itoa::Buffer;
 use vd_base::Failed;
 use vd_outside::Sink;
@@ -44,7 +44,11 @@ fn write_status<E: Sink>(err: &mut E, status: &Status) -> Result<(), Failed>
         Status::Syntax(fault) => write_syntax_fault(err, *fault),
         Status::Names(fault) => write_rule_fault(err, *fault),
         Status::Flow(check, offset) => write_flow(err, *check, *offset),
+        Status::NoAssignment => write_parts(err, &[b"viaduct: no assignment\n"]),
+        Status::Spent(budget) => write_offset(err, b"viaduct: budget spent ", *budget),
         Status::InputText(fault) => write_text_fault(err, *fault),
+        Status::CertificateText(offset) => write_offset(err, b"viaduct: cert text at ", *offset),
+        Status::CertificateRefused(fault) => write_certificate_fault(err, *fault),
     }
 }
 
@@ -133,7 +137,67 @@ fn write_text_fault<E: Sink>(err: &mut E, fault: TextFault) -> Result<(), Failed
     }
 }
 
-/// Writes a text, an offset behind it and the line's end.
+/// Writes the line of a certificate that is not accepted.
+fn write_certificate_fault<E: Sink>(err: &mut E, fault: CertificateFault) -> Result<(), Failed>
+    ensures { WritesAll (certificate_line fault) (E.view err.old) (E.view err.new) result }
+{
+    match fault {
+        CertificateFault::Shift(shift) => write_offset(err, b"viaduct: cert refused shift ", shift),
+        CertificateFault::Shape(mark) => write_offset(err, b"viaduct: cert refused shape ", mark),
+        CertificateFault::BestInvalid => {
+            write_parts(err, &[b"viaduct: cert refused best invalid\n"])
+        }
+        CertificateFault::Cost(stated, own) => write_cost_fault(err, stated, own),
+        CertificateFault::NotViolated(mark) => write_offset(
+            err,
+            b"viaduct: cert refused not violated ",
+            mark,
+        ),
+        CertificateFault::NotBounded(mark, bound, cost) => {
+            write_bound_fault(err, mark, bound, cost)
+        }
+    }
+}
+
+/// Writes the line of a best list that has not the stated cost.
+fn write_cost_fault<E: Sink>(err: &mut E, stated: u32, own: i64) -> Result<(), Failed>
+    ensures { WritesAll (cost_line stated own) (E.view err.old) (E.view err.new) result }
+{
+    let mut stated_buffer = Buffer::new();
+    let stated = stated_buffer.format(stated).as_bytes();
+    let mut own_buffer = Buffer::new();
+    let own = own_buffer.format(own).as_bytes();
+    write_parts(
+        err,
+        &[b"viaduct: cert refused cost ", stated, b" ", own, b"\n"],
+    )
+}
+
+/// Writes the line of a mark at a bound below the stated cost.
+fn write_bound_fault<E: Sink>(err: &mut E, mark: u32, bound: i64, cost: u32) -> Result<(), Failed>
+    ensures { WritesAll (bound_line mark bound cost) (E.view err.old) (E.view err.new) result }
+{
+    let mut mark_buffer = Buffer::new();
+    let mark = mark_buffer.format(mark).as_bytes();
+    let mut bound_buffer = Buffer::new();
+    let bound = bound_buffer.format(bound).as_bytes();
+    let mut cost_buffer = Buffer::new();
+    let cost = cost_buffer.format(cost).as_bytes();
+    write_parts(
+        err,
+        &[
+            b"viaduct: cert refused not bounded ",
+            mark,
+            b" ",
+            bound,
+            b" ",
+            cost,
+            b"\n",
+        ],
+    )
+}
+
+/// Writes a text, a number behind it and the line's end.
 fn write_offset<E: Sink>(err: &mut E, text: &[u8], offset: u32) -> Result<(), Failed>
     ensures { WritesAll (offset_line text.now offset) (E.view err.old) (E.view err.new) result }
 {

@@ -46,6 +46,23 @@ pub enum TextFault {
     UnknownHost(u32),
 }
 
+/// Why a certificate is not accepted, in the order in which faults are looked for. Shifts and marks are counted from 0.
+#[derive(Clone, Copy, Debug, PartialEq, Eq)]
+pub enum CertificateFault {
+    /// The shift with this number names no use or no protocol.
+    Shift(u32),
+    /// The mark with this number cannot stand there, or the marks end before it.
+    Shape(u32),
+    /// The list with the mark of the best is not valid.
+    BestInvalid,
+    /// The stated cost, and that of the list with the mark of the best.
+    Cost(u32, i64),
+    /// The mark with this number says of a valid prefix that it is not.
+    NotViolated(u32),
+    /// The number of a mark, the bound of its prefix, and the stated cost, which is greater.
+    NotBounded(u32, i64, u32),
+}
+
 /// How a run ended.
 #[derive(Debug, Drop)]
 pub enum Status {
@@ -67,8 +84,16 @@ pub enum Status {
     Names(RuleFault),
     /// No labelling satisfies the flow rules: the number of the first check that fails, and the offset of its statement.
     Flow(u32, u32),
+    /// The command was carried out, and came to this: no assignment of protocols is valid.
+    NoAssignment,
+    /// The search had this budget, and needs more.
+    Spent(u32),
     /// The text of the inputs is refused.
     InputText(TextFault),
+    /// No certificate's text goes on at this offset as the file does.
+    CertificateText(u32),
+    /// The certificate is not accepted.
+    CertificateRefused(CertificateFault),
 }
 
 impl Status {
@@ -86,7 +111,11 @@ impl Status {
             Status::Syntax(_) => 6,
             Status::Names(_) => 7,
             Status::Flow(_, _) => 8,
+            Status::NoAssignment => 9,
+            Status::Spent(_) => 10,
             Status::InputText(_) => 11,
+            Status::CertificateText(_) => 15,
+            Status::CertificateRefused(_) => 17,
         }
     }
 }

@@ -8,3 +8,4 @@ pub mod Schedule
 pub mod InputsText
 pub mod ScheduleText
 pub mod ReportLines
+pub mod ChoiceLines

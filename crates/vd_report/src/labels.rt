@@ -1,9 +1,9 @@
 //! The lines that tell the labels of slots.
 
-ghost use Rattle.std.specs.Prelude.{◌≡◌, ◌++◌, if◌then◌else◌, codes, map, OnOk, IfOk};
-ghost use Rattle.vd_formula.specs.TruthTable.{has};
+ghost use Rattle.std.specs.Prelude.{◌≡◌, ◌++◌, codes, map, OnOk, IfOk};
 ghost use Rattle.vd_report.specs.LabelLines.{all_behind, set_text, sets_text, formula_text, label_line, label_lines};
 
+use crate::name_sets::push_members;
 use itoa::Buffer;
 use std::alloc::{AllocError, Global};
 use vd_base::{Bytes, Names};
@@ -82,7 +82,7 @@ fn push_sets(text: &mut Bytes, principals: &Names, sets: &[u8]) -> Result<(), Al
     match sets.split_first() {
         None => text.extend_from_slice(b"none"),
         Some((first, others)) => {
-            push_set(text, principals, *first)?;
+            push_members(text, principals, b" & ", *first)?;
             push_more_sets(text, principals, others)
         }
     }
@@ -94,39 +94,7 @@ fn push_more_sets(text: &mut Bytes, principals: &Names, sets: &[u8]) -> Result<(
 {
     for set in sets {
         text.extend_from_slice(b" | ")?;
-        push_set(text, principals, *set)?;
+        push_members(text, principals, b" & ", *set)?;
     }
     Ok(())
-}
-
-/// Puts the names in a set at the end.
-fn push_set(text: &mut Bytes, principals: &Names, set: u8) -> Result<(), AllocError>
-    ensures { OnOk result (text.new ≡ text.old ++ set_text principals.now set) }
-{
-    let names = principals.as_slice();
-    let mut is_first = true;
-    for place in 0..names.len() {
-        if is_member(set, place) {
-            push_member(text, names[place].as_slice(), is_first)?;
-            is_first = false;
-        }
-    }
-    Ok(())
-}
-
-/// Puts a name in a set at the end, behind its separator where it is not the first.
-fn push_member(text: &mut Bytes, name: &[u8], is_first: bool) -> Result<(), AllocError>
-    ensures { OnOk result (text.new ≡ text.old ++ (if is_first then name.now else codes " & " ++ name.now)) }
-{
-    if !is_first {
-        text.extend_from_slice(b" & ")?;
-    }
-    text.extend_from_slice(name)
-}
-
-/// Whether the principal with this number is in a set.
-fn is_member(set: u8, place: usize) -> bool
-    ensures { result ≡ has set place }
-{
-    place < 8 && set >> place & 1 == 1
 }

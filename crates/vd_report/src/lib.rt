@@ -1,15 +1,18 @@
 //! Readers of the files that people write beside a source, and the texts that are printed.
 #![tactic(auto)]
 
+mod choice;
 mod fault;
 mod hosts;
 mod inputs;
 mod labels;
 mod lines;
+mod name_sets;
 mod reports;
 mod schedule;
 mod token;
 
+pub use choice::choice_text;
 pub use fault::ReadFault;
 pub use inputs::{inputs_follow_the_grammar, read_inputs};
 pub use labels::labels_text;

@@ -3,6 +3,7 @@
 ghost use Rattle.std.specs.Prelude.{◌≡◌, ◌++◌, [], slice_index_or, OnOk, IfOk};
 ghost use Rattle.vd_report.specs.ReportLines.{host_lines, host_line, state_text, link_line, links_of, link_lines};
 
+use crate::hosts::name_of;
 use crate::lines::push_words_line;
 use std::alloc::{AllocError, Global};
 use vd_base::{Bytes, HostState, Names, Words};
@@ -59,16 +60,6 @@ fn push_state(text: &mut Bytes, hosts: &Names, state: HostState) -> Result<(), A
             text.extend_from_slice(b"waiting ")?;
             text.extend_from_slice(name_of(hosts, peer.0 as usize))
         }
-    }
-}
-
-/// A host's name.
-fn name_of(hosts: &Names, host: usize) -> &[u8]
-    ensures { result.now ≡ slice_index_or hosts.now host [] }
-{
-    match hosts.as_slice().get(host) {
-        Some(name) => name.as_slice(),
-        None => &[],
     }
 }
 

@@ -4,3 +4,4 @@ pub mod Lows
 pub mod Smalls
 pub mod Costed
 pub mod Telling
+pub mod Along

@@ -3,6 +3,7 @@
 #![tactic(auto)]
 
 mod bound;
+mod high;
 mod least;
 mod places;
 mod space;

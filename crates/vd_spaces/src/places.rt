@@ -1,14 +1,17 @@
 //! The places of protocols in the list of all.
 
 ghost use Rattle.std.specs.Prelude.{◌≡◌, ◌<◌, ◌≤◌, IsTrue, length, pos, take};
-ghost use Rattle.vd_space.specs.Bounds.{low};
+ghost use Rattle.vd_path.specs.Tables.{AreTables};
+ghost use Rattle.vd_space.specs.Bounds.{high, low};
 ghost use Rattle.vd_space.specs.Labelled.{IsLabelled};
 ghost use Rattle.vd_space.specs.Sizes.{IsWithinLimits};
 ghost use Rattle.vd_space.specs.Validity.{is_valid, protocols};
 ghost use Rattle.vd_spaces.specs.Places.{place_of, places_of, same_proto};
 
 use crate::bound::lower_bound;
+use crate::high::high_bound;
 use vd_base::Proto;
+use vd_path::Tables;
 use vd_space::Problem;
 
 /// No problem within the limits has more slots.
@@ -82,4 +85,19 @@ pub fn bound_of_prefix(problem: &Problem, list: &[Proto], prefix: &[Proto]) -> u
     let mut room = [0; MOST_SLOTS];
     fill_places(list, prefix, &mut room);
     lower_bound(problem, list, &room[..prefix.len()])
+}
+
+/// The bound of a valid prefix under shifts, by their tables.
+pub fn high_of_prefix(problem: &Problem, list: &[Proto], tables: &Tables, prefix: &[Proto]) -> i64
+    requires list { list.now ≡ protocols problem.now }
+    requires few { length list.now < 256 }
+    requires labelled { IsLabelled problem.now }
+    requires limits { IsWithinLimits problem.now }
+    requires tables { AreTables problem.now tables.now }
+    requires valid { IsTrue (is_valid problem.now (places_of list.now prefix.now)) }
+    ensures { result ≡ high problem.now tables.now.shifts (places_of list.now prefix.now) }
+{
+    let mut room = [0; MOST_SLOTS];
+    fill_places(list, prefix, &mut room);
+    high_bound(problem, tables, &room[..prefix.len()])
 }

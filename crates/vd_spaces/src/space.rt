@@ -2,7 +2,8 @@
 
 ghost use Rattle.std.specs.Prelude.{◌≡◌, ◌<◌, ◌≤◌, IfOk, IsTrue, length, pos};
 ghost use Rattle.vd_base.specs.Limits.{most_certificate_shifts};
-ghost use Rattle.vd_space.specs.Bounds.{low};
+ghost use Rattle.vd_path.specs.Tables.{AreTables};
+ghost use Rattle.vd_space.specs.Bounds.{high, low};
 ghost use Rattle.vd_space.specs.Costs.{cost};
 ghost use Rattle.vd_space.specs.Labelled.{HasLabels, IsLabelled};
 ghost use Rattle.vd_space.specs.Reading.{problem_of};
@@ -12,16 +13,18 @@ ghost use Rattle.vd_space.specs.Usual.{usual};
 ghost use Rattle.vd_space.specs.Validity.{is_valid, protocols};
 ghost use Rattle.vd_spaces.specs.Places.{is_valid_list, places_in};
 
-use crate::places::{bound_of_prefix, is_valid_prefix};
+use crate::places::{bound_of_prefix, high_of_prefix, is_valid_prefix};
 use std::alloc::{AllocError, Global};
 use std::marker::Model;
 use vd_base::Proto;
 use vd_constraints::Labels;
 use vd_core::Program;
 use vd_items::Items;
+use vd_path::Tables;
 use vd_prefixes::Shift;
 use vd_protocol::protocols;
 use vd_space::Problem;
+use vd_tables::tables;
 use vd_usual::usual;
 
 /// The lists of protocols for the slots of a program, with the labels of its slots.
@@ -125,5 +128,24 @@ impl Space {
         ensures few { IfOk result (λ shifts. length shifts ≤ most_certificate_shifts) }
     {
         usual(alloc, self.problem())
+    }
+
+    /// The terms after shifts, in tables: by them the bound of a prefix grows with each choice.
+    pub fn terms(&self, alloc: Global, shifts: Items<Shift>) -> Result<Tables, AllocError>
+        requires { length shifts ≤ most_certificate_shifts }
+        ensures tables { IfOk result (AreTables self.now) }
+        ensures shifts { IfOk result (λ terms. terms.shifts ≡ shifts) }
+    {
+        tables(alloc, self.problem(), shifts)
+    }
+
+    /// The bound of a valid prefix under the shifts of these terms: the greater of the sums of least terms without and with
+    /// them.
+    pub fn high(&self, prefix: &[Proto], terms: &Tables) -> i64
+        requires valid { IsTrue (is_valid self.now (places_in self.now prefix.now)) }
+        requires terms { AreTables self.now terms.now }
+        ensures { result ≡ high self.now terms.now.shifts (places_in self.now prefix.now) }
+    {
+        high_of_prefix(self.problem(), self.list(), terms, prefix)
     }
 }

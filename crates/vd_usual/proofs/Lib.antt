@@ -9,3 +9,4 @@ pub mod Costs
 pub mod Few
 pub mod Handing
 pub mod Rounds
+pub mod Amounts

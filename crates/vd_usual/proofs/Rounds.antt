@@ -1,5 +1,6 @@
 -- One use more, as the loop over the uses has it.
 use Rattle.std.proofs.Common.{◌≡◌, ℕ, ◌+◌, ◌-◌, ◌<◌, ◌≤◌, ◌*◌, Bool, Option, Some, List, [], length, get_or, map, refl, sym, ap, ◌∙◌, subst, arith, slice_get}
+use Rattle.std.specs.List.{AllByRecursion}
 use Rattle.std.proofs.lemmas.Option.{slice_get_read}
 use Rattle.std.proofs.lemmas.List.{drop_all, take_all, get_or_default}
 use Rattle.vd_base.specs.declared.protocols.Proto.{Proto}
@@ -15,7 +16,7 @@ use Rattle.vd_space.specs.Bounds.{use_shift}
 use Rattle.vd_space.specs.Sizes.{heft, IsWithinLimits}
 use Rattle.vd_space.specs.Usual.{usual_from}
 use Rattle.vd_usual.specs.Terms.{candidates_of, row_at, IsTable, terms_after, AreCosts}
-use Rattle.vd_usual.specs.Ledger.{AreSmall, places_at, given_by, handed_on, IsHandedOn}
+use Rattle.vd_usual.specs.Ledger.{AreSmall, places_at, given_by, handed_on, IsHandedOn, IsSmallShift}
 use Rattle.vd_usual.proofs.Costs.{each_at}
 use Rattle.vd_usual.proofs.Tables.{no_shifts}
 use Rattle.vd_usual.proofs.Steps.{places_size}
@@ -82,6 +83,7 @@ first_ledger problem limits terms shifts are none =
     let all = ap (heft (λ (u : Use). 212 * u.weight)) (take_all (length problem.uses) problem.uses (omega arith)) in
     record {
       shifts = none ∙ sym (ap (usual_from problem (length problem.uses)) (drop_all (length problem.uses) problem.uses (omega arith)));
+      small = subst (λ (s : List Shift). AllByRecursion IsSmallShift s) (sym none) tt;
       terms = subst (λ s. IsTable problem (terms_after problem s) terms) (sym none) (no_shifts problem terms are.table);
       unused = λ number p q low. ap (total (use_shift number p q)) none;
       light = omega (arith, costs, light, all);

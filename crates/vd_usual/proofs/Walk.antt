@@ -24,6 +24,7 @@ use Rattle.vd_usual.proofs.Burden.{at_by, size_by, amount_at_is, emptied_at, rai
 use Rattle.vd_usual.proofs.Sums.{slot_at, slot_other, target_at, target_other, source_other}
 use Rattle.vd_usual.proofs.Tables.{shifted_table}
 use Rattle.vd_usual.proofs.Steps.{places_are, targets, sources}
+use Rattle.vd_usual.proofs.Amounts.{handed_small}
 
 emptied_is : (o : Option ℕ) (d : ℤ) → d ≡ neg_ℤ (pos (unwrap_or o 0)) → option_map pos (option_map (λ v. 0) o) ≡ option_map (λ v. v +ℤ d) (option_map pos o)
 emptied_is None d is = refl
@@ -169,6 +170,21 @@ module _ (problem : Problem) (few : length problem.hosts ≤ 4) (candidates : Li
     rest_is : drop at problem.uses ≡ u ∷ drop (at + 1) problem.uses
     rest_is = drop_more problem.uses at u low_use ∙ ap (λ v. v ∷ drop (at + 1) problem.uses) here_is
 
+  -- numbers stay small
+  pub next_small : (ledger : Ledger) → IsHandedOn problem (at + 1) ledger → AreSmall (given_by (protocols problem) candidates u ledger)
+  next_small ledger is p =
+      let room = given_room ledger is.terms p in
+      let uses = take_heft ledger is.terms in
+      let light = is.light in
+      omega (arith, room, uses, light)
+
+  -- the terms are small
+  small_at : (ledger : Ledger) → IsHandedOn problem (at + 1) ledger → AreSmallTerms ledger.terms
+  small_at ledger is slot p =
+      let light = is.light in
+      let low = small_terms ledger.terms 111673344 (omega (arith, light)) slot p in
+      omega (arith, low)
+
   -- a use more
   pub next : (ledger : Ledger) → IsHandedOn problem (at + 1) ledger → IsHandedOn problem at (handed_on (protocols problem) candidates at u ledger)
   next ledger is =
@@ -179,18 +195,11 @@ module _ (problem : Problem) (few : length problem.hosts ≤ 4) (candidates : Li
         shifts = next_shifts ledger is.terms is.unused
             ∙ ap (λ before. in_list_order (to_source problem at u) many (in_list_order (from_target problem at u) many before)) is.shifts
             ∙ ap (usual_from problem at) (sym (rest_is ledger is.terms));
+        small = handed_small at u.source.0 u.target.0 (given_by (protocols problem) candidates u ledger) ledger (small_at ledger is) (next_small ledger is) is.small;
         terms = next_table ledger is.terms;
         unused = next_unused ledger is.terms is.unused;
         light = omega (arith, grows, uses, light);
       }
-
-  -- numbers stay small
-  pub next_small : (ledger : Ledger) → IsHandedOn problem (at + 1) ledger → AreSmall (given_by (protocols problem) candidates u ledger)
-  next_small ledger is p =
-      let room = given_room ledger is.terms p in
-      let uses = take_heft ledger is.terms in
-      let light = is.light in
-      omega (arith, room, uses, light)
 
 pub are_small : (problem : Problem) (at : ℕ) (ledger : Ledger) → IsHandedOn problem at ledger → AreSmallTerms ledger.terms
 are_small problem at ledger is slot p =

@@ -1,5 +1,6 @@
 -- What is handed on from the target of a use to its source.
 use Rattle.std.specs.Prelude.{◌≡◌, ℕ, zero, suc, ◌+◌, ◌*◌, ◌<◌, ◌≤◌, Bool, true, false, Option, None, unwrap_or, List, [], ◌∷◌, ◌++◌, length, take, drop, slice_set, slice_index_or, pos}
+use Rattle.std.specs.List.{AllByRecursion}
 use Rattle.vd_base.specs.declared.protocols.Proto.{Proto}
 use Rattle.vd_prefixes.specs.declared.shift.Shift.{Shift}
 use Rattle.vd_space.specs.declared.problem.Problem.{Problem}
@@ -23,6 +24,10 @@ one_shift at side add p (suc n) = shift_to at side p add (suc n) ∷ []
 abbrev pub made : ℕ → ℕ → Bool → List ℕ → ℕ → List Shift
 made at side add amounts zero = []
 made at side add amounts (suc n) = made at side add amounts n ++ one_shift at side add n (slice_index_or amounts n 0)
+
+-- its amount is a number of 32 bits
+abbrev pub IsSmallShift : Shift → Type 0
+IsSmallShift shift = shift.amount < 4294967296
 
 -- ---- the two steps of a use
 
@@ -55,6 +60,7 @@ burden problem at ledger = heft greatest ledger.terms + heft (λ (u : Use). 212 
 
 pub record IsHandedOn (problem : Problem) (at : ℕ) (ledger : Ledger) : Type 0 where
   pub shifts : ledger.shifts ≡ usual_from problem at (drop at problem.uses)
+  pub small : AllByRecursion IsSmallShift ledger.shifts
   pub terms : IsTable problem (terms_after problem ledger.shifts) ledger.terms
   pub unused : (number p q : ℕ) → number < at → total (use_shift number p q) ledger.shifts ≡ pos 0
   pub light : burden problem at ledger ≤ 111673344

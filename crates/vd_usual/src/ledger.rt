@@ -1,13 +1,14 @@
 //! The shifts so far, and what each slot must cost after them.
 
 ghost use Rattle.std.specs.Prelude.{◌≡◌, ◌++◌, ◌<◌, ◌≤◌, length, map, IfOk, OnOk};
+ghost use Rattle.std.specs.List.{AllByRecursion};
 ghost use Rattle.vd_base.specs.Limits.{most_certificate_shifts};
 ghost use Rattle.vd_space.specs.Labelled.{IsLabelled};
 ghost use Rattle.vd_space.specs.Sizes.{IsWithinLimits};
 ghost use Rattle.vd_space.specs.Spaces.{IsProblem};
 ghost use Rattle.vd_space.specs.Usual.{usual};
 ghost use Rattle.vd_space.specs.Validity.{protocols};
-ghost use Rattle.vd_usual.specs.Ledger.{AreSmall, IsHandedOn, made, one_shift};
+ghost use Rattle.vd_usual.specs.Ledger.{AreSmall, IsHandedOn, IsSmallShift, made, one_shift};
 ghost use Rattle.vd_usual.specs.Terms.{candidates_of};
 
 use crate::rows::{amounts, emptied, givens, raised};
@@ -160,7 +161,8 @@ fn hand_all_on(
     requires limits { IsWithinLimits problem.now }
     requires candidates { candidates.now ≡ map (candidates_of problem.now) problem.now.slots }
     requires ledger { IsHandedOn problem.now (length problem.now.uses) ledger.old }
-    ensures { OnOk result (ledger.new.shifts ≡ usual problem.now) }
+    ensures shifts { OnOk result (ledger.new.shifts ≡ usual problem.now) }
+    ensures small { OnOk result (AllByRecursion IsSmallShift ledger.new.shifts) }
 {
     let uses = problem.uses.as_slice();
     for at in (0..uses.len()).rev() {
@@ -177,6 +179,7 @@ pub fn usual(alloc: Global, problem: &Problem) -> Result<Items<Shift>, AllocErro
     requires limits { IsWithinLimits problem.now }
     ensures usual { IfOk result (λ shifts. shifts ≡ usual problem.now) }
     ensures few { IfOk result (λ shifts. length shifts ≤ most_certificate_shifts) }
+    ensures small { IfOk result (AllByRecursion IsSmallShift) }
 {
     let list = protocols(alloc, problem.hosts.as_slice().len() as u8)?;
     let candidates = all_candidates(alloc, problem, list.as_slice())?;

@@ -1,5 +1,5 @@
 -- The operations on shared sums do what a back end's are to do, where they are said to.
-use Rattle.std.proofs.Common.{◌≡◌, ◌≢◌, ℕ, ◌+◌, ◌-◌, ◌*◌, ◌%◌, ◌^◌, ◌<◌, IsTrue, List, length, refl, ap, ap₂, ◌∙◌, arith}
+use Rattle.std.proofs.Common.{◌≡◌, ◌≢◌, ℕ, ◌+◌, ◌-◌, ◌*◌, ◌%◌, ◌^◌, ◌<◌, IsTrue, List, length, ap, ap₂, ◌∙◌, arith}
 use Rattle.std.specs.Prelude.{slice_index}
 use Rattle.vd_base.specs.declared.ids.HostId.{HostId}
 use Rattle.vd_base.specs.declared.operations.Op.{Op}
@@ -14,18 +14,26 @@ use Rattle.vd_execution.specs.Gadgets.{BySums}
 use Rattle.vd_duet.specs.Calls.{Places}
 use Rattle.vd_duet.specs.Acting.{acts_at, apply_at, ActsWhereItSays}
 use Rattle.vd_duet.specs.Laws.{IsInOne, GivesWord, Operands, IsReady, NumberFits, BackendLaws}
+use Rattle.vd_algebra.proofs.WordProducts.{word_product}
+use Rattle.vd_algebra.proofs.Parts.{scale_each}
 use Rattle.vd_pairs.specs.PairCalls.{operand, at_hosts}
 use Rattle.vd_pairs.proofs.Parts.{first_operand, second_operand}
 use Rattle.vd_pairs.proofs.Operations.{ItemsMultiply, applied_gives, numbered_gives, product_gives}
 use Rattle.vd_pairs.proofs.PairLaws.{pair_laws}
 use Rattle.vd_pairs.proofs.PairActs.{applied_acts, numbered_acts, product_acts, pair_acts}
 use Rattle.vd_words.specs.AddCalls.{add_serves, add_apply, add_calls}
-use Rattle.vd_words.proofs.Sums.{product, difference, sum_of_sums, scaled}
 
+-- dealt triples multiply
 pub triples_multiply : ItemsMultiply BySums
-triples_multiply x0 x1 y0 y1 a0 a1 b0 b1 c0 c1 a0_small a1_small b0_small b1_small item =
-    product (2 ^ 32) x0 x1 y0 y1 a0 a1 b0 b1 c0 c1 (omega (arith, a0_small)) (omega (arith, a1_small)) (omega (arith, b0_small)) (omega (arith, b1_small)) item
-    _ _ _ _ refl refl refl refl
+triples_multiply x0 x1 y0 y1 a0 a1 b0 b1 c0 c1 p q r s u v item =
+    word_product (record { x = x0; y = y0; item = record { a = a0; b = b0; c = c0 } }) (record { x = x1; y = y1; item = record { a = a1; b = b1; c = c1 } }) (p, r, u) (q, s, v) item
+
+sums_added : (x0 x1 y0 y1 : ℕ) → ((x0 + y0) % 2 ^ 32 + (x1 + y1) % 2 ^ 32) % 2 ^ 32 ≡ ((x0 + x1) % 2 ^ 32 + (y0 + y1) % 2 ^ 32) % 2 ^ 32
+sums_added x0 x1 y0 y1 = omega arith
+
+differences_added : (x0 x1 y0 y1 : ℕ) → y0 < 2 ^ 32 → y1 < 2 ^ 32
+    → ((x0 + (2 ^ 32 - y0)) % 2 ^ 32 + (x1 + (2 ^ 32 - y1)) % 2 ^ 32) % 2 ^ 32 ≡ ((x0 + x1) % 2 ^ 32 + (2 ^ 32 - (y0 + y1) % 2 ^ 32)) % 2 ^ 32
+differences_added x0 x1 y0 y1 a b = omega (arith, a, b)
 
 module _ (a b : HostId) (apart : a.0 ≢ b.0) (t : Tape) (next : List ℕ) (w : Hosts) (ready : IsReady (add_calls a b) t next w) where
   abbrev GivesResult : Op → List Places → List ℕ → Type 0
@@ -40,7 +48,7 @@ module _ (a b : HostId) (apart : a.0 ≢ b.0) (t : Tape) (next : List ℕ) (w : 
       let y = operand xs 1 in
       applied_gives BySums a b apart add_serves (add_apply a b) t next w ready (IsInOne xs) binary.Add (operand xs 0) (operand xs 1) (slice_index vs 0) (slice_index vs 1)
       (result_of op.Add vs) p q
-      (sum_of_sums (2 ^ 32) ((w a.0).registers x.first.0) ((w b.0).registers x.second.0) ((w a.0).registers y.first.0) ((w b.0).registers y.second.0)
+      (sums_added ((w a.0).registers x.first.0) ((w b.0).registers x.second.0) ((w a.0).registers y.first.0) ((w b.0).registers y.second.0)
       ∙ ap₂ (λ (i j : ℕ). (i + j) % 2 ^ 32) p.word q.word)
   apply_law op.Sub can fits xs vs e os =
       let p = first_operand a b add_serves (add_apply a b) BySums next w xs vs (omega (arith, e)) os in
@@ -51,14 +59,14 @@ module _ (a b : HostId) (apart : a.0 ≢ b.0) (t : Tape) (next : List ℕ) (w : 
       let y1 : (w b.0).registers y.second.0 < 2 ^ 32 = ready.sound.words b.0 y.second.0 in
       applied_gives BySums a b apart add_serves (add_apply a b) t next w ready (IsInOne xs) binary.Sub (operand xs 0) (operand xs 1) (slice_index vs 0) (slice_index vs 1)
       (result_of op.Sub vs) p q
-      (difference (2 ^ 32) ((w a.0).registers x.first.0) ((w b.0).registers x.second.0) ((w a.0).registers y.first.0) ((w b.0).registers y.second.0)
-      (omega (arith, y0)) (omega (arith, y1)) (omega arith) ∙ ap₂ (λ (i j : ℕ). (i + (2 ^ 32 - j)) % 2 ^ 32) p.word q.word)
+      (differences_added ((w a.0).registers x.first.0) ((w b.0).registers x.second.0) ((w a.0).registers y.first.0) ((w b.0).registers y.second.0) y0 y1
+      ∙ ap₂ (λ (i j : ℕ). (i + (2 ^ 32 - j)) % 2 ^ 32) p.word q.word)
   apply_law (op.Scale k) can fits xs vs e os =
       let p = first_operand a b add_serves (add_apply a b) BySums next w xs vs (omega (arith, e)) os in
       let x = operand xs 0 in
       numbered_gives BySums a b apart add_serves (add_apply a b) t next w ready (IsInOne xs) binary.Mul k fits (operand xs 0) (slice_index vs 0)
       (result_of (op.Scale k) vs) p
-      (scaled (2 ^ 32) ((w a.0).registers x.first.0) ((w b.0).registers x.second.0) k ∙ ap (λ (i : ℕ). (i * k) % 2 ^ 32) p.word)
+      (scale_each k ((w a.0).registers x.first.0) ((w b.0).registers x.second.0) ∙ ap (λ (i : ℕ). (i * k) % 2 ^ 32) p.word)
   apply_law op.Mul can fits xs vs e os =
       let p = first_operand a b add_serves (add_apply a b) BySums next w xs vs (omega (arith, e)) os in
       let q = second_operand a b add_serves (add_apply a b) BySums next w xs vs (omega (arith, e)) os in

@@ -14,3 +14,9 @@ returns-in-TooLong g c = rw (c.in-TooLong.is, ‚Üê c.as_str-in-TooLong.ensures, ‚
 
 pub returns-in-WriteFault : goal.returns-in-WriteFault
 returns-in-WriteFault g c = rw c.in-WriteFault.is c.write_parts-in-WriteFault.ensures
+
+pub returns-in-NoAssignment : goal.returns-in-NoAssignment
+returns-in-NoAssignment g c = rw c.in-NoAssignment.is c.write_parts-in-NoAssignment.ensures
+
+pub returns-in-CertificateText : goal.returns-in-CertificateText
+returns-in-CertificateText g c = rw c.in-CertificateText.is c.write_offset-in-CertificateText.ensures

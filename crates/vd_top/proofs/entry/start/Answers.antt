@@ -1,7 +1,7 @@
 use Rattle.vd_top.proofs.entry.start.Goals as goal
 
 pub returns-in-None-clause-runs : goal.returns-in-None-clause-runs
-returns-in-None-clause-runs g c = λ outcomes none. c.run.ensures.runs outcomes
+returns-in-None-clause-runs g c = λ none. c.run.ensures.runs
 
 pub returns-in-None-clause-complete : goal.returns-in-None-clause-complete
-returns-in-None-clause-complete g c = λ outcomes none. c.run.ensures.complete outcomes
+returns-in-None-clause-complete g c = λ none. c.run.ensures.complete

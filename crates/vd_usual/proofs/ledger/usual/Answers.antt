@@ -18,4 +18,4 @@ pub hand_all_on-requires-clause-ledger : goal.hand_all_on-requires-clause-ledger
 hand_all_on-requires-clause-ledger c = first_ledger c.args.problem.now c.requires.limits c.in_ok-terms.terms c.new.result c.in_ok-terms.ensures c.new.ensures
 
 pub returns-clause-few : goal.returns-clause-few
-returns-clause-few c = subst (λ shifts. length shifts ≤ 131072) (sym c.in_ok-hand_all_on.ensures) (usual_few c.args.problem.now c.requires.labelled c.requires.limits)
+returns-clause-few c = subst (λ shifts. length shifts ≤ 131072) (sym c.in_ok-hand_all_on.ensures.shifts) (usual_few c.args.problem.now c.requires.labelled c.requires.limits)

@@ -1,0 +1,58 @@
+//! Rows of numbers, read and changed by place. A sum or product that does not fit stays at the nearest number that does.
+
+use std::alloc::{AllocError, Global};
+
+/// More than any sum of costs: what it would cost to do what cannot be done.
+pub const FAR: i64 = 1125899906842624;
+
+/// The number at a place, and 0 past the end.
+pub fn number_at(numbers: &[i64], place: usize) -> i64 {
+    match numbers.get(place) {
+        Some(number) => *number,
+        None => 0,
+    }
+}
+
+/// A row of a table, which is empty past the end.
+pub fn row_at(rows: &[Vec<i64>], row: usize) -> &[i64] {
+    match rows.get(row) {
+        Some(numbers) => numbers.as_slice(),
+        None => &[],
+    }
+}
+
+/// The places of a slot, which are none past the end.
+pub fn places_at(places: &[Vec<usize>], slot: usize) -> &[usize] {
+    match places.get(slot) {
+        Some(left) => left.as_slice(),
+        None => &[],
+    }
+}
+
+/// Adds to the number at a place, if there is one.
+fn add(numbers: &mut Vec<i64>, place: usize, amount: i64) {
+    if place < numbers.len() {
+        numbers[place] = numbers[place].saturating_add(amount);
+    }
+}
+
+/// Adds to the number of a table at a row and a place, if there is one.
+pub fn add_at(rows: &mut Vec<Vec<i64>>, row: usize, place: usize, amount: i64) {
+    if row < rows.len() {
+        add(&mut rows[row], place, amount);
+    }
+}
+
+/// The least of the numbers; `FAR` where there is none.
+pub fn least(numbers: &[i64]) -> i64 {
+    let mut least = FAR;
+    for number in numbers {
+        least = least.min(*number);
+    }
+    least
+}
+
+/// A row of so many zeros.
+pub fn zeros(alloc: Global, count: usize) -> Result<Vec<i64>, AllocError> {
+    vec![in alloc; 0; count]
+}

@@ -1,0 +1,10 @@
+pub mod Lists
+pub mod Places
+pub mod GateRooms
+pub mod GateGives
+pub mod CircuitGives
+pub mod BitLaws
+pub mod BitActs
+pub mod Turns
+pub mod Numbers
+pub mod Masks

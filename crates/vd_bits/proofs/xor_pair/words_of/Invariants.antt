@@ -1,0 +1,7 @@
+use Rattle.std.proofs.Common.{◌≡◌, map, take}
+use Rattle.vd_pairs.specs.PairCalls.{shares_of}
+use Rattle.vd_bits.specs.BitParts.{all_parts_of}
+use Rattle.vd_bits.proofs.xor_pair.words_of.Given as goal
+
+abbrev pub invariant-loop-x : goal.invariant-loop-x
+invariant-loop-x l = l.words ≡ map shares_of (all_parts_of (take l.x-index l.x-items))

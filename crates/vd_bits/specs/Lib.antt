@@ -1,0 +1,4 @@
+pub mod BitCalls
+pub mod BitParts
+pub mod Law
+pub mod Example

@@ -1,0 +1,280 @@
+ghost use Rattle.std.specs.Prelude.{◌≡◌, ◌≤◌, ◌∷◌, [], IfOk, OnOk, length, map};
+ghost use Rattle.vd_base.specs.declared.operations.Op.TheVariants as op;
+ghost use Rattle.vd_duet.specs.Builder.{TakesAtMost};
+ghost use Rattle.vd_duet.specs.Calls.{Makes, in_clear, hosts_of};
+ghost use Rattle.vd_duet.specs.Laws.{AreKnown};
+ghost use Rattle.vd_pairs.specs.PairCalls.{AreLow, shares_of, places_at};
+ghost use Rattle.vd_pairs.specs.declared.shares.Sharing.TheVariants as way;
+ghost use Rattle.vd_bits.specs.BitCalls.{HasCircuitRoom, gate_of, gates_in, gate_shares, gates_shares, circuit_made, computed, bit_calls};
+ghost use Rattle.vd_bits.specs.BitParts.{parts_of, all_parts_of};
+
+use crate::circuits::{bit_circuit, difference_circuit, sum_circuit};
+use crate::gates::Gate;
+use crate::steps::{mask, part, shift_left, shift_right, turn};
+use std::alloc::{AllocError, Global};
+use vd_base::{HostId, Op, Proto};
+use vd_duet::{Args, Backend, Clear, Duet, Parts};
+use vd_execution::{Binary, Reg};
+use vd_items::Items;
+use vd_pairs::{Pair, Shares, Sharing};
+
+/// A host's part of an exclusive or.
+#[derive(Clone, Copy, PartialEq, Eq, Debug)]
+pub struct XorShare(pub Reg);
+
+/// Two hosts that share words: a word is the exclusive or of their parts.
+#[derive(Clone, Copy, PartialEq, Eq, Debug)]
+pub struct XorPair(pub HostId, pub HostId);
+
+impl XorPair {
+    fn pair(&self) -> Pair
+        ensures { result ≡ record { sharing = way.Xors; first = self.now.0; second = self.now.1 } }
+    {
+        Pair {
+            sharing: Sharing::Xors,
+            first: self.0,
+            second: self.1,
+        }
+    }
+
+    fn parts(&self, x: Shares, alloc: Global) -> Result<Parts<XorShare>, AllocError>
+        ensures { IfOk result (λ y. parts_of y ≡ places_at self.now.0 self.now.1 x) }
+    {
+        Ok(Items::from_slice(
+            alloc,
+            &[(self.0, XorShare(x.first)), (self.1, XorShare(x.second))],
+        )?)
+    }
+
+    fn copies(&self, x: Shares, alloc: Global) -> Result<Parts<Clear>, AllocError>
+        ensures { IfOk result (λ y. in_clear y ≡ places_at self.now.0 self.now.1 x) }
+    {
+        Ok(Items::from_slice(
+            alloc,
+            &[(self.0, Clear(x.first)), (self.1, Clear(x.second))],
+        )?)
+    }
+
+    /// What a gate makes of the words that are there.
+    fn emit(&self, gate: Gate, words: &[Shares], to: &mut Duet) -> Result<Shares, AllocError>
+        requires known { AreKnown (self.now.0 ∷ self.now.1 ∷ []) to.old.next }
+        requires room { AreLow to.old.next }
+        ensures exact { IfOk result (λ x. Makes (gate_shares self.now.0 self.now.1 (gate_of gate) words.now) to.old x to.new) }
+        ensures few { OnOk result (TakesAtMost 32 to.old.next to.new.next) }
+    {
+        let pair = self.pair();
+        match gate {
+            Gate::And(x, y) => pair.product(part(words, x), part(words, y), to),
+            Gate::Xor(x, y) => pair.apply(Binary::Xor, part(words, x), part(words, y), to),
+            Gate::Shl(amount, x) => shift_left(&pair, amount, part(words, x), to),
+            Gate::Shr(amount, x) => shift_right(&pair, amount, part(words, x), to),
+            Gate::Not(x) => turn(&pair, 4294967295, part(words, x), to),
+            Gate::Flip(x) => turn(&pair, 1, part(words, x), to),
+            Gate::Lowest(x) => pair.apply_number(Binary::And, 1, part(words, x), to),
+            Gate::Mask(x) => mask(&pair, part(words, x), to),
+        }
+    }
+
+    /// What the last of some gates makes, of words that are there before the first.
+    fn run(&self, gates: &[Gate], words: Items<Shares>, to: &mut Duet) -> Result<Shares, AllocError>
+        requires known { AreKnown (self.now.0 ∷ self.now.1 ∷ []) to.old.next }
+        requires room { HasCircuitRoom to.old.next }
+        requires short { length gates.now ≤ 31 }
+        ensures exact { IfOk result (λ x. Makes (gates_shares self.now.0 self.now.1 (gates_in gates.now) words) to.old x to.new) }
+        ensures few { OnOk result (TakesAtMost 1024 to.old.next to.new.next) }
+    {
+        let mut made = words;
+        for gate in gates {
+            let word = self.emit(*gate, made.as_slice(), to)?;
+            made.push(word)?;
+        }
+        let all = made.as_slice();
+        Ok(part(all, all.len().saturating_sub(1)))
+    }
+
+    /// What the last of some gates makes, of operands at the first places.
+    pub fn circuit(
+        &self,
+        gates: &[Gate],
+        args: &Args<XorShare>,
+        to: &mut Duet,
+    ) -> Result<Parts<XorShare>, AllocError>
+        requires known { AreKnown (self.now.0 ∷ self.now.1 ∷ []) to.old.next }
+        requires room { HasCircuitRoom to.old.next }
+        requires short { length gates.now ≤ 31 }
+        ensures exact { IfOk result (λ x. Makes (circuit_made self.now.0 self.now.1 (gates_in gates.now) (all_parts_of args.now)) to.old
+            (parts_of x) to.new) }
+        ensures hosts { IfOk result (λ x. hosts_of (parts_of x) ≡ self.now.0 ∷ self.now.1 ∷ []) }
+        ensures few { OnOk result (TakesAtMost 1024 to.old.next to.new.next) }
+    {
+        let words = words_of(args, to.alloc())?;
+        let made = self.run(gates, words, to)?;
+        self.parts(made, to.alloc())
+    }
+
+    /// What the last of some gates makes, of two operands.
+    fn of_two(
+        &self,
+        gates: &[Gate],
+        x: &Parts<XorShare>,
+        y: &Parts<XorShare>,
+        to: &mut Duet,
+    ) -> Result<Parts<XorShare>, AllocError>
+        requires known { AreKnown (self.now.0 ∷ self.now.1 ∷ []) to.old.next }
+        requires room { HasCircuitRoom to.old.next }
+        requires short { length gates.now ≤ 31 }
+        ensures exact { IfOk result (λ z. Makes (circuit_made self.now.0 self.now.1 (gates_in gates.now) (parts_of x.now ∷ parts_of y.now ∷ [])) to.old
+            (parts_of z) to.new) }
+        ensures hosts { IfOk result (λ z. hosts_of (parts_of z) ≡ self.now.0 ∷ self.now.1 ∷ []) }
+        ensures few { OnOk result (TakesAtMost 1024 to.old.next to.new.next) }
+    {
+        let words = Items::from_slice(to.alloc(), &[shares(x), shares(y)])?;
+        let made = self.run(gates, words, to)?;
+        self.parts(made, to.alloc())
+    }
+
+    /// Both words bit by bit, by a bit triple.
+    pub fn and(
+        &self,
+        x: &Parts<XorShare>,
+        y: &Parts<XorShare>,
+        to: &mut Duet,
+    ) -> Result<Parts<XorShare>, AllocError>
+        requires known { AreKnown (self.now.0 ∷ self.now.1 ∷ []) to.old.next }
+        requires room { HasCircuitRoom to.old.next }
+        ensures exact { IfOk result (λ z. Makes (computed self.now.0 self.now.1 op.And (parts_of x.now ∷ parts_of y.now ∷ [])) to.old (parts_of z) to.new) }
+        ensures hosts { IfOk result (λ z. hosts_of (parts_of z) ≡ self.now.0 ∷ self.now.1 ∷ []) }
+        ensures few { OnOk result (TakesAtMost 1024 to.old.next to.new.next) }
+    {
+        let gates = bit_circuit(Op::And, to.alloc())?;
+        self.of_two(gates.as_slice(), x, y, to)
+    }
+
+    /// The sum, modulo 2^32, of two words.
+    pub fn add(
+        &self,
+        x: &Parts<XorShare>,
+        y: &Parts<XorShare>,
+        to: &mut Duet,
+    ) -> Result<Parts<XorShare>, AllocError>
+        requires known { AreKnown (self.now.0 ∷ self.now.1 ∷ []) to.old.next }
+        requires room { HasCircuitRoom to.old.next }
+        ensures exact { IfOk result (λ z. Makes (computed self.now.0 self.now.1 op.Add (parts_of x.now ∷ parts_of y.now ∷ [])) to.old (parts_of z) to.new) }
+        ensures hosts { IfOk result (λ z. hosts_of (parts_of z) ≡ self.now.0 ∷ self.now.1 ∷ []) }
+        ensures few { OnOk result (TakesAtMost 1024 to.old.next to.new.next) }
+    {
+        let gates = sum_circuit(to.alloc())?;
+        self.of_two(gates.as_slice(), x, y, to)
+    }
+
+    /// The difference, modulo 2^32, of two words.
+    pub fn sub(
+        &self,
+        x: &Parts<XorShare>,
+        y: &Parts<XorShare>,
+        to: &mut Duet,
+    ) -> Result<Parts<XorShare>, AllocError>
+        requires known { AreKnown (self.now.0 ∷ self.now.1 ∷ []) to.old.next }
+        requires room { HasCircuitRoom to.old.next }
+        ensures exact { IfOk result (λ z. Makes (computed self.now.0 self.now.1 op.Sub (parts_of x.now ∷ parts_of y.now ∷ [])) to.old (parts_of z) to.new) }
+        ensures hosts { IfOk result (λ z. hosts_of (parts_of z) ≡ self.now.0 ∷ self.now.1 ∷ []) }
+        ensures few { OnOk result (TakesAtMost 1024 to.old.next to.new.next) }
+    {
+        let gates = difference_circuit(to.alloc())?;
+        self.of_two(gates.as_slice(), x, y, to)
+    }
+}
+
+/// The registers of the two parts of a word.
+fn shares(x: &Parts<XorShare>) -> Shares
+    ensures { result ≡ shares_of (parts_of x.now) }
+{
+    match x.as_slice() {
+        [first, second, ..] => Shares {
+            first: first.1.0,
+            second: second.1.0,
+        },
+        _ => Shares {
+            first: Reg(0),
+            second: Reg(0),
+        },
+    }
+}
+
+/// The registers of the two parts of each operand.
+fn words_of(args: &Args<XorShare>, alloc: Global) -> Result<Items<Shares>, AllocError>
+    ensures { IfOk result (λ words. words ≡ map shares_of (all_parts_of args.now)) }
+{
+    let mut words = Items::new(alloc);
+    for x in args.as_slice() {
+        words.push(shares(x))?;
+    }
+    Ok(words)
+}
+
+impl Backend for XorPair {
+    type Part = XorShare;
+
+    ghost calls = { λ b. bit_calls b.0 b.1 };
+
+    ghost register = { λ part. part.0 };
+
+    fn proto(&self) -> Proto {
+        Proto::Xor(self.0, self.1)
+    }
+
+    fn serves(&self, op: Op) -> bool {
+        match op {
+            Op::And | Op::Or | Op::Xor | Op::Not | Op::Flip | Op::Shl(_) | Op::Shr(_) => true,
+            _ => false,
+        }
+    }
+
+    fn literal(&self, word: u32, to: &mut Duet) -> Result<Parts<XorShare>, AllocError> {
+        let x = self.pair().literal(word, to)?;
+        self.parts(x, to.alloc())
+    }
+
+    fn share(&self, from: HostId, x: Reg, to: &mut Duet) -> Result<Parts<XorShare>, AllocError> {
+        let y = self.pair().share(from, x, to)?;
+        self.parts(y, to.alloc())
+    }
+
+    fn adopt(&self, x: &Parts<Clear>, to: &mut Duet) -> Result<Parts<XorShare>, AllocError> {
+        let y = self.pair().adopt(x, to)?;
+        self.parts(y, to.alloc())
+    }
+
+    fn show(&self, x: &Parts<XorShare>, at: HostId, to: &mut Duet) -> Result<Clear, AllocError> {
+        Ok(Clear(self.pair().show(shares(x), at, to)?))
+    }
+
+    fn show_all(&self, x: &Parts<XorShare>, to: &mut Duet) -> Result<Parts<Clear>, AllocError> {
+        let y = self.pair().show_all(shares(x), to)?;
+        self.copies(y, to.alloc())
+    }
+
+    fn keep(&self, x: &Parts<XorShare>, to: &mut Duet) -> Result<Parts<XorShare>, AllocError> {
+        let y = self.pair().keep(shares(x), to)?;
+        self.parts(y, to.alloc())
+    }
+
+    fn renew(
+        &self,
+        kept: &Parts<XorShare>,
+        x: &Parts<XorShare>,
+        to: &mut Duet,
+    ) -> Result<(), AllocError> {
+        self.pair().renew(shares(kept), shares(x), to)
+    }
+
+    fn apply(
+        &self,
+        op: Op,
+        args: &Args<XorShare>,
+        to: &mut Duet,
+    ) -> Result<Parts<XorShare>, AllocError> {
+        let gates = bit_circuit(op, to.alloc())?;
+        self.circuit(gates.as_slice(), args, to)
+    }
+}

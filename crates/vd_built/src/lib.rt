@@ -1,0 +1,15 @@
+//! The protocols that are built, as the splitter asks for them: words in clear, at one host or a copy at each of several.
+#![tactic(auto)]
+
+mod acting;
+mod arrays;
+mod back_ends;
+mod built;
+mod held;
+mod laws;
+mod loops;
+mod moves;
+
+pub use built::Built;
+pub use held::Held;
+pub use laws::programs_can_be_split;

@@ -1,0 +1,3 @@
+pub mod CircuitCalls
+pub mod Law
+pub mod Example

@@ -1,0 +1,5 @@
+pub mod Emitted
+pub mod Rows
+pub mod Binds
+pub mod Reveals
+pub mod CommitActs

@@ -1,0 +1,4 @@
+pub mod Emitted
+pub mod ToXor
+pub mod ToAdd
+pub mod ConvertActs

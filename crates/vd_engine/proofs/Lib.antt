@@ -1,0 +1,7 @@
+pub mod Codes
+pub mod Composing
+pub mod Driving
+pub mod Enough
+pub mod Going
+pub mod Turns
+pub mod WordLines

@@ -1,0 +1,114 @@
+-- What holds of the code of the hosts.
+use Rattle.std.proofs.Common.{◌≡◌, ℕ, zero, suc, ◌^◌, ◌<◌, ◌≤◌, Bool, true, List, [], ◌∷◌, inl, length, map, slice_index, slice_index_or, refl, sym, ap, ap₂, subst, ◌∙◌, arith}
+use Rattle.std.specs.List.{All, list_all, range_with_len}
+use Rattle.vd_base.specs.declared.protocols.Proto.{Proto}
+use Rattle.vd_base.specs.declared.protocols.Proto.TheVariants.{Local}
+use Rattle.vd_base.specs.HostSets.{host}
+use Rattle.vd_base.specs.Protocols.{protocols_of}
+use Rattle.vd_core.specs.declared.normal.NormalForm.{NormalForm}
+use Rattle.vd_core.specs.Facts.{IsWellMade}
+use Rattle.vd_constraints.specs.declared.labels.Labels.{Labels}
+use Rattle.vd_constraints.specs.Rules.{label}
+use Rattle.vd_space.specs.Reading.{problem_of}
+use Rattle.vd_space.specs.Validity.{protocol}
+use Rattle.vd_execution.specs.declared.instructions.Instr.{Instr}
+use Rattle.vd_execution.specs.Code.{Finished}
+use Rattle.vd_execution.specs.Deals.{IsValidDeal}
+use Rattle.vd_execution.specs.Joint.{IsTidy, code_of}
+use Rattle.vd_execution.specs.Text.{text, flat, pick}
+use Rattle.vd_execution.specs.World.{Tape, followed_by_zeros}
+use Rattle.vd_schedules.proofs.Picks.{picks}
+use Rattle.vd_schedules.proofs.Reading.{read_back, unbegun}
+use Rattle.vd_joint.specs.Outcome.{NumbersFit}
+use Rattle.vd_joint.proofs.Lists.{and_left, and_right}
+use Rattle.vd_suite.specs.Parts.{is_built}
+use Rattle.vd_suite.specs.Suite.{IsOver, AreGiven}
+use Rattle.vd_suite.specs.Given.{zero_deal}
+use Rattle.vd_suite.specs.Whole.{inputs_of, CanRun}
+use Rattle.vd_suite.proofs.Given.{listed_protocols_are_over, zero_deals_are_valid}
+use Rattle.vd_suite.proofs.Whole.{code_tells_the_same, code_runs_well}
+use Rattle.vd_whole.specs.Lists.{IsChosen, protos_of}
+use Rattle.vd_whole.proofs.Chosen.{can_run}
+use Rattle.vd_ranges.proofs.Programs.{code_is_in_range}
+use Rattle.vd_host_programs.specs.Programs.{IsRunnable, proto_at, protos_at, joint_of, host_codes, CodesCanBeLoaded, AreWords, CodesRunAsTold, CodesRunWell}
+
+or_default : {X : Type 0} (P : X → Type 0) (xs : List X) (d : X) → All P xs → P d → (k : ℕ) → P (slice_index_or xs k d)
+or_default P [] d a z k = z
+or_default P (x ∷ xs) d a z zero = a 0 d (omega arith)
+or_default P (x ∷ xs) d a z (suc k) = or_default P xs d (λ j e lt. a (suc j) e (omega (arith, lt))) z k
+
+length_map : {X Y : Type 0} (f : X → Y) (xs : List X) → length (map f xs) ≡ length xs
+length_map f [] = refl
+length_map f (x ∷ xs) = ap suc (length_map f xs)
+
+-- the protocols are over the hosts of the program
+pub places_over : (program : NormalForm) (places : List ℕ) → IsWellMade program → (x : ℕ) → IsOver (length program.hosts) (protos_at program places x)
+places_over program places made x =
+    or_default (IsOver (length program.hosts)) (protocols_of (length program.hosts)) (Local (host 0)) (listed_protocols_are_over (length program.hosts) made.limits.hosts)
+    (record { some = (0, inl refl); known = (made.limits.some_host, tt) }) (slice_index places x)
+
+-- each is the protocol of the program's problem
+problem_protos : (program : NormalForm) (labels : Labels) (places : List ℕ) → IsWellMade program → protos_at program places ≡ protos_of (problem_of program labels) places
+problem_protos program labels places made =
+    ap (λ (n : ℕ). let f : ℕ → Proto = λ x. proto_at (protocols_of n) (slice_index places x) in f) (sym made.labels ∙ sym (length_map (label program) program.labels))
+
+-- a test that all items of a list pass, and 0, is passed at each place
+at_each : (f : ℕ → Bool) (xs : List ℕ) → list_all f xs ≡ true → f 0 ≡ true → (x : ℕ) → f (slice_index xs x) ≡ true
+at_each f [] e z x = z
+at_each f (y ∷ ys) e z zero = and_left (f y) (list_all f ys) e
+at_each f (y ∷ ys) e z (suc x) = at_each f ys (and_right (f y) (list_all f ys) e) z x
+
+first_built : (n : ℕ) → is_built (proto_at (protocols_of n) 0) ≡ true
+unfolding lib.Count.ones
+first_built zero = refl
+first_built (suc n) = refl
+
+pub no_words : (h i : ℕ) → slice_index (inputs_of [] h) i < 2 ^ 32
+no_words h i = omega arith
+
+module _ (program : NormalForm) (places : List ℕ) (made : IsWellMade program) (numbers : NumbersFit program) (runnable : IsRunnable program places) where
+  chosen : IsChosen program runnable.labels places
+  chosen = record { made = made; numbers = numbers; whole = runnable.whole; valid = runnable.valid; built = runnable.built }
+
+  pub program_can_run : (inputs : List (List ℕ)) → AreWords inputs → (t : Tape) → IsValidDeal t → AreGiven (inputs_of inputs) t → CanRun program (protos_at program places) inputs t
+  program_can_run inputs words t deal given =
+      subst (λ (f : ℕ → Proto). CanRun program f inputs t) (sym (problem_protos program runnable.labels places made))
+      (can_run program runnable.labels places chosen inputs words t deal given)
+
+  pub places_built : (x : ℕ) → is_built (protos_at program places x) ≡ true
+  places_built x =
+      subst (λ (f : ℕ → Proto). is_built (f x) ≡ true) (sym (problem_protos program runnable.labels places made))
+      (at_each (λ p. is_built (protocol (problem_of program runnable.labels) p)) places runnable.built (first_built (length (problem_of program runnable.labels).hosts)) x)
+
+  pub joint_is_tidy : IsTidy (joint_of program places)
+  joint_is_tidy =
+      let zeros = zero_deals_are_valid (inputs_of []) no_words in
+      (code_tells_the_same program (protos_at program places) [] (zero_deal (inputs_of [])) (program_can_run [] no_words (zero_deal (inputs_of [])) zeros.0 zeros.1)).tidy
+
+  -- the code of each host is its part of the lines
+  pub picked_codes : map (λ h. pick h (flat (joint_of program places) [])) (range_with_len 0 (length program.hosts)) ≡ host_codes program places
+  picked_codes = at (range_with_len 0 (length program.hosts))
+    where
+      at : (hs : List ℕ) → map (λ h. pick h (flat (joint_of program places) [])) hs ≡ map (λ h. text (code_of h (joint_of program places)) []) hs
+      at [] = refl
+      at (h ∷ hs) = ap₂ (λ (c : List Instr) (cs : List (List Instr)). c ∷ cs) (picks h (joint_of program places) joint_is_tidy []) (at hs)
+
+pub codes_can_be_loaded : CodesCanBeLoaded
+codes_can_be_loaded program places made h = record {
+  nested = read_back (code_of h (joint_of program places)) (unbegun h (joint_of program places));
+  in_range = code_is_in_range program (protos_at program places) made (places_over program places made) h;
+}
+
+pub codes_run_as_told : CodesRunAsTold
+codes_run_as_told program places made numbers runnable inputs words t deal given =
+    code_tells_the_same program (protos_at program places) inputs t (program_can_run program places made numbers runnable inputs words t deal given)
+
+pub codes_run_well : CodesRunWell
+codes_run_well program places made numbers runnable inputs words s deal given =
+    code_runs_well program (protos_at program places) inputs s (program_can_run program places made numbers runnable inputs words (followed_by_zeros s) deal given)
+
+-- a host that is not declared has no code
+pub ended_past : (program : NormalForm) (places : List ℕ) → IsWellMade program → NumbersFit program → IsRunnable program places → (h : ℕ) → length program.hosts ≤ h → code_of h (joint_of program places) ≡ Finished
+ended_past program places made numbers runnable h le =
+    let zeros = zero_deals_are_valid (inputs_of []) no_words in
+    (codes_run_as_told program places made numbers runnable [] no_words (zero_deal (inputs_of [])) zeros.0 zeros.1).hosts h le

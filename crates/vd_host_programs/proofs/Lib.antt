@@ -1,0 +1,3 @@
+pub mod HostCodes
+pub mod Places
+pub mod StatementTests

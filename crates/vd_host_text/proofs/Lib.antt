@@ -1,0 +1,13 @@
+pub mod WordExact
+pub mod Many
+pub mod LinesExact
+pub mod NamesExact
+pub mod FileExact
+pub mod Steps
+pub mod AmongSteps
+pub mod OpenBlocks
+pub mod CodeSteps
+pub mod HostSteps
+pub mod NamesSteps
+pub mod Programs
+pub mod Written

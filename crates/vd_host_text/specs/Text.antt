@@ -1,0 +1,46 @@
+-- The text of a host's program.
+use Rattle.std.specs.Prelude.{ℕ, ◌+◌, ◌/◌, ◌%◌, List, [], ◌∷◌, ◌++◌, Bool, nat_lt, if◌then◌else◌, codes, flat_map}
+use Rattle.std.specs.List.{list_any}
+use Rattle.vd_execution.specs.declared.instructions.Instr.{Instr}
+use Rattle.vd_bytes.specs.Reading.{field}
+use Rattle.vd_host_text.specs.declared.program.HostProgram.{HostProgram}
+use Rattle.vd_host_text.specs.Words.{spelling, word_of, operands, is_array}
+
+-- a line: the word of the instruction, its numbers, and the end of the line
+unfoldable pub line : Instr → List ℕ
+line i = spelling (word_of i) ++ (flat_map field (operands i) ++ 10 ∷ [])
+
+-- a name behind a space
+unfoldable pub name_field : List ℕ → List ℕ
+name_field name = 32 ∷ name
+
+-- a digest as 64 hexadecimal digits
+abbrev pub hex_digit : ℕ → ℕ
+hex_digit d = if nat_lt d 10 then 48 + d else 87 + d
+
+unfoldable pub hex_byte : ℕ → List ℕ
+hex_byte b = hex_digit (b / 16) ∷ hex_digit (b % 16) ∷ []
+
+-- the format of the file: 2 exactly where an instruction on arrays is there
+unfoldable pub version : Bool → List ℕ
+version arrays = if arrays then codes "2" else codes "1"
+
+abbrev pub version_line : List Instr → List ℕ
+version_line code = codes "viaduct-host " ++ version (list_any is_array code)
+
+abbrev pub names_line : List (List ℕ) → List ℕ
+names_line names = codes "\nhosts" ++ flat_map name_field names
+
+abbrev pub number_line : ℕ → List ℕ
+number_line me = codes "\nme" ++ field me
+
+abbrev pub plan_line : List ℕ → List ℕ
+plan_line bytes = codes "\nplan " ++ (flat_map hex_byte bytes ++ 10 ∷ [])
+
+-- the four lines before the code
+unfoldable pub head : HostProgram → List ℕ
+head p = version_line p.code ++ (names_line p.hosts ++ (number_line p.me.0 ++ plan_line p.plan.bytes))
+
+-- the whole file
+abbrev pub program_text : HostProgram → List ℕ
+program_text p = head p ++ (flat_map line p.code ++ codes "end\n")

@@ -1,0 +1,209 @@
+//! The reader of the lines before the code, and of the whole file.
+
+ghost use Rattle.std.specs.Prelude.{◌≡◌, ◌<◌, ◌≤◌, IfOk, length};
+ghost use Rattle.std.specs.List.{list_any};
+ghost use Rattle.std.specs.Str.{bytes_eq};
+ghost use Rattle.vd_bytes.specs.Reading.{Gives, GivesOrMemory, each_at};
+ghost use Rattle.vd_base.specs.Names as names;
+ghost use Rattle.vd_host_text.specs.Heading as heading;
+ghost use Rattle.vd_host_text.specs.Outcome as outcome;
+
+use crate::blocks::Arrays;
+use crate::program::{Digest, HostProgram};
+use crate::reading::{read_code, stands_at};
+use std::alloc::Global;
+use vd_base::limits::HOSTS;
+use vd_base::{HostId, Name, Names, is_letter, is_name, word_len};
+use vd_bytes::{Cursor, ReadFault, Stopped};
+
+/// Whether instructions on arrays may come, by the number of the format.
+fn version(byte: u8) -> Option<Arrays>
+    ensures { result ≡ heading.version_of byte }
+{
+    match byte {
+        b'1' => Some(Arrays::Never),
+        b'2' => Some(Arrays::Owed),
+        _ => None,
+    }
+}
+
+/// The byte of the number of the format.
+#[tactic(auto, using(crate::proofs::HostSteps::one_none, crate::proofs::HostSteps::one_other, crate::proofs::HostSteps::one_found, crate::proofs::HostSteps::one_there))]
+fn read_version_byte(cursor: &mut Cursor) -> Result<Arrays, Stopped>
+    ensures { Gives result cursor.new (heading.one_at heading.version_of cursor.old) }
+{
+    let Some(byte) = cursor.first() else {
+        return Err(Stopped);
+    };
+    let Some(arrays) = version(byte) else {
+        return Err(Stopped);
+    };
+    cursor.skip(1);
+    Ok(arrays)
+}
+
+/// The number of the format.
+#[tactic(auto, unfolding(crate::specs::Outcome::version_at))]
+fn read_version(cursor: &mut Cursor) -> Result<Arrays, Stopped>
+    ensures { Gives result cursor.new (outcome.version_at cursor.old) }
+{
+    cursor.literal(b"viaduct-host ")?;
+    read_version_byte(cursor)
+}
+
+/// What a hexadecimal digit stands for.
+fn hex_value(byte: u8) -> Option<u8>
+    ensures { result ≡ heading.hex_value byte }
+{
+    match byte {
+        b'0'..=b'9' => Some(byte - b'0'),
+        b'a'..=b'f' => Some(byte - b'a' + 10),
+        _ => None,
+    }
+}
+
+/// A hexadecimal digit.
+#[tactic(auto, using(crate::proofs::HostSteps::one_none, crate::proofs::HostSteps::one_other, crate::proofs::HostSteps::one_found, crate::proofs::HostSteps::one_there))]
+fn read_digit(cursor: &mut Cursor) -> Result<u8, Stopped>
+    ensures digit { Gives result cursor.new (heading.one_at heading.hex_value cursor.old) }
+    ensures small { IfOk result (λ digit. digit < 16) }
+{
+    let Some(byte) = cursor.first() else {
+        return Err(Stopped);
+    };
+    let Some(digit) = hex_value(byte) else {
+        return Err(Stopped);
+    };
+    cursor.skip(1);
+    Ok(digit)
+}
+
+/// A byte, as two hexadecimal digits.
+#[tactic(auto, unfolding(crate::specs::Heading::hex_at))]
+fn read_hex(cursor: &mut Cursor) -> Result<u8, Stopped>
+    ensures { Gives result cursor.new (heading.hex_at cursor.old) }
+{
+    let high = read_digit(cursor)?;
+    let low = read_digit(cursor)?;
+    Ok(high * 16 + low)
+}
+
+/// Whether one of these is this name.
+fn contains(known: &[Name], name: &Name) -> bool
+    ensures { result ≡ list_any (λ other. bytes_eq other name.now) known.now }
+{
+    known.iter().any(|other| *other == *name)
+}
+
+/// Whether a name is one of these.
+fn is_among(known: &[Name], name: &Name) -> bool
+    ensures { result ≡ names.is_among known.now name.now }
+{
+    contains(known, name)
+}
+
+/// A name that is none of those before it.
+#[tactic(auto, unfolding(crate::specs::Heading::name_at))]
+fn read_name(alloc: Global, cursor: &mut Cursor, earlier: &[Name]) -> Result<Name, ReadFault>
+    ensures { GivesOrMemory result cursor.new (heading.name_at earlier.now cursor.old) }
+{
+    let letter = cursor.first().is_some_and(|byte| is_letter(byte));
+    if !letter {
+        return Err(ReadFault::Stopped);
+    }
+    let len = word_len(cursor.as_slice());
+    let name = Name::from_slice(alloc, &cursor.as_slice()[..len])?;
+    cursor.skip(len);
+    if is_name(name.as_slice()) && !is_among(earlier, &name) {
+        Ok(name)
+    } else {
+        Err(ReadFault::Stopped)
+    }
+}
+
+/// A name behind a space.
+fn read_next_name(alloc: Global, cursor: &mut Cursor, earlier: &[Name]) -> Result<Name, ReadFault>
+    ensures { GivesOrMemory result cursor.new (heading.next_name_at earlier.now cursor.old) }
+{
+    cursor.byte(b' ')?;
+    read_name(alloc, cursor, earlier)
+}
+
+/// The names of the hosts.
+fn read_hosts(alloc: Global, cursor: &mut Cursor) -> Result<Names, ReadFault>
+    ensures names { GivesOrMemory result cursor.new (heading.hosts_at cursor.old) }
+    ensures some { IfOk result (λ hosts. 1 ≤ length hosts) }
+    ensures few { IfOk result (λ hosts. length hosts ≤ 4) }
+{
+    let mut hosts = Names::new(alloc);
+    let first = read_next_name(alloc, cursor, hosts.as_slice())?;
+    hosts.push(first)?;
+    'names: while hosts.as_slice().len() < HOSTS as usize && stands_at(cursor, b' ') {
+        let next = read_next_name(alloc, cursor, hosts.as_slice())?;
+        hosts.push(next)?;
+    }
+    Ok(hosts)
+}
+
+/// The line of names.
+#[tactic(auto, unfolding(crate::specs::Outcome::names_line_at))]
+fn read_names_line(alloc: Global, cursor: &mut Cursor) -> Result<Names, ReadFault>
+    ensures names { GivesOrMemory result cursor.new (outcome.names_line_at cursor.old) }
+    ensures some { IfOk result (λ hosts. 1 ≤ length hosts) }
+    ensures few { IfOk result (λ hosts. length hosts ≤ 4) }
+{
+    cursor.literal(b"\nhosts")?;
+    read_hosts(alloc, cursor)
+}
+
+/// The digest of the plan, with the end of its line.
+#[tactic(auto, unfolding(crate::specs::Heading::plan_at))]
+fn read_plan(cursor: &mut Cursor) -> Result<[u8; 32], Stopped>
+    ensures { Gives result cursor.new (heading.plan_at cursor.old) }
+{
+    cursor.literal(b"\nplan ")?;
+    let bytes = read_bytes(cursor)?;
+    cursor.byte(b'\n')?;
+    Ok(bytes)
+}
+
+/// 32 bytes, as hexadecimal digits.
+fn read_bytes(cursor: &mut Cursor) -> Result<[u8; 32], Stopped>
+    ensures { Gives result cursor.new (each_at heading.hex_at 32 cursor.old) }
+{
+    let mut bytes = [0; 32];
+    for place in 0..32 {
+        bytes[place] = read_hex(cursor)?;
+    }
+    Ok(bytes)
+}
+
+/// The line of the own number among so many hosts.
+#[tactic(auto, unfolding(crate::specs::Outcome::me_at))]
+fn read_me(cursor: &mut Cursor, hosts: usize) -> Result<u8, Stopped>
+    requires some { 1 ≤ hosts }
+    requires few { hosts ≤ 4 }
+    ensures { Gives result cursor.new (outcome.me_at hosts cursor.old) }
+{
+    cursor.literal(b"\nme")?;
+    let number = cursor.field(hosts as u32 - 1)?;
+    Ok(number as u8)
+}
+
+/// The whole file up to its last line.
+#[tactic(auto, unfolding(crate::specs::Outcome::program_at))]
+pub fn read_program(alloc: Global, cursor: &mut Cursor) -> Result<HostProgram, ReadFault>
+    ensures { GivesOrMemory result cursor.new (outcome.program_at cursor.old) }
+{
+    let arrays = read_version(cursor)?;
+    let hosts = read_names_line(alloc, cursor)?;
+    let me = read_me(cursor, hosts.as_slice().len())?;
+    let plan = read_plan(cursor)?;
+    let code = read_code(alloc, cursor, arrays)?;
+    Ok(HostProgram {
+        hosts,
+        me: HostId(me),
+        plan: Digest { bytes: plan },
+        code,
+    })
+}

@@ -1,0 +1,13 @@
+//! What the files of host programs within the ranges are, as laws.
+
+ghost use Rattle.std.specs.Prelude.{◌≡◌, ℕ, List, Ok, Result};
+ghost use Rattle.vd_host_text.specs.declared.program.HostProgram.{HostProgram};
+ghost use Rattle.vd_host_text.specs.Text.{program_text};
+ghost use Rattle.vd_host_text.specs.File.{IsFile};
+ghost use Rattle.vd_host_text.specs.Outcome.{file_of};
+ghost use Rattle.vd_hostcode.specs.Outcome.{IsWithin, IsOutcome};
+
+/// What is written of a program within the ranges is read as that program.
+pub fn written_programs_are_read()
+    ensures { (program : HostProgram) → IsFile (file_of program) → IsWithin program → IsOutcome (program_text program) (Ok program) }
+{}

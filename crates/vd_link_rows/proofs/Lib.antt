@@ -1,0 +1,3 @@
+pub mod Drivable
+pub mod Lists
+pub mod OneSession

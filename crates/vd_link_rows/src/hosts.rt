@@ -1,0 +1,295 @@
+//! Host 1 over its link to host 0, on code made by hand.
+
+ghost use Rattle.std.specs.Prelude.{◌≡◌, ◌<◌, ◌+◌, ◌++◌, ◌^◌, false, IfOk, IfSome, OnOk};
+ghost use Rattle.vd_deals.specs.Validity.{IsDeal};
+ghost use Rattle.vd_engine.specs.Hosts.{PacketsAreWith};
+ghost use Rattle.vd_execution.specs.Code.{weight};
+ghost use Rattle.vd_link.specs.States.{has_failed, offset_of};
+ghost use Rattle.vd_link_rows.specs.Codes.{CanDrive};
+ghost use Rattle.vd_link_rows.specs.Codes as codes;
+ghost use Rattle.vd_machine.specs.Kept.{state_of};
+
+use std::alloc::{AllocError, Global};
+use std::test::Fail;
+use vd_base::{Bytes, HostId, Words};
+use vd_deals::Deal;
+use vd_engine::{Ended, EngineFault, Links, drive};
+use vd_execution::{Action, Instr, Reg};
+use vd_items::Items;
+use vd_link::{Greeted, Session};
+use vd_machine::Machine;
+use vd_memory_net::MemLink;
+use vd_outside::MemSink;
+
+/// So many registers from one on.
+fn registers(alloc: Global, first: u32, count: u32) -> Result<Items<Reg>, AllocError>
+    requires { first + count < 100 }
+    ensures { IfOk result (λ list. list ≡ codes.registers first count) }
+{
+    let mut list = Items::new(alloc);
+    for place in 0..count {
+        list.push(Reg(first + place))?;
+    }
+    Ok(list)
+}
+
+/// Compares eight registers with those from 17 on.
+fn compare(code: &mut Items<Instr>) -> Result<(), AllocError>
+    ensures { OnOk result (code.new ≡ code.old ++ codes.comparisons) }
+{
+    for place in 0..8 {
+        code.push(Instr::Do(Action::Same(Reg(place), Reg(17 + place))))?;
+    }
+    Ok(())
+}
+
+/// Receives a digest, and then a nonce and a value; prints the value where the digest is theirs.
+fn opener(alloc: Global) -> Result<Items<Instr>, AllocError>
+    ensures { IfOk result (λ code. code ≡ codes.opener) }
+{
+    let mut code = Items::new(alloc);
+    code.push(Instr::Recv(HostId(0), registers(alloc, 0, 8)?))?;
+    code.push(Instr::Recv(HostId(0), registers(alloc, 8, 9)?))?;
+    code.push(Instr::Do(Action::Hash(Reg(17), Reg(8), Reg(16))))?;
+    compare(&mut code)?;
+    code.push(Instr::Do(Action::Print(Reg(16))))?;
+    Ok(code)
+}
+
+/// Sends its input and prints it.
+fn speaker(alloc: Global) -> Result<Items<Instr>, AllocError>
+    ensures { IfOk result (λ code. code ≡ codes.speaker) }
+{
+    let mut code = Items::new(alloc);
+    code.push(Instr::Do(Action::Input(Reg(0))))?;
+    code.push(Instr::Send(HostId(0), registers(alloc, 0, 1)?))?;
+    code.push(Instr::Do(Action::Print(Reg(0))))?;
+    Ok(code)
+}
+
+/// A deal of nothing to host 1 of two.
+fn no_deal(alloc: Global) -> Result<Deal, AllocError>
+    ensures deal { IfOk result (λ deal. IsDeal deal) }
+    ensures hosts { IfOk result (λ deal. deal.hosts ≡ 2) }
+{
+    let mut triples = Items::new(alloc);
+    triples.push(Items::new(alloc))?;
+    let mut bits = Items::new(alloc);
+    bits.push(Items::new(alloc))?;
+    let mut pairs = Items::new(alloc);
+    pairs.push(Items::new(alloc))?;
+    Ok(Deal {
+        hosts: 2,
+        me: HostId(1),
+        own: Items::new(alloc),
+        triples,
+        bits,
+        pairs,
+    })
+}
+
+/// A host with this code and these inputs.
+fn machine(alloc: Global, code: Items<Instr>, inputs: Words) -> Result<Machine, AllocError>
+    requires { CanDrive code }
+    ensures packets { IfOk result (λ m. PacketsAreWith (λ peer. peer ≡ 0) (state_of m).pending) }
+    ensures short { IfOk result (λ m. weight (state_of m).pending < 2 ^ 32) }
+{
+    Machine::load(alloc, code, inputs, no_deal(alloc)?)
+}
+
+/// The host over its one session.
+fn driven(
+    machine: Machine,
+    session: Session<MemLink, Greeted>,
+    out: &mut MemSink,
+) -> Result<Ended, EngineFault>
+    requires packets { PacketsAreWith (λ peer. peer ≡ 0) (state_of machine).pending }
+    requires short { weight (state_of machine).pending < 2 ^ 32 }
+    requires offset { offset_of session ≡ 36 }
+    requires sound { has_failed session ≡ false }
+{
+    let mut links = Links::new();
+    links.put(HostId(0), session);
+    drive(machine, &mut links, out)
+}
+
+/// What comes on the link: a greeting of host 0 to host 1, and then these bytes.
+fn incoming(alloc: Global, bytes: &[u8]) -> Result<Bytes, AllocError> {
+    let mut incoming = Bytes::from_slice(alloc, &GREETING)?;
+    incoming.extend_from_slice(bytes)?;
+    Ok(incoming)
+}
+
+/// A link on which these bytes come behind the greeting, so many a call. It fails at the calls with these numbers.
+fn link_of(alloc: Global, bytes: &[u8], most: u32, failing: &[u64]) -> Result<MemLink, AllocError> {
+    let incoming = incoming(alloc, bytes)?;
+    let failing = Items::from_slice(alloc, failing)?;
+    MemLink::new(alloc, incoming, 200, most, failing)
+}
+
+/// A session of host 1 with host 0 over this link.
+fn greeted(alloc: Global, link: MemLink) -> Option<Session<MemLink, Greeted>>
+    ensures offset { IfSome result (λ session. offset_of session ≡ 36) }
+    ensures sound { IfSome result (λ session. has_failed session ≡ false) }
+{
+    match Session::new(alloc, link, HostId(1), HostId(0), [7u8; 32]) {
+        Ok(session) => session.greet().ok(),
+        Err(_) => None,
+    }
+}
+
+/// What becomes of the host over this link, if the greetings are exchanged.
+fn outcome(
+    alloc: Global,
+    machine: Machine,
+    link: MemLink,
+    out: &mut MemSink,
+) -> Option<Result<Ended, EngineFault>>
+    requires packets { PacketsAreWith (λ peer. peer ≡ 0) (state_of machine).pending }
+    requires short { weight (state_of machine).pending < 2 ^ 32 }
+{
+    match greeted(alloc, link) {
+        Some(session) => Some(driven(machine, session, out)),
+        None => None,
+    }
+}
+
+/// The greeting of host 0 to host 1.
+const GREETING: [u8; 36] = [
+    0x47, 1, 7, 7, 7, 7, 7, 7, 7, 7, 7, 7, 7, 7, 7, 7, 7, 7, 7, 7, 7, 7, 7, 7, 7, 7, 7, 7, 7, 7, 7,
+    7, 7, 7, 0, 1,
+];
+
+/// The first 8 words of SHA-256 of the words 1 to 8 and 42, as a packet.
+const DIGEST: [u8; 34] = [
+    0x56, 8, 0x0e, 0x98, 0xfa, 0xfb, 0xd7, 0xbd, 0x1b, 0xd0, 0xe8, 0x86, 0xe5, 0xcc, 0xa7, 0x71,
+    0xc7, 0x59, 0xdb, 0x55, 0x0d, 0xef, 0x1f, 0x8d, 0xb6, 0x31, 0x3e, 0x0f, 0xd5, 0x1b, 0xf8, 0xe4,
+    0xed, 0x90,
+];
+
+/// The words 1 to 8, and with the last byte the value, as a packet.
+const OPENING: [u8; 37] = [
+    0x56, 9, 0, 0, 0, 1, 0, 0, 0, 2, 0, 0, 0, 3, 0, 0, 0, 4, 0, 0, 0, 5, 0, 0, 0, 6, 0, 0, 0, 7, 0,
+    0, 0, 8, 0, 0, 0,
+];
+
+/// What becomes of a host that waits for a digest and its opening.
+fn opened(
+    alloc: Global,
+    bytes: &[u8],
+    most: u32,
+    failing: &[u64],
+    out: &mut MemSink,
+) -> Result<Option<Result<Ended, EngineFault>>, AllocError> {
+    let machine = machine(alloc, opener(alloc)?, Items::new(alloc))?;
+    Ok(outcome(alloc, machine, link_of(alloc, bytes, most, failing)?, out))
+}
+
+/// What becomes of a host with this input, which it sends and prints.
+fn spoken(
+    alloc: Global,
+    inputs: &[u32],
+    failing: &[u64],
+    out: &mut MemSink,
+) -> Result<Option<Result<Ended, EngineFault>>, AllocError> {
+    let inputs = Items::from_slice(alloc, inputs)?;
+    let machine = machine(alloc, speaker(alloc)?, inputs)?;
+    Ok(outcome(alloc, machine, link_of(alloc, &[], 100, failing)?, out))
+}
+
+/// A digest, and its opening with this value.
+fn opening(alloc: Global, value: u8) -> Result<Bytes, AllocError> {
+    let mut bytes = Bytes::new(alloc);
+    bytes.extend_from_slice(&DIGEST)?;
+    bytes.extend_from_slice(&OPENING)?;
+    bytes.push(value)?;
+    Ok(bytes)
+}
+
+/// A sink that fails at the calls with these numbers.
+fn sink(alloc: Global, most: u32, failing: &[u64]) -> Result<MemSink, AllocError> {
+    MemSink::new(alloc, 20, most, Items::from_slice(alloc, failing)?)
+}
+
+/// What becomes of a host whose opening has this value, and comes so many bytes a call.
+fn end_of_opening(
+    alloc: Global,
+    value: u8,
+    most: u32,
+    out: &mut MemSink,
+) -> Result<Option<Result<Ended, EngineFault>>, AllocError> {
+    let bytes = opening(alloc, value)?;
+    opened(alloc, bytes.as_slice(), most, &[], out)
+}
+
+#[test]
+fn an_opening_is_printed(rt: HostRuntime) -> Result<(), Fail> {
+    let alloc: Global = rt.alloc();
+    let mut out = sink(alloc, 1, &[])?;
+    let end = end_of_opening(alloc, 42, 1, &mut out)?;
+    assert_eq!(rt; end, Some(Ok(Ended { printed: 1 })));
+    let end = end_of_opening(alloc, 42, 100, &mut out)?;
+    assert_eq!(rt; end, Some(Ok(Ended { printed: 1 })));
+    assert_eq!(rt; out.bytes(), b"42\n42\n".as_slice());
+    Ok(())
+}
+
+#[test]
+fn an_opening_with_another_bit_is_not(rt: HostRuntime) -> Result<(), Fail> {
+    let alloc: Global = rt.alloc();
+    let mut out = sink(alloc, 100, &[])?;
+    let end = end_of_opening(alloc, 43, 1, &mut out)?;
+    assert_eq!(rt;
+        end,
+        Some(Err(EngineFault::Unequal(244_906_747, 787_929_849)))
+    );
+    assert_eq!(rt; out.bytes(), b"".as_slice());
+    Ok(())
+}
+
+#[test]
+fn a_host_tells_what_is_wrong_with_its_link(rt: HostRuntime) -> Result<(), Fail> {
+    let alloc: Global = rt.alloc();
+    let mut out = sink(alloc, 100, &[])?;
+    let first = HostId(0);
+    let end = opened(alloc, &[0x58], 100, &[], &mut out)?;
+    assert_eq!(rt; end, Some(Err(EngineFault::BadFrame(first, 36, 0x58))));
+    let end = opened(alloc, &[0x56, 9], 100, &[], &mut out)?;
+    assert_eq!(rt; end, Some(Err(EngineFault::BadFrame(first, 37, 9))));
+    let mut bytes = Bytes::from_slice(alloc, &DIGEST)?;
+    let end = opened(alloc, bytes.as_slice(), 100, &[], &mut out)?;
+    assert_eq!(rt; end, Some(Err(EngineFault::EndOfLink(first))));
+    bytes.extend_from_slice(&[0x56, 8])?;
+    let end = opened(alloc, bytes.as_slice(), 100, &[], &mut out)?;
+    assert_eq!(rt; end, Some(Err(EngineFault::BadFrame(first, 71, 8))));
+    let end = opened(alloc, bytes.as_slice(), 100, &[2], &mut out)?;
+    assert_eq!(rt; end, Some(Err(EngineFault::Peer(first))));
+    assert_eq!(rt; out.bytes(), b"".as_slice());
+    Ok(())
+}
+
+#[test]
+fn a_host_sends_and_prints(rt: HostRuntime) -> Result<(), Fail> {
+    let alloc: Global = rt.alloc();
+    let mut out = sink(alloc, 100, &[])?;
+    let end = spoken(alloc, &[7], &[], &mut out)?;
+    assert_eq!(rt; end, Some(Ok(Ended { printed: 1 })));
+    let end = spoken(alloc, &[], &[], &mut out)?;
+    assert_eq!(rt; end, Some(Err(EngineFault::ShortInput(0, 0))));
+    assert_eq!(rt; out.bytes(), b"7\n".as_slice());
+    Ok(())
+}
+
+#[test]
+fn each_call_of_a_host_fails_in_turn(rt: HostRuntime) -> Result<(), Fail> {
+    let alloc: Global = rt.alloc();
+    let mut out = sink(alloc, 100, &[0])?;
+    let end = spoken(alloc, &[7], &[], &mut out)?;
+    assert_eq!(rt; end, Some(Err(EngineFault::Write)));
+    let end = spoken(alloc, &[7], &[2], &mut out)?;
+    assert_eq!(rt; end, Some(Err(EngineFault::Peer(HostId(0)))));
+    let end = spoken(alloc, &[7], &[1], &mut out)?;
+    assert_eq!(rt; end, None);
+    assert_eq!(rt; out.bytes(), b"".as_slice());
+    Ok(())
+}

@@ -1,0 +1,2 @@
+pub mod MemLink
+pub mod MemNet

@@ -1,0 +1,12 @@
+//! All hosts of a program under a schedule: their machines are loaded, run, and reported. The laws say that what they print
+//! is what the program tells them.
+#![tactic(auto)]
+
+mod laws;
+mod loading;
+mod playing;
+mod reporting;
+
+pub use laws::{files_are_valid, sources_tell};
+pub use playing::play;
+pub use reporting::report;

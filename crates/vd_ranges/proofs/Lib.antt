@@ -1,0 +1,6 @@
+pub mod Blocks
+pub mod Calls
+pub mod Clear
+pub mod Fits
+pub mod Loading
+pub mod Programs

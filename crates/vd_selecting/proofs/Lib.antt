@@ -1,0 +1,5 @@
+pub mod Labelled
+pub mod Reading
+pub mod Statuses
+pub mod Chosen
+pub mod Sure

@@ -1,0 +1,5 @@
+pub mod Generating
+pub mod Outcomes
+pub mod Problems
+pub mod Certifying
+pub mod Choosing

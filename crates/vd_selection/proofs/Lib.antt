@@ -1,0 +1,6 @@
+pub mod Chosen
+pub mod Once
+pub mod Accepted
+pub mod Named
+pub mod Answered
+pub mod Staged

@@ -1,0 +1,5 @@
+pub mod Choices
+pub mod Confirming
+pub mod Selecting
+pub mod Naming
+pub mod Stages

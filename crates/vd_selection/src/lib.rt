@@ -1,0 +1,12 @@
+//! The choice of protocols for a problem, with a certificate that the checker accepts.
+#![tactic(auto)]
+
+mod confirming;
+mod laws;
+mod selecting;
+mod stages;
+
+pub use confirming::confirm;
+pub use laws::problems_have_one_choice;
+pub use selecting::{SelectFault, Selection};
+pub use stages::select;

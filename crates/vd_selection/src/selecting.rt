@@ -1,0 +1,124 @@
+//! The search for the choice.
+
+ghost use Rattle.std.specs.Prelude.{◌≡◌, ◌≤◌, ◌<◌, IfOk, Err, length};
+ghost use Rattle.std.specs.List.{AllByRecursion};
+ghost use Rattle.vd_base.specs.Limits.{most_certificate_shifts};
+ghost use Rattle.vd_path.specs.Tables.{AreTables};
+ghost use Rattle.vd_selection.specs.Naming.{NamesUse};
+ghost use Rattle.vd_selection.specs.Selecting.{IsOver, Selects};
+ghost use Rattle.vd_selection.specs.declared.selecting.SelectFault.TheVariants as select_fault;
+ghost use Rattle.vd_space.specs.Labelled.{IsLabelled};
+ghost use Rattle.vd_space.specs.Sizes.{IsWithinLimits};
+ghost use Rattle.vd_space.specs.Spaces.{IsProblem};
+ghost use Rattle.vd_space.specs.Usual.{usual as usual_shifts};
+
+use std::alloc::{AllocError, Global};
+use std::error::Error;
+use std::fmt;
+use vd_certificate::{Certificate, Mark};
+use vd_items::Items;
+use vd_path::{Path, Tables};
+use vd_search::{Answer, Stop, search};
+use vd_space::Problem;
+use vd_tables::tables;
+use vd_usual::usual;
+
+/// What a selection came to.
+#[derive(PartialEq, Eq, Debug, Drop)]
+pub enum Selection {
+    /// The choice, by the places of its protocols in the list; its cost; and a certificate of that.
+    Found(Items<u32>, u32, Certificate),
+    /// No list of protocols is valid, as the certificate shows.
+    NoAssignment(Certificate),
+}
+
+/// Why there is no selection.
+#[derive(Clone, Copy, PartialEq, Eq, Debug)]
+pub enum SelectFault {
+    /// The search must open more prefixes than the budget allows.
+    Spent,
+    /// There was no memory left.
+    Memory,
+}
+
+impl fmt::Display for SelectFault {
+    fn fmt<W: fmt::Write>(&self, f: &mut fmt::Formatter<W>) -> fmt::Result {
+        match self {
+            SelectFault::Spent => write!(f, "the budget is spent"),
+            SelectFault::Memory => write!(f, "out of memory"),
+        }
+    }
+}
+
+impl Error for SelectFault {}
+
+impl From<AllocError> for SelectFault {
+    ghost from_gives = { λ _ fault. fault ≡ select_fault.Memory };
+
+    fn from(_: AllocError) -> Self {
+        SelectFault::Memory
+    }
+}
+
+/// The choice, or that there is none, by the tables of shifts.
+pub fn select_by(
+    alloc: Global,
+    problem: &Problem,
+    tables: &Tables,
+    budget: u32,
+) -> Result<Selection, SelectFault>
+    requires holds { IsProblem problem.now }
+    requires labelled { IsLabelled problem.now }
+    requires tables { AreTables problem.now tables.now }
+    requires named { AllByRecursion (NamesUse problem.now) tables.now.shifts }
+    requires few { length tables.now.shifts ≤ most_certificate_shifts }
+    requires budget { budget < 4294967295 }
+    ensures selects { IfOk result (Selects problem.now budget) }
+    ensures spent { result ≡ Err select_fault.Spent → IsOver problem.now tables.now.shifts budget }
+{
+    let mut path = Path::new(alloc, problem, tables)?;
+    match search(alloc, &mut path, budget) {
+        Ok(Answer::Found(list, cost, marks)) => {
+            let certificate = least_certificate(alloc, tables, cost, marks)?;
+            Ok(Selection::Found(list, cost, certificate))
+        }
+        Ok(Answer::Empty(marks)) => Ok(Selection::NoAssignment(Certificate {
+            cost: None,
+            shifts: Items::new(alloc),
+            marks,
+        })),
+        Err(Stop::Spent) => Err(SelectFault::Spent),
+        Err(Stop::Memory) => Err(SelectFault::Memory),
+    }
+}
+
+/// The certificate of a least cost, with the shifts under which its marks are bounded.
+fn least_certificate(
+    alloc: Global,
+    tables: &Tables,
+    cost: u32,
+    marks: Items<Mark>,
+) -> Result<Certificate, AllocError>
+    ensures { IfOk result (λ c. c ≡ record { cost = Some cost; shifts = tables.now.shifts; marks = marks }) }
+{
+    let shifts = Items::from_slice(alloc, tables.shifts.as_slice())?;
+    Ok(Certificate {
+        cost: Some(cost),
+        shifts,
+        marks,
+    })
+}
+
+/// The tables of the usual shifts.
+pub fn usual_tables(alloc: Global, problem: &Problem) -> Result<Tables, AllocError>
+    requires holds { IsProblem problem.now }
+    requires labelled { IsLabelled problem.now }
+    requires limits { IsWithinLimits problem.now }
+    ensures tables { IfOk result (AreTables problem.now) }
+    ensures usual { IfOk result (λ tables. tables.shifts ≡ usual_shifts problem.now) }
+    ensures few { IfOk result (λ tables. length tables.shifts ≤ most_certificate_shifts) }
+    ensures named { IfOk result (λ tables. AllByRecursion (NamesUse problem.now) tables.shifts) }
+{
+    let shifts = usual(alloc, problem)?;
+    tables(alloc, problem, shifts)
+}
