@@ -53,8 +53,8 @@ op_served : (o : Op) (q : Proto) → holds (ApplyRow o) q ≡ true → (back_end
 op_served o (Local k) e = refl
 op_served o (Rep set) e = refl
 op_served o (Commit p v) e = wrong e
-op_served o (Add a b) e = wrong e
-op_served o (Xor a b) e = wrong e
+op_served o (Add a b) e = e
+op_served o (Xor a b) e = e
 
 list_all_map : {A : Type 0} (f : A → Bool) (xs : List A) → list_all f xs ≡ list_all (λ x. x) (map f xs)
 list_all_map f [] = refl
@@ -95,7 +95,7 @@ programs_can_be_split program protos can =
     record {
       slots = record {
         few = can.made.limits.hosts;
-        slots = λ x. and_from _ _ (can.built x) (all_below n (holders (proto_in protos x)) (can.over x).known);
+        slots = λ x. and_from _ _ (and_from _ _ (can.built x) (can.over x).ordered) (all_below n (holders (proto_in protos x)) (can.over x).known);
         locals = λ h lt. and_from _ _ (of_lt h.0 n lt) refl;
       };
       stands = all_pass (stmt_stands (offer_of n) protos) program.body (block_served can.tape can.inputs n protos (block_of program.body) can.valid);

@@ -12,11 +12,11 @@ use Rattle.vd_joint.specs.Outcome.{ValidAt}
 use Rattle.vd_split.specs.Offer.{Offer, proto_in, AreServed, stmt_stands}
 use Rattle.vd_suite.specs.Machine.{machine}
 use Rattle.vd_suite.specs.Parts.{Parts, back_end, is_built, suite_calls}
-use Rattle.vd_suite.specs.Suite.{IsOver, suite}
+use Rattle.vd_suite.specs.Suite.{is_in_order, IsOver, suite}
 
--- a protocol that is built, over the first hosts
+-- a protocol that is built, over the first hosts, in order
 abbrev pub is_offered : ℕ → Proto → Bool
-is_offered hosts p = is_built p && list_all (λ h. nat_lt h.0 hosts) (holders p)
+is_offered hosts p = (is_built p && is_in_order p) && list_all (λ h. nat_lt h.0 hosts) (holders p)
 
 abbrev pub offer_of : ℕ → Offer Parts
 offer_of hosts = record {

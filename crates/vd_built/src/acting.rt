@@ -143,6 +143,28 @@ fn copies_move_at(set: HostSet, onto: Proto, host: HostId) -> bool
     }
 }
 
+/// Whether a host acts in a move from sums of two hosts.
+fn sums_move_at(first: HostId, second: HostId, onto: Proto, host: HostId) -> bool
+    ensures { result ≡ moved_at (route (proto.Add first second) onto) (proto.Add first second) onto host.0 }
+{
+    match onto {
+        Proto::Local(_) | Proto::Rep(_) => is_either(host, first, second),
+        Proto::Xor(one, other) => is_either(host, one, other),
+        _ => false,
+    }
+}
+
+/// Whether a host acts in a move from exclusive ors of two hosts.
+fn bits_move_at(first: HostId, second: HostId, onto: Proto, host: HostId) -> bool
+    ensures { result ≡ moved_at (route (proto.Xor first second) onto) (proto.Xor first second) onto host.0 }
+{
+    match onto {
+        Proto::Local(_) | Proto::Rep(_) => is_either(host, first, second),
+        Proto::Add(one, other) => is_either(host, one, other),
+        _ => false,
+    }
+}
+
 /// Whether a host acts in a move.
 pub(crate) fn moves_at(from: Proto, onto: Proto, host: HostId) -> bool
     ensures { result ≡ moved_at (route from onto) from onto host.0 }
@@ -150,7 +172,9 @@ pub(crate) fn moves_at(from: Proto, onto: Proto, host: HostId) -> bool
     match from {
         Proto::Local(other) => share_at(other, onto, host),
         Proto::Rep(set) => copies_move_at(set, onto, host),
-        _ => false,
+        Proto::Commit(_, _) => false,
+        Proto::Add(first, second) => sums_move_at(first, second, onto, host),
+        Proto::Xor(first, second) => bits_move_at(first, second, onto, host),
     }
 }
 

@@ -41,6 +41,7 @@ fn zeros(hosts: &[HostId], size: u32, to: &mut Duet) -> Result<Parts<Clear>, All
 /// An array of so many zeros.
 pub(crate) fn cells(at: Proto, size: u32, to: &mut Duet) -> Result<Parts<Clear>, AllocError>
     requires at { IsTrue (is_built at) }
+    requires apart { AreApart (holders_of at) }
     requires known { AreKnown (holders_of at) to.old.next }
     requires room { HasRoom size to.old.next }
     ensures exact { IfOk result (λ x. Makes (new_cells at size) to.old (in_clear x) to.new) }

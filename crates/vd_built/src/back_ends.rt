@@ -8,12 +8,15 @@ ghost use Rattle.vd_duet.specs.Laws.{AreKnown};
 ghost use Rattle.vd_suite.specs.Parts.{back_end, is_built};
 
 use crate::held::Held;
+use crate::pairs::{Bits, Sums};
 use std::alloc::{AllocError, Global};
 use vd_base::{HostId, Op, Proto};
+use vd_circuit::CircuitPair;
 use vd_clear::{LocalHost, Replica};
 use vd_duet::{Args, Backend, Clear, Duet, Parts};
 use vd_execution::Reg;
 use vd_items::Items;
+use vd_words::AddPair;
 
 /// A number.
 pub(crate) fn literal(at: Proto, word: u32, to: &mut Duet) -> Result<Parts<Clear>, AllocError>
@@ -27,7 +30,9 @@ pub(crate) fn literal(at: Proto, word: u32, to: &mut Duet) -> Result<Parts<Clear
     match at {
         Proto::Local(host) => LocalHost(host).literal(word, to),
         Proto::Rep(set) => Replica(set).literal(word, to),
-        _ => unreachable!(),
+        Proto::Add(first, second) => Sums(AddPair(first, second)).literal(word, to),
+        Proto::Xor(first, second) => Bits(CircuitPair(first, second)).literal(word, to),
+        Proto::Commit(_, _) => unreachable!(),
     }
 }
 
@@ -49,7 +54,9 @@ pub(crate) fn share(
     match at {
         Proto::Local(host) => LocalHost(host).share(from, x, to),
         Proto::Rep(set) => Replica(set).share(from, x, to),
-        _ => unreachable!(),
+        Proto::Add(first, second) => Sums(AddPair(first, second)).share(from, x, to),
+        Proto::Xor(first, second) => Bits(CircuitPair(first, second)).share(from, x, to),
+        Proto::Commit(_, _) => unreachable!(),
     }
 }
 
@@ -66,7 +73,9 @@ pub(crate) fn keep(at: Proto, x: &Parts<Clear>, to: &mut Duet) -> Result<Parts<C
     match at {
         Proto::Local(host) => LocalHost(host).keep(x, to),
         Proto::Rep(set) => Replica(set).keep(x, to),
-        _ => unreachable!(),
+        Proto::Add(first, second) => Sums(AddPair(first, second)).keep(x, to),
+        Proto::Xor(first, second) => Bits(CircuitPair(first, second)).keep(x, to),
+        Proto::Commit(_, _) => unreachable!(),
     }
 }
 
@@ -85,7 +94,9 @@ pub(crate) fn renew(
     match at {
         Proto::Local(host) => LocalHost(host).renew(kept, x, to),
         Proto::Rep(set) => Replica(set).renew(kept, x, to),
-        _ => unreachable!(),
+        Proto::Add(first, second) => Sums(AddPair(first, second)).renew(kept, x, to),
+        Proto::Xor(first, second) => Bits(CircuitPair(first, second)).renew(kept, x, to),
+        Proto::Commit(_, _) => unreachable!(),
     }
 }
 
@@ -98,6 +109,7 @@ pub(crate) fn apply(
 ) -> Result<Parts<Clear>, AllocError>
     requires at { IsTrue (is_built at) }
     requires known { AreKnown (holders at) to.old.next }
+    requires serves { IsTrue ((back_end at).serves op) }
     requires arity { length args.now ≡ arity op }
     requires room { HasRoom 0 to.old.next }
     ensures exact { IfOk result (λ x. Makes ((back_end at).apply op (all_placed (λ c. c.0) args.now)) to.old (in_clear x) to.new) }
@@ -107,11 +119,13 @@ pub(crate) fn apply(
     match at {
         Proto::Local(host) => LocalHost(host).apply(op, args, to),
         Proto::Rep(set) => Replica(set).apply(op, args, to),
-        _ => unreachable!(),
+        Proto::Add(first, second) => Sums(AddPair(first, second)).apply(op, args, to),
+        Proto::Xor(first, second) => Bits(CircuitPair(first, second)).apply(op, args, to),
+        Proto::Commit(_, _) => unreachable!(),
     }
 }
 
-/// The copies of operands.
+/// The registers of operands.
 pub(crate) fn operands(xs: &Items<Held>, alloc: Global) -> Result<Args<Clear>, AllocError>
     ensures exact { IfOk result (λ args. all_placed (λ c. c.0) args ≡ map (λ x. x.at) xs.now) }
     ensures as_many { IfOk result (λ args. length args ≡ length xs.now) }

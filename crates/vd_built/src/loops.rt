@@ -1,12 +1,13 @@
 //! The hosts of a protocol, and what each does for the number of a turn.
 
-ghost use Rattle.std.specs.Prelude.{◌≡◌, ◌≤◌, IsTrue, IfOk, OnOk, length};
+ghost use Rattle.std.specs.Prelude.{◌≡◌, ◌<◌, ◌≤◌, ◌+◌, ◌^◌, IsTrue, IfOk, OnOk, length, slice_index};
 ghost use Rattle.vd_execution.specs.declared.instructions.Action.TheVariants as action;
-ghost use Rattle.vd_duet.specs.Builder.{HasRoom, TakesFew, next_at};
+ghost use Rattle.vd_duet.specs.Builder.{HasRoom, TakesAtMost, TakesFew, next_at};
 ghost use Rattle.vd_duet.specs.Calls.{Makes, holders as holders_of, hosts_of, in_clear};
 ghost use Rattle.vd_duet.specs.Laws.{AreKnown};
 ghost use Rattle.vd_clear.specs.Copies.{written_by};
 ghost use Rattle.vd_suite.specs.Parts.{is_built, turned};
+ghost use Rattle.vd_built.specs.Turns.{shared_turn};
 
 use std::alloc::{AllocError, Global};
 use vd_base::{HostId, Proto};
@@ -24,7 +25,9 @@ pub(crate) fn holders(at: Proto, alloc: Global) -> Result<Items<HostId>, AllocEr
     match at {
         Proto::Local(host) => Ok(Items::from_slice(alloc, &[host])?),
         Proto::Rep(set) => hosts_in(set, alloc),
-        _ => unreachable!(),
+        Proto::Add(first, second) => Ok(Items::from_slice(alloc, &[first, second])?),
+        Proto::Xor(first, second) => Ok(Items::from_slice(alloc, &[first, second])?),
+        Proto::Commit(_, _) => unreachable!(),
     }
 }
 
@@ -54,6 +57,36 @@ impl<'a> Step for CopyTurn<'a> {
     }
 }
 
+/// Zero in a fresh register.
+fn zero(host: HostId, to: &mut Duet) -> Result<Reg, AllocError>
+    requires known { host.0 < length to.old.next }
+    requires room { slice_index to.old.next host.0 + 8 < 2 ^ 32 }
+    ensures exact { IfOk result (λ r. Makes (written_by host (λ r. action.Const r 0)) to.old r to.new) }
+    ensures few { OnOk result (TakesAtMost 8 to.old.next to.new.next) }
+{
+    let at = to.reserve(host, 1);
+    to.add(Act::Do(host, Action::Const(at, 0)))?;
+    Ok(at)
+}
+
+/// Of two hosts that share, the first has a copy of the loop's register, and the other 0.
+#[derive(Drop)]
+struct ShareTurn<'a>(HostId, &'a [u32]);
+
+impl<'a> Step for ShareTurn<'a> {
+    ghost made = { λ s. shared_turn s.0 s.1.now };
+
+    ghost is_small = { λ s. Unit {0} };
+
+    fn at(&self, host: HostId, to: &mut Duet) -> Result<Reg, AllocError> {
+        if host.0 == self.0.0 {
+            CopyTurn(self.1).at(host, to)
+        } else {
+            zero(host, to)
+        }
+    }
+}
+
 /// The number of the turn, from the registers of the innermost loop, by host.
 pub(crate) fn turn(at: Proto, turns: &[u32], to: &mut Duet) -> Result<Parts<Clear>, AllocError>
     requires at { IsTrue (is_built at) }
@@ -69,6 +102,8 @@ pub(crate) fn turn(at: Proto, turns: &[u32], to: &mut Duet) -> Result<Parts<Clea
             let hosts = hosts_in(set, to.alloc())?;
             each_host(hosts.as_slice(), &CopyTurn(turns), to)
         }
-        _ => unreachable!(),
+        Proto::Add(first, second) => { each_host(&[first, second], &ShareTurn(first, turns), to) }
+        Proto::Xor(first, second) => { each_host(&[first, second], &ShareTurn(first, turns), to) }
+        Proto::Commit(_, _) => unreachable!(),
     }
 }

@@ -1,12 +1,12 @@
 -- The forms of a command line.
-use Rattle.std.specs.Prelude.{◌≡◌, ◌↔◌, ◌<◌, ◌≤◌, ℕ, ◌-◌, ◌^◌, List, [], ◌∷◌, Option, Some, None, Result, Err, IfOk, if◌then◌else◌, codes}
+use Rattle.std.specs.Prelude.{◌≡◌, ◌↔◌, ◌<◌, ◌≤◌, ℕ, ◌-◌, ◌^◌, Bool, true, false, ◌&&◌, List, [], ◌∷◌, Option, Some, None, Result, Err, IfOk, if◌then◌else◌, codes}
 use Rattle.std.specs.Str.{bytes_eq}
 use Rattle.vd_base.specs.Limits.{most_hosts, most_deal_items, most_search_budget}
 use Rattle.vd_deals.specs.declared.deal.Counts.{Counts}
 use Rattle.vd_gen.specs.Sizes.{most_coordinates}
 use Rattle.vd_cmd.specs.Numbers.{number_within}
 use Rattle.vd_cmd.specs.declared.command.Command.{Command}
-use Rattle.vd_cmd.specs.declared.command.Command.TheVariants.{Clear, Labels, Choose, Certify, Deal, Gen}
+use Rattle.vd_cmd.specs.declared.command.Command.TheVariants.{Clear, Labels, Choose, Certify, Compile, Deal, Replay, Gen}
 use Rattle.vd_cmd.specs.declared.command.CommandFault.{CommandFault}
 use Rattle.vd_cmd.specs.declared.command.CommandFault.TheVariants.{Usage}
 
@@ -26,6 +26,10 @@ abbrev pub deal_of : Option Counts → Option ℕ → List ℕ → Option Comman
 deal_of (Some counts) (Some key) prefix = Some (Deal counts key prefix)
 deal_of counts key prefix = None
 
+-- the command `deal` with the numbers that these texts are
+abbrev pub deal_in : (hosts own muls ands pairs key prefix : List ℕ) → Option Command
+deal_in hosts own muls ands pairs key prefix = deal_of (counts_in hosts own muls ands pairs) (number_within 0 (2 ^ 64 - 1) key) prefix
+
 abbrev pub gen_of : Option ℕ → Option Command
 gen_of (Some coordinates) = Some (Gen coordinates)
 gen_of None = None
@@ -33,6 +37,21 @@ gen_of None = None
 abbrev pub choose_of : List ℕ → Option ℕ → Option Command
 choose_of source (Some budget) = Some (Choose source budget)
 choose_of source None = None
+
+abbrev pub compile_of : (source prefix : List ℕ) → Option ℕ → Option Command
+compile_of source prefix (Some budget) = Some (Compile source prefix budget)
+compile_of source prefix None = None
+
+abbrev pub replay_of : (source inputs prefix schedule : List ℕ) → (messages : Bool) → Option ℕ → Option Command
+replay_of source inputs prefix schedule messages (Some budget) =
+    Some (Replay (record { source = source; inputs = inputs; prefix = prefix; schedule = schedule; messages = messages; budget = budget }))
+replay_of source inputs prefix schedule messages None = None
+
+-- with one word more: `messages`, or a budget
+abbrev pub replay_with : (source inputs prefix schedule other : List ℕ) → Option Command
+replay_with source inputs prefix schedule other =
+    if bytes_eq other (codes "messages") then replay_of source inputs prefix schedule true (Some most_search_budget)
+    else replay_of source inputs prefix schedule false (number_within 1 most_search_budget other)
 
 -- the command that the words are, if they have a form
 abbrev pub form_of : List (List ℕ) → Option Command
@@ -45,11 +64,20 @@ form_of (word ∷ source ∷ other ∷ []) =
     if bytes_eq word (codes "clear") then Some (Clear source other)
     else if bytes_eq word (codes "certify") then Some (Certify source other)
     else if bytes_eq word (codes "choose") then choose_of source (number_within 1 most_search_budget other)
+    else if bytes_eq word (codes "compile") then compile_of source other (Some most_search_budget)
+    else None
+form_of (word ∷ source ∷ prefix ∷ budget ∷ []) =
+    if bytes_eq word (codes "compile") then compile_of source prefix (number_within 1 most_search_budget budget) else None
+form_of (word ∷ source ∷ inputs ∷ prefix ∷ schedule ∷ []) =
+    if bytes_eq word (codes "replay") then replay_of source inputs prefix schedule false (Some most_search_budget) else None
+form_of (word ∷ source ∷ inputs ∷ prefix ∷ schedule ∷ other ∷ []) =
+    if bytes_eq word (codes "replay") then replay_with source inputs prefix schedule other else None
+form_of (word ∷ source ∷ inputs ∷ prefix ∷ schedule ∷ messages ∷ budget ∷ []) =
+    if bytes_eq word (codes "replay") && bytes_eq messages (codes "messages")
+    then replay_of source inputs prefix schedule true (number_within 1 most_search_budget budget)
     else None
 form_of (word ∷ hosts ∷ own ∷ muls ∷ ands ∷ pairs ∷ key ∷ prefix ∷ []) =
-    if bytes_eq word (codes "deal")
-    then deal_of (counts_in hosts own muls ands pairs) (number_within 0 (2 ^ 64 - 1) key) prefix
-    else None
+    if bytes_eq word (codes "deal") then deal_in hosts own muls ands pairs key prefix else None
 form_of words = None
 
 -- the limits of what is dealt
@@ -72,6 +100,8 @@ abbrev pub KeepsLimits : Command → Type 0
 KeepsLimits (Deal counts key prefix) = AreWithin counts
 KeepsLimits (Gen coordinates) = IsSize coordinates
 KeepsLimits (Choose source budget) = IsBudget budget
+KeepsLimits (Compile source prefix budget) = IsBudget budget
+KeepsLimits (Replay words) = IsBudget words.budget
 KeepsLimits command = Unit {0}
 
 -- The answer to words of this form: the command, and a fault of usage exactly where there is none.

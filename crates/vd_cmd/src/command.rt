@@ -1,7 +1,7 @@
 //! The forms of a command line.
 
-ghost use Rattle.std.specs.Prelude.{◌≡◌, IfSome};
-ghost use Rattle.vd_cmd.specs.Commands.{Reads, AreWithin, IsBudget, IsSize, choose_of, counts_in, deal_of, form_of, gen_of};
+ghost use Rattle.std.specs.Prelude.{◌≡◌, [], ◌∷◌, IfSome};
+ghost use Rattle.vd_cmd.specs.Commands.{Reads, AreWithin, IsBudget, IsSize, choose_of, compile_of, counts_in, deal_in, deal_of, form_of, gen_of, replay_of, replay_with};
 ghost use Rattle.vd_cmd.specs.declared.command.CommandFault.TheVariants.{Memory};
 
 use crate::numbers::number_within;
@@ -12,6 +12,19 @@ use vd_base::limits::{DEAL_ITEMS, HOSTS, SEARCH_BUDGET};
 use vd_base::{Text, Texts};
 use vd_deals::Counts;
 use vd_gen::COORDINATES;
+
+/// The words of `replay SOURCE INPUTS PREFIX SCHEDULE [messages] [BUDGET]`.
+#[derive(Debug, Drop)]
+pub struct ReplayWords {
+    pub source: Text,
+    pub inputs: Text,
+    pub prefix: Text,
+    pub schedule: Text,
+    /// Whether the words that were sent are told too.
+    pub messages: bool,
+    /// How many prefixes the search may open.
+    pub budget: u32,
+}
 
 /// A command line that has a form.
 #[derive(Debug, Drop)]
@@ -24,8 +37,12 @@ pub enum Command {
     Choose(Text, u32),
     /// `certify SOURCE CERT`.
     Certify(Text, Text),
+    /// `compile SOURCE PREFIX [BUDGET]`.
+    Compile(Text, Text, u32),
     /// `deal HOSTS OWN MULS ANDS PAIRS KEY PREFIX`.
     Deal(Counts, u64, Text),
+    /// `replay SOURCE INPUTS PREFIX SCHEDULE [messages] [BUDGET]`.
+    Replay(ReplayWords),
     /// `gen N`.
     Gen(u32),
 }
@@ -102,6 +119,74 @@ fn choose_of(alloc: Global, source: &Text, budget: Option<u64>) -> Result<Comman
     Ok(Command::Choose(source, budget as u32))
 }
 
+/// The command `compile` with this budget, if it is given.
+fn compile_of(
+    alloc: Global,
+    source: &Text,
+    prefix: &Text,
+    budget: Option<u64>,
+) -> Result<Command, CommandFault>
+    requires { IfSome budget IsBudget }
+    ensures { Reads (compile_of source.now prefix.now budget) result }
+{
+    let Some(budget) = budget else {
+        return Err(CommandFault::Usage);
+    };
+    let source = Text::copy_of(alloc, source.as_str())?;
+    let prefix = Text::copy_of(alloc, prefix.as_str())?;
+    Ok(Command::Compile(source, prefix, budget as u32))
+}
+
+/// The command `replay` with this budget, if it is given.
+fn replay_of(
+    alloc: Global,
+    source: &Text,
+    inputs: &Text,
+    prefix: &Text,
+    schedule: &Text,
+    messages: bool,
+    budget: Option<u64>,
+) -> Result<Command, CommandFault>
+    requires { IfSome budget IsBudget }
+    ensures { Reads (replay_of source.now inputs.now prefix.now schedule.now messages budget) result }
+{
+    let Some(budget) = budget else {
+        return Err(CommandFault::Usage);
+    };
+    let source = Text::copy_of(alloc, source.as_str())?;
+    let inputs = Text::copy_of(alloc, inputs.as_str())?;
+    let prefix = Text::copy_of(alloc, prefix.as_str())?;
+    let schedule = Text::copy_of(alloc, schedule.as_str())?;
+    Ok(Command::Replay(ReplayWords {
+        source,
+        inputs,
+        prefix,
+        schedule,
+        messages,
+        budget: budget as u32,
+    }))
+}
+
+/// The command `replay` with one word more: `messages`, or a budget.
+fn replay_with(
+    alloc: Global,
+    source: &Text,
+    inputs: &Text,
+    prefix: &Text,
+    schedule: &Text,
+    other: &Text,
+) -> Result<Command, CommandFault>
+    ensures { Reads (replay_with source.now inputs.now prefix.now schedule.now other.now) result }
+{
+    let most = u64::from(SEARCH_BUDGET);
+    if other.as_str() == "messages" {
+        replay_of(alloc, source, inputs, prefix, schedule, true, Some(most))
+    } else {
+        let budget = number_within(1, most, other);
+        replay_of(alloc, source, inputs, prefix, schedule, false, budget)
+    }
+}
+
 /// The command `gen` of this size, if it is given.
 fn gen_of(coordinates: Option<u64>) -> Result<Command, CommandFault>
     requires { IfSome coordinates IsSize }
@@ -113,38 +198,103 @@ fn gen_of(coordinates: Option<u64>) -> Result<Command, CommandFault>
     }
 }
 
+/// The command that two words are.
+fn two_words(alloc: Global, word: &Text, argument: &Text) -> Result<Command, CommandFault>
+    ensures { Reads (form_of (word.now ∷ argument.now ∷ [])) result }
+{
+    if word.as_str() == "labels" {
+        Ok(Command::Labels(Text::copy_of(alloc, argument.as_str())?))
+    } else if word.as_str() == "choose" {
+        choose_of(alloc, argument, Some(u64::from(SEARCH_BUDGET)))
+    } else if word.as_str() == "gen" {
+        gen_of(number_within(1, u64::from(COORDINATES), argument))
+    } else {
+        Err(CommandFault::Usage)
+    }
+}
+
+/// The command that three words are.
+fn three_words(
+    alloc: Global,
+    word: &Text,
+    source: &Text,
+    other: &Text,
+) -> Result<Command, CommandFault>
+    ensures { Reads (form_of (word.now ∷ source.now ∷ other.now ∷ [])) result }
+{
+    let most = u64::from(SEARCH_BUDGET);
+    if word.as_str() == "clear" {
+        let source = Text::copy_of(alloc, source.as_str())?;
+        Ok(Command::Clear(source, Text::copy_of(alloc, other.as_str())?))
+    } else if word.as_str() == "certify" {
+        let source = Text::copy_of(alloc, source.as_str())?;
+        Ok(Command::Certify(source, Text::copy_of(alloc, other.as_str())?))
+    } else if word.as_str() == "choose" {
+        choose_of(alloc, source, number_within(1, most, other))
+    } else if word.as_str() == "compile" {
+        compile_of(alloc, source, other, Some(most))
+    } else {
+        Err(CommandFault::Usage)
+    }
+}
+
+/// The command that four words are.
+fn four_words(
+    alloc: Global,
+    word: &Text,
+    source: &Text,
+    prefix: &Text,
+    budget: &Text,
+) -> Result<Command, CommandFault>
+    ensures { Reads (form_of (word.now ∷ source.now ∷ prefix.now ∷ budget.now ∷ [])) result }
+{
+    if word.as_str() == "compile" {
+        let budget = number_within(1, u64::from(SEARCH_BUDGET), budget);
+        compile_of(alloc, source, prefix, budget)
+    } else {
+        Err(CommandFault::Usage)
+    }
+}
+
+/// The command `deal` with the numbers that these texts are, if they are numbers that it takes.
+fn read_deal(
+    alloc: Global,
+    hosts: &Text,
+    own: &Text,
+    muls: &Text,
+    ands: &Text,
+    pairs: &Text,
+    key: &Text,
+    prefix: &Text,
+) -> Result<Command, CommandFault>
+    ensures { Reads (deal_in hosts.now own.now muls.now ands.now pairs.now key.now prefix.now) result }
+{
+    let counts = read_counts(hosts, own, muls, ands, pairs);
+    deal_of(alloc, counts, number_within(0, u64::MAX, key), prefix)
+}
+
 /// The command that the words of a command line are.
 pub fn read_words(alloc: Global, words: &Texts) -> Result<Command, CommandFault>
     ensures { Reads (form_of words.now) result }
 {
+    let most = u64::from(SEARCH_BUDGET);
     match words.as_slice() {
-        [word, source] if word.as_str() == "labels" => {
-            Ok(Command::Labels(Text::copy_of(alloc, source.as_str())?))
+        [word, argument] => two_words(alloc, word, argument),
+        [word, source, other] => three_words(alloc, word, source, other),
+        [word, source, prefix, budget] => four_words(alloc, word, source, prefix, budget),
+        [word, source, inputs, prefix, schedule] if word.as_str() == "replay" => {
+            replay_of(alloc, source, inputs, prefix, schedule, false, Some(most))
         }
-        [word, source] if word.as_str() == "choose" => {
-            choose_of(alloc, source, Some(u64::from(SEARCH_BUDGET)))
+        [word, source, inputs, prefix, schedule, other] if word.as_str() == "replay" => {
+            replay_with(alloc, source, inputs, prefix, schedule, other)
         }
-        [word, size] if word.as_str() == "gen" => {
-            gen_of(number_within(1, u64::from(COORDINATES), size))
-        }
-        [word, source, inputs] if word.as_str() == "clear" => {
-            let source = Text::copy_of(alloc, source.as_str())?;
-            Ok(Command::Clear(source, Text::copy_of(alloc, inputs.as_str())?))
-        }
-        [word, source, certificate] if word.as_str() == "certify" => {
-            let source = Text::copy_of(alloc, source.as_str())?;
-            Ok(Command::Certify(source, Text::copy_of(alloc, certificate.as_str())?))
-        }
-        [word, source, budget] if word.as_str() == "choose" => {
-            choose_of(
-                alloc,
-                source,
-                number_within(1, u64::from(SEARCH_BUDGET), budget),
-            )
+        [word, source, inputs, prefix, schedule, messages, budget]
+            if word.as_str() == "replay" && messages.as_str() == "messages" => {
+            let budget = number_within(1, most, budget);
+            replay_of(alloc, source, inputs, prefix, schedule, true, budget)
         }
         [word, hosts, own, muls, ands, pairs, key, prefix] if word.as_str() == "deal" => {
-            let counts = read_counts(hosts, own, muls, ands, pairs);
-            deal_of(alloc, counts, number_within(0, u64::MAX, key), prefix)
+            read_deal(alloc, hosts, own, muls, ands, pairs, key, prefix)
         }
         _ => Err(CommandFault::Usage),
     }

@@ -5,5 +5,5 @@ mod command;
 mod numbers;
 mod own;
 
-pub use command::{Command, CommandFault, read_words};
+pub use command::{Command, CommandFault, ReplayWords, read_words};
 pub use own::own_text;

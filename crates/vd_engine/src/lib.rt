@@ -11,3 +11,4 @@ pub use engine::{Ended, drive};
 pub use fault::EngineFault;
 pub use laws::enough_ends_well;
 pub use links::Links;
+pub use writing::write_all;

@@ -1,2 +1,4 @@
 pub mod Reading
 pub mod Labelled
+pub mod InputLists
+pub mod HeldTexts

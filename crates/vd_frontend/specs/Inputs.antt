@@ -2,8 +2,10 @@
 use Rattle.std.specs.Prelude.{ℕ, List, Result, Ok, Err}
 use Rattle.vd_base.specs.Limits.{most_inputs_bytes}
 use Rattle.vd_outside.specs.Files.{Contents}
+use Rattle.vd_report.specs.InputsText.{GivesInputs}
 use Rattle.vd_report.specs.declared.fault.ReadFault.{ReadFault}
 use Rattle.vd_report.specs.declared.fault.ReadFault.TheVariants as read_fault
+use Rattle.vd_plan.specs.Held.{IsHeld}
 use Rattle.vd_plan.specs.Plans.{Plan, file_then, check_then}
 use Rattle.vd_plan.specs.declared.status.Status.{Status}
 use Rattle.vd_plan.specs.declared.status.Status.TheVariants.{Memory, InputText}
@@ -27,3 +29,7 @@ words_of texts hosts bytes = as_inputs (texts.inputs hosts bytes)
 -- fetch the inputs of these hosts and go on with their words
 unfoldable pub inputs_then : TextOutcomes → List ℕ → List (List ℕ) → (List (List ℕ) → Contents → Plan) → Contents → Plan
 inputs_then texts name hosts rest = file_then name most_inputs_bytes (λ bytes. check_then (words_of texts hosts bytes) rest)
+
+-- the file holds a text that gives these words to these hosts
+abbrev pub HoldsInputs : List ℕ → List (List ℕ) → Contents → List (List ℕ) → Type 0
+HoldsInputs name hosts contents inputs = IsHeld name most_inputs_bytes contents (λ bytes. GivesInputs hosts bytes inputs)

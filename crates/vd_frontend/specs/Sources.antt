@@ -1,13 +1,15 @@
 -- The steps that read a source.
-use Rattle.std.specs.Prelude.{ℕ, List, Result, Ok, Err}
+use Rattle.std.specs.Prelude.{◌≡◌, ℕ, List, Result, Ok, Err}
 use Rattle.vd_base.specs.Limits.{most_source_bytes}
 use Rattle.vd_outside.specs.Files.{Contents}
 use Rattle.vd_core.specs.declared.source.Source.{Source}
+use Rattle.vd_parser.specs.Outcomes.{IsParse}
 use Rattle.vd_parser.specs.declared.fault.ParseFault.{ParseFault}
 use Rattle.vd_parser.specs.declared.fault.ParseFault.TheVariants as parse_fault
 use Rattle.vd_resolve.specs.Limits.{resolution}
 use Rattle.vd_resolve.specs.declared.fault.NameFault.{NameFault}
 use Rattle.vd_resolve.specs.declared.fault.NameFault.TheVariants as name_fault
+use Rattle.vd_plan.specs.Held.{IsHeld}
 use Rattle.vd_plan.specs.Plans.{Plan, file_then, check_then}
 use Rattle.vd_plan.specs.declared.status.Status.{Status}
 use Rattle.vd_plan.specs.declared.status.Status.TheVariants.{Memory, TooLong, Syntax, Names}
@@ -51,3 +53,17 @@ tree_then texts name rest = file_then name most_source_bytes (λ bytes. check_th
 -- the same, where the tree meets every rule
 unfoldable pub source_then : TextOutcomes → List ℕ → (Source → Contents → Plan) → Contents → Plan
 source_then texts name rest = tree_then texts name (λ tree. check_then (resolved_of tree) rest)
+
+-- ---- what a file holds
+
+-- the text of a source that meets every rule
+pub record IsSourceText (source : Source) (bytes : List ℕ) : Type 0 where
+  pub parsed : IsParse bytes (Ok source)
+  pub meets : resolution source ≡ Ok tt
+
+-- the file holds the text of this tree, and that of this source
+abbrev pub HoldsTree : List ℕ → Contents → Source → Type 0
+HoldsTree name contents tree = IsHeld name most_source_bytes contents (λ bytes. IsParse bytes (Ok tree))
+
+abbrev pub HoldsSource : List ℕ → Contents → Source → Type 0
+HoldsSource name contents source = IsHeld name most_source_bytes contents (IsSourceText source)

@@ -1,10 +1,12 @@
 //! The inputs of a command.
 
-ghost use Rattle.std.specs.Prelude.{◌≡◌, ◌≤◌, length};
+ghost use Rattle.std.specs.Prelude.{◌≡◌, ◌≤◌, length, IfOk};
 ghost use Rattle.vd_base.specs.Limits.{most_inputs_bytes};
+ghost use Rattle.vd_plan.specs.Held.{Finds};
 ghost use Rattle.vd_plan.specs.Plans.{Checks, ExecutesStep};
+ghost use Rattle.vd_report.specs.InputsText.{GivesInputs};
 ghost use Rattle.vd_frontend.specs.Outcomes.{TextOutcomes};
-ghost use Rattle.vd_frontend.specs.Inputs.{words_of, input_status, inputs_then};
+ghost use Rattle.vd_frontend.specs.Inputs.{HoldsInputs, words_of, input_status, inputs_then};
 
 use std::alloc::Global;
 use vd_base::limits::INPUTS_BYTES;
@@ -27,7 +29,9 @@ fn input_status(fault: ReadFault) -> Status
 /// The words that a text hands in for these hosts, or why it does not.
 fn inputs_of(alloc: Global, bytes: &[u8], hosts: &Names) -> Result<Inputs, Status>
     requires { length bytes.now ≤ most_inputs_bytes }
-    ensures { (texts : TextOutcomes) → Checks (words_of texts hosts.now bytes.now) result }
+    ensures words { (texts : TextOutcomes) → Checks (words_of texts hosts.now bytes.now) result }
+    ensures given { IfOk result (λ inputs. GivesInputs hosts.now bytes.now inputs) }
+    ensures all { IfOk result (λ inputs. length inputs ≡ length hosts.now) }
 {
     match read_inputs(alloc, bytes, hosts) {
         Ok(inputs) => Ok(inputs),
@@ -35,14 +39,16 @@ fn inputs_of(alloc: Global, bytes: &[u8], hosts: &Names) -> Result<Inputs, Statu
     }
 }
 
-/// Fetches the inputs of these hosts, and reads them.
+/// Fetches the inputs of these hosts, and reads them: a list for each host.
 pub fn load_inputs<F: Files>(
     alloc: Global,
     files: &mut F,
     name: &str,
     hosts: &Names,
 ) -> Result<Inputs, Status>
-    ensures { (texts : TextOutcomes) → ExecutesStep (inputs_then texts name.now hosts.now) (F.view files.old) (F.view files.new) result }
+    ensures loads { (texts : TextOutcomes) → ExecutesStep (inputs_then texts name.now hosts.now) (F.view files.old) (F.view files.new) result }
+    ensures given { Finds (F.view files.old) result (HoldsInputs name.now hosts.now) }
+    ensures all { IfOk result (λ inputs. length inputs ≡ length hosts.now) }
 {
     let bytes = load(alloc, files, name, INPUTS_BYTES)?;
     inputs_of(alloc, bytes.as_slice(), hosts)

@@ -1,12 +1,14 @@
 //! The source of a command.
 
-ghost use Rattle.std.specs.Prelude.{◌≡◌, ◌≤◌, ℕ, List, length, IfOk};
+ghost use Rattle.std.specs.Prelude.{◌≡◌, ◌≤◌, ℕ, List, length, Ok, IfOk};
 ghost use Rattle.vd_base.specs.Limits.{most_source_bytes};
 ghost use Rattle.vd_core.specs.Named.{HasNames};
 ghost use Rattle.vd_meaning.specs.SourceMeaning.{host_names};
+ghost use Rattle.vd_parser.specs.Outcomes.{IsParse};
+ghost use Rattle.vd_plan.specs.Held.{Finds};
 ghost use Rattle.vd_plan.specs.Plans.{Checks, ExecutesStep};
 ghost use Rattle.vd_frontend.specs.Outcomes.{TextOutcomes};
-ghost use Rattle.vd_frontend.specs.Sources.{source_of, tree_then, resolved_of, rule_status, source_then};
+ghost use Rattle.vd_frontend.specs.Sources.{HoldsSource, HoldsTree, source_of, tree_then, resolved_of, rule_status, source_then};
 
 use std::alloc::{AllocError, Global};
 use vd_base::limits::SOURCE_BYTES;
@@ -18,9 +20,10 @@ use vd_plan::{RuleFault, Status, SyntaxFault, load};
 use vd_resolve::{NameFault, Resolved, resolve};
 
 /// The tree of a text, or why it is no source.
-fn read_source(alloc: Global, bytes: &[u8]) -> Result<Source, Status>
+pub fn read_source(alloc: Global, bytes: &[u8]) -> Result<Source, Status>
     requires { length bytes.now ≤ most_source_bytes }
     ensures reads { (texts : TextOutcomes) (name : List ℕ) → Checks (source_of texts name bytes.now) result }
+    ensures parsed { IfOk result (λ source. IsParse bytes.now (Ok source)) }
     ensures named { IfOk result HasNames }
 {
     match parse(alloc, bytes) {
@@ -38,6 +41,7 @@ fn read_source(alloc: Global, bytes: &[u8]) -> Result<Source, Status>
 /// Fetches a source, and reads it.
 fn load_tree<F: Files>(alloc: Global, files: &mut F, name: &str) -> Result<Source, Status>
     ensures loads { (texts : TextOutcomes) → ExecutesStep (tree_then texts name.now) (F.view files.old) (F.view files.new) result }
+    ensures given { Finds (F.view files.old) result (HoldsTree name.now) }
     ensures named { IfOk result HasNames }
 {
     let bytes = load(alloc, files, name, SOURCE_BYTES)?;
@@ -60,7 +64,7 @@ fn rule_status(fault: NameFault) -> Status
 }
 
 /// The source, if it meets every rule on names, kinds and limits.
-fn resolve_source(alloc: Global, source: Source) -> Result<Resolved, Status>
+pub fn resolve_source(alloc: Global, source: Source) -> Result<Resolved, Status>
     requires { HasNames source }
     ensures { Checks (resolved_of source) result }
 {
@@ -72,7 +76,8 @@ fn resolve_source(alloc: Global, source: Source) -> Result<Resolved, Status>
 
 /// Fetches a source, reads it and resolves it.
 pub fn load_source<F: Files>(alloc: Global, files: &mut F, name: &str) -> Result<Resolved, Status>
-    ensures { (texts : TextOutcomes) → ExecutesStep (source_then texts name.now) (F.view files.old) (F.view files.new) result }
+    ensures loads { (texts : TextOutcomes) → ExecutesStep (source_then texts name.now) (F.view files.old) (F.view files.new) result }
+    ensures given { Finds (F.view files.old) result (HoldsSource name.now) }
 {
     let tree = load_tree(alloc, files, name)?;
     resolve_source(alloc, tree)

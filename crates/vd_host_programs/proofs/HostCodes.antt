@@ -45,7 +45,7 @@ length_map f (x ∷ xs) = ap suc (length_map f xs)
 pub places_over : (program : NormalForm) (places : List ℕ) → IsWellMade program → (x : ℕ) → IsOver (length program.hosts) (protos_at program places x)
 places_over program places made x =
     or_default (IsOver (length program.hosts)) (protocols_of (length program.hosts)) (Local (host 0)) (listed_protocols_are_over (length program.hosts) made.limits.hosts)
-    (record { some = (0, inl refl); known = (made.limits.some_host, tt) }) (slice_index places x)
+    (record { some = (0, inl refl); known = (made.limits.some_host, tt); ordered = refl }) (slice_index places x)
 
 -- each is the protocol of the program's problem
 problem_protos : (program : NormalForm) (labels : Labels) (places : List ℕ) → IsWellMade program → protos_at program places ≡ protos_of (problem_of program labels) places

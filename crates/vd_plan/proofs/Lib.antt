@@ -7,3 +7,5 @@ pub mod WholeRuns
 pub mod Numbering
 pub mod Following
 pub mod SignedLines
+pub mod DealLines
+pub mod Finding

@@ -1,5 +1,6 @@
 pub mod Plans
 pub mod Loads
+pub mod Held
 pub mod Deliver
 pub mod Runs
 pub mod Lines

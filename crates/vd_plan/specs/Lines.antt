@@ -5,6 +5,9 @@ use Rattle.vd_outside.specs.Causes.{Rose}
 use Rattle.vd_outside.specs.Sink.{SinkView}
 use Rattle.vd_plan.specs.declared.status.SyntaxFault.{SyntaxFault}
 use Rattle.vd_plan.specs.declared.status.SyntaxFault.TheVariants.{BadByte, Unexpected, Nesting}
+use Rattle.vd_deals.specs.declared.deal.BadItem.{BadItem}
+use Rattle.vd_deals.specs.declared.deal.DealKind.{DealKind}
+use Rattle.vd_deals.specs.declared.deal.DealKind.TheVariants as deal_kind
 use Rattle.vd_resolve.specs.declared.fault.Quantity.{Quantity}
 use Rattle.vd_resolve.specs.declared.fault.Quantity.TheVariants as quantity
 use Rattle.vd_plan.specs.declared.status.RuleFault.{RuleFault}
@@ -14,7 +17,7 @@ use Rattle.vd_plan.specs.declared.status.TextFault.TheVariants.{Text, UnknownHos
 use Rattle.vd_plan.specs.declared.status.CertificateFault.{CertificateFault}
 use Rattle.vd_plan.specs.declared.status.CertificateFault.TheVariants as cert
 use Rattle.vd_plan.specs.declared.status.Status.{Status}
-use Rattle.vd_plan.specs.declared.status.Status.TheVariants.{Ended, Memory, Usage, ReadFault, WriteFault, TooLong, Syntax, Names, Flow, NoAssignment, Spent, InputText, CertificateText, CertificateRefused}
+use Rattle.vd_plan.specs.declared.status.Status.TheVariants.{Ended, Memory, Usage, ReadFault, WriteFault, TooLong, Syntax, Names, Flow, NoAssignment, Spent, InputText, DealText, ScheduleText, CertificateText, BadDeal, CertificateRefused, NotBuilt}
 
 abbrev pub code_of : Status → ℕ
 code_of Ended = 0
@@ -29,8 +32,12 @@ code_of (Flow check offset) = 8
 code_of NoAssignment = 9
 code_of (Spent budget) = 10
 code_of (InputText fault) = 11
+code_of (DealText name offset) = 12
+code_of (ScheduleText fault) = 13
 code_of (CertificateText offset) = 15
+code_of (BadDeal bad) = 16
 code_of (CertificateRefused fault) = 17
+code_of NotBuilt = 30
 
 -- a text that ends in a number
 abbrev pub offset_line : List ℕ → ℕ → List ℕ
@@ -61,6 +68,29 @@ abbrev pub input_line : TextFault → List ℕ
 input_line (Text offset) = offset_line (codes "viaduct: input text at ") offset
 input_line (UnknownHost offset) = offset_line (codes "viaduct: input host at ") offset
 
+abbrev pub deal_line : List ℕ → ℕ → List ℕ
+deal_line name offset = codes "viaduct: deal text " ++ (name ++ offset_line (codes " at ") offset)
+
+abbrev pub schedule_line : TextFault → List ℕ
+schedule_line (Text offset) = offset_line (codes "viaduct: schedule text at ") offset
+schedule_line (UnknownHost offset) = offset_line (codes "viaduct: schedule host at ") offset
+
+abbrev pub kind_name : DealKind → List ℕ
+kind_name deal_kind.Own = codes "own"
+kind_name deal_kind.Mul = codes "mul"
+kind_name deal_kind.And = codes "and"
+kind_name deal_kind.Pair = codes "pair"
+
+-- a number behind the space that parts it from what stands before it, and what follows
+abbrev pub number_then : ℕ → List ℕ → List ℕ
+number_then number behind = codes " " ++ (decimal number ++ behind)
+
+-- the kind, the two hosts, the place, and both sides
+abbrev pub bad_deal_line : BadItem → List ℕ
+bad_deal_line bad =
+    codes "viaduct: bad deal " ++ (kind_name bad.kind ++ number_then bad.first.0 (number_then bad.second.0 (number_then bad.index
+    (number_then bad.left (number_then bad.right (codes "\n"))))))
+
 abbrev pub cost_line : ℕ → ℤ → List ℕ
 cost_line stated own = codes "viaduct: cert refused cost " ++ (decimal stated ++ (codes " " ++ (signed_decimal own ++ codes "\n")))
 
@@ -90,8 +120,12 @@ status_line (Flow check offset) = codes "viaduct: flow check " ++ (decimal check
 status_line NoAssignment = codes "viaduct: no assignment\n"
 status_line (Spent budget) = offset_line (codes "viaduct: budget spent ") budget
 status_line (InputText fault) = input_line fault
+status_line (DealText name offset) = deal_line name offset
+status_line (ScheduleText fault) = schedule_line fault
+status_line (BadDeal bad) = bad_deal_line bad
 status_line (CertificateText offset) = offset_line (codes "viaduct: cert text at ") offset
 status_line (CertificateRefused fault) = certificate_line fault
+status_line NotBuilt = codes "viaduct: not built\n"
 
 -- the line goes to err, whole unless err failed
 pub record Says (line : List ℕ) (before now : SinkView) : Type 0 where

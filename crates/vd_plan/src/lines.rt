@@ -4,12 +4,13 @@ ghost use Rattle.std.specs.Prelude.{◌≡◌};
 ghost use Rattle.vd_plan.specs.Deliver.{WritesAll};
 ghost use Rattle.vd_plan.specs.declared.status.RuleFault.TheVariants as rule;
 ghost use Rattle.vd_plan.specs.declared.status.Status.TheVariants.{Flow};
-ghost use Rattle.vd_plan.specs.Lines.{Says, bound_line, certificate_line, cost_line, status_line, syntax_line, rule_line, input_line, offset_line, quantity_name};
+ghost use Rattle.vd_plan.specs.Lines.{Says, bad_deal_line, bound_line, certificate_line, cost_line, deal_line, kind_name, schedule_line, status_line, syntax_line, rule_line, input_line, offset_line, quantity_name};
 
 use crate::deliver::write_parts;
 use crate::{CertificateFault, RuleFault, Status, SyntaxFault, TextFault};
 use itoa::Buffer;
 use vd_base::Failed;
+use vd_deals::{BadItem, DealKind};
 use vd_outside::Sink;
 use vd_resolve::Quantity;
 
@@ -47,8 +48,12 @@ fn write_status<E: Sink>(err: &mut E, status: &Status) -> Result<(), Failed>
         Status::NoAssignment => write_parts(err, &[b"viaduct: no assignment\n"]),
         Status::Spent(budget) => write_offset(err, b"viaduct: budget spent ", *budget),
         Status::InputText(fault) => write_text_fault(err, *fault),
+        Status::DealText(name, offset) => write_deal_fault(err, name.as_slice(), *offset),
+        Status::ScheduleText(fault) => write_schedule_fault(err, *fault),
         Status::CertificateText(offset) => write_offset(err, b"viaduct: cert text at ", *offset),
+        Status::BadDeal(bad) => write_bad_deal(err, *bad),
         Status::CertificateRefused(fault) => write_certificate_fault(err, *fault),
+        Status::NotBuilt => write_parts(err, &[b"viaduct: not built\n"]),
     }
 }
 
@@ -135,6 +140,71 @@ fn write_text_fault<E: Sink>(err: &mut E, fault: TextFault) -> Result<(), Failed
         TextFault::Text(offset) => write_offset(err, b"viaduct: input text at ", offset),
         TextFault::UnknownHost(offset) => write_offset(err, b"viaduct: input host at ", offset),
     }
+}
+
+/// Writes the line of a fault of a deal's text.
+fn write_deal_fault<E: Sink>(err: &mut E, name: &[u8], offset: u32) -> Result<(), Failed>
+    ensures { WritesAll (deal_line name.now offset) (E.view err.old) (E.view err.new) result }
+{
+    let mut buffer = Buffer::new();
+    let number = buffer.format(offset).as_bytes();
+    write_parts(err, &[b"viaduct: deal text ", name, b" at ", number, b"\n"])
+}
+
+/// Writes the line of a fault of a schedule.
+fn write_schedule_fault<E: Sink>(err: &mut E, fault: TextFault) -> Result<(), Failed>
+    ensures { WritesAll (schedule_line fault) (E.view err.old) (E.view err.new) result }
+{
+    match fault {
+        TextFault::Text(offset) => write_offset(err, b"viaduct: schedule text at ", offset),
+        TextFault::UnknownHost(offset) => write_offset(err, b"viaduct: schedule host at ", offset),
+    }
+}
+
+/// The word for a kind of items.
+fn kind_name(kind: DealKind) -> &'static [u8]
+    ensures { result.now ≡ kind_name kind }
+{
+    match kind {
+        DealKind::Own => b"own",
+        DealKind::Mul => b"mul",
+        DealKind::And => b"and",
+        DealKind::Pair => b"pair",
+    }
+}
+
+/// Writes the line of an item that breaks its identity.
+fn write_bad_deal<E: Sink>(err: &mut E, bad: BadItem) -> Result<(), Failed>
+    ensures { WritesAll (bad_deal_line bad) (E.view err.old) (E.view err.new) result }
+{
+    let mut first_buffer = Buffer::new();
+    let first = first_buffer.format(bad.first.0).as_bytes();
+    let mut second_buffer = Buffer::new();
+    let second = second_buffer.format(bad.second.0).as_bytes();
+    let mut index_buffer = Buffer::new();
+    let index = index_buffer.format(bad.index).as_bytes();
+    let mut left_buffer = Buffer::new();
+    let left = left_buffer.format(bad.left).as_bytes();
+    let mut right_buffer = Buffer::new();
+    let right = right_buffer.format(bad.right).as_bytes();
+    write_parts(
+        err,
+        &[
+            b"viaduct: bad deal ",
+            kind_name(bad.kind),
+            b" ",
+            first,
+            b" ",
+            second,
+            b" ",
+            index,
+            b" ",
+            left,
+            b" ",
+            right,
+            b"\n",
+        ],
+    )
 }
 
 /// Writes the line of a certificate that is not accepted.

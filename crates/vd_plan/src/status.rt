@@ -5,7 +5,8 @@ ghost use Rattle.vd_plan.specs.declared.status.Status.TheVariants.{Memory};
 ghost use Rattle.vd_plan.specs.Lines.{code_of};
 
 use std::alloc::AllocError;
-use vd_base::Text;
+use vd_base::{Name, Text};
+use vd_deals::BadItem;
 use vd_resolve::Quantity;
 
 /// What is wrong with a source's text, and the offset at which it is.
@@ -90,10 +91,18 @@ pub enum Status {
     Spent(u32),
     /// The text of the inputs is refused.
     InputText(TextFault),
+    /// The text of this host's deal is refused: no deal of its goes on at this offset as the file does.
+    DealText(Name, u32),
+    /// The text of the schedule is refused.
+    ScheduleText(TextFault),
     /// No certificate's text goes on at this offset as the file does.
     CertificateText(u32),
+    /// The first item of the deals that breaks its identity.
+    BadDeal(BadItem),
     /// The certificate is not accepted.
     CertificateRefused(CertificateFault),
+    /// A slot stands at a protocol that is not built.
+    NotBuilt,
 }
 
 impl Status {
@@ -114,8 +123,12 @@ impl Status {
             Status::NoAssignment => 9,
             Status::Spent(_) => 10,
             Status::InputText(_) => 11,
+            Status::DealText(_, _) => 12,
+            Status::ScheduleText(_) => 13,
             Status::CertificateText(_) => 15,
+            Status::BadDeal(_) => 16,
             Status::CertificateRefused(_) => 17,
+            Status::NotBuilt => 30,
         }
     }
 }

@@ -25,9 +25,11 @@ use Rattle.vd_joint.specs.Emission.{Emitting, Emitted, Emission, parts_at, deliv
 use Rattle.vd_joint.proofs.Lists.{and_left, and_right}
 use Rattle.vd_split.proofs.Picked.{picked_below, picked_few}
 use Rattle.vd_suite.specs.Parts.{Parts, suite_calls}
-use Rattle.vd_ranges.proofs.Fits.{IsLow, low_more, GadgetFits, gadgets_fit, PlanFits, plan_wider, plans_fit, acts_fit}
-use Rattle.vd_ranges.proofs.Clear.{register_fits}
-use Rattle.vd_ranges.proofs.Calls.{PartsFit, CallFits, parts_more, places_of, IsKnown, IndexFits, literal_fits, move_fits, apply_fits, keep_fits, renew_fits, turn_fits, input_fits, output_fits, cells_fit, get_fits, put_fits}
+use Rattle.vd_counts.specs.Fits.{IsLow, GadgetFits}
+use Rattle.vd_counts.proofs.Bounds.{low_more, gadgets_fit}
+use Rattle.vd_counts.proofs.Clear.{register_fits}
+use Rattle.vd_ranges.proofs.Fits.{PlanFits, plan_wider, plans_fit, acts_fit}
+use Rattle.vd_ranges.proofs.Calls.{SlotFits, CallFits, slot_more, places_of, IsKnown, IndexFits, literal_fits, move_fits, apply_fits, keep_fits, renew_fits, turn_fits, input_fits, output_fits, cells_fit, get_fits, put_fits}
 
 lt_of : (a b : ℕ) → nat_lt a b ≡ true → a < b
 lt_of a b h = grind (arith, nat_tests)
@@ -57,14 +59,14 @@ few_operands op.Mux = omega arith
 -- the registers that a block takes of a host, at most, and its statements
 abbrev pub cost : Block → ℕ
 cost End = 0
-cost (Let x r rest) = 2048 + cost rest
-cost (NewVar v x rest) = 2048 + cost rest
-cost (NewArray v cells rest) = 2048 + 8 * cells + cost rest
-cost (Store v x rest) = 2048 + cost rest
-cost (Put v i x rest) = 2048 + cost rest
-cost (Output x h offset rest) = 2048 + cost rest
-cost (If x first other offset rest) = 2048 + cost first + cost other + cost rest
-cost (For count body rest) = 2048 + cost body + cost rest
+cost (Let x r rest) = 2560 + cost rest
+cost (NewVar v x rest) = 2560 + cost rest
+cost (NewArray v cells rest) = 2560 + 8 * cells + cost rest
+cost (Store v x rest) = 2560 + cost rest
+cost (Put v i x rest) = 2560 + cost rest
+cost (Output x h offset rest) = 2560 + cost rest
+cost (If x first other offset rest) = 2560 + cost first + cost other + cost rest
+cost (For count body rest) = 2560 + cost body + cost rest
 
 abbrev pub size : Block → ℕ
 size End = 0
@@ -87,30 +89,30 @@ module _ (hosts N : ℕ) (proto : ℕ → Proto) (known : (x : ℕ) → IsKnown 
   -- all registers are at most so many
   pub record StateFits (n : ℕ) (e : Emitting (suite_calls hosts) proto) : Type 0 where
     pub next : IsLow n e.next
-    pub held : Each (PartsFit hosts N n) e.held
+    pub held : Each (SlotFits hosts N n) e.held
     pub loop : IsLow n e.loop
 
   pub record BlockFits (d n : ℕ) (made : Emitted (suite_calls hosts) proto) : Type 0 where
     pub plan : PlanFits hosts N d made.tree
     pub state : StateFits n made.state
 
-  held_more : (m n : ℕ) (held : List Parts) → m ≤ n → Each (PartsFit hosts N m) held → Each (PartsFit hosts N n) held
+  held_more : (m n : ℕ) (held : List Parts) → m ≤ n → Each (SlotFits hosts N m) held → Each (SlotFits hosts N n) held
   held_more m n [] le f = tt
-  held_more m n (x ∷ held) le f = (parts_more hosts N m n x le f.0, held_more m n held le f.1)
+  held_more m n (x ∷ held) le f = (slot_more hosts N m n x le f.0, held_more m n held le f.1)
 
-  held_one : (n : ℕ) (held : List Parts) (x : Parts) → Each (PartsFit hosts N n) held → PartsFit hosts N n x → Each (PartsFit hosts N n) (held ++ x ∷ [])
+  held_one : (n : ℕ) (held : List Parts) (x : Parts) → Each (SlotFits hosts N n) held → SlotFits hosts N n x → Each (SlotFits hosts N n) (held ++ x ∷ [])
   held_one n [] x f g = (g, tt)
   held_one n (y ∷ held) x f g = (f.0, held_one n held x f.1 g)
 
-  held_at : (n : ℕ) (held : List Parts) (i : ℕ) → Each (PartsFit hosts N n) held → PartsFit hosts N n (slice_index_or held i (record { at = []; size = 0 }))
-  held_at n [] i f = record { few = omega arith; size = omega arith; at = tt }
+  held_at : (n : ℕ) (held : List Parts) (i : ℕ) → Each (SlotFits hosts N n) held → SlotFits hosts N n (slice_index_or held i (record { at = []; size = 0 }))
+  held_at n [] i f = record { size = omega arith; parts = record { few = omega arith; at = tt } }
   held_at n (x ∷ held) zero f = f.0
   held_at n (x ∷ held) (suc i) f = held_at n held i f.1
 
   state_more : (m n : ℕ) (e : Emitting (suite_calls hosts) proto) → m ≤ n → StateFits m e → StateFits n e
   state_more m n e le f = record { next = low_more m n e.next le f.next; held = held_more m n e.held le f.held; loop = low_more m n e.loop le f.loop }
 
-  parts_fit : (n : ℕ) (e : Emitting (suite_calls hosts) proto) (x : SlotId) → StateFits n e → PartsFit hosts N n (parts_at s proto e x)
+  parts_fit : (n : ℕ) (e : Emitting (suite_calls hosts) proto) (x : SlotId) → StateFits n e → SlotFits hosts N n (parts_at s proto e x)
   parts_fit n e x f = held_at n e.held x.0 f.held
 
   -- one call, and then another
@@ -120,7 +122,7 @@ module _ (hosts N : ℕ) (proto : ℕ → Proto) (known : (x : ℕ) → IsKnown 
 
   record AllFit (n : ℕ) (made : Made Gadget (List Parts)) : Type 0 where
     low : IsLow n made.next
-    given : Each (PartsFit hosts N n) made.given
+    given : Each (SlotFits hosts N n) made.given
     acts : Each (GadgetFits hosts N) made.acts
 
   record IndexMade (n : ℕ) (made : Made Gadget (List (ℕ × ℕ))) : Type 0 where
@@ -128,53 +130,53 @@ module _ (hosts N : ℕ) (proto : ℕ → Proto) (known : (x : ℕ) → IsKnown 
     given : IndexFits hosts N n made.given
     acts : Each (GadgetFits hosts N) made.acts
 
-  operands_moved : (q : Proto) → IsKnown hosts N q → (e : Emitting (suite_calls hosts) proto) (k : ℕ) → StateFits k e → (xs : List SlotId) (m n : ℕ) (next : List ℕ) → k ≤ m → m + 64 * length xs ≤ n → n ≤ N → IsLow m next
+  operands_moved : (q : Proto) → IsKnown hosts N q → (e : Emitting (suite_calls hosts) proto) (k : ℕ) → StateFits k e → (xs : List SlotId) (m n : ℕ) (next : List ℕ) → k ≤ m → m + 384 * length xs ≤ n → n ≤ N → IsLow m next
       → AllFit n (all_moved s proto q e xs next)
   operands_moved q onto e k f [] m n next le more most low = record { low = low_more m n next (omega (arith, more)) low; given = tt; acts = tt }
   operands_moved q onto e k f (x ∷ xs) m n next le more most low =
-      let one = move_fits hosts N (proto x.0) q (known x.0) onto (parts_at s proto e x) m (m + 64) next (parts_more hosts N k m (parts_at s proto e x) le (parts_fit k e x f)) (omega arith) (first (length xs) more) low in
+      let one = move_fits hosts N (proto x.0) q (known x.0) onto (parts_at s proto e x) m (m + 384) next (slot_more hosts N k m (parts_at s proto e x) le (parts_fit k e x f)) (omega arith) (first (length xs) more) low in
       let moved = s.move (proto x.0) q (parts_at s proto e x) next in
-      let rest = operands_moved q onto e k f xs (m + 64) n moved.next (omega (arith, le)) (others (length xs) more) most one.low in
+      let rest = operands_moved q onto e k f xs (m + 384) n moved.next (omega (arith, le)) (others (length xs) more) most one.low in
       record {
         low = rest.low;
-        given = (parts_more hosts N (m + 64) n moved.given (wide (length xs) more) one.given, rest.given);
+        given = (slot_more hosts N (m + 384) n moved.given (wide (length xs) more) one.given, rest.given);
         acts = gadgets_fit hosts N moved.acts (all_moved s proto q e xs moved.next).acts one.acts rest.acts;
       }
     where
-      first : (l : ℕ) → m + 64 * suc l ≤ n → m + 64 ≤ N
+      first : (l : ℕ) → m + 384 * suc l ≤ n → m + 384 ≤ N
       first l e = omega (arith, e, most)
 
-      others : (l : ℕ) → m + 64 * suc l ≤ n → m + 64 + 64 * l ≤ n
+      others : (l : ℕ) → m + 384 * suc l ≤ n → m + 384 + 384 * l ≤ n
       others l e = omega (arith, e)
 
-      wide : (l : ℕ) → m + 64 * suc l ≤ n → m + 64 ≤ n
+      wide : (l : ℕ) → m + 384 * suc l ≤ n → m + 384 ≤ n
       wide l e = omega (arith, e)
 
-  word_delivered : (p : Proto) → IsKnown hosts N p → (x : Parts) (k : ℕ) → PartsFit hosts N k x → (hs : List HostId) → Each (λ (h : HostId). h.0 < hosts) hs → (m n : ℕ) (next : List ℕ) → k ≤ m → m + 64 * length hs ≤ n → n ≤ N → IsLow m next
+  word_delivered : (p : Proto) → IsKnown hosts N p → (x : Parts) (k : ℕ) → SlotFits hosts N k x → (hs : List HostId) → Each (λ (h : HostId). h.0 < hosts) hs → (m n : ℕ) (next : List ℕ) → k ≤ m → m + 384 * length hs ≤ n → n ≤ N → IsLow m next
       → IndexMade n (delivered s proto p x hs next)
   word_delivered p from x k f [] there m n next le more most low = record { low = low_more m n next (omega (arith, more)) low; given = tt; acts = tt }
   word_delivered p from x k f (h ∷ hs) there m n next le more most low =
-      let one = move_fits hosts N p (Local h) from (there.0, tt) x m (m + 64) next (parts_more hosts N k m x le f) (omega arith) (first (length hs) more) low in
+      let one = move_fits hosts N p (Local h) from (there.0, tt) x m (m + 384) next (slot_more hosts N k m x le f) (omega arith) (first (length hs) more) low in
       let moved = s.move p (Local h) x next in
-      let rest = word_delivered p from x k f hs there.1 (m + 64) n moved.next (omega (arith, le)) (others (length hs) more) most one.low in
-      let r = register_fits hosts N 0 (m + 64) moved.given.at h.0 (omega arith) (places_of hosts N (m + 64) moved.given one.given) in
+      let rest = word_delivered p from x k f hs there.1 (m + 384) n moved.next (omega (arith, le)) (others (length hs) more) most one.low in
+      let r = register_fits hosts N 0 (m + 384) moved.given.at h.0 (omega arith) (places_of hosts N (m + 384) moved.given one.given) in
       record {
         low = rest.low;
         given = (wide (length hs) _ more r, rest.given);
         acts = gadgets_fit hosts N moved.acts (delivered s proto p x hs moved.next).acts one.acts rest.acts;
       }
     where
-      first : (l : ℕ) → m + 64 * suc l ≤ n → m + 64 ≤ N
+      first : (l : ℕ) → m + 384 * suc l ≤ n → m + 384 ≤ N
       first l e = omega (arith, e, most)
 
-      others : (l : ℕ) → m + 64 * suc l ≤ n → m + 64 + 64 * l ≤ n
+      others : (l : ℕ) → m + 384 * suc l ≤ n → m + 384 + 384 * l ≤ n
       others l e = omega (arith, e)
 
-      wide : (l r : ℕ) → m + 64 * suc l ≤ n → r + 0 ≤ m + 64 → r ≤ n
+      wide : (l r : ℕ) → m + 384 * suc l ≤ n → r + 0 ≤ m + 384 → r ≤ n
       wide l r e g = omega (arith, e, g)
 
   -- a word is delivered to some of the hosts
-  told_some : (test : ℕ → Bool) (p : Proto) → IsKnown hosts N p → (x : Parts) (m n : ℕ) (next : List ℕ) → PartsFit hosts N m x → m + 256 ≤ n → n ≤ N → IsLow m next
+  told_some : (test : ℕ → Bool) (p : Proto) → IsKnown hosts N p → (x : Parts) (m n : ℕ) (next : List ℕ) → SlotFits hosts N m x → m + 1536 ≤ n → n ≤ N → IsLow m next
       → IndexMade n (delivered s proto p x (picked 0 hosts test) next)
   told_some test p from x m n next f more most low =
       let many = picked_few test 0 hosts in
@@ -186,27 +188,27 @@ module _ (hosts N : ℕ) (proto : ℕ → Proto) (known : (x : ℕ) → IsKnown 
           none : 0 + hosts ≡ hosts
           none = omega arith
 
-      enough : (l : ℕ) → l ≤ hosts → m + 64 * l ≤ n
+      enough : (l : ℕ) → l ≤ hosts → m + 384 * l ≤ n
       enough l le = omega (arith, le, few, more)
 
   right_fits : (q : Proto) → IsKnown hosts N q → (r : Right) → operands_fit r ≡ true → ((x : SlotId) → host_is_declared hosts (Stmt-F.Let x r) ≡ true)
-      → (e : Emitting (suite_calls hosts) proto) (m n : ℕ) → StateFits m e → m + 2048 ≤ n → n ≤ N → CallFits hosts N n (right_made s proto q r e)
+      → (e : Emitting (suite_calls hosts) proto) (m n : ℕ) → StateFits m e → m + 2560 ≤ n → n ≤ N → CallFits hosts N n (right_made s proto q r e)
   right_fits q onto (Lit v) operands declared e m n f more most = literal_fits hosts N q onto v m n e.next (omega (arith, more)) most f.next
   right_fits q onto Turn operands declared e m n f more most = turn_fits hosts N q onto e.loop m n e.next f.loop (omega (arith, more)) most f.next
   right_fits q onto (Copy y) operands declared e m n f more most = move_fits hosts N (proto y.0) q (known y.0) onto (parts_at s proto e y) m n e.next (parts_fit m e y f) (omega (arith, more)) most f.next
   right_fits q onto (Apply o ys) operands declared e m n f more most =
       let many : length ys ≡ arity o = eqb-true (length ys) (arity o) operands in
       let three = few_operands o in
-      let a = m + 64 * length ys in
+      let a = m + 384 * length ys in
       let moved = operands_moved q onto e m f ys m a e.next (omega arith) (omega arith) (within (length ys) (arity o) many three) f.next in
       let all = all_moved s proto q e ys e.next in
       let applied = apply_fits hosts N o q onto all.given a n all.next moved.given (within_more (length ys) (arity o) many three) most moved.low in
       record { low = applied.low; given = applied.given; acts = gadgets_fit hosts N all.acts (s.apply o q all.given all.next).acts moved.acts applied.acts }
     where
-      within : (l k : ℕ) → l ≡ k → k ≤ 3 → m + 64 * l ≤ N
+      within : (l k : ℕ) → l ≡ k → k ≤ 3 → m + 384 * l ≤ N
       within l k e g = omega (arith, e, g, more, most)
 
-      within_more : (l k : ℕ) → l ≡ k → k ≤ 3 → m + 64 * l + 64 ≤ n
+      within_more : (l k : ℕ) → l ≡ k → k ≤ 3 → m + 384 * l + 384 ≤ n
       within_more l k e g = omega (arith, e, g, more)
   right_fits q onto (Input h) operands declared e m n f more most = input_fits hosts N h (lt_of h.0 hosts (declared (record { 0 = 0 }))) m n e.next (omega (arith, more)) most f.next
   right_fits q onto (Declassify y to) operands declared e m n f more most = move_fits hosts N (proto y.0) q (known y.0) onto (parts_at s proto e y) m n e.next (parts_fit m e y f) (omega (arith, more)) most f.next
@@ -214,16 +216,16 @@ module _ (hosts N : ℕ) (proto : ℕ → Proto) (known : (x : ℕ) → IsKnown 
   right_fits q onto (Load v) operands declared e m n f more most =
       let p = proto v.0 in
       let kept = s.keep p (parts_at s proto e v) e.next in
-      let one = keep_fits hosts N p (known v.0) (parts_at s proto e v) m (m + 64) e.next (parts_fit m e v f) (omega arith) (omega (arith, more, most)) f.next in
-      let two = move_fits hosts N p q (known v.0) onto kept.given (m + 64) n kept.next one.given (omega (arith, more)) most one.low in
-      call_then (m + 64) n kept (s.move p q kept.given kept.next) one two
+      let one = keep_fits hosts N p (known v.0) (parts_at s proto e v) m (m + 384) e.next (parts_fit m e v f) (omega arith) (omega (arith, more, most)) f.next in
+      let two = move_fits hosts N p q (known v.0) onto kept.given (m + 384) n kept.next one.given (omega (arith, more)) most one.low in
+      call_then (m + 384) n kept (s.move p q kept.given kept.next) one two
   right_fits q onto (Get v i) operands declared e m n f more most =
       let p = proto v.0 in
       let index = delivered s proto (proto i.0) (parts_at s proto e i) (hosts_of s p) e.next in
-      let told = told_some (λ h. is_at p (host h)) (proto i.0) (known i.0) (parts_at s proto e i) m (m + 256) e.next (parts_fit m e i f) (omega arith) (omega (arith, more, most)) f.next in
+      let told = told_some (λ h. is_at p (host h)) (proto i.0) (known i.0) (parts_at s proto e i) m (m + 1536) e.next (parts_fit m e i f) (omega arith) (omega (arith, more, most)) f.next in
       let read = s.get p (parts_at s proto e v) index.given index.next in
-      let one = get_fits hosts N p (known v.0) (parts_at s proto e v) index.given (m + 256) (m + 320) index.next (parts_more hosts N m (m + 256) (parts_at s proto e v) (omega arith) (parts_fit m e v f)) told.given (omega arith) (omega (arith, more, most)) told.low in
-      let two = move_fits hosts N p q (known v.0) onto read.given (m + 320) n read.next one.given (omega (arith, more)) most one.low in
+      let one = get_fits hosts N p (known v.0) (parts_at s proto e v) index.given (m + 1536) (m + 1920) index.next (slot_more hosts N m (m + 1536) (parts_at s proto e v) (omega arith) (parts_fit m e v f)) told.given (omega arith) (omega (arith, more, most)) told.low in
+      let two = move_fits hosts N p q (known v.0) onto read.given (m + 1920) n read.next one.given (omega (arith, more)) most one.low in
       record {
         low = two.low;
         given = two.given;
@@ -298,16 +300,16 @@ module _ (hosts N : ℕ) (proto : ℕ → Proto) (known : (x : ℕ) → IsKnown 
   simple rest goes p q one a n f more most =
       then_fits 0 (size rest) (1 + size rest) a n one ((emission_of rest).emit one.state) (omega arith) (omega arith) f (goes p q one.state a n f.state more most)
 
-  below_all : (m c n : ℕ) → m + 2048 + c ≤ n → n < N → m + 2048 < N
+  below_all : (m c n : ℕ) → m + 2560 + c ≤ n → n < N → m + 2560 < N
   below_all m c n le lt = omega (arith, le, lt)
 
-  regroup : (m c n : ℕ) → m + (2048 + c) ≤ n → m + 2048 + c ≤ n
+  regroup : (m c n : ℕ) → m + (2560 + c) ≤ n → m + 2560 + c ≤ n
   regroup m c n le = omega (arith, le)
 
-  at_most : (m c n : ℕ) → m + (2048 + c) ≤ n → n < N → m + 2048 ≤ N
+  at_most : (m c n : ℕ) → m + (2560 + c) ≤ n → n < N → m + 2560 ≤ N
   at_most m c n le lt = omega (arith, le, lt)
 
-  under : (m c n : ℕ) → m + (2048 + c) ≤ n → n < N → m + 2048 < N
+  under : (m c n : ℕ) → m + (2560 + c) ≤ n → n < N → m + 2560 < N
   under m c n le lt = omega (arith, le, lt)
 
   pub block_fits : (b : Block) → Goes b
@@ -316,43 +318,43 @@ module _ (hosts N : ℕ) (proto : ℕ → Proto) (known : (x : ℕ) → IsKnown 
       let p' = and_left (operands_fit r && true) (holds (of_rights operands_fit) rest) p in
       let q' = and_left (host_is_declared hosts (Stmt-F.Let x r) && true) (holds (host_is_declared hosts) rest) q in
       let made = right_made s proto (proto x.0) r e in
-      let one = right_fits (proto x.0) (known x.0) r (and_left (operands_fit r) true p') (λ y. declared_at r x y (and_left (host_is_declared hosts (Stmt-F.Let x r)) true q')) e m (m + 2048) f (omega arith) (at_most m (cost rest) n more most) in
+      let one = right_fits (proto x.0) (known x.0) r (and_left (operands_fit r) true p') (λ y. declared_at r x y (and_left (host_is_declared hosts (Stmt-F.Let x r)) true q')) e m (m + 2560) f (omega arith) (at_most m (cost rest) n more most) in
       simple rest (block_fits rest) (and_right (operands_fit r && true) (holds (of_rights operands_fit) rest) p) (and_right (host_is_declared hosts (Stmt-F.Let x r) && true) (holds (host_is_declared hosts) rest) q)
-      (with_parts s proto made e) (m + 2048) n (slot_fits made m (m + 2048) e (omega arith) f one) (regroup m (cost rest) n more) most
+      (with_parts s proto made e) (m + 2560) n (slot_fits made m (m + 2560) e (omega arith) f one) (regroup m (cost rest) n more) most
   block_fits (NewVar v x rest) p q e m n f more most =
       let moved = s.move (proto x.0) (proto v.0) (parts_at s proto e x) e.next in
-      let one = move_fits hosts N (proto x.0) (proto v.0) (known x.0) (known v.0) (parts_at s proto e x) m (m + 64) e.next (parts_fit m e x f) (omega arith) (let z = at_most m (cost rest) n more most in omega (arith, z)) f.next in
-      let two = keep_fits hosts N (proto v.0) (known v.0) moved.given (m + 64) (m + 2048) moved.next one.given (omega arith) (at_most m (cost rest) n more most) one.low in
+      let one = move_fits hosts N (proto x.0) (proto v.0) (known x.0) (known v.0) (parts_at s proto e x) m (m + 384) e.next (parts_fit m e x f) (omega arith) (let z = at_most m (cost rest) n more most in omega (arith, z)) f.next in
+      let two = keep_fits hosts N (proto v.0) (known v.0) moved.given (m + 384) (m + 2560) moved.next one.given (omega arith) (at_most m (cost rest) n more most) one.low in
       let made = and_on s proto moved (s.keep (proto v.0)) in
-      simple rest (block_fits rest) p q (with_parts s proto made e) (m + 2048) n
-      (slot_fits made m (m + 2048) e (omega arith) f (call_then (m + 64) (m + 2048) moved (s.keep (proto v.0) moved.given moved.next) one two)) (regroup m (cost rest) n more) most
+      simple rest (block_fits rest) p q (with_parts s proto made e) (m + 2560) n
+      (slot_fits made m (m + 2560) e (omega arith) f (call_then (m + 384) (m + 2560) moved (s.keep (proto v.0) moved.given moved.next) one two)) (regroup m (cost rest) n more) most
   block_fits (NewArray v cells rest) p q e m n f more most =
       let made = s.cells (proto v.0) cells e.next in
-      let a = m + 2048 + 8 * cells in
+      let a = m + 2560 + 8 * cells in
       simple rest (block_fits rest) p q (with_parts s proto made e) a n
       (slot_fits made m a e (omega arith) f (cells_fit hosts N (proto v.0) (known v.0) cells m a e.next (omega arith) (low cells (cost rest) more) f.next)) (group cells (cost rest) more) most
     where
-      low : (k c : ℕ) → m + (2048 + 8 * k + c) ≤ n → m + 2048 + 8 * k < N
+      low : (k c : ℕ) → m + (2560 + 8 * k + c) ≤ n → m + 2560 + 8 * k < N
       low k c le = omega (arith, le, most)
 
-      group : (k c : ℕ) → m + (2048 + 8 * k + c) ≤ n → m + 2048 + 8 * k + c ≤ n
+      group : (k c : ℕ) → m + (2560 + 8 * k + c) ≤ n → m + 2560 + 8 * k + c ≤ n
       group k c le = omega (arith, le)
   block_fits (Store v x rest) p q e m n f more most =
-      let a = m + 2048 in
+      let a = m + 2560 in
       let moved = s.move (proto x.0) (proto v.0) (parts_at s proto e x) e.next in
       let one = move_fits hosts N (proto x.0) (proto v.0) (known x.0) (known v.0) (parts_at s proto e x) m a e.next (parts_fit m e x f) (omega arith) (at_most m (cost rest) n more most) f.next in
-      let renewed = renew_fits hosts N (proto v.0) (parts_at s proto e v) moved.given a (parts_more hosts N m a (parts_at s proto e v) (omega arith) (parts_fit m e v f)) one.given (under m (cost rest) n more most) in
+      let renewed = renew_fits hosts N (proto v.0) (known v.0) (parts_at s proto e v) moved.given a (slot_more hosts N m a (parts_at s proto e v) (omega arith) (parts_fit m e v f)) one.given (under m (cost rest) n more most) in
       simple rest (block_fits rest) p q (store_made s proto v x e) a n
       (acts_alone (moved.acts ++ s.renew (proto v.0) (parts_at s proto e v) moved.given) moved.next m a e (omega arith) f
       (gadgets_fit hosts N moved.acts (s.renew (proto v.0) (parts_at s proto e v) moved.given) one.acts renewed) one.low) (regroup m (cost rest) n more) most
   block_fits (Put v i x rest) p q e m n f more most =
-      let a = m + 2048 in
+      let a = m + 2560 in
       let t = proto v.0 in
       let index = delivered s proto (proto i.0) (parts_at s proto e i) (hosts_of s t) e.next in
-      let told = told_some (λ h. is_at t (host h)) (proto i.0) (known i.0) (parts_at s proto e i) m (m + 256) e.next (parts_fit m e i f) (omega arith) (let z = at_most m (cost rest) n more most in omega (arith, z)) f.next in
+      let told = told_some (λ h. is_at t (host h)) (proto i.0) (known i.0) (parts_at s proto e i) m (m + 1536) e.next (parts_fit m e i f) (omega arith) (let z = at_most m (cost rest) n more most in omega (arith, z)) f.next in
       let moved = s.move (proto x.0) t (parts_at s proto e x) index.next in
-      let one = move_fits hosts N (proto x.0) t (known x.0) (known v.0) (parts_at s proto e x) (m + 256) a index.next (parts_more hosts N m (m + 256) (parts_at s proto e x) (omega arith) (parts_fit m e x f)) (omega arith) (at_most m (cost rest) n more most) told.low in
-      let written = put_fits hosts N t (parts_at s proto e v) index.given moved.given a (parts_more hosts N m a (parts_at s proto e v) (omega arith) (parts_fit m e v f)) (index_more (m + 256) a index.given (omega arith) told.given) one.given (under m (cost rest) n more most) in
+      let one = move_fits hosts N (proto x.0) t (known x.0) (known v.0) (parts_at s proto e x) (m + 1536) a index.next (slot_more hosts N m (m + 1536) (parts_at s proto e x) (omega arith) (parts_fit m e x f)) (omega arith) (at_most m (cost rest) n more most) told.low in
+      let written = put_fits hosts N t (parts_at s proto e v) index.given moved.given a (slot_more hosts N m a (parts_at s proto e v) (omega arith) (parts_fit m e v f)) (index_more (m + 1536) a index.given (omega arith) told.given) one.given (under m (cost rest) n more most) in
       simple rest (block_fits rest) p q (put_made s proto v i x e) a n
       (acts_alone ((index.acts ++ moved.acts) ++ s.put t (parts_at s proto e v) index.given moved.given) moved.next m a e (omega arith) f
       (gadgets_fit hosts N (index.acts ++ moved.acts) (s.put t (parts_at s proto e v) index.given moved.given) (gadgets_fit hosts N index.acts moved.acts told.acts one.acts) written) one.low) (regroup m (cost rest) n more) most
@@ -361,7 +363,7 @@ module _ (hosts N : ℕ) (proto : ℕ → Proto) (known : (x : ℕ) → IsKnown 
       index_more k n [] le f = tt
       index_more k n (p ∷ at) le f = (let z = f.0 in omega (arith, z, le), index_more k n at le f.1)
   block_fits (Output x h offset rest) p q e m n f more most =
-      let a = m + 2048 in
+      let a = m + 2560 in
       let q' = and_left (nat_lt h.0 hosts && true) (holds (host_is_declared hosts) rest) q in
       let there = lt_of h.0 hosts (and_left (nat_lt h.0 hosts) true q') in
       let moved = s.move (proto x.0) (Local h) (parts_at s proto e x) e.next in
@@ -372,7 +374,7 @@ module _ (hosts N : ℕ) (proto : ℕ → Proto) (known : (x : ℕ) → IsKnown 
   block_fits (If x first other offset rest) p q e m n f more most =
       let test : ℕ → Bool = λ h. (emission_of first).takes_part h || (emission_of other).takes_part h in
       let guard = delivered s proto (proto x.0) (parts_at s proto e x) (picked 0 hosts test) e.next in
-      let a = m + 2048 in
+      let a = m + 2560 in
       let b = a + cost first in
       let c = b + cost other in
       let told = told_some test (proto x.0) (known x.0) (parts_at s proto e x) m a e.next (parts_fit m e x f) (omega arith) (within _ _ _ more) f.next in
@@ -400,23 +402,23 @@ module _ (hosts N : ℕ) (proto : ℕ → Proto) (known : (x : ℕ) → IsKnown 
       then_fits d (size rest) (1 + size first + size other + size rest) c n made ((emission_of rest).emit made.state) (omega arith) (omega arith) whole
       (block_fits rest (and_right _ _ p) (and_right _ _ q) made.state c n two.state (group _ _ _ more) most)
     where
-      within : (x y z : ℕ) → m + (2048 + x + y + z) ≤ n → m + 2048 ≤ N
+      within : (x y z : ℕ) → m + (2560 + x + y + z) ≤ n → m + 2560 ≤ N
       within x y z le = omega (arith, le, most)
 
-      under_first : (x y z : ℕ) → m + (2048 + x + y + z) ≤ n → m + 2048 < N
+      under_first : (x y z : ℕ) → m + (2560 + x + y + z) ≤ n → m + 2560 < N
       under_first x y z le = omega (arith, le, most)
 
-      within_first : (x y z : ℕ) → m + (2048 + x + y + z) ≤ n → m + 2048 + x < N
+      within_first : (x y z : ℕ) → m + (2560 + x + y + z) ≤ n → m + 2560 + x < N
       within_first x y z le = omega (arith, le, most)
 
-      within_other : (x y z : ℕ) → m + (2048 + x + y + z) ≤ n → m + 2048 + x + y < N
+      within_other : (x y z : ℕ) → m + (2560 + x + y + z) ≤ n → m + 2560 + x + y < N
       within_other x y z le = omega (arith, le, most)
 
-      group : (x y z : ℕ) → m + (2048 + x + y + z) ≤ n → m + 2048 + x + y + z ≤ n
+      group : (x y z : ℕ) → m + (2560 + x + y + z) ≤ n → m + 2560 + x + y + z ≤ n
       group x y z le = omega (arith, le)
   block_fits (For count body rest) p q e m n f more most =
       let has = (emission_of body).acts_at in
-      let a = m + 2048 in
+      let a = m + 2560 in
       let b = a + cost body in
       let inner : Emitting (suite_calls hosts) proto = record { next = after_loop_registers has 0 e.next; held = e.held; loop = e.next } in
       let there : StateFits a inner = record { next = low_more (m + 1) a (after_loop_registers has 0 e.next) (omega arith) (after_low has 0 m e.next f.next); held = held_more m a e.held (omega arith) f.held; loop = low_more m a e.next (omega arith) f.next } in
@@ -429,11 +431,11 @@ module _ (hosts N : ℕ) (proto : ℕ → Proto) (known : (x : ℕ) → IsKnown 
       then_fits (1 + size body) (size rest) (1 + size body + size rest) b n made ((emission_of rest).emit made.state) (omega arith) (omega arith) whole
       (block_fits rest (and_right _ _ p) (and_right _ _ q) made.state b n whole.state (group _ _ more) most)
     where
-      within_body : (x z : ℕ) → m + (2048 + x + z) ≤ n → m + 2048 + x < N
+      within_body : (x z : ℕ) → m + (2560 + x + z) ≤ n → m + 2560 + x < N
       within_body x z le = omega (arith, le, most)
 
-      under_body : (x z : ℕ) → m + (2048 + x + z) ≤ n → m < N
+      under_body : (x z : ℕ) → m + (2560 + x + z) ≤ n → m < N
       under_body x z le = omega (arith, le, most)
 
-      group : (x z : ℕ) → m + (2048 + x + z) ≤ n → m + 2048 + x + z ≤ n
+      group : (x z : ℕ) → m + (2560 + x + z) ≤ n → m + 2560 + x + z ≤ n
       group x z le = omega (arith, le)

@@ -3,7 +3,6 @@ use Rattle.std.proofs.Common.{◌≡◌, ℕ, suc, ◌+◌, ◌*◌, ◌<◌, �
 use Rattle.std.proofs.Math.Nat.{mul-le-mul_left}
 use Rattle.vd_base.specs.declared.ids.HostId.{HostId}
 use Rattle.vd_base.specs.declared.operations.Op.{Op}
-use Rattle.vd_base.specs.declared.protocols.HostSet.{HostSet}
 use Rattle.vd_base.specs.declared.protocols.Proto.{Proto}
 use Rattle.vd_base.specs.declared.protocols.Proto.TheVariants.{Local, Rep, Commit, Add, Xor}
 use Rattle.vd_execution.specs.declared.instructions.Reg.{Reg}
@@ -12,177 +11,200 @@ use Rattle.vd_execution.specs.Joint.{Part}
 use Rattle.vd_execution.specs.Gadgets.{Gadget, Alone}
 use Rattle.vd_execution.specs.Text.{register}
 use Rattle.vd_duet.specs.Builder.{next_at, taken}
-use Rattle.vd_duet.specs.Calls.{Places, holders, Made}
-use Rattle.vd_duet.specs.Laws.{Each, at_host}
-use Rattle.vd_clear.specs.Copies.{register_of, written_by, literal_at, passed, kept_by, applied_at, shown, each_made}
-use Rattle.vd_clear.proofs.Members.{few_members}
+use Rattle.vd_duet.specs.Calls.{Places, holders, Made, Calls}
+use Rattle.vd_duet.specs.Laws.{Each}
+use Rattle.vd_clear.specs.Copies.{register_of, written_by}
+use Rattle.vd_pairs.specs.declared.shares.Shares.{Shares}
+use Rattle.vd_pairs.specs.PairCalls.{shares_of, at_hosts}
 use Rattle.vd_joint.specs.Suite.{Made as AnyMade}
-use Rattle.vd_suite.specs.Moves.{only, moved}
-use Rattle.vd_suite.specs.Parts.{Parts, made_of, back_end, route, turn_part, turned, put_in, printed, zeros_at, new_cells, index_of, cell_read, cell_written, nothing_made}
-use Rattle.vd_ranges.proofs.Fits.{IsLow, low_more, taken_low, GadgetFits, RegFits, PlacesFit, places_more}
-use Rattle.vd_ranges.proofs.Clear.{register_fits, written_fits, passed_fits, applied_fits, shown_fits, each_fits, renewed_fits}
-
-pub few_holders : (p : Proto) → length (holders p) ≤ 8
-few_holders (Local h) = omega arith
-few_holders (Rep set) = few_members set
-few_holders (Commit a b) = omega arith
-few_holders (Add a b) = omega arith
-few_holders (Xor a b) = omega arith
-
-each_length : (f : HostId → List ℕ → Made Reg) (hs : List HostId) (next : List ℕ) → length (each_made f hs next).given ≡ length hs
-each_length f [] next = refl
-each_length f (h ∷ hs) next = ap suc (each_length f hs (f h next).next)
+use Rattle.vd_suite.specs.Moves.{only, Route, Stay, Share, Adopt, Show, ShowAll, Spread, Same, ToXor, ToAdd, copies_at, moved}
+use Rattle.vd_suite.specs.Parts.{Parts, made_of, no_calls, back_end, route, turn_part, turned, put_in, printed, zeros_at, new_cells, index_of, cell_read, cell_written, nothing_made}
+use Rattle.vd_counts.specs.Fits.{IsLow, AreHere, GadgetFits, PlacesFit, PartsFit, WordMade, Room, CallsFit}
+use Rattle.vd_counts.proofs.Bounds.{low_more, taken_low, places_more, RegFits, host_word, stays}
+use Rattle.vd_counts.proofs.Clear.{register_fits, written_fits, each_fits}
+use Rattle.vd_counts.proofs.ClearCalls.{few_holders, each_length, word_fits, clear_fits, spread_fits}
+use Rattle.vd_counts.proofs.Pairs.{shares_fit, SharesMade, shared_word}
+use Rattle.vd_counts.proofs.PairsOfCalls.{sums_fit, circuits_fit}
+use Rattle.vd_counts.proofs.Conversions.{to_bits_fit, to_sums_fit}
 
 module _ (hosts N : ℕ) where
   -- what a slot has is below so many registers
-  pub record PartsFit (n : ℕ) (x : Parts) : Type 0 where
-    pub few : length x.at ≤ 8
+  pub record SlotFits (n : ℕ) (x : Parts) : Type 0 where
     pub size : x.size ≤ n
-    pub at : PlacesFit hosts N x.size n x.at
+    pub parts : PartsFit hosts x.size n x.at
 
   pub record CallFits (n : ℕ) (made : AnyMade Gadget Parts) : Type 0 where
     pub low : IsLow n made.next
-    pub given : PartsFit n made.given
+    pub given : SlotFits n made.given
     pub acts : Each (GadgetFits hosts N) made.acts
 
-  pub parts_more : (m n : ℕ) (x : Parts) → m ≤ n → PartsFit m x → PartsFit n x
-  parts_more m n x le f = let s = f.size in record { few = f.few; size = omega (arith, s, le); at = places_more hosts N x.size m n x.at le f.at }
+  pub slot_more : (m n : ℕ) (x : Parts) → m ≤ n → SlotFits m x → SlotFits n x
+  slot_more m n x le f = let s = f.size in record { size = omega (arith, s, le); parts = record { few = f.parts.few; at = places_more hosts x.size m n x.at le f.parts.at } }
 
-  sized : (size m : ℕ) (x : Places) → PlacesFit hosts N size m x → PlacesFit hosts N 0 m x
+  sized : (size m : ℕ) (x : Places) → PlacesFit hosts size m x → PlacesFit hosts 0 m x
   sized size m [] f = tt
   sized size m (q ∷ x) f = ((f.0.0, let p = f.0.1 in omega (arith, p)), sized size m x f.1)
 
-  single : (m n : ℕ) (x : Places) → m + 1 ≤ n → PlacesFit hosts N 0 m x → PlacesFit hosts N 1 n x
-  single m n [] le f = tt
-  single m n (q ∷ x) le f = ((f.0.0, let p = f.0.1 in omega (arith, p, le)), single m n x le f.1)
+  pub places_of : (m : ℕ) (x : Parts) → SlotFits m x → PlacesFit hosts 0 m x.at
+  places_of m x f = sized x.size m x.at f.parts.at
 
-  pub places_of : (m : ℕ) (x : Parts) → PartsFit m x → PlacesFit hosts N 0 m x.at
-  places_of m x f = sized x.size m x.at f.at
+  parts_of : (m : ℕ) (x : Parts) → SlotFits m x → PartsFit hosts 0 m x.at
+  parts_of m x f = record { few = f.parts.few; at = places_of m x f }
 
-  all_places : (m : ℕ) (xs : List Parts) → Each (PartsFit m) xs → Each (PlacesFit hosts N 0 m) (map (λ (x : Parts). x.at) xs)
-  all_places m [] f = tt
-  all_places m (x ∷ xs) f = (places_of m x f.0, all_places m xs f.1)
+  all_parts : (m : ℕ) (xs : List Parts) → Each (SlotFits m) xs → Each (PartsFit hosts 0 m) (map (λ (x : Parts). x.at) xs)
+  all_parts m [] f = tt
+  all_parts m (x ∷ xs) f = (parts_of m x f.0, all_parts m xs f.1)
 
   -- protocols are over the hosts that are there
   abbrev pub IsKnown : Proto → Type 0
-  IsKnown p = Each (λ (h : HostId). h.0 < hosts) (holders p)
+  IsKnown p = AreHere hosts (holders p)
 
   -- ---- a call that makes a word
 
   abbrev pub Fits : (List ℕ → AnyMade Gadget Parts) → Type 0
-  Fits call = (m n : ℕ) (next : List ℕ) → m + 64 ≤ n → n ≤ N → IsLow m next → CallFits n (call next)
+  Fits call = (m n : ℕ) (next : List ℕ) → m + 384 ≤ n → n ≤ N → IsLow m next → CallFits n (call next)
 
-  enough : (m n k : ℕ) → k ≤ 8 → m + 64 ≤ n → m + 8 * k ≤ n
-  enough m n k e f = omega (arith, e, f)
+  room_of : (m n : ℕ) (next : List ℕ) → m + 384 ≤ n → n ≤ N → IsLow m next → Room N m n next
+  room_of m n next more most low = record { low = low; more = more; within = most }
 
-  -- what each host of a protocol makes
-  word_fits : (p : Proto) → IsKnown p → (f : HostId → List ℕ → Made Reg) (m n : ℕ) (next : List ℕ) → m + 64 ≤ n → n ≤ N → IsLow m next
-      → ((h : HostId) → h.0 < hosts → (a b : ℕ) (l : List ℕ) → m ≤ a → a + 8 ≤ b → b ≤ N → IsLow a l → RegFits hosts N 1 b (f h l))
-      → CallFits n (made_of (each_made f (holders p) next))
-  word_fits p known f m n next more most low law =
-      let made = each_fits hosts N f 1 8 m law (holders p) known m n next (omega arith) (enough m n (length (holders p)) (few_holders p) more) most low in
-      record {
-        low = made.low;
-        given = record { few = subst (λ (k : ℕ). k ≤ 8) (sym (each_length f (holders p) next)) (few_holders p); size = omega (arith, more); at = made.given };
-        acts = made.gadgets;
-      }
+  word_made : (m n : ℕ) (made : Made Places) → m + 384 ≤ n → WordMade hosts N n made → CallFits n (made_of made)
+  word_made m n made more f = record { low = f.low; given = record { size = omega (arith, more); parts = f.given }; acts = f.gadgets }
 
-  nothing_fits : (m n : ℕ) (next : List ℕ) → m + 64 ≤ n → IsLow m next → CallFits n (made_of (nothing_made next))
-  nothing_fits m n next more low = record { low = low_more m n next (omega (arith, more)) low; given = record { few = omega arith; size = omega (arith, more); at = tt }; acts = tt }
+  -- of a protocol that is not built, nothing is made
+  nothing_fits : (m n : ℕ) (next : List ℕ) → Room N m n next → WordMade hosts N n (nothing_made next)
+  nothing_fits m n next room =
+      let more : m + 384 ≤ n = room.more in
+      record { low = low_more m n next (omega (arith, more)) room.low; given = record { few = omega arith; at = tt }; gadgets = tt }
 
-  -- what one host makes
-  host_fits : (h : HostId) (made : Made Reg) (n : ℕ) → h.0 < hosts → RegFits hosts N 1 n made → CallFits n (made_of (at_host h made))
-  host_fits h made n here f = record { low = f.low; given = record { few = omega arith; size = let g = f.given in omega (arith, g); at = ((here, f.given), tt) }; acts = f.gadgets }
-
-  pub literal_fits : (p : Proto) → IsKnown p → (v : ℕ) → Fits (λ next. made_of ((back_end p).literal v next))
-  literal_fits (Local h) known v m n next more most low = word_fits (Local h) known (literal_at v) m n next more most low (λ g here a b l le e most' low'. written_fits hosts N g (λ r. action.Const r v) a b l (omega (arith, e)) low' (λ r i. omega (arith, i, e, most')))
-  literal_fits (Rep set) known v m n next more most low = word_fits (Rep set) known (literal_at v) m n next more most low (λ g here a b l le e most' low'. written_fits hosts N g (λ r. action.Const r v) a b l (omega (arith, e)) low' (λ r i. omega (arith, i, e, most')))
-  literal_fits (Commit a b) known v m n next more most low = nothing_fits m n next more low
-  literal_fits (Add a b) known v m n next more most low = nothing_fits m n next more low
-  literal_fits (Xor a b) known v m n next more most low = nothing_fits m n next more low
-
-  only_fits : (m : ℕ) (x : Places) → PlacesFit hosts N 0 m x → (only x).0 ≤ m
-  only_fits m [] f = omega arith
-  only_fits m (q ∷ x) f = let p = f.0.1 in omega (arith, p)
-
-  share_fits : (q : Proto) → IsKnown q → (from : HostId) → from.0 < hosts → (x : Reg) (m n : ℕ) (next : List ℕ) → x.0 ≤ m → m + 64 ≤ n → n ≤ N → IsLow m next
-      → CallFits n (made_of ((back_end q).share from x next))
-  share_fits (Local k) known from there x m n next below more most low = word_fits (Local k) known (passed from x) m n next more most low (λ g here a b l le e most' low'. passed_fits hosts N from x g a b l there here (omega (arith, below, le)) (omega (arith, e)) most' low')
-  share_fits (Rep set) known from there x m n next below more most low = word_fits (Rep set) known (passed from x) m n next more most low (λ g here a b l le e most' low'. passed_fits hosts N from x g a b l there here (omega (arith, below, le)) (omega (arith, e)) most' low')
-  share_fits (Commit a b) known from there x m n next below more most low = nothing_fits m n next more low
-  share_fits (Add a b) known from there x m n next below more most low = nothing_fits m n next more low
-  share_fits (Xor a b) known from there x m n next below more most low = nothing_fits m n next more low
-
-  stays : (x : Parts) (m n : ℕ) (next : List ℕ) → PartsFit m x → m + 64 ≤ n → IsLow m next → CallFits n (made_of (record { given = x.at; gadgets = []; next = next }))
-  stays x m n next f more low = record {
-    low = low_more m n next (omega (arith, more)) low;
-    given = record { few = f.few; size = omega (arith, more); at = single m n x.at (omega (arith, more)) (places_of m x f) };
-    acts = tt;
+  unbuilt_fits : (p : Proto) → CallsFit hosts N (no_calls p)
+  unbuilt_fits p = record {
+    literal = λ v m n next room. nothing_fits m n next room;
+    share = λ from there x m n next below room. nothing_fits m n next room;
+    adopt = λ x m n next f room. nothing_fits m n next room;
+    show = λ to here x m n next f room.
+        let more : m + 384 ≤ n = room.more in
+        record { low = low_more m n next (omega (arith, more)) room.low; given = record { few = omega arith; at = ((here, omega (arith, more)), tt) }; gadgets = tt };
+    show_all = λ x m n next f room. nothing_fits m n next room;
+    keep = λ x m n next f room. nothing_fits m n next room;
+    renew = λ kept x n f g lt. tt;
+    apply = λ o xs m n next f room. nothing_fits m n next room;
   }
 
-  copies_fit : (set : HostSet) (q : Proto) → IsKnown q → (x : Parts) (m n : ℕ) (next : List ℕ) → PartsFit m x → m + 64 ≤ n → n ≤ N → IsLow m next
-      → CallFits n (made_of (moved (route (Rep set) q) (back_end (Rep set)) (back_end q) x.at next))
-  copies_fit set (Local k) known x m n next f more most low =
-      host_fits k (shown x.at k next) n known.0 (shown_fits hosts N x.at k m m n next known.0 (places_of m x f) f.few (omega arith) (omega (arith, more)) most low)
-  copies_fit set (Rep other) known x m n next f more most low =
-      word_fits (Rep other) known (shown x.at) m n next more most low (λ g here a b l le e most' low'. shown_fits hosts N x.at g m a b l here (places_of m x f) f.few le e most' low')
-  copies_fit set (Commit a b) known x m n next f more most low = nothing_fits m n next more low
-  copies_fit set (Add a b) known x m n next f more most low = nothing_fits m n next more low
-  copies_fit set (Xor a b) known x m n next f more most low = nothing_fits m n next more low
+  back_end_fits : (p : Proto) → IsKnown p → CallsFit hosts N (back_end p)
+  back_end_fits (Local h) known = clear_fits hosts N (Local h) known
+  back_end_fits (Rep set) known = clear_fits hosts N (Rep set) known
+  back_end_fits (Commit a b) known = unbuilt_fits (Commit a b)
+  back_end_fits (Add a b) known = sums_fit hosts N a b known.0 known.1.0
+  back_end_fits (Xor a b) known = circuits_fit hosts N a b known.0 known.1.0
 
-  pub move_fits : (p q : Proto) → IsKnown p → IsKnown q → (x : Parts) (m n : ℕ) (next : List ℕ) → PartsFit m x → m + 64 ≤ n → n ≤ N → IsLow m next
+  pub literal_fits : (p : Proto) → IsKnown p → (v : ℕ) → Fits (λ next. made_of ((back_end p).literal v next))
+  literal_fits p known v m n next more most low = word_made m n ((back_end p).literal v next) more ((back_end_fits p known).literal v m n next (room_of m n next more most low))
+
+  -- ---- moves
+
+  -- the hosts that a route names, and those that it leads to
+  abbrev RouteIsHere : Route → Calls → Type 0
+  RouteIsHere Stay q = Unit {0}
+  RouteIsHere (Share h) q = h.0 < hosts
+  RouteIsHere Adopt q = Unit {0}
+  RouteIsHere (Show k) q = k.0 < hosts
+  RouteIsHere ShowAll q = (length (holders q.proto) ≤ 8) × AreHere hosts (holders q.proto)
+  RouteIsHere (Spread set) q = AreHere hosts (holders (Rep set))
+  RouteIsHere (Same a b) q = (a.0 < hosts) × (b.0 < hosts)
+  RouteIsHere (ToXor a b) q = (a.0 < hosts) × (b.0 < hosts)
+  RouteIsHere (ToAdd a b) q = (a.0 < hosts) × (b.0 < hosts)
+
+  route_is_here : (p q : Proto) → IsKnown p → IsKnown q → RouteIsHere (route p q) (back_end q)
+  route_is_here (Local h) q known onto = known.0
+  route_is_here (Rep set) (Local k) known onto = onto.0
+  route_is_here (Rep set) (Rep other) known onto = onto
+  route_is_here (Rep set) (Commit c d) known onto = tt
+  route_is_here (Rep set) (Add c d) known onto = tt
+  route_is_here (Rep set) (Xor c d) known onto = tt
+  route_is_here (Commit a b) (Local k) known onto = tt
+  route_is_here (Commit a b) (Rep other) known onto = tt
+  route_is_here (Commit a b) (Commit c d) known onto = tt
+  route_is_here (Commit a b) (Add c d) known onto = tt
+  route_is_here (Commit a b) (Xor c d) known onto = tt
+  route_is_here (Add a b) (Local k) known onto = onto.0
+  route_is_here (Add a b) (Rep set) known onto = (few_holders (Rep set), onto)
+  route_is_here (Add a b) (Commit c d) known onto = tt
+  route_is_here (Add a b) (Add c d) known onto = (onto.0, onto.1.0)
+  route_is_here (Add a b) (Xor c d) known onto = (onto.0, onto.1.0)
+  route_is_here (Xor a b) (Local k) known onto = onto.0
+  route_is_here (Xor a b) (Rep set) known onto = (few_holders (Rep set), onto)
+  route_is_here (Xor a b) (Commit c d) known onto = tt
+  route_is_here (Xor a b) (Add c d) known onto = (onto.0, onto.1.0)
+  route_is_here (Xor a b) (Xor c d) known onto = (onto.0, onto.1.0)
+
+  copies_length : (hs : List HostId) (x : Places) → length (copies_at hs x) ≡ length hs
+  copies_length [] x = refl
+  copies_length (h ∷ hs) x = ap suc (copies_length hs x)
+
+  copies_fit : (hs : List HostId) → AreHere hosts hs → (x : Places) (n : ℕ) → 1 ≤ n → PlacesFit hosts 1 n x → PlacesFit hosts 1 n (copies_at hs x)
+  copies_fit [] here x n le f = tt
+  copies_fit (h ∷ hs) here x n le f = ((here.0, register_fits hosts N 1 n x h.0 le f), copies_fit hs here.1 x n le f)
+
+  first_fits : (m : ℕ) (x : Places) → PlacesFit hosts 0 m x → (only x).0 ≤ m
+  first_fits m [] f = omega arith
+  first_fits m (q ∷ x) f = let p = f.0.1 in omega (arith, p)
+
+  same_fits : (a b : HostId) → a.0 < hosts → b.0 < hosts → (x : Places) (m n : ℕ) (next : List ℕ) → PartsFit hosts 0 m x → Room N m n next
+      → WordMade hosts N n (at_hosts a b (record { given = shares_of x; gadgets = []; next = next }))
+  same_fits a b here there x m n next f room =
+      let more : m + 384 ≤ n = room.more in
+      let made : Made Shares = record { given = shares_of x; gadgets = []; next = next } in
+      let fits : SharesMade hosts N m made = record { low = room.low; given = shares_fit hosts m x f.at; gadgets = tt } in
+      shared_word hosts N a b here there m n made (omega (arith, more)) fits
+
+  moved_fits : (r : Route) (p q : Calls) → CallsFit hosts N p → CallsFit hosts N q → RouteIsHere r q → (x : Places) (m n : ℕ) (next : List ℕ) → PartsFit hosts 0 m x → Room N m n next
+      → WordMade hosts N n (moved r p q x next)
+  moved_fits Stay p q from onto here x m n next f room = let more : m + 384 ≤ n = room.more in stays hosts N x m n next (omega (arith, more)) room.low f
+  moved_fits (Share h) p q from onto here x m n next f room = onto.share h here (only x) m n next (first_fits m x f.at) room
+  moved_fits Adopt p q from onto here x m n next f room = onto.adopt x m n next f room
+  moved_fits (Show k) p q from onto here x m n next f room = from.show k here x m n next f room
+  moved_fits ShowAll p q from onto here x m n next f room =
+      let more : m + 384 ≤ n = room.more in
+      let made = p.show_all x next in
+      let shown = from.show_all x m n next f room in
+      record {
+        low = shown.low;
+        given = record {
+          few = subst (λ (k : ℕ). k ≤ 8) (sym (copies_length (holders q.proto) made.given)) here.0;
+          at = copies_fit (holders q.proto) here.1 made.given n (omega (arith, more)) shown.given.at;
+        };
+        gadgets = shown.gadgets;
+      }
+  moved_fits (Spread set) p q from onto here x m n next f room = spread_fits hosts N set here x m n next f room
+  moved_fits (Same a b) p q from onto here x m n next f room = same_fits a b here.0 here.1 x m n next f room
+  moved_fits (ToXor a b) p q from onto here x m n next f room = to_bits_fit hosts N a b here.0 here.1 x m n next f room
+  moved_fits (ToAdd a b) p q from onto here x m n next f room = to_sums_fit hosts N a b here.0 here.1 x m n next f room
+
+  pub move_fits : (p q : Proto) → IsKnown p → IsKnown q → (x : Parts) (m n : ℕ) (next : List ℕ) → SlotFits m x → m + 384 ≤ n → n ≤ N → IsLow m next
       → CallFits n (made_of (moved (route p q) (back_end p) (back_end q) x.at next))
-  move_fits (Local h) q known onto x m n next f more most low = share_fits q onto h known.0 (only x.at) m n next (only_fits m x.at (places_of m x f)) more most low
-  move_fits (Rep set) q known onto x m n next f more most low = copies_fit set q onto x m n next f more most low
-  move_fits (Commit a b) q known onto x m n next f more most low = stays x m n next f more low
-  move_fits (Add a b) q known onto x m n next f more most low = stays x m n next f more low
-  move_fits (Xor a b) q known onto x m n next f more most low = stays x m n next f more low
+  move_fits p q known onto x m n next f more most low =
+      word_made m n (moved (route p q) (back_end p) (back_end q) x.at next) more
+      (moved_fits (route p q) (back_end p) (back_end q) (back_end_fits p known) (back_end_fits q onto) (route_is_here p q known onto) x.at m n next (parts_of m x f) (room_of m n next more most low))
 
-  pub apply_fits : (o : Op) (p : Proto) → IsKnown p → (xs : List Parts) (m n : ℕ) (next : List ℕ) → Each (PartsFit m) xs → m + 64 ≤ n → n ≤ N → IsLow m next
+  -- ---- operations and variables
+
+  pub apply_fits : (o : Op) (p : Proto) → IsKnown p → (xs : List Parts) (m n : ℕ) (next : List ℕ) → Each (SlotFits m) xs → m + 384 ≤ n → n ≤ N → IsLow m next
       → CallFits n (made_of ((back_end p).apply o (map (λ (x : Parts). x.at) xs) next))
-  apply_fits o p known xs m n next f more most low = at p known
-    where
-      wider : (a : ℕ) → m ≤ a → (ys : List Places) → Each (PlacesFit hosts N 0 m) ys → Each (PlacesFit hosts N 0 a) ys
-      wider a le [] g = tt
-      wider a le (y ∷ ys) g = (places_more hosts N 0 m a y le g.0, wider a le ys g.1)
+  apply_fits o p known xs m n next f more most low =
+      word_made m n ((back_end p).apply o (map (λ (x : Parts). x.at) xs) next) more
+      ((back_end_fits p known).apply o (map (λ (x : Parts). x.at) xs) m n next (all_parts m xs f) (room_of m n next more most low))
 
-      law : (h : HostId) → h.0 < hosts → (a b : ℕ) (l : List ℕ) → m ≤ a → a + 8 ≤ b → b ≤ N → IsLow a l → RegFits hosts N 1 b (applied_at o (map (λ (x : Parts). x.at) xs) h l)
-      law h here a b l le e most' low' = applied_fits hosts N o (map (λ (x : Parts). x.at) xs) h a b l (wider a le (map (λ (x : Parts). x.at) xs) (all_places m xs f)) (omega (arith, e)) most' low'
-
-      at : (p : Proto) → IsKnown p → CallFits n (made_of ((back_end p).apply o (map (λ (x : Parts). x.at) xs) next))
-      at (Local h) k = word_fits (Local h) k (applied_at o (map (λ (x : Parts). x.at) xs)) m n next more most low law
-      at (Rep set) k = word_fits (Rep set) k (applied_at o (map (λ (x : Parts). x.at) xs)) m n next more most low law
-      at (Commit a b) k = nothing_fits m n next more low
-      at (Add a b) k = nothing_fits m n next more low
-      at (Xor a b) k = nothing_fits m n next more low
-
-  pub keep_fits : (p : Proto) → IsKnown p → (x : Parts) (m n : ℕ) (next : List ℕ) → PartsFit m x → m + 64 ≤ n → n ≤ N → IsLow m next
+  pub keep_fits : (p : Proto) → IsKnown p → (x : Parts) (m n : ℕ) (next : List ℕ) → SlotFits m x → m + 384 ≤ n → n ≤ N → IsLow m next
       → CallFits n (made_of ((back_end p).keep x.at next))
-  keep_fits p known x m n next f more most low = at p known
-    where
-      law : (h : HostId) → h.0 < hosts → (a b : ℕ) (l : List ℕ) → m ≤ a → a + 8 ≤ b → b ≤ N → IsLow a l → RegFits hosts N 1 b (kept_by x.at h l)
-      law h here a b l le e most' low' =
-          let r = register_fits hosts N 0 m x.at h.0 (omega arith) (places_of m x f) in
-          written_fits hosts N h (λ q. action.Copy q (register_of x.at h.0)) a b l (omega (arith, e)) low' (λ q i. (omega (arith, i, e, most'), omega (arith, r, le, e, most')))
+  keep_fits p known x m n next f more most low = word_made m n ((back_end p).keep x.at next) more ((back_end_fits p known).keep x.at m n next (parts_of m x f) (room_of m n next more most low))
 
-      at : (p : Proto) → IsKnown p → CallFits n (made_of ((back_end p).keep x.at next))
-      at (Local h) k = word_fits (Local h) k (kept_by x.at) m n next more most low law
-      at (Rep set) k = word_fits (Rep set) k (kept_by x.at) m n next more most low law
-      at (Commit a b) k = nothing_fits m n next more low
-      at (Add a b) k = nothing_fits m n next more low
-      at (Xor a b) k = nothing_fits m n next more low
-
-  pub renew_fits : (p : Proto) (kept x : Parts) (n : ℕ) → PartsFit n kept → PartsFit n x → n < N → Each (GadgetFits hosts N) ((back_end p).renew kept.at x.at)
-  renew_fits (Local h) kept x n f g lt = renewed_fits hosts N kept.at x.at n (places_of n kept f) (places_of n x g) lt
-  renew_fits (Rep set) kept x n f g lt = renewed_fits hosts N kept.at x.at n (places_of n kept f) (places_of n x g) lt
-  renew_fits (Commit a b) kept x n f g lt = tt
-  renew_fits (Add a b) kept x n f g lt = tt
-  renew_fits (Xor a b) kept x n f g lt = tt
+  pub renew_fits : (p : Proto) → IsKnown p → (kept x : Parts) (n : ℕ) → SlotFits n kept → SlotFits n x → n < N → Each (GadgetFits hosts N) ((back_end p).renew kept.at x.at)
+  renew_fits p known kept x n f g lt = (back_end_fits p known).renew kept.at x.at n (parts_of n kept f) (parts_of n x g) lt
 
   -- ---- the calls that no back end has
 
-  pub turn_fits : (p : Proto) → IsKnown p → (loop : List ℕ) (m n : ℕ) (next : List ℕ) → IsLow m loop → m + 64 ≤ n → n ≤ N → IsLow m next → CallFits n (made_of (turned p loop next))
-  turn_fits p known loop m n next turns more most low = word_fits p known (turn_part p loop) m n next more most low (at p)
+  pub turn_fits : (p : Proto) → IsKnown p → (loop : List ℕ) (m n : ℕ) (next : List ℕ) → IsLow m loop → m + 384 ≤ n → n ≤ N → IsLow m next → CallFits n (made_of (turned p loop next))
+  turn_fits p known loop m n next turns more most low = word_made m n (turned p loop next) more (word_fits hosts N p known (turn_part p loop) m n next (room_of m n next more most low) (at p))
     where
       copies : (h : HostId) (a b : ℕ) (l : List ℕ) → m ≤ a → a + 8 ≤ b → b ≤ N → IsLow a l → RegFits hosts N 1 b (written_by h (λ r. action.Copy r (next_at loop h)) l)
       copies h a b l le e most' low' =
@@ -205,9 +227,10 @@ module _ (hosts N : ℕ) where
 
   pub input_fits : (h : HostId) → h.0 < hosts → Fits (λ next. made_of (put_in h next))
   input_fits h here m n next more most low =
-      host_fits h (written_by h (λ r. action.Input r) next) n here (written_fits hosts N h (λ r. action.Input r) m n next (omega (arith, more)) low (λ r i. omega (arith, i, more, most)))
+      word_made m n (put_in h next) more
+      (host_word hosts N h (written_by h (λ r. action.Input r) next) n here (written_fits hosts N h (λ r. action.Input r) m n next (omega (arith, more)) low (λ r i. omega (arith, i, more, most))))
 
-  pub output_fits : (h : HostId) (x : Parts) (n : ℕ) → PartsFit n x → n < N → Each (GadgetFits hosts N) (printed h x.at)
+  pub output_fits : (h : HostId) (x : Parts) (n : ℕ) → SlotFits n x → n < N → Each (GadgetFits hosts N) (printed h x.at)
   output_fits h x n f lt = let r = register_fits hosts N 0 n x.at h.0 (omega arith) (places_of n x f) in ((omega (arith, r, lt), tt), tt)
 
   pub cells_fit : (p : Proto) → IsKnown p → (size m n : ℕ) (next : List ℕ) → m + 8 * size ≤ n → n < N → IsLow m next
@@ -216,7 +239,10 @@ module _ (hosts N : ℕ) where
       let made = each_fits hosts N (zeros_at size) size size m law (holders p) known m n next (omega arith) (many (length (holders p)) (few_holders p)) (omega (arith, most)) low in
       record {
         low = made.low;
-        given = record { few = subst (λ (k : ℕ). k ≤ 8) (sym (each_length (zeros_at size) (holders p) next)) (few_holders p); size = omega (arith, more); at = made.given };
+        given = record {
+          size = omega (arith, more);
+          parts = record { few = subst (λ (k : ℕ). k ≤ 8) (sym (each_length (zeros_at size) (holders p) next)) (few_holders p); at = made.given };
+        };
         acts = made.gadgets;
       }
     where
@@ -240,26 +266,27 @@ module _ (hosts N : ℕ) where
       here true e = f.0
       here false e = e
 
-  pub get_fits : (p : Proto) → IsKnown p → (x : Parts) (at : List Part) (m n : ℕ) (next : List ℕ) → PartsFit m x → IndexFits m at → m + 64 ≤ n → n ≤ N → IsLow m next
+  pub get_fits : (p : Proto) → IsKnown p → (x : Parts) (at : List Part) (m n : ℕ) (next : List ℕ) → SlotFits m x → IndexFits m at → m + 384 ≤ n → n ≤ N → IsLow m next
       → CallFits n (made_of (cell_read p x at next))
   get_fits p known x at m n next f i more most low =
-      word_fits p known (λ h. written_by h (λ r. action.Get r (register_of x.at h.0) x.size (index_of at h.0))) m n next more most low law
+      word_made m n (cell_read p x at next) more
+      (word_fits hosts N p known (λ h. written_by h (λ r. action.Get r (register_of x.at h.0) x.size (index_of at h.0))) m n next (room_of m n next more most low) law)
     where
       law : (h : HostId) → h.0 < hosts → (a b : ℕ) (l : List ℕ) → m ≤ a → a + 8 ≤ b → b ≤ N → IsLow a l
           → RegFits hosts N 1 b (written_by h (λ r. action.Get r (register_of x.at h.0) x.size (index_of at h.0)) l)
       law h here a b l le e most' low' =
-          let r = register_fits hosts N x.size m x.at h.0 f.size f.at in
+          let r = register_fits hosts N x.size m x.at h.0 f.size f.parts.at in
           let j = index_fits m at h.0 i in
           written_fits hosts N h (λ q. action.Get q (register_of x.at h.0) x.size (index_of at h.0)) a b l (omega (arith, e)) low'
           (λ q k. (omega (arith, k, e, most'), omega (arith, r, le, e, most'), omega (arith, j, le, e, most')))
 
-  pub put_fits : (p : Proto) (kept : Parts) (at : List Part) (x : Parts) (n : ℕ) → PartsFit n kept → IndexFits n at → PartsFit n x → n < N → Each (GadgetFits hosts N) (cell_written p kept at x.at)
+  pub put_fits : (p : Proto) (kept : Parts) (at : List Part) (x : Parts) (n : ℕ) → SlotFits n kept → IndexFits n at → SlotFits n x → n < N → Each (GadgetFits hosts N) (cell_written p kept at x.at)
   put_fits p kept at x n f i g lt = each (holders p)
     where
       each : (hs : List HostId) → Each (GadgetFits hosts N) (map (λ h. Alone h (action.Put (register_of kept.at h.0) kept.size (index_of at h.0) (register_of x.at h.0))) hs)
       each [] = tt
       each (h ∷ hs) =
-          let r = register_fits hosts N kept.size n kept.at h.0 f.size f.at in
+          let r = register_fits hosts N kept.size n kept.at h.0 f.size f.parts.at in
           let j = index_fits n at h.0 i in
           let s = register_fits hosts N 0 n x.at h.0 (omega arith) (places_of n x g) in
           (((omega (arith, r, lt), omega (arith, j, lt), omega (arith, s, lt)), tt), each hs)

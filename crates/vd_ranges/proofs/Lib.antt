@@ -1,6 +1,5 @@
 pub mod Blocks
 pub mod Calls
-pub mod Clear
 pub mod Fits
 pub mod Loading
 pub mod Programs

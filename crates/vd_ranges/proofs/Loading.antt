@@ -1,5 +1,6 @@
 -- Plans of which all registers are below a bound give code within the ranges.
-use Rattle.std.proofs.Common.{ℕ, suc, ◌<◌, ◌≤◌, max, nat_eq, Bool, true, false, if◌then◌else◌, List, [], ◌∷◌, arith}
+use Rattle.std.proofs.Common.{ℕ, suc, ◌<◌, ◌≤◌, max, length, nat_eq, Bool, true, false, if◌then◌else◌, List, [], ◌∷◌, arith}
+use Rattle.vd_execution.specs.declared.instructions.Reg.{Reg}
 use Rattle.vd_execution.specs.declared.instructions.Act.{Act}
 use Rattle.vd_execution.specs.declared.instructions.Act.TheVariants as act
 use Rattle.vd_execution.specs.Acts.{do_then}
@@ -9,12 +10,19 @@ use Rattle.vd_execution.specs.Joint.{Part, Joint, if_part, code_of}
 use Rattle.vd_execution.specs.Plans.{Plan, Ends, Then, Branch, Loop, joint_of}
 use Rattle.vd_execution.specs.Ranges.{CodeFits, PacketsFit, depth}
 use Rattle.vd_duet.specs.Laws.{Each}
-use Rattle.vd_ranges.proofs.Fits.{ActFits, PlanFits}
+use Rattle.vd_base.specs.Limits.{most_packet_words}
+use Rattle.vd_counts.specs.Fits.{ActFits, PacketFits}
+use Rattle.vd_ranges.specs.Law.{PacketsAreShort}
+use Rattle.vd_ranges.proofs.Fits.{PlanFits}
+
+few_words : (bound : ℕ) (rs : List Reg) → PacketFits bound rs → length rs ≤ most_packet_words
+few_words bound rs f = let few : length rs ≤ 2 = f.2 in omega (arith, few)
 
 module _ (hosts N h : ℕ) where
   pub record CodeIn (d : ℕ) (c : Code) : Type 0 where
     pub registers : CodeFits N c
     pub packets : PacketsFit hosts c
+    pub short : PacketsAreShort c
     pub blocks : depth c ≤ d
 
   acts_in : (d : ℕ) (acts : List Act) (j : Joint) → Each (ActFits hosts N) acts → CodeIn d (code_of h j) → CodeIn d (code_of h (do_then acts j))
@@ -22,14 +30,14 @@ module _ (hosts N h : ℕ) where
   acts_in d (act.Do k a ∷ acts) j f c = at (nat_eq h k.0) (acts_in d acts j f.1 c)
     where
       at : (b : Bool) → CodeIn d (code_of h (do_then acts j)) → CodeIn d (if b then ThenDo a (code_of h (do_then acts j)) else code_of h (do_then acts j))
-      at true rest = record { registers = (f.0, rest.registers); packets = rest.packets; blocks = rest.blocks }
+      at true rest = record { registers = (f.0, rest.registers); packets = rest.packets; short = rest.short; blocks = rest.blocks }
       at false rest = rest
   acts_in d (act.Msg p said q heard ∷ acts) j f c = at (nat_eq h p.0) (nat_eq h q.0) (acts_in d acts j f.1 c)
     where
       at : (a b : Bool) → CodeIn d (code_of h (do_then acts j))
           → CodeIn d (if a then Send q.0 said (code_of h (do_then acts j)) else (if b then Recv p.0 heard (code_of h (do_then acts j)) else code_of h (do_then acts j)))
-      at true b rest = record { registers = (f.0.2.0, rest.registers); packets = ((f.0.1, f.0.2.1), rest.packets); blocks = rest.blocks }
-      at false true rest = record { registers = (f.0.3.0, rest.registers); packets = ((f.0.0, f.0.3.1), rest.packets); blocks = rest.blocks }
+      at true b rest = record { registers = (f.0.2.0, rest.registers); packets = ((f.0.1, few_words N said f.0.2), rest.packets); short = ((f.0.2.1, f.0.2.2), rest.short); blocks = rest.blocks }
+      at false true rest = record { registers = (f.0.3.0, rest.registers); packets = ((f.0.0, few_words N heard f.0.3), rest.packets); short = ((f.0.3.1, f.0.3.2), rest.short); blocks = rest.blocks }
       at false false rest = rest
 
   part_in : (d : ℕ) (ps : List Part) (f : ℕ → Code) (a : Code) → Each (λ (p : ℕ × ℕ). p.1 < N) ps → ((r : ℕ) → r < N → CodeIn d (f r)) → CodeIn d a → CodeIn d (if_part ps h f a)
@@ -47,7 +55,7 @@ module _ (hosts N h : ℕ) where
   deeper_loop a c e d le p r = omega (arith, le, p, r)
 
   pub plan_in : (d : ℕ) (plan : Plan Gadget) → PlanFits hosts N d plan → CodeIn d (code_of h (joint_of plan))
-  plan_in d Ends f = record { registers = tt; packets = tt; blocks = omega arith }
+  plan_in d Ends f = record { registers = tt; packets = tt; short = tt; blocks = omega arith }
   plan_in d (Then g rest) f = acts_in d (acts_of_gadget g) (joint_of rest) f.0 (plan_in d rest f.1)
   plan_in d (Branch ps first other rest) f =
       let c = f.1.0 in
@@ -58,6 +66,7 @@ module _ (hosts N h : ℕ) where
       (λ r lt. record {
         registers = (lt, (one.registers, (two.registers, more.registers)));
         packets = (one.packets, (two.packets, more.packets));
+        short = (one.short, (two.short, more.short));
         blocks = deeper (depth (code_of h (joint_of first))) (depth (code_of h (joint_of other))) c (depth (code_of h (joint_of rest))) d f.1.1 one.blocks two.blocks more.blocks;
       }) more
   plan_in d (Loop ps count body rest) f =
@@ -68,5 +77,6 @@ module _ (hosts N h : ℕ) where
       (λ r lt. record {
         registers = (lt, (one.registers, more.registers));
         packets = (one.packets, more.packets);
+        short = (one.short, more.short);
         blocks = deeper_loop (depth (code_of h (joint_of body))) c (depth (code_of h (joint_of rest))) d f.1.1 one.blocks more.blocks;
       }) more

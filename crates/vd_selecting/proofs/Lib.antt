@@ -3,3 +3,4 @@ pub mod Reading
 pub mod Statuses
 pub mod Chosen
 pub mod Sure
+pub mod Selected

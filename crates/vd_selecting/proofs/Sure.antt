@@ -26,7 +26,7 @@ unfolding tree_then
 tree_follows texts name sure plan files each =
     file_follows name most_source_bytes (λ bytes. check_then (source_of texts name bytes) sure) (λ bytes. check_then (source_of texts name bytes) plan) files (λ bytes. check_follows (source_of texts name bytes) sure plan files each)
 
-source_follows : (texts : TextOutcomes) (name : List ℕ) (sure plan : Source → Contents → Plan) (files : Contents) → ((tree : Source) → Follows (sure tree files) (plan tree files)) → Follows (source_then texts name sure files) (source_then texts name plan files)
+pub source_follows : (texts : TextOutcomes) (name : List ℕ) (sure plan : Source → Contents → Plan) (files : Contents) → ((tree : Source) → Follows (sure tree files) (plan tree files)) → Follows (source_then texts name sure files) (source_then texts name plan files)
 unfolding source_then
 source_follows texts name sure plan files each =
     tree_follows texts name (λ tree. check_then (resolved_of tree) sure) (λ tree. check_then (resolved_of tree) plan) files (λ tree. check_follows (resolved_of tree) sure plan files each)

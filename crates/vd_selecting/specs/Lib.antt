@@ -3,3 +3,4 @@ pub mod Outcomes
 pub mod Problems
 pub mod Certifying
 pub mod Choosing
+pub mod Selected

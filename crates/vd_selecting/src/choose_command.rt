@@ -7,6 +7,7 @@ ghost use Rattle.vd_base.specs.declared.protocols.Proto.TheVariants.{Local as lo
 ghost use Rattle.vd_certificate.specs.Texts.{text_of};
 ghost use Rattle.vd_normal.specs.Normal.{normal_form};
 ghost use Rattle.vd_plan.specs.Plans.{Computes};
+ghost use Rattle.vd_report.specs.ChoiceLines.{choice_lines};
 ghost use Rattle.vd_space.specs.Validity.{protocol};
 ghost use Rattle.vd_selecting.specs.Choosing.{ExecutesChoose, ExecutesProblem, ExecutesProgram, certificate_file, selection_answer};
 
@@ -47,6 +48,20 @@ fn protocols_at(alloc: Global, space: &Space, places: &[u32]) -> Result<Items<Pr
     Ok(assignment)
 }
 
+/// The lines that tell a choice, given by the places of its protocols in a space's list, and its cost.
+pub fn selection_text(
+    alloc: Global,
+    program: &Program,
+    space: &Space,
+    places: &[u32],
+    cost: u32,
+) -> Result<Bytes, AllocError>
+    ensures { IfOk result (λ text. text ≡ choice_lines program.now (map (protocol space.now) places.now) cost) }
+{
+    let assignment = protocols_at(alloc, space, places)?;
+    choice_text(alloc, program, assignment.as_slice(), u64::from(cost))
+}
+
 /// The file in which a certificate is stored.
 fn certificate_files(
     alloc: Global,
@@ -75,11 +90,11 @@ fn answer_selection(
 {
     match selection {
         Selection::Found(places, cost, certificate) => {
-            let assignment = protocols_at(alloc, space, places.as_slice())?;
+            let printed = selection_text(alloc, program, space, places.as_slice(), *cost)?;
             Ok(Answer {
                 status: Status::Ended,
                 stores: certificate_files(alloc, source, certificate)?,
-                printed: choice_text(alloc, program, assignment.as_slice(), u64::from(*cost))?,
+                printed,
             })
         }
         Selection::NoAssignment(certificate) => Ok(Answer {

@@ -10,8 +10,9 @@ mod gen_command;
 mod spaces;
 
 pub use certify_command::certify;
-pub use choose_command::choose;
+pub use choose_command::{choose, selection_text};
 pub use gen_command::generate_source;
+pub use spaces::least_space;
 
 /// Each certificate file has an outcome, so there is a function for the clauses to speak of.
 pub fn certificate_outcomes_exist()

@@ -1,4 +1,4 @@
--- Arrays in clear: their cells, each read and each write.
+-- Arrays: new ones, and each read of a cell.
 use Rattle.std.proofs.Common.{◌≡◌, ℕ, zero, suc, ◌+◌, ◌<◌, ◌≤◌, nat_le, nat_lt, ◌&&◌, Bool, true, false, if◌then◌else◌, IsTrue, List, [], ◌∷◌, ◌⊎◌, inl, inr, length, map, replicate, slice_index, drop, refl, sym, ap, ap₂, subst, subst₂, ◌∙◌, arith}
 use Rattle.std.proofs.lemmas.Bool.{eq-eqb, ne_eqb}
 use Rattle.std.proofs.lemmas.Bool.Decides.{nat_tests}
@@ -8,7 +8,6 @@ use Rattle.vd_base.specs.declared.ids.HostId.{HostId}
 use Rattle.vd_base.specs.declared.protocols.Proto.{Proto}
 use Rattle.vd_base.specs.declared.rows.Row.TheVariants.{Variable}
 use Rattle.vd_base.specs.HostSets.{host}
-use Rattle.vd_execution.specs.declared.instructions.Reg.{Reg}
 use Rattle.vd_execution.specs.declared.instructions.Action.TheVariants as action
 use Rattle.vd_execution.specs.Registers.{Registers, put, zeroed}
 use Rattle.vd_execution.specs.World.{Tape}
@@ -22,17 +21,17 @@ use Rattle.vd_duet.specs.Calls.{holders, hosts_of, Stand}
 use Rattle.vd_duet.specs.Laws.{Each, IsHost, IsIn, nowhere, words_at, Copies, Leads as DuetLeads}
 use Rattle.vd_duet.proofs.Writes.{wrote}
 use Rattle.vd_duet.proofs.Leads.{leads_nothing, leads_on, taken_known, taken_there, taken_bounds, Since}
-use Rattle.vd_clear.specs.Copies.{register_of, written_by, each_made, clear_calls}
-use Rattle.vd_clear.proofs.HostLaws.{found, written_there}
-use Rattle.vd_clear.proofs.ClearLaws.{IsClear, copies_of, stand_for, each_word}
+use Rattle.vd_clear.specs.Copies.{register_of, written_by, each_made}
+use Rattle.vd_clear.proofs.HostLaws.{written_there}
 use Rattle.vd_joint.specs.Joint.{Each as EachPart}
 use Rattle.vd_joint.specs.Suite.{is_at, Cells, Word, Gives, Ready, Below, Delivered, nothing, hosts_of as hosts_at}
-use Rattle.vd_joint.proofs.Lists.{and_left}
-use Rattle.vd_suite.specs.Parts.{Parts, is_built, zeros_at, new_cells, index_of, cell_read}
+use Rattle.vd_joint.proofs.Lists.{AreApart, and_left}
+use Rattle.vd_suite.specs.Parts.{Parts, is_built, zeros_at, new_cells, index_of}
 use Rattle.vd_suite.specs.Suite.{cell, StandForCells, IsOver, holds}
-use Rattle.vd_suite.proofs.Standing.{hosts_cell, register_cell, all_below}
-use Rattle.vd_suite.proofs.Over.{clear_of, host_known, holder_at, In, picked_in}
-use Rattle.vd_suite.proofs.Gives.{M, S, leads_as, gives_word, ready_at}
+use Rattle.vd_suite.proofs.Standing.{hosts_cell}
+use Rattle.vd_suite.proofs.Over.{holders_apart, host_known, holder_at, In, picked_in}
+use Rattle.vd_suite.proofs.Rows.{row_of, in_cell, zeros_stand, zeros_there, each_stands}
+use Rattle.vd_suite.proofs.Gives.{M, S, leads_as}
 use Rattle.vd_suite.proofs.Alone.{alone_leads}
 
 lt_of : (a b : ℕ) → nat_lt a b ≡ true → a < b
@@ -135,7 +134,6 @@ module _ (t : Tape) (deal : IsValidDeal t) (inputs : ℕ → List ℕ) (hosts : 
   pub cells_law : (p : Proto) → IsOver hosts p → IsTrue (holds Variable p) → (n : ℕ) (next : List ℕ) (w : Hosts) → Ready (M t inputs hosts) (S t inputs hosts) next w
       → Gives (M t inputs hosts) (S t inputs hosts) next nothing ((S t inputs hosts).calls.cells p n next) w p (Cells (replicate n 0))
   cells_law p d row n next w r =
-      let clear = clear_of p (and_left (is_built p) _ row) in
       let z = zeros_law t deal n (holders p) next w (subst (λ (k : ℕ). Each (λ h. h.0 < k) (holders p)) (sym r.known) d.known) r.sound in
       record {
         reached = z.reached;
@@ -151,7 +149,7 @@ module _ (t : Tape) (deal : IsValidDeal t) (inputs : ℕ → List ℕ) (hosts : 
           size = zeros_many n;
           at = z.at;
           cells = λ i lt. subst (λ (v : ℕ). Stand p (words_at z.reached (cell i (new_cells p n next).given)) v) (sym (zeros_index n i))
-              (stand_for p clear z.reached (cell i (new_cells p n next).given) 0 (hosts_cell i (new_cells p n next).given ∙ z.at) (z.zero_there i lt)).word;
+              (zeros_there p (and_left (is_built p) _ row) z.reached (cell i (new_cells p n next).given) (hosts_cell i (new_cells p n next).given ∙ z.at) (z.zero_there i lt));
         };
       }
 
@@ -179,48 +177,45 @@ module _ (t : Tape) (deal : IsValidDeal t) (inputs : ℕ → List ℕ) (hosts : 
   index_at p d next w at i index h j =
       index_found next w at i h (subst (In h) (sym index.placed) (picked_in (λ k. is_at p (host k)) 0 hosts h (omega arith) (let lt = host_known hosts (holders p) h d.known j in omega (arith, lt)) (holder_at p h j))) index.words
 
-  -- a host's register of a cell
-  pub record CellAt (next : List ℕ) (w : Hosts) (x : Parts) (h i v : ℕ) : Type 0 where
-    pub word : (w h).registers ((register_of x.at h).0 + i) ≡ v
-    pub low : (register_of x.at h).0 + i < slice_index next h
-    pub named : IsIn (cell i x.at) h ((register_of x.at h).0 + i)
+  -- the words of a cell, host by host
+  pub cell_row : (p : Proto) → IsOver hosts p → (w : Hosts) (x : Parts) → hosts_of x.at ≡ holders p → (i : ℕ)
+      → words_at w (cell i x.at) ≡ map (λ (h : HostId). (w h.0).registers ((register_of x.at h.0).0 + i)) (holders p)
+  cell_row p d w x at i =
+      row_of w i x.at (subst AreApart (sym at) (holders_apart p d.ordered))
+      ∙ ap (λ (hs : List HostId). map (λ (h : HostId). (w h.0).registers ((register_of x.at h.0).0 + i)) hs) at
 
-  pub cell_at : (p : Proto) → IsClear p → (next : List ℕ) (w : Hosts) (x : Parts) (ws : List ℕ) → Below (M t inputs hosts) (S t inputs hosts) next x → StandForCells w p x ws
-      → (i : ℕ) → i < x.size → (h : ℕ) → IsHost (holders p) h → CellAt next w x h i (slice_index ws i)
-  cell_at p clear next w x ws below s i lt h j =
-      let v : ℕ = slice_index ws i in
-      let f = found next w (cell i x.at) (host h) (slice_index ws i) (subst (λ (l : List HostId). IsHost l h) (sym (hosts_cell i x.at ∙ s.at)) j)
-      (all_below next (cell i x.at) (λ k r q. below k r (i, lt, q)))
-      (copies_of p clear w (cell i x.at) (slice_index ws i) (record { at = hosts_cell i x.at ∙ s.at; word = s.cells i lt })) in
-      let e = register_cell i x.at h (subst (λ (l : List HostId). IsHost l h) (sym s.at) j) in
-      record {
-        word = subst (λ (r : Reg). (w h).registers r.0 ≡ slice_index ws i) e f.holds.here;
-        low = subst (λ (r : Reg). r.0 < slice_index next h) e f.holds.low;
-        named = subst (λ (r : Reg). IsIn (cell i x.at) h r.0) e f.named;
-      }
+  -- a host's register of a cell is not free
+  pub cell_low : (p : Proto) (next : List ℕ) (x : Parts) → Below (M t inputs hosts) (S t inputs hosts) next x → hosts_of x.at ≡ holders p
+      → (i : ℕ) → i < x.size → (h : ℕ) → IsHost (holders p) h → (register_of x.at h).0 + i < slice_index next h
+  cell_low p next x below at i lt h j = below h ((register_of x.at h).0 + i) (i, lt, in_cell i x.at h (subst (λ (l : List HostId). IsHost l h) (sym at) j))
 
   pub get_law : (p : Proto) → IsOver hosts p → IsTrue (holds Variable p) → (x : Parts) (ws : List ℕ) (at : List Part) (i : ℕ) (next : List ℕ) (w : Hosts) → Ready (M t inputs hosts) (S t inputs hosts) next w
       → Below (M t inputs hosts) (S t inputs hosts) next x → StandForCells w p x ws → Delivered (M t inputs hosts) (S t inputs hosts) next w (hosts_at (S t inputs hosts).calls p) at i
       → Gives (M t inputs hosts) (S t inputs hosts) next nothing ((S t inputs hosts).calls.get p x at next) w p (Word (slice_index ws i))
   get_law p d row x ws at i next w r below s index =
-      let clear = clear_of p (and_left (is_built p) _ row) in
-      gives_word t inputs hosts (clear_calls p) next nowhere nothing (cell_read p x at next) w p (slice_index ws i) refl (λ h k z. z)
-      (each_word p clear t next w (ready_at t inputs hosts deal (clear_calls p) next w p refl d r) nowhere
-      (λ h. written_by h (λ k. action.Get k (register_of x.at h.0) x.size (index_of at h.0))) (slice_index ws i)
+      each_stands t inputs hosts p d next w r (λ h. written_by h (λ k. action.Get k (register_of x.at h.0) x.size (index_of at h.0)))
+      (λ h. if nat_lt i x.size then (w h.0).registers ((register_of x.at h.0).0 + i) else 0) (slice_index ws i)
+      (stand (and_left (is_built p) _ row) (nat_lt i x.size) refl)
       (λ h j next' u since known.
-      written_there t deal next' u since.sound h known nowhere (λ k. action.Get k (register_of x.at h.0) x.size (index_of at h.0)) (slice_index ws i) tt
-      (ap (λ z. put u h.0 (wrote (next_at next' h).0 z (u h.0))) (read clear h j next' u since)) tt))
+      written_there t deal next' u since.sound h known nowhere (λ k. action.Get k (register_of x.at h.0) x.size (index_of at h.0))
+      (if nat_lt i x.size then (w h.0).registers ((register_of x.at h.0).0 + i) else 0) tt
+      (ap (λ z. put u h.0 (wrote (next_at next' h).0 z (u h.0))) (read h j next' u since)) tt)
     where
-      inside : IsClear p → (h : HostId) → IsHost (holders p) h.0 → (next' : List ℕ) (u : Hosts) → Since next w next' u → (b : Bool) → nat_lt i x.size ≡ b
-          → (if b then (u h.0).registers ((register_of x.at h.0).0 + i) else 0) ≡ slice_index ws i
-      inside clear h j next' u since true e =
-          let c = cell_at p clear next w x ws below s i (lt_of i x.size e) h.0 j in
-          since.kept h.0 ((register_of x.at h.0).0 + i) c.low ∙ c.word
-      inside clear h j next' u since false e = sym (get_or_past ws i 0 (let a = not_lt_of i x.size e in let b = s.size in omega (arith, a, b)))
+      stand : is_built p ≡ true → (b : Bool) → nat_lt i x.size ≡ b
+          → Stand p (map (λ (h : HostId). if b then (w h.0).registers ((register_of x.at h.0).0 + i) else 0) (holders p)) (slice_index ws i)
+      stand built true e = subst (λ (l : List ℕ). Stand p l (slice_index ws i)) (cell_row p d w x s.at i) (s.cells i (lt_of i x.size e))
+      stand built false e =
+          subst (λ (z : ℕ). Stand p (map (λ (h : HostId). 0) (holders p)) z) (sym (get_or_past ws i 0 (let a = not_lt_of i x.size e in let b = s.size in omega (arith, a, b)))) (zeros_stand p built)
 
-      read : IsClear p → (h : HostId) → IsHost (holders p) h.0 → (next' : List ℕ) (u : Hosts) → Since next w next' u
-          → (if nat_lt ((u h.0).registers (index_of at h.0).0) x.size then (u h.0).registers ((register_of x.at h.0).0 + (u h.0).registers (index_of at h.0).0) else 0) ≡ slice_index ws i
-      read clear h j next' u since =
+      inside : (h : HostId) → IsHost (holders p) h.0 → (next' : List ℕ) (u : Hosts) → Since next w next' u → (b : Bool) → nat_lt i x.size ≡ b
+          → (if b then (u h.0).registers ((register_of x.at h.0).0 + i) else 0) ≡ (if b then (w h.0).registers ((register_of x.at h.0).0 + i) else 0)
+      inside h j next' u since true e = since.kept h.0 ((register_of x.at h.0).0 + i) (cell_low p next x below s.at i (lt_of i x.size e) h.0 j)
+      inside h j next' u since false e = refl
+
+      read : (h : HostId) → IsHost (holders p) h.0 → (next' : List ℕ) (u : Hosts) → Since next w next' u
+          → (if nat_lt ((u h.0).registers (index_of at h.0).0) x.size then (u h.0).registers ((register_of x.at h.0).0 + (u h.0).registers (index_of at h.0).0) else 0)
+          ≡ (if nat_lt i x.size then (w h.0).registers ((register_of x.at h.0).0 + i) else 0)
+      read h j next' u since =
           let q = index_at p d next w at i index h.0 j in
           ap (λ z. if nat_lt z x.size then (u h.0).registers ((register_of x.at h.0).0 + z) else 0) (since.kept h.0 (index_of at h.0).0 q.1 ∙ q.0)
-          ∙ inside clear h j next' u since (nat_lt i x.size) refl
+          ∙ inside h j next' u since (nat_lt i x.size) refl

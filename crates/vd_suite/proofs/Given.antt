@@ -1,22 +1,19 @@
 -- Protocols and deals that can always be had.
-use Rattle.std.proofs.Common.{◌≡◌, ℕ, zero, suc, ◌^◌, ◌<◌, ◌≤◌, nat_lt, ◌&&◌, Bool, true, false, List, [], ◌∷◌, inl, inr, length, slice_index, slice_index_or, refl, sym, ap, ◌∙◌, arith}
+use Rattle.std.proofs.Common.{◌≡◌, ℕ, zero, suc, ◌<◌, ◌≤◌, nat_lt, ◌&&◌, Bool, true, false, List, [], ◌∷◌, inl, length, slice_index, refl, arith}
 use Rattle.std.specs.List.{All, list_all}
 use Rattle.std.proofs.lemmas.Bool.Decides.{nat_tests}
 use Rattle.vd_base.specs.declared.ids.HostId.{HostId}
 use Rattle.vd_base.specs.declared.protocols.Proto.{Proto}
-use Rattle.vd_base.specs.declared.protocols.Proto.TheVariants.{Local, Rep}
-use Rattle.vd_base.specs.HostSets.{host, host_set}
-use Rattle.vd_base.specs.Limits.{most_hosts}
 use Rattle.vd_base.specs.Protocols.{protocols_of}
 use Rattle.vd_execution.specs.Registers.{nth}
 use Rattle.vd_execution.specs.Step.{Source, Inputs, OwnWords, Triples, BitTriples, Pairs}
 use Rattle.vd_execution.specs.World.{zeros_of}
-use Rattle.vd_execution.specs.Deals.{IsValidDeal, IsWord}
+use Rattle.vd_execution.specs.Deals.{IsWord}
 use Rattle.vd_duet.specs.Calls.{holders}
 use Rattle.vd_duet.specs.Laws.{Each, IsHost}
 use Rattle.vd_joint.proofs.Lists.{and_left, and_right}
-use Rattle.vd_suite.specs.Suite.{IsOver}
-use Rattle.vd_suite.specs.Given.{ListedProtocolsAreOver, item_with, zero_deal, ZeroDealsAreValid}
+use Rattle.vd_suite.specs.Suite.{is_in_order, IsOver}
+use Rattle.vd_suite.specs.Given.{ListedProtocolsAreOver, item_with, ZeroDealsAreValid}
 
 -- ---- protocols
 
@@ -28,7 +25,7 @@ abbrev all_below : ℕ → List HostId → Bool
 all_below n hs = list_all (λ h. nat_lt h.0 n) hs
 
 abbrev is_over : ℕ → Proto → Bool
-is_over n p = has_some (holders p) && all_below n (holders p)
+is_over n p = (has_some (holders p) && all_below n (holders p)) && is_in_order p
 
 lt_of : (a b : ℕ) → nat_lt a b ≡ true → a < b
 lt_of a b h = grind (arith, nat_tests)
@@ -45,7 +42,13 @@ each_below n [] e = tt
 each_below n (h ∷ hs) e = (lt_of h.0 n (and_left (nat_lt h.0 n) (all_below n hs) e), each_below n hs (and_right (nat_lt h.0 n) (all_below n hs) e))
 
 over_of : (n : ℕ) (p : Proto) → is_over n p ≡ true → IsOver n p
-over_of n p e = record { some = some_host (holders p) (and_left (has_some (holders p)) (all_below n (holders p)) e); known = each_below n (holders p) (and_right (has_some (holders p)) (all_below n (holders p)) e) }
+over_of n p e =
+    let hosts_ok = and_left (has_some (holders p) && all_below n (holders p)) (is_in_order p) e in
+    record {
+      some = some_host (holders p) (and_left (has_some (holders p)) (all_below n (holders p)) hosts_ok);
+      known = each_below n (holders p) (and_right (has_some (holders p)) (all_below n (holders p)) hosts_ok);
+      ordered = and_right (has_some (holders p) && all_below n (holders p)) (is_in_order p) e;
+    }
 
 all_over : (n : ℕ) (ps : List Proto) → list_all (is_over n) ps ≡ true → All (IsOver n) ps
 all_over n [] e k d lt = absurd (omega (arith, lt))

@@ -1,8 +1,10 @@
 -- What a back end's law says, as the theory of the splitter asks it.
-use Rattle.std.proofs.Common.{◌≡◌, ℕ, ◌<◌, true, IsTrue, List, [], ◌∷◌, ◌++◌, inl, inr, map, drop, refl, sym, ap, subst, ◌∙◌}
+use Rattle.std.proofs.Common.{◌≡◌, ℕ, ◌<◌, true, IsTrue, is_some, List, [], ◌∷◌, ◌++◌, inl, inr, map, drop, refl, sym, ap, subst, ◌∙◌}
 use Rattle.vd_base.specs.declared.operations.Op.{Op}
 use Rattle.vd_base.specs.declared.protocols.Proto.{Proto}
 use Rattle.vd_base.specs.declared.protocols.Proto.TheVariants.{Local, Rep, Commit, Add, Xor}
+use Rattle.vd_base.specs.declared.rows.Row.TheVariants.{Apply}
+use Rattle.vd_base.specs.Costs.{cost_at}
 use Rattle.vd_execution.specs.declared.instructions.Act.{Act}
 use Rattle.vd_execution.specs.World.{Tape}
 use Rattle.vd_execution.specs.Deals.{IsValidDeal}
@@ -13,11 +15,15 @@ use Rattle.vd_duet.specs.Calls.{Places, holders, Made, Calls}
 use Rattle.vd_duet.specs.Laws.{Each, IsIn, IsInOne, AreKnown, IsReady, GivesWord, BackendLaws, Leads as DuetLeads, Operand as DuetOperand, Operands as DuetOperands, Renews as DuetRenews}
 use Rattle.vd_duet.proofs.Leads.{run_append}
 use Rattle.vd_clear.proofs.ClearLaws.{clear_laws}
+use Rattle.vd_words.proofs.AddLaws.{add_laws}
+use Rattle.vd_bits.proofs.BitLaws.{circuit_laws}
+use Rattle.vd_circuit.specs.CircuitCalls.{circuit_serves}
 use Rattle.vd_joint.specs.Joint.{Hosts as AnyHosts, run_acts as run_all, AllFine}
 use Rattle.vd_joint.specs.Suite.{Suite, Word, Gives, Leads, Ready, Operand, Operands, NamedBy, Renews}
 use Rattle.vd_suite.specs.Machine.{machine}
 use Rattle.vd_suite.specs.Parts.{Parts, word_in, made_of, is_built, back_end}
 use Rattle.vd_suite.specs.Suite.{Names, StandForCells, IsOver, suite}
+use Rattle.vd_suite.proofs.Over.{ordered_differ}
 use Rattle.vd_suite.proofs.Standing.{word_of, stand_of, names_in, in_names, all_below, below_at}
 
 runs_as_acts : (t : Tape) (inputs : ℕ → List ℕ) (gadgets : List Gadget) (w : Hosts) → run_all (machine t inputs) gadgets w ≡ run_acts t (acts_of_gadgets gadgets) w
@@ -41,12 +47,12 @@ proto_is (Commit a b) = refl
 proto_is (Add a b) = refl
 proto_is (Xor a b) = refl
 
-pub serves : (p : Proto) → is_built p ≡ true → (o : Op) → IsTrue ((back_end p).serves o)
-serves (Local h) e o = refl
-serves (Rep set) e o = refl
-serves (Commit a b) e o = cc
-serves (Add a b) e o = cc
-serves (Xor a b) e o = cc
+pub serves : (p : Proto) → is_built p ≡ true → (o : Op) → IsTrue (is_some (cost_at (Apply o) p)) → IsTrue ((back_end p).serves o)
+serves (Local h) e o row = refl
+serves (Rep set) e o row = refl
+serves (Commit a b) e o row = cc
+serves (Add a b) e o row = row
+serves (Xor a b) e o row = row
 
 pub laws_of : (p : Proto) → is_built p ≡ true → (hosts : ℕ) → IsOver hosts p → BackendLaws (back_end p)
 laws_of (Local h) e hosts d = clear_laws (Local h) tt d.some.0 d.some.1
@@ -55,14 +61,8 @@ laws_of (Commit a b) e hosts d = absurd (wrong e)
   where
     wrong : is_built (Commit a b) ≡ true → ⊥
     wrong e = cc
-laws_of (Add a b) e hosts d = absurd (wrong e)
-  where
-    wrong : is_built (Add a b) ≡ true → ⊥
-    wrong e = cc
-laws_of (Xor a b) e hosts d = absurd (wrong e)
-  where
-    wrong : is_built (Xor a b) ≡ true → ⊥
-    wrong e = cc
+laws_of (Add a b) e hosts d = add_laws a b (ordered_differ a b d.ordered)
+laws_of (Xor a b) e hosts d = circuit_laws a b (ordered_differ a b d.ordered) circuit_serves (λ o can. can)
 
 module _ (t : Tape) (inputs : ℕ → List ℕ) (hosts : ℕ) where
   abbrev pub M : AnyHosts

@@ -1,7 +1,9 @@
 pub mod Standing
 pub mod Over
+pub mod TwoHosts
 pub mod Moves
 pub mod Gives
+pub mod Rows
 pub mod BackEnds
 pub mod Alone
 pub mod Outside

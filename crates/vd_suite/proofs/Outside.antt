@@ -1,6 +1,7 @@
 -- Inputs and outputs, and the number of a turn.
-use Rattle.std.proofs.Common.{◌≡◌, ℕ, zero, suc, ◌^◌, ◌<◌, ◌≤◌, Bool, if◌then◌else◌, IsTrue, List, [], ◌∷◌, ◌++◌, ◌⊎◌, inl, inr, length, map, slice_index, drop, refl, sym, ap, subst, subst₂, ◌∙◌, arith}
-use Rattle.std.proofs.lemmas.Bool.{eq-eqb}
+use Rattle.std.proofs.Common.{◌≡◌, ℕ, zero, suc, ◌+◌, ◌%◌, ◌^◌, ◌<◌, ◌≤◌, bit_xor, nat_eq, Bool, true, false, if◌then◌else◌, IsTrue, List, [], ◌∷◌, ◌++◌, ◌⊎◌, inl, inr, length, map, slice_index, drop, refl, sym, ap, ap₂, subst, subst₂, ◌∙◌, arith}
+use Rattle.std.specs.Int.Bits.{xor_zero_r}
+use Rattle.std.proofs.lemmas.Bool.{eq-eqb, ne_eqb}
 use native.Mathlib.Decide.{ℕ_discrete}
 use Rattle.vd_base.specs.declared.ids.HostId.{HostId}
 use Rattle.vd_base.specs.declared.protocols.Proto.{Proto}
@@ -18,30 +19,44 @@ use Rattle.vd_execution.specs.Joint.{Host, Hosts, acted}
 use Rattle.vd_execution.specs.Text.{register}
 use Rattle.vd_schedules.proofs.Puts.{put_same, put_other}
 use Rattle.vd_duet.specs.Builder.{next_at, taken}
-use Rattle.vd_duet.specs.Calls.{Places, holders, hosts_of, Made}
+use Rattle.vd_duet.specs.Calls.{Places, holders, hosts_of, Stand}
 use Rattle.vd_duet.specs.Laws.{IsIn, nowhere, Copies, StandFor, GivesThere}
 use Rattle.vd_duet.proofs.Writes.{wrote}
-use Rattle.vd_duet.proofs.Leads.{taken_known, taken_there, taken_bounds}
+use Rattle.vd_duet.proofs.Leads.{taken_known, taken_there, taken_bounds, Since}
 use Rattle.vd_clear.specs.Copies.{register_of, written_by, clear_calls}
 use Rattle.vd_clear.proofs.HostLaws.{written_there}
-use Rattle.vd_clear.proofs.ClearLaws.{IsClear, copies_of, each_word}
+use Rattle.vd_clear.proofs.ClearLaws.{copies_of}
 use Rattle.vd_joint.specs.Suite.{is_at, Word, Gives, Ready, Operand, Takes, Tells, nothing}
 use Rattle.vd_joint.proofs.Lists.{and_left}
-use Rattle.vd_suite.specs.Parts.{Parts, word_in, is_built, turn_part, turned, printed}
-use Rattle.vd_suite.specs.Suite.{Names, StandForCells, IsOver, holds, AreGiven}
+use Rattle.vd_suite.specs.Parts.{Parts, word_in, is_built, turn_part, printed}
+use Rattle.vd_suite.specs.Suite.{Names, StandForCells, is_in_order, IsOver, holds, AreGiven}
 use Rattle.vd_suite.proofs.Standing.{word_of, stand_of, names_in, in_names}
-use Rattle.vd_suite.proofs.Over.{clear_of, host_known, holder_at}
-use Rattle.vd_suite.proofs.Gives.{M, S, gives_word, ready_at}
+use Rattle.vd_suite.proofs.Over.{host_known, holder_at, ordered_differ}
+use Rattle.vd_suite.proofs.Rows.{all_same, each_stands}
+use Rattle.vd_suite.proofs.Gives.{M, S}
 use Rattle.vd_suite.proofs.Alone.{same, sound_after}
 
 -- ---- the number of a turn
 
-pub turn_is : (p : Proto) → IsClear p → (loop : List ℕ) (h : HostId) (next : List ℕ) → written_by h (λ r. action.Copy r (next_at loop h)) next ≡ turn_part p loop h next
-turn_is (Local k) clear loop h next = refl
-turn_is (Rep set) clear loop h next = refl
-turn_is (Commit a b) clear loop h next = absurd clear
-turn_is (Add a b) clear loop h next = absurd clear
-turn_is (Xor a b) clear loop h next = absurd clear
+-- the word of a host's part: of two that share, the first has the number and the second has 0
+abbrev pub turn_value : Proto → ℕ → HostId → ℕ
+turn_value (Local k) turn h = turn
+turn_value (Rep set) turn h = turn
+turn_value (Commit a b) turn h = turn
+turn_value (Add a b) turn h = if nat_eq h.0 a.0 then turn else 0
+turn_value (Xor a b) turn h = if nat_eq h.0 a.0 then turn else 0
+
+sum_with_zero : (turn : ℕ) → turn < 2 ^ 32 → (turn + 0) % 2 ^ 32 ≡ turn
+sum_with_zero turn small = omega (arith, small)
+
+turn_stands : (p : Proto) → is_built p ≡ true → is_in_order p ≡ true → (turn : ℕ) → turn < 2 ^ 32 → Stand p (map (turn_value p turn) (holders p)) turn
+turn_stands (Local k) b o turn small = refl
+turn_stands (Rep set) b o turn small = all_same turn (holders (Rep set))
+turn_stands (Commit u v) b o turn small = cc
+turn_stands (Add u v) b o turn small =
+    ap₂ (λ (x y : Bool). ((if x then turn else 0) + (if y then turn else 0)) % 2 ^ 32) (eq-eqb u.0 u.0 refl) (ne_eqb v.0 u.0 (λ e. ordered_differ u v o (sym e))) ∙ sum_with_zero turn small
+turn_stands (Xor u v) b o turn small =
+    ap₂ (λ (x y : Bool). bit_xor (if x then turn else 0) (if y then turn else 0)) (eq-eqb u.0 u.0 refl) (ne_eqb v.0 u.0 (λ e. ordered_differ u v o (sym e))) ∙ xor_zero_r turn
 
 first_dropped : (xs : List ℕ) (i : ℕ) → first_word (drop i xs) ≡ slice_index xs i
 first_dropped [] zero = refl
@@ -61,14 +76,30 @@ module _ (t : Tape) (deal : IsValidDeal t) (inputs : ℕ → List ℕ) (given : 
       → ((h : ℕ) → h < hosts → IsTrue (is_at p (host h)) → ((w h).registers (slice_index loop h) ≡ turn) × (slice_index loop h < slice_index next h))
       → Gives (M t inputs hosts) (S t inputs hosts) next nothing ((S t inputs hosts).calls.turn p loop next) w p (Word turn)
   turn_law p d row turn small loop next w r there =
-      let clear = clear_of p (and_left (is_built p) _ row) in
-      gives_word t inputs hosts (clear_calls p) next nowhere nothing (turned p loop next) w p turn refl (λ h k x. x)
-      (each_word p clear t next w (ready_at t inputs hosts deal (clear_calls p) next w p refl d r) nowhere (turn_part p loop) turn
-      (λ h i next' u s known.
-      let q = there h.0 (host_known hosts (holders p) h.0 d.known i) (holder_at p h.0 i) in
-      subst (λ (z : Made Reg). GivesThere 8 t next' nowhere h z u turn) (turn_is p clear loop h next')
-      (written_there t deal next' u s.sound h known nowhere (λ k. action.Copy k (next_at loop h)) turn tt
-      (ap (λ z. put u h.0 (wrote (next_at next' h).0 z (u h.0))) (s.kept h.0 (slice_index loop h.0) q.1 ∙ q.0)) tt)))
+      each_stands t inputs hosts p d next w r (turn_part p loop) (turn_value p turn) turn (turn_stands p (and_left (is_built p) _ row) d.ordered turn small)
+      (λ h i next' u s known. part p h next' u s known (let q = there h.0 (host_known hosts (holders p) h.0 d.known i) (holder_at p h.0 i) in (q.1, q.0)))
+    where
+      copied : (h : HostId) (next' : List ℕ) (u : Hosts) → Since next w next' u → h.0 < length next' → (slice_index loop h.0 < slice_index next h.0) × ((w h.0).registers (slice_index loop h.0) ≡ turn)
+          → GivesThere 8 t next' nowhere h (written_by h (λ k. action.Copy k (next_at loop h)) next') u turn
+      copied h next' u s known q =
+          written_there t deal next' u s.sound h known nowhere (λ k. action.Copy k (next_at loop h)) turn tt
+          (ap (λ z. put u h.0 (wrote (next_at next' h).0 z (u h.0))) (s.kept h.0 (slice_index loop h.0) q.0 ∙ q.1)) tt
+
+      zero_there : (h : HostId) (next' : List ℕ) (u : Hosts) → Since next w next' u → h.0 < length next' → GivesThere 8 t next' nowhere h (written_by h (λ k. action.Const k 0) next') u 0
+      zero_there h next' u s known = written_there t deal next' u s.sound h known nowhere (λ k. action.Const k 0) 0 (omega arith) refl tt
+
+      shared : (b : Bool) (h : HostId) (next' : List ℕ) (u : Hosts) → Since next w next' u → h.0 < length next' → (slice_index loop h.0 < slice_index next h.0) × ((w h.0).registers (slice_index loop h.0) ≡ turn)
+          → GivesThere 8 t next' nowhere h (if b then written_by h (λ k. action.Copy k (next_at loop h)) next' else written_by h (λ k. action.Const k 0) next') u (if b then turn else 0)
+      shared true h next' u s known q = copied h next' u s known q
+      shared false h next' u s known q = zero_there h next' u s known
+
+      part : (p : Proto) (h : HostId) (next' : List ℕ) (u : Hosts) → Since next w next' u → h.0 < length next' → (slice_index loop h.0 < slice_index next h.0) × ((w h.0).registers (slice_index loop h.0) ≡ turn)
+          → GivesThere 8 t next' nowhere h (turn_part p loop h next') u (turn_value p turn h)
+      part (Local k) h next' u s known q = copied h next' u s known q
+      part (Rep set) h next' u s known q = copied h next' u s known q
+      part (Commit a b) h next' u s known q = copied h next' u s known q
+      part (Add a b) h next' u s known q = shared (nat_eq h.0 a.0) h next' u s known q
+      part (Xor a b) h next' u s known q = shared (nat_eq h.0 a.0) h next' u s known q
 
   -- ---- a fresh register of one host
 

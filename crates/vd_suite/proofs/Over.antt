@@ -1,8 +1,9 @@
 -- The hosts of a protocol.
-use Rattle.std.proofs.Common.{◌≡◌, ◌≢◌, ℕ, zero, suc, ◌+◌, ◌<◌, ◌≤◌, Bool, true, false, ◌||◌, cond, if◌then◌else◌, nat_eq, List, [], ◌∷◌, ◌⊎◌, inl, inr, map, refl, sym, ap, subst, ◌∙◌, arith, rules}
+use Rattle.std.proofs.Common.{◌≡◌, ◌≢◌, ℕ, zero, suc, ◌+◌, ◌<◌, ◌≤◌, Bool, true, false, not, ◌&&◌, ◌||◌, cond, if◌then◌else◌, nat_eq, nat_lt, List, [], ◌∷◌, ◌⊎◌, inl, inr, length, map, refl, sym, ap, subst, ◌∙◌, arith, rules}
 use Rattle.std.specs.Prelude.{filter}
 use Rattle.std.specs.List.{range_with_len}
 use Rattle.std.proofs.lemmas.Bool.{eq-eqb}
+use Rattle.std.proofs.lemmas.Bool.Decides.{nat_tests}
 use native.Mathlib.Decide.{ℕ_discrete}
 use Rattle.vd_base.specs.declared.ids.HostId.{HostId}
 use Rattle.vd_base.specs.declared.protocols.HostSet.{HostSet}
@@ -13,16 +14,9 @@ use Rattle.vd_duet.specs.Calls.{holders}
 use Rattle.vd_duet.specs.Laws.{Each, IsHost}
 use Rattle.vd_duet.specs.Acting.{is_among}
 use Rattle.vd_joint.specs.Suite.{is_at, picked}
-use Rattle.vd_clear.proofs.ClearLaws.{IsClear}
-use Rattle.vd_suite.specs.Parts.{is_built}
-use Rattle.vd_joint.proofs.Lists.{AreApart}
-
-pub clear_of : (p : Proto) → is_built p ≡ true → IsClear p
-clear_of (Local h) e = tt
-clear_of (Rep set) e = tt
-clear_of (Commit p v) e = cc
-clear_of (Add a b) e = cc
-clear_of (Xor a b) e = cc
+use Rattle.vd_clear.proofs.Members.{few_members}
+use Rattle.vd_suite.specs.Suite.{is_in_order}
+use Rattle.vd_joint.proofs.Lists.{AreApart, and_left, and_right}
 
 pub host_known : (n : ℕ) (hs : List HostId) (h : ℕ) → Each (λ k. k.0 < n) hs → IsHost hs h → h < n
 host_known n [] h e i = absurd i
@@ -56,7 +50,7 @@ holder_at (Commit a b) h i = one_of_two a.0 b.0 h i
 holder_at (Add a b) h i = one_of_two a.0 b.0 h i
 holder_at (Xor a b) h i = one_of_two a.0 b.0 h i
 
-equal_of : (a b : ℕ) → nat_eq a b ≡ true → a ≡ b
+pub equal_of : (a b : ℕ) → nat_eq a b ≡ true → a ≡ b
 equal_of a b e = grind (arith, rules)
 
 pub among_host : (hs : List HostId) (h : ℕ) → is_among hs h ≡ true → IsHost hs h
@@ -69,7 +63,7 @@ among_host (k ∷ hs) h e = at (among_host hs h) (nat_eq h k.0) refl e
 
 -- ---- no host twice
 
-later_than : (k n h : ℕ) → IsHost (map host (range_with_len k n)) h → k ≤ h
+pub later_than : (k n h : ℕ) → IsHost (map host (range_with_len k n)) h → k ≤ h
 later_than k zero h i = absurd i
 later_than k (suc n) h (inl e) = omega (arith, e)
 later_than k (suc n) h (inr i) = let q = later_than (k + 1) n h i in omega (arith, q)
@@ -78,7 +72,7 @@ in_a_row : (k n : ℕ) → AreApart (map host (range_with_len k n))
 in_a_row k zero = tt
 in_a_row k (suc n) = ((λ i. let q = later_than (k + 1) n k i in omega (arith, q)), in_a_row (k + 1) n)
 
-was_there : (test : HostId → Bool) (xs : List HostId) (h : ℕ) → IsHost (filter test xs) h → IsHost xs h
+pub was_there : (test : HostId → Bool) (xs : List HostId) (h : ℕ) → IsHost (filter test xs) h → IsHost xs h
 was_there test [] h i = i
 was_there test (x ∷ xs) h i = at (was_there test xs h) (test x) i
   where
@@ -99,12 +93,47 @@ filter_apart test (x ∷ xs) a = at (filter_apart test xs a.1) (test x)
 pub members_apart : (n : ℕ) (set : HostSet) → AreApart (members n set)
 members_apart n set = filter_apart (has_host set) (hosts n) (in_a_row 0 n)
 
-pub holders_apart : (p : Proto) → IsClear p → AreApart (holders p)
-holders_apart (Local h) clear = ((λ i. i), tt)
-holders_apart (Rep set) clear = members_apart 8 set
-holders_apart (Commit a b) clear = absurd clear
-holders_apart (Add a b) clear = absurd clear
-holders_apart (Xor a b) clear = absurd clear
+differ : (a b : ℕ) → a < b → a ≢ b
+differ a b lt e = omega (arith, lt, e)
+
+lt_of : (a b : ℕ) → nat_lt a b ≡ true → a < b
+lt_of a b h = grind (arith, nat_tests)
+
+-- two hosts that differ, by the test
+unlike : (a b : ℕ) → not (nat_eq a b) ≡ true → a ≢ b
+unlike a b e f = opposite (nat_eq a b) (eq-eqb a b f) e
+  where
+    opposite : (z : Bool) → z ≡ true → not z ≡ true → ⊥
+    opposite true g h = cc
+    opposite false g h = cc
+
+two_apart : (a b : HostId) → a.0 ≢ b.0 → AreApart (a ∷ b ∷ [])
+two_apart a b d = (apart, ((λ i. i), tt))
+  where
+    apart : (a.0 ≡ b.0) ⊎ ⊥ → ⊥
+    apart (inl e) = d e
+    apart (inr i) = i
+
+-- the two hosts of shares are in order, and differ
+pub in_order : (a b : HostId) → (nat_lt a.0 b.0 && nat_lt b.0 8) ≡ true → (a.0 < b.0) × (b.0 < 8)
+in_order a b o = (lt_of a.0 b.0 (and_left (nat_lt a.0 b.0) (nat_lt b.0 8) o), lt_of b.0 8 (and_right (nat_lt a.0 b.0) (nat_lt b.0 8) o))
+
+pub ordered_differ : (a b : HostId) → (nat_lt a.0 b.0 && nat_lt b.0 8) ≡ true → a.0 ≢ b.0
+ordered_differ a b o = differ a.0 b.0 (in_order a b o).0
+
+pub holders_apart : (p : Proto) → is_in_order p ≡ true → AreApart (holders p)
+holders_apart (Local h) o = ((λ i. i), tt)
+holders_apart (Rep set) o = members_apart 8 set
+holders_apart (Commit a b) o = two_apart a b (unlike a.0 b.0 o)
+holders_apart (Add a b) o = two_apart a b (ordered_differ a b o)
+holders_apart (Xor a b) o = two_apart a b (ordered_differ a b o)
+
+pub few_holders : (p : Proto) → length (holders p) ≤ 8
+few_holders (Local h) = omega arith
+few_holders (Rep set) = few_members set
+few_holders (Commit a b) = omega arith
+few_holders (Add a b) = omega arith
+few_holders (Xor a b) = omega arith
 
 -- ---- hosts that pass a test
 

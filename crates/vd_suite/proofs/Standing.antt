@@ -11,7 +11,7 @@ use Rattle.vd_joint.specs.Suite.{Content, Word, Cells}
 use Rattle.vd_suite.specs.Parts.{Parts, word_in}
 use Rattle.vd_suite.specs.Suite.{cell, Names, StandForCells, stands}
 
-none_more : (n : ℕ) → n + 0 ≡ n
+pub none_more : (n : ℕ) → n + 0 ≡ n
 none_more n = omega arith
 
 pub cell_zero : (x : Places) → cell 0 x ≡ x

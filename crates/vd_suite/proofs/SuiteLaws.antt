@@ -4,8 +4,7 @@ use Rattle.std.proofs.lemmas.Bool.{eq-eqb, eqb-true}
 use Rattle.vd_base.specs.declared.ids.HostId.{HostId}
 use Rattle.vd_base.specs.declared.protocols.Proto.{Proto}
 use Rattle.vd_base.specs.declared.protocols.Proto.TheVariants.{Local, Rep, Commit, Add, Xor}
-use Rattle.vd_base.specs.declared.rows.Row.TheVariants.{Input, Variable}
-use Rattle.vd_base.specs.Costs.{cost_at}
+use Rattle.vd_base.specs.declared.rows.Row.TheVariants.{Input}
 use Rattle.vd_base.specs.HostSets.{host}
 use Rattle.vd_execution.specs.Registers.{Registers}
 use Rattle.vd_duet.specs.Calls.{holders}
@@ -15,12 +14,10 @@ use Rattle.vd_execution.specs.Joint.{Part, Hosts}
 use Rattle.vd_execution.specs.Gadgets.{IsSound}
 use Rattle.vd_joint.specs.Joint.{IsIn}
 use Rattle.vd_joint.specs.Suite.{Laws}
-use Rattle.vd_joint.proofs.Lists.{and_left}
 use Rattle.vd_suite.specs.Machine.{machine, given_turn}
-use Rattle.vd_suite.specs.Parts.{is_built}
 use Rattle.vd_suite.specs.Suite.{holds, suite, AreGiven}
 use Rattle.vd_suite.proofs.Standing.{still}
-use Rattle.vd_suite.proofs.Over.{clear_of, host_known, holder_at}
+use Rattle.vd_suite.proofs.Over.{host_known, holder_at}
 use Rattle.vd_suite.proofs.BackEnds.{literal_law, move_law, apply_law, keep_law, renew_law}
 use Rattle.vd_suite.proofs.Outside.{turn_law, input_law, in_clear, output_law}
 use Rattle.vd_suite.proofs.Arrays.{cells_law, get_law}
@@ -84,7 +81,7 @@ module _ (t : Tape) (deal : IsValidDeal t) (inputs : ℕ → List ℕ) (given : 
     begun_waits = λ w ps turn h. refl;
     still = still;
     somewhere = λ p d. (d.some.0, host_known hosts (holders p) d.some.0 d.known d.some.1, holder_at p d.some.0 d.some.1);
-    local_is_declared = λ h lt. record { some = (h.0, inl refl); known = (lt, tt) };
+    local_is_declared = λ h lt. record { some = (h.0, inl refl); known = (lt, tt); ordered = refl };
     in_clear = in_clear t deal inputs given hosts;
     input_stands = input_stands;
     literal_law = literal_law t deal inputs hosts;
@@ -98,5 +95,5 @@ module _ (t : Tape) (deal : IsValidDeal t) (inputs : ℕ → List ℕ) (given : 
     cells_law = cells_law t deal inputs hosts;
     get_law = get_law t deal inputs hosts;
     put_law = λ p d row kept ws at i x v next w r below s index o.
-        put_law t deal inputs hosts p d (clear_of p (and_left (is_built p) (is_some (cost_at Variable p)) row)) kept ws at i x v next w r below s index o;
+        put_law t deal inputs hosts p d kept ws at i x v next w r below s index o;
   }

@@ -1,5 +1,5 @@
 -- Where the calls of the suite have instructions.
-use Rattle.std.proofs.Common.{◌≡◌, ℕ, ◌^◌, ◌<◌, nat_eq, ◌&&◌, ◌||◌, Bool, true, false, if◌then◌else◌, IsTrue, is_some, List, [], ◌∷◌, ◌⊎◌, inl, inr, map, refl, sym, ap, subst, ◌∙◌}
+use Rattle.std.proofs.Common.{◌≡◌, ℕ, ◌^◌, ◌<◌, nat_eq, ◌&&◌, ◌||◌, Bool, true, false, if◌then◌else◌, IsTrue, is_some, List, [], ◌∷◌, ◌⊎◌, inl, inr, map, refl, sym, ap, subst, ◌∙◌, arith}
 use Rattle.std.specs.List.{list_any}
 use Rattle.std.proofs.lemmas.Bool.{eq-eqb, eqb-true}
 use Rattle.vd_base.specs.declared.ids.HostId.{HostId}
@@ -23,19 +23,22 @@ use Rattle.vd_duet.proofs.Leads.{tidy_append}
 use Rattle.vd_duet.specs.Builder.{next_at}
 use Rattle.vd_clear.specs.Copies.{register_of, written_by, each_made}
 use Rattle.vd_clear.proofs.ClearActs.{each_acts, clear_acts, spread_acts}
+use Rattle.vd_words.proofs.AddLaws.{add_acts}
+use Rattle.vd_bits.proofs.BitActs.{circuit_acts}
+use Rattle.vd_circuit.specs.CircuitCalls.{circuit_serves}
+use Rattle.vd_convert.proofs.ConvertActs.{conversions_act}
 use Rattle.vd_joint.specs.Joint.{Each}
 use Rattle.vd_joint.specs.Suite.{is_at, Ready, Operand}
 use Rattle.vd_joint.specs.Places.{Where, Places}
 use Rattle.vd_joint.proofs.Lists.{and_left, and_right, or_left, or_right, or_cases}
 use Rattle.vd_suite.specs.Machine.{machine}
-use Rattle.vd_suite.specs.Moves.{moved, moved_at}
+use Rattle.vd_suite.specs.Moves.{moved, moved_at, only}
 use Rattle.vd_suite.specs.Parts.{Parts, is_built, back_end, route, turn_part, turned, zeros_at, index_of, cell_written}
 use Rattle.vd_suite.specs.Suite.{IsOver, holds, joins, suite}
 use Rattle.vd_suite.proofs.Moves.{move_gives}
-use Rattle.vd_suite.proofs.Over.{clear_of, host_known, holder_at, among_host}
+use Rattle.vd_suite.proofs.Over.{host_known, holder_at, among_host}
 use Rattle.vd_suite.proofs.Gives.{M, S, proto_is, serves, laws_of, ready_at, operand_at, operands_at}
 use Rattle.vd_suite.proofs.BackEnds.{route_leads, length_map}
-use Rattle.vd_suite.proofs.Outside.{turn_is}
 use Rattle.vd_suite.proofs.SuiteLaws.{input_stands}
 
 -- ---- the hosts of the tables
@@ -121,11 +124,25 @@ moving (Commit a b) q h e = absurd (wrong e)
   where
     wrong : false ≡ true → ⊥
     wrong e = cc
-moving (Add a b) q h e = absurd (wrong e)
+moving (Add a b) (Local k) h e = inl (two_hosts h a b e)
+moving (Add a b) (Rep set) h e = inl (two_hosts h a b e)
+moving (Add a b) (Xor c d) h e = inr (two_hosts h c d e)
+moving (Add a b) (Commit c d) h e = absurd (wrong e)
   where
     wrong : false ≡ true → ⊥
     wrong e = cc
-moving (Xor a b) q h e = absurd (wrong e)
+moving (Add a b) (Add c d) h e = absurd (wrong e)
+  where
+    wrong : false ≡ true → ⊥
+    wrong e = cc
+moving (Xor a b) (Local k) h e = inl (two_hosts h a b e)
+moving (Xor a b) (Rep set) h e = inl (two_hosts h a b e)
+moving (Xor a b) (Add c d) h e = inr (two_hosts h c d e)
+moving (Xor a b) (Commit c d) h e = absurd (wrong e)
+  where
+    wrong : false ≡ true → ⊥
+    wrong e = cc
+moving (Xor a b) (Xor c d) h e = absurd (wrong e)
   where
     wrong : false ≡ true → ⊥
     wrong e = cc
@@ -160,14 +177,8 @@ acts_of (Commit a b) e = absurd (wrong e)
   where
     wrong : false ≡ true → ⊥
     wrong e = cc
-acts_of (Add a b) e = absurd (wrong e)
-  where
-    wrong : false ≡ true → ⊥
-    wrong e = cc
-acts_of (Xor a b) e = absurd (wrong e)
-  where
-    wrong : false ≡ true → ⊥
-    wrong e = cc
+acts_of (Add a b) e = add_acts a b
+acts_of (Xor a b) e = circuit_acts a b circuit_serves (λ o can. can)
 
 all_tidy : (gadgets : List Gadget) → GadgetsAreTidy gadgets → Each GadgetIsTidy gadgets
 all_tidy [] e = tt
@@ -184,19 +195,52 @@ or_false false = refl
 -- a move acts where its table says
 moved_acts : (p q : Proto) → is_built p ≡ true → is_built q ≡ true → (x : RegisterPlaces) → hosts_of x ≡ holders p → (next : List ℕ) (h : ℕ)
     → acts_at (moved (route p q) (back_end p) (back_end q) x next).gadgets h ≡ moved_at (route p q) p q h
-moved_acts (Local k) (Local j) a b x at next h = (clear_acts (Local j) tt).share k _ next h
-moved_acts (Local k) (Rep set) a b x at next h = (clear_acts (Rep set) tt).share k _ next h
+moved_acts (Local k) (Local j) a b x at next h = (clear_acts (Local j) tt).share k (only x) next h
+moved_acts (Local k) (Rep set) a b x at next h = (clear_acts (Rep set) tt).share k (only x) next h
+moved_acts (Local k) (Commit u v) a b x at next h = cc
+moved_acts (Local k) (Add u v) a b x at next h = (acts_of (Add u v) refl).share k (only x) next h
+moved_acts (Local k) (Xor u v) a b x at next h = (acts_of (Xor u v) refl).share k (only x) next h
 moved_acts (Rep set) (Local k) a b x at next h = (clear_acts (Rep set) tt).show x at k next h
 moved_acts (Rep set) (Rep other) a b x at next h = spread_acts set other x at next h
-moved_acts (Local k) (Commit u v) a b x at next h = cc
-moved_acts (Local k) (Add u v) a b x at next h = cc
-moved_acts (Local k) (Xor u v) a b x at next h = cc
 moved_acts (Rep set) (Commit u v) a b x at next h = cc
-moved_acts (Rep set) (Add u v) a b x at next h = cc
-moved_acts (Rep set) (Xor u v) a b x at next h = cc
+moved_acts (Rep set) (Add u v) a b x at next h = (acts_of (Add u v) refl).adopt x next h
+moved_acts (Rep set) (Xor u v) a b x at next h = (acts_of (Xor u v) refl).adopt x next h
 moved_acts (Commit u v) q a b x at next h = cc
-moved_acts (Add u v) q a b x at next h = cc
-moved_acts (Xor u v) q a b x at next h = cc
+moved_acts (Add u v) (Local k) a b x at next h = (acts_of (Add u v) refl).show x at k next h
+moved_acts (Add u v) (Rep set) a b x at next h = (acts_of (Add u v) refl).show_all x at next h
+moved_acts (Add u v) (Commit y z) a b x at next h = cc
+moved_acts (Add u v) (Add y z) a b x at next h = refl
+moved_acts (Add u v) (Xor y z) a b x at next h = conversions_act.to_bits y z x next h
+moved_acts (Xor u v) (Local k) a b x at next h = (acts_of (Xor u v) refl).show x at k next h
+moved_acts (Xor u v) (Rep set) a b x at next h = (acts_of (Xor u v) refl).show_all x at next h
+moved_acts (Xor u v) (Commit y z) a b x at next h = cc
+moved_acts (Xor u v) (Add y z) a b x at next h = conversions_act.to_sums y z x next h
+moved_acts (Xor u v) (Xor y z) a b x at next h = refl
+
+-- a host's part of the number of a turn takes one instruction
+shared_tidy : (b : Bool) (h : HostId) (loop next : List ℕ)
+    → GadgetsAreTidy (if b then written_by h (λ r. action.Copy r (next_at loop h)) next else written_by h (λ r. action.Const r 0) next).gadgets
+shared_tidy true h loop next = (tt, tt)
+shared_tidy false h loop next = (omega arith, tt)
+
+turn_tidy : (p : Proto) (loop : List ℕ) (h : HostId) (next : List ℕ) → GadgetsAreTidy (turn_part p loop h next).gadgets
+turn_tidy (Local k) loop h next = (tt, tt)
+turn_tidy (Rep set) loop h next = (tt, tt)
+turn_tidy (Commit a b) loop h next = (tt, tt)
+turn_tidy (Add a b) loop h next = shared_tidy (nat_eq h.0 a.0) h loop next
+turn_tidy (Xor a b) loop h next = shared_tidy (nat_eq h.0 a.0) h loop next
+
+shared_acts : (b : Bool) (k : HostId) (loop next : List ℕ) (h : ℕ)
+    → acts_at (if b then written_by k (λ r. action.Copy r (next_at loop k)) next else written_by k (λ r. action.Const r 0) next).gadgets h ≡ nat_eq h k.0
+shared_acts true k loop next h = or_false (nat_eq h k.0)
+shared_acts false k loop next h = or_false (nat_eq h k.0)
+
+turn_acts : (p : Proto) (loop : List ℕ) (h : ℕ) (k : HostId) (next : List ℕ) → acts_at (turn_part p loop k next).gadgets h ≡ nat_eq h k.0
+turn_acts (Local j) loop h k next = or_false (nat_eq h k.0)
+turn_acts (Rep set) loop h k next = or_false (nat_eq h k.0)
+turn_acts (Commit a b) loop h k next = or_false (nat_eq h k.0)
+turn_acts (Add a b) loop h k next = shared_acts (nat_eq k.0 a.0) k loop next h
+turn_acts (Xor a b) loop h k next = shared_acts (nat_eq k.0 a.0) k loop next h
 
 module _ (t : Tape) (deal : IsValidDeal t) (inputs : ℕ → List ℕ) (hosts : ℕ) where
   -- gadgets at hosts of the protocol
@@ -222,10 +266,7 @@ module _ (t : Tape) (deal : IsValidDeal t) (inputs : ℕ → List ℕ) (hosts : 
       (λ h. (acts_of p built).literal v next h ∙ ap (λ (z : Proto). is_holder z h) (proto_is p))
 
   turn_at : (p : Proto) → IsOver hosts p → IsTrue (holds Constant p) → (loop next : List ℕ) → Where (machine t inputs) hosts (turned p loop next).gadgets (λ h. is_at p (host h))
-  turn_at p d row loop next =
-      let clear = clear_of p (and_left (is_built p) (is_some (cost_at Constant p)) row) in
-      where_each p d (turn_part p loop) (λ h n. subst (λ (z : Made Reg). GadgetsAreTidy z.gadgets) (turn_is p clear loop h n) (tt, tt))
-      (λ h k n. subst (λ (z : Made Reg). acts_at z.gadgets h ≡ nat_eq h k.0) (turn_is p clear loop k n) (or_false (nat_eq h k.0))) next
+  turn_at p d row loop next = where_each p d (turn_part p loop) (turn_tidy p loop) (turn_acts p loop) next
 
   move_where : (p q : Proto) → IsOver hosts p → IsOver hosts q → IsTrue (joins p q) → (x : Parts) (v : ℕ) (next : List ℕ) (w : Hosts) → Ready (M t inputs hosts) (S t inputs hosts) next w
       → Operand (M t inputs hosts) (S t inputs hosts) next w p x v
@@ -234,7 +275,7 @@ module _ (t : Tape) (deal : IsValidDeal t) (inputs : ℕ → List ℕ) (hosts : 
       let both = and_left (is_built p && is_built q) (is_some (move_at p q)) j in
       let a = and_left (is_built p) (is_built q) both in
       let b = and_right (is_built p) (is_built q) both in
-      let g = move_gives (route p q) (back_end p) (back_end q) (laws_of p a hosts dp) (laws_of q b hosts dq) (route_leads hosts p q a b (and_right (is_built p && is_built q) (is_some (move_at p q)) j) dp) t next w
+      let g = move_gives (route p q) (back_end p) (back_end q) (laws_of p a hosts dp) (laws_of q b hosts dq) (route_leads hosts p q a b (and_right (is_built p && is_built q) (is_some (move_at p q)) j) dp dq) t next w
       (ready_at t inputs hosts deal (back_end p) next w p (proto_is p) dp r) (ready_at t inputs hosts deal (back_end q) next w q (proto_is q) dq r) x.at v
       (operand_at t inputs hosts (back_end p) next w p x v (proto_is p) o) in
       record {
@@ -285,9 +326,9 @@ module _ (t : Tape) (deal : IsValidDeal t) (inputs : ℕ → List ℕ) (hosts : 
     apply_at = λ o p d row fits xs vs many next w r os.
         let built = and_left (is_built p) (is_some (cost_at (Apply o) p)) row in
         apply_where o p d built ((back_end p).apply o (map (λ x. x.at) xs) next).gadgets
-        ((laws_of p built hosts d).apply t next w (ready_at t inputs hosts deal (back_end p) next w p (proto_is p) d r) o (serves p built o) fits (map (λ x. x.at) xs) vs (length_map xs ∙ many)
+        ((laws_of p built hosts d).apply t next w (ready_at t inputs hosts deal (back_end p) next w p (proto_is p) d r) o (serves p built o (and_right (is_built p) (is_some (cost_at (Apply o) p)) row)) fits (map (λ x. x.at) xs) vs (length_map xs ∙ many)
         (operands_at t inputs hosts (back_end p) next w p xs vs (proto_is p) os)).orderly.tidy
-        (λ h. (acts_of p built).apply o (serves p built o) (map (λ x. x.at) xs) next h);
+        (λ h. (acts_of p built).apply o (serves p built o (and_right (is_built p) (is_some (cost_at (Apply o) p)) row)) (map (λ x. x.at) xs) next h);
     input_at = λ k lt next. where_alone k lt (Alone k (action.Input (next_at next k))) tt (λ h. or_false (nat_eq h k.0));
     output_at = λ k lt x. where_alone k lt (Alone k (action.Print (register_of x.at k.0))) tt (λ h. or_false (nat_eq h k.0));
     keep_at = λ p d row x v next w r o.

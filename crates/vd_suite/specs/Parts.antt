@@ -13,8 +13,10 @@ use Rattle.vd_duet.specs.Calls.{Places, holders, Made, Calls}
 use Rattle.vd_duet.specs.Acting.{apply_at}
 use Rattle.vd_duet.specs.Laws.{at_host}
 use Rattle.vd_clear.specs.Copies.{register_of, written_by, each_made, clear_calls}
+use Rattle.vd_words.specs.AddCalls.{add_calls}
+use Rattle.vd_circuit.specs.CircuitCalls.{circuit_calls}
 use Rattle.vd_joint.specs.Suite.{Calls as AllCalls, Made as AnyMade}
-use Rattle.vd_suite.specs.Moves.{Route, Stay, Share, Adopt, Show, Spread, moved, moved_at}
+use Rattle.vd_suite.specs.Moves.{Route, Stay, Share, Adopt, Show, ShowAll, Spread, Same, ToXor, ToAdd, moved, moved_at}
 
 -- a register at each host of the protocol, and how many registers from there on are the slot's: one for a word, and for an array its size
 pub record Parts : Type 0 where
@@ -33,6 +35,8 @@ made_of made = record { given = word_in made.given; acts = made.gadgets; next = 
 abbrev pub is_built : Proto → Bool
 is_built (Local h) = true
 is_built (Rep set) = true
+is_built (Add a b) = true
+is_built (Xor a b) = true
 is_built p = false
 
 -- of a protocol that is not built, nothing is made
@@ -56,6 +60,8 @@ no_calls p = record {
 abbrev pub back_end : Proto → Calls
 back_end (Local h) = clear_calls (Local h)
 back_end (Rep set) = clear_calls (Rep set)
+back_end (Add a b) = add_calls a b
+back_end (Xor a b) = circuit_calls a b
 back_end p = no_calls p
 
 -- how a word gets from one protocol to another
@@ -64,6 +70,14 @@ route (Local h) q = Share h
 route (Rep set) (Local k) = Show k
 route (Rep set) (Rep other) = Spread other
 route (Rep set) q = Adopt
+route (Add a b) (Local k) = Show k
+route (Add a b) (Rep set) = ShowAll
+route (Add a b) (Add c d) = Same c d
+route (Add a b) (Xor c d) = ToXor c d
+route (Xor a b) (Local k) = Show k
+route (Xor a b) (Rep set) = ShowAll
+route (Xor a b) (Add c d) = ToAdd c d
+route (Xor a b) (Xor c d) = Same c d
 route p q = Stay
 
 -- ---- the calls that no back end has

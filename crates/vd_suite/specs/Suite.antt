@@ -1,6 +1,7 @@
 -- The suite of all protocols: what the parts of a slot stand for, what can stand where, and which protocols join.
-use Rattle.std.specs.Prelude.{◌≡◌, ℕ, ◌+◌, ◌<◌, Bool, ◌&&◌, is_some, List, [], ◌∷◌, length, map, slice_index}
+use Rattle.std.specs.Prelude.{◌≡◌, ℕ, ◌+◌, ◌<◌, nat_eq, nat_lt, Bool, true, not, ◌&&◌, IsTrue, is_some, List, [], ◌∷◌, length, map, slice_index}
 use Rattle.vd_base.specs.declared.protocols.Proto.{Proto}
+use Rattle.vd_base.specs.declared.protocols.Proto.TheVariants.{Local, Rep, Commit, Add, Xor}
 use Rattle.vd_base.specs.declared.rows.Row.{Row}
 use Rattle.vd_base.specs.Costs.{cost_at}
 use Rattle.vd_base.specs.Moves.{move_at}
@@ -33,10 +34,19 @@ abbrev pub stands : Hosts → Proto → Parts → Content → Type 0
 stands w p x (Word v) = StandForCells w p x (v ∷ [])
 stands w p x (Cells vs) = StandForCells w p x vs
 
--- the protocol has a host, and its hosts are among the first ones
+-- two hosts that share are in order, and can be members of a set; those of a commitment differ
+abbrev pub is_in_order : Proto → Bool
+is_in_order (Local h) = true
+is_in_order (Rep set) = true
+is_in_order (Commit p v) = not (nat_eq p.0 v.0)
+is_in_order (Add a b) = nat_lt a.0 b.0 && nat_lt b.0 8
+is_in_order (Xor a b) = nat_lt a.0 b.0 && nat_lt b.0 8
+
+-- the protocol has a host, and its hosts are among the first ones, in order
 pub record IsOver (hosts : ℕ) (p : Proto) : Type 0 where
   pub some : (h : ℕ) × IsHost (holders p) h
   pub known : Each (λ h. h.0 < hosts) (holders p)
+  pub ordered : IsTrue (is_in_order p)
 
 -- the tables, as far as back ends are built
 abbrev pub holds : Row → Proto → Bool

@@ -264,7 +264,7 @@ module _ (program : NormalForm) (labels : Labels) (list : List ℕ) (chosen : Is
   over x =
       subst (λ n. IsOver (length program.hosts) (slice_index_or (protocols_of n) (slice_index list x) (Local (host 0)))) same_hosts
       (or_default (IsOver (length program.hosts)) (protocols_of (length program.hosts)) (Local (host 0)) (listed_protocols_are_over (length program.hosts) chosen.made.limits.hosts)
-      (record { some = (0, inl refl); known = (chosen.made.limits.some_host, tt) }) (slice_index list x))
+      (record { some = (0, inl refl); known = (chosen.made.limits.some_host, tt); ordered = refl }) (slice_index list x))
 
   low : list_all (λ x. x) (each (stmt_below (length list)) (block_of program.body)) ≡ true
   low =

@@ -167,8 +167,8 @@ variable_of : (p : Proto) → is_built p ≡ true → holds row.Variable p ≡ t
 variable_of (Local h) e = refl
 variable_of (Rep set) e = refl
 variable_of (Commit a b) e = cc
-variable_of (Add a b) e = cc
-variable_of (Xor a b) e = cc
+variable_of (Add a b) e = refl
+variable_of (Xor a b) e = refl
 
 module _ (l : Labels) (many : ℕ) (proto : ℕ → Proto) (t : Tape) (inputs : ℕ → List ℕ) (hosts : ℕ) where
   abbrev emits : Block → Emission (suite_calls hosts) proto

@@ -1,5 +1,4 @@
-use Rattle.vd_built.proofs.Offers.{built_apart}
 use Rattle.vd_built.proofs.arrays.cells.Goals as goal
 
 pub zeros-requires-clause-apart : goal.zeros-requires-clause-apart
-zeros-requires-clause-apart c = rw (c.as_slice.ensures, (c.in_ok-hosts.ensures {u = tt}).exact) (built_apart c.args.at c.requires.at)
+zeros-requires-clause-apart c = rw (c.as_slice.ensures, (c.in_ok-hosts.ensures {u = tt}).exact) c.requires.apart

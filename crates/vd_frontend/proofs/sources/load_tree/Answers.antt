@@ -1,4 +1,5 @@
 use Rattle.std.proofs.lemmas.Result.{err_from_is_err_and}
+use Rattle.vd_frontend.proofs.HeldTexts.{tree_found}
 use Rattle.vd_frontend.proofs.Reading.{tree_err, tree_ok}
 use Rattle.vd_frontend.proofs.sources.load_tree.Goals as goal
 
@@ -9,3 +10,6 @@ returns-in_err-bytes-clause-loads g c = λ texts.
 
 pub returns-clause-loads : goal.returns-clause-loads
 returns-clause-loads g c = λ texts. tree_ok texts c.args.name.now c.in_ok-bytes.bytes c.as_slice.result.now _ _ _ (c.in_ok-bytes.ensures {u = tt}).loads c.as_slice.ensures (c.read_source.ensures.reads texts c.args.name.now)
+
+pub returns-clause-given : goal.returns-clause-given
+returns-clause-given g c = tree_found c.args.name.now c.in_ok-bytes.bytes c.as_slice.result.now _ _ _ (c.in_ok-bytes.ensures {u = tt}).loads c.as_slice.ensures c.read_source.ensures.parsed

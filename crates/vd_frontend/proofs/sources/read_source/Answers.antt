@@ -1,5 +1,6 @@
 use Rattle.std.proofs.Common.{Ok, Err}
 use Rattle.vd_parser.specs.declared.fault.ParseFault.TheVariants.{BadByte, Unexpected, TooDeep}
+use Rattle.vd_frontend.proofs.HeldTexts.{outcome_is}
 use Rattle.vd_frontend.proofs.Reading.{parsed}
 use Rattle.vd_frontend.proofs.sources.read_source.Goals as goal
 
@@ -14,3 +15,6 @@ returns-in-Err-Unexpected-clause-reads c = λ texts name. record { ok = tt; err 
 
 pub returns-in-Err-TooDeep-clause-reads : goal.returns-in-Err-TooDeep-clause-reads
 returns-in-Err-TooDeep-clause-reads c = λ texts name. record { ok = tt; err = parsed texts name c.args.bytes.now (Err (TooDeep c.in-Err-TooDeep.offset)) (rw c.in-Err-TooDeep.field-0-is at c.in-Err-TooDeep.ensures.outcome) (λ e. cc e) }
+
+pub returns-in-Ok-clause-parsed : goal.returns-in-Ok-clause-parsed
+returns-in-Ok-clause-parsed c = outcome_is c.args.bytes.now c.in-Ok.source c.in-Ok.ensures.outcome

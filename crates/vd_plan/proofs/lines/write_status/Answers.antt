@@ -20,3 +20,6 @@ returns-in-NoAssignment g c = rw c.in-NoAssignment.is c.write_parts-in-NoAssignm
 
 pub returns-in-CertificateText : goal.returns-in-CertificateText
 returns-in-CertificateText g c = rw c.in-CertificateText.is c.write_offset-in-CertificateText.ensures
+
+pub returns-in-NotBuilt : goal.returns-in-NotBuilt
+returns-in-NotBuilt g c = rw c.in-NotBuilt.is c.write_parts-in-NotBuilt.ensures

@@ -3,8 +3,8 @@ use Rattle.vd_selecting.proofs.Labelled.{has_labels}
 use Rattle.vd_selecting.proofs.Statuses.{problem_refusal}
 use Rattle.vd_selecting.proofs.spaces.least_space.Goals as goal
 
-pub returns-in_err-labels : goal.returns-in_err-labels
-returns-in_err-labels c = λ least.
+pub returns-in_err-labels-clause-checks : goal.returns-in_err-labels-clause-checks
+returns-in_err-labels-clause-checks c = λ least.
     let p = err_from_is_err_and c.from_residual.result c.from_residual.ensures.1 in
     rw (p.1, p.2) (record { ok = tt; err = problem_refusal c.args.program.now _ c.in_err-labels.field-0.0 ((c.in_err-labels.ensures {u = tt}).checks least).err })
 

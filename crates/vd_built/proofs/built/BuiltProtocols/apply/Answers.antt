@@ -11,6 +11,9 @@ apply-requires-clause-at c = offered_built c.args.self.now c.args.at c.requires.
 pub apply-requires-clause-known : goal.apply-requires-clause-known
 apply-requires-clause-known c = offered_known c.args.self.now c.args.at c.args.to.now.next c.requires.at c.requires.ready.known
 
+pub apply-requires-clause-serves : goal.apply-requires-clause-serves
+apply-requires-clause-serves c = c.requires.serves
+
 pub apply-requires-clause-arity : goal.apply-requires-clause-arity
 apply-requires-clause-arity c = (c.in_ok-args.ensures {u = tt}).as_many ∙ c.requires.arity
 

@@ -1,0 +1,4 @@
+pub mod Reading
+pub mod Loops
+pub mod AskedSteps
+pub mod WordLists

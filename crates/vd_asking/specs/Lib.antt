@@ -1,0 +1,4 @@
+pub mod Deals
+pub mod Schedules
+pub mod Words
+pub mod Asking

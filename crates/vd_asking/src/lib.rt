@@ -1,0 +1,11 @@
+//! What all hosts of a program are to run on: their inputs, their deals and a schedule, each fetched and read.
+#![tactic(auto)]
+
+mod asked;
+mod deals;
+mod loading;
+mod schedules;
+mod words;
+
+pub use asked::Asked;
+pub use loading::load_asked;

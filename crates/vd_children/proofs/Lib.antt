@@ -1,0 +1,5 @@
+mod Asked
+mod Children
+mod Counted
+mod Outputs
+mod Told

@@ -1,0 +1,9 @@
+pub mod Asked
+pub mod Causes
+pub mod Faults
+pub mod Finishing
+pub mod Lines
+pub mod Reading
+pub mod Runs
+pub mod Starting
+pub mod Told

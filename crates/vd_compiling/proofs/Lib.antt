@@ -1,0 +1,4 @@
+pub mod Runnable
+pub mod Storing
+pub mod Compiled
+pub mod Sure

@@ -1,0 +1,27 @@
+use Rattle.std.proofs.Common.{Some, List, ℕ, refl, sym, subst}
+use Rattle.vd_space.specs.declared.problem.Problem.{Problem}
+use Rattle.vd_space.specs.Usual.{usual}
+use Rattle.vd_selection.specs.Choices.{IsChosen}
+use Rattle.vd_selection.specs.Selecting.{IsOver}
+use Rattle.vd_compiling.proofs.Compiled.{found, gave_up, none_found}
+use Rattle.vd_compiling.proofs.compile_command.compile_space.Goals as goal
+
+pub compile_list-requires-clause-chosen : goal.compile_list-requires-clause-chosen
+compile_list-requires-clause-chosen c =
+    let selects = rw c.in-Ok-Found.field-0-is at (rw c.problem.ensures.same at c.in-Ok-Found.ensures.selects) in
+    subst (λ (list : List ℕ). IsChosen c.args.space.now (Some list)) (sym c.as_slice.ensures) selects.0
+
+pub returns-in-Ok-Found : goal.returns-in-Ok-Found
+returns-in-Ok-Found c =
+    let selects = rw c.in-Ok-Found.field-0-is at (rw c.problem.ensures.same at c.in-Ok-Found.ensures.selects) in
+    found c.args.program.now c.args.space.now c.args.text.now c.args.prefix.now c.args.budget c.in-Ok-Found.places c.as_slice.result.now c.in-Ok-Found.cost c.in-Ok-Found.field-0-2 _ selects c.as_slice.ensures c.compile_list.ensures
+
+pub returns-in-Ok-NoAssignment : goal.returns-in-Ok-NoAssignment
+returns-in-Ok-NoAssignment c =
+    let selects = rw c.in-Ok-NoAssignment.field-0-is at (rw c.problem.ensures.same at c.in-Ok-NoAssignment.ensures.selects) in
+    none_found c.args.program.now c.args.space.now c.args.text.now c.args.prefix.now c.args.budget c.in-Ok-NoAssignment.field-0-0 c.no_assignment.result selects c.no_assignment.ensures
+
+pub returns-in-Err-Spent : goal.returns-in-Err-Spent
+returns-in-Err-Spent c =
+    gave_up c.args.program.now c.args.space.now c.args.text.now c.args.prefix.now c.args.budget c.problem.ensures.holds
+    (subst (λ (p : Problem). IsOver p (usual p) c.args.budget) c.problem.ensures.same (c.in-Err-Spent.ensures.spent (rw c.in-Err-Spent.field-0-is refl)))

@@ -1,0 +1,180 @@
+//! The command `compile`.
+
+ghost use Rattle.std.specs.Prelude.{◌≡◌, ◌≤◌, Some, length, IfOk};
+ghost use Rattle.vd_base.specs.Limits.{most_hosts, most_search_budget};
+ghost use Rattle.vd_normal.specs.Normal.{normal_form};
+ghost use Rattle.vd_plan.specs.Plans.{Computes};
+ghost use Rattle.vd_selection.specs.Choices.{IsChosen};
+ghost use Rattle.vd_selecting.specs.Problems.{IsProblemOf};
+ghost use Rattle.vd_compiling.specs.Built.{IsSelected};
+ghost use Rattle.vd_compiling.specs.Compiling.{ExecutesCompile, ExecutesList, ExecutesProblem, ExecutesProgram, compiled_at, host_file, host_files};
+
+use crate::checks::{expect_built, no_assignment};
+use std::alloc::{AllocError, Global};
+use vd_base::limits::SOURCE_BYTES;
+use vd_base::{HostId, Names};
+use vd_core::Program;
+use vd_elaborate::elaborate;
+use vd_execution::Instr;
+use vd_frontend::{read_source, resolve_source};
+use vd_host_programs::{numbers_fit, split};
+use vd_host_text::{Digest, host_file, plan_of};
+use vd_items::Items;
+use vd_outside::{Files, Stored};
+use vd_plan::{Answer, Status, file_name, load};
+use vd_resolve::Resolved;
+use vd_selecting::{least_space, selection_text};
+use vd_selection::{SelectFault, Selection, select};
+use vd_spaces::Space;
+
+/// The file of a host's program, `PREFIX.i.host` for host i, where these are the names of all hosts.
+fn file_of(
+    alloc: Global,
+    hosts: &Names,
+    prefix: &str,
+    plan: Digest,
+    number: u8,
+    code: Items<Instr>,
+) -> Result<Stored, AllocError>
+    ensures { IfOk result (λ file. file ≡ host_file prefix.now hosts.now plan number code) }
+{
+    let name = file_name(alloc, prefix, usize::from(number), ".host")?;
+    let content = host_file(alloc, hosts, HostId(number), plan, code)?;
+    Ok(Stored { name, content })
+}
+
+/// The files of the hosts' programs, in host order.
+fn files_of(
+    alloc: Global,
+    hosts: &Names,
+    prefix: &str,
+    plan: Digest,
+    mut codes: Items<Items<Instr>>,
+) -> Result<Items<Stored>, AllocError>
+    requires { length codes ≤ most_hosts }
+    ensures { IfOk result (λ files. files ≡ host_files prefix.now hosts.now plan 0 codes) }
+{
+    let count = codes.as_slice().len() as u8;
+    let mut files = Items::new(alloc);
+    for number in 0..count {
+        let code = codes.remove(0);
+        let file = file_of(alloc, hosts, prefix, plan, number, code)?;
+        files.push(file)?;
+    }
+    Ok(files)
+}
+
+/// Stores the programs of all hosts, and prints the choice.
+fn compile_at(
+    alloc: Global,
+    program: &Program,
+    space: &Space,
+    places: &[u32],
+    cost: u32,
+    text: &[u8],
+    prefix: &str,
+) -> Result<Answer, Status>
+    requires { IsSelected program.now places.now }
+    ensures { Computes (compiled_at program.now space.now places.now cost text.now prefix.now) result }
+{
+    numbers_fit(program);
+    let printed = selection_text(alloc, program, space, places, cost)?;
+    let codes = split(alloc, program, places)?;
+    let plan = plan_of(text, printed.as_slice());
+    let hosts = &program.form().hosts;
+    let stores = files_of(alloc, hosts, prefix, plan, codes)?;
+    Ok(Answer {
+        status: Status::Ended,
+        stores,
+        printed,
+    })
+}
+
+/// What `compile` does with a list of protocols of this cost.
+fn compile_list(
+    alloc: Global,
+    program: &Program,
+    space: &Space,
+    places: &[u32],
+    cost: u32,
+    text: &[u8],
+    prefix: &str,
+) -> Result<Answer, Status>
+    requires problem { IsProblemOf program.now space.now }
+    requires chosen { IsChosen space.now (Some places.now) }
+    ensures { ExecutesList program.now space.now text.now prefix.now places.now cost result }
+{
+    expect_built(space, places)?;
+    compile_at(alloc, program, space, places, cost, text, prefix)
+}
+
+/// What `compile` does with the space of a program.
+fn compile_space(
+    alloc: Global,
+    program: &Program,
+    space: &Space,
+    text: &[u8],
+    prefix: &str,
+    budget: u32,
+) -> Result<Answer, Status>
+    requires budget { budget ≤ most_search_budget }
+    requires problem { IsProblemOf program.now space.now }
+    ensures { ExecutesProblem program.now space.now text.now prefix.now budget result }
+{
+    match select(alloc, space.problem(), budget) {
+        Ok(Selection::Found(places, cost, _)) => {
+            compile_list(alloc, program, space, places.as_slice(), cost, text, prefix)
+        }
+        Ok(Selection::NoAssignment(_)) => Ok(no_assignment(alloc)),
+        Err(SelectFault::Spent) => Err(Status::Spent(budget)),
+        Err(SelectFault::Memory) => Err(Status::Memory),
+    }
+}
+
+/// What `compile` does with a program.
+fn compile_program(
+    alloc: Global,
+    program: &Program,
+    text: &[u8],
+    prefix: &str,
+    budget: u32,
+) -> Result<Answer, Status>
+    requires { budget ≤ most_search_budget }
+    ensures { ExecutesProgram program.now text.now prefix.now budget result }
+{
+    let space = least_space(alloc, program)?;
+    compile_space(alloc, program, &space, text, prefix, budget)
+}
+
+/// What `compile` does with a source that meets every rule, whose text this is.
+fn compile_source(
+    alloc: Global,
+    source: &Resolved,
+    text: &[u8],
+    prefix: &str,
+    budget: u32,
+) -> Result<Answer, Status>
+    requires { budget ≤ most_search_budget }
+    ensures { ExecutesProgram (normal_form source.now) text.now prefix.now budget result }
+{
+    let program = elaborate(alloc, source)?;
+    compile_program(alloc, &program, text, prefix, budget)
+}
+
+/// The command `compile`: the programs of all hosts of a source, at its choice of protocols, which is found with a search of
+/// at most so many prefixes.
+pub fn compile<F: Files>(
+    alloc: Global,
+    files: &mut F,
+    source: &str,
+    prefix: &str,
+    budget: u32,
+) -> Result<Answer, Status>
+    requires { budget ≤ most_search_budget }
+    ensures { ExecutesCompile source.now prefix.now budget (F.view files.old) (F.view files.new) result }
+{
+    let text = load(alloc, files, source, SOURCE_BYTES)?;
+    let tree = read_source(alloc, text.as_slice())?;
+    let resolved = resolve_source(alloc, tree)?;
+    compile_source(alloc, &resolved, text.as_slice(), prefix, budget)
+}

@@ -1,0 +1,8 @@
+pub mod Bounds
+pub mod Clear
+pub mod ClearCalls
+pub mod Conversions
+pub mod Gates
+pub mod Pairs
+pub mod PairsOfCalls
+pub mod Shares

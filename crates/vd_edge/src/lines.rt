@@ -1,0 +1,62 @@
+use std::alloc::Global;
+use std::io::{BufReader, Error, ErrorKind, Read};
+use vd_base::{Bytes, CallFault};
+use vd_outside::Line;
+use vd_outside::line::LINE_BYTES;
+
+/// What a child writes, line by line.
+#[derive(Drop)]
+pub struct Lines<O: Read + Drop> {
+    alloc: Global,
+    output: BufReader<O>,
+}
+
+impl<O: Read + Drop> Lines<O> {
+    /// The lines of this stream.
+    pub fn new(alloc: Global, output: O) -> Result<Lines<O>, CallFault> {
+        match BufReader::new(alloc, output) {
+            Ok(output) => Ok(Lines { alloc, output }),
+            Err(error) => Err(fault_of(&error)),
+        }
+    }
+
+    /// The next byte, and `None` at the end.
+    fn byte(&mut self) -> Result<Option<u8>, CallFault> {
+        let mut byte = [0u8];
+        match self.output.read(&mut byte) {
+            Ok(0) => Ok(None),
+            Ok(_) => Ok(Some(byte[0])),
+            Err(_) => Err(CallFault::Failed),
+        }
+    }
+
+    /// The next line, and `None` at the end. Bytes that no line feed ends are the last line.
+    pub fn next(&mut self) -> Result<Option<Line>, CallFault> {
+        let mut bytes = Bytes::new(self.alloc);
+        for _ in 0..=LINE_BYTES {
+            match self.byte()? {
+                Some(b'\n') => return a_line(bytes),
+                Some(byte) => bytes.push(byte)?,
+                None if bytes.is_empty() => return Ok(None),
+                None => return a_line(bytes),
+            }
+        }
+        Err(CallFault::Failed)
+    }
+}
+
+/// Whether memory was wanting, or the outside failed.
+pub fn fault_of(error: &Error) -> CallFault {
+    match error.kind() {
+        ErrorKind::OutOfMemory => CallFault::Memory,
+        _ => CallFault::Failed,
+    }
+}
+
+/// These bytes as a line. It is a fault if they are too many.
+fn a_line(bytes: Bytes) -> Result<Option<Line>, CallFault> {
+    match Line::from_bytes(bytes) {
+        Some(line) => Ok(Some(line)),
+        None => Err(CallFault::Failed),
+    }
+}

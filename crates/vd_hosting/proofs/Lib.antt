@@ -1,0 +1,10 @@
+pub mod Announced
+pub mod Asking
+pub mod Causes
+pub mod ComingBack
+pub mod Courses
+pub mod Gathering
+pub mod Listeners
+pub mod Numbers
+pub mod Others
+pub mod Refusals

@@ -1,0 +1,6 @@
+pub mod Histories
+pub mod Laws
+pub mod Meetings
+pub mod Peers
+pub mod Plays
+pub mod Stages

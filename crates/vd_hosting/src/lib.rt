@@ -1,0 +1,15 @@
+//! One host over a net: it listens for its later peers, meets all of them, drives its machine and hands its links back.
+#![tactic(auto)]
+
+mod fault;
+mod laws;
+mod listening;
+mod meeting;
+mod playing;
+mod returning;
+mod task;
+
+pub use fault::HostFault;
+pub use laws::{faults_have_causes, hosts_ask_in_order, links_come_back};
+pub use playing::play;
+pub use task::Task;

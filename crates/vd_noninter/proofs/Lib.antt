@@ -1,0 +1,6 @@
+pub mod Closing
+pub mod Marked
+pub mod Following
+pub mod Declared
+pub mod Hosts
+pub mod Answered

@@ -1,0 +1,13 @@
+//! That every program has a dependence. The function here does nothing: its contract is the law.
+
+ghost use Rattle.vd_base.specs.declared.ids.HostId.{HostId};
+ghost use Rattle.vd_constraints.specs.declared.labels.Labels.{Labels};
+ghost use Rattle.vd_core.specs.declared.normal.NormalForm.{NormalForm};
+ghost use Rattle.vd_core.specs.Facts.{IsWellMade};
+ghost use Rattle.vd_dependence.specs.Dependence.{IsDependence, Reach};
+
+/// What is told to a host reaches some slots and some hosts' inputs, in every well-made program, whatever its labels are: there is a least
+/// choice of them that is closed.
+pub fn programs_have_dependences()
+    ensures { (p : NormalForm) (l : Labels) (h : HostId) → IsWellMade p → (r : Reach) × IsDependence p l h r }
+{}

@@ -1,0 +1,75 @@
+-- The plan of accepted files ends well.
+use Rattle.std.proofs.Common.{◌≡◌, ℕ, ◌≤◌, false, Option, Some, None, List, [], length, Result, Ok, refl, sym, ap, subst, arith}
+use Rattle.std.specs.Prelude.{nat_lt}
+use Rattle.std.proofs.lemmas.Bool.Decides.{nat_tests}
+use Rattle.vd_base.specs.Limits.{most_hosts}
+use Rattle.vd_outside.specs.Files.{Contents}
+use Rattle.vd_core.specs.declared.normal.NormalForm.{NormalForm}
+use Rattle.vd_parser.proofs.Named.{names_are_names}
+use Rattle.vd_kept.proofs.WellMade.{within_limits}
+use Rattle.vd_normal.specs.Normal.{normal_form}
+use Rattle.vd_cmd.specs.declared.command.ReplayWords.{ReplayWords}
+use Rattle.vd_constraints.specs.Rules.{system_of}
+use Rattle.vd_constraints.specs.declared.labels.Labels.{Labels}
+use Rattle.vd_least.proofs.Decided.{system_or_not}
+use Rattle.vd_deals.specs.Validity.{AreDeals}
+use Rattle.vd_tape.specs.Text.{AreDealsOf}
+use Rattle.vd_tape.proofs.EachHost.{all_deals}
+use Rattle.vd_space.specs.declared.problem.Problem.{Problem}
+use Rattle.vd_space.specs.Reading.{problem_of}
+use Rattle.vd_selection.specs.Choices.{ChoiceOutcomes, needed}
+use Rattle.vd_selection.proofs.Once.{chosen_once}
+use Rattle.vd_frontend.specs.Labelling.{as_labels}
+use Rattle.vd_selecting.specs.Choosing.{sure_search}
+use Rattle.vd_selecting.specs.Problems.{as_problem, problem_for}
+use Rattle.vd_compiling.specs.Built.{all_built, as_built}
+use Rattle.vd_outcomes.proofs.Judged.{judged_once}
+use Rattle.vd_replaying.specs.Accepting.{EndsWell, IsAccepted}
+use Rattle.vd_replaying.specs.Replaying.{as_consistent, asked_plan, choice_plan, list_plan, problem_plan, report_for, source_plan}
+use Rattle.vd_replaying.proofs.Steps.{Ends, answer_ends, asked_ends, check_ends, labels_for, labels_with_these, source_ends}
+
+-- ---- the choice
+
+enough_for : (needs budget : ℕ) → needs ≤ budget → nat_lt budget needs ≡ false
+enough_for needs budget le = grind (arith, nat_tests)
+
+searched : (choices : ChoiceOutcomes) (problem : Problem) (budget : ℕ) (list : List ℕ) → choices.choose problem ≡ Some list → needed problem (Some list) ≤ budget → sure_search choices problem budget ≡ Ok []
+searched choices problem budget list is enough =
+    let room : nat_lt budget (needed problem (choices.choose problem)) ≡ false = enough_for (needed problem (choices.choose problem)) budget (subst (λ (o : Option (List ℕ)). needed problem o ≤ budget) (sym is) enough) in
+    rw room refl
+
+module _ (words : ReplayWords) (contents : Contents) (accepted : IsAccepted words contents) where
+  abbrev program : NormalForm
+  program = normal_form accepted.source
+
+  abbrev problem : Problem
+  problem = problem_of program accepted.selected.labels
+
+  few : length program.hosts ≤ most_hosts
+  few = (within_limits accepted.source accepted.held.holds.meets (names_are_names accepted.held.bytes accepted.source accepted.held.holds.parsed)).hosts
+
+  are_deals : AreDeals accepted.asked.deals
+  are_deals =
+      let all = accepted.asked_held.all in
+      let limit = few in
+      let of_hosts : AreDealsOf (length program.hosts) accepted.asked.deals = λ number deal e. (accepted.asked_held.deals number deal e).holds.0 in
+      all_deals accepted.asked.deals (omega (arith, all, limit)) (subst (λ (n : ℕ). AreDealsOf n accepted.asked.deals) (sym all) of_hosts)
+
+  pub ends_well : EndsWell words contents
+  ends_well = (
+    labels_for accepted.selected.labels,
+    λ texts outcomes choices.
+        let least = labels_for accepted.selected.labels in
+        let labelled = labels_with_these accepted.selected.labels (system_of program) (system_or_not (system_of program)) accepted.selected.least in
+        let choice : choices.choose problem ≡ Some accepted.list = chosen_once problem (choices.choose problem) (Some accepted.list) (choices.choose_is problem) accepted.selected.chosen in
+        let judged = judged_once accepted.asked.deals (outcomes.judge accepted.asked.deals) None (outcomes.judge_is accepted.asked.deals are_deals) accepted.consistent in
+        let listed : Ends contents (list_plan outcomes program problem accepted.asked accepted.list) =
+        check_ends contents (as_built (all_built problem accepted.list)) tt _ (ap as_built accepted.selected.built)
+        (check_ends contents (as_consistent (outcomes.judge accepted.asked.deals)) tt _ (ap as_consistent judged) (answer_ends contents (report_for program accepted.list accepted.asked))) in
+        let chosen : Ends contents (choice_plan outcomes program problem accepted.asked (choices.choose problem)) =
+        subst (λ (o : Option (List ℕ)). Ends contents (choice_plan outcomes program problem accepted.asked o)) (sym choice) listed in
+        source_ends contents texts words.source accepted.source (source_plan texts outcomes least choices (sure_search choices) words) accepted.held
+        (asked_ends contents outcomes texts words program.hosts accepted.asked (asked_plan outcomes least choices (sure_search choices) words.budget program) few accepted.asked_held
+        (check_ends contents (problem_for least program) problem (problem_plan outcomes choices (sure_search choices) words.budget program accepted.asked) (ap (λ (r : Result Labels ℕ). as_problem program (as_labels (system_of program) r)) labelled)
+        (check_ends contents (sure_search choices problem words.budget) [] (λ (bytes : List ℕ). choice_plan outcomes program problem accepted.asked (choices.choose problem)) (searched choices problem words.budget accepted.list choice accepted.enough) chosen))),
+  )

@@ -1,0 +1,55 @@
+-- What is told of a program's report, of a source's, and of the files.
+use Rattle.std.proofs.Common.{◌≡◌, ℕ, IsTrue, List, Result, Ok, Err, subst}
+use Rattle.vd_outside.specs.Files.{FilesView, Contents}
+use Rattle.vd_core.specs.declared.normal.NormalForm.{NormalForm}
+use Rattle.vd_core.specs.declared.source.Source.{Source}
+use Rattle.vd_meaning.specs.ProgramMeaning.{program_outputs}
+use Rattle.vd_meaning.specs.SourceMeaning.{source_outputs}
+use Rattle.vd_normal.specs.Normal.{normal_form}
+use Rattle.vd_normal.proofs.Kept.{outputs_kept}
+use Rattle.vd_cmd.specs.declared.command.ReplayWords.{ReplayWords}
+use Rattle.vd_plan.specs.Plans.{ExecutesStep}
+use Rattle.vd_plan.specs.declared.answer.Answer.{Answer}
+use Rattle.vd_plan.specs.declared.status.Status.{Status}
+use Rattle.vd_plan.proofs.Finding.{step_keeps, step_tells}
+use Rattle.vd_frontend.specs.Outcomes.{TextOutcomes}
+use Rattle.vd_frontend.specs.Sources.{HoldsSource, source_then}
+use Rattle.vd_frontend.proofs.Reading.{some_texts}
+use Rattle.vd_asking.specs.declared.asked.Asked.{Asked}
+use Rattle.vd_asking.specs.Asking.{HoldAsked}
+use Rattle.vd_replaying.specs.Telling.{IsReplay, IsReport, TellsHeadline, TellsOf, TellsProgram, TellsSource}
+
+module _ (words : ReplayWords) (before : FilesView) where
+  pub program_told : (program form : NormalForm) (asked : Asked) (result : Result Answer Status) → form ≡ program → (IsTrue before.told → HoldAsked words form.hosts before.contents asked)
+      → TellsOf program asked result → TellsProgram words program before result
+  program_told program form asked (Ok answer) same held tells = λ t e. record {
+    asked = asked;
+    held = subst (λ (f : NormalForm). HoldAsked words f.hosts before.contents asked) same (held t);
+    report = tells e;
+  }
+  program_told program form asked (Err status) same held tells = λ t. tt
+
+  -- the outputs of a source are those of its let-normal form
+  pub source_told : (source : Source) (program : NormalForm) (result : Result Answer Status) → program ≡ normal_form source → TellsProgram words program before result → TellsSource words source before result
+  source_told source program (Ok answer) is tells = λ t e.
+      let r : IsReplay words (normal_form source) (program_outputs (normal_form source)) before.contents answer.printed =
+      subst (λ (p : NormalForm). IsReplay words p (program_outputs p) before.contents answer.printed) is (tells t e) in
+      record {
+        asked = r.asked;
+        held = r.held;
+        report = subst (λ (outputs : List (List ℕ)). IsReport (normal_form source) outputs r.asked answer.printed) (outputs_kept source r.asked.inputs) r.report;
+      }
+  source_told source program (Err status) is tells = λ t. tt
+
+  -- the files say the same after the source was fetched
+  pub headline_told : (mid : FilesView) (source : Source) (result : Result Answer Status) → ((texts : TextOutcomes) → ExecutesStep (source_then texts words.source) before mid (Ok source))
+      → (IsTrue before.told → HoldsSource words.source before.contents source) → TellsSource words source mid result → TellsHeadline words before result
+  headline_told mid source (Ok answer) loads held tells = λ t e.
+      let step = source_then some_texts words.source in
+      record {
+        source = source;
+        held = held t;
+        replay = subst (λ (files : Contents). IsReplay words (normal_form source) (source_outputs source) files answer.printed) (step_keeps step before mid source (loads some_texts) t)
+            (tells (step_tells step before mid source (loads some_texts) t) e);
+      }
+  headline_told mid source (Err status) loads held tells = λ t. tt

@@ -1,0 +1,6 @@
+pub mod Playable
+pub mod Replayed
+pub mod Held
+pub mod Steps
+pub mod Accepting
+pub mod Sure

@@ -1,0 +1,28 @@
+use Rattle.vd_compiling.proofs.Runnable.{runnable_of}
+use Rattle.vd_replaying.proofs.Playable.{are_for_all, few_names, is_report, prints, report_is}
+use Rattle.vd_replaying.proofs.replay_command.replay_at.Goals as goal
+
+pub split-requires : goal.split-requires
+split-requires c = runnable_of c.args.program.now c.args.places.now c.numbers_fit.ensures.well_made c.requires.selected
+
+pub play-requires : goal.play-requires
+play-requires c =
+    are_for_all c.args.program.now c.args.places.now c.numbers_fit.ensures.well_made c.numbers_fit.ensures.fit c.requires.selected c.in_ok-codes.codes c.args.asked (c.in_ok-codes.ensures {u = tt}) c.requires.asked
+
+pub report-requires : goal.report-requires
+report-requires c = few_names c.args.program.now c.form.result.now c.numbers_fit.ensures.well_made c.form.ensures.same
+
+pub returns-clause-computes : goal.returns-clause-computes
+returns-clause-computes c =
+    let w = c.in_ok-world.ensures {u = tt} in
+    prints c.printing.result c.in_ok-printed.printed _ c.printing.ensures
+    (report_is c.args.program.now c.args.places.now c.numbers_fit.ensures.well_made c.numbers_fit.ensures.fit c.requires.selected c.in_ok-codes.codes c.args.asked c.form.result.now _ _ c.in_ok-printed.printed
+    (c.in_ok-codes.ensures {u = tt}) c.form.ensures.same w.supply w.world (c.in_ok-printed.ensures {u = tt}))
+
+pub returns-clause-tells : goal.returns-clause-tells
+returns-clause-tells c =
+    let w = c.in_ok-world.ensures {u = tt} in
+    is_report c.args.program.now c.args.places.now c.numbers_fit.ensures.well_made c.numbers_fit.ensures.fit c.requires.selected c.args.asked c.printing.result c.in_ok-printed.printed c.requires.asked
+    c.requires.consistent c.printing.ensures
+    (report_is c.args.program.now c.args.places.now c.numbers_fit.ensures.well_made c.numbers_fit.ensures.fit c.requires.selected c.in_ok-codes.codes c.args.asked c.form.result.now _ _ c.in_ok-printed.printed
+    (c.in_ok-codes.ensures {u = tt}) c.form.ensures.same w.supply w.world (c.in_ok-printed.ensures {u = tt}))

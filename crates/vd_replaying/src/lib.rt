@@ -1,0 +1,7 @@
+//! The command `replay`: all hosts of a program run in one process, under a schedule.
+#![tactic(auto)]
+
+mod checks;
+mod replay_command;
+
+pub use replay_command::replay;

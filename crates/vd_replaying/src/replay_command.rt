@@ -1,0 +1,168 @@
+//! The command `replay`.
+
+ghost use Rattle.std.specs.Prelude.{◌≡◌, ◌≤◌, [], Some, length, IfOk};
+ghost use Rattle.vd_base.specs.Limits.{most_search_budget};
+ghost use Rattle.vd_deals.specs.Validity.{IsConsistent};
+ghost use Rattle.vd_meaning.specs.ProgramMeaning.{program_outputs};
+ghost use Rattle.vd_plan.specs.Plans.{Computes, ended};
+ghost use Rattle.vd_selection.specs.Choices.{IsChosen};
+ghost use Rattle.vd_selecting.specs.Problems.{IsProblemOf};
+ghost use Rattle.vd_compiling.specs.Built.{IsSelected};
+ghost use Rattle.vd_asking.specs.Asking.{AreAsked};
+ghost use Rattle.vd_replaying.specs.Replaying.{ExecutesAsked, ExecutesList, ExecutesProblem, ExecutesProgram, ExecutesReplay, ExecutesSource, report_for};
+ghost use Rattle.vd_replaying.specs.Telling.{IsReport, TellsHeadline, TellsOf, TellsProgram, TellsSource};
+
+use crate::checks::expect_consistent;
+use std::alloc::Global;
+use vd_asking::{Asked, load_asked};
+use vd_base::Bytes;
+use vd_cmd::ReplayWords;
+use vd_compiling::{expect_built, no_assignment};
+use vd_core::Program;
+use vd_elaborate::elaborate;
+use vd_frontend::load_source;
+use vd_host_programs::{numbers_fit, split};
+use vd_items::Items;
+use vd_outside::Files;
+use vd_plan::{Answer, Status};
+use vd_play::{play, report};
+use vd_resolve::Resolved;
+use vd_selecting::least_space;
+use vd_selection::{SelectFault, Selection, select};
+use vd_spaces::Space;
+
+/// The answer that prints this and stores nothing.
+fn printing(alloc: Global, printed: Bytes) -> Answer
+    ensures { result ≡ ended [] printed }
+{
+    Answer {
+        status: Status::Ended,
+        stores: Items::new(alloc),
+        printed,
+    }
+}
+
+/// Runs a program at a list of protocols, and prints the report.
+fn replay_at(
+    alloc: Global,
+    program: &Program,
+    places: &[u32],
+    asked: Asked,
+) -> Result<Answer, Status>
+    requires selected { IsSelected program.now places.now }
+    requires asked { AreAsked (length program.now.hosts) asked }
+    requires consistent { IsConsistent asked.deals }
+    ensures computes { Computes (ended [] (report_for program.now places.now asked)) result }
+    ensures tells { IfOk result (λ answer. IsReport program.now (program_outputs program.now asked.inputs) asked answer.printed) }
+{
+    numbers_fit(program);
+    let Asked {
+        inputs,
+        deals,
+        schedule,
+        messages,
+    } = asked;
+    let codes = split(alloc, program, places)?;
+    let world = play(alloc, codes, inputs, deals, &schedule)?;
+    let printed = report(alloc, &program.form().hosts, &world, messages)?;
+    Ok(printing(alloc, printed))
+}
+
+/// What `replay` does with a list of protocols.
+fn replay_list(
+    alloc: Global,
+    program: &Program,
+    space: &Space,
+    places: &[u32],
+    asked: Asked,
+) -> Result<Answer, Status>
+    requires problem { IsProblemOf program.now space.now }
+    requires chosen { IsChosen space.now (Some places.now) }
+    requires asked { AreAsked (length program.now.hosts) asked }
+    ensures executes { ExecutesList program.now space.now asked places.now result }
+    ensures tells { TellsOf program.now asked result }
+{
+    expect_built(space, places)?;
+    expect_consistent(&asked.deals)?;
+    replay_at(alloc, program, places, asked)
+}
+
+/// What `replay` does with the space of a program.
+fn replay_space(
+    alloc: Global,
+    program: &Program,
+    space: &Space,
+    asked: Asked,
+    budget: u32,
+) -> Result<Answer, Status>
+    requires budget { budget ≤ most_search_budget }
+    requires problem { IsProblemOf program.now space.now }
+    requires asked { AreAsked (length program.now.hosts) asked }
+    ensures executes { ExecutesProblem program.now space.now asked budget result }
+    ensures tells { TellsOf program.now asked result }
+{
+    match select(alloc, space.problem(), budget) {
+        Ok(Selection::Found(places, _, _)) => {
+            replay_list(alloc, program, space, places.as_slice(), asked)
+        }
+        Ok(Selection::NoAssignment(_)) => Ok(no_assignment(alloc)),
+        Err(SelectFault::Spent) => Err(Status::Spent(budget)),
+        Err(SelectFault::Memory) => Err(Status::Memory),
+    }
+}
+
+/// What `replay` does with a program, and all that it is to run on.
+fn replay_asked(
+    alloc: Global,
+    program: &Program,
+    asked: Asked,
+    budget: u32,
+) -> Result<Answer, Status>
+    requires budget { budget ≤ most_search_budget }
+    requires asked { AreAsked (length program.now.hosts) asked }
+    ensures executes { ExecutesAsked program.now asked budget result }
+    ensures tells { TellsOf program.now asked result }
+{
+    let space = least_space(alloc, program)?;
+    replay_space(alloc, program, &space, asked, budget)
+}
+
+/// What `replay` does with a program.
+fn replay_program<F: Files>(
+    alloc: Global,
+    files: &mut F,
+    words: &ReplayWords,
+    program: &Program,
+) -> Result<Answer, Status>
+    requires { words.now.budget ≤ most_search_budget }
+    ensures executes { ExecutesProgram words.now program.now (F.view files.old) (F.view files.new) result }
+    ensures tells { TellsProgram words.now program.now (F.view files.old) result }
+{
+    let asked = load_asked(alloc, files, words, &program.form().hosts)?;
+    replay_asked(alloc, program, asked, words.budget)
+}
+
+/// What `replay` does with a source that meets every rule.
+fn replay_source<F: Files>(
+    alloc: Global,
+    files: &mut F,
+    words: &ReplayWords,
+    source: &Resolved,
+) -> Result<Answer, Status>
+    requires { words.now.budget ≤ most_search_budget }
+    ensures executes { ExecutesSource words.now source.now (F.view files.old) (F.view files.new) result }
+    ensures tells { TellsSource words.now source.now (F.view files.old) result }
+{
+    let program = elaborate(alloc, source)?;
+    replay_program(alloc, files, words, &program)
+}
+
+/// The command `replay`: all hosts of a source run over a schedule, and how each stands then.
+pub fn replay<F: Files>(alloc: Global, files: &mut F, words: &ReplayWords) -> Result<Answer, Status>
+    requires { words.now.budget ≤ most_search_budget }
+    ensures executes { ExecutesReplay words.now (F.view files.old) (F.view files.new) result }
+    ensures tells { TellsHeadline words.now (F.view files.old) result }
+{
+    let source = load_source(alloc, files, words.source.as_str())?;
+    replay_source(alloc, files, words, &source)
+}

@@ -1,0 +1,12 @@
+-- What is printed of a remark on a file.
+use Rattle.std.specs.Prelude.{ℕ, Bool, List, ◌++◌, Option, Some, None, codes}
+use Rattle.vd_place.specs.Excerpts.{excerpt}
+use Rattle.vd_sentences.specs.Phrases.{three}
+use Rattle.vd_sentences.specs.declared.remark.Remark.{Remark}
+
+abbrev pub told_at : Bool → List ℕ → List ℕ → Option ℕ → List ℕ → List ℕ
+told_at coloured file bytes None sentence = three file (codes ": ") (sentence ++ codes "\n")
+told_at coloured file bytes (Some offset) sentence = excerpt coloured file bytes offset sentence
+
+abbrev pub told : Bool → List ℕ → List ℕ → Remark → List ℕ
+told coloured file bytes remark = told_at coloured file bytes remark.offset remark.sentence

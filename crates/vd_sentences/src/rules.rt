@@ -1,0 +1,197 @@
+//! Sentences on faults of names, kinds and sizes.
+
+ghost use Rattle.std.specs.Prelude.{◌≡◌, IfOk};
+ghost use Rattle.vd_sentences.specs.Phrases.{entries};
+ghost use Rattle.vd_sentences.specs.Rules as rules;
+
+use crate::fault::TellFault;
+use crate::phrases::{in_table, three, word_at};
+use crate::remark::Remark;
+use itoa::Buffer;
+use std::alloc::{AllocError, Global};
+use vd_base::limits::{CELLS, HOSTS, NESTING, PRINCIPALS, STATEMENTS, WEIGHTS};
+use vd_base::{Bytes, Span};
+use vd_resolve::{NameFault, Quantity};
+
+/// What an operator or a keyword asks for.
+const KIND_TABLE: [(&[u8], &[u8]); 23] = [
+    (b"if", b"the guard of an `if` is a bool"),
+    (
+        b"return",
+        b"what is returned is of another kind than the function",
+    ),
+    (b"mux", b"`mux` takes a bool and two values of one kind"),
+    (b"min", b"`min` takes two words"),
+    (b"max", b"`max` takes two words"),
+    (b"!", b"`!` takes a bool"),
+    (b"~", b"`~` takes a word"),
+    (b"+", b"`+` takes two words"),
+    (b"-", b"`-` takes two words"),
+    (b"*", b"`*` takes two words"),
+    (b"/", b"`/` takes two words"),
+    (b"%", b"`%` takes two words"),
+    (
+        b"<<",
+        b"`<<` takes a word, and shifts it by at most 31 bits",
+    ),
+    (
+        b">>",
+        b"`>>` takes a word, and shifts it by at most 31 bits",
+    ),
+    (b"<", b"`<` compares two words"),
+    (b"<=", b"`<=` compares two words"),
+    (b">", b"`>` compares two words"),
+    (b">=", b"`>=` compares two words"),
+    (b"==", b"`==` compares two words"),
+    (b"!=", b"`!=` compares two words"),
+    (b"&", b"`&` takes two words or two bools"),
+    (b"|", b"`|` takes two words or two bools"),
+    (b"^", b"`^` takes two words or two bools"),
+];
+
+fn name_kind_sentence(alloc: Global, word: &[u8]) -> Result<Bytes, AllocError>
+    ensures { IfOk result (λ text. text ≡ rules.name_kind_sentence word.now) }
+{
+    three(
+        alloc,
+        b"`",
+        word,
+        b"` does not go with what it stands for or with a value of this kind",
+    )
+}
+
+/// What is said of kinds that do not fit, at this word.
+#[tactic(auto, unfolding(crate::specs::Rules::kind_table))]
+fn kind_sentence(alloc: Global, word: &[u8]) -> Result<Bytes, AllocError>
+    ensures { IfOk result (λ text. text ≡ rules.kind_sentence word.now) }
+{
+    let other = name_kind_sentence(alloc, word)?;
+    Bytes::from_slice(alloc, in_table(&KIND_TABLE, word, other.as_slice()))
+}
+
+/// What is counted.
+fn quantity_phrase(quantity: Quantity) -> &'static str
+    ensures { result.now ≡ rules.quantity_phrase quantity }
+{
+    match quantity {
+        Quantity::Principals => "principals",
+        Quantity::Hosts => "hosts",
+        Quantity::Nesting => "loops around one statement",
+        Quantity::Statements => "statements",
+        Quantity::Weights => "executions of statements",
+        Quantity::Cells => "cells of arrays",
+    }
+}
+
+/// The greatest number that is allowed.
+fn most_of(quantity: Quantity) -> u32
+    ensures { result ≡ rules.most_of quantity }
+{
+    match quantity {
+        Quantity::Principals => PRINCIPALS,
+        Quantity::Hosts => HOSTS,
+        Quantity::Nesting => NESTING,
+        Quantity::Statements => STATEMENTS,
+        Quantity::Weights => WEIGHTS,
+        Quantity::Cells => CELLS,
+    }
+}
+
+/// What is said of a count above its limit.
+fn limit_sentence(alloc: Global, quantity: Quantity, count: u32) -> Result<Bytes, AllocError>
+    ensures { IfOk result (λ text. text ≡ rules.limit_sentence quantity count) }
+{
+    let mut count_buffer = Buffer::new();
+    let count = count_buffer.format(count).as_bytes();
+    let mut most_buffer = Buffer::new();
+    let most = most_buffer.format(most_of(quantity)).as_bytes();
+    let there_are = three(alloc, b"there are ", count, b" ")?;
+    let at_most = three(alloc, b", and at most ", most, b" are allowed")?;
+    let what = quantity_phrase(quantity).as_bytes();
+    three(alloc, there_are.as_slice(), what, at_most.as_slice())
+}
+
+/// A sentence on a span.
+fn at_span(span: Span, sentence: Bytes) -> Remark
+    ensures { result ≡ rules.at_span span sentence }
+{
+    Remark {
+        offset: Some(span.start),
+        sentence,
+    }
+}
+
+/// What is said of a fault of names, kinds or sizes in these bytes.
+pub fn rule_remark(alloc: Global, bytes: &[u8], fault: NameFault) -> Result<Remark, TellFault>
+    ensures { IfOk result (rules.IsRuleRemark bytes.now fault) }
+{
+    match fault {
+        NameFault::Unknown(span) => {
+            let sentence = unknown_sentence(alloc, word_at(bytes, span))?;
+            Ok(at_span(span, sentence))
+        }
+        NameFault::Twice(span) => {
+            let sentence = twice_sentence(alloc, word_at(bytes, span))?;
+            Ok(at_span(span, sentence))
+        }
+        NameFault::Recursive(span) => {
+            let sentence = recursive_sentence(alloc, word_at(bytes, span))?;
+            Ok(at_span(span, sentence))
+        }
+        NameFault::Arity(span) => {
+            let sentence = arity_sentence(alloc, word_at(bytes, span))?;
+            Ok(at_span(span, sentence))
+        }
+        NameFault::Kind(span) => {
+            let sentence = kind_sentence(alloc, word_at(bytes, span))?;
+            Ok(at_span(span, sentence))
+        }
+        NameFault::Limit(quantity, count) => {
+            let sentence = limit_sentence(alloc, quantity, count)?;
+            Ok(Remark {
+                offset: None,
+                sentence,
+            })
+        }
+        NameFault::Memory => Err(TellFault::Memory),
+    }
+}
+
+fn unknown_sentence(alloc: Global, word: &[u8]) -> Result<Bytes, AllocError>
+    ensures { IfOk result (λ text. text ≡ rules.unknown_sentence word.now) }
+{
+    three(alloc, b"the name `", word, b"` is unknown here")
+}
+
+fn twice_sentence(alloc: Global, word: &[u8]) -> Result<Bytes, AllocError>
+    ensures { IfOk result (λ text. text ≡ rules.twice_sentence word.now) }
+{
+    three(
+        alloc,
+        b"the name `",
+        word,
+        b"` stands for something already",
+    )
+}
+
+fn recursive_sentence(alloc: Global, word: &[u8]) -> Result<Bytes, AllocError>
+    ensures { IfOk result (λ text. text ≡ rules.recursive_sentence word.now) }
+{
+    three(
+        alloc,
+        b"`",
+        word,
+        b"` is called here, and a function calls only functions that stand before it",
+    )
+}
+
+fn arity_sentence(alloc: Global, word: &[u8]) -> Result<Bytes, AllocError>
+    ensures { IfOk result (λ text. text ≡ rules.arity_sentence word.now) }
+{
+    three(
+        alloc,
+        b"`",
+        word,
+        b"` has another number of parameters than it is given arguments here",
+    )
+}
