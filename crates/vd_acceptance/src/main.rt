@@ -1,30 +1,33 @@
-//! Runs worked examples through the top call, over files and streams in memory, and prints what each run leaves. The
-//! examples are read from standard input: `stdin` has them, and `stdout` what is to come.
-//!
-//! Each line of an example is one of these:
-//!
-//!     case NAME         begins an example
-//!     words WORD ..     the words of the command line
-//!     file NAME         begins a file, of which the next lines that begin `|`, `>` or `*` are the content:
-//!     |TEXT             a line, with its end
-//!     >TEXT             a piece without an end
-//!     *COUNT TEXT       a piece, so many times
-//!     fail files CALL   the call of the files with this number fails; likewise of `out` and `err`
-//!     most COUNT        one write of the output takes at most so many bytes
-//!     keep              goes on with the files that the example before left
-//!     quiet             leaves out what stands in stored files, where more than one content is right
-//!     run               runs the example
+//! Runs worked examples through the top call, over files, streams, links and children in memory, and prints what each run leaves.
+//! The examples are read from standard input: `stdin` has them in the form that `vd_examples` says, with a line `run` behind each,
+//! and `stdout` what is to come.
 #![tactic(auto)]
 
-mod example;
-mod report;
+ghost use Rattle.std.specs.Prelude.{◌≤◌};
 
-use example::Example;
-use report::report;
 use std::alloc::Global;
 use std::io::{self, BufRead, BufReader, Write};
+use vd_base::Texts;
+use vd_examples::{Example, Objects, Prepared, print_run};
 use vd_items::Items;
-use vd_outside::Stored;
+use vd_outside::{Files, Net, Sink, Spawner, Stored};
+use vd_top::start;
+
+/// The number of the status with which the words are run.
+fn code_of<F: Files, O: Sink, E: Sink, N: Net, S: Spawner>(
+    alloc: Global,
+    words: &Texts,
+    files: &mut F,
+    out: &mut O,
+    err: &mut E,
+    net: &mut N,
+    spawner: &mut S,
+) -> u8
+    requires listeners { (N.view net.old).given ≤ 4294967000 }
+    requires children { (S.view spawner.old).given ≤ 4294967000 }
+{
+    start(alloc, words, files, out, err, net, spawner).code()
+}
 
 /// Runs one example, and prints what it leaves; the files that it leaves stand there for the next one.
 fn run_example<W: Write>(
@@ -33,15 +36,39 @@ fn run_example<W: Write>(
     example: Example,
     before: Items<Stored>,
 ) -> io::Result<Items<Stored>> {
-    let mut example = example;
-    if example.keeps {
-        example.add_files(before)?;
-    }
-    let name = example.name.clone()?;
-    let quiet = example.quiet;
-    let left = example.run(alloc)?;
-    report(to, name.as_str(), &left, quiet)?;
-    Ok(left.files)
+    let Prepared {
+        name,
+        quiet,
+        objects,
+    } = example.prepared(alloc, before)?;
+    let Objects {
+        words,
+        mut files,
+        mut out,
+        mut err,
+        mut net,
+        mut spawner,
+    } = objects;
+    let code = code_of(
+        alloc,
+        &words,
+        &mut files,
+        &mut out,
+        &mut err,
+        &mut net,
+        &mut spawner,
+    );
+    let left = Objects {
+        words,
+        files,
+        out,
+        err,
+        net,
+        spawner,
+    };
+    print_run(to, name.as_str(), code, &left, quiet)?;
+    let Objects { files, .. } = left;
+    Ok(files.files)
 }
 
 fn main(rt: HostRuntime) -> io::Result<()> {

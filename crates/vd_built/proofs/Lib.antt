@@ -1,6 +1,6 @@
 pub mod Anys
 pub mod Cells
+pub mod Forms
 pub mod Making
 pub mod Offers
-pub mod Operands
 pub mod Served

@@ -1,4 +1,4 @@
--- A program at protocols that are built, and at which it is valid, is one that the splitter can be asked for.
+-- A program at protocols over its hosts at which it is valid is one that the splitter can be asked for.
 use Rattle.std.proofs.Common.{◌≡◌, ℕ, ◌<◌, nat_lt, nat_eq, Bool, true, false, ◌&&◌, if◌then◌else◌, Option, Some, None, is_some, List, [], ◌∷◌, length, map, refl, ap, ◌∙◌, arith}
 use Rattle.std.specs.List.{list_all}
 use Rattle.std.proofs.lemmas.Bool.{and_from}
@@ -95,7 +95,7 @@ programs_can_be_split program protos can =
     record {
       slots = record {
         few = can.made.limits.hosts;
-        slots = λ x. and_from _ _ (and_from _ _ (can.built x) (can.over x).ordered) (all_below n (holders (proto_in protos x)) (can.over x).known);
+        slots = λ x. and_from _ _ (can.over x).ordered (all_below n (holders (proto_in protos x)) (can.over x).known);
         locals = λ h lt. and_from _ _ (of_lt h.0 n lt) refl;
       };
       stands = all_pass (stmt_stands (offer_of n) protos) program.body (block_served can.tape can.inputs n protos (block_of program.body) can.valid);

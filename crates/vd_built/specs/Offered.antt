@@ -1,4 +1,4 @@
--- What the protocols that are built offer to the splitter, and for which programs this suffices.
+-- What all protocols offer to the splitter, and for which programs this suffices.
 use Rattle.std.specs.Prelude.{ℕ, nat_lt, Bool, ◌&&◌, IsTrue, List, [], ◌∷◌, length}
 use Rattle.std.specs.List.{list_all}
 use Rattle.vd_base.specs.declared.ids.HostId.{HostId}
@@ -6,22 +6,23 @@ use Rattle.vd_base.specs.declared.protocols.Proto.{Proto}
 use Rattle.vd_core.specs.declared.normal.NormalForm.{NormalForm}
 use Rattle.vd_core.specs.Facts.{all_meet, IsWellMade}
 use Rattle.vd_execution.specs.World.{Tape}
-use Rattle.vd_duet.specs.Calls.{holders, hosts_of}
+use Rattle.vd_duet.specs.Calls.{holders}
 use Rattle.vd_duet.specs.Laws.{IsHost}
 use Rattle.vd_joint.specs.Outcome.{ValidAt}
 use Rattle.vd_split.specs.Offer.{Offer, proto_in, AreServed, stmt_stands}
 use Rattle.vd_suite.specs.Machine.{machine}
-use Rattle.vd_suite.specs.Parts.{Parts, back_end, is_built, suite_calls}
+use Rattle.vd_suite.specs.Parts.{Parts, back_end, suite_calls}
 use Rattle.vd_suite.specs.Suite.{is_in_order, IsOver, suite}
+use Rattle.vd_moves.specs.Formed.{hosts_at}
 
--- a protocol that is built, over the first hosts, in order
+-- a protocol over the first hosts, in order
 abbrev pub is_offered : ℕ → Proto → Bool
-is_offered hosts p = (is_built p && is_in_order p) && list_all (λ h. nat_lt h.0 hosts) (holders p)
+is_offered hosts p = is_in_order p && list_all (λ h. nat_lt h.0 hosts) (holders p)
 
 abbrev pub offer_of : ℕ → Offer Parts
 offer_of hosts = record {
   calls = suite_calls hosts;
-  hosts_of = λ x. hosts_of x.at;
+  hosts_at = λ p x. hosts_at p x.at;
   has = is_offered hosts;
   serves = λ op p. (back_end p).serves op;
 }
@@ -31,10 +32,9 @@ abbrev pub AreApart : List HostId → Type 0
 AreApart [] = Unit {0}
 AreApart (h ∷ hs) = (IsHost hs h.0 → ⊥) × AreApart hs
 
--- a well-made program, and protocols that are built, at which it is valid
+-- a well-made program, and protocols over its hosts at which it is valid
 pub record CanBeSplit (program : NormalForm) (protos : List Proto) : Type 0 where
   pub made : IsWellMade program
-  pub built : (x : ℕ) → IsTrue (is_built (proto_in protos x))
   pub over : (x : ℕ) → IsOver (length program.hosts) (proto_in protos x)
   pub tape : Tape
   pub inputs : ℕ → List ℕ

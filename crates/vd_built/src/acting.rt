@@ -165,6 +165,25 @@ fn bits_move_at(first: HostId, second: HostId, onto: Proto, host: HostId) -> boo
     }
 }
 
+/// Whether a host acts in a move of a committed word.
+fn bound_move_at(bound: HostId, keeper: HostId, onto: Proto, host: HostId) -> bool
+    ensures { result ≡ moved_at (route (proto.Commit bound keeper) onto) (proto.Commit bound keeper) onto host.0 }
+{
+    match onto {
+        Proto::Local(other) => {
+            if other.0 == bound.0 {
+                false
+            } else {
+                is_either(host, bound, keeper)
+            }
+        }
+        Proto::Rep(_) => is_either(host, bound, keeper),
+        Proto::Commit(_, _) => false,
+        Proto::Add(_, second) => host.0 == second.0,
+        Proto::Xor(_, second) => host.0 == second.0,
+    }
+}
+
 /// Whether a host acts in a move.
 pub(crate) fn moves_at(from: Proto, onto: Proto, host: HostId) -> bool
     ensures { result ≡ moved_at (route from onto) from onto host.0 }
@@ -172,7 +191,7 @@ pub(crate) fn moves_at(from: Proto, onto: Proto, host: HostId) -> bool
     match from {
         Proto::Local(other) => share_at(other, onto, host),
         Proto::Rep(set) => copies_move_at(set, onto, host),
-        Proto::Commit(_, _) => false,
+        Proto::Commit(bound, keeper) => bound_move_at(bound, keeper, onto, host),
         Proto::Add(first, second) => sums_move_at(first, second, onto, host),
         Proto::Xor(first, second) => bits_move_at(first, second, onto, host),
     }

@@ -1,6 +1,6 @@
 //! Arrays: a row of registers at each host, read and written at an index that stands there in clear.
 
-ghost use Rattle.std.specs.Prelude.{◌≡◌, ◌+◌, ◌≤◌, IsTrue, IfOk, OnOk, length, map};
+ghost use Rattle.std.specs.Prelude.{◌≡◌, ◌+◌, ◌≤◌, IfOk, OnOk, length, map};
 ghost use Rattle.vd_execution.specs.Gadgets.{Alone};
 ghost use Rattle.vd_execution.specs.declared.instructions.Action.TheVariants as action;
 ghost use Rattle.vd_duet.specs.Builder.{HasRoom, TakesAtMost, TakesFew, most_taken};
@@ -8,7 +8,8 @@ ghost use Rattle.vd_duet.specs.Calls.{Makes, appended, holders as holders_of, ho
 ghost use Rattle.vd_duet.specs.Laws.{AreKnown};
 ghost use Rattle.vd_clear.specs.Copies.{each_made, register_of, written_by};
 ghost use Rattle.vd_joint.specs.Suite.{Made as AnyMade};
-ghost use Rattle.vd_suite.specs.Parts.{cell_read, cell_written, index_of, is_built, new_cells, zeros_at};
+ghost use Rattle.vd_suite.specs.Parts.{cell_read, cell_written, index_of, new_cells, zeros_at};
+ghost use Rattle.vd_moves.specs.Formed.{AreFormed};
 ghost use Rattle.vd_built.specs.Offered.{AreApart};
 
 use crate::held::Held;
@@ -40,12 +41,11 @@ fn zeros(hosts: &[HostId], size: u32, to: &mut Duet) -> Result<Parts<Clear>, All
 
 /// An array of so many zeros.
 pub(crate) fn cells(at: Proto, size: u32, to: &mut Duet) -> Result<Parts<Clear>, AllocError>
-    requires at { IsTrue (is_built at) }
     requires apart { AreApart (holders_of at) }
     requires known { AreKnown (holders_of at) to.old.next }
     requires room { HasRoom size to.old.next }
     ensures exact { IfOk result (λ x. Makes (new_cells at size) to.old (in_clear x) to.new) }
-    ensures hosts { IfOk result (λ x. hosts_of (in_clear x) ≡ holders_of at) }
+    ensures formed { IfOk result (λ x. AreFormed at (in_clear x)) }
     ensures few { OnOk result (TakesAtMost (most_taken + size) to.old.next to.new.next) }
 {
     let hosts = holders(at, to.alloc())?;
@@ -89,11 +89,10 @@ pub(crate) fn get(
     index: &[(u8, u32)],
     to: &mut Duet,
 ) -> Result<Parts<Clear>, AllocError>
-    requires at { IsTrue (is_built at) }
     requires known { AreKnown (holders_of at) to.old.next }
     requires room { HasRoom 0 to.old.next }
     ensures exact { IfOk result (λ y. Makes (cell_read at x.now index.now) to.old (in_clear y) to.new) }
-    ensures hosts { IfOk result (λ y. hosts_of (in_clear y) ≡ holders_of at) }
+    ensures formed { IfOk result (λ y. AreFormed at (in_clear y)) }
     ensures few { OnOk result (TakesFew to.old.next to.new.next) }
 {
     let hosts = holders(at, to.alloc())?;
@@ -127,7 +126,6 @@ pub(crate) fn put(
     x: &Held,
     to: &mut Duet,
 ) -> Result<(), AllocError>
-    requires { IsTrue (is_built at) }
     ensures { OnOk result (to.new ≡ appended (cell_written at kept.now index.now x.now.at) to.old) }
 {
     let hosts = holders(at, to.alloc())?;

@@ -3,7 +3,8 @@ ghost use Rattle.vd_duet.specs.Calls.{in_clear};
 ghost use Rattle.vd_built.specs.Offered.{offer_of};
 
 use crate::held::Held;
-use crate::{acting, arrays, back_ends, loops, moves};
+use crate::operands::operands;
+use crate::{acting, arrays, loops};
 use std::alloc::{AllocError, Global};
 use std::marker::Model;
 use vd_base::{HostId, Op, Proto};
@@ -11,9 +12,10 @@ use vd_clear::register_at;
 use vd_duet::{Clear, Duet};
 use vd_execution::{Act, Action};
 use vd_items::Items;
+use vd_moves as moves;
 use vd_split::Protocols;
 
-/// The protocols that are built, over the first hosts.
+/// All protocols over the first hosts.
 #[derive(Drop)]
 pub struct Built {
     hosts: u8,
@@ -71,7 +73,7 @@ impl Protocols for Built {
     }
 
     fn literal(&self, at: Proto, word: u32, to: &mut Duet) -> Result<Held, AllocError> {
-        let copies = back_ends::literal(at, word, to)?;
+        let copies = moves::literal(at, word, to)?;
         Ok(Held::word(copies))
     }
 
@@ -92,8 +94,8 @@ impl Protocols for Built {
         xs: &Items<Held>,
         to: &mut Duet,
     ) -> Result<Held, AllocError> {
-        let args = back_ends::operands(xs, to.alloc())?;
-        let copies = back_ends::apply(op, at, &args, to)?;
+        let args = operands(xs, to.alloc())?;
+        let copies = moves::apply(op, at, &args, to)?;
         Ok(Held::word(copies))
     }
 
@@ -109,12 +111,12 @@ impl Protocols for Built {
     }
 
     fn keep(&self, at: Proto, x: &Held, to: &mut Duet) -> Result<Held, AllocError> {
-        let copies = back_ends::keep(at, x.parts(), to)?;
+        let copies = moves::keep(at, x.parts(), to)?;
         Ok(Held::word(copies))
     }
 
     fn renew(&self, at: Proto, kept: &Held, x: &Held, to: &mut Duet) -> Result<(), AllocError> {
-        back_ends::renew(at, kept.parts(), x.parts(), to)
+        moves::renew(at, kept.parts(), x.parts(), to)
     }
 
     fn cells(&self, at: Proto, size: u32, to: &mut Duet) -> Result<Held, AllocError> {

@@ -6,7 +6,7 @@ use std::marker::Model;
 use vd_duet::{Clear, Parts};
 
 /// What a slot has: a register at each host of its protocol, and how many registers from there on are the slot's. These are one
-/// for a word, and for an array its size.
+/// for a word, and for an array its size. A commitment has each of its registers by itself.
 #[derive(Drop)]
 pub struct Held {
     copies: Parts<Clear>,

@@ -1,17 +1,14 @@
-//! The protocols that are built, as the splitter asks for them: words in clear, at one host or a copy at each of several, and
-//! words that two hosts share, by parts of which the word is the sum, or the exclusive or.
+//! All protocols, as the splitter asks for them: words in clear, at one host or a copy at each of several, words that two hosts
+//! share, by parts of which the word is the sum, or the exclusive or, and words to which a host has committed.
 #![tactic(auto)]
 
 mod acting;
 mod arrays;
-mod back_ends;
 mod built;
 mod held;
 mod laws;
 mod loops;
-mod moves;
-mod pairs;
-mod shares;
+mod operands;
 
 pub use built::Built;
 pub use held::Held;

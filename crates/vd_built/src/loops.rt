@@ -1,12 +1,13 @@
 //! The hosts of a protocol, and what each does for the number of a turn.
 
-ghost use Rattle.std.specs.Prelude.{◌≡◌, ◌<◌, ◌≤◌, ◌+◌, ◌^◌, IsTrue, IfOk, OnOk, length, slice_index};
+ghost use Rattle.std.specs.Prelude.{◌≡◌, ◌<◌, ◌≤◌, ◌+◌, ◌^◌, IfOk, OnOk, length, slice_index};
 ghost use Rattle.vd_execution.specs.declared.instructions.Action.TheVariants as action;
 ghost use Rattle.vd_duet.specs.Builder.{HasRoom, TakesAtMost, TakesFew, next_at};
-ghost use Rattle.vd_duet.specs.Calls.{Makes, holders as holders_of, hosts_of, in_clear};
+ghost use Rattle.vd_duet.specs.Calls.{Makes, holders as holders_of, in_clear};
 ghost use Rattle.vd_duet.specs.Laws.{AreKnown};
 ghost use Rattle.vd_clear.specs.Copies.{written_by};
-ghost use Rattle.vd_suite.specs.Parts.{is_built, turned};
+ghost use Rattle.vd_suite.specs.Parts.{turned};
+ghost use Rattle.vd_moves.specs.Formed.{AreFormed};
 ghost use Rattle.vd_built.specs.Turns.{shared_turn};
 
 use std::alloc::{AllocError, Global};
@@ -18,7 +19,6 @@ use vd_items::Items;
 
 /// The hosts of a protocol, in order.
 pub(crate) fn holders(at: Proto, alloc: Global) -> Result<Items<HostId>, AllocError>
-    requires { IsTrue (is_built at) }
     ensures exact { IfOk result (λ hosts. hosts ≡ holders_of at) }
     ensures few { IfOk result (λ hosts. length hosts ≤ 8) }
 {
@@ -27,7 +27,7 @@ pub(crate) fn holders(at: Proto, alloc: Global) -> Result<Items<HostId>, AllocEr
         Proto::Rep(set) => hosts_in(set, alloc),
         Proto::Add(first, second) => Ok(Items::from_slice(alloc, &[first, second])?),
         Proto::Xor(first, second) => Ok(Items::from_slice(alloc, &[first, second])?),
-        Proto::Commit(_, _) => unreachable!(),
+        Proto::Commit(bound, keeper) => Ok(Items::from_slice(alloc, &[bound, keeper])?),
     }
 }
 
@@ -89,11 +89,10 @@ impl<'a> Step for ShareTurn<'a> {
 
 /// The number of the turn, from the registers of the innermost loop, by host.
 pub(crate) fn turn(at: Proto, turns: &[u32], to: &mut Duet) -> Result<Parts<Clear>, AllocError>
-    requires at { IsTrue (is_built at) }
     requires known { AreKnown (holders_of at) to.old.next }
     requires room { HasRoom 0 to.old.next }
     ensures exact { IfOk result (λ x. Makes (turned at turns.now) to.old (in_clear x) to.new) }
-    ensures hosts { IfOk result (λ x. hosts_of (in_clear x) ≡ holders_of at) }
+    ensures formed { IfOk result (λ x. AreFormed at (in_clear x)) }
     ensures few { OnOk result (TakesFew to.old.next to.new.next) }
 {
     match at {
@@ -104,6 +103,6 @@ pub(crate) fn turn(at: Proto, turns: &[u32], to: &mut Duet) -> Result<Parts<Clea
         }
         Proto::Add(first, second) => { each_host(&[first, second], &ShareTurn(first, turns), to) }
         Proto::Xor(first, second) => { each_host(&[first, second], &ShareTurn(first, turns), to) }
-        Proto::Commit(_, _) => unreachable!(),
+        Proto::Commit(bound, keeper) => { each_host(&[bound, keeper], &CopyTurn(turns), to) }
     }
 }

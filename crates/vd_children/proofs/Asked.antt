@@ -270,7 +270,7 @@ pub numbered_last : (first : ℕ) (children : List ℕ) (child : ℕ) → Number
 numbered_last first [] child numbered = numbered.0 ∙ sym (add-zero first)
 numbered_last first (each ∷ children) child numbered = let e : child ≡ suc first + length children = numbered_last (suc first) children child numbered.1 in omega (arith, e)
 
-numbered_at : (first : ℕ) (children : List ℕ) (place child : ℕ) → Numbered first children → slice_get children place ≡ Some child → child ≡ first + place
+pub numbered_at : (first : ℕ) (children : List ℕ) (place child : ℕ) → Numbered first children → slice_get children place ≡ Some child → child ≡ first + place
 numbered_at first [] place child numbered at = absurd (none-some child at)
 numbered_at first (each ∷ children) zero child numbered at = let e : each ≡ child = cc in sym e ∙ numbered.0 ∙ sym (add-zero first)
 numbered_at first (each ∷ children) (suc place) child numbered at = let e : child ≡ suc first + place = numbered_at (suc first) children place child numbered.1 at in omega (arith, e)
@@ -342,7 +342,7 @@ take_more_at [] place x at = absurd (none-some x at)
 take_more_at (first ∷ xs) zero x at = let e : first ≡ x = cc in ap (λ y. y ∷ []) e
 take_more_at (first ∷ xs) (suc place) x at = ap (λ l. first ∷ l) (take_more_at xs place x at)
 
-length_taken : {X : Type 0} (xs : List X) (place : ℕ) (x : X) → slice_get xs place ≡ Some x → length (take place xs) ≡ place
+pub length_taken : {X : Type 0} (xs : List X) (place : ℕ) (x : X) → slice_get xs place ≡ Some x → length (take place xs) ≡ place
 length_taken [] place x at = absurd (none-some x at)
 length_taken (first ∷ xs) zero x at = refl
 length_taken (first ∷ xs) (suc place) x at = let e : length (take place xs) ≡ place = length_taken xs place x at in omega (arith, e)
@@ -392,7 +392,7 @@ stops_in program hosts children printed child start started now end result s r a
           (subst (λ (n : ℕ). IsFront last.calls (end_calls n last.lines)) (numbered_at start.given children (length printed) child s.numbered at) last.front));
     }
 
-numbered_taken : (first : ℕ) (children : List ℕ) (place : ℕ) → Numbered first children → Numbered first (take place children)
+pub numbered_taken : (first : ℕ) (children : List ℕ) (place : ℕ) → Numbered first children → Numbered first (take place children)
 numbered_taken first [] zero numbered = tt
 numbered_taken first [] (suc place) numbered = tt
 numbered_taken first (child ∷ children) zero numbered = tt

@@ -1,5 +1,6 @@
-mod Asked
+pub mod Asked
 mod Children
-mod Counted
+pub mod Counted
 mod Outputs
-mod Told
+pub mod Told
+pub mod Waiting

@@ -23,7 +23,7 @@ set_seam : {X : Type 0} (xs : List X) (y : X) (ys : List X) (z : X) → slice_se
 set_seam [] y ys z = refl
 set_seam (x ∷ xs) y ys z = ap (λ l. x ∷ l) (set_seam xs y ys z)
 
-drop_one_first : {X : Type 0} (count : ℕ) (xs : List X) → drop count (drop 1 xs) ≡ drop (suc count) xs
+pub drop_one_first : {X : Type 0} (count : ℕ) (xs : List X) → drop count (drop 1 xs) ≡ drop (suc count) xs
 drop_one_first zero [] = refl
 drop_one_first (suc count) [] = refl
 drop_one_first count (x ∷ xs) = refl
@@ -34,28 +34,28 @@ drop_one_last (suc count) [] = refl
 drop_one_last zero (x ∷ xs) = refl
 drop_one_last (suc count) (x ∷ xs) = drop_one_last count xs
 
-first_line : (lines : List (List ℕ)) (line : List ℕ) → slice_get lines 0 ≡ Some line → lines ≡ line ∷ drop 1 lines
+pub first_line : (lines : List (List ℕ)) (line : List ℕ) → slice_get lines 0 ≡ Some line → lines ≡ line ∷ drop 1 lines
 first_line [] line at = absurd (none-some line at)
 first_line (first ∷ lines) line at = let e : first ≡ line = cc in ap (λ l. l ∷ lines) e
 
-no_line : (lines : List (List ℕ)) → slice_get lines 0 ≡ None → lines ≡ []
+pub no_line : (lines : List (List ℕ)) → slice_get lines 0 ≡ None → lines ≡ []
 no_line [] at = refl
 no_line (first ∷ lines) at = absurd cc
 
 -- a child one line later
-abbrev later_child : Child → Child
+abbrev pub later_child : Child → Child
 later_child child = record child { lines = drop 1 child.lines }
 
-some_same : (child other : Child) → Some child ≡ Some other → child ≡ other
+pub some_same : (child other : Child) → Some child ≡ Some other → child ≡ other
 some_same child other is = cc
 
 -- what a line leaves of the child that it is of
-record LineTold (front : List Child) (child : Child) (back : List Child) (now : SpawnerView) (answer : Option (List ℕ)) : Type 0 where
-  told : IsTrue now.told
-  line : slice_get child.lines 0 ≡ answer
-  children : now.children ≡ front ++ later_child child ∷ back
+pub record LineTold (front : List Child) (child : Child) (back : List Child) (now : SpawnerView) (answer : Option (List ℕ)) : Type 0 where
+  pub told : IsTrue now.told
+  pub line : slice_get child.lines 0 ≡ answer
+  pub children : now.children ≡ front ++ later_child child ∷ back
 
-line_told : (number : ℕ) (before now : SpawnerView) (answer : Option (List ℕ)) (front : List Child) (child : Child) (back : List Child) → ReadsLine number before now (Ok answer) → IsTrue before.told
+pub line_told : (number : ℕ) (before now : SpawnerView) (answer : Option (List ℕ)) (front : List Child) (child : Child) (back : List Child) → ReadsLine number before now (Ok answer) → IsTrue before.told
     → before.children ≡ front ++ child ∷ back → number ≡ length front → LineTold front child back now answer
 line_told number before now answer front child back r told are is =
     let g : GivesLine number before now answer = r.gives told in
@@ -99,7 +99,7 @@ start_told program words host before now (Silent child started over s l e) told 
 start_told program words host before now (SilentFault child started over cause s l e) told each = tt
 
 -- each of these children listens
-abbrev AreListening : List Child → Type 0
+abbrev pub AreListening : List Child → Type 0
 AreListening [] = Unit {0}
 AreListening (child ∷ children) = (slice_get child.lines 0 ≡ Some listening) × AreListening children
 
@@ -114,17 +114,17 @@ next_more waiting otherwise (first ∷ children) child all one =
     (all.0, next_more (drop 1 waiting) otherwise children child all.1 (ap (λ (l : List Child). next_child l otherwise) (drop_one_first (length children) waiting) ∙ one))
 
 -- the children that were started
-record StartsTold (start : SpawnerView) (hosts : List (List (List ℕ))) (now : SpawnerView) : Type 0 where
-  children : List Child
-  count : length children ≡ length hosts
-  next : AreNext start.waiting start.otherwise children
-  listen : AreListening children
-  are : now.children ≡ start.children ++ map later_child children
-  waiting : now.waiting ≡ drop (length children) start.waiting
-  otherwise : now.otherwise ≡ start.otherwise
+pub record StartsTold (start : SpawnerView) (hosts : List (List (List ℕ))) (now : SpawnerView) : Type 0 where
+  pub children : List Child
+  pub count : length children ≡ length hosts
+  pub next : AreNext start.waiting start.otherwise children
+  pub listen : AreListening children
+  pub are : now.children ≡ start.children ++ map later_child children
+  pub waiting : now.waiting ≡ drop (length children) start.waiting
+  pub otherwise : now.otherwise ≡ start.otherwise
 
 -- so each is told that was given
-each_told : (program : List ℕ) (start now : SpawnerView) (hosts : List (List (List ℕ))) (numbers : List ℕ) → length start.children ≡ start.given → AllBegun program start hosts numbers now
+pub each_told : (program : List ℕ) (start now : SpawnerView) (hosts : List (List (List ℕ))) (numbers : List ℕ) → length start.children ≡ start.given → AllBegun program start hosts numbers now
     → StartsTold start hosts now → length now.children ≡ now.given
 each_told program start now hosts numbers each b t =
     let longer : length (start.children ++ map later_child t.children) ≡ length start.children + length (map later_child t.children) = length-append start.children (map later_child t.children) in
@@ -134,7 +134,7 @@ each_told program start now hosts numbers each b t =
     let given = b.given in
     omega (arith, longer, mapped, now_is, count, given, each)
 
-starts_told : (program : List ℕ) (start now : SpawnerView) {hosts : List (List (List ℕ))} {numbers : List ℕ} → Started program start hosts numbers now → TellsEach start → StartsTold start hosts now
+pub starts_told : (program : List ℕ) (start now : SpawnerView) {hosts : List (List (List ℕ))} {numbers : List ℕ} → Started program start hosts numbers now → TellsEach start → StartsTold start hosts now
 starts_told program start now NoneStarted tells = record {
   children = [];
   count = refl;
@@ -165,13 +165,13 @@ starts_told program start now (OneStarted hosts numbers words number before end 
     }
 
 -- lines that were read of a child
-record LinesTold (front : List Child) (child : Child) (back : List Child) (lines : List (List ℕ)) (now : SpawnerView) : Type 0 where
-  told : IsTrue now.told
-  rest : List (List ℕ)
-  lines_are : child.lines ≡ lines ++ rest
-  children : now.children ≡ front ++ record child { lines = rest } ∷ back
+pub record LinesTold (front : List Child) (child : Child) (back : List Child) (lines : List (List ℕ)) (now : SpawnerView) : Type 0 where
+  pub told : IsTrue now.told
+  pub rest : List (List ℕ)
+  pub lines_are : child.lines ≡ lines ++ rest
+  pub children : now.children ≡ front ++ record child { lines = rest } ∷ back
 
-lines_told : (number : ℕ) (start now : SpawnerView) (front : List Child) (child : Child) (back : List Child) {lines : List (List ℕ)} → Gives number start lines now → IsTrue start.told
+pub lines_told : (number : ℕ) (start now : SpawnerView) (front : List Child) (child : Child) (back : List Child) {lines : List (List ℕ)} → Gives number start lines now → IsTrue start.told
     → start.children ≡ front ++ child ∷ back → number ≡ length front → LinesTold front child back lines now
 lines_told number start now front child back NoLine told are is = record { told = told; rest = child.lines; lines_are = refl; children = are }
 lines_told number start now front child back (OneLine lines line before end g r) told are is =
@@ -185,9 +185,9 @@ lines_told number start now front child back (OneLine lines line before end g r)
     }
 
 -- a child that was read to its end and finished
-record EndTold (words : List ℕ) (child : Child) : Type 0 where
-  form : ArePrinted child.lines words true
-  ends_well : child.status ≡ 0
+pub record EndTold (words : List ℕ) (child : Child) : Type 0 where
+  pub form : ArePrinted child.lines words true
+  pub ends_well : child.status ≡ 0
 
 record ReadTold (front : List Child) (child : Child) (back : List Child) (words : List ℕ) (now : SpawnerView) : Type 0 where
   told : IsTrue now.told
@@ -233,7 +233,7 @@ read_told number host start end front child back (NotRead words finished now cau
 read_told number host start end front child back (WrongLine words finished now line p r breaks) told are is = tt
 read_told number host start end front child back (NoRoom words finished now line p r) told are is = tt
 
-abbrev AreEnded : List (List ℕ) → List Child → Type 0
+abbrev pub AreEnded : List (List ℕ) → List Child → Type 0
 AreEnded [] [] = Unit {0}
 AreEnded [] (child ∷ children) = ⊥
 AreEnded (words ∷ printed) [] = ⊥
@@ -263,14 +263,14 @@ last_of (child ∷ next ∷ children) (suc count) is =
     record { front = child ∷ rest.front; child = rest.child; are = ap (λ (l : List Child). child ∷ l) rest.are; length_is = omega (arith, e) }
 
 -- the children that were read
-record ReadsTold (front children back : List Child) (printed : List (List ℕ)) (now : SpawnerView) : Type 0 where
-  told : IsTrue now.told
-  done : List Child
-  count : length done ≡ length children
-  are : now.children ≡ (front ++ done) ++ back
-  ended : AreEnded printed children
+pub record ReadsTold (front children back : List Child) (printed : List (List ℕ)) (now : SpawnerView) : Type 0 where
+  pub told : IsTrue now.told
+  pub done : List Child
+  pub count : length done ≡ length children
+  pub are : now.children ≡ (front ++ done) ++ back
+  pub ended : AreEnded printed children
 
-reads_told : (start now : SpawnerView) (front children back : List Child) {numbers : List ℕ} {printed : List (List ℕ)} → ReadToEnd start numbers printed now → IsTrue start.told
+pub reads_told : (start now : SpawnerView) (front children back : List Child) {numbers : List ℕ} {printed : List (List ℕ)} → ReadToEnd start numbers printed now → IsTrue start.told
     → Numbered (length front) numbers → length children ≡ length numbers → start.children ≡ (front ++ children) ++ back → ReadsTold front children back printed now
 reads_told start now front [] back NoneRead told numbered count are = record { told = told; done = []; count = refl; are = are; ended = tt }
 reads_told start now front (child ∷ children) back NoneRead told numbered count are = absurd (omega (arith, count))

@@ -6,7 +6,9 @@ use Rattle.vd_deals.specs.declared.deal.Counts.{Counts}
 use Rattle.vd_gen.specs.Sizes.{most_coordinates}
 use Rattle.vd_cmd.specs.Numbers.{number_within}
 use Rattle.vd_cmd.specs.declared.command.Command.{Command}
-use Rattle.vd_cmd.specs.declared.command.Command.TheVariants.{Clear, Labels, Choose, Certify, Compile, Deal, Replay, Gen}
+use Rattle.vd_cmd.specs.declared.command.Command.TheVariants.{OnFiles, Host, Run}
+use Rattle.vd_cmd.specs.declared.command.FilesCommand.{FilesCommand}
+use Rattle.vd_cmd.specs.declared.command.FilesCommand.TheVariants.{Clear, Labels, Choose, Certify, Compile, Deal, Replay, Depends, Gen, Trial}
 use Rattle.vd_cmd.specs.declared.command.CommandFault.{CommandFault}
 use Rattle.vd_cmd.specs.declared.command.CommandFault.TheVariants.{Usage}
 
@@ -23,7 +25,7 @@ abbrev pub counts_in : List ℕ → List ℕ → List ℕ → List ℕ → List 
 counts_in hosts own muls ands pairs = counts_of (number_within 1 most_hosts hosts) (number_of_items own) (number_of_items muls) (number_of_items ands) (number_of_items pairs)
 
 abbrev pub deal_of : Option Counts → Option ℕ → List ℕ → Option Command
-deal_of (Some counts) (Some key) prefix = Some (Deal counts key prefix)
+deal_of (Some counts) (Some key) prefix = Some (OnFiles (Deal counts key prefix))
 deal_of counts key prefix = None
 
 -- the command `deal` with the numbers that these texts are
@@ -31,20 +33,24 @@ abbrev pub deal_in : (hosts own muls ands pairs key prefix : List ℕ) → Optio
 deal_in hosts own muls ands pairs key prefix = deal_of (counts_in hosts own muls ands pairs) (number_within 0 (2 ^ 64 - 1) key) prefix
 
 abbrev pub gen_of : Option ℕ → Option Command
-gen_of (Some coordinates) = Some (Gen coordinates)
+gen_of (Some coordinates) = Some (OnFiles (Gen coordinates))
 gen_of None = None
 
+abbrev pub trial_of : Option ℕ → Option Command
+trial_of (Some coordinates) = Some (OnFiles (Trial coordinates))
+trial_of None = None
+
 abbrev pub choose_of : List ℕ → Option ℕ → Option Command
-choose_of source (Some budget) = Some (Choose source budget)
+choose_of source (Some budget) = Some (OnFiles (Choose source budget))
 choose_of source None = None
 
 abbrev pub compile_of : (source prefix : List ℕ) → Option ℕ → Option Command
-compile_of source prefix (Some budget) = Some (Compile source prefix budget)
+compile_of source prefix (Some budget) = Some (OnFiles (Compile source prefix budget))
 compile_of source prefix None = None
 
 abbrev pub replay_of : (source inputs prefix schedule : List ℕ) → (messages : Bool) → Option ℕ → Option Command
 replay_of source inputs prefix schedule messages (Some budget) =
-    Some (Replay (record { source = source; inputs = inputs; prefix = prefix; schedule = schedule; messages = messages; budget = budget }))
+    Some (OnFiles (Replay (record { source = source; inputs = inputs; prefix = prefix; schedule = schedule; messages = messages; budget = budget })))
 replay_of source inputs prefix schedule messages None = None
 
 -- with one word more: `messages`, or a budget
@@ -53,32 +59,57 @@ replay_with source inputs prefix schedule other =
     if bytes_eq other (codes "messages") then replay_of source inputs prefix schedule true (Some most_search_budget)
     else replay_of source inputs prefix schedule false (number_within 1 most_search_budget other)
 
--- the command that the words are, if they have a form
-abbrev pub form_of : List (List ℕ) → Option Command
-form_of (word ∷ argument ∷ []) =
-    if bytes_eq word (codes "labels") then Some (Labels argument)
-    else if bytes_eq word (codes "choose") then Some (Choose argument most_search_budget)
+-- the first port of a run: those behind it serve all pairs of hosts
+abbrev pub least_port : ℕ
+least_port = 1024
+
+abbrev pub most_port : ℕ
+most_port = 65520
+
+abbrev pub run_of : (source inputs prefix program : List ℕ) → Option ℕ → Option Command
+run_of source inputs prefix program (Some port) = Some (Run (record { source = source; inputs = inputs; prefix = prefix; program = program; port = port }))
+run_of source inputs prefix program None = None
+
+-- the command that words are, of those with a fixed number of words
+abbrev pub fixed_form_of : List (List ℕ) → Option Command
+fixed_form_of (word ∷ argument ∷ []) =
+    if bytes_eq word (codes "labels") then Some (OnFiles (Labels argument))
+    else if bytes_eq word (codes "choose") then Some (OnFiles (Choose argument most_search_budget))
     else if bytes_eq word (codes "gen") then gen_of (number_within 1 most_coordinates argument)
+    else if bytes_eq word (codes "trial") then trial_of (number_within 1 most_coordinates argument)
     else None
-form_of (word ∷ source ∷ other ∷ []) =
-    if bytes_eq word (codes "clear") then Some (Clear source other)
-    else if bytes_eq word (codes "certify") then Some (Certify source other)
+fixed_form_of (word ∷ source ∷ other ∷ []) =
+    if bytes_eq word (codes "clear") then Some (OnFiles (Clear source other))
+    else if bytes_eq word (codes "certify") then Some (OnFiles (Certify source other))
+    else if bytes_eq word (codes "depends") then Some (OnFiles (Depends source other))
     else if bytes_eq word (codes "choose") then choose_of source (number_within 1 most_search_budget other)
     else if bytes_eq word (codes "compile") then compile_of source other (Some most_search_budget)
     else None
-form_of (word ∷ source ∷ prefix ∷ budget ∷ []) =
+fixed_form_of (word ∷ source ∷ prefix ∷ budget ∷ []) =
     if bytes_eq word (codes "compile") then compile_of source prefix (number_within 1 most_search_budget budget) else None
-form_of (word ∷ source ∷ inputs ∷ prefix ∷ schedule ∷ []) =
+fixed_form_of (word ∷ source ∷ inputs ∷ prefix ∷ schedule ∷ []) =
     if bytes_eq word (codes "replay") then replay_of source inputs prefix schedule false (Some most_search_budget) else None
-form_of (word ∷ source ∷ inputs ∷ prefix ∷ schedule ∷ other ∷ []) =
-    if bytes_eq word (codes "replay") then replay_with source inputs prefix schedule other else None
-form_of (word ∷ source ∷ inputs ∷ prefix ∷ schedule ∷ messages ∷ budget ∷ []) =
+fixed_form_of (word ∷ source ∷ inputs ∷ prefix ∷ schedule ∷ other ∷ []) =
+    if bytes_eq word (codes "replay") then replay_with source inputs prefix schedule other
+    else if bytes_eq word (codes "run") then run_of source inputs prefix schedule (number_within least_port most_port other)
+    else None
+fixed_form_of (word ∷ source ∷ inputs ∷ prefix ∷ schedule ∷ messages ∷ budget ∷ []) =
     if bytes_eq word (codes "replay") && bytes_eq messages (codes "messages")
     then replay_of source inputs prefix schedule true (number_within 1 most_search_budget budget)
     else None
-form_of (word ∷ hosts ∷ own ∷ muls ∷ ands ∷ pairs ∷ key ∷ prefix ∷ []) =
+fixed_form_of (word ∷ hosts ∷ own ∷ muls ∷ ands ∷ pairs ∷ key ∷ prefix ∷ []) =
     if bytes_eq word (codes "deal") then deal_in hosts own muls ands pairs key prefix else None
-form_of words = None
+fixed_form_of words = None
+
+-- the command `host` with these words behind it: three files, and any number of addresses
+abbrev pub host_form_of : List (List ℕ) → Option Command
+host_form_of (program ∷ inputs ∷ deal ∷ addresses) = Some (Host (record { program = program; inputs = inputs; deal = deal; addresses = addresses }))
+host_form_of words = None
+
+-- the command that the words are, if they have a form
+abbrev pub form_of : List (List ℕ) → Option Command
+form_of [] = None
+form_of (word ∷ words) = if bytes_eq word (codes "host") then host_form_of words else fixed_form_of (word ∷ words)
 
 -- the limits of what is dealt
 pub record AreWithin (counts : Counts) : Type 0 where
@@ -92,17 +123,26 @@ pub record AreWithin (counts : Counts) : Type 0 where
 abbrev pub IsSize : ℕ → Type 0
 IsSize coordinates = (1 ≤ coordinates) × (coordinates ≤ most_coordinates)
 
+abbrev pub IsPort : ℕ → Type 0
+IsPort port = (least_port ≤ port) × (port ≤ most_port)
+
 abbrev pub IsBudget : ℕ → Type 0
 IsBudget budget = (1 ≤ budget) × (budget ≤ most_search_budget)
 
 -- what the numbers of a command keep
+abbrev pub KeepsFilesLimits : FilesCommand → Type 0
+KeepsFilesLimits (Deal counts key prefix) = AreWithin counts
+KeepsFilesLimits (Gen coordinates) = IsSize coordinates
+KeepsFilesLimits (Trial coordinates) = IsSize coordinates
+KeepsFilesLimits (Choose source budget) = IsBudget budget
+KeepsFilesLimits (Compile source prefix budget) = IsBudget budget
+KeepsFilesLimits (Replay words) = IsBudget words.budget
+KeepsFilesLimits command = Unit {0}
+
 abbrev pub KeepsLimits : Command → Type 0
-KeepsLimits (Deal counts key prefix) = AreWithin counts
-KeepsLimits (Gen coordinates) = IsSize coordinates
-KeepsLimits (Choose source budget) = IsBudget budget
-KeepsLimits (Compile source prefix budget) = IsBudget budget
-KeepsLimits (Replay words) = IsBudget words.budget
-KeepsLimits command = Unit {0}
+KeepsLimits (OnFiles command) = KeepsFilesLimits command
+KeepsLimits (Host words) = Unit {0}
+KeepsLimits (Run words) = IsPort words.port
 
 -- The answer to words of this form: the command, and a fault of usage exactly where there is none.
 pub record Reads (form : Option Command) (result : Result Command CommandFault) : Type 0 where

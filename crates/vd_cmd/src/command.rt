@@ -1,7 +1,7 @@
 //! The forms of a command line.
 
-ghost use Rattle.std.specs.Prelude.{◌≡◌, [], ◌∷◌, IfSome};
-ghost use Rattle.vd_cmd.specs.Commands.{Reads, AreWithin, IsBudget, IsSize, choose_of, compile_of, counts_in, deal_in, deal_of, form_of, gen_of, replay_of, replay_with};
+ghost use Rattle.std.specs.Prelude.{◌≡◌, [], ◌∷◌, IfOk, IfSome};
+ghost use Rattle.vd_cmd.specs.Commands.{Reads, AreWithin, IsBudget, IsPort, IsSize, choose_of, compile_of, counts_in, deal_in, deal_of, fixed_form_of, form_of, gen_of, host_form_of, replay_of, replay_with, run_of, trial_of};
 ghost use Rattle.vd_cmd.specs.declared.command.CommandFault.TheVariants.{Memory};
 
 use crate::numbers::number_within;
@@ -12,6 +12,12 @@ use vd_base::limits::{DEAL_ITEMS, HOSTS, SEARCH_BUDGET};
 use vd_base::{Text, Texts};
 use vd_deals::Counts;
 use vd_gen::COORDINATES;
+
+/// The least first port of a run.
+const FIRST_PORT: u32 = 1024;
+
+/// The greatest first port of a run: those behind it serve all pairs of hosts.
+const LAST_PORT: u32 = 65_520;
 
 /// The words of `replay SOURCE INPUTS PREFIX SCHEDULE [messages] [BUDGET]`.
 #[derive(Debug, Drop)]
@@ -26,9 +32,31 @@ pub struct ReplayWords {
     pub budget: u32,
 }
 
-/// A command line that has a form.
+/// The words of `host PROGRAM INPUTS DEAL ADDR*`: three files, and the addresses of the host's pairs in the order of its
+/// peers.
 #[derive(Debug, Drop)]
-pub enum Command {
+pub struct HostWords {
+    pub program: Text,
+    pub inputs: Text,
+    pub deal: Text,
+    pub addresses: Texts,
+}
+
+/// The words of `run SOURCE INPUTS PREFIX SELF PORT`.
+#[derive(Debug, Drop)]
+pub struct RunWords {
+    pub source: Text,
+    pub inputs: Text,
+    pub prefix: Text,
+    /// The program that plays each host.
+    pub program: Text,
+    /// The hosts meet at ports from this one on.
+    pub port: u32,
+}
+
+/// A command that uses files and the output alone: it reads files, and its answer is what it stores and prints.
+#[derive(Debug, Drop)]
+pub enum FilesCommand {
     /// `clear SOURCE INPUTS`.
     Clear(Text, Text),
     /// `labels SOURCE`.
@@ -43,8 +71,22 @@ pub enum Command {
     Deal(Counts, u64, Text),
     /// `replay SOURCE INPUTS PREFIX SCHEDULE [messages] [BUDGET]`.
     Replay(ReplayWords),
+    /// `depends SOURCE HOST`.
+    Depends(Text, Text),
     /// `gen N`.
     Gen(u32),
+    /// `trial N`.
+    Trial(u32),
+}
+
+/// A command line that has a form.
+#[derive(Debug, Drop)]
+pub enum Command {
+    OnFiles(FilesCommand),
+    /// `host PROGRAM INPUTS DEAL ADDR*`.
+    Host(HostWords),
+    /// `run SOURCE INPUTS PREFIX SELF PORT`.
+    Run(RunWords),
 }
 
 /// Why words give no command.
@@ -104,7 +146,7 @@ fn deal_of(
         return Err(CommandFault::Usage);
     };
     let prefix = Text::copy_of(alloc, prefix.as_str())?;
-    Ok(Command::Deal(counts, key, prefix))
+    Ok(Command::OnFiles(FilesCommand::Deal(counts, key, prefix)))
 }
 
 /// The command `choose` with this budget, if it is given.
@@ -116,7 +158,7 @@ fn choose_of(alloc: Global, source: &Text, budget: Option<u64>) -> Result<Comman
         return Err(CommandFault::Usage);
     };
     let source = Text::copy_of(alloc, source.as_str())?;
-    Ok(Command::Choose(source, budget as u32))
+    Ok(Command::OnFiles(FilesCommand::Choose(source, budget as u32)))
 }
 
 /// The command `compile` with this budget, if it is given.
@@ -134,7 +176,7 @@ fn compile_of(
     };
     let source = Text::copy_of(alloc, source.as_str())?;
     let prefix = Text::copy_of(alloc, prefix.as_str())?;
-    Ok(Command::Compile(source, prefix, budget as u32))
+    Ok(Command::OnFiles(FilesCommand::Compile(source, prefix, budget as u32)))
 }
 
 /// The command `replay` with this budget, if it is given.
@@ -157,14 +199,14 @@ fn replay_of(
     let inputs = Text::copy_of(alloc, inputs.as_str())?;
     let prefix = Text::copy_of(alloc, prefix.as_str())?;
     let schedule = Text::copy_of(alloc, schedule.as_str())?;
-    Ok(Command::Replay(ReplayWords {
+    Ok(Command::OnFiles(FilesCommand::Replay(ReplayWords {
         source,
         inputs,
         prefix,
         schedule,
         messages,
         budget: budget as u32,
-    }))
+    })))
 }
 
 /// The command `replay` with one word more: `messages`, or a budget.
@@ -187,27 +229,68 @@ fn replay_with(
     }
 }
 
+/// The command `run` with this port, if it is given.
+fn run_of(
+    alloc: Global,
+    source: &Text,
+    inputs: &Text,
+    prefix: &Text,
+    program: &Text,
+    port: Option<u64>,
+) -> Result<Command, CommandFault>
+    requires { IfSome port IsPort }
+    ensures { Reads (run_of source.now inputs.now prefix.now program.now port) result }
+{
+    let Some(port) = port else {
+        return Err(CommandFault::Usage);
+    };
+    let source = Text::copy_of(alloc, source.as_str())?;
+    let inputs = Text::copy_of(alloc, inputs.as_str())?;
+    let prefix = Text::copy_of(alloc, prefix.as_str())?;
+    let program = Text::copy_of(alloc, program.as_str())?;
+    Ok(Command::Run(RunWords {
+        source,
+        inputs,
+        prefix,
+        program,
+        port: port as u32,
+    }))
+}
+
 /// The command `gen` of this size, if it is given.
 fn gen_of(coordinates: Option<u64>) -> Result<Command, CommandFault>
     requires { IfSome coordinates IsSize }
     ensures { Reads (gen_of coordinates) result }
 {
     match coordinates {
-        Some(coordinates) => Ok(Command::Gen(coordinates as u32)),
+        Some(coordinates) => Ok(Command::OnFiles(FilesCommand::Gen(coordinates as u32))),
         None => Err(CommandFault::Usage),
     }
 }
 
+/// The command `trial` of this size, if it is given.
+fn trial_of(coordinates: Option<u64>) -> Result<Command, CommandFault>
+    requires { IfSome coordinates IsSize }
+    ensures { Reads (trial_of coordinates) result }
+{
+    let Some(coordinates) = coordinates else {
+        return Err(CommandFault::Usage);
+    };
+    Ok(Command::OnFiles(FilesCommand::Trial(coordinates as u32)))
+}
+
 /// The command that two words are.
 fn two_words(alloc: Global, word: &Text, argument: &Text) -> Result<Command, CommandFault>
-    ensures { Reads (form_of (word.now ∷ argument.now ∷ [])) result }
+    ensures { Reads (fixed_form_of (word.now ∷ argument.now ∷ [])) result }
 {
     if word.as_str() == "labels" {
-        Ok(Command::Labels(Text::copy_of(alloc, argument.as_str())?))
+        Ok(Command::OnFiles(FilesCommand::Labels(Text::copy_of(alloc, argument.as_str())?)))
     } else if word.as_str() == "choose" {
         choose_of(alloc, argument, Some(u64::from(SEARCH_BUDGET)))
     } else if word.as_str() == "gen" {
         gen_of(number_within(1, u64::from(COORDINATES), argument))
+    } else if word.as_str() == "trial" {
+        trial_of(number_within(1, u64::from(COORDINATES), argument))
     } else {
         Err(CommandFault::Usage)
     }
@@ -220,15 +303,18 @@ fn three_words(
     source: &Text,
     other: &Text,
 ) -> Result<Command, CommandFault>
-    ensures { Reads (form_of (word.now ∷ source.now ∷ other.now ∷ [])) result }
+    ensures { Reads (fixed_form_of (word.now ∷ source.now ∷ other.now ∷ [])) result }
 {
     let most = u64::from(SEARCH_BUDGET);
     if word.as_str() == "clear" {
         let source = Text::copy_of(alloc, source.as_str())?;
-        Ok(Command::Clear(source, Text::copy_of(alloc, other.as_str())?))
+        Ok(Command::OnFiles(FilesCommand::Clear(source, Text::copy_of(alloc, other.as_str())?)))
     } else if word.as_str() == "certify" {
         let source = Text::copy_of(alloc, source.as_str())?;
-        Ok(Command::Certify(source, Text::copy_of(alloc, other.as_str())?))
+        Ok(Command::OnFiles(FilesCommand::Certify(source, Text::copy_of(alloc, other.as_str())?)))
+    } else if word.as_str() == "depends" {
+        let source = Text::copy_of(alloc, source.as_str())?;
+        Ok(Command::OnFiles(FilesCommand::Depends(source, Text::copy_of(alloc, other.as_str())?)))
     } else if word.as_str() == "choose" {
         choose_of(alloc, source, number_within(1, most, other))
     } else if word.as_str() == "compile" {
@@ -246,7 +332,7 @@ fn four_words(
     prefix: &Text,
     budget: &Text,
 ) -> Result<Command, CommandFault>
-    ensures { Reads (form_of (word.now ∷ source.now ∷ prefix.now ∷ budget.now ∷ [])) result }
+    ensures { Reads (fixed_form_of (word.now ∷ source.now ∷ prefix.now ∷ budget.now ∷ [])) result }
 {
     if word.as_str() == "compile" {
         let budget = number_within(1, u64::from(SEARCH_BUDGET), budget);
@@ -273,12 +359,38 @@ fn read_deal(
     deal_of(alloc, counts, number_within(0, u64::MAX, key), prefix)
 }
 
-/// The command that the words of a command line are.
-pub fn read_words(alloc: Global, words: &Texts) -> Result<Command, CommandFault>
-    ensures { Reads (form_of words.now) result }
+/// Copies of texts.
+fn copies(alloc: Global, texts: &[Text]) -> Result<Texts, AllocError>
+    ensures { IfOk result (λ list. list ≡ texts.now) }
+{
+    let mut list = Texts::new(alloc);
+    for text in texts {
+        list.push(text.as_str())?;
+    }
+    Ok(list)
+}
+
+/// The command `host` with these words behind it: three files, and any number of addresses.
+fn read_host(alloc: Global, words: &[Text]) -> Result<Command, CommandFault>
+    ensures { Reads (host_form_of words.now) result }
+{
+    match words {
+        [program, inputs, deal, addresses @ ..] => Ok(Command::Host(HostWords {
+            program: Text::copy_of(alloc, program.as_str())?,
+            inputs: Text::copy_of(alloc, inputs.as_str())?,
+            deal: Text::copy_of(alloc, deal.as_str())?,
+            addresses: copies(alloc, addresses)?,
+        })),
+        _ => Err(CommandFault::Usage),
+    }
+}
+
+/// The command that words are, of those with a fixed number of words.
+fn read_fixed(alloc: Global, words: &[Text]) -> Result<Command, CommandFault>
+    ensures { Reads (fixed_form_of words.now) result }
 {
     let most = u64::from(SEARCH_BUDGET);
-    match words.as_slice() {
+    match words {
         [word, argument] => two_words(alloc, word, argument),
         [word, source, other] => three_words(alloc, word, source, other),
         [word, source, prefix, budget] => four_words(alloc, word, source, prefix, budget),
@@ -287,6 +399,10 @@ pub fn read_words(alloc: Global, words: &Texts) -> Result<Command, CommandFault>
         }
         [word, source, inputs, prefix, schedule, other] if word.as_str() == "replay" => {
             replay_with(alloc, source, inputs, prefix, schedule, other)
+        }
+        [word, source, inputs, prefix, program, port] if word.as_str() == "run" => {
+            let port = number_within(u64::from(FIRST_PORT), u64::from(LAST_PORT), port);
+            run_of(alloc, source, inputs, prefix, program, port)
         }
         [word, source, inputs, prefix, schedule, messages, budget]
             if word.as_str() == "replay" && messages.as_str() == "messages" => {
@@ -297,5 +413,15 @@ pub fn read_words(alloc: Global, words: &Texts) -> Result<Command, CommandFault>
             read_deal(alloc, hosts, own, muls, ands, pairs, key, prefix)
         }
         _ => Err(CommandFault::Usage),
+    }
+}
+
+/// The command that the words of a command line are.
+pub fn read_words(alloc: Global, words: &Texts) -> Result<Command, CommandFault>
+    ensures { Reads (form_of words.now) result }
+{
+    match words.as_slice() {
+        [word, rest @ ..] if word.as_str() == "host" => read_host(alloc, rest),
+        words => read_fixed(alloc, words),
     }
 }

@@ -5,5 +5,7 @@ mod command;
 mod numbers;
 mod own;
 
-pub use command::{Command, CommandFault, ReplayWords, read_words};
+pub use command::{
+    Command, CommandFault, FilesCommand, HostWords, ReplayWords, RunWords, read_words,
+};
 pub use own::own_text;

@@ -2,15 +2,16 @@
 
 ghost use Rattle.std.specs.Prelude.{◌≡◌};
 ghost use Rattle.std.specs.Option.{option_map};
-ghost use Rattle.vd_cmd.specs.Own.{help_text, version_text, own_text_of};
+ghost use Rattle.vd_cmd.specs.Own.{help_text, version_text, is_either, own_text_of};
 
 use vd_base::Texts;
 
 /// The text of `--help`.
 const HELP: &str =
     "Viaduct reads one program over several hosts' secrets: it runs it in clear, finds its least labels, and chooses
-the cheapest protocols for it. It makes the programs of all hosts, and runs them under any schedule; and it makes the
-dealer's files of correlated words.
+the cheapest protocols for it. It makes the programs of all hosts, and runs them: under any schedule in one process,
+each host on its own machine, or all hosts as processes on one machine. It makes the dealer's files of correlated
+words, and tells whose inputs a host's words depend on.
 
 usage:
   viaduct clear SOURCE INPUTS   run SOURCE in clear on one machine, and print each host's words
@@ -29,12 +30,54 @@ usage:
                                 run the programs of all hosts on INPUTS and the deals PREFIX.i.deal in one process,
                                 step by step as SCHEDULE says, and print how each host stands and what it printed;
                                 with messages also the words that were sent on each link
+  viaduct host PROGRAM INPUTS DEAL ADDR..
+                                run the host whose program the file PROGRAM is, over sockets, with its own part of
+                                INPUTS and its deal; there is one ADDR for each other host, in host order, where the
+                                earlier host of the two listens; print listening, then each word, then ended
+  viaduct run SOURCE INPUTS PREFIX SELF PORT
+                                compile SOURCE as compile does, and run each host i on this machine as a process of
+                                the program SELF, on INPUTS and the deal PREFIX.i.deal; the hosts meet at the ports
+                                from PORT on, 1024 to 65520; print what each host printed
+  viaduct depends SOURCE HOST   print the hosts whose inputs can bear on what HOST is told, outside of what is
+                                declassified to it
   viaduct gen N                 print a source of N coordinates, 1 to 100: whether two hosts' points are near
-  viaduct --help                print this text
-  viaduct --version             print the version
+  viaduct trial N               choose protocols for that source and replay it, on inputs and a deal of its own, and
+                                print the cost of the choice and how each host stands
+  viaduct --help, -h            print this text
+  viaduct --version, -V         print the version
 
-SOURCE, INPUTS, CERT and SCHEDULE are files. A run that does not end well writes a line that begins
+SOURCE, INPUTS, CERT, SCHEDULE, PROGRAM and DEAL are files. A run that does not end well writes a line that begins
 'viaduct: ' to standard error, and ends with the status that belongs to it.
+
+statuses:
+  0   the run ended well
+  1   there was no memory left
+  2   the words have no form
+  3   a file could not be read
+  4   a file or the output could not be written
+  5   a file is too long
+  6   the text of SOURCE is wrong
+  7   a name, a kind or a size of SOURCE is wrong
+  8   in SOURCE something goes where it may not
+  9   no choice of protocols is valid for SOURCE
+  10  the search needs more than BUDGET prefixes
+  11  the text of INPUTS is wrong
+  12  the text of a deal is wrong
+  13  the text of SCHEDULE is wrong
+  14  the text of PROGRAM is wrong
+  15  the text of CERT is wrong
+  16  an item of the deals breaks its identity
+  17  CERT is not accepted
+  18  a link to another host failed
+  19  a byte came that is no part of what was waited for
+  20  two words that are to be the same differ
+  21  another host runs a program of another plan
+  22  another host came than the one that was waited for
+  23  INPUTS has too few numbers
+  24  DEAL has too few items
+  25  a link ended before all words had come
+  26  the process of a host did not end well
+  27  no host of SOURCE has the name HOST
 ";
 
 /// The text of `--version`.
@@ -54,13 +97,20 @@ fn version() -> &'static str
     VERSION
 }
 
-/// What a lone word asks the program to say of itself: `--help` or `--version`.
+/// Whether a word is the one or the other.
+fn is_either(word: &str, long: &str, short: &str) -> bool
+    ensures { result ≡ is_either word.now long.now short.now }
+{
+    word == long || word == short
+}
+
+/// What a lone word asks the program to say of itself: `--help` or `-h`, `--version` or `-V`.
 pub fn own_text(words: &Texts) -> Option<&'static str>
     ensures { option_map (λ text. text.now) result ≡ own_text_of words.now }
 {
     match words.as_slice() {
-        [word] if word.as_str() == "--help" => Some(help()),
-        [word] if word.as_str() == "--version" => Some(version()),
+        [word] if is_either(word.as_str(), "--help", "-h") => Some(help()),
+        [word] if is_either(word.as_str(), "--version", "-V") => Some(version()),
         _ => None,
     }
 }

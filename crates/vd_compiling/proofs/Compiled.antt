@@ -20,7 +20,7 @@ use Rattle.vd_selection.specs.Choices.{ChoiceOutcomes}
 use Rattle.vd_selection.specs.Selecting.{IsOver, Selects}
 use Rattle.vd_selection.specs.declared.selecting.Selection.TheVariants.{Found, NoAssignment as NoList}
 use Rattle.vd_plan.specs.Loads.{Loads}
-use Rattle.vd_plan.specs.Plans.{Plan, Checks, Computes, Executes, answer_then, check_then}
+use Rattle.vd_plan.specs.Plans.{Plan, Checks, Computes, Executes, check_then}
 use Rattle.vd_plan.specs.declared.answer.Answer.{Answer}
 use Rattle.vd_plan.specs.declared.status.Status.{Status}
 use Rattle.vd_plan.specs.declared.status.Status.TheVariants.{Ended, Memory, Spent}
@@ -29,7 +29,7 @@ use Rattle.vd_frontend.specs.Outcomes.{TextOutcomes, LabelOutcomes}
 use Rattle.vd_frontend.specs.Sources.{source_of, resolved_of}
 use Rattle.vd_selecting.specs.Choosing.{Search, GaveUp, Certified}
 use Rattle.vd_selecting.proofs.Selected.{selected_then, spent_then}
-use Rattle.vd_compiling.specs.Built.{all_built, as_built, no_list}
+use Rattle.vd_compiling.specs.Selected.{no_list}
 use Rattle.vd_compiling.specs.Compiling.{ExecutesList, ExecutesProblem, choice_plan, compile_plan, compiled_at, host_files, list_plan, plan_for, printed_at, source_plan, text_plan}
 
 -- ---- answers
@@ -53,15 +53,9 @@ answered program problem list least text prefix printed shown all plan form stor
 -- ---- with a list of protocols
 
 module _ (program : NormalForm) (problem : Problem) (text prefix : List ℕ) where
-  pub list_refused : (list : List ℕ) (least : ℕ) (status : Status) → Checks (as_built (all_built problem list)) (Err status) → ExecutesList program problem text prefix list least (Err status)
-  list_refused list least status checks files =
-      check_step (as_built (all_built problem list)) files (Err status) checks (λ built. answer_then (compiled_at program problem list least text prefix))
-
-  pub list_answered : (list : List ℕ) (least : ℕ) (result : Result Answer Status) → Checks (as_built (all_built problem list)) (Ok tt) → Computes (compiled_at program problem list least text prefix) result
+  pub list_answered : (list : List ℕ) (least : ℕ) (result : Result Answer Status) → Computes (compiled_at program problem list least text prefix) result
       → ExecutesList program problem text prefix list least result
-  list_answered list least result checks computes files =
-      check_step (as_built (all_built problem list)) files (Ok tt) checks (λ built. answer_then (compiled_at program problem list least text prefix)) files result
-      (answers (compiled_at program problem list least text prefix) files result computes)
+  list_answered list least result computes files = answers (compiled_at program problem list least text prefix) files result computes
 
   -- ---- with a selection
 

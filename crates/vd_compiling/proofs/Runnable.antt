@@ -1,5 +1,5 @@
 -- A selected list of protocols can be split.
-use Rattle.std.proofs.Common.{◌≡◌, ℕ, ◌≤◌, true, Some, List, [], length, ap, ◌∙◌, subst, arith}
+use Rattle.std.proofs.Common.{◌≡◌, ℕ, ◌≤◌, Some, List, [], length, ap, ◌∙◌, subst, arith}
 use Rattle.std.proofs.lemmas.List.FromFn.{length-map-range_with_len}
 use Rattle.vd_base.specs.Limits.{most_hosts}
 use Rattle.vd_core.specs.declared.normal.NormalForm.{NormalForm}
@@ -12,14 +12,13 @@ use Rattle.vd_space.proofs.Counted.{as_many}
 use Rattle.vd_selection.specs.Choices.{IsChosen}
 use Rattle.vd_host_programs.specs.Programs.{IsRunnable, host_codes, joint_of}
 use Rattle.vd_selecting.specs.Problems.{IsProblemOf}
-use Rattle.vd_compiling.specs.Built.{IsSelected, all_built}
+use Rattle.vd_compiling.specs.Selected.{IsSelected}
 
-pub selected_of : (program : NormalForm) (problem : Problem) (list : List ℕ) → IsProblemOf program problem → IsChosen problem (Some list) → all_built problem list ≡ true → IsSelected program list
-selected_of program problem list of chosen built = record {
+pub selected_of : (program : NormalForm) (problem : Problem) (list : List ℕ) → IsProblemOf program problem → IsChosen problem (Some list) → IsSelected program list
+selected_of program problem list of chosen = record {
   labels = of.labels;
   least = of.least;
   chosen = subst (λ (p : Problem). IsChosen p (Some list)) of.same chosen;
-  built = subst (λ (p : Problem). all_built p list ≡ true) of.same built;
 }
 
 pub runnable_of : (program : NormalForm) (list : List ℕ) → IsWellMade program → IsSelected program list → IsRunnable program list
@@ -27,7 +26,6 @@ runnable_of program list made is = record {
   labels = is.labels;
   whole = is.chosen.whole.full ∙ as_many program is.labels made;
   valid = is.chosen.whole.valid;
-  built = is.built;
 }
 
 -- there is a code for each host

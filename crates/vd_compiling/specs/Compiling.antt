@@ -27,7 +27,7 @@ use Rattle.vd_frontend.specs.Sources.{source_of, resolved_of}
 use Rattle.vd_selecting.specs.Choosing.{Search, SomeSearch}
 use Rattle.vd_selecting.specs.Problems.{problem_for}
 use Rattle.vd_selecting.specs.Selected.{choice_then}
-use Rattle.vd_compiling.specs.Built.{all_built, as_built, no_list}
+use Rattle.vd_compiling.specs.Selected.{no_list}
 
 -- ---- what is stored
 
@@ -62,8 +62,7 @@ compiled_at program problem list least text prefix =
 
 -- with a list of protocols of this cost
 abbrev pub list_plan : NormalForm → Problem → (text prefix : List ℕ) → List ℕ → (least : ℕ) → Contents → Plan
-list_plan program problem text prefix list least =
-    check_then (as_built (all_built problem list)) (λ built. answer_then (compiled_at program problem list least text prefix))
+list_plan program problem text prefix list least = answer_then (compiled_at program problem list least text prefix)
 
 -- with the choice, if there is one
 abbrev pub choice_plan : NormalForm → Problem → (text prefix : List ℕ) → Option (List ℕ) → Contents → Plan

@@ -1,15 +1,14 @@
 //! The command `compile`.
 
-ghost use Rattle.std.specs.Prelude.{◌≡◌, ◌≤◌, Some, length, IfOk};
+ghost use Rattle.std.specs.Prelude.{◌≡◌, ◌≤◌, length, IfOk};
 ghost use Rattle.vd_base.specs.Limits.{most_hosts, most_search_budget};
 ghost use Rattle.vd_normal.specs.Normal.{normal_form};
 ghost use Rattle.vd_plan.specs.Plans.{Computes};
-ghost use Rattle.vd_selection.specs.Choices.{IsChosen};
 ghost use Rattle.vd_selecting.specs.Problems.{IsProblemOf};
-ghost use Rattle.vd_compiling.specs.Built.{IsSelected};
-ghost use Rattle.vd_compiling.specs.Compiling.{ExecutesCompile, ExecutesList, ExecutesProblem, ExecutesProgram, compiled_at, host_file, host_files};
+ghost use Rattle.vd_compiling.specs.Selected.{IsSelected};
+ghost use Rattle.vd_compiling.specs.Compiling.{ExecutesCompile, ExecutesProblem, ExecutesProgram, compiled_at, host_file, host_files};
 
-use crate::checks::{expect_built, no_assignment};
+use crate::checks::no_assignment;
 use std::alloc::{AllocError, Global};
 use vd_base::limits::SOURCE_BYTES;
 use vd_base::{HostId, Names};
@@ -90,24 +89,6 @@ fn compile_at(
     })
 }
 
-/// What `compile` does with a list of protocols of this cost.
-fn compile_list(
-    alloc: Global,
-    program: &Program,
-    space: &Space,
-    places: &[u32],
-    cost: u32,
-    text: &[u8],
-    prefix: &str,
-) -> Result<Answer, Status>
-    requires problem { IsProblemOf program.now space.now }
-    requires chosen { IsChosen space.now (Some places.now) }
-    ensures { ExecutesList program.now space.now text.now prefix.now places.now cost result }
-{
-    expect_built(space, places)?;
-    compile_at(alloc, program, space, places, cost, text, prefix)
-}
-
 /// What `compile` does with the space of a program.
 fn compile_space(
     alloc: Global,
@@ -123,7 +104,7 @@ fn compile_space(
 {
     match select(alloc, space.problem(), budget) {
         Ok(Selection::Found(places, cost, _)) => {
-            compile_list(alloc, program, space, places.as_slice(), cost, text, prefix)
+            compile_at(alloc, program, space, places.as_slice(), cost, text, prefix)
         }
         Ok(Selection::NoAssignment(_)) => Ok(no_assignment(alloc)),
         Err(SelectFault::Spent) => Err(Status::Spent(budget)),
@@ -147,7 +128,7 @@ fn compile_program(
 }
 
 /// What `compile` does with a source that meets every rule, whose text this is.
-fn compile_source(
+pub fn compile_source(
     alloc: Global,
     source: &Resolved,
     text: &[u8],

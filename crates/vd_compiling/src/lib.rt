@@ -4,5 +4,5 @@
 mod checks;
 mod compile_command;
 
-pub use checks::{expect_built, no_assignment};
-pub use compile_command::compile;
+pub use checks::no_assignment;
+pub use compile_command::{compile, compile_source};

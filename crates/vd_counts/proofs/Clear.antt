@@ -153,10 +153,10 @@ module _ (hosts N : ℕ) where
   first_low n [] le f = omega (arith, le)
   first_low n (r ∷ rs) le f = let p = f.0 in omega (arith, p)
 
-  pub shown_fits : (x : Places) (h : HostId) (k m n : ℕ) (next : List ℕ) → h.0 < hosts → PlacesFit hosts 0 k x → length x ≤ 8 → k ≤ m → m + 8 ≤ n → n ≤ N → IsLow m next → RegFits hosts N 1 n (shown x h next)
+  pub shown_fits : (x : Places) (h : HostId) (k m n : ℕ) (next : List ℕ) → h.0 < hosts → PlacesFit hosts 0 k x → length x ≤ 17 → k ≤ m → m + 17 ≤ n → n ≤ N → IsLow m next → RegFits hosts N 1 n (shown x h next)
   shown_fits x h k m n next here f few le more most low = at (is_among (hosts_of x) h.0)
     where
-      heard : (y : Places) → PlacesFit hosts 0 k y → length y ≤ 8 → ToldFit n (told y h next)
+      heard : (y : Places) → PlacesFit hosts 0 k y → length y ≤ 17 → ToldFit n (told y h next)
       heard [] g e = record { low = low_more m n next (omega (arith, more)) low; given = tt; gadgets = tt }
       heard (q ∷ y) g e = told_fits (q ∷ y) h k m n next here g le (omega (arith, e, more)) (omega arith) most low
 

@@ -6,3 +6,4 @@ pub mod Gates
 pub mod Pairs
 pub mod PairsOfCalls
 pub mod Shares
+pub mod Commitments

@@ -1,4 +1,4 @@
--- What calls may take: registers below a bound, packets of one word or two, and so many fresh registers.
+-- What calls may take: registers below a bound, packets of one to nine words, and so many fresh registers.
 use Rattle.std.specs.Prelude.{ℕ, ◌+◌, ◌<◌, ◌≤◌, List, length, slice_index, All}
 use Rattle.vd_base.specs.declared.ids.HostId.{HostId}
 use Rattle.vd_base.specs.declared.operations.Op.{Op}
@@ -9,6 +9,8 @@ use Rattle.vd_execution.specs.Gadgets.{Gadget, acts_of_gadget}
 use Rattle.vd_execution.specs.Ranges.{ActionFits}
 use Rattle.vd_duet.specs.Calls.{Places, Made, Calls}
 use Rattle.vd_duet.specs.Laws.{Each, at_host}
+use Rattle.vd_commit.specs.declared.ends.Held.{Held}
+use Rattle.vd_commit.specs.declared.ends.Seen.{Seen}
 
 -- the next free registers of all hosts are at most so many
 abbrev pub IsLow : ℕ → List ℕ → Type 0
@@ -20,9 +22,9 @@ AreHere hosts hs = Each (λ (h : HostId). h.0 < hosts) hs
 
 -- ---- acts
 
--- one word or two, in registers below the bound
+-- one to nine words, in registers below the bound
 abbrev pub PacketFits : ℕ → List Reg → Type 0
-PacketFits bound rs = All (λ (r : Reg). r.0 < bound) rs × (0 < length rs) × (length rs ≤ 2)
+PacketFits bound rs = All (λ (r : Reg). r.0 < bound) rs × (0 < length rs) × (length rs ≤ 9)
 
 -- registers are below the bound, and packets go between hosts that are there
 abbrev pub ActFits : ℕ → ℕ → Act → Type 0
@@ -38,15 +40,29 @@ GadgetFits hosts bound g = Each (ActFits hosts bound) (acts_of_gadget g)
 abbrev pub PlacesFit : ℕ → ℕ → ℕ → Places → Type 0
 PlacesFit hosts size n x = Each (λ (q : HostId × Reg). (q.0.0 < hosts) × (q.1.0 + size ≤ n)) x
 
--- and at most eight hosts
+-- and at most as many as a commitment has
 pub record PartsFit (hosts size n : ℕ) (x : Places) : Type 0 where
-  pub few : length x ≤ 8
+  pub few : length x ≤ 17
   pub at : PlacesFit hosts size n x
 
 -- the parts of a word are made: afterwards all registers that are taken are below n
 pub record WordMade (hosts bound n : ℕ) (made : Made Places) : Type 0 where
   pub low : IsLow n made.next
   pub given : PartsFit hosts 1 n made.given
+  pub gadgets : Each (GadgetFits hosts bound) made.gadgets
+
+-- a commitment is made: its value and rows of eight registers are below n
+pub record EndsMade (hosts bound n : ℕ) (made : Made (Held × Seen)) : Type 0 where
+  pub low : IsLow n made.next
+  pub value : made.given.0.value.0 < n
+  pub nonce : made.given.0.nonce.0 + 8 ≤ n
+  pub digest : made.given.1.digest.0 + 8 ≤ n
+  pub gadgets : Each (GadgetFits hosts bound) made.gadgets
+
+-- a register is made
+pub record RegisterMade (hosts bound n : ℕ) (made : Made Reg) : Type 0 where
+  pub low : IsLow n made.next
+  pub given : made.given.0 < n
   pub gadgets : Each (GadgetFits hosts bound) made.gadgets
 
 -- the registers that a call takes of a host, at most

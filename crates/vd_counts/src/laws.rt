@@ -1,7 +1,7 @@
 //! What holds of the calls. Each function's clauses are laws.
 
 ghost use Rattle.vd_counts.specs.Law.{ClearCallsFit, SpreadingFits, SumCallsFit, CircuitCallsFit};
-ghost use Rattle.vd_counts.specs.Law.{ConversionToBitsFits, ConversionToSumsFits};
+ghost use Rattle.vd_counts.specs.Law.{ConversionToBitsFits, ConversionToSumsFits, CommittingFits, RevealingFits};
 
 /// The calls of hosts that hold a word in clear take few registers, and so does a word that goes from copies to other copies.
 pub fn clear_calls_fit()
@@ -19,4 +19,10 @@ pub fn shared_calls_fit()
 pub fn conversions_fit()
     ensures to_bits { ConversionToBitsFits }
     ensures to_sums { ConversionToSumsFits }
+{}
+
+/// A commitment and its opening take few registers, and their packets have at most nine words.
+pub fn commitments_fit()
+    ensures committing { CommittingFits }
+    ensures revealing { RevealingFits }
 {}

@@ -1,6 +1,6 @@
 -- What holds of the code of the hosts.
-use Rattle.std.proofs.Common.{◌≡◌, ℕ, zero, suc, ◌^◌, ◌<◌, ◌≤◌, Bool, true, List, [], ◌∷◌, inl, length, map, slice_index, slice_index_or, refl, sym, ap, ap₂, subst, ◌∙◌, arith}
-use Rattle.std.specs.List.{All, list_all, range_with_len}
+use Rattle.std.proofs.Common.{◌≡◌, ℕ, zero, suc, ◌^◌, ◌<◌, ◌≤◌, List, [], ◌∷◌, inl, length, map, slice_index, slice_index_or, refl, sym, ap, ap₂, subst, ◌∙◌, arith}
+use Rattle.std.specs.List.{All, range_with_len}
 use Rattle.vd_base.specs.declared.protocols.Proto.{Proto}
 use Rattle.vd_base.specs.declared.protocols.Proto.TheVariants.{Local}
 use Rattle.vd_base.specs.HostSets.{host}
@@ -10,7 +10,6 @@ use Rattle.vd_core.specs.Facts.{IsWellMade}
 use Rattle.vd_constraints.specs.declared.labels.Labels.{Labels}
 use Rattle.vd_constraints.specs.Rules.{label}
 use Rattle.vd_space.specs.Reading.{problem_of}
-use Rattle.vd_space.specs.Validity.{protocol}
 use Rattle.vd_execution.specs.declared.instructions.Instr.{Instr}
 use Rattle.vd_execution.specs.Code.{Finished}
 use Rattle.vd_execution.specs.Deals.{IsValidDeal}
@@ -20,8 +19,6 @@ use Rattle.vd_execution.specs.World.{Tape, followed_by_zeros}
 use Rattle.vd_schedules.proofs.Picks.{picks}
 use Rattle.vd_schedules.proofs.Reading.{read_back, unbegun}
 use Rattle.vd_joint.specs.Outcome.{NumbersFit}
-use Rattle.vd_joint.proofs.Lists.{and_left, and_right}
-use Rattle.vd_suite.specs.Parts.{is_built}
 use Rattle.vd_suite.specs.Suite.{IsOver, AreGiven}
 use Rattle.vd_suite.specs.Given.{zero_deal}
 use Rattle.vd_suite.specs.Whole.{inputs_of, CanRun}
@@ -52,33 +49,17 @@ problem_protos : (program : NormalForm) (labels : Labels) (places : List ℕ) �
 problem_protos program labels places made =
     ap (λ (n : ℕ). let f : ℕ → Proto = λ x. proto_at (protocols_of n) (slice_index places x) in f) (sym made.labels ∙ sym (length_map (label program) program.labels))
 
--- a test that all items of a list pass, and 0, is passed at each place
-at_each : (f : ℕ → Bool) (xs : List ℕ) → list_all f xs ≡ true → f 0 ≡ true → (x : ℕ) → f (slice_index xs x) ≡ true
-at_each f [] e z x = z
-at_each f (y ∷ ys) e z zero = and_left (f y) (list_all f ys) e
-at_each f (y ∷ ys) e z (suc x) = at_each f ys (and_right (f y) (list_all f ys) e) z x
-
-first_built : (n : ℕ) → is_built (proto_at (protocols_of n) 0) ≡ true
-unfolding lib.Count.ones
-first_built zero = refl
-first_built (suc n) = refl
-
 pub no_words : (h i : ℕ) → slice_index (inputs_of [] h) i < 2 ^ 32
 no_words h i = omega arith
 
 module _ (program : NormalForm) (places : List ℕ) (made : IsWellMade program) (numbers : NumbersFit program) (runnable : IsRunnable program places) where
   chosen : IsChosen program runnable.labels places
-  chosen = record { made = made; numbers = numbers; whole = runnable.whole; valid = runnable.valid; built = runnable.built }
+  chosen = record { made = made; numbers = numbers; whole = runnable.whole; valid = runnable.valid }
 
   pub program_can_run : (inputs : List (List ℕ)) → AreWords inputs → (t : Tape) → IsValidDeal t → AreGiven (inputs_of inputs) t → CanRun program (protos_at program places) inputs t
   program_can_run inputs words t deal given =
       subst (λ (f : ℕ → Proto). CanRun program f inputs t) (sym (problem_protos program runnable.labels places made))
       (can_run program runnable.labels places chosen inputs words t deal given)
-
-  pub places_built : (x : ℕ) → is_built (protos_at program places x) ≡ true
-  places_built x =
-      subst (λ (f : ℕ → Proto). is_built (f x) ≡ true) (sym (problem_protos program runnable.labels places made))
-      (at_each (λ p. is_built (protocol (problem_of program runnable.labels) p)) places runnable.built (first_built (length (problem_of program runnable.labels).hosts)) x)
 
   pub joint_is_tidy : IsTidy (joint_of program places)
   joint_is_tidy =

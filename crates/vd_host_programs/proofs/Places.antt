@@ -16,7 +16,7 @@ use Rattle.vd_joint.specs.Outcome.{NumbersFit, ValidAt}
 use Rattle.vd_split.specs.Offer.{proto_in, AreServed, stmt_stands}
 use Rattle.vd_split.specs.Places.{program_lines}
 use Rattle.vd_suite.specs.Given.{zero_deal}
-use Rattle.vd_suite.specs.Parts.{is_built, suite_calls}
+use Rattle.vd_suite.specs.Parts.{suite_calls}
 use Rattle.vd_suite.specs.Machine.{machine}
 use Rattle.vd_suite.specs.Suite.{IsOver, suite}
 use Rattle.vd_suite.specs.Whole.{code_at, inputs_of}
@@ -24,7 +24,7 @@ use Rattle.vd_suite.proofs.Given.{zero_deals_are_valid}
 use Rattle.vd_built.specs.Offered.{IsServed, offer_of}
 use Rattle.vd_built.proofs.Served.{programs_can_be_split}
 use Rattle.vd_host_programs.specs.Programs.{IsRunnable, proto_at, protos_at, joint_of, host_codes}
-use Rattle.vd_host_programs.proofs.HostCodes.{places_over, places_built, program_can_run, no_words, picked_codes}
+use Rattle.vd_host_programs.proofs.HostCodes.{places_over, program_can_run, no_words, picked_codes}
 
 first_proto : (n : ℕ) → Local (host 0) ≡ proto_at (protocols_of n) 0
 unfolding lib.Count.ones
@@ -54,7 +54,6 @@ module _ (program : NormalForm) (places : List ℕ) where
       programs_can_be_split program protos
       (record {
         made = made;
-        built = λ x. subst (λ (f : ℕ → Proto). IsTrue (is_built (f x))) (sym same) (places_built program places made numbers runnable x);
         over = λ x. subst (λ (f : ℕ → Proto). IsOver (length program.hosts) (f x)) (sym same) (places_over program places made x);
         tape = zero_deal (inputs_of []);
         inputs = inputs_of [];

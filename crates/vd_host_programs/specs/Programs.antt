@@ -1,6 +1,6 @@
--- The code of each host of a program whose slots stand at a valid list of protocols that are built.
-use Rattle.std.specs.Prelude.{◌≡◌, ℕ, ◌^◌, ◌<◌, true, IsTrue, List, [], length, map, slice_index, slice_index_or}
-use Rattle.std.specs.List.{list_all, range_with_len}
+-- The code of each host of a program whose slots stand at a valid list of protocols.
+use Rattle.std.specs.Prelude.{◌≡◌, ℕ, ◌^◌, ◌<◌, IsTrue, List, [], length, map, slice_index, slice_index_or}
+use Rattle.std.specs.List.{range_with_len}
 use Rattle.vd_base.specs.declared.protocols.Proto.{Proto}
 use Rattle.vd_base.specs.declared.protocols.Proto.TheVariants.{Local}
 use Rattle.vd_base.specs.HostSets.{host}
@@ -9,7 +9,7 @@ use Rattle.vd_core.specs.declared.normal.NormalForm.{NormalForm}
 use Rattle.vd_core.specs.Facts.{IsWellMade}
 use Rattle.vd_constraints.specs.declared.labels.Labels.{Labels}
 use Rattle.vd_space.specs.Reading.{problem_of}
-use Rattle.vd_space.specs.Validity.{protocol, is_valid}
+use Rattle.vd_space.specs.Validity.{is_valid}
 use Rattle.vd_execution.specs.declared.instructions.Instr.{Instr}
 use Rattle.vd_execution.specs.Deals.{IsValidDeal}
 use Rattle.vd_execution.specs.Joint.{Joint, code_of}
@@ -18,16 +18,14 @@ use Rattle.vd_execution.specs.Text.{IsCodeOf, text}
 use Rattle.vd_execution.specs.World.{Supply, Tape, followed_by_zeros}
 use Rattle.vd_schedules.specs.Claims.{RunsWell}
 use Rattle.vd_joint.specs.Outcome.{NumbersFit}
-use Rattle.vd_suite.specs.Parts.{is_built}
 use Rattle.vd_suite.specs.Suite.{AreGiven}
 use Rattle.vd_suite.specs.Whole.{code_at, inputs_of, RunsAsToldBy}
 
--- a protocol for each slot, valid for some labels, and all of them built
+-- a protocol for each slot, valid for some labels
 pub record IsRunnable (program : NormalForm) (places : List ℕ) : Type 0 where
   pub labels : Labels
   pub whole : length places ≡ length program.slots
   pub valid : IsTrue (is_valid (problem_of program labels) places)
-  pub built : list_all (λ p. is_built (protocol (problem_of program labels) p)) places ≡ true
 
 -- a protocol by its place in a list
 abbrev pub proto_at : List Proto → ℕ → Proto

@@ -55,7 +55,7 @@ fn host_count(program: &Program) -> u8
 }
 
 /// The code of each host of a program, in order. `places` has for each slot the place of its protocol in the list of all: a valid
-/// list of protocols that are built.
+/// list of protocols.
 pub fn split(
     alloc: Global,
     program: &Program,

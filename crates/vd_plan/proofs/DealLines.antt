@@ -3,8 +3,9 @@ use Rattle.std.proofs.Common.{◌≡◌, ℕ, List, ◌++◌, Result, subst, cod
 use Rattle.std.specs.Fmt.{decimal}
 use Rattle.vd_outside.specs.Sink.{SinkView}
 use Rattle.vd_deals.specs.declared.deal.BadItem.{BadItem}
+use Rattle.vd_deals.specs.declared.deal.DealKind.{DealKind}
 use Rattle.vd_plan.specs.Deliver.{WritesAll}
-use Rattle.vd_plan.specs.Lines.{bad_deal_line, deal_line, kind_name}
+use Rattle.vd_plan.specs.Lines.{bad_deal_line, deal_line, kind_name, short_deal_line}
 
 pub deal_written : {E : Type 0} (name : List ℕ) (offset : ℕ) (o : List ℕ) (before now : SinkView) (result : Result (Unit {0}) E) → o ≡ decimal offset
     → WritesAll {E = E} (codes "viaduct: deal text " ++ (name ++ (codes " at " ++ (o ++ codes "\n")))) before now result → WritesAll {E = E} (deal_line name offset) before now result
@@ -20,3 +21,11 @@ pub bad_written : {E : Type 0} (bad : BadItem) (kind first second index left rig
     → WritesAll {E = E} (bad_text kind first second index left right) before now result → WritesAll {E = E} (bad_deal_line bad) before now result
 bad_written {E = E} bad kind first second index left right before now result k f s i l r w =
     subst (λ (text : List ℕ). WritesAll {E = E} text before now result) (λ j. bad_text (k j) (f j) (s j) (i j) (l j) (r j)) w
+
+abbrev short_text : (kind cursor count : List ℕ) → List ℕ
+short_text kind cursor count = codes "viaduct: short deal " ++ (kind ++ (codes " " ++ (cursor ++ (codes " " ++ (count ++ codes "\n")))))
+
+pub short_written : {E : Type 0} (kind : DealKind) (cursor count : ℕ) (k c n : List ℕ) (before now : SinkView) (result : Result (Unit {0}) E) → k ≡ kind_name kind → c ≡ decimal cursor → n ≡ decimal count
+    → WritesAll {E = E} (short_text k c n) before now result → WritesAll {E = E} (short_deal_line kind cursor count) before now result
+short_written {E = E} kind cursor count k c n before now result is_kind is_cursor is_count w =
+    subst (λ (text : List ℕ). WritesAll {E = E} text before now result) (λ j. short_text (is_kind j) (is_cursor j) (is_count j)) w

@@ -7,10 +7,10 @@ use Rattle.vd_outside.specs.Sink.{SinkView}
 use Rattle.vd_outside.specs.declared.files.FilesCall.{FilesCall}
 use Rattle.vd_outside.specs.declared.files.FilesCall.TheVariants.{Store}
 use Rattle.vd_plan.specs.declared.status.Status.{Status}
-use Rattle.vd_plan.specs.declared.status.Status.TheVariants.{Ended, Memory, Usage, ReadFault, WriteFault, NoAssignment}
+use Rattle.vd_plan.specs.declared.status.Status.TheVariants.{Ended, Memory, Usage, ReadFault, WriteFault, NoAssignment, Host, ChildFault}
 use Rattle.vd_plan.specs.declared.answer.Answer.{Answer}
 use Rattle.vd_outside.specs.declared.stored.Stored.{Stored}
-use Rattle.vd_plan.specs.Plans.{Plan, Executes, GrowsWithin, fetch_calls, IsGiven}
+use Rattle.vd_plan.specs.Plans.{Plan, Executes, GrowsWithin, IsPlanned, fetch_calls, IsGiven}
 use Rattle.vd_plan.proofs.Fronts.{more_within, later_within}
 use Rattle.vd_plan.specs.Deliver.{Delivers, StoresAll, WritesAll, IsEnded, IsDone, IsLeft, IsPartlyStored, IsLastStore, store_calls, stored}
 use Rattle.vd_plan.specs.Runs.{Runs, IsAnswered, calls}
@@ -27,13 +27,14 @@ given_done NoAssignment printed given = tt
 given_done other printed given = absurd given
 
 runs_quiet : (fits : Bool) (plan : Contents → Plan) (before now : FilesView) (out : SinkView) (status : Status) → Executes fits plan before now (Err status)
-    → (status ≡ Usage → fits ≡ false) → (fits ≡ false → status ≡ Usage) → (status ≡ WriteFault → ⊥)
+    → IsPlanned status → (status ≡ Usage → fits ≡ false) → (fits ≡ false → status ≡ Usage) → (status ≡ WriteFault → ⊥)
     → (IsTrue before.told → IsAnswered (plan before.contents).answer.status status) → (IsDone status → ⊥) → ((p : List ℕ) → IsLeft p out.taken out.taken status)
     → (IsTrue before.told → IsPartlyStored status (plan before.contents).answer.stores before.contents now.contents)
     → Runs fits plan before now out out status
-runs_quiet fits plan before now out status w usage comes no_write answered no_end left none_stored = record {
+runs_quiet fits plan before now out status w planned usage comes no_write answered no_end left none_stored = record {
   later = w.later;
   out_later = omega arith;
+  planned = planned;
   usage = usage;
   usage_comes = comes;
   read_fault = λ name e. w.fault name (ap (λ (s : Status). Err s) e);
@@ -55,10 +56,12 @@ pub runs_err : (fits : Bool) (plan : Contents → Plan) (before now : FilesView)
 runs_err fits plan before now out Ended w = absurd w.proper
 runs_err fits plan before now out NoAssignment w = absurd w.proper
 runs_err fits plan before now out WriteFault w = absurd w.proper
-runs_err fits plan before now out Memory w = runs_quiet fits plan before now out Memory w (λ e. absurd (cc e)) (λ e. absurd (no_form fits w.proper e)) (λ e. cc e) (λ t. tt) (λ e. e) (λ p. refl) (λ t. (0, w.contents t))
-runs_err fits plan before now out Usage w = runs_quiet fits plan before now out Usage w (λ e. w.proper) (λ e. refl) (λ e. cc e) (λ t. ap (λ (a : Answer). a.status) (w.settled t)) (λ e. e) (λ p. refl) (λ t. (0, w.contents t))
-runs_err fits plan before now out (ReadFault name) w = runs_quiet fits plan before now out (ReadFault name) w (λ e. absurd (cc e)) (λ e. absurd (no_form fits w.proper e)) (λ e. cc e) (λ t. tt) (λ e. e) (λ p. refl) (λ t. (0, w.contents t))
-runs_err fits plan before now out other w = runs_quiet fits plan before now out other w (λ e. absurd (cc e)) (λ e. absurd (no_form fits w.proper e)) (λ e. cc e) (λ t. ap (λ (a : Answer). a.status) (w.settled t)) (λ e. e) (λ p. refl) (λ t. (0, w.contents t))
+runs_err fits plan before now out Memory w = runs_quiet fits plan before now out Memory w tt (λ e. absurd (cc e)) (λ e. absurd (no_form fits w.proper e)) (λ e. cc e) (λ t. tt) (λ e. e) (λ p. refl) (λ t. (0, w.contents t))
+runs_err fits plan before now out Usage w = runs_quiet fits plan before now out Usage w tt (λ e. w.proper) (λ e. refl) (λ e. cc e) (λ t. ap (λ (a : Answer). a.status) (w.settled t)) (λ e. e) (λ p. refl) (λ t. (0, w.contents t))
+runs_err fits plan before now out (ReadFault name) w = runs_quiet fits plan before now out (ReadFault name) w tt (λ e. absurd (cc e)) (λ e. absurd (no_form fits w.proper e)) (λ e. cc e) (λ t. tt) (λ e. e) (λ p. refl) (λ t. (0, w.contents t))
+runs_err fits plan before now out (Host cause) w = absurd w.proper
+runs_err fits plan before now out (ChildFault name cause) w = absurd w.proper
+runs_err fits plan before now out other w = runs_quiet fits plan before now out other w tt (λ e. absurd (cc e)) (λ e. absurd (no_form fits w.proper e)) (λ e. cc e) (λ t. ap (λ (a : Answer). a.status) (w.settled t)) (λ e. e) (λ p. refl) (λ t. (0, w.contents t))
 
 last_since : (before xs mid now : List FilesCall) → mid ≡ before ++ xs → IsLastStore mid now → IsLastStore before now
 last_since before xs mid now is p = (
@@ -71,13 +74,14 @@ last_since before xs mid now is p = (
 )
 
 runs_given : (fits : Bool) (plan : Contents → Plan) (before mid now : FilesView) (out_before out_now : SinkView) (given : Answer) (status : Status) → Executes fits plan before mid (Ok given) → Delivers given mid now out_before out_now status
-    → (status ≡ Usage → ⊥) → ((name : List ℕ) → status ≡ ReadFault name → ⊥)
+    → IsPlanned status → (status ≡ Usage → ⊥) → ((name : List ℕ) → status ≡ ReadFault name → ⊥)
     → (IsTrue before.told → IsAnswered (plan before.contents).answer.status status)
     → (IsTrue out_now.told → (IsEnded status → ⊥) → (status ≡ WriteFault → ⊥) → out_now.taken ≡ out_before.taken)
     → Runs fits plan before now out_before out_now status
-runs_given fits plan before mid now out_before out_now given status w d no_usage no_read answered silent = record {
+runs_given fits plan before mid now out_before out_now given status w d planned no_usage no_read answered silent = record {
   later = let a = w.later in let b = d.later in omega arith;
   out_later = d.out_later;
+  planned = planned;
   usage = λ e. absurd (no_usage e);
   usage_comes = λ e. absurd (no_form fits w.proper.1 e);
   read_fault = λ name e. absurd (no_read name e);
@@ -102,10 +106,10 @@ runs_given fits plan before mid now out_before out_now given status w d no_usage
         ∙ ap (λ (a : Answer). before.asked ++ (fetch_calls (plan before.contents).fetches ++ store_calls a.stores)) (w.settled t)
 
 pub runs_ok : (fits : Bool) (plan : Contents → Plan) (before mid now : FilesView) (out_before out_now : SinkView) (given : Answer) (status : Status) → Executes fits plan before mid (Ok given) → Delivers given mid now out_before out_now status → Runs fits plan before now out_before out_now status
-runs_ok fits plan before mid now out_before out_now given Ended w d = runs_given fits plan before mid now out_before out_now given Ended w d (λ e. cc e) (λ name e. cc e) (λ t. d.ends ∙ ap (λ (a : Answer). a.status) (w.settled t)) (λ o e f. absurd (e tt))
-runs_ok fits plan before mid now out_before out_now given NoAssignment w d = runs_given fits plan before mid now out_before out_now given NoAssignment w d (λ e. cc e) (λ name e. cc e) (λ t. d.ends ∙ ap (λ (a : Answer). a.status) (w.settled t)) (λ o e f. d.left o)
-runs_ok fits plan before mid now out_before out_now given Memory w d = runs_given fits plan before mid now out_before out_now given Memory w d (λ e. cc e) (λ name e. cc e) (λ t. tt) (λ o e f. d.left o)
-runs_ok fits plan before mid now out_before out_now given WriteFault w d = runs_given fits plan before mid now out_before out_now given WriteFault w d (λ e. cc e) (λ name e. cc e) (λ t. subst (λ (a : Answer). IsDone a.status) (w.settled t) (given_done given.status given.printed w.proper.0)) (λ o e f. absurd (f refl))
+runs_ok fits plan before mid now out_before out_now given Ended w d = runs_given fits plan before mid now out_before out_now given Ended w d tt (λ e. cc e) (λ name e. cc e) (λ t. d.ends ∙ ap (λ (a : Answer). a.status) (w.settled t)) (λ o e f. absurd (e tt))
+runs_ok fits plan before mid now out_before out_now given NoAssignment w d = runs_given fits plan before mid now out_before out_now given NoAssignment w d tt (λ e. cc e) (λ name e. cc e) (λ t. d.ends ∙ ap (λ (a : Answer). a.status) (w.settled t)) (λ o e f. d.left o)
+runs_ok fits plan before mid now out_before out_now given Memory w d = runs_given fits plan before mid now out_before out_now given Memory w d tt (λ e. cc e) (λ name e. cc e) (λ t. tt) (λ o e f. d.left o)
+runs_ok fits plan before mid now out_before out_now given WriteFault w d = runs_given fits plan before mid now out_before out_now given WriteFault w d tt (λ e. cc e) (λ name e. cc e) (λ t. subst (λ (a : Answer). IsDone a.status) (w.settled t) (given_done given.status given.printed w.proper.0)) (λ o e f. absurd (f refl))
 runs_ok fits plan before mid now out_before out_now given other w d = absurd (subst (λ (s : Status). IsGiven s given.printed) (sym d.ends) w.proper.0)
 
 all_stored : (pieces : List Stored) (before now : Contents) → now ≡ stored pieces before → now ≡ stored (take (length pieces) pieces) before

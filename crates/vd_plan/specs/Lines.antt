@@ -16,8 +16,24 @@ use Rattle.vd_plan.specs.declared.status.TextFault.{TextFault}
 use Rattle.vd_plan.specs.declared.status.TextFault.TheVariants.{Text, UnknownHost}
 use Rattle.vd_plan.specs.declared.status.CertificateFault.{CertificateFault}
 use Rattle.vd_plan.specs.declared.status.CertificateFault.TheVariants as cert
+use Rattle.vd_plan.specs.declared.status.HostStatus.{HostStatus}
+use Rattle.vd_plan.specs.declared.status.HostStatus.TheVariants as host_status
+use Rattle.vd_plan.specs.declared.status.ChildCause.{ChildCause}
+use Rattle.vd_plan.specs.declared.status.ChildCause.TheVariants as child_cause
 use Rattle.vd_plan.specs.declared.status.Status.{Status}
-use Rattle.vd_plan.specs.declared.status.Status.TheVariants.{Ended, Memory, Usage, ReadFault, WriteFault, TooLong, Syntax, Names, Flow, NoAssignment, Spent, InputText, DealText, ScheduleText, CertificateText, BadDeal, CertificateRefused, NotBuilt}
+use Rattle.vd_plan.specs.declared.status.Status.TheVariants.{Ended, Memory, Usage, ReadFault, WriteFault, TooLong, Syntax, Names, Flow, NoAssignment, Spent, InputText, DealText, ScheduleText, CertificateText, BadDeal, CertificateRefused, Host, ChildFault, NoHost}
+
+abbrev pub host_code : HostStatus → ℕ
+host_code (host_status.ProgramText offset) = 14
+host_code (host_status.ProgramRange number) = 14
+host_code (host_status.PeerFault name) = 18
+host_code (host_status.BadFrame offset byte) = 19
+host_code (host_status.Unequal left right) = 20
+host_code host_status.WrongProgram = 21
+host_code (host_status.WrongHost wanted named) = 22
+host_code (host_status.ShortInput cursor count) = 23
+host_code (host_status.ShortDeal kind cursor count) = 24
+host_code (host_status.EndOfLink name) = 25
 
 abbrev pub code_of : Status → ℕ
 code_of Ended = 0
@@ -37,7 +53,9 @@ code_of (ScheduleText fault) = 13
 code_of (CertificateText offset) = 15
 code_of (BadDeal bad) = 16
 code_of (CertificateRefused fault) = 17
-code_of NotBuilt = 30
+code_of (Host status) = host_code status
+code_of (ChildFault name cause) = 26
+code_of (NoHost name) = 27
 
 -- a text that ends in a number
 abbrev pub offset_line : List ℕ → ℕ → List ℕ
@@ -106,6 +124,41 @@ certificate_line (cert.Cost stated own) = cost_line stated own
 certificate_line (cert.NotViolated mark) = offset_line (codes "viaduct: cert refused not violated ") mark
 certificate_line (cert.NotBounded mark bound cost) = bound_line mark bound cost
 
+-- a text that ends in a name, and one that ends in two numbers
+abbrev pub name_line : List ℕ → List ℕ → List ℕ
+name_line text name = text ++ (name ++ codes "\n")
+
+abbrev pub two_line : List ℕ → (first second : ℕ) → List ℕ
+two_line text first second = text ++ (decimal first ++ number_then second (codes "\n"))
+
+abbrev pub frame_line : (offset byte : ℕ) → List ℕ
+frame_line offset byte = codes "viaduct: bad frame at " ++ (decimal offset ++ offset_line (codes " byte ") byte)
+
+abbrev pub short_deal_line : DealKind → (cursor count : ℕ) → List ℕ
+short_deal_line kind cursor count = codes "viaduct: short deal " ++ (kind_name kind ++ number_then cursor (number_then count (codes "\n")))
+
+-- why a host did not run to its end
+abbrev pub host_line : HostStatus → List ℕ
+host_line (host_status.ProgramText offset) = offset_line (codes "viaduct: host text at ") offset
+host_line (host_status.ProgramRange number) = offset_line (codes "viaduct: host range at ") number
+host_line (host_status.PeerFault name) = name_line (codes "viaduct: peer fault ") name
+host_line (host_status.BadFrame offset byte) = frame_line offset byte
+host_line (host_status.Unequal left right) = two_line (codes "viaduct: unequal ") left right
+host_line host_status.WrongProgram = codes "viaduct: wrong program\n"
+host_line (host_status.WrongHost wanted named) = two_line (codes "viaduct: wrong host ") wanted named
+host_line (host_status.ShortInput cursor count) = two_line (codes "viaduct: short input ") cursor count
+host_line (host_status.ShortDeal kind cursor count) = short_deal_line kind cursor count
+host_line (host_status.EndOfLink name) = name_line (codes "viaduct: link ended ") name
+
+-- why a child did not end well, behind its host
+abbrev pub cause_text : ChildCause → List ℕ
+cause_text child_cause.Failed = codes "\n"
+cause_text child_cause.Line = codes " line\n"
+cause_text (child_cause.Status status) = codes " " ++ (decimal status ++ codes "\n")
+
+abbrev pub child_line : List ℕ → ChildCause → List ℕ
+child_line name cause = codes "viaduct: child fault " ++ (name ++ cause_text cause)
+
 -- Ended has no line.
 abbrev pub status_line : Status → List ℕ
 status_line Ended = []
@@ -125,7 +178,9 @@ status_line (ScheduleText fault) = schedule_line fault
 status_line (BadDeal bad) = bad_deal_line bad
 status_line (CertificateText offset) = offset_line (codes "viaduct: cert text at ") offset
 status_line (CertificateRefused fault) = certificate_line fault
-status_line NotBuilt = codes "viaduct: not built\n"
+status_line (Host status) = host_line status
+status_line (ChildFault name cause) = child_line name cause
+status_line (NoHost name) = name_line (codes "viaduct: no host ") name
 
 -- the line goes to err, whole unless err failed
 pub record Says (line : List ℕ) (before now : SinkView) : Type 0 where

@@ -8,7 +8,7 @@ use Rattle.vd_outside.specs.declared.files.FilesCall.TheVariants.{Fetch}
 use Rattle.vd_outside.specs.declared.faults.FetchFault.{FetchFault}
 use Rattle.vd_outside.specs.declared.faults.FetchFault.TheVariants as fetch_fault
 use Rattle.vd_plan.specs.declared.status.Status.{Status}
-use Rattle.vd_plan.specs.declared.status.Status.TheVariants.{Ended, Memory, Usage, ReadFault, WriteFault, TooLong, NoAssignment}
+use Rattle.vd_plan.specs.declared.status.Status.TheVariants.{Ended, Memory, Usage, ReadFault, WriteFault, TooLong, NoAssignment, Host, ChildFault}
 use Rattle.vd_plan.specs.declared.answer.Answer.{Answer}
 
 abbrev pub refused : Status → Answer
@@ -72,6 +72,12 @@ IsGiven Ended printed = Unit {0}
 IsGiven NoAssignment printed = printed ≡ []
 IsGiven status printed = ⊥
 
+-- the statuses of hosts that are run over a net or as children come in no plan
+abbrev pub IsPlanned : Status → Type 0
+IsPlanned (Host cause) = ⊥
+IsPlanned (ChildFault name cause) = ⊥
+IsPlanned status = Unit {0}
+
 -- Whatever is told: Usage comes exactly where the words have no form, and a write's fault never before the writing.
 abbrev pub IsProper : Bool → Result Answer Status → Type 0
 IsProper fits (Ok given) = IsGiven given.status given.printed × (fits ≡ true)
@@ -79,6 +85,8 @@ IsProper fits (Err Ended) = ⊥
 IsProper fits (Err NoAssignment) = ⊥
 IsProper fits (Err Usage) = fits ≡ false
 IsProper fits (Err WriteFault) = ⊥
+IsProper fits (Err (Host cause)) = ⊥
+IsProper fits (Err (ChildFault name cause)) = ⊥
 IsProper fits (Err status) = fits ≡ true
 
 -- The files were fetched and the answer computed as the plan says, and nothing was written.
@@ -112,6 +120,8 @@ IsRefusal wanted Memory = Unit {0}
 IsRefusal wanted Usage = ⊥
 IsRefusal wanted (ReadFault name) = ⊥
 IsRefusal wanted WriteFault = ⊥
+IsRefusal wanted (Host cause) = ⊥
+IsRefusal wanted (ChildFault name cause) = ⊥
 IsRefusal wanted (TooLong name limit) = ⊥
 IsRefusal wanted status = wanted ≡ Err status
 

@@ -5,7 +5,7 @@ use Rattle.vd_outside.specs.Files.{FilesView, Contents}
 use Rattle.vd_outside.specs.Sink.{SinkView}
 use Rattle.vd_outside.specs.declared.files.FilesCall.{FilesCall}
 use Rattle.vd_outside.specs.declared.files.FilesCall.TheVariants.{Fetch}
-use Rattle.vd_plan.specs.Plans.{Plan, Executes, GrowsWithin, IsLast, fetch_calls}
+use Rattle.vd_plan.specs.Plans.{Plan, Executes, GrowsWithin, IsLast, IsPlanned, fetch_calls}
 use Rattle.vd_plan.specs.Deliver.{store_calls, stored, IsPartlyStored, IsLastStore, IsLeft, IsEnded, IsDone}
 use Rattle.vd_plan.specs.declared.answer.Answer.{Answer}
 use Rattle.vd_plan.specs.declared.status.Status.{Status}
@@ -26,6 +26,7 @@ IsAnswered wanted status = status ≡ wanted
 pub record Runs (fits : Bool) (plan : Contents → Plan) (before now : FilesView) (out_before out_now : SinkView) (status : Status) : Type 0 where
   pub later : before.faults ≤ now.faults
   pub out_later : out_before.faults ≤ out_now.faults
+  pub planned : IsPlanned status
   pub usage : status ≡ Usage → fits ≡ false
   pub usage_comes : fits ≡ false → status ≡ Usage
   pub read_fault : (name : List ℕ) → status ≡ ReadFault name → Rose before.faults now.faults

@@ -4,14 +4,18 @@
 mod answer;
 mod deliver;
 mod ending;
+mod host_lines;
 mod lines;
 mod loading;
 mod numbered;
 mod status;
 
 pub use answer::Answer;
+pub use deliver::{store_all, write_all};
 pub use ending::{finish, print_text};
 pub use lines::tell;
 pub use loading::load;
 pub use numbered::file_name;
-pub use status::{CertificateFault, RuleFault, Status, SyntaxFault, TextFault};
+pub use status::{
+    CertificateFault, ChildCause, HostStatus, RuleFault, Status, SyntaxFault, TextFault,
+};

@@ -4,10 +4,11 @@ ghost use Rattle.std.specs.Prelude.{◌≡◌};
 ghost use Rattle.vd_plan.specs.Deliver.{WritesAll};
 ghost use Rattle.vd_plan.specs.declared.status.RuleFault.TheVariants as rule;
 ghost use Rattle.vd_plan.specs.declared.status.Status.TheVariants.{Flow};
-ghost use Rattle.vd_plan.specs.Lines.{Says, bad_deal_line, bound_line, certificate_line, cost_line, deal_line, kind_name, schedule_line, status_line, syntax_line, rule_line, input_line, offset_line, quantity_name};
+ghost use Rattle.vd_plan.specs.Lines.{Says, bad_deal_line, bound_line, certificate_line, child_line, cost_line, deal_line, kind_name, name_line, schedule_line, status_line, syntax_line, rule_line, input_line, offset_line, quantity_name};
 
 use crate::deliver::write_parts;
-use crate::{CertificateFault, RuleFault, Status, SyntaxFault, TextFault};
+use crate::host_lines::write_host_status;
+use crate::{CertificateFault, ChildCause, RuleFault, Status, SyntaxFault, TextFault};
 use itoa::Buffer;
 use vd_base::Failed;
 use vd_deals::{BadItem, DealKind};
@@ -53,7 +54,9 @@ fn write_status<E: Sink>(err: &mut E, status: &Status) -> Result<(), Failed>
         Status::CertificateText(offset) => write_offset(err, b"viaduct: cert text at ", *offset),
         Status::BadDeal(bad) => write_bad_deal(err, *bad),
         Status::CertificateRefused(fault) => write_certificate_fault(err, *fault),
-        Status::NotBuilt => write_parts(err, &[b"viaduct: not built\n"]),
+        Status::Host(fault) => write_host_status(err, fault),
+        Status::ChildFault(name, cause) => write_child_fault(err, name.as_slice(), *cause),
+        Status::NoHost(name) => write_name(err, b"viaduct: no host ", name.as_str().as_bytes()),
     }
 }
 
@@ -161,8 +164,23 @@ fn write_schedule_fault<E: Sink>(err: &mut E, fault: TextFault) -> Result<(), Fa
     }
 }
 
+/// Writes the line of a host's child that did not end well.
+fn write_child_fault<E: Sink>(err: &mut E, name: &[u8], cause: ChildCause) -> Result<(), Failed>
+    ensures { WritesAll (child_line name.now cause) (E.view err.old) (E.view err.new) result }
+{
+    match cause {
+        ChildCause::Failed => write_parts(err, &[b"viaduct: child fault ", name, b"\n"]),
+        ChildCause::Line => write_parts(err, &[b"viaduct: child fault ", name, b" line\n"]),
+        ChildCause::Status(status) => {
+            let mut buffer = Buffer::new();
+            let number = buffer.format(status).as_bytes();
+            write_parts(err, &[b"viaduct: child fault ", name, b" ", number, b"\n"])
+        }
+    }
+}
+
 /// The word for a kind of items.
-fn kind_name(kind: DealKind) -> &'static [u8]
+pub(crate) fn kind_name(kind: DealKind) -> &'static [u8]
     ensures { result.now ≡ kind_name kind }
 {
     match kind {
@@ -268,10 +286,17 @@ fn write_bound_fault<E: Sink>(err: &mut E, mark: u32, bound: i64, cost: u32) -> 
 }
 
 /// Writes a text, a number behind it and the line's end.
-fn write_offset<E: Sink>(err: &mut E, text: &[u8], offset: u32) -> Result<(), Failed>
+pub(crate) fn write_offset<E: Sink>(err: &mut E, text: &[u8], offset: u32) -> Result<(), Failed>
     ensures { WritesAll (offset_line text.now offset) (E.view err.old) (E.view err.new) result }
 {
     let mut buffer = Buffer::new();
     let number = buffer.format(offset).as_bytes();
     write_parts(err, &[text, number, b"\n"])
+}
+
+/// Writes a text, a name behind it and the line's end.
+pub(crate) fn write_name<E: Sink>(err: &mut E, text: &[u8], name: &[u8]) -> Result<(), Failed>
+    ensures { WritesAll (name_line text.now name.now) (E.view err.old) (E.view err.new) result }
+{
+    write_parts(err, &[text, name, b"\n"])
 }

@@ -2,11 +2,11 @@
 
 ghost use Rattle.std.specs.Prelude.{◌≡◌};
 ghost use Rattle.vd_plan.specs.declared.status.Status.TheVariants.{Memory};
-ghost use Rattle.vd_plan.specs.Lines.{code_of};
+ghost use Rattle.vd_plan.specs.Lines.{code_of, host_code};
 
 use std::alloc::AllocError;
 use vd_base::{Name, Text};
-use vd_deals::BadItem;
+use vd_deals::{BadItem, DealKind};
 use vd_resolve::Quantity;
 
 /// What is wrong with a source's text, and the offset at which it is.
@@ -64,6 +64,62 @@ pub enum CertificateFault {
     NotBounded(u32, i64, u32),
 }
 
+/// Why one host did not run to its end over a net, beside what may end any command. Offsets of bytes that came are counted
+/// from the first byte of the link's greeting.
+#[derive(Debug, Drop)]
+pub enum HostStatus {
+    /// No program's text goes on at this offset as the file does.
+    ProgramText(u32),
+    /// The instruction with this number breaks a range of host code.
+    ProgramRange(u32),
+    /// A call of the net for this peer failed, or the link to it.
+    PeerFault(Name),
+    /// The first byte at this offset that no greeting has, or no awaited packet.
+    BadFrame(u64, u8),
+    /// Two words that are to be the same.
+    Unequal(u32, u32),
+    /// A greeting came whole, by another plan.
+    WrongProgram,
+    /// The host that a byte of a greeting should name, and the one that it names.
+    WrongHost(u8, u8),
+    /// An input past the end: how many were taken, and how many there are.
+    ShortInput(usize, usize),
+    /// An item past the end of a list of the deal: how many were taken, and how many there are.
+    ShortDeal(DealKind, usize, usize),
+    /// The link to this peer told its end within an awaited frame or before it.
+    EndOfLink(Name),
+}
+
+impl HostStatus {
+    /// The number with which the process ends.
+    pub fn code(&self) -> u8
+        ensures { result ≡ host_code self.now }
+    {
+        match self {
+            HostStatus::ProgramText(_) | HostStatus::ProgramRange(_) => 14,
+            HostStatus::PeerFault(_) => 18,
+            HostStatus::BadFrame(_, _) => 19,
+            HostStatus::Unequal(_, _) => 20,
+            HostStatus::WrongProgram => 21,
+            HostStatus::WrongHost(_, _) => 22,
+            HostStatus::ShortInput(_, _) => 23,
+            HostStatus::ShortDeal(_, _, _) => 24,
+            HostStatus::EndOfLink(_) => 25,
+        }
+    }
+}
+
+/// Why a host's child did not end well.
+#[derive(Clone, Copy, Debug, PartialEq, Eq)]
+pub enum ChildCause {
+    /// A call for it failed.
+    Failed,
+    /// Its lines are not those of a host, or end too early.
+    Line,
+    /// It ended with this status, which is not 0.
+    Status(u32),
+}
+
 /// How a run ended.
 #[derive(Debug, Drop)]
 pub enum Status {
@@ -101,8 +157,12 @@ pub enum Status {
     BadDeal(BadItem),
     /// The certificate is not accepted.
     CertificateRefused(CertificateFault),
-    /// A slot stands at a protocol that is not built.
-    NotBuilt,
+    /// One host did not run to its end over a net.
+    Host(HostStatus),
+    /// The child that plays this host did not end well.
+    ChildFault(Name, ChildCause),
+    /// No host of the source has this name.
+    NoHost(Text),
 }
 
 impl Status {
@@ -128,7 +188,9 @@ impl Status {
             Status::CertificateText(_) => 15,
             Status::BadDeal(_) => 16,
             Status::CertificateRefused(_) => 17,
-            Status::NotBuilt => 30,
+            Status::Host(fault) => fault.code(),
+            Status::ChildFault(_, _) => 26,
+            Status::NoHost(_) => 27,
         }
     }
 }

@@ -52,7 +52,7 @@ abbrev pub Tells : NormalForm → Labels → List ℕ → (outputs inputs : List
 Tells program labels list outputs inputs deals schedule =
     TellsUnder (length program.hosts) outputs (supply_of_files inputs deals) (chosen_code program labels list) schedule
 
--- The joint code of every well-made program, at each valid list of protocols that are built, with all inputs and every
+-- The joint code of every well-made program, at each valid list of protocols, with all inputs and every
 -- consistent deal, under every schedule.
 abbrev pub ProgramsTell : Type 0
 ProgramsTell =

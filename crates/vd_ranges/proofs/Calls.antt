@@ -1,5 +1,5 @@
 -- The calls of all protocols take few registers.
-use Rattle.std.proofs.Common.{◌≡◌, ℕ, suc, ◌+◌, ◌*◌, ◌<◌, ◌≤◌, nat_eq, Bool, true, false, if◌then◌else◌, List, [], ◌∷◌, length, map, refl, sym, ap, subst, arith}
+use Rattle.std.proofs.Common.{◌≡◌, ℕ, suc, ◌+◌, ◌*◌, ◌<◌, ◌≤◌, nat_eq, Bool, true, false, if◌then◌else◌, List, [], ◌∷◌, length, map, refl, ap, arith}
 use Rattle.std.proofs.Math.Nat.{mul-le-mul_left}
 use Rattle.vd_base.specs.declared.ids.HostId.{HostId}
 use Rattle.vd_base.specs.declared.operations.Op.{Op}
@@ -17,15 +17,16 @@ use Rattle.vd_clear.specs.Copies.{register_of, written_by}
 use Rattle.vd_pairs.specs.declared.shares.Shares.{Shares}
 use Rattle.vd_pairs.specs.PairCalls.{shares_of, at_hosts}
 use Rattle.vd_joint.specs.Suite.{Made as AnyMade}
-use Rattle.vd_suite.specs.Moves.{only, Route, Stay, Share, Adopt, Show, ShowAll, Spread, Same, ToXor, ToAdd, copies_at, moved}
-use Rattle.vd_suite.specs.Parts.{Parts, made_of, no_calls, back_end, route, turn_part, turned, put_in, printed, zeros_at, new_cells, index_of, cell_read, cell_written, nothing_made}
+use Rattle.vd_suite.specs.Moves.{only, Route, Share, Adopt, Show, ShowAll, Spread, Same, SameBound, ToXor, ToAdd, copies_at, moved}
+use Rattle.vd_suite.specs.Parts.{Parts, made_of, back_end, route, turn_part, turned, put_in, printed, zeros_at, new_cells, index_of, cell_read, cell_written}
 use Rattle.vd_counts.specs.Fits.{IsLow, AreHere, GadgetFits, PlacesFit, PartsFit, WordMade, Room, CallsFit}
-use Rattle.vd_counts.proofs.Bounds.{low_more, taken_low, places_more, RegFits, host_word, stays}
+use Rattle.vd_counts.proofs.Bounds.{low_more, taken_low, places_more, RegFits, host_word}
 use Rattle.vd_counts.proofs.Clear.{register_fits, written_fits, each_fits}
-use Rattle.vd_counts.proofs.ClearCalls.{few_holders, each_length, word_fits, clear_fits, spread_fits}
+use Rattle.vd_counts.proofs.ClearCalls.{few_holders, few_parts, each_length, word_fits, clear_fits, spread_fits}
 use Rattle.vd_counts.proofs.Pairs.{shares_fit, SharesMade, shared_word}
 use Rattle.vd_counts.proofs.PairsOfCalls.{sums_fit, circuits_fit}
 use Rattle.vd_counts.proofs.Conversions.{to_bits_fit, to_sums_fit}
+use Rattle.vd_ranges.proofs.Commitments.{same_bound_fits, commit_fits}
 
 module _ (hosts N : ℕ) where
   -- what a slot has is below so many registers
@@ -70,30 +71,10 @@ module _ (hosts N : ℕ) where
   word_made : (m n : ℕ) (made : Made Places) → m + 384 ≤ n → WordMade hosts N n made → CallFits n (made_of made)
   word_made m n made more f = record { low = f.low; given = record { size = omega (arith, more); parts = f.given }; acts = f.gadgets }
 
-  -- of a protocol that is not built, nothing is made
-  nothing_fits : (m n : ℕ) (next : List ℕ) → Room N m n next → WordMade hosts N n (nothing_made next)
-  nothing_fits m n next room =
-      let more : m + 384 ≤ n = room.more in
-      record { low = low_more m n next (omega (arith, more)) room.low; given = record { few = omega arith; at = tt }; gadgets = tt }
-
-  unbuilt_fits : (p : Proto) → CallsFit hosts N (no_calls p)
-  unbuilt_fits p = record {
-    literal = λ v m n next room. nothing_fits m n next room;
-    share = λ from there x m n next below room. nothing_fits m n next room;
-    adopt = λ x m n next f room. nothing_fits m n next room;
-    show = λ to here x m n next f room.
-        let more : m + 384 ≤ n = room.more in
-        record { low = low_more m n next (omega (arith, more)) room.low; given = record { few = omega arith; at = ((here, omega (arith, more)), tt) }; gadgets = tt };
-    show_all = λ x m n next f room. nothing_fits m n next room;
-    keep = λ x m n next f room. nothing_fits m n next room;
-    renew = λ kept x n f g lt. tt;
-    apply = λ o xs m n next f room. nothing_fits m n next room;
-  }
-
   back_end_fits : (p : Proto) → IsKnown p → CallsFit hosts N (back_end p)
   back_end_fits (Local h) known = clear_fits hosts N (Local h) known
   back_end_fits (Rep set) known = clear_fits hosts N (Rep set) known
-  back_end_fits (Commit a b) known = unbuilt_fits (Commit a b)
+  back_end_fits (Commit a b) known = commit_fits hosts N a b known.0 known.1.0
   back_end_fits (Add a b) known = sums_fit hosts N a b known.0 known.1.0
   back_end_fits (Xor a b) known = circuits_fit hosts N a b known.0 known.1.0
 
@@ -104,13 +85,13 @@ module _ (hosts N : ℕ) where
 
   -- the hosts that a route names, and those that it leads to
   abbrev RouteIsHere : Route → Calls → Type 0
-  RouteIsHere Stay q = Unit {0}
   RouteIsHere (Share h) q = h.0 < hosts
   RouteIsHere Adopt q = Unit {0}
   RouteIsHere (Show k) q = k.0 < hosts
   RouteIsHere ShowAll q = (length (holders q.proto) ≤ 8) × AreHere hosts (holders q.proto)
   RouteIsHere (Spread set) q = AreHere hosts (holders (Rep set))
   RouteIsHere (Same a b) q = (a.0 < hosts) × (b.0 < hosts)
+  RouteIsHere (SameBound a b) q = (a.0 < hosts) × (b.0 < hosts)
   RouteIsHere (ToXor a b) q = (a.0 < hosts) × (b.0 < hosts)
   RouteIsHere (ToAdd a b) q = (a.0 < hosts) × (b.0 < hosts)
 
@@ -121,9 +102,9 @@ module _ (hosts N : ℕ) where
   route_is_here (Rep set) (Commit c d) known onto = tt
   route_is_here (Rep set) (Add c d) known onto = tt
   route_is_here (Rep set) (Xor c d) known onto = tt
-  route_is_here (Commit a b) (Local k) known onto = tt
-  route_is_here (Commit a b) (Rep other) known onto = tt
-  route_is_here (Commit a b) (Commit c d) known onto = tt
+  route_is_here (Commit a b) (Local k) known onto = onto.0
+  route_is_here (Commit a b) (Rep other) known onto = (few_holders (Rep other), onto)
+  route_is_here (Commit a b) (Commit c d) known onto = (onto.0, onto.1.0)
   route_is_here (Commit a b) (Add c d) known onto = tt
   route_is_here (Commit a b) (Xor c d) known onto = tt
   route_is_here (Add a b) (Local k) known onto = onto.0
@@ -159,7 +140,6 @@ module _ (hosts N : ℕ) where
 
   moved_fits : (r : Route) (p q : Calls) → CallsFit hosts N p → CallsFit hosts N q → RouteIsHere r q → (x : Places) (m n : ℕ) (next : List ℕ) → PartsFit hosts 0 m x → Room N m n next
       → WordMade hosts N n (moved r p q x next)
-  moved_fits Stay p q from onto here x m n next f room = let more : m + 384 ≤ n = room.more in stays hosts N x m n next (omega (arith, more)) room.low f
   moved_fits (Share h) p q from onto here x m n next f room = onto.share h here (only x) m n next (first_fits m x f.at) room
   moved_fits Adopt p q from onto here x m n next f room = onto.adopt x m n next f room
   moved_fits (Show k) p q from onto here x m n next f room = from.show k here x m n next f room
@@ -170,13 +150,14 @@ module _ (hosts N : ℕ) where
       record {
         low = shown.low;
         given = record {
-          few = subst (λ (k : ℕ). k ≤ 8) (sym (copies_length (holders q.proto) made.given)) here.0;
+          few = few_parts (holders q.proto) (copies_at (holders q.proto) made.given) (copies_length (holders q.proto) made.given) here.0;
           at = copies_fit (holders q.proto) here.1 made.given n (omega (arith, more)) shown.given.at;
         };
         gadgets = shown.gadgets;
       }
   moved_fits (Spread set) p q from onto here x m n next f room = spread_fits hosts N set here x m n next f room
   moved_fits (Same a b) p q from onto here x m n next f room = same_fits a b here.0 here.1 x m n next f room
+  moved_fits (SameBound a b) p q from onto here x m n next f room = same_bound_fits hosts N a b here.0 here.1 x m n next f.at room
   moved_fits (ToXor a b) p q from onto here x m n next f room = to_bits_fit hosts N a b here.0 here.1 x m n next f room
   moved_fits (ToAdd a b) p q from onto here x m n next f room = to_sums_fit hosts N a b here.0 here.1 x m n next f room
 
@@ -206,19 +187,19 @@ module _ (hosts N : ℕ) where
   pub turn_fits : (p : Proto) → IsKnown p → (loop : List ℕ) (m n : ℕ) (next : List ℕ) → IsLow m loop → m + 384 ≤ n → n ≤ N → IsLow m next → CallFits n (made_of (turned p loop next))
   turn_fits p known loop m n next turns more most low = word_made m n (turned p loop next) more (word_fits hosts N p known (turn_part p loop) m n next (room_of m n next more most low) (at p))
     where
-      copies : (h : HostId) (a b : ℕ) (l : List ℕ) → m ≤ a → a + 8 ≤ b → b ≤ N → IsLow a l → RegFits hosts N 1 b (written_by h (λ r. action.Copy r (next_at loop h)) l)
+      copies : (h : HostId) (a b : ℕ) (l : List ℕ) → m ≤ a → a + 17 ≤ b → b ≤ N → IsLow a l → RegFits hosts N 1 b (written_by h (λ r. action.Copy r (next_at loop h)) l)
       copies h a b l le e most' low' =
           let t = turns h.0 in written_fits hosts N h (λ r. action.Copy r (next_at loop h)) a b l (omega (arith, e)) low' (λ r i. (omega (arith, i, e, most'), omega (arith, t, le, e, most')))
 
-      zeros : (h : HostId) (a b : ℕ) (l : List ℕ) → a + 8 ≤ b → b ≤ N → IsLow a l → RegFits hosts N 1 b (written_by h (λ r. action.Const r 0) l)
+      zeros : (h : HostId) (a b : ℕ) (l : List ℕ) → a + 17 ≤ b → b ≤ N → IsLow a l → RegFits hosts N 1 b (written_by h (λ r. action.Const r 0) l)
       zeros h a b l e most' low' = written_fits hosts N h (λ r. action.Const r 0) a b l (omega (arith, e)) low' (λ r i. omega (arith, i, e, most'))
 
-      either : (z : Bool) (h : HostId) (a b : ℕ) (l : List ℕ) → m ≤ a → a + 8 ≤ b → b ≤ N → IsLow a l
+      either : (z : Bool) (h : HostId) (a b : ℕ) (l : List ℕ) → m ≤ a → a + 17 ≤ b → b ≤ N → IsLow a l
           → RegFits hosts N 1 b (if z then written_by h (λ r. action.Copy r (next_at loop h)) l else written_by h (λ r. action.Const r 0) l)
       either true h a b l le e most' low' = copies h a b l le e most' low'
       either false h a b l le e most' low' = zeros h a b l e most' low'
 
-      at : (p : Proto) (h : HostId) → h.0 < hosts → (a b : ℕ) (l : List ℕ) → m ≤ a → a + 8 ≤ b → b ≤ N → IsLow a l → RegFits hosts N 1 b (turn_part p loop h l)
+      at : (p : Proto) (h : HostId) → h.0 < hosts → (a b : ℕ) (l : List ℕ) → m ≤ a → a + 17 ≤ b → b ≤ N → IsLow a l → RegFits hosts N 1 b (turn_part p loop h l)
       at (Local k) h here a b l le e most' low' = copies h a b l le e most' low'
       at (Rep set) h here a b l le e most' low' = copies h a b l le e most' low'
       at (Commit k j) h here a b l le e most' low' = copies h a b l le e most' low'
@@ -241,7 +222,7 @@ module _ (hosts N : ℕ) where
         low = made.low;
         given = record {
           size = omega (arith, more);
-          parts = record { few = subst (λ (k : ℕ). k ≤ 8) (sym (each_length (zeros_at size) (holders p) next)) (few_holders p); at = made.given };
+          parts = record { few = few_parts (holders p) (new_cells p size next).given (each_length (zeros_at size) (holders p) next) (few_holders p); at = made.given };
         };
         acts = made.gadgets;
       }
@@ -272,7 +253,7 @@ module _ (hosts N : ℕ) where
       word_made m n (cell_read p x at next) more
       (word_fits hosts N p known (λ h. written_by h (λ r. action.Get r (register_of x.at h.0) x.size (index_of at h.0))) m n next (room_of m n next more most low) law)
     where
-      law : (h : HostId) → h.0 < hosts → (a b : ℕ) (l : List ℕ) → m ≤ a → a + 8 ≤ b → b ≤ N → IsLow a l
+      law : (h : HostId) → h.0 < hosts → (a b : ℕ) (l : List ℕ) → m ≤ a → a + 17 ≤ b → b ≤ N → IsLow a l
           → RegFits hosts N 1 b (written_by h (λ r. action.Get r (register_of x.at h.0) x.size (index_of at h.0)) l)
       law h here a b l le e most' low' =
           let r = register_fits hosts N x.size m x.at h.0 f.size f.parts.at in

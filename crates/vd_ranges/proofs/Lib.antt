@@ -1,4 +1,5 @@
 pub mod Blocks
+pub mod Commitments
 pub mod Calls
 pub mod Fits
 pub mod Loading

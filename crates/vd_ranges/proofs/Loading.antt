@@ -16,7 +16,7 @@ use Rattle.vd_ranges.specs.Law.{PacketsAreShort}
 use Rattle.vd_ranges.proofs.Fits.{PlanFits}
 
 few_words : (bound : ℕ) (rs : List Reg) → PacketFits bound rs → length rs ≤ most_packet_words
-few_words bound rs f = let few : length rs ≤ 2 = f.2 in omega (arith, few)
+few_words bound rs f = let few : length rs ≤ 9 = f.2 in omega (arith, few)
 
 module _ (hosts N h : ℕ) where
   pub record CodeIn (d : ℕ) (c : Code) : Type 0 where

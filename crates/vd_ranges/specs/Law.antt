@@ -15,9 +15,9 @@ abbrev pub CodeIsInRange : Type 0
 CodeIsInRange = (program : NormalForm) (proto : ℕ → Proto) → IsWellMade program → ((x : ℕ) → IsOver (length program.hosts) (proto x))
     → (h : ℕ) → IsInRange (length program.hosts) (code_of h (code_at proto program))
 
--- a packet has one word or two
+-- a packet has one to nine words
 abbrev pub IsShort : List Reg → Type 0
-IsShort rs = (0 < length rs) × (length rs ≤ 2)
+IsShort rs = (0 < length rs) × (length rs ≤ 9)
 
 -- and so has each packet of a code
 abbrev pub PacketsAreShort : Code → Type 0

@@ -22,7 +22,6 @@ use Rattle.vd_selection.proofs.Once.{chosen_once}
 use Rattle.vd_frontend.specs.Labelling.{as_labels}
 use Rattle.vd_selecting.specs.Choosing.{sure_search}
 use Rattle.vd_selecting.specs.Problems.{as_problem, problem_for}
-use Rattle.vd_compiling.specs.Built.{all_built, as_built}
 use Rattle.vd_outcomes.proofs.Judged.{judged_once}
 use Rattle.vd_replaying.specs.Accepting.{EndsWell, IsAccepted}
 use Rattle.vd_replaying.specs.Replaying.{as_consistent, asked_plan, choice_plan, list_plan, problem_plan, report_for, source_plan}
@@ -64,8 +63,7 @@ module _ (words : ReplayWords) (contents : Contents) (accepted : IsAccepted word
         let choice : choices.choose problem ≡ Some accepted.list = chosen_once problem (choices.choose problem) (Some accepted.list) (choices.choose_is problem) accepted.selected.chosen in
         let judged = judged_once accepted.asked.deals (outcomes.judge accepted.asked.deals) None (outcomes.judge_is accepted.asked.deals are_deals) accepted.consistent in
         let listed : Ends contents (list_plan outcomes program problem accepted.asked accepted.list) =
-        check_ends contents (as_built (all_built problem accepted.list)) tt _ (ap as_built accepted.selected.built)
-        (check_ends contents (as_consistent (outcomes.judge accepted.asked.deals)) tt _ (ap as_consistent judged) (answer_ends contents (report_for program accepted.list accepted.asked))) in
+        check_ends contents (as_consistent (outcomes.judge accepted.asked.deals)) tt _ (ap as_consistent judged) (answer_ends contents (report_for program accepted.list accepted.asked)) in
         let chosen : Ends contents (choice_plan outcomes program problem accepted.asked (choices.choose problem)) =
         subst (λ (o : Option (List ℕ)). Ends contents (choice_plan outcomes program problem accepted.asked o)) (sym choice) listed in
         source_ends contents texts words.source accepted.source (source_plan texts outcomes least choices (sure_search choices) words) accepted.held

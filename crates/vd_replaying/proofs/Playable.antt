@@ -37,7 +37,7 @@ use Rattle.vd_play.specs.Schedules.{replayed}
 use Rattle.vd_play.specs.Supplies.{AreFiles, supply_of_files}
 use Rattle.vd_play.specs.Told.{TellsUnder}
 use Rattle.vd_play.proofs.Told.{programs_tell}
-use Rattle.vd_compiling.specs.Built.{IsSelected}
+use Rattle.vd_compiling.specs.Selected.{IsSelected}
 use Rattle.vd_compiling.proofs.Runnable.{code_count, runnable_of}
 use Rattle.vd_asking.specs.declared.asked.Asked.{Asked}
 use Rattle.vd_asking.specs.Asking.{AreAsked}
@@ -110,7 +110,7 @@ module _ (program : NormalForm) (list : List ℕ) (made : IsWellMade program) (n
       ap (λ (n : ℕ). let f : ℕ → Proto = λ x. proto_at (protocols_of n) (slice_index list x) in f) (sym made.labels ∙ sym (length-map program.labels (label program)))
 
   chosen : IsChosen program selected.labels list
-  chosen = record { made = made; numbers = numbers; whole = runnable.whole; valid = selected.chosen.whole.valid; built = selected.built }
+  chosen = record { made = made; numbers = numbers; whole = runnable.whole; valid = selected.chosen.whole.valid }
 
   told : (asked : Asked) → AreAsked (length program.hosts) asked → IsConsistent asked.deals
       → TellsUnder (length program.hosts) (program_outputs program asked.inputs) (supply_of_files asked.inputs asked.deals) (joint_of program list) asked.schedule

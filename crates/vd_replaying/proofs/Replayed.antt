@@ -1,6 +1,5 @@
 -- What a choice of protocols comes to, whatever functions pick the outcomes.
 use Rattle.std.proofs.Common.{◌≡◌, ℕ, true, Some, None, List, [], Result, Ok, Err, sym, ap, ◌∙◌, subst}
-use Rattle.vd_outside.specs.Files.{Contents}
 use Rattle.vd_core.specs.declared.normal.NormalForm.{NormalForm}
 use Rattle.vd_certificate.specs.declared.certificate.Certificate.{Certificate}
 use Rattle.vd_certificate.specs.Texts.{text_of}
@@ -9,14 +8,14 @@ use Rattle.vd_space.specs.Spaces.{IsProblem}
 use Rattle.vd_space.specs.Usual.{usual}
 use Rattle.vd_selection.specs.Selecting.{IsOver, Selects}
 use Rattle.vd_selection.specs.declared.selecting.Selection.TheVariants.{Found, NoAssignment as NoList}
-use Rattle.vd_plan.specs.Plans.{Plan, Checks, Computes, Executes, ended, answer_then, check_then}
+use Rattle.vd_plan.specs.Plans.{Checks, Computes, Executes, ended, answer_then}
 use Rattle.vd_plan.specs.declared.answer.Answer.{Answer}
 use Rattle.vd_plan.specs.declared.status.Status.{Status}
 use Rattle.vd_plan.specs.declared.status.Status.TheVariants.{Ended, Memory, NoAssignment, Spent}
 use Rattle.vd_plan.proofs.InSteps.{answers, any_memory, check_step}
 use Rattle.vd_selecting.specs.Choosing.{GaveUp, Certified}
 use Rattle.vd_selecting.proofs.Selected.{selected_then, spent_then}
-use Rattle.vd_compiling.specs.Built.{all_built, as_built, no_list}
+use Rattle.vd_compiling.specs.Selected.{no_list}
 use Rattle.vd_compiling.proofs.Compiled.{none_computes}
 use Rattle.vd_outcomes.specs.Outcomes.{ReplayOutcomes}
 use Rattle.vd_asking.specs.declared.asked.Asked.{Asked}
@@ -26,24 +25,16 @@ use Rattle.vd_replaying.specs.Telling.{TellsOf}
 module _ (program : NormalForm) (problem : Problem) (asked : Asked) where
   -- ---- with a list of protocols
 
-  abbrev after_built : ReplayOutcomes → List ℕ → Unit {0} → Contents → Plan
-  after_built outcomes list built = check_then (as_consistent (outcomes.judge asked.deals)) (λ consistent. answer_then (ended [] (report_for program list asked)))
-
-  pub list_not_built : (list : List ℕ) (status : Status) → Checks (as_built (all_built problem list)) (Err status) → ExecutesList program problem asked list (Err status)
-  list_not_built list status built outcomes files = check_step (as_built (all_built problem list)) files (Err status) built (after_built outcomes list)
-
-  pub list_refused : (list : List ℕ) (status : Status) → Checks (as_built (all_built problem list)) (Ok tt) → ((outcomes : ReplayOutcomes) → Checks (as_consistent (outcomes.judge asked.deals)) (Err status))
+  pub list_refused : (list : List ℕ) (status : Status) → ((outcomes : ReplayOutcomes) → Checks (as_consistent (outcomes.judge asked.deals)) (Err status))
       → ExecutesList program problem asked list (Err status)
-  list_refused list status built checks outcomes files =
-      check_step (as_built (all_built problem list)) files (Ok tt) built (after_built outcomes list) files (Err status)
-      (check_step (as_consistent (outcomes.judge asked.deals)) files (Err status) (checks outcomes) (λ consistent. answer_then (ended [] (report_for program list asked))))
+  list_refused list status checks outcomes files =
+      check_step (as_consistent (outcomes.judge asked.deals)) files (Err status) (checks outcomes) (λ consistent. answer_then (ended [] (report_for program list asked)))
 
-  pub list_answered : (list : List ℕ) (result : Result Answer Status) → Checks (as_built (all_built problem list)) (Ok tt) → ((outcomes : ReplayOutcomes) → Checks (as_consistent (outcomes.judge asked.deals)) (Ok tt))
+  pub list_answered : (list : List ℕ) (result : Result Answer Status) → ((outcomes : ReplayOutcomes) → Checks (as_consistent (outcomes.judge asked.deals)) (Ok tt))
       → Computes (ended [] (report_for program list asked)) result → ExecutesList program problem asked list result
-  list_answered list result built checks computes outcomes files =
-      check_step (as_built (all_built problem list)) files (Ok tt) built (after_built outcomes list) files result
-      (check_step (as_consistent (outcomes.judge asked.deals)) files (Ok tt) (checks outcomes) (λ consistent. answer_then (ended [] (report_for program list asked))) files result
-      (answers (ended [] (report_for program list asked)) files result computes))
+  list_answered list result checks computes outcomes files =
+      check_step (as_consistent (outcomes.judge asked.deals)) files (Ok tt) (checks outcomes) (λ consistent. answer_then (ended [] (report_for program list asked))) files result
+      (answers (ended [] (report_for program list asked)) files result computes)
 
   -- ---- with a selection
 

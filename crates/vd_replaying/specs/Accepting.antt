@@ -11,14 +11,14 @@ use Rattle.vd_frontend.specs.Outcomes.{TextOutcomes, LabelOutcomes}
 use Rattle.vd_frontend.specs.Sources.{HoldsSource}
 use Rattle.vd_selecting.specs.Choosing.{sure_search}
 use Rattle.vd_plan.specs.declared.status.Status.TheVariants.{Ended}
-use Rattle.vd_compiling.specs.Built.{IsSelected}
+use Rattle.vd_compiling.specs.Selected.{IsSelected}
 use Rattle.vd_outcomes.specs.Outcomes.{ReplayOutcomes}
 use Rattle.vd_asking.specs.declared.asked.Asked.{Asked}
 use Rattle.vd_asking.specs.Asking.{HoldAsked}
 use Rattle.vd_replaying.specs.Replaying.{replay_plan}
 
--- The first file is the text of a source that meets every rule; it has a least labelling, and a choice of protocols that are
--- built, for which the budget is enough; and the other files give inputs, a consistent deal and a schedule.
+-- The first file is the text of a source that meets every rule; it has a least labelling, and a choice of protocols for
+-- which the budget is enough; and the other files give inputs, a consistent deal and a schedule.
 pub record IsAccepted (words : ReplayWords) (contents : Contents) : Type 0 where
   pub source : Source
   pub held : HoldsSource words.source contents source

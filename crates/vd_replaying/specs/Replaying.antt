@@ -23,7 +23,7 @@ use Rattle.vd_frontend.specs.Sources.{source_then}
 use Rattle.vd_selecting.specs.Choosing.{Search, SomeSearch}
 use Rattle.vd_selecting.specs.Problems.{problem_for}
 use Rattle.vd_selecting.specs.Selected.{choice_then}
-use Rattle.vd_compiling.specs.Built.{all_built, as_built, no_list}
+use Rattle.vd_compiling.specs.Selected.{no_list}
 use Rattle.vd_outcomes.specs.Outcomes.{ReplayOutcomes}
 use Rattle.vd_asking.specs.declared.asked.Asked.{Asked}
 use Rattle.vd_asking.specs.Asking.{asked_then}
@@ -49,9 +49,7 @@ as_consistent (Some bad) = Err (BadDeal bad)
 -- with a list of protocols
 abbrev pub list_plan : ReplayOutcomes → NormalForm → Problem → Asked → List ℕ → Contents → Plan
 list_plan outcomes program problem asked list =
-    check_then (as_built (all_built problem list)) (λ built.
-    check_then (as_consistent (outcomes.judge asked.deals)) (λ consistent.
-    answer_then (ended [] (report_for program list asked))))
+    check_then (as_consistent (outcomes.judge asked.deals)) (λ consistent. answer_then (ended [] (report_for program list asked)))
 
 -- with the choice, if there is one
 abbrev pub choice_plan : ReplayOutcomes → NormalForm → Problem → Asked → Option (List ℕ) → Contents → Plan

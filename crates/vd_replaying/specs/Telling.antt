@@ -16,7 +16,7 @@ use Rattle.vd_plan.specs.declared.answer.Answer.{Answer}
 use Rattle.vd_plan.specs.declared.status.Status.{Status}
 use Rattle.vd_plan.specs.declared.status.Status.TheVariants.{Ended}
 use Rattle.vd_frontend.specs.Sources.{HoldsSource}
-use Rattle.vd_compiling.specs.Built.{IsSelected}
+use Rattle.vd_compiling.specs.Selected.{IsSelected}
 use Rattle.vd_asking.specs.declared.asked.Asked.{Asked}
 use Rattle.vd_asking.specs.Asking.{HoldAsked}
 use Rattle.vd_replaying.specs.Replaying.{report_for}

@@ -4,4 +4,4 @@
 mod checks;
 mod replay_command;
 
-pub use replay_command::replay;
+pub use replay_command::{replay, replay_at};

@@ -7,7 +7,7 @@ ghost use Rattle.vd_meaning.specs.ProgramMeaning.{program_outputs};
 ghost use Rattle.vd_plan.specs.Plans.{Computes, ended};
 ghost use Rattle.vd_selection.specs.Choices.{IsChosen};
 ghost use Rattle.vd_selecting.specs.Problems.{IsProblemOf};
-ghost use Rattle.vd_compiling.specs.Built.{IsSelected};
+ghost use Rattle.vd_compiling.specs.Selected.{IsSelected};
 ghost use Rattle.vd_asking.specs.Asking.{AreAsked};
 ghost use Rattle.vd_replaying.specs.Replaying.{ExecutesAsked, ExecutesList, ExecutesProblem, ExecutesProgram, ExecutesReplay, ExecutesSource, report_for};
 ghost use Rattle.vd_replaying.specs.Telling.{IsReport, TellsHeadline, TellsOf, TellsProgram, TellsSource};
@@ -17,7 +17,7 @@ use std::alloc::Global;
 use vd_asking::{Asked, load_asked};
 use vd_base::Bytes;
 use vd_cmd::ReplayWords;
-use vd_compiling::{expect_built, no_assignment};
+use vd_compiling::no_assignment;
 use vd_core::Program;
 use vd_elaborate::elaborate;
 use vd_frontend::load_source;
@@ -43,7 +43,7 @@ fn printing(alloc: Global, printed: Bytes) -> Answer
 }
 
 /// Runs a program at a list of protocols, and prints the report.
-fn replay_at(
+pub fn replay_at(
     alloc: Global,
     program: &Program,
     places: &[u32],
@@ -82,7 +82,6 @@ fn replay_list(
     ensures executes { ExecutesList program.now space.now asked places.now result }
     ensures tells { TellsOf program.now asked result }
 {
-    expect_built(space, places)?;
     expect_consistent(&asked.deals)?;
     replay_at(alloc, program, places, asked)
 }

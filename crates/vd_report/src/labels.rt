@@ -1,7 +1,7 @@
 //! The lines that tell the labels of slots.
 
 ghost use Rattle.std.specs.Prelude.{◌≡◌, ◌++◌, codes, map, OnOk, IfOk};
-ghost use Rattle.vd_report.specs.LabelLines.{all_behind, set_text, sets_text, formula_text, label_line, label_lines};
+ghost use Rattle.vd_report.specs.LabelLines.{all_behind, set_text, sets_text, formula_text as text_of_formula, label_line, label_lines};
 
 use crate::name_sets::push_members;
 use itoa::Buffer;
@@ -58,6 +58,19 @@ fn push_label_line(
     text.extend_from_slice(b"}\n")
 }
 
+/// A formula as its minimal sets, with the names of the principals; `any` where no one is needed, `none` where no set will do.
+pub fn formula_text(
+    alloc: Global,
+    principals: &Names,
+    formula: &Formula,
+) -> Result<Bytes, AllocError>
+    ensures { IfOk result (λ text. text ≡ text_of_formula principals.now formula.now) }
+{
+    let mut text = Bytes::new(alloc);
+    push_formula(alloc, &mut text, principals, formula)?;
+    Ok(text)
+}
+
 /// Puts a formula at the end.
 fn push_formula(
     alloc: Global,
@@ -65,7 +78,7 @@ fn push_formula(
     principals: &Names,
     formula: &Formula,
 ) -> Result<(), AllocError>
-    ensures { OnOk result (text.new ≡ text.old ++ formula_text principals.now formula.now) }
+    ensures { OnOk result (text.new ≡ text.old ++ text_of_formula principals.now formula.now) }
 {
     if formula.at(0) {
         text.extend_from_slice(b"any")

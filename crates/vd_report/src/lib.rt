@@ -15,7 +15,7 @@ mod token;
 pub use choice::choice_text;
 pub use fault::ReadFault;
 pub use inputs::{inputs_follow_the_grammar, read_inputs};
-pub use labels::labels_text;
+pub use labels::{formula_text, labels_text};
 pub use lines::{outputs_text, push_words_line};
 pub use reports::{HostLine, HostLines, Talk, hosts_text, talk_text};
 pub use schedule::{Schedule, read_schedule, schedules_follow_the_grammar};

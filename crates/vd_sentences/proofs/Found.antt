@@ -17,7 +17,7 @@ use Rattle.vd_parser.specs.declared.fault.ParseFault.{ParseFault}
 use Rattle.vd_resolve.specs.Limits.{resolution}
 use Rattle.vd_resolve.specs.declared.fault.NameFault.{NameFault}
 use Rattle.vd_resolve.specs.declared.fault.NameFault.TheVariants.{Memory as want_of_memory}
-use Rattle.vd_sentences.specs.declared.remark.Remark.{Remark}
+use Rattle.vd_remarks.specs.declared.remark.Remark.{Remark}
 use Rattle.vd_sentences.specs.Following.{following, IsTooLong}
 use Rattle.vd_sentences.specs.Rules.{IsRuleRemark}
 use Rattle.vd_sentences.specs.Syntax.{unexpected_sentence, refused_sentence}

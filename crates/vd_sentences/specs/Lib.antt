@@ -1,9 +1,6 @@
 pub mod Phrases
 pub mod Syntax
 pub mod Rules
-pub mod Files
-pub mod Usage
-pub mod Remarks
 pub mod Following
 pub mod Judging
 pub mod SyntaxRemarks

@@ -1,22 +1,11 @@
 -- Parts of sentences.
 use Rattle.std.specs.Prelude.{ℕ, ◌+◌, ◌-◌, ◌==◌, Bool, nat_eq, if◌then◌else◌, List, [], ◌∷◌, ◌++◌, Option, Some, None, codes, length, take, drop, map}
-use Rattle.std.specs.List.{find}
-use Rattle.std.specs.Str.{bytes_eq}
-use Rattle.std.specs.Borrow.{Bor}
-use Rattle.vd_base.specs.declared.ids.Span.{Span}
 use Rattle.vd_lexer.specs.Kinds.{code_of}
 use Rattle.vd_lexer.specs.declared.token.TokenKind.{TokenKind}
 use Rattle.vd_lexer.specs.declared.token.TokenKind.TheVariants as kind
 use Rattle.vd_lexer.specs.declared.token.Token.{Token}
 use Rattle.vd_token_texts.specs.Texts.{text_of_kind}
-
--- three parts, one after another
-abbrev pub three : List ℕ → List ℕ → List ℕ → List ℕ
-three first middle last = first ++ middle ++ last
-
--- text of a source as it is written
-abbrev pub quoted : List ℕ → List ℕ
-quoted text = three (codes "`") text (codes "`")
+use Rattle.vd_remarks.specs.Parts.{three, quoted, word_at}
 
 abbrev pub is_kind : TokenKind → TokenKind → Bool
 is_kind k l = nat_eq (code_of k) (code_of l)
@@ -28,10 +17,6 @@ kind_phrase k =
     else if is_kind k kind.Name then codes "a name"
     else if is_kind k kind.Number then codes "a number"
     else quoted (text_of_kind k)
-
--- the bytes of a span
-abbrev pub word_at : List ℕ → Span → List ℕ
-word_at bytes span = take (span.end - span.start) (drop span.start bytes)
 
 -- what this token of the text is called
 abbrev pub token_phrase : List ℕ → Token → List ℕ
@@ -51,15 +36,3 @@ kinds_from place count (k ∷ ks) = separator place count ++ kind_phrase k ++ ki
 -- `A`, `A or B`, `A, B or C`
 abbrev pub kinds_phrase : List TokenKind → List ℕ
 kinds_phrase ks = kinds_from 0 (length ks) ks
-
--- what a table has for a word, or another text
-abbrev pub second_or : List ℕ → Option (List ℕ × List ℕ) → List ℕ
-second_or other None = other
-second_or other (Some entry) = entry.1
-
-abbrev pub in_table : List (List ℕ × List ℕ) → List ℕ → List ℕ → List ℕ
-in_table table word other = second_or other (find (λ entry. bytes_eq entry.0 word) table)
-
--- a table that has its texts behind references
-abbrev pub entries : List (Bor (List ℕ) × Bor (List ℕ)) → List (List ℕ × List ℕ)
-entries = map (λ entry. (entry.0.now, entry.1.now))

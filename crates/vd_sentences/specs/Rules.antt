@@ -6,8 +6,8 @@ use Rattle.vd_resolve.specs.declared.fault.Quantity.{Quantity}
 use Rattle.vd_resolve.specs.declared.fault.Quantity.TheVariants as quantity
 use Rattle.vd_resolve.specs.declared.fault.NameFault.{NameFault}
 use Rattle.vd_resolve.specs.declared.fault.NameFault.TheVariants as fault
-use Rattle.vd_sentences.specs.declared.remark.Remark.{Remark}
-use Rattle.vd_sentences.specs.Phrases.{three, word_at, in_table}
+use Rattle.vd_remarks.specs.declared.remark.Remark.{Remark}
+use Rattle.vd_remarks.specs.Parts.{three, word_at, in_table}
 
 abbrev pub unknown_sentence : List ℕ → List ℕ
 unknown_sentence word = three (codes "the name `") word (codes "` is unknown here")

@@ -5,7 +5,7 @@ use Rattle.vd_parser.specs.Outcomes.{IsParse}
 use Rattle.vd_parser.specs.declared.fault.ParseFault.{ParseFault}
 use Rattle.vd_resolve.specs.Limits.{resolution, IsResolved}
 use Rattle.vd_resolve.specs.declared.fault.NameFault.{NameFault}
-use Rattle.vd_sentences.specs.declared.remark.Remark.{Remark}
+use Rattle.vd_remarks.specs.declared.remark.Remark.{Remark}
 use Rattle.vd_sentences.specs.Rules.{IsRuleRemark}
 use Rattle.vd_sentences.specs.SyntaxRemarks.{IsSyntaxRemark}
 

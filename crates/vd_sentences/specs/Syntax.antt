@@ -3,7 +3,8 @@ use Rattle.std.specs.Prelude.{ℕ, Bool, if◌then◌else◌, List, codes, decim
 use Rattle.vd_base.specs.Lexical.{is_digit}
 use Rattle.vd_lexer.specs.declared.token.TokenKind.{TokenKind}
 use Rattle.vd_lexer.specs.declared.token.Token.{Token}
-use Rattle.vd_sentences.specs.Phrases.{three, token_phrase, kinds_phrase}
+use Rattle.vd_sentences.specs.Phrases.{token_phrase, kinds_phrase}
+use Rattle.vd_remarks.specs.Parts.{three}
 
 -- of a token, and the kinds that can stand there
 abbrev pub unexpected_sentence : List ℕ → Token → List TokenKind → List ℕ

@@ -1,19 +1,14 @@
 -- What is said of a text that is no source.
-use Rattle.std.specs.Prelude.{◌≡◌, ◌⊎◌, ℕ, List, [], ◌∷◌, ◌++◌, length, slice_index, Some, None}
+use Rattle.std.specs.Prelude.{◌≡◌, ◌⊎◌, ℕ, List, [], ◌∷◌, ◌++◌, length, slice_index, Some}
 use Rattle.vd_lexer.specs.Tokens.{Lexes}
 use Rattle.vd_lexer.specs.declared.token.Token.{Token}
 use Rattle.vd_lexer.specs.declared.token.TokenKind.{TokenKind}
 use Rattle.vd_parser.specs.declared.fault.ParseFault.{ParseFault}
 use Rattle.vd_parser.specs.declared.fault.ParseFault.TheVariants as fault
 use Rattle.vd_sentences.specs.Following.{following, IsTooLong}
-use Rattle.vd_sentences.specs.declared.remark.Remark.{Remark}
+use Rattle.vd_remarks.specs.declared.remark.Remark.{Remark}
+use Rattle.vd_remarks.specs.Remarks.{at, of_file}
 use Rattle.vd_sentences.specs.Syntax.{unexpected_sentence, refused_sentence, bad_byte_sentence, nesting_sentence, long_sentence}
-
-abbrev pub at : ℕ → List ℕ → Remark
-at offset sentence = record { offset = Some offset; sentence = sentence }
-
-abbrev pub of_file : List ℕ → Remark
-of_file sentence = record { offset = None; sentence = sentence }
 
 -- Of a token that is refused behind those before it: what it is, and each kind of token with which a source goes on there,
 -- and no other. Only where the tokens before are too long to be tried the kinds are left out.

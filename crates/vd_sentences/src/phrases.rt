@@ -1,31 +1,14 @@
 //! Parts of sentences.
 
 ghost use Rattle.std.specs.Prelude.{◌≡◌, ◌++◌, ◌≤◌, IfOk, OnOk, nat_eq};
-ghost use Rattle.std.specs.List.{find};
-ghost use Rattle.std.specs.Str.{bytes_eq};
 ghost use Rattle.vd_lexer.specs.declared.token.TokenKind.TheVariants as kind;
 ghost use Rattle.vd_sentences.specs.Phrases as phrases;
 
 use std::alloc::{AllocError, Global};
-use vd_base::{Bytes, Span};
+use vd_base::Bytes;
 use vd_lexer::{Token, TokenKind};
+use vd_remarks::{three, word_at};
 use vd_token_texts::text_of;
-
-/// Three parts, one after another.
-pub(crate) fn three(
-    alloc: Global,
-    first: &[u8],
-    middle: &[u8],
-    last: &[u8],
-) -> Result<Bytes, AllocError>
-    ensures { IfOk result (λ text. text ≡ phrases.three first.now middle.now last.now) }
-{
-    let mut text = Bytes::new(alloc);
-    text.extend_from_slice(first)?;
-    text.extend_from_slice(middle)?;
-    text.extend_from_slice(last)?;
-    Ok(text)
-}
 
 fn is(kind: TokenKind, other: TokenKind) -> bool
     ensures { result ≡ phrases.is_kind kind other }
@@ -46,17 +29,6 @@ fn kind_phrase(alloc: Global, kind: TokenKind) -> Result<Bytes, AllocError>
     } else {
         three(alloc, b"`", text_of(kind).as_bytes(), b"`")
     }
-}
-
-/// The bytes of a span, as far as there are so many.
-#[tactic(auto, using(std::proofs::lemmas::List::take_min, std::proofs::lemmas::List::drop_min))]
-pub(crate) fn word_at(bytes: &[u8], span: Span) -> &[u8]
-    ensures { result.now ≡ phrases.word_at bytes.now span }
-{
-    let start = (span.start as usize).min(bytes.len());
-    let rest = &bytes[start..];
-    let len = (span.end.saturating_sub(span.start) as usize).min(rest.len());
-    &rest[..len]
 }
 
 /// What a token of a text is called.
@@ -111,16 +83,4 @@ pub(crate) fn kinds_phrase(alloc: Global, kinds: &[TokenKind]) -> Result<Bytes, 
         push_kind(alloc, &mut text, place, kinds.len(), *kind)?;
     }
     Ok(text)
-}
-
-/// What a table has for a word, or another text.
-pub(crate) fn in_table<'a>(table: &[(&'a [u8], &'a [u8])], word: &[u8], other: &'a [u8]) -> &'a [u8]
-    ensures { result.now ≡ phrases.in_table (phrases.entries table.now) word.now other.now }
-{
-    for (entry, text) in table {
-        if *entry == word {
-            return *text;
-        }
-    }
-    other
 }

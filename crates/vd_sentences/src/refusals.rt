@@ -4,11 +4,10 @@ ghost use Rattle.std.specs.Prelude.{◌≡◌, ◌⊎◌, ℕ, Err, slice_index,
 ghost use Rattle.vd_lexer.specs.Tokens.{EndsOnce, Lexes, kinds};
 ghost use Rattle.vd_parser.specs.Outcomes.{IsParse, IsUnexpected};
 ghost use Rattle.vd_parser.specs.declared.fault.ParseFault.TheVariants as parse_fault;
+ghost use Rattle.vd_remarks.specs.Remarks.{at as remark_at};
 ghost use Rattle.vd_sentences.specs.SyntaxRemarks as remarks;
 
-use crate::fault::TellFault;
 use crate::follow::{FollowFault, following};
-use crate::remark::Remark;
 use crate::syntax::{
     bad_byte_sentence, long_sentence, nesting_sentence, refused_sentence, unexpected_sentence,
 };
@@ -16,10 +15,11 @@ use std::alloc::Global;
 use vd_base::Bytes;
 use vd_lexer::{LexFault, Token, tokens};
 use vd_parser::ParseFault;
+use vd_remarks::{Remark, TellFault};
 
 /// A sentence at an offset.
 fn at(offset: u32, sentence: Bytes) -> Remark
-    ensures { result ≡ remarks.at offset sentence }
+    ensures { result ≡ remark_at offset sentence }
 {
     Remark {
         offset: Some(offset),

@@ -1,16 +1,14 @@
 //! Sentences on faults of names, kinds and sizes.
 
 ghost use Rattle.std.specs.Prelude.{◌≡◌, IfOk};
-ghost use Rattle.vd_sentences.specs.Phrases.{entries};
+ghost use Rattle.vd_remarks.specs.Parts.{entries};
 ghost use Rattle.vd_sentences.specs.Rules as rules;
 
-use crate::fault::TellFault;
-use crate::phrases::{in_table, three, word_at};
-use crate::remark::Remark;
 use itoa::Buffer;
 use std::alloc::{AllocError, Global};
 use vd_base::limits::{CELLS, HOSTS, NESTING, PRINCIPALS, STATEMENTS, WEIGHTS};
 use vd_base::{Bytes, Span};
+use vd_remarks::{Remark, TellFault, in_table, three, word_at};
 use vd_resolve::{NameFault, Quantity};
 
 /// What an operator or a keyword asks for.

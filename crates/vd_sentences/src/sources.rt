@@ -4,13 +4,12 @@ ghost use Rattle.std.specs.Prelude.{◌≡◌, IfOk};
 ghost use Rattle.vd_core.specs.Named.{HasNames};
 ghost use Rattle.vd_sentences.specs.SourceRemarks.{IsSourceRemark, SaysOfTree};
 
-use crate::fault::TellFault;
 use crate::refusals::syntax_remark;
-use crate::remark::Remark;
 use crate::rules::rule_remark;
 use std::alloc::Global;
 use vd_core::Source;
 use vd_parser::parse;
+use vd_remarks::{Remark, TellFault};
 use vd_resolve::resolve;
 
 /// The remark on the first fault of names, kinds or sizes of a tree, if it has one.

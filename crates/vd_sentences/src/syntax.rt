@@ -3,11 +3,12 @@
 ghost use Rattle.std.specs.Prelude.{◌≡◌, IfOk};
 ghost use Rattle.vd_sentences.specs.Syntax as syntax;
 
-use crate::phrases::{kinds_phrase, three, token_phrase};
+use crate::phrases::{kinds_phrase, token_phrase};
 use itoa::Buffer;
 use std::alloc::{AllocError, Global};
 use vd_base::{Bytes, is_digit};
 use vd_lexer::{Token, TokenKind};
+use vd_remarks::three;
 
 /// The sentence on a token that cannot stand where it stands, and the kinds that can.
 pub fn unexpected_sentence(

@@ -1,8 +1,8 @@
-//! Tests of what reads and understands a source, and of the tables of protocols and costs, through public calls.
+//! Tests of what reads and understands a source, and of the authorities of protocols, through public calls.
 #![tactic(auto)]
 
 #[cfg(test)]
-mod cost_tables;
+mod authorities;
 #[cfg(test)]
 mod declared_names;
 #[cfg(test)]
@@ -15,5 +15,3 @@ mod lexer;
 mod meaning;
 #[cfg(test)]
 mod parser;
-#[cfg(test)]
-mod protocol_tables;

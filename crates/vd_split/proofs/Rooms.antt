@@ -36,24 +36,29 @@ module _ {P : Type 0} (o : Offer P) (protos : List Proto) where
   can_call_on held a c n n' r p le = can_call held 0 n' (ready_on held a 0 c n n' r p (omega arith))
 
   -- one slot more
-  pub held_more : (held held' : List P) (x : P) (slot : ℕ) → AreHeld o protos held → o.hosts_of x ≡ holders (proto_in protos slot) → slot ≡ length held → held' ≡ held ++ x ∷ [] → AreHeld o protos held'
+  pub held_more : (held held' : List P) (x : P) (slot : ℕ) → AreHeld o protos held → o.hosts_at (proto_in protos slot) x ≡ holders (proto_in protos slot) → slot ≡ length held → held' ≡ held ++ x ∷ [] → AreHeld o protos held'
   held_more held held' x slot h e is more =
       record {
         at = λ i lt.
-            ap (λ (l : List P). o.hosts_of (slice_index_or l i o.calls.nowhere)) more
+            ap (λ (l : List P). o.hosts_at (proto_in protos i) (slice_index_or l i o.calls.nowhere)) more
             ∙ at i (ℕ_discrete i (length held)) (subst (λ (n : ℕ). i < n) (ap length more ∙ one_more held) lt);
       }
     where
       one_more : (xs : List P) → length (xs ++ x ∷ []) ≡ length xs + 1
       one_more xs = length-append xs (x ∷ [])
 
-      at : (i : ℕ) → Dec (i ≡ length held) → i < length held + 1 → o.hosts_of (slice_index_or (held ++ x ∷ []) i o.calls.nowhere) ≡ holders (proto_in protos i)
-      at i (yes same) lt =
-          ap (λ (k : ℕ). o.hosts_of (slice_index_or (held ++ x ∷ []) k o.calls.nowhere)) same ∙ ap o.hosts_of (at_end held x o.calls.nowhere)
-          ∙ e ∙ ap (λ (k : ℕ). holders (proto_in protos k)) (is ∙ sym same)
-      at i (no differs) lt = ap o.hosts_of (front_kept held (x ∷ []) i o.calls.nowhere (omega (arith, differs))) ∙ h.at i (omega (arith, differs))
+      last : o.hosts_at (proto_in protos (length held)) (slice_index_or (held ++ x ∷ []) (length held) o.calls.nowhere) ≡ holders (proto_in protos (length held))
+      last =
+          ap (o.hosts_at (proto_in protos (length held))) (at_end held x o.calls.nowhere)
+          ∙ subst (λ (k : ℕ). o.hosts_at (proto_in protos k) x ≡ holders (proto_in protos k)) is e
 
-  pub slot_emits : (f : Fitting) (held held' : List P) (x : P) (slot : ℕ) (n n' : List ℕ) → AreHeld o protos held → o.hosts_of x ≡ holders (proto_in protos slot) → slot ≡ length held
+      at : (i : ℕ) → Dec (i ≡ length held) → i < length held + 1
+          → o.hosts_at (proto_in protos i) (slice_index_or (held ++ x ∷ []) i o.calls.nowhere) ≡ holders (proto_in protos i)
+      at i (yes same) lt =
+          subst (λ (k : ℕ). o.hosts_at (proto_in protos k) (slice_index_or (held ++ x ∷ []) k o.calls.nowhere) ≡ holders (proto_in protos k)) (sym same) last
+      at i (no differs) lt = ap (o.hosts_at (proto_in protos i)) (front_kept held (x ∷ []) i o.calls.nowhere (omega (arith, differs))) ∙ h.at i (omega (arith, differs))
+
+  pub slot_emits : (f : Fitting) (held held' : List P) (x : P) (slot : ℕ) (n n' : List ℕ) → AreHeld o protos held → o.hosts_at (proto_in protos slot) x ≡ holders (proto_in protos slot) → slot ≡ length held
       → held' ≡ held ++ x ∷ [] → (f (length held)).after ≡ length held + 1 → TakesAtMost (f (length held)).taken n n' → Emits o protos f held n held' n'
   slot_emits f held held' x slot n n' h e is more after few = record { placed = held_more held held' x slot h e is more; after = ap length more ∙ one_more held ∙ sym after; few = few }
     where

@@ -21,8 +21,8 @@ use Rattle.vd_joint.specs.Suite.{Calls}
 
 pub record Offer (P : Type 0) : Type 0 where
   pub calls : Calls Gadget P
-  -- the hosts at which parts stand, in order
-  pub hosts_of : P → List HostId
+  -- the hosts at which parts stand as they do at a protocol, in order
+  pub hosts_at : Proto → P → List HostId
   -- the protocols at which words can stand, over the hosts that are there
   pub has : Proto → Bool
   -- the operations that can be asked for
@@ -142,7 +142,7 @@ module _ {P : Type 0} (o : Offer P) (protos : List Proto) where
 
   -- parts stand at the hosts of their slots' protocols
   pub record AreHeld (held : List P) : Type 0 where
-    pub at : (x : ℕ) → x < length held → o.hosts_of (slice_index_or held x o.calls.nowhere) ≡ holders (proto_in protos x)
+    pub at : (x : ℕ) → x < length held → o.hosts_at (proto_in protos x) (slice_index_or held x o.calls.nowhere) ≡ holders (proto_in protos x)
 
   -- code can be emitted that takes so many registers of a host
   pub record IsReady (held : List P) (count : ℕ) (next : List ℕ) : Type 0 where

@@ -28,7 +28,7 @@ pub(crate) fn move_slot<P: Protocols>(
     requires slot { slot.0 < length held.now }
     requires onto { IsTrue ((P.offer protocols.now).has onto) }
     ensures exact { IfOk result (λ x. Makes (slot_moved (P.offer protocols.now).calls protos.now held.now slot onto) to.old x to.new) }
-    ensures placed { IfOk result (λ x. (P.offer protocols.now).hosts_of x ≡ holders onto) }
+    ensures placed { IfOk result (λ x. (P.offer protocols.now).hosts_at onto x ≡ holders onto) }
     ensures few { OnOk result (TakesFew to.old.next to.new.next) }
 {
     protocols.bring(

@@ -45,7 +45,7 @@ pub trait Protocols {
         requires at { IsTrue ((offer self.now).has at) }
         requires ready { CanCall (offer self.now).calls.hosts to.old.next }
         ensures exact { IfOk result (λ x. Makes ((offer self.now).calls.literal at word) to.old x to.new) }
-        ensures placed { IfOk result (λ x. (offer self.now).hosts_of x ≡ holders at) }
+        ensures placed { IfOk result (λ x. (offer self.now).hosts_at at x ≡ holders at) }
         ensures few { OnOk result (TakesFew to.old.next to.new.next) };
 
     /// The number of the turn, from the registers of the innermost loop, by host.
@@ -53,7 +53,7 @@ pub trait Protocols {
         requires at { IsTrue ((offer self.now).has at) }
         requires ready { CanCall (offer self.now).calls.hosts to.old.next }
         ensures exact { IfOk result (λ x. Makes ((offer self.now).calls.turn at turns.now) to.old x to.new) }
-        ensures placed { IfOk result (λ x. (offer self.now).hosts_of x ≡ holders at) }
+        ensures placed { IfOk result (λ x. (offer self.now).hosts_at at x ≡ holders at) }
         ensures few { OnOk result (TakesFew to.old.next to.new.next) };
 
     /// The move of a word from one protocol to another.
@@ -66,10 +66,10 @@ pub trait Protocols {
     ) -> Result<Self::Parts, AllocError>
         requires from { IsTrue ((offer self.now).has from) }
         requires onto { IsTrue ((offer self.now).has onto) }
-        requires placed { (offer self.now).hosts_of x.now ≡ holders from }
+        requires placed { (offer self.now).hosts_at from x.now ≡ holders from }
         requires ready { CanCall (offer self.now).calls.hosts to.old.next }
         ensures exact { IfOk result (λ y. Makes ((offer self.now).calls.move from onto x.now) to.old y to.new) }
-        ensures placed { IfOk result (λ y. (offer self.now).hosts_of y ≡ holders onto) }
+        ensures placed { IfOk result (λ y. (offer self.now).hosts_at onto y ≡ holders onto) }
         ensures few { OnOk result (TakesFew to.old.next to.new.next) };
 
     /// An operation on as many operands as it takes.
@@ -85,7 +85,7 @@ pub trait Protocols {
         requires arity { length xs.now ≡ arity op }
         requires ready { CanCall (offer self.now).calls.hosts to.old.next }
         ensures exact { IfOk result (λ x. Makes ((offer self.now).calls.apply op at xs.now) to.old x to.new) }
-        ensures placed { IfOk result (λ x. (offer self.now).hosts_of x ≡ holders at) }
+        ensures placed { IfOk result (λ x. (offer self.now).hosts_at at x ≡ holders at) }
         ensures few { OnOk result (TakesFew to.old.next to.new.next) };
 
     /// The next input of a host.
@@ -93,21 +93,21 @@ pub trait Protocols {
         requires host { host.0 < (offer self.now).calls.hosts }
         requires ready { CanCall (offer self.now).calls.hosts to.old.next }
         ensures exact { IfOk result (λ x. Makes ((offer self.now).calls.input host) to.old x to.new) }
-        ensures placed { IfOk result (λ x. (offer self.now).hosts_of x ≡ holders (AtHost host)) }
+        ensures placed { IfOk result (λ x. (offer self.now).hosts_at (AtHost host) x ≡ holders (AtHost host)) }
         ensures few { OnOk result (TakesFew to.old.next to.new.next) };
 
     /// A word in clear at a host is printed.
     fn output(&self, host: HostId, x: &Self::Parts, to: &mut Duet) -> Result<(), AllocError>
-        requires placed { (offer self.now).hosts_of x.now ≡ holders (AtHost host) }
+        requires placed { (offer self.now).hosts_at (AtHost host) x.now ≡ holders (AtHost host) }
         ensures { OnOk result (to.new ≡ appended ((offer self.now).calls.output host x.now) to.old) };
 
     /// A copy in fresh registers.
     fn keep(&self, at: Proto, x: &Self::Parts, to: &mut Duet) -> Result<Self::Parts, AllocError>
         requires at { IsTrue ((offer self.now).has at) }
-        requires placed { (offer self.now).hosts_of x.now ≡ holders at }
+        requires placed { (offer self.now).hosts_at at x.now ≡ holders at }
         requires ready { CanCall (offer self.now).calls.hosts to.old.next }
         ensures exact { IfOk result (λ y. Makes ((offer self.now).calls.keep at x.now) to.old y to.new) }
-        ensures placed { IfOk result (λ y. (offer self.now).hosts_of y ≡ holders at) }
+        ensures placed { IfOk result (λ y. (offer self.now).hosts_at at y ≡ holders at) }
         ensures few { OnOk result (TakesFew to.old.next to.new.next) };
 
     /// A copy of `x` into the registers of a variable.
@@ -119,8 +119,8 @@ pub trait Protocols {
         to: &mut Duet,
     ) -> Result<(), AllocError>
         requires at { IsTrue ((offer self.now).has at) }
-        requires kept { (offer self.now).hosts_of kept.now ≡ holders at }
-        requires placed { (offer self.now).hosts_of x.now ≡ holders at }
+        requires kept { (offer self.now).hosts_at at kept.now ≡ holders at }
+        requires placed { (offer self.now).hosts_at at x.now ≡ holders at }
         ensures { OnOk result (to.new ≡ appended ((offer self.now).calls.renew at kept.now x.now) to.old) };
 
     /// An array of so many zeros.
@@ -129,7 +129,7 @@ pub trait Protocols {
         requires hosts { length to.old.next ≡ (offer self.now).calls.hosts }
         requires room { HasRoom size to.old.next }
         ensures exact { IfOk result (λ x. Makes ((offer self.now).calls.cells at size) to.old x to.new) }
-        ensures placed { IfOk result (λ x. (offer self.now).hosts_of x ≡ holders at) }
+        ensures placed { IfOk result (λ x. (offer self.now).hosts_at at x ≡ holders at) }
         ensures few { OnOk result (TakesAtMost (most_taken + size) to.old.next to.new.next) };
 
     /// A word of an array. The index stands in clear in these registers of hosts.
@@ -141,10 +141,10 @@ pub trait Protocols {
         to: &mut Duet,
     ) -> Result<Self::Parts, AllocError>
         requires at { IsTrue ((offer self.now).has at) }
-        requires placed { (offer self.now).hosts_of x.now ≡ holders at }
+        requires placed { (offer self.now).hosts_at at x.now ≡ holders at }
         requires ready { CanCall (offer self.now).calls.hosts to.old.next }
         ensures exact { IfOk result (λ y. Makes ((offer self.now).calls.get at x.now index.now) to.old y to.new) }
-        ensures placed { IfOk result (λ y. (offer self.now).hosts_of y ≡ holders at) }
+        ensures placed { IfOk result (λ y. (offer self.now).hosts_at at y ≡ holders at) }
         ensures few { OnOk result (TakesFew to.old.next to.new.next) };
 
     /// A word of an array is written.
@@ -157,7 +157,7 @@ pub trait Protocols {
         to: &mut Duet,
     ) -> Result<(), AllocError>
         requires at { IsTrue ((offer self.now).has at) }
-        requires kept { (offer self.now).hosts_of kept.now ≡ holders at }
-        requires placed { (offer self.now).hosts_of x.now ≡ holders at }
+        requires kept { (offer self.now).hosts_at at kept.now ≡ holders at }
+        requires placed { (offer self.now).hosts_at at x.now ≡ holders at }
         ensures { OnOk result (to.new ≡ appended ((offer self.now).calls.put at kept.now index.now x.now) to.old) };
 }

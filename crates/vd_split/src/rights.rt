@@ -29,7 +29,7 @@ fn apply<P: Protocols>(
     requires at { IsTrue ((P.offer protocols.now).has at) }
     requires fits { IsTrue (right_fits (P.offer protocols.now) protos.now at (right.Apply op slots.now) (length held.now)) }
     ensures exact { IfOk result (λ x. (x, to.new) ≡ right_onto (P.offer protocols.now).calls protos.now at (right.Apply op slots.now) held.now [] to.old) }
-    ensures placed { IfOk result (λ x. (P.offer protocols.now).hosts_of x ≡ holders at) }
+    ensures placed { IfOk result (λ x. (P.offer protocols.now).hosts_at at x ≡ holders at) }
     ensures few { OnOk result (TakesAtMost most_of_statement to.old.next to.new.next) }
 {
     let operands = move_all(protocols, protos, held, slots.as_slice(), at, to)?;
@@ -50,7 +50,7 @@ fn load<P: Protocols>(
     requires at { IsTrue ((P.offer protocols.now).has at) }
     requires variable { variable.0 < length held.now }
     ensures exact { IfOk result (λ x. (x, to.new) ≡ right_onto (P.offer protocols.now).calls protos.now at (right.Load variable) held.now [] to.old) }
-    ensures placed { IfOk result (λ x. (P.offer protocols.now).hosts_of x ≡ holders at) }
+    ensures placed { IfOk result (λ x. (P.offer protocols.now).hosts_at at x ≡ holders at) }
     ensures few { OnOk result (TakesAtMost most_of_statement to.old.next to.new.next) }
 {
     let proto = proto_of(protos, variable);
@@ -74,7 +74,7 @@ fn element<P: Protocols>(
     requires array { array.0 < length held.now }
     requires index { index.0 < length held.now }
     ensures exact { IfOk result (λ x. (x, to.new) ≡ right_onto (P.offer protocols.now).calls protos.now at (right.Get array index) held.now [] to.old) }
-    ensures placed { IfOk result (λ x. (P.offer protocols.now).hosts_of x ≡ holders at) }
+    ensures placed { IfOk result (λ x. (P.offer protocols.now).hosts_at at x ≡ holders at) }
     ensures few { OnOk result (TakesAtMost most_of_statement to.old.next to.new.next) }
 {
     let proto = proto_of(protos, array);
@@ -104,7 +104,7 @@ pub(crate) fn right_side<P: Protocols>(
     requires at { IsTrue ((P.offer protocols.now).has at) }
     requires fits { IsTrue (right_fits (P.offer protocols.now) protos.now at right.now (length held.now)) }
     ensures exact { IfOk result (λ x. (x, to.new) ≡ right_onto (P.offer protocols.now).calls protos.now at right.now held.now turns.now to.old) }
-    ensures placed { IfOk result (λ x. (P.offer protocols.now).hosts_of x ≡ holders at) }
+    ensures placed { IfOk result (λ x. (P.offer protocols.now).hosts_at at x ≡ holders at) }
     ensures few { OnOk result (TakesAtMost most_of_statement to.old.next to.new.next) }
 {
     match right {

@@ -25,13 +25,13 @@ use Rattle.vd_clear.specs.Copies.{register_of, written_by, each_made}
 use Rattle.vd_clear.proofs.HostLaws.{written_there}
 use Rattle.vd_joint.specs.Joint.{Each as EachPart}
 use Rattle.vd_joint.specs.Suite.{is_at, Cells, Word, Gives, Ready, Below, Delivered, nothing, hosts_of as hosts_at}
-use Rattle.vd_joint.proofs.Lists.{AreApart, and_left}
-use Rattle.vd_suite.specs.Parts.{Parts, is_built, zeros_at, new_cells, index_of}
-use Rattle.vd_suite.specs.Suite.{cell, StandForCells, IsOver, holds}
-use Rattle.vd_suite.proofs.Standing.{hosts_cell}
+use Rattle.vd_joint.proofs.Lists.{AreApart}
+use Rattle.vd_suite.specs.Parts.{Parts, has_back_end, zeros_at, new_cells, index_of}
+use Rattle.vd_suite.specs.Suite.{cell, StandForCells, stands, IsOver, holds}
+use Rattle.vd_suite.proofs.Standing.{cells_of, of_cells, hosts_cell}
 use Rattle.vd_suite.proofs.Over.{holders_apart, host_known, holder_at, In, picked_in}
 use Rattle.vd_suite.proofs.Rows.{row_of, in_cell, zeros_stand, zeros_there, each_stands}
-use Rattle.vd_suite.proofs.Gives.{M, S, leads_as}
+use Rattle.vd_suite.proofs.Gives.{M, S, for_variable, leads_as}
 use Rattle.vd_suite.proofs.Alone.{alone_leads}
 
 lt_of : (a b : ℕ) → nat_lt a b ≡ true → a < b
@@ -134,6 +134,7 @@ module _ (t : Tape) (deal : IsValidDeal t) (inputs : ℕ → List ℕ) (hosts : 
   pub cells_law : (p : Proto) → IsOver hosts p → IsTrue (holds Variable p) → (n : ℕ) (next : List ℕ) (w : Hosts) → Ready (M t inputs hosts) (S t inputs hosts) next w
       → Gives (M t inputs hosts) (S t inputs hosts) next nothing ((S t inputs hosts).calls.cells p n next) w p (Cells (replicate n 0))
   cells_law p d row n next w r =
+      let e = for_variable p row in
       let z = zeros_law t deal n (holders p) next w (subst (λ (k : ℕ). Each (λ h. h.0 < k) (holders p)) (sym r.known) d.known) r.sound in
       record {
         reached = z.reached;
@@ -145,12 +146,12 @@ module _ (t : Tape) (deal : IsValidDeal t) (inputs : ℕ → List ℕ) (hosts : 
           below = λ h q j. (z.fresh j.0 j.1 h q j.2).1;
           from = λ h q j. inl (z.fresh j.0 j.1 h q j.2).0;
         };
-        stands = record {
+        stands = of_cells p e z.reached (record { at = (new_cells p n next).given; size = n }) (Cells (replicate n 0)) (record {
           size = zeros_many n;
           at = z.at;
           cells = λ i lt. subst (λ (v : ℕ). Stand p (words_at z.reached (cell i (new_cells p n next).given)) v) (sym (zeros_index n i))
-              (zeros_there p (and_left (is_built p) _ row) z.reached (cell i (new_cells p n next).given) (hosts_cell i (new_cells p n next).given ∙ z.at) (z.zero_there i lt));
-        };
+              (zeros_there p e z.reached (cell i (new_cells p n next).given) (hosts_cell i (new_cells p n next).given ∙ z.at) (z.zero_there i lt));
+        });
       }
 
   -- ---- an index and a cell
@@ -190,22 +191,28 @@ module _ (t : Tape) (deal : IsValidDeal t) (inputs : ℕ → List ℕ) (hosts : 
   cell_low p next x below at i lt h j = below h ((register_of x.at h).0 + i) (i, lt, in_cell i x.at h (subst (λ (l : List HostId). IsHost l h) (sym at) j))
 
   pub get_law : (p : Proto) → IsOver hosts p → IsTrue (holds Variable p) → (x : Parts) (ws : List ℕ) (at : List Part) (i : ℕ) (next : List ℕ) (w : Hosts) → Ready (M t inputs hosts) (S t inputs hosts) next w
-      → Below (M t inputs hosts) (S t inputs hosts) next x → StandForCells w p x ws → Delivered (M t inputs hosts) (S t inputs hosts) next w (hosts_at (S t inputs hosts).calls p) at i
+      → Below (M t inputs hosts) (S t inputs hosts) next x → stands w p x (Cells ws) → Delivered (M t inputs hosts) (S t inputs hosts) next w (hosts_at (S t inputs hosts).calls p) at i
       → Gives (M t inputs hosts) (S t inputs hosts) next nothing ((S t inputs hosts).calls.get p x at next) w p (Word (slice_index ws i))
-  get_law p d row x ws at i next w r below s index =
-      each_stands t inputs hosts p d next w r (λ h. written_by h (λ k. action.Get k (register_of x.at h.0) x.size (index_of at h.0)))
+  get_law p d row x ws at i next w r below stood index =
+      each_stands t inputs hosts p made_here d next w r (λ h. written_by h (λ k. action.Get k (register_of x.at h.0) x.size (index_of at h.0)))
       (λ h. if nat_lt i x.size then (w h.0).registers ((register_of x.at h.0).0 + i) else 0) (slice_index ws i)
-      (stand (and_left (is_built p) _ row) (nat_lt i x.size) refl)
+      (stand (nat_lt i x.size) refl)
       (λ h j next' u since known.
       written_there t deal next' u since.sound h known nowhere (λ k. action.Get k (register_of x.at h.0) x.size (index_of at h.0))
       (if nat_lt i x.size then (w h.0).registers ((register_of x.at h.0).0 + i) else 0) tt
       (ap (λ z. put u h.0 (wrote (next_at next' h).0 z (u h.0))) (read h j next' u since)) tt)
     where
-      stand : is_built p ≡ true → (b : Bool) → nat_lt i x.size ≡ b
+      made_here : has_back_end p ≡ true
+      made_here = for_variable p row
+
+      s : StandForCells w p x ws
+      s = cells_of p made_here w x (Cells ws) stood
+
+      stand : (b : Bool) → nat_lt i x.size ≡ b
           → Stand p (map (λ (h : HostId). if b then (w h.0).registers ((register_of x.at h.0).0 + i) else 0) (holders p)) (slice_index ws i)
-      stand built true e = subst (λ (l : List ℕ). Stand p l (slice_index ws i)) (cell_row p d w x s.at i) (s.cells i (lt_of i x.size e))
-      stand built false e =
-          subst (λ (z : ℕ). Stand p (map (λ (h : HostId). 0) (holders p)) z) (sym (get_or_past ws i 0 (let a = not_lt_of i x.size e in let b = s.size in omega (arith, a, b)))) (zeros_stand p built)
+      stand true e = subst (λ (l : List ℕ). Stand p l (slice_index ws i)) (cell_row p d w x s.at i) (s.cells i (lt_of i x.size e))
+      stand false e =
+          subst (λ (z : ℕ). Stand p (map (λ (h : HostId). 0) (holders p)) z) (sym (get_or_past ws i 0 (let a = not_lt_of i x.size e in let b = s.size in omega (arith, a, b)))) (zeros_stand p made_here)
 
       inside : (h : HostId) → IsHost (holders p) h.0 → (next' : List ℕ) (u : Hosts) → Since next w next' u → (b : Bool) → nat_lt i x.size ≡ b
           → (if b then (u h.0).registers ((register_of x.at h.0).0 + i) else 0) ≡ (if b then (w h.0).registers ((register_of x.at h.0).0 + i) else 0)

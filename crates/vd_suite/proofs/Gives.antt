@@ -1,10 +1,9 @@
 -- What a back end's law says, as the theory of the splitter asks it.
-use Rattle.std.proofs.Common.{◌≡◌, ℕ, ◌<◌, true, IsTrue, is_some, List, [], ◌∷◌, ◌++◌, inl, inr, map, drop, refl, sym, ap, subst, ◌∙◌}
+use Rattle.std.proofs.Common.{◌≡◌, ℕ, ◌<◌, true, IsTrue, List, [], ◌∷◌, ◌++◌, inl, inr, map, drop, refl, sym, ap, subst, ◌∙◌}
 use Rattle.vd_base.specs.declared.operations.Op.{Op}
 use Rattle.vd_base.specs.declared.protocols.Proto.{Proto}
 use Rattle.vd_base.specs.declared.protocols.Proto.TheVariants.{Local, Rep, Commit, Add, Xor}
-use Rattle.vd_base.specs.declared.rows.Row.TheVariants.{Apply}
-use Rattle.vd_base.specs.Costs.{cost_at}
+use Rattle.vd_base.specs.declared.rows.Row.TheVariants.{Constant, Variable, Apply}
 use Rattle.vd_execution.specs.declared.instructions.Act.{Act}
 use Rattle.vd_execution.specs.World.{Tape}
 use Rattle.vd_execution.specs.Deals.{IsValidDeal}
@@ -21,10 +20,10 @@ use Rattle.vd_circuit.specs.CircuitCalls.{circuit_serves}
 use Rattle.vd_joint.specs.Joint.{Hosts as AnyHosts, run_acts as run_all, AllFine}
 use Rattle.vd_joint.specs.Suite.{Suite, Word, Gives, Leads, Ready, Operand, Operands, NamedBy, Renews}
 use Rattle.vd_suite.specs.Machine.{machine}
-use Rattle.vd_suite.specs.Parts.{Parts, word_in, made_of, is_built, back_end}
-use Rattle.vd_suite.specs.Suite.{Names, StandForCells, IsOver, suite}
+use Rattle.vd_suite.specs.Parts.{Parts, word_in, made_of, has_back_end, back_end}
+use Rattle.vd_suite.specs.Suite.{Names, StandForCells, IsOver, holds, suite}
 use Rattle.vd_suite.proofs.Over.{ordered_differ}
-use Rattle.vd_suite.proofs.Standing.{word_of, stand_of, names_in, in_names, all_below, below_at}
+use Rattle.vd_suite.proofs.Standing.{no_back_end, cells_of, of_cells, word_of, stand_of, names_in, in_names, all_below, below_at}
 
 runs_as_acts : (t : Tape) (inputs : ℕ → List ℕ) (gadgets : List Gadget) (w : Hosts) → run_all (machine t inputs) gadgets w ≡ run_acts t (acts_of_gadgets gadgets) w
 runs_as_acts t inputs [] w = refl
@@ -47,20 +46,40 @@ proto_is (Commit a b) = refl
 proto_is (Add a b) = refl
 proto_is (Xor a b) = refl
 
-pub serves : (p : Proto) → is_built p ≡ true → (o : Op) → IsTrue (is_some (cost_at (Apply o) p)) → IsTrue ((back_end p).serves o)
-serves (Local h) e o row = refl
-serves (Rep set) e o row = refl
-serves (Commit a b) e o row = cc
-serves (Add a b) e o row = row
-serves (Xor a b) e o row = row
+-- ---- a table's row that asks for a back end
 
-pub laws_of : (p : Proto) → is_built p ≡ true → (hosts : ℕ) → IsOver hosts p → BackendLaws (back_end p)
+pub for_constant : (p : Proto) → IsTrue (holds Constant p) → has_back_end p ≡ true
+for_constant (Local h) row = refl
+for_constant (Rep set) row = refl
+for_constant (Commit a b) row = no_back_end row
+for_constant (Add a b) row = refl
+for_constant (Xor a b) row = refl
+
+pub for_variable : (p : Proto) → IsTrue (holds Variable p) → has_back_end p ≡ true
+for_variable (Local h) row = refl
+for_variable (Rep set) row = refl
+for_variable (Commit a b) row = no_back_end row
+for_variable (Add a b) row = refl
+for_variable (Xor a b) row = refl
+
+pub for_operation : (o : Op) (p : Proto) → IsTrue (holds (Apply o) p) → has_back_end p ≡ true
+for_operation o (Local h) row = refl
+for_operation o (Rep set) row = refl
+for_operation o (Commit a b) row = no_back_end row
+for_operation o (Add a b) row = refl
+for_operation o (Xor a b) row = refl
+
+pub serves : (p : Proto) (o : Op) → IsTrue (holds (Apply o) p) → IsTrue ((back_end p).serves o)
+serves (Local h) o row = refl
+serves (Rep set) o row = refl
+serves (Commit a b) o row = row
+serves (Add a b) o row = row
+serves (Xor a b) o row = row
+
+pub laws_of : (p : Proto) → has_back_end p ≡ true → (hosts : ℕ) → IsOver hosts p → BackendLaws (back_end p)
 laws_of (Local h) e hosts d = clear_laws (Local h) tt d.some.0 d.some.1
 laws_of (Rep set) e hosts d = clear_laws (Rep set) tt d.some.0 d.some.1
-laws_of (Commit a b) e hosts d = absurd (wrong e)
-  where
-    wrong : is_built (Commit a b) ≡ true → ⊥
-    wrong e = cc
+laws_of (Commit a b) e hosts d = no_back_end e
 laws_of (Add a b) e hosts d = add_laws a b (ordered_differ a b d.ordered)
 laws_of (Xor a b) e hosts d = circuit_laws a b (ordered_differ a b d.ordered) circuit_serves (λ o can. can)
 
@@ -82,9 +101,9 @@ module _ (t : Tape) (inputs : ℕ → List ℕ) (hosts : ℕ) where
   }
 
   -- a call of a back end is a call of the suite
-  pub gives_word : (c : Calls) (next : List ℕ) (source source' : ℕ → ℕ → Type 0) (made : Made Places) (w : Hosts) (p : Proto) (v : ℕ) → c.proto ≡ p
+  pub gives_word : (c : Calls) (next : List ℕ) (source source' : ℕ → ℕ → Type 0) (made : Made Places) (w : Hosts) (p : Proto) (v : ℕ) → has_back_end p ≡ true → c.proto ≡ p
       → ((h r : ℕ) → source h r → source' h r) → GivesWord c t next source made w v → Gives M S next source' (made_of made) w p (Word v)
-  gives_word c next source source' made w p v is f g = record {
+  gives_word c next source source' made w p v e is f g = record {
     reached = g.reached;
     leads = leads_as next (λ h r. ⊥) (λ h r. ⊥) made.gadgets w g.reached (λ h r x. x) g.orderly.tidy g.leads;
     quiet = record { printed = g.leads.printed; waiting = λ h. ap (λ (n : ℕ). drop n (inputs h)) (g.leads.inputs h) };
@@ -94,7 +113,7 @@ module _ (t : Tape) (inputs : ℕ → List ℕ) (hosts : ℕ) where
       below = λ h r n. below_at made.next made.given g.orderly.below h r (names_in (word_in made.given) h r refl n);
       from = λ h r n. elim (g.orderly.from h r (names_in (word_in made.given) h r refl n)) [ inl low ↦ inl low | inr s ↦ inr (f h r s) ];
     };
-    stands = stand_of c g.reached p made.given v is g.is;
+    stands = of_cells p e g.reached (word_in made.given) (Word v) (stand_of c g.reached p made.given v is g.is);
   }
 
   pub ready_at : IsValidDeal t → (c : Calls) (next : List ℕ) (w : Hosts) (p : Proto) → c.proto ≡ p → IsOver hosts p → Ready M S next w → IsReady c t next w
@@ -104,31 +123,33 @@ module _ (t : Tape) (inputs : ℕ → List ℕ) (hosts : ℕ) where
     known = subst (λ (z : Proto). AreKnown (holders z) next) (sym is) (subst (λ (n : ℕ). Each (λ h. h.0 < n) (holders p)) (sym r.known) d.known);
   }
 
-  pub operand_at : (c : Calls) (next : List ℕ) (w : Hosts) (p : Proto) (x : Parts) (v : ℕ) → c.proto ≡ p → Operand M S next w p x v → DuetOperand c next w x.at v
-  operand_at c next w p x v is o =
-      record { below = all_below next x.at (λ h r i. o.below h r (in_names x h r o.stands.size i)); stands = word_of c w p x v is o.stands }
+  pub operand_at : (c : Calls) (next : List ℕ) (w : Hosts) (p : Proto) (x : Parts) (v : ℕ) → has_back_end p ≡ true → c.proto ≡ p → Operand M S next w p x v → DuetOperand c next w x.at v
+  operand_at c next w p x v e is o =
+      let s = cells_of p e w x (Word v) o.stands in
+      record { below = all_below next x.at (λ h r i. o.below h r (in_names x h r s.size i)); stands = word_of c w p x v is s }
 
-  pub operands_at : (c : Calls) (next : List ℕ) (w : Hosts) (p : Proto) (xs : List Parts) (vs : List ℕ) → c.proto ≡ p → Operands M S next w p xs vs
+  pub operands_at : (c : Calls) (next : List ℕ) (w : Hosts) (p : Proto) (xs : List Parts) (vs : List ℕ) → has_back_end p ≡ true → c.proto ≡ p → Operands M S next w p xs vs
       → DuetOperands c next w (map (λ x. x.at) xs) vs
-  operands_at c next w p [] [] is o = tt
-  operands_at c next w p [] (v ∷ vs) is o = o
-  operands_at c next w p (x ∷ xs) [] is o = o
-  operands_at c next w p (x ∷ xs) (v ∷ vs) is o = (operand_at c next w p x v is o.0, operands_at c next w p xs vs is o.1)
+  operands_at c next w p [] [] e is o = tt
+  operands_at c next w p [] (v ∷ vs) e is o = o
+  operands_at c next w p (x ∷ xs) [] e is o = o
+  operands_at c next w p (x ∷ xs) (v ∷ vs) e is o = (operand_at c next w p x v e is o.0, operands_at c next w p xs vs e is o.1)
 
-  pub named_by : (next : List ℕ) (w : Hosts) (p : Proto) (xs : List Parts) (vs : List ℕ) → Operands M S next w p xs vs → (h r : ℕ) → IsInOne (map (λ x. x.at) xs) h r → NamedBy M S xs h r
-  named_by next w p [] vs o h r i = i
-  named_by next w p (x ∷ xs) [] o h r i = absurd o
-  named_by next w p (x ∷ xs) (v ∷ vs) o h r (inl i) = inl (in_names x h r o.0.stands.size i)
-  named_by next w p (x ∷ xs) (v ∷ vs) o h r (inr i) = inr (named_by next w p xs vs o.1 h r i)
+  pub named_by : (next : List ℕ) (w : Hosts) (p : Proto) (xs : List Parts) (vs : List ℕ) → has_back_end p ≡ true → Operands M S next w p xs vs → (h r : ℕ)
+      → IsInOne (map (λ x. x.at) xs) h r → NamedBy M S xs h r
+  named_by next w p [] vs e o h r i = i
+  named_by next w p (x ∷ xs) [] e o h r i = absurd o
+  named_by next w p (x ∷ xs) (v ∷ vs) e o h r (inl i) = inl (in_names x h r (cells_of p e w x (Word v) o.0.stands).size i)
+  named_by next w p (x ∷ xs) (v ∷ vs) e o h r (inr i) = inr (named_by next w p xs vs e o.1 h r i)
 
   -- what a back end renews, the suite renews
-  pub renews_word : (c : Calls) (next : List ℕ) (kept x : Parts) (w : Hosts) (p : Proto) (v : ℕ) → c.proto ≡ p → kept.size ≡ 1
+  pub renews_word : (c : Calls) (next : List ℕ) (kept x : Parts) (w : Hosts) (p : Proto) (v : ℕ) → has_back_end p ≡ true → c.proto ≡ p → kept.size ≡ 1
       → DuetRenews c t next kept.at x.at w v → Renews M S next kept (c.renew kept.at x.at) w p (Word v)
-  renews_word c next kept x w p v is one r = record {
+  renews_word c next kept x w p v e is one r = record {
     reached = r.reached;
     leads = leads_as next (IsIn kept.at) (Names kept) (c.renew kept.at x.at) w r.reached (λ h q i. in_names kept h q one i) r.tidy r.leads;
     quiet = record { printed = r.leads.printed; waiting = λ h. ap (λ (n : ℕ). drop n (inputs h)) (r.leads.inputs h) };
-    stands = again (stand_of c r.reached p kept.at v is r.stands);
+    stands = of_cells p e r.reached kept (Word v) (again (stand_of c r.reached p kept.at v is r.stands));
   }
     where
       again : StandForCells r.reached p (word_in kept.at) (v ∷ []) → StandForCells r.reached p kept (v ∷ [])

@@ -1,8 +1,10 @@
+pub mod BoundParts
 pub mod Standing
 pub mod Over
 pub mod TwoHosts
 pub mod Moves
 pub mod Gives
+pub mod Binding
 pub mod Rows
 pub mod BackEnds
 pub mod Alone

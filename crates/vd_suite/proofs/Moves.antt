@@ -1,6 +1,7 @@
 -- A move is composed of the calls of two back ends.
 use Rattle.std.proofs.Common.{◌≡◌, ℕ, suc, ◌<◌, List, [], ◌∷◌, inl, inr, length, map, slice_index, refl, sym, ap, ap₂, subst, subst₂, ◌∙◌, arith}
 use Rattle.vd_base.specs.declared.ids.HostId.{HostId}
+use Rattle.vd_base.specs.declared.protocols.HostSet.{HostSet}
 use Rattle.vd_base.specs.declared.protocols.Proto.{Proto}
 use Rattle.vd_base.specs.declared.protocols.Proto.TheVariants.{Local, Rep}
 use Rattle.vd_base.specs.HostSets.{host}
@@ -19,13 +20,13 @@ use Rattle.vd_bits.specs.BitCalls.{bit_calls}
 use Rattle.vd_convert.specs.Convert.{to_xor_made, to_add_made}
 use Rattle.vd_convert.proofs.ToXor.{to_xor_gives}
 use Rattle.vd_convert.proofs.ToAdd.{to_add_gives}
-use Rattle.vd_suite.specs.Moves.{Stay, Share, Adopt, Show, ShowAll, Spread, Same, ToXor, ToAdd, only, copies_at, MovesKeepTheWord}
+use Rattle.vd_suite.specs.Moves.{Share, Adopt, Show, ShowAll, Spread, Same, SameBound, ToXor, ToAdd, only, copies_at, shown_each, MovesKeepTheWord}
 
 -- the parts of one host alone
-record Sole (h : HostId) (next : List ℕ) (w : Hosts) (x : Places) (v : ℕ) : Type 0 where
-  here : (w h.0).registers (only x).0 ≡ v
-  low : (only x).0 < slice_index next h.0
-  named : IsIn x h.0 (only x).0
+pub record Sole (h : HostId) (next : List ℕ) (w : Hosts) (x : Places) (v : ℕ) : Type 0 where
+  pub here : (w h.0).registers (only x).0 ≡ v
+  pub low : (only x).0 < slice_index next h.0
+  pub named : IsIn x h.0 (only x).0
 
 too_long : (n : ℕ) → suc (suc n) ≡ 1 → ⊥
 too_long n e = omega (arith, e)
@@ -33,7 +34,7 @@ too_long n e = omega (arith, e)
 none : (n : ℕ) → n ≡ suc n → ⊥
 none n e = omega (arith, e)
 
-sole : (p : Calls) (h : HostId) (next : List ℕ) (w : Hosts) (x : Places) (v : ℕ) → p.proto ≡ Local h → hosts_of x ≡ h ∷ [] → Operand p next w x v → Sole h next w x v
+pub sole : (p : Calls) (h : HostId) (next : List ℕ) (w : Hosts) (x : Places) (v : ℕ) → p.proto ≡ Local h → hosts_of x ≡ h ∷ [] → Operand p next w x v → Sole h next w x v
 sole p h next w [] v is at o = absurd (none 0 (ap (λ (l : List HostId). length l) at))
 sole p h next w (q ∷ []) v is at o =
     let e : q.0.0 ≡ h.0 = ap (λ (l : List HostId). slice_index (map (λ k. k.0) l) 0) at in
@@ -111,13 +112,32 @@ stands_as p q w x v e s = record { at = s.at ∙ ap holders e; word = subst (λ 
 operand_as : (p q : Calls) (next : List ℕ) (w : Hosts) (x : Places) (v : ℕ) → p.proto ≡ q.proto → Operand p next w x v → Operand q next w x v
 operand_as p q next w x v e o = record { below = o.below; stands = stands_as p q w x v e o.stands }
 
+-- copies are given to some hosts, and those at the hosts of a set among these stand for the word there
+pub copies_give : (q : Calls) (set : HostSet) → q.proto ≡ Rep set → (t : Tape) (next : List ℕ) (w : Hosts) (source : ℕ → ℕ → Type 0) (made : Made Places) (v : ℕ) (hs : List HostId)
+    → ((h : ℕ) → IsHost (holders q.proto) h → IsHost hs h)
+    → Gives most_taken t next source made w (λ u. (hosts_of made.given ≡ hs) × Copies u made.given v)
+    → GivesWord q t next source (shown_each (holders q.proto) made) w v
+copies_give q set is t next w source made v hs among g =
+    let found_at : (h : HostId) → IsHost (holders q.proto) h.0 → Found made.next g.reached made.given h v = λ h i.
+    found made.next g.reached made.given h v (subst (λ (l : List HostId). IsHost l h.0) (sym g.is.0) (among h.0 i)) g.orderly.below g.is.1 in
+    let c = each_copy made.next g.reached made.given v (holders q.proto) found_at in
+    record {
+      orderly = record {
+        tidy = g.orderly.tidy;
+        few = g.orderly.few;
+        longer = g.orderly.longer;
+        below = c.below;
+        from = λ h r i. g.orderly.from h r (c.from h r i);
+      };
+      reached = g.reached;
+      leads = g.leads;
+      is = record {
+        at = hosts_at (holders q.proto) made.given;
+        word = subst (λ (z : Proto). Stand z (words_at g.reached (copies_at (holders q.proto) made.given)) v) (sym is) (all_of g.reached (copies_at (holders q.proto) made.given) v c.copies);
+      };
+    }
+
 pub move_gives : MovesKeepTheWord
-move_gives Stay p q lp lq is t next w rp rq x v o = record {
-  orderly = orderly_still most_taken next (IsIn x) x o.below (λ h r i. i);
-  reached = w;
-  leads = leads_nothing t next nowhere w rp.sound;
-  is = subst (λ (z : Calls). StandFor z w x v) is o.stands;
-}
 move_gives (Share h) p q lp lq is t next w rp rq x v o =
     let s = sole p h next w x v is.0 (o.stands.at ∙ ap holders is.0) o in
     let known : h.0 < length next = (subst (λ (z : Proto). AreKnown (holders z) next) is.0 rp.known).0 in
@@ -143,27 +163,7 @@ move_gives (Show k) p q lp lq is t next w rp rq x v o =
       word = subst (λ (z : Proto). Stand z ((u k.0).registers (p.show x k next).given.0 ∷ []) v) (sym is.0) (ap (λ z. z ∷ []) e);
     })
     (lp.show t next w rp x v o k is.1 known)
-move_gives ShowAll p q lp lq is t next w rp rq x v o =
-    let g = lp.show_all t next w rp x v o in
-    let made : Made Places = p.show_all x next in
-    let found_at : (h : HostId) → IsHost (holders q.proto) h.0 → Found made.next g.reached made.given h v = λ h i.
-    found made.next g.reached made.given h v (subst (λ (l : List HostId). IsHost l h.0) (sym g.is.0) (is.1 h.0 i)) g.orderly.below g.is.1 in
-    let c = each_copy made.next g.reached made.given v (holders q.proto) found_at in
-    record {
-      orderly = record {
-        tidy = g.orderly.tidy;
-        few = g.orderly.few;
-        longer = g.orderly.longer;
-        below = c.below;
-        from = λ h r i. g.orderly.from h r (c.from h r i);
-      };
-      reached = g.reached;
-      leads = g.leads;
-      is = record {
-        at = hosts_at (holders q.proto) made.given;
-        word = subst (λ (z : Proto). Stand z (words_at g.reached (copies_at (holders q.proto) made.given)) v) (sym is.0.1) (all_of g.reached (copies_at (holders q.proto) made.given) v c.copies);
-      };
-    }
+move_gives ShowAll p q lp lq is t next w rp rq x v o = copies_give q is.0.0 is.0.1 t next w (IsIn x) (p.show_all x next) v (holders p.proto) is.1 (lp.show_all t next w rp x v o)
 move_gives (Spread to) p q lp lq is t next w rp rq x v o =
     subst (λ (z : Calls). GivesWord z t next (IsIn x) (spread_to to x next) w v) (sym is.1)
     (spread_law is.0.0 to is.0.1.0 is.0.1.1 t next w (subst (λ (z : Calls). IsReady z t next w) is.0.2 rp)
@@ -176,6 +176,7 @@ move_gives (Same a b) p q lp lq is t next w rp rq x v o =
       leads = leads_nothing t next nowhere w rp.sound;
       is = subst (λ (z : Calls). StandFor z w (places_at a b (shares_of x)) v) is.0 (subst (λ (y : Places). StandFor p w y v) two o.stands);
     }
+move_gives (SameBound a b) p q lp lq is t next w rp rq x v o = absurd is
 move_gives (ToXor a b) p q lp lq is t next w rp rq x v o =
     let made : Made Places = to_xor_made a b x next in
     widened t next (IsIn x) (IsIn x) made w (λ u. StandFor (bit_calls a b) u made.given v) (λ u. StandFor q u made.given v)

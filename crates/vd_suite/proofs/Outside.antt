@@ -27,13 +27,12 @@ use Rattle.vd_clear.specs.Copies.{register_of, written_by, clear_calls}
 use Rattle.vd_clear.proofs.HostLaws.{written_there}
 use Rattle.vd_clear.proofs.ClearLaws.{copies_of}
 use Rattle.vd_joint.specs.Suite.{is_at, Word, Gives, Ready, Operand, Takes, Tells, nothing}
-use Rattle.vd_joint.proofs.Lists.{and_left}
-use Rattle.vd_suite.specs.Parts.{Parts, word_in, is_built, turn_part, printed}
+use Rattle.vd_suite.specs.Parts.{Parts, word_in, has_back_end, turn_part, printed}
 use Rattle.vd_suite.specs.Suite.{Names, StandForCells, is_in_order, IsOver, holds, AreGiven}
-use Rattle.vd_suite.proofs.Standing.{word_of, stand_of, names_in, in_names}
+use Rattle.vd_suite.proofs.Standing.{no_back_end, word_of, stand_of, names_in, in_names}
 use Rattle.vd_suite.proofs.Over.{host_known, holder_at, ordered_differ}
 use Rattle.vd_suite.proofs.Rows.{all_same, each_stands}
-use Rattle.vd_suite.proofs.Gives.{M, S}
+use Rattle.vd_suite.proofs.Gives.{M, S, for_constant}
 use Rattle.vd_suite.proofs.Alone.{same, sound_after}
 
 -- ---- the number of a turn
@@ -49,10 +48,10 @@ turn_value (Xor a b) turn h = if nat_eq h.0 a.0 then turn else 0
 sum_with_zero : (turn : ℕ) → turn < 2 ^ 32 → (turn + 0) % 2 ^ 32 ≡ turn
 sum_with_zero turn small = omega (arith, small)
 
-turn_stands : (p : Proto) → is_built p ≡ true → is_in_order p ≡ true → (turn : ℕ) → turn < 2 ^ 32 → Stand p (map (turn_value p turn) (holders p)) turn
+turn_stands : (p : Proto) → has_back_end p ≡ true → is_in_order p ≡ true → (turn : ℕ) → turn < 2 ^ 32 → Stand p (map (turn_value p turn) (holders p)) turn
 turn_stands (Local k) b o turn small = refl
 turn_stands (Rep set) b o turn small = all_same turn (holders (Rep set))
-turn_stands (Commit u v) b o turn small = cc
+turn_stands (Commit u v) b o turn small = no_back_end b
 turn_stands (Add u v) b o turn small =
     ap₂ (λ (x y : Bool). ((if x then turn else 0) + (if y then turn else 0)) % 2 ^ 32) (eq-eqb u.0 u.0 refl) (ne_eqb v.0 u.0 (λ e. ordered_differ u v o (sym e))) ∙ sum_with_zero turn small
 turn_stands (Xor u v) b o turn small =
@@ -76,7 +75,7 @@ module _ (t : Tape) (deal : IsValidDeal t) (inputs : ℕ → List ℕ) (given : 
       → ((h : ℕ) → h < hosts → IsTrue (is_at p (host h)) → ((w h).registers (slice_index loop h) ≡ turn) × (slice_index loop h < slice_index next h))
       → Gives (M t inputs hosts) (S t inputs hosts) next nothing ((S t inputs hosts).calls.turn p loop next) w p (Word turn)
   turn_law p d row turn small loop next w r there =
-      each_stands t inputs hosts p d next w r (turn_part p loop) (turn_value p turn) turn (turn_stands p (and_left (is_built p) _ row) d.ordered turn small)
+      each_stands t inputs hosts p (for_constant p row) d next w r (turn_part p loop) (turn_value p turn) turn (turn_stands p (for_constant p row) d.ordered turn small)
       (λ h i next' u s known. part p h next' u s known (let q = there h.0 (host_known hosts (holders p) h.0 d.known i) (holder_at p h.0 i) in (q.1, q.0)))
     where
       copied : (h : HostId) (next' : List ℕ) (u : Hosts) → Since next w next' u → h.0 < length next' → (slice_index loop h.0 < slice_index next h.0) × ((w h.0).registers (slice_index loop h.0) ≡ turn)

@@ -121,10 +121,19 @@ in_order a b o = (lt_of a.0 b.0 (and_left (nat_lt a.0 b.0) (nat_lt b.0 8) o), lt
 pub ordered_differ : (a b : HostId) → (nat_lt a.0 b.0 && nat_lt b.0 8) ≡ true → a.0 ≢ b.0
 ordered_differ a b o = differ a.0 b.0 (in_order a b o).0
 
+-- the two hosts of a commitment differ, and can be members of a set
+pub bound_differ : (a b : HostId) → (not (nat_eq a.0 b.0) && (nat_lt a.0 8 && nat_lt b.0 8)) ≡ true → a.0 ≢ b.0
+bound_differ a b o = unlike a.0 b.0 (and_left (not (nat_eq a.0 b.0)) (nat_lt a.0 8 && nat_lt b.0 8) o)
+
+pub bound_small : (a b : HostId) → (not (nat_eq a.0 b.0) && (nat_lt a.0 8 && nat_lt b.0 8)) ≡ true → (a.0 < 8) × (b.0 < 8)
+bound_small a b o =
+    let both = and_right (not (nat_eq a.0 b.0)) (nat_lt a.0 8 && nat_lt b.0 8) o in
+    (lt_of a.0 8 (and_left (nat_lt a.0 8) (nat_lt b.0 8) both), lt_of b.0 8 (and_right (nat_lt a.0 8) (nat_lt b.0 8) both))
+
 pub holders_apart : (p : Proto) → is_in_order p ≡ true → AreApart (holders p)
 holders_apart (Local h) o = ((λ i. i), tt)
 holders_apart (Rep set) o = members_apart 8 set
-holders_apart (Commit a b) o = two_apart a b (unlike a.0 b.0 o)
+holders_apart (Commit a b) o = two_apart a b (bound_differ a b o)
 holders_apart (Add a b) o = two_apart a b (ordered_differ a b o)
 holders_apart (Xor a b) o = two_apart a b (ordered_differ a b o)
 

@@ -16,8 +16,9 @@ use Rattle.vd_duet.proofs.Leads.{leads_nothing, leads_on, orderly_still, orderly
 use Rattle.vd_clear.specs.Copies.{register_of, each_made}
 use Rattle.vd_joint.specs.Suite.{Word, Gives, Ready, nothing}
 use Rattle.vd_joint.proofs.Lists.{AreApart}
-use Rattle.vd_suite.specs.Parts.{made_of, is_built, back_end}
+use Rattle.vd_suite.specs.Parts.{made_of, has_back_end, back_end}
 use Rattle.vd_suite.specs.Suite.{cell, IsOver}
+use Rattle.vd_suite.proofs.Standing.{no_back_end}
 use Rattle.vd_suite.proofs.Over.{host_known, few_holders}
 use Rattle.vd_suite.proofs.Gives.{M, S, proto_is, gives_word}
 
@@ -56,10 +57,10 @@ no_sum : (0 + 0) % 2 ^ 32 ≡ 0
 no_sum = omega arith
 
 -- zeros stand for 0
-pub zeros_stand : (p : Proto) → is_built p ≡ true → Stand p (map (λ (h : HostId). 0) (holders p)) 0
+pub zeros_stand : (p : Proto) → has_back_end p ≡ true → Stand p (map (λ (h : HostId). 0) (holders p)) 0
 zeros_stand (Local h) b = refl
 zeros_stand (Rep set) b = all_same 0 (holders (Rep set))
-zeros_stand (Commit u v) b = cc
+zeros_stand (Commit u v) b = no_back_end b
 zeros_stand (Add u v) b = no_sum
 zeros_stand (Xor u v) b = xor_zero_r 0
 
@@ -67,7 +68,7 @@ copies_row : (w : Hosts) (x : Places) (v : ℕ) → Copies w x v → words_at w 
 copies_row w [] v c = refl
 copies_row w (q ∷ x) v c = ap₂ (λ (n : ℕ) (l : List ℕ). n ∷ l) c.0 (copies_row w x v c.1)
 
-pub zeros_there : (p : Proto) → is_built p ≡ true → (w : Hosts) (x : Places) → hosts_of x ≡ holders p → Copies w x 0 → Stand p (words_at w x) 0
+pub zeros_there : (p : Proto) → has_back_end p ≡ true → (w : Hosts) (x : Places) → hosts_of x ≡ holders p → Copies w x 0 → Stand p (words_at w x) 0
 zeros_there p b w x at c =
     subst (λ (l : List ℕ). Stand p l 0) (sym (copies_row w x 0 c ∙ ap (λ (hs : List HostId). map (λ (h : HostId). 0) hs) at)) (zeros_stand p b)
 
@@ -106,7 +107,8 @@ each_host : (P : HostId → Type 0) (hs : List HostId) → ((h : HostId) → IsH
 each_host P [] f = tt
 each_host P (h ∷ hs) f = (f h (inl refl), each_host P hs (λ k i. f k (inr i)))
 
-module _ (t : Tape) (inputs : ℕ → List ℕ) (hosts : ℕ) (p : Proto) (d : IsOver hosts p) (next : List ℕ) (w : Hosts) (r : Ready (M t inputs hosts) (S t inputs hosts) next w) where
+module _ (t : Tape) (inputs : ℕ → List ℕ) (hosts : ℕ) (p : Proto) (made_here : has_back_end p ≡ true) (d : IsOver hosts p) (next : List ℕ) (w : Hosts)
+    (r : Ready (M t inputs hosts) (S t inputs hosts) next w) where
   pub each_stands : (f : HostId → List ℕ → Made Reg) (value : HostId → ℕ) (v : ℕ) → Stand p (map value (holders p)) v
       → ((h : HostId) → IsHost (holders p) h.0 → (next' : List ℕ) (u : Hosts) → Since next w next' u → h.0 < length next' → GivesThere 8 t next' nowhere h (f h next') u (value h))
       → Gives (M t inputs hosts) (S t inputs hosts) next nothing (made_of (each_made f (holders p) next)) w p (Word v)
@@ -116,7 +118,7 @@ module _ (t : Tape) (inputs : ℕ → List ℕ) (hosts : ℕ) (p : Proto) (d : I
       (λ h q next' u s. law h q.1 next' u s (subst (λ n. h.0 < n) (sym s.known) q.0))
       (holders p) (each_host (λ h. (h.0 < length next) × IsHost (holders p) h.0) (holders p) (λ h i. (subst (λ n. h.0 < n) (sym r.known) (host_known hosts (holders p) h.0 d.known i), i)))
       next w (since_start next w r.sound) in
-      gives_word t inputs hosts (back_end p) next nowhere nothing (each_made f (holders p) next) w p v (proto_is p) (λ h k z. z) (record {
+      gives_word t inputs hosts (back_end p) next nowhere nothing (each_made f (holders p) next) w p v made_here (proto_is p) (λ h k z. z) (record {
         orderly = orderly_wider (8 * length (holders p)) most_taken next nowhere nowhere (each_made f (holders p) next) (omega (arith, few)) (λ h k i. i) g.orderly;
         reached = g.reached;
         leads = g.leads;

@@ -2,14 +2,19 @@
 use Rattle.std.proofs.Common.{◌≡◌, ◌≢◌, ℕ, zero, suc, ◌+◌, ◌<◌, Bool, true, false, if◌then◌else◌, nat_eq, List, [], ◌∷◌, inl, inr, slice_index, refl, sym, ap, ap₂, subst, ◌∙◌, arith, rules}
 use Rattle.vd_base.specs.declared.ids.HostId.{HostId}
 use Rattle.vd_base.specs.declared.protocols.Proto.{Proto}
+use Rattle.vd_base.specs.declared.protocols.Proto.TheVariants.{Local, Rep, Commit, Add, Xor}
+use Rattle.vd_execution.specs.Registers.{digest_of}
 use Rattle.vd_execution.specs.Joint.{Hosts}
 use Rattle.vd_execution.specs.Text.{register}
 use Rattle.vd_duet.specs.Calls.{Places, hosts_of, holders, Calls, Stand}
 use Rattle.vd_duet.specs.Laws.{IsIn, IsHost, words_at, AreBelow, StandFor}
 use Rattle.vd_clear.specs.Copies.{register_of}
+use Rattle.vd_commit.proofs.Rows.{words_alike}
 use Rattle.vd_joint.specs.Suite.{Content, Word, Cells}
-use Rattle.vd_suite.specs.Parts.{Parts, word_in}
-use Rattle.vd_suite.specs.Suite.{cell, Names, StandForCells, stands}
+use Rattle.vd_suite.specs.Commits.{held_of, seen_of}
+use Rattle.vd_suite.specs.Parts.{Parts, word_in, has_back_end}
+use Rattle.vd_suite.specs.Suite.{cell, Names, StandForCells, IsBound, stands}
+use Rattle.vd_suite.proofs.BoundParts.{value_in, nonce_in, digest_in}
 
 pub none_more : (n : ℕ) → n + 0 ≡ n
 none_more n = omega arith
@@ -34,9 +39,39 @@ still_cells w w' p x vs s kept = record {
   cells = λ i lt. subst (λ (l : List ℕ). Stand p l (slice_index vs i)) (sym (words_kept w w' (cell i x.at) (λ h r j. kept h r (i, lt, j)))) (s.cells i lt);
 }
 
-pub still : (w w' : Hosts) (p : Proto) (x : Parts) (c : Content) → stands w p x c → ((h r : ℕ) → Names x h r → (w' h).registers r ≡ (w h).registers r) → stands w' p x c
-still w w' p x (Word v) s kept = still_cells w w' p x (v ∷ []) s kept
-still w w' p x (Cells vs) s kept = still_cells w w' p x vs s kept
+-- ---- at a protocol with a back end each cell stands for its word
+
+abbrev pub words_of : Content → List ℕ
+words_of (Word v) = v ∷ []
+words_of (Cells vs) = vs
+
+pub no_back_end : {X : Type 0} → false ≡ true → X
+no_back_end e = absurd (wrong e)
+  where
+    wrong : false ≡ true → ⊥
+    wrong e = cc
+
+pub cells_of : (p : Proto) → has_back_end p ≡ true → (w : Hosts) (x : Parts) (c : Content) → stands w p x c → StandForCells w p x (words_of c)
+cells_of (Local h) e w x (Word v) s = s
+cells_of (Local h) e w x (Cells vs) s = s
+cells_of (Rep set) e w x (Word v) s = s
+cells_of (Rep set) e w x (Cells vs) s = s
+cells_of (Commit a b) e w x c s = no_back_end e
+cells_of (Add a b) e w x (Word v) s = s
+cells_of (Add a b) e w x (Cells vs) s = s
+cells_of (Xor a b) e w x (Word v) s = s
+cells_of (Xor a b) e w x (Cells vs) s = s
+
+pub of_cells : (p : Proto) → has_back_end p ≡ true → (w : Hosts) (x : Parts) (c : Content) → StandForCells w p x (words_of c) → stands w p x c
+of_cells (Local h) e w x (Word v) s = s
+of_cells (Local h) e w x (Cells vs) s = s
+of_cells (Rep set) e w x (Word v) s = s
+of_cells (Rep set) e w x (Cells vs) s = s
+of_cells (Commit a b) e w x c s = no_back_end e
+of_cells (Add a b) e w x (Word v) s = s
+of_cells (Add a b) e w x (Cells vs) s = s
+of_cells (Xor a b) e w x (Word v) s = s
+of_cells (Xor a b) e w x (Cells vs) s = s
 
 -- ---- a word is one cell
 
@@ -78,6 +113,33 @@ below_at next (q ∷ x) b h r (inl i) = low b.0
     low : q.1.0 < slice_index next q.0.0 → r < slice_index next h
     low lt = subst (λ z. z < slice_index next h) (sym i.1) (subst (λ k. q.1.0 < slice_index next k) (sym i.0) lt)
 below_at next (q ∷ x) b h r (inr i) = below_at next x b.1 h r i
+
+-- ---- parts go on standing where their registers are kept
+
+still_bound : (w w' : Hosts) (p v : HostId) (x : Parts) (n : ℕ) → IsBound w p v x n → ((h r : ℕ) → Names x h r → (w' h).registers r ≡ (w h).registers r) → IsBound w' p v x n
+still_bound w w' p v x n s kept =
+    let nonce : ℕ = (held_of x.at).nonce.0 in
+    let digest : ℕ = (seen_of x.at).digest.0 in
+    let names : (h r : ℕ) → IsIn x.at h r → Names x h r = λ h r i. in_names x h r s.size i in
+    record {
+      size = s.size;
+      at = s.at;
+      value = kept p.0 (held_of x.at).value.0 (names p.0 (held_of x.at).value.0 (value_in p v x.at s.at)) ∙ s.value;
+      digest = words_alike (w' v.0).registers (w v.0).registers digest digest 8 (λ i low. kept v.0 (digest + i) (names v.0 (digest + i) (digest_in p v x.at s.at i low)))
+          ∙ s.digest
+          ∙ ap (λ (l : List ℕ). digest_of l n) (sym (words_alike (w' p.0).registers (w p.0).registers nonce nonce 8 (λ i low. kept p.0 (nonce + i) (names p.0 (nonce + i) (nonce_in p v x.at s.at i low)))));
+    }
+
+still_there : (p : Proto) → has_back_end p ≡ true → (w w' : Hosts) (x : Parts) (c : Content) → stands w p x c → ((h r : ℕ) → Names x h r → (w' h).registers r ≡ (w h).registers r) → stands w' p x c
+still_there p e w w' x c s kept = of_cells p e w' x c (still_cells w w' p x (words_of c) (cells_of p e w x c s) kept)
+
+pub still : (w w' : Hosts) (p : Proto) (x : Parts) (c : Content) → stands w p x c → ((h r : ℕ) → Names x h r → (w' h).registers r ≡ (w h).registers r) → stands w' p x c
+still w w' (Local h) x c s kept = still_there (Local h) refl w w' x c s kept
+still w w' (Rep set) x c s kept = still_there (Rep set) refl w w' x c s kept
+still w w' (Commit p v) x (Word n) s kept = still_bound w w' p v x n s kept
+still w w' (Commit p v) x (Cells ns) s kept = absurd s
+still w w' (Add a b) x c s kept = still_there (Add a b) refl w w' x c s kept
+still w w' (Xor a b) x c s kept = still_there (Xor a b) refl w w' x c s kept
 
 -- ---- the register of a host's cell
 

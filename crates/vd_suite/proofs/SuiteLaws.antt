@@ -95,5 +95,5 @@ module _ (t : Tape) (deal : IsValidDeal t) (inputs : ℕ → List ℕ) (given : 
     cells_law = cells_law t deal inputs hosts;
     get_law = get_law t deal inputs hosts;
     put_law = λ p d row kept ws at i x v next w r below s index o.
-        put_law t deal inputs hosts p d kept ws at i x v next w r below s index o;
+        put_law t deal inputs hosts p d row kept ws at i x v next w r below s index o;
   }

@@ -1,21 +1,20 @@
 -- Where the calls of the suite have instructions.
-use Rattle.std.proofs.Common.{◌≡◌, ℕ, ◌^◌, ◌<◌, nat_eq, ◌&&◌, ◌||◌, Bool, true, false, if◌then◌else◌, IsTrue, is_some, List, [], ◌∷◌, ◌⊎◌, inl, inr, map, refl, sym, ap, subst, ◌∙◌, arith}
+use Rattle.std.proofs.Common.{◌≡◌, ℕ, ◌^◌, ◌<◌, nat_eq, ◌||◌, Bool, true, false, if◌then◌else◌, IsTrue, List, [], ◌∷◌, ◌⊎◌, inl, inr, map, refl, sym, ap, subst, ◌∙◌, arith}
 use Rattle.std.specs.List.{list_any}
 use Rattle.std.proofs.lemmas.Bool.{eq-eqb, eqb-true}
 use Rattle.vd_base.specs.declared.ids.HostId.{HostId}
 use Rattle.vd_base.specs.declared.operations.Op.{Op}
 use Rattle.vd_base.specs.declared.protocols.Proto.{Proto}
 use Rattle.vd_base.specs.declared.protocols.Proto.TheVariants.{Local, Rep, Commit, Add, Xor}
-use Rattle.vd_base.specs.declared.rows.Row.TheVariants.{Constant, Input, Variable, Apply}
-use Rattle.vd_base.specs.Costs.{cost_at}
+use Rattle.vd_base.specs.declared.rows.Row.TheVariants.{Constant, Input}
 use Rattle.vd_base.specs.HostSets.{host}
-use Rattle.vd_base.specs.Moves.{move_at}
 use Rattle.vd_execution.specs.declared.instructions.Reg.{Reg}
 use Rattle.vd_execution.specs.declared.instructions.Action.TheVariants as action
 use Rattle.vd_execution.specs.World.{Tape}
 use Rattle.vd_execution.specs.Deals.{IsValidDeal}
 use Rattle.vd_execution.specs.Joint.{Part, Hosts}
-use Rattle.vd_execution.specs.Gadgets.{Gadget, Alone, GadgetIsTidy, GadgetsAreTidy}
+use Rattle.vd_execution.specs.Acts.{run_acts}
+use Rattle.vd_execution.specs.Gadgets.{Gadget, Alone, acts_of_gadget, GadgetIsTidy, GadgetsAreTidy}
 use Rattle.vd_duet.specs.Calls.{Places as RegisterPlaces, holders, hosts_of, Made}
 use Rattle.vd_duet.specs.Laws.{IsHost}
 use Rattle.vd_duet.specs.Acting.{is_either, acts_at, is_among, is_holder, pass_at, told_at, apply_at, is_negation, ActsWhereItSays}
@@ -27,18 +26,21 @@ use Rattle.vd_words.proofs.AddLaws.{add_acts}
 use Rattle.vd_bits.proofs.BitActs.{circuit_acts}
 use Rattle.vd_circuit.specs.CircuitCalls.{circuit_serves}
 use Rattle.vd_convert.proofs.ConvertActs.{conversions_act}
-use Rattle.vd_joint.specs.Joint.{Each}
-use Rattle.vd_joint.specs.Suite.{is_at, Ready, Operand}
+use Rattle.vd_commit.specs.Commit.{revealed}
+use Rattle.vd_commit.proofs.CommitActs.{commitments_act}
+use Rattle.vd_joint.specs.Joint.{Each, AllFine}
+use Rattle.vd_joint.specs.Suite.{is_at, Word, Ready, Operand}
 use Rattle.vd_joint.specs.Places.{Where, Places}
-use Rattle.vd_joint.proofs.Lists.{and_left, and_right, or_left, or_right, or_cases}
+use Rattle.vd_joint.proofs.Lists.{or_left, or_right, or_cases}
 use Rattle.vd_suite.specs.Machine.{machine}
+use Rattle.vd_suite.specs.Commits.{held_of, seen_of, taken_over}
 use Rattle.vd_suite.specs.Moves.{moved, moved_at, only}
-use Rattle.vd_suite.specs.Parts.{Parts, is_built, back_end, route, turn_part, turned, zeros_at, index_of, cell_written}
+use Rattle.vd_suite.specs.Parts.{Parts, has_back_end, back_end, route, turn_part, turned, zeros_at, index_of, cell_written}
 use Rattle.vd_suite.specs.Suite.{IsOver, holds, joins, suite}
-use Rattle.vd_suite.proofs.Moves.{move_gives}
+use Rattle.vd_suite.proofs.Standing.{no_back_end, cells_of}
 use Rattle.vd_suite.proofs.Over.{host_known, holder_at, among_host}
-use Rattle.vd_suite.proofs.Gives.{M, S, proto_is, serves, laws_of, ready_at, operand_at, operands_at}
-use Rattle.vd_suite.proofs.BackEnds.{route_leads, length_map}
+use Rattle.vd_suite.proofs.Gives.{M, S, proto_is, serves, laws_of, for_constant, for_variable, for_operation, ready_at, operand_at, operands_at}
+use Rattle.vd_suite.proofs.BackEnds.{length_map, move_law}
 use Rattle.vd_suite.proofs.SuiteLaws.{input_stands}
 
 -- ---- the hosts of the tables
@@ -114,38 +116,28 @@ moving (Rep set) (Rep other) h e =
     at : (k : HostId) → IsHost (holders (Rep other)) k.0 → IsHost (holders (Rep set)) h ⊎ (h ≡ k.0) → IsHost (holders (Rep set)) h ⊎ IsHost (holders (Rep other)) h
     at k i (inl z) = inl z
     at k i (inr z) = inr (subst (IsHost (holders (Rep other))) (sym z) i)
-moving (Rep set) (Commit a b) h e = absurd (wrong e)
-  where
-    wrong : false ≡ true → ⊥
-    wrong e = cc
+moving (Rep set) (Commit a b) h e = no_back_end e
 moving (Rep set) (Add a b) h e = inr (inr (inl (eqb-true h b.0 e)))
 moving (Rep set) (Xor a b) h e = inr (inr (inl (eqb-true h b.0 e)))
-moving (Commit a b) q h e = absurd (wrong e)
+moving (Commit a b) (Local k) h e = at (nat_eq k.0 a.0) e
   where
-    wrong : false ≡ true → ⊥
-    wrong e = cc
+    at : (own : Bool) → (if own then false else is_either h a b) ≡ true → IsHost (a ∷ b ∷ []) h ⊎ IsHost (k ∷ []) h
+    at true e = no_back_end e
+    at false e = inl (two_hosts h a b e)
+moving (Commit a b) (Rep set) h e = inl (two_hosts h a b e)
+moving (Commit a b) (Commit c d) h e = no_back_end e
+moving (Commit a b) (Add c d) h e = inr (inr (inl (eqb-true h d.0 e)))
+moving (Commit a b) (Xor c d) h e = inr (inr (inl (eqb-true h d.0 e)))
 moving (Add a b) (Local k) h e = inl (two_hosts h a b e)
 moving (Add a b) (Rep set) h e = inl (two_hosts h a b e)
 moving (Add a b) (Xor c d) h e = inr (two_hosts h c d e)
-moving (Add a b) (Commit c d) h e = absurd (wrong e)
-  where
-    wrong : false ≡ true → ⊥
-    wrong e = cc
-moving (Add a b) (Add c d) h e = absurd (wrong e)
-  where
-    wrong : false ≡ true → ⊥
-    wrong e = cc
+moving (Add a b) (Commit c d) h e = no_back_end e
+moving (Add a b) (Add c d) h e = no_back_end e
 moving (Xor a b) (Local k) h e = inl (two_hosts h a b e)
 moving (Xor a b) (Rep set) h e = inl (two_hosts h a b e)
 moving (Xor a b) (Add c d) h e = inr (two_hosts h c d e)
-moving (Xor a b) (Commit c d) h e = absurd (wrong e)
-  where
-    wrong : false ≡ true → ⊥
-    wrong e = cc
-moving (Xor a b) (Xor c d) h e = absurd (wrong e)
-  where
-    wrong : false ≡ true → ⊥
-    wrong e = cc
+moving (Xor a b) (Commit c d) h e = no_back_end e
+moving (Xor a b) (Xor c d) h e = no_back_end e
 
 applying : (o : Op) (p : Proto) (h : ℕ) → apply_at o p h ≡ true → IsHost (holders p) h
 applying o (Local k) h e = among_host (holders (Local k)) h e
@@ -170,13 +162,10 @@ input_inside k p h e i = subst (λ (z : Proto). is_at z (host h) ≡ true) (sym 
 
 -- ---- gadgets
 
-acts_of : (p : Proto) → is_built p ≡ true → ActsWhereItSays (back_end p)
+acts_of : (p : Proto) → has_back_end p ≡ true → ActsWhereItSays (back_end p)
 acts_of (Local h) e = clear_acts (Local h) tt
 acts_of (Rep set) e = clear_acts (Rep set) tt
-acts_of (Commit a b) e = absurd (wrong e)
-  where
-    wrong : false ≡ true → ⊥
-    wrong e = cc
+acts_of (Commit a b) e = no_back_end e
 acts_of (Add a b) e = add_acts a b
 acts_of (Xor a b) e = circuit_acts a b circuit_serves (λ o can. can)
 
@@ -192,30 +181,44 @@ or_false : (b : Bool) → (b || false) ≡ b
 or_false true = refl
 or_false false = refl
 
+-- acts that can be taken are well formed
+fine_tidy : (t : Tape) (inputs : ℕ → List ℕ) (gadgets : List Gadget) (w : Hosts) → AllFine (machine t inputs) gadgets w → Each GadgetIsTidy gadgets
+fine_tidy t inputs [] w f = tt
+fine_tidy t inputs (g ∷ gadgets) w f = (f.0.1, fine_tidy t inputs gadgets (run_acts t (acts_of_gadget g) w) f.1)
+
 -- a move acts where its table says
-moved_acts : (p q : Proto) → is_built p ≡ true → is_built q ≡ true → (x : RegisterPlaces) → hosts_of x ≡ holders p → (next : List ℕ) (h : ℕ)
+moved_acts : (p q : Proto) → (x : RegisterPlaces) → (has_back_end p ≡ true → hosts_of x ≡ holders p) → (next : List ℕ) (h : ℕ)
     → acts_at (moved (route p q) (back_end p) (back_end q) x next).gadgets h ≡ moved_at (route p q) p q h
-moved_acts (Local k) (Local j) a b x at next h = (clear_acts (Local j) tt).share k (only x) next h
-moved_acts (Local k) (Rep set) a b x at next h = (clear_acts (Rep set) tt).share k (only x) next h
-moved_acts (Local k) (Commit u v) a b x at next h = cc
-moved_acts (Local k) (Add u v) a b x at next h = (acts_of (Add u v) refl).share k (only x) next h
-moved_acts (Local k) (Xor u v) a b x at next h = (acts_of (Xor u v) refl).share k (only x) next h
-moved_acts (Rep set) (Local k) a b x at next h = (clear_acts (Rep set) tt).show x at k next h
-moved_acts (Rep set) (Rep other) a b x at next h = spread_acts set other x at next h
-moved_acts (Rep set) (Commit u v) a b x at next h = cc
-moved_acts (Rep set) (Add u v) a b x at next h = (acts_of (Add u v) refl).adopt x next h
-moved_acts (Rep set) (Xor u v) a b x at next h = (acts_of (Xor u v) refl).adopt x next h
-moved_acts (Commit u v) q a b x at next h = cc
-moved_acts (Add u v) (Local k) a b x at next h = (acts_of (Add u v) refl).show x at k next h
-moved_acts (Add u v) (Rep set) a b x at next h = (acts_of (Add u v) refl).show_all x at next h
-moved_acts (Add u v) (Commit y z) a b x at next h = cc
-moved_acts (Add u v) (Add y z) a b x at next h = refl
-moved_acts (Add u v) (Xor y z) a b x at next h = conversions_act.to_bits y z x next h
-moved_acts (Xor u v) (Local k) a b x at next h = (acts_of (Xor u v) refl).show x at k next h
-moved_acts (Xor u v) (Rep set) a b x at next h = (acts_of (Xor u v) refl).show_all x at next h
-moved_acts (Xor u v) (Commit y z) a b x at next h = cc
-moved_acts (Xor u v) (Add y z) a b x at next h = conversions_act.to_sums y z x next h
-moved_acts (Xor u v) (Xor y z) a b x at next h = refl
+moved_acts (Local k) (Local j) x at next h = (clear_acts (Local j) tt).share k (only x) next h
+moved_acts (Local k) (Rep set) x at next h = (clear_acts (Rep set) tt).share k (only x) next h
+moved_acts (Local k) (Commit u v) x at next h = commitments_act.commit u v (only x) next h
+moved_acts (Local k) (Add u v) x at next h = (acts_of (Add u v) refl).share k (only x) next h
+moved_acts (Local k) (Xor u v) x at next h = (acts_of (Xor u v) refl).share k (only x) next h
+moved_acts (Rep set) (Local k) x at next h = (clear_acts (Rep set) tt).show x (at refl) k next h
+moved_acts (Rep set) (Rep other) x at next h = spread_acts set other x (at refl) next h
+moved_acts (Rep set) (Commit u v) x at next h = refl
+moved_acts (Rep set) (Add u v) x at next h = (acts_of (Add u v) refl).adopt x next h
+moved_acts (Rep set) (Xor u v) x at next h = (acts_of (Xor u v) refl).adopt x next h
+moved_acts (Commit u v) (Local k) x at next h = shown (nat_eq k.0 u.0)
+  where
+    shown : (own : Bool)
+        → acts_at (if own then taken_over (held_of x).value next else revealed u v (held_of x) (seen_of x) next).gadgets h ≡ (if own then false else is_either h u v)
+    shown true = refl
+    shown false = commitments_act.reveal u v (held_of x) (seen_of x) next h
+moved_acts (Commit u v) (Rep set) x at next h = commitments_act.reveal u v (held_of x) (seen_of x) next h
+moved_acts (Commit u v) (Commit y z) x at next h = refl
+moved_acts (Commit u v) (Add y z) x at next h = (acts_of (Add y z) refl).adopt x next h
+moved_acts (Commit u v) (Xor y z) x at next h = (acts_of (Xor y z) refl).adopt x next h
+moved_acts (Add u v) (Local k) x at next h = (acts_of (Add u v) refl).show x (at refl) k next h
+moved_acts (Add u v) (Rep set) x at next h = (acts_of (Add u v) refl).show_all x (at refl) next h
+moved_acts (Add u v) (Commit y z) x at next h = refl
+moved_acts (Add u v) (Add y z) x at next h = refl
+moved_acts (Add u v) (Xor y z) x at next h = conversions_act.to_bits y z x next h
+moved_acts (Xor u v) (Local k) x at next h = (acts_of (Xor u v) refl).show x (at refl) k next h
+moved_acts (Xor u v) (Rep set) x at next h = (acts_of (Xor u v) refl).show_all x (at refl) next h
+moved_acts (Xor u v) (Commit y z) x at next h = refl
+moved_acts (Xor u v) (Add y z) x at next h = conversions_act.to_sums y z x next h
+moved_acts (Xor u v) (Xor y z) x at next h = refl
 
 -- a host's part of the number of a turn takes one instruction
 shared_tidy : (b : Bool) (h : HostId) (loop next : List ℕ)
@@ -260,10 +263,10 @@ module _ (t : Tape) (deal : IsValidDeal t) (inputs : ℕ → List ℕ) (hosts : 
   literal_at : (p : Proto) → IsOver hosts p → IsTrue (holds Constant p) → (v : ℕ) → v < 2 ^ 32 → (next : List ℕ) (w : Hosts) → Ready (M t inputs hosts) (S t inputs hosts) next w
       → Where (machine t inputs) hosts ((back_end p).literal v next).gadgets (λ h. is_at p (host h))
   literal_at p d row v small next w r =
-      let built = and_left (is_built p) (is_some (cost_at Constant p)) row in
+      let e = for_constant p row in
       where_held p d ((back_end p).literal v next).gadgets
-      ((laws_of p built hosts d).literal t next w (ready_at t inputs hosts deal (back_end p) next w p (proto_is p) d r) v small).orderly.tidy
-      (λ h. (acts_of p built).literal v next h ∙ ap (λ (z : Proto). is_holder z h) (proto_is p))
+      ((laws_of p e hosts d).literal t next w (ready_at t inputs hosts deal (back_end p) next w p (proto_is p) d r) v small).orderly.tidy
+      (λ h. (acts_of p e).literal v next h ∙ ap (λ (z : Proto). is_holder z h) (proto_is p))
 
   turn_at : (p : Proto) → IsOver hosts p → IsTrue (holds Constant p) → (loop next : List ℕ) → Where (machine t inputs) hosts (turned p loop next).gadgets (λ h. is_at p (host h))
   turn_at p d row loop next = where_each p d (turn_part p loop) (turn_tidy p loop) (turn_acts p loop) next
@@ -272,24 +275,19 @@ module _ (t : Tape) (deal : IsValidDeal t) (inputs : ℕ → List ℕ) (hosts : 
       → Operand (M t inputs hosts) (S t inputs hosts) next w p x v
       → Where (machine t inputs) hosts (moved (route p q) (back_end p) (back_end q) x.at next).gadgets (moved_at (route p q) p q)
   move_where p q dp dq j x v next w r o =
-      let both = and_left (is_built p && is_built q) (is_some (move_at p q)) j in
-      let a = and_left (is_built p) (is_built q) both in
-      let b = and_right (is_built p) (is_built q) both in
-      let g = move_gives (route p q) (back_end p) (back_end q) (laws_of p a hosts dp) (laws_of q b hosts dq) (route_leads hosts p q a b (and_right (is_built p && is_built q) (is_some (move_at p q)) j) dp dq) t next w
-      (ready_at t inputs hosts deal (back_end p) next w p (proto_is p) dp r) (ready_at t inputs hosts deal (back_end q) next w q (proto_is q) dq r) x.at v
-      (operand_at t inputs hosts (back_end p) next w p x v (proto_is p) o) in
+      let g = move_law t deal inputs hosts p q dp dq j x v next w r o in
       record {
-        tidy = all_tidy (moved (route p q) (back_end p) (back_end q) x.at next).gadgets g.orderly.tidy;
-        at = λ h e. let i = sym (moved_acts p q a b x.at o.stands.at next h) ∙ e in (below h (moving p q h i), i);
+        tidy = fine_tidy t inputs (moved (route p q) (back_end p) (back_end q) x.at next).gadgets w g.leads.fine;
+        at = λ h e. let i = sym (moved_acts p q x.at (λ b. (cells_of p b w x (Word v) o.stands).at) next h) ∙ e in (below h (moving p q h i), i);
       }
     where
       below : (h : ℕ) → IsHost (holders p) h ⊎ IsHost (holders q) h → h < hosts
       below h (inl i) = host_known hosts (holders p) h dp.known i
       below h (inr i) = host_known hosts (holders q) h dq.known i
 
-  apply_where : (o : Op) (p : Proto) → IsOver hosts p → (built : is_built p ≡ true) → (gadgets : List Gadget) → GadgetsAreTidy gadgets → ((h : ℕ) → acts_at gadgets h ≡ apply_at o (back_end p).proto h)
+  apply_where : (o : Op) (p : Proto) → IsOver hosts p → (gadgets : List Gadget) → GadgetsAreTidy gadgets → ((h : ℕ) → acts_at gadgets h ≡ apply_at o (back_end p).proto h)
       → Where (machine t inputs) hosts gadgets (apply_at o p)
-  apply_where o p d built gadgets tidy acts = record {
+  apply_where o p d gadgets tidy acts = record {
     tidy = all_tidy gadgets tidy;
     at = λ h e. let i = sym (acts h ∙ ap (λ (z : Proto). apply_at o z h) (proto_is p)) ∙ e in (host_known hosts (holders p) h d.known (applying o p h i), i);
   }
@@ -324,24 +322,24 @@ module _ (t : Tape) (deal : IsValidDeal t) (inputs : ℕ → List ℕ) (hosts : 
     turn_at = λ p d row loop next w r. turn_at p d row loop next;
     move_at = move_where;
     apply_at = λ o p d row fits xs vs many next w r os.
-        let built = and_left (is_built p) (is_some (cost_at (Apply o) p)) row in
-        apply_where o p d built ((back_end p).apply o (map (λ x. x.at) xs) next).gadgets
-        ((laws_of p built hosts d).apply t next w (ready_at t inputs hosts deal (back_end p) next w p (proto_is p) d r) o (serves p built o (and_right (is_built p) (is_some (cost_at (Apply o) p)) row)) fits (map (λ x. x.at) xs) vs (length_map xs ∙ many)
-        (operands_at t inputs hosts (back_end p) next w p xs vs (proto_is p) os)).orderly.tidy
-        (λ h. (acts_of p built).apply o (serves p built o (and_right (is_built p) (is_some (cost_at (Apply o) p)) row)) (map (λ x. x.at) xs) next h);
+        let e = for_operation o p row in
+        apply_where o p d ((back_end p).apply o (map (λ x. x.at) xs) next).gadgets
+        ((laws_of p e hosts d).apply t next w (ready_at t inputs hosts deal (back_end p) next w p (proto_is p) d r) o (serves p o row) fits (map (λ x. x.at) xs) vs (length_map xs ∙ many)
+        (operands_at t inputs hosts (back_end p) next w p xs vs e (proto_is p) os)).orderly.tidy
+        (λ h. (acts_of p e).apply o (serves p o row) (map (λ x. x.at) xs) next h);
     input_at = λ k lt next. where_alone k lt (Alone k (action.Input (next_at next k))) tt (λ h. or_false (nat_eq h k.0));
     output_at = λ k lt x. where_alone k lt (Alone k (action.Print (register_of x.at k.0))) tt (λ h. or_false (nat_eq h k.0));
     keep_at = λ p d row x v next w r o.
-        let built = and_left (is_built p) (is_some (cost_at Variable p)) row in
+        let e = for_variable p row in
         where_held p d ((back_end p).keep x.at next).gadgets
-        ((laws_of p built hosts d).keep t next w (ready_at t inputs hosts deal (back_end p) next w p (proto_is p) d r) x.at v (operand_at t inputs hosts (back_end p) next w p x v (proto_is p) o)).orderly.tidy
-        (λ h. (acts_of p built).keep x.at next h ∙ ap (λ (z : Proto). is_holder z h) (proto_is p));
+        ((laws_of p e hosts d).keep t next w (ready_at t inputs hosts deal (back_end p) next w p (proto_is p) d r) x.at v (operand_at t inputs hosts (back_end p) next w p x v e (proto_is p) o)).orderly.tidy
+        (λ h. (acts_of p e).keep x.at next h ∙ ap (λ (z : Proto). is_holder z h) (proto_is p));
     renew_at = λ p d row kept x u v next w r k o.
-        let built = and_left (is_built p) (is_some (cost_at Variable p)) row in
+        let e = for_variable p row in
         where_held p d ((back_end p).renew kept.at x.at)
-        ((laws_of p built hosts d).renew t next w (ready_at t inputs hosts deal (back_end p) next w p (proto_is p) d r) kept.at x.at u v
-        (operand_at t inputs hosts (back_end p) next w p kept u (proto_is p) k) (operand_at t inputs hosts (back_end p) next w p x v (proto_is p) o)).tidy
-        (λ h. (acts_of p built).renew kept.at x.at (k.stands.at ∙ ap holders (sym (proto_is p))) h ∙ ap (λ (z : Proto). is_holder z h) (proto_is p));
+        ((laws_of p e hosts d).renew t next w (ready_at t inputs hosts deal (back_end p) next w p (proto_is p) d r) kept.at x.at u v
+        (operand_at t inputs hosts (back_end p) next w p kept u e (proto_is p) k) (operand_at t inputs hosts (back_end p) next w p x v e (proto_is p) o)).tidy
+        (λ h. (acts_of p e).renew kept.at x.at ((cells_of p e w kept (Word u) k.stands).at ∙ ap holders (sym (proto_is p))) h ∙ ap (λ (z : Proto). is_holder z h) (proto_is p));
     cells_at = λ p d row size next. where_each p d (zeros_at size) (λ h n. (tt, tt)) (λ h k n. or_false (nat_eq h k.0)) next;
     get_at = λ p d row x at next. where_each p d (λ h. written_by h (λ r. action.Get r (register_of x.at h.0) x.size (index_of at h.0))) (λ h n. (tt, tt)) (λ h k n. or_false (nat_eq h k.0)) next;
     put_at = λ p d row kept at x. written_where p d kept at x.at;

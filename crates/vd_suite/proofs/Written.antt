@@ -1,10 +1,11 @@
 -- A cell of an array is written.
-use Rattle.std.proofs.Common.{◌≡◌, ◌≢◌, ℕ, ◌+◌, ◌<◌, nat_lt, Bool, true, false, if◌then◌else◌, List, [], ◌∷◌, ◌⊎◌, inl, inr, map, slice_index, slice_set, drop, refl, sym, ap, subst, ◌∙◌, arith, length-set}
+use Rattle.std.proofs.Common.{◌≡◌, ◌≢◌, ℕ, ◌+◌, ◌<◌, nat_lt, Bool, true, false, if◌then◌else◌, IsTrue, List, [], ◌∷◌, ◌⊎◌, inl, inr, map, slice_index, slice_set, drop, refl, sym, ap, subst, ◌∙◌, arith, length-set}
 use Rattle.std.proofs.lemmas.Bool.Decides.{nat_tests}
 use Rattle.std.proofs.lemmas.List.{get_or-set_other, get_or-set_same}
 use native.Mathlib.Decide.{ℕ_discrete}
 use Rattle.vd_base.specs.declared.ids.HostId.{HostId}
 use Rattle.vd_base.specs.declared.protocols.Proto.{Proto}
+use Rattle.vd_base.specs.declared.rows.Row.TheVariants.{Variable}
 use Rattle.vd_execution.specs.declared.instructions.Action.{Action}
 use Rattle.vd_execution.specs.declared.instructions.Action.TheVariants as action
 use Rattle.vd_execution.specs.Registers.{Registers, put}
@@ -17,14 +18,14 @@ use Rattle.vd_duet.specs.Calls.{Places, holders, hosts_of, Stand}
 use Rattle.vd_duet.specs.Laws.{IsHost, IsIn, words_at, Leads as DuetLeads}
 use Rattle.vd_duet.proofs.Leads.{leads_nothing, leads_on}
 use Rattle.vd_clear.specs.Copies.{register_of}
-use Rattle.vd_joint.specs.Suite.{Cells, Ready, Below, Operand, Delivered, Renews, hosts_of as hosts_at}
+use Rattle.vd_joint.specs.Suite.{Word, Cells, Ready, Below, Operand, Delivered, Renews, hosts_of as hosts_at}
 use Rattle.vd_joint.proofs.Lists.{AreApart}
-use Rattle.vd_suite.specs.Parts.{Parts, index_of, cell_written}
-use Rattle.vd_suite.specs.Suite.{cell, Names, StandForCells, IsOver}
-use Rattle.vd_suite.proofs.Standing.{none_more}
+use Rattle.vd_suite.specs.Parts.{Parts, has_back_end, index_of, cell_written}
+use Rattle.vd_suite.specs.Suite.{cell, Names, StandForCells, stands, IsOver, holds}
+use Rattle.vd_suite.proofs.Standing.{none_more, cells_of, of_cells}
 use Rattle.vd_suite.proofs.Over.{holders_apart}
 use Rattle.vd_suite.proofs.Rows.{rows_alike, in_cell}
-use Rattle.vd_suite.proofs.Gives.{M, S, leads_as}
+use Rattle.vd_suite.proofs.Gives.{M, S, for_variable, leads_as}
 use Rattle.vd_suite.proofs.Alone.{alone_leads}
 use Rattle.vd_suite.proofs.Arrays.{index_at, cell_row}
 
@@ -80,9 +81,18 @@ module _ (t : Tape) (deal : IsValidDeal t) (kept : Parts) (at : List Part) (x : 
           more.there k i ∙ ap (λ (s : Host). acted (t k) (act k) s)
           (put_other u h.0 (acted (t h.0) (act h.0) (u h.0)) k (λ e. apart.0 (subst (λ z. IsHost hs z) e i)))
 
-module _ (t : Tape) (deal : IsValidDeal t) (inputs : ℕ → List ℕ) (hosts : ℕ) (p : Proto) (d : IsOver hosts p) (kept : Parts) (ws : List ℕ) (at : List Part) (i : ℕ) (x : Parts) (v : ℕ)
-    (next : List ℕ) (w : Hosts) (ready : Ready (M t inputs hosts) (S t inputs hosts) next w) (below : Below (M t inputs hosts) (S t inputs hosts) next kept) (s : StandForCells w p kept ws)
+module _ (t : Tape) (deal : IsValidDeal t) (inputs : ℕ → List ℕ) (hosts : ℕ) (p : Proto) (d : IsOver hosts p) (row : IsTrue (holds Variable p)) (kept : Parts) (ws : List ℕ) (at : List Part) (i : ℕ) (x : Parts) (v : ℕ)
+    (next : List ℕ) (w : Hosts) (ready : Ready (M t inputs hosts) (S t inputs hosts) next w) (below : Below (M t inputs hosts) (S t inputs hosts) next kept) (stood : stands w p kept (Cells ws))
     (index : Delivered (M t inputs hosts) (S t inputs hosts) next w (hosts_at (S t inputs hosts).calls p) at i) (o : Operand (M t inputs hosts) (S t inputs hosts) next w p x v) where
+  abbrev made_here : has_back_end p ≡ true
+  made_here = for_variable p row
+
+  abbrev s : StandForCells w p kept ws
+  s = cells_of p (for_variable p row) w kept (Cells ws) stood
+
+  abbrev given : StandForCells w p x (v ∷ [])
+  given = cells_of p (for_variable p row) w x (Word v) o.stands
+
   abbrev writes : Written t deal kept at x.at next (holders p) w
   writes = written_law t deal kept at x.at next (holders p) w (holders_apart p d.ordered) ready.sound (λ h j. subst (λ (l : List HostId). IsHost l h) (sym s.at) j)
 
@@ -122,7 +132,7 @@ module _ (t : Tape) (deal : IsValidDeal t) (inputs : ℕ → List ℕ) (hosts : 
   new_row inside =
       cell_row t deal inputs hosts p d writes.reached kept s.at i
       ∙ rows_alike (λ h. (writes.reached h.0).registers ((register_of kept.at h.0).0 + i)) (λ h. (w h.0).registers ((register_of x.at h.0).0 + 0)) (holders p) (λ h is. new_word h.0 is inside)
-      ∙ sym (cell_row t deal inputs hosts p d w x o.stands.at 0)
+      ∙ sym (cell_row t deal inputs hosts p d w x given.at 0)
 
   word_at : (j : ℕ) → j < kept.size → Dec (j ≡ i) → Stand p (words_at writes.reached (cell j kept.at)) (slice_index (slice_set ws i v) j)
   word_at j lt (no n) =
@@ -132,7 +142,7 @@ module _ (t : Tape) (deal : IsValidDeal t) (inputs : ℕ → List ℕ) (hosts : 
       let inside : i < kept.size = subst (λ z. z < kept.size) e lt in
       subst (λ (k : ℕ). Stand p (words_at writes.reached (cell k kept.at)) (slice_index (slice_set ws i v) k)) (sym e)
       (subst (λ (z : ℕ). Stand p (words_at writes.reached (cell i kept.at)) z) (sym (get_or-set_same ws i v 0 (subst (λ z. i < z) s.size inside)))
-      (subst (λ (l : List ℕ). Stand p l v) (sym (new_row inside)) (o.stands.cells 0 (one o.stands.size))))
+      (subst (λ (l : List ℕ). Stand p l v) (sym (new_row inside)) (given.cells 0 (one given.size))))
     where
       one : x.size ≡ 1 → 0 < x.size
       one e = omega (arith, e)
@@ -142,9 +152,9 @@ module _ (t : Tape) (deal : IsValidDeal t) (inputs : ℕ → List ℕ) (hosts : 
     reached = writes.reached;
     leads = leads_as t inputs hosts next (Names kept) (Names kept) (cell_written p kept at x.at) w writes.reached (λ h q z. z) writes.tidy writes.leads;
     quiet = record { printed = writes.leads.printed; waiting = λ h. ap (λ (k : ℕ). drop k (inputs h)) (writes.leads.inputs h) };
-    stands = record {
+    stands = of_cells p made_here writes.reached kept (Cells (slice_set ws i v)) (record {
       size = s.size ∙ sym (length-set ws i v);
       at = s.at;
       cells = λ j lt. word_at j lt (ℕ_discrete j i);
-    };
+    });
   }

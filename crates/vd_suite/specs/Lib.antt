@@ -1,4 +1,5 @@
 pub mod Machine
+pub mod Commits
 pub mod Moves
 pub mod Parts
 pub mod Suite

@@ -1,8 +1,8 @@
--- What a slot has, and the calls of all protocols: those of the back ends that are built, and those that no back end has.
+-- What a slot has, and the calls of all protocols: those of the back ends, those of commitments, and those that no back end has.
 use Rattle.std.specs.Prelude.{ℕ, nat_eq, Bool, true, false, if◌then◌else◌, List, [], ◌∷◌, map}
 use Rattle.vd_base.specs.declared.ids.HostId.{HostId}
 use Rattle.vd_base.specs.declared.protocols.Proto.{Proto}
-use Rattle.vd_base.specs.declared.protocols.Proto.TheVariants.{Local, Rep, Add, Xor}
+use Rattle.vd_base.specs.declared.protocols.Proto.TheVariants.{Local, Rep, Commit, Add, Xor}
 use Rattle.vd_execution.specs.declared.instructions.Reg.{Reg}
 use Rattle.vd_execution.specs.declared.instructions.Action.TheVariants as action
 use Rattle.vd_execution.specs.Joint.{Part}
@@ -16,9 +16,11 @@ use Rattle.vd_clear.specs.Copies.{register_of, written_by, each_made, clear_call
 use Rattle.vd_words.specs.AddCalls.{add_calls}
 use Rattle.vd_circuit.specs.CircuitCalls.{circuit_calls}
 use Rattle.vd_joint.specs.Suite.{Calls as AllCalls, Made as AnyMade}
-use Rattle.vd_suite.specs.Moves.{Route, Stay, Share, Adopt, Show, ShowAll, Spread, Same, ToXor, ToAdd, moved, moved_at}
+use Rattle.vd_suite.specs.Commits.{commit_calls}
+use Rattle.vd_suite.specs.Moves.{Route, Share, Adopt, Show, ShowAll, Spread, Same, SameBound, ToXor, ToAdd, moved, moved_at}
 
--- a register at each host of the protocol, and how many registers from there on are the slot's: one for a word, and for an array its size
+-- A register at each host of the protocol, and how many registers from there on are the slot's: one for a word, and for an array its size.
+-- A commitment has each of its registers by itself.
 pub record Parts : Type 0 where
   pub at : Places
   pub size : ℕ
@@ -30,39 +32,19 @@ word_in x = record { at = x; size = 1 }
 abbrev pub made_of : Made Places → AnyMade Gadget Parts
 made_of made = record { given = word_in made.given; acts = made.gadgets; next = made.next }
 
--- ---- the back ends that are built
+-- ---- the back ends
 
-abbrev pub is_built : Proto → Bool
-is_built (Local h) = true
-is_built (Rep set) = true
-is_built (Add a b) = true
-is_built (Xor a b) = true
-is_built p = false
-
--- of a protocol that is not built, nothing is made
-abbrev pub nothing_made : List ℕ → Made Places
-nothing_made next = record { given = []; gadgets = []; next = next }
-
-abbrev pub no_calls : Proto → Calls
-no_calls p = record {
-  proto = p;
-  serves = λ o. false;
-  literal = λ v. nothing_made;
-  share = λ from x. nothing_made;
-  adopt = λ x. nothing_made;
-  show = λ x to next. record { given = register 0; gadgets = []; next = next };
-  show_all = λ x. nothing_made;
-  keep = λ x. nothing_made;
-  renew = λ kept x. [];
-  apply = λ o xs. nothing_made;
-}
+-- all protocols but commitments: there words are made, operations stand, and variables
+abbrev pub has_back_end : Proto → Bool
+has_back_end (Commit p v) = false
+has_back_end p = true
 
 abbrev pub back_end : Proto → Calls
 back_end (Local h) = clear_calls (Local h)
 back_end (Rep set) = clear_calls (Rep set)
 back_end (Add a b) = add_calls a b
 back_end (Xor a b) = circuit_calls a b
-back_end p = no_calls p
+back_end (Commit p v) = commit_calls p v
 
 -- how a word gets from one protocol to another
 abbrev pub route : Proto → Proto → Route
@@ -70,15 +52,20 @@ route (Local h) q = Share h
 route (Rep set) (Local k) = Show k
 route (Rep set) (Rep other) = Spread other
 route (Rep set) q = Adopt
+route (Commit p v) (Local k) = Show k
+route (Commit p v) (Rep set) = ShowAll
+route (Commit p v) (Commit c d) = SameBound c d
+route (Commit p v) q = Adopt
 route (Add a b) (Local k) = Show k
 route (Add a b) (Rep set) = ShowAll
 route (Add a b) (Add c d) = Same c d
 route (Add a b) (Xor c d) = ToXor c d
+route (Add a b) q = Adopt
 route (Xor a b) (Local k) = Show k
 route (Xor a b) (Rep set) = ShowAll
 route (Xor a b) (Add c d) = ToAdd c d
 route (Xor a b) (Xor c d) = Same c d
-route p q = Stay
+route (Xor a b) q = Adopt
 
 -- ---- the calls that no back end has
 

@@ -20,7 +20,8 @@ pub fn plans_run_as_their_code()
     ensures tidy { TidyAlike }
 {}
 
-/// The calls of the protocols that are built do what the theory of splitting asks of them.
+/// The calls of all protocols do what the theory of splitting asks of them: those of the back ends, those that no back end has, and
+/// commitments, which are made from a word in clear and revealed to one host or to both.
 pub fn suite_meets_its_laws()
     ensures { SuiteMeetsItsLaws }
 {}

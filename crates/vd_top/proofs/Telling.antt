@@ -1,23 +1,144 @@
--- What is told of `replay`, of the command that the words are.
-use Rattle.std.proofs.Common.{◌≡◌, ℕ, List, Option, Some, Result, subst}
+-- What holds of a command holds of the words that are its form.
+use Rattle.std.proofs.Common.{◌≡◌, ℕ, List, [], Option, Some, None, Result, Ok, Err, true, false, refl, sym, ap, subst, ◌∙◌, arith}
 use Rattle.vd_outside.specs.Files.{FilesView}
+use Rattle.vd_outside.specs.Net.{NetView}
+use Rattle.vd_outside.specs.Sink.{SinkView}
+use Rattle.vd_outside.specs.Spawner.{SpawnerView}
 use Rattle.vd_cmd.specs.Commands.{form_of}
 use Rattle.vd_cmd.specs.declared.command.Command.{Command}
-use Rattle.vd_cmd.specs.declared.command.Command.TheVariants.{Replay}
-use Rattle.vd_cmd.specs.declared.command.ReplayWords.{ReplayWords}
-use Rattle.vd_plan.specs.declared.answer.Answer.{Answer}
+use Rattle.vd_cmd.specs.declared.command.Command.TheVariants.{OnFiles, Host, Run}
+use Rattle.vd_cmd.specs.declared.command.FilesCommand.{FilesCommand}
+use Rattle.vd_cmd.specs.declared.command.FilesCommand.TheVariants.{Depends, Replay, Trial}
+use Rattle.vd_plan.specs.Plans.{Executes, fetch_calls}
 use Rattle.vd_plan.specs.declared.status.Status.{Status}
-use Rattle.vd_replaying.specs.Telling.{TellsHeadline}
-use Rattle.vd_top.specs.Headline.{TellsCommand, TellsWords}
+use Rattle.vd_plan.specs.declared.status.Status.TheVariants.{Memory, Usage}
+use Rattle.vd_plan.proofs.Fronts.{same_within}
+use Rattle.vd_plan.proofs.InSteps.{any_memory}
+use Rattle.vd_plan.proofs.WholeRuns.{runs_err}
+use Rattle.vd_selecting.specs.Choosing.{GaveUp}
+use Rattle.vd_host_command.specs.Hosts.{HostRuns, NotLoaded}
+use Rattle.vd_host_command.specs.Loading.{LoadsHost, OfProgram, files_of}
+use Rattle.vd_running.specs.Running.{Refused, Runs}
+use Rattle.vd_running.specs.RunsHosts.{Outside, outside}
+use Rattle.vd_cmd.specs.declared.command.HostWords.{HostWords}
+use Rattle.vd_cmd.specs.declared.command.RunWords.{RunWords}
+use Rattle.vd_top.specs.Commands.{RunsForm, plan_of, search_of, usage_plan}
+use Rattle.vd_top.specs.Headline.{KeepsTrial, KeepsDependence, KeepsHeadline, ShowsForm, ShowsOf}
+use Rattle.vd_top.specs.Hosts.{PlaysForm, SpawnsForm, speaks_by, spawns_by}
 
-same_words : (command : Command) (words replay : ReplayWords) → command ≡ Replay words → command ≡ Replay replay → words ≡ replay
-same_words command words replay is e = cc
+-- what is shown by the form is what is said of the words
+pub headline_of : (words : List (List ℕ)) (before : FilesView) (out_before out_now : SinkView) (status : Status) → ShowsForm (form_of words) before out_before out_now status → KeepsHeadline words before out_before out_now status
+headline_of words before out_before out_now status shows = λ replay form. subst (λ (f : Option Command). ShowsForm f before out_before out_now status) form shows
 
-pub of_replay : (command : Command) (words : ReplayWords) (before : FilesView) (result : Result Answer Status) → command ≡ Replay words → TellsHeadline words before result → TellsCommand command before result
-of_replay command words before result is tells = λ replay e. subst (λ (w : ReplayWords). TellsHeadline w before result) (same_words command words replay is e) tells
+pub dependence_of : (words : List (List ℕ)) (before : FilesView) (out_before out_now : SinkView) (status : Status) → ShowsForm (form_of words) before out_before out_now status → KeepsDependence words before out_before out_now status
+dependence_of words before out_before out_now status shows = λ source name form. subst (λ (f : Option Command). ShowsForm f before out_before out_now status) form shows
 
-same_command : (form : Option Command) (command other : Command) → form ≡ Some command → form ≡ Some other → command ≡ other
-same_command form command other is e = cc
+pub trial_of : (words : List (List ℕ)) (before : FilesView) (out_before out_now : SinkView) (status : Status) → ShowsForm (form_of words) before out_before out_now status → KeepsTrial words before out_before out_now status
+trial_of words before out_before out_now status shows = λ coordinates form. subst (λ (f : Option Command). ShowsForm f before out_before out_now status) form shows
 
-pub of_form : (words : List (List ℕ)) (command : Command) (before : FilesView) (result : Result Answer Status) → form_of words ≡ Some command → TellsCommand command before result → TellsWords words before result
-of_form words command before result is tells = λ replay e. tells replay (same_command (form_of words) command (Replay replay) is e)
+-- ---- where there was no memory for the words, nothing was done
+
+module _ (files : FilesView) (out : SinkView) where
+  pub runs_nothing : (form : Option Command) → (form ≡ None → ⊥) → RunsForm form files files out out Memory
+  runs_nothing None some = absurd (some refl)
+  runs_nothing (Some (OnFiles command)) some = (GaveUp, λ outcomes. runs_err _ (plan_of outcomes (search_of outcomes GaveUp) command) files files out Memory (any_memory (plan_of outcomes (search_of outcomes GaveUp) command) files))
+  runs_nothing (Some (Host words)) some = tt
+  runs_nothing (Some (Run words)) some = tt
+
+  pub shows_nothing : (form : Option Command) → ShowsForm form files out out Memory
+  shows_nothing None = tt
+  shows_nothing (Some (OnFiles (Replay words))) = λ t o e. absurd (cc e)
+  shows_nothing (Some (OnFiles (Depends source name))) = λ t o e. absurd (cc e)
+  shows_nothing (Some (OnFiles (Trial coordinates))) = λ t o e. absurd (cc e)
+  shows_nothing (Some (OnFiles command)) = tt
+  shows_nothing (Some (Host words)) = tt
+  shows_nothing (Some (Run words)) = tt
+
+  pub plays_nothing : (net : NetView) (form : Option Command) → PlaysForm form files files net net out out Memory
+  plays_nothing net None = tt
+  plays_nothing net (Some (OnFiles command)) = tt
+  plays_nothing net (Some (Run words)) = tt
+  plays_nothing net (Some (Host words)) = NotLoaded Memory (record {
+    later = omega arith;
+    ends = tt;
+    fault = λ name e. absurd (cc e);
+    last = λ t name e. absurd (cc e);
+    still_told = λ t. t;
+    contents = λ t. refl;
+    front = λ t. same_within files.asked files.asked (fetch_calls (files_of words)) refl;
+    whole = λ t. tt;
+    given = λ t. tt;
+    cause = λ t. OfProgram tt;
+  }) refl refl
+
+  pub spawns_nothing : (spawner : SpawnerView) (form : Option Command) → SpawnsForm form files files out out spawner spawner Memory
+  spawns_nothing spawner None = tt
+  spawns_nothing spawner (Some (OnFiles command)) = tt
+  spawns_nothing spawner (Some (Host words)) = tt
+  spawns_nothing spawner (Some (Run words)) = record {
+    compiled = files;
+    came = Err Memory;
+    names = [];
+    executes = (GaveUp, λ certificates choices texts least. any_memory _ files);
+    hosts = λ t. tt;
+    plays = Refused Memory refl;
+  }
+
+-- ---- words without a form
+
+module _ (files : FilesView) (out : SinkView) where
+  usage_executes : Executes false usage_plan files files (Err Usage)
+  usage_executes = record {
+    later = omega arith;
+    proper = refl;
+    fault = λ file e. absurd (cc e);
+    last = λ t file e. absurd (cc e);
+    still_told = λ t. t;
+    contents = λ t. refl;
+    front = λ t. same_within files.asked files.asked [] refl;
+    whole = λ t. tt;
+    settled = λ t. refl;
+  }
+
+  pub runs_refused : (form : Option Command) → form ≡ None → RunsForm form files files out out Usage
+  runs_refused form none = subst (λ (f : Option Command). RunsForm f files files out out Usage) (sym none) (runs_err false usage_plan files files out Usage usage_executes)
+
+  pub shows_refused : (form : Option Command) → form ≡ None → ShowsForm form files out out Usage
+  shows_refused form none = subst (λ (f : Option Command). ShowsForm f files out out Usage) (sym none) tt
+
+  pub plays_refused : (net : NetView) (form : Option Command) → form ≡ None → PlaysForm form files files net net out out Usage
+  plays_refused net form none = subst (λ (f : Option Command). PlaysForm f files files net net out out Usage) (sym none) tt
+
+  pub spawns_refused : (spawner : SpawnerView) (form : Option Command) → form ≡ None → SpawnsForm form files files out out spawner spawner Usage
+  spawns_refused spawner form none = subst (λ (f : Option Command). SpawnsForm f files files out out spawner spawner Usage) (sym none) tt
+
+-- ---- which commands use what
+
+pub host_speaks : (command : Command) (words : HostWords) → command ≡ Host words → speaks_by (Some command) ≡ false → ⊥
+host_speaks command words is e = let wrong : true ≡ false = sym (ap (λ (k : Command). speaks_by (Some k)) is) ∙ e in cc
+
+pub run_spawns : (command : Command) (words : RunWords) → command ≡ Run words → spawns_by (Some command) ≡ false → ⊥
+run_spawns command words is e = let wrong : true ≡ false = sym (ap (λ (k : Command). spawns_by (Some k)) is) ∙ e in cc
+
+-- ---- what is said of a command is said of the words of which it is the form
+
+module _ (form : Option Command) (command : Command) (is : form ≡ Some command) where
+  pub runs_by : (files files_now : FilesView) (out out_now : SinkView) (status : Status) → RunsForm (Some command) files files_now out out_now status → RunsForm form files files_now out out_now status
+  runs_by files files_now out out_now status said = subst (λ (f : Option Command). RunsForm f files files_now out out_now status) (sym is) said
+
+  pub shows_by : (files : FilesView) (out out_now : SinkView) (status : Status) → ShowsForm (Some command) files out out_now status → ShowsForm form files out out_now status
+  shows_by files out out_now status said = subst (λ (f : Option Command). ShowsForm f files out out_now status) (sym is) said
+
+  pub plays_by : (files files_now : FilesView) (net net_now : NetView) (out out_now : SinkView) (status : Status) → PlaysForm (Some command) files files_now net net_now out out_now status
+      → PlaysForm form files files_now net net_now out out_now status
+  plays_by files files_now net net_now out out_now status said = subst (λ (f : Option Command). PlaysForm f files files_now net net_now out out_now status) (sym is) said
+
+  pub spawns_as : (files files_now : FilesView) (out out_now : SinkView) (spawner spawner_now : SpawnerView) (status : Status) → SpawnsForm (Some command) files files_now out out_now spawner spawner_now status
+      → SpawnsForm form files files_now out out_now spawner spawner_now status
+  spawns_as files files_now out out_now spawner spawner_now status said = subst (λ (f : Option Command). SpawnsForm f files files_now out out_now spawner spawner_now status) (sym is) said
+
+  pub silent_by : speaks_by form ≡ false → speaks_by (Some command) ≡ false
+  silent_by silent = subst (λ (f : Option Command). speaks_by f ≡ false) is silent
+
+  pub childless_by : spawns_by form ≡ false → spawns_by (Some command) ≡ false
+  childless_by childless = subst (λ (f : Option Command). spawns_by f ≡ false) is childless

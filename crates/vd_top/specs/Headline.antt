@@ -1,17 +1,21 @@
--- What a run of `replay` has shown, where it ended.
-use Rattle.std.specs.Prelude.{◌≡◌, ◌⊎◌, ℕ, IsTrue, List, ◌++◌, Some, Result}
+-- What a run of `replay` has shown, one of `depends` and one of `trial`, where it ended.
+use Rattle.std.specs.Prelude.{◌≡◌, ◌⊎◌, ℕ, IsTrue, List, ◌++◌, Option, Some, Result}
 use Rattle.vd_outside.specs.Causes.{Rose}
 use Rattle.vd_outside.specs.Files.{FilesView}
 use Rattle.vd_outside.specs.Sink.{SinkView}
 use Rattle.vd_cmd.specs.Commands.{form_of}
 use Rattle.vd_cmd.specs.declared.command.Command.{Command}
-use Rattle.vd_cmd.specs.declared.command.Command.TheVariants.{Replay}
+use Rattle.vd_cmd.specs.declared.command.Command.TheVariants.{OnFiles}
+use Rattle.vd_cmd.specs.declared.command.FilesCommand.{FilesCommand}
+use Rattle.vd_cmd.specs.declared.command.FilesCommand.TheVariants.{Depends, Replay, Trial}
 use Rattle.vd_cmd.specs.declared.command.ReplayWords.{ReplayWords}
 use Rattle.vd_plan.specs.declared.answer.Answer.{Answer}
 use Rattle.vd_plan.specs.declared.status.Status.{Status}
 use Rattle.vd_plan.specs.declared.status.Status.TheVariants.{Ended, Memory}
+use Rattle.vd_depending.specs.Telling.{IsDependenceOf, TellsDependence}
 use Rattle.vd_replaying.specs.Accepting.{IsAccepted}
 use Rattle.vd_replaying.specs.Telling.{IsHeadline, TellsHeadline}
+use Rattle.vd_trial.specs.Telling.{IsTrial, TellsTrial}
 
 -- the bytes that were added are the report of which the headline speaks
 pub record PrintsHeadline (words : ReplayWords) (before : FilesView) (out_before out_now : SinkView) : Type 0 where
@@ -23,19 +27,59 @@ pub record PrintsHeadline (words : ReplayWords) (before : FilesView) (out_before
 -- status 0 has printed such a report, and nothing else.
 abbrev pub KeepsHeadline : (words : List (List ℕ)) → FilesView → SinkView → SinkView → Status → Type 0
 KeepsHeadline words before out_before out_now status =
-    (replay : ReplayWords) → form_of words ≡ Some (Replay replay) → IsTrue before.told → IsTrue out_now.told → status ≡ Ended
+    (replay : ReplayWords) → form_of words ≡ Some (OnFiles (Replay replay)) → IsTrue before.told → IsTrue out_now.told → status ≡ Ended
     → PrintsHeadline replay before out_before out_now
 
 -- Where the words are those of `replay`, and the files are accepted, the run ends with status 0 or is out of memory, unless
 -- something outside fails.
 abbrev pub KeepsAccepted : (words : List (List ℕ)) → (before now : FilesView) → (out_before out_now : SinkView) → Status → Type 0
 KeepsAccepted words before now out_before out_now status =
-    (replay : ReplayWords) → form_of words ≡ Some (Replay replay) → IsTrue before.told → IsAccepted replay before.contents
+    (replay : ReplayWords) → form_of words ≡ Some (OnFiles (Replay replay)) → IsTrue before.told → IsAccepted replay before.contents
     → (Rose before.faults now.faults → ⊥) → (Rose out_before.faults out_now.faults → ⊥) → (status ≡ Ended) ⊎ (status ≡ Memory)
 
--- the answer of a command, and of words, that are those of `replay`
-abbrev pub TellsCommand : Command → FilesView → Result Answer Status → Type 0
-TellsCommand command before result = (replay : ReplayWords) → command ≡ Replay replay → TellsHeadline replay before result
+-- the bytes that were added are a line that names the hosts on which the host of this name depends
+pub record PrintsDependence (source name : List ℕ) (before : FilesView) (out_before out_now : SinkView) : Type 0 where
+  pub printed : List ℕ
+  pub added : out_now.taken ≡ out_before.taken ++ printed
+  pub dependence : IsDependenceOf source name before.contents printed
 
-abbrev pub TellsWords : (words : List (List ℕ)) → FilesView → Result Answer Status → Type 0
-TellsWords words before result = (replay : ReplayWords) → form_of words ≡ Some (Replay replay) → TellsHeadline replay before result
+-- Where the words are those of `depends`, and the files and the output tell what they hold, a run with status 0 has printed the
+-- hosts whose inputs alone can bear on what the host is told, outside of what is declassified to it.
+abbrev pub KeepsDependence : (words : List (List ℕ)) → FilesView → SinkView → SinkView → Status → Type 0
+KeepsDependence words before out_before out_now status =
+    (source name : List ℕ) → form_of words ≡ Some (OnFiles (Depends source name)) → IsTrue before.told → IsTrue out_now.told → status ≡ Ended
+    → PrintsDependence source name before out_before out_now
+
+-- the bytes that were added are the cost of the choice for the generated source, and the report of its run
+pub record PrintsTrial (coordinates : ℕ) (out_before out_now : SinkView) : Type 0 where
+  pub printed : List ℕ
+  pub added : out_now.taken ≡ out_before.taken ++ printed
+  pub trial : IsTrial coordinates printed
+
+-- Where the words are those of `trial`, and the files and the output tell what they hold, a run with status 0 has printed the cost
+-- of the choice of protocols for the source with this many coordinates, and the report of a run of it.
+abbrev pub KeepsTrial : (words : List (List ℕ)) → FilesView → SinkView → SinkView → Status → Type 0
+KeepsTrial words before out_before out_now status =
+    (coordinates : ℕ) → form_of words ≡ Some (OnFiles (Trial coordinates)) → IsTrue before.told → IsTrue out_now.told → status ≡ Ended
+    → PrintsTrial coordinates out_before out_now
+
+-- ---- the same of a command: its answer, and its run
+
+-- what the answer of a command shows, where it is `replay`, `depends` or `trial`
+abbrev pub TellsOf : FilesCommand → FilesView → Result Answer Status → Type 0
+TellsOf (Replay words) before result = TellsHeadline words before result
+TellsOf (Depends source name) before result = TellsDependence source name before result
+TellsOf (Trial coordinates) before result = TellsTrial coordinates result
+TellsOf command before result = Unit {0}
+
+-- what its run shows
+abbrev pub ShowsOf : FilesCommand → FilesView → SinkView → SinkView → Status → Type 0
+ShowsOf (Replay words) before out_before out_now status = IsTrue before.told → IsTrue out_now.told → status ≡ Ended → PrintsHeadline words before out_before out_now
+ShowsOf (Depends source name) before out_before out_now status =
+    IsTrue before.told → IsTrue out_now.told → status ≡ Ended → PrintsDependence source name before out_before out_now
+ShowsOf (Trial coordinates) before out_before out_now status = IsTrue before.told → IsTrue out_now.told → status ≡ Ended → PrintsTrial coordinates out_before out_now
+ShowsOf command before out_before out_now status = Unit {0}
+
+abbrev pub ShowsForm : Option Command → FilesView → SinkView → SinkView → Status → Type 0
+ShowsForm (Some (OnFiles command)) before out_before out_now status = ShowsOf command before out_before out_now status
+ShowsForm other before out_before out_now status = Unit {0}

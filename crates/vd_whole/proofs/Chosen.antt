@@ -1,4 +1,4 @@
--- A program at a valid list of protocols that are built can run.
+-- A program at a valid list of protocols can run.
 use Rattle.std.proofs.Common.{◌≡◌, ℕ, zero, suc, ◌+◌, ◌^◌, ◌<◌, ◌≤◌, nat_eq, nat_lt, ◌&&◌, ◌||◌, not, Bool, true, false, if◌then◌else◌, is_some, List, [], ◌∷◌, ◌⊎◌, inl, inr, length, map, slice_get, slice_index, slice_index_or, refl, sym, ap, subst, ◌∙◌, arith}
 use Rattle.std.specs.List.{All, AllByRecursion, concat, list_all, list_any, range_with_len}
 use Rattle.std.specs.Option.{option_map_or}
@@ -13,7 +13,7 @@ use Rattle.vd_base.specs.HostSets.{host, same_host}
 use Rattle.vd_base.specs.Moves.{move_at}
 use Rattle.vd_base.specs.Protocols.{protocols_of}
 use Rattle.vd_core.specs.declared.normal.NormalForm.{NormalForm}
-use Rattle.vd_core.specs.Facts.{slots_step}
+use Rattle.vd_core.specs.Facts.{slots_step, nothing_seen, Seeing, seeing_step, seeing_all}
 use Rattle.vd_constraints.specs.declared.labels.Labels.{Labels}
 use Rattle.vd_constraints.specs.Rules.{label}
 use Rattle.vd_constraints.specs.Scoped.{is_below, stmt_below}
@@ -36,13 +36,12 @@ use Rattle.vd_joint.specs.Suite.{is_at}
 use Rattle.vd_joint.proofs.Folds.{fold_each}
 use Rattle.vd_joint.proofs.Lists.{and_left, and_right, or_left, or_right, or_cases, InRow, row_of}
 use Rattle.vd_joint.proofs.Blocks.{slots}
-use Rattle.vd_suite.specs.Parts.{is_built}
 use Rattle.vd_suite.specs.Suite.{IsOver, AreGiven}
 use Rattle.vd_suite.specs.Whole.{inputs_of, CanRun}
 use Rattle.vd_suite.proofs.Given.{listed_protocols_are_over}
 use Rattle.vd_suite.proofs.Whole.{code_tells_the_same}
 use Rattle.vd_whole.specs.Lists.{protos_of, IsChosen, ValidListsCanRun, ValidListsTellTheSame}
-use Rattle.vd_whole.proofs.Placing.{among, stands_at, Stand, Tells, as_many, placed}
+use Rattle.vd_whole.proofs.Placing.{sees, among, stands_at, Stand, Tells, as_many, placed}
 
 -- ---- lists
 
@@ -50,12 +49,6 @@ item_at : (xs : List ℕ) (x : ℕ) (f : ℕ → Bool) (d : Bool) → x < length
 item_at [] x f d lt = absurd (omega (arith, lt))
 item_at (y ∷ ys) zero f d lt = refl
 item_at (y ∷ ys) (suc x) f d lt = item_at ys x f d (omega (arith, lt))
-
--- a test that all items of a list pass, and 0, is passed at each place
-at_each : (f : ℕ → Bool) (xs : List ℕ) → list_all f xs ≡ true → f 0 ≡ true → (x : ℕ) → f (slice_index xs x) ≡ true
-at_each f [] e z x = z
-at_each f (y ∷ ys) e z zero = and_left (f y) (list_all f ys) e
-at_each f (y ∷ ys) e z (suc x) = at_each f ys (and_right (f y) (list_all f ys) e) z x
 
 or_default : {X : Type 0} (P : X → Type 0) (xs : List X) (d : X) → All P xs → P d → (k : ℕ) → P (slice_index_or xs k d)
 or_default P [] d a z k = z
@@ -106,11 +99,6 @@ is_holder (Xor a b) h e = two a.0 b.0 (nat_eq h a.0) refl e
     two : (a b : ℕ) (z : Bool) → nat_eq h a ≡ z → (if z then true else nat_eq h b) ≡ true → (nat_eq a h || nat_eq b h) ≡ true
     two a b true i e = or_left (nat_eq a h) (nat_eq b h) (turned_eq h a i)
     two a b false i e = or_right (nat_eq a h) (nat_eq b h) (turned_eq h b e)
-
-first_built : (n : ℕ) → is_built (slice_index_or (protocols_of n) 0 (Local (host 0))) ≡ true
-unfolding lib.Count.ones
-first_built zero = refl
-first_built (suc n) = refl
 
 implied : (a b : Bool) → (not a || b) ≡ true → a ≡ true → b ≡ true
 implied true b e f = e
@@ -257,9 +245,6 @@ module _ (program : NormalForm) (labels : Labels) (list : List ℕ) (chosen : Is
       from_zero : (i : ℕ) → 0 + i ≡ i
       from_zero i = omega arith
 
-  built : (x : ℕ) → is_built (protos_of (problem_of program labels) list x) ≡ true
-  built = at_each (λ p. is_built (protocol (problem_of program labels) p)) list chosen.built (first_built (length (problem_of program labels).hosts))
-
   over : (x : ℕ) → IsOver (length program.hosts) (protos_of (problem_of program labels) list x)
   over x =
       subst (λ n. IsOver (length program.hosts) (slice_index_or (protocols_of n) (slice_index list x) (Local (host 0)))) same_hosts
@@ -274,13 +259,16 @@ module _ (program : NormalForm) (labels : Labels) (list : List ℕ) (chosen : Is
   row : InRow 0 (slots (block_of program.body))
   row = row_of 0 (length program.slots) (slots (block_of program.body)) slots_are
 
+  seen : (sees (block_of program.body) nothing_seen).all ≡ true
+  seen = ap (λ (l : List Seeing). (seeing_all l nothing_seen).all) (sym (fold_each seeing_step program.body)) ∙ chosen.made.made_before
+
   pub can_run : (inputs : List (List ℕ)) → ((h i : ℕ) → slice_index (inputs_of inputs h) i < 2 ^ 32) → (t : Tape) → IsValidDeal t → AreGiven (inputs_of inputs) t
       → CanRun program (protos_of (problem_of program labels) list) inputs t
   can_run inputs words t deal given = record {
     made = chosen.made;
     numbers = chosen.numbers;
     over = over;
-    valid = placed labels (length list) (protos_of (problem_of program labels) list) t (inputs_of inputs) (length program.hosts) built (block_of program.body) 1 0 row low
+    valid = placed labels (length list) (protos_of (problem_of program labels) list) t (inputs_of inputs) (length program.hosts) (block_of program.body) 1 0 nothing_seen (record { words = λ x i. cc; arrays = λ x i. cc }) seen row low
         (subst (λ (l : List Read). Tells (length list) (protos_of (problem_of program labels) list) (length program.hosts) 0 (all_parts l 1)) reads tells);
     words = words;
     deal = deal;

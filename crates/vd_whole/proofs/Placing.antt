@@ -1,11 +1,12 @@
 -- What a program's problem tells of each statement, is what the theory of splitting asks of it.
 use Rattle.std.proofs.Common.{◌≡◌, ℕ, suc, ◌+◌, ◌*◌, ◌<◌, nat_eq, ◌&&◌, ◌||◌, Bool, true, false, is_some, List, [], ◌∷◌, ◌++◌, ◌⊎◌, inl, inr, length, map, refl, sym, ap, subst, ◌∙◌, arith, length-append}
 use Rattle.std.specs.List.{list_all, list_any}
+use Rattle.std.proofs.lemmas.Bool.{eqb-true}
 use Rattle.std.proofs.lemmas.List.Folds.{list_any-append}
 use Rattle.vd_base.specs.declared.ids.HostId.{HostId}
 use Rattle.vd_base.specs.declared.ids.SlotId.{SlotId}
 use Rattle.vd_base.specs.declared.protocols.Proto.{Proto}
-use Rattle.vd_base.specs.declared.protocols.Proto.TheVariants.{Local, Rep, Commit, Add, Xor}
+use Rattle.vd_base.specs.declared.protocols.Proto.TheVariants.{Local}
 use Rattle.vd_base.specs.declared.rows.Row.{Row}
 use Rattle.vd_base.specs.declared.rows.Row.TheVariants as row
 use Rattle.vd_base.specs.Costs.{cost_at}
@@ -14,6 +15,7 @@ use Rattle.vd_base.specs.HostSets.{host}
 use Rattle.vd_core.specs.declared.normal.Right.{Right}
 use Rattle.vd_core.specs.declared.normal.Right.TheVariants.{Lit, Turn, Copy, Apply, Input, Declassify, Endorse, Load, Get}
 use Rattle.vd_core.specs.declared.normal.Stmt.TheOpen.{Stmt-F}
+use Rattle.vd_core.specs.Facts.{Sight, Seeing, seeing_step, seeing_all, right_sees, is_binding, is_array, with_binding, with_variable, with_array}
 use Rattle.vd_constraints.specs.declared.labels.Labels.{Labels}
 use Rattle.vd_constraints.specs.Scoped.{is_below, right_below, stmt_below}
 use Rattle.vd_space.specs.declared.problem.Making.{Making}
@@ -31,7 +33,7 @@ use Rattle.vd_joint.specs.Validity.{emission_of, RightPlaced, Placed}
 use Rattle.vd_joint.proofs.Lists.{and_left, and_right, or_left, or_right, or_cases, InRow, row_front, row_back}
 use Rattle.vd_joint.proofs.Blocks.{slots}
 use Rattle.vd_suite.specs.Machine.{machine}
-use Rattle.vd_suite.specs.Parts.{is_built, suite_calls}
+use Rattle.vd_suite.specs.Parts.{suite_calls}
 use Rattle.vd_suite.specs.Suite.{holds, joins, suite}
 
 both : (a b : Bool) → a ≡ true → b ≡ true → (a && b) ≡ true
@@ -48,6 +50,10 @@ each_back P (x ∷ xs) ys e = each_back P xs ys e.1
 
 none_more : (k : ℕ) → k + 0 ≡ k
 none_more k = omega arith
+
+-- what a block sees
+abbrev pub sees : Block → Seeing
+sees b = seeing_all (each seeing_step b)
 
 -- a host is among these
 abbrev pub among : ℕ → List HostId → Bool
@@ -162,13 +168,6 @@ in_joined false true false d e = refl
 in_joined false false true d e = refl
 in_joined false false false d (inl e) = cc
 in_joined false false false d (inr e) = e
-
-variable_of : (p : Proto) → is_built p ≡ true → holds row.Variable p ≡ true
-variable_of (Local h) e = refl
-variable_of (Rep set) e = refl
-variable_of (Commit a b) e = cc
-variable_of (Add a b) e = refl
-variable_of (Xor a b) e = refl
 
 module _ (l : Labels) (many : ℕ) (proto : ℕ → Proto) (t : Tape) (inputs : ℕ → List ℕ) (hosts : ℕ) where
   abbrev emits : Block → Emission (suite_calls hosts) proto
@@ -325,108 +324,134 @@ module _ (l : Labels) (many : ℕ) (proto : ℕ → Proto) (t : Tape) (inputs : 
       first_or h (read_step l (Stmt-F.For count (each (read_step l) body))) (each (read_step l) rest)
       (either ((emits body).takes_part h) ((emits rest).takes_part h) _ _ (taking body h (and_left (low_block body) (low_block rest) low)) (taking rest h (and_right (low_block body) (low_block rest) low)) e)
 
-  module _ (built : (x : ℕ) → is_built (proto x) ≡ true) where
-    join_of : (x y : ℕ) → is_some (move_at (proto x) (proto y)) ≡ true → joins (proto x) (proto y) ≡ true
-    join_of x y e = both (is_built (proto x) && is_built (proto y)) (is_some (move_at (proto x) (proto y))) (both (is_built (proto x)) (is_built (proto y)) (built x) (built y)) e
+  holds_of : (r : Row) (x k : ℕ) → x ≡ k → is_some (cost_at r (proto k)) ≡ true → holds r (proto x) ≡ true
+  holds_of r x k is e = subst (λ z. is_some (cost_at r (proto z)) ≡ true) (sym is) e
 
-    join_local : (x : ℕ) (h : HostId) → is_some (move_at (proto x) (Local h)) ≡ true → joins (proto x) (Local h) ≡ true
-    join_local x h e = both (is_built (proto x) && true) (is_some (move_at (proto x) (Local h))) (both (is_built (proto x)) true (built x) refl) e
+  variable_of : (x k : ℕ) → x ≡ k → is_some (cost_at row.Variable (proto k)) ≡ true → holds row.Variable (proto x) ≡ true
+  variable_of x k is e = holds_of row.Variable x k is e
 
-    holds_of : (r : Row) (x k : ℕ) → x ≡ k → is_some (cost_at r (proto k)) ≡ true → holds r (proto x) ≡ true
-    holds_of r x k is e = both (is_built (proto x)) (is_some (cost_at r (proto x))) (built x) (subst (λ z. is_some (cost_at r (proto z)) ≡ true) (sym is) e)
+  operands_join : (weight : ℕ) (x : SlotId) (ys : List SlotId) → Each (λ (u : Use). is_some (move_at (proto u.source.0) (proto u.target.0)) ≡ true) (map (use_of weight x) ys)
+      → Each (λ y. joins (proto y.0) (proto x.0) ≡ true) ys
+  operands_join weight x [] e = tt
+  operands_join weight x (y ∷ ys) e = (e.0, operands_join weight x ys e.1)
 
-    abbrev Joined : Use → Type 0
-    Joined u = is_some (move_at (proto u.source.0) (proto u.target.0)) ≡ true
+  -- ---- the variables in sight
 
-    operands_join : (weight : ℕ) (x : SlotId) (ys : List SlotId) → Each (λ (u : Use). is_some (move_at (proto u.source.0) (proto u.target.0)) ≡ true) (map (use_of weight x) ys)
-        → Each (λ y. joins (proto y.0) (proto x.0) ≡ true) ys
-    operands_join weight x [] e = tt
-    operands_join weight x (y ∷ ys) e = (join_of y.0 x.0 e.0, operands_join weight x ys e.1)
+  -- they stand where variables can
+  abbrev pub AllVariables : List ℕ → Type 0
+  AllVariables xs = (x : ℕ) → list_any (nat_eq x) xs ≡ true → holds row.Variable (proto x) ≡ true
 
-    right_placed : (weight k : ℕ) (x : SlotId) (right : Right) → x.0 ≡ k → Tells many proto hosts k (binding_parts l weight x right) → RightPlaced (machine t inputs) (suite t inputs hosts) proto (proto x.0) right
-    right_placed weight k x (Lit n) is e = holds_of row.Constant x.0 k is e.slots.0
-    right_placed weight k x Turn is e = holds_of row.Constant x.0 k is e.slots.0
-    right_placed weight k x (Copy y) is e = join_of y.0 x.0 e.uses.0
-    right_placed weight k x (Apply o ys) is e = (holds_of (row.Apply o) x.0 k is e.slots.0, operands_join weight x ys e.uses)
-    right_placed weight k x (Input h) is e = holds_of (row.Input h) x.0 k is e.slots.0
-    right_placed weight k x (Declassify y to) is e = join_of y.0 x.0 e.uses.0
-    right_placed weight k x (Endorse y to) is e = join_of y.0 x.0 e.uses.0
-    right_placed weight k x (Load v) is e = (variable_of (proto v.0) (built v.0), join_of v.0 x.0 e.uses.0)
-    right_placed weight k x (Get v i) is e = (variable_of (proto v.0) (built v.0), join_of v.0 x.0 e.uses.0, (λ h lt j. join_local i.0 (host h) (e.indexes.0 h lt j)))
+  pub record Variables (s : Sight) : Type 0 where
+    pub words : AllVariables s.variables
+    pub arrays : AllVariables s.arrays
 
-    pub placed : (b : Block) (weight k : ℕ) → InRow k (slots b) → low_block b ≡ true → Tells many proto hosts k (all_parts (each (read_step l) b) weight)
-        → Placed (machine t inputs) (suite t inputs hosts) proto b
-    placed End weight k row low e = tt
-    placed (Let x right rest) weight k row low e =
-        let more = all_parts (each (read_step l) rest) weight in (
-          right_placed weight k x right row.0 (tells_front many proto hosts k (binding_parts l weight x right) more e),
-          placed rest weight (k + 1) row.1 (and_right _ _ low) (tells_back many proto hosts k (binding_parts l weight x right) more e),
-        )
-    placed (NewVar v y rest) weight k row low e =
-        let one = (read_step l (Stmt-F.NewVar v y)).parts weight in
-        let more = all_parts (each (read_step l) rest) weight in (
-          variable_of (proto v.0) (built v.0),
-          join_of y.0 v.0 (tells_front many proto hosts k one more e).uses.0,
-          placed rest weight (k + 1) row.1 (and_right _ _ low) (tells_back many proto hosts k one more e),
-        )
-    placed (NewArray v cells rest) weight k row low e =
-        let one = (read_step l (Stmt-F.NewArray v cells)).parts weight in
-        let more = all_parts (each (read_step l) rest) weight in
-        (variable_of (proto v.0) (built v.0), placed rest weight (k + 1) row.1 (and_right _ _ low) (tells_back many proto hosts k one more e))
-    placed (Store v y rest) weight k row low e =
-        let one = (read_step l (Stmt-F.Store v y)).parts weight in
-        let more = all_parts (each (read_step l) rest) weight in (
-          variable_of (proto v.0) (built v.0),
-          join_of y.0 v.0 (tells_front many proto hosts k one more e).uses.0,
-          placed rest weight k row (and_right _ _ low) (tells_at many proto hosts (k + 0) k more (none_more k) (tells_back many proto hosts k one more e)),
-        )
-    placed (Put v i y rest) weight k row low e =
-        let one = (read_step l (Stmt-F.Put v i y)).parts weight in
-        let more = all_parts (each (read_step l) rest) weight in
-        let front = tells_front many proto hosts k one more e in (
-          variable_of (proto v.0) (built v.0),
-          join_of y.0 v.0 front.uses.0,
-          (λ h lt j. join_local i.0 (host h) (front.indexes.0 h lt j)),
-          placed rest weight k row (and_right _ _ low) (tells_at many proto hosts (k + 0) k more (none_more k) (tells_back many proto hosts k one more e)),
-        )
-    placed (Tell y h offset rest) weight k row low e =
-        let one = (read_step l (Stmt-F.Output y h offset)).parts weight in
-        let more = all_parts (each (read_step l) rest) weight in (
-          join_local y.0 h (tells_front many proto hosts k one more e).outputs.0,
-          placed rest weight k row (and_right _ _ low) (tells_at many proto hosts (k + 0) k more (none_more k) (tells_back many proto hosts k one more e)),
-        )
-    placed (If x tb eb offset rest) weight k row low e =
-        let ts = each (read_step l) tb in
-        let es = each (read_step l) eb in
-        let tp = all_parts ts weight in
-        let ep = all_parts es weight in
-        let guard : Parts = record no_parts { guards = guard_of x weight (ts ++ es) ∷ [] } in
-        let one = joined guard (joined tp ep) in
-        let more = all_parts (each (read_step l) rest) weight in
-        let low_if = and_left (is_below many x && low_block tb && low_block eb) (low_block rest) low in
-        let low_first = and_left (is_below many x && low_block tb) (low_block eb) low_if in
-        let low_t = and_right (is_below many x) (low_block tb) low_first in
-        let low_e = and_right (is_below many x && low_block tb) (low_block eb) low_if in
-        let front = tells_front many proto hosts k one more e in
-        let inner = tells_at many proto hosts (k + 0) k (joined tp ep) (none_more k) (tells_back many proto hosts k guard (joined tp ep) front) in
-        let row1 = row_front k (slots tb ++ slots eb) (slots rest) row in
-        let row2 = row_back k (slots tb ++ slots eb) (slots rest) row in (
-          (λ h lt z. join_local x.0 (host h) ((tells_front many proto hosts k guard (joined tp ep) front).guards.0 h lt
-              (two_blocks h ts es (either ((emits tb).takes_part h) ((emits eb).takes_part h) _ _ (taking tb h low_t) (taking eb h low_e) z)))),
-          placed tb weight k (row_front k (slots tb) (slots eb) row1) low_t (tells_front many proto hosts k tp ep inner),
-          placed eb weight (k + length (slots tb)) (row_back k (slots tb) (slots eb) row1) low_e
-              (tells_at many proto hosts (k + length tp.slots) (k + length (slots tb)) ep (ap (λ n. k + n) (as_many l tb weight)) (tells_back many proto hosts k tp ep inner)),
-          placed rest weight (k + length (slots tb ++ slots eb)) row2 (and_right _ _ low)
-              (tells_at many proto hosts (k + length (tp.slots ++ ep.slots)) (k + length (slots tb ++ slots eb)) more
-              (ap (λ n. k + n) (lengths tp.slots ep.slots (slots tb) (slots eb) (as_many l tb weight) (as_many l eb weight))) (tells_back many proto hosts k one more e)),
-        )
-      where
-        lengths : (ms bs : List Making) (cs ds : List ℕ) → length ms ≡ length cs → length bs ≡ length ds → length (ms ++ bs) ≡ length (cs ++ ds)
-        lengths ms bs cs ds p q = let a = length-append ms bs in let b = length-append cs ds in omega (arith, a, b, p, q)
-    placed (For count body rest) weight k row low e =
-        let one = all_parts (each (read_step l) body) (weight * count) in
-        let more = all_parts (each (read_step l) rest) weight in (
-          placed body (weight * count) k (row_front k (slots body) (slots rest) row) (and_left (low_block body) (low_block rest) low) (tells_front many proto hosts k one more e),
-          placed rest weight (k + length (slots body)) (row_back k (slots body) (slots rest) row) (and_right (low_block body) (low_block rest) low)
-              (tells_at many proto hosts (k + length one.slots) (k + length (slots body)) more (ap (λ n. k + n) (as_many l body (weight * count))) (tells_back many proto hosts k one more e)),
-        )
+  one_more : (v : ℕ) (xs : List ℕ) → holds row.Variable (proto v) ≡ true → AllVariables xs → AllVariables (v ∷ xs)
+  one_more v xs e all x i = here (nat_eq x v) refl i
+    where
+      here : (b : Bool) → nat_eq x v ≡ b → (b || list_any (nat_eq x) xs) ≡ true → holds row.Variable (proto x) ≡ true
+      here true is j = subst (λ z. holds row.Variable (proto z) ≡ true) (sym (eqb-true x v is)) e
+      here false is j = all x j
+
+  with_word : (v : SlotId) (s : Sight) → holds row.Variable (proto v.0) ≡ true → Variables s → Variables (with_variable v s)
+  with_word v s e k = record { words = one_more v.0 s.variables e k.words; arrays = k.arrays }
+
+  with_words : (v : SlotId) (s : Sight) → holds row.Variable (proto v.0) ≡ true → Variables s → Variables (with_array v s)
+  with_words v s e k = record { words = k.words; arrays = one_more v.0 s.arrays e k.arrays }
+
+  -- ---- each statement
+
+  right_placed : (weight k : ℕ) (x : SlotId) (right : Right) (s : Sight) → Variables s → right_sees right s ≡ true → x.0 ≡ k → Tells many proto hosts k (binding_parts l weight x right)
+      → RightPlaced (machine t inputs) (suite t inputs hosts) proto (proto x.0) right
+  right_placed weight k x (Lit n) s vs a is e = holds_of row.Constant x.0 k is e.slots.0
+  right_placed weight k x Turn s vs a is e = holds_of row.Constant x.0 k is e.slots.0
+  right_placed weight k x (Copy y) s vs a is e = e.uses.0
+  right_placed weight k x (Apply o ys) s vs a is e = (holds_of (row.Apply o) x.0 k is e.slots.0, operands_join weight x ys e.uses)
+  right_placed weight k x (Input h) s vs a is e = holds_of (row.Input h) x.0 k is e.slots.0
+  right_placed weight k x (Declassify y to) s vs a is e = e.uses.0
+  right_placed weight k x (Endorse y to) s vs a is e = e.uses.0
+  right_placed weight k x (Load v) s vs a is e = (vs.words v.0 a, e.uses.0)
+  right_placed weight k x (Get v i) s vs a is e = (vs.arrays v.0 (and_left (is_array s v) (is_binding s i) a), e.uses.0, (λ h lt j. e.indexes.0 h lt j))
+
+  pub placed : (b : Block) (weight k : ℕ) (s : Sight) → Variables s → (sees b s).all ≡ true → InRow k (slots b) → low_block b ≡ true
+      → Tells many proto hosts k (all_parts (each (read_step l) b) weight) → Placed (machine t inputs) (suite t inputs hosts) proto b
+  placed End weight k s vs a row low e = tt
+  placed (Let x right rest) weight k s vs a row low e =
+      let more = all_parts (each (read_step l) rest) weight in
+      let still : Variables (with_binding x s) = record { words = vs.words; arrays = vs.arrays } in (
+        right_placed weight k x right s vs (and_left (right_sees right s) _ a) row.0 (tells_front many proto hosts k (binding_parts l weight x right) more e),
+        placed rest weight (k + 1) (with_binding x s) still (and_right (right_sees right s) _ a) row.1 (and_right _ _ low) (tells_back many proto hosts k (binding_parts l weight x right) more e),
+      )
+  placed (NewVar v y rest) weight k s vs a row low e =
+      let one = (read_step l (Stmt-F.NewVar v y)).parts weight in
+      let more = all_parts (each (read_step l) rest) weight in
+      let front = tells_front many proto hosts k one more e in
+      let here = variable_of v.0 k row.0 front.slots.0 in (
+        here,
+        front.uses.0,
+        placed rest weight (k + 1) (with_variable v s) (with_word v s here vs) (and_right _ _ a) row.1 (and_right _ _ low) (tells_back many proto hosts k one more e),
+      )
+  placed (NewArray v cells rest) weight k s vs a row low e =
+      let one = (read_step l (Stmt-F.NewArray v cells)).parts weight in
+      let more = all_parts (each (read_step l) rest) weight in
+      let here = variable_of v.0 k row.0 (tells_front many proto hosts k one more e).slots.0 in
+      (here, placed rest weight (k + 1) (with_array v s) (with_words v s here vs) a row.1 (and_right _ _ low) (tells_back many proto hosts k one more e))
+  placed (Store v y rest) weight k s vs a row low e =
+      let one = (read_step l (Stmt-F.Store v y)).parts weight in
+      let more = all_parts (each (read_step l) rest) weight in (
+        vs.words v.0 (and_left _ _ (and_left _ _ a)),
+        (tells_front many proto hosts k one more e).uses.0,
+        placed rest weight k s vs (and_right _ _ a) row (and_right _ _ low) (tells_at many proto hosts (k + 0) k more (none_more k) (tells_back many proto hosts k one more e)),
+      )
+  placed (Put v i y rest) weight k s vs a row low e =
+      let one = (read_step l (Stmt-F.Put v i y)).parts weight in
+      let more = all_parts (each (read_step l) rest) weight in
+      let front = tells_front many proto hosts k one more e in (
+        vs.arrays v.0 (and_left _ _ (and_left _ _ (and_left _ _ a))),
+        front.uses.0,
+        (λ h lt j. front.indexes.0 h lt j),
+        placed rest weight k s vs (and_right _ _ a) row (and_right _ _ low) (tells_at many proto hosts (k + 0) k more (none_more k) (tells_back many proto hosts k one more e)),
+      )
+  placed (Tell y h offset rest) weight k s vs a row low e =
+      let one = (read_step l (Stmt-F.Output y h offset)).parts weight in
+      let more = all_parts (each (read_step l) rest) weight in (
+        (tells_front many proto hosts k one more e).outputs.0,
+        placed rest weight k s vs (and_right _ _ a) row (and_right _ _ low) (tells_at many proto hosts (k + 0) k more (none_more k) (tells_back many proto hosts k one more e)),
+      )
+  placed (If x tb eb offset rest) weight k s vs a row low e =
+      let ts = each (read_step l) tb in
+      let es = each (read_step l) eb in
+      let tp = all_parts ts weight in
+      let ep = all_parts es weight in
+      let guard : Parts = record no_parts { guards = guard_of x weight (ts ++ es) ∷ [] } in
+      let one = joined guard (joined tp ep) in
+      let more = all_parts (each (read_step l) rest) weight in
+      let low_if = and_left (is_below many x && low_block tb && low_block eb) (low_block rest) low in
+      let low_first = and_left (is_below many x && low_block tb) (low_block eb) low_if in
+      let low_t = and_right (is_below many x) (low_block tb) low_first in
+      let low_e = and_right (is_below many x && low_block tb) (low_block eb) low_if in
+      let seen_if = and_left _ _ a in
+      let seen_t = and_right _ _ (and_left _ _ seen_if) in
+      let seen_e = and_right _ _ seen_if in
+      let front = tells_front many proto hosts k one more e in
+      let inner = tells_at many proto hosts (k + 0) k (joined tp ep) (none_more k) (tells_back many proto hosts k guard (joined tp ep) front) in
+      let row1 = row_front k (slots tb ++ slots eb) (slots rest) row in
+      let row2 = row_back k (slots tb ++ slots eb) (slots rest) row in (
+        (λ h lt z. (tells_front many proto hosts k guard (joined tp ep) front).guards.0 h lt
+            (two_blocks h ts es (either ((emits tb).takes_part h) ((emits eb).takes_part h) _ _ (taking tb h low_t) (taking eb h low_e) z))),
+        placed tb weight k s vs seen_t (row_front k (slots tb) (slots eb) row1) low_t (tells_front many proto hosts k tp ep inner),
+        placed eb weight (k + length (slots tb)) s vs seen_e (row_back k (slots tb) (slots eb) row1) low_e
+            (tells_at many proto hosts (k + length tp.slots) (k + length (slots tb)) ep (ap (λ n. k + n) (as_many l tb weight)) (tells_back many proto hosts k tp ep inner)),
+        placed rest weight (k + length (slots tb ++ slots eb)) s vs (and_right _ _ a) row2 (and_right _ _ low)
+            (tells_at many proto hosts (k + length (tp.slots ++ ep.slots)) (k + length (slots tb ++ slots eb)) more
+            (ap (λ n. k + n) (lengths tp.slots ep.slots (slots tb) (slots eb) (as_many l tb weight) (as_many l eb weight))) (tells_back many proto hosts k one more e)),
+      )
+    where
+      lengths : (ms bs : List Making) (cs ds : List ℕ) → length ms ≡ length cs → length bs ≡ length ds → length (ms ++ bs) ≡ length (cs ++ ds)
+      lengths ms bs cs ds p q = let a = length-append ms bs in let b = length-append cs ds in omega (arith, a, b, p, q)
+  placed (For count body rest) weight k s vs a row low e =
+      let one = all_parts (each (read_step l) body) (weight * count) in
+      let more = all_parts (each (read_step l) rest) weight in (
+        placed body (weight * count) k s vs (and_left _ _ a) (row_front k (slots body) (slots rest) row) (and_left (low_block body) (low_block rest) low) (tells_front many proto hosts k one more e),
+        placed rest weight (k + length (slots body)) s vs (and_right _ _ a) (row_back k (slots body) (slots rest) row) (and_right (low_block body) (low_block rest) low)
+            (tells_at many proto hosts (k + length one.slots) (k + length (slots body)) more (ap (λ n. k + n) (as_many l body (weight * count))) (tells_back many proto hosts k one more e)),
+      )

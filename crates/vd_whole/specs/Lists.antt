@@ -1,6 +1,5 @@
 -- Programs at valid lists of protocols.
-use Rattle.std.specs.Prelude.{◌≡◌, ℕ, ◌^◌, ◌<◌, true, IsTrue, List, length, slice_index}
-use Rattle.std.specs.List.{list_all}
+use Rattle.std.specs.Prelude.{◌≡◌, ℕ, ◌^◌, ◌<◌, IsTrue, List, length, slice_index}
 use Rattle.vd_base.specs.declared.protocols.Proto.{Proto}
 use Rattle.vd_core.specs.declared.normal.NormalForm.{NormalForm}
 use Rattle.vd_core.specs.Facts.{IsWellMade}
@@ -11,7 +10,6 @@ use Rattle.vd_space.specs.Validity.{protocol, is_valid}
 use Rattle.vd_execution.specs.World.{Tape}
 use Rattle.vd_execution.specs.Deals.{IsValidDeal}
 use Rattle.vd_joint.specs.Outcome.{NumbersFit}
-use Rattle.vd_suite.specs.Parts.{is_built}
 use Rattle.vd_suite.specs.Suite.{AreGiven}
 use Rattle.vd_suite.specs.Whole.{inputs_of, CanRun, RunsAsToldBy}
 
@@ -19,13 +17,12 @@ use Rattle.vd_suite.specs.Whole.{inputs_of, CanRun, RunsAsToldBy}
 abbrev pub protos_of : Problem → List ℕ → ℕ → Proto
 protos_of problem list x = protocol problem (slice_index list x)
 
--- a protocol for each slot of a well-made program, valid and built
+-- a protocol for each slot of a well-made program, and valid
 pub record IsChosen (program : NormalForm) (labels : Labels) (list : List ℕ) : Type 0 where
   pub made : IsWellMade program
   pub numbers : NumbersFit program
   pub whole : length list ≡ length program.slots
   pub valid : IsTrue (is_valid (problem_of program labels) list)
-  pub built : list_all (λ p. is_built (protocol (problem_of program labels) p)) list ≡ true
 
 abbrev pub ValidListsCanRun : Type 0
 ValidListsCanRun = (program : NormalForm) (labels : Labels) (list : List ℕ) → IsChosen program labels list

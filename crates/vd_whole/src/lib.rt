@@ -3,7 +3,7 @@
 
 ghost use Rattle.vd_whole.specs.Lists.{ValidListsCanRun, ValidListsTellTheSame};
 
-/// A well-made program at a valid list of protocols that are built can run: with every valid deal and all inputs its joint code
+/// A well-made program at a valid list of protocols can run: with every valid deal and all inputs its joint code
 /// prints at each host what the program tells it, runs smoothly and is tidy.
 pub fn valid_lists_can_run()
     ensures can_run { ValidListsCanRun }

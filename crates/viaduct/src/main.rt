@@ -1,14 +1,17 @@
-//! The program: makes the real objects, hands them to the top call and ends with its status.
+//! The program: makes the real objects, hands them to the top call and ends with its status. Where standard error is a
+//! terminal, it then says more of a fault to the person who sits there.
 #![tactic(auto)]
 
 use std::alloc::Global;
 use std::env::Env;
+use std::io::IsTerminal;
 use std::process::ExitCode;
 use std::{env, io};
 use vd_base::Texts;
-use vd_edge::{RealFiles, RealSink};
-use vd_outside::{SureNet, SureSpawner};
+use vd_edge::{RealFiles, RealNet, RealSink, RealSpawner};
+use vd_outside::Sink;
 use vd_plan::{Status, tell};
+use vd_telling::say_more;
 use vd_top::start;
 
 /// The words of the command line after the program's own. Words that are no text make no command line.
@@ -26,25 +29,30 @@ fn words(rt: &(impl Env + AllocGlobal)) -> io::Result<Texts> {
     }
 }
 
-fn main(rt: HostRuntime) -> ExitCode {
+/// Runs the command line over the real objects, and says how it ended. An error is want of memory.
+fn run<O: Sink, E: Sink>(rt: HostRuntime, out: &mut O, err: &mut E) -> io::Result<Status> {
     let alloc: Global = rt.alloc();
+    let is_terminal = rt.stderr().is_terminal();
+    let coloured = env::var(&rt, "NO_COLOR").is_err();
+    let words = words(&rt)?;
+    let mut net = RealNet::new(rt.clone()?, alloc);
+    let mut spawner = RealSpawner::new(rt.clone()?, alloc);
+    let mut files = RealFiles::new(rt, alloc);
+    let status = start(alloc, &words, &mut files, out, err, &mut net, &mut spawner);
+    if is_terminal {
+        say_more(alloc, coloured, &words, &mut files, err, &status);
+    }
+    Ok(status)
+}
+
+fn main(rt: HostRuntime) -> ExitCode {
     let mut out = RealSink::new(rt.stdout());
     let mut err = RealSink::new(rt.stderr());
-    let Ok(words) = words(&rt) else {
-        tell(&mut err, &Status::Memory);
-        return ExitCode::from(Status::Memory.code());
-    };
-    let mut net = SureNet::new(alloc, 0);
-    let mut spawner = SureSpawner::new(alloc);
-    let mut files = RealFiles::new(rt, alloc);
-    let status = start(
-        alloc,
-        &words,
-        &mut files,
-        &mut out,
-        &mut err,
-        &mut net,
-        &mut spawner,
-    );
-    ExitCode::from(status.code())
+    match run(rt, &mut out, &mut err) {
+        Ok(status) => ExitCode::from(status.code()),
+        Err(_) => {
+            tell(&mut err, &Status::Memory);
+            ExitCode::from(Status::Memory.code())
+        }
+    }
 }

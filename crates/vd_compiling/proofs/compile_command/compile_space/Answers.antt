@@ -3,18 +3,20 @@ use Rattle.vd_space.specs.declared.problem.Problem.{Problem}
 use Rattle.vd_space.specs.Usual.{usual}
 use Rattle.vd_selection.specs.Choices.{IsChosen}
 use Rattle.vd_selection.specs.Selecting.{IsOver}
-use Rattle.vd_compiling.proofs.Compiled.{found, gave_up, none_found}
+use Rattle.vd_compiling.proofs.Compiled.{found, gave_up, list_answered, none_found}
+use Rattle.vd_compiling.proofs.Runnable.{selected_of}
 use Rattle.vd_compiling.proofs.compile_command.compile_space.Goals as goal
 
-pub compile_list-requires-clause-chosen : goal.compile_list-requires-clause-chosen
-compile_list-requires-clause-chosen c =
+pub compile_at-requires : goal.compile_at-requires
+compile_at-requires c =
     let selects = rw c.in-Ok-Found.field-0-is at (rw c.problem.ensures.same at c.in-Ok-Found.ensures.selects) in
-    subst (λ (list : List ℕ). IsChosen c.args.space.now (Some list)) (sym c.as_slice.ensures) selects.0
+    selected_of c.args.program.now c.args.space.now c.as_slice.result.now c.requires.problem (subst (λ (list : List ℕ). IsChosen c.args.space.now (Some list)) (sym c.as_slice.ensures) selects.0)
 
 pub returns-in-Ok-Found : goal.returns-in-Ok-Found
 returns-in-Ok-Found c =
     let selects = rw c.in-Ok-Found.field-0-is at (rw c.problem.ensures.same at c.in-Ok-Found.ensures.selects) in
-    found c.args.program.now c.args.space.now c.args.text.now c.args.prefix.now c.args.budget c.in-Ok-Found.places c.as_slice.result.now c.in-Ok-Found.cost c.in-Ok-Found.field-0-2 _ selects c.as_slice.ensures c.compile_list.ensures
+    found c.args.program.now c.args.space.now c.args.text.now c.args.prefix.now c.args.budget c.in-Ok-Found.places c.as_slice.result.now c.in-Ok-Found.cost c.in-Ok-Found.field-0-2 _ selects c.as_slice.ensures
+    (list_answered c.args.program.now c.args.space.now c.args.text.now c.args.prefix.now c.as_slice.result.now c.in-Ok-Found.cost _ c.compile_at.ensures)
 
 pub returns-in-Ok-NoAssignment : goal.returns-in-Ok-NoAssignment
 returns-in-Ok-NoAssignment c =

@@ -21,5 +21,5 @@ returns-in-NoAssignment g c = rw c.in-NoAssignment.is c.write_parts-in-NoAssignm
 pub returns-in-CertificateText : goal.returns-in-CertificateText
 returns-in-CertificateText g c = rw c.in-CertificateText.is c.write_offset-in-CertificateText.ensures
 
-pub returns-in-NotBuilt : goal.returns-in-NotBuilt
-returns-in-NotBuilt g c = rw c.in-NotBuilt.is c.write_parts-in-NotBuilt.ensures
+pub returns-in-NoHost : goal.returns-in-NoHost
+returns-in-NoHost g c = rw (c.in-NoHost.is, ← c.as_str-in-NoHost.ensures, ← c.as_bytes-in-NoHost.ensures.value) c.write_name.ensures

@@ -1,29 +1,24 @@
 use Rattle.std.proofs.lemmas.Result.{err_from_is_err_and}
 use Rattle.vd_compiling.proofs.Runnable.{selected_of}
 use Rattle.vd_replaying.proofs.Playable.{dealt, told_then}
-use Rattle.vd_replaying.proofs.Replayed.{list_answered, list_not_built, list_refused}
+use Rattle.vd_replaying.proofs.Replayed.{list_answered, list_refused}
 use Rattle.vd_replaying.proofs.replay_command.replay_list.Goals as goal
 
 pub expect_consistent-requires : goal.expect_consistent-requires
 expect_consistent-requires c = dealt _ c.args.asked c.requires.asked
 
 pub replay_at-requires-clause-selected : goal.replay_at-requires-clause-selected
-replay_at-requires-clause-selected c = selected_of c.args.program.now c.args.space.now c.args.places.now c.requires.problem c.requires.chosen (c.in_ok-expect_built.ensures {u = tt}).built
-
-pub returns-in_err-expect_built-clause-executes : goal.returns-in_err-expect_built-clause-executes
-returns-in_err-expect_built-clause-executes c = λ outcomes files.
-    let p = err_from_is_err_and c.from_residual.result c.from_residual.ensures.1 in
-    rw (p.1, p.2) (list_not_built c.args.program.now c.args.space.now c.args.asked c.args.places.now c.in_err-expect_built.field-0.0 (c.in_err-expect_built.ensures {u = tt}).checks outcomes files)
+replay_at-requires-clause-selected c = selected_of c.args.program.now c.args.space.now c.args.places.now c.requires.problem c.requires.chosen
 
 pub returns-in_err-expect_consistent-clause-executes : goal.returns-in_err-expect_consistent-clause-executes
 returns-in_err-expect_consistent-clause-executes c = λ outcomes files.
-    let p = err_from_is_err_and c.from_residual-in_err-expect_consistent.result c.from_residual-in_err-expect_consistent.ensures.1 in
+    let p = err_from_is_err_and c.from_residual.result c.from_residual.ensures.1 in
     rw (p.1, p.2)
-    (list_refused c.args.program.now c.args.space.now c.args.asked c.args.places.now c.in_err-expect_consistent.field-0.0 (c.in_ok-expect_built.ensures {u = tt}).checks (c.in_err-expect_consistent.ensures {u = tt}).checks outcomes files)
+    (list_refused c.args.program.now c.args.space.now c.args.asked c.args.places.now c.in_err-expect_consistent.field-0.0 (c.in_err-expect_consistent.ensures {u = tt}).checks outcomes files)
 
 pub returns-clause-executes : goal.returns-clause-executes
 returns-clause-executes c =
-    list_answered c.args.program.now c.args.space.now c.args.asked c.args.places.now _ (c.in_ok-expect_built.ensures {u = tt}).checks (c.in_ok-expect_consistent.ensures {u = tt}).checks c.replay_at.ensures.computes
+    list_answered c.args.program.now c.args.space.now c.args.asked c.args.places.now _ (c.in_ok-expect_consistent.ensures {u = tt}).checks c.replay_at.ensures.computes
 
 pub returns-clause-tells : goal.returns-clause-tells
 returns-clause-tells c = told_then c.args.program.now c.args.asked c.replay_at.result c.replay_at.ensures.tells

@@ -1,16 +1,64 @@
-use Rattle.vd_top.proofs.Ending.{kept}
-use Rattle.vd_top.proofs.Words.{given, some_outcomes}
-use Rattle.vd_top.specs.Commands.{has_form, plan_of_words, search_of}
+use Rattle.std.proofs.Common.{refl}
+use Rattle.vd_cmd.specs.Commands.{form_of}
+use Rattle.vd_top.proofs.Telling.{childless_by, plays_by, plays_nothing, plays_refused, runs_by, runs_nothing, runs_refused, shows_by, shows_nothing, shows_refused, silent_by, spawns_as, spawns_nothing, spawns_refused}
 use Rattle.vd_top.proofs.entry.run_words.Goals as goal
 
-pub finish-requires : goal.finish-requires
-finish-requires g c = given _ _ (c.answer_words-came.ensures.answers.1 some_outcomes).proper
+pub returns-in-Ok-clause-runs : goal.returns-in-Ok-clause-runs
+returns-in-Ok-clause-runs g c =
+    runs_by (form_of c.args.words.now) c.in-Ok.command c.in-Ok.ensures.command (g.F.Files.view c.args.files.now) (g.F.Files.view c.run_command.new.files) (g.O.Sink.view c.args.out.now) (g.O.Sink.view c.run_command.new.out) c.run_command.result
+    c.run_command.ensures.runs
 
-pub returns-clause-runs : goal.returns-clause-runs
-returns-clause-runs g c = (c.answer_words-came.ensures.answers.0, λ outcomes. c.finish.ensures _ _ _ (c.answer_words-came.ensures.answers.1 outcomes))
+pub returns-in-Ok-clause-shows : goal.returns-in-Ok-clause-shows
+returns-in-Ok-clause-shows g c =
+    shows_by (form_of c.args.words.now) c.in-Ok.command c.in-Ok.ensures.command (g.F.Files.view c.args.files.now) (g.O.Sink.view c.args.out.now) (g.O.Sink.view c.run_command.new.out) c.run_command.result
+    c.run_command.ensures.shows
 
-pub returns-clause-headline : goal.returns-clause-headline
-returns-clause-headline g c =
-    let s = c.answer_words-came.ensures.answers in
-    kept (has_form c.args.words.now) (plan_of_words some_outcomes (search_of some_outcomes s.0) c.args.words.now) (g.F.Files.view c.args.files.now) _ _ _ _ c.args.words.now c.answer_words-came.result c.finish.result (s.1 some_outcomes)
-    c.finish.ensures c.answer_words-came.ensures.tells
+pub returns-in-Ok-clause-host : goal.returns-in-Ok-clause-host
+returns-in-Ok-clause-host g c =
+    plays_by (form_of c.args.words.now) c.in-Ok.command c.in-Ok.ensures.command (g.F.Files.view c.args.files.now) (g.F.Files.view c.run_command.new.files) (g.N.Net.view c.args.net.now) (g.N.Net.view c.run_command.new.net) (g.O.Sink.view c.args.out.now) (g.O.Sink.view c.run_command.new.out) c.run_command.result
+    c.run_command.ensures.host
+
+pub returns-in-Ok-clause-hosts : goal.returns-in-Ok-clause-hosts
+returns-in-Ok-clause-hosts g c =
+    spawns_as (form_of c.args.words.now) c.in-Ok.command c.in-Ok.ensures.command (g.F.Files.view c.args.files.now) (g.F.Files.view c.run_command.new.files) (g.O.Sink.view c.args.out.now) (g.O.Sink.view c.run_command.new.out) (g.S.Spawner.view c.args.spawner.now) (g.S.Spawner.view c.run_command.new.spawner) c.run_command.result
+    c.run_command.ensures.hosts
+
+pub returns-in-Ok-clause-net_untouched : goal.returns-in-Ok-clause-net_untouched
+returns-in-Ok-clause-net_untouched g c = λ e. c.run_command.ensures.net_untouched (silent_by (form_of c.args.words.now) c.in-Ok.command c.in-Ok.ensures.command e)
+
+pub returns-in-Ok-clause-spawner_untouched : goal.returns-in-Ok-clause-spawner_untouched
+returns-in-Ok-clause-spawner_untouched g c = λ e. c.run_command.ensures.spawner_untouched (childless_by (form_of c.args.words.now) c.in-Ok.command c.in-Ok.ensures.command e)
+
+pub returns-in-Err-Usage-clause-runs : goal.returns-in-Err-Usage-clause-runs
+returns-in-Err-Usage-clause-runs g c =
+    let none = rw c.in-Err-Usage.field-0-is at c.in-Err-Usage.ensures.usage in
+    runs_refused (g.F.Files.view c.args.files.now) (g.O.Sink.view c.args.out.now) (form_of c.args.words.now) (none.0 refl)
+
+pub returns-in-Err-Usage-clause-shows : goal.returns-in-Err-Usage-clause-shows
+returns-in-Err-Usage-clause-shows g c =
+    let none = rw c.in-Err-Usage.field-0-is at c.in-Err-Usage.ensures.usage in
+    shows_refused (g.F.Files.view c.args.files.now) (g.O.Sink.view c.args.out.now) (form_of c.args.words.now) (none.0 refl)
+
+pub returns-in-Err-Usage-clause-host : goal.returns-in-Err-Usage-clause-host
+returns-in-Err-Usage-clause-host g c =
+    let none = rw c.in-Err-Usage.field-0-is at c.in-Err-Usage.ensures.usage in
+    plays_refused (g.F.Files.view c.args.files.now) (g.O.Sink.view c.args.out.now) (g.N.Net.view c.args.net.now) (form_of c.args.words.now) (none.0 refl)
+
+pub returns-in-Err-Usage-clause-hosts : goal.returns-in-Err-Usage-clause-hosts
+returns-in-Err-Usage-clause-hosts g c =
+    let none = rw c.in-Err-Usage.field-0-is at c.in-Err-Usage.ensures.usage in
+    spawns_refused (g.F.Files.view c.args.files.now) (g.O.Sink.view c.args.out.now) (g.S.Spawner.view c.args.spawner.now) (form_of c.args.words.now) (none.0 refl)
+
+pub returns-in-Err-Memory-clause-runs : goal.returns-in-Err-Memory-clause-runs
+returns-in-Err-Memory-clause-runs g c =
+    let none = rw c.in-Err-Memory.field-0-is at c.in-Err-Memory.ensures.usage in
+    runs_nothing (g.F.Files.view c.args.files.now) (g.O.Sink.view c.args.out.now) (form_of c.args.words.now) (λ e. let wrong = none.1 e in cc)
+
+pub returns-in-Err-Memory-clause-shows : goal.returns-in-Err-Memory-clause-shows
+returns-in-Err-Memory-clause-shows g c = shows_nothing (g.F.Files.view c.args.files.now) (g.O.Sink.view c.args.out.now) (form_of c.args.words.now)
+
+pub returns-in-Err-Memory-clause-host : goal.returns-in-Err-Memory-clause-host
+returns-in-Err-Memory-clause-host g c = plays_nothing (g.F.Files.view c.args.files.now) (g.O.Sink.view c.args.out.now) (g.N.Net.view c.args.net.now) (form_of c.args.words.now)
+
+pub returns-in-Err-Memory-clause-hosts : goal.returns-in-Err-Memory-clause-hosts
+returns-in-Err-Memory-clause-hosts g c = spawns_nothing (g.F.Files.view c.args.files.now) (g.O.Sink.view c.args.out.now) (g.S.Spawner.view c.args.spawner.now) (form_of c.args.words.now)

@@ -11,3 +11,15 @@ returns-in-None-clause-headline g c = λ none. c.run.ensures.headline
 
 pub returns-in-None-clause-accepted : goal.returns-in-None-clause-accepted
 returns-in-None-clause-accepted g c = λ none. c.run.ensures.accepted
+
+pub returns-in-None-clause-dependence : goal.returns-in-None-clause-dependence
+returns-in-None-clause-dependence g c = λ none. c.run.ensures.dependence
+
+pub returns-in-None-clause-host : goal.returns-in-None-clause-host
+returns-in-None-clause-host g c = λ none. c.run.ensures.host
+
+pub returns-in-None-clause-hosts : goal.returns-in-None-clause-hosts
+returns-in-None-clause-hosts g c = λ none. c.run.ensures.hosts
+
+pub returns-in-None-clause-trial : goal.returns-in-None-clause-trial
+returns-in-None-clause-trial g c = λ none. c.run.ensures.trial

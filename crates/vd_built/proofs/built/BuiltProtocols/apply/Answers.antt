@@ -2,11 +2,8 @@ use Rattle.std.proofs.Common.{◌∙◌, map}
 use Rattle.vd_duet.specs.Calls.{in_clear}
 use Rattle.vd_suite.specs.Parts.{Parts, back_end}
 use Rattle.vd_built.proofs.Making.{word_made}
-use Rattle.vd_built.proofs.Offers.{offered_built, offered_known}
+use Rattle.vd_built.proofs.Offers.{offered_known}
 use Rattle.vd_built.proofs.built.BuiltProtocols.apply.Goals as goal
-
-pub apply-requires-clause-at : goal.apply-requires-clause-at
-apply-requires-clause-at c = offered_built c.args.self.now c.args.at c.requires.at
 
 pub apply-requires-clause-known : goal.apply-requires-clause-known
 apply-requires-clause-known c = offered_known c.args.self.now c.args.at c.args.to.now.next c.requires.at c.requires.ready.known

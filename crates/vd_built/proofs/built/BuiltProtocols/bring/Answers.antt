@@ -2,17 +2,11 @@ use Rattle.vd_duet.specs.Calls.{in_clear}
 use Rattle.vd_suite.specs.Moves.{moved}
 use Rattle.vd_suite.specs.Parts.{back_end, route}
 use Rattle.vd_built.proofs.Making.{word_made}
-use Rattle.vd_built.proofs.Offers.{offered_built, offered_known}
+use Rattle.vd_built.proofs.Offers.{offered_known}
 use Rattle.vd_built.proofs.built.BuiltProtocols.bring.Goals as goal
-
-pub bring-requires-clause-from : goal.bring-requires-clause-from
-bring-requires-clause-from c = offered_built c.args.self.now c.args.from c.requires.from
 
 pub bring-requires-clause-known : goal.bring-requires-clause-known
 bring-requires-clause-known c = offered_known c.args.self.now c.args.from c.args.to.now.next c.requires.from c.requires.ready.known
-
-pub bring-requires-clause-onto : goal.bring-requires-clause-onto
-bring-requires-clause-onto c = offered_built c.args.self.now c.args.onto c.requires.onto
 
 pub bring-requires-clause-onto_known : goal.bring-requires-clause-onto_known
 bring-requires-clause-onto_known c = offered_known c.args.self.now c.args.onto c.args.to.now.next c.requires.onto c.requires.ready.known

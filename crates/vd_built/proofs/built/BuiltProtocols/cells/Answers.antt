@@ -1,11 +1,8 @@
 use Rattle.vd_duet.specs.Calls.{in_clear}
 use Rattle.vd_suite.specs.Parts.{new_cells}
 use Rattle.vd_built.proofs.Making.{array_made}
-use Rattle.vd_built.proofs.Offers.{offered_built, offered_known, offered_apart}
+use Rattle.vd_built.proofs.Offers.{offered_known, offered_apart}
 use Rattle.vd_built.proofs.built.BuiltProtocols.cells.Goals as goal
-
-pub cells-requires-clause-at : goal.cells-requires-clause-at
-cells-requires-clause-at c = offered_built c.args.self.now c.args.at c.requires.at
 
 pub cells-requires-clause-apart : goal.cells-requires-clause-apart
 cells-requires-clause-apart c = offered_apart c.args.self.now c.args.at c.requires.at

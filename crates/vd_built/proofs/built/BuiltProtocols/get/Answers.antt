@@ -1,11 +1,8 @@
 use Rattle.vd_duet.specs.Calls.{in_clear}
 use Rattle.vd_suite.specs.Parts.{cell_read}
 use Rattle.vd_built.proofs.Making.{word_made}
-use Rattle.vd_built.proofs.Offers.{offered_built, offered_known}
+use Rattle.vd_built.proofs.Offers.{offered_known}
 use Rattle.vd_built.proofs.built.BuiltProtocols.get.Goals as goal
-
-pub get-requires-clause-at : goal.get-requires-clause-at
-get-requires-clause-at c = offered_built c.args.self.now c.args.at c.requires.at
 
 pub get-requires-clause-known : goal.get-requires-clause-known
 get-requires-clause-known c = offered_known c.args.self.now c.args.at c.args.to.now.next c.requires.at c.requires.ready.known

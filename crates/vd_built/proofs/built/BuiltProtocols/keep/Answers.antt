@@ -1,11 +1,8 @@
 use Rattle.vd_duet.specs.Calls.{in_clear}
 use Rattle.vd_suite.specs.Parts.{back_end}
 use Rattle.vd_built.proofs.Making.{word_made}
-use Rattle.vd_built.proofs.Offers.{offered_built, offered_known}
+use Rattle.vd_built.proofs.Offers.{offered_known}
 use Rattle.vd_built.proofs.built.BuiltProtocols.keep.Goals as goal
-
-pub keep-requires-clause-at : goal.keep-requires-clause-at
-keep-requires-clause-at c = offered_built c.args.self.now c.args.at c.requires.at
 
 pub keep-requires-clause-known : goal.keep-requires-clause-known
 keep-requires-clause-known c = offered_known c.args.self.now c.args.at c.args.to.now.next c.requires.at c.requires.ready.known

@@ -1,11 +1,8 @@
 use Rattle.vd_duet.specs.Calls.{in_clear}
 use Rattle.vd_suite.specs.Parts.{turned}
 use Rattle.vd_built.proofs.Making.{word_made}
-use Rattle.vd_built.proofs.Offers.{offered_built, offered_known}
+use Rattle.vd_built.proofs.Offers.{offered_known}
 use Rattle.vd_built.proofs.built.BuiltProtocols.turn.Goals as goal
-
-pub turn-requires-clause-at : goal.turn-requires-clause-at
-turn-requires-clause-at c = offered_built c.args.self.now c.args.at c.requires.at
 
 pub turn-requires-clause-known : goal.turn-requires-clause-known
 turn-requires-clause-known c = offered_known c.args.self.now c.args.at c.args.to.now.next c.requires.at c.requires.ready.known

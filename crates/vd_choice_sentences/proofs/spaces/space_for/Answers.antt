@@ -1,0 +1,9 @@
+use Rattle.std.proofs.Common.{subst}
+use Rattle.vd_constraints.specs.Satisfies.{IsLeast}
+use Rattle.vd_constraints.specs.Systems.{Constraints}
+use Rattle.vd_choice_sentences.proofs.Labelled.{has_labels}
+use Rattle.vd_choice_sentences.proofs.spaces.space_for.Goals as goal
+
+pub of-requires : goal.of-requires
+of-requires c =
+    has_labels c.args.program.now c.in-Ok.labels (subst (λ (s : Constraints). IsLeast s c.in-Ok.labels) (c.in_ok-system.ensures {u = tt}) (c.in-Ok.ensures {u = tt}).least)

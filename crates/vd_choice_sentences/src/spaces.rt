@@ -1,0 +1,26 @@
+//! The space of choices for a program.
+
+ghost use Rattle.std.specs.Prelude.{IfOk};
+ghost use Rattle.vd_choice_sentences.specs.Spaces.{IsSpaceFor};
+
+use std::alloc::Global;
+use vd_constraints::constraints;
+use vd_core::Program;
+use vd_remarks::TellFault;
+use vd_solver::{SolveFault, solve};
+use vd_spaces::Space;
+
+/// The space of choices for a program under its least labels; none where no labelling is allowed.
+pub fn space_for(alloc: Global, program: &Program) -> Result<Option<Space>, TellFault>
+    ensures { IfOk result (IsSpaceFor program.now) }
+{
+    let system = constraints(alloc, program)?;
+    match solve(alloc, &system) {
+        Ok(labels) => {
+            let space = Space::of(alloc, program, &labels)?;
+            Ok(Some(space))
+        }
+        Err(SolveFault::Flow(_)) => Ok(None),
+        Err(SolveFault::Memory) => Err(TellFault::Memory),
+    }
+}

@@ -1,0 +1,80 @@
+-- The files of all hosts, one after the other.
+use Rattle.std.proofs.Common.{◌≡◌, ℕ, zero, suc, ◌+◌, ◌<◌, ◌≤◌, List, [], ◌++◌, length, map, slice_index_or, Ok, ap, subst, ◌∙◌, arith}
+use Rattle.std.specs.Prelude.{flat_map}
+use Rattle.std.specs.List.{AllByRecursion, range_with_len}
+use Rattle.vd_base.specs.HostSets.{host}
+use Rattle.vd_core.specs.declared.normal.NormalForm.{NormalForm}
+use Rattle.vd_execution.specs.declared.instructions.Instr.{Instr}
+use Rattle.vd_execution.specs.Joint.{code_of}
+use Rattle.vd_execution.specs.Text.{text}
+use Rattle.vd_host_text.specs.declared.program.Digest.{Digest}
+use Rattle.vd_host_text.specs.declared.program.HostProgram.{HostProgram}
+use Rattle.vd_host_text.specs.Text.{name_field, program_text}
+use Rattle.vd_hostcode.specs.Outcome.{IsOutcome}
+use Rattle.vd_host_programs.specs.Programs.{joint_of, host_codes}
+use Rattle.vd_read_back.specs.Stored.{IsDigest, CanBeStored}
+use Rattle.vd_read_back.proofs.Digests.{is_digest}
+use Rattle.vd_read_back.proofs.Files.{stored_programs_are_read_back, stored_texts_are_short}
+use Rattle.vd_compiling.specs.Compiling.{host_files, printed_at, plan_for}
+use Rattle.vd_compiled_files.specs.Compiled.{CanBeCompiled, IsReadBack, IsShort, CompiledFilesAreReadBack, CompiledFilesAreShort}
+
+code_at : (f : ℕ → List Instr) (k n h : ℕ) → h < n → slice_index_or (map f (range_with_len k n)) h [] ≡ f (k + h)
+code_at f k zero h lt = absurd (omega (arith, lt))
+code_at f k (suc n) zero lt = ap f (same k)
+  where
+    same : (k : ℕ) → k ≡ k + 0
+    same k = omega arith
+code_at f k (suc n) (suc h) lt = code_at f (k + 1) n h (omega (arith, lt)) ∙ ap f (same k h)
+  where
+    same : (k h : ℕ) → k + 1 + h ≡ k + suc h
+    same k h = omega arith
+
+module _ (program : NormalForm) (list : List ℕ) (plan : Digest) (digest : IsDigest plan) (can : CanBeCompiled program list) (prefix : List ℕ) where
+  abbrev hosts : ℕ
+  hosts = length program.hosts
+
+  abbrev code : ℕ → List Instr
+  code h = text (code_of h (joint_of program list)) []
+
+  abbrev program_at : ℕ → List Instr → HostProgram
+  program_at h is = record { hosts = program.hosts; me = host h; plan = plan; code = is }
+
+  -- the part of the host with this number
+  part : (h : ℕ) → h < hosts → slice_index_or (host_codes program list) h [] ≡ code h
+  part h lt = code_at code 0 hosts h lt ∙ ap code (none h)
+    where
+      none : (h : ℕ) → 0 + h ≡ h
+      none h = omega arith
+
+  stored : (h : ℕ) → h < hosts → CanBeStored program list plan h
+  stored h lt = record { made = can.made; numbers = can.numbers; counts = can.counts; runnable = can.runnable; digest = digest; declared = lt }
+
+  read : (h : ℕ) → h < hosts → IsOutcome (program_text (program_at h (code h))) (Ok (program_at h (code h)))
+  read h lt =
+      subst (λ (is : List Instr). IsOutcome (program_text (program_at h is)) (Ok (program_at h is))) (part h lt) (stored_programs_are_read_back program list plan h (stored h lt))
+
+  pub files_read : (n k : ℕ) → k + n ≤ hosts → AllByRecursion IsReadBack (host_files prefix program.hosts plan k (map code (range_with_len k n)))
+  files_read zero k le = tt
+  files_read (suc n) k le = ((program_at k (code k), read k (omega (arith, le))), files_read n (k + 1) (omega (arith, le)))
+
+  short : length (flat_map name_field program.hosts) ≤ 65536 → (h : ℕ) → h < hosts → length (program_text (program_at h (code h))) ≤ 67108864
+  short names h lt =
+      subst (λ (is : List Instr). length (program_text (program_at h is)) ≤ 67108864) (part h lt) (stored_texts_are_short program list plan h (stored h lt) names)
+
+  pub files_short : length (flat_map name_field program.hosts) ≤ 65536 → (n k : ℕ) → k + n ≤ hosts
+      → AllByRecursion IsShort (host_files prefix program.hosts plan k (map code (range_with_len k n)))
+  files_short names zero k le = tt
+  files_short names (suc n) k le = (short names k (omega (arith, le)), files_short names n (k + 1) (omega (arith, le)))
+
+all_of_them : (n : ℕ) → 0 + n ≤ n
+all_of_them n = omega arith
+
+pub compiled_files_are_read_back : CompiledFilesAreReadBack
+compiled_files_are_read_back program problem list least text prefix can =
+    let printed = printed_at program problem list least in
+    files_read program list (plan_for text printed) (is_digest (text ++ printed)) can prefix (length program.hosts) 0 (all_of_them (length program.hosts))
+
+pub compiled_files_are_short : CompiledFilesAreShort
+compiled_files_are_short program problem list least text prefix can names =
+    let printed = printed_at program problem list least in
+    files_short program list (plan_for text printed) (is_digest (text ++ printed)) can prefix names (length program.hosts) 0 (all_of_them (length program.hosts))

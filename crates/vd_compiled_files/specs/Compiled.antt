@@ -1,0 +1,39 @@
+-- The files that `compile` stores.
+use Rattle.std.specs.Prelude.{ℕ, ◌≤◌, List, length, flat_map, Ok}
+use Rattle.std.specs.List.{AllByRecursion}
+use Rattle.vd_base.specs.Limits.{most_source_bytes, most_host_file_bytes}
+use Rattle.vd_outside.specs.declared.stored.Stored.{Stored}
+use Rattle.vd_core.specs.declared.normal.NormalForm.{NormalForm}
+use Rattle.vd_core.specs.Facts.{IsWellMade}
+use Rattle.vd_space.specs.declared.problem.Problem.{Problem}
+use Rattle.vd_joint.specs.Outcome.{NumbersFit}
+use Rattle.vd_host_text.specs.declared.program.HostProgram.{HostProgram}
+use Rattle.vd_host_text.specs.Text.{name_field}
+use Rattle.vd_hostcode.specs.Outcome.{IsOutcome}
+use Rattle.vd_host_programs.specs.Programs.{IsRunnable}
+use Rattle.vd_read_back.specs.Stored.{CountsFit}
+use Rattle.vd_compiling.specs.Compiling.{compiled_at}
+
+-- a well-made program whose numbers are words, and a list of protocols at which it can run
+pub record CanBeCompiled (program : NormalForm) (list : List ℕ) : Type 0 where
+  pub made : IsWellMade program
+  pub numbers : NumbersFit program
+  pub counts : CountsFit program
+  pub runnable : IsRunnable program list
+
+-- reading the file gives a program, within all ranges
+abbrev pub IsReadBack : Stored → Type 0
+IsReadBack file = (program : HostProgram) × IsOutcome file.content (Ok program)
+
+-- so it is with each file that is stored of a program, whatever the rest of the choice, the source's bytes and the prefix are
+abbrev pub CompiledFilesAreReadBack : Type 0
+CompiledFilesAreReadBack = (program : NormalForm) (problem : Problem) (list : List ℕ) (least : ℕ) (text prefix : List ℕ) → CanBeCompiled program list
+    → AllByRecursion IsReadBack (compiled_at program problem list least text prefix).stores
+
+-- and each is short enough to be read
+abbrev pub IsShort : Stored → Type 0
+IsShort file = length file.content ≤ most_host_file_bytes
+
+abbrev pub CompiledFilesAreShort : Type 0
+CompiledFilesAreShort = (program : NormalForm) (problem : Problem) (list : List ℕ) (least : ℕ) (text prefix : List ℕ) → CanBeCompiled program list
+    → length (flat_map name_field program.hosts) ≤ most_source_bytes → AllByRecursion IsShort (compiled_at program problem list least text prefix).stores

@@ -1,0 +1,3 @@
+pub mod Existing
+mod Naming
+mod Told

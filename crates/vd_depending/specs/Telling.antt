@@ -1,0 +1,51 @@
+-- What is told of a host's dependence, and why that is enough.
+use Rattle.std.specs.Prelude.{◌≡◌, ℕ, List, Some, Result, IfOk}
+use Rattle.vd_base.specs.declared.ids.HostId.{HostId}
+use Rattle.vd_base.specs.declared.protocols.HostSet.{HostSet}
+use Rattle.vd_core.specs.declared.source.Source.{Source}
+use Rattle.vd_core.specs.declared.normal.NormalForm.{NormalForm}
+use Rattle.vd_constraints.specs.Rules.{system_of}
+use Rattle.vd_constraints.specs.Satisfies.{IsLeast}
+use Rattle.vd_constraints.specs.declared.labels.Labels.{Labels}
+use Rattle.vd_dependence.specs.Dependence.{AreEnough, AreReached, AreReadable}
+use Rattle.vd_noninter.specs.Hosts.{members}
+use Rattle.vd_normal.specs.Normal.{normal_form}
+use Rattle.vd_outside.specs.Files.{FilesView, Contents}
+use Rattle.vd_report.specs.Hosts.{host_of}
+use Rattle.vd_plan.specs.Held.{Finds}
+use Rattle.vd_plan.specs.declared.answer.Answer.{Answer}
+use Rattle.vd_plan.specs.declared.status.Status.{Status}
+use Rattle.vd_plan.specs.declared.status.Status.TheVariants.{Ended}
+use Rattle.vd_frontend.specs.Sources.{HoldsSource}
+use Rattle.vd_depending.specs.Depending.{hosts_line}
+
+-- This line names the hosts on which the host of this name depends.
+pub record IsDependenceLine (name : List ℕ) (p : NormalForm) (printed : List ℕ) : Type 0 where
+  pub labels : Labels
+  pub least : IsLeast (system_of p) labels
+  pub host : HostId
+  pub named : host_of p.hosts name ≡ Some host.0
+  pub set : HostSet
+  pub line : printed ≡ hosts_line p.hosts host set
+  -- they are those whose inputs are reached from what the host is told, and no other
+  pub reached : AreReached p labels host (members set)
+  -- the host may read each of them
+  pub readable : AreReadable p host (members set)
+  -- Two families of inputs that agree on theirs, and on the words of all declassifications whose result the host may read, give
+  -- it the same outputs, and the same words at every slot that is reached and in its view.
+  pub enough : AreEnough p labels host (members set)
+
+-- The file is the text of a source that meets every rule, and the line is that of its let-normal form.
+pub record IsDependenceOf (source name : List ℕ) (contents : Contents) (printed : List ℕ) : Type 0 where
+  pub tree : Source
+  pub held : HoldsSource source contents tree
+  pub line : IsDependenceLine name (normal_form tree) printed
+
+abbrev pub TellsProgram : List ℕ → NormalForm → Result Answer Status → Type 0
+TellsProgram name p result = IfOk result (λ answer. answer.status ≡ Ended → IsDependenceLine name p answer.printed)
+
+abbrev pub TellsSource : List ℕ → Source → Result Answer Status → Type 0
+TellsSource name source result = TellsProgram name (normal_form source) result
+
+abbrev pub TellsDependence : (source name : List ℕ) → FilesView → Result Answer Status → Type 0
+TellsDependence source name before result = Finds before result (λ contents answer. answer.status ≡ Ended → IsDependenceOf source name contents answer.printed)

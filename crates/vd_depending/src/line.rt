@@ -1,0 +1,89 @@
+//! The line that names the hosts that a host depends on.
+
+ghost use Rattle.std.specs.Prelude.{◌≡◌, ◌++◌, ◌∷◌, ◌≤◌, [], IfOk, OnOk, flat_map, if◌then◌else◌, length, slice_index_or};
+ghost use Rattle.vd_base.specs.HostSets.{has_host, members};
+ghost use Rattle.vd_base.specs.Limits.{most_hosts};
+ghost use Rattle.vd_depending.specs.Depending.{hosts_line, name_field};
+ghost use Rattle.vd_report.specs.Lines.{number_field};
+
+use itoa::Buffer;
+use std::alloc::{AllocError, Global};
+use vd_base::{Bytes, HostId, HostSet, Names};
+use vd_items::Items;
+
+/// A host, how many hosts it depends on, and their names in host order.
+pub fn hosts_text(
+    alloc: Global,
+    names: &Names,
+    host: HostId,
+    set: HostSet,
+) -> Result<Bytes, AllocError>
+    requires { length names.now ≤ most_hosts }
+    ensures { IfOk result (λ text. text ≡ hosts_line names.now host set) }
+{
+    let list = members(alloc, names, set)?;
+    let mut text = Bytes::new(alloc);
+    text.extend_from_slice(name_of(names, host))?;
+    push_number(&mut text, list.as_slice().len() as u64)?;
+    push_names(&mut text, names, list.as_slice())?;
+    text.push(b'\n')?;
+    Ok(text)
+}
+
+/// The members of the set among the named hosts, in order.
+fn members(alloc: Global, names: &Names, set: HostSet) -> Result<Items<HostId>, AllocError>
+    requires { length names.now ≤ most_hosts }
+    ensures { IfOk result (λ list. list ≡ members (length names.now) set) }
+{
+    let mut list = Items::new(alloc);
+    for place in 0..names.as_slice().len() as u8 {
+        push_member(&mut list, set, HostId(place))?;
+    }
+    Ok(list)
+}
+
+/// Puts the host at the end, if it is a member of the set.
+fn push_member(list: &mut Items<HostId>, set: HostSet, host: HostId) -> Result<(), AllocError>
+    ensures { OnOk result (list.new ≡ list.old ++ (if has_host set host then host ∷ [] else [])) }
+{
+    if set.has(host) {
+        list.push(host)?;
+    }
+    Ok(())
+}
+
+/// The name of a host; empty where there is no such host.
+fn name_of(names: &Names, host: HostId) -> &[u8]
+    ensures { result.now ≡ slice_index_or names.now host.0 [] }
+{
+    match names.as_slice().get(usize::from(host.0)) {
+        Some(name) => name.as_slice(),
+        None => &[],
+    }
+}
+
+/// Puts the names of these hosts at the end, each behind a space.
+fn push_names(text: &mut Bytes, names: &Names, list: &[HostId]) -> Result<(), AllocError>
+    ensures { OnOk result (text.new ≡ text.old ++ flat_map (name_field names.now) list.now) }
+{
+    for host in list {
+        push_name(text, names, *host)?;
+    }
+    Ok(())
+}
+
+/// Puts the name of a host at the end, behind a space.
+fn push_name(text: &mut Bytes, names: &Names, host: HostId) -> Result<(), AllocError>
+    ensures { OnOk result (text.new ≡ text.old ++ name_field names.now host) }
+{
+    text.push(b' ')?;
+    text.extend_from_slice(name_of(names, host))
+}
+
+/// Puts a number at the end, behind a space.
+fn push_number(text: &mut Bytes, number: u64) -> Result<(), AllocError>
+    ensures { OnOk result (text.new ≡ text.old ++ number_field number) }
+{
+    text.push(b' ')?;
+    text.extend_from_slice(Buffer::new().format(number).as_bytes())
+}

@@ -1,0 +1,250 @@
+//! One example: the words, the files, and how the objects fail.
+
+ghost use Rattle.std.specs.Prelude.{◌≡◌, [], IfOk};
+
+use crate::outside::{Waiting, Writing, net_of, push_bytes, spawner_of};
+use std::alloc::{AllocError, Global};
+use vd_base::{Bytes, Texts};
+use vd_items::Items;
+use vd_memory_children::MemSpawner;
+use vd_memory_net::MemNet;
+use vd_outside::{FilesCall, MemFiles, MemSink, Stored};
+
+/// The room of a stream in memory.
+const ROOM: usize = 262_144;
+
+/// The first word of a text, and what stands behind the blank behind it.
+fn parted(text: &str) -> (&str, &str) {
+    match text.split_once(" ") {
+        Some(both) => both,
+        None => (text, ""),
+    }
+}
+
+/// The number that a text is, 0 where it is none.
+fn number(text: &str) -> u32 {
+    text.parse().unwrap_or(0)
+}
+
+#[derive(Drop)]
+pub struct Example {
+    name: String,
+    words: Texts,
+    files: Items<Stored>,
+    links: Items<Waiting>,
+    children: Items<Writing>,
+    failing_files: Items<u64>,
+    failing_out: Items<u64>,
+    failing_err: Items<u64>,
+    failing_net: Items<u64>,
+    failing_spawner: Items<u64>,
+    most: u32,
+    /// Whether the example goes on with the files that the one before left.
+    keeps: bool,
+    /// Whether the contents of stored files are left out.
+    quiet: bool,
+}
+
+/// The objects of an example, in memory.
+#[derive(Drop)]
+pub struct Objects {
+    pub words: Texts,
+    pub files: MemFiles,
+    pub out: MemSink,
+    pub err: MemSink,
+    pub net: MemNet,
+    pub spawner: MemSpawner,
+}
+
+/// An example that is ready to be run.
+#[derive(Drop)]
+pub struct Prepared {
+    pub name: String,
+    /// Whether the contents of stored files are left out.
+    pub quiet: bool,
+    pub objects: Objects,
+}
+
+impl Example {
+    pub fn new(alloc: Global) -> Result<Example, AllocError> {
+        Ok(Example {
+            name: String::new(alloc),
+            words: Texts::new(alloc),
+            files: Items::new(alloc),
+            links: Items::new(alloc),
+            children: Items::new(alloc),
+            failing_files: Items::new(alloc),
+            failing_out: Items::new(alloc),
+            failing_err: Items::new(alloc),
+            failing_net: Items::new(alloc),
+            failing_spawner: Items::new(alloc),
+            most: 65_536,
+            keeps: false,
+            quiet: false,
+        })
+    }
+
+    /// Takes in a line, and says whether it is one.
+    pub fn read(&mut self, alloc: Global, line: &str) -> Result<bool, AllocError> {
+        if let Some(text) = line.strip_prefix("|") {
+            self.put(text, 1)?;
+            return self.put("\n", 1);
+        }
+        if let Some(text) = line.strip_prefix(">") {
+            return self.put(text, 1);
+        }
+        if let Some(rest) = line.strip_prefix("*") {
+            let (count, text) = parted(rest);
+            return self.put(text, number(count));
+        }
+        if let Some(text) = line.strip_prefix("<") {
+            return self.put_coming(text);
+        }
+        if let Some(text) = line.strip_prefix("-") {
+            return self.put_line(alloc, text);
+        }
+        let (word, rest) = parted(line);
+        self.set(alloc, word, rest)
+    }
+
+    /// Takes in a line that begins with a word.
+    fn set(&mut self, alloc: Global, word: &str, rest: &str) -> Result<bool, AllocError> {
+        match word {
+            "" => {}
+            "case" => self.name.push_str(rest)?,
+            "words" => self.add_words(rest)?,
+            "file" => self.files.push(Stored::copy_of(alloc, rest, b"")?)?,
+            "link" => self.add_link(alloc, rest)?,
+            "child" => self.children.push(Writing {
+                lines: Items::new(alloc),
+                status: number(rest),
+            })?,
+            "most" => self.most = number(rest).max(1),
+            "keep" => self.keeps = true,
+            "quiet" => self.quiet = true,
+            "fail" => return self.fail(rest),
+            _ => return Ok(false),
+        }
+        Ok(true)
+    }
+
+    /// Takes the words of the command line, which are parted by blanks.
+    fn add_words(&mut self, words: &str) -> Result<(), AllocError> {
+        for word in words.split(" ") {
+            if !word.is_empty() {
+                self.words.push(word)?;
+            }
+        }
+        Ok(())
+    }
+
+    /// Puts a piece at the end of the last file, so many times.
+    fn put(&mut self, text: &str, count: u32) -> Result<bool, AllocError> {
+        let Some(mut file) = self.files.pop() else {
+            return Ok(false);
+        };
+        for _ in 0..count {
+            file.content.extend_from_slice(text.as_bytes())?;
+        }
+        self.files.push(file)?;
+        Ok(true)
+    }
+
+    /// Begins a link that waits at an address.
+    fn add_link(&mut self, alloc: Global, address: &str) -> Result<(), AllocError> {
+        self.links.push(Waiting {
+            address: String::from_str(alloc, address)?,
+            coming: Bytes::new(alloc),
+            failing: Items::new(alloc),
+        })
+    }
+
+    /// Has bytes come on the last link.
+    fn put_coming(&mut self, text: &str) -> Result<bool, AllocError> {
+        let Some(mut link) = self.links.pop() else {
+            return Ok(false);
+        };
+        push_bytes(&mut link.coming, text)?;
+        self.links.push(link)?;
+        Ok(true)
+    }
+
+    /// Has the last child write a line.
+    fn put_line(&mut self, alloc: Global, text: &str) -> Result<bool, AllocError> {
+        let Some(mut child) = self.children.pop() else {
+            return Ok(false);
+        };
+        child
+            .lines
+            .push(Bytes::from_slice(alloc, text.as_bytes())?)?;
+        self.children.push(child)?;
+        Ok(true)
+    }
+
+    /// Has a call of the last link fail.
+    fn fail_link(&mut self, call: u64) -> Result<bool, AllocError> {
+        let Some(mut link) = self.links.pop() else {
+            return Ok(false);
+        };
+        link.failing.push(call)?;
+        self.links.push(link)?;
+        Ok(true)
+    }
+
+    /// Has a call fail: of the files, the output, the error stream, the net, the last link or the spawner.
+    fn fail(&mut self, rest: &str) -> Result<bool, AllocError> {
+        let (object, call) = parted(rest);
+        let call = u64::from(number(call));
+        match object {
+            "files" => self.failing_files.push(call)?,
+            "out" => self.failing_out.push(call)?,
+            "err" => self.failing_err.push(call)?,
+            "net" => self.failing_net.push(call)?,
+            "link" => return self.fail_link(call),
+            "spawner" => self.failing_spawner.push(call)?,
+            _ => return Ok(false),
+        }
+        Ok(true)
+    }
+
+    /// The words, and the objects over which they are run.
+    fn objects(self, alloc: Global) -> Result<Objects, AllocError>
+        ensures listeners { IfOk result (λ objects. objects.net.listeners ≡ []) }
+        ensures children { IfOk result (λ objects. objects.spawner.children ≡ []) }
+    {
+        let files = MemFiles::new(alloc, self.files, self.failing_files);
+        let out = MemSink::new(alloc, ROOM, self.most, self.failing_out)?;
+        let err = MemSink::new(alloc, ROOM, self.most, self.failing_err)?;
+        let failing_net = self.failing_net;
+        let failing_spawner = self.failing_spawner;
+        let net = net_of(alloc, self.links.as_slice(), self.most, failing_net)?;
+        let spawner = spawner_of(alloc, self.children.as_slice(), failing_spawner)?;
+        Ok(Objects {
+            words: self.words,
+            files,
+            out,
+            err,
+            net,
+            spawner,
+        })
+    }
+
+    /// Makes the example ready to be run. One that goes on with the files of the one before gets these.
+    pub fn prepared(self, alloc: Global, before: Items<Stored>) -> Result<Prepared, AllocError>
+        ensures listeners { IfOk result (λ prepared. prepared.objects.net.listeners ≡ []) }
+        ensures children { IfOk result (λ prepared. prepared.objects.spawner.children ≡ []) }
+    {
+        let mut example = self;
+        if example.keeps {
+            example.files.append(before)?;
+        }
+        let name = example.name.clone()?;
+        let quiet = example.quiet;
+        let objects = example.objects(alloc)?;
+        Ok(Prepared {
+            name,
+            quiet,
+            objects,
+        })
+    }
+}

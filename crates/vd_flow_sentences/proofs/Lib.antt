@@ -1,0 +1,4 @@
+pub mod Walks
+pub mod Asked
+pub mod Solutions
+pub mod Refused

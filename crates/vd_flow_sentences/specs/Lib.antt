@@ -1,0 +1,4 @@
+pub mod Origins
+pub mod Phrases
+pub mod FlowSentences
+pub mod Flow

@@ -1,0 +1,56 @@
+//! The remark on a program that has no labelling.
+
+ghost use Rattle.std.specs.Prelude.{◌≡◌, IfOk};
+ghost use Rattle.vd_constraints.specs.Outcomes.{HasNoLabelling};
+ghost use Rattle.vd_constraints.specs.Rules.{system_of};
+ghost use Rattle.vd_flow_sentences.specs.Flow.{IsFlowRemark, SaysOfFlow};
+
+use crate::asking::origins;
+use crate::least::rules_solution;
+use crate::sentences::flow_sentence;
+use std::alloc::Global;
+use vd_constraints::{System, constraints};
+use vd_core::Program;
+use vd_remarks::{Remark, TellFault};
+use vd_solver::{SolveFault, solve};
+
+/// The remark on the first check of a program that fails at the least solution of its rules, if one does.
+///
+/// It stands at the statement of the check, and says which host or written label may not read, or does not answer for, what,
+/// and with which words the source would be another.
+pub fn flow_remark(alloc: Global, program: &Program) -> Result<Option<Remark>, TellFault>
+    ensures { IfOk result (SaysOfFlow program.now) }
+{
+    let system = constraints(alloc, program)?;
+    match solve(alloc, &system) {
+        Ok(_labels) => Ok(None),
+        Err(SolveFault::Flow(number)) => {
+            let remark = remark_on(alloc, program, &system, number)?;
+            Ok(Some(remark))
+        }
+        Err(SolveFault::Memory) => Err(TellFault::Memory),
+    }
+}
+
+/// The remark on the check with this number, for which the program has no labelling.
+fn remark_on(
+    alloc: Global,
+    program: &Program,
+    system: &System,
+    number: u32,
+) -> Result<Remark, TellFault>
+    requires system { system.now ≡ system_of program.now }
+    requires refused { HasNoLabelling system.now number }
+    ensures { IfOk result (IsFlowRemark program.now number) }
+{
+    let least = rules_solution(alloc, system)?;
+    let askers = origins(alloc, program)?;
+    let failing = system.checks()[number as usize];
+    let asker = askers.as_slice()[number as usize];
+    let asked = least.part(failing.part);
+    let sentence = flow_sentence(alloc, program.form(), asker, &failing.constant, &asked)?;
+    Ok(Remark {
+        offset: Some(failing.offset),
+        sentence,
+    })
+}

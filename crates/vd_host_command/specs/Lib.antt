@@ -1,0 +1,4 @@
+pub mod Hosts
+pub mod Laws
+pub mod Loading
+pub mod Statuses

@@ -1,0 +1,10 @@
+//! The command `host`: one host of a program runs over a net, from its files.
+#![tactic(auto)]
+
+mod host_command;
+mod laws;
+mod loading;
+mod statuses;
+
+pub use host_command::host;
+pub use laws::{hosts_ask_in_order, links_come_back, statuses_have_causes};

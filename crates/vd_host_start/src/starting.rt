@@ -1,0 +1,53 @@
+//! A host at its start.
+
+ghost use Rattle.std.specs.Prelude.{◌≡◌, ◌+◌, ℕ, List, Ok, IfOk, length};
+ghost use Rattle.vd_host_start.specs.Starts.{CanPlay, Starts};
+ghost use Rattle.vd_hostcode.specs.Outcome.{CanRun, IsHeaded, IsOutcome};
+ghost use Rattle.vd_tape.specs.Text.{IsDealOf};
+
+use std::alloc::{AllocError, Global};
+use vd_base::{Text, Words};
+use vd_deals::Deal;
+use vd_host_text::HostProgram;
+use vd_hosting::Task;
+use vd_items::Items;
+use vd_machine::Machine;
+
+/// A host that is ready to be run: what it is told of itself and its peers, and its machine.
+#[derive(Drop)]
+pub struct Ready {
+    pub task: Task,
+    pub machine: Machine,
+}
+
+/// The host of a program that was read, with its inputs, its deal and the addresses of its pairs in the order of its peers.
+pub fn start(
+    alloc: Global,
+    program: HostProgram,
+    inputs: Words,
+    deal: Deal,
+    addresses: Items<Text>,
+) -> Result<Ready, AllocError>
+    requires read { (bytes : List ℕ) × IsOutcome bytes (Ok program) }
+    requires heading { IsHeaded program }
+    requires code { CanRun program }
+    requires deal { IsDealOf (length program.hosts) program.me.0 deal }
+    requires addresses { length addresses + 1 ≡ length program.hosts }
+    ensures starts { IfOk result (Starts program inputs deal addresses) }
+    ensures ready { IfOk result CanPlay }
+{
+    let HostProgram {
+        hosts: _,
+        me,
+        plan,
+        code,
+    } = program;
+    let machine = Machine::load(alloc, code, inputs, deal)?;
+    let plan = plan.bytes;
+    let task = Task {
+        me,
+        plan,
+        addresses,
+    };
+    Ok(Ready { task, machine })
+}

@@ -1,0 +1,9 @@
+pub mod Items
+pub mod Points
+pub mod Kept
+pub mod Terms
+pub mod Valued
+pub mod Shifted
+pub mod Summed
+pub mod Bounded
+pub mod Few

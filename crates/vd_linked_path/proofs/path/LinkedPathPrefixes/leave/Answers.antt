@@ -1,0 +1,42 @@
+use Rattle.std.proofs.Common.{◌-◌, ◌<◌, ◌≤◌, length, take, get_or, ap, ◌∙◌, arith}
+use Rattle.std.proofs.lemmas.List.{length-take-le}
+use Rattle.vd_path.proofs.Paths.{front_of}
+use Rattle.vd_path.proofs.Placed.{size_by_place}
+use Rattle.vd_linked.specs.Points.{decided}
+use Rattle.vd_linked_path.specs.States.{count_of_points, states_of}
+use Rattle.vd_linked_path.proofs.Steps.{last_of, left}
+use Rattle.vd_linked_path.proofs.path.LinkedPathPrefixes.leave.Goals as goal
+
+pub decide-requires-clause-room : goal.decide-requires-clause-room
+decide-requires-clause-room c =
+    let p = c.args.self.now in
+    ap length p.kept.states ∙ size_by_place (count_of_points p.problem.now) (decided p.problem.now (take p.depth p.room))
+
+pub invariant_of-self : goal.invariant_of-self
+invariant_of-self c =
+    let p = c.args.self.now in
+    let problem = p.problem.now in
+    let size = p.kept.room in
+    let deep = p.kept.depth in
+    let within : p.depth ≤ length p.room = omega (arith, size, deep) in
+    let taken = length-take-le p.depth p.room within in
+    let some : 0 < p.depth = omega (arith, taken, c.requires) in
+    record {
+      holds = p.holds;
+      tabled = p.tabled;
+      linkable = p.linkable;
+      plain = p.plain;
+      same_tree = c.leave.ensures.tree ∙ p.same_tree;
+      same_prefix = c.leave.ensures.path (take (p.depth - 1) p.room) (get_or p.room (p.depth - 1) 0) (p.same_prefix ∙ last_of p.room p.depth some within);
+      kept = left problem p.room p.states c.decide.new.states p.depth p.kept (c.decide.ensures ∙ ap (λ room. states_of problem (take (p.depth - 1) room)) c.as_slice-3.ensures);
+    }
+
+pub returns-clause-path : goal.returns-clause-path
+returns-clause-path c = λ front last is.
+    let p = c.args.self.now in
+    let size = p.kept.room in
+    let deep = p.kept.depth in
+    let within : p.depth ≤ length p.room = omega (arith, size, deep) in
+    let taken = length-take-le p.depth p.room within in
+    let some : 0 < p.depth = omega (arith, taken, c.requires) in
+    front_of p.room front last p.depth some within is

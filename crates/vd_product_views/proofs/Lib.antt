@@ -1,0 +1,4 @@
+pub mod Calls
+pub mod Product
+pub mod Deals
+pub mod Numbers

@@ -1,0 +1,4 @@
+pub mod Parts
+pub mod Remarks
+pub mod Files
+pub mod Usage

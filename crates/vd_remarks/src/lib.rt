@@ -1,0 +1,22 @@
+//! What is said of a file and how it is printed: remarks, the parts of sentences, and the sentences on files and words that
+//! need nothing of a source.
+#![tactic(auto)]
+
+mod fault;
+mod files;
+mod parts;
+mod remark;
+mod tables;
+mod telling;
+mod usage;
+
+pub use fault::TellFault;
+pub use files::{
+    certificate_sentence, deal_sentence, host_sentence, inputs_sentence, no_assignment_sentence,
+    program_sentence, schedule_sentence, spent_sentence,
+};
+pub use parts::{three, word_at};
+pub use remark::Remark;
+pub use tables::in_table;
+pub use telling::tell;
+pub use usage::usage_of;

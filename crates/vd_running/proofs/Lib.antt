@@ -1,0 +1,6 @@
+mod Lists
+mod Ways
+mod Causes
+mod Reports
+mod Completes
+mod Holding

@@ -1,0 +1,21 @@
+//! The command `run`: all hosts of a source on one machine. The source is compiled, the files of its hosts are stored, the
+//! hosts are run as children, and what they printed is reported.
+#![tactic(auto)]
+
+mod commands;
+mod compiled;
+mod compiling;
+mod fault;
+mod laws;
+mod report;
+mod run_command;
+mod running;
+mod statuses;
+
+pub use commands::command_lines;
+pub use compiled::Compiled;
+pub use fault::RunFault;
+pub use laws::{ended_runs_report, runs_are_complete, runs_ask_in_order, statuses_have_causes};
+pub use report::ended_text;
+pub use run_command::run;
+pub use running::run_hosts;

@@ -1,0 +1,52 @@
+-- The commands that run hosts: `host` runs one over a net, and `run` runs all of a source as children.
+use Rattle.std.specs.Prelude.{ℕ, Bool, true, false, List, Option, Some}
+use Rattle.vd_outside.specs.Files.{FilesView}
+use Rattle.vd_outside.specs.Net.{NetView}
+use Rattle.vd_outside.specs.Sink.{SinkView}
+use Rattle.vd_outside.specs.Spawner.{SpawnerView}
+use Rattle.vd_cmd.specs.Commands.{form_of}
+use Rattle.vd_cmd.specs.declared.command.Command.{Command}
+use Rattle.vd_cmd.specs.declared.command.Command.TheVariants.{Host, Run}
+use Rattle.vd_plan.specs.declared.status.Status.{Status}
+use Rattle.vd_host_command.specs.Hosts.{HostRuns}
+use Rattle.vd_running.specs.Running.{Runs}
+use Rattle.vd_running.specs.RunsHosts.{outside}
+
+-- ---- which commands use what
+
+abbrev pub speaks_by : Option Command → Bool
+speaks_by (Some (Host words)) = true
+speaks_by other = false
+
+abbrev pub spawns_by : Option Command → Bool
+spawns_by (Some (Run words)) = true
+spawns_by other = false
+
+-- whether the words are those of the command that uses the net
+abbrev pub speaks : List (List ℕ) → Bool
+speaks words = speaks_by (form_of words)
+
+-- whether they are those of the command that uses the spawner
+abbrev pub spawns : List (List ℕ) → Bool
+spawns words = spawns_by (form_of words)
+
+-- ---- what they do
+
+-- The files of the host are fetched and read, and it is run over the net: it listens for its later peers, says so, gets the link
+-- to each peer and greets it, takes the steps of its machine on the words that come, and says that it ended. Each link that was
+-- given comes back, in the order of the hosts, whatever the status is.
+abbrev pub PlaysForm : Option Command → FilesView → FilesView → NetView → NetView → SinkView → SinkView → Status → Type 0
+PlaysForm (Some (Host words)) files files_now net net_now out out_now status = HostRuns words files files_now net net_now out out_now status
+PlaysForm other files files_now net net_now out out_now status = Unit {0}
+
+abbrev pub PlaysWords : List (List ℕ) → FilesView → FilesView → NetView → NetView → SinkView → SinkView → Status → Type 0
+PlaysWords words files files_now net net_now out out_now status = PlaysForm (form_of words) files files_now net net_now out out_now status
+
+-- The source is compiled as `compile` does, the files of its hosts are stored, and a child is started for each host, in order;
+-- each is read to its end and finished, in order; and a line is written for each.
+abbrev pub SpawnsForm : Option Command → FilesView → FilesView → SinkView → SinkView → SpawnerView → SpawnerView → Status → Type 0
+SpawnsForm (Some (Run words)) files files_now out out_now spawner spawner_now status = Runs words (outside files out spawner) (outside files_now out_now spawner_now) status
+SpawnsForm other files files_now out out_now spawner spawner_now status = Unit {0}
+
+abbrev pub SpawnsWords : List (List ℕ) → FilesView → FilesView → SinkView → SinkView → SpawnerView → SpawnerView → Status → Type 0
+SpawnsWords words files files_now out out_now spawner spawner_now status = SpawnsForm (form_of words) files files_now out out_now spawner spawner_now status

@@ -1,0 +1,7 @@
+//! The command `trial`: a generated source is run by all its hosts in one process, on inputs and a deal of its own.
+#![tactic(auto)]
+
+mod asking;
+mod trial_command;
+
+pub use trial_command::trial;

@@ -1,0 +1,142 @@
+//! The command `trial`.
+
+ghost use Rattle.std.specs.Prelude.{◌≡◌, ◌++◌, ◌≤◌, [], Some, length, IfOk};
+ghost use Rattle.vd_deals.specs.Validity.{IsConsistent};
+ghost use Rattle.vd_gen.specs.Sizes.{most_coordinates};
+ghost use Rattle.vd_meaning.specs.ProgramMeaning.{program_outputs};
+ghost use Rattle.vd_plan.specs.Plans.{Computes, ended};
+ghost use Rattle.vd_report.specs.ChoiceLines.{cost_line};
+ghost use Rattle.vd_search.specs.Answers.{nat_or_zero};
+ghost use Rattle.vd_space.specs.Costs.{cost};
+ghost use Rattle.vd_selection.specs.Choices.{IsChosen};
+ghost use Rattle.vd_selecting.specs.Problems.{IsProblemOf};
+ghost use Rattle.vd_asking.specs.Asking.{AreAsked};
+ghost use Rattle.vd_trial.specs.Telling.{IsRun, TellsOf, TellsProgram, TellsSource, TellsTrial};
+ghost use Rattle.vd_trial.specs.Trial.{ExecutesProblem, ExecutesProgram, ExecutesSource, ExecutesTrial, headed_by, trial_text};
+
+use crate::asking::asked_for;
+use itoa::Buffer;
+use std::alloc::{AllocError, Global};
+use vd_asking::Asked;
+use vd_base::Bytes;
+use vd_base::limits::SEARCH_BUDGET;
+use vd_compiling::no_assignment;
+use vd_core::Program;
+use vd_elaborate::elaborate;
+use vd_frontend::{read_source, resolve_source};
+use vd_gen::generate;
+use vd_plan::{Answer, Status};
+use vd_replaying::replay_at;
+use vd_resolve::Resolved;
+use vd_selecting::least_space;
+use vd_selection::{SelectFault, Selection, select};
+use vd_spaces::Space;
+
+/// The line of a cost.
+fn cost_line(alloc: Global, cost: u32) -> Result<Bytes, AllocError>
+    ensures { IfOk result (λ text. text ≡ cost_line cost) }
+{
+    let mut text = Bytes::new(alloc);
+    text.extend_from_slice(b"cost ")?;
+    text.extend_from_slice(Buffer::new().format(cost).as_bytes())?;
+    text.extend_from_slice(b"\n")?;
+    Ok(text)
+}
+
+/// An answer, with the line of a cost before what it prints.
+fn headed_by(alloc: Global, cost: u32, answer: Answer) -> Result<Answer, AllocError>
+    ensures { IfOk result (λ headed. headed ≡ headed_by cost answer) }
+{
+    let Answer {
+        status,
+        stores,
+        printed: report,
+    } = answer;
+    let mut printed = cost_line(alloc, cost)?;
+    printed.extend_from_slice(report.as_slice())?;
+    Ok(Answer {
+        status,
+        stores,
+        printed,
+    })
+}
+
+/// Runs a program at a list of protocols of this cost, and prints the cost and the report.
+fn trial_at(
+    alloc: Global,
+    program: &Program,
+    space: &Space,
+    places: &[u32],
+    least: u32,
+    asked: Asked,
+) -> Result<Answer, Status>
+    requires problem { IsProblemOf program.now space.now }
+    requires chosen { IsChosen space.now (Some places.now) }
+    requires least { nat_or_zero (cost space.now places.now) ≡ least }
+    requires asked { AreAsked (length program.now.hosts) asked }
+    requires consistent { IsConsistent asked.deals }
+    ensures computes { Computes (ended [] (trial_text program.now places.now least asked)) result }
+    ensures tells { TellsOf program.now asked result }
+{
+    let report = replay_at(alloc, program, places, asked)?;
+    Ok(headed_by(alloc, least, report)?)
+}
+
+/// What `trial` does with the space of a program.
+fn trial_space(
+    alloc: Global,
+    program: &Program,
+    space: &Space,
+    asked: Asked,
+) -> Result<Answer, Status>
+    requires problem { IsProblemOf program.now space.now }
+    requires asked { AreAsked (length program.now.hosts) asked }
+    requires consistent { IsConsistent asked.deals }
+    ensures executes { ExecutesProblem program.now space.now asked result }
+    ensures tells { TellsOf program.now asked result }
+{
+    match select(alloc, space.problem(), SEARCH_BUDGET) {
+        Ok(Selection::Found(places, cost, _)) => {
+            trial_at(alloc, program, space, places.as_slice(), cost, asked)
+        }
+        Ok(Selection::NoAssignment(_)) => Ok(no_assignment(alloc)),
+        Err(SelectFault::Spent) => Err(Status::Spent(SEARCH_BUDGET)),
+        Err(SelectFault::Memory) => Err(Status::Memory),
+    }
+}
+
+/// What `trial` does with a program.
+fn trial_program(alloc: Global, program: &Program, coordinates: u32) -> Result<Answer, Status>
+    requires { coordinates ≤ most_coordinates }
+    ensures executes { ExecutesProgram coordinates program.now result }
+    ensures tells { TellsProgram coordinates program.now result }
+{
+    let asked = asked_for(alloc, program.form().hosts.as_slice(), coordinates)?;
+    let space = least_space(alloc, program)?;
+    trial_space(alloc, program, &space, asked)
+}
+
+/// What `trial` does with a source that meets every rule.
+fn trial_source(alloc: Global, source: &Resolved, coordinates: u32) -> Result<Answer, Status>
+    requires { coordinates ≤ most_coordinates }
+    ensures executes { ExecutesSource coordinates source.now result }
+    ensures tells { TellsSource coordinates source.now result }
+{
+    let program = elaborate(alloc, source)?;
+    trial_program(alloc, &program, coordinates)
+}
+
+/// The command `trial`: the generated source for points with so many coordinates is run by all its hosts in one process, each
+/// step in turn until none can step. The first host's inputs are the numbers from 0 on, and all others are 0; the deal is
+/// made for them. It prints the cost of the choice of protocols and how each host stands, and uses no files.
+pub fn trial(alloc: Global, coordinates: u32) -> Result<Answer, Status>
+    requires some { 1 ≤ coordinates }
+    requires most { coordinates ≤ most_coordinates }
+    ensures executes { ExecutesTrial coordinates result }
+    ensures tells { TellsTrial coordinates result }
+{
+    let text = generate(alloc, coordinates)?;
+    let tree = read_source(alloc, text.as_slice())?;
+    let source = resolve_source(alloc, tree)?;
+    trial_source(alloc, &source, coordinates)
+}

@@ -1,0 +1,80 @@
+-- From the start of both runs.
+use Rattle.std.proofs.Common.{◌≡◌, ◌≢◌, ℕ, zero, suc, ◌<◌, ◌^◌, [], ◌∷◌, length, refl, sym, ◌∙◌, lit<}
+use mathlib.Core.Path.{fun_ext}
+use Rattle.vd_execution.specs.Registers.{nth}
+use Rattle.vd_execution.specs.Step.{Source, Inputs, OwnWords, Triples, BitTriples, Pairs}
+use Rattle.vd_execution.specs.World.{Tape, zeros_of}
+use Rattle.vd_execution.specs.Deals.{IsValidDeal, IsWord}
+use Rattle.vd_execution.specs.Joint.{fresh}
+use Rattle.vd_execution.specs.Gadgets.{Gadget, IsSound}
+use Rattle.vd_execution.specs.Plans.{Plan}
+use Rattle.vd_views.specs.Contract.{InputWords, with_inputs, CanBeExcused, HasExplanation}
+use Rattle.vd_views.proofs.Plans.{views_agree}
+
+pub fresh_sound : IsSound fresh
+fresh_sound = record { words = λ g r. lit< tt; triples = λ g q. refl; bit_triples = λ g q. refl; pairs = λ g q. refl }
+
+module _ (h : ℕ) (plan : Plan Gadget) (t : Tape) (second : InputWords) (can : CanBeExcused h plan t second) where
+  abbrev deal : IsValidDeal t
+  deal = can.deal
+
+  abbrev u : Tape
+  u = with_inputs t second
+
+  one_word : (x place : ℕ) → x < 2 ^ 32 → IsWord (nth (x ∷ []) place)
+  one_word x zero p = p
+  one_word x (suc n) p = lit< tt
+
+  all_words : (g : ℕ) (s : Source) (i place : ℕ) → IsWord (nth (with_inputs t second g s i) place)
+  all_words g Inputs i place = one_word (second g i) place (can.words g i)
+  all_words g OwnWords i place = deal.words g OwnWords i place
+  all_words g (Triples p) i place = deal.words g (Triples p) i place
+  all_words g (BitTriples p) i place = deal.words g (BitTriples p) i place
+  all_words g (Pairs p) i place = deal.words g (Pairs p) i place
+
+  all_whole : (g : ℕ) (s : Source) (i : ℕ) → length (with_inputs t second g s i) ≡ length (zeros_of s)
+  all_whole g Inputs i = refl
+  all_whole g OwnWords i = deal.lengths g OwnWords i
+  all_whole g (Triples p) i = deal.lengths g (Triples p) i
+  all_whole g (BitTriples p) i = deal.lengths g (BitTriples p) i
+  all_whole g (Pairs p) i = deal.lengths g (Pairs p) i
+
+  same_but : (g : ℕ) (s : Source) (i : ℕ) → s ≢ Inputs → with_inputs t second g s i ≡ t g s i
+  same_but g Inputs i n = absurd (n refl)
+  same_but g OwnWords i n = refl
+  same_but g (Triples p) i n = refl
+  same_but g (BitTriples p) i n = refl
+  same_but g (Pairs p) i n = refl
+
+  own_part : (s : Source) (i : ℕ) → t h s i ≡ with_inputs t second h s i
+  own_part Inputs i = can.inputs i
+  own_part OwnWords i = refl
+  own_part (Triples p) i = refl
+  own_part (BitTriples p) i = refl
+  own_part (Pairs p) i = refl
+
+  pub explained : HasExplanation h plan t second
+  explained =
+      let same : t h ≡ with_inputs t second h = fun_ext (λ s. fun_ext (λ i. own_part s i)) in
+      let valid : IsValidDeal (with_inputs t second) =
+      record { lengths = all_whole; words = all_words; triples = deal.triples; bit_triples = deal.bit_triples; pairs = deal.pairs } in
+      let e = views_agree h t (with_inputs t second) plan can.tidy fresh fresh (record {
+        sound = record { first_deal = deal; second_deal = valid; first = fresh_sound; second = fresh_sound };
+        start = record { part = same; looks = record { itself = refl; told = λ g. refl } };
+        smooth = can.smooth;
+        smooth_too = can.smooth_too;
+        chooses = can.chooses;
+        knows = can.knows;
+      }) in (
+        e.0,
+        record {
+          deal = e.1.another.deal;
+          inputs = λ g i. e.1.another.inputs g i;
+          part = e.1.another.part ∙ sym same;
+          own_words = λ g i. e.1.another.own_words g i;
+          past = λ g s i n l. e.1.past g s i l ∙ same_but g s i n;
+          chooses = can.chooses e.0 e.1.another;
+          hides = e.1.hides;
+          view = e.1.view;
+        },
+      )

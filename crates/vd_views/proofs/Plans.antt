@@ -1,0 +1,368 @@
+-- For every second run of a plan there is a deal by which it hides alike.
+use Rattle.std.proofs.Common.{◌≡◌, ℕ, zero, suc, ◌≤◌, ◌+◌, ◌<◌, ◌^◌, Bool, true, false, if◌then◌else◌, List, [], ◌∷◌, ◌⊎◌, inl, inr, refl, sym, ap, subst, ◌∙◌, arith}
+use Rattle.vd_execution.specs.declared.instructions.Act.{Act}
+use Rattle.vd_execution.specs.declared.instructions.Act.TheVariants as act
+use Rattle.vd_execution.specs.Registers.{put}
+use Rattle.vd_execution.specs.Step.{Source, Triples, BitTriples, Pairs}
+use Rattle.vd_execution.specs.World.{Tape}
+use Rattle.vd_execution.specs.Deals.{IsValidDeal}
+use Rattle.vd_execution.specs.Joint.{Part, TakesPart, Joint, Host, Hosts, is_other, turn_begun, turns, joint, If, For, Done, AllTurns, IsTidy, IsSmooth}
+use Rattle.vd_execution.specs.Acts.{do_then, run_act, run_acts}
+use Rattle.vd_schedules.proofs.ActsFirst.{runs_first}
+use Rattle.vd_schedules.proofs.Parts.{part_keeps}
+use Rattle.vd_schedules.proofs.Sound.{put_words}
+use Rattle.vd_schedules.proofs.Gadgets.{gadget_sound, plan_sound, plan_tidy}
+use Rattle.vd_views.specs.Views.{LooksAlike, BothTurns, TellsAlike, ActsTellAlike}
+use Rattle.vd_execution.specs.Gadgets.{Gadget, acts_of_gadget, IsSound}
+use Rattle.vd_execution.specs.Plans.{Plan, Ends, Then, Branch, Loop, joint_of, PlanIsTidy}
+use Rattle.vd_schedules.specs.Claims.{KeepsSound}
+use Rattle.vd_views.specs.Hiding.{GadgetHides, TakenAlike, IsAnotherDeal}
+use Rattle.vd_views.specs.Plans.{run_branch, run_turn, PlanHides, PlanKnows, PlanChooses}
+use Rattle.vd_views.specs.Claims.{AllowsExcuse, HasViewExcuse}
+use Rattle.vd_views.proofs.Blocks.{takes_or_not, tells_first, told_the_same, same_branch, begun_alike}
+use Rattle.vd_views.proofs.Hiding.{gadget_tells, gadget_alike, gadget_back}
+use Rattle.vd_views.proofs.Frames.{acts_grow, acts_frame}
+use Rattle.vd_views.proofs.Joints.{Grows, HasFrame, before, grows_after, begun_grows, turns_grow, branch_grows, joint_grows, frame_after, turns_frame, branch_frame, joint_frame}
+use Rattle.vd_views.proofs.Excuse.{GadgetExcuse, another_itself, gadget_excuse}
+
+-- ---- what hides and says alike tells alike
+
+-- what is left after acts in a row
+tidy_rest : (acts : List Act) (j : Joint) → IsTidy (do_then acts j) → IsTidy j
+tidy_rest [] j a = a
+tidy_rest (act.Do h x ∷ acts) j a = tidy_rest acts j a
+tidy_rest (act.Msg x said y heard ∷ acts) j a = tidy_rest acts j a.1.1
+
+smooth_rest : (t : Tape) (acts : List Act) (j : Joint) (w : Hosts) → IsSmooth t (do_then acts j) w → IsSmooth t j (run_acts t acts w)
+smooth_rest t [] j w a = a
+smooth_rest t (act.Do h x ∷ acts) j w a = smooth_rest t acts j (run_act t (act.Do h x) w) a.1
+smooth_rest t (act.Msg p said q heard ∷ acts) j w a = smooth_rest t acts j (run_act t (act.Msg p said q heard) w) a
+
+-- a turn that is begun takes nothing, and keeps states sound
+pub begun_cursors : (ps : List Part) (i : ℕ) (w : Hosts) (g : ℕ) (s : Source) → (turn_begun ps i w g).cursors s ≡ (w g).cursors s
+begun_cursors ps i w g s = part_keeps (λ (x : Host). x.cursors s ≡ (w g).cursors s) ps g (λ c. record (w g) { registers = put (w g).registers c i }) (w g) (λ r. refl) refl
+
+begun_sound : (ps : List Part) (i : ℕ) → i < 2 ^ 32 → (w : Hosts) → IsSound w → IsSound (turn_begun ps i w)
+begun_sound ps i small w sound = record {
+  words = λ g r. part_keeps (λ (x : Host). x.registers r < 2 ^ 32) ps g (λ c. record (w g) { registers = put (w g).registers c i }) (w g)
+      (λ c. put_words (w g).registers c i (sound.words g) small r) (sound.words g r);
+  triples = λ g q. begun_cursors ps i w g (Triples q) ∙ sound.triples g q ∙ sym (begun_cursors ps i w q (Triples g));
+  bit_triples = λ g q. begun_cursors ps i w g (BitTriples q) ∙ sound.bit_triples g q ∙ sym (begun_cursors ps i w q (BitTriples g));
+  pairs = λ g q. begun_cursors ps i w g (Pairs q) ∙ sound.pairs g q ∙ sym (begun_cursors ps i w q (Pairs g));
+}
+
+-- so does a turn
+abbrev pub TurnsKeepSound : List Part → ℕ → Plan Gadget → Type 0
+TurnsKeepSound ps count body = (i : ℕ) → i < count → KeepsSound (λ t w. turn_begun ps i w) × KeepsSound (λ t w. run_turn ps body t i w)
+
+turn_sound : (ps : List Part) (count : ℕ) (body : Plan Gadget) → PlanIsTidy body → count ≤ 2 ^ 32 → TurnsKeepSound ps count body
+turn_sound ps count body tidy few i less =
+    let small : i < 2 ^ 32 = omega (arith, few, less) in (
+      (λ t dt w sw. begun_sound ps i small w sw),
+      (λ t dt w sw. plan_sound t dt body tidy (turn_begun ps i w) (begun_sound ps i small w sw)),
+    )
+
+-- and a branch, and a loop
+branch_sound : (ps : List Part) (first other rest : Plan Gadget) → PlanIsTidy (Branch ps first other rest) → KeepsSound (run_branch ps first other)
+branch_sound ps first other rest tidy t dt w sw = plan_sound t dt (Branch ps first other Ends) (tidy.0, (tidy.1.0, (tidy.1.1.0, tt))) w sw
+
+loop_sound : (ps : List Part) (count : ℕ) (body rest : Plan Gadget) → PlanIsTidy (Loop ps count body rest) → KeepsSound (λ t w. turns (run_turn ps body t) count 0 w)
+loop_sound ps count body rest tidy t dt w sw = plan_sound t dt (Loop ps count body Ends) (tidy.0, (tidy.1.0, (tidy.1.1.0, tt))) w sw
+
+-- after a branch, and after a loop, h looks alike
+after_branch : (h : ℕ) (t u : Tape) → t h ≡ u h → (ps : List Part) (first other rest : Plan Gadget) → IsTidy (joint_of (Branch ps first other rest)) → (w v : Hosts)
+    → IsSmooth t (joint_of (Branch ps first other rest)) w → IsSmooth u (joint_of (Branch ps first other rest)) v → LooksAlike h w v
+    → (TakesPart ps h → (is_other ps w ≡ true → TellsAlike h t u (joint_of other) w v) × (is_other ps w ≡ false → TellsAlike h t u (joint_of first) w v))
+    → LooksAlike h (run_branch ps first other t w) (run_branch ps first other u v)
+after_branch h t u same ps first other rest trim w v sw sv l tells =
+    told_the_same h t u same (If ps (joint_of first) (joint_of other) Done) (trim.0, (trim.1.0, (trim.1.1.0, tt))) w v (sw.0, (sw.1.0, tt)) (sv.0, (sv.1.0, tt)) l (tells, tt)
+
+after_loop : (h : ℕ) (t u : Tape) → t h ≡ u h → (ps : List Part) (count : ℕ) (body rest : Plan Gadget) → IsTidy (joint_of (Loop ps count body rest)) → (w v : Hosts)
+    → IsSmooth t (joint_of (Loop ps count body rest)) w → IsSmooth u (joint_of (Loop ps count body rest)) v → LooksAlike h w v
+    → (TakesPart ps h → BothTurns (λ i x y. TellsAlike h t u (joint_of body) (turn_begun ps i x) (turn_begun ps i y)) (run_turn ps body t) (run_turn ps body u) count 0 w v)
+    → LooksAlike h (turns (run_turn ps body t) count 0 w) (turns (run_turn ps body u) count 0 v)
+after_loop h t u same ps count body rest trim w v sw sv l tells =
+    told_the_same h t u same (For ps count (joint_of body) Done) (trim.0, (trim.1.0, tt)) w v (sw.0, tt) (sv.0, tt) l (tells, tt)
+
+turns_tell : (h : ℕ) (t u : Tape) → IsValidDeal t → IsValidDeal u → t h ≡ u h → (ps : List Part) (count : ℕ) (body : Plan Gadget) → IsTidy (joint_of body)
+    → ((w v : Hosts) → IsSound w → IsSound v → LooksAlike h w v → IsSmooth t (joint_of body) w → IsSmooth u (joint_of body) v → PlanHides h t u body w v → PlanKnows h t u body w v → TellsAlike h t u (joint_of body) w v)
+    → TurnsKeepSound ps count body
+    → (n i : ℕ) → i + n ≡ count → (w v : Hosts) → IsSound w → IsSound v → LooksAlike h w v
+    → AllTurns (λ i x. IsSmooth t (joint_of body) (turn_begun ps i x)) (run_turn ps body t) n i w → AllTurns (λ i x. IsSmooth u (joint_of body) (turn_begun ps i x)) (run_turn ps body u) n i v
+    → BothTurns (λ i x y. PlanHides h t u body (turn_begun ps i x) (turn_begun ps i y)) (run_turn ps body t) (run_turn ps body u) n i w v
+    → BothTurns (λ i x y. PlanKnows h t u body (turn_begun ps i x) (turn_begun ps i y)) (run_turn ps body t) (run_turn ps body u) n i w v
+    → BothTurns (λ i x y. TellsAlike h t u (joint_of body) (turn_begun ps i x) (turn_begun ps i y)) (run_turn ps body t) (run_turn ps body u) n i w v
+turns_tell h t u dt du same ps count body trim ih keep zero i e w v sw sv l mw mv a b = tt
+turns_tell h t u dt du same ps count body trim ih keep (suc n) i e w v sw sv l mw mv a b =
+    let less : i < count = omega arith in
+    let begun : LooksAlike h (turn_begun ps i w) (turn_begun ps i v) = begun_alike h ps i w v l in
+    let one : TellsAlike h t u (joint_of body) (turn_begun ps i w) (turn_begun ps i v) =
+    ih (turn_begun ps i w) (turn_begun ps i v) ((keep i less).0 t dt w sw) ((keep i less).0 u du v sv) begun mw.0 mv.0 a.0 b.0 in (
+      one,
+      turns_tell h t u dt du same ps count body trim ih keep n (suc i) (omega arith) (run_turn ps body t i w) (run_turn ps body u i v)
+          ((keep i less).1 t dt w sw) ((keep i less).1 u du v sv) (told_the_same h t u same (joint_of body) trim (turn_begun ps i w) (turn_begun ps i v) mw.0 mv.0 begun one) mw.1 mv.1 a.1 b.1,
+    )
+
+pub plan_tells : (h : ℕ) (t u : Tape) → IsValidDeal t → IsValidDeal u → t h ≡ u h → (plan : Plan Gadget) → PlanIsTidy plan
+    → (w v : Hosts) → IsSound w → IsSound v → LooksAlike h w v → IsSmooth t (joint_of plan) w → IsSmooth u (joint_of plan) v → PlanHides h t u plan w v → PlanKnows h t u plan w v → TellsAlike h t u (joint_of plan) w v
+plan_tells h t u dt du same Ends tidy w v sw sv l mw mv a b = tt
+plan_tells h t u dt du same (Then g rest) tidy w v sw sv l mw mv a b =
+    let one : ActsTellAlike h t u (acts_of_gadget g) w v = gadget_tells h t u g w v tidy.0 sw sv l a.0 b.0 in
+    tells_first h t u (acts_of_gadget g) (joint_of rest) w v one
+    (plan_tells h t u dt du same rest tidy.1 (run_acts t (acts_of_gadget g) w) (run_acts u (acts_of_gadget g) v) (gadget_sound t dt g tidy.0 w sw) (gadget_sound u du g tidy.0 v sv)
+    (gadget_alike h t u same g w v tidy.0 sw sv l a.0 b.0) (smooth_rest t (acts_of_gadget g) (joint_of rest) w mw) (smooth_rest u (acts_of_gadget g) (joint_of rest) v mv) a.1 b.1)
+plan_tells h t u dt du same (Branch ps first other rest) tidy w v sw sv l mw mv a b =
+    let trim : IsTidy (joint_of (Branch ps first other rest)) = plan_tidy (Branch ps first other rest) tidy in
+    let sound : KeepsSound (run_branch ps first other) = branch_sound ps first other rest tidy in
+    let inside : TakesPart ps h → (is_other ps w ≡ true → TellsAlike h t u (joint_of other) w v) × (is_other ps w ≡ false → TellsAlike h t u (joint_of first) w v) = λ q.
+    let agree : is_other ps w ≡ is_other ps v = same_branch ps h w v q l mw.0 mv.0 in (
+      (λ e. plan_tells h t u dt du same other tidy.1.1.0 w v sw sv l (mw.1.0.0 e) (mv.1.0.0 (sym agree ∙ e)) ((a.0 q).1.0 e) ((b.0 q).1.0 e)),
+      (λ e. plan_tells h t u dt du same first tidy.1.0 w v sw sv l (mw.1.0.1 e) (mv.1.0.1 (sym agree ∙ e)) ((a.0 q).1.1 e) ((b.0 q).1.1 e)),
+    ) in (
+      inside,
+      plan_tells h t u dt du same rest tidy.1.1.1 (run_branch ps first other t w) (run_branch ps first other u v) (sound t dt w sw) (sound u du v sv)
+          (after_branch h t u same ps first other rest trim w v mw mv l inside) mw.1.1 mv.1.1 a.1 b.1,
+    )
+plan_tells h t u dt du same (Loop ps count body rest) tidy w v sw sv l mw mv a b =
+    let trim : IsTidy (joint_of (Loop ps count body rest)) = plan_tidy (Loop ps count body rest) tidy in
+    let sound : KeepsSound (λ y x. turns (run_turn ps body y) count 0 x) = loop_sound ps count body rest tidy in
+    let inside : TakesPart ps h → BothTurns (λ i x y. TellsAlike h t u (joint_of body) (turn_begun ps i x) (turn_begun ps i y)) (run_turn ps body t) (run_turn ps body u) count 0 w v = λ q.
+    turns_tell h t u dt du same ps count body trim.1.0 (λ x y sx sy k mx my c d. plan_tells h t u dt du same body tidy.1.1.0 x y sx sy k mx my c d) (turn_sound ps count body tidy.1.1.0 tidy.1.0)
+    count 0 (omega arith) w v sw sv l mw.0 mv.0 (a.0 q) (b.0 q) in (
+      inside,
+      plan_tells h t u dt du same rest tidy.1.1.1 (turns (run_turn ps body t) count 0 w) (turns (run_turn ps body u) count 0 v) (sound t dt w sw) (sound u du v sv)
+          (after_loop h t u same ps count body rest trim w v mw mv l inside) mw.1 mv.1 a.1 b.1,
+    )
+
+-- ---- another deal
+
+another_after : (h : ℕ) (run : Tape → Hosts → Hosts) → Grows run → (u y z : Tape) (v : Hosts) → IsAnotherDeal h u v y → IsAnotherDeal h y (run y v) z → IsAnotherDeal h u v z
+another_after h run grows u y z v a b = record {
+  deal = b.deal;
+  part = b.part ∙ a.part;
+  inputs = λ g i. b.inputs g i ∙ a.inputs g i;
+  own_words = λ g i. b.own_words g i ∙ a.own_words g i;
+  taken = λ g s i l. before run grows y v y z b.taken g s i l ∙ a.taken g s i l;
+}
+
+-- a deal by which what this run does next hides alike, and so does each later deal that keeps what was taken
+pub record Excused (h : ℕ) (run : Tape → Hosts → Hosts) (Hides : Tape → Type 0) (u : Tape) (v : Hosts) : Type 0 where
+  pub tape : Tape
+  pub another : IsAnotherDeal h u v tape
+  pub past : (g : ℕ) (s : Source) (i : ℕ) → (run tape v g).cursors s ≤ i → tape g s i ≡ u g s i
+  pub hides : (y : Tape) → TakenAlike (run tape v) tape y → Hides y
+
+-- one run after another
+one_after : (h : ℕ) (first second : Tape → Hosts → Hosts) → Grows first → Grows second → HasFrame first → (Hides : Tape → Type 0) (Later : Tape → Hosts → Type 0) (u : Tape) (v : Hosts)
+    → (one : Excused h first Hides u v) → Excused h second (λ y. Later y (first one.tape v)) one.tape (first one.tape v)
+    → Excused h (λ y x. second y (first y x)) (λ y. Hides y × Later y (first y v)) u v
+one_after h first second grows more frame Hides Later u v one two = record {
+  tape = two.tape;
+  another = another_after h first grows u one.tape two.tape v one.another two.another;
+  past = λ g s i l.
+      let P : Hosts → Type 0 = λ x. (second two.tape x g).cursors s ≤ i in
+      let l2 : (second two.tape (first one.tape v) g).cursors s ≤ i = subst P (frame one.tape two.tape v two.another.taken) l in
+      let l1 : (first one.tape v g).cursors s ≤ (second two.tape (first one.tape v) g).cursors s = more two.tape (first one.tape v) g s in
+      two.past g s i l2 ∙ one.past g s i (omega (arith, l1, l2));
+  hides = λ y k.
+      let v1 : Hosts = first one.tape v in
+      let same : first two.tape v ≡ v1 = frame one.tape two.tape v two.another.taken in
+      let P : Hosts → Type 0 = λ x. TakenAlike (second two.tape x) two.tape y in
+      let later : TakenAlike (second two.tape v1) two.tape y = subst P same k in
+      let kept : TakenAlike v1 one.tape y = λ g s i l. before second more two.tape v1 two.tape y later g s i l ∙ two.another.taken g s i l in
+      let Q : Hosts → Type 0 = λ x. Later y x in
+      (one.hides y kept, subst Q (sym (frame one.tape y v kept)) (two.hides y later));
+}
+
+-- what is known of every other deal is known after the first run
+known_after : (h : ℕ) (first : Tape → Hosts → Hosts) → Grows first → HasFrame first → (Later : Tape → Hosts → Type 0) (u y : Tape) (v : Hosts) → IsAnotherDeal h u v y
+    → ((z : Tape) → IsAnotherDeal h u v z → Later z (first z v)) → (z : Tape) → IsAnotherDeal h y (first y v) z → Later z (first y v)
+known_after h first grows frame Later u y v a known z b =
+    let Q : Hosts → Type 0 = λ x. Later z x in
+    subst Q (frame y z v b.taken) (known z (another_after h first grows u y z v a b))
+
+-- ---- gadgets, branches and loops
+
+-- the same run and the same claim by other names
+renamed : (h : ℕ) (run other : Tape → Hosts → Hosts) (Hides Claims : Tape → Type 0) (u : Tape) (v : Hosts) → ((y : Tape) → other y v ≡ run y v) → ((y : Tape) → Hides y → Claims y) → Excused h run Hides u v → Excused h other Claims u v
+renamed h run other Hides Claims u v same claims e = record {
+  tape = e.tape;
+  another = e.another;
+  past = λ g s i l. let P : Hosts → Type 0 = λ x. (x g).cursors s ≤ i in e.past g s i (subst P (same e.tape) l);
+  hides = λ y k. let P : Hosts → Type 0 = λ x. TakenAlike x e.tape y in claims y (e.hides y (subst P (same e.tape) k));
+}
+
+acts_grows : (xs : List Act) → Grows (λ t v. run_acts t xs v)
+acts_grows xs t v g s = acts_grow t xs v g s
+
+acts_framed : (xs : List Act) → HasFrame (λ t v. run_acts t xs v)
+acts_framed xs u y v k = acts_frame u y xs v k
+
+pub run_turn_grows : (ps : List Part) (body : Plan Gadget) (i : ℕ) → Grows (λ t v. run_turn ps body t i v)
+run_turn_grows ps body i = grows_after (λ t x. turn_begun ps i x) (λ t x. joint t (joint_of body) x) (begun_grows ps i) (joint_grows (joint_of body))
+
+pub run_turn_frame : (ps : List Part) (body : Plan Gadget) (i : ℕ) → HasFrame (λ t v. run_turn ps body t i v)
+run_turn_frame ps body i = frame_after (λ t x. turn_begun ps i x) (λ t x. joint t (joint_of body) x) (joint_grows (joint_of body)) (λ u y v k. refl) (joint_frame (joint_of body))
+
+run_branch_grows : (ps : List Part) (first other : Plan Gadget) → Grows (run_branch ps first other)
+run_branch_grows ps first other = branch_grows (λ v. is_other ps v) (λ t v. joint t (joint_of other) v) (λ t v. joint t (joint_of first) v) (joint_grows (joint_of other)) (joint_grows (joint_of first))
+
+pub run_branch_frame : (ps : List Part) (first other : Plan Gadget) → HasFrame (run_branch ps first other)
+run_branch_frame ps first other = branch_frame (λ v. is_other ps v) (λ t v. joint t (joint_of other) v) (λ t v. joint t (joint_of first) v) (joint_frame (joint_of other)) (joint_frame (joint_of first))
+
+-- what a body's law says, for all states
+abbrev pub HasExcuses : ℕ → Tape → Plan Gadget → Type 0
+HasExcuses h t plan = (u : Tape) → IsValidDeal u → (w v : Hosts) → IsSound w → IsSound v
+    → ((y : Tape) → IsAnotherDeal h u v y → PlanChooses h t y plan w v) → Excused h (λ y x. joint y (joint_of plan) x) (λ y. PlanHides h t y plan w v) u v
+
+-- the turns of a loop in which h takes part
+pub turns_excuse : (h : ℕ) (t : Tape) → IsValidDeal t → (ps : List Part) (count : ℕ) (body : Plan Gadget) → HasExcuses h t body
+    → TurnsKeepSound ps count body
+    → (n i : ℕ) → i + n ≡ count → (u : Tape) → IsValidDeal u → (w v : Hosts) → IsSound w → IsSound v
+    → ((y : Tape) → IsAnotherDeal h u v y → BothTurns (λ i x z. PlanChooses h t y body (turn_begun ps i x) (turn_begun ps i z)) (run_turn ps body t) (run_turn ps body y) n i w v)
+    → Excused h (λ y x. turns (run_turn ps body y) n i x) (λ y. BothTurns (λ i x z. PlanHides h t y body (turn_begun ps i x) (turn_begun ps i z)) (run_turn ps body t) (run_turn ps body y) n i w v) u v
+turns_excuse h t dt ps count body ih keep zero i e u du w v sw sv known = record { tape = u; another = another_itself h u v du; past = λ g s i l. refl; hides = λ y k. tt }
+turns_excuse h t dt ps count body ih keep (suc n) i e u du w v sw sv known =
+    let less : i < count = omega arith in
+    let run : Tape → Hosts → Hosts = λ y x. run_turn ps body y i x in
+    let begun = ih u du (turn_begun ps i w) (turn_begun ps i v) ((keep i less).0 t dt w sw) ((keep i less).0 u du v sv)
+    (λ y a. (known y (record { deal = a.deal; part = a.part; inputs = a.inputs; own_words = a.own_words; taken = before (λ t x. turn_begun ps i x) (begun_grows ps i) u v u y a.taken })).0) in
+    let one : Excused h run (λ y. PlanHides h t y body (turn_begun ps i w) (turn_begun ps i v)) u v = record {
+      tape = begun.tape;
+      another = record {
+        deal = begun.another.deal;
+        part = begun.another.part;
+        inputs = begun.another.inputs;
+        own_words = begun.another.own_words;
+        taken = before (λ t x. turn_begun ps i x) (begun_grows ps i) u v u begun.tape begun.another.taken;
+      };
+      past = begun.past;
+      hides = begun.hides;
+    } in
+    one_after h run (λ y x. turns (run_turn ps body y) n (suc i) x) (run_turn_grows ps body i) (turns_grow (run_turn ps body) (run_turn_grows ps body) n (suc i)) (run_turn_frame ps body i)
+    (λ y. PlanHides h t y body (turn_begun ps i w) (turn_begun ps i v))
+    (λ y x. BothTurns (λ i x z. PlanHides h t y body (turn_begun ps i x) (turn_begun ps i z)) (run_turn ps body t) (run_turn ps body y) n (suc i) (run_turn ps body t i w) x) u v one
+    (turns_excuse h t dt ps count body ih keep n (suc i) (omega arith) one.tape one.another.deal (run_turn ps body t i w) (run one.tape v)
+    ((keep i less).1 t dt w sw) ((keep i less).1 one.tape one.another.deal v sv)
+    (known_after h run (run_turn_grows ps body i) (run_turn_frame ps body i)
+    (λ y x. BothTurns (λ i x z. PlanChooses h t y body (turn_begun ps i x) (turn_begun ps i z)) (run_turn ps body t) (run_turn ps body y) n (suc i) (run_turn ps body t i w) x) u one.tape v one.another
+    (λ z a. (known z a).1)))
+
+as_excused : (h : ℕ) (t u : Tape) (g : Gadget) (w v : Hosts) → GadgetExcuse h t u g w v → Excused h (λ y x. run_acts y (acts_of_gadget g) x) (λ y. GadgetHides h t y g w v) u v
+as_excused h t u g w v e = record { tape = e.tape; another = e.another; past = e.past; hides = e.hides }
+
+abbrev BranchHides : ℕ → Tape → List Part → Plan Gadget → Plan Gadget → Hosts → Hosts → Bool → Tape → Type 0
+BranchHides h t ps first other w v b y = TakesPart ps h → Unit {0} × ((b ≡ true → PlanHides h t y other w v) × (b ≡ false → PlanHides h t y first w v))
+
+-- the branch that both runs take
+branch_excuse : (h : ℕ) (t : Tape) (ps : List Part) (first other : Plan Gadget) → HasExcuses h t first → HasExcuses h t other → (u : Tape) → IsValidDeal u → (w v : Hosts) → IsSound w → IsSound v
+    → ((y : Tape) → IsAnotherDeal h u v y → TakesPart ps h → (is_other ps w ≡ is_other ps v) × ((is_other ps w ≡ true → PlanChooses h t y other w v) × (is_other ps w ≡ false → PlanChooses h t y first w v)))
+    → Excused h (run_branch ps first other)
+    (λ y. TakesPart ps h → Unit {0} × ((is_other ps w ≡ true → PlanHides h t y other w v) × (is_other ps w ≡ false → PlanHides h t y first w v))) u v
+branch_excuse h t ps first other i_first i_other u du w v sw sv known = at (takes_or_not ps h)
+  where
+    taken : TakesPart ps h → (b : Bool) → is_other ps w ≡ b → is_other ps v ≡ b → Excused h (run_branch ps first other) (BranchHides h t ps first other w v b) u v
+    taken q true e f =
+        renamed h (λ y x. joint y (joint_of other) x) (run_branch ps first other) (λ y. PlanHides h t y other w v) (BranchHides h t ps first other w v true) u v
+        (λ y. ap (λ (b : Bool). if b then joint y (joint_of other) v else joint y (joint_of first) v) f)
+        (λ y k _. (tt, ((λ _. k), (λ n. cc))))
+        (i_other u du w v sw sv (λ y a. (known y a q).1.0 e))
+    taken q false e f =
+        renamed h (λ y x. joint y (joint_of first) x) (run_branch ps first other) (λ y. PlanHides h t y first w v) (BranchHides h t ps first other w v false) u v
+        (λ y. ap (λ (b : Bool). if b then joint y (joint_of other) v else joint y (joint_of first) v) f)
+        (λ y k _. (tt, ((λ n. cc), (λ _. k))))
+        (i_first u du w v sw sv (λ y a. (known y a q).1.1 e))
+
+    at : TakesPart ps h ⊎ (TakesPart ps h → ⊥) → Excused h (run_branch ps first other) (BranchHides h t ps first other w v (is_other ps w)) u v
+    at (inl q) = taken q (is_other ps w) refl (sym (known u (another_itself h u v du) q).0)
+    at (inr out) = record { tape = u; another = another_itself h u v du; past = λ g s i l. refl; hides = λ y k q. absurd (out q) }
+
+loop_excuse : (h : ℕ) (t : Tape) → IsValidDeal t → (ps : List Part) (count : ℕ) (body : Plan Gadget) → HasExcuses h t body
+    → TurnsKeepSound ps count body
+    → (u : Tape) → IsValidDeal u → (w v : Hosts) → IsSound w → IsSound v
+    → ((y : Tape) → IsAnotherDeal h u v y → TakesPart ps h → BothTurns (λ i x z. PlanChooses h t y body (turn_begun ps i x) (turn_begun ps i z)) (run_turn ps body t) (run_turn ps body y) count 0 w v)
+    → Excused h (λ y x. turns (run_turn ps body y) count 0 x)
+    (λ y. TakesPart ps h → BothTurns (λ i x z. PlanHides h t y body (turn_begun ps i x) (turn_begun ps i z)) (run_turn ps body t) (run_turn ps body y) count 0 w v) u v
+loop_excuse h t dt ps count body ih keep u du w v sw sv known = at (takes_or_not ps h)
+  where
+    at : TakesPart ps h ⊎ (TakesPart ps h → ⊥) → Excused h (λ y x. turns (run_turn ps body y) count 0 x)
+        (λ y. TakesPart ps h → BothTurns (λ i x z. PlanHides h t y body (turn_begun ps i x) (turn_begun ps i z)) (run_turn ps body t) (run_turn ps body y) count 0 w v) u v
+    at (inl q) =
+        renamed h (λ y x. turns (run_turn ps body y) count 0 x) (λ y x. turns (run_turn ps body y) count 0 x)
+        (λ y. BothTurns (λ i x z. PlanHides h t y body (turn_begun ps i x) (turn_begun ps i z)) (run_turn ps body t) (run_turn ps body y) count 0 w v)
+        (λ y. TakesPart ps h → BothTurns (λ i x z. PlanHides h t y body (turn_begun ps i x) (turn_begun ps i z)) (run_turn ps body t) (run_turn ps body y) count 0 w v) u v
+        (λ y. refl) (λ y k _. k)
+        (turns_excuse h t dt ps count body ih keep count 0 (omega arith) u du w v sw sv (λ y a. known y a q))
+    at (inr out) = record { tape = u; another = another_itself h u v du; past = λ g s i l. refl; hides = λ y k q. absurd (out q) }
+
+pub plan_excuse : (h : ℕ) (t : Tape) → IsValidDeal t → (plan : Plan Gadget) → PlanIsTidy plan → HasExcuses h t plan
+plan_excuse h t dt Ends tidy u du w v sw sv known = record { tape = u; another = another_itself h u v du; past = λ g s i l. refl; hides = λ y k. tt }
+plan_excuse h t dt (Then g rest) tidy u du w v sw sv known =
+    let xs : List Act = acts_of_gadget g in
+    let one : Excused h (λ y x. run_acts y xs x) (λ y. GadgetHides h t y g w v) u v = as_excused h t u g w v (gadget_excuse h t u dt du g tidy.0 w v sw sv) in
+    renamed h (λ y x. joint y (joint_of rest) (run_acts y xs x)) (λ y x. joint y (joint_of (Then g rest)) x) (λ y. PlanHides h t y (Then g rest) w v) (λ y. PlanHides h t y (Then g rest) w v) u v
+    (λ y. runs_first y xs (joint_of rest) v) (λ y k. k)
+    (one_after h (λ y x. run_acts y xs x) (λ y x. joint y (joint_of rest) x) (acts_grows xs) (joint_grows (joint_of rest)) (acts_framed xs)
+    (λ y. GadgetHides h t y g w v) (λ y x. PlanHides h t y rest (run_acts t xs w) x) u v one
+    (plan_excuse h t dt rest tidy.1 one.tape one.another.deal (run_acts t xs w) (run_acts one.tape xs v) (gadget_sound t dt g tidy.0 w sw) (gadget_sound one.tape one.another.deal g tidy.0 v sv)
+    (known_after h (λ y x. run_acts y xs x) (acts_grows xs) (acts_framed xs) (λ y x. PlanChooses h t y rest (run_acts t xs w) x) u one.tape v one.another (λ z a. (known z a).1))))
+plan_excuse h t dt (Branch ps first other rest) tidy u du w v sw sv known =
+    let run : Tape → Hosts → Hosts = run_branch ps first other in
+    let sound : KeepsSound run = branch_sound ps first other rest tidy in
+    let one = branch_excuse h t ps first other (plan_excuse h t dt first tidy.1.0) (plan_excuse h t dt other tidy.1.1.0) u du w v sw sv (λ y a. (known y a).0) in
+    one_after h run (λ y x. joint y (joint_of rest) x) (run_branch_grows ps first other) (joint_grows (joint_of rest)) (run_branch_frame ps first other)
+    (λ y. TakesPart ps h → Unit {0} × ((is_other ps w ≡ true → PlanHides h t y other w v) × (is_other ps w ≡ false → PlanHides h t y first w v)))
+    (λ y x. PlanHides h t y rest (run t w) x) u v one
+    (plan_excuse h t dt rest tidy.1.1.1 one.tape one.another.deal (run t w) (run one.tape v) (sound t dt w sw) (sound one.tape one.another.deal v sv)
+    (known_after h run (run_branch_grows ps first other) (run_branch_frame ps first other) (λ y x. PlanChooses h t y rest (run t w) x) u one.tape v one.another (λ z a. (known z a).1)))
+plan_excuse h t dt (Loop ps count body rest) tidy u du w v sw sv known =
+    let run : Tape → Hosts → Hosts = λ y x. turns (run_turn ps body y) count 0 x in
+    let grows : Grows run = turns_grow (run_turn ps body) (run_turn_grows ps body) count 0 in
+    let frame : HasFrame run = turns_frame (run_turn ps body) (run_turn_grows ps body) (run_turn_frame ps body) count 0 in
+    let sound : KeepsSound run = loop_sound ps count body rest tidy in
+    let one = loop_excuse h t dt ps count body (plan_excuse h t dt body tidy.1.1.0) (turn_sound ps count body tidy.1.1.0 tidy.1.0) u du w v sw sv (λ y a. (known y a).0) in
+    one_after h run (λ y x. joint y (joint_of rest) x) grows (joint_grows (joint_of rest)) frame
+    (λ y. TakesPart ps h → BothTurns (λ i x z. PlanHides h t y body (turn_begun ps i x) (turn_begun ps i z)) (run_turn ps body t) (run_turn ps body y) count 0 w v)
+    (λ y x. PlanHides h t y rest (run t w) x) u v one
+    (plan_excuse h t dt rest tidy.1.1.1 one.tape one.another.deal (run t w) (run one.tape v) (sound t dt w sw) (sound one.tape one.another.deal v sv)
+    (known_after h run grows frame (λ y x. PlanChooses h t y rest (run t w) x) u one.tape v one.another (λ z a. (known z a).1)))
+
+-- the view of h is the same
+pub views_agree : (h : ℕ) (t u : Tape) (plan : Plan Gadget) → PlanIsTidy plan → (w v : Hosts) → AllowsExcuse h t u plan w v → HasViewExcuse h t u plan w v
+views_agree h t u plan tidy w v a =
+    let dt : IsValidDeal t = a.sound.first_deal in
+    let e = plan_excuse h t dt plan tidy u a.sound.second_deal w v a.sound.first a.sound.second a.chooses in
+    let hides : PlanHides h t e.tape plan w v = e.hides e.tape (λ g s i l. refl) in
+    let part : t h ≡ e.tape h = a.start.part ∙ sym e.another.part in
+    let later : IsSmooth e.tape (joint_of plan) v = a.smooth_too e.tape e.another in (
+      e.tape,
+      record {
+        another = e.another;
+        past = e.past;
+        hides = hides;
+        view = told_the_same h t e.tape part (joint_of plan) (plan_tidy plan tidy) w v a.smooth later a.start.looks
+            (plan_tells h t e.tape dt e.another.deal part plan tidy w v a.sound.first a.sound.second a.start.looks a.smooth later hides (a.knows e.tape e.another hides));
+      },
+    )
+
+-- ---- the way back
+
+turns_back : (P Q : ℕ → Hosts → Hosts → Type 0) (R : ℕ → Hosts → Hosts → Type 0) (f g : ℕ → Hosts → Hosts) → ((i : ℕ) (x y : Hosts) → P i x y → Q i x y → R i y x)
+    → (n i : ℕ) (w v : Hosts) → BothTurns P f g n i w v → BothTurns Q f g n i w v → BothTurns R g f n i v w
+turns_back P Q R f g e zero i w v a b = tt
+turns_back P Q R f g e (suc n) i w v a b = (e i w v a.0 b.0, turns_back P Q R f g e n (suc i) (f i w) (g i v) a.1 b.1)
+
+-- exchanged, a plan hides alike too
+pub plan_back : (h : ℕ) (t u : Tape) (plan : Plan Gadget) (w v : Hosts) → PlanChooses h t u plan w v → PlanHides h t u plan w v → PlanHides h u t plan v w
+plan_back h t u Ends w v c a = tt
+plan_back h t u (Then g rest) w v c a = (gadget_back h t u g w v a.0, plan_back h t u rest (run_acts t (acts_of_gadget g) w) (run_acts u (acts_of_gadget g) v) c.1 a.1)
+plan_back h t u (Branch ps first other rest) w v c a = (
+  (λ q. (tt, ((λ e. plan_back h t u other w v ((c.0 q).1.0 ((c.0 q).0 ∙ e)) ((a.0 q).1.0 ((c.0 q).0 ∙ e))), (λ e. plan_back h t u first w v ((c.0 q).1.1 ((c.0 q).0 ∙ e)) ((a.0 q).1.1 ((c.0 q).0 ∙ e)))))),
+  plan_back h t u rest (run_branch ps first other t w) (run_branch ps first other u v) c.1 a.1,
+)
+plan_back h t u (Loop ps count body rest) w v c a = (
+  (λ q. turns_back (λ i x y. PlanChooses h t u body (turn_begun ps i x) (turn_begun ps i y)) (λ i x y. PlanHides h t u body (turn_begun ps i x) (turn_begun ps i y))
+      (λ i x y. PlanHides h u t body (turn_begun ps i x) (turn_begun ps i y)) (run_turn ps body t) (run_turn ps body u)
+      (λ i x y b d. plan_back h t u body (turn_begun ps i x) (turn_begun ps i y) b d) count 0 w v (c.0 q) (a.0 q)),
+  plan_back h t u rest (turns (run_turn ps body t) count 0 w) (turns (run_turn ps body u) count 0 v) c.1 a.1,
+)

@@ -1,0 +1,55 @@
+//! Two joint runs that look alike to one host. Nothing is computed here: each function's clauses are laws.
+#![tactic(auto)]
+
+ghost use Rattle.std.specs.Prelude.{◌≡◌, ◌≢◌, ◌<◌, ℕ, List, [], ◌∷◌};
+ghost use Rattle.vd_execution.specs.declared.instructions.Act.{Act};
+ghost use Rattle.vd_execution.specs.World.{Tape};
+ghost use Rattle.vd_execution.specs.Joint.{Part, Joint, Hosts, IsTidy};
+ghost use Rattle.vd_execution.specs.Acts.{ActsAreTidy};
+ghost use Rattle.vd_execution.specs.Gadgets.{Sharing, BySums, Masking, Gadget, GadgetsAreTidy};
+ghost use Rattle.vd_execution.specs.Plans.{Plan, PlanIsTidy, PlanIsWithin};
+ghost use Rattle.vd_views.specs.Claims.{AreSound, JointKeepsAlike, ActsKeepAlike, TellsFirst, GadgetsKeepAlike, GadgetsHideBack};
+ghost use Rattle.vd_views.specs.Claims.{HasExcuse, AllowsExcuse, HasViewExcuse, PlanHidesBack, IsOnlyItem, AreOnlyItems};
+ghost use Rattle.vd_views.specs.Back.{AreAlternatives, GadgetsAreWith, PlanIsWith, AreOfTwo};
+ghost use Rattle.vd_views.specs.Contract.{InputWords, CanBeExcused, HasExplanation, GoesBack};
+ghost use Rattle.vd_views.specs.Items.{item_for};
+
+/// A host that has the same inputs and dealt items in two runs, and is told the same words, is the same in both.
+pub fn what_a_host_sees()
+    ensures blocks { (h : ℕ) (t u : Tape) (j : Joint) → IsTidy j → JointKeepsAlike h t u j }
+    ensures acts { (h : ℕ) (t u : Tape) (acts : List Act) → ActsAreTidy acts → ActsKeepAlike h t u acts }
+    ensures acts_first { (h : ℕ) (t u : Tape) (acts : List Act) (j : Joint) → TellsFirst h t u acts j }
+{}
+
+/// Gadgets that hide alike what items hide, and tell a host the same openly, leave the host the same; exchanged, they hide
+/// alike too.
+pub fn gadgets_hide()
+    ensures alike { (h : ℕ) (t u : Tape) (gs : List Gadget) → GadgetsAreTidy gs → GadgetsKeepAlike h t u gs }
+    ensures back { (h : ℕ) (t u : Tape) (gs : List Gadget) → GadgetsHideBack h t u gs }
+{}
+
+/// For every second run there is a valid deal with the same part for the host, the same own words and the same inputs, by
+/// which what items hide is hidden alike. Where the host then is told the same openly and reads the same guards, it sees the
+/// same as in the first run.
+pub fn every_run_has_an_excuse()
+    ensures gadgets { (h : ℕ) (t u : Tape) (gs : List Gadget) (w v : Hosts) → GadgetsAreTidy gs → AreSound t u w v → HasExcuse h t u gs w v }
+    ensures views { (h : ℕ) (t u : Tape) (plan : Plan Gadget) (w v : Hosts) → PlanIsTidy plan → AllowsExcuse h t u plan w v → HasViewExcuse h t u plan w v }
+    ensures from_the_start { (h : ℕ) (plan : Plan Gadget) (t : Tape) (second : InputWords) → CanBeExcused h plan t second → HasExplanation h plan t second }
+{}
+
+/// Exchanged, the second deal explains the first run by the second just so, and the items that do so are the only ones. So where
+/// the host shares all items that are taken, what explains back is the first deal again; and each of two hosts does so, where no
+/// others act.
+pub fn the_way_back()
+    ensures plan { (h : ℕ) (t u : Tape) (plan : Plan Gadget) → PlanHidesBack h t u plan }
+    ensures item { (h : ℕ) (t y z : Tape) (s : Sharing) (m : Masking) → m.host.0 ≢ h → AreAlternatives h y z → IsOnlyItem h t y z s m }
+    ensures gadgets { (h : ℕ) (t y z : Tape) (gs : List Gadget) → GadgetsAreTidy gs → GadgetsAreWith h gs → AreAlternatives h y z → AreOnlyItems h t y z gs }
+    ensures deal { (h : ℕ) (plan : Plan Gadget) → PlanIsTidy plan → PlanIsWith h plan → GoesBack h plan }
+    ensures two { (h : ℕ) (ps : List Part) (plan : Plan Gadget) → h < 2 → PlanIsTidy plan → AreOfTwo ps → PlanIsWithin ps plan → PlanIsWith h plan }
+{}
+
+/// The item that hides 2147483658 as the triple 1, 4, 5 hid 10, beside 2, 0, 7: the first part rises by half the words, and
+/// the rest stays.
+pub fn worked_item()
+    ensures { item_for BySums (1 ∷ 4 ∷ 5 ∷ []) (2 ∷ 0 ∷ 7 ∷ []) 10 2147483658 1 1 ≡ 2147483649 ∷ 4 ∷ 5 ∷ [] }
+{}
