@@ -5,12 +5,13 @@ ghost use Rattle.vd_duet.specs.Builder.{HasRoom, TakesAtMost};
 ghost use Rattle.vd_duet.specs.Calls.{holders, hosts_of, placed};
 ghost use Rattle.vd_duet.specs.Laws.{AreKnown};
 
+use crate::code::print_code;
 use std::alloc::{AllocError, Global};
-use std::test::Fail;
+use std::io::{self, Write};
 use vd_base::{HostId, HostSet, Op};
 use vd_clear::{LocalHost, Replica, spread};
 use vd_duet::{Backend, Clear, Duet, Parts};
-use vd_execution::{Line, Reg};
+use vd_execution::Reg;
 use vd_items::Items;
 
 /// A number that is kept, and written over by itself.
@@ -26,28 +27,6 @@ fn kept<B: Backend>(back_end: &B, to: &mut Duet) -> Result<Parts<B::Part>, Alloc
     Ok(kept)
 }
 
-/// The lines of code, each as it is printed for a person.
-pub(crate) fn text_of(alloc: Global, lines: &[Line]) -> Result<String, AllocError> {
-    let mut text = String::new(alloc);
-    for line in lines {
-        text.push_str(format!(in alloc; "{line:?}")?.as_str())?;
-        text.push('\n')?;
-    }
-    Ok(text)
-}
-
-/// Two hosts keep a copy; host 1 is shown it.
-const SHOWN: &str = "Act(Do(HostId(0), Const(Reg(0), 7)))
-Act(Do(HostId(2), Const(Reg(0), 7)))
-Act(Do(HostId(0), Copy(Reg(1), Reg(0))))
-Act(Do(HostId(2), Copy(Reg(1), Reg(0))))
-Act(Do(HostId(0), Copy(Reg(1), Reg(0))))
-Act(Do(HostId(2), Copy(Reg(1), Reg(0))))
-Act(Msg(HostId(0), Items { items: [Reg(1)] }, HostId(1), Items { items: [Reg(0)] }))
-Act(Msg(HostId(2), Items { items: [Reg(1)] }, HostId(1), Items { items: [Reg(1)] }))
-Act(Do(HostId(1), Same(Reg(0), Reg(1))))
-";
-
 fn shown(to: &mut Duet) -> Result<Clear, AllocError>
     requires hosts { to.old.next ≡ replicate 3 0 }
 {
@@ -56,25 +35,12 @@ fn shown(to: &mut Duet) -> Result<Clear, AllocError>
     replica.show(&kept, HostId(1), to)
 }
 
-#[test]
-fn copies_are_compared(rt: HostRuntime) -> Result<(), Fail> {
-    let alloc = rt.alloc();
+/// Two hosts keep a copy; host 1 is shown it.
+fn print_compared<W: Write>(to: &mut W, alloc: Global) -> io::Result<()> {
     let mut duet = Duet::new(alloc, 3)?;
     let at = shown(&mut duet)?;
-    assert_eq!(rt; at, Clear(Reg(0)));
-    assert_eq!(rt; text_of(alloc, duet.lines())?.as_str(), SHOWN);
-    Ok(())
+    print_code(to, "copies are compared", duet.lines(), at.0)
 }
-
-/// Host 1 shares a number with host 0; both tell host 2, which turns its lowest bit.
-const MOVED: &str = "Act(Do(HostId(1), Const(Reg(0), 5)))
-Act(Msg(HostId(1), Items { items: [Reg(0)] }, HostId(0), Items { items: [Reg(0)] }))
-Act(Msg(HostId(0), Items { items: [Reg(0)] }, HostId(2), Items { items: [Reg(0)] }))
-Act(Msg(HostId(1), Items { items: [Reg(0)] }, HostId(2), Items { items: [Reg(1)] }))
-Act(Do(HostId(2), Same(Reg(0), Reg(1))))
-Act(Do(HostId(2), Const(Reg(2), 1)))
-Act(Do(HostId(2), Apply(Xor, Reg(3), Reg(0), Reg(2))))
-";
 
 fn moved(to: &mut Duet) -> Result<Parts<Clear>, AllocError>
     requires hosts { length to.old.next ≡ 3 }
@@ -97,12 +63,15 @@ fn first_of(x: &Parts<Clear>) -> Reg {
     }
 }
 
-#[test]
-fn copies_are_moved(rt: HostRuntime) -> Result<(), Fail> {
-    let alloc = rt.alloc();
+/// Host 1 shares a number with host 0; both tell host 2, which turns its lowest bit.
+fn print_moved<W: Write>(to: &mut W, alloc: Global) -> io::Result<()> {
     let mut duet = Duet::new(alloc, 3)?;
     let flipped = moved(&mut duet)?;
-    assert_eq!(rt; first_of(&flipped), Reg(3));
-    assert_eq!(rt; text_of(alloc, duet.lines())?.as_str(), MOVED);
-    Ok(())
+    print_code(to, "copies are moved", duet.lines(), first_of(&flipped))
+}
+
+/// Prints the code of each row.
+pub fn print<W: Write>(to: &mut W, alloc: Global) -> io::Result<()> {
+    print_compared(to, alloc)?;
+    print_moved(to, alloc)
 }

@@ -1,5 +1,6 @@
 pub mod Numbers
 pub mod Scans
+pub mod Three
 pub mod Whole
 pub mod Outcomes
 pub mod Steps

@@ -58,11 +58,16 @@ abbrev pub after_number : Read → (ℕ → Scanner) → Scanned
 after_number (Ok read) next = next read.0 read.1
 after_number (Err rest) next = Err rest
 
--- ---- one of two bytes
+-- ---- one of two bytes, or of three
 
 abbrev pub choice : ℕ → Scanner → ℕ → Scanner → Scanner
 choice b first c second [] = Err []
 choice b first c second (d ∷ bytes) = if d == b then first bytes else if d == c then second bytes else Err (d ∷ bytes)
+
+abbrev pub choice_of_three : ℕ → Scanner → ℕ → Scanner → ℕ → Scanner → Scanner
+choice_of_three b first c second e third [] = Err []
+choice_of_three b first c second e third (d ∷ bytes) =
+    if d == b then first bytes else if d == c then second bytes else if d == e then third bytes else Err (d ∷ bytes)
 
 -- ---- shifts
 
@@ -91,18 +96,18 @@ scan_shifts (suc n) shifts next bytes = scan_shift (λ shift. scan_shifts n (shi
 abbrev pub mark_of : ℕ → Option Mark
 mark_of b = if b == 69 then Some Expanded else if b == 86 then Some Violated else if b == 66 then Some Bounded else if b == 76 then Some Best else None
 
-abbrev pub certificate : Option ℕ → List Shift → List Mark → Certificate
-certificate cost shifts marks = record { cost = cost; shifts = shifts; marks = marks }
+abbrev pub certificate : Option ℕ → Bool → List Shift → List Mark → Certificate
+certificate cost linked shifts marks = record { cost = cost; linked = linked; shifts = shifts; marks = marks }
 
 abbrev pub at_end : Certificate → Scanner
 at_end c [] = Ok c
 at_end c (b ∷ bytes) = Err (b ∷ bytes)
 
-abbrev pub scan_marks : Option ℕ → List Shift → List Mark → Scanner
-scan_marks cost shifts marks [] = Err []
-scan_marks cost shifts marks (b ∷ bytes) =
-    if b == newline then at_end (certificate cost shifts marks) bytes
-    else option_map_or (λ mark. scan_marks cost shifts (marks ++ mark ∷ []) bytes) (mark_of b) (Err (b ∷ bytes))
+abbrev pub scan_marks : Option ℕ → Bool → List Shift → List Mark → Scanner
+scan_marks cost linked shifts marks [] = Err []
+scan_marks cost linked shifts marks (b ∷ bytes) =
+    if b == newline then at_end (certificate cost linked shifts marks) bytes
+    else option_map_or (λ mark. scan_marks cost linked shifts (marks ++ mark ∷ []) bytes) (mark_of b) (Err (b ∷ bytes))
 
 -- ---- the whole
 
@@ -110,22 +115,23 @@ abbrev pub scan_cost : (ℕ → Scanner) → Scanner
 scan_cost next bytes = after_number (number 0 most_number newline bytes) next
 
 abbrev pub scan_empty : Scanner
-scan_empty bytes = after_word (word (codes "mpty\n") bytes) (scan_marks None [] [])
+scan_empty bytes = after_word (word (codes "mpty\n") bytes) (scan_marks None false [] [])
 
 abbrev pub scan_least : Scanner
-scan_least bytes = after_word (word (codes "ost ") bytes) (scan_cost (λ cost. scan_marks (Some cost) [] []))
+scan_least bytes = after_word (word (codes "ost ") bytes) (scan_cost (λ cost. scan_marks (Some cost) false [] []))
 
 abbrev pub scan_first : Scanner
 scan_first bytes = after_word (word (newline ∷ []) bytes) (choice 99 scan_least 101 scan_empty)
 
-abbrev pub scan_counted : ℕ → ℕ → Scanner
-scan_counted cost count = scan_shifts count [] (λ shifts. scan_marks (Some cost) shifts [])
+abbrev pub scan_counted : Bool → ℕ → ℕ → Scanner
+scan_counted linked cost count = scan_shifts count [] (λ shifts. scan_marks (Some cost) linked shifts [])
 
-abbrev pub scan_listed : ℕ → Scanner
-scan_listed cost bytes = after_word (word (codes "shifts ") bytes) (λ rest. after_number (number 1 most_certificate_shifts newline rest) (scan_counted cost))
+abbrev pub scan_listed : Bool → ℕ → Scanner
+scan_listed linked cost bytes = after_word (word (codes "shifts ") bytes) (λ rest. after_number (number 1 most_certificate_shifts newline rest) (scan_counted linked cost))
 
-abbrev pub scan_second : Scanner
-scan_second bytes = after_word (word (codes "\ncost ") bytes) (scan_cost scan_listed)
+-- the second form and the third
+abbrev pub scan_further : Bool → Scanner
+scan_further linked bytes = after_word (word (codes "\ncost ") bytes) (scan_cost (scan_listed linked))
 
 abbrev pub scan : Scanner
-scan bytes = after_word (word (codes "viaduct-cert ") bytes) (choice 49 scan_first 50 scan_second)
+scan bytes = after_word (word (codes "viaduct-cert ") bytes) (choice_of_three 49 scan_first 50 (scan_further false) 51 (scan_further true))

@@ -1,5 +1,5 @@
 -- The text of a certificate. Each certificate has one.
-use Rattle.std.specs.Prelude.{◌≡◌, ℕ, ◌≤◌, if◌then◌else◌, Bool, Option, Some, None, List, [], ◌∷◌, ◌++◌, length, map, flat_map, codes, decimal}
+use Rattle.std.specs.Prelude.{◌≡◌, ℕ, ◌≤◌, if◌then◌else◌, Bool, true, Option, Some, None, List, [], ◌∷◌, ◌++◌, length, map, flat_map, codes, decimal}
 use Rattle.std.specs.List.{AllByRecursion}
 use Rattle.vd_base.specs.Limits.{most_certificate_shifts}
 use Rattle.vd_prefixes.specs.declared.shift.Shift.{Shift}
@@ -39,14 +39,18 @@ cost_text cost = codes "cost " ++ decimal cost ++ codes "\n"
 abbrev pub shifts_text : List Shift → List ℕ
 shifts_text shifts = codes "shifts " ++ decimal (length shifts) ++ codes "\n" ++ flat_map shift_text shifts
 
--- the second form has shifts, and the first has none
-abbrev pub claim_text : Option ℕ → List Shift → List ℕ
-claim_text None shifts = codes "viaduct-cert 1\nempty\n"
-claim_text (Some cost) [] = codes "viaduct-cert 1\n" ++ cost_text cost
-claim_text (Some cost) (shift ∷ shifts) = codes "viaduct-cert 2\n" ++ cost_text cost ++ shifts_text (shift ∷ shifts)
+-- the form of a certificate with shifts, by whether these name links
+abbrev pub heading : Bool → List ℕ
+heading linked = if linked then codes "viaduct-cert 3\n" else codes "viaduct-cert 2\n"
+
+-- the first form has no shifts
+abbrev pub claim_text : Option ℕ → Bool → List Shift → List ℕ
+claim_text None linked shifts = codes "viaduct-cert 1\nempty\n"
+claim_text (Some cost) linked [] = codes "viaduct-cert 1\n" ++ cost_text cost
+claim_text (Some cost) linked (shift ∷ shifts) = heading linked ++ cost_text cost ++ shifts_text (shift ∷ shifts)
 
 abbrev pub text_of : Certificate → List ℕ
-text_of c = claim_text c.cost c.shifts ++ marks_text c.marks
+text_of c = claim_text c.cost c.linked c.shifts ++ marks_text c.marks
 
 -- the greatest NUM
 abbrev pub most_number : ℕ
@@ -64,12 +68,13 @@ abbrev pub CostFits : Option ℕ → Type 0
 CostFits None = Unit {0}
 CostFits (Some cost) = cost ≤ most_number
 
--- what a certificate keeps: few shifts, and none where it says that there is no list
+-- what a certificate keeps: few shifts, none where it says that there is no list, and some where it goes by links
 pub record IsCertificate (c : Certificate) : Type 0 where
   pub cost : CostFits c.cost
   pub few : length c.shifts ≤ most_certificate_shifts
   pub shifts : AllByRecursion IsShift c.shifts
   pub none : c.cost ≡ None → c.shifts ≡ []
+  pub some : c.linked ≡ true → 1 ≤ length c.shifts
 
 -- the bytes are the certificate's text
 pub record IsTextOf (c : Certificate) (bytes : List ℕ) : Type 0 where

@@ -2,7 +2,7 @@
 
 ghost use Rattle.std.specs.Prelude.{◌≡◌, ◌≤◌, ◌<◌, length, drop};
 ghost use Rattle.vd_base.specs.Limits.{most_certificate_bytes, most_certificate_shifts};
-ghost use Rattle.vd_certificate.specs.Scan.{choice, first_digit, mark_of, number, scan, scan_counted, scan_first, scan_least, scan_listed, scan_marks, scan_second, scan_empty, with_digit, word};
+ghost use Rattle.vd_certificate.specs.Scan.{choice, first_digit, mark_of, number, scan, scan_counted, scan_empty, scan_first, scan_further, scan_least, scan_listed, scan_marks, with_digit, word};
 ghost use Rattle.vd_certificate.specs.Steps.{AddMoves, Moves, Numbers, Said, ShiftMoves};
 
 use crate::certificate::{Certificate, Mark};
@@ -21,7 +21,8 @@ pub(crate) fn read_certificate(alloc: Global, bytes: &[u8]) -> Result<Certificat
     let at = read_word(bytes, 0, b"viaduct-cert ")?;
     match bytes.get(at) {
         Some(b'1') => read_first(alloc, bytes, at + 1),
-        Some(b'2') => read_second(alloc, bytes, at + 1),
+        Some(b'2') => read_further(alloc, bytes, at + 1, false),
+        Some(b'3') => read_further(alloc, bytes, at + 1, true),
         _ => Err(TextFault::Text(at as u32)),
     }
 }
@@ -48,7 +49,14 @@ fn read_least(alloc: Global, bytes: &[u8], start: usize) -> Result<Certificate, 
 {
     let at = read_word(bytes, start, b"ost ")?;
     let (cost, at) = read_number(bytes, at, 0, u32::MAX, b'\n')?;
-    read_marks(bytes, at, Some(cost), Items::new(alloc), Items::new(alloc))
+    read_marks(
+        bytes,
+        at,
+        Some(cost),
+        false,
+        Items::new(alloc),
+        Items::new(alloc),
+    )
 }
 
 /// Behind the first letter of the claim that there is no list.
@@ -58,18 +66,23 @@ fn read_empty(alloc: Global, bytes: &[u8], start: usize) -> Result<Certificate, 
     ensures { Said bytes.now (scan_empty (drop start bytes.now)) result }
 {
     let at = read_word(bytes, start, b"mpty\n")?;
-    read_marks(bytes, at, None, Items::new(alloc), Items::new(alloc))
+    read_marks(bytes, at, None, false, Items::new(alloc), Items::new(alloc))
 }
 
-/// Behind the number of the second form.
-fn read_second(alloc: Global, bytes: &[u8], start: usize) -> Result<Certificate, TextFault>
+/// Behind the number of the second form, or of the third, whose shifts name links.
+fn read_further(
+    alloc: Global,
+    bytes: &[u8],
+    start: usize,
+    linked: bool,
+) -> Result<Certificate, TextFault>
     requires few { length bytes.now ≤ most_certificate_bytes }
     requires start { start ≤ length bytes.now }
-    ensures { Said bytes.now (scan_second (drop start bytes.now)) result }
+    ensures { Said bytes.now (scan_further linked (drop start bytes.now)) result }
 {
     let at = read_word(bytes, start, b"\ncost ")?;
     let (cost, at) = read_number(bytes, at, 0, u32::MAX, b'\n')?;
-    read_listed(alloc, bytes, at, cost)
+    read_listed(alloc, bytes, at, linked, cost)
 }
 
 /// The shifts and marks behind a cost.
@@ -77,15 +90,16 @@ fn read_listed(
     alloc: Global,
     bytes: &[u8],
     start: usize,
+    linked: bool,
     cost: u32,
 ) -> Result<Certificate, TextFault>
     requires few { length bytes.now ≤ most_certificate_bytes }
     requires start { start ≤ length bytes.now }
-    ensures { Said bytes.now (scan_listed cost (drop start bytes.now)) result }
+    ensures { Said bytes.now (scan_listed linked cost (drop start bytes.now)) result }
 {
     let at = read_word(bytes, start, b"shifts ")?;
     let (count, at) = read_number(bytes, at, 1, CERTIFICATE_SHIFTS, b'\n')?;
-    read_counted(alloc, bytes, at, cost, count)
+    read_counted(alloc, bytes, at, linked, cost, count)
 }
 
 /// So many shifts, and the marks behind them.
@@ -93,12 +107,13 @@ fn read_counted(
     alloc: Global,
     bytes: &[u8],
     start: usize,
+    linked: bool,
     cost: u32,
     count: u32,
 ) -> Result<Certificate, TextFault>
     requires few { length bytes.now ≤ most_certificate_bytes }
     requires start { start ≤ length bytes.now }
-    ensures { Said bytes.now (scan_counted cost count (drop start bytes.now)) result }
+    ensures { Said bytes.now (scan_counted linked cost count (drop start bytes.now)) result }
 {
     let mut shifts = Items::new(alloc);
     let mut at = start;
@@ -111,7 +126,7 @@ fn read_counted(
             Err(fault) => return Err(fault),
         }
     }
-    read_marks(bytes, at, Some(cost), shifts, Items::new(alloc))
+    read_marks(bytes, at, Some(cost), linked, shifts, Items::new(alloc))
 }
 
 /// The line of a shift.
@@ -154,12 +169,13 @@ fn read_marks(
     bytes: &[u8],
     start: usize,
     cost: Option<u32>,
+    linked: bool,
     shifts: Items<Shift>,
     marks: Items<Mark>,
 ) -> Result<Certificate, TextFault>
     requires few { length bytes.now ≤ most_certificate_bytes }
     requires start { start ≤ length bytes.now }
-    ensures { Said bytes.now (scan_marks cost shifts marks (drop start bytes.now)) result }
+    ensures { Said bytes.now (scan_marks cost linked shifts marks (drop start bytes.now)) result }
 {
     let mut marks = marks;
     for at in start..bytes.len() {
@@ -170,6 +186,7 @@ fn read_marks(
             }
             return Ok(Certificate {
                 cost,
+                linked,
                 shifts,
                 marks,
             });

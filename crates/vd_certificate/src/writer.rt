@@ -1,7 +1,7 @@
 //! The text of certificates.
 
 ghost use Rattle.std.specs.Prelude.{◌≡◌, ◌++◌, [], ◌∷◌, OnOk, IfOk, decimal, codes, flat_map};
-ghost use Rattle.vd_certificate.specs.Texts.{claim_text, cost_text, letter, marks_text, shift_text, shifts_text, sign, text_of};
+ghost use Rattle.vd_certificate.specs.Texts.{claim_text, cost_text, heading, letter, marks_text, shift_text, shifts_text, sign, text_of};
 
 use crate::certificate::{Certificate, Mark};
 use itoa::Buffer;
@@ -17,30 +17,45 @@ pub(crate) fn write_certificate(
     ensures { IfOk result (λ text. text ≡ text_of certificate.now) }
 {
     let mut text = Bytes::new(alloc);
-    push_claim(&mut text, certificate.cost, certificate.shifts.as_slice())?;
+    push_claim(
+        &mut text,
+        certificate.cost,
+        certificate.linked,
+        certificate.shifts.as_slice(),
+    )?;
     push_marks(&mut text, certificate.marks.as_slice())?;
     Ok(text)
 }
 
 /// Puts the lines before the marks at the end.
-fn push_claim(text: &mut Bytes, cost: Option<u32>, shifts: &[Shift]) -> Result<(), AllocError>
-    ensures { OnOk result (text.new ≡ text.old ++ claim_text cost shifts.now) }
+fn push_claim(
+    text: &mut Bytes,
+    cost: Option<u32>,
+    linked: bool,
+    shifts: &[Shift],
+) -> Result<(), AllocError>
+    ensures { OnOk result (text.new ≡ text.old ++ claim_text cost linked shifts.now) }
 {
     match cost {
         None => text.extend_from_slice(b"viaduct-cert 1\nempty\n"),
-        Some(cost) => push_bounded(text, cost, shifts),
+        Some(cost) => push_bounded(text, cost, linked, shifts),
     }
 }
 
-/// Puts the lines of a cost at the end, in the second form where there are shifts.
-#[tactic(auto, using(crate::proofs::Forms::first_form, crate::proofs::Forms::second_form))]
-fn push_bounded(text: &mut Bytes, cost: u32, shifts: &[Shift]) -> Result<(), AllocError>
-    ensures { OnOk result (text.new ≡ text.old ++ claim_text (Some cost) shifts.now) }
+/// Puts the lines of a cost at the end, in a further form where there are shifts.
+#[tactic(auto, using(crate::proofs::Forms::first_form, crate::proofs::Forms::further_form))]
+fn push_bounded(
+    text: &mut Bytes,
+    cost: u32,
+    linked: bool,
+    shifts: &[Shift],
+) -> Result<(), AllocError>
+    ensures { OnOk result (text.new ≡ text.old ++ claim_text (Some cost) linked shifts.now) }
 {
     if shifts.is_empty() {
         push_first(text, cost)
     } else {
-        push_second(text, cost, shifts)
+        push_further(text, cost, linked, shifts)
     }
 }
 
@@ -52,13 +67,29 @@ fn push_first(text: &mut Bytes, cost: u32) -> Result<(), AllocError>
     push_cost(text, cost)
 }
 
-/// Puts the lines of the second form at the end.
-fn push_second(text: &mut Bytes, cost: u32, shifts: &[Shift]) -> Result<(), AllocError>
-    ensures { OnOk result (text.new ≡ text.old ++ (codes "viaduct-cert 2\n" ++ cost_text cost ++ shifts_text shifts.now)) }
+/// Puts the lines of the second form at the end, or those of the third, whose shifts name links.
+fn push_further(
+    text: &mut Bytes,
+    cost: u32,
+    linked: bool,
+    shifts: &[Shift],
+) -> Result<(), AllocError>
+    ensures { OnOk result (text.new ≡ text.old ++ (heading linked ++ cost_text cost ++ shifts_text shifts.now)) }
 {
-    text.extend_from_slice(b"viaduct-cert 2\n")?;
+    push_heading(text, linked)?;
     push_cost(text, cost)?;
     push_shifts(text, shifts)
+}
+
+/// Puts the first line of the second form at the end, or that of the third.
+fn push_heading(text: &mut Bytes, linked: bool) -> Result<(), AllocError>
+    ensures { OnOk result (text.new ≡ text.old ++ heading linked) }
+{
+    if linked {
+        text.extend_from_slice(b"viaduct-cert 3\n")
+    } else {
+        text.extend_from_slice(b"viaduct-cert 2\n")
+    }
 }
 
 /// Puts the line of a cost at the end.

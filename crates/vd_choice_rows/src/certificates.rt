@@ -13,9 +13,16 @@ const FIRST_FORM: &[u8] = b"viaduct-cert 1\ncost 222\nEEVEVVVVVVELBBVVBBVVVVVVVV
 const SECOND_FORM: &[u8] =
     b"viaduct-cert 2\ncost 222\nshifts 1\n3 0 0 + 1\nEEVEVVVVVVELBBVVBBVVVVVVVVVVV\n";
 
+/// The same with a shift of a link.
+const THIRD_FORM: &[u8] =
+    b"viaduct-cert 3\ncost 222\nshifts 1\n3 1 1 - 256\nEEVEVVVVVVELBBVVBBVVVVVVVVVVV\n";
+
 /// Texts and the offset at which each is refused.
-const REFUSED: [(&[u8], u32); 10] = [
-    (b"viaduct-cert 3\n", 13),
+const REFUSED: [(&[u8], u32); 13] = [
+    (b"viaduct-cert 4\n", 13),
+    (b"viaduct-cert 3\n", 15),
+    (b"viaduct-cert 3\nempty\n\n", 15),
+    (b"viaduct-cert 3\ncost 1\nshifts 0\n", 29),
     (b"viaduct-cert 2\nempty\n\n", 15),
     (b"viaduct-cert 1\ncost 0222\n\n", 21),
     (b"viaduct-cert 1\ncost 4294967296\n\n", 29),
@@ -52,7 +59,7 @@ fn refused_at(alloc: Global, bytes: &[u8]) -> Option<u32> {
 #[test]
 fn certificates_are_read_and_written(rt: HostRuntime) -> Result<(), Fail> {
     let alloc = rt.alloc();
-    for text in [FIRST_FORM, SECOND_FORM] {
+    for text in [FIRST_FORM, SECOND_FORM, THIRD_FORM] {
         let certificate = read(alloc, text)?;
         let written = certificate.write(alloc)?;
         assert_eq!(rt; written.as_slice(), text);

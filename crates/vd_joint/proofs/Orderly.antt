@@ -18,7 +18,7 @@ use Rattle.vd_joint.specs.Joint.{Hosts, Each, IsIn, acts_then, and_then}
 use Rattle.vd_joint.specs.Suite.{is_at, picked, Made, Suite, Laws, hosts_of}
 use Rattle.vd_joint.specs.Emission.{Emission, Emitted, delivered, delivered_at, right_acts_at, loop_registers, after_loop_registers}
 use Rattle.vd_joint.specs.Validity.{Fits, emission_of, turns_at, Placed}
-use Rattle.vd_joint.specs.Places.{is_part, acting, active, Tidy, Where, Places}
+use Rattle.vd_joint.specs.Places.{is_part, acting, active, Tidy, NeedsItsLoops, Where, Places}
 use Rattle.vd_joint.proofs.Lists.{and_left, and_right, or_left, or_right, or_cases, AreApart, InRow, row_front, row_back}
 use Rattle.vd_joint.proofs.Sight.{Binding, Variable, Array, with_use}
 use Rattle.vd_joint.proofs.Tied.{part}
@@ -139,6 +139,14 @@ or_false : (b : Bool) → (b || false) ≡ true → b ≡ true
 or_false true e = refl
 or_false false e = e
 
+or_moved : (a b c : Bool) → ((a || b) || c) ≡ true → (a || (b || c)) ≡ true
+or_moved true b c e = refl
+or_moved false b c e = e
+
+or_onto : (a b c : Bool) → (b ≡ true → c ≡ true) → (a || b) ≡ true → (a || c) ≡ true
+or_onto true b c f e = refl
+or_onto false b c f e = f e
+
 -- what holds of a host below a bound, from either of two tests
 in_either : (n h : ℕ) (a b c : Bool) → (a ≡ true → (h < n) × (c ≡ true)) → (b ≡ true → (h < n) × (c ≡ true)) → (a || b) ≡ true → (h < n) × (c ≡ true)
 in_either n h a b c f g e = at (or_cases a b e)
@@ -154,6 +162,22 @@ module _ (m : Hosts) where
       or_both (m.acts_at x h) (active m (acts_then xs j) h) ((m.acts_at x h || acting m xs h) || active m j h) (λ i. or_left (m.acts_at x h || acting m xs h) (active m j h) (or_left (m.acts_at x h) (acting m xs h) i))
       (λ i. or_both (acting m xs h) (active m j h) ((m.acts_at x h || acting m xs h) || active m j h) (λ k. or_left (m.acts_at x h || acting m xs h) (active m j h) (or_right (m.acts_at x h) (acting m xs h) k))
       (or_right (m.acts_at x h || acting m xs h) (active m j h)) (active_acts xs j h i)) e
+
+  acts_active : (xs : List m.Act) (j : Plan m.Act) (h : ℕ) → (acting m xs h || active m j h) ≡ true → active m (acts_then xs j) h ≡ true
+  acts_active [] j h e = e
+  acts_active (x ∷ xs) j h e =
+      or_onto (m.acts_at x h) (acting m xs h || active m j h) (active m (acts_then xs j) h) (acts_active xs j h) (or_moved (m.acts_at x h) (acting m xs h) (active m j h) e)
+
+  then_active : (j k : Plan m.Act) (h : ℕ) → (active m j h || active m k h) ≡ true → active m (and_then j k) h ≡ true
+  then_active Ends k h e = e
+  then_active (Then x r) k h e =
+      or_onto (m.acts_at x h) (active m r h || active m k h) (active m (and_then r k) h) (then_active r k h) (or_moved (m.acts_at x h) (active m r h) (active m k h) e)
+  then_active (Branch ps t f r) k h e =
+      let here = is_part ps h || active m t h || active m f h in
+      or_onto here (active m r h || active m k h) (active m (and_then r k) h) (then_active r k h) (or_moved here (active m r h) (active m k h) e)
+  then_active (Loop ps count b r) k h e =
+      let here = is_part ps h || active m b h in
+      or_onto here (active m r h || active m k h) (active m (and_then r k) h) (then_active r k h) (or_moved here (active m r h) (active m k h) e)
 
   active_then : (j k : Plan m.Act) (h : ℕ) → active m (and_then j k) h ≡ true → (active m j h || active m k h) ≡ true
   active_then Ends k h e = e
@@ -183,20 +207,43 @@ module _ (m : Hosts) where
   tidy_then (Branch ps a b r) k t u = (t.0, t.1, t.2, t.3, tidy_then r k t.4 u)
   tidy_then (Loop ps count b r) k t u = (t.0, t.1, t.2, t.3, tidy_then r k t.4 u)
 
-  -- a plan acts at these of the first hosts alone, and is tidy
+  needed_acts : (xs : List m.Act) (j : Plan m.Act) → NeedsItsLoops m j → NeedsItsLoops m (acts_then xs j)
+  needed_acts [] j t = t
+  needed_acts (x ∷ xs) j t = needed_acts xs j t
+
+  needed_then : (j k : Plan m.Act) → NeedsItsLoops m j → NeedsItsLoops m k → NeedsItsLoops m (and_then j k)
+  needed_then Ends k t u = u
+  needed_then (Then x r) k t u = needed_then r k t u
+  needed_then (Branch ps a b r) k t u = (t.0, t.1, needed_then r k t.2 u)
+  needed_then (Loop ps count b r) k t u = (t.0, t.1, needed_then r k t.2 u)
+
+  -- a plan acts at exactly these of the first hosts, is tidy, and needs its loops
   pub record Orderly (n : ℕ) (plan : Plan m.Act) (place : ℕ → Bool) : Type 0 where
     pub at : (h : ℕ) → active m plan h ≡ true → (h < n) × (place h ≡ true)
+    pub all : (h : ℕ) → h < n → place h ≡ true → active m plan h ≡ true
     pub tidy : Tidy m plan
+    pub needed : NeedsItsLoops m plan
 
   of_acts : (n : ℕ) (acts : List m.Act) (place : ℕ → Bool) → Where m n acts place → Orderly n (acts_then acts Ends) place
-  of_acts n acts place a = record { at = λ h i. a.at h (or_false (acting m acts h) (active_acts acts Ends h i)); tidy = tidy_acts acts Ends a.tidy tt }
+  of_acts n acts place a = record {
+    at = λ h i. a.at h (or_false (acting m acts h) (active_acts acts Ends h i));
+    all = λ h lt i. acts_active acts Ends h (or_left (acting m acts h) false (a.all h lt i));
+    tidy = tidy_acts acts Ends a.tidy tt;
+    needed = needed_acts acts Ends tt;
+  }
 
   and_next : (n : ℕ) (one two : Plan m.Act) (p q : ℕ → Bool) → Orderly n one p → Orderly n two q → Orderly n (and_then one two) (λ h. p h || q h)
   and_next n one two p q a b = record {
     at = λ h i. in_either n h (active m one h) (active m two h) (p h || q h) (λ j. let z = a.at h j in (z.0, or_left (p h) (q h) z.1)) (λ j. let z = b.at h j in (z.0, or_right (p h) (q h) z.1))
         (active_then one two h i);
+    all = λ h lt i. then_active one two h (joined h lt (or_cases (p h) (q h) i));
     tidy = tidy_then one two a.tidy b.tidy;
+    needed = needed_then one two a.needed b.needed;
   }
+    where
+      joined : (h : ℕ) → h < n → (p h ≡ true) ⊎ (q h ≡ true) → (active m one h || active m two h) ≡ true
+      joined h lt (inl e) = or_left (active m one h) (active m two h) (a.all h lt e)
+      joined h lt (inr e) = or_right (active m one h) (active m two h) (b.all h lt e)
 
 module _ (m : Hosts) (s : Suite m) (proto : ℕ → Proto) (laws : Laws m s) (places : Places m s) (declared : (x : ℕ) → s.Declared (proto x)) where
   abbrev n : ℕ
@@ -228,6 +275,9 @@ module _ (m : Hosts) (s : Suite m) (proto : ℕ → Proto) (laws : Laws m s) (pl
     abbrev place : ℕ → Bool
     place h = delivered_at s.calls proto (proto x.0) (picked 0 n takes) h || (emits t).takes_part h || (emits f).takes_part h
 
+    abbrev branched : ℕ → Bool
+    branched h = active m (Branch guard.given first second Ends) h
+
     by_guard : (h : ℕ) → delivered_at s.calls proto (proto x.0) (picked 0 n takes) h ≡ true → place h ≡ true
     by_guard h i = or_left (delivered_at s.calls proto (proto x.0) (picked 0 n takes) h || (emits t).takes_part h) ((emits f).takes_part h) (or_left (delivered_at s.calls proto (proto x.0) (picked 0 n takes) h) ((emits t).takes_part h) i)
 
@@ -246,6 +296,10 @@ module _ (m : Hosts) (s : Suite m) (proto : ℕ → Proto) (laws : Laws m s) (pl
           (in_either n h (is_part guard.given h) (active m first h) (place h) (λ k. let z = picked_bound takes 0 n h (sym (is_told h) ∙ k) in (below z.0, by_taking h z.1)) (λ k. taken h (in_first h k)))
           (λ k. taken h (in_second h k)) (or_false (is_part guard.given h || active m first h || active m second h) j))
           (active_acts m guard.acts (Branch guard.given first second Ends) h i);
+      all = λ h lt i.
+          acts_active m guard.acts (Branch guard.given first second Ends) h
+          (placed h lt (or_cases (delivered_at s.calls proto (proto x.0) (picked 0 n takes) h || (emits t).takes_part h) ((emits f).takes_part h) i));
+      needed = needed_acts m guard.acts (Branch guard.given first second Ends) (a.needed, b.needed, tt);
       tidy = tidy_acts m guard.acts (Branch guard.given first second Ends) d.tidy (
         apart,
         (λ h i. is_told h ∙ inside h (in_either n h (active m first h) (active m second h) (takes h) (in_first h) (in_second h) i)),
@@ -270,10 +324,27 @@ module _ (m : Hosts) (s : Suite m) (proto : ℕ → Proto) (laws : Laws m s) (pl
         inside : (h : ℕ) → (h < n) × (takes h ≡ true) → list_any (λ (q : HostId). nat_eq h q.0) (picked 0 n takes) ≡ true
         inside h z = picked_has takes 0 n h (omega arith) (let lt = z.0 in omega (arith, lt)) z.1
 
+        by_part : (h : ℕ) → h < n → takes h ≡ true → (acting m guard.acts h || branched h) ≡ true
+        by_part h lt e =
+            or_right (acting m guard.acts h) (branched h)
+            (or_left (is_part guard.given h || active m first h || active m second h) false
+            (or_left (is_part guard.given h || active m first h) (active m second h) (or_left (is_part guard.given h) (active m first h) (is_told h ∙ inside h (lt, e)))))
+
+        told_or_first : (h : ℕ) → h < n → (delivered_at s.calls proto (proto x.0) (picked 0 n takes) h ≡ true) ⊎ ((emits t).takes_part h ≡ true) → (acting m guard.acts h || branched h) ≡ true
+        told_or_first h lt (inl e) = or_left (acting m guard.acts h) (branched h) (d.all h lt e)
+        told_or_first h lt (inr e) = by_part h lt (or_left ((emits t).takes_part h) ((emits f).takes_part h) e)
+
+        placed : (h : ℕ) → h < n → ((delivered_at s.calls proto (proto x.0) (picked 0 n takes) h || (emits t).takes_part h) ≡ true) ⊎ ((emits f).takes_part h ≡ true)
+            → (acting m guard.acts h || branched h) ≡ true
+        placed h lt (inl e) = told_or_first h lt (or_cases (delivered_at s.calls proto (proto x.0) (picked 0 n takes) h) ((emits t).takes_part h) e)
+        placed h lt (inr e) = by_part h lt (or_right ((emits t).takes_part h) ((emits f).takes_part h) e)
+
   loop_orderly : (has : ℕ → Bool) (next : List ℕ) (count : ℕ) (tree : Plan m.Act) → length next ≡ n → count ≤ 2 ^ 32 → Orderly m n tree has → Orderly m n (Loop (loop_registers has 0 next) count tree Ends) has
   loop_orderly has next count tree len small a = record {
     at = λ h i. in_either n h (is_part (loop_registers has 0 next) h) (active m tree h) (has h) (λ j. let z = part_in has 0 next h j in (below z.0, z.1)) (a.at h)
         (or_false (is_part (loop_registers has 0 next) h || active m tree h) i);
+    all = λ h lt i. or_left (is_part (loop_registers has 0 next) h || active m tree h) false (or_right (is_part (loop_registers has 0 next) h) (active m tree h) (a.all h lt i));
+    needed = ((λ h i. let z = part_in has 0 next h i in a.all h (below z.0) z.1), a.needed, tt);
     tidy = (
       loop_apart has 0 next,
       (λ h i. let z = a.at h i in takes_part (loop_registers has 0 next) h (slice_index next h) (has_register has next h (subst (λ k. h < k) (sym len) z.0) z.1)),
@@ -305,7 +376,7 @@ module _ (m : Hosts) (s : Suite m) (proto : ℕ → Proto) (laws : Laws m s) (pl
       sum p q = omega arith
 
   pub orderly : (b : Block) → Does b
-  orderly End o k row all fits placed e w c turn has is needs small t ts = record { at = λ h i. absurd (wrong i); tidy = tt }
+  orderly End o k row all fits placed e w c turn has is needs small t ts = record { at = λ h i. absurd (wrong i); all = λ h lt i. i; tidy = tt; needed = tt }
     where
       wrong : false ≡ true → ⊥
       wrong e = cc

@@ -27,7 +27,7 @@ use Rattle.vd_joint.proofs.Sight.{Use, Binding, Variable, Array, Sees}
 use Rattle.vd_joint.proofs.Tied.{Tied}
 use Rattle.vd_joint.proofs.Steps.{After}
 use Rattle.vd_joint.proofs.Folds.{fold_each}
-use Rattle.vd_joint.specs.Places.{active, Tidy, Places}
+use Rattle.vd_joint.specs.Places.{active, Tidy, NeedsItsLoops, Places}
 use Rattle.vd_joint.proofs.Blocks.{slots, sees, effect_of, means}
 use Rattle.vd_joint.proofs.Orderly.{Orderly, orderly}
 
@@ -249,6 +249,9 @@ module _ (m : Hosts) (s : Suite m) (proto : ℕ → Proto) where
 
     pub program_tidy : Places m s → Tidy m (plan_of m s proto program)
     program_tidy places = subst (Tidy m) (sym same_tree) (plan_orderly places).tidy
+
+    pub program_needs_its_loops : Places m s → NeedsItsLoops m (plan_of m s proto program)
+    program_needs_its_loops places = subst (NeedsItsLoops m) (sym same_tree) (plan_orderly places).needed
 
     pub program_within : Places m s → (h : ℕ) → active m (plan_of m s proto program) h ≡ true → h < s.calls.hosts
     program_within places h i = ((plan_orderly places).at h (subst (λ (j : Plan m.Act). active m j h ≡ true) same_tree i)).0

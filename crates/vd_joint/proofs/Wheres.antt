@@ -33,14 +33,22 @@ module _ (m : Hosts) where
   acting_append xs ys h e = or_cases (acting m xs h) (acting m ys h) (sym (list_any-append (λ a. m.acts_at a h) xs ys) ∙ e)
 
   pub where_on : (n : ℕ) (xs ys : List m.Act) (p q : ℕ → Bool) → Where m n xs p → Where m n ys q → Where m n (xs ++ ys) (λ h. p h || q h)
-  where_on n xs ys p q a b = record { tidy = each_append xs ys a.tidy b.tidy; at = λ h e. split h (acting_append xs ys h e) }
+  where_on n xs ys p q a b = record {
+    tidy = each_append xs ys a.tidy b.tidy;
+    at = λ h e. split h (acting_append xs ys h e);
+    all = λ h lt e. list_any-append (λ x. m.acts_at x h) xs ys ∙ joined h lt (or_cases (p h) (q h) e);
+  }
     where
+      joined : (h : ℕ) → h < n → (p h ≡ true) ⊎ (q h ≡ true) → (acting m xs h || acting m ys h) ≡ true
+      joined h lt (inl e) = or_left (acting m xs h) (acting m ys h) (a.all h lt e)
+      joined h lt (inr e) = or_right (acting m xs h) (acting m ys h) (b.all h lt e)
+
       split : (h : ℕ) → (acting m xs h ≡ true) ⊎ (acting m ys h ≡ true) → (h < n) × ((p h || q h) ≡ true)
       split h (inl e) = let z = a.at h e in (z.0, or_left (p h) (q h) z.1)
       split h (inr e) = let z = b.at h e in (z.0, or_right (p h) (q h) z.1)
 
-  pub where_none : (n : ℕ) (p : ℕ → Bool) → Where m n [] p
-  where_none n p = record { tidy = tt; at = λ h e. absurd (wrong e) }
+  pub where_none : (n : ℕ) → Where m n [] (λ h. false)
+  where_none n = record { tidy = tt; at = λ h e. absurd (wrong e); all = λ h lt e. e }
     where
       wrong : false ≡ true → ⊥
       wrong e = cc
@@ -51,7 +59,7 @@ module _ (m : Hosts) (s : Suite m) (proto : ℕ → Proto) (laws : Laws m s) (pl
 
   pub delivered_where : (p : Proto) → s.Declared p → (x : s.Parts) (v : ℕ) (hs : List HostId) → Each (λ h. (h.0 < s.calls.hosts) × (s.joins p (Local h) ≡ true)) hs → (next : List ℕ) (w : m.World) → Ready m s next w
       → Operand m s next w p x v → Where m n (delivered s.calls proto p x hs next).acts (delivered_at s.calls proto p hs)
-  delivered_where p d x v [] e next w ready o = where_none m n (λ h. false)
+  delivered_where p d x v [] e next w ready o = where_none m n
   delivered_where p d x v (k ∷ hs) e next w ready o =
       let one = s.calls.move p (Local k) x next in
       let g = laws.move_law p (Local k) d (laws.local_is_declared k e.0.0) e.0.1 x v next w ready o in
@@ -63,7 +71,7 @@ module _ (m : Hosts) (s : Suite m) (proto : ℕ → Proto) (laws : Laws m s) (pl
   operands_where : (q : Proto) → s.Declared q → (source : ℕ → ℕ → Type 0) (e : Emitting s.calls proto) (word : SlotId → ℕ) (xs : List SlotId) (next : List ℕ) (w : m.World) → Ready m s next w
       → Each (λ x. Movable m s laws proto next w source q (proto x.0) (slice_index_or e.held x.0 s.calls.nowhere) (word x)) xs
       → Where m n (all_moved s.calls proto q e xs next).acts (λ h. list_any (λ y. s.calls.moves_at (proto y.0) q h) xs)
-  operands_where q d source e word [] next w ready h = where_none m n (λ h. false)
+  operands_where q d source e word [] next w ready h = where_none m n
   operands_where q d source e word (x ∷ xs) next w ready h =
       let o = h.0 in
       let y = slice_index_or e.held x.0 s.calls.nowhere in

@@ -35,10 +35,18 @@ module _ (m : Hosts) where
   Tidy (Branch ps t e r) = Apart ps × ((h : ℕ) → (active t h || active e h) ≡ true → is_part ps h ≡ true) × Tidy t × Tidy e × Tidy r
   Tidy (Loop ps n b r) = Apart ps × ((h : ℕ) → active b h ≡ true → is_part ps h ≡ true) × (n ≤ 2 ^ 32) × Tidy b × Tidy r
 
-  -- acts are well formed, and at these of the first hosts alone
+  -- who takes part in a loop has an instruction of its body
+  abbrev pub NeedsItsLoops : Plan m.Act → Type 0
+  NeedsItsLoops Ends = Unit {0}
+  NeedsItsLoops (Then x r) = NeedsItsLoops r
+  NeedsItsLoops (Branch ps t e r) = NeedsItsLoops t × NeedsItsLoops e × NeedsItsLoops r
+  NeedsItsLoops (Loop ps n b r) = ((h : ℕ) → is_part ps h ≡ true → active b h ≡ true) × NeedsItsLoops b × NeedsItsLoops r
+
+  -- acts are well formed, and at exactly these of the first hosts
   pub record Where (hosts : ℕ) (acts : List m.Act) (place : ℕ → Bool) : Type 0 where
     pub tidy : Each m.IsTidy acts
     pub at : (h : ℕ) → acting acts h ≡ true → (h < hosts) × (place h ≡ true)
+    pub all : (h : ℕ) → h < hosts → place h ≡ true → acting acts h ≡ true
 
   -- Where the calls of a suite have instructions. Each call is made as its law asks.
   pub record Places (s : Suite m) : Type 0 where

@@ -1,5 +1,5 @@
 -- A link in memory that passes so many bytes a call at most, and fails at listed calls.
-use Rattle.std.specs.Prelude.{ℕ, List, length, min, max, take, if◌then◌else◌, ◌-◌, ◌^◌}
+use Rattle.std.specs.Prelude.{ℕ, List, length, min, max, take, drop, ◌++◌, if◌then◌else◌, ◌-◌, ◌^◌}
 use Rattle.vd_outside.specs.Link.{LinkView}
 use Rattle.vd_outside.specs.Memory.{fails_next, failures_at, with_call, with_fault}
 use Rattle.vd_outside.specs.Recorded.{kept}
@@ -41,6 +41,11 @@ after_limited_receive link len =
     if fails_next link.failures
     then record link { failures = with_fault link.failures }
     else record link { held = after_receive link.held (min len (max link.most 1)); failures = with_call link.failures }
+
+-- what a receive leaves in a piece
+abbrev pub piece_left : MemLinkState → List ℕ → List ℕ
+piece_left link piece =
+    if fails_next link.failures then piece else take (share_in link (length piece)) link.held.coming ++ drop (share_in link (length piece)) piece
 
 -- one on which these bytes will come, with room for so many that are sent; it fails at the calls with these numbers
 abbrev pub fresh_limited_link : List ℕ → ℕ → ℕ → List ℕ → MemLinkState

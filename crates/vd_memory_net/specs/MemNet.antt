@@ -1,5 +1,5 @@
 -- A net in memory that fails at listed calls, and where no link is left.
-use Rattle.std.specs.Prelude.{◌≡◌, ◌≤◌, ◌+◌, ◌||◌, ℕ, Bool, true, false, List, [], ◌∷◌, ◌++◌, length, map, slice_get, Some, None, is_none, Result, Ok, Err}
+use Rattle.std.specs.Prelude.{◌≡◌, ◌≤◌, ◌+◌, ◌||◌, ℕ, nat_lt, Bool, true, false, if◌then◌else◌, List, [], ◌∷◌, ◌++◌, length, map, slice_get, Some, None, is_none, Result, Ok, Err}
 use Rattle.std.specs.Result.{result_map_both}
 use Rattle.vd_base.specs.declared.faults.CallFault.{CallFault}
 use Rattle.vd_base.specs.declared.faults.CallFault.TheVariants as call_fault
@@ -49,6 +49,14 @@ no_link_left address net = is_none (link_at address net.waiting None)
 -- how the net is after a fault at a call
 abbrev pub after_fault : MemNetState → NetCall → MemNetState
 after_fault net call = record net { asked = net.asked ++ call ∷ []; failures = record net.failures { faults = one_more net.failures.faults } }
+
+-- How the net is after a link came back: it is kept, unless as many came back as were given. If it failed, that is a fault of
+-- the net; this is no call that has a number.
+abbrev pub after_hang_up : MemLinkState → MemNetState → MemNetState
+after_hang_up link net = record net {
+  back = if nat_lt (length net.back) net.links then net.back ++ link ∷ [] else net.back;
+  failures = if nat_lt 0 link.failures.faults then record net.failures { faults = one_more net.failures.faults } else net.failures;
+}
 
 -- a link is given at an address, or none
 abbrev pub Gives : List ℕ → NetCall → Bool → MemNetState → MemNetState → Result MemLinkState CallFault → Type 0

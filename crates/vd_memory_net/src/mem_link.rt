@@ -1,6 +1,6 @@
 ghost use Rattle.std.specs.Prelude.{◌≡◌, ◌↔◌, ◌<◌, IsTrue, IsErr, IfOk, length};
 ghost use Rattle.vd_outside.specs.Link.{Sends, Receives};
-ghost use Rattle.vd_memory_net.specs.MemLink.{after_limited_receive, after_send, fresh_limited_link, limited_link_view, share_in, share_out};
+ghost use Rattle.vd_memory_net.specs.MemLink.{after_limited_receive, after_send, fresh_limited_link, limited_link_view, piece_left, share_in, share_out};
 ghost use Rattle.vd_outside.specs.Memory.{fails_next};
 
 use std::alloc::{AllocError, Global};
@@ -88,6 +88,7 @@ impl Link for MemLink {
         ensures receive { Receives into.new (limited_link_view self.old) (limited_link_view self.new) result }
         ensures fails { IsErr result ↔ IsTrue (fails_next self.old.failures) }
         ensures count { IfOk result (λ count. count ≡ share_in self.old (length into.old)) }
+        ensures piece { into.new ≡ piece_left self.old into.old }
         ensures state { self.new ≡ after_limited_receive self.old (length into.old) }
     {
         if self.failures.next_fails() {

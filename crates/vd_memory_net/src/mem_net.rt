@@ -1,6 +1,7 @@
 ghost use Rattle.std.specs.Prelude.{◌≡◌, ◌<◌, [], ◌∷◌, ◌++◌, false, length, slice_get, Some, IfOk, OnOk, OnErr};
-ghost use Rattle.vd_outside.specs.Net.{Accepts, Connects, Listens};
-ghost use Rattle.vd_memory_net.specs.MemNet.{AcceptsAsListed, FailsAsListed, Gives, listed_net_view, no_link_left, no_links, told_link};
+ghost use Rattle.vd_outside.specs.Net.{Accepts, Connects, HangsUp, Listens};
+ghost use Rattle.vd_memory_net.specs.MemLink.{limited_link_view};
+ghost use Rattle.vd_memory_net.specs.MemNet.{AcceptsAsListed, FailsAsListed, Gives, after_hang_up, listed_net_view, no_link_left, no_links, told_link};
 
 use crate::MemLink;
 use crate::waiting::take_link;
@@ -159,7 +160,10 @@ impl Net for MemNet {
         self.give(address, call, fails)
     }
 
-    fn hang_up(&mut self, link: MemLink) {
+    fn hang_up(&mut self, link: MemLink)
+        ensures hang_up { HangsUp (limited_link_view link) (listed_net_view self.old) (listed_net_view self.new) }
+        ensures state { self.new ≡ after_hang_up link self.old }
+    {
         if link.faults() > 0 {
             self.failures.count_fault();
         }

@@ -1,30 +1,28 @@
 //! Places as a terminal shows them.
 
-use std::process::Abort;
-use std::test::Fail;
+use std::alloc::Global;
+use std::io::{self, Write};
 use vd_place::excerpt;
 
-#[test]
-fn columns_are_those_of_a_terminal(rt: HostRuntime) -> Result<(), Fail> {
-    let bytes = "one\n日本 x\u{1b}[0m y\r\nthree".as_bytes();
-    let text = excerpt(rt.alloc(), false, "f", bytes, 11, b"here")?;
-    let wanted = "f:2:6: here\n日本 x [0m y \n     ^\n";
-    assert_eq!(rt; text.as_slice(), wanted.as_bytes());
-    Ok(())
-}
+/// What is wrong, whether colours are wanted, bytes, and the offset that is pointed at.
+const ROWS: [(&str, bool, &[u8], usize); 3] = [
+    (
+        "columns of a terminal",
+        false,
+        b"one\n\xe6\x97\xa5\xe6\x9c\xac x\x1b[0m y\r\nthree",
+        11,
+    ),
+    ("colours", true, b"ab", 1),
+    ("what is no text", false, b"a\xff\xc2\x9bb", 4),
+];
 
-#[test]
-fn colours_are_given_where_they_are_wanted(rt: HostRuntime) -> Result<(), Fail> {
-    let text = excerpt(rt.alloc(), true, "f", b"ab", 1, b"here")?;
-    let wanted = "\u{1b}[1mf:1:2:\u{1b}[0m here\nab\n \u{1b}[1;31m^\u{1b}[0m\n";
-    assert_eq!(rt; text.as_slice(), wanted.as_bytes());
-    Ok(())
-}
-
-#[test]
-fn what_is_no_text_is_replaced(rt: HostRuntime) -> Result<(), Fail> {
-    let text = excerpt(rt.alloc(), false, "f", b"a\xff\xc2\x9bb", 4, b"here")?;
-    let wanted = "f:1:5: here\na\u{fffd} \u{fffd}b\n    ^\n";
-    assert_eq!(rt; text.as_slice(), wanted.as_bytes());
+/// Prints the excerpt of each row.
+pub fn print<W: Write>(to: &mut W, alloc: Global) -> io::Result<()> {
+    for (name, colours, bytes, offset) in ROWS {
+        let text = excerpt(alloc, colours, "f", bytes, offset, b"here")?;
+        to.write_all(name.as_bytes())?;
+        to.write_all(b"\n")?;
+        to.write_all(text.as_slice())?;
+    }
     Ok(())
 }

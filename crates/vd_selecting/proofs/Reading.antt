@@ -29,10 +29,10 @@ certificate_ok certificates name bytes seen before now result l is c = both_step
 pub from_file : (c : Certificate) (bytes : List ℕ) → IsTextOf c bytes → length bytes ≤ most_certificate_bytes → IsFromFile c
 from_file c bytes is few = record { few_shifts = is.is.few; few_marks = marks }
   where
-    marks : length c.marks < 4294967295
+    marks : length c.marks < 4294967296
     marks =
         let whole = ap (λ (b : List ℕ). length b) is.text in
-        let one = length-append (claim_text c.cost c.shifts) (marks_text c.marks) in
+        let one = length-append (claim_text c.cost c.linked c.shifts) (marks_text c.marks) in
         let two = length-append (map letter c.marks) (10 ∷ []) in
         let three = length-map c.marks letter in
         omega (arith, whole, one, two, three)

@@ -38,7 +38,7 @@ certificate_then certificates name rest = file_then name most_certificate_bytes 
 -- what a certificate keeps that comes from a file
 pub record IsFromFile (certificate : Certificate) : Type 0 where
   pub few_shifts : length certificate.shifts ≤ most_certificate_shifts
-  pub few_marks : length certificate.marks < 4294967295
+  pub few_marks : length certificate.marks < 4294967296
 
 -- the status of a certificate that is not accepted
 abbrev pub check_status : CheckFault → Status

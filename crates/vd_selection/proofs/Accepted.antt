@@ -4,7 +4,7 @@ use Rattle.std.specs.Prelude.{nat_lt}
 use Rattle.std.specs.List.{AllByRecursion}
 use Rattle.std.specs.Option.{option_map_or}
 use Rattle.std.proofs.lemmas.Int.{ints}
-use Rattle.std.proofs.lemmas.Bool.{lt-ltb, and_from}
+use Rattle.std.proofs.lemmas.Bool.{true≢false, lt-ltb, and_from}
 use Rattle.vd_base.specs.Limits.{most_certificate_shifts}
 use Rattle.vd_prefixes.specs.declared.shift.Shift.{Shift}
 use Rattle.vd_prefixes.specs.Trees.{Tree, IsWhole, IsBounded, IsChoice, IsEmpty, InOrder, count_valid, count_within}
@@ -43,7 +43,7 @@ none_bad problem at (shift ∷ shifts) named =
 
 -- the checker answers of the marks, where all shifts name something
 without_bad : (problem : Problem) (stated : Option ℕ) (shifts : List Shift) (marks : List Mark) → first_bad (length problem.uses) (length (protocols problem)) 0 shifts ≡ None
-    → confirmed problem (record { cost = stated; shifts = shifts; marks = marks }) ≡ checked (tree_of problem shifts) stated marks
+    → confirmed problem (record { cost = stated; linked = false; shifts = shifts; marks = marks }) ≡ checked (tree_of problem shifts) stated marks
 without_bad problem stated shifts marks none = rw none refl
 
 are_shifts : (problem : Problem) (shifts : List Shift) → AllByRecursion (NamesUse problem) shifts → AllByRecursion IsShift shifts
@@ -102,14 +102,14 @@ module _ (problem : Problem) (is : IsProblem problem) where
 
   pub found_selects : (shifts : List Shift) (budget least : ℕ) (list : List ℕ) (marks : List Mark) → AllByRecursion (NamesUse problem) shifts → length shifts ≤ most_certificate_shifts
       → IsLeast (tree_of problem shifts) list least → IsSound (tree_of problem shifts) (Some least) marks → count_of is_expanded marks ≤ budget
-      → Selects problem budget (Found list least (record { cost = Some least; shifts = shifts; marks = marks }))
+      → Selects problem budget (Found list least (record { cost = Some least; linked = false; shifts = shifts; marks = marks }))
   found_selects shifts budget least list marks named few choice sound within = (
     choice_under shifts [] list choice.choice,
     sym (costs shifts list choice.choice.whole) ∙ choice.costs,
     record {
       proved = (sound_is_yes (tree_of problem shifts) (Some least) marks sound).0;
       accepted = without_bad problem (Some least) shifts marks (none_bad problem 0 shifts named) ∙ (sound_is_yes (tree_of problem shifts) (Some least) marks sound).1;
-      has_text = record { cost = fits; few = few; shifts = are_shifts problem shifts named; none = λ e. absurd (cc e) };
+      has_text = record { cost = fits; few = few; shifts = are_shifts problem shifts named; none = λ e. absurd (cc e); some = λ e. absurd (true≢false (sym e)) };
       within = within;
     },
   )
@@ -123,13 +123,13 @@ module _ (problem : Problem) (is : IsProblem problem) where
           omega (arith, ints, small, one, two)
 
   pub none_selects : (shifts : List Shift) (budget : ℕ) (marks : List Mark) → IsEmpty (tree_of problem shifts) → IsSound (tree_of problem shifts) None marks → count_of is_expanded marks ≤ budget
-      → Selects problem budget (NoAssignment (record { cost = None; shifts = []; marks = marks }))
+      → Selects problem budget (NoAssignment (record { cost = None; linked = false; shifts = []; marks = marks }))
   none_selects shifts budget marks empty sound within = (
     empty_under shifts [] empty,
     record {
       proved = (sound_is_yes (tree_of problem []) None marks under).0;
       accepted = without_bad problem None [] marks refl ∙ (sound_is_yes (tree_of problem []) None marks under).1;
-      has_text = record { cost = tt; few = omega arith; shifts = tt; none = λ e. refl };
+      has_text = record { cost = tt; few = omega arith; shifts = tt; none = λ e. refl; some = λ e. absurd (true≢false (sym e)) };
       within = within;
     },
   )

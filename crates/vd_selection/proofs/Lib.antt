@@ -4,3 +4,4 @@ pub mod Accepted
 pub mod Named
 pub mod Answered
 pub mod Staged
+pub mod ByLinks

@@ -3,3 +3,4 @@ pub mod Confirming
 pub mod Selecting
 pub mod Naming
 pub mod Stages
+pub mod Linking

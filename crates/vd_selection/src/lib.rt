@@ -3,6 +3,7 @@
 
 mod confirming;
 mod laws;
+mod linking;
 mod selecting;
 mod stages;
 

@@ -1,6 +1,6 @@
 //! The search for the choice.
 
-ghost use Rattle.std.specs.Prelude.{◌≡◌, ◌≤◌, ◌<◌, IfOk, Err, length};
+ghost use Rattle.std.specs.Prelude.{◌≡◌, ◌≤◌, ◌<◌, IfOk, Err, false, length};
 ghost use Rattle.std.specs.List.{AllByRecursion};
 ghost use Rattle.vd_base.specs.Limits.{most_certificate_shifts};
 ghost use Rattle.vd_path.specs.Tables.{AreTables};
@@ -84,6 +84,7 @@ pub fn select_by(
         }
         Ok(Answer::Empty(marks)) => Ok(Selection::NoAssignment(Certificate {
             cost: None,
+            linked: false,
             shifts: Items::new(alloc),
             marks,
         })),
@@ -99,11 +100,12 @@ fn least_certificate(
     cost: u32,
     marks: Items<Mark>,
 ) -> Result<Certificate, AllocError>
-    ensures { IfOk result (λ c. c ≡ record { cost = Some cost; shifts = tables.now.shifts; marks = marks }) }
+    ensures { IfOk result (λ c. c ≡ record { cost = Some cost; linked = false; shifts = tables.now.shifts; marks = marks }) }
 {
     let shifts = Items::from_slice(alloc, tables.shifts.as_slice())?;
     Ok(Certificate {
         cost: Some(cost),
+        linked: false,
         shifts,
         marks,
     })

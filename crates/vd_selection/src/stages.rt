@@ -1,5 +1,5 @@
-//! The searches that are made one after the other: under the usual shifts with a small budget, under better ones, and again under
-//! the usual ones.
+//! The searches that are made one after the other: with a small budget under the usual shifts, under better ones and by links,
+//! and then with the whole budget under the better and under the usual ones.
 
 ghost use Rattle.std.specs.Prelude.{◌≡◌, ◌≢◌, ◌≤◌, ◌<◌, IfOk, IfSome, Err, length};
 ghost use Rattle.vd_base.specs.Limits.{most_certificate_shifts};
@@ -11,6 +11,7 @@ ghost use Rattle.vd_space.specs.Sizes.{IsWithinLimits};
 ghost use Rattle.vd_space.specs.Spaces.{IsProblem};
 ghost use Rattle.vd_space.specs.Usual.{usual as usual_shifts};
 
+use crate::linking::try_links;
 use crate::selecting::{SelectFault, Selection, select_by, usual_tables};
 use std::alloc::{AllocError, Global};
 use vd_ascent::ascend;
@@ -66,7 +67,50 @@ fn better_tables(alloc: Global, problem: &Problem) -> Result<Option<Tables>, All
     }
 }
 
-/// The choice, or that there is none, by better shifts; nothing where there are none or the budget is spent.
+/// The choice, or that there is none, by these tables; nothing where there are none or the budget is spent.
+fn try_some(
+    alloc: Global,
+    problem: &Problem,
+    tables: &Option<Tables>,
+    budget: u32,
+) -> Result<Option<Selection>, SelectFault>
+    requires holds { IsProblem problem.now }
+    requires labelled { IsLabelled problem.now }
+    requires tables { IfSome tables.now (CanSelect problem.now) }
+    requires budget { budget < 4294967295 }
+    ensures selects { IfOk result (λ found. IfSome found (Selects problem.now budget)) }
+    ensures unspent { result ≢ Err select_fault.Spent }
+{
+    match tables {
+        Some(tables) => try_by(alloc, problem, tables, budget),
+        None => Ok(None),
+    }
+}
+
+/// The choice, or that there is none, by these tables with a small budget, or by links with that; nothing where neither search
+/// ends.
+fn try_small(
+    alloc: Global,
+    problem: &Problem,
+    tables: &Option<Tables>,
+    budget: u32,
+) -> Result<Option<Selection>, SelectFault>
+    requires holds { IsProblem problem.now }
+    requires labelled { IsLabelled problem.now }
+    requires limits { IsWithinLimits problem.now }
+    requires tables { IfSome tables.now (CanSelect problem.now) }
+    requires budget { budget < 4294967295 }
+    ensures selects { IfOk result (λ found. IfSome found (Selects problem.now budget)) }
+    ensures unspent { result ≢ Err select_fault.Spent }
+{
+    match try_some(alloc, problem, tables, budget)? {
+        Some(selection) => Ok(Some(selection)),
+        None => try_links(alloc, problem, budget),
+    }
+}
+
+/// The choice, or that there is none, by better shifts or by links with a small budget, or by better shifts with a great one;
+/// nothing where no search ends.
 fn try_better(
     alloc: Global,
     problem: &Problem,
@@ -79,14 +123,15 @@ fn try_better(
     ensures selects { IfOk result (λ found. IfSome found (Selects problem.now budget)) }
     ensures unspent { result ≢ Err select_fault.Spent }
 {
-    match better_tables(alloc, problem)? {
-        Some(tables) => try_by(alloc, problem, &tables, budget),
-        None => Ok(None),
+    let better = better_tables(alloc, problem)?;
+    match try_small(alloc, problem, &better, first_budget(problem, budget))? {
+        Some(selection) => Ok(Some(selection)),
+        None => try_some(alloc, problem, &better, budget),
     }
 }
 
-/// The choice, or that there is none, by the usual shifts with a small budget or by better ones; nothing where neither search
-/// ends.
+/// The choice, or that there is none, by the usual shifts with a small budget, by better ones, or by links; nothing where no
+/// search ends.
 fn try_early(
     alloc: Global,
     problem: &Problem,

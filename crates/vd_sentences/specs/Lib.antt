@@ -1,5 +1,7 @@
 pub mod Phrases
 pub mod Syntax
+pub mod Kinds
+pub mod MetKinds
 pub mod Rules
 pub mod Following
 pub mod Judging

@@ -1,5 +1,5 @@
 -- Sentences on faults of names, kinds and sizes.
-use Rattle.std.specs.Prelude.{◌≡◌, ℕ, List, [], ◌∷◌, Some, None, codes, decimal}
+use Rattle.std.specs.Prelude.{◌≡◌, ℕ, List, Option, Some, None, codes, decimal}
 use Rattle.vd_base.specs.Limits.{most_principals, most_hosts, most_nesting, most_statements, most_weights, most_cells}
 use Rattle.vd_base.specs.declared.ids.Span.{Span}
 use Rattle.vd_resolve.specs.declared.fault.Quantity.{Quantity}
@@ -7,7 +7,9 @@ use Rattle.vd_resolve.specs.declared.fault.Quantity.TheVariants as quantity
 use Rattle.vd_resolve.specs.declared.fault.NameFault.{NameFault}
 use Rattle.vd_resolve.specs.declared.fault.NameFault.TheVariants as fault
 use Rattle.vd_remarks.specs.declared.remark.Remark.{Remark}
-use Rattle.vd_remarks.specs.Parts.{three, word_at, in_table}
+use Rattle.vd_remarks.specs.Parts.{three, word_at}
+use Rattle.vd_kinds.specs.declared.met.Met.{Met}
+use Rattle.vd_sentences.specs.Kinds.{kind_sentence}
 
 abbrev pub unknown_sentence : List ℕ → List ℕ
 unknown_sentence word = three (codes "the name `") word (codes "` is unknown here")
@@ -20,41 +22,6 @@ recursive_sentence word = three (codes "`") word (codes "` is called here, and a
 
 abbrev pub arity_sentence : List ℕ → List ℕ
 arity_sentence word = three (codes "`") word (codes "` has another number of parameters than it is given arguments here")
-
--- at a name
-abbrev pub name_kind_sentence : List ℕ → List ℕ
-name_kind_sentence word = three (codes "`") word (codes "` does not go with what it stands for or with a value of this kind")
-
--- at an operator or a keyword: what it asks for
-unfoldable pub kind_table : List (List ℕ × List ℕ)
-kind_table =
-    (codes "if", codes "the guard of an `if` is a bool")
-    ∷ (codes "return", codes "what is returned is of another kind than the function")
-    ∷ (codes "mux", codes "`mux` takes a bool and two values of one kind")
-    ∷ (codes "min", codes "`min` takes two words")
-    ∷ (codes "max", codes "`max` takes two words")
-    ∷ (codes "!", codes "`!` takes a bool")
-    ∷ (codes "~", codes "`~` takes a word")
-    ∷ (codes "+", codes "`+` takes two words")
-    ∷ (codes "-", codes "`-` takes two words")
-    ∷ (codes "*", codes "`*` takes two words")
-    ∷ (codes "/", codes "`/` takes two words")
-    ∷ (codes "%", codes "`%` takes two words")
-    ∷ (codes "<<", codes "`<<` takes a word, and shifts it by at most 31 bits")
-    ∷ (codes ">>", codes "`>>` takes a word, and shifts it by at most 31 bits")
-    ∷ (codes "<", codes "`<` compares two words")
-    ∷ (codes "<=", codes "`<=` compares two words")
-    ∷ (codes ">", codes "`>` compares two words")
-    ∷ (codes ">=", codes "`>=` compares two words")
-    ∷ (codes "==", codes "`==` compares two words")
-    ∷ (codes "!=", codes "`!=` compares two words")
-    ∷ (codes "&", codes "`&` takes two words or two bools")
-    ∷ (codes "|", codes "`|` takes two words or two bools")
-    ∷ (codes "^", codes "`^` takes two words or two bools")
-    ∷ []
-
-abbrev pub kind_sentence : List ℕ → List ℕ
-kind_sentence word = in_table kind_table word (name_kind_sentence word)
 
 -- what is counted, and its limit
 abbrev pub quantity_phrase : Quantity → List ℕ
@@ -84,12 +51,12 @@ at_span span sentence = record { offset = Some span.start; sentence = sentence }
 abbrev pub of_file : List ℕ → Remark
 of_file sentence = record { offset = None; sentence = sentence }
 
--- what is said of a fault in these bytes; want of memory is no fault of theirs
-abbrev pub IsRuleRemark : List ℕ → NameFault → Remark → Type 0
-IsRuleRemark bytes (fault.Unknown span) remark = remark ≡ at_span span (unknown_sentence (word_at bytes span))
-IsRuleRemark bytes (fault.Twice span) remark = remark ≡ at_span span (twice_sentence (word_at bytes span))
-IsRuleRemark bytes (fault.Recursive span) remark = remark ≡ at_span span (recursive_sentence (word_at bytes span))
-IsRuleRemark bytes (fault.Arity span) remark = remark ≡ at_span span (arity_sentence (word_at bytes span))
-IsRuleRemark bytes (fault.Kind span) remark = remark ≡ at_span span (kind_sentence (word_at bytes span))
-IsRuleRemark bytes (fault.Limit q count) remark = remark ≡ of_file (limit_sentence q count)
-IsRuleRemark bytes fault.Memory remark = ⊥
+-- what is said of a fault in these bytes, by what met where it is one of kinds; want of memory is no fault of theirs
+abbrev pub IsRuleRemark : List ℕ → Option Met → NameFault → Remark → Type 0
+IsRuleRemark bytes met (fault.Unknown span) remark = remark ≡ at_span span (unknown_sentence (word_at bytes span))
+IsRuleRemark bytes met (fault.Twice span) remark = remark ≡ at_span span (twice_sentence (word_at bytes span))
+IsRuleRemark bytes met (fault.Recursive span) remark = remark ≡ at_span span (recursive_sentence (word_at bytes span))
+IsRuleRemark bytes met (fault.Arity span) remark = remark ≡ at_span span (arity_sentence (word_at bytes span))
+IsRuleRemark bytes met (fault.Kind span) remark = remark ≡ at_span span (kind_sentence (word_at bytes span) met)
+IsRuleRemark bytes met (fault.Limit q count) remark = remark ≡ of_file (limit_sentence q count)
+IsRuleRemark bytes met fault.Memory remark = ⊥

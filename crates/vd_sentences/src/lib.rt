@@ -2,6 +2,7 @@
 #![tactic(auto)]
 
 mod follow;
+mod kinds;
 mod laws;
 mod phrases;
 mod refusals;

@@ -1,71 +1,16 @@
 //! Sentences on faults of names, kinds and sizes.
 
 ghost use Rattle.std.specs.Prelude.{◌≡◌, IfOk};
-ghost use Rattle.vd_remarks.specs.Parts.{entries};
 ghost use Rattle.vd_sentences.specs.Rules as rules;
 
+use crate::kinds::kind_sentence;
 use itoa::Buffer;
 use std::alloc::{AllocError, Global};
 use vd_base::limits::{CELLS, HOSTS, NESTING, PRINCIPALS, STATEMENTS, WEIGHTS};
 use vd_base::{Bytes, Span};
-use vd_remarks::{Remark, TellFault, in_table, three, word_at};
+use vd_kinds::Met;
+use vd_remarks::{Remark, TellFault, three, word_at};
 use vd_resolve::{NameFault, Quantity};
-
-/// What an operator or a keyword asks for.
-const KIND_TABLE: [(&[u8], &[u8]); 23] = [
-    (b"if", b"the guard of an `if` is a bool"),
-    (
-        b"return",
-        b"what is returned is of another kind than the function",
-    ),
-    (b"mux", b"`mux` takes a bool and two values of one kind"),
-    (b"min", b"`min` takes two words"),
-    (b"max", b"`max` takes two words"),
-    (b"!", b"`!` takes a bool"),
-    (b"~", b"`~` takes a word"),
-    (b"+", b"`+` takes two words"),
-    (b"-", b"`-` takes two words"),
-    (b"*", b"`*` takes two words"),
-    (b"/", b"`/` takes two words"),
-    (b"%", b"`%` takes two words"),
-    (
-        b"<<",
-        b"`<<` takes a word, and shifts it by at most 31 bits",
-    ),
-    (
-        b">>",
-        b"`>>` takes a word, and shifts it by at most 31 bits",
-    ),
-    (b"<", b"`<` compares two words"),
-    (b"<=", b"`<=` compares two words"),
-    (b">", b"`>` compares two words"),
-    (b">=", b"`>=` compares two words"),
-    (b"==", b"`==` compares two words"),
-    (b"!=", b"`!=` compares two words"),
-    (b"&", b"`&` takes two words or two bools"),
-    (b"|", b"`|` takes two words or two bools"),
-    (b"^", b"`^` takes two words or two bools"),
-];
-
-fn name_kind_sentence(alloc: Global, word: &[u8]) -> Result<Bytes, AllocError>
-    ensures { IfOk result (λ text. text ≡ rules.name_kind_sentence word.now) }
-{
-    three(
-        alloc,
-        b"`",
-        word,
-        b"` does not go with what it stands for or with a value of this kind",
-    )
-}
-
-/// What is said of kinds that do not fit, at this word.
-#[tactic(auto, unfolding(crate::specs::Rules::kind_table))]
-fn kind_sentence(alloc: Global, word: &[u8]) -> Result<Bytes, AllocError>
-    ensures { IfOk result (λ text. text ≡ rules.kind_sentence word.now) }
-{
-    let other = name_kind_sentence(alloc, word)?;
-    Bytes::from_slice(alloc, in_table(&KIND_TABLE, word, other.as_slice()))
-}
 
 /// What is counted.
 fn quantity_phrase(quantity: Quantity) -> &'static str
@@ -119,9 +64,15 @@ fn at_span(span: Span, sentence: Bytes) -> Remark
     }
 }
 
-/// What is said of a fault of names, kinds or sizes in these bytes.
-pub fn rule_remark(alloc: Global, bytes: &[u8], fault: NameFault) -> Result<Remark, TellFault>
-    ensures { IfOk result (rules.IsRuleRemark bytes.now fault) }
+/// What is said of a fault of names, kinds or sizes in these bytes. Of a fault of kinds it is said what met there, if that is
+/// known.
+pub fn rule_remark(
+    alloc: Global,
+    bytes: &[u8],
+    fault: NameFault,
+    met: Option<Met>,
+) -> Result<Remark, TellFault>
+    ensures { IfOk result (rules.IsRuleRemark bytes.now met fault) }
 {
     match fault {
         NameFault::Unknown(span) => {
@@ -141,7 +92,7 @@ pub fn rule_remark(alloc: Global, bytes: &[u8], fault: NameFault) -> Result<Rema
             Ok(at_span(span, sentence))
         }
         NameFault::Kind(span) => {
-            let sentence = kind_sentence(alloc, word_at(bytes, span))?;
+            let sentence = kind_sentence(alloc, word_at(bytes, span), met)?;
             Ok(at_span(span, sentence))
         }
         NameFault::Limit(quantity, count) => {

@@ -1,5 +1,5 @@
 -- Where the calls of the suite have instructions.
-use Rattle.std.proofs.Common.{◌≡◌, ℕ, ◌^◌, ◌<◌, nat_eq, ◌||◌, Bool, true, false, if◌then◌else◌, IsTrue, List, [], ◌∷◌, ◌⊎◌, inl, inr, map, refl, sym, ap, subst, ◌∙◌, arith}
+use Rattle.std.proofs.Common.{◌≡◌, ℕ, ◌^◌, ◌<◌, ◌≤◌, nat_eq, ◌||◌, Bool, true, false, if◌then◌else◌, IsTrue, List, [], ◌∷◌, ◌⊎◌, inl, inr, map, refl, sym, ap, subst, ◌∙◌, arith}
 use Rattle.std.specs.List.{list_any}
 use Rattle.std.proofs.lemmas.Bool.{eq-eqb, eqb-true}
 use Rattle.vd_base.specs.declared.ids.HostId.{HostId}
@@ -39,6 +39,7 @@ use Rattle.vd_suite.specs.Parts.{Parts, has_back_end, back_end, route, turn_part
 use Rattle.vd_suite.specs.Suite.{IsOver, holds, joins, suite}
 use Rattle.vd_suite.proofs.Standing.{no_back_end, cells_of}
 use Rattle.vd_suite.proofs.Over.{host_known, holder_at, among_host}
+use Rattle.vd_suite.proofs.TwoHosts.{has_member}
 use Rattle.vd_suite.proofs.Gives.{M, S, proto_is, serves, laws_of, for_constant, for_variable, for_operation, ready_at, operand_at, operands_at}
 use Rattle.vd_suite.proofs.BackEnds.{length_map, move_law}
 use Rattle.vd_suite.proofs.SuiteLaws.{input_stands}
@@ -245,13 +246,31 @@ turn_acts (Commit a b) loop h k next = or_false (nat_eq h k.0)
 turn_acts (Add a b) loop h k next = shared_acts (nat_eq k.0 a.0) k loop next h
 turn_acts (Xor a b) loop h k next = shared_acts (nat_eq k.0 a.0) k loop next h
 
-module _ (t : Tape) (deal : IsValidDeal t) (inputs : ℕ → List ℕ) (hosts : ℕ) where
+-- the hosts of a protocol are those that hold it
+host_among : (hs : List HostId) (h : ℕ) → IsHost hs h → is_among hs h ≡ true
+host_among [] h i = absurd i
+host_among (k ∷ hs) h (inl e) = or_left (nat_eq h k.0) (is_among hs h) (eq-eqb h k.0 e)
+host_among (k ∷ hs) h (inr i) = or_right (nat_eq h k.0) (is_among hs h) (host_among hs h i)
+
+two_among : (first second : Bool) → (if first then true else second) ≡ true → (first || (second || false)) ≡ true
+two_among true second e = refl
+two_among false second e = or_left second false e
+
+at_holder : (p : Proto) (h : ℕ) → h < 8 → is_at p (host h) ≡ true → is_holder p h ≡ true
+at_holder (Local k) h lt e = or_left (nat_eq h k.0) false e
+at_holder (Rep set) h lt e = host_among (holders (Rep set)) h (has_member set (host h) lt e)
+at_holder (Commit a b) h lt e = two_among (nat_eq h a.0) (nat_eq h b.0) e
+at_holder (Add a b) h lt e = two_among (nat_eq h a.0) (nat_eq h b.0) e
+at_holder (Xor a b) h lt e = two_among (nat_eq h a.0) (nat_eq h b.0) e
+
+module _ (t : Tape) (deal : IsValidDeal t) (inputs : ℕ → List ℕ) (hosts : ℕ) (few : hosts ≤ 8) where
   -- gadgets at hosts of the protocol
   where_held : (p : Proto) → IsOver hosts p → (gadgets : List Gadget) → GadgetsAreTidy gadgets → ((h : ℕ) → acts_at gadgets h ≡ is_holder p h)
       → Where (machine t inputs) hosts gadgets (λ h. is_at p (host h))
   where_held p d gadgets tidy acts = record {
     tidy = all_tidy gadgets tidy;
     at = λ h e. let i = among_host (holders p) h (sym (acts h) ∙ e) in (host_known hosts (holders p) h d.known i, holder_at p h i);
+    all = λ h lt e. acts h ∙ at_holder p h (omega (arith, few, lt)) e;
   }
 
   -- each host of the protocol acts once
@@ -279,6 +298,7 @@ module _ (t : Tape) (deal : IsValidDeal t) (inputs : ℕ → List ℕ) (hosts : 
       record {
         tidy = fine_tidy t inputs (moved (route p q) (back_end p) (back_end q) x.at next).gadgets w g.leads.fine;
         at = λ h e. let i = sym (moved_acts p q x.at (λ b. (cells_of p b w x (Word v) o.stands).at) next h) ∙ e in (below h (moving p q h i), i);
+        all = λ h lt e. moved_acts p q x.at (λ b. (cells_of p b w x (Word v) o.stands).at) next h ∙ e;
       }
     where
       below : (h : ℕ) → IsHost (holders p) h ⊎ IsHost (holders q) h → h < hosts
@@ -290,6 +310,7 @@ module _ (t : Tape) (deal : IsValidDeal t) (inputs : ℕ → List ℕ) (hosts : 
   apply_where o p d gadgets tidy acts = record {
     tidy = all_tidy gadgets tidy;
     at = λ h e. let i = sym (acts h ∙ ap (λ (z : Proto). apply_at o z h) (proto_is p)) ∙ e in (host_known hosts (holders p) h d.known (applying o p h i), i);
+    all = λ h lt e. acts h ∙ ap (λ (z : Proto). apply_at o z h) (proto_is p) ∙ e;
   }
 
   -- one gadget of one host
@@ -297,6 +318,7 @@ module _ (t : Tape) (deal : IsValidDeal t) (inputs : ℕ → List ℕ) (hosts : 
   where_alone k lt g tidy acts = record {
     tidy = (tidy, tt);
     at = λ h e. let i = eqb-true h k.0 (sym (acts h) ∙ e) in (subst (λ z. z < hosts) (sym i) lt, eq-eqb k.0 h (sym i));
+    all = λ h low e. acts h ∙ eq-eqb h k.0 (sym (eqb-true k.0 h e));
   }
 
   written_where : (p : Proto) → IsOver hosts p → (kept : Parts) (at : List Part) (x : RegisterPlaces) → Where (machine t inputs) hosts (cell_written p kept at x) (λ h. is_at p (host h))

@@ -15,12 +15,12 @@ use Rattle.vd_schedules.proofs.Parts.{absent}
 use Rattle.vd_joint.specs.Joint.{Hosts as AnyHosts, joint as run_plan}
 use Rattle.vd_joint.specs.Suite.{Suite, Laws}
 use Rattle.vd_joint.specs.Outcome.{Starts, TellsTheSame}
-use Rattle.vd_joint.specs.Places.{is_part}
+use Rattle.vd_joint.specs.Places.{is_part, NeedsItsLoops}
 use Rattle.vd_joint.proofs.Lists.{or_left, or_right}
-use Rattle.vd_joint.proofs.Programs.{tells_the_same, program_tidy, program_within}
+use Rattle.vd_joint.proofs.Programs.{tells_the_same, program_tidy, program_needs_its_loops, program_within}
 use Rattle.vd_suite.specs.Machine.{machine}
 use Rattle.vd_suite.specs.Suite.{suite}
-use Rattle.vd_suite.specs.Whole.{plan_at, code_at, inputs_of, CanRun, RunsAsToldBy, CodeTellsTheSame, CodeRunsWell}
+use Rattle.vd_suite.specs.Whole.{plan_at, code_at, inputs_of, CanRun, RunsAsToldBy, CodeTellsTheSame, CodeRunsWell, LoopsAreNeeded}
 use Rattle.vd_suite.proofs.SuiteLaws.{suite_laws}
 use Rattle.vd_suite.proofs.SuitePlaces.{suite_places}
 use Rattle.vd_suite.proofs.PlanRuns.{runs_alike, goes_smoothly}
@@ -78,16 +78,22 @@ module _ (program : NormalForm) (proto : ℕ → Proto) (inputs : List (List ℕ
   tells : TellsTheSame (machine t (inputs_of inputs)) (suite t (inputs_of inputs) (length program.hosts)) proto program inputs fresh
   tells = tells_the_same m s proto laws can.over program inputs fresh can.made can.numbers refl can.valid starts
 
+  few : length program.hosts ≤ 8
+  few = let le = can.made.limits.hosts in omega (arith, le)
+
   plan_is_tidy : PlanIsTidy (plan_at proto program)
   plan_is_tidy = tidy_alike t (inputs_of inputs) (plan_at proto program)
-      (program_tidy m s proto laws can.over program inputs fresh can.made can.numbers refl can.valid starts (suite_places t can.deal (inputs_of inputs) (length program.hosts)))
+      (program_tidy m s proto laws can.over program inputs fresh can.made can.numbers refl can.valid starts (suite_places t can.deal (inputs_of inputs) (length program.hosts) few))
+
+  needs_its_loops : NeedsItsLoops (machine t (inputs_of inputs)) (plan_at proto program)
+  needs_its_loops = program_needs_its_loops m s proto laws can.over program inputs fresh can.made can.numbers refl can.valid starts (suite_places t can.deal (inputs_of inputs) (length program.hosts) few)
 
   -- only declared hosts act
   all_inside : PlanIsWithin (first_ones 0 (length program.hosts)) (plan_at proto program)
   all_inside =
       within t (inputs_of inputs) (first_ones 0 (length program.hosts)) (plan_at proto program) (λ h i.
       is_first 0 (length program.hosts) h (omega arith)
-      (let lt = program_within m s proto laws can.over program inputs fresh can.made can.numbers refl can.valid starts (suite_places t can.deal (inputs_of inputs) (length program.hosts)) h i in omega (arith, lt)))
+      (let lt = program_within m s proto laws can.over program inputs fresh can.made can.numbers refl can.valid starts (suite_places t can.deal (inputs_of inputs) (length program.hosts) few) h i in omega (arith, lt)))
 
   runs : RunsAsToldBy program proto inputs t
   runs =
@@ -107,6 +113,9 @@ module _ (program : NormalForm) (proto : ℕ → Proto) (inputs : List (List ℕ
 
 pub code_tells_the_same : CodeTellsTheSame
 code_tells_the_same program proto inputs t can = runs program proto inputs t can
+
+pub loops_are_needed : LoopsAreNeeded
+loops_are_needed program proto inputs t can = needs_its_loops program proto inputs t can
 
 pub code_runs_well : CodeRunsWell
 code_runs_well program proto inputs s can = let r = runs program proto inputs (followed_by_zeros s) can in record { tidy = r.tidy; smooth = r.smooth }

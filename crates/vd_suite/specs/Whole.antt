@@ -13,6 +13,7 @@ use Rattle.vd_execution.specs.Plans.{Plan, joint_of, PlanIsTidy}
 use Rattle.vd_schedules.specs.Claims.{RunsWell, IsOf}
 use Rattle.vd_joint.specs.Emission.{block_emission, emitting_at_start}
 use Rattle.vd_joint.specs.Outcome.{NumbersFit, ValidAt}
+use Rattle.vd_joint.specs.Places.{NeedsItsLoops}
 use Rattle.vd_suite.specs.Machine.{machine}
 use Rattle.vd_suite.specs.Parts.{suite_calls}
 use Rattle.vd_suite.specs.Suite.{IsOver, suite, AreGiven}
@@ -55,3 +56,8 @@ CodeTellsTheSame = (program : NormalForm) (proto : ℕ → Proto) (inputs : List
 abbrev pub CodeRunsWell : Type 0
 CodeRunsWell = (program : NormalForm) (proto : ℕ → Proto) (inputs : List (List ℕ)) (s : Supply) → CanRun program proto inputs (followed_by_zeros s)
     → RunsWell s (code_at proto program)
+
+-- each host that has a loop has an instruction of its body
+abbrev pub LoopsAreNeeded : Type 0
+LoopsAreNeeded = (program : NormalForm) (proto : ℕ → Proto) (inputs : List (List ℕ)) (t : Tape) → CanRun program proto inputs t
+    → NeedsItsLoops (machine t (inputs_of inputs)) (plan_at proto program)

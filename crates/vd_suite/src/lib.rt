@@ -5,7 +5,7 @@ ghost use Rattle.vd_suite.specs.Moves.{MovesKeepTheWord};
 ghost use Rattle.vd_suite.specs.Given.{ListedProtocolsAreOver, ZeroDealsAreValid};
 ghost use Rattle.vd_suite.specs.Law.{SuiteMeetsItsLaws};
 ghost use Rattle.vd_suite.specs.PlanRuns.{RunsAlike, GoesSmoothly, TidyAlike};
-ghost use Rattle.vd_suite.specs.Whole.{CodeTellsTheSame, CodeRunsWell};
+ghost use Rattle.vd_suite.specs.Whole.{CodeTellsTheSame, CodeRunsWell, LoopsAreNeeded};
 
 /// A move that is composed of the calls of two back ends gives parts that stand for the same word.
 pub fn moves_keep_the_word()
@@ -28,10 +28,12 @@ pub fn suite_meets_its_laws()
 
 /// The joint code of every well-made program, at protocols at which it is valid, with all inputs and every valid deal, prints at
 /// each declared host what the program tells it. No comparison fails, guards agree, it is tidy, and only declared hosts have code:
-/// so on lists that are read as followed by zeros all that holds of every schedule holds of it.
+/// so on lists that are read as followed by zeros all that holds of every schedule holds of it. A host has a loop exactly where it
+/// has an instruction of its body: all that have one take part, since it is tidy, and no other does.
 pub fn code_tells_the_same()
     ensures tells { CodeTellsTheSame }
     ensures runs_well { CodeRunsWell }
+    ensures loops { LoopsAreNeeded }
 {}
 
 /// The protocols over some hosts have their hosts among these, and a deal of zeros with any inputs is valid.

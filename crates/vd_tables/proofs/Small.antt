@@ -108,7 +108,7 @@ module _ (problem : Problem) (labelled : IsLabelled problem) where
     operation_within : (p : ℕ) (making : Making) → making.weight ≤ 65536 → HasAtMost 14417920 (weigh making.weight (cost_at making.row (protocol problem p)))
     operation_within p making light = weigh_within 220 making.weight (cost_at making.row (protocol problem p)) light (row_price making.row (protocol problem p) (small problem labelled.few_hosts p))
 
-    operation_value_small : (slot p : ℕ) → HasAtMost 14417920 (operation_value problem slot p)
+    pub operation_value_small : (slot p : ℕ) → HasAtMost 14417920 (operation_value problem slot p)
     operation_value_small slot p = elim (slice_get_cases problem.slots slot).1 [
       | inl found ↦
           let light : found.0.weight ≤ 65536 = subst (λ (m : Making). m.weight ≤ 65536) found.3 (limits.slots slot found.0 found.1) in
@@ -121,7 +121,7 @@ module _ (problem : Problem) (labelled : IsLabelled problem) where
         charge_small problem (operation_term problem slot) 1125899906842624 (omega arith)
         (λ p low. more_within 14417920 1125899906842624 (unwrap_or (operation_value problem slot p) (pos 0)) (omega arith) (operation_value_small slot p))
 
-    outputs_value_small : (slot p : ℕ) (os : List Output) → All (λ (o : Output). o.weight ≤ 65536) os → HasAtMost (13893632 * length os) (outputs_value problem slot p os)
+    pub outputs_value_small : (slot p : ℕ) (os : List Output) → All (λ (o : Output). o.weight ≤ 65536) os → HasAtMost (13893632 * length os) (outputs_value problem slot p os)
     outputs_value_small slot p [] light = zero_within 0
     outputs_value_small slot p (o ∷ os) light =
         let rest = outputs_value_small slot p os (All-tail (λ (x : Output). x.weight ≤ 65536) o os light) in

@@ -12,3 +12,4 @@ mod tellings;
 mod values;
 
 pub use assembly::tables;
+pub use values::merged_values;

@@ -1,4 +1,4 @@
-use Rattle.vd_suite.proofs.Whole.{code_tells_the_same, code_runs_well}
+use Rattle.vd_suite.proofs.Whole.{code_tells_the_same, code_runs_well, loops_are_needed}
 use Rattle.vd_suite.proofs.code_tells_the_same.Goals as goal
 
 pub returns-clause-tells : goal.returns-clause-tells
@@ -6,3 +6,6 @@ returns-clause-tells c = code_tells_the_same
 
 pub returns-clause-runs_well : goal.returns-clause-runs_well
 returns-clause-runs_well c = code_runs_well
+
+pub returns-clause-loops : goal.returns-clause-loops
+returns-clause-loops c = loops_are_needed

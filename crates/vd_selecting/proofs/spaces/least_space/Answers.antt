@@ -1,4 +1,7 @@
+use Rattle.std.proofs.Common.{◌<◌, length, subst, sym}
 use Rattle.std.proofs.lemmas.Result.{err_from_is_err_and}
+use Rattle.vd_linked.specs.Links.{links}
+use Rattle.vd_space.specs.declared.problem.Problem.{Problem}
 use Rattle.vd_selecting.proofs.Labelled.{has_labels}
 use Rattle.vd_selecting.proofs.Statuses.{problem_refusal}
 use Rattle.vd_selecting.proofs.spaces.least_space.Goals as goal
@@ -10,3 +13,9 @@ returns-in_err-labels-clause-checks c = λ least.
 
 pub of-requires : goal.of-requires
 of-requires c = has_labels c.args.program.now c.in_ok-labels.labels (c.in_ok-labels.ensures {u = tt}).least
+
+pub returns-clause-few_links : goal.returns-clause-few_links
+returns-clause-few_links c =
+    let labels = c.in_ok-labels.labels in
+    let few = c.links_are_few.ensures labels (has_labels c.args.program.now labels (c.in_ok-labels.ensures {u = tt}).least) in
+    subst (λ (problem : Problem). length (links problem) < 4294967296) (sym c.in_ok-of.ensures) few

@@ -1,0 +1,79 @@
+-- Worked programs: which clear words come to whom.
+use Rattle.std.specs.Prelude.{◌≡◌, ℕ, List, [], ◌∷◌, map}
+use Rattle.vd_base.specs.declared.ids.SlotId.{SlotId}
+use Rattle.vd_base.specs.declared.ids.HostId.{HostId}
+use Rattle.vd_base.specs.declared.form.Form as form
+use Rattle.vd_base.specs.declared.operations.Op.TheVariants as op
+use Rattle.vd_base.specs.HostSets.{host}
+use Rattle.vd_core.specs.declared.normal.Right.TheVariants.{Lit, Apply, Input, Declassify, Load}
+use Rattle.vd_core.specs.declared.normal.Stmt.{Stmt, Let, NewVar, Store, Output, If}
+use Rattle.vd_formula.specs.declared.label.Label.{Label}
+use Rattle.vd_constraints.specs.declared.labels.Labels.{Labels}
+use Rattle.vd_meaning.specs.World.{world_at_start}
+use Rattle.vd_meaning.specs.ProgramMeaning.{state_at_start}
+use Rattle.vd_space.specs.declared.problem.Problem.{Problem}
+use Rattle.vd_assigned_dependence.specs.Hearing.{heard, heard_in_order}
+
+abbrev pub alice : HostId
+alice = host 0
+
+abbrev pub bob : HostId
+bob = host 1
+
+abbrev pub slot : ℕ → SlotId
+slot k = record { 0 = k }
+
+abbrev pub any_label : Label
+any_label = record { conf = record { names = 0; truths = 1 }; integ = record { names = 0; truths = 1 } }
+
+-- of two hosts; the labels do not matter to what comes
+abbrev pub two_hosts : Problem
+two_hosts = record { hosts = any_label ∷ any_label ∷ []; slots = []; uses = []; outputs = []; guards = []; indexes = [] }
+
+abbrev pub no_labels : Labels
+no_labels = record { slots = []; blocks = [] }
+
+-- the words that come to a host of a program with these protocols, where alice and bob have these inputs
+abbrev pub come : List Stmt → List ℕ → HostId → ℕ → ℕ → List ℕ
+come body list h a b = heard_in_order (map (heard two_hosts list h no_labels) body) 0 (state_at_start (world_at_start 2 ((a ∷ []) ∷ (b ∷ []) ∷ [])))
+
+-- which of two inputs is greater, declassified and told to both
+abbrev pub comparison : List Stmt
+comparison =
+    Let (slot 0) (Input alice)
+    ∷ Let (slot 1) (Input bob)
+    ∷ Let (slot 2) (Apply op.Lt (slot 0 ∷ slot 1 ∷ []))
+    ∷ Let (slot 3) (Declassify (slot 2) form.Any)
+    ∷ Output (slot 3) alice 0
+    ∷ Output (slot 3) bob 0
+    ∷ []
+
+-- alice alone, bob alone, shares of both by exclusive or, copies at both
+abbrev pub shared : List ℕ
+shared = 0 ∷ 1 ∷ 6 ∷ 2 ∷ []
+
+-- a variable that is set under a guard on alice's input, and told to bob
+abbrev pub guarded : List Stmt
+guarded =
+    Let (slot 0) (Input alice)
+    ∷ Let (slot 1) (Lit 3)
+    ∷ Let (slot 2) (Apply op.Lt (slot 0 ∷ slot 1 ∷ []))
+    ∷ Let (slot 3) (Lit 0)
+    ∷ NewVar (slot 4) (slot 3)
+    ∷ If (slot 2) (Let (slot 5) (Lit 1) ∷ Store (slot 4) (slot 5) ∷ []) [] 0
+    ∷ Let (slot 6) (Load (slot 4))
+    ∷ Output (slot 6) bob 0
+    ∷ []
+
+-- the guard at alice alone, the variable and what is stored in it as copies at both
+abbrev pub copied : List ℕ
+copied = 0 ∷ 0 ∷ 0 ∷ 2 ∷ 2 ∷ 2 ∷ 2 ∷ []
+
+pub record WorkedWords : Type 0 where
+  -- alice is told the comparison twice: where it is opened to copies, and where it is output
+  pub opened : come comparison shared alice 3 7 ≡ 1 ∷ 1 ∷ []
+  pub opened_again : come comparison shared alice 3 8 ≡ 1 ∷ 1 ∷ []
+  pub opened_other : come comparison shared alice 3 2 ≡ 0 ∷ 0 ∷ []
+  -- bob is told the guard and the variable
+  pub guard : come guarded copied bob 2 0 ≡ 1 ∷ 1 ∷ []
+  pub guard_other : come guarded copied bob 5 0 ≡ 0 ∷ 0 ∷ []

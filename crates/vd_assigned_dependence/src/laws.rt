@@ -1,0 +1,25 @@
+//! Laws of the clear words that come to a host at a valid assignment of protocols. The functions here do nothing: the
+//! contract of each is a law.
+
+ghost use Rattle.std.specs.Prelude.{ℕ, Bool};
+ghost use Rattle.vd_assigned_dependence.specs.Assigned.{HearsOnlyAssigned};
+ghost use Rattle.vd_assigned_dependence.specs.Example.{WorkedWords};
+ghost use Rattle.vd_dependence.specs.Dependence.{AreReached, OfEachHost};
+ghost use Rattle.vd_dependence.specs.Reading.{reads_host};
+
+/// Two families of inputs that agree on the hosts that a host may read, and on what is declassified to it, bring it the
+/// same clear words, at every valid assignment.
+pub fn inputs_that_agree_bring_the_same()
+    ensures { OfEachHost (λ p l h. HearsOnlyAssigned p l h (reads_host p h)) }
+{}
+
+/// Agreement on the hosts whose inputs are reached from what a host is told is enough for that.
+pub fn reached_hosts_are_enough_assigned()
+    ensures { OfEachHost (λ p l h. (hosts : ℕ → Bool) → AreReached p l h hosts → HearsOnlyAssigned p l h hosts) }
+{}
+
+/// Of a comparison in shares, declassified to copies, its word comes to a host twice; of a variable that is set under a
+/// guard, the guard and the variable.
+pub fn worked_words()
+    ensures { WorkedWords }
+{}

@@ -1,0 +1,4 @@
+pub mod Steps
+pub mod Forms
+pub mod Following
+pub mod Arguments

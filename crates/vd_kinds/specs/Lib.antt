@@ -1,0 +1,4 @@
+pub mod Symbols
+pub mod Meeting
+pub mod Follows
+pub mod Walks

@@ -1,0 +1,64 @@
+//! Lifts what is not left. A setting that went can stand in no valid list, but bounds count it. So it gets a greater cost at
+//! its point, which is taken from the link where it has no partner left: no two that are left lose by that.
+
+use crate::left::{Death, Left};
+use crate::nets::Nets;
+use crate::network::{End, Network};
+use crate::numbers::FAR;
+use std::alloc::{AllocError, Global};
+use vd_linked_path::LinkTable;
+
+/// So many parts more are put on each: 65,536 units, so that some hundred lifts together still are an amount of 32 bits.
+const LIFT: i64 = 16_777_216;
+
+/// Lifts all that went, from the last to the first: by that time those are lifted that it had for partners.
+pub fn lift(
+    alloc: Global,
+    links: &[LinkTable],
+    network: &Network,
+    left: &Left,
+    nets: &mut Nets,
+) -> Result<(), AllocError> {
+    let counts = vec![in alloc; left.most; network.by_point.len()]?;
+    let mut lifts = Nets::none(alloc, network.firsts.as_slice(), counts.as_slice())?;
+    for death in left.deaths.iter().rev() {
+        lift_one(links, network, death, nets, &mut lifts);
+    }
+    Ok(())
+}
+
+/// Lifts one, where the later ones were lifted by these.
+fn lift_one(
+    links: &[LinkTable],
+    network: &Network,
+    death: &Death,
+    nets: &mut Nets,
+    lifts: &mut Nets,
+) {
+    let mut sum = LIFT;
+    for end in network.of_point(death.point) {
+        if !is_at(death, *end) {
+            let need = needed(links, lifts, *end, death.setting);
+            nets.add(*end, death.setting, 0i64.saturating_sub(need));
+            sum = sum.saturating_add(need);
+        }
+    }
+    nets.add(death.end, death.setting, sum);
+    lifts.add(death.end, death.setting, sum);
+}
+
+/// Whether it went at this end of a link.
+fn is_at(death: &Death, end: End) -> bool {
+    death.end.at == end.at && death.end.side == end.side
+}
+
+/// What a link must cost more at a setting, so that it costs enough with each partner that was lifted at the link.
+fn needed(links: &[LinkTable], lifts: &Nets, end: End, setting: usize) -> i64 {
+    let mut most = 0;
+    for (partner, lift) in lifts.row(end.turned()).iter().enumerate() {
+        if *lift > most && end.price(links, setting, partner) < FAR {
+            most = *lift;
+        }
+    }
+    most.saturating_add(LIFT)
+}

@@ -1,0 +1,108 @@
+//! What shifts come to, all together.
+
+use crate::network::{End, Side};
+use crate::numbers::{add_at, overwrite, row_at, settings_at, zeros};
+use std::alloc::{AllocError, Global};
+
+/// For each link, by setting, what is put on the point at either end and taken from the link.
+#[derive(Clone, Drop)]
+pub struct Nets {
+    pub firsts: Vec<Vec<i64>>,
+    pub seconds: Vec<Vec<i64>>,
+}
+
+impl Nets {
+    /// Nothing, with so many settings for the points at either end of each link.
+    pub fn none(alloc: Global, links: &[End], counts: &[usize]) -> Result<Nets, AllocError> {
+        let mut nets = Nets {
+            firsts: Vec::new(alloc),
+            seconds: Vec::new(alloc),
+        };
+        for first in links {
+            nets.firsts
+                .push(zeros(alloc, count_at(counts, first.point))?)?;
+            nets.seconds
+                .push(zeros(alloc, count_at(counts, first.other))?)?;
+        }
+        Ok(nets)
+    }
+
+    /// What is put on the point at this end, by setting.
+    pub fn row(&self, end: End) -> &[i64] {
+        match end.side {
+            Side::First => row_at(self.firsts.as_slice(), end.at),
+            Side::Second => row_at(self.seconds.as_slice(), end.at),
+        }
+    }
+
+    /// Puts more on the point at this end at a setting.
+    pub fn add(&mut self, end: End, setting: usize, amount: i64) {
+        match end.side {
+            Side::First => add_at(&mut self.firsts, end.at, setting, amount),
+            Side::Second => add_at(&mut self.seconds, end.at, setting, amount),
+        }
+    }
+
+    /// Becomes the same as others, for links of the same settings.
+    pub fn copy_from(&mut self, nets: &Nets) {
+        overwrite_all(&mut self.firsts, nets.firsts.as_slice());
+        overwrite_all(&mut self.seconds, nets.seconds.as_slice());
+    }
+
+    /// The same amounts by the setting among so many, where each point was left these settings.
+    pub fn spread(
+        &self,
+        alloc: Global,
+        links: &[End],
+        settings: &[Vec<usize>],
+        count: usize,
+    ) -> Result<Nets, AllocError> {
+        let mut nets = Nets {
+            firsts: Vec::new(alloc),
+            seconds: Vec::new(alloc),
+        };
+        for first in links {
+            let second = first.turned();
+            let from = settings_at(settings, first.point);
+            let to = settings_at(settings, second.point);
+            nets.firsts
+                .push(spread_row(alloc, self.row(*first), from, count)?)?;
+            nets.seconds
+                .push(spread_row(alloc, self.row(second), to, count)?)?;
+        }
+        Ok(nets)
+    }
+}
+
+/// Writes the numbers of rows over those of others.
+fn overwrite_all(rows: &mut Vec<Vec<i64>>, others: &[Vec<i64>]) {
+    for (row, other) in others.iter().enumerate() {
+        if row < rows.len() {
+            overwrite(&mut rows[row], other.as_slice());
+        }
+    }
+}
+
+/// A row of so many, with the numbers at these places.
+fn spread_row(
+    alloc: Global,
+    row: &[i64],
+    places: &[usize],
+    count: usize,
+) -> Result<Vec<i64>, AllocError> {
+    let mut spread = zeros(alloc, count)?;
+    for (number, place) in row.iter().zip(places) {
+        if *place < spread.len() {
+            spread[*place] = *number;
+        }
+    }
+    Ok(spread)
+}
+
+/// A count of the list, and 0 past the end.
+fn count_at(counts: &[usize], point: usize) -> usize {
+    match counts.get(point) {
+        Some(count) => *count,
+        None => 0,
+    }
+}

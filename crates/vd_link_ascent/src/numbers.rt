@@ -1,0 +1,70 @@
+//! Rows of numbers, read and changed by place. A sum or product that does not fit stays at the nearest number that does.
+
+use std::alloc::{AllocError, Global};
+
+/// More than any sum of costs in parts: what it would cost to do what cannot be done.
+pub const FAR: i64 = 1125899906842624;
+
+/// The number at a place, and 0 past the end.
+pub fn number_at(numbers: &[i64], place: usize) -> i64 {
+    match numbers.get(place) {
+        Some(number) => *number,
+        None => 0,
+    }
+}
+
+/// A row of a table, which is empty past the end.
+pub fn row_at(rows: &[Vec<i64>], row: usize) -> &[i64] {
+    match rows.get(row) {
+        Some(numbers) => numbers.as_slice(),
+        None => &[],
+    }
+}
+
+/// The settings that are left of a point, which are none past the end.
+pub fn settings_at(settings: &[Vec<usize>], point: usize) -> &[usize] {
+    match settings.get(point) {
+        Some(left) => left.as_slice(),
+        None => &[],
+    }
+}
+
+/// Adds to the number at a place, if there is one.
+fn add(numbers: &mut Vec<i64>, place: usize, amount: i64) {
+    if place < numbers.len() {
+        numbers[place] = numbers[place].saturating_add(amount);
+    }
+}
+
+/// Adds to the number of a table at a row and a place, if there is one.
+pub fn add_at(rows: &mut Vec<Vec<i64>>, row: usize, place: usize, amount: i64) {
+    if row < rows.len() {
+        add(&mut rows[row], place, amount);
+    }
+}
+
+/// Writes the numbers of a row over those of another, as far as both go. Answers whether one of them changed.
+pub fn overwrite(numbers: &mut Vec<i64>, row: &[i64]) -> bool {
+    let mut has_changed = false;
+    for (place, number) in row.iter().enumerate() {
+        if place < numbers.len() && numbers[place] != *number {
+            numbers[place] = *number;
+            has_changed = true;
+        }
+    }
+    has_changed
+}
+
+/// The least of the numbers; `FAR` where there is none.
+pub fn least(numbers: &[i64]) -> i64 {
+    let mut least = FAR;
+    for number in numbers {
+        least = least.min(*number);
+    }
+    least
+}
+
+/// A row of so many zeros.
+pub fn zeros(alloc: Global, count: usize) -> Result<Vec<i64>, AllocError> {
+    vec![in alloc; 0; count]
+}

@@ -1,0 +1,14 @@
+pub mod Placed
+pub mod Switching
+pub mod Counting
+pub mod Placing
+pub mod Costs
+pub mod Tabled
+pub mod Shifting
+pub mod Raising
+pub mod Ranging
+pub mod Rawing
+pub mod Bringing
+pub mod Owning
+pub mod Pointing
+pub mod Assembling

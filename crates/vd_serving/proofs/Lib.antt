@@ -1,0 +1,6 @@
+pub mod Files
+pub mod Giving
+pub mod Returning
+pub mod Staying
+pub mod Ending
+pub mod Serving
