@@ -1,3 +1,4 @@
 pub mod Candidates
 pub mod Told
 pub mod Labelled
+pub mod Searched

@@ -1,7 +1,7 @@
 //! The sentence on a search that needs more than its budget.
 
-ghost use Rattle.std.specs.Prelude.{IfOk};
-ghost use Rattle.vd_choice_sentences.specs.Spent.{TellsSearch};
+ghost use Rattle.std.specs.Prelude.{◌≡◌, IfOk};
+ghost use Rattle.vd_choice_sentences.specs.Spent.{TellsSearch, search_sentence as bounded_text};
 
 use itoa::Buffer;
 use std::alloc::{AllocError, Global};
@@ -9,21 +9,29 @@ use vd_base::Bytes;
 use vd_remarks::{spent_sentence, three};
 use vd_spaces::Space;
 
-/// What is said of a search of this space that needs more than this budget: how many prefixes it opened, and what no choice
-/// costs less than, where that is known.
-pub fn search_sentence(alloc: Global, space: &Space, budget: u32) -> Result<Bytes, AllocError>
-    ensures { IfOk result (TellsSearch space.now budget) }
+/// What is said of a search that needs more than this budget, where no choice costs less than this bound.
+fn bounded_sentence(alloc: Global, budget: u32, bound: u64) -> Result<Bytes, AllocError>
+    ensures { IfOk result (λ text. text ≡ bounded_text budget bound) }
 {
     let opened = spent_sentence(alloc, budget)?;
-    if !space.prefix_valid(&[]) {
-        return Ok(opened);
-    }
     let mut buffer = Buffer::new();
-    let bound = buffer.format(space.lower_bound(&[])).as_bytes();
+    let bound = buffer.format(bound).as_bytes();
     three(
         alloc,
         opened.as_slice(),
         b"; no choice costs less than ",
         bound,
     )
+}
+
+/// What is said of a search of this space that needs more than this budget: how many prefixes it opened, and what no choice
+/// costs less than, unless no choice can be valid whatever the slots stand at.
+pub fn search_sentence(alloc: Global, space: &Space, budget: u32) -> Result<Bytes, AllocError>
+    ensures { IfOk result (TellsSearch space.now budget) }
+{
+    if space.prefix_valid(&[]) {
+        bounded_sentence(alloc, budget, space.lower_bound(&[]))
+    } else {
+        spent_sentence(alloc, budget)
+    }
 }

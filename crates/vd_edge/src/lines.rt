@@ -1,5 +1,6 @@
+use crate::faults::fault_of;
 use std::alloc::Global;
-use std::io::{BufReader, Error, ErrorKind, Read};
+use std::io::{BufReader, Read};
 use vd_base::{Bytes, CallFault};
 use vd_outside::Line;
 use vd_outside::line::LINE_BYTES;
@@ -26,7 +27,7 @@ impl<O: Read + Drop> Lines<O> {
         match self.output.read(&mut byte) {
             Ok(0) => Ok(None),
             Ok(_) => Ok(Some(byte[0])),
-            Err(_) => Err(CallFault::Failed),
+            Err(error) => Err(fault_of(&error)),
         }
     }
 
@@ -42,14 +43,6 @@ impl<O: Read + Drop> Lines<O> {
             }
         }
         Err(CallFault::Failed)
-    }
-}
-
-/// Whether memory was wanting, or the outside failed.
-pub fn fault_of(error: &Error) -> CallFault {
-    match error.kind() {
-        ErrorKind::OutOfMemory => CallFault::Memory,
-        _ => CallFault::Failed,
     }
 }
 

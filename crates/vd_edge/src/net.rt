@@ -1,6 +1,10 @@
 ghost use Rattle.std.specs.Prelude.{◌≡◌, false};
 
+#[cfg(test)]
+mod tests;
+
 use crate::RealLink;
+use crate::faults::{count_fault, fault_of};
 use std::alloc::Global;
 use std::io::{Read, Write};
 use std::marker::Model;
@@ -66,9 +70,10 @@ impl<R: Network + Drop> Net for RealNet<R> {
                 self.listeners.push_reserved(listener);
                 Ok(number)
             }
-            Err(_) => {
-                self.faults = self.faults.saturating_add(1);
-                Err(CallFault::Failed)
+            Err(error) => {
+                let fault = fault_of(&error);
+                count_fault(&mut self.faults, fault);
+                Err(fault)
             }
         }
     }
@@ -76,9 +81,10 @@ impl<R: Network + Drop> Net for RealNet<R> {
     fn accept(&mut self, listener: u32) -> Result<RealLink<R::Stream>, CallFault> {
         match self.listeners[listener as usize].accept() {
             Ok((stream, _)) => Ok(linked(stream)),
-            Err(_) => {
-                self.faults = self.faults.saturating_add(1);
-                Err(CallFault::Failed)
+            Err(error) => {
+                let fault = fault_of(&error);
+                count_fault(&mut self.faults, fault);
+                Err(fault)
             }
         }
     }
@@ -86,9 +92,10 @@ impl<R: Network + Drop> Net for RealNet<R> {
     fn connect(&mut self, address: &str) -> Result<RealLink<R::Stream>, CallFault> {
         match TcpStream::connect(&self.rt, address) {
             Ok(stream) => Ok(linked(stream)),
-            Err(_) => {
-                self.faults = self.faults.saturating_add(1);
-                Err(CallFault::Failed)
+            Err(error) => {
+                let fault = fault_of(&error);
+                count_fault(&mut self.faults, fault);
+                Err(fault)
             }
         }
     }

@@ -1,4 +1,5 @@
-use crate::lines::{Lines, fault_of};
+use crate::faults::fault_of;
+use crate::lines::Lines;
 use std::alloc::Global;
 use std::os::unix::process::ExitStatusExt;
 use std::process::{Child, Command, ExitStatus, OpenProcess, Processes, Stdio};
@@ -79,7 +80,7 @@ impl<P: OpenProcess + Drop> Running<P> {
     pub fn finish(&mut self) -> Result<u32, CallFault> {
         match self.child.wait() {
             Ok(status) => Ok(number_of(status)),
-            Err(_) => Err(CallFault::Failed),
+            Err(error) => Err(fault_of(&error)),
         }
     }
 }

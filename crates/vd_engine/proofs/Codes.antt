@@ -70,15 +70,12 @@ met l c Nothing heard h = h
 met l c (Item s) heard h =
     let both = item_met (nat_lt (c s) (count_of l s)) s (c s) (count_of l s) heard h in
     (item_left l s (c s) (ltb-true (c s) (count_of l s) both.0), both.1)
-met l c (Packet p k) heard h = h
+met l c (Packet p k) heard h = h.0
 met l c (Unequal x y) heard h = h
 met l c Ended heard h = h
 
 pub met_alone : (l : Lists) (c : Cursors) (n : Need) → want_of l c n ≡ want.Nothing → IsMet l c [] n
 met_alone l c n is = met l c n [] (subst (λ (w : Want). IsHeard w []) (sym is) refl)
-
-pub met_heard : (l : Lists) (c : Cursors) (n : Need) (p : HostId) (k : ℕ) (heard : List ℕ) → want_of l c n ≡ want.Words p k → length heard ≡ k → IsMet l c heard n
-met_heard l c n p k heard is count = met l c n heard (subst (λ (w : Want). IsHeard w heard) (sym is) count)
 
 -- ---- a packet that is wanted
 

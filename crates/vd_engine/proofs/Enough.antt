@@ -1,5 +1,6 @@
 -- A host that has all that it wants runs to its end.
-use Rattle.std.proofs.Common.{◌≡◌, ◌≢◌, ◌++◌, ℕ, IsTrue, List, Option, Some, None, Ok, Err, IfSome, refl, sym, subst, ◌∙◌}
+use Rattle.std.proofs.Common.{◌≡◌, ◌≢◌, ◌++◌, ⊎_elim, ℕ, true, false, IsTrue, List, Option, Some, None, Ok, Err, IfSome, nat_eq, refl, sym, subst, ◌∙◌}
+use Rattle.std.proofs.lemmas.Bool.Decides.{eqb_tells}
 use Rattle.vd_execution.specs.Step.{Deed}
 use Rattle.vd_machine.specs.declared.want.Want.{Want}
 use Rattle.vd_machine.specs.declared.want.Want.TheVariants as want
@@ -8,8 +9,8 @@ use Rattle.vd_link.specs.Sessions.{IsLinkFault}
 use Rattle.vd_link.specs.declared.faults.LinkFault.{LinkFault}
 use Rattle.vd_link.specs.declared.faults.LinkFault.TheVariants as link_fault
 use Rattle.vd_link.proofs.Streams.{front_same, no_fault}
-use Rattle.vd_engine.specs.Drives.{At, EndsAt, FailsAt, NoPacket, SessionView, Sessions, TakesFrom, offset_behind}
-use Rattle.vd_engine.specs.Enough.{EnoughEndsWell, IsThere, NotRisen, PacketComes}
+use Rattle.vd_engine.specs.Drives.{At, CarriesAll, CarriesAt, CarriesOthers, EndsAt, FailsAt, NoPacket, SessionView, Sessions, TakesFrom, offset_behind}
+use Rattle.vd_engine.specs.Enough.{AreTold, EnoughEndsWell, HasCome, HaveCome, IsThere, NotRisen, PacketComes}
 use Rattle.vd_engine.specs.Events.{Event, received_from}
 use Rattle.vd_engine.specs.declared.fault.EngineFault.TheVariants as fault
 
@@ -52,17 +53,46 @@ no_failure host events w does (Some b) (Some n) quiet at = quiet at.rose
 no_failure host events w does (Some b) None quiet at = at
 no_failure host events w does None y quiet at = at
 
+-- what was received is what came
+came_at : (host : ℕ) (events : List Event) (x y : Option SessionView) → CarriesAt host events x y → IfSome y (λ session. IsTrue session.link.told) → HasCome (received_from host events) x
+came_at host events None None carries told = carries.0
+came_at host events None (Some n) carries told = absurd carries
+came_at host events (Some b) None carries told = absurd carries
+came_at host events (Some b) (Some n) carries told = (n.link.coming, carries.came told)
+
+came_all : (events : List Event) (before now : Sessions) → CarriesAll events before now → AreTold now → HaveCome before events
+came_all events before now carries told host = came_at host events (before host) (now host) (carries host) (told host)
+
+came_before_fault : (host : ℕ) (events : List Event) (w : Want) (offset byte : ℕ) (x y : Option SessionView) → At (NoPacket host events w offset byte) x y
+    → IfSome y (λ session. IsTrue session.link.told) → HasCome (received_from host events) x
+came_before_fault host events w offset byte None y at told = absurd at
+came_before_fault host events w offset byte (Some b) None at told = absurd at
+came_before_fault host events w offset byte (Some b) (Some n) at told = (at.breaks.rest, at.breaks.came told)
+
+came_before_end : (host : ℕ) (events : List Event) (w : Want) (x y : Option SessionView) → At (EndsAt host events w) x y
+    → IfSome y (λ session. IsTrue session.link.told) → HasCome (received_from host events) x
+came_before_end host events w None y at told = absurd at
+came_before_end host events w (Some b) None at told = absurd at
+came_before_end host events w (Some b) (Some n) at told = (at.breaks.rest, at.breaks.came told)
+
+came_but_one : (failing : ℕ) (events : List Event) (before now : Sessions) → HasCome (received_from failing events) (before failing) → CarriesOthers failing events before now
+    → AreTold now → HaveCome before events
+came_but_one failing events before now at others told host = ⊎_elim
+    (λ (h : (nat_eq host failing ≡ true) × (host ≡ failing)). subst (λ (k : ℕ). HasCome (received_from k events) (before k)) (sym h.1) at)
+    (λ (h : (nat_eq host failing ≡ false) × (host ≢ failing)). came_at host events (before host) (now host) (others host h.1) (told host))
+    (eqb_tells host failing)
+
 pub enough : EnoughEndsWell
 enough lists start before now ob on (Ok ended) drives there told quiet written = refl
 enough lists start before now ob on (Err (fault.Peer host)) drives there told quiet written = absurd (no_failure host.0 drives.events _ _ (before host.0) (now host.0) (quiet host.0) drives.driven.0)
 enough lists start before now ob on (Err fault.Write) drives there told quiet written = absurd (written drives.driven.4.rose)
 enough lists start before now ob on (Err (fault.BadFrame host offset byte)) drives there told quiet written =
-    absurd (no_bad_frame before host.0 drives.events _ offset byte (before host.0) (now host.0) refl (told host.0) (there drives.steps drives.events drives.machine drives.reached) drives.driven.0)
+    absurd (no_bad_frame before host.0 drives.events _ offset byte (before host.0) (now host.0) refl (told host.0) (there drives.steps drives.events drives.machine drives.reached (came_but_one host.0 drives.events before now (came_before_fault host.0 drives.events _ offset byte (before host.0) (now host.0) drives.driven.0 (told host.0)) drives.driven.1 told)) drives.driven.0)
 enough lists start before now ob on (Err (fault.Unequal left right)) drives there told quiet written =
-    absurd (subst (IsThere before drives.events) drives.driven.0 (there drives.steps drives.events drives.machine drives.reached))
+    absurd (subst (IsThere before drives.events) drives.driven.0 (there drives.steps drives.events drives.machine drives.reached (came_all drives.events before now drives.driven.1 told)))
 enough lists start before now ob on (Err (fault.ShortInput cursor count)) drives there told quiet written =
-    absurd (subst (IsThere before drives.events) drives.driven.0 (there drives.steps drives.events drives.machine drives.reached))
+    absurd (subst (IsThere before drives.events) drives.driven.0 (there drives.steps drives.events drives.machine drives.reached (came_all drives.events before now drives.driven.1 told)))
 enough lists start before now ob on (Err (fault.ShortDeal kind cursor count)) drives there told quiet written =
-    absurd (subst (IsThere before drives.events) drives.driven.0 (there drives.steps drives.events drives.machine drives.reached))
+    absurd (subst (IsThere before drives.events) drives.driven.0 (there drives.steps drives.events drives.machine drives.reached (came_all drives.events before now drives.driven.1 told)))
 enough lists start before now ob on (Err (fault.EndOfLink host)) drives there told quiet written =
-    absurd (no_early_end before host.0 drives.events _ (before host.0) (now host.0) refl (told host.0) (there drives.steps drives.events drives.machine drives.reached) drives.driven.0)
+    absurd (no_early_end before host.0 drives.events _ (before host.0) (now host.0) refl (told host.0) (there drives.steps drives.events drives.machine drives.reached (came_but_one host.0 drives.events before now (came_before_end host.0 drives.events _ (before host.0) (now host.0) drives.driven.0 (told host.0)) drives.driven.1 told)) drives.driven.0)

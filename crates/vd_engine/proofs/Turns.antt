@@ -9,6 +9,7 @@ use Rattle.vd_base.specs.declared.packet.Packet.{Packet}
 use Rattle.vd_base.specs.declared.faults.Failed.{Failed}
 use Rattle.vd_outside.specs.Sink.{SinkView}
 use Rattle.vd_link.specs.Frames.{frame, frames}
+use Rattle.vd_link.specs.Laws.{AreWords}
 use Rattle.vd_link.specs.Sessions.{IsLinkFault, Takes, offset_after}
 use Rattle.vd_link.specs.declared.faults.LinkFault.{LinkFault}
 use Rattle.vd_link.specs.declared.faults.LinkFault.TheVariants as link_fault
@@ -234,10 +235,10 @@ heard_words host count packet before now hears = heard_count count packet (befor
 
 -- a turn that took a packet
 pub goes_heard : {M : Type 0} (wants : M → Want) (next : M → List ℕ → M) (does : M → Deed) (start end : M) (host : HostId) (count : ℕ) (packet : Packet) (before now : Sessions) (out : SinkView)
-    → wants start ≡ want.Words host count → shown (does start) ≡ [] → IsSound before → Hears host.0 count before now (Ok packet) → end ≡ next start (packet_words packet) → Goes wants next does start end before now out out 0
-goes_heard wants next does start end host count packet before now out is quiet sound hears moved = record {
+    → wants start ≡ want.Words host count → shown (does start) ≡ [] → IsSound before → Hears host.0 count before now (Ok packet) → end ≡ next start (packet_words packet) → AreWords (packet_words packet) → Goes wants next does start end before now out out 0
+goes_heard wants next does start end host count packet before now out is quiet sound hears moved words = record {
   heard = packet_words packet;
-  wanted = subst (λ (w : Want). IsHeard w (packet_words packet)) (sym is) (heard_count count packet (before host.0) (now host.0) hears.at);
+  wanted = subst (λ (w : Want). IsHeard w (packet_words packet)) (sym is) (heard_count count packet (before host.0) (now host.0) hears.at, words);
   moved = moved;
   kept = subst (λ (e : List Event). CarriesAll e before now) (sym events) (carries_received host.0 count packet before now sound hears);
   written = subst (λ (e : List Event). Writes e out out) (sym events) (writes_received host.0 (packet_words packet) out);

@@ -3,11 +3,12 @@ use Rattle.std.specs.Prelude.{◌≡◌, ℕ, ◌+◌, List, [], ◌∷◌, ◌+
 use Rattle.vd_execution.specs.Step.{Deed, Quiet, Said, Heard, Printed as Shows}
 use Rattle.vd_machine.specs.declared.want.Want.{Want}
 use Rattle.vd_machine.specs.declared.want.Want.TheVariants as want
+use Rattle.vd_link.specs.Laws.{AreWords}
 
--- these words are what is wanted
+-- these words, numbers of 32 bits, are what is wanted
 abbrev pub IsHeard : Want → List ℕ → Type 0
 IsHeard want.Nothing heard = heard ≡ []
-IsHeard (want.Words host count) heard = length heard ≡ count
+IsHeard (want.Words host count) heard = (length heard ≡ count) × AreWords heard
 IsHeard other heard = ⊥
 
 -- a packet that was received, a packet that was sent, a word that was printed

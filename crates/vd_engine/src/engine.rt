@@ -7,6 +7,7 @@ ghost use Rattle.vd_engine.specs.Turning.{Hears, IsDoneOf, IsTurnOf, Says, engin
 ghost use Rattle.vd_execution.specs.Code.{weight};
 ghost use Rattle.vd_machine.specs.Kept.{state_of};
 
+use crate::words::words_fit;
 use crate::writing::write_line;
 use crate::{EngineFault, Links};
 use vd_base::{Failed, HostId, Packet};
@@ -116,7 +117,9 @@ fn take_turn<L: Link + Drop, O: Sink>(
         Want::Nothing => show(machine.step(&[]), links, out),
         Want::Words(host, count) => match hear(links, host, count) {
             Ok(packet) => {
-                machine.step(words_of(&packet));
+                let words = words_of(&packet);
+                words_fit(words);
+                machine.step(words);
                 Ok(Turn::Quiet)
             }
             Err(fault) => Err(fault_of(host, fault)),

@@ -5,6 +5,7 @@ mod engine;
 mod fault;
 mod laws;
 mod links;
+mod words;
 mod writing;
 
 pub use engine::{Ended, drive};

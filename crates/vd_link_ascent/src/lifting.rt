@@ -1,11 +1,8 @@
 //! Lifts what is not left. A setting that went can stand in no valid list, but bounds count it. So it gets a greater cost at
 //! its point, which is taken from the link where it has no partner left: no two that are left lose by that.
 
-use crate::left::{Death, Left};
-use crate::nets::Nets;
-use crate::network::{End, Network};
-use crate::numbers::FAR;
 use std::alloc::{AllocError, Global};
+use vd_link_sweeps::{Death, End, FAR, Left, Nets, Network};
 use vd_linked_path::LinkTable;
 
 /// So many parts more are put on each: 65,536 units, so that some hundred lifts together still are an amount of 32 bits.
@@ -27,7 +24,7 @@ pub fn lift(
     Ok(())
 }
 
-/// Lifts one, where the later ones were lifted by these.
+/// Lifts one, where the later ones were lifted by these. One that a point alone cannot have costs enough there already.
 fn lift_one(
     links: &[LinkTable],
     network: &Network,
@@ -43,13 +40,18 @@ fn lift_one(
             sum = sum.saturating_add(need);
         }
     }
-    nets.add(death.end, death.setting, sum);
-    lifts.add(death.end, death.setting, sum);
+    if let Some(end) = death.end {
+        nets.add(end, death.setting, sum);
+        lifts.add(end, death.setting, sum);
+    }
 }
 
 /// Whether it went at this end of a link.
 fn is_at(death: &Death, end: End) -> bool {
-    death.end.at == end.at && death.end.side == end.side
+    match death.end {
+        Some(own) => own.at == end.at && own.side == end.side,
+        None => false,
+    }
 }
 
 /// What a link must cost more at a setting, so that it costs enough with each partner that was lifted at the link.

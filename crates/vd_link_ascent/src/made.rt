@@ -3,10 +3,9 @@
 ghost use Rattle.std.specs.Prelude.{◌<◌, ◌≤◌, IfOk, IfSome, OnOk};
 ghost use Rattle.vd_link_ascent.specs.Shifts.{AreShiftsOf, Puts, PutsRow};
 
-use crate::nets::Nets;
-use crate::numbers::{number_at, row_at};
 use std::alloc::{AllocError, Global};
 use vd_items::Items;
+use vd_link_sweeps::{Nets, number_at, row_at};
 use vd_prefixes::Shift;
 
 /// A certificate has at most so many shifts.

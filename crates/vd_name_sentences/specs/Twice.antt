@@ -1,6 +1,6 @@
 -- What is said of a name that stands for something already.
 use Rattle.std.specs.Prelude.{◌≡◌, ℕ, List, Option, Some, None, codes, decimal, option_and_then, option_map}
-use Rattle.vd_lexer.specs.Tokens.{Lexes}
+use Rattle.vd_lexer.specs.Tokens.{Lexes, FirstBad}
 use Rattle.vd_lexer.specs.declared.token.Token.{Token}
 use Rattle.vd_place.specs.Lines.{line_number}
 use Rattle.vd_remarks.specs.Parts.{three}
@@ -21,6 +21,7 @@ abbrev pub remark_at : List ℕ → List Token → ℕ → Option Remark
 remark_at bytes tokens offset =
     option_and_then (λ second. option_map (λ first. remark_on bytes tokens first second) (earlier bytes tokens second)) (number_at tokens offset)
 
--- the same of the tokens of the text; nothing where it has none
-abbrev pub IsTwiceRemark : List ℕ → ℕ → Option Remark → Type 0
-IsTwiceRemark bytes offset remark = (tokens : List Token) → Lexes bytes 0 tokens → remark ≡ remark_at bytes tokens offset
+-- the same of the tokens of the text; nothing where a byte begins none
+pub record IsTwiceRemark (bytes : List ℕ) (offset : ℕ) (remark : Option Remark) : Type 0 where
+  pub of_tokens : (tokens : List Token) → Lexes bytes 0 tokens → remark ≡ remark_at bytes tokens offset
+  pub of_none : (bad : ℕ) → FirstBad bytes 0 bad → remark ≡ None

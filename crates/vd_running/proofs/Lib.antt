@@ -3,4 +3,4 @@ mod Ways
 mod Causes
 mod Reports
 mod Completes
-mod Holding
+pub mod Holding

@@ -5,3 +5,4 @@ pub mod Named
 pub mod Answered
 pub mod Staged
 pub mod ByLinks
+mod Untied

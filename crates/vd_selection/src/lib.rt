@@ -6,6 +6,7 @@ mod laws;
 mod linking;
 mod selecting;
 mod stages;
+mod walking;
 
 pub use confirming::confirm;
 pub use laws::problems_have_one_choice;

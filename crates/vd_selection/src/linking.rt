@@ -2,8 +2,9 @@
 
 ghost use Rattle.std.specs.Prelude.{◌≡◌, ◌≢◌, ◌<◌, [], IfOk, IfSome, Err, true};
 ghost use Rattle.vd_link_ascent.specs.Shifts.{AreLinkShifts};
+ghost use Rattle.vd_linked_path.specs.Tables.{AreLinkedTables};
 ghost use Rattle.vd_path.specs.Tables.{AreTables};
-ghost use Rattle.vd_selection.specs.Linking.{CanLink};
+ghost use Rattle.vd_selection.specs.Linking.{CanLink, Tells};
 ghost use Rattle.vd_selection.specs.Selecting.{Selects};
 ghost use Rattle.vd_selection.specs.declared.selecting.SelectFault.TheVariants as select_fault;
 ghost use Rattle.vd_space.specs.Labelled.{IsLabelled};
@@ -11,6 +12,7 @@ ghost use Rattle.vd_space.specs.Sizes.{IsWithinLimits};
 ghost use Rattle.vd_space.specs.Spaces.{IsProblem};
 
 use crate::selecting::{SelectFault, Selection};
+use crate::walking::select_by_walk;
 use std::alloc::{AllocError, Global};
 use vd_certificate::{Certificate, Mark};
 use vd_items::Items;
@@ -41,6 +43,28 @@ fn linked_certificate(
     })
 }
 
+/// What a search by links answered, as a selection.
+pub(crate) fn linked_selection(
+    alloc: Global,
+    linked: &LinkedTables,
+    answer: Answer,
+) -> Result<Selection, AllocError>
+    ensures { IfOk result (Tells linked.now answer) }
+{
+    match answer {
+        Answer::Found(list, cost, marks) => {
+            let certificate = linked_certificate(alloc, linked, cost, marks)?;
+            Ok(Selection::Found(list, cost, certificate))
+        }
+        Answer::Empty(marks) => Ok(Selection::NoAssignment(Certificate {
+            cost: None,
+            linked: false,
+            shifts: Items::new(alloc),
+            marks,
+        })),
+    }
+}
+
 /// The choice, or that there is none, by the tables without shifts and by those of links; nothing where the budget is spent.
 fn select_by_links(
     alloc: Global,
@@ -60,16 +84,10 @@ fn select_by_links(
 {
     let mut path = LinkedPath::new(alloc, problem, tables, linked)?;
     match search(alloc, &mut path, budget) {
-        Ok(Answer::Found(list, cost, marks)) => {
-            let certificate = linked_certificate(alloc, linked, cost, marks)?;
-            Ok(Some(Selection::Found(list, cost, certificate)))
+        Ok(answer) => {
+            let selection = linked_selection(alloc, linked, answer)?;
+            Ok(Some(selection))
         }
-        Ok(Answer::Empty(marks)) => Ok(Some(Selection::NoAssignment(Certificate {
-            cost: None,
-            linked: false,
-            shifts: Items::new(alloc),
-            marks,
-        }))),
         Err(Stop::Spent) => Ok(None),
         Err(Stop::Memory) => Err(SelectFault::Memory),
     }
@@ -94,21 +112,26 @@ fn tables_of_some(
     Ok(Some(linked))
 }
 
-/// The tables of better shifts of links, where there are some.
-fn better_links(alloc: Global, problem: &Problem) -> Result<Option<LinkedTables>, AllocError>
+/// The tables of better shifts of links, by those without shifts, where there are some.
+fn better_links(
+    alloc: Global,
+    problem: &Problem,
+    without: &LinkedTables,
+) -> Result<Option<LinkedTables>, AllocError>
     requires holds { IsProblem problem.now }
     requires labelled { IsLabelled problem.now }
     requires limits { IsWithinLimits problem.now }
+    requires without { AreLinkedTables problem.now without.now }
     ensures { IfOk result (λ found. IfSome found (CanLink problem.now)) }
 {
-    let without = linked_tables(alloc, problem, Items::new(alloc))?;
-    match ascend_by_links(alloc, problem, &without)? {
+    match ascend_by_links(alloc, problem, without)? {
         Some(shifts) => tables_of_some(alloc, problem, shifts),
         None => Ok(None),
     }
 }
 
-/// The choice, or that there is none, by better shifts of links; nothing where there are none or the budget is spent.
+/// The choice, or that there is none, by better shifts of links, and where these leave too many ties by a walk; nothing where
+/// there are none or the budget is spent.
 pub fn try_links(
     alloc: Global,
     problem: &Problem,
@@ -121,11 +144,13 @@ pub fn try_links(
     ensures selects { IfOk result (λ found. IfSome found (Selects problem.now budget)) }
     ensures unspent { result ≢ Err select_fault.Spent }
 {
-    match better_links(alloc, problem)? {
-        Some(linked) => {
-            let tables = tables(alloc, problem, Items::new(alloc))?;
-            select_by_links(alloc, problem, &tables, &linked, budget)
-        }
-        None => Ok(None),
+    let without = linked_tables(alloc, problem, Items::new(alloc))?;
+    let Some(linked) = better_links(alloc, problem, &without)? else {
+        return Ok(None);
+    };
+    let tables = tables(alloc, problem, Items::new(alloc))?;
+    match select_by_links(alloc, problem, &tables, &linked, budget)? {
+        Some(selection) => Ok(Some(selection)),
+        None => select_by_walk(alloc, problem, &tables, &without, &linked, budget),
     }
 }

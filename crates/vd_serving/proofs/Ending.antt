@@ -15,15 +15,15 @@ use Rattle.vd_outside.specs.Causes.{Rose}
 use Rattle.vd_outside.specs.Link.{LinkView}
 use Rattle.vd_outside.specs.Net.{HangsUp, NetView}
 use Rattle.vd_outside.specs.Sink.{SinkView}
-use Rattle.vd_link.specs.Frames.{greeting}
+use Rattle.vd_link.specs.Frames.{frames, greeting}
 use Rattle.vd_link.specs.Sessions.{Greets, IsGreetFault}
 use Rattle.vd_link.specs.declared.faults.GreetFault.{GreetFault}
 use Rattle.vd_link.specs.declared.faults.GreetFault.TheVariants as greet_fault
 use Rattle.vd_link.proofs.GreetingLaws.{no_greet_fault}
 use Rattle.vd_link.proofs.Streams.{front_same}
 use Rattle.vd_engine.specs.Drives.{SessionView, Sessions}
-use Rattle.vd_engine.specs.Enough.{IsEnough, IsThere, NotRisen, PacketComes}
-use Rattle.vd_engine.specs.Events.{Event}
+use Rattle.vd_engine.specs.Enough.{HasCome, IsEnough, IsThere, NotRisen, PacketComes}
+use Rattle.vd_engine.specs.Events.{Event, received_from}
 use Rattle.vd_engine.specs.Hosts.{seen_at, wants_with}
 use Rattle.vd_engine.specs.declared.engine.Ended.{Ended}
 use Rattle.vd_engine.specs.declared.fault.EngineFault.{EngineFault}
@@ -63,8 +63,17 @@ there_too sessions served events (want.ShortInput i j) same there = there
 there_too sessions served events (want.ShortDeal kind i j) same there = there
 there_too sessions served events (want.Unequal x y) same there = there
 
+-- what came on these sessions came on those
+came_too : (packets : List (List ℕ)) (session served : Option SessionView) → Matches session served → HasCome packets session → HasCome packets served
+came_too packets None None same none = none
+came_too packets None (Some served) same none = (served.link.coming, ap (λ (l : List (List ℕ)). frames l ++ served.link.coming) (sym none))
+came_too packets (Some session) None same came = absurd same
+came_too packets (Some session) (Some served) same came = (came.0, sym same ∙ came.1)
+
 enough_too : (lists : Lists) (start : State) (sessions served : Sessions) → ((host : ℕ) → Matches (sessions host) (served host)) → IsEnough lists start served → IsEnough lists start sessions
-enough_too lists start sessions served same enough steps events state reached = there_too sessions served events (wants_with lists state) same (enough steps events state reached)
+enough_too lists start sessions served same enough steps events state reached come =
+    there_too sessions served events (wants_with lists state) same
+    (enough steps events state reached (λ host. came_too (received_from host events) (sessions host) (served host) (same host) (come host)))
 
 -- ---- a host and what is served to it
 

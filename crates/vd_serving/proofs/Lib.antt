@@ -3,4 +3,5 @@ pub mod Giving
 pub mod Returning
 pub mod Staying
 pub mod Ending
+pub mod Instance
 pub mod Serving

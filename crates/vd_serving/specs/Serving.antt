@@ -16,6 +16,7 @@ use Rattle.vd_engine.specs.Enough.{IsEnough}
 use Rattle.vd_hosting.specs.Peers.{address_of, number_at}
 use Rattle.vd_hosting.specs.declared.task.Task.{Task}
 use Rattle.vd_link.specs.Frames.{greeting}
+use Rattle.vd_plan.specs.declared.status.Status.{Status}
 use Rattle.vd_plan.specs.declared.status.Status.TheVariants as status
 use Rattle.vd_host_command.specs.Laws.{OfEachRun, task_of}
 use Rattle.vd_host_command.specs.Loading.{HoldsHost}
@@ -47,7 +48,8 @@ abbrev pub lists_of : Loaded → Lists
 lists_of loaded = record { inputs = loaded.inputs; deal = loaded.deal }
 
 -- The files hold a host, and the net has as many listeners as it counts. Every greeting comes whole and equal; and wherever the
--- steps of the host's code lead, the awaited packet comes whole, no compared words differ, and its inputs and items suffice.
+-- steps of the host's code lead on the packets that come, the awaited one comes whole, no compared words differ, and its inputs
+-- and items suffice.
 pub record IsServed (words : HostWords) (contents : Contents) (net : NetView) : Type 0 where
   pub loaded : Loaded
   pub held : HoldsHost words contents loaded
@@ -69,7 +71,10 @@ pub record IsQuiet (files files_now : FilesView) (net net_now : NetView) (out ou
   pub all_tell : AllByRecursion IsTold (drop (length net.back) net_now.back)
 
 -- A host that is served ends with status 0 or is out of memory, unless something outside fails.
-abbrev pub ServedHostsEndWell : Type 0
-ServedHostsEndWell = OfEachRun (λ words files files_now net net_now out out_now end.
+abbrev pub IsCompleteHost : HostWords → FilesView → FilesView → NetView → NetView → SinkView → SinkView → Status → Type 0
+IsCompleteHost words files files_now net net_now out out_now end =
     IsTrue files.told → IsTrue net.told → length net.back ≤ net.links → IsQuiet files files_now net net_now out out_now → IsServed words files.contents net
-    → (end ≡ status.Ended) ⊎ (end ≡ status.Memory))
+    → (end ≡ status.Ended) ⊎ (end ≡ status.Memory)
+
+abbrev pub ServedHostsEndWell : Type 0
+ServedHostsEndWell = OfEachRun IsCompleteHost

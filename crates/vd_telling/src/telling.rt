@@ -1,181 +1,110 @@
 //! What is said of a status to a person, besides its line.
 
-use crate::remarks::{About, deal_number, remark_on};
+ghost use Rattle.std.specs.Prelude.{◌≡◌, IfOk, Some, []};
+ghost use Rattle.vd_telling.specs.Said as texts;
+ghost use Rattle.vd_telling.specs.Saying.{SaysMore, SaysTo};
+
+use crate::alone::alone;
+use crate::deals::deal_told;
+use crate::files::{Reading, reading_of};
+use crate::remarks::remark_on;
+use crate::words::word_at;
 use std::alloc::Global;
-use vd_base::limits::{INPUTS_BYTES, SCHEDULE_BYTES, SOURCE_BYTES};
 use vd_base::{Bytes, Texts};
-use vd_outside::{Files, Sink};
-use vd_plan::{HostStatus, RuleFault, Status, file_name, write_all};
-use vd_remarks::{
-    Remark, TellFault, certificate_sentence, deal_sentence, program_sentence, tell, usage_of,
-};
+use vd_outside::{FetchFault, Files, Sink};
+use vd_plan::{Status, write_all};
+use vd_remarks::{TellFault, tell};
 
-/// The places of words in a command line.
-const SOURCE: usize = 1;
+/// Where standard error goes.
+#[derive(Clone, Copy)]
+pub enum Destination {
+    /// Into a file or a pipe, which get the line of a status and no more.
+    File,
+    /// To a terminal, with colours or without.
+    Terminal { coloured: bool },
+}
 
-const INPUTS: usize = 2;
+/// The remark on the bytes of the file with this name, as it is printed; nothing where there is none.
+fn remark_told(
+    alloc: Global,
+    coloured: bool,
+    name: &str,
+    bytes: &[u8],
+    status: &Status,
+) -> Result<Bytes, TellFault>
+    ensures { IfOk result (texts.IsRemarkTold coloured status.now name.now bytes.now) }
+{
+    let found = remark_on(alloc, bytes, status)?;
+    match found {
+        Some(remark) => {
+            let text = tell(alloc, coloured, name, bytes, &remark)?;
+            Ok(text)
+        }
+        None => Ok(Bytes::new(alloc)),
+    }
+}
 
-const CERTIFICATE: usize = 2;
+/// What is said of a status when the file with this name holds these bytes.
+fn told(
+    alloc: Global,
+    coloured: bool,
+    words: &Texts,
+    name: &str,
+    bytes: &[u8],
+    status: &Status,
+) -> Result<Bytes, TellFault>
+    ensures { IfOk result (texts.IsTold coloured words.now status.now name.now bytes.now) }
+{
+    match status {
+        Status::DealText(host, offset) => {
+            deal_told(alloc, words, bytes, host.as_slice(), *offset)
+        }
+        _ => remark_told(alloc, coloured, name, bytes, status),
+    }
+}
 
-const PROGRAM: usize = 1;
+/// What is said where a file is not given: nothing, unless there was no memory for it.
+fn said_of_fault(alloc: Global, fault: FetchFault) -> Result<Bytes, TellFault>
+    ensures { IfOk result (λ text. text ≡ []) }
+{
+    match fault {
+        FetchFault::Failed | FetchFault::TooLong => Ok(Bytes::new(alloc)),
+        FetchFault::Memory => Err(TellFault::Memory),
+    }
+}
 
-const DEAL: usize = 3;
-
-const PREFIX: usize = 3;
-
-const SCHEDULE: usize = 4;
-
-/// What is said of the file that the word at this place names.
+/// What is said of a status by the file with this name; nothing where it is not given or is longer than the limit.
 fn said_of_file<F: Files>(
     alloc: Global,
     coloured: bool,
     words: &Texts,
     files: &mut F,
-    place: usize,
-    limit: u32,
-    about: About,
-) -> Result<Bytes, TellFault> {
-    let Some(name) = words.as_slice().get(place) else {
-        return Ok(Bytes::new(alloc));
-    };
-    let Ok(bytes) = files.fetch(name.as_str(), limit) else {
-        return Ok(Bytes::new(alloc));
-    };
-    match remark_on(alloc, bytes.as_slice(), about)? {
-        Some(remark) => {
-            let said = tell(alloc, coloured, name.as_str(), bytes.as_slice(), &remark)?;
-            Ok(said)
-        }
-        None => Ok(Bytes::new(alloc)),
-    }
-}
-
-/// A sentence on a whole file.
-fn said_of_whole(
-    alloc: Global,
-    coloured: bool,
     name: &str,
-    sentence: Bytes,
-) -> Result<Bytes, TellFault> {
-    let remark = Remark {
-        offset: None,
-        sentence,
-    };
-    let said = tell(alloc, coloured, name, b"", &remark)?;
-    Ok(said)
-}
-
-/// A sentence on the whole file that the word at this place names.
-fn said_of_word(
-    alloc: Global,
-    coloured: bool,
-    words: &Texts,
-    place: usize,
-    sentence: Bytes,
-) -> Result<Bytes, TellFault> {
-    match words.as_slice().get(place) {
-        Some(name) => said_of_whole(alloc, coloured, name.as_str(), sentence),
-        None => Ok(Bytes::new(alloc)),
-    }
-}
-
-/// What is said of the deal file of the host with this number.
-fn said_of_deal_file(
-    alloc: Global,
-    coloured: bool,
-    prefix: &str,
-    number: usize,
-    offset: u32,
-) -> Result<Bytes, TellFault> {
-    let name = file_name(alloc, prefix, number, ".deal")?;
-    let sentence = deal_sentence(alloc, offset)?;
-    said_of_whole(alloc, coloured, name.as_str(), sentence)
-}
-
-/// What is said of the deal of the host with this name in a source: a prefix and the host's number name its file.
-fn said_of_numbered_deal<F: Files>(
-    alloc: Global,
-    coloured: bool,
-    words: &Texts,
-    files: &mut F,
-    host: &[u8],
-    offset: u32,
-) -> Result<Bytes, TellFault> {
-    let Some(source) = words.as_slice().get(SOURCE) else {
-        return Ok(Bytes::new(alloc));
-    };
-    let Some(prefix) = words.as_slice().get(PREFIX) else {
-        return Ok(Bytes::new(alloc));
-    };
-    let Ok(bytes) = files.fetch(source.as_str(), SOURCE_BYTES) else {
-        return Ok(Bytes::new(alloc));
-    };
-    match deal_number(alloc, bytes.as_slice(), host) {
-        Some(number) => said_of_deal_file(alloc, coloured, prefix.as_str(), number, offset),
-        None => Ok(Bytes::new(alloc)),
-    }
-}
-
-/// What is said of the deal of the host with this name. The words of `host` name its file.
-fn said_of_deal<F: Files>(
-    alloc: Global,
-    coloured: bool,
-    words: &Texts,
-    files: &mut F,
-    host: &[u8],
-    offset: u32,
-) -> Result<Bytes, TellFault> {
-    if first_word(words) == b"host".as_slice() {
-        let sentence = deal_sentence(alloc, offset)?;
-        said_of_word(alloc, coloured, words, DEAL, sentence)
-    } else {
-        said_of_numbered_deal(alloc, coloured, words, files, host, offset)
-    }
-}
-
-/// The first word; empty where there is none.
-fn first_word(words: &Texts) -> &[u8] {
-    match words.as_slice().first() {
-        Some(word) => word.as_str().as_bytes(),
-        None => b"",
-    }
-}
-
-/// What is said of words and of files that only this program writes; none of what has a place in a file that a person writes.
-fn said_of_words(
-    alloc: Global,
-    coloured: bool,
-    words: &Texts,
+    limit: u32,
     status: &Status,
-) -> Result<Option<Bytes>, TellFault> {
-    let (place, sentence) = match status {
-        Status::Usage => {
-            let usage = Bytes::from_slice(alloc, usage_of(first_word(words)))?;
-            return Ok(Some(usage));
-        }
-        Status::CertificateText(offset) => (CERTIFICATE, certificate_sentence(alloc, *offset)?),
-        Status::Host(HostStatus::ProgramText(offset)) => {
-            (PROGRAM, program_sentence(alloc, *offset)?)
-        }
-        _ => return Ok(None),
-    };
-    let said = said_of_word(alloc, coloured, words, place, sentence)?;
-    Ok(Some(said))
+) -> Result<Bytes, TellFault>
+    ensures { texts.IsSaidOfFile coloured words.now status.now name.now limit (F.view files.old) (F.view files.new) result }
+{
+    match files.fetch(name, limit) {
+        Ok(bytes) => told(alloc, coloured, words, name, bytes.as_slice(), status),
+        Err(fault) => said_of_fault(alloc, fault),
+    }
 }
 
-/// What a status says of a file that a person writes: the word that names it, the file's limit, and what is to be told.
-fn place_of(status: &Status) -> Option<(usize, u32, About)> {
-    match status {
-        Status::Names(RuleFault::Twice(offset)) => {
-            Some((SOURCE, SOURCE_BYTES, About::Twice(*offset)))
-        }
-        Status::Syntax(_) | Status::Names(_) => Some((SOURCE, SOURCE_BYTES, About::Source)),
-        Status::Flow(_, _) => Some((SOURCE, SOURCE_BYTES, About::Flow)),
-        Status::NoAssignment => Some((SOURCE, SOURCE_BYTES, About::Assignment)),
-        Status::Spent(budget) => Some((SOURCE, SOURCE_BYTES, About::Search(*budget))),
-        Status::InputText(fault) => Some((INPUTS, INPUTS_BYTES, About::Inputs(*fault))),
-        Status::ScheduleText(fault) => Some((SCHEDULE, SCHEDULE_BYTES, About::Schedule(*fault))),
-        _ => None,
+/// What is said of a status by the file that is read for it; nothing where no word names it.
+fn said_by<F: Files>(
+    alloc: Global,
+    coloured: bool,
+    words: &Texts,
+    files: &mut F,
+    reading: Reading,
+    status: &Status,
+) -> Result<Bytes, TellFault>
+    ensures { texts.IsSaidBy coloured words.now status.now (Some reading) (F.view files.old) (F.view files.new) result }
+{
+    match word_at(words, reading.word) {
+        Some(name) => said_of_file(alloc, coloured, words, files, name, reading.limit, status),
+        None => Ok(Bytes::new(alloc)),
     }
 }
 
@@ -186,31 +115,51 @@ fn said<F: Files>(
     words: &Texts,
     files: &mut F,
     status: &Status,
-) -> Result<Bytes, TellFault> {
-    if let Status::DealText(host, offset) = status {
-        return said_of_deal(alloc, coloured, words, files, host.as_slice(), *offset);
-    }
-    if let Some(said) = said_of_words(alloc, coloured, words, status)? {
-        return Ok(said);
-    }
-    match place_of(status) {
-        Some((place, limit, about)) => {
-            said_of_file(alloc, coloured, words, files, place, limit, about)
+) -> Result<Bytes, TellFault>
+    ensures { texts.IsSaid coloured words.now status.now (F.view files.old) (F.view files.new) result }
+{
+    match reading_of(words, status) {
+        Some(reading) => said_by(alloc, coloured, words, files, reading, status),
+        None => {
+            let text = alone(alloc, words, status)?;
+            Ok(text)
         }
-        None => Ok(Bytes::new(alloc)),
     }
 }
 
-/// Says more of a status, where there is more to say. What fails on the way is not told.
-pub fn say_more<F: Files, E: Sink>(
+/// Says more of a status at a terminal, where there is more to say: the text that belongs to it, as far as the stream takes
+/// it. It is refused where there is no memory for the text; then nothing is written.
+fn say_at_terminal<F: Files, E: Sink>(
     alloc: Global,
     coloured: bool,
     words: &Texts,
     files: &mut F,
     err: &mut E,
     status: &Status,
-) {
-    if let Ok(said) = said(alloc, coloured, words, files, status) {
-        let _ = write_all(err, said.as_slice());
+) -> Result<(), TellFault>
+    ensures { SaysMore coloured words.now status.now (F.view files.old) (F.view files.new) (E.view err.old) (E.view err.new) result }
+{
+    let text = said(alloc, coloured, words, files, status)?;
+    let _ = write_all(err, text.as_slice());
+    Ok(())
+}
+
+/// Says more of a status to the person at a terminal: the text that belongs to it, where there is one. At most one file is
+/// fetched for it, and none is stored. It is refused where there is no memory for the text; then nothing is written.
+pub fn say_more<F: Files, E: Sink>(
+    alloc: Global,
+    destination: Destination,
+    words: &Texts,
+    files: &mut F,
+    err: &mut E,
+    status: &Status,
+) -> Result<(), TellFault>
+    ensures { SaysTo destination words.now status.now (F.view files.old) (F.view files.new) (E.view err.old) (E.view err.new) result }
+{
+    match destination {
+        Destination::File => Ok(()),
+        Destination::Terminal { coloured } => {
+            say_at_terminal(alloc, coloured, words, files, err, status)
+        }
     }
 }

@@ -24,7 +24,9 @@ use Rattle.vd_cmd.specs.declared.command.HostWords.{HostWords}
 use Rattle.vd_cmd.specs.declared.command.RunWords.{RunWords}
 use Rattle.vd_top.specs.Commands.{RunsForm, plan_of, search_of, usage_plan}
 use Rattle.vd_top.specs.Headline.{KeepsTrial, KeepsDependence, KeepsHeadline, ShowsForm, ShowsOf}
-use Rattle.vd_top.specs.Hosts.{PlaysForm, SpawnsForm, speaks_by, spawns_by}
+use Rattle.vd_running.proofs.Holding.{complete}
+use Rattle.vd_serving.proofs.Serving.{served}
+use Rattle.vd_top.specs.Hosts.{PlaysForm, ReportsForm, ServesForm, SpawnsForm, speaks_by, spawns_by}
 
 -- what is shown by the form is what is said of the words
 pub headline_of : (words : List (List ℕ)) (before : FilesView) (out_before out_now : SinkView) (status : Status) → ShowsForm (form_of words) before out_before out_now status → KeepsHeadline words before out_before out_now status
@@ -142,3 +144,19 @@ module _ (form : Option Command) (command : Command) (is : form ≡ Some command
 
   pub childless_by : spawns_by form ≡ false → spawns_by (Some command) ≡ false
   childless_by childless = subst (λ (f : Option Command). spawns_by f ≡ false) is childless
+
+-- ---- what was done ends well where it can
+
+pub serves : (files files_now : FilesView) (net net_now : NetView) (out out_now : SinkView) (status : Status) (form : Option Command) → PlaysForm form files files_now net net_now out out_now status
+    → ServesForm form files files_now net net_now out out_now status
+serves files files_now net net_now out out_now status None plays = tt
+serves files files_now net net_now out out_now status (Some (OnFiles command)) plays = tt
+serves files files_now net net_now out out_now status (Some (Run words)) plays = tt
+serves files files_now net net_now out out_now status (Some (Host words)) plays = served words files files_now net net_now out out_now status plays
+
+pub reports : (files files_now : FilesView) (out out_now : SinkView) (spawner spawner_now : SpawnerView) (status : Status) (form : Option Command) → SpawnsForm form files files_now out out_now spawner spawner_now status
+    → ReportsForm form files files_now out out_now spawner spawner_now status
+reports files files_now out out_now spawner spawner_now status None spawned = tt
+reports files files_now out out_now spawner spawner_now status (Some (OnFiles command)) spawned = tt
+reports files files_now out out_now spawner spawner_now status (Some (Host words)) spawned = tt
+reports files files_now out out_now spawner spawner_now status (Some (Run words)) spawned = complete words (outside files out spawner) (outside files_now out_now spawner_now) status spawned

@@ -9,8 +9,10 @@ use Rattle.vd_cmd.specs.declared.command.Command.{Command}
 use Rattle.vd_cmd.specs.declared.command.Command.TheVariants.{Host, Run}
 use Rattle.vd_plan.specs.declared.status.Status.{Status}
 use Rattle.vd_host_command.specs.Hosts.{HostRuns}
+use Rattle.vd_running.specs.Completing.{IsCompleteRun}
 use Rattle.vd_running.specs.Running.{Runs}
 use Rattle.vd_running.specs.RunsHosts.{outside}
+use Rattle.vd_serving.specs.Serving.{IsCompleteHost}
 
 -- ---- which commands use what
 
@@ -50,3 +52,21 @@ SpawnsForm other files files_now out out_now spawner spawner_now status = Unit {
 
 abbrev pub SpawnsWords : List (List ℕ) → FilesView → FilesView → SinkView → SinkView → SpawnerView → SpawnerView → Status → Type 0
 SpawnsWords words files files_now out out_now spawner spawner_now status = SpawnsForm (form_of words) files files_now out out_now spawner spawner_now status
+
+-- ---- when they end well
+
+-- A host whose files are good and whose peers serve it ends with status 0 or is out of memory, unless something outside fails.
+abbrev pub ServesForm : Option Command → FilesView → FilesView → NetView → NetView → SinkView → SinkView → Status → Type 0
+ServesForm (Some (Host words)) files files_now net net_now out out_now status = IsCompleteHost words files files_now net net_now out out_now status
+ServesForm other files files_now net net_now out out_now status = Unit {0}
+
+abbrev pub ServesWords : List (List ℕ) → FilesView → FilesView → NetView → NetView → SinkView → SinkView → Status → Type 0
+ServesWords words files files_now net net_now out out_now status = ServesForm (form_of words) files files_now net net_now out out_now status
+
+-- So does a run of all hosts of a source at its choice whose children say what hosts say.
+abbrev pub ReportsForm : Option Command → FilesView → FilesView → SinkView → SinkView → SpawnerView → SpawnerView → Status → Type 0
+ReportsForm (Some (Run words)) files files_now out out_now spawner spawner_now status = IsCompleteRun words (outside files out spawner) (outside files_now out_now spawner_now) status
+ReportsForm other files files_now out out_now spawner spawner_now status = Unit {0}
+
+abbrev pub ReportsWords : List (List ℕ) → FilesView → FilesView → SinkView → SinkView → SpawnerView → SpawnerView → Status → Type 0
+ReportsWords words files files_now out out_now spawner spawner_now status = ReportsForm (form_of words) files files_now out out_now spawner spawner_now status

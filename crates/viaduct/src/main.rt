@@ -3,7 +3,7 @@
 #![tactic(auto)]
 
 use std::alloc::Global;
-use std::env::Env;
+use std::env::{Env, VarError};
 use std::io::IsTerminal;
 use std::process::ExitCode;
 use std::{env, io};
@@ -11,7 +11,7 @@ use vd_base::Texts;
 use vd_edge::{RealFiles, RealNet, RealSink, RealSpawner};
 use vd_outside::Sink;
 use vd_plan::{Status, tell};
-use vd_telling::say_more;
+use vd_telling::{Destination, say_more};
 use vd_top::start;
 
 /// The words of the command line after the program's own. Words that are no text make no command line.
@@ -33,15 +33,20 @@ fn words(rt: &(impl Env + AllocGlobal)) -> io::Result<Texts> {
 fn run<O: Sink, E: Sink>(rt: HostRuntime, out: &mut O, err: &mut E) -> io::Result<Status> {
     let alloc: Global = rt.alloc();
     let is_terminal = rt.stderr().is_terminal();
-    let coloured = env::var(&rt, "NO_COLOR").is_err();
+    let coloured = matches!(env::var(&rt, "NO_COLOR"), Err(VarError::NotPresent));
+    let destination = if is_terminal {
+        Destination::Terminal { coloured }
+    } else {
+        Destination::File
+    };
     let words = words(&rt)?;
     let mut net = RealNet::new(rt.clone()?, alloc);
     let mut spawner = RealSpawner::new(rt.clone()?, alloc);
     let mut files = RealFiles::new(rt, alloc);
     let status = start(alloc, &words, &mut files, out, err, &mut net, &mut spawner);
-    if is_terminal {
-        say_more(alloc, coloured, &words, &mut files, err, &status);
-    }
+
+    // The line stands: where there is no memory to say more of it, no more is said.
+    let _ = say_more(alloc, destination, &words, &mut files, err, &status);
     Ok(status)
 }
 

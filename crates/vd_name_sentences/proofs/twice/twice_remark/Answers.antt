@@ -1,4 +1,3 @@
-use Rattle.std.proofs.Common.{None}
 use Rattle.vd_name_sentences.proofs.Accounts.{of_text, of_no_text}
 use Rattle.vd_name_sentences.proofs.twice.twice_remark.Goals as goal
 
@@ -8,4 +7,4 @@ returns-in_ok-remark-in-Ok c =
 
 pub returns-in-Err-BadByte : goal.returns-in-Err-BadByte
 returns-in-Err-BadByte c =
-    of_no_text c.args.bytes.now c.in-Err-BadByte.field-0 c.in-Err-BadByte.field-0-0 c.args.offset None c.in-Err-BadByte.field-0-is (c.in-Err-BadByte.ensures {u = tt}).bad
+    of_no_text c.args.bytes.now c.in-Err-BadByte.field-0 c.in-Err-BadByte.field-0-0 c.args.offset c.in-Err-BadByte.field-0-is (c.in-Err-BadByte.ensures {u = tt}).bad

@@ -23,3 +23,9 @@ returns-in-None-clause-hosts g c = λ none. c.run.ensures.hosts
 
 pub returns-in-None-clause-trial : goal.returns-in-None-clause-trial
 returns-in-None-clause-trial g c = λ none. c.run.ensures.trial
+
+pub returns-in-None-clause-served : goal.returns-in-None-clause-served
+returns-in-None-clause-served g c = λ none. c.run.ensures.served
+
+pub returns-in-None-clause-reported : goal.returns-in-None-clause-reported
+returns-in-None-clause-reported g c = λ none. c.run.ensures.reported

@@ -17,8 +17,8 @@ const NOTHING_LEFT: i64 = 256_000_000_000;
 pub struct Death {
     pub point: usize,
     pub setting: usize,
-    /// Where it has no partner left.
-    pub end: End,
+    /// Where it has no partner left; none where the point alone cannot be there.
+    pub end: Option<End>,
 }
 
 #[derive(Drop)]
@@ -64,16 +64,25 @@ impl Left {
         Ok(left)
     }
 
-    /// Adds a point with these costs, where tests say at which settings it may be.
+    /// Adds a point with these costs, where tests say at which settings it may be. One that costs too much goes at once.
     fn put_point(
         &mut self,
         alloc: Global,
         table: &PointTable,
         tests: &[bool],
     ) -> Result<(), AllocError> {
+        let point = self.live.len();
         let mut row = Vec::new(alloc);
         for (cost, test) in table.costs.as_slice().iter().zip(tests) {
-            row.push(*test && *cost < NOTHING_LEFT)?;
+            let is_too_dear = *cost >= NOTHING_LEFT;
+            if *test && is_too_dear {
+                self.deaths.push(Death {
+                    point,
+                    setting: row.len(),
+                    end: None,
+                })?;
+            }
+            row.push(*test && !is_too_dear)?;
         }
         self.most = self.most.max(row.len());
         self.live.push(row)?;
@@ -142,7 +151,7 @@ impl Left {
         self.deaths.push(Death {
             point: end.point,
             setting,
-            end,
+            end: Some(end),
         })?;
         Ok(())
     }

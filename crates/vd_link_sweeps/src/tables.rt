@@ -1,7 +1,7 @@
 //! What points and links cost by the settings that are left, in parts of a unit.
 
 use crate::network::{End, Network, Side};
-use crate::numbers::{FAR, settings_at};
+use crate::numbers::{FAR, add_at, settings_at};
 use crate::order::Order;
 use std::alloc::{AllocError, Global};
 use vd_linked_path::{LinkTable, LinkedTables, PointTable};
@@ -45,6 +45,11 @@ impl Tables {
             })?;
         }
         Ok(Tables { costs, prices })
+    }
+
+    /// Makes a point cost more at a setting.
+    pub fn raise(&mut self, point: usize, setting: usize, amount: i64) {
+        add_at(&mut self.costs, point, setting, amount);
     }
 
     /// What a link costs, with a row for each setting at this end.

@@ -8,6 +8,7 @@ use crate::nets::Nets;
 use crate::network::{End, Network};
 use crate::numbers::{FAR, add_at, least, number_at, overwrite, row_at};
 use crate::tables::Tables;
+use crate::witness::Witness;
 use std::alloc::{AllocError, Global};
 
 /// A climb ends after so many sweeps in which the bound did not rise.
@@ -22,7 +23,9 @@ pub struct State {
     /// By point and setting.
     terms: Vec<Vec<i64>>,
     nets: Nets,
-    messages: Messages,
+    /// Those of the last sweep forward, and of the last one backward: where only these two differ, none is computed anew.
+    forward: Messages,
+    backward: Messages,
 }
 
 /// How what a point gives is split over the links that are ahead: in equal parts for all of them, and for as many behind.
@@ -81,7 +84,8 @@ impl State {
     ) -> Result<State, AllocError> {
         let mut state = State {
             terms: tables.costs.clone()?,
-            messages: Messages::of(alloc, tables, network, &nets)?,
+            forward: Messages::of(alloc, tables, network, &nets)?,
+            backward: Messages::of(alloc, tables, network, &nets)?,
             nets,
         };
         state.sum_up(network);
@@ -99,8 +103,8 @@ impl State {
         }
     }
 
-    /// Goes to the state after these shifts.
-    fn go_to(&mut self, tables: &Tables, network: &Network, nets: &Nets) {
+    /// Goes to the state after these shifts, by what the points cost now.
+    pub fn go_to(&mut self, tables: &Tables, network: &Network, nets: &Nets) {
         self.nets.copy_from(nets);
         for (point, costs) in tables.costs.iter().enumerate() {
             if point < self.terms.len() {
@@ -111,17 +115,17 @@ impl State {
     }
 
     /// What the shifts so far come to.
-    pub fn into_nets(self) -> Nets {
-        let State {
-            terms: _,
-            nets,
-            messages: _,
-        } = self;
-        nets
+    pub fn nets(&self) -> &Nets {
+        &self.nets
+    }
+
+    /// Makes a point cost more at a setting.
+    pub fn raise(&mut self, point: usize, setting: usize, amount: i64) {
+        add_at(&mut self.terms, point, setting, amount);
     }
 
     /// How many settings are left for a point.
-    fn count(&self, point: usize) -> usize {
+    pub fn count(&self, point: usize) -> usize {
         row_at(self.terms.as_slice(), point).len()
     }
 
@@ -146,23 +150,41 @@ impl State {
         self.put(end, setting, 0i64.saturating_sub(amount));
     }
 
+    /// What links cost at least, as a sweep that way sees it.
+    fn messages(&self, forward: bool) -> &Messages {
+        if forward {
+            &self.forward
+        } else {
+            &self.backward
+        }
+    }
+
+    /// Computes anew what a link costs at least from the settings at this end, where that may have changed.
+    fn refresh(&mut self, tables: &Tables, end: End, forward: bool) {
+        if forward {
+            self.forward.refresh(tables, end, &self.nets);
+        } else {
+            self.backward.refresh(tables, end, &self.nets);
+        }
+    }
+
     /// What a link costs at least from a setting at this end.
-    fn least_from(&self, end: End, setting: usize) -> i64 {
-        let least = number_at(self.messages.amounts(end), setting);
+    fn least_from(&self, end: End, forward: bool, setting: usize) -> i64 {
+        let least = number_at(self.messages(forward).amounts(end), setting);
         least.saturating_sub(number_at(self.nets.row(end), setting))
     }
 
     /// Takes from a link what it costs at least from each setting at this end, and puts it on the point.
-    fn collect(&mut self, tables: &Tables, end: End) {
-        self.messages.refresh(tables, end, &self.nets);
+    fn collect(&mut self, tables: &Tables, end: End, forward: bool) {
+        self.refresh(tables, end, forward);
         for setting in 0..self.count(end.point) {
-            let amount = self.least_from(end, setting);
+            let amount = self.least_from(end, forward, setting);
             self.put(end, setting, amount);
         }
     }
 
     /// One sweep, forward or backward by turns.
-    fn sweep(&mut self, tables: &Tables, network: &Network, turn: u32) {
+    pub fn sweep(&mut self, tables: &Tables, network: &Network, turn: u32) {
         let forward = is_forward(turn);
         let points = self.terms.len();
         for step in 0..points {
@@ -174,7 +196,7 @@ impl State {
     /// What a sweep does at a point.
     fn visit(&mut self, tables: &Tables, ends: &[End], point: usize, forward: bool, turn: u32) {
         for end in ends {
-            self.collect(tables, *end);
+            self.collect(tables, *end, forward);
         }
         if let Some(split) = Split::of(ends, forward) {
             let least = self.least_at(point);
@@ -204,41 +226,41 @@ impl State {
         }
     }
 
-    /// The sum of the least that each point and each link costs, after a sweep.
-    fn bound(&mut self, tables: &Tables, network: &Network, turn: u32) -> i64 {
+    /// The sum of the least that each point and each link costs, after the sweep of that number.
+    pub fn bound(&mut self, tables: &Tables, network: &Network, turn: u32) -> i64 {
+        let forward = is_forward(turn);
         let mut sum: i64 = 0;
         for costs in &self.terms {
             sum = sum.saturating_add(least(costs.as_slice()));
         }
         for first in &network.firsts {
-            let last = if first.is_ahead(is_forward(turn)) {
+            let last = if first.is_ahead(forward) {
                 first.turned()
             } else {
                 *first
             };
-            sum = sum.saturating_add(self.least_of_link(tables, last));
+            sum = sum.saturating_add(self.least_of_link(tables, last, forward));
         }
         sum
     }
 
     /// The least that a link costs.
-    fn least_of_link(&mut self, tables: &Tables, end: End) -> i64 {
-        self.messages.refresh(tables, end, &self.nets);
+    fn least_of_link(&mut self, tables: &Tables, end: End, forward: bool) -> i64 {
+        self.refresh(tables, end, forward);
         let mut least = FAR;
         for setting in 0..self.count(end.point) {
-            least = least.min(self.least_from(end, setting));
+            least = least.min(self.least_from(end, forward, setting));
         }
         least
     }
 
-    /// What a list costs that puts each point, in order, where it costs least together with its links to the points before it;
-    /// `i64::MAX` where these do not join.
-    fn decoded_cost(
+    /// The list that puts each point, in order, where it costs least together with its links to the points before it.
+    pub fn decoded(
         &self,
         alloc: Global,
         tables: &Tables,
         network: &Network,
-    ) -> Result<i64, AllocError> {
+    ) -> Result<Witness, AllocError> {
         let mut list = Vec::new(alloc);
         for point in 0..self.terms.len() {
             let setting = self.best_setting(
@@ -249,7 +271,7 @@ impl State {
             );
             list.push(setting)?;
         }
-        Ok(cost_of(tables, network, list.as_slice()))
+        Ok(Witness::of(tables, network, list))
     }
 
     /// The first setting at which a point costs least together with its links to the points before it.
@@ -298,7 +320,7 @@ impl State {
     /// The same for one point.
     fn send_back(&mut self, tables: &Tables, ends: &[End]) {
         for end in ends {
-            self.collect(tables, *end);
+            self.collect(tables, *end, false);
         }
         if let Some(end) = nearest_before(ends) {
             let least = self.least_at(end.point);
@@ -309,17 +331,17 @@ impl State {
     }
 
     /// Sweeps at most so often, and ends at the state of the greatest bound, the last of equals; or as soon as the bound shows
-    /// that a list costs least.
+    /// that a list costs least. Answers the cheapest list that it met.
     pub fn climb(
         &mut self,
         alloc: Global,
         tables: &Tables,
         network: &Network,
         sweeps: u32,
-    ) -> Result<(), AllocError> {
+    ) -> Result<Witness, AllocError> {
         let mut best = self.nets.clone()?;
         let mut bound = i64::MIN;
-        let mut upper = i64::MAX;
+        let mut witness = Witness::none(alloc);
         let mut idle: u32 = 0;
         for turn in 0..sweeps {
             self.sweep(tables, network, turn);
@@ -334,40 +356,20 @@ impl State {
                 best.copy_from(&self.nets);
             }
             if turn % 4 == 3 {
-                upper = upper.min(self.decoded_cost(alloc, tables, network)?);
+                witness = witness.or_cheaper(self.decoded(alloc, tables, network)?);
             }
-            if bound > upper.saturating_sub(UNIT) || idle > PATIENCE {
+            if bound > witness.cost.saturating_sub(UNIT) || idle > PATIENCE {
                 break;
             }
         }
         self.go_to(tables, network, &best);
-        Ok(())
+        Ok(witness)
     }
 }
 
 /// Whether the sweep of a number goes forward.
 fn is_forward(turn: u32) -> bool {
     turn % 2 == 1
-}
-
-/// What a list of settings costs; `i64::MAX` where a link does not join.
-fn cost_of(tables: &Tables, network: &Network, list: &[usize]) -> i64 {
-    let mut sum: i64 = 0;
-    for (costs, setting) in tables.costs.iter().zip(list) {
-        sum = sum.saturating_add(number_at(costs.as_slice(), *setting));
-    }
-    for first in &network.firsts {
-        sum = sum.saturating_add(price_in(tables, *first, list));
-    }
-    if sum < FAR { sum } else { i64::MAX }
-}
-
-/// What a link costs in a list of settings.
-fn price_in(tables: &Tables, first: End, list: &[usize]) -> i64 {
-    match (list.get(first.point), list.get(first.other)) {
-        (Some(here), Some(there)) => number_at(row_at(tables.rows(first), *here), *there),
-        _ => FAR,
-    }
 }
 
 /// The end of a link whose other point is before this one, and of these the last; the first of equals.

@@ -1,0 +1,161 @@
+//! A walk down the lists of a problem, in order, that finds prefixes which seem to begin no list of little cost.
+
+ghost use Rattle.std.specs.Prelude.{◌≡◌, ◌<◌, ◌≤◌, IfOk, IfSome, IsTrue, length, take};
+ghost use Rattle.vd_link_ascent.specs.Walking.{IsRefutation};
+ghost use Rattle.vd_linked.specs.Links.{links};
+ghost use Rattle.vd_linked_path.specs.Tables.{AreLinkedTables};
+ghost use Rattle.vd_space.specs.Labelled.{IsLabelled};
+ghost use Rattle.vd_space.specs.Validity.{protocols as protocols_of};
+
+use crate::climbing::Climb;
+use crate::made::shifts_of;
+use crate::refutation::Refutation;
+use crate::walker::{Candidate, Verdict, Walker};
+use std::alloc::{AllocError, Global};
+use vd_linked_path::{LinkedPath, LinkedTables};
+use vd_prefixes::Prefixes;
+use vd_space::Problem;
+
+/// A unit of cost, in parts.
+const UNIT: i64 = 256;
+
+/// A walk over the slots of a problem: at each slot it passes over candidates in order, until one seems to begin a list that
+/// costs at most the aim.
+#[derive(Drop)]
+pub struct Walk<'a> {
+    problem: &'a Problem,
+    /// Without shifts.
+    tables: &'a LinkedTables,
+    path: LinkedPath<'a>,
+    walker: Walker,
+    /// The aim, in units.
+    most: i64,
+    /// The number of protocols.
+    places: usize,
+    ghost slots: { length path.problem.now.slots ≡ length problem.now.slots },
+    ghost choices: { length (protocols_of path.problem.now) ≡ length (protocols_of problem.now) },
+    ghost few: { places ≤ 256 },
+    ghost placed: { places ≡ length (protocols_of problem.now) },
+    ghost linked: { length tables.now.links ≡ length (links problem.now) },
+}
+
+impl<'a> Walk<'a> {
+    /// A walk to lists that cost at most so many units, by the tables without shifts, and with the empty prefix by those of some
+    /// shifts. None where a point has no setting left, since then no list is valid.
+    pub fn new(
+        alloc: Global,
+        problem: &'a Problem,
+        tables: &'a LinkedTables,
+        path: LinkedPath<'a>,
+        most: u32,
+    ) -> Result<Option<Walk<'a>>, AllocError>
+        requires labelled { IsLabelled problem.now }
+        requires tables { AreLinkedTables problem.now tables.now }
+        requires path { path.problem.now ≡ problem.now }
+        ensures { IfOk result (λ found. IfSome found (λ walk. walk.problem.now ≡ problem.now)) }
+    {
+        let most = i64::from(most);
+        let Some(climb) = Climb::of(alloc, problem, tables)? else {
+            return Ok(None);
+        };
+        let walker = Walker::of(climb, alloc, most.saturating_mul(UNIT))?;
+        let places = path.choices() as usize;
+        Ok(Some(Walk {
+            problem,
+            tables,
+            path,
+            walker,
+            most,
+            places,
+        }))
+    }
+
+    /// Goes on to the next candidate that is refuted; none at the end of the walk.
+    pub fn next(&mut self, alloc: Global) -> Result<Option<Refutation>, AllocError>
+        ensures problem { self.new.problem.now ≡ self.old.problem.now }
+        ensures found { IfOk result (λ found. IfSome found (IsRefutation self.old.problem.now)) }
+    {
+        let slots = self.path.slots() as usize;
+        for _ in 0..slots.saturating_mul(self.places) {
+            let Some(candidate) = self.candidate() else {
+                return Ok(None);
+            };
+            if !self.enter(candidate.choice) {
+                self.walker.pass_over(candidate);
+            } else if let Some(refutation) = self.test(alloc, candidate)? {
+                return Ok(Some(refutation));
+            }
+        }
+        Ok(None)
+    }
+
+    /// The next candidate of the slot behind the prefix, if one is left.
+    fn candidate(&self) -> Option<Candidate> {
+        let slot = self.path.depth();
+        if slot < self.path.slots() {
+            self.walker.candidate(slot)
+        } else {
+            None
+        }
+    }
+
+    /// Makes the choice, if the prefix stays valid and its bound within the aim. Answers whether it did.
+    fn enter(&mut self, choice: u32) -> bool
+        ensures problem { self.new.problem.now ≡ self.old.problem.now }
+        ensures entered { IsTrue result → 0 < length (take self.new.path.depth self.new.path.room) }
+    {
+        if self.path.depth() >= self.path.slots() || choice >= self.path.choices() {
+            return false;
+        }
+        self.path.enter(choice);
+        if self.path.is_valid() && self.path.bound() <= self.most {
+            return true;
+        }
+        self.path.leave();
+        false
+    }
+
+    /// Tests the candidate that was chosen last. Where it is refuted the choice is taken back; the refutation is answered if
+    /// shifts can have the amounts.
+    fn test(
+        &mut self,
+        alloc: Global,
+        candidate: Candidate,
+    ) -> Result<Option<Refutation>, AllocError>
+        requires { 0 < length (take self.old.path.depth self.old.path.room) }
+        ensures problem { self.new.problem.now ≡ self.old.problem.now }
+        ensures found { IfOk result (λ found. IfSome found (IsRefutation self.old.problem.now)) }
+    {
+        match self.walker.test(alloc, candidate)? {
+            Verdict::Open => {
+                self.walker.go_on();
+                Ok(None)
+            }
+            Verdict::Refuted => {
+                let refutation = self.refutation(alloc)?;
+                self.walker.take_back(candidate);
+                self.path.leave();
+                Ok(refutation)
+            }
+        }
+    }
+
+    /// The prefix with the shifts so far, if shifts can have the amounts and there are some.
+    fn refutation(&self, alloc: Global) -> Result<Option<Refutation>, AllocError>
+        requires { 0 < length (take self.now.path.depth self.now.path.room) }
+        ensures { IfOk result (λ found. IfSome found (IsRefutation self.now.problem.now)) }
+    {
+        let links = self.tables.links.as_slice();
+        let nets = self.walker.lifted(alloc, links)?;
+        match shifts_of(alloc, links.len(), self.places, &nets)? {
+            Some(shifts) => {
+                if shifts.as_slice().len() == 0 {
+                    return Ok(None);
+                }
+                let prefix = self.path.list(alloc)?;
+                Ok(Some(Refutation { prefix, shifts }))
+            }
+            None => Ok(None),
+        }
+    }
+}

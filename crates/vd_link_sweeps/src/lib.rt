@@ -1,0 +1,22 @@
+//! Sweeps over the points and links of a problem: amounts go to and fro between the terms of points and links, so that the sum
+//! of their least values rises. Nothing is promised of the amounts.
+#![tactic(auto)]
+
+mod left;
+mod messages;
+mod nets;
+mod network;
+mod numbers;
+mod order;
+mod sweeps;
+mod tables;
+mod witness;
+
+pub use left::{Death, Left};
+pub use nets::Nets;
+pub use network::{End, Network, Side};
+pub use numbers::{FAR, number_at, row_at, settings_at};
+pub use order::Order;
+pub use sweeps::State;
+pub use tables::{Prices, Tables};
+pub use witness::Witness;

@@ -1,0 +1,144 @@
+//! The search by links where ties at the bound of the root are broken by a walk.
+
+ghost use Rattle.std.specs.Prelude.{◌≡◌, ◌≢◌, ◌<◌, [], IfOk, IfSome, Err, true};
+ghost use Rattle.std.specs.List.{All};
+ghost use Rattle.vd_link_ascent.specs.Shifts.{AreLinkShifts};
+ghost use Rattle.vd_linked_path.specs.Tables.{AreLinkedTables};
+ghost use Rattle.vd_path.specs.Tables.{AreTables};
+ghost use Rattle.vd_selection.specs.Linking.{CanLink, IsBeyond};
+ghost use Rattle.vd_selection.specs.Selecting.{Selects};
+ghost use Rattle.vd_selection.specs.declared.selecting.SelectFault.TheVariants as select_fault;
+ghost use Rattle.vd_space.specs.Labelled.{IsLabelled};
+ghost use Rattle.vd_space.specs.Sizes.{IsWithinLimits};
+ghost use Rattle.vd_space.specs.Spaces.{IsProblem};
+
+use crate::linking::linked_selection;
+use crate::selecting::{SelectFault, Selection};
+use std::alloc::{AllocError, Global};
+use vd_items::Items;
+use vd_link_ascent::{Refutation, Walk};
+use vd_linked_path::{LinkedPath, LinkedTables};
+use vd_linked_tables::linked_tables;
+use vd_path::Tables;
+use vd_prefixes::{Prefixes, Shift};
+use vd_space::Problem;
+use vd_untied::{is_above, search_untied};
+
+/// At most so many prefixes are passed over.
+const MOST_PASSED: u32 = 4096;
+
+/// Whether by the bound under these shifts of links each list that begins so costs more than that.
+fn is_beyond(
+    alloc: Global,
+    problem: &Problem,
+    tables: &Tables,
+    shifts: Items<Shift>,
+    prefix: &[u32],
+    most: u32,
+) -> Result<bool, AllocError>
+    requires holds { IsProblem problem.now }
+    requires labelled { IsLabelled problem.now }
+    requires limits { IsWithinLimits problem.now }
+    requires tables { AreTables problem.now tables.now }
+    requires plain { tables.now.shifts ≡ [] }
+    requires shifts { AreLinkShifts problem.now shifts }
+    ensures { IfOk result (λ beyond. beyond ≡ true → IsBeyond problem.now most prefix.now) }
+{
+    let linked = linked_tables(alloc, problem, shifts)?;
+    let mut path = LinkedPath::new(alloc, problem, tables, &linked)?;
+    Ok(is_above(&mut path, prefix, most))
+}
+
+/// Notes the prefix of a refutation, if it is shown that each list that begins so costs more than that.
+fn pass_over(
+    alloc: Global,
+    problem: &Problem,
+    tables: &Tables,
+    found: Refutation,
+    most: u32,
+    passed: &mut Items<Items<u32>>,
+) -> Result<(), AllocError>
+    requires holds { IsProblem problem.now }
+    requires labelled { IsLabelled problem.now }
+    requires limits { IsWithinLimits problem.now }
+    requires tables { AreTables problem.now tables.now }
+    requires plain { tables.now.shifts ≡ [] }
+    requires shifts { AreLinkShifts problem.now found.shifts }
+    requires passed { All (IsBeyond problem.now most) passed.old }
+    ensures { IfOk result (λ _. All (IsBeyond problem.now most) passed.new) }
+{
+    let Refutation { prefix, shifts } = found;
+    if !is_beyond(alloc, problem, tables, shifts, prefix.as_slice(), most)? {
+        return Ok(());
+    }
+    passed.push(prefix)
+}
+
+/// The prefixes that a walk passes over, as far as it is shown that each list that begins so costs more than that.
+fn passed_over(
+    alloc: Global,
+    problem: &Problem,
+    tables: &Tables,
+    walk: &mut Walk,
+    most: u32,
+) -> Result<Items<Items<u32>>, AllocError>
+    requires holds { IsProblem problem.now }
+    requires labelled { IsLabelled problem.now }
+    requires limits { IsWithinLimits problem.now }
+    requires tables { AreTables problem.now tables.now }
+    requires plain { tables.now.shifts ≡ [] }
+    requires walk { walk.old.problem.now ≡ problem.now }
+    ensures { IfOk result (All (IsBeyond problem.now most)) }
+{
+    let mut passed = Items::new(alloc);
+    for _ in 0..MOST_PASSED {
+        match walk.next(alloc)? {
+            Some(found) => pass_over(alloc, problem, tables, found, most, &mut passed)?,
+            None => break,
+        }
+    }
+    Ok(passed)
+}
+
+/// The choice, or that there is none, by the tables without shifts, plain and by links, and by those of better shifts of links,
+/// where a walk breaks the ties at the bound of all lists; nothing where the budget is spent, or the least cost is above that.
+pub fn select_by_walk(
+    alloc: Global,
+    problem: &Problem,
+    tables: &Tables,
+    without: &LinkedTables,
+    linked: &LinkedTables,
+    budget: u32,
+) -> Result<Option<Selection>, SelectFault>
+    requires holds { IsProblem problem.now }
+    requires labelled { IsLabelled problem.now }
+    requires limits { IsWithinLimits problem.now }
+    requires tables { AreTables problem.now tables.now }
+    requires plain { tables.now.shifts ≡ [] }
+    requires without { AreLinkedTables problem.now without.now }
+    requires linked { CanLink problem.now linked.now }
+    requires budget { budget < 4294967295 }
+    ensures selects { IfOk result (λ found. IfSome found (Selects problem.now budget)) }
+    ensures unspent { result ≢ Err select_fault.Spent }
+{
+    let path = LinkedPath::new(alloc, problem, tables, linked)?;
+    if !path.is_valid() {
+        return Ok(None);
+    }
+    let Ok(most) = u32::try_from(path.bound()) else {
+        return Ok(None);
+    };
+    let Some(mut walk) = Walk::new(alloc, problem, without, path, most)? else {
+        return Ok(None);
+    };
+    let passed = passed_over(alloc, problem, tables, &mut walk, most)?;
+    let root = LinkedPath::new(alloc, problem, tables, linked)?;
+    let found = search_untied(alloc, root, passed, most, budget)?;
+    match found {
+        Some(answer) => {
+            let selection = linked_selection(alloc, linked, answer)?;
+            Ok(Some(selection))
+        }
+        None => Ok(None),
+    }
+}

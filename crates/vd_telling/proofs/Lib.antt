@@ -1,0 +1,4 @@
+pub mod Came
+pub mod Parts
+pub mod Others
+pub mod Looks

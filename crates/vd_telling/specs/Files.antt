@@ -1,0 +1,37 @@
+-- The file from whose bytes more is said of a status.
+use Rattle.std.specs.Prelude.{ℕ, List, [], Option, Some, None, codes, if◌then◌else◌, slice_get}
+use Rattle.std.specs.Option.{option_map_or}
+use Rattle.std.specs.Str.{bytes_eq}
+use Rattle.vd_base.specs.Limits.{most_source_bytes, most_inputs_bytes, most_schedule_bytes}
+use Rattle.vd_plan.specs.declared.status.Status.{Status}
+use Rattle.vd_plan.specs.declared.status.Status.TheVariants as status
+use Rattle.vd_telling.specs.declared.files.Reading.{Reading}
+
+-- the first word of a command line names the command
+abbrev pub command : List (List ℕ) → List ℕ
+command words = option_map_or (λ word. word) (slice_get words 0) []
+
+abbrev pub source : Reading
+source = record { word = 1; limit = most_source_bytes }
+
+abbrev pub inputs : Reading
+inputs = record { word = 2; limit = most_inputs_bytes }
+
+abbrev pub schedule : Reading
+schedule = record { word = 4; limit = most_schedule_bytes }
+
+-- the source; none of this command, whose words name none
+abbrev pub source_unless : List ℕ → List (List ℕ) → Option Reading
+source_unless other words = if bytes_eq (command words) other then None else Some source
+
+-- `trial` makes its source. A deal file is named by a prefix and its host's number in the source, but in the words of `host`.
+abbrev pub reading_of : List (List ℕ) → Status → Option Reading
+reading_of words (status.Syntax fault) = source_unless (codes "trial") words
+reading_of words (status.Names fault) = source_unless (codes "trial") words
+reading_of words (status.Flow check offset) = source_unless (codes "trial") words
+reading_of words status.NoAssignment = source_unless (codes "trial") words
+reading_of words (status.Spent budget) = source_unless (codes "trial") words
+reading_of words (status.InputText fault) = Some inputs
+reading_of words (status.ScheduleText fault) = Some schedule
+reading_of words (status.DealText host offset) = source_unless (codes "host") words
+reading_of words status = None

@@ -1,0 +1,54 @@
+//! The file from whose bytes more is said of a status.
+
+ghost use Rattle.std.specs.Prelude.{◌≡◌};
+ghost use Rattle.vd_telling.specs.Files as files;
+
+use crate::words::{INPUTS, SCHEDULE, SOURCE, is_command};
+use vd_base::Texts;
+use vd_base::limits::{INPUTS_BYTES, SCHEDULE_BYTES, SOURCE_BYTES};
+use vd_plan::Status;
+
+/// A file that is read: the place of the word that names it, and the most bytes that it may have.
+#[derive(Clone, Copy)]
+pub struct Reading {
+    pub word: usize,
+    pub limit: u32,
+}
+
+/// The source; none where the command is this one, whose words name none.
+fn source_unless(other: &[u8], words: &Texts) -> Option<Reading>
+    ensures { result ≡ files.source_unless other.now words.now }
+{
+    if is_command(words, other) {
+        None
+    } else {
+        Some(Reading {
+            word: SOURCE,
+            limit: SOURCE_BYTES,
+        })
+    }
+}
+
+/// The file from whose bytes more is said of a status, if there is one. `trial` makes its source, and reads none. The words
+/// of `host` name a deal file; else it is named by a prefix and by its host's number in the source.
+pub(crate) fn reading_of(words: &Texts, status: &Status) -> Option<Reading>
+    ensures { result ≡ files.reading_of words.now status.now }
+{
+    match status {
+        Status::Syntax(_)
+        | Status::Names(_)
+        | Status::Flow(_, _)
+        | Status::NoAssignment
+        | Status::Spent(_) => source_unless(b"trial", words),
+        Status::InputText(_) => Some(Reading {
+            word: INPUTS,
+            limit: INPUTS_BYTES,
+        }),
+        Status::ScheduleText(_) => Some(Reading {
+            word: SCHEDULE,
+            limit: SCHEDULE_BYTES,
+        }),
+        Status::DealText(_, _) => source_unless(b"host", words),
+        _ => None,
+    }
+}

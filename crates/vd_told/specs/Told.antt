@@ -1,0 +1,58 @@
+-- The clear words that come to a host of a program in its joint run, and on which inputs they depend.
+use Rattle.std.specs.Prelude.{◌≡◌, ℕ, ◌^◌, ◌<◌, Bool, List, length, slice_index}
+use Rattle.vd_base.specs.declared.ids.HostId.{HostId}
+use Rattle.vd_core.specs.declared.normal.NormalForm.{NormalForm}
+use Rattle.vd_constraints.specs.declared.labels.Labels.{Labels}
+use Rattle.vd_space.specs.Reading.{problem_of}
+use Rattle.vd_execution.specs.World.{Tape}
+use Rattle.vd_execution.specs.Deals.{IsValidDeal}
+use Rattle.vd_execution.specs.Joint.{fresh, joint}
+use Rattle.vd_joint.specs.Block.{block_of}
+use Rattle.vd_joint.specs.Emission.{emitting_at_start}
+use Rattle.vd_joint.specs.Outcome.{NumbersFit}
+use Rattle.vd_suite.specs.Machine.{machine}
+use Rattle.vd_suite.specs.Parts.{suite_calls}
+use Rattle.vd_suite.specs.Suite.{AreGiven}
+use Rattle.vd_suite.specs.Whole.{code_at, inputs_of}
+use Rattle.vd_whole.specs.Lists.{protos_of, IsChosen}
+use Rattle.vd_dependence.specs.Reading.{reads_slot, declassified_words, SameInputs}
+use Rattle.vd_assigned_dependence.specs.Assigned.{IsAssignment, heard_words}
+use Rattle.vd_told.specs.Telling.{told}
+
+-- inputs of words, and a valid deal with these inputs
+pub record IsDealt (inputs : List (List ℕ)) (t : Tape) : Type 0 where
+  pub words : (h i : ℕ) → slice_index (inputs_of inputs h) i < 2 ^ 32
+  pub deal : IsValidDeal t
+  pub given : AreGiven (inputs_of inputs) t
+
+-- the words that come to a host of the program in clear in the joint run, in order
+abbrev pub told_words : NormalForm → Labels → List ℕ → HostId → List (List ℕ) → Tape → List ℕ
+told_words p l list h inputs t =
+    told (machine t (inputs_of inputs)) (suite_calls (length p.hosts)) (problem_of p l) list h (block_of p.body)
+    (emitting_at_start (suite_calls (length p.hosts)) (protos_of (problem_of p l) list)) fresh
+
+-- they are those of the clear run
+abbrev pub TellsWhatIsHeard : Type 0
+TellsWhatIsHeard = (p : NormalForm) (l : Labels) (list : List ℕ) → IsChosen p l list → (h : HostId) → h.0 < length p.hosts
+    → (inputs : List (List ℕ)) (t : Tape) → IsDealt inputs t → told_words p l list h inputs t ≡ heard_words p l list h inputs
+
+-- what it prints in the joint run
+abbrev pub printed_words : NormalForm → Labels → List ℕ → HostId → Tape → List ℕ
+printed_words p l list h t = (joint t (code_at (protos_of (problem_of p l) list) p) fresh h.0).printed
+
+-- the same clear words come to a host in two joint runs, and it prints the same
+pub record AreToldTheSame (p : NormalForm) (l : Labels) (list : List ℕ) (h : HostId) (first second : List (List ℕ)) (t u : Tape) : Type 0 where
+  pub words : told_words p l list h first t ≡ told_words p l list h second u
+  pub prints : printed_words p l list h t ≡ printed_words p l list h u
+
+-- so where their inputs agree on known hosts, and on what is declassified to the host, whatever the two deals
+abbrev pub TellsOnly : NormalForm → Labels → List ℕ → HostId → (ℕ → Bool) → Type 0
+TellsOnly p l list h known =
+    (first second : List (List ℕ)) (t u : Tape) → IsDealt first t → IsDealt second u → SameInputs known first second
+    → declassified_words p (reads_slot p l h) first ≡ declassified_words p (reads_slot p l h) second
+    → AreToldTheSame p l list h first second t u
+
+-- so at every valid assignment
+abbrev pub TellsOnlyAssigned : NormalForm → Labels → HostId → (ℕ → Bool) → Type 0
+TellsOnlyAssigned p l h known =
+    NumbersFit p → h.0 < length p.hosts → (list : List ℕ) → IsAssignment p l list → TellsOnly p l list h known
