@@ -78,21 +78,3 @@ impl Texts {
         self.texts.as_slice()
     }
 }
-
-#[cfg(test)]
-mod tests {
-    use crate::Texts;
-    use std::test::Fail;
-
-    #[test]
-    fn texts_keep_copies_in_order(rt: HostRuntime) -> Result<(), Fail> {
-        let mut texts = Texts::new(rt.alloc());
-        texts.push("clear")?;
-        texts.push("")?;
-        let slice = texts.as_slice();
-        assert_eq!(rt; slice.len(), 2);
-        assert_eq!(rt; slice[0].as_str(), "clear");
-        assert_eq!(rt; slice[1].as_str(), "");
-        Ok(())
-    }
-}

@@ -4,6 +4,7 @@ use Rattle.std.specs.Prelude.{flat_map}
 use Rattle.std.specs.List.{AllByRecursion, range_with_len}
 use Rattle.vd_base.specs.HostSets.{host}
 use Rattle.vd_core.specs.declared.normal.NormalForm.{NormalForm}
+use Rattle.vd_space.specs.declared.problem.Problem.{Problem}
 use Rattle.vd_execution.specs.declared.instructions.Instr.{Instr}
 use Rattle.vd_execution.specs.Joint.{code_of}
 use Rattle.vd_execution.specs.Text.{text}
@@ -15,8 +16,8 @@ use Rattle.vd_host_programs.specs.Programs.{joint_of, host_codes}
 use Rattle.vd_read_back.specs.Stored.{IsDigest, CanBeStored}
 use Rattle.vd_read_back.proofs.Digests.{is_digest}
 use Rattle.vd_read_back.proofs.Files.{stored_programs_are_read_back, stored_texts_are_short}
-use Rattle.vd_compiling.specs.Compiling.{host_files, printed_at, plan_for}
-use Rattle.vd_compiled_files.specs.Compiled.{CanBeCompiled, IsReadBack, IsShort, CompiledFilesAreReadBack, CompiledFilesAreShort}
+use Rattle.vd_compiling.specs.Compiling.{host_files, printed_at, plan_for, compiled_at}
+use Rattle.vd_compiled_files.specs.Compiled.{CanBeCompiled, IsReadBack, IsShort, CompiledFilesAreReadBack}
 
 code_at : (f : ℕ → List Instr) (k n h : ℕ) → h < n → slice_index_or (map f (range_with_len k n)) h [] ≡ f (k + h)
 code_at f k zero h lt = absurd (omega (arith, lt))
@@ -74,7 +75,8 @@ compiled_files_are_read_back program problem list least text prefix can =
     let printed = printed_at program problem list least in
     files_read program list (plan_for text printed) (is_digest (text ++ printed)) can prefix (length program.hosts) 0 (all_of_them (length program.hosts))
 
-pub compiled_files_are_short : CompiledFilesAreShort
-compiled_files_are_short program problem list least text prefix can names =
+pub short_files : (program : NormalForm) (problem : Problem) (list : List ℕ) (least : ℕ) (text prefix : List ℕ) → CanBeCompiled program list
+    → length (flat_map name_field program.hosts) ≤ 65536 → AllByRecursion IsShort (compiled_at program problem list least text prefix).stores
+short_files program problem list least text prefix can names =
     let printed = printed_at program problem list least in
     files_short program list (plan_for text printed) (is_digest (text ++ printed)) can prefix names (length program.hosts) 0 (all_of_them (length program.hosts))

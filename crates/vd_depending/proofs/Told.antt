@@ -1,5 +1,5 @@
 -- What is told of a host's dependence.
-use Rattle.std.proofs.Common.{◌≡◌, ◌++◌, ◌∷◌, ℕ, true, Bool, IsTrue, List, [], length, flat_map, Result, Ok, Err, ap, subst, ◌∙◌}
+use Rattle.std.proofs.Common.{◌≡◌, ◌++◌, ◌∷◌, ℕ, true, Bool, IsTrue, List, [], length, flat_map, Some, Result, Ok, Err, sym, ap, subst, ◌∙◌}
 use Rattle.std.specs.Prelude.{slice_index_or}
 use Rattle.std.specs.List.{filter}
 use Rattle.vd_base.specs.HostSets.{has_host, hosts}
@@ -14,7 +14,10 @@ use Rattle.vd_constraints.specs.declared.labels.Labels.{Labels}
 use Rattle.vd_dependence.proofs.Theorem.{reached_once}
 use Rattle.vd_dependence.specs.Dependence.{AreEnough, AreReached, AreReadable}
 use Rattle.vd_noninter.specs.Hosts.{members}
+use Rattle.vd_assigned_dependence.proofs.Theorem.{all_hear_reached}
+use Rattle.vd_assigned_dependence.specs.Assigned.{HearsOnly, IsAssignment}
 use Rattle.vd_outside.specs.Files.{FilesView}
+use Rattle.vd_report.specs.Hosts.{host_of}
 use Rattle.vd_report.specs.Lines.{number_field}
 use Rattle.vd_frontend.specs.Labelling.{labels_of}
 use Rattle.vd_frontend.specs.Outcomes.{LabelOutcomes}
@@ -27,7 +30,7 @@ use Rattle.vd_plan.specs.declared.status.Status.TheVariants.{Memory}
 use Rattle.vd_depending.specs.Depending.{as_host, hosts_line, name_field, program_plan}
 use Rattle.vd_depending.specs.Outcomes.{DependenceOutcomes}
 use Rattle.vd_depending.specs.Telling.{TellsDependence, TellsProgram, TellsSource}
-use Rattle.vd_depending.proofs.Naming.{named}
+use Rattle.vd_depending.proofs.Naming.{named, within}
 
 -- ---- two sets with the same members have one line
 
@@ -73,9 +76,14 @@ module _ (name : List ℕ) (p : NormalForm) where
         (check_step (labels_of least p) files (Ok labels) found (λ l. answer_then (line_for h l)) files result
         (answers (line_for h labels) files result (subst (λ (text : List ℕ). Computes (ended [] text) result) line computes)))
 
-  pub told : (names : List (List ℕ)) (h : HostId) (labels : Labels) (set : HostSet) (result : Result Answer Status) → names ≡ p.hosts → Checks (as_host names name) (Ok h) → IsLeast (system_of p) labels
+  -- at a valid assignment, for the host of this name
+  assigned : (h : HostId) (labels : Labels) (set : HostSet) → IsWellMade p → host_of p.hosts name ≡ Some h.0 → IsLeast (system_of p) labels → AreReached p labels h (members set)
+      → (list : List ℕ) → IsAssignment p labels list → HearsOnly p labels list h (members set)
+  assigned h labels set well is is_least reached list valid = all_hear_reached p labels h well is_least.is (members set) reached (within p.hosts name h.0 (sym is)) list valid
+
+  pub told : (names : List (List ℕ)) (h : HostId) (labels : Labels) (set : HostSet) (result : Result Answer Status) → IsWellMade p → names ≡ p.hosts → Checks (as_host names name) (Ok h) → IsLeast (system_of p) labels
       → AreReached p labels h (members set) → AreReadable p h (members set) → AreEnough p labels h (members set) → Computes (ended [] (hosts_line names h set)) result → TellsProgram name p result
-  told names h labels set (Ok answer) same checks is_least reached readable enough computes = λ ends. record {
+  told names h labels set (Ok answer) well same checks is_least reached readable enough computes = λ ends. record {
     labels = labels;
     least = is_least;
     host = h;
@@ -85,8 +93,9 @@ module _ (name : List ℕ) (p : NormalForm) where
     reached = reached;
     readable = readable;
     enough = enough;
+    enough_assigned = assigned h labels set well (named p.hosts name h (checks_for (Ok h) same checks).ok) is_least reached;
   }
-  told names h labels set (Err status) same checks is_least reached readable enough computes = tt
+  told names h labels set (Err status) well same checks is_least reached readable enough computes = tt
 
 -- ---- with a source
 

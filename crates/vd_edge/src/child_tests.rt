@@ -43,6 +43,15 @@ fn a_child_is_read_to_its_end(rt: HostRuntime) -> Result<(), Fail> {
 }
 
 #[test]
+fn a_last_line_needs_no_end(rt: HostRuntime) -> Result<(), Fail> {
+    let words = shell_words(rt.alloc(), "printf four")?;
+    let mut spawner = RealSpawner::new(rt.clone()?, rt.alloc());
+    assert!(rt; child_of(&mut spawner, "/bin/sh", &words) == Ok((4, false, 0)));
+    assert_eq!(rt; spawner.faults(), 0);
+    Ok(())
+}
+
+#[test]
 fn a_missing_program_is_a_fault(rt: HostRuntime) -> Result<(), Fail> {
     let words = Texts::new(rt.alloc());
     let mut spawner = RealSpawner::new(rt.clone()?, rt.alloc());

@@ -1,5 +1,5 @@
 ghost use Rattle.std.specs.Prelude.{◌≡◌, ◌<◌, length, take, false, IfOk, OnErr};
-ghost use Rattle.std.specs.Io.KnownBytes.{Consumes, Keeps, WriteAppends};
+ghost use Rattle.std.specs.Io.KnownBytes.{Consumes, IsAtEnd, Keeps, WriteAppends};
 ghost use Rattle.vd_edge.specs.RealLink.{real_link_view};
 ghost use Rattle.vd_outside.specs.Link.{Receives, Sends};
 
@@ -70,6 +70,7 @@ impl<S: Read + Write + Drop> Link for RealLink<S> {
         ensures receives { Receives into.new (real_link_view self.old) (real_link_view self.new) result }
         ensures came { IfOk result (λ count. Consumes self.old.coming self.new.coming (take count into.new)) }
         ensures none { OnErr result (Keeps self.old.coming self.new.coming) }
+        ensures end { self.old.ended ≡ false → IfOk result (λ count. count ≡ 0 → IsAtEnd self.new.coming) }
     {
         if self.ended {
             return Ok(0);

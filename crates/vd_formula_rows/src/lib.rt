@@ -4,4 +4,8 @@
 #[cfg(test)]
 mod authorities;
 #[cfg(test)]
+mod forms;
+#[cfg(test)]
 mod formulas;
+#[cfg(test)]
+mod labels;

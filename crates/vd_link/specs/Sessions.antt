@@ -81,18 +81,24 @@ pub record ReceivesGreeting (ends : Ends) (before now : LinkView) (result : Resu
   pub came : IsTrue now.told → OnOk result (before.coming ≡ wanted_greeting ends ++ now.coming)
   pub fault : IsTrue now.told → IfErr result (IsGreetFault ends before.coming)
 
--- A greeting went out, and only where the link failed perhaps in part.
-abbrev pub GoesOut : List ℕ → List ℕ → List ℕ → Result (Unit {0}) GreetFault → Type 0
-GoesOut own before now (Err greet_fault.Peer) = (count : ℕ) × (now ≡ before ++ take count own)
-GoesOut own before now result = now ≡ before ++ own
+-- The link failed in a greeting: some front of it went out, and nothing was taken from the peer.
+pub record StopsIn (own : List ℕ) (before now : LinkView) : Type 0 where
+  pub count : ℕ
+  pub part : now.sent ≡ before.sent ++ take count own
+  pub untaken : now.coming ≡ before.coming
 
--- A greeting goes out and another comes in.
+-- A greeting went out whole, or the link failed in it.
+abbrev pub GoesOut : List ℕ → LinkView → LinkView → Result (Unit {0}) GreetFault → Type 0
+GoesOut own before now (Err greet_fault.Peer) = (now.sent ≡ before.sent ++ own) ⊎ StopsIn own before now
+GoesOut own before now result = now.sent ≡ before.sent ++ own
+
+-- A greeting goes out, and when all of it is out another comes in.
 pub record Greets (ends : Ends) (before now : LinkView) (result : Result (Unit {0}) GreetFault) : Type 0 where
   pub later : before.faults ≤ now.faults
   pub failed : IsErrOf result greet_fault.Peer → Rose before.faults now.faults
   pub ended : IsErrOf result greet_fault.End → IsTrue now.ended
   pub was_told : IsTrue now.told → IsTrue before.told
-  pub sent : IsTrue now.told → GoesOut (own_greeting ends) before.sent now.sent result
+  pub sent : IsTrue now.told → GoesOut (own_greeting ends) before now result
   pub came : IsTrue now.told → OnOk result (before.coming ≡ wanted_greeting ends ++ now.coming)
   pub fault : IsTrue now.told → IfErr result (IsGreetFault ends before.coming)
 

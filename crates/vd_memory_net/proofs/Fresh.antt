@@ -1,5 +1,5 @@
 -- Links that have not failed.
-use Rattle.std.proofs.Common.{rules, arith, ◌≡◌, ◌≤◌, ℕ, ◌+◌, List, [], ◌∷◌, ◌++◌, Bool, true, false, ◌||◌, Option, Some, None, is_none, Result, Ok, Err, cond, option_map, map, slice_get, bytes_eq, refl, sym, ap, ◌∙◌, subst}
+use Rattle.std.proofs.Common.{rules, arith, ◌≡◌, ◌≤◌, ℕ, ◌+◌, List, [], ◌∷◌, ◌++◌, Bool, true, false, Some, None, Result, Ok, Err, cond, option_map, map, slice_get, bytes_eq, refl, sym, ap, ◌∙◌, subst}
 use Rattle.std.specs.Result.{result_map_both}
 use Rattle.vd_base.specs.declared.faults.CallFault.{CallFault}
 use Rattle.vd_base.specs.declared.faults.CallFault.TheVariants as call_fault
@@ -10,7 +10,7 @@ use Rattle.vd_outside.specs.declared.net.NetCall.TheVariants.{Accept, Connect}
 use Rattle.std.proofs.lemmas.Option.{none-some}
 use Rattle.vd_outside.specs.Net.{Waiting, GivesLink, Accepts, Connects, link_at, without_link_at}
 use Rattle.vd_memory_net.specs.MemLink.{MemLinkState, limited_link_view}
-use Rattle.vd_memory_net.specs.MemNet.{MemNetState, AreFresh, FailsAsListed, Gives, limited_link_at, listed_net_view, no_link_left}
+use Rattle.vd_memory_net.specs.MemNet.{MemNetState, AreFresh, Gives, GivesNext, limited_link_at, listed_net_view}
 
 pub one_more : (waiting : Waiting MemLinkState) (address : List ℕ) (link : MemLinkState) → AreFresh waiting → link.failures.faults ≡ 0 → AreFresh (waiting ++ (address, link) ∷ [])
 one_more [] address link fresh is = (is, tt)
@@ -144,16 +144,12 @@ accepts listener address fails before now (Err call_fault.Memory) at gives =
       no_link = λ told. record { waiting = refl; otherwise = refl; links = refl; back = refl };
     })
 
--- a call that gives a link, or none, fails as it is listed
-pub listed : (address : List ℕ) (call : NetCall) (fails : Bool) (before now : MemNetState) (result : Result MemLinkState CallFault) → fails ≡ fails_next before.failures
-    → Gives address call fails (record before { failures = with_call before.failures }) now result → FailsAsListed before.failures (no_link_left address before) result now.failures
-listed address call fails before now (Ok link) is gives = (
-  ap (λ (o : Option MemLinkState). fails_next before.failures || is_none o) gives.2 ∙ ap (λ (b : Bool). b || false) (sym is ∙ gives.0),
-  ap (λ (net : MemNetState). net.failures) gives.3,
-)
-listed address call fails before now (Err call_fault.Failed) is gives =
-    (subst (λ (b : Bool). (b || no_link_left address before) ≡ true) is gives.0, ap (λ (net : MemNetState). net.failures) gives.2)
-listed address call fails before now (Err call_fault.Memory) is gives = ap (λ (net : MemNetState). net.failures) gives
+-- a net that counted its call gives a link, or none
+pub counted_gives : (address : List ℕ) (call : NetCall) (fails : Bool) (failures : Failures) (before now : MemNetState) (result : Result MemLinkState CallFault) → fails ≡ fails_next before.failures → failures ≡ with_call before.failures
+    → Gives address call fails (record before { failures = failures }) now result → GivesNext address call before now result
+counted_gives address call fails failures before now result is counted gives =
+    subst (λ (f : Failures). Gives address call (fails_next before.failures) (record before { failures = f }) now result) counted
+    (subst (λ (b : Bool). Gives address call b (record before { failures = failures }) now result) is gives)
 
 -- the address of a listener is one
 pub same_address : (listeners : List (List ℕ)) (listener : ℕ) (address other : List ℕ) → slice_get listeners listener ≡ Some address → slice_get listeners listener ≡ Some other → address ≡ other

@@ -4,11 +4,12 @@ use Rattle.std.specs.Result.{result_map_both}
 use Rattle.vd_base.specs.declared.faults.CallFault.{CallFault}
 use Rattle.vd_base.specs.declared.faults.CallFault.TheVariants as call_fault
 use Rattle.vd_outside.specs.Link.{LinkView}
-use Rattle.vd_outside.specs.Memory.{failures_at, fails_next, one_more, with_call, with_fault}
+use Rattle.vd_outside.specs.Memory.{failures_at, fails_next, one_more, with_call}
 use Rattle.vd_memory_net.specs.MemLink.{MemLinkState, limited_link_view}
 use Rattle.vd_outside.specs.Net.{NetView, Waiting, link_at, without_link_at}
 use Rattle.vd_outside.specs.declared.failures.Failures.{Failures}
 use Rattle.vd_outside.specs.declared.net.NetCall.{NetCall}
+use Rattle.vd_outside.specs.declared.net.NetCall.TheVariants.{Accept, Listen}
 
 -- the address of each listener, the links still to be given, how many were given, those that came back, the calls that
 -- were asked, and the calls that fail
@@ -66,16 +67,25 @@ Gives address call fails before now (Ok link) =
 Gives address call fails before now (Err call_fault.Failed) = ((fails || no_link_left address before) ≡ true) × (before.failures.faults ≤ now.failures.faults) × (now ≡ after_fault before call)
 Gives address call fails before now (Err call_fault.Memory) = now ≡ before
 
--- A call fails where it is one that fails, or there is nothing for it.
-abbrev pub FailsAsListed : {T : Type 0} → Failures → Bool → Result T CallFault → Failures → Type 0
-FailsAsListed before nothing (Ok value) now = ((fails_next before || nothing) ≡ false) × (now ≡ with_call before)
-FailsAsListed before nothing (Err call_fault.Failed) now = ((fails_next before || nothing) ≡ true) × (now ≡ with_fault before)
-FailsAsListed before nothing (Err call_fault.Memory) now = now ≡ with_call before
+-- how the net is when a call of it was counted
+abbrev pub counted : MemNetState → MemNetState
+counted net = record net { failures = with_call net.failures }
 
--- the same of an accept, by the address of its listener
-abbrev pub AcceptsAsListed : ℕ → MemNetState → Result MemLinkState CallFault → Failures → Type 0
-AcceptsAsListed listener before result now =
-    (address : List ℕ) → slice_get before.listeners listener ≡ Some address → FailsAsListed before.failures (no_link_left address before) result now
+-- The next call of the net gives a link at an address, or none.
+abbrev pub GivesNext : List ℕ → NetCall → MemNetState → MemNetState → Result MemLinkState CallFault → Type 0
+GivesNext address call before now result = Gives address call (fails_next before.failures) (counted before) now result
+
+-- the same at the address of a listener
+abbrev pub AcceptsNext : ℕ → MemNetState → MemNetState → Result MemLinkState CallFault → Type 0
+AcceptsNext listener before now result = (address : List ℕ) → slice_get before.listeners listener ≡ Some address → GivesNext address (Accept listener) before now result
+
+-- The next call of the net gives a listener at an address, or none.
+abbrev pub ListensNext : List ℕ → MemNetState → MemNetState → Result ℕ CallFault → Type 0
+ListensNext address before now (Ok listener) =
+    (fails_next before.failures ≡ false) × (listener ≡ length before.listeners)
+    × (now ≡ record (counted before) { listeners = before.listeners ++ address ∷ []; asked = before.asked ++ Listen address ∷ [] })
+ListensNext address before now (Err call_fault.Failed) = (fails_next before.failures ≡ true) × (now ≡ after_fault (counted before) (Listen address))
+ListensNext address before now (Err call_fault.Memory) = now ≡ counted before
 
 -- what the net tells of a link that it gives
 abbrev pub told_link : Result MemLinkState CallFault → Result LinkView CallFault

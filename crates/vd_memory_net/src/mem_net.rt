@@ -1,7 +1,8 @@
-ghost use Rattle.std.specs.Prelude.{◌≡◌, ◌<◌, [], ◌∷◌, ◌++◌, false, length, slice_get, Some, IfOk, OnOk, OnErr};
+ghost use Rattle.std.specs.Prelude.{◌≡◌, ◌<◌, [], ◌∷◌, ◌++◌, length, slice_get, Some, IfOk, OnOk, OnErr};
 ghost use Rattle.vd_outside.specs.Net.{Accepts, Connects, HangsUp, Listens};
+ghost use Rattle.vd_outside.specs.declared.net.NetCall.TheVariants.{Connect};
 ghost use Rattle.vd_memory_net.specs.MemLink.{limited_link_view};
-ghost use Rattle.vd_memory_net.specs.MemNet.{AcceptsAsListed, FailsAsListed, Gives, after_hang_up, listed_net_view, no_link_left, no_links, told_link};
+ghost use Rattle.vd_memory_net.specs.MemNet.{AcceptsNext, Gives, GivesNext, ListensNext, after_hang_up, listed_net_view, no_links, told_link};
 
 use crate::MemLink;
 use crate::waiting::take_link;
@@ -122,7 +123,7 @@ impl Net for MemNet {
     fn listen(&mut self, address: &str) -> Result<u32, CallFault>
         requires { (listed_net_view self.old).given < u32.MAX }
         ensures listen { Listens address.now (listed_net_view self.old) (listed_net_view self.new) result }
-        ensures listed { FailsAsListed self.old.failures false result self.new.failures }
+        ensures state { ListensNext address.now self.old self.new result }
     {
         let fails = self.failures.next_fails();
         let call = NetCall::Listen(Text::copy_of(self.alloc, address)?);
@@ -144,7 +145,7 @@ impl Net for MemNet {
     fn accept(&mut self, listener: u32) -> Result<MemLink, CallFault>
         requires { listener < (listed_net_view self.old).given }
         ensures accept { Accepts listener (listed_net_view self.old) (listed_net_view self.new) (told_link result) }
-        ensures listed { AcceptsAsListed listener self.old result self.new.failures }
+        ensures state { AcceptsNext listener self.old self.new result }
     {
         let fails = self.failures.next_fails();
         let address = self.address_of(listener)?;
@@ -153,7 +154,7 @@ impl Net for MemNet {
 
     fn connect(&mut self, address: &str) -> Result<MemLink, CallFault>
         ensures connect { Connects address.now (listed_net_view self.old) (listed_net_view self.new) (told_link result) }
-        ensures listed { FailsAsListed self.old.failures (no_link_left address.now self.old) result self.new.failures }
+        ensures state { GivesNext address.now (Connect address.now) self.old self.new result }
     {
         let fails = self.failures.next_fails();
         let call = NetCall::Connect(Text::copy_of(self.alloc, address)?);

@@ -1,7 +1,8 @@
 //! Trees and refusals of texts.
 
-use std::alloc::Global;
-use std::test::Fail;
+use Answer::{Let, Refused, Tree};
+use ParseFault::{BadByte, TooDeep, TooLong, Unexpected};
+use std::alloc::{AllocError, Global};
 use vd_core::{Expr, Source, Statement};
 use vd_parser::{ParseFault, parse};
 
@@ -11,7 +12,7 @@ enum Answer<'a> {
     /// A tree in which `main` has this many statements.
     Tree(usize),
     /// A tree in which `main` begins with a `let` at this offset, of this name, with this many links.
-    Let(u32, &'a [u8], usize),
+    Let(u32, &'a str, usize),
     Refused(ParseFault),
 }
 
@@ -22,7 +23,7 @@ fn links_of(value: &Expr) -> usize {
     }
 }
 
-fn begins_with_let(source: &Source, start: u32, word: &[u8], links: usize) -> bool {
+fn begins_with_let(source: &Source, start: u32, word: &str, links: usize) -> bool {
     match source.main.as_slice().first() {
         Some(
             Statement::Let {
@@ -31,166 +32,151 @@ fn begins_with_let(source: &Source, start: u32, word: &[u8], links: usize) -> bo
                 value,
                 ..
             },
-        ) => at.start == start && name.name.as_slice() == word && links_of(value) == links,
+        ) => at.start == start
+            && name.name.as_slice() == word.as_bytes()
+            && links_of(value) == links,
         _ => false,
     }
 }
 
-fn gives(rt: &HostRuntime, text: &[u8], answer: Answer<'_>) -> bool {
-    match (parse(rt.alloc(), text), answer) {
-        (Ok(source), Answer::Tree(statements)) => source.main.as_slice().len() == statements,
-        (Ok(source), Answer::Let(start, word, links)) => begins_with_let(
-            &source, start, word, links,
-        ),
-        (Err(fault), Answer::Refused(wanted)) => fault == wanted,
+fn is_tree(source: &Source, answer: Answer<'_>) -> bool {
+    match answer {
+        Tree(statements) => source.main.as_slice().len() == statements,
+        Let(start, word, links) => begins_with_let(source, start, word, links),
+        Refused(_) => false,
+    }
+}
+
+fn is_refusal(fault: ParseFault, answer: Answer<'_>) -> bool {
+    match answer {
+        Refused(wanted) => fault == wanted,
         _ => false,
+    }
+}
+
+/// Whether parsing the text gives this answer.
+fn gives(alloc: Global, text: &[u8], answer: Answer<'_>) -> bool {
+    match parse(alloc, text) {
+        Ok(source) => is_tree(&source, answer),
+        Err(fault) => is_refusal(fault, answer),
     }
 }
 
 /// 34 bytes and 13 tokens, up to the block of `main`.
-const FRONT: &[u8] = b"principals A;host a {A ; A};main {";
+const FRONT: &str = "principals A;host a {A ; A};main {";
+
+/// What may stand behind the front, and what the whole text gives.
+const BODIES: [(&str, Answer<'_>); 15] = [
+    ("}", Tree(0)),
+    ("} // end", Tree(0)),
+    ("", Refused(Unexpected(13, 34))),
+    ("let x = a < b < c;}", Refused(Unexpected(19, 48))),
+    ("if (a) {} else if (b) {}}", Refused(Unexpected(20, 49))),
+    ("let x = ];}", Refused(Unexpected(16, 42))),
+    ("let x = t[1;}", Refused(Unexpected(19, 45))),
+    ("let all = 1;}", Refused(Unexpected(14, 38))),
+    ("} }", Refused(Unexpected(14, 36))),
+    ("let x = y * 05;}", Refused(BadByte(46))),
+    ("let let = 1; #", Refused(BadByte(47))),
+    ("let x = 4294967296;}", Refused(BadByte(42))),
+    (
+        "array t: word[3]; t[1] := input(a); output t[1] to a;}",
+        Tree(3),
+    ),
+    ("let x = !~y << 3;}", Let(34, "x", 1)),
+    ("let sum = 1 + 2 - 3 * 4;}", Let(34, "sum", 2)),
+];
+
+/// Whether the front with this body behind it gives this answer.
+fn body_gives(alloc: Global, body: &str, answer: Answer<'_>) -> Result<bool, AllocError> {
+    let mut text = FRONT.as_bytes().to_vec(alloc)?;
+    text.extend_from_slice(body.as_bytes())?;
+    Ok(gives(alloc, &text, answer))
+}
 
 #[test]
-fn each_refusal_names_its_place(rt: HostRuntime) -> Result<(), Fail> {
-    let unexpected = |token, offset| Answer::Refused(ParseFault::Unexpected(token, offset));
-    let cases: [(&[u8], Answer<'_>); 15] = [
-        (b"}", Answer::Tree(0)),
-        (b"} // end", Answer::Tree(0)),
-        (b"", unexpected(13, 34)),
-        (b"let x = a < b < c;}", unexpected(19, 48)),
-        (b"if (a) {} else if (b) {}}", unexpected(20, 49)),
-        (b"let x = ];}", unexpected(16, 42)),
-        (b"let x = t[1;}", unexpected(19, 45)),
-        (b"let all = 1;}", unexpected(14, 38)),
-        (b"} }", unexpected(14, 36)),
-        (
-            b"let x = y * 05;}",
-            Answer::Refused(ParseFault::BadByte(46)),
-        ),
-        (b"let let = 1; #", Answer::Refused(ParseFault::BadByte(47))),
-        (
-            b"let x = 4294967296;}",
-            Answer::Refused(ParseFault::BadByte(42)),
-        ),
-        (
-            b"array t: word[3]; t[1] := input(a); output t[1] to a;}",
-            Answer::Tree(3),
-        ),
-        (b"let x = !~y << 3;}", Answer::Let(34, b"x", 1)),
-        (b"let sum = 1 + 2 - 3 * 4;}", Answer::Let(34, b"sum", 2)),
-    ];
-    for (body, answer) in &cases {
-        let mut text = FRONT.to_vec(rt.alloc())?;
-        text.extend_from_slice(body)?;
-        assert!(rt; gives(&rt, &text, *answer));
+fn each_refusal_names_its_place(rt: HostRuntime) -> Result<(), AllocError> {
+    for (body, answer) in BODIES {
+        assert!(rt; body_gives(rt.alloc(), body, answer)?, "{body}");
     }
-    assert!(rt; gives(&rt, b"", unexpected(0, 0)));
+    assert!(rt; gives(rt.alloc(), b"", Refused(Unexpected(0, 0))));
     Ok(())
 }
 
-/// A text with one thing in another: what opens and what closes stand there `count` times.
-#[derive(Clone, Copy)]
-struct Nested<'a> {
-    front: &'a [u8],
-    opening: &'a [u8],
-    count: u32,
-    middle: &'a [u8],
-    closing: &'a [u8],
-    back: &'a [u8],
+/// A text with one thing in another: what stands in front, what opens, how often it does, what stands within, what closes as often,
+/// and what stands behind.
+type Nested<'a> = (&'a str, &'a str, u32, &'a str, &'a str, &'a str);
+
+const LET: &str = "principals A;host a {A ; A};main {let x = ";
+
+/// Nested texts and what they give. The block of `main` is one of the 64 brackets.
+const NESTED: [(Nested<'_>, Answer<'_>); 8] = [
+    ((LET, "(", 63, "1", ")", ";}"), Let(34, "x", 0)),
+    ((LET, "(", 64, "1", "", ""), Refused(TooDeep(105))),
+    ((LET, "(", 63, "1(", "", ""), Refused(Unexpected(80, 106))),
+    ((LET, "t[", 63, "1", "]", ";}"), Let(34, "x", 0)),
+    ((LET, "t[", 64, "1", "", ""), Refused(TooDeep(169))),
+    (
+        (FRONT, "if (1) {", 63, "", "", ""),
+        Refused(Unexpected(328, 538)),
+    ),
+    ((FRONT, "if (1) {", 64, "", "", ""), Refused(TooDeep(541))),
+    (
+        ("principals A;host a {", "(", 64, "A", "", ""),
+        Refused(TooDeep(84)),
+    ),
+];
+
+/// Puts the word at the end so often.
+fn push_times(text: &mut Vec<u8>, word: &str, count: u32) -> Result<(), AllocError> {
+    for _ in 0..count {
+        text.extend_from_slice(word.as_bytes())?;
+    }
+    Ok(())
 }
 
-fn bracketed(alloc: Global, parts: Nested<'_>) -> Result<Vec<u8>, Fail> {
-    let mut text = parts.front.to_vec(alloc)?;
-    for _ in 0..parts.count {
-        text.extend_from_slice(parts.opening)?;
-    }
-    text.extend_from_slice(parts.middle)?;
-    for _ in 0..parts.count {
-        text.extend_from_slice(parts.closing)?;
-    }
-    text.extend_from_slice(parts.back)?;
+fn nested(alloc: Global, parts: Nested<'_>) -> Result<Vec<u8>, AllocError> {
+    let (front, opening, count, middle, closing, back) = parts;
+    let mut text = Vec::new(alloc);
+    push_times(&mut text, front, 1)?;
+    push_times(&mut text, opening, count)?;
+    push_times(&mut text, middle, 1)?;
+    push_times(&mut text, closing, count)?;
+    push_times(&mut text, back, 1)?;
     Ok(text)
 }
 
-const LET: &[u8] = b"principals A;host a {A ; A};main {let x = ";
-
-fn within<'a>(
-    front: &'a [u8],
-    opening: &'a [u8],
-    count: u32,
-    middle: &'a [u8],
-    closing: &'a [u8],
-    back: &'a [u8],
-) -> Nested<'a> {
-    Nested {
-        front,
-        opening,
-        count,
-        middle,
-        closing,
-        back,
-    }
-}
-
 #[test]
-fn a_65th_bracket_is_refused_where_it_could_stand(rt: HostRuntime) -> Result<(), Fail> {
-    let deep = |offset| Answer::Refused(ParseFault::TooDeep(offset));
-    let unexpected = |token, offset| Answer::Refused(ParseFault::Unexpected(token, offset));
-    // The block of `main` is one of the 64.
-    let cases: [(Nested<'_>, Answer<'_>); 8] = [
-        (
-            within(LET, b"(", 63, b"1", b")", b";}"),
-            Answer::Let(34, b"x", 0),
-        ),
-        (within(LET, b"(", 64, b"1", b"", b""), deep(105)),
-        (within(LET, b"(", 63, b"1(", b"", b""), unexpected(80, 106)),
-        (
-            within(LET, b"t[", 63, b"1", b"]", b";}"),
-            Answer::Let(34, b"x", 0),
-        ),
-        (within(LET, b"t[", 64, b"1", b"", b""), deep(169)),
-        (
-            within(FRONT, b"if (1) {", 63, b"", b"", b""),
-            unexpected(328, 538),
-        ),
-        (within(FRONT, b"if (1) {", 64, b"", b"", b""), deep(541)),
-        (
-            within(b"principals A;host a {", b"(", 64, b"A", b"", b""),
-            deep(84),
-        ),
-    ];
-    for (parts, answer) in cases {
-        let text = bracketed(rt.alloc(), parts)?;
-        assert!(rt; gives(&rt, &text, answer));
+fn a_65th_bracket_is_refused_where_it_could_stand(rt: HostRuntime) -> Result<(), AllocError> {
+    for (parts, answer) in NESTED {
+        let text = nested(rt.alloc(), parts)?;
+        assert!(rt; gives(rt.alloc(), &text, answer), "{parts:?}");
     }
     Ok(())
 }
 
 #[test]
-fn every_symbol_and_keyword_is_read(rt: HostRuntime) -> Result<(), Fail> {
+fn every_symbol_and_keyword_is_read(rt: HostRuntime) {
     let text: &[u8] = b"principals A, B;\nhost a {A & B ; (any | none)};\nhost b {B ; B};\n\
         fun f(x: word, y: bool): word {\n  let z {A ; B} = mux(y, min(x, 1), max(x, 2));\n  return z;\n}\n\
         main {\n  var v: word = 1 + 2 - 3 * 4 / 5 % 6;\n  array t: bool[2] {A ; A};\n  v := f(input(a), true) & 1 ^ 2 | 3;\n\
         t[0] := !(v == 1);\n  if (v != 2) { v := v << 1; } else { v := ~v >> 1; }\n  for i to 3 { output v to b; }\n\
         let p = v <= 1; let q = v >= 2; let r = v < 3; let s = v > 4;\n  let w = declassify(v, {A}); let u = endorse(false, {B});\n}\n";
-    assert!(rt; gives(&rt, text, Answer::Tree(12)));
-    Ok(())
+    assert!(rt; gives(rt.alloc(), text, Tree(12)));
+}
+
+fn blanks(alloc: Global, count: u32) -> Result<Vec<u8>, AllocError> {
+    let mut text = Vec::new(alloc);
+    push_times(&mut text, " ", count)?;
+    Ok(text)
 }
 
 #[test]
-fn a_text_that_is_too_long_is_not_read(rt: HostRuntime) -> Result<(), Fail> {
-    let mut text = Vec::new(rt.alloc());
-    for _ in 0..65_536 {
-        text.push(b' ')?;
+fn a_text_that_is_too_long_is_not_read(rt: HostRuntime) -> Result<(), AllocError> {
+    let rows = [(65_536, Unexpected(0, 65_536)), (65_537, TooLong(65_537))];
+    for (count, fault) in rows {
+        let text = blanks(rt.alloc(), count)?;
+        assert!(rt; gives(rt.alloc(), &text, Refused(fault)), "{count} blanks");
     }
-    assert!(rt;
-        gives(
-            &rt,
-            &text,
-            Answer::Refused(ParseFault::Unexpected(0, 65_536))
-        )
-    );
-    text.push(b' ')?;
-    assert!(rt; gives(&rt, &text, Answer::Refused(ParseFault::TooLong(65_537))));
     Ok(())
 }

@@ -21,6 +21,7 @@ use vd_linked_path::{LinkedPath, LinkedTables};
 use vd_linked_tables::linked_tables;
 use vd_path::Tables;
 use vd_prefixes::{Prefixes, Shift};
+use vd_search::Stop;
 use vd_space::Problem;
 use vd_untied::{is_above, search_untied};
 
@@ -100,6 +101,63 @@ fn passed_over(
     Ok(passed)
 }
 
+/// The prefixes that a walk from all lists passes over, at that aim; nothing where there is no walk.
+fn walked(
+    alloc: Global,
+    problem: &Problem,
+    tables: &Tables,
+    without: &LinkedTables,
+    path: LinkedPath,
+    most: u32,
+) -> Result<Option<Items<Items<u32>>>, AllocError>
+    requires holds { IsProblem problem.now }
+    requires labelled { IsLabelled problem.now }
+    requires limits { IsWithinLimits problem.now }
+    requires tables { AreTables problem.now tables.now }
+    requires plain { tables.now.shifts ≡ [] }
+    requires without { AreLinkedTables problem.now without.now }
+    requires path { path.problem.now ≡ problem.now }
+    ensures { IfOk result (λ found. IfSome found (All (IsBeyond problem.now most))) }
+{
+    let Some(mut walk) = Walk::new(alloc, problem, without, path, most)? else {
+        return Ok(None);
+    };
+    let passed = passed_over(alloc, problem, tables, &mut walk, most)?;
+    Ok(Some(passed))
+}
+
+/// The choice, or that there is none, where ties are broken by prefixes that begin no list of that cost; nothing where the budget
+/// is spent, or the least cost is another.
+fn select_untied(
+    alloc: Global,
+    problem: &Problem,
+    tables: &Tables,
+    linked: &LinkedTables,
+    passed: Items<Items<u32>>,
+    most: u32,
+    budget: u32,
+) -> Result<Option<Selection>, SelectFault>
+    requires holds { IsProblem problem.now }
+    requires labelled { IsLabelled problem.now }
+    requires tables { AreTables problem.now tables.now }
+    requires plain { tables.now.shifts ≡ [] }
+    requires linked { CanLink problem.now linked.now }
+    requires passed { All (IsBeyond problem.now most) passed }
+    requires budget { budget < 4294967295 }
+    ensures selects { IfOk result (λ found. IfSome found (Selects problem.now budget)) }
+    ensures unspent { result ≢ Err select_fault.Spent }
+{
+    let root = LinkedPath::new(alloc, problem, tables, linked)?;
+    match search_untied(alloc, root, passed, most, budget) {
+        Ok(answer) => {
+            let selection = linked_selection(alloc, linked, answer)?;
+            Ok(Some(selection))
+        }
+        Err(Stop::Spent) => Ok(None),
+        Err(Stop::Memory) => Err(SelectFault::Memory),
+    }
+}
+
 /// The choice, or that there is none, by the tables without shifts, plain and by links, and by those of better shifts of links,
 /// where a walk breaks the ties at the bound of all lists; nothing where the budget is spent, or the least cost is above that.
 pub fn select_by_walk(
@@ -128,17 +186,8 @@ pub fn select_by_walk(
     let Ok(most) = u32::try_from(path.bound()) else {
         return Ok(None);
     };
-    let Some(mut walk) = Walk::new(alloc, problem, without, path, most)? else {
-        return Ok(None);
-    };
-    let passed = passed_over(alloc, problem, tables, &mut walk, most)?;
-    let root = LinkedPath::new(alloc, problem, tables, linked)?;
-    let found = search_untied(alloc, root, passed, most, budget)?;
-    match found {
-        Some(answer) => {
-            let selection = linked_selection(alloc, linked, answer)?;
-            Ok(Some(selection))
-        }
+    match walked(alloc, problem, tables, without, path, most)? {
+        Some(passed) => select_untied(alloc, problem, tables, linked, passed, most, budget),
         None => Ok(None),
     }
 }

@@ -3,72 +3,122 @@
 use std::alloc::Global;
 use std::test::Fail;
 use vd_constraints::{Labels, System, constraints};
+use vd_core::Program;
 use vd_elaborate::elaborate;
 use vd_flow::{FlowFault, confirm, is_labelling};
 use vd_formula::{Formula, Label};
 use vd_parser::parse;
-use vd_resolve::resolve;
+use vd_resolve::{Resolved, resolve};
 use vd_solver::solve;
 
 /// Two hosts whose inputs are compared.
 const COMPARISON: &str =
     "principals A, B;\nhost alice {A ; A & B};\nhost bob {B ; A & B};\nmain {\n  let a = input(alice);\n  let b = input(bob);\n  let r = declassify(a < b, {A | B});\n  output r to alice;\n  output r to bob;\n}\n";
 
+fn resolved_of(alloc: Global, text: &str) -> Result<Resolved, Fail> {
+    let source = parse(alloc, text.as_bytes())?;
+    Ok(resolve(alloc, source)?)
+}
+
+fn program_of(alloc: Global, text: &str) -> Result<Program, Fail> {
+    let resolved = resolved_of(alloc, text)?;
+    Ok(elaborate(alloc, &resolved)?)
+}
+
 fn system_of(alloc: Global, text: &str) -> Result<System, Fail> {
-    match parse(alloc, text.as_bytes()) {
-        Ok(source) => match resolve(alloc, source) {
-            Ok(resolved) => {
-                let program = elaborate(alloc, &resolved)?;
-                Ok(constraints(alloc, &program)?)
-            }
-            Err(_) => Err("a rule is broken".into()),
-        },
-        Err(_) => Err("no source".into()),
+    let program = program_of(alloc, text)?;
+    Ok(constraints(alloc, &program)?)
+}
+
+/// A part of a label.
+#[derive(Clone, Copy)]
+enum Part {
+    Conf,
+    Integ,
+}
+
+/// A formula over two names.
+#[derive(Clone, Copy)]
+enum Formed {
+    /// True at no set of names.
+    Never,
+    /// True at the sets that have the first name.
+    First,
+}
+
+fn formula_of(formed: Formed) -> Formula {
+    match formed {
+        Formed::Never => Formula::never(2),
+        Formed::First => Formula::name(0, 2),
     }
 }
 
-fn confirmed(system: &System, labels: &Labels) -> Result<Result<(), FlowFault>, Fail> {
-    if is_labelling(system, labels) {
-        Ok(confirm(system, labels))
-    } else {
-        Err("no labelling".into())
-    }
-}
+/// A slot, a part of its label, and what becomes of this part.
+type Change = (usize, Part, Formed);
 
-/// Puts a formula into one part of the label of a slot: the integrity where `integ` is true, else the confidentiality.
-fn put(labels: &mut Labels, slot: usize, integ: bool, formula: Formula) -> Result<(), Fail> {
+fn change(labels: &mut Labels, change: Change) -> Result<(), Fail> {
+    let (slot, part, formed) = change;
     if labels.slots.as_slice().len() <= slot {
         return Err("too few slots".into());
     }
     let old = labels.slots.as_slice()[slot];
-    let label = if integ {
-        Label {
-            integ: formula,
-            ..old
-        }
-    } else {
-        Label {
+    let formula = formula_of(formed);
+    let label = match part {
+        Part::Conf => Label {
             conf: formula,
             ..old
-        }
+        },
+        Part::Integ => Label {
+            integ: formula,
+            ..old
+        },
     };
     labels.slots.set(slot, label);
     Ok(())
 }
 
+/// The least labels of the system, changed in these places.
+fn changed(alloc: Global, system: &System, changes: &[Change]) -> Result<Labels, Fail> {
+    let mut labels = solve(alloc, system)?;
+    for at in changes {
+        change(&mut labels, *at)?;
+    }
+    Ok(labels)
+}
+
+/// What is found in the least labels of the system, changed in these places.
+fn confirmed(
+    alloc: Global,
+    system: &System,
+    changes: &[Change],
+) -> Result<Result<(), FlowFault>, Fail> {
+    let labels = changed(alloc, system, changes)?;
+    if is_labelling(system, &labels) {
+        Ok(confirm(system, &labels))
+    } else {
+        Err("no labelling".into())
+    }
+}
+
+/// Changes of the least labels of the comparison, and what is then found in them.
+const CHANGES: [(&[Change], Result<(), FlowFault>); 3] = [
+    (&[], Ok(())),
+    (&[(0, Part::Integ, Formed::Never)], Err(FlowFault::Upper(0))),
+    (
+        &[
+            (0, Part::Integ, Formed::Never),
+            (2, Part::Conf, Formed::First),
+        ],
+        Err(FlowFault::Lower(6)),
+    ),
+];
+
 #[test]
 fn least_labels_are_confirmed_and_others_refused(rt: HostRuntime) -> Result<(), Fail> {
-    let alloc = rt.alloc();
-    let system = system_of(alloc, COMPARISON)?;
-    match solve(alloc, &system) {
-        Ok(mut labels) => {
-            assert_eq!(rt; confirmed(&system, &labels)?, Ok(()));
-            put(&mut labels, 0, true, Formula::never(2))?;
-            assert_eq!(rt; confirmed(&system, &labels)?, Err(FlowFault::Upper(0)));
-            put(&mut labels, 2, false, Formula::name(0, 2))?;
-            assert_eq!(rt; confirmed(&system, &labels)?, Err(FlowFault::Lower(6)));
-            Ok(())
-        }
-        Err(_) => Err("no labels".into()),
+    let system = system_of(rt.alloc(), COMPARISON)?;
+    for (changes, wanted) in CHANGES {
+        let found = confirmed(rt.alloc(), &system, changes)?;
+        assert_eq!(rt; found, wanted);
     }
+    Ok(())
 }

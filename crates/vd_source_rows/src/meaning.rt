@@ -1,24 +1,14 @@
-//! Programs that are built by hand, run in clear.
+//! Programs that are run in clear, by one host.
 
 use std::alloc::{AllocError, Global};
-use vd_base::{HostId, Inputs, Name, Names, Op, SlotId, Span};
-use vd_core::{
-    Expr, Host, Ident, NormalForm, Right, Source, Statement, Stmt, WrittenForm, WrittenLabel,
-};
+use std::test::Fail;
+use vd_base::{HostId, Inputs, Names, Op, Outputs, SlotId};
+use vd_core::{NormalForm, Right, Source, Stmt};
 use vd_items::Items;
 use vd_meaning::{clear_core, clear_source};
+use vd_parser::parse;
 
-const NOWHERE: Span = Span { start: 0, end: 0 };
-
-fn ident(alloc: Global, text: &str) -> Result<Ident, AllocError> {
-    let name = Items::from_slice(alloc, text.as_bytes())?;
-    Ok(Ident {
-        name,
-        span: NOWHERE,
-    })
-}
-
-/// The inputs of one host.
+/// What the host hands in.
 fn inputs(alloc: Global, words: &[u32]) -> Result<Inputs, AllocError> {
     let words = Items::from_slice(alloc, words)?;
     let mut inputs = Items::new(alloc);
@@ -26,68 +16,72 @@ fn inputs(alloc: Global, words: &[u32]) -> Result<Inputs, AllocError> {
     Ok(inputs)
 }
 
-fn host(alloc: Global, text: &str) -> Result<Items<Host>, AllocError> {
-    let name = ident(alloc, text)?;
-    let label = WrittenLabel {
-        conf: WrittenForm::Any,
-        integ: WrittenForm::Any,
-    };
-    let mut hosts = Items::new(alloc);
-    hosts.push(Host { name, label })?;
-    Ok(hosts)
+/// Whether there is one host, and it is told these words.
+fn tells(outputs: &Outputs, words: &[u32]) -> bool {
+    outputs.as_slice().len() == 1 && outputs.as_slice()[0].as_slice() == words
 }
 
-/// `output input(NAME) to NAME;`.
-fn echo(alloc: Global, text: &str) -> Result<Statement, AllocError> {
-    let from = ident(alloc, text)?;
-    let host = ident(alloc, text)?;
-    Ok(Statement::Output {
-        at: NOWHERE,
-        value: Expr::Input(from),
-        host,
-    })
+/// A host that is told its words, one after the other.
+const ECHO: &str =
+    "principals A;\nhost alice {any ; any};\nmain {\n  output input(alice) to alice;\n  output input(alice) to alice;\n}\n";
+
+fn source_tells(alloc: Global, source: &Source, words: &[u32]) -> Result<Outputs, AllocError> {
+    let inputs = inputs(alloc, words)?;
+    clear_source(alloc, source, &inputs)
 }
 
 #[test]
-fn a_source_gives_each_host_its_words(rt: HostRuntime) -> Result<(), AllocError> {
-    let alloc = rt.alloc();
-    let mut main = Items::new(alloc);
-    main.push(echo(alloc, "alice")?)?;
-    main.push(echo(alloc, "alice")?)?;
-    let source = Source {
-        principals: Items::new(alloc),
-        hosts: host(alloc, "alice")?,
-        functions: Items::new(alloc),
-        main,
-    };
-    let outputs = clear_source(alloc, &source, &inputs(alloc, &[3])?)?;
-    assert_eq!(rt; outputs, inputs(alloc, &[3, 0])?);
+fn a_source_gives_each_host_its_words(rt: HostRuntime) -> Result<(), Fail> {
+    let source = parse(rt.alloc(), ECHO.as_bytes())?;
+    let outputs = source_tells(rt.alloc(), &source, &[3])?;
+    assert!(rt; tells(&outputs, &[3, 0]));
     Ok(())
 }
 
+/// The first slot has the next word of the host, and the second one twice this word, which the host is told.
 fn statements(alloc: Global) -> Result<Items<Stmt>, AllocError> {
     let operands = Items::from_slice(alloc, &[SlotId(0), SlotId(0)])?;
-    let mut body = Items::new(alloc);
-    body.push(Stmt::Let(SlotId(0), Right::Input(HostId(0))))?;
-    body.push(Stmt::Let(SlotId(1), Right::Apply(Op::Add, operands)))?;
-    body.push(Stmt::Output(SlotId(1), HostId(0), 0))?;
-    Ok(body)
+    let statements = vec![in alloc;
+        Stmt::Let(SlotId(0), Right::Input(HostId(0))),
+        Stmt::Let(SlotId(1), Right::Apply(Op::Add, operands)),
+        Stmt::Output(SlotId(1), HostId(0), 0),
+    ]?;
+    Ok(Items::from_vec(statements))
 }
 
-#[test]
-fn a_let_normal_program_gives_each_host_its_words(rt: HostRuntime) -> Result<(), AllocError> {
-    let alloc = rt.alloc();
-    let name: Name = Items::from_slice(alloc, b"alice")?;
-    let mut hosts: Names = Items::new(alloc);
+fn host_names(alloc: Global) -> Result<Names, AllocError> {
+    let name = Items::from_slice(alloc, b"alice")?;
+    let mut hosts = Items::new(alloc);
     hosts.push(name)?;
-    let program = NormalForm {
+    Ok(hosts)
+}
+
+/// A program of one host that is told twice its word.
+fn doubling(alloc: Global) -> Result<NormalForm, AllocError> {
+    let hosts = host_names(alloc)?;
+    let body = statements(alloc)?;
+    Ok(NormalForm {
         principals: Items::new(alloc),
         hosts,
         labels: Items::new(alloc),
         slots: Items::new(alloc),
-        body: statements(alloc)?,
-    };
-    let outputs = clear_core(alloc, &program, &inputs(alloc, &[4])?)?;
-    assert_eq!(rt; outputs, inputs(alloc, &[8])?);
+        body,
+    })
+}
+
+fn program_tells(
+    alloc: Global,
+    program: &NormalForm,
+    words: &[u32],
+) -> Result<Outputs, AllocError> {
+    let inputs = inputs(alloc, words)?;
+    clear_core(alloc, program, &inputs)
+}
+
+#[test]
+fn a_let_normal_program_gives_each_host_its_words(rt: HostRuntime) -> Result<(), Fail> {
+    let program = doubling(rt.alloc())?;
+    let outputs = program_tells(rt.alloc(), &program, &[4])?;
+    assert!(rt; tells(&outputs, &[8]));
     Ok(())
 }

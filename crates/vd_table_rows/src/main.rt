@@ -1,5 +1,5 @@
 //! Prints the tables of protocols: for two, three and four hosts what each move costs, and then where the rows of slots stand
-//! and what operations cost there. `stdout` has the tables as they are to be.
+//! and what operations cost there; and behind these, what operations make of words. `stdout` has the tables as they are to be.
 //!
 //! L0 is the local protocol of host 0, R5 copies at hosts 0 and 2, C02 a commitment of host 0 to host 2, and A and X are words
 //! that two hosts share by sums and by exclusive or. A dash stands where nothing goes.
@@ -7,7 +7,7 @@
 
 use std::alloc::Global;
 use std::io::{self, Write};
-use vd_base::{HostId, HostSet, Op, Proto};
+use vd_base::{HostId, HostSet, Op, Proto, combine};
 use vd_cost::{move_cost, op_cost};
 use vd_protocol::{Row, can, holds, joins, protocols};
 
@@ -90,6 +90,33 @@ const OPERATIONS: [(&str, Op); 20] = [
     ("Max", Op::Max),
 ];
 
+/// Operations on words. One that takes fewer than three has zeros behind its own.
+const WORDS: [(&str, Op, [u32; 3]); 23] = [
+    ("Add", Op::Add, [4_294_967_295, 2, 0]),
+    ("Sub", Op::Sub, [3, 5, 0]),
+    ("Mul", Op::Mul, [65_536, 65_537, 0]),
+    ("Scale by 3", Op::Scale(3), [2_147_483_648, 0, 0]),
+    ("Div", Op::Div, [7, 2, 0]),
+    ("Div", Op::Div, [7, 0, 0]),
+    ("Rem", Op::Rem, [7, 4, 0]),
+    ("Rem", Op::Rem, [7, 0, 0]),
+    ("And", Op::And, [12, 10, 0]),
+    ("Or", Op::Or, [12, 10, 0]),
+    ("Xor", Op::Xor, [12, 10, 0]),
+    ("Not", Op::Not, [1, 0, 0]),
+    ("Flip", Op::Flip, [5, 0, 0]),
+    ("Shl by 31", Op::Shl(31), [3, 0, 0]),
+    ("Shr by 4", Op::Shr(4), [4_294_967_295, 0, 0]),
+    ("Eq", Op::Eq, [5, 5, 0]),
+    ("Ne", Op::Ne, [5, 5, 0]),
+    ("Lt", Op::Lt, [5, 4_294_967_295, 0]),
+    ("Le", Op::Le, [5, 5, 0]),
+    ("Min", Op::Min, [5, 4_294_967_295, 0]),
+    ("Max", Op::Max, [5, 4_294_967_295, 0]),
+    ("Mux", Op::Mux, [1, 8, 9]),
+    ("Mux", Op::Mux, [2, 8, 9]),
+];
+
 /// Where a row that is no operation stands: a mark or a dash for each place.
 fn print_row<W: Write>(to: &mut W, name: &str, row: Row) -> io::Result<()> {
     to.write_all(name.as_bytes())?;
@@ -113,6 +140,12 @@ fn print_operation<W: Write>(to: &mut W, name: &str, op: Op) -> io::Result<()> {
     to.write_all(b"\n")
 }
 
+/// What an operation makes of three words.
+fn print_words<W: Write>(to: &mut W, name: &str, op: Op, words: [u32; 3]) -> io::Result<()> {
+    let [x, y, z] = words;
+    write!(to, "{name} {x} {y} {z} = {}\n", combine(op, x, y, z))
+}
+
 fn main(rt: HostRuntime) -> io::Result<()> {
     let alloc: Global = rt.alloc();
     let mut to = rt.stdout();
@@ -124,6 +157,9 @@ fn main(rt: HostRuntime) -> io::Result<()> {
     }
     for (name, op) in OPERATIONS {
         print_operation(&mut to, name, op)?;
+    }
+    for (name, op, words) in WORDS {
+        print_words(&mut to, name, op, words)?;
     }
     Ok(())
 }

@@ -44,7 +44,8 @@ pub record PrintsDependence (source name : List ℕ) (before : FilesView) (out_b
   pub dependence : IsDependenceOf source name before.contents printed
 
 -- Where the words are those of `depends`, and the files and the output tell what they hold, a run with status 0 has printed the
--- hosts whose inputs alone can bear on what the host is told, outside of what is declassified to it.
+-- hosts whose inputs alone can bear on what the host is told, and on the clear words that come to it at any valid assignment of
+-- protocols, outside of what is declassified to it.
 abbrev pub KeepsDependence : (words : List (List ℕ)) → FilesView → SinkView → SinkView → Status → Type 0
 KeepsDependence words before out_before out_now status =
     (source name : List ℕ) → form_of words ≡ Some (OnFiles (Depends source name)) → IsTrue before.told → IsTrue out_now.told → status ≡ Ended

@@ -14,7 +14,7 @@ use Rattle.vd_bound.specs.Marks.{children, AreTrees, IsSound}
 use Rattle.vd_search.specs.Answers.{Answers, IsLeast}
 use Rattle.vd_search.specs.declared.answers.Answer.{Answer}
 use Rattle.vd_search.specs.declared.answers.Answer.TheVariants.{Found, Empty}
-use Rattle.vd_untied.specs.Untied.{is_among, untied, WhyNothing, is_at_cost}
+use Rattle.vd_untied.specs.Untied.{is_among, untied, WhySpent, is_at_cost}
 
 same_cost : (a b : ℤ) → int_eq a b ≡ true → a ≡ b
 same_cost a b test = grind (arith, ints, test)
@@ -138,8 +138,8 @@ module _ (tree : Tree) (most : ℕ) (passed : List (List ℕ)) (costly : All (At
   answers_same budget (Found list cost marks) at found = found_same budget list cost marks (eqb-true cost most at) found
   answers_same budget (Empty marks) at empty = (λ list whole. empty.0 list (whole_after list whole), sound_of_none marks empty.1, empty.2)
 
-  pub nothing_answered : (budget : ℕ) (answer : Answer) → is_at_cost most answer ≡ false → Answers (untied tree most passed) budget answer → WhyNothing tree most passed budget
-  nothing_answered budget (Found list cost marks) other found =
+  pub another_cost : (budget : ℕ) (answer : Answer) → is_at_cost most answer ≡ false → Answers (untied tree most passed) budget answer → WhySpent tree most passed budget
+  another_cost budget (Found list cost marks) other found =
       let is = least_same list cost found.0 in
       inr (cost, ((list, is.choice.whole, is.costs), λ other_list whole. subst (λ b. b ≤ℤ tree.bound other_list) is.costs (is.choice.least other_list whole)), eqb-false cost most other)
-  nothing_answered budget (Empty marks) other empty = absurd (true≢false other)
+  another_cost budget (Empty marks) other empty = absurd (true≢false other)

@@ -27,6 +27,6 @@ abbrev pub is_at_cost : ℕ → Answer → Bool
 is_at_cost most (Found list cost marks) = cost == most
 is_at_cost most (Empty marks) = true
 
--- Why there is no answer: the budget is spent, or the least cost is another.
-abbrev pub WhyNothing : Tree → ℕ → List (List ℕ) → ℕ → Type 0
-WhyNothing tree most passed budget = Exceeds (untied tree most passed) budget ⊎ ((cost : ℕ) × IsLeastCost tree cost × (cost ≢ most))
+-- Why a search is spent: the budget is, or the least cost is another.
+abbrev pub WhySpent : Tree → ℕ → List (List ℕ) → ℕ → Type 0
+WhySpent tree most passed budget = Exceeds (untied tree most passed) budget ⊎ ((cost : ℕ) × IsLeastCost tree cost × (cost ≢ most))

@@ -1,44 +1,39 @@
 //! The search with prefixes that are passed over.
 
-ghost use Rattle.std.specs.Prelude.{◌≡◌, ◌<◌, suc, pos, [], IfOk, IfSome, IfNone};
+ghost use Rattle.std.specs.Prelude.{◌≡◌, ◌<◌, suc, pos, [], IfOk, IsErrOf};
 ghost use Rattle.std.specs.List.{All};
 ghost use Rattle.vd_prefixes.specs.Trees.{AtLeast};
 ghost use Rattle.vd_search.specs.Answers.{Answers};
-ghost use Rattle.vd_untied.specs.Untied.{WhyNothing, is_at_cost};
+ghost use Rattle.vd_search.specs.declared.writing.Stop.TheVariants.{Spent};
+ghost use Rattle.vd_untied.specs.Untied.{WhySpent, is_at_cost};
 
 use crate::untied::Untied;
-use std::alloc::{AllocError, Global};
+use std::alloc::Global;
 use vd_items::Items;
 use vd_prefixes::Prefixes;
 use vd_search::{Answer, Stop, search};
 
-/// The choice of a tree, or that there is none, where ties are broken by prefixes that begin no list of that cost; nothing
-/// where the budget is spent or the least cost is another. An error is want of memory.
+/// The choice of a tree, or that there is none, where ties are broken by prefixes that begin no list of that cost. The search
+/// counts as spent also where the least cost is another.
 pub fn search_untied<P: Prefixes + Drop>(
     alloc: Global,
     prefix: P,
     passed: Items<Items<u32>>,
     most: u32,
     budget: u32,
-) -> Result<Option<Answer>, AllocError>
+) -> Result<Answer, Stop>
     requires root { P.path prefix ≡ [] }
     requires passed { All (AtLeast (P.tree prefix) (pos (suc most))) passed }
     requires budget { budget < 4294967295 }
-    ensures answers { IfOk result (λ found. IfSome found (Answers (P.tree prefix) budget)) }
-    ensures nothing { IfOk result (λ found. IfNone found (WhyNothing (P.tree prefix) most passed budget)) }
+    ensures answers { IfOk result (Answers (P.tree prefix) budget) }
+    ensures spent { IsErrOf result Spent → WhySpent (P.tree prefix) most passed budget }
 {
     let mut untied = Untied::new(alloc, prefix, most, passed)?;
-    match search(alloc, &mut untied, budget) {
-        Ok(answer) => {
-            if is_at_cost(&answer, most) {
-                Ok(Some(answer))
-            } else {
-                Ok(None)
-            }
-        }
-        Err(Stop::Spent) => Ok(None),
-        Err(Stop::Memory) => Err(AllocError),
+    let answer = search(alloc, &mut untied, budget)?;
+    if !is_at_cost(&answer, most) {
+        return Err(Stop::Spent);
     }
+    Ok(answer)
 }
 
 /// Whether the answer says of no other least cost than that.

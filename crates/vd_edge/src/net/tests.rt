@@ -1,6 +1,6 @@
 //! Links over the loopback, at addresses that the machine gives out.
 
-ghost use Rattle.std.specs.Prelude.{◌<◌};
+ghost use Rattle.std.specs.Prelude.{◌<◌, ◌≤◌};
 
 use crate::RealNet;
 use std::alloc::Global;
@@ -35,6 +35,23 @@ fn pass<R: Network + Drop>(alloc: Global, net: &mut RealNet<R>) -> Option<(u32, 
     Some((sent, came, behind))
 }
 
+/// The number of the second of two listeners, and how many bytes come there from one that connects to it.
+fn pass_to_second<R: Network + Drop>(alloc: Global, net: &mut RealNet<R>) -> Option<(u32, u32)>
+    requires { net.old.given ≤ 4294967000 }
+{
+    net.listen(ANY).ok()?;
+    let second = net.listen(ANY).ok()?;
+    let address = address_of(alloc, net, second)?;
+    let mut there = net.connect(address.as_str()).ok()?;
+    let mut here = net.accept(second).ok()?;
+    let mut into = [0u8; 8];
+    there.send(b"abc").ok()?;
+    let came = here.receive(&mut into).ok()?;
+    net.hang_up(there);
+    net.hang_up(here);
+    Some((second, came))
+}
+
 /// An address at which nobody listens: a listener that is gone had it.
 fn lone_address<R: Network + Drop>(alloc: Global, rt: R) -> Option<String> {
     let mut net = RealNet::new(rt, alloc);
@@ -52,5 +69,13 @@ fn a_link_passes_bytes(rt: HostRuntime) -> Result<(), Fail> {
     let address = lone.unwrap_or(String::new(rt.alloc()));
     assert!(rt; net.connect(address.as_str()).is_err());
     assert_eq!(rt; net.faults(), 1);
+    Ok(())
+}
+
+#[test]
+fn the_second_listener_is_accepted(rt: HostRuntime) -> Result<(), Fail> {
+    let mut net = RealNet::new(rt.clone()?, rt.alloc());
+    assert_eq!(rt; pass_to_second(rt.alloc(), &mut net), Some((1, 3)));
+    assert_eq!(rt; net.faults(), 0);
     Ok(())
 }

@@ -28,5 +28,5 @@ returns-clause-executes c = λ least outcomes files.
 
 pub returns-clause-tells : goal.returns-clause-tells
 returns-clause-tells c =
-    told c.args.name.now c.args.program.now c.form.result.now.hosts c.in_ok-host.host c.in_ok-labels.labels c.in_ok-set.set _ (ap (λ (f : NormalForm). f.hosts) c.form.ensures.same) (c.in_ok-host.ensures {u = tt})
-    (c.in_ok-labels.ensures {u = tt}).least (c.in_ok-set.ensures {u = tt}).reached (c.in_ok-set.ensures {u = tt}).readable (c.in_ok-set.ensures {u = tt}).enough c.line_answer.ensures
+    told c.args.name.now c.args.program.now c.form.result.now.hosts c.in_ok-host.host c.in_ok-labels.labels c.in_ok-set.set _ c.form.ensures.well_made (ap (λ (f : NormalForm). f.hosts) c.form.ensures.same)
+    (c.in_ok-host.ensures {u = tt}) (c.in_ok-labels.ensures {u = tt}).least (c.in_ok-set.ensures {u = tt}).reached (c.in_ok-set.ensures {u = tt}).readable (c.in_ok-set.ensures {u = tt}).enough c.line_answer.ensures

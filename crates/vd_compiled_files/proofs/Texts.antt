@@ -1,0 +1,61 @@
+-- The files of a program that comes from a text: the names of its hosts take no more bytes than the text.
+use Rattle.std.proofs.Common.{◌≡◌, ℕ, ◌+◌, ◌≤◌, List, [], ◌∷◌, length, Ok, refl, sym, ap, subst, ◌∙◌, arith, length-append}
+use Rattle.std.specs.Prelude.{flat_map}
+use Rattle.std.specs.List.{AllByRecursion, sum_by}
+use Rattle.std.proofs.lemmas.List.Concat.{flat_map-cons}
+use Rattle.std.proofs.lemmas.List.Sums.{sum_by-cons}
+use Rattle.vd_outside.specs.declared.stored.Stored.{Stored}
+use Rattle.vd_core.specs.declared.normal.NormalForm.{NormalForm}
+use Rattle.vd_core.specs.declared.source.Host.{Host}
+use Rattle.vd_core.specs.declared.source.Source.{Source}
+use Rattle.vd_core.specs.Facts.{IsWellMade}
+use Rattle.vd_parser.specs.Outcomes.{IsParse}
+use Rattle.vd_meaning.specs.SourceMeaning.{host_names}
+use Rattle.vd_normal.specs.Normal.{normal_form}
+use Rattle.vd_joint.specs.Outcome.{NumbersFit}
+use Rattle.vd_host_text.specs.Text.{name_field}
+use Rattle.vd_name_sizes.specs.Sizes.{name_bytes}
+use Rattle.vd_name_sizes.proofs.Names.{host_names_fit}
+use Rattle.vd_read_back.specs.Stored.{CountsFit}
+use Rattle.vd_compiling.proofs.Runnable.{runnable_of}
+use Rattle.vd_compiled_files.specs.Compiled.{CanBeCompiled, IsReadBack, IsShort, CompiledFilesAreShort, CanBeRead, CompiledFilesCanBeRead}
+use Rattle.vd_compiled_files.proofs.Files.{compiled_files_are_read_back, short_files}
+
+-- ---- names
+
+one_more : (name : List ℕ) → length (name_field name) ≡ 1 + length name
+unfolding name_field
+one_more name = omega arith
+
+-- the names as they stand in a file take what they take in a text
+names_take : (hosts : List Host) → length (flat_map name_field (host_names hosts)) ≡ sum_by name_bytes hosts
+names_take [] = refl
+names_take (h ∷ hs) =
+    let name = h.name.name in
+    let joined = ap length (flat_map-cons name_field name (host_names hs)) ∙ length-append (name_field name) (flat_map name_field (host_names hs)) in
+    both _ _ _ _ _ _ joined (one_more name) (names_take hs) (sum_by-cons name_bytes h hs)
+  where
+    both : (all one rest bytes others sum : ℕ) → all ≡ one + rest → one ≡ bytes → rest ≡ others → sum ≡ bytes + others → all ≡ sum
+    both all one rest bytes others sum p q r s = omega (arith, p, q, r, s)
+
+names_short : (text : List ℕ) (source : Source) → IsParse text (Ok source) → length (flat_map name_field (normal_form source).hosts) ≤ 65536
+names_short text source parsed = within _ _ _ (names_take source.hosts) (host_names_fit text source parsed) parsed.short
+  where
+    within : (n m k : ℕ) → n ≡ m → m ≤ k → k ≤ 65536 → n ≤ 65536
+    within n m k p q r = omega (arith, p, q, r)
+
+pub compiled_files_are_short : CompiledFilesAreShort
+compiled_files_are_short text source problem list least prefix parsed can =
+    short_files (normal_form source) problem list least text prefix can (names_short text source parsed)
+
+-- ---- both
+
+both : (files : List Stored) → AllByRecursion IsShort files → AllByRecursion IsReadBack files → AllByRecursion CanBeRead files
+both [] a b = tt
+both (f ∷ fs) a b = (record { short = a.0; read = b.0 }, both fs a.1 b.1)
+
+pub compiled_files_can_be_read : (program : NormalForm) → IsWellMade program → NumbersFit program → CountsFit program → CompiledFilesCanBeRead program
+compiled_files_can_be_read program made numbers counts problem list least text prefix is =
+    let can : CanBeCompiled program list = record { made = made; numbers = numbers; counts = counts; runnable = runnable_of program list made is.selected } in
+    let names = subst (λ (p : NormalForm). length (flat_map name_field p.hosts) ≤ 65536) (sym is.form) (names_short text is.source is.parsed) in
+    both _ (short_files program problem list least text prefix can names) (compiled_files_are_read_back program problem list least text prefix can)

@@ -1,0 +1,10 @@
+pub mod Words
+pub mod Names
+pub mod Script
+pub mod Trees
+pub mod Rules
+pub mod Lines
+pub mod Coordinates
+pub mod Sizes
+pub mod Whole
+pub mod Read
