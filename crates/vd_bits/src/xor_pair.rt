@@ -142,7 +142,8 @@ impl XorPair {
     ) -> Result<Parts<XorShare>, AllocError>
         requires known { AreKnown (self.now.0 ∷ self.now.1 ∷ []) to.old.next }
         requires room { HasCircuitRoom to.old.next }
-        ensures exact { IfOk result (λ z. Makes (computed self.now.0 self.now.1 op.And (parts_of x.now ∷ parts_of y.now ∷ [])) to.old (parts_of z) to.new) }
+        ensures exact { IfOk result (λ z. Makes (computed self.now.0 self.now.1 op.And (parts_of x.now ∷ parts_of y.now ∷ [])) to.old
+            (parts_of z) to.new) }
         ensures hosts { IfOk result (λ z. hosts_of (parts_of z) ≡ self.now.0 ∷ self.now.1 ∷ []) }
         ensures few { OnOk result (TakesAtMost 1024 to.old.next to.new.next) }
     {
@@ -159,7 +160,8 @@ impl XorPair {
     ) -> Result<Parts<XorShare>, AllocError>
         requires known { AreKnown (self.now.0 ∷ self.now.1 ∷ []) to.old.next }
         requires room { HasCircuitRoom to.old.next }
-        ensures exact { IfOk result (λ z. Makes (computed self.now.0 self.now.1 op.Add (parts_of x.now ∷ parts_of y.now ∷ [])) to.old (parts_of z) to.new) }
+        ensures exact { IfOk result (λ z. Makes (computed self.now.0 self.now.1 op.Add (parts_of x.now ∷ parts_of y.now ∷ [])) to.old
+            (parts_of z) to.new) }
         ensures hosts { IfOk result (λ z. hosts_of (parts_of z) ≡ self.now.0 ∷ self.now.1 ∷ []) }
         ensures few { OnOk result (TakesAtMost 1024 to.old.next to.new.next) }
     {
@@ -176,7 +178,8 @@ impl XorPair {
     ) -> Result<Parts<XorShare>, AllocError>
         requires known { AreKnown (self.now.0 ∷ self.now.1 ∷ []) to.old.next }
         requires room { HasCircuitRoom to.old.next }
-        ensures exact { IfOk result (λ z. Makes (computed self.now.0 self.now.1 op.Sub (parts_of x.now ∷ parts_of y.now ∷ [])) to.old (parts_of z) to.new) }
+        ensures exact { IfOk result (λ z. Makes (computed self.now.0 self.now.1 op.Sub (parts_of x.now ∷ parts_of y.now ∷ [])) to.old
+            (parts_of z) to.new) }
         ensures hosts { IfOk result (λ z. hosts_of (parts_of z) ≡ self.now.0 ∷ self.now.1 ∷ []) }
         ensures few { OnOk result (TakesAtMost 1024 to.old.next to.new.next) }
     {

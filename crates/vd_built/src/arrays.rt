@@ -107,7 +107,9 @@ fn write(
     x: &Held,
     to: &mut Duet,
 ) -> Result<(), AllocError>
-    ensures { OnOk result (to.new ≡ appended (map (λ h. Alone h (action.Put (register_of kept.now.at h.0) kept.now.size (index_of index.now h.0) (register_of x.now.at h.0))) hosts.now) to.old) }
+    ensures { OnOk result (to.new ≡ appended
+        (map (λ h. Alone h (action.Put (register_of kept.now.at h.0) kept.now.size (index_of index.now h.0) (register_of x.now.at h.0))) hosts.now)
+        to.old) }
 {
     for host in hosts {
         let array = register_at(kept.parts(), *host);

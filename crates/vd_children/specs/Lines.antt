@@ -2,6 +2,7 @@
 use Rattle.std.specs.Prelude.{◌≡◌, ◌<◌, ◌≤◌, ◌⊎◌, ◌++◌, ◌∷◌, [], ℕ, Bool, true, false, List, length, map, codes, Some, None, Result, Ok, Err}
 use Rattle.std.specs.Str.{bytes_eq}
 use Rattle.vd_base.specs.Lexical.{number_of}
+use Rattle.vd_base.specs.Limits.{most_weights}
 use Rattle.vd_base.specs.declared.ids.HostId.{HostId}
 use Rattle.vd_children.specs.declared.fault.ChildrenFault.{ChildrenFault}
 use Rattle.vd_children.specs.declared.fault.ChildrenFault.TheVariants as fault
@@ -15,7 +16,7 @@ ended = codes "ended"
 
 -- no host prints more words
 abbrev pub most_words : ℕ
-most_words = 65536
+most_words = most_weights
 
 -- the line behind the words, where it came
 abbrev pub last_line : Bool → List (List ℕ)

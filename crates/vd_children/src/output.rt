@@ -4,10 +4,10 @@ ghost use Rattle.vd_children.specs.Lines.{TakesLine};
 
 use crate::ChildrenFault;
 use std::alloc::Global;
-use vd_base::{HostId, Words, number};
+use vd_base::{HostId, Words, limits, number};
 
 /// The most words that a host prints.
-const MOST_WORDS: usize = 65_536;
+const MOST_WORDS: usize = limits::WEIGHTS as usize;
 
 /// What a child has printed since its first line: its words, and whether it said that it ended.
 #[derive(Debug, Drop)]

@@ -1,4 +1,5 @@
 ghost use Rattle.std.specs.Prelude.{◌≡◌, ◌<◌, ◌≤◌, length, All, IfOk, IsTrue};
+ghost use Rattle.vd_base.specs.Limits.{most_hosts};
 ghost use Rattle.vd_children.specs.Asked.{Asks};
 ghost use Rattle.vd_children.specs.Causes.{Causes};
 ghost use Rattle.vd_children.specs.Runs.{ReadsAll, RunsChildren, StartsAll};
@@ -19,7 +20,7 @@ fn start_all<S: Spawner>(
     program: &str,
     hosts: &[Texts],
 ) -> Result<Items<u32>, ChildrenFault>
-    requires few { length hosts.now ≤ 4 }
+    requires few { length hosts.now ≤ most_hosts }
     requires room { (S.view spawner.old).given ≤ 4294967000 }
     ensures starts { StartsAll program.now hosts.now (S.view spawner.old) (S.view spawner.new) result }
     ensures known { IfOk result (λ children. All (λ child. child < (S.view spawner.new).given) children) }
@@ -38,7 +39,7 @@ fn read_all<S: Spawner>(
     spawner: &mut S,
     children: &[u32],
 ) -> Result<Items<Words>, ChildrenFault>
-    requires few { length children.now ≤ 4 }
+    requires few { length children.now ≤ most_hosts }
     requires known { All (λ child. child < (S.view spawner.old).given) children.now }
     ensures { ReadsAll children.now (S.view spawner.old) (S.view spawner.new) result }
 {
@@ -59,7 +60,7 @@ pub fn run_children<S: Spawner>(
     program: &str,
     hosts: &[Texts],
 ) -> Result<Items<Words>, ChildrenFault>
-    requires few { length hosts.now ≤ 4 }
+    requires few { length hosts.now ≤ most_hosts }
     requires room { (S.view spawner.old).given ≤ 4294967000 }
     ensures runs { RunsChildren program.now hosts.now (S.view spawner.old) (S.view spawner.new) result }
     ensures causes { Causes (S.view spawner.old) (S.view spawner.new) result }

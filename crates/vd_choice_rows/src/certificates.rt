@@ -2,9 +2,11 @@
 
 use std::alloc::Global;
 use std::test::Fail;
+use vd_base::Bytes;
 use vd_base::limits::CERTIFICATE_BYTES;
 use vd_bound::first_bad_shift;
 use vd_certificate::{Certificate, TextFault};
+use vd_prefixes::Shift;
 
 /// Of the comparison of two hosts' inputs.
 const FIRST_FORM: &[u8] = b"viaduct-cert 1\ncost 222\nEEVEVVVVVVELBBVVBBVVVVVVVVVVV\n";
@@ -56,29 +58,41 @@ fn refused_at(alloc: Global, bytes: &[u8]) -> Option<u32> {
     }
 }
 
+/// What is written of the certificate of a text.
+fn written_again(alloc: Global, text: &[u8]) -> Result<Bytes, Fail> {
+    let certificate = read(alloc, text)?;
+    Ok(certificate.write(alloc)?)
+}
+
+/// The cost and the number of marks of the certificate of a text.
+fn size_of(alloc: Global, text: &[u8]) -> Result<(Option<u32>, usize), Fail> {
+    let certificate = read(alloc, text)?;
+    Ok((certificate.cost, certificate.marks.as_slice().len()))
+}
+
 #[test]
 fn certificates_are_read_and_written(rt: HostRuntime) -> Result<(), Fail> {
-    let alloc = rt.alloc();
     for text in [FIRST_FORM, SECOND_FORM, THIRD_FORM] {
-        let certificate = read(alloc, text)?;
-        let written = certificate.write(alloc)?;
-        assert_eq!(rt; written.as_slice(), text);
-        assert_eq!(rt; certificate.cost, Some(222));
-        assert_eq!(rt; certificate.marks.as_slice().len(), 29);
+        assert_eq!(rt; written_again(rt.alloc(), text)?.as_slice(), text);
+        assert_eq!(rt; size_of(rt.alloc(), text)?, (Some(222), 29));
     }
-    let second = read(alloc, SECOND_FORM)?;
-    assert_eq!(rt; bad_shift(&second, 3), Some(0));
-    assert_eq!(rt; bad_shift(&second, 4), None);
     Ok(())
 }
 
 /// The first shift that names nothing, of a few.
-fn bad_shift(certificate: &Certificate, uses: u32) -> Option<u32> {
-    let shifts = certificate.shifts.as_slice();
+fn bad_shift(shifts: &[Shift], uses: u32) -> Option<u32> {
     if shifts.len() > 10 {
         return None;
     }
     first_bad_shift(shifts, uses, 7)
+}
+
+#[test]
+fn shifts_name_uses_that_there_are(rt: HostRuntime) -> Result<(), Fail> {
+    let second = read(rt.alloc(), SECOND_FORM)?;
+    assert_eq!(rt; bad_shift(second.shifts.as_slice(), 3), Some(0));
+    assert_eq!(rt; bad_shift(second.shifts.as_slice(), 4), None);
+    Ok(())
 }
 
 #[test]

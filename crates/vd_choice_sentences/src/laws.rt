@@ -7,5 +7,6 @@ ghost use Rattle.vd_space.specs.declared.problem.Problem.{Problem};
 
 /// Where a whole list of protocols is valid, each slot has a candidate.
 pub fn valid_lists_stand_at_candidates()
-    ensures { (problem : Problem) (list : List ℕ) → length list ≡ length problem.slots → IsTrue (is_valid problem list) → All (HasCandidate problem) problem.slots }
+    ensures { (problem : Problem) (list : List ℕ) → length list ≡ length problem.slots → IsTrue (is_valid problem list)
+        → All (HasCandidate problem) problem.slots }
 {}

@@ -1,11 +1,10 @@
 //! The command `depends`.
 
-ghost use Rattle.std.specs.Prelude.{◌≡◌, ◌≤◌, [], length};
+ghost use Rattle.std.specs.Prelude.{◌≤◌, [], length};
 ghost use Rattle.vd_base.specs.Limits.{most_hosts};
 ghost use Rattle.vd_depending.specs.Depending.{ExecutesDepends, ExecutesProgram, ExecutesSource, as_host, hosts_line};
 ghost use Rattle.vd_depending.specs.Telling.{TellsDependence, TellsProgram, TellsSource};
 ghost use Rattle.vd_plan.specs.Plans.{Checks, Computes, ended};
-ghost use Rattle.vd_report.specs.Hosts.{host_of};
 
 use crate::line::hosts_text;
 use std::alloc::Global;
@@ -17,21 +16,15 @@ use vd_items::Items;
 use vd_noninter::depends as hosts_that_matter;
 use vd_outside::Files;
 use vd_plan::{Answer, Status};
+use vd_report::host_of;
 use vd_resolve::Resolved;
-
-/// The place of the host of this name.
-fn place_of(hosts: &Names, name: &[u8]) -> Option<usize>
-    ensures { result ≡ host_of hosts.now name.now }
-{
-    hosts.iter().position(|host| host.as_slice() == name)
-}
 
 /// The host of this name.
 fn host_named(alloc: Global, hosts: &Names, name: &str) -> Result<HostId, Status>
     requires { length hosts.now ≤ most_hosts }
     ensures { Checks (as_host hosts.now name.now) result }
 {
-    match place_of(hosts, name.as_bytes()) {
+    match host_of(hosts, name.as_bytes()) {
         Some(place) => {
             let number = place as u8;
             Ok(HostId(number))

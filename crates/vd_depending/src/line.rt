@@ -1,6 +1,6 @@
 //! The line that names the hosts that a host depends on.
 
-ghost use Rattle.std.specs.Prelude.{◌≡◌, ◌++◌, ◌∷◌, ◌≤◌, [], IfOk, OnOk, flat_map, if◌then◌else◌, length, slice_index_or};
+ghost use Rattle.std.specs.Prelude.{◌≡◌, ◌++◌, ◌∷◌, ◌≤◌, [], IfOk, OnOk, flat_map, if◌then◌else◌, length};
 ghost use Rattle.vd_base.specs.HostSets.{has_host, members};
 ghost use Rattle.vd_base.specs.Limits.{most_hosts};
 ghost use Rattle.vd_depending.specs.Depending.{hosts_line, name_field};
@@ -10,6 +10,7 @@ use itoa::Buffer;
 use std::alloc::{AllocError, Global};
 use vd_base::{Bytes, HostId, HostSet, Names};
 use vd_items::Items;
+use vd_report::name_of;
 
 /// A host, how many hosts it depends on, and their names in host order.
 pub fn hosts_text(
@@ -23,7 +24,7 @@ pub fn hosts_text(
 {
     let list = members(alloc, names, set)?;
     let mut text = Bytes::new(alloc);
-    text.extend_from_slice(name_of(names, host))?;
+    text.extend_from_slice(name_of(names, usize::from(host.0)))?;
     push_number(&mut text, list.as_slice().len() as u64)?;
     push_names(&mut text, names, list.as_slice())?;
     text.push(b'\n')?;
@@ -52,16 +53,6 @@ fn push_member(list: &mut Items<HostId>, set: HostSet, host: HostId) -> Result<(
     Ok(())
 }
 
-/// The name of a host; empty where there is no such host.
-fn name_of(names: &Names, host: HostId) -> &[u8]
-    ensures { result.now ≡ slice_index_or names.now host.0 [] }
-{
-    match names.as_slice().get(usize::from(host.0)) {
-        Some(name) => name.as_slice(),
-        None => &[],
-    }
-}
-
 /// Puts the names of these hosts at the end, each behind a space.
 fn push_names(text: &mut Bytes, names: &Names, list: &[HostId]) -> Result<(), AllocError>
     ensures { OnOk result (text.new ≡ text.old ++ flat_map (name_field names.now) list.now) }
@@ -77,7 +68,7 @@ fn push_name(text: &mut Bytes, names: &Names, host: HostId) -> Result<(), AllocE
     ensures { OnOk result (text.new ≡ text.old ++ name_field names.now host) }
 {
     text.push(b' ')?;
-    text.extend_from_slice(name_of(names, host))
+    text.extend_from_slice(name_of(names, usize::from(host.0)))
 }
 
 /// Puts a number at the end, behind a space.

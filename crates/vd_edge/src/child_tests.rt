@@ -52,6 +52,24 @@ fn a_last_line_needs_no_end(rt: HostRuntime) -> Result<(), Fail> {
 }
 
 #[test]
+fn a_line_of_64_bytes_is_read_whole(rt: HostRuntime) -> Result<(), Fail> {
+    let words = shell_words(rt.alloc(), "printf %064d 7; echo; exit 3")?;
+    let mut spawner = RealSpawner::new(rt.clone()?, rt.alloc());
+    assert!(rt; child_of(&mut spawner, "/bin/sh", &words) == Ok((64, false, 3)));
+    assert_eq!(rt; spawner.faults(), 0);
+    Ok(())
+}
+
+#[test]
+fn a_line_of_65_bytes_is_a_fault(rt: HostRuntime) -> Result<(), Fail> {
+    let words = shell_words(rt.alloc(), "printf %065d 7; echo; exit 3")?;
+    let mut spawner = RealSpawner::new(rt.clone()?, rt.alloc());
+    assert!(rt; child_of(&mut spawner, "/bin/sh", &words) == Err(CallFault::Failed));
+    assert_eq!(rt; spawner.faults(), 1);
+    Ok(())
+}
+
+#[test]
 fn a_missing_program_is_a_fault(rt: HostRuntime) -> Result<(), Fail> {
     let words = Texts::new(rt.alloc());
     let mut spawner = RealSpawner::new(rt.clone()?, rt.alloc());

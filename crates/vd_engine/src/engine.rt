@@ -1,4 +1,5 @@
 ghost use Rattle.std.specs.Prelude.{◌≡◌, ◌<◌, ◌≤◌, ◌^◌, IsSome, length};
+ghost use Rattle.vd_base.specs.Limits.{most_packet_words};
 ghost use Rattle.vd_base.specs.Packets.{packet_words};
 ghost use Rattle.vd_engine.specs.Drives.{AreSound, DrivesHost, sessions_of};
 ghost use Rattle.vd_engine.specs.Hosts.{CanShow, PacketsAreWith, stands_in};
@@ -49,7 +50,7 @@ fn hear<L: Link + Drop>(links: &mut Links<L>, host: HostId, count: u8) -> Result
     requires stands { IsSome (session_at links.old host.0) }
     requires sound { AreSound L.view links.old }
     requires some { 1 ≤ count }
-    requires most { count ≤ 16 }
+    requires most { count ≤ most_packet_words }
     ensures { Hears host.0 count (sessions_of L.view links.old) (sessions_of L.view links.new) result }
 {
     match links.take(host) {

@@ -1,73 +1,45 @@
-//! Sources for which no choice of protocols is valid.
+//! Sources for which no choice of protocols is valid, and searches that come to no end.
 
 use crate::programs::program_of;
+use anyhow::anyhow;
 use std::alloc::Global;
-use std::process::Abort;
-use std::test::Fail;
 use vd_base::Bytes;
 use vd_choice_sentences::{no_assignment_remark, search_sentence, space_for};
-use vd_remarks::tell;
+use vd_core::Program;
+use vd_remarks::{Remark, tell};
+use vd_spaces::Space;
+
+/// The space of choices for a program that has labels.
+fn space_of(alloc: Global, program: &Program) -> anyhow::Result<Space> {
+    match space_for(alloc, program)? {
+        Some(space) => Ok(space),
+        None => Err(anyhow!("no labels")),
+    }
+}
+
+/// What is remarked on a program for which no choice of protocols is valid.
+fn remark_on(alloc: Global, program: &Program) -> anyhow::Result<Remark> {
+    let space = space_of(alloc, program)?;
+    Ok(no_assignment_remark(alloc, program, &space)?)
+}
 
 /// What a person sees of a source for which no choice of protocols is valid.
-fn seen(alloc: Global, source: &str) -> Result<Bytes, Fail> {
+pub fn seen(alloc: Global, source: &str) -> anyhow::Result<Bytes> {
     let program = program_of(alloc, source)?;
-    match space_for(alloc, &program)? {
-        Some(space) => {
-            let remark = no_assignment_remark(alloc, &program, &space)?;
-            Ok(tell(alloc, false, "less.via", source.as_bytes(), &remark)?)
-        }
-        None => Err("no labels".into()),
-    }
+    let remark = remark_on(alloc, &program)?;
+    Ok(tell(alloc, false, "less.via", source.as_bytes(), &remark)?)
 }
 
-fn expect_seen(rt: &impl Abort, alloc: Global, source: &str, text: &str) -> Result<(), Fail> {
-    let seen = seen(alloc, source)?;
-    assert_eq!(rt; seen.as_slice(), text.as_bytes(), "{source}");
-    Ok(())
+/// The sentence on a search for a program, which opened so many prefixes.
+fn search_of(alloc: Global, program: &Program, budget: u32) -> anyhow::Result<Bytes> {
+    let space = space_of(alloc, program)?;
+    Ok(search_sentence(alloc, &space, budget)?)
 }
 
-#[test]
-fn the_first_slot_without_a_candidate_is_told(rt: HostRuntime) -> Result<(), Fail> {
-    let cases = [
-        // A division of two secrets.
-        (
-            "principals A, B;
-host alice {A ; A & B};
-host bob {B ; A & B};
-main {
-  let a = input(alice);
-  let b = input(bob);
-  output declassify(a / b, {A | B}) to alice;
-}
-",
-            "less.via:7:3: slot 2 `_` has the label {A & B ; A & B}, and no protocol that can make it has the authority of this label
-  output declassify(a / b, {A | B}) to alice;
-  ^
-",
-        ),
-    ];
-    for (source, text) in cases {
-        expect_seen(&rt, rt.alloc(), source, text)?;
-    }
-    Ok(())
-}
-
-#[test]
-fn how_far_a_search_came_is_told(rt: HostRuntime) -> Result<(), Fail> {
-    let source = "principals A;
-host alice {A ; A};
-host bob {A ; A};
-main {
-  output input(alice) to bob;
-}
-";
-    let program = program_of(rt.alloc(), source)?;
-    let Some(space) = space_for(rt.alloc(), &program)? else {
-        return Err("no labels".into());
-    };
-    let sentence = search_sentence(rt.alloc(), &space, 3)?;
-    let text =
-        "the search opened 3 prefixes of choices and needs more; at most 200000 may be given; no choice costs less than 5";
-    assert_eq!(rt; sentence.as_slice(), text.as_bytes());
-    Ok(())
+/// A line with the sentence on a search for a source, which opened so many prefixes.
+pub fn sentence(alloc: Global, source: &str, budget: u32) -> anyhow::Result<Bytes> {
+    let program = program_of(alloc, source)?;
+    let mut line = search_of(alloc, &program, budget)?;
+    line.push(b'\n')?;
+    Ok(line)
 }

@@ -150,7 +150,7 @@ fn every_set(names: u8) -> u64
 
 /// The word of the sets, of at most 6 names, that have this name.
 fn sets_with(name: u8) -> u64
-    requires { name < 6 }
+    requires { name < most_principals }
     ensures { (set : ℕ) → set < 64 → has result set ≡ has set name }
 {
     let words = [

@@ -3,6 +3,7 @@
 ghost use Rattle.std.specs.Prelude.{◌≡◌, ◌<◌, ◌≤◌, IfOk, length};
 ghost use Rattle.std.specs.List.{list_any};
 ghost use Rattle.std.specs.Str.{bytes_eq};
+ghost use Rattle.vd_base.specs.Limits.{most_hosts};
 ghost use Rattle.vd_bytes.specs.Reading.{Gives, GivesOrMemory, each_at};
 ghost use Rattle.vd_base.specs.Names as names;
 ghost use Rattle.vd_host_text.specs.Heading as heading;
@@ -133,7 +134,7 @@ fn read_next_name(alloc: Global, cursor: &mut Cursor, earlier: &[Name]) -> Resul
 fn read_hosts(alloc: Global, cursor: &mut Cursor) -> Result<Names, ReadFault>
     ensures names { GivesOrMemory result cursor.new (heading.hosts_at cursor.old) }
     ensures some { IfOk result (λ hosts. 1 ≤ length hosts) }
-    ensures few { IfOk result (λ hosts. length hosts ≤ 4) }
+    ensures few { IfOk result (λ hosts. length hosts ≤ most_hosts) }
 {
     let mut hosts = Names::new(alloc);
     let first = read_next_name(alloc, cursor, hosts.as_slice())?;
@@ -150,7 +151,7 @@ fn read_hosts(alloc: Global, cursor: &mut Cursor) -> Result<Names, ReadFault>
 fn read_names_line(alloc: Global, cursor: &mut Cursor) -> Result<Names, ReadFault>
     ensures names { GivesOrMemory result cursor.new (outcome.names_line_at cursor.old) }
     ensures some { IfOk result (λ hosts. 1 ≤ length hosts) }
-    ensures few { IfOk result (λ hosts. length hosts ≤ 4) }
+    ensures few { IfOk result (λ hosts. length hosts ≤ most_hosts) }
 {
     cursor.literal(b"\nhosts")?;
     read_hosts(alloc, cursor)
@@ -182,7 +183,7 @@ fn read_bytes(cursor: &mut Cursor) -> Result<[u8; 32], Stopped>
 #[tactic(auto, unfolding(crate::specs::Outcome::me_at))]
 fn read_me(cursor: &mut Cursor, hosts: usize) -> Result<u8, Stopped>
     requires some { 1 ≤ hosts }
-    requires few { hosts ≤ 4 }
+    requires few { hosts ≤ most_hosts }
     ensures { Gives result cursor.new (outcome.me_at hosts cursor.old) }
 {
     cursor.literal(b"\nme")?;

@@ -1,5 +1,6 @@
 -- What the bytes of a host's program come to, ranges included.
 use Rattle.std.specs.Prelude.{◌≡◌, ◌≢◌, ◌↔◌, ℕ, ◌<◌, ◌≤◌, List, length, Result, Ok, Err}
+use Rattle.vd_base.specs.Limits.{most_hosts}
 use Rattle.vd_base.specs.declared.ids.HostId.{HostId}
 use Rattle.vd_bytes.specs.Reading.{capped}
 use Rattle.vd_bytes.specs.Exact.{StopsAt}
@@ -45,7 +46,7 @@ Checked hosts me code (Err Memory) = Unit {0}
 -- The heading names one to four hosts, of which the own is one.
 pub record IsHeaded (p : HostProgram) : Type 0 where
   pub some : 1 ≤ length p.hosts
-  pub few : length p.hosts ≤ 4
+  pub few : length p.hosts ≤ most_hosts
   pub me : p.me.0 < length p.hosts
 
 -- A machine can load the code, which has no more static steps than are allowed.

@@ -3,6 +3,7 @@ ghost use Rattle.vd_lexer.specs.Kinds.{code_of};
 ghost use Rattle.vd_lexer.specs.declared.token.LexFault.TheVariants as lex_fault;
 
 use std::alloc::AllocError;
+use thiserror::Error;
 use vd_base::Span;
 
 /// What a token is.
@@ -91,10 +92,13 @@ pub struct Token {
 }
 
 /// Why a text has no tokens.
-#[derive(Clone, Copy, PartialEq, Eq, Debug)]
+#[derive(Clone, Copy, PartialEq, Eq, Debug, Error)]
 pub enum LexFault {
     /// No token begins with the byte at this offset, which is outside white space and comments.
+    #[error("bad byte at {0}")]
     BadByte(u32),
+    /// There was no memory for the tokens.
+    #[error("out of memory")]
     Memory,
 }
 

@@ -1,6 +1,7 @@
 ghost use Rattle.std.specs.Prelude.{◌≡◌, ◌≤◌, ◌+◌, ◌*◌, [], length, IfOk};
 ghost use Rattle.std.specs.List.{flat_map};
 ghost use Rattle.std.specs.Int.{w32, to_be_bytes};
+ghost use Rattle.vd_base.specs.Limits.{most_packet_words};
 ghost use Rattle.vd_base.specs.Packets.{packet_words};
 ghost use Rattle.vd_link.specs.Frames.{greeting, frame};
 
@@ -83,7 +84,7 @@ impl Frame {
 
 /// The packet of these bytes, four bytes a word, the highest first.
 pub fn packet_of(bytes: &[u8], count: u8) -> Packet
-    requires most { count ≤ 16 }
+    requires most { count ≤ most_packet_words }
     requires whole { length bytes.now ≡ 4 * count }
     ensures count { length (packet_words result) ≡ count }
     ensures words { flat_map (to_be_bytes w32) (packet_words result) ≡ bytes.now }

@@ -1,4 +1,5 @@
 ghost use Rattle.std.specs.Prelude.{◌≡◌, ◌<◌, ◌≤◌, ◌+◌, ◌*◌, true, false, length, Ok, Err, IfOk, IfErr, OnOk, OnErr};
+ghost use Rattle.vd_base.specs.Limits.{most_packet_words};
 ghost use Rattle.vd_base.specs.Packets.{packet_words};
 ghost use Rattle.vd_link.specs.Frames.{frame};
 ghost use Rattle.vd_link.specs.Sending.{SendsAll};
@@ -132,7 +133,7 @@ impl<L: Link + Drop> Session<L, Greeted> {
     pub fn receive(&mut self, count: u8) -> Result<Packet, LinkFault>
         requires sound { has_failed self.old ≡ false }
         requires some { 1 ≤ count }
-        requires most { count ≤ 16 }
+        requires most { count ≤ most_packet_words }
         ensures takes { Takes count (offset_of self.old) (L.view (link_of self.old)) (L.view (link_of self.new)) result }
         ensures ok { OnOk result ((offset_of self.new ≡ offset_after (offset_of self.old) (2 + 4 * count)) × (has_failed self.new ≡ false)) }
         ensures err { OnErr result (has_failed self.new ≡ true) }

@@ -1,4 +1,5 @@
 ghost use Rattle.std.specs.Prelude.{◌≡◌, ◌≤◌};
+ghost use Rattle.vd_base.specs.Limits.{most_packet_words};
 ghost use Rattle.vd_link.specs.Sessions.{Takes, link_fault_at};
 
 use crate::LinkFault;
@@ -22,7 +23,7 @@ fn fault_at(fault: FrameFault, offset: u64) -> LinkFault
 /// Receives a packet of so many words, the first byte of which has this offset.
 pub fn take_packet<L: Link>(link: &mut L, count: u8, offset: u64) -> Result<Packet, LinkFault>
     requires some { 1 ≤ count }
-    requires most { count ≤ 16 }
+    requires most { count ≤ most_packet_words }
     ensures { Takes count offset (L.view link.old) (L.view link.new) result }
 {
     let mut bytes = [0u8; PACKET_BYTES];

@@ -4,12 +4,13 @@ ghost use Rattle.std.specs.Prelude.{◌<◌, ◌≤◌, IfOk, IfSome, OnOk};
 ghost use Rattle.vd_link_ascent.specs.Shifts.{AreShiftsOf, Puts, PutsRow};
 
 use std::alloc::{AllocError, Global};
+use vd_base::limits;
 use vd_items::Items;
 use vd_link_sweeps::{Nets, number_at, row_at};
 use vd_prefixes::Shift;
 
 /// A certificate has at most so many shifts.
-const MOST_SHIFTS: usize = 131072;
+const MOST_SHIFTS: usize = limits::CERTIFICATE_SHIFTS as usize;
 
 /// Adds the shift that puts an amount on a point, where that is not 0. Answers whether a shift can have the amount, and a
 /// certificate so many.

@@ -47,10 +47,14 @@ fn compare(code: &mut Items<Instr>) -> Result<(), AllocError>
 fn opener(alloc: Global) -> Result<Items<Instr>, AllocError>
     ensures { IfOk result (λ code. code ≡ codes.opener) }
 {
-    let mut code = Items::new(alloc);
-    code.push(Instr::Recv(HostId(0), registers(alloc, 0, 8)?))?;
-    code.push(Instr::Recv(HostId(0), registers(alloc, 8, 9)?))?;
-    code.push(Instr::Do(Action::Hash(Reg(17), Reg(8), Reg(16))))?;
+    let digest = registers(alloc, 0, 8)?;
+    let opening = registers(alloc, 8, 9)?;
+    let begin = vec![in alloc;
+        Instr::Recv(HostId(0), digest),
+        Instr::Recv(HostId(0), opening),
+        Instr::Do(Action::Hash(Reg(17), Reg(8), Reg(16))),
+    ]?;
+    let mut code = Items::from_vec(begin);
     compare(&mut code)?;
     code.push(Instr::Do(Action::Print(Reg(16))))?;
     Ok(code)
@@ -60,11 +64,13 @@ fn opener(alloc: Global) -> Result<Items<Instr>, AllocError>
 fn speaker(alloc: Global) -> Result<Items<Instr>, AllocError>
     ensures { IfOk result (λ code. code ≡ codes.speaker) }
 {
-    let mut code = Items::new(alloc);
-    code.push(Instr::Do(Action::Input(Reg(0))))?;
-    code.push(Instr::Send(HostId(0), registers(alloc, 0, 1)?))?;
-    code.push(Instr::Do(Action::Print(Reg(0))))?;
-    Ok(code)
+    let sent = registers(alloc, 0, 1)?;
+    let code = vec![in alloc;
+        Instr::Do(Action::Input(Reg(0))),
+        Instr::Send(HostId(0), sent),
+        Instr::Do(Action::Print(Reg(0))),
+    ]?;
+    Ok(Items::from_vec(code))
 }
 
 /// A deal of nothing to host 1 of two.
@@ -72,29 +78,52 @@ fn no_deal(alloc: Global) -> Result<Deal, AllocError>
     ensures deal { IfOk result (λ deal. IsDeal deal) }
     ensures hosts { IfOk result (λ deal. deal.hosts ≡ 2) }
 {
-    let mut triples = Items::new(alloc);
-    triples.push(Items::new(alloc))?;
-    let mut bits = Items::new(alloc);
-    bits.push(Items::new(alloc))?;
-    let mut pairs = Items::new(alloc);
-    pairs.push(Items::new(alloc))?;
+    let triples = vec![in alloc; Items::new(alloc)]?;
+    let bits = vec![in alloc; Items::new(alloc)]?;
+    let pairs = vec![in alloc; Items::new(alloc)]?;
     Ok(Deal {
         hosts: 2,
         me: HostId(1),
         own: Items::new(alloc),
-        triples,
-        bits,
-        pairs,
+        triples: Items::from_vec(triples),
+        bits: Items::from_vec(bits),
+        pairs: Items::from_vec(pairs),
     })
 }
 
-/// A host with this code and these inputs.
-fn machine(alloc: Global, code: Items<Instr>, inputs: Words) -> Result<Machine, AllocError>
-    requires { CanDrive code }
+/// A host with this code, these inputs and this deal.
+fn machine(
+    alloc: Global,
+    code: Items<Instr>,
+    inputs: Words,
+    deal: Deal,
+) -> Result<Machine, AllocError>
+    requires code { CanDrive code }
+    requires deal { IsDeal deal }
+    requires hosts { deal.hosts ≡ 2 }
     ensures packets { IfOk result (λ m. PacketsAreWith (λ peer. peer ≡ 0) (state_of m).pending) }
     ensures short { IfOk result (λ m. weight (state_of m).pending < 2 ^ 32) }
 {
-    Machine::load(alloc, code, inputs, no_deal(alloc)?)
+    Machine::load(alloc, code, inputs, deal)
+}
+
+/// A host that waits for a digest and its opening.
+fn opening_machine(alloc: Global) -> Result<Machine, AllocError>
+    ensures packets { IfOk result (λ m. PacketsAreWith (λ peer. peer ≡ 0) (state_of m).pending) }
+    ensures short { IfOk result (λ m. weight (state_of m).pending < 2 ^ 32) }
+{
+    let deal = no_deal(alloc)?;
+    machine(alloc, opener(alloc)?, Items::new(alloc), deal)
+}
+
+/// A host with this input, which it sends and prints.
+fn speaking_machine(alloc: Global, inputs: &[u32]) -> Result<Machine, AllocError>
+    ensures packets { IfOk result (λ m. PacketsAreWith (λ peer. peer ≡ 0) (state_of m).pending) }
+    ensures short { IfOk result (λ m. weight (state_of m).pending < 2 ^ 32) }
+{
+    let deal = no_deal(alloc)?;
+    let inputs = Items::from_slice(alloc, inputs)?;
+    machine(alloc, speaker(alloc)?, inputs, deal)
 }
 
 /// The host over its one session.
@@ -113,16 +142,23 @@ fn driven(
     drive(machine, &mut links, out)
 }
 
-/// What comes on the link: a greeting of host 0 to host 1, and then these bytes.
-fn incoming(alloc: Global, bytes: &[u8]) -> Result<Bytes, AllocError> {
+/// What comes on the link: a greeting of host 0 to host 1, and then these pieces.
+fn incoming(alloc: Global, pieces: &[&[u8]]) -> Result<Bytes, AllocError> {
     let mut incoming = Bytes::from_slice(alloc, &GREETING)?;
-    incoming.extend_from_slice(bytes)?;
+    for piece in pieces {
+        incoming.extend_from_slice(piece)?;
+    }
     Ok(incoming)
 }
 
-/// A link on which these bytes come behind the greeting, so many a call. It fails at the calls with these numbers.
-fn link_of(alloc: Global, bytes: &[u8], most: u32, failing: &[u64]) -> Result<MemLink, AllocError> {
-    let incoming = incoming(alloc, bytes)?;
+/// A link on which these pieces come behind the greeting, so many bytes a call. It fails at the calls with these numbers.
+fn link_of(
+    alloc: Global,
+    pieces: &[&[u8]],
+    most: u32,
+    failing: &[u64],
+) -> Result<MemLink, AllocError> {
+    let incoming = incoming(alloc, pieces)?;
     let failing = Items::from_slice(alloc, failing)?;
     MemLink::new(alloc, incoming, 200, most, failing)
 }
@@ -176,13 +212,14 @@ const OPENING: [u8; 37] = [
 /// What becomes of a host that waits for a digest and its opening.
 fn opened(
     alloc: Global,
-    bytes: &[u8],
+    pieces: &[&[u8]],
     most: u32,
     failing: &[u64],
     out: &mut MemSink,
 ) -> Result<Option<Result<Ended, EngineFault>>, AllocError> {
-    let machine = machine(alloc, opener(alloc)?, Items::new(alloc))?;
-    Ok(outcome(alloc, machine, link_of(alloc, bytes, most, failing)?, out))
+    let link = link_of(alloc, pieces, most, failing)?;
+    let machine = opening_machine(alloc)?;
+    Ok(outcome(alloc, machine, link, out))
 }
 
 /// What becomes of a host with this input, which it sends and prints.
@@ -192,44 +229,27 @@ fn spoken(
     failing: &[u64],
     out: &mut MemSink,
 ) -> Result<Option<Result<Ended, EngineFault>>, AllocError> {
-    let inputs = Items::from_slice(alloc, inputs)?;
-    let machine = machine(alloc, speaker(alloc)?, inputs)?;
-    Ok(outcome(alloc, machine, link_of(alloc, &[], 100, failing)?, out))
-}
-
-/// A digest, and its opening with this value.
-fn opening(alloc: Global, value: u8) -> Result<Bytes, AllocError> {
-    let mut bytes = Bytes::new(alloc);
-    bytes.extend_from_slice(&DIGEST)?;
-    bytes.extend_from_slice(&OPENING)?;
-    bytes.push(value)?;
-    Ok(bytes)
+    let link = link_of(alloc, &[], 100, failing)?;
+    let machine = speaking_machine(alloc, inputs)?;
+    Ok(outcome(alloc, machine, link, out))
 }
 
 /// A sink that fails at the calls with these numbers.
 fn sink(alloc: Global, most: u32, failing: &[u64]) -> Result<MemSink, AllocError> {
-    MemSink::new(alloc, 20, most, Items::from_slice(alloc, failing)?)
+    let failing = Items::from_slice(alloc, failing)?;
+    MemSink::new(alloc, 20, most, failing)
 }
 
-/// What becomes of a host whose opening has this value, and comes so many bytes a call.
-fn end_of_opening(
-    alloc: Global,
-    value: u8,
-    most: u32,
-    out: &mut MemSink,
-) -> Result<Option<Result<Ended, EngineFault>>, AllocError> {
-    let bytes = opening(alloc, value)?;
-    opened(alloc, bytes.as_slice(), most, &[], out)
-}
+const FIRST: HostId = HostId(0);
 
 #[test]
 fn an_opening_is_printed(rt: HostRuntime) -> Result<(), Fail> {
     let alloc: Global = rt.alloc();
     let mut out = sink(alloc, 1, &[])?;
-    let end = end_of_opening(alloc, 42, 1, &mut out)?;
-    assert_eq!(rt; end, Some(Ok(Ended { printed: 1 })));
-    let end = end_of_opening(alloc, 42, 100, &mut out)?;
-    assert_eq!(rt; end, Some(Ok(Ended { printed: 1 })));
+    for most in [1u32, 100] {
+        let end = opened(alloc, &[&DIGEST, &OPENING, &[42]], most, &[], &mut out)?;
+        assert_eq!(rt; end, Some(Ok(Ended { printed: 1 })));
+    }
     assert_eq!(rt; out.bytes(), b"42\n42\n".as_slice());
     Ok(())
 }
@@ -238,58 +258,73 @@ fn an_opening_is_printed(rt: HostRuntime) -> Result<(), Fail> {
 fn an_opening_with_another_bit_is_not(rt: HostRuntime) -> Result<(), Fail> {
     let alloc: Global = rt.alloc();
     let mut out = sink(alloc, 100, &[])?;
-    let end = end_of_opening(alloc, 43, 1, &mut out)?;
-    assert_eq!(rt;
-        end,
-        Some(Err(EngineFault::Unequal(244_906_747, 787_929_849)))
-    );
+    let end = opened(alloc, &[&DIGEST, &OPENING, &[43]], 1, &[], &mut out)?;
+    let fault = EngineFault::Unequal(244_906_747, 787_929_849);
+    assert_eq!(rt; end, Some(Err(fault)));
     assert_eq!(rt; out.bytes(), b"".as_slice());
     Ok(())
 }
+
+/// What comes behind the greeting, in two pieces, the calls of the link that fail, and what the host tells.
+const BROKEN: [(&[u8], &[u8], &[u64], EngineFault); 5] = [
+    (&[], &[0x58], &[], EngineFault::BadFrame(FIRST, 36, 0x58)),
+    (&[], &[0x56, 9], &[], EngineFault::BadFrame(FIRST, 37, 9)),
+    (&DIGEST, &[], &[], EngineFault::EndOfLink(FIRST)),
+    (
+        &DIGEST,
+        &[0x56, 8],
+        &[],
+        EngineFault::BadFrame(FIRST, 71, 8),
+    ),
+    (&DIGEST, &[0x56, 8], &[2], EngineFault::Peer(FIRST)),
+];
 
 #[test]
 fn a_host_tells_what_is_wrong_with_its_link(rt: HostRuntime) -> Result<(), Fail> {
     let alloc: Global = rt.alloc();
     let mut out = sink(alloc, 100, &[])?;
-    let first = HostId(0);
-    let end = opened(alloc, &[0x58], 100, &[], &mut out)?;
-    assert_eq!(rt; end, Some(Err(EngineFault::BadFrame(first, 36, 0x58))));
-    let end = opened(alloc, &[0x56, 9], 100, &[], &mut out)?;
-    assert_eq!(rt; end, Some(Err(EngineFault::BadFrame(first, 37, 9))));
-    let mut bytes = Bytes::from_slice(alloc, &DIGEST)?;
-    let end = opened(alloc, bytes.as_slice(), 100, &[], &mut out)?;
-    assert_eq!(rt; end, Some(Err(EngineFault::EndOfLink(first))));
-    bytes.extend_from_slice(&[0x56, 8])?;
-    let end = opened(alloc, bytes.as_slice(), 100, &[], &mut out)?;
-    assert_eq!(rt; end, Some(Err(EngineFault::BadFrame(first, 71, 8))));
-    let end = opened(alloc, bytes.as_slice(), 100, &[2], &mut out)?;
-    assert_eq!(rt; end, Some(Err(EngineFault::Peer(first))));
+    for (first, second, failing, fault) in BROKEN {
+        let end = opened(alloc, &[first, second], 100, failing, &mut out)?;
+        assert_eq!(rt; end, Some(Err(fault)));
+    }
     assert_eq!(rt; out.bytes(), b"".as_slice());
     Ok(())
 }
+
+/// Inputs, and what becomes of the host.
+const SPOKEN: [(&[u32], Result<Ended, EngineFault>); 2] = [
+    (&[7], Ok(Ended { printed: 1 })),
+    (&[], Err(EngineFault::ShortInput(0, 0))),
+];
 
 #[test]
 fn a_host_sends_and_prints(rt: HostRuntime) -> Result<(), Fail> {
     let alloc: Global = rt.alloc();
     let mut out = sink(alloc, 100, &[])?;
-    let end = spoken(alloc, &[7], &[], &mut out)?;
-    assert_eq!(rt; end, Some(Ok(Ended { printed: 1 })));
-    let end = spoken(alloc, &[], &[], &mut out)?;
-    assert_eq!(rt; end, Some(Err(EngineFault::ShortInput(0, 0))));
+    for (inputs, wanted) in SPOKEN {
+        let end = spoken(alloc, inputs, &[], &mut out)?;
+        assert_eq!(rt; end, Some(wanted));
+    }
     assert_eq!(rt; out.bytes(), b"7\n".as_slice());
     Ok(())
 }
+
+/// The calls of the link that fail, and what becomes of a host whose sink fails at its first call; nothing where no greetings
+/// are exchanged.
+const FAILING: [(&[u64], Option<Result<Ended, EngineFault>>); 3] = [
+    (&[], Some(Err(EngineFault::Write))),
+    (&[2], Some(Err(EngineFault::Peer(FIRST)))),
+    (&[1], None),
+];
 
 #[test]
 fn each_call_of_a_host_fails_in_turn(rt: HostRuntime) -> Result<(), Fail> {
     let alloc: Global = rt.alloc();
     let mut out = sink(alloc, 100, &[0])?;
-    let end = spoken(alloc, &[7], &[], &mut out)?;
-    assert_eq!(rt; end, Some(Err(EngineFault::Write)));
-    let end = spoken(alloc, &[7], &[2], &mut out)?;
-    assert_eq!(rt; end, Some(Err(EngineFault::Peer(HostId(0)))));
-    let end = spoken(alloc, &[7], &[1], &mut out)?;
-    assert_eq!(rt; end, None);
+    for (failing, wanted) in FAILING {
+        let end = spoken(alloc, &[7], failing, &mut out)?;
+        assert_eq!(rt; end, wanted);
+    }
     assert_eq!(rt; out.bytes(), b"".as_slice());
     Ok(())
 }

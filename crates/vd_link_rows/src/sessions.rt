@@ -15,19 +15,15 @@ const PLAN: Digest = [7u8; 32];
 
 const OTHER: Digest = [8u8; 32];
 
-/// A link on which a greeting with this plan and these hosts comes, and then these bytes, so many a call.
-fn link_of(
-    alloc: Global,
-    plan: &Digest,
-    hosts: &[u8],
-    bytes: &[u8],
-    most: u32,
-) -> Result<MemLink, AllocError> {
+/// How a greeting begins; a plan and two hosts follow.
+const BEGIN: [u8; 2] = [0x47, 1];
+
+/// A link on which these pieces come, so many bytes a call.
+fn link_of(alloc: Global, pieces: &[&[u8]], most: u32) -> Result<MemLink, AllocError> {
     let mut incoming = Bytes::new(alloc);
-    incoming.extend_from_slice(&[0x47, 1])?;
-    incoming.extend_from_slice(plan)?;
-    incoming.extend_from_slice(hosts)?;
-    incoming.extend_from_slice(bytes)?;
+    for piece in pieces {
+        incoming.extend_from_slice(piece)?;
+    }
     MemLink::new(alloc, incoming, 200, most, Items::new(alloc))
 }
 
@@ -47,7 +43,7 @@ fn received(session: Session<MemLink, Greeted>) -> Result<u32, LinkFault>
 
 /// The same from a link.
 fn word_of(alloc: Global, bytes: &[u8], most: u32) -> Option<Result<u32, LinkFault>> {
-    let link = link_of(alloc, &PLAN, &[0, 1], bytes, most).ok()?;
+    let link = link_of(alloc, &[&BEGIN, &PLAN, &[0, 1], bytes], most).ok()?;
     match fresh(alloc, link)?.greet() {
         Ok(session) => Some(received(session)),
         Err(_) => None,
@@ -56,7 +52,7 @@ fn word_of(alloc: Global, bytes: &[u8], most: u32) -> Option<Result<u32, LinkFau
 
 /// Why a greeting is refused.
 fn refusal(alloc: Global, plan: &Digest, hosts: &[u8]) -> Option<GreetFault> {
-    let link = link_of(alloc, plan, hosts, &[], 3).ok()?;
+    let link = link_of(alloc, &[&BEGIN, plan, hosts], 3).ok()?;
     match fresh(alloc, link)?.greet() {
         Ok(_) => None,
         Err((_, fault)) => Some(fault),
@@ -74,50 +70,55 @@ fn refusal_of(alloc: Global, bytes: &[u8], failing: &[u64]) -> Option<GreetFault
     }
 }
 
+/// What comes behind the greeting, and what the host gets.
+const WORDS: [(&[u8], Result<u32, LinkFault>); 4] = [
+    (&[0x56, 1, 0, 0, 0, 0x2a], Ok(42)),
+    (&[0x58], Err(LinkFault::BadFrame(36, 0x58))),
+    (&[0x56, 2], Err(LinkFault::BadFrame(37, 2))),
+    (&[0x56, 1, 0, 0, 0], Err(LinkFault::End)),
+];
+
 #[test]
-fn packets_come_in_any_pieces(rt: HostRuntime) -> Result<(), Fail> {
+fn packets_come_in_any_pieces(rt: HostRuntime) {
     let alloc: Global = rt.alloc();
     for most in [1u32, 2, 5, 100] {
-        let word = word_of(alloc, &[0x56, 1, 0, 0, 0, 0x2a], most);
-        assert_eq!(rt; word, Some(Ok(42)));
-        let word = word_of(alloc, &[0x58], most);
-        assert_eq!(rt; word, Some(Err(LinkFault::BadFrame(36, 0x58))));
-        let word = word_of(alloc, &[0x56, 2], most);
-        assert_eq!(rt; word, Some(Err(LinkFault::BadFrame(37, 2))));
-        let word = word_of(alloc, &[0x56, 1, 0, 0, 0], most);
-        assert_eq!(rt; word, Some(Err(LinkFault::End)));
+        for (bytes, wanted) in WORDS {
+            assert_eq!(rt; word_of(alloc, bytes, most), Some(wanted));
+        }
     }
-    Ok(())
 }
 
-#[test]
-fn greetings_are_judged(rt: HostRuntime) -> Result<(), Fail> {
-    let alloc: Global = rt.alloc();
-    let fault = refusal(alloc, &PLAN, &[0, 1]);
-    assert_eq!(rt; fault, None);
-    let fault = refusal(alloc, &OTHER, &[2, 3]);
-    assert_eq!(rt; fault, Some(GreetFault::WrongProgram(PLAN, OTHER)));
-    let fault = refusal(alloc, &PLAN, &[2, 3]);
-    assert_eq!(rt; fault, Some(GreetFault::WrongHost(0, 2)));
-    let fault = refusal(alloc, &PLAN, &[0, 3]);
-    assert_eq!(rt; fault, Some(GreetFault::WrongHost(1, 3)));
-    let fault = refusal(alloc, &PLAN, &[0]);
-    assert_eq!(rt; fault, Some(GreetFault::End));
-    Ok(())
-}
+/// The plan and the hosts of a greeting, and why it is refused.
+const GREETINGS: [(&Digest, &[u8], Option<GreetFault>); 5] = [
+    (&PLAN, &[0, 1], None),
+    (&OTHER, &[2, 3], Some(GreetFault::WrongProgram(PLAN, OTHER))),
+    (&PLAN, &[2, 3], Some(GreetFault::WrongHost(0, 2))),
+    (&PLAN, &[0, 3], Some(GreetFault::WrongHost(1, 3))),
+    (&PLAN, &[0], Some(GreetFault::End)),
+];
 
 #[test]
-fn greetings_are_frames(rt: HostRuntime) -> Result<(), Fail> {
+fn greetings_are_judged(rt: HostRuntime) {
     let alloc: Global = rt.alloc();
-    let fault = refusal_of(alloc, &[0x56, 1], &[]);
-    assert_eq!(rt; fault, Some(GreetFault::BadFrame(0, 0x56)));
-    let fault = refusal_of(alloc, &[0x47, 2], &[]);
-    assert_eq!(rt; fault, Some(GreetFault::BadFrame(1, 2)));
-    let fault = refusal_of(alloc, &[0x47], &[0]);
-    assert_eq!(rt; fault, Some(GreetFault::Peer));
-    let fault = refusal_of(alloc, &[0x47], &[1]);
-    assert_eq!(rt; fault, Some(GreetFault::Peer));
-    Ok(())
+    for (plan, hosts, wanted) in GREETINGS {
+        assert_eq!(rt; refusal(alloc, plan, hosts), wanted);
+    }
+}
+
+/// What comes in place of a greeting, the calls of the link that fail, and why it is refused.
+const NO_GREETINGS: [(&[u8], &[u64], GreetFault); 4] = [
+    (&[0x56, 1], &[], GreetFault::BadFrame(0, 0x56)),
+    (&[0x47, 2], &[], GreetFault::BadFrame(1, 2)),
+    (&[0x47], &[0], GreetFault::Peer),
+    (&[0x47], &[1], GreetFault::Peer),
+];
+
+#[test]
+fn greetings_are_frames(rt: HostRuntime) {
+    let alloc: Global = rt.alloc();
+    for (bytes, failing, fault) in NO_GREETINGS {
+        assert_eq!(rt; refusal_of(alloc, bytes, failing), Some(fault));
+    }
 }
 
 /// The bytes of host 1: its greeting to host 0, and a packet of the word 42.
@@ -139,7 +140,7 @@ fn link_after(session: Session<MemLink, Greeted>) -> MemLink
 
 /// What host 1 sends, so many bytes a call.
 fn sent(alloc: Global, most: u32) -> Option<MemLink> {
-    let link = link_of(alloc, &PLAN, &[0, 1], &[], most).ok()?;
+    let link = link_of(alloc, &[&BEGIN, &PLAN, &[0, 1]], most).ok()?;
     match fresh(alloc, link)?.greet() {
         Ok(session) => Some(link_after(session)),
         Err((session, _)) => Some(session.link()),

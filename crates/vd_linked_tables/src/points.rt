@@ -151,7 +151,9 @@ fn slot_table(
     requires limits { IsWithinLimits problem.now }
     requires slot { slot < length problem.now.slots }
     requires amounts { (p : ℕ) → IsWithin 562949953421312 (slice_index_or amounts.now p (pos 0)) }
-    ensures { IfOk result (λ table. table ≡ table_of_values tests.now (by_place (length (protocols problem.now)) (λ p. option_map (λ c. c +ℤ slice_index_or amounts.now p (pos 0)) (slot_value problem.now p slot)))) }
+    ensures { IfOk result (λ table. table ≡ table_of_values tests.now
+        (by_place (length (protocols problem.now))
+        (λ p. option_map (λ c. c +ℤ slice_index_or amounts.now p (pos 0)) (slot_value problem.now p slot)))) }
 {
     let values = merged_values(alloc, problem, list, slot, &[])?;
     let costs = slot_costs(alloc, problem, list, slot, values.as_slice(), amounts)?;

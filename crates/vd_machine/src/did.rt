@@ -1,6 +1,7 @@
 //! What others see of a host's next step.
 
 ghost use Rattle.std.specs.Prelude.{◌≡◌, ℕ, ◌<◌, ◌≤◌, length, take, All};
+ghost use Rattle.vd_base.specs.Limits.{most_packet_words};
 ghost use Rattle.vd_base.specs.Packets.{packet_words};
 ghost use Rattle.vd_execution.specs.Step.{words_in};
 ghost use Rattle.vd_machine.specs.Machines.{held};
@@ -26,8 +27,8 @@ pub enum Did {
 #[tactic(auto, using(crate::proofs::Packets::one_more))]
 fn packet_of(registers: &Vec<u32>, from: &[Reg]) -> Packet
     requires within { All (λ r. r.0 < length registers.now.items) from.now }
-    requires few { length from.now ≤ 16 }
-    ensures count { result.count ≤ 16 }
+    requires few { length from.now ≤ most_packet_words }
+    ensures count { result.count ≤ most_packet_words }
     ensures words { packet_words result ≡ words_in (held registers.now.items) from.now }
 {
     let mut words = [0; 16];

@@ -47,7 +47,16 @@ impl Model for Machine {
 
     ghost view = { λ m. record { code = m.code.items; top = m.top; below = m.below.items; registers = m.registers.items; lists = m.lists; taken = m.taken } };
 
-    ghost invariant = { λ m. IsSound (record { code = m.code.items; top = m.top; below = m.below.items; registers = m.registers.items; lists = m.lists; taken = m.taken }) × HasRoom 512 m.code.items m.top m.below.items × (512 ≤ vec_capacity m.below) × All (λ i. PacketFits m.lists.deal.hosts i) m.code.items };
+    ghost invariant = { λ m. IsSound (record {
+      code = m.code.items;
+      top = m.top;
+      below = m.below.items;
+      registers = m.registers.items;
+      lists = m.lists;
+      taken = m.taken;
+    })
+        × HasRoom 512 m.code.items m.top m.below.items × (512 ≤ vec_capacity m.below)
+        × All (λ i. PacketFits m.lists.deal.hosts i) m.code.items };
 }
 
 /// A plain instruction, on what was heard.

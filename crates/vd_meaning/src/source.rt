@@ -97,7 +97,9 @@ impl<'a> Scope<'a> {
     /// The value of an expression.
     #[cycle(run)]
     fn evaluate(&self, env: &[Entry], world: &mut World, expr: &Expr) -> Result<u32, AllocError>
-        ensures { IfOk result (λ x. ◌≡◌ {A = ℕ × Outside} (x, world.new) (evaluation (host_names self.now.hosts.now) expr.now (callees_of (host_names self.now.hosts.now) self.now.functions.now) (named env.now) world.old)) }
+        ensures { IfOk result (λ x. ◌≡◌ {A = ℕ × Outside} (x, world.new)
+            (evaluation (host_names self.now.hosts.now) expr.now (callees_of (host_names self.now.hosts.now) self.now.functions.now)
+            (named env.now) world.old)) }
     {
         match expr {
             Expr::Number(number) => Ok(*number),
@@ -151,7 +153,9 @@ impl<'a> Scope<'a> {
         first: u32,
         links: &[Link],
     ) -> Result<u32, AllocError>
-        ensures { IfOk result (λ x. ◌≡◌ {A = ℕ × Outside} (x, world.new) (chain_evaluation (map (evaluation_of_link (host_names self.now.hosts.now)) links.now) (callees_of (host_names self.now.hosts.now) self.now.functions.now) (named env.now) first world.old)) }
+        ensures { IfOk result (λ x. ◌≡◌ {A = ℕ × Outside} (x, world.new)
+            (chain_evaluation (map (evaluation_of_link (host_names self.now.hosts.now)) links.now)
+            (callees_of (host_names self.now.hosts.now) self.now.functions.now) (named env.now) first world.old)) }
     {
         let mut x = first;
         for link in links {
@@ -176,7 +180,9 @@ impl<'a> Scope<'a> {
         world: &mut World,
         exprs: &[Expr],
     ) -> Result<Words, AllocError>
-        ensures { IfOk result (λ xs. ◌≡◌ {A = List ℕ × Outside} (xs, world.new) (evaluations (map (evaluation (host_names self.now.hosts.now)) exprs.now) (callees_of (host_names self.now.hosts.now) self.now.functions.now) (named env.now) world.old)) }
+        ensures { IfOk result (λ xs. ◌≡◌ {A = List ℕ × Outside} (xs, world.new)
+            (evaluations (map (evaluation (host_names self.now.hosts.now)) exprs.now)
+            (callees_of (host_names self.now.hosts.now) self.now.functions.now) (named env.now) world.old)) }
     {
         let mut words = Items::new(self.alloc);
         for expr in exprs {
@@ -189,7 +195,8 @@ impl<'a> Scope<'a> {
     /// What a call of the first function with this name gives.
     #[cycle(run)]
     fn call(&self, world: &mut World, name: &[u8], words: &[u32]) -> Result<u32, AllocError>
-        ensures { IfOk result (λ x. ◌≡◌ {A = ℕ × Outside} (x, world.new) (called (at_name (callees_of (host_names self.now.hosts.now) self.now.functions.now) name.now) words.now world.old)) }
+        ensures { IfOk result (λ x. ◌≡◌ {A = ℕ × Outside} (x, world.new)
+            (called (at_name (callees_of (host_names self.now.hosts.now) self.now.functions.now) name.now) words.now world.old)) }
     {
         for k in 0..self.functions.len() {
             let function = &self.functions[k];
@@ -213,7 +220,9 @@ impl<'a> Scope<'a> {
         world: &mut World,
         words: &[u32],
     ) -> Result<u32, AllocError>
-        ensures { IfOk result (λ x. ◌≡◌ {A = ℕ × Outside} (x, world.new) (callee_of (host_names self.now.hosts.now) function.now (callees_of (host_names self.now.hosts.now) self.now.functions.now) words.now world.old)) }
+        ensures { IfOk result (λ x. ◌≡◌ {A = ℕ × Outside} (x, world.new)
+            (callee_of (host_names self.now.hosts.now) function.now
+            (callees_of (host_names self.now.hosts.now) self.now.functions.now) words.now world.old)) }
     {
         let mut env = bind(self.alloc, function.parameters.as_slice(), words)?;
         self.sequence(&mut env, world, function.body.as_slice())?;
@@ -228,7 +237,9 @@ impl<'a> Scope<'a> {
         world: &mut World,
         statements: &[Statement],
     ) -> Result<(), AllocError>
-        ensures { OnOk result (◌≡◌ {A = State} (record { env = named env.new.items; world = world.new }) (in_sequence (map (execution (host_names self.now.hosts.now)) statements.now) (callees_of (host_names self.now.hosts.now) self.now.functions.now) (record { env = named env.old.items; world = world.old }))) }
+        ensures { OnOk result (◌≡◌ {A = State} (record { env = named env.new.items; world = world.new })
+            (in_sequence (map (execution (host_names self.now.hosts.now)) statements.now)
+            (callees_of (host_names self.now.hosts.now) self.now.functions.now) (record { env = named env.old.items; world = world.old }))) }
     {
         for statement in statements {
             self.execute(env, world, statement)?;
@@ -244,7 +255,9 @@ impl<'a> Scope<'a> {
         world: &mut World,
         statement: &Statement,
     ) -> Result<(), AllocError>
-        ensures { OnOk result (◌≡◌ {A = State} (record { env = named env.new.items; world = world.new }) (execution (host_names self.now.hosts.now) statement.now (callees_of (host_names self.now.hosts.now) self.now.functions.now) (record { env = named env.old.items; world = world.old }))) }
+        ensures { OnOk result (◌≡◌ {A = State} (record { env = named env.new.items; world = world.new })
+            (execution (host_names self.now.hosts.now) statement.now (callees_of (host_names self.now.hosts.now) self.now.functions.now)
+            (record { env = named env.old.items; world = world.old }))) }
     {
         match statement {
             Statement::Let { name, value, .. } => {
@@ -309,7 +322,9 @@ impl<'a> Scope<'a> {
         world: &mut World,
         body: &[Statement],
     ) -> Result<(), AllocError>
-        ensures { OnOk result (◌≡◌ {A = State} (record { env = named env.new.items; world = world.new }) (block_execution (map (execution (host_names self.now.hosts.now)) body.now) (callees_of (host_names self.now.hosts.now) self.now.functions.now) (record { env = named env.old.items; world = world.old }))) }
+        ensures { OnOk result (◌≡◌ {A = State} (record { env = named env.new.items; world = world.new })
+            (block_execution (map (execution (host_names self.now.hosts.now)) body.now)
+            (callees_of (host_names self.now.hosts.now) self.now.functions.now) (record { env = named env.old.items; world = world.old }))) }
     {
         let outer = env.len();
         self.sequence(env, world, body)?;
@@ -327,7 +342,9 @@ impl<'a> Scope<'a> {
         number: u32,
         body: &[Statement],
     ) -> Result<(), AllocError>
-        ensures { OnOk result (◌≡◌ {A = State} (record { env = named env.new.items; world = world.new }) (turn_execution name.now (map (execution (host_names self.now.hosts.now)) body.now) (callees_of (host_names self.now.hosts.now) self.now.functions.now) number (record { env = named env.old.items; world = world.old }))) }
+        ensures { OnOk result (◌≡◌ {A = State} (record { env = named env.new.items; world = world.new })
+            (turn_execution name.now (map (execution (host_names self.now.hosts.now)) body.now)
+            (callees_of (host_names self.now.hosts.now) self.now.functions.now) number (record { env = named env.old.items; world = world.old }))) }
     {
         let outer = env.len();
         add(self.alloc, env, name, Held::Bound(number))?;

@@ -31,7 +31,14 @@ impl Model for MemNet {
 
     ghost Value = { MemNetState };
 
-    ghost view = { λ net. record { listeners = net.listeners; waiting = net.waiting; links = net.links; back = net.back.items; asked = net.asked; failures = net.failures } };
+    ghost view = { λ net. record {
+      listeners = net.listeners;
+      waiting = net.waiting;
+      links = net.links;
+      back = net.back.items;
+      asked = net.asked;
+      failures = net.failures;
+    } };
 
     ghost invariant = { λ net. (net.links ≤ vec_capacity net.back) × AreFresh net.waiting };
 }

@@ -27,7 +27,14 @@ impl Model for SureNet {
 
     ghost Value = { SureNetState };
 
-    ghost view = { λ net. record { room = net.room; listeners = net.listeners; waiting = net.waiting; links = net.links; back = net.back.items; asked = net.asked } };
+    ghost view = { λ net. record {
+      room = net.room;
+      listeners = net.listeners;
+      waiting = net.waiting;
+      links = net.links;
+      back = net.back.items;
+      asked = net.asked;
+    } };
 
     ghost invariant = { λ net. net.links ≤ vec_capacity net.back };
 }

@@ -1,6 +1,7 @@
 -- What it costs to move a value between two slots, read off tables by place.
 use Rattle.std.specs.Prelude.{ℕ, ◌≤◌, Bool, false, Option, None, option_map, unwrap_or, List, [], map, length, slice_index_or, ℤ, pos, neg_ℤ, ◌+ℤ◌, ◌-ℤ◌, ◌≤ℤ◌}
 use Rattle.std.specs.List.{range_with_len}
+use Rattle.vd_base.specs.Limits.{most_weights}
 use Rattle.vd_space.specs.Costs.{weigh}
 use Rattle.vd_space.specs.Bounds.{least_below, only_if, nothing_left}
 use Rattle.vd_path.specs.declared.transfers.Transfer.{Transfer}
@@ -52,7 +53,7 @@ pub record IsWithin (most : ℕ) (z : ℤ) : Type 0 where
 
 -- 2^49: shifts are at most 2^17, each of less than 2^32
 pub record IsTransfer (t : Transfer) : Type 0 where
-  pub weight : t.weight ≤ 65536
+  pub weight : t.weight ≤ most_weights
   pub taken : (p q : ℕ) → IsWithin 562949953421312 (taken t p q)
 
 pub record ArePrices (prices : List (List (Option ℕ))) : Type 0 where

@@ -1,6 +1,7 @@
 //! What it costs to move a value between two slots, and the least of that where one of them or both are not decided.
 
 ghost use Rattle.std.specs.Prelude.{◌≡◌, ◌*◌, ◌≤◌, ◌-ℤ◌, unwrap_or, IfOk, pos, slice_index_or};
+ghost use Rattle.vd_base.specs.Limits.{most_weights};
 ghost use Rattle.vd_space.specs.Bounds.{nothing_left, only_if};
 ghost use Rattle.vd_path.specs.Transfers.{ArePrices, IsTransfer, IsWithin, by_place, cell, column_of, least_where, link_of, priced, row_of, square_of, taken};
 
@@ -65,7 +66,7 @@ fn taken_at(transfer: &Transfer, first: usize, second: usize) -> i64
 
 /// So often the price, less what is taken.
 fn weighed(weight: u32, price: u32, less: i64) -> i64
-    requires weight { weight ≤ 65536 }
+    requires weight { weight ≤ most_weights }
     requires price { price ≤ 848 }
     requires less { IsWithin 562949953421312 less }
     ensures { result ≡ pos (weight * price) -ℤ less }

@@ -14,6 +14,7 @@ mod token;
 
 pub use choice::choice_text;
 pub use fault::ReadFault;
+pub use hosts::{host_of, name_of};
 pub use inputs::{inputs_follow_the_grammar, read_inputs};
 pub use labels::{formula_text, labels_text};
 pub use lines::{outputs_text, push_words_line};

@@ -206,7 +206,8 @@ impl<'a> Declarations<'a> {
     #[cycle(typing)]
     fn chain(&self, values: &Values<'a>, first: Kind, links: &[Link]) -> Result<Typed, NameFault>
         ensures kind { IfOk result (λ typed. chain_typing (map typing_of_link links.now) (scope_of self.now) values.now first ≡ Ok typed.kind) }
-        ensures size { IfOk result (λ typed. IsCapped typed.size (links_after nothing (map sizing_of_link links.now) (sizes_of self.now) (variables values.now))) }
+        ensures size { IfOk result (λ typed. IsCapped typed.size
+            (links_after nothing (map sizing_of_link links.now) (sizes_of self.now) (variables values.now))) }
         ensures fault { IfErr result (IsFaultOf (chain_typing (map typing_of_link links.now) (scope_of self.now) values.now first)) }
     {
         let mut kind = first;
@@ -267,9 +268,15 @@ impl<'a> Declarations<'a> {
     /// A call of a function that is declared before.
     #[cycle(typing)]
     fn call(&self, values: &Values<'a>, name: &Ident, exprs: &[Expr]) -> Result<Typed, NameFault>
-        ensures kind { IfOk result (λ typed. and_then (typings [] (map typing exprs.now) (scope_of self.now) values.now) (λ kinds. call_kind name.now.span kinds (is_among (scope_of self.now).later name.now.name) (at_name (scope_of self.now).functions name.now.name)) ≡ Ok typed.kind) }
-        ensures size { IfOk result (λ typed. IsCapped typed.size (also (sizes_after nothing (map sizing exprs.now) (sizes_of self.now) (variables values.now)) (call_size (at_name (sizes_of self.now) name.now.name)))) }
-        ensures fault { IfErr result (IsFaultOf (and_then (typings [] (map typing exprs.now) (scope_of self.now) values.now) (λ kinds. call_kind name.now.span kinds (is_among (scope_of self.now).later name.now.name) (at_name (scope_of self.now).functions name.now.name)))) }
+        ensures kind { IfOk result (λ typed. and_then (typings [] (map typing exprs.now) (scope_of self.now) values.now)
+            (λ kinds. call_kind name.now.span kinds (is_among (scope_of self.now).later name.now.name)
+            (at_name (scope_of self.now).functions name.now.name)) ≡ Ok typed.kind) }
+        ensures size { IfOk result (λ typed. IsCapped typed.size
+            (also (sizes_after nothing (map sizing exprs.now) (sizes_of self.now) (variables values.now))
+            (call_size (at_name (sizes_of self.now) name.now.name)))) }
+        ensures fault { IfErr result (IsFaultOf (and_then (typings [] (map typing exprs.now) (scope_of self.now) values.now)
+            (λ kinds. call_kind name.now.span kinds (is_among (scope_of self.now).later name.now.name)
+            (at_name (scope_of self.now).functions name.now.name)))) }
     {
         let arguments = self.arguments(values, exprs)?;
         let inlined = self.callee(name, arguments.kinds.as_slice())?;
@@ -282,9 +289,11 @@ impl<'a> Declarations<'a> {
     /// What a call with arguments of these kinds gives, and the size of what is put in its place.
     #[tactic(auto, using(crate::proofs::Lookups::signature_at))]
     fn callee(&self, name: &Ident, kinds: &[Kind]) -> Result<Typed, NameFault>
-        ensures kind { IfOk result (λ typed. call_kind name.now.span kinds.now (is_among (scope_of self.now).later name.now.name) (at_name (scope_of self.now).functions name.now.name) ≡ Ok typed.kind) }
+        ensures kind { IfOk result (λ typed. call_kind name.now.span kinds.now (is_among (scope_of self.now).later name.now.name)
+            (at_name (scope_of self.now).functions name.now.name) ≡ Ok typed.kind) }
         ensures size { IfOk result (λ typed. IsCapped typed.size (call_size (at_name (sizes_of self.now) name.now.name))) }
-        ensures fault { IfErr result (IsFaultOf (call_kind name.now.span kinds.now (is_among (scope_of self.now).later name.now.name) (at_name (scope_of self.now).functions name.now.name))) }
+        ensures fault { IfErr result (IsFaultOf (call_kind name.now.span kinds.now (is_among (scope_of self.now).later name.now.name)
+            (at_name (scope_of self.now).functions name.now.name))) }
     {
         match self.callees.get(name.name.as_slice()) {
             None => {

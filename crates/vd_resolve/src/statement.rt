@@ -68,7 +68,8 @@ impl<'a> Declarations<'a> {
         statements: &'a [Statement],
     ) -> Result<Size, NameFault>
         ensures checked { OnOk result (in_sequence (map checking statements.now) (scope_of self.now) values.old ≡ Ok values.new) }
-        ensures sized { IfOk result (λ size. IsSized size values.new (statements_after nothing (map statement_size statements.now) (sizes_of self.now) (variables values.old))) }
+        ensures sized { IfOk result (λ size. IsSized size values.new
+            (statements_after nothing (map statement_size statements.now) (sizes_of self.now) (variables values.old))) }
         ensures kept { OnOk result (take (length values.old) values.new ≡ values.old) }
         ensures fault { IfErr result (IsFaultOf (in_sequence (map checking statements.now) (scope_of self.now) values.old)) }
     {

@@ -32,7 +32,8 @@ fn play<F: Files, O: Sink, S: Spawner>(
     requires few { length names ≤ most_hosts }
     requires ended { answer.now.status ≡ Ended }
     requires room { (S.view spawner.old).given ≤ 4294967000 }
-    ensures { Plays words.now names (outside (F.view files.old) (O.view out.old) (S.view spawner.old)) (outside (F.view files.new) (O.view out.new) (S.view spawner.new)) (Ok answer.now) result }
+    ensures { Plays words.now names (outside (F.view files.old) (O.view out.old) (S.view spawner.old))
+        (outside (F.view files.new) (O.view out.new) (S.view spawner.new)) (Ok answer.now) result }
 {
     let hosts = names.as_slice().len() as u8;
     let prefix = words.prefix.as_str();
@@ -68,7 +69,8 @@ fn play_answer<F: Files, O: Sink, S: Spawner>(
     requires few { length names ≤ most_hosts }
     requires given { IsGiven answer.status answer.printed }
     requires room { (S.view spawner.old).given ≤ 4294967000 }
-    ensures { Plays words.now names (outside (F.view files.old) (O.view out.old) (S.view spawner.old)) (outside (F.view files.new) (O.view out.new) (S.view spawner.new)) (Ok answer) result }
+    ensures { Plays words.now names (outside (F.view files.old) (O.view out.old) (S.view spawner.old))
+        (outside (F.view files.new) (O.view out.new) (S.view spawner.new)) (Ok answer) result }
 {
     match answer.status {
         Status::Ended => play(alloc, words, names, &answer, files, out, spawner),
@@ -87,7 +89,8 @@ pub fn run<F: Files, O: Sink, S: Spawner>(
 ) -> Status
     requires port { IsPort words.now.port }
     requires room { (S.view spawner.old).given ≤ 4294967000 }
-    ensures { Runs words.now (outside (F.view files.old) (O.view out.old) (S.view spawner.old)) (outside (F.view files.new) (O.view out.new) (S.view spawner.new)) result }
+    ensures { Runs words.now (outside (F.view files.old) (O.view out.old) (S.view spawner.old))
+        (outside (F.view files.new) (O.view out.new) (S.view spawner.new)) result }
 {
     match compile_for(alloc, files, words.source.as_str(), words.prefix.as_str()) {
         Ok(compiled) => play_answer(

@@ -1,6 +1,7 @@
 //! A compiled program is run.
 
 ghost use Rattle.std.specs.Prelude.{◌≤◌, length};
+ghost use Rattle.vd_base.specs.Limits.{most_hosts};
 ghost use Rattle.vd_running.specs.RunsHosts.{RunsHosts, outside};
 
 use crate::RunFault;
@@ -23,9 +24,10 @@ pub fn run_hosts<F: Files, O: Sink, S: Spawner>(
     out: &mut O,
     spawner: &mut S,
 ) -> Result<(), RunFault>
-    requires few { length lines.now ≤ 4 }
+    requires few { length lines.now ≤ most_hosts }
     requires room { (S.view spawner.old).given ≤ 4294967000 }
-    ensures { RunsHosts stores.now names.now program.now lines.now (outside (F.view files.old) (O.view out.old) (S.view spawner.old)) (outside (F.view files.new) (O.view out.new) (S.view spawner.new)) result }
+    ensures { RunsHosts stores.now names.now program.now lines.now (outside (F.view files.old) (O.view out.old) (S.view spawner.old))
+        (outside (F.view files.new) (O.view out.new) (S.view spawner.new)) result }
 {
     store_all(files, stores)?;
     let printed = run_children(alloc, spawner, program, lines)?;

@@ -1,6 +1,7 @@
 //! The bound of a prefix: the sum of the least of each term.
 
 ghost use Rattle.std.specs.Prelude.{◌≡◌, ◌*◌, ◌<◌, ◌≤◌, length, pos};
+ghost use Rattle.vd_base.specs.Limits.{most_weights};
 ghost use Rattle.vd_space.specs.Bounds.{low};
 ghost use Rattle.vd_space.specs.Costs.{slots_of};
 ghost use Rattle.vd_space.specs.Labelled.{IsLabelled};
@@ -92,7 +93,7 @@ fn guard_told(problem: &Problem, list: &[Proto], prefix: &[u32], guard: &Guard, 
     requires list { list.now ≡ protocols problem.now }
     requires few { length list.now < 256 }
     requires labelled { IsLabelled problem.now }
-    requires weight { guard.now.weight ≤ 65536 }
+    requires weight { guard.now.weight ≤ most_weights }
     ensures told { result ≡ guard_number problem.now prefix.now guard.now host }
     ensures small { result ≤ 1000000000 }
 {
@@ -115,7 +116,7 @@ fn guard_sum(problem: &Problem, list: &[Proto], prefix: &[u32], guard: &Guard) -
     requires list { list.now ≡ protocols problem.now }
     requires few { length list.now < 256 }
     requires labelled { IsLabelled problem.now }
-    requires weight { guard.now.weight ≤ 65536 }
+    requires weight { guard.now.weight ≤ most_weights }
     ensures sum { result ≡ least_guard problem.now prefix.now guard.now }
     ensures small { result ≤ 4000000000 }
 {

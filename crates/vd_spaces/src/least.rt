@@ -1,6 +1,7 @@
 //! The least that each term can cost under a prefix, over what its slots may stand at.
 
 ghost use Rattle.std.specs.Prelude.{◌≡◌, ◌+◌, ◌<◌, ◌≤◌, length, slice_get, unwrap_or};
+ghost use Rattle.vd_base.specs.Limits.{most_weights};
 ghost use Rattle.vd_space.specs.Bounds.{may_stand};
 ghost use Rattle.vd_space.specs.Costs.{hosts_at, moves_to};
 ghost use Rattle.vd_space.specs.Labelled.{IsLabelled};
@@ -230,7 +231,7 @@ fn index_price(problem: &Problem, list: &[Proto], array: usize, index: usize) ->
 fn index_at(problem: &Problem, list: &[Proto], index: &Index, from: usize, to: usize) -> Option<u64>
     requires list { list.now ≡ protocols problem.now }
     requires labelled { IsLabelled problem.now }
-    requires weight { index.now.weight ≤ 65536 }
+    requires weight { index.now.weight ≤ most_weights }
     requires from { from < length list.now }
     requires to { to < length list.now }
     ensures { result ≡ index_number problem.now index.now from to }
@@ -252,7 +253,7 @@ fn least_index_from(
     requires list { list.now ≡ protocols problem.now }
     requires labelled { IsLabelled problem.now }
     requires few { length list.now < 256 }
-    requires weight { index.now.weight ≤ 65536 }
+    requires weight { index.now.weight ≤ most_weights }
     requires from { from < length list.now }
     ensures { result ≡ least_place problem.now prefix.now index.now.index.0 (index_number problem.now index.now from) }
 {
@@ -270,7 +271,7 @@ pub fn least_index(problem: &Problem, list: &[Proto], prefix: &[u32], index: &In
     requires list { list.now ≡ protocols problem.now }
     requires labelled { IsLabelled problem.now }
     requires few { length list.now < 256 }
-    requires weight { index.now.weight ≤ 65536 }
+    requires weight { index.now.weight ≤ most_weights }
     ensures { result ≡ least_index problem.now prefix.now index.now }
 {
     let mut least = None;

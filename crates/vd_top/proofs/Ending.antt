@@ -23,6 +23,7 @@ use Rattle.vd_replaying.proofs.Accepting.{ends_well}
 use Rattle.vd_depending.proofs.Existing.{some_dependences}
 use Rattle.vd_top.specs.Commands.{CompletesForm, CompletesWords, Outcomes, RunsForm, plan_of, search_of}
 use Rattle.vd_top.specs.Headline.{KeepsAccepted, ShowsOf, TellsOf}
+use Rattle.vd_top.proofs.Trials.{run_ends}
 use Rattle.vd_top.proofs.Words.{command_follows}
 
 module _ (plan : Contents → Plan) (before mid now : FilesView) (out_before out_now : SinkView) where
@@ -79,10 +80,16 @@ module _ (plan : Contents → Plan) (before mid now : FilesView) (out_before out
 
   trial : (coordinates : ℕ) (came : Result Answer Status) (status : Status) → Executes true plan before mid came → Finishes came mid now out_before out_now status → TellsOf (Trial coordinates) before came
       → ShowsOf (Trial coordinates) before out_before out_now status
-  trial coordinates (Ok answer) status w finishes tells = λ t o e.
-      let p = printed answer status w finishes t o e in
-      record { printed = answer.printed; added = p.1; trial = tells p.0 }
-  trial coordinates (Err came) status w finishes tells = λ t o e. absurd (never came status w finishes t e)
+  trial coordinates (Ok answer) status w finishes tells = λ t. (
+    run_ends mid now out_before out_now (w.still_told t) (Ok answer) status w.proper tells.1 finishes,
+    λ o e.
+        let p = printed answer status w finishes t o e in
+        record { printed = answer.printed; added = p.1; trial = tells.0 p.0 },
+  )
+  trial coordinates (Err came) status w finishes tells = λ t. (
+    run_ends mid now out_before out_now (w.still_told t) (Err came) status w.proper tells.1 finishes,
+    λ o e. absurd (never came status w finishes t e),
+  )
 
   -- what the answer of a command shows, its run shows
   pub shows : (command : FilesCommand) (came : Result Answer Status) (status : Status) → Executes true plan before mid came → Finishes came mid now out_before out_now status → TellsOf command before came

@@ -51,7 +51,7 @@ module _ (files : FilesView) (out : SinkView) where
   shows_nothing None = tt
   shows_nothing (Some (OnFiles (Replay words))) = λ t o e. absurd (cc e)
   shows_nothing (Some (OnFiles (Depends source name))) = λ t o e. absurd (cc e)
-  shows_nothing (Some (OnFiles (Trial coordinates))) = λ t o e. absurd (cc e)
+  shows_nothing (Some (OnFiles (Trial coordinates))) = λ t. (tt, λ o e. absurd (cc e))
   shows_nothing (Some (OnFiles command)) = tt
   shows_nothing (Some (Host words)) = tt
   shows_nothing (Some (Run words)) = tt

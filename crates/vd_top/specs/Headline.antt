@@ -15,7 +15,7 @@ use Rattle.vd_plan.specs.declared.status.Status.TheVariants.{Ended, Memory}
 use Rattle.vd_depending.specs.Telling.{IsDependenceOf, TellsDependence}
 use Rattle.vd_replaying.specs.Accepting.{IsAccepted}
 use Rattle.vd_replaying.specs.Telling.{IsHeadline, TellsHeadline}
-use Rattle.vd_trial.specs.Telling.{IsTrial, TellsTrial}
+use Rattle.vd_trial.specs.Telling.{AnswersTrial, EndsTrial, IsTrial, TellsTrial}
 
 -- the bytes that were added are the report of which the headline speaks
 pub record PrintsHeadline (words : ReplayWords) (before : FilesView) (out_before out_now : SinkView) : Type 0 where
@@ -57,12 +57,16 @@ pub record PrintsTrial (coordinates : ℕ) (out_before out_now : SinkView) : Typ
   pub added : out_now.taken ≡ out_before.taken ++ printed
   pub trial : IsTrial coordinates printed
 
--- Where the words are those of `trial`, and the files and the output tell what they hold, a run with status 0 has printed the cost
--- of the choice of protocols for the source with this many coordinates, and the report of a run of it.
+-- The status is one with which a trial ends, so never a refusal of its source for its text, names, kinds or limits. With status 0,
+-- where the output tells what it holds, the cost was printed and the report.
+abbrev pub ShowsTrial : (coordinates : ℕ) → SinkView → SinkView → Status → Type 0
+ShowsTrial coordinates out_before out_now status = EndsTrial status × (IsTrue out_now.told → status ≡ Ended → PrintsTrial coordinates out_before out_now)
+
+-- Where the words are those of `trial`, and the files tell what they hold, the source with this many coordinates is not refused, and
+-- a run with status 0 has printed the cost of the choice of protocols for it, and the report of a run of it.
 abbrev pub KeepsTrial : (words : List (List ℕ)) → FilesView → SinkView → SinkView → Status → Type 0
 KeepsTrial words before out_before out_now status =
-    (coordinates : ℕ) → form_of words ≡ Some (OnFiles (Trial coordinates)) → IsTrue before.told → IsTrue out_now.told → status ≡ Ended
-    → PrintsTrial coordinates out_before out_now
+    (coordinates : ℕ) → form_of words ≡ Some (OnFiles (Trial coordinates)) → IsTrue before.told → ShowsTrial coordinates out_before out_now status
 
 -- ---- the same of a command: its answer, and its run
 
@@ -70,7 +74,7 @@ KeepsTrial words before out_before out_now status =
 abbrev pub TellsOf : FilesCommand → FilesView → Result Answer Status → Type 0
 TellsOf (Replay words) before result = TellsHeadline words before result
 TellsOf (Depends source name) before result = TellsDependence source name before result
-TellsOf (Trial coordinates) before result = TellsTrial coordinates result
+TellsOf (Trial coordinates) before result = TellsTrial coordinates result × AnswersTrial result
 TellsOf command before result = Unit {0}
 
 -- what its run shows
@@ -78,7 +82,7 @@ abbrev pub ShowsOf : FilesCommand → FilesView → SinkView → SinkView → St
 ShowsOf (Replay words) before out_before out_now status = IsTrue before.told → IsTrue out_now.told → status ≡ Ended → PrintsHeadline words before out_before out_now
 ShowsOf (Depends source name) before out_before out_now status =
     IsTrue before.told → IsTrue out_now.told → status ≡ Ended → PrintsDependence source name before out_before out_now
-ShowsOf (Trial coordinates) before out_before out_now status = IsTrue before.told → IsTrue out_now.told → status ≡ Ended → PrintsTrial coordinates out_before out_now
+ShowsOf (Trial coordinates) before out_before out_now status = IsTrue before.told → ShowsTrial coordinates out_before out_now status
 ShowsOf command before out_before out_now status = Unit {0}
 
 abbrev pub ShowsForm : Option Command → FilesView → SinkView → SinkView → Status → Type 0

@@ -1,6 +1,6 @@
-pub mod Sizes
 pub mod Given
 pub mod Chosen
 pub mod Told
 pub mod Sure
 pub mod Texts
+pub mod Ends

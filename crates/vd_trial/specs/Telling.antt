@@ -1,5 +1,6 @@
--- What a trial prints: the cost of the choice of protocols, and how hosts stand that have printed what the source tells them.
-use Rattle.std.specs.Prelude.{◌≡◌, ℕ, List, ◌++◌, length, Result, IfOk}
+-- What a trial prints: the cost of the choice of protocols, and how hosts stand that have printed what the source tells them. And
+-- how it ends.
+use Rattle.std.specs.Prelude.{◌≡◌, ℕ, List, [], ◌++◌, length, Result, Ok, Err, IfOk}
 use Rattle.vd_core.specs.declared.normal.NormalForm.{NormalForm}
 use Rattle.vd_core.specs.declared.source.Source.{Source}
 use Rattle.vd_meaning.specs.ProgramMeaning.{program_outputs}
@@ -12,7 +13,7 @@ use Rattle.vd_space.specs.Costs.{cost}
 use Rattle.vd_space.specs.Reading.{problem_of}
 use Rattle.vd_plan.specs.declared.answer.Answer.{Answer}
 use Rattle.vd_plan.specs.declared.status.Status.{Status}
-use Rattle.vd_plan.specs.declared.status.Status.TheVariants.{Ended}
+use Rattle.vd_plan.specs.declared.status.Status.TheVariants.{Ended, Memory, WriteFault, Flow, NoAssignment, Spent}
 use Rattle.vd_frontend.specs.Sources.{IsSourceText}
 use Rattle.vd_asking.specs.declared.asked.Asked.{Asked}
 use Rattle.vd_replaying.specs.Telling.{IsReport}
@@ -49,3 +50,21 @@ TellsSource coordinates source result =
 
 abbrev pub TellsTrial : (coordinates : ℕ) → Result Answer Status → Type 0
 TellsTrial coordinates result = IfOk result (λ answer. answer.status ≡ Ended → IsTrial coordinates answer.printed)
+
+-- ---- how a trial ends
+
+-- A trial ends well, or out of memory, or at a write that failed, or no protocols are found for its source: a flow check fails, no
+-- list of protocols is valid, or the budget is spent. So its source is never refused for its text, names, kinds or limits.
+abbrev pub EndsTrial : Status → Type 0
+EndsTrial Ended = Unit {0}
+EndsTrial Memory = Unit {0}
+EndsTrial WriteFault = Unit {0}
+EndsTrial (Flow check offset) = Unit {0}
+EndsTrial NoAssignment = Unit {0}
+EndsTrial (Spent budget) = Unit {0}
+EndsTrial status = ⊥
+
+-- the answer of a trial ends so, and stores no file; and so does a refusal
+abbrev pub AnswersTrial : Result Answer Status → Type 0
+AnswersTrial (Ok answer) = (answer.stores ≡ []) × EndsTrial answer.status
+AnswersTrial (Err status) = EndsTrial status

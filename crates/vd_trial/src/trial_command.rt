@@ -11,7 +11,7 @@ ghost use Rattle.vd_space.specs.Costs.{cost};
 ghost use Rattle.vd_selection.specs.Choices.{IsChosen};
 ghost use Rattle.vd_selecting.specs.Problems.{IsProblemOf};
 ghost use Rattle.vd_asking.specs.Asking.{AreAsked};
-ghost use Rattle.vd_trial.specs.Telling.{IsRun, TellsOf, TellsProgram, TellsSource, TellsTrial};
+ghost use Rattle.vd_trial.specs.Telling.{AnswersTrial, IsRun, TellsOf, TellsProgram, TellsSource, TellsTrial};
 ghost use Rattle.vd_trial.specs.Trial.{ExecutesProblem, ExecutesProgram, ExecutesSource, ExecutesTrial, headed_by, trial_text};
 
 use crate::asking::asked_for;
@@ -128,12 +128,15 @@ fn trial_source(alloc: Global, source: &Resolved, coordinates: u32) -> Result<An
 
 /// The command `trial`: the generated source for points with so many coordinates is run by all its hosts in one process, each
 /// step in turn until none can step. The first host's inputs are the numbers from 0 on, and all others are 0; the deal is
-/// made for them. It prints the cost of the choice of protocols and how each host stands, and uses no files.
+/// made for them. It prints the cost of the choice of protocols and how each host stands, and uses no files. The source is
+/// never refused for its text, its names, its kinds or its limits; only its flows, the choice of protocols and memory are
+/// left to refuse it for.
 pub fn trial(alloc: Global, coordinates: u32) -> Result<Answer, Status>
     requires some { 1 ≤ coordinates }
     requires most { coordinates ≤ most_coordinates }
     ensures executes { ExecutesTrial coordinates result }
     ensures tells { TellsTrial coordinates result }
+    ensures ends { AnswersTrial result }
 {
     let text = generate(alloc, coordinates)?;
     let tree = read_source(alloc, text.as_slice())?;

@@ -1,6 +1,7 @@
 //! What a host hears at its next step.
 
 ghost use Rattle.std.specs.Prelude.{◌≡◌, ◌≤◌, length, Some, IfSome, slice_get, ◌+◌, ◌^◌, ◌<◌};
+ghost use Rattle.vd_base.specs.Limits.{most_packet_words};
 ghost use Rattle.vd_base.specs.Packets.{packet_words};
 ghost use Rattle.vd_execution.specs.Step.{need};
 ghost use Rattle.vd_machine.specs.Kept.{state_of};
@@ -12,9 +13,9 @@ use vd_base::Packet;
 use vd_machine::Want;
 
 fn packet_of(words: &[u32]) -> Packet
-    requires { length words.now ≤ 16 }
+    requires { length words.now ≤ most_packet_words }
     ensures words { packet_words result ≡ words.now }
-    ensures count { result.count ≤ 16 }
+    ensures count { result.count ≤ most_packet_words }
 {
     let mut all = [0; 16];
     all[..words.len()].copy_from_slice(words);
@@ -40,7 +41,7 @@ pub fn heard(hosts: &[Host], h: usize, host: &Host) -> Option<Packet>
     requires { slice_get hosts.now h ≡ Some host.now }
     ensures hears { Hears hosts.now h host.now result }
     ensures room { IfSome result (λ _. HasRoom host.now.taken (need (state_of host.now.machine))) }
-    ensures few { IfSome result (λ p. p.count ≤ 16) }
+    ensures few { IfSome result (λ p. p.count ≤ most_packet_words) }
 {
     match host.want() {
         Want::Nothing => Some(Packet {

@@ -62,7 +62,8 @@ fn note(
     requires links { length links.old.items ≡ machine.now.lists.deal.hosts }
     requires taken { length taken.old.items ≡ machine.now.lists.deal.hosts }
     requires room { HasRoom taken.old.items (need (state_of machine.now)) }
-    ensures ok { (m : State) → OnOk result (local m printed.new.items links.new.items taken.new.items ≡ noted machine.now printed.old.items links.old.items taken.old.items m) }
+    ensures ok { (m : State) → OnOk result (local m printed.new.items links.new.items taken.new.items
+        ≡ noted machine.now printed.old.items links.old.items taken.old.items m) }
     ensures printed { OnErr result (printed.new.items ≡ printed.old.items) }
     ensures links { OnErr result (links.new.items ≡ links.old.items) }
     ensures taken { OnErr result (taken.new.items ≡ taken.old.items) }

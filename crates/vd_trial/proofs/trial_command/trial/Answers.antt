@@ -3,7 +3,8 @@ use Rattle.std.proofs.lemmas.Result.{err_from_is_err_and}
 use Rattle.vd_base.specs.Limits.{most_source_bytes}
 use Rattle.vd_plan.proofs.InSteps.{any_memory}
 use Rattle.vd_selecting.specs.Choosing.{GaveUp, searched_by}
-use Rattle.vd_trial.proofs.Sizes.{short_source}
+use Rattle.vd_generated.proofs.Sizes.{short_source}
+use Rattle.vd_trial.proofs.Ends.{ends}
 use Rattle.vd_trial.proofs.Texts.{rules_refused, source_runs, tree_refused}
 use Rattle.vd_trial.proofs.Told.{trial_told}
 use Rattle.vd_trial.proofs.trial_command.trial.Goals as goal
@@ -51,3 +52,15 @@ pub returns-clause-tells : goal.returns-clause-tells
 returns-clause-tells c =
     trial_told c.args.coordinates c.in_ok-text.text c.as_slice.result.now c.in_ok-tree.tree c.in_ok-source.source c.trial_source.result (c.in_ok-text.ensures {u = tt}) c.as_slice.ensures (c.in_ok-tree.ensures {u = tt}).parsed
     (c.in_ok-source.ensures {u = tt}) c.trial_source.ensures.tells
+
+pub returns-in_err-text-clause-ends : goal.returns-in_err-text-clause-ends
+returns-in_err-text-clause-ends c = ends c.args.coordinates c.requires.some c.requires.most c.from_residual.result (returns-in_err-text-clause-executes c)
+
+pub returns-in_err-tree-clause-ends : goal.returns-in_err-tree-clause-ends
+returns-in_err-tree-clause-ends c = ends c.args.coordinates c.requires.some c.requires.most c.from_residual-in_err-tree.result (returns-in_err-tree-clause-executes c)
+
+pub returns-in_err-source-clause-ends : goal.returns-in_err-source-clause-ends
+returns-in_err-source-clause-ends c = ends c.args.coordinates c.requires.some c.requires.most c.from_residual-in_err-source.result (returns-in_err-source-clause-executes c)
+
+pub returns-clause-ends : goal.returns-clause-ends
+returns-clause-ends c = ends c.args.coordinates c.requires.some c.requires.most c.trial_source.result (returns-clause-executes c)

@@ -1,0 +1,6 @@
+pub mod Formulas
+pub mod Authorities
+pub mod Fitting
+pub mod Rights
+pub mod Walk
+pub mod Systems
