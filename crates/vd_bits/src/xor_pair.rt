@@ -123,8 +123,8 @@ impl XorPair {
         requires known { AreKnown (self.now.0 ∷ self.now.1 ∷ []) to.old.next }
         requires room { HasCircuitRoom to.old.next }
         requires short { length gates.now ≤ 31 }
-        ensures exact { IfOk result (λ z. Makes (circuit_made self.now.0 self.now.1 (gates_in gates.now) (parts_of x.now ∷ parts_of y.now ∷ [])) to.old
-            (parts_of z) to.new) }
+        ensures exact { IfOk result (λ z. Makes (circuit_made self.now.0 self.now.1 (gates_in gates.now)
+            (parts_of x.now ∷ parts_of y.now ∷ [])) to.old (parts_of z) to.new) }
         ensures hosts { IfOk result (λ z. hosts_of (parts_of z) ≡ self.now.0 ∷ self.now.1 ∷ []) }
         ensures few { OnOk result (TakesAtMost 1024 to.old.next to.new.next) }
     {

@@ -16,7 +16,8 @@ pub(crate) fn first_bare(problem: &Problem, list: &[Proto]) -> Option<usize>
     requires list { list.now ≡ protocols problem.now }
     requires few { length list.now < 256 }
     requires labelled { IsLabelled problem.now }
-    ensures { MatchOption result (All (HasCandidate problem.now) problem.now.slots) (IsFirstWithout (HasCandidate problem.now) problem.now.slots) }
+    ensures { MatchOption result (All (HasCandidate problem.now) problem.now.slots)
+        (IsFirstWithout (HasCandidate problem.now) problem.now.slots) }
 {
     let makings = problem.slots.as_slice();
     for (place, making) in makings.iter().enumerate() {

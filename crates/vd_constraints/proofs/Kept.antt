@@ -35,16 +35,16 @@ module _ (names slots blocks more : ℕ) (le : blocks ≤ more) where
   more_places (Slot x) is = is
   more_places (Block b) is = omega arith
 
-  more_bounds : (bound : Bound) → IsBoundIn names slots blocks bound → IsBoundIn names slots more bound
+  pub more_bounds : (bound : Bound) → IsBoundIn names slots blocks bound → IsBoundIn names slots more bound
   more_bounds (Constant f) is = is
   more_bounds (Same part) is = more_places part.at is
   more_bounds (Given f part) is = (is.0, more_places part.at is.1)
   more_bounds (Or f part) is = (is.0, more_places part.at is.1)
 
-  more_rules : (rule : Lower) → IsRuleIn names slots blocks rule → IsRuleIn names slots more rule
+  pub more_rules : (rule : Lower) → IsRuleIn names slots blocks rule → IsRuleIn names slots more rule
   more_rules rule is = record { part = more_places rule.part.at is.part; bound = more_bounds rule.bound is.bound }
 
-  more_checks : (check : Check) → IsCheckIn names slots blocks check → IsCheckIn names slots more check
+  pub more_checks : (check : Check) → IsCheckIn names slots blocks check → IsCheckIn names slots more check
   more_checks check is = record { constant = is.constant; part = more_places check.part.at is.part }
 
 pub block_kept : (s : Constraints) → IsSystem s → IsSystem (with_block s)

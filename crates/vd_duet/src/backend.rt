@@ -103,7 +103,8 @@ pub trait Backend {
         requires room { HasRoom 0 to.old.next }
         requires serves { IsTrue ((calls self.now).serves op) }
         requires arity { length args.now ≡ arity op }
-        ensures exact { IfOk result (λ x. Makes ((calls self.now).apply op (all_placed register args.now)) to.old (placed register x) to.new) }
+        ensures exact { IfOk result (λ x. Makes ((calls self.now).apply op (all_placed register args.now)) to.old
+            (placed register x) to.new) }
         ensures hosts { IfOk result (λ x. hosts_of (placed register x) ≡ holders (calls self.now).proto) }
         ensures few { OnOk result (TakesFew to.old.next to.new.next) };
 }

@@ -7,3 +7,4 @@ pub mod FormSteps
 pub mod FormTruths
 pub mod FormNames
 pub mod Antichains
+pub mod Grown

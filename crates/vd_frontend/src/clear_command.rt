@@ -43,7 +43,8 @@ fn clear_resolved<F: Files>(
     inputs: &str,
     source: &Source,
 ) -> Result<Answer, Status>
-    ensures { (texts : TextOutcomes) → Executes true (resolved_plan texts inputs.now source.now) (F.view files.old) (F.view files.new) result }
+    ensures { (texts : TextOutcomes) → Executes true (resolved_plan texts inputs.now source.now) (F.view files.old)
+        (F.view files.new) result }
 {
     let names = names_of_hosts(alloc, source)?;
     let words = load_inputs(alloc, files, inputs, &names)?;

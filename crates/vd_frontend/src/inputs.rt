@@ -46,7 +46,8 @@ pub fn load_inputs<F: Files>(
     name: &str,
     hosts: &Names,
 ) -> Result<Inputs, Status>
-    ensures loads { (texts : TextOutcomes) → ExecutesStep (inputs_then texts name.now hosts.now) (F.view files.old) (F.view files.new) result }
+    ensures loads { (texts : TextOutcomes) → ExecutesStep (inputs_then texts name.now hosts.now) (F.view files.old)
+        (F.view files.new) result }
     ensures given { Finds (F.view files.old) result (HoldsInputs name.now hosts.now) }
     ensures all { IfOk result (λ inputs. length inputs ≡ length hosts.now) }
 {

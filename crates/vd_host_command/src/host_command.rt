@@ -74,7 +74,8 @@ pub fn host<F: Files, N: Net, O: Sink>(
     words: &HostWords,
 ) -> Status
     requires room { (N.view net.old).given ≤ 4294967000 }
-    ensures { HostRuns words.now (F.view files.old) (F.view files.new) (N.view net.old) (N.view net.new) (O.view out.old) (O.view out.new) result }
+    ensures { HostRuns words.now (F.view files.old) (F.view files.new) (N.view net.old) (N.view net.new) (O.view out.old)
+        (O.view out.new) result }
 {
     match load_host(alloc, files, words) {
         Err(status) => status,

@@ -42,7 +42,8 @@ fn link_to<N: Net>(net: &mut N, task: &Task, place: usize, first: u32) -> Result
     requires few { length task.now.addresses ≤ 3 }
     requires room { first ≤ 4294967000 }
     requires listeners { HasListeners task.now first (N.view net.old) }
-    ensures { Gets first task.now.me.0 (peer_at task.now place) (N.view net.old) (N.view net.new) (result_map_both N.Link.view (λ fault. fault) result) }
+    ensures { Gets first task.now.me.0 (peer_at task.now place) (N.view net.old) (N.view net.new)
+        (result_map_both N.Link.view (λ fault. fault) result) }
 {
     if (task.me.0 as usize) <= place {
         net.accept(first + (place as u32 - u32::from(task.me.0)))

@@ -41,7 +41,8 @@ fn drive_and_tell<L: Link + Drop, O: Sink>(
     requires packets { PacketsAreWith (stands_in links.old) (state_of machine).pending }
     requires sound { AreSound L.view links.old }
     requires short { weight (state_of machine).pending < 2 ^ 32 }
-    ensures { DrivesAndTells machine (sessions_of L.view links.old) (sessions_of L.view links.new) (O.view out.old) (O.view out.new) result }
+    ensures { DrivesAndTells machine (sessions_of L.view links.old) (sessions_of L.view links.new) (O.view out.old) (O.view out.new)
+        result }
 {
     match drive(machine, links, out) {
         Ok(done) => match write_all(out, b"ended\n") {

@@ -213,8 +213,10 @@ impl<'a> Walk<'a> {
 
 /// What a call with arguments of these kinds gives.
 fn callee(functions: &[Function], name: &Ident, kinds: &[Kind]) -> Result<Kind, Stop>
-    ensures kind { IfOk result (λ kind. meeting.call_met name.now.span kinds.now (at_name (signatures_of functions.now) name.now.name) ≡ Ok kind) }
-    ensures stop { IfErr result (IsStopOf (meeting.call_met name.now.span kinds.now (at_name (signatures_of functions.now) name.now.name))) }
+    ensures kind { IfOk result (λ kind. meeting.call_met name.now.span kinds.now
+        (at_name (signatures_of functions.now) name.now.name) ≡ Ok kind) }
+    ensures stop { IfErr result (IsStopOf (meeting.call_met name.now.span kinds.now
+        (at_name (signatures_of functions.now) name.now.name))) }
 {
     match function_at(functions, name.name.as_slice()) {
         Some(function) => with_arguments(

@@ -135,7 +135,8 @@ impl<L: Link + Drop> Session<L, Greeted> {
         requires some { 1 ≤ count }
         requires most { count ≤ most_packet_words }
         ensures takes { Takes count (offset_of self.old) (L.view (link_of self.old)) (L.view (link_of self.new)) result }
-        ensures ok { OnOk result ((offset_of self.new ≡ offset_after (offset_of self.old) (2 + 4 * count)) × (has_failed self.new ≡ false)) }
+        ensures ok { OnOk result ((offset_of self.new ≡ offset_after (offset_of self.old) (2 + 4 * count)) ×
+            (has_failed self.new ≡ false)) }
         ensures err { OnErr result (has_failed self.new ≡ true) }
         ensures same { ends_of self.new ≡ ends_of self.old }
     {

@@ -17,24 +17,42 @@ use vd_prefixes::Shift;
 use vd_protocol::protocols;
 use vd_space::Problem;
 
-/// Shifts of links under which the bounds by links of a problem are greater than under most others, by the tables without
-/// shifts. There are none where a point has no setting left, since then no list is valid; or where an amount became too great
-/// for a shift, or shifts too many for a certificate.
-pub fn ascend_by_links(
-    alloc: Global,
-    problem: &Problem,
-    tables: &LinkedTables,
-) -> Result<Option<Items<Shift>>, AllocError>
-    requires labelled { IsLabelled problem.now }
-    requires tables { AreLinkedTables problem.now tables.now }
-    ensures { IfOk result (λ found. IfSome found (AreLinkShifts problem.now)) }
-{
-    match ascended(alloc, problem, tables)? {
-        Some(nets) => {
-            let list = protocols(alloc, problem.hosts.as_slice().len() as u8)?;
-            linked_shifts(alloc, problem, tables, list.as_slice(), &nets)
+/// Sweeps over the points and links of a problem, after which shifts of links come to much.
+#[derive(Drop)]
+pub struct Ascent {
+    pub(crate) climb: Climb,
+}
+
+impl Ascent {
+    /// After all sweeps, by the tables without shifts. None where a point has no setting left, since then no list is valid.
+    pub fn of(
+        alloc: Global,
+        problem: &Problem,
+        tables: &LinkedTables,
+    ) -> Result<Option<Ascent>, AllocError>
+        requires { IsLabelled problem.now }
+    {
+        match Climb::of(alloc, problem, tables)? {
+            Some(climb) => Ok(Some(Ascent { climb })),
+            None => Ok(None),
         }
-        None => Ok(None),
+    }
+
+    /// Shifts of links under which the bounds by links of the problem are greater than under most others, by the tables without
+    /// shifts. There are none where an amount became too great for a shift, or shifts too many for a certificate.
+    pub fn shifts(
+        &self,
+        alloc: Global,
+        problem: &Problem,
+        tables: &LinkedTables,
+    ) -> Result<Option<Items<Shift>>, AllocError>
+        requires labelled { IsLabelled problem.now }
+        requires tables { AreLinkedTables problem.now tables.now }
+        ensures { IfOk result (λ found. IfSome found (AreLinkShifts problem.now)) }
+    {
+        let nets = self.climb.lifted(alloc, tables.links.as_slice())?;
+        let list = protocols(alloc, problem.hosts.as_slice().len() as u8)?;
+        linked_shifts(alloc, problem, tables, list.as_slice(), &nets)
     }
 }
 
@@ -53,21 +71,4 @@ fn linked_shifts(
 {
     let count = tables.links.as_slice().len();
     shifts_of(alloc, count, list.len(), nets)
-}
-
-/// What the shifts come to, if each point has a setting left.
-fn ascended(
-    alloc: Global,
-    problem: &Problem,
-    tables: &LinkedTables,
-) -> Result<Option<Nets>, AllocError>
-    requires { IsLabelled problem.now }
-{
-    match Climb::of(alloc, problem, tables)? {
-        Some(mut climb) => {
-            climb.send_home();
-            Ok(Some(climb.lifted(alloc, tables.links.as_slice())?))
-        }
-        None => Ok(None),
-    }
 }

@@ -14,6 +14,10 @@ use vd_space::Problem;
 /// At most so many sweeps are made.
 const SWEEPS: u32 = 512;
 
+/// Sweeps end, of an ascent and of the walk behind it, when so many prices of links were looked at, so that both together take a
+/// second or two at most.
+pub const WORK: u64 = 1_073_741_824;
+
 /// The points and links of a problem, and what sweeps over them came to.
 #[derive(Drop)]
 pub struct Climb {
@@ -30,7 +34,7 @@ pub struct Climb {
 }
 
 impl Climb {
-    /// After all sweeps over a problem, by the tables without shifts; none where a point has no setting left.
+    /// After all sweeps over a problem, at whose end each point gave what it has above its least back to the points before it; by the tables without shifts; none where a point has no setting left.
     pub fn of(
         alloc: Global,
         problem: &Problem,
@@ -57,8 +61,9 @@ impl Climb {
             return Ok(None);
         };
         let tables = Tables::of(alloc, linked, &network, &order, settings.as_slice())?;
-        let mut state = unmoved(alloc, &tables, &network, settings.as_slice())?;
-        let witness = state.climb(alloc, &tables, &network, SWEEPS)?;
+        let mut state = State::of(alloc, &tables, &network, left.most)?;
+        let witness = state.climb(alloc, &tables, &network, SWEEPS, WORK)?;
+        state.send_home(&tables, &network);
         Ok(Some(Climb {
             order,
             network,
@@ -70,14 +75,9 @@ impl Climb {
         }))
     }
 
-    /// Gives what each point has above its least back to the points before it.
-    pub fn send_home(&mut self) {
-        self.state.send_home(&self.tables, &self.network);
-    }
-
     /// What the shifts come to by all settings, where those that are not left are lifted.
     pub fn lifted(&self, alloc: Global, links: &[LinkTable]) -> Result<Nets, AllocError> {
-        let mut nets = self.state.nets().spread(
+        let mut nets = self.state.nets(alloc, &self.network)?.spread(
             alloc,
             self.network.firsts.as_slice(),
             self.settings.as_slice(),
@@ -86,25 +86,4 @@ impl Climb {
         lift(alloc, links, &self.network, &self.left, &mut nets)?;
         Ok(nets)
     }
-}
-
-/// The state before any sweep.
-fn unmoved(
-    alloc: Global,
-    tables: &Tables,
-    network: &Network,
-    settings: &[Vec<usize>],
-) -> Result<State, AllocError> {
-    let counts = counts(alloc, settings)?;
-    let none = Nets::none(alloc, network.firsts.as_slice(), counts.as_slice())?;
-    State::of(alloc, tables, network, none)
-}
-
-/// How many settings are left for each point.
-fn counts(alloc: Global, settings: &[Vec<usize>]) -> Result<Vec<usize>, AllocError> {
-    let mut counts = Vec::new(alloc);
-    for left in settings {
-        counts.push(left.len())?;
-    }
-    Ok(counts)
 }

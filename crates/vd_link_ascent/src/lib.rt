@@ -10,6 +10,6 @@ mod refutation;
 mod walk;
 mod walker;
 
-pub use ascent::ascend_by_links;
+pub use ascent::Ascent;
 pub use refutation::Refutation;
 pub use walk::Walk;

@@ -1,8 +1,9 @@
 //! Lifts what is not left. A setting that went can stand in no valid list, but bounds count it. So it gets a greater cost at
-//! its point, which is taken from the link where it has no partner left: no two that are left lose by that.
+//! its point, which is taken from the link where it has no partner left: no two that are left lose by that. At its other links it
+//! costs more only as far as it would cost too little there.
 
 use std::alloc::{AllocError, Global};
-use vd_link_sweeps::{Death, End, FAR, Left, Nets, Network};
+use vd_link_sweeps::{Death, End, FAR, Left, Nets, Network, number_at};
 use vd_linked_path::LinkTable;
 
 /// So many parts more are put on each: 65,536 units, so that some hundred lifts together still are an amount of 32 bits.
@@ -35,7 +36,7 @@ fn lift_one(
     let mut sum = LIFT;
     for end in network.of_point(death.point) {
         if !is_at(death, *end) {
-            let need = needed(links, lifts, *end, death.setting);
+            let need = needed(links, nets, lifts, *end, death.setting);
             nets.add(*end, death.setting, 0i64.saturating_sub(need));
             sum = sum.saturating_add(need);
         }
@@ -54,13 +55,20 @@ fn is_at(death: &Death, end: End) -> bool {
     }
 }
 
-/// What a link must cost more at a setting, so that it costs enough with each partner that was lifted at the link.
-fn needed(links: &[LinkTable], lifts: &Nets, end: End, setting: usize) -> i64 {
+/// What a link must cost more at a setting, so that it costs enough with each partner that was lifted at the link, and with the
+/// others no less than nothing.
+fn needed(links: &[LinkTable], nets: &Nets, lifts: &Nets, end: End, setting: usize) -> i64 {
+    let there = end.turned();
     let mut most = 0;
-    for (partner, lift) in lifts.row(end.turned()).iter().enumerate() {
-        if *lift > most && end.price(links, setting, partner) < FAR {
-            most = *lift;
+    for (partner, lift) in lifts.row(there).iter().enumerate() {
+        let price = end.price(links, setting, partner);
+        if price < FAR {
+            most = most.max(if *lift > 0 {
+                lift.saturating_add(LIFT)
+            } else {
+                number_at(nets.row(there), partner).saturating_sub(price)
+            });
         }
     }
-    most.saturating_add(LIFT)
+    most
 }

@@ -1,13 +1,13 @@
 //! A walk down the lists of a problem, in order, that finds prefixes which seem to begin no list of little cost.
 
-ghost use Rattle.std.specs.Prelude.{◌≡◌, ◌<◌, ◌≤◌, IfOk, IfSome, IsTrue, length, take};
+ghost use Rattle.std.specs.Prelude.{◌≡◌, ◌==◌, ◌<◌, ◌≤◌, IfOk, IfSome, IsTrue, length, take};
 ghost use Rattle.vd_link_ascent.specs.Walking.{IsRefutation};
 ghost use Rattle.vd_linked.specs.Links.{links};
 ghost use Rattle.vd_linked_path.specs.Tables.{AreLinkedTables};
 ghost use Rattle.vd_space.specs.Labelled.{IsLabelled};
 ghost use Rattle.vd_space.specs.Validity.{protocols as protocols_of};
 
-use crate::climbing::Climb;
+use crate::ascent::Ascent;
 use crate::made::shifts_of;
 use crate::refutation::Refutation;
 use crate::walker::{Candidate, Verdict, Walker};
@@ -40,34 +40,31 @@ pub struct Walk<'a> {
 }
 
 impl<'a> Walk<'a> {
-    /// A walk to lists that cost at most so many units, by the tables without shifts, and with the empty prefix by those of some
-    /// shifts. None where a point has no setting left, since then no list is valid.
+    /// A walk to lists that cost at most so many units, behind an ascent, by the tables without shifts; and with the empty prefix
+    /// by those of some shifts.
     pub fn new(
         alloc: Global,
         problem: &'a Problem,
         tables: &'a LinkedTables,
         path: LinkedPath<'a>,
+        ascent: Ascent,
         most: u32,
-    ) -> Result<Option<Walk<'a>>, AllocError>
-        requires labelled { IsLabelled problem.now }
+    ) -> Result<Walk<'a>, AllocError>
         requires tables { AreLinkedTables problem.now tables.now }
         requires path { path.problem.now ≡ problem.now }
-        ensures { IfOk result (λ found. IfSome found (λ walk. walk.problem.now ≡ problem.now)) }
+        ensures { IfOk result (λ walk. walk.problem.now ≡ problem.now) }
     {
         let most = i64::from(most);
-        let Some(climb) = Climb::of(alloc, problem, tables)? else {
-            return Ok(None);
-        };
-        let walker = Walker::of(climb, alloc, most.saturating_mul(UNIT))?;
+        let walker = Walker::of(ascent.climb, alloc, most.saturating_mul(UNIT))?;
         let places = path.choices() as usize;
-        Ok(Some(Walk {
+        Ok(Walk {
             problem,
             tables,
             path,
             walker,
             most,
             places,
-        }))
+        })
     }
 
     /// Goes on to the next candidate that is refuted; none at the end of the walk.
@@ -87,6 +84,13 @@ impl<'a> Walk<'a> {
             }
         }
         Ok(None)
+    }
+
+    /// Whether the walk has come to a whole list.
+    pub fn is_whole(&self) -> bool
+        ensures { result ≡ (length (take self.now.path.depth self.now.path.room) == length self.now.path.problem.now.slots) }
+    {
+        self.path.depth() == self.path.slots()
     }
 
     /// The next candidate of the slot behind the prefix, if one is left.

@@ -1,16 +1,13 @@
 //! Tests of candidates by sweeps. What is fixed so far stands in penalties on the other settings, so that the sweeps go by the
 //! prefix.
 
-use crate::climbing::Climb;
+use crate::climbing::{Climb, WORK};
 use std::alloc::{AllocError, Global};
 use vd_link_sweeps::{Nets, Witness, settings_at};
 use vd_linked_path::LinkTable;
 
 /// So many sweeps forward are made for one candidate at most, and as many backward.
 const ROUNDS: u32 = 12;
-
-/// A walk ends after so many rounds, so that its time stays within some seconds.
-const MOST_ROUNDS: u32 = 4096;
 
 /// What a setting costs more at which a point is not to be, in parts: 4,096 units.
 const PENALTY: i64 = 1_048_576;
@@ -38,14 +35,12 @@ pub enum Verdict {
 #[derive(Drop)]
 pub struct Walker {
     climb: Climb,
-    /// What the shifts came to before the last test.
-    before: Nets,
+    /// By point: where it stands in the prefix.
+    fixed: Vec<Option<usize>>,
     /// The number of the next candidate of the slot, among the settings that are left.
     next: usize,
     /// In parts. Lists that cost more are not looked for.
     most: i64,
-    /// So many rounds may still be made.
-    rounds: u32,
 }
 
 impl Walker {
@@ -54,19 +49,18 @@ impl Walker {
         if climb.witness.cost > most {
             climb.witness = Witness::none(alloc);
         }
-        let before = climb.state.nets().clone()?;
+        let fixed = vec![in alloc; None; climb.order.points.len()]?;
         Ok(Walker {
             climb,
-            before,
+            fixed,
             next: 0,
             most,
-            rounds: MOST_ROUNDS,
         })
     }
 
-    /// The next candidate of a slot, if one is left, and rounds to test it.
+    /// The next candidate of a slot, if one is left, and work may still be done to test it.
     pub fn candidate(&self, slot: u32) -> Option<Candidate> {
-        if self.rounds == 0 {
+        if self.climb.state.work() >= WORK {
             return None;
         }
         let point = self.climb.order.rank(slot);
@@ -86,19 +80,13 @@ impl Walker {
     /// Fixes the candidate, and tests whether each list that goes on so costs too much.
     pub fn test(&mut self, alloc: Global, candidate: Candidate) -> Result<Verdict, AllocError> {
         self.raise_others(candidate, PENALTY);
+        self.fix(candidate.point, Some(candidate.number));
         if self.climb.witness.has(candidate.point, candidate.number) {
             return Ok(Verdict::Open);
         }
-        self.before.copy_from(self.climb.state.nets());
-        if self.is_beyond(0) {
-            return Ok(Verdict::Refuted);
-        }
+        let mut before = i64::MIN;
         for round in 0..ROUNDS {
-            self.rounds = self.rounds.saturating_sub(1);
-            let turn = round.saturating_mul(2);
-            self.sweep(turn.saturating_add(1));
-            self.sweep(turn.saturating_add(2));
-            if self.is_beyond(turn) {
+            if self.sweep(true) > self.most || self.sweep(false) > self.most {
                 return Ok(Verdict::Refuted);
             }
             let list = self.decoded(alloc)?;
@@ -106,9 +94,23 @@ impl Walker {
                 self.climb.witness = list;
                 return Ok(Verdict::Open);
             }
+            let bound = self.climb.state.bound();
+            if self.is_slow(
+                bound,
+                bound.saturating_sub(before),
+                ROUNDS.saturating_sub(round),
+            ) {
+                break;
+            }
+            before = bound;
         }
         self.climb.witness = Witness::none(alloc);
         Ok(Verdict::Open)
+    }
+
+    /// Whether a bound that rose by so much in a round will not be too great after so many rounds more.
+    fn is_slow(&self, bound: i64, rise: i64, rounds: u32) -> bool {
+        bound.saturating_add(rise.saturating_mul(i64::from(rounds))) <= self.most
     }
 
     /// Goes on to the next slot, behind a candidate that is fixed.
@@ -119,10 +121,7 @@ impl Walker {
     /// Takes back a test that refuted the candidate, and passes it over.
     pub fn take_back(&mut self, candidate: Candidate) {
         self.raise_others(candidate, 0i64.saturating_sub(PENALTY));
-        let climb = &mut self.climb;
-        climb
-            .state
-            .go_to(&climb.tables, &climb.network, &self.before);
+        self.fix(candidate.point, None);
         self.pass_over(candidate);
     }
 
@@ -132,9 +131,16 @@ impl Walker {
         self.next = self.next.saturating_add(1);
     }
 
+    /// Notes where the point stands in the prefix.
+    fn fix(&mut self, point: usize, setting: Option<usize>) {
+        if point < self.fixed.len() {
+            self.fixed[point] = setting;
+        }
+    }
+
     /// Makes the other settings of the point cost more.
     fn raise_others(&mut self, candidate: Candidate, amount: i64) {
-        for other in 0..self.climb.state.count(candidate.point) {
+        for other in 0..settings_at(self.climb.settings.as_slice(), candidate.point).len() {
             if other != candidate.number {
                 self.raise(candidate.point, other, amount);
             }
@@ -144,24 +150,19 @@ impl Walker {
     /// Makes a setting of a point cost more.
     fn raise(&mut self, point: usize, number: usize, amount: i64) {
         self.climb.tables.raise(point, number, amount);
-        self.climb.state.raise(point, number, amount);
+        self.climb.state.wake(point);
     }
 
-    /// The sweep of a number: forward where it is odd.
-    fn sweep(&mut self, turn: u32) {
+    /// A sweep. Answers the bound behind it.
+    fn sweep(&mut self, forward: bool) -> i64 {
         let climb = &mut self.climb;
-        climb.state.sweep(&climb.tables, &climb.network, turn);
-    }
-
-    /// Whether the bound is too great, behind the sweep of a number.
-    fn is_beyond(&mut self, turn: u32) -> bool {
-        let climb = &mut self.climb;
-        climb.state.bound(&climb.tables, &climb.network, turn) > self.most
+        climb.state.sweep(&climb.tables, &climb.network, forward);
+        climb.state.bound()
     }
 
     /// A list that goes by the shifts.
-    fn decoded(&self, alloc: Global) -> Result<Witness, AllocError> {
-        let climb = &self.climb;
-        climb.state.decoded(alloc, &climb.tables, &climb.network)
+    fn decoded(&mut self, alloc: Global) -> Result<Witness, AllocError> {
+        let climb = &mut self.climb;
+        climb.state.decoded(alloc, &climb.tables, &climb.network, self.fixed.as_slice())
     }
 }

@@ -2,12 +2,13 @@
 //! of their least values rises. Nothing is promised of the amounts.
 #![tactic(auto)]
 
+mod flow;
 mod left;
-mod messages;
 mod nets;
 mod network;
 mod numbers;
 mod order;
+mod shares;
 mod sweeps;
 mod tables;
 mod witness;

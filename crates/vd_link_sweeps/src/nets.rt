@@ -1,11 +1,11 @@
 //! What shifts come to, all together.
 
 use crate::network::{End, Side};
-use crate::numbers::{add_at, overwrite, row_at, settings_at, zeros};
+use crate::numbers::{add_at, row_at, settings_at, zeros};
 use std::alloc::{AllocError, Global};
 
 /// For each link, by setting, what is put on the point at either end and taken from the link.
-#[derive(Clone, Drop)]
+#[derive(Drop)]
 pub struct Nets {
     pub firsts: Vec<Vec<i64>>,
     pub seconds: Vec<Vec<i64>>,
@@ -43,12 +43,6 @@ impl Nets {
         }
     }
 
-    /// Becomes the same as others, for links of the same settings.
-    pub fn copy_from(&mut self, nets: &Nets) {
-        overwrite_all(&mut self.firsts, nets.firsts.as_slice());
-        overwrite_all(&mut self.seconds, nets.seconds.as_slice());
-    }
-
     /// The same amounts by the setting among so many, where each point was left these settings.
     pub fn spread(
         &self,
@@ -71,15 +65,6 @@ impl Nets {
                 .push(spread_row(alloc, self.row(second), to, count)?)?;
         }
         Ok(nets)
-    }
-}
-
-/// Writes the numbers of rows over those of others.
-fn overwrite_all(rows: &mut Vec<Vec<i64>>, others: &[Vec<i64>]) {
-    for (row, other) in others.iter().enumerate() {
-        if row < rows.len() {
-            overwrite(&mut rows[row], other.as_slice());
-        }
     }
 }
 

@@ -30,7 +30,7 @@ pub fn settings_at(settings: &[Vec<usize>], point: usize) -> &[usize] {
 }
 
 /// Adds to the number at a place, if there is one.
-fn add(numbers: &mut Vec<i64>, place: usize, amount: i64) {
+pub fn add(numbers: &mut Vec<i64>, place: usize, amount: i64) {
     if place < numbers.len() {
         numbers[place] = numbers[place].saturating_add(amount);
     }
@@ -53,15 +53,6 @@ pub fn overwrite(numbers: &mut Vec<i64>, row: &[i64]) -> bool {
         }
     }
     has_changed
-}
-
-/// The least of the numbers; `FAR` where there is none.
-pub fn least(numbers: &[i64]) -> i64 {
-    let mut least = FAR;
-    for number in numbers {
-        least = least.min(*number);
-    }
-    least
 }
 
 /// A row of so many zeros.

@@ -16,13 +16,15 @@ ghost use Rattle.vd_space.specs.declared.problem.Problem.{Problem as Problems};
 
 /// The bound by links of a prefix is at most the cost of every valid list that it begins, whatever the shifts are.
 pub fn linked_bounds_are_below_costs()
-    ensures linked { (problem : Problems) → IsProblem problem → (shifts : List Shifts) → IsBelowCosts problem (λ prefix. units (linked problem shifts prefix)) }
+    ensures linked { (problem : Problems) → IsProblem problem → (shifts : List Shifts) →
+        IsBelowCosts problem (λ prefix. units (linked problem shifts prefix)) }
     ensures high { (problem : Problems) → IsProblem problem → (shifts : List Shifts) → IsBelowCosts problem (linked_high problem shifts) }
 {}
 
 /// At a whole valid list it is the cost, so no shift of a link changes a cost.
 pub fn linked_bounds_end_in_costs()
-    ensures linked { (problem : Problems) → IsProblem problem → (shifts : List Shifts) → EndsInCost problem (λ prefix. units (linked problem shifts prefix)) }
+    ensures linked { (problem : Problems) → IsProblem problem → (shifts : List Shifts) →
+        EndsInCost problem (λ prefix. units (linked problem shifts prefix)) }
     ensures high { (problem : Problems) → IsProblem problem → (shifts : List Shifts) → EndsInCost problem (linked_high problem shifts) }
 {}
 

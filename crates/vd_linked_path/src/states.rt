@@ -107,7 +107,7 @@ fn point_state(
 }
 
 /// Writes down what the prefix decides of each point.
-pub(crate) fn decide(
+pub fn decide(
     states: &mut Items<Option<u32>>,
     problem: &Problem,
     list: &[Proto],
@@ -126,7 +126,7 @@ pub(crate) fn decide(
 }
 
 /// Room for what is decided of so many points.
-pub(crate) fn undecided(alloc: Global, count: usize) -> Result<Items<Option<u32>>, AllocError>
+pub fn undecided(alloc: Global, count: usize) -> Result<Items<Option<u32>>, AllocError>
     ensures { IfOk result (λ states. length states ≡ count) }
 {
     let mut states = Items::new(alloc);

@@ -93,7 +93,7 @@ module _ (problem : Problem) (sums : List (List ℤ)) where
 
 module _ (problem : Problem) (shifts : List Shift) (raws : List RawLink) (most : ℕ) (sums : List (List ℤ)) (raws_are : raws ≡ map (raw_link problem) (links problem))
     (sums_are : sums ≡ sums_of raws Points (count_of_points problem) most shifts) (few : (point : ℕ) → settings problem point ≤ most) where
-  gain_is : (point v : ℕ) → point < count_of_points problem → v < settings problem point → gain_at sums point v ≡ total (point_shift (links problem) point v) shifts
+  pub gain_is : (point v : ℕ) → point < count_of_points problem → v < settings problem point → gain_at sums point v ≡ total (point_shift (links problem) point v) shifts
   gain_is point v low low_v =
       let room = few point in
       let row : ℕ → List ℤ = λ r. by_place most (λ place. total (part raws Points r place) shifts) in
@@ -163,7 +163,7 @@ module _ (problem : Problem) (labelled : IsLabelled problem) (limits : IsWithinL
   switch_light v None = tt
   switch_light v (Some w) = only_light (v == off || may_read problem w.host w.guard.slot.0) (Some (pos 0)) (record { low = omega (arith, ints); high = omega (arith, ints) })
 
-  point_light : (point v : ℕ) → IfSome (point_value problem point v) (IsWithin 562949953421312)
+  pub point_light : (point v : ℕ) → IfSome (point_value problem point v) (IsWithin 562949953421312)
   point_light point v = elim (at_either problem (slot_value problem v) (switch_value problem v) None point) [
     | inl slot ↦ subst (λ (o : Option ℤ). IfSome o (IsWithin 562949953421312)) (sym slot.1)
         (only_light (list_all (index_readable problem point v) problem.indexes) (parts (together problem point v)) (parts_light (together problem point v) (own_within point v)))

@@ -35,7 +35,7 @@ row_shifted m f g from to same =
 module _ (problem : Problem) (raws : List RawLink) (shifts : List Shift) (k most : ℕ) (link : Pair) (from to : List ℤ)
     (from_is : from ≡ by_place most (λ v. total (part raws Firsts k v) shifts)) (to_is : to ≡ by_place most (λ w. total (part raws Seconds k w) shifts))
     (few : settings problem link.first ≤ most) (few_too : settings problem link.second ≤ most) where
-  taken : (v w : ℕ) → v < settings problem link.first → w < settings problem link.second → get_or from v (pos 0) +ℤ get_or to w (pos 0) ≡ total (use_shift k v w) shifts
+  pub taken : (v w : ℕ) → v < settings problem link.first → w < settings problem link.second → get_or from v (pos 0) +ℤ get_or to w (pos 0) ≡ total (use_shift k v w) shifts
   taken v w low low_w =
       let first = ap (λ list. get_or list v (pos 0)) from_is ∙ at_place most (λ r. total (part raws Firsts k r) shifts) v (pos 0) (omega (arith, low, few)) in
       let second = ap (λ list. get_or list w (pos 0)) to_is ∙ at_place most (λ r. total (part raws Seconds k r) shifts) w (pos 0) (omega (arith, low_w, few_too)) in

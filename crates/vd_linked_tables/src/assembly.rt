@@ -27,7 +27,7 @@ use vd_protocol::protocols;
 use vd_space::Problem;
 
 /// Which settings each point may be at: a slot at its candidates, and a switch off or on.
-fn settings(
+pub fn settings(
     alloc: Global,
     candidates: Items<Items<bool>>,
     switches: usize,
@@ -85,7 +85,7 @@ fn link_tables(
 }
 
 /// The list of protocols.
-fn all_protocols(alloc: Global, problem: &Problem) -> Result<Items<Proto>, AllocError>
+pub fn all_protocols(alloc: Global, problem: &Problem) -> Result<Items<Proto>, AllocError>
     requires { IsLabelled problem.now }
     ensures list { IfOk result (λ list. list ≡ protocols_of_problem problem.now) }
     ensures few { IfOk result (λ list. length list ≤ 64) }
@@ -94,7 +94,7 @@ fn all_protocols(alloc: Global, problem: &Problem) -> Result<Items<Proto>, Alloc
 }
 
 /// All links, without shifts.
-fn all_links(
+pub fn all_links(
     alloc: Global,
     problem: &Problem,
     list: &[Proto],
@@ -120,7 +120,7 @@ fn all_links(
 }
 
 /// As many settings as each point has at most.
-fn most_settings(list: &[Proto]) -> usize
+pub fn most_settings(list: &[Proto]) -> usize
     ensures places { length list.now ≤ result }
     ensures switches { 2 ≤ result }
 {

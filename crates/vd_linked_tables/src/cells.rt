@@ -33,7 +33,7 @@ fn value_if(test: bool, value: Option<i64>) -> Option<i64>
 }
 
 /// The value at a setting, if there is one.
-pub(crate) fn value_at(values: &[Option<i64>], setting: usize) -> Option<i64>
+pub fn value_at(values: &[Option<i64>], setting: usize) -> Option<i64>
     ensures { result ≡ slice_index_or values.now setting None }
 {
     match values.get(setting) {
@@ -112,7 +112,7 @@ fn numbers_of(alloc: Global, values: &[Option<i64>]) -> Result<Items<i64>, Alloc
 }
 
 /// The cost, less the amount.
-fn less(cost: Option<i64>, amount: i64) -> Option<i64>
+pub fn less(cost: Option<i64>, amount: i64) -> Option<i64>
     requires cost { IsWithin 562949953421312 (unwrap_or cost (pos 0)) }
     requires amount { IsWithin 1125899906842624 amount }
     ensures { result ≡ option_map (λ c. c -ℤ amount) cost }
@@ -124,7 +124,7 @@ fn less(cost: Option<i64>, amount: i64) -> Option<i64>
 }
 
 /// What shifts take at a setting of the first side and at one of the second, together.
-fn taken(from: &[i64], first: usize, to: &[i64], second: usize) -> i64
+pub fn taken(from: &[i64], first: usize, to: &[i64], second: usize) -> i64
     requires from { (v : ℕ) → IsWithin 562949953421312 (slice_index_or from.now v (pos 0)) }
     requires to { (w : ℕ) → IsWithin 562949953421312 (slice_index_or to.now w (pos 0)) }
     ensures taken { result ≡ slice_index_or from.now first (pos 0) +ℤ slice_index_or to.now second (pos 0) }

@@ -9,4 +9,9 @@ mod raw;
 mod sums;
 mod switches;
 
-pub use assembly::linked_tables;
+pub use assembly::{all_links, all_protocols, linked_tables, most_settings, settings};
+pub use cells::{less, taken, value_at};
+pub use points::{can_read, slot_costs};
+pub use raw::RawLink;
+pub use sums::{Rows, shift_sums};
+pub use switches::switch_tables;

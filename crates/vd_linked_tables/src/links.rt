@@ -224,7 +224,8 @@ fn links_of_switch(
     requires labelled { IsLabelled problem.now }
     requires limits { IsWithinLimits problem.now }
     requires list { list.now ≡ protocols problem.now }
-    ensures { IfOk result (λ links. links ≡ option_map_or (switch_raws list.now point switch.now) (slice_get problem.now.guards switch.now.guard) []) }
+    ensures { IfOk result (λ links. links ≡ option_map_or (switch_raws list.now point switch.now)
+        (slice_get problem.now.guards switch.now.guard) []) }
 {
     match problem.guards.as_slice().get(switch.guard as usize) {
         Some(guard) => switch_links(alloc, list, point, switch, guard),

@@ -40,7 +40,7 @@ fn can_act(formula: &Formula, other: &Formula) -> bool
 }
 
 /// Whether the host may read what has the slot's label.
-fn can_read(problem: &Problem, host: HostId, slot: SlotId) -> bool
+pub fn can_read(problem: &Problem, host: HostId, slot: SlotId) -> bool
     requires labelled { IsLabelled problem.now }
     requires host { host.0 < length problem.now.hosts }
     ensures { result ≡ may_read problem.now host slot.0 }
@@ -115,7 +115,7 @@ fn own_cost(readable: bool, cost: Option<i64>, amount: i64) -> Option<i64>
 }
 
 /// What the slot alone costs by place, in parts, with what shifts put on it: `values` has its operation and outputs in units.
-fn slot_costs(
+pub fn slot_costs(
     alloc: Global,
     problem: &Problem,
     list: &[Proto],
@@ -171,7 +171,8 @@ fn table_of_switch(
     requires labelled { IsLabelled problem.now }
     requires host { host.0 < length problem.now.hosts }
     requires amounts { (v : ℕ) → IsWithin 562949953421312 (slice_index_or amounts.now v (pos 0)) }
-    ensures { IfOk result (λ table. table ≡ table_of_values (true ∷ true ∷ []) (switch_values problem.now (switch_of guard.now host) amounts.now)) }
+    ensures { IfOk result (λ table. table ≡ table_of_values (true ∷ true ∷ [])
+        (switch_values problem.now (switch_of guard.now host) amounts.now)) }
 {
     let readable = can_read(problem, host, guard.slot);
     let off = own_cost(true, Some(0), amount_at(amounts, 0));

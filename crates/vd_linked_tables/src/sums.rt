@@ -22,7 +22,7 @@ pub enum Rows {
 }
 
 /// What the shifts come to in each of so many rows and settings.
-pub(crate) fn shift_sums(
+pub fn shift_sums(
     alloc: Global,
     links: &[RawLink],
     rows: Rows,

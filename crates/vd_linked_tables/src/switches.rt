@@ -128,7 +128,7 @@ fn push_switches(
 }
 
 /// The switches, by guard and then by host.
-pub(crate) fn switch_tables(
+pub fn switch_tables(
     alloc: Global,
     problem: &Problem,
     list: &[Proto],

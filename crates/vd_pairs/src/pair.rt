@@ -73,7 +73,8 @@ impl Pair {
     pub fn share(&self, from: HostId, x: Reg, to: &mut Duet) -> Result<Shares, AllocError>
         requires known { AreKnown (self.now.first ∷ self.now.second ∷ []) to.old.next }
         requires room { AreLow to.old.next }
-        ensures exact { IfOk result (λ y. Makes (shared_from (sharing_of self.now.sharing) self.now.first self.now.second from x) to.old y to.new) }
+        ensures exact { IfOk result (λ y. Makes (shared_from (sharing_of self.now.sharing) self.now.first self.now.second from x)
+            to.old y to.new) }
         ensures few { OnOk result (TakesAtMost 32 to.old.next to.new.next) }
     {
         if from.0 == self.first.0 {
@@ -103,7 +104,8 @@ impl Pair {
     fn split_off(&self, x: Reg, to: &mut Duet) -> Result<Shares, AllocError>
         requires known { AreKnown (self.now.first ∷ self.now.second ∷ []) to.old.next }
         requires room { AreLow to.old.next }
-        ensures exact { IfOk result (λ y. Makes (split_off (sharing_of self.now.sharing) self.now.first self.now.second x) to.old y to.new) }
+        ensures exact { IfOk result (λ y. Makes (split_off (sharing_of self.now.sharing) self.now.first self.now.second x) to.old y
+            to.new) }
         ensures few { OnOk result (TakesAtMost 32 to.old.next to.new.next) }
     {
         let at = self.reserve(2, 1, to);
@@ -137,7 +139,8 @@ impl Pair {
     pub fn show(&self, x: Shares, at: HostId, to: &mut Duet) -> Result<Reg, AllocError>
         requires known { AreKnown (self.now.first ∷ self.now.second ∷ []) to.old.next }
         requires room { AreLow to.old.next }
-        ensures exact { IfOk result (λ y. Makes (shown_at (sharing_of self.now.sharing) self.now.first self.now.second x at) to.old y to.new) }
+        ensures exact { IfOk result (λ y. Makes (shown_at (sharing_of self.now.sharing) self.now.first self.now.second x at) to.old
+            y to.new) }
         ensures few { OnOk result (TakesAtMost 32 to.old.next to.new.next) }
     {
         if at.0 == self.first.0 {
@@ -151,7 +154,8 @@ impl Pair {
     fn open(&self, part: Reg, own: Reg, to: &mut Duet) -> Result<Reg, AllocError>
         requires known { AreKnown (self.now.first ∷ self.now.second ∷ []) to.old.next }
         requires room { AreLow to.old.next }
-        ensures exact { IfOk result (λ y. Makes (opened_by (sharing_of self.now.sharing) self.now.second part self.now.first own) to.old y to.new) }
+        ensures exact { IfOk result (λ y. Makes (opened_by (sharing_of self.now.sharing) self.now.second part self.now.first own)
+            to.old y to.new) }
         ensures few { OnOk result (TakesAtMost 32 to.old.next to.new.next) }
     {
         let heard = to.reserve(self.first, 2);
@@ -168,7 +172,8 @@ impl Pair {
     pub fn show_all(&self, x: Shares, to: &mut Duet) -> Result<Shares, AllocError>
         requires known { AreKnown (self.now.first ∷ self.now.second ∷ []) to.old.next }
         requires room { AreLow to.old.next }
-        ensures exact { IfOk result (λ y. Makes (shown_to_both (sharing_of self.now.sharing) self.now.first self.now.second x) to.old y to.new) }
+        ensures exact { IfOk result (λ y. Makes (shown_to_both (sharing_of self.now.sharing) self.now.first self.now.second x)
+            to.old y to.new) }
         ensures few { OnOk result (TakesAtMost 32 to.old.next to.new.next) }
     {
         let at = self.reserve(2, 2, to);

@@ -19,7 +19,8 @@ impl Pair {
     pub fn product(&self, x: Shares, y: Shares, to: &mut Duet) -> Result<Shares, AllocError>
         requires known { AreKnown (self.now.first ∷ self.now.second ∷ []) to.old.next }
         requires room { AreLow to.old.next }
-        ensures exact { IfOk result (λ r. Makes (product_shares (sharing_of self.now.sharing) self.now.first self.now.second x y) to.old r to.new) }
+        ensures exact { IfOk result (λ r. Makes (product_shares (sharing_of self.now.sharing) self.now.first self.now.second x y)
+            to.old r to.new) }
         ensures few { OnOk result (TakesAtMost 32 to.old.next to.new.next) }
     {
         let at = self.reserve(15, 13, to);
@@ -37,7 +38,8 @@ impl Pair {
     fn mask(&self, x: Shares, y: Shares, at: Shares, to: &mut Duet) -> Result<(), AllocError>
         requires low_first { at.first.0 < 4000000016 }
         requires low_second { at.second.0 < 4000000016 }
-        ensures { OnOk result (to.new ≡ appended (Masked (sharing_of self.now.sharing) (masking_from self.now.first x.first y.first at.first.0)
+        ensures { OnOk result (to.new ≡ appended (Masked (sharing_of self.now.sharing)
+            (masking_from self.now.first x.first y.first at.first.0)
             (masking_from self.now.second x.second y.second at.second.0) ∷ []) to.old) }
     {
         hide(

@@ -159,7 +159,8 @@ fn next_sums(
     requires path { IsPath problem.now tables.now room.now sums.now depth valid }
     requires room { depth < length problem.now.slots }
     requires choice { slice_index_or room.now depth 0 < length (protocols problem.now) }
-    ensures { MatchOption result (is_valid problem.now (take (depth + 1) room.now) ≡ false) (λ s. IsNext problem.now tables.now (take (depth + 1) room.now) s) }
+    ensures { MatchOption result (is_valid problem.now (take (depth + 1) room.now) ≡ false)
+        (λ s. IsNext problem.now tables.now (take (depth + 1) room.now) s) }
 {
     if valid <= depth {
         return None;

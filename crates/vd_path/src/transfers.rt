@@ -223,7 +223,8 @@ fn columns(
 ) -> Result<Items<i64>, AllocError>
     requires prices { ArePrices prices.now }
     requires transfer { IsTransfer transfer.now }
-    ensures { IfOk result (λ columns. columns ≡ by_place seconds (λ q. unwrap_or (column_of prices.now transfer.now firsts.now q) nothing_left)) }
+    ensures { IfOk result (λ columns. columns ≡ by_place seconds (λ q. unwrap_or (column_of prices.now transfer.now firsts.now q)
+        nothing_left)) }
 {
     let mut columns = Items::new(alloc);
     for second in 0..seconds {

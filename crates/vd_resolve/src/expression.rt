@@ -205,7 +205,8 @@ impl<'a> Declarations<'a> {
     /// The steps of a chain from the left, on an operand of this kind.
     #[cycle(typing)]
     fn chain(&self, values: &Values<'a>, first: Kind, links: &[Link]) -> Result<Typed, NameFault>
-        ensures kind { IfOk result (λ typed. chain_typing (map typing_of_link links.now) (scope_of self.now) values.now first ≡ Ok typed.kind) }
+        ensures kind { IfOk result (λ typed. chain_typing (map typing_of_link links.now) (scope_of self.now) values.now first ≡
+            Ok typed.kind) }
         ensures size { IfOk result (λ typed. IsCapped typed.size
             (links_after nothing (map sizing_of_link links.now) (sizes_of self.now) (variables values.now))) }
         ensures fault { IfErr result (IsFaultOf (chain_typing (map typing_of_link links.now) (scope_of self.now) values.now first)) }
@@ -252,7 +253,8 @@ impl<'a> Declarations<'a> {
     #[cycle(typing)]
     fn arguments(&self, values: &Values<'a>, exprs: &[Expr]) -> Result<Arguments, NameFault>
         ensures kinds { IfOk result (λ given. typings [] (map typing exprs.now) (scope_of self.now) values.now ≡ Ok given.kinds) }
-        ensures size { IfOk result (λ given. IsCapped given.size (sizes_after nothing (map sizing exprs.now) (sizes_of self.now) (variables values.now))) }
+        ensures size { IfOk result (λ given. IsCapped given.size (sizes_after nothing (map sizing exprs.now) (sizes_of self.now)
+            (variables values.now))) }
         ensures fault { IfErr result (IsFaultOf (typings [] (map typing exprs.now) (scope_of self.now) values.now)) }
     {
         let mut kinds = Items::new(self.alloc);

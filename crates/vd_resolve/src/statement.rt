@@ -85,7 +85,8 @@ impl<'a> Declarations<'a> {
     #[cycle(checking)]
     pub fn block(&self, values: &mut Values<'a>, body: &'a [Statement]) -> Result<Size, NameFault>
         ensures checked { OnOk result (block_check (map checking body.now) (scope_of self.now) values.old ≡ Ok values.new) }
-        ensures sized { IfOk result (λ size. IsCapped size (block_size (map statement_size body.now) (sizes_of self.now) (variables values.old))) }
+        ensures sized { IfOk result (λ size. IsCapped size (block_size (map statement_size body.now) (sizes_of self.now)
+            (variables values.old))) }
         ensures kept { OnOk result (values.new ≡ values.old) }
         ensures fault { IfErr result (IsFaultOf (block_check (map checking body.now) (scope_of self.now) values.old)) }
     {
@@ -103,7 +104,8 @@ impl<'a> Declarations<'a> {
         statement: &'a Statement,
     ) -> Result<Size, NameFault>
         ensures checked { OnOk result (checking statement.now (scope_of self.now) values.old ≡ Ok values.new) }
-        ensures sized { IfOk result (λ size. IsSized size values.new (statement_size statement.now (sizes_of self.now) (variables values.old))) }
+        ensures sized { IfOk result (λ size. IsSized size values.new (statement_size statement.now (sizes_of self.now)
+            (variables values.old))) }
         ensures kept { OnOk result (take (length values.old) values.new ≡ values.old) }
         ensures fault { IfErr result (IsFaultOf (checking statement.now (scope_of self.now) values.old)) }
     {

@@ -43,7 +43,8 @@ pub fn every_schedule()
 /// of the joint run.
 pub fn rounds_end()
     ensures stuck { (s : Supply) (n : ℕ) (w : World) → EndedFrom n w → IsStuck s (then_all s n w) }
-    ensures whole { (s : Supply) (j : Joint) (n : ℕ) (b : List ℕ) → RunsToItsEnd s j → IsOf n j → then_all s n (reached s j b) ≡ at_end (last_of s j) }
+    ensures whole { (s : Supply) (j : Joint) (n : ℕ) (b : List ℕ) → RunsToItsEnd s j → IsOf n j → then_all s n (reached s j b) ≡
+        at_end (last_of s j) }
 {}
 
 /// In every world that some schedule reaches, the hosts that are ready are those that can step.
@@ -78,7 +79,8 @@ pub fn parts_are_those_that_act()
 
 /// Each link is a queue: what a host sends goes to its end, and what a host receives was at its front.
 pub fn first_in_first_out()
-    ensures { (s : Supply) (j : Joint) (b : List ℕ) (h : ℕ) (u : World) → step s h (reached s j b) ≡ Some u → QueuesStep (reached s j b) u h }
+    ensures { (s : Supply) (j : Joint) (b : List ℕ) (h : ℕ) (u : World) → step s h (reached s j b) ≡ Some u →
+        QueuesStep (reached s j b) u h }
 {}
 
 /// A tidy gadget leads sound states to sound states, for every valid deal; so do tidy gadgets in a row, and a tidy plan.

@@ -1,24 +1,20 @@
 -- What a search answers, as a selection.
-use Rattle.std.proofs.Common.{◌≡◌, ℕ, ◌+◌, ◌<◌, ◌≤◌, ◌&&◌, not, Bool, true, false, Option, Some, None, Result, Ok, Err, List, [], ◌∷◌, ◌++◌, length, refl, sym, ap, ◌∙◌, subst, arith, ℤ, pos, ◌≤ℤ◌}
+use Rattle.std.proofs.Common.{◌≡◌, ℕ, ◌+◌, ◌<◌, ◌≤◌, ◌&&◌, true, false, Option, Some, None, List, [], ◌∷◌, ◌++◌, length, refl, sym, ◌∙◌, subst, arith, ℤ, pos, ◌≤ℤ◌}
 use Rattle.std.specs.Prelude.{nat_lt}
 use Rattle.std.specs.List.{AllByRecursion}
-use Rattle.std.specs.Option.{option_map_or}
 use Rattle.std.proofs.lemmas.Int.{ints}
 use Rattle.std.proofs.lemmas.Bool.{true≢false, lt-ltb, and_from}
 use Rattle.vd_base.specs.Limits.{most_certificate_shifts}
 use Rattle.vd_prefixes.specs.declared.shift.Shift.{Shift}
-use Rattle.vd_prefixes.specs.Trees.{Tree, IsWhole, IsBounded, IsChoice, IsEmpty, InOrder, count_valid, count_within}
+use Rattle.vd_prefixes.specs.Trees.{IsWhole, IsChoice, IsEmpty}
 use Rattle.vd_certificate.specs.declared.certificate.Mark.{Mark}
 use Rattle.vd_certificate.specs.declared.certificate.Mark.TheVariants.{Expanded, Violated, Bounded, Best}
-use Rattle.vd_certificate.specs.declared.certificate.Certificate.{Certificate}
-use Rattle.vd_certificate.specs.Texts.{IsShift, IsCertificate}
-use Rattle.vd_bound.specs.declared.checking.Proved.{Proved}
-use Rattle.vd_bound.specs.declared.checking.CheckFault.{CheckFault}
+use Rattle.vd_certificate.specs.Texts.{IsShift}
 use Rattle.vd_bound.specs.Marks.{MarkHolds, AreTrees, opened_by, IsSound, IsLeastCost, count_of, is_expanded}
 use Rattle.vd_bound.specs.Checking.{checked}
-use Rattle.vd_bound.specs.Shifts.{is_bad, first_bad}
+use Rattle.vd_bound.specs.Shifts.{first_bad}
 use Rattle.vd_bound.proofs.Yes.{sound_is_yes}
-use Rattle.vd_search.specs.Answers.{Exceeds, IsLeast}
+use Rattle.vd_search.specs.Answers.{IsLeast}
 use Rattle.vd_space.specs.declared.problem.Problem.{Problem}
 use Rattle.vd_space.specs.Validity.{protocols}
 use Rattle.vd_space.specs.Costs.{cost}
@@ -28,8 +24,7 @@ use Rattle.vd_space.proofs.Bounded.{high_whole, tree_bounded}
 use Rattle.vd_selection.specs.Choices.{IsChosen, needed}
 use Rattle.vd_selection.specs.Confirming.{confirmed}
 use Rattle.vd_selection.specs.Naming.{NamesUse}
-use Rattle.vd_selection.specs.Selecting.{IsAccepted, Selects, IsOver}
-use Rattle.vd_selection.specs.declared.selecting.Selection.{Selection}
+use Rattle.vd_selection.specs.Selecting.{Selects, IsOver}
 use Rattle.vd_selection.specs.declared.selecting.Selection.TheVariants.{Found, NoAssignment}
 
 -- ---- shifts that name something

@@ -1,5 +1,5 @@
 -- What the search by links answers, as a selection.
-use Rattle.std.proofs.Common.{◌≡◌, ℕ, ◌+◌, ◌<◌, ◌≤◌, true, false, Option, Some, None, List, [], ◌∷◌, ◌++◌, length, refl, sym, ◌∙◌, subst, arith, ℤ, pos}
+use Rattle.std.proofs.Common.{◌≡◌, ℕ, ◌+◌, ◌<◌, ◌≤◌, true, false, Option, Some, None, List, [], ◌∷◌, ◌++◌, length, refl, sym, ◌∙◌, subst, arith, ℤ}
 use Rattle.std.specs.Prelude.{nat_lt}
 use Rattle.std.specs.List.{AllByRecursion}
 use Rattle.std.proofs.lemmas.Int.{ints}
@@ -32,7 +32,7 @@ use Rattle.vd_linked_path.specs.Tables.{AreLinkedTables}
 use Rattle.vd_link_ascent.specs.Shifts.{AreLinkShifts, IsLinkShift}
 use Rattle.vd_selection.specs.Confirming.{confirmed}
 use Rattle.vd_selection.specs.Linking.{CanLink, NamesLink}
-use Rattle.vd_selection.specs.Selecting.{IsAccepted, Selects}
+use Rattle.vd_selection.specs.Selecting.{Selects}
 use Rattle.vd_selection.specs.declared.selecting.Selection.TheVariants.{Found, NoAssignment}
 
 -- ---- shifts that name links

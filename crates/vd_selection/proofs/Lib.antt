@@ -5,4 +5,6 @@ pub mod Named
 pub mod Answered
 pub mod Staged
 pub mod ByLinks
+mod Floors
 mod Untied
+mod Passed

@@ -1,5 +1,6 @@
 -- What one search answers is an answer of all of them.
-use Rattle.std.proofs.Common.{◌≡◌, ℕ, ◌<◌, ◌≤◌, List, [], ◌∷◌, length, sym, subst, arith}
+use Rattle.std.proofs.Common.{◌≡◌, ℕ, ◌<◌, ◌≤◌, List, [], ◌∷◌, length, sym, ◌∙◌, subst, arith}
+use Rattle.std.proofs.lemmas.Int.{ints}
 use Rattle.std.specs.List.{AllByRecursion}
 use Rattle.vd_base.specs.Limits.{most_certificate_shifts}
 use Rattle.vd_certificate.specs.declared.certificate.Certificate.{Certificate}
@@ -8,12 +9,14 @@ use Rattle.vd_space.specs.declared.problem.Problem.{Problem}
 use Rattle.vd_space.specs.Labelled.{IsLabelled}
 use Rattle.vd_space.specs.Sizes.{IsWithinLimits}
 use Rattle.vd_space.specs.Validity.{protocols}
+use Rattle.vd_space.specs.Spaces.{IsProblem}
+use Rattle.vd_space.proofs.Bounded.{high_whole, tree_bounded}
 use Rattle.vd_space.proofs.Few.{few_in}
 use Rattle.vd_path.specs.declared.tables.Tables.{Tables}
 use Rattle.vd_path.specs.Tables.{AreTables}
 use Rattle.vd_ascent.specs.Shifts.{AreShiftsOf, IsShiftOf}
 use Rattle.vd_selection.specs.Naming.{NamesUse}
-use Rattle.vd_selection.specs.Selecting.{IsAccepted, Selects}
+use Rattle.vd_selection.specs.Selecting.{CostsAtLeast, IsAccepted, Selects}
 use Rattle.vd_selection.specs.Stages.{CanSelect}
 use Rattle.vd_selection.specs.declared.selecting.Selection.{Selection}
 use Rattle.vd_selection.specs.declared.selecting.Selection.TheVariants.{Found, NoAssignment}
@@ -26,6 +29,15 @@ accepted_more problem small budget c le is = record { proved = is.proved; accept
 pub selects_more : (problem : Problem) (small budget : ℕ) (s : Selection) → small ≤ budget → Selects problem small s → Selects problem budget s
 selects_more problem small budget (Found list least c) le is = (is.0, is.1, accepted_more problem small budget c le is.2)
 selects_more problem small budget (NoAssignment c) le is = (is.0, accepted_more problem small budget c le is.1)
+
+-- ---- a floor
+
+-- no list costs less than nothing
+pub costs_nothing : (problem : Problem) → IsProblem problem → CostsAtLeast problem 0
+costs_nothing problem is list whole =
+    let fits = (tree_bounded problem is []).fits list whole in
+    let same = sym (high_whole problem is [] list whole.full whole.valid) ∙ fits.2 in
+    omega (arith, ints, same)
 
 -- ---- better shifts
 

@@ -1,6 +1,5 @@
 -- What a search by links answers on a path that is the problem's, and which prefixes begin no list of so little cost.
-use Rattle.std.proofs.Common.{◌≡◌, ℕ, suc, List, [], ◌∷◌, ◌++◌, Result, Ok, Err, sym, subst, arith, pos}
-use Rattle.std.proofs.lemmas.Int.{ints}
+use Rattle.std.proofs.Common.{◌≡◌, ℕ, suc, List, [], ◌∷◌, ◌++◌, Result, Ok, Err, sym, subst, pos}
 use Rattle.std.specs.List.{All}
 use Rattle.std.specs.Prelude.{IfOk, OnOk}
 use Rattle.std.proofs.lemmas.List.Elements.{All-push}
@@ -10,7 +9,6 @@ use Rattle.vd_search.specs.declared.answers.Answer.{Answer}
 use Rattle.vd_space.specs.declared.problem.Problem.{Problem}
 use Rattle.vd_space.specs.Spaces.{IsProblem}
 use Rattle.vd_linked.specs.Linked.{linked_tree}
-use Rattle.vd_linked.proofs.Bounded.{linked_high_whole}
 use Rattle.vd_linked_path.specs.declared.made.LinkedTables.{LinkedTables}
 use Rattle.vd_selection.specs.Linking.{CanLink, IsBeyond, Tells}
 use Rattle.vd_selection.specs.Selecting.{Selects}
@@ -21,15 +19,6 @@ pub selected : (problem p : Problem) (tables t : LinkedTables) (budget : ℕ) (f
     → Answers (linked_tree p t.shifts) budget found → Tells tables found selection → Selects problem budget selection
 selected problem p tables t budget found selection same_problem same_tables holds can answers tells =
     tells problem budget holds can (subst (λ (x : LinkedTables). Answers (linked_tree problem x.shifts) budget found) same_tables (subst (λ (q : Problem). Answers (linked_tree q t.shifts) budget found) same_problem answers))
-
--- what costs more in the tree of some shifts does so under all
-pub beyond : (problem p : Problem) (guide : LinkedTables) (most : ℕ) (prefix : List ℕ) → p ≡ problem → IsProblem problem → AtLeast (linked_tree p guide.shifts) (pos (suc most)) prefix → IsBeyond problem most prefix
-beyond problem p guide most prefix same holds above = λ shifts rest whole.
-    let over : AtLeast (linked_tree problem guide.shifts) (pos (suc most)) prefix = subst (λ (q : Problem). AtLeast (linked_tree q guide.shifts) (pos (suc most)) prefix) same above in
-    let low = over rest (record { full = whole.full; valid = whole.valid }) in
-    let one = linked_high_whole problem holds guide.shifts (prefix ++ rest) whole.full whole.valid in
-    let two = linked_high_whole problem holds shifts (prefix ++ rest) whole.full whole.valid in
-    omega (arith, ints, low, one, two)
 
 -- one prefix more
 pub one_more : {E : Type 0} (P : List ℕ → Type 0) (old new : List (List ℕ)) (prefix : List ℕ) (result : Result (Unit {0}) E) → All P old → P prefix → OnOk result (new ≡ old ++ prefix ∷ []) → IfOk result (λ _. All P new)

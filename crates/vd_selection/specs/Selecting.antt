@@ -1,9 +1,10 @@
 -- What a selection of protocols comes to.
-use Rattle.std.specs.Prelude.{◌≡◌, ℕ, ◌≤◌, Some, None, Ok, List, pos}
+use Rattle.std.specs.Prelude.{◌≡◌, ℕ, ◌≤◌, Some, None, Ok, List, [], pos, ◌≤ℤ◌}
 use Rattle.vd_certificate.specs.declared.certificate.Certificate.{Certificate}
 use Rattle.vd_certificate.specs.Texts.{IsCertificate}
 use Rattle.vd_bound.specs.declared.checking.Proved.{Proved}
 use Rattle.vd_bound.specs.Marks.{count_of, is_expanded}
+use Rattle.vd_prefixes.specs.Trees.{IsWhole}
 use Rattle.vd_prefixes.specs.declared.shift.Shift.{Shift}
 use Rattle.vd_search.specs.Answers.{Exceeds}
 use Rattle.vd_space.specs.declared.problem.Problem.{Problem}
@@ -29,3 +30,7 @@ Selects problem budget (NoAssignment c) = IsChosen problem None × IsAccepted pr
 -- under these shifts, more prefixes are within the least cost than the budget has, or are valid where no list is
 abbrev pub IsOver : Problem → List Shift → ℕ → Type 0
 IsOver problem shifts budget = Exceeds (tree_of problem shifts) budget
+
+-- each valid list costs at least that
+abbrev pub CostsAtLeast : Problem → ℕ → Type 0
+CostsAtLeast problem floor = (list : List ℕ) → IsWhole (tree_of problem []) list → pos floor ≤ℤ cost problem list

@@ -6,6 +6,7 @@ mod laws;
 mod linking;
 mod selecting;
 mod stages;
+mod trying;
 mod walking;
 
 pub use confirming::confirm;

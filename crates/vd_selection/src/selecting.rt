@@ -5,7 +5,7 @@ ghost use Rattle.std.specs.List.{AllByRecursion};
 ghost use Rattle.vd_base.specs.Limits.{most_certificate_shifts};
 ghost use Rattle.vd_path.specs.Tables.{AreTables};
 ghost use Rattle.vd_selection.specs.Naming.{NamesUse};
-ghost use Rattle.vd_selection.specs.Selecting.{IsOver, Selects};
+ghost use Rattle.vd_selection.specs.Selecting.{CostsAtLeast, IsOver, Selects};
 ghost use Rattle.vd_selection.specs.declared.selecting.SelectFault.TheVariants as select_fault;
 ghost use Rattle.vd_space.specs.Labelled.{IsLabelled};
 ghost use Rattle.vd_space.specs.Sizes.{IsWithinLimits};
@@ -18,7 +18,7 @@ use std::fmt;
 use vd_certificate::{Certificate, Mark};
 use vd_items::Items;
 use vd_path::{Path, Tables};
-use vd_search::{Answer, Stop, search};
+use vd_search::{Answer, Stop, search_above};
 use vd_space::Problem;
 use vd_tables::tables;
 use vd_usual::usual;
@@ -60,11 +60,12 @@ impl From<AllocError> for SelectFault {
     }
 }
 
-/// The choice, or that there is none, by the tables of shifts.
+/// The choice, or that there is none, by the tables of shifts, where it is known that each valid list costs at least the floor.
 pub fn select_by(
     alloc: Global,
     problem: &Problem,
     tables: &Tables,
+    floor: u32,
     budget: u32,
 ) -> Result<Selection, SelectFault>
     requires holds { IsProblem problem.now }
@@ -72,12 +73,13 @@ pub fn select_by(
     requires tables { AreTables problem.now tables.now }
     requires named { AllByRecursion (NamesUse problem.now) tables.now.shifts }
     requires few { length tables.now.shifts ≤ most_certificate_shifts }
+    requires floor { CostsAtLeast problem.now floor }
     requires budget { budget < 4294967295 }
     ensures selects { IfOk result (Selects problem.now budget) }
     ensures spent { result ≡ Err select_fault.Spent → IsOver problem.now tables.now.shifts budget }
 {
     let mut path = Path::new(alloc, problem, tables)?;
-    match search(alloc, &mut path, budget) {
+    match search_above(alloc, &mut path, floor, budget) {
         Ok(Answer::Found(list, cost, marks)) => {
             let certificate = least_certificate(alloc, tables, cost, marks)?;
             Ok(Selection::Found(list, cost, certificate))

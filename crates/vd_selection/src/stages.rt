@@ -1,10 +1,10 @@
 //! The searches that are made one after the other: with a small budget under the usual shifts, under better ones and by links,
-//! and then with the whole budget under the better and under the usual ones.
+//! then with a part of the budget under the better and with the whole under the usual ones, from what each valid list costs at least by links.
 
 ghost use Rattle.std.specs.Prelude.{◌≡◌, ◌≢◌, ◌≤◌, ◌<◌, IfOk, IfSome, Err, length};
 ghost use Rattle.vd_base.specs.Limits.{most_certificate_shifts};
-ghost use Rattle.vd_selection.specs.Selecting.{IsOver, Selects};
-ghost use Rattle.vd_selection.specs.Stages.{CanSelect};
+ghost use Rattle.vd_selection.specs.Selecting.{CostsAtLeast, IsOver, Selects};
+ghost use Rattle.vd_selection.specs.Stages.{CanSelect, Tries};
 ghost use Rattle.vd_selection.specs.declared.selecting.SelectFault.TheVariants as select_fault;
 ghost use Rattle.vd_space.specs.Labelled.{IsLabelled};
 ghost use Rattle.vd_space.specs.Sizes.{IsWithinLimits};
@@ -13,6 +13,7 @@ ghost use Rattle.vd_space.specs.Usual.{usual as usual_shifts};
 
 use crate::linking::try_links;
 use crate::selecting::{SelectFault, Selection, select_by, usual_tables};
+use crate::trying::Tried;
 use std::alloc::{AllocError, Global};
 use vd_ascent::ascend;
 use vd_path::Tables;
@@ -24,6 +25,12 @@ const FIRST_BUDGET: u32 = 1000;
 
 const FIRST_BUDGET_OF_A_SLOT: u32 = 4;
 
+/// A search by links may open so many prefixes, and one more for each slot.
+const LINKED_BUDGET: u32 = 256;
+
+/// The search by better shifts behind that by links has so small a part of the budget.
+const LATE_PART: u32 = 8;
+
 /// The budget of the first search: enough where the usual shifts are good.
 fn first_budget(problem: &Problem, budget: u32) -> u32
     requires limits { IsWithinLimits problem.now }
@@ -33,21 +40,40 @@ fn first_budget(problem: &Problem, budget: u32) -> u32
     budget.min(FIRST_BUDGET + FIRST_BUDGET_OF_A_SLOT * slots)
 }
 
-/// The choice, or that there is none, by tables of shifts; nothing where the budget is spent.
+/// The budget of a search by links: enough where their shifts leave few ties, which else a walk breaks sooner.
+fn linked_budget(problem: &Problem, budget: u32) -> u32
+    requires limits { IsWithinLimits problem.now }
+    ensures { result ≤ budget }
+{
+    let slots = problem.slots.as_slice().len() as u32;
+    budget.min(LINKED_BUDGET + slots)
+}
+
+/// The budget of the search by better shifts behind that by links.
+fn late_budget(budget: u32) -> u32
+    ensures { result ≤ budget }
+{
+    budget / LATE_PART
+}
+
+/// The choice, or that there is none, by tables of shifts, where each valid list costs at least the floor; nothing where the
+/// budget is spent.
 fn try_by(
     alloc: Global,
     problem: &Problem,
     tables: &Tables,
+    floor: u32,
     budget: u32,
 ) -> Result<Option<Selection>, SelectFault>
     requires holds { IsProblem problem.now }
     requires labelled { IsLabelled problem.now }
     requires tables { CanSelect problem.now tables.now }
+    requires floor { CostsAtLeast problem.now floor }
     requires budget { budget < 4294967295 }
     ensures selects { IfOk result (λ found. IfSome found (Selects problem.now budget)) }
     ensures unspent { result ≢ Err select_fault.Spent }
 {
-    match select_by(alloc, problem, tables, budget) {
+    match select_by(alloc, problem, tables, floor, budget) {
         Ok(selection) => Ok(Some(selection)),
         Err(SelectFault::Spent) => Ok(None),
         Err(SelectFault::Memory) => Err(SelectFault::Memory),
@@ -67,87 +93,109 @@ fn better_tables(alloc: Global, problem: &Problem) -> Result<Option<Tables>, All
     }
 }
 
-/// The choice, or that there is none, by these tables; nothing where there are none or the budget is spent.
+/// The choice, or that there is none, by these tables, where each valid list costs at least the floor; nothing where there are
+/// none or the budget is spent.
 fn try_some(
     alloc: Global,
     problem: &Problem,
     tables: &Option<Tables>,
+    floor: u32,
     budget: u32,
 ) -> Result<Option<Selection>, SelectFault>
     requires holds { IsProblem problem.now }
     requires labelled { IsLabelled problem.now }
     requires tables { IfSome tables.now (CanSelect problem.now) }
+    requires floor { CostsAtLeast problem.now floor }
     requires budget { budget < 4294967295 }
     ensures selects { IfOk result (λ found. IfSome found (Selects problem.now budget)) }
     ensures unspent { result ≢ Err select_fault.Spent }
 {
     match tables {
-        Some(tables) => try_by(alloc, problem, tables, budget),
+        Some(tables) => try_by(alloc, problem, tables, floor, budget),
         None => Ok(None),
     }
 }
 
-/// The choice, or that there is none, by these tables with a small budget, or by links with that; nothing where neither search
-/// ends.
+/// The choice, or that there is none, by these tables with a small budget, or by links with that; where neither search ends,
+/// what each valid list costs at least by links.
 fn try_small(
     alloc: Global,
     problem: &Problem,
     tables: &Option<Tables>,
     budget: u32,
-) -> Result<Option<Selection>, SelectFault>
+) -> Result<Tried, SelectFault>
     requires holds { IsProblem problem.now }
     requires labelled { IsLabelled problem.now }
     requires limits { IsWithinLimits problem.now }
     requires tables { IfSome tables.now (CanSelect problem.now) }
     requires budget { budget < 4294967295 }
-    ensures selects { IfOk result (λ found. IfSome found (Selects problem.now budget)) }
+    ensures tries { IfOk result (Tries problem.now budget) }
     ensures unspent { result ≢ Err select_fault.Spent }
 {
-    match try_some(alloc, problem, tables, budget)? {
-        Some(selection) => Ok(Some(selection)),
-        None => try_links(alloc, problem, budget),
+    match try_some(alloc, problem, tables, 0, budget)? {
+        Some(selection) => Ok(Tried::Selected(selection)),
+        None => try_links(alloc, problem, linked_budget(problem, budget)),
     }
 }
 
-/// The choice, or that there is none, by better shifts or by links with a small budget, or by better shifts with a great one;
-/// nothing where no search ends.
-fn try_better(
+/// The choice, or that there is none, by these tables, where each valid list costs at least the floor; the floor where there
+/// are none or the budget is spent.
+fn try_above(
     alloc: Global,
     problem: &Problem,
+    tables: &Option<Tables>,
+    floor: u32,
     budget: u32,
-) -> Result<Option<Selection>, SelectFault>
+) -> Result<Tried, SelectFault>
+    requires holds { IsProblem problem.now }
+    requires labelled { IsLabelled problem.now }
+    requires tables { IfSome tables.now (CanSelect problem.now) }
+    requires floor { CostsAtLeast problem.now floor }
+    requires budget { budget < 4294967295 }
+    ensures tries { IfOk result (Tries problem.now budget) }
+    ensures unspent { result ≢ Err select_fault.Spent }
+{
+    match try_some(alloc, problem, tables, floor, budget)? {
+        Some(selection) => Ok(Tried::Selected(selection)),
+        None => Ok(Tried::Unended(floor)),
+    }
+}
+
+/// The choice, or that there is none, by better shifts or by links with a small budget, or by better shifts with a greater one;
+/// where no search ends, what each valid list costs at least.
+fn try_better(alloc: Global, problem: &Problem, budget: u32) -> Result<Tried, SelectFault>
     requires holds { IsProblem problem.now }
     requires labelled { IsLabelled problem.now }
     requires limits { IsWithinLimits problem.now }
     requires budget { budget < 4294967295 }
-    ensures selects { IfOk result (λ found. IfSome found (Selects problem.now budget)) }
+    ensures tries { IfOk result (Tries problem.now budget) }
     ensures unspent { result ≢ Err select_fault.Spent }
 {
     let better = better_tables(alloc, problem)?;
     match try_small(alloc, problem, &better, first_budget(problem, budget))? {
-        Some(selection) => Ok(Some(selection)),
-        None => try_some(alloc, problem, &better, budget),
+        Tried::Selected(selection) => Ok(Tried::Selected(selection)),
+        Tried::Unended(floor) => try_above(alloc, problem, &better, floor, late_budget(budget)),
     }
 }
 
-/// The choice, or that there is none, by the usual shifts with a small budget, by better ones, or by links; nothing where no
-/// search ends.
+/// The choice, or that there is none, by the usual shifts with a small budget, by better ones, or by links; where no search
+/// ends, what each valid list costs at least.
 fn try_early(
     alloc: Global,
     problem: &Problem,
     usual: &Tables,
     budget: u32,
-) -> Result<Option<Selection>, SelectFault>
+) -> Result<Tried, SelectFault>
     requires holds { IsProblem problem.now }
     requires labelled { IsLabelled problem.now }
     requires limits { IsWithinLimits problem.now }
     requires usual { CanSelect problem.now usual.now }
     requires budget { budget < 4294967295 }
-    ensures selects { IfOk result (λ found. IfSome found (Selects problem.now budget)) }
+    ensures tries { IfOk result (Tries problem.now budget) }
     ensures unspent { result ≢ Err select_fault.Spent }
 {
-    match try_by(alloc, problem, usual, first_budget(problem, budget))? {
-        Some(selection) => Ok(Some(selection)),
+    match try_by(alloc, problem, usual, 0, first_budget(problem, budget))? {
+        Some(selection) => Ok(Tried::Selected(selection)),
         None => try_better(alloc, problem, budget),
     }
 }
@@ -164,7 +212,7 @@ pub fn select(alloc: Global, problem: &Problem, budget: u32) -> Result<Selection
 {
     let tables = usual_tables(alloc, problem)?;
     match try_early(alloc, problem, &tables, budget)? {
-        Some(selection) => Ok(selection),
-        None => select_by(alloc, problem, &tables, budget),
+        Tried::Selected(selection) => Ok(selection),
+        Tried::Unended(floor) => select_by(alloc, problem, &tables, floor, budget),
     }
 }

@@ -1,8 +1,9 @@
 //! The search by links where ties at the bound of the root are broken by a walk.
 
-ghost use Rattle.std.specs.Prelude.{◌≡◌, ◌≢◌, ◌<◌, [], IfOk, IfSome, Err, true};
-ghost use Rattle.std.specs.List.{All};
+ghost use Rattle.std.specs.Prelude.{◌≡◌, ◌≢◌, ◌<◌, [], IfOk, IfSome, Err, nat_lt, true};
+ghost use Rattle.std.specs.List.{All, list_all};
 ghost use Rattle.vd_link_ascent.specs.Shifts.{AreLinkShifts};
+ghost use Rattle.vd_linked_bound.specs.Bounds.{IsBoundOf};
 ghost use Rattle.vd_linked_path.specs.Tables.{AreLinkedTables};
 ghost use Rattle.vd_path.specs.Tables.{AreTables};
 ghost use Rattle.vd_selection.specs.Linking.{CanLink, IsBeyond};
@@ -16,45 +17,58 @@ use crate::linking::linked_selection;
 use crate::selecting::{SelectFault, Selection};
 use std::alloc::{AllocError, Global};
 use vd_items::Items;
-use vd_link_ascent::{Refutation, Walk};
+use vd_link_ascent::{Ascent, Refutation, Walk};
+use vd_linked_bound::LinkedBound;
 use vd_linked_path::{LinkedPath, LinkedTables};
-use vd_linked_tables::linked_tables;
 use vd_path::Tables;
 use vd_prefixes::{Prefixes, Shift};
 use vd_search::Stop;
 use vd_space::Problem;
-use vd_untied::{is_above, search_untied};
+use vd_untied::search_untied;
 
 /// At most so many prefixes are passed over.
-const MOST_PASSED: u32 = 4096;
+const MOST_PASSED: u32 = 1024;
+
+/// Whether each choice is one of so many.
+fn are_among(choices: &[u32], count: usize) -> bool
+    ensures { result ≡ list_all (λ choice. nat_lt choice count) choices.now }
+{
+    for choice in choices {
+        if *choice as usize >= count {
+            return false;
+        }
+    }
+    true
+}
 
 /// Whether by the bound under these shifts of links each list that begins so costs more than that.
 fn is_beyond(
     alloc: Global,
     problem: &Problem,
-    tables: &Tables,
-    shifts: Items<Shift>,
+    bound: &LinkedBound,
+    shifts: &[Shift],
     prefix: &[u32],
     most: u32,
 ) -> Result<bool, AllocError>
     requires holds { IsProblem problem.now }
     requires labelled { IsLabelled problem.now }
     requires limits { IsWithinLimits problem.now }
-    requires tables { AreTables problem.now tables.now }
-    requires plain { tables.now.shifts ≡ [] }
-    requires shifts { AreLinkShifts problem.now shifts }
+    requires bound { IsBoundOf problem.now bound.now }
+    requires shifts { AreLinkShifts problem.now shifts.now }
     ensures { IfOk result (λ beyond. beyond ≡ true → IsBeyond problem.now most prefix.now) }
 {
-    let linked = linked_tables(alloc, problem, shifts)?;
-    let mut path = LinkedPath::new(alloc, problem, tables, &linked)?;
-    Ok(is_above(&mut path, prefix, most))
+    if !are_among(prefix, bound.list.as_slice().len()) {
+        return Ok(false);
+    }
+    let least = bound.bound(alloc, problem, shifts, prefix)?;
+    Ok(least > i64::from(most))
 }
 
 /// Notes the prefix of a refutation, if it is shown that each list that begins so costs more than that.
 fn pass_over(
     alloc: Global,
     problem: &Problem,
-    tables: &Tables,
+    bound: &LinkedBound,
     found: Refutation,
     most: u32,
     passed: &mut Items<Items<u32>>,
@@ -62,14 +76,14 @@ fn pass_over(
     requires holds { IsProblem problem.now }
     requires labelled { IsLabelled problem.now }
     requires limits { IsWithinLimits problem.now }
-    requires tables { AreTables problem.now tables.now }
-    requires plain { tables.now.shifts ≡ [] }
+    requires bound { IsBoundOf problem.now bound.now }
     requires shifts { AreLinkShifts problem.now found.shifts }
     requires passed { All (IsBeyond problem.now most) passed.old }
     ensures { IfOk result (λ _. All (IsBeyond problem.now most) passed.new) }
 {
     let Refutation { prefix, shifts } = found;
-    if !is_beyond(alloc, problem, tables, shifts, prefix.as_slice(), most)? {
+    let shifts = shifts.as_slice();
+    if !is_beyond(alloc, problem, bound, shifts, prefix.as_slice(), most)? {
         return Ok(());
     }
     passed.push(prefix)
@@ -79,50 +93,49 @@ fn pass_over(
 fn passed_over(
     alloc: Global,
     problem: &Problem,
-    tables: &Tables,
+    bound: &LinkedBound,
     walk: &mut Walk,
     most: u32,
 ) -> Result<Items<Items<u32>>, AllocError>
     requires holds { IsProblem problem.now }
     requires labelled { IsLabelled problem.now }
     requires limits { IsWithinLimits problem.now }
-    requires tables { AreTables problem.now tables.now }
-    requires plain { tables.now.shifts ≡ [] }
+    requires bound { IsBoundOf problem.now bound.now }
     requires walk { walk.old.problem.now ≡ problem.now }
     ensures { IfOk result (All (IsBeyond problem.now most)) }
 {
     let mut passed = Items::new(alloc);
     for _ in 0..MOST_PASSED {
         match walk.next(alloc)? {
-            Some(found) => pass_over(alloc, problem, tables, found, most, &mut passed)?,
+            Some(found) => pass_over(alloc, problem, bound, found, most, &mut passed)?,
             None => break,
         }
     }
     Ok(passed)
 }
 
-/// The prefixes that a walk from all lists passes over, at that aim; nothing where there is no walk.
+/// The prefixes that a walk behind an ascent passes over, at that aim; nothing where it does not come to a whole list.
 fn walked(
     alloc: Global,
     problem: &Problem,
-    tables: &Tables,
     without: &LinkedTables,
     path: LinkedPath,
+    ascent: Ascent,
     most: u32,
 ) -> Result<Option<Items<Items<u32>>>, AllocError>
     requires holds { IsProblem problem.now }
     requires labelled { IsLabelled problem.now }
     requires limits { IsWithinLimits problem.now }
-    requires tables { AreTables problem.now tables.now }
-    requires plain { tables.now.shifts ≡ [] }
     requires without { AreLinkedTables problem.now without.now }
     requires path { path.problem.now ≡ problem.now }
     ensures { IfOk result (λ found. IfSome found (All (IsBeyond problem.now most))) }
 {
-    let Some(mut walk) = Walk::new(alloc, problem, without, path, most)? else {
+    let mut walk = Walk::new(alloc, problem, without, path, ascent, most)?;
+    let bound = LinkedBound::new(alloc, problem)?;
+    let passed = passed_over(alloc, problem, &bound, &mut walk, most)?;
+    if !walk.is_whole() {
         return Ok(None);
-    };
-    let passed = passed_over(alloc, problem, tables, &mut walk, most)?;
+    }
     Ok(Some(passed))
 }
 
@@ -166,6 +179,7 @@ pub fn select_by_walk(
     tables: &Tables,
     without: &LinkedTables,
     linked: &LinkedTables,
+    ascent: Ascent,
     budget: u32,
 ) -> Result<Option<Selection>, SelectFault>
     requires holds { IsProblem problem.now }
@@ -186,7 +200,7 @@ pub fn select_by_walk(
     let Ok(most) = u32::try_from(path.bound()) else {
         return Ok(None);
     };
-    match walked(alloc, problem, tables, without, path, most)? {
+    match walked(alloc, problem, without, path, ascent, most)? {
         Some(passed) => select_untied(alloc, problem, tables, linked, passed, most, budget),
         None => Ok(None),
     }

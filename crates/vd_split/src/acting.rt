@@ -15,7 +15,8 @@ use vd_core::{Right, Stmt};
 /// Whether a host has an instruction where a word is moved to each host of a protocol.
 #[tactic(auto, using(crate::proofs::Picked::any_none, crate::proofs::Picked::any_here, crate::proofs::Picked::any_absent, crate::proofs::Picked::any_fails))]
 fn acts_in_index<P: Protocols>(protocols: &P, from: Proto, proto: Proto, host: HostId) -> bool
-    ensures { result ≡ list_any (λ k. (P.offer protocols.now).calls.moves_at from (AtHost k) host.0) (hosts_of (P.offer protocols.now).calls proto) }
+    ensures { result ≡ list_any (λ k. (P.offer protocols.now).calls.moves_at from (AtHost k) host.0)
+        (hosts_of (P.offer protocols.now).calls proto) }
 {
     for number in 0..protocols.hosts() {
         if stands_at(proto, HostId(number)) {

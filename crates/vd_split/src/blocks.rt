@@ -27,7 +27,8 @@ fn open_loop<P: Protocols>(
 ) -> Result<Items<(u8, u32)>, AllocError>
     requires hosts { length to.old.next ≡ (P.offer protocols.now).calls.hosts }
     requires room { HasRoom 1 to.old.next }
-    ensures exact { IfOk result (λ loops. (loops, to.new) ≡ opened_loop (acting (P.offer protocols.now).calls protos.now body.now) count to.old) }
+    ensures exact { IfOk result (λ loops. (loops, to.new) ≡ opened_loop (acting (P.offer protocols.now).calls protos.now body.now)
+        count to.old) }
     ensures few { OnOk result (TakesAtMost 1 to.old.next to.new.next) }
 {
     let mut loops = Items::new(to.alloc());
@@ -54,7 +55,8 @@ fn open_guard<P: Protocols>(
 ) -> Result<Items<(u8, u32)>, AllocError>
     requires ready { IsReady (P.offer protocols.now) protos.now held.now 8192 to.old.next }
     requires guard { guard.0 < length held.now }
-    ensures exact { let o = P.offer protocols.now in IfOk result (λ at. (at, to.new) ≡ guarded o.calls protos.now guard first.now other.now held.now to.old) }
+    ensures exact { let o = P.offer protocols.now in IfOk result (λ at. (at, to.new) ≡
+        guarded o.calls protos.now guard first.now other.now held.now to.old) }
     ensures few { OnOk result (TakesAtMost 8192 to.old.next to.new.next) }
 {
     let hosts = takers_of(protocols, protos, first, other, to)?;
@@ -75,8 +77,10 @@ fn repeat<P: Protocols>(
     to: &mut Duet,
 ) -> Result<(), AllocError>
     requires { CanEmit (P.offer protocols.now) protos.now (repeat_fit (P.offer protocols.now) protos.now body.now) held.old to.old.next }
-    ensures exact { OnOk result ((to.new, held.new) ≡ loop_onto (P.offer protocols.now).calls protos.now count body.now held.old turns.now to.old) }
-    ensures emits { let o = P.offer protocols.now in OnOk result (Adds o protos.now (repeat_fit o protos.now body.now) held.old to.old held.new to.new) }
+    ensures exact { OnOk result ((to.new, held.new) ≡ loop_onto (P.offer protocols.now).calls protos.now count body.now held.old
+        turns.now to.old) }
+    ensures emits { let o = P.offer protocols.now in OnOk result (Adds o protos.now (repeat_fit o protos.now body.now) held.old
+        to.old held.new to.new) }
 {
     let registers = Items::from_slice(to.alloc(), to.next())?;
     let loops = open_loop(protocols, protos, count, body, to)?;
@@ -97,8 +101,10 @@ fn statement<P: Protocols>(
     to: &mut Duet,
 ) -> Result<(), AllocError>
     requires { CanEmit (P.offer protocols.now) protos.now (fit (P.offer protocols.now) protos.now stmt.now) held.old to.old.next }
-    ensures exact { OnOk result ((to.new, held.new) ≡ stmt_onto (P.offer protocols.now).calls protos.now stmt.now held.old turns.now to.old) }
-    ensures emits { let o = P.offer protocols.now in OnOk result (Adds o protos.now (fit o protos.now stmt.now) held.old to.old held.new to.new) }
+    ensures exact { OnOk result ((to.new, held.new) ≡ stmt_onto (P.offer protocols.now).calls protos.now stmt.now held.old turns.now
+        to.old) }
+    ensures emits { let o = P.offer protocols.now in OnOk result (Adds o protos.now (fit o protos.now stmt.now) held.old to.old
+        held.new to.new) }
 {
     match stmt {
         Stmt::Let(slot, right) => binding(protocols, protos, *slot, right, held, turns, to)?,
@@ -139,8 +145,10 @@ fn block<P: Protocols>(
     to: &mut Duet,
 ) -> Result<(), AllocError>
     requires { CanEmit (P.offer protocols.now) protos.now (block_fit (P.offer protocols.now) protos.now body.now) held.old to.old.next }
-    ensures exact { OnOk result ((to.new, held.new) ≡ block_onto (P.offer protocols.now).calls protos.now body.now held.old turns.now to.old) }
-    ensures emits { let o = P.offer protocols.now in OnOk result (Adds o protos.now (block_fit o protos.now body.now) held.old to.old held.new to.new) }
+    ensures exact { OnOk result ((to.new, held.new) ≡ block_onto (P.offer protocols.now).calls protos.now body.now held.old
+        turns.now to.old) }
+    ensures emits { let o = P.offer protocols.now in OnOk result (Adds o protos.now (block_fit o protos.now body.now) held.old
+        to.old held.new to.new) }
 {
     for stmt in body {
         statement(protocols, protos, stmt, held, turns, to)?;

@@ -52,7 +52,8 @@ pub(crate) fn deliver<P: Protocols>(
     requires slot { slot.0 < length held.now }
     requires hosts { Each (λ h. h.0 < (P.offer protocols.now).calls.hosts) hosts.now }
     requires few { length hosts.now ≤ most_hosts }
-    ensures exact { IfOk result (λ at. (at, to.new) ≡ slot_delivered_onto (P.offer protocols.now).calls protos.now held.now slot hosts.now to.old) }
+    ensures exact { IfOk result (λ at. (at, to.new) ≡ slot_delivered_onto (P.offer protocols.now).calls protos.now held.now slot
+        hosts.now to.old) }
     ensures few { OnOk result (TakesAtMost 8192 to.old.next to.new.next) }
 {
     let mut index = Items::new(to.alloc());
@@ -76,7 +77,8 @@ pub(crate) fn move_all<P: Protocols>(
     requires slots { IsTrue (list_all (has_parts (length held.now)) slots.now) }
     requires onto { IsTrue ((P.offer protocols.now).has onto) }
     requires few { length slots.now ≤ 4 }
-    ensures exact { IfOk result (λ moved. (moved, to.new) ≡ moved_onto (P.offer protocols.now).calls protos.now onto held.now slots.now to.old) }
+    ensures exact { IfOk result (λ moved. (moved, to.new) ≡ moved_onto (P.offer protocols.now).calls protos.now onto held.now
+        slots.now to.old) }
     ensures as_many { IfOk result (λ moved. length moved ≡ length slots.now) }
     ensures few { OnOk result (TakesAtMost 8192 to.old.next to.new.next) }
 {

@@ -28,7 +28,8 @@ fn apply<P: Protocols>(
     requires ready { IsReady (P.offer protocols.now) protos.now held.now most_of_statement to.old.next }
     requires at { IsTrue ((P.offer protocols.now).has at) }
     requires fits { IsTrue (right_fits (P.offer protocols.now) protos.now at (right.Apply op slots.now) (length held.now)) }
-    ensures exact { IfOk result (λ x. (x, to.new) ≡ right_onto (P.offer protocols.now).calls protos.now at (right.Apply op slots.now) held.now [] to.old) }
+    ensures exact { IfOk result (λ x. (x, to.new) ≡ right_onto (P.offer protocols.now).calls protos.now at
+        (right.Apply op slots.now) held.now [] to.old) }
     ensures placed { IfOk result (λ x. (P.offer protocols.now).hosts_at at x ≡ holders at) }
     ensures few { OnOk result (TakesAtMost most_of_statement to.old.next to.new.next) }
 {
@@ -49,7 +50,8 @@ fn load<P: Protocols>(
     requires ready { IsReady (P.offer protocols.now) protos.now held.now most_of_statement to.old.next }
     requires at { IsTrue ((P.offer protocols.now).has at) }
     requires variable { variable.0 < length held.now }
-    ensures exact { IfOk result (λ x. (x, to.new) ≡ right_onto (P.offer protocols.now).calls protos.now at (right.Load variable) held.now [] to.old) }
+    ensures exact { IfOk result (λ x. (x, to.new) ≡ right_onto (P.offer protocols.now).calls protos.now at (right.Load variable)
+        held.now [] to.old) }
     ensures placed { IfOk result (λ x. (P.offer protocols.now).hosts_at at x ≡ holders at) }
     ensures few { OnOk result (TakesAtMost most_of_statement to.old.next to.new.next) }
 {
@@ -73,7 +75,8 @@ fn element<P: Protocols>(
     requires at { IsTrue ((P.offer protocols.now).has at) }
     requires array { array.0 < length held.now }
     requires index { index.0 < length held.now }
-    ensures exact { IfOk result (λ x. (x, to.new) ≡ right_onto (P.offer protocols.now).calls protos.now at (right.Get array index) held.now [] to.old) }
+    ensures exact { IfOk result (λ x. (x, to.new) ≡ right_onto (P.offer protocols.now).calls protos.now at (right.Get array index)
+        held.now [] to.old) }
     ensures placed { IfOk result (λ x. (P.offer protocols.now).hosts_at at x ≡ holders at) }
     ensures few { OnOk result (TakesAtMost most_of_statement to.old.next to.new.next) }
 {
@@ -103,7 +106,8 @@ pub(crate) fn right_side<P: Protocols>(
     requires ready { IsReady (P.offer protocols.now) protos.now held.now most_of_statement to.old.next }
     requires at { IsTrue ((P.offer protocols.now).has at) }
     requires fits { IsTrue (right_fits (P.offer protocols.now) protos.now at right.now (length held.now)) }
-    ensures exact { IfOk result (λ x. (x, to.new) ≡ right_onto (P.offer protocols.now).calls protos.now at right.now held.now turns.now to.old) }
+    ensures exact { IfOk result (λ x. (x, to.new) ≡ right_onto (P.offer protocols.now).calls protos.now at right.now held.now
+        turns.now to.old) }
     ensures placed { IfOk result (λ x. (P.offer protocols.now).hosts_at at x ≡ holders at) }
     ensures few { OnOk result (TakesAtMost most_of_statement to.old.next to.new.next) }
 {

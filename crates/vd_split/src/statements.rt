@@ -23,9 +23,12 @@ pub(crate) fn binding<P: Protocols>(
     turns: &[u32],
     to: &mut Duet,
 ) -> Result<(), AllocError>
-    requires { CanEmit (P.offer protocols.now) protos.now (binding_fit (P.offer protocols.now) protos.now slot right.now) held.old to.old.next }
-    ensures exact { OnOk result ((to.new, held.new) ≡ let_onto (P.offer protocols.now).calls protos.now slot right.now held.old turns.now to.old) }
-    ensures emits { let o = P.offer protocols.now in OnOk result (Adds o protos.now (binding_fit o protos.now slot right.now) held.old to.old held.new to.new) }
+    requires { CanEmit (P.offer protocols.now) protos.now (binding_fit (P.offer protocols.now) protos.now slot right.now) held.old
+        to.old.next }
+    ensures exact { OnOk result ((to.new, held.new) ≡ let_onto (P.offer protocols.now).calls protos.now slot right.now held.old
+        turns.now to.old) }
+    ensures emits { let o = P.offer protocols.now in OnOk result (Adds o protos.now (binding_fit o protos.now slot right.now)
+        held.old to.old held.new to.new) }
 {
     let made = right_side(
         protocols,
@@ -50,7 +53,8 @@ pub(crate) fn variable<P: Protocols>(
     to: &mut Duet,
 ) -> Result<(), AllocError>
     requires { CanEmit (P.offer protocols.now) protos.now (variable_fit variable slot) held.old to.old.next }
-    ensures exact { OnOk result ((to.new, held.new) ≡ variable_onto (P.offer protocols.now).calls protos.now variable slot held.old to.old) }
+    ensures exact { OnOk result ((to.new, held.new) ≡ variable_onto (P.offer protocols.now).calls protos.now variable slot held.old
+        to.old) }
     ensures emits { OnOk result (Adds (P.offer protocols.now) protos.now (variable_fit variable slot) held.old to.old held.new to.new) }
 {
     let proto = proto_of(protos, variable);
@@ -131,7 +135,8 @@ pub(crate) fn tell<P: Protocols>(
 ) -> Result<(), AllocError>
     requires { CanEmit (P.offer protocols.now) protos.now (tell_fit (P.offer protocols.now).calls.hosts slot host) held.now to.old.next }
     ensures exact { OnOk result ((to.new, held.now) ≡ output_onto (P.offer protocols.now).calls protos.now slot host held.now to.old) }
-    ensures emits { let o = P.offer protocols.now in OnOk result (Adds o protos.now (tell_fit o.calls.hosts slot host) held.now to.old held.now to.new) }
+    ensures emits { let o = P.offer protocols.now in OnOk result (Adds o protos.now (tell_fit o.calls.hosts slot host) held.now
+        to.old held.now to.new) }
 {
     let moved = move_slot(protocols, protos, held, slot, Proto::Local(host), to)?;
     protocols.output(host, &moved, to)?;

@@ -102,7 +102,8 @@ pub(crate) fn takers_of<P: Protocols>(
     else_block: &[Stmt],
     to: &Duet,
 ) -> Result<Items<HostId>, AllocError>
-    ensures { let s = (P.offer protocols.now).calls in IfOk result (λ hosts. hosts ≡ all_takers s protos.now then_block.now else_block.now) }
+    ensures { let s = (P.offer protocols.now).calls in IfOk result (λ hosts. hosts ≡
+        all_takers s protos.now then_block.now else_block.now) }
 {
     let mut hosts = Items::new(to.alloc());
     for number in 0..protocols.hosts() {

@@ -3,13 +3,11 @@ use Rattle.std.proofs.Common.{◌≡◌, ℕ, ◌+◌, ◌≤◌, List, length, 
 use Rattle.std.specs.Prelude.{All}
 use Rattle.std.proofs.lemmas.List.Elements.{All-append, All-weaker}
 use Rattle.vd_core.specs.declared.normal.NormalForm.{NormalForm}
-use Rattle.vd_constraints.specs.declared.system.Bound.{Bound}
-use Rattle.vd_constraints.specs.declared.system.Bound.TheVariants.{Constant, Same, Given, Or}
 use Rattle.vd_constraints.specs.declared.system.Lower.{Lower}
 use Rattle.vd_constraints.specs.declared.system.Check.{Check}
-use Rattle.vd_constraints.specs.Systems.{Constraints, IsBoundIn, IsRuleIn, IsCheckIn}
+use Rattle.vd_constraints.specs.Systems.{Constraints, IsRuleIn, IsCheckIn}
 use Rattle.vd_constraints.specs.Rules.{with_rules, with_checks, with_block}
-use Rattle.vd_constraints.proofs.Kept.{more_places}
+use Rattle.vd_constraints.proofs.Kept.{more_rules, more_checks}
 
 module _ (p : NormalForm) where
   -- rules, and checks, of the program's principals and slots and of so many blocks
@@ -30,20 +28,6 @@ pub record Fits (p : NormalForm) (s : Constraints) : Type 0 where
 pub record Grown (p : NormalForm) (before now : Constraints) : Type 0 where
   pub fits : Fits p now
   pub blocks : before.blocks ≤ now.blocks
-
--- what fits does so where there are more blocks
-module _ (names slots blocks more : ℕ) (le : blocks ≤ more) where
-  more_bounds : (bound : Bound) → IsBoundIn names slots blocks bound → IsBoundIn names slots more bound
-  more_bounds (Constant f) is = is
-  more_bounds (Same part) is = more_places names slots blocks more le part.at is
-  more_bounds (Given f part) is = (is.0, more_places names slots blocks more le part.at is.1)
-  more_bounds (Or f part) is = (is.0, more_places names slots blocks more le part.at is.1)
-
-  more_rules : (rule : Lower) → IsRuleIn names slots blocks rule → IsRuleIn names slots more rule
-  more_rules rule is = record { part = more_places names slots blocks more le rule.part.at is.part; bound = more_bounds rule.bound is.bound }
-
-  more_checks : (check : Check) → IsCheckIn names slots blocks check → IsCheckIn names slots more check
-  more_checks check is = record { constant = is.constant; part = more_places names slots blocks more le check.part.at is.part }
 
 module _ (p : NormalForm) where
   pub unchanged : (s : Constraints) → Fits p s → Grown p s s

@@ -1,4 +1,3 @@
-pub mod Formulas
 pub mod Authorities
 pub mod Fitting
 pub mod Rights

@@ -1,5 +1,5 @@
 -- What holds of a command holds of the words that are its form.
-use Rattle.std.proofs.Common.{◌≡◌, ℕ, List, [], Option, Some, None, Result, Ok, Err, true, false, refl, sym, ap, subst, ◌∙◌, arith}
+use Rattle.std.proofs.Common.{◌≡◌, ℕ, List, [], Option, Some, None, Err, true, false, refl, sym, ap, subst, ◌∙◌, arith}
 use Rattle.vd_outside.specs.Files.{FilesView}
 use Rattle.vd_outside.specs.Net.{NetView}
 use Rattle.vd_outside.specs.Sink.{SinkView}
@@ -7,7 +7,6 @@ use Rattle.vd_outside.specs.Spawner.{SpawnerView}
 use Rattle.vd_cmd.specs.Commands.{form_of}
 use Rattle.vd_cmd.specs.declared.command.Command.{Command}
 use Rattle.vd_cmd.specs.declared.command.Command.TheVariants.{OnFiles, Host, Run}
-use Rattle.vd_cmd.specs.declared.command.FilesCommand.{FilesCommand}
 use Rattle.vd_cmd.specs.declared.command.FilesCommand.TheVariants.{Depends, Replay, Trial}
 use Rattle.vd_plan.specs.Plans.{Executes, fetch_calls}
 use Rattle.vd_plan.specs.declared.status.Status.{Status}
@@ -16,14 +15,14 @@ use Rattle.vd_plan.proofs.Fronts.{same_within}
 use Rattle.vd_plan.proofs.InSteps.{any_memory}
 use Rattle.vd_plan.proofs.WholeRuns.{runs_err}
 use Rattle.vd_selecting.specs.Choosing.{GaveUp}
-use Rattle.vd_host_command.specs.Hosts.{HostRuns, NotLoaded}
-use Rattle.vd_host_command.specs.Loading.{LoadsHost, OfProgram, files_of}
-use Rattle.vd_running.specs.Running.{Refused, Runs}
-use Rattle.vd_running.specs.RunsHosts.{Outside, outside}
+use Rattle.vd_host_command.specs.Hosts.{NotLoaded}
+use Rattle.vd_host_command.specs.Loading.{OfProgram, files_of}
+use Rattle.vd_running.specs.Running.{Refused}
+use Rattle.vd_running.specs.RunsHosts.{outside}
 use Rattle.vd_cmd.specs.declared.command.HostWords.{HostWords}
 use Rattle.vd_cmd.specs.declared.command.RunWords.{RunWords}
 use Rattle.vd_top.specs.Commands.{RunsForm, plan_of, search_of, usage_plan}
-use Rattle.vd_top.specs.Headline.{KeepsTrial, KeepsDependence, KeepsHeadline, ShowsForm, ShowsOf}
+use Rattle.vd_top.specs.Headline.{KeepsTrial, KeepsDependence, KeepsHeadline, ShowsForm}
 use Rattle.vd_running.proofs.Holding.{complete}
 use Rattle.vd_serving.proofs.Serving.{served}
 use Rattle.vd_top.specs.Hosts.{PlaysForm, ReportsForm, ServesForm, SpawnsForm, speaks_by, spawns_by}

@@ -1,3 +1,2 @@
 pub mod Ties
 pub mod Copies
-pub mod Exceeding

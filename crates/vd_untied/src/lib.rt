@@ -2,9 +2,7 @@
 //! they begin costs more than the least cost.
 #![tactic(auto)]
 
-mod above;
 mod searching;
 mod untied;
 
-pub use above::is_above;
 pub use searching::search_untied;

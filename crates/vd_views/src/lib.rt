@@ -32,9 +32,12 @@ pub fn gadgets_hide()
 /// which what items hide is hidden alike. Where the host then is told the same openly and reads the same guards, it sees the
 /// same as in the first run.
 pub fn every_run_has_an_excuse()
-    ensures gadgets { (h : ℕ) (t u : Tape) (gs : List Gadget) (w v : Hosts) → GadgetsAreTidy gs → AreSound t u w v → HasExcuse h t u gs w v }
-    ensures views { (h : ℕ) (t u : Tape) (plan : Plan Gadget) (w v : Hosts) → PlanIsTidy plan → AllowsExcuse h t u plan w v → HasViewExcuse h t u plan w v }
-    ensures from_the_start { (h : ℕ) (plan : Plan Gadget) (t : Tape) (second : InputWords) → CanBeExcused h plan t second → HasExplanation h plan t second }
+    ensures gadgets { (h : ℕ) (t u : Tape) (gs : List Gadget) (w v : Hosts) → GadgetsAreTidy gs → AreSound t u w v →
+        HasExcuse h t u gs w v }
+    ensures views { (h : ℕ) (t u : Tape) (plan : Plan Gadget) (w v : Hosts) → PlanIsTidy plan → AllowsExcuse h t u plan w v →
+        HasViewExcuse h t u plan w v }
+    ensures from_the_start { (h : ℕ) (plan : Plan Gadget) (t : Tape) (second : InputWords) → CanBeExcused h plan t second →
+        HasExplanation h plan t second }
 {}
 
 /// Exchanged, the second deal explains the first run by the second just so, and the items that do so are the only ones. So where
@@ -43,9 +46,11 @@ pub fn every_run_has_an_excuse()
 pub fn the_way_back()
     ensures plan { (h : ℕ) (t u : Tape) (plan : Plan Gadget) → PlanHidesBack h t u plan }
     ensures item { (h : ℕ) (t y z : Tape) (s : Sharing) (m : Masking) → m.host.0 ≢ h → AreAlternatives h y z → IsOnlyItem h t y z s m }
-    ensures gadgets { (h : ℕ) (t y z : Tape) (gs : List Gadget) → GadgetsAreTidy gs → GadgetsAreWith h gs → AreAlternatives h y z → AreOnlyItems h t y z gs }
+    ensures gadgets { (h : ℕ) (t y z : Tape) (gs : List Gadget) → GadgetsAreTidy gs → GadgetsAreWith h gs → AreAlternatives h y z →
+        AreOnlyItems h t y z gs }
     ensures deal { (h : ℕ) (plan : Plan Gadget) → PlanIsTidy plan → PlanIsWith h plan → GoesBack h plan }
-    ensures two { (h : ℕ) (ps : List Part) (plan : Plan Gadget) → h < 2 → PlanIsTidy plan → AreOfTwo ps → PlanIsWithin ps plan → PlanIsWith h plan }
+    ensures two { (h : ℕ) (ps : List Part) (plan : Plan Gadget) → h < 2 → PlanIsTidy plan → AreOfTwo ps → PlanIsWithin ps plan →
+        PlanIsWith h plan }
 {}
 
 /// The item that hides 2147483658 as the triple 1, 4, 5 hid 10, beside 2, 0, 7: the first part rises by half the words, and

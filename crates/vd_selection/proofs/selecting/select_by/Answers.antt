@@ -1,4 +1,5 @@
 use Rattle.vd_selection.proofs.Answered.{empty, found}
+use Rattle.vd_selection.proofs.Floors.{floor_on_path}
 use Rattle.vd_selection.proofs.selecting.select_by.Goals as goal
 
 pub returns-in-Ok-Found-clause-selects : goal.returns-in-Ok-Found-clause-selects
@@ -10,3 +11,7 @@ pub returns-in-Ok-Empty-clause-selects : goal.returns-in-Ok-Empty-clause-selects
 returns-in-Ok-Empty-clause-selects c =
     empty c.args.problem.now c.in_ok-path.path.problem.now c.in_ok-path.path.tables.now c.args.budget c.new-in-Ok-Empty.result c.in-Ok-Empty.marks c.in_ok-path.ensures.problem c.new-in-Ok-Empty.ensures c.requires.holds
     (rw c.in-Ok-Empty.field-0-is at c.in-Ok-Empty.ensures.answer)
+
+pub search_above-requires-clause-floor : goal.search_above-requires-clause-floor
+search_above-requires-clause-floor c =
+    floor_on_path c.args.problem.now c.in_ok-path.path.problem.now c.in_ok-path.path.tables.now c.args.floor c.in_ok-path.ensures.problem c.requires.holds c.requires.floor

@@ -1,6 +1,12 @@
-use Rattle.vd_selection.proofs.Untied.{beyond}
+use Rattle.std.proofs.Common.{length, sym, ap, ◌∙◌, arith}
+use Rattle.std.proofs.lemmas.Int.{ints}
+use Rattle.vd_space.specs.Validity.{protocols}
+use Rattle.vd_selection.proofs.Passed.{all_among, beyond_by}
 use Rattle.vd_selection.proofs.walking.is_beyond.Goals as goal
 
+pub bound-requires-clause-prefix : goal.bound-requires-clause-prefix
+bound-requires-clause-prefix c =
+    all_among c.args.prefix.now (length c.as_slice.result.now) (length (protocols c.args.problem.now)) (ap length (c.as_slice.ensures ∙ c.requires.bound.list)) (sym c.are_among.ensures ∙ c.if-not-are_among.false)
+
 pub returns : goal.returns
-returns c = λ above.
-    beyond c.args.problem.now c.in_ok-path.path.problem.now c.in_ok-path.path.linked.now c.args.most c.args.prefix.now c.in_ok-path.ensures.problem c.requires.holds (c.is_above.ensures above)
+returns c = λ above. beyond_by c.args.problem.now c.args.shifts.now c.args.most c.args.prefix.now c.in_ok-least.least c.requires.holds c.in_ok-least.ensures (omega (arith, ints, above))

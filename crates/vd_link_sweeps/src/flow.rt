@@ -1,0 +1,203 @@
+//! What sweeps one way carry over the links.
+
+use crate::network::{End, Network};
+use crate::numbers::{FAR, number_at, zeros};
+use crate::shares::Shares;
+use crate::tables::Tables;
+use std::alloc::{AllocError, Global};
+
+/// What sweeps one way carry over a link, from the point on the near side of it to the one on the far side.
+#[derive(Drop)]
+struct Carried {
+    /// What is put on the near point and taken from the link, by the settings of that point.
+    held: Vec<i64>,
+    /// What the link then costs at least, by the settings of the far point.
+    told: Vec<i64>,
+}
+
+impl Carried {
+    /// Nothing is held, where the far point has these rows of prices by the settings of the near one.
+    fn nothing(alloc: Global, count: usize, rows: &[Vec<i64>]) -> Result<Carried, AllocError> {
+        let mut carried = Carried {
+            held: zeros(alloc, count)?,
+            told: zeros(alloc, rows.len())?,
+        };
+        carried.tell(rows);
+        Ok(carried)
+    }
+
+    /// How many prices the link has.
+    fn prices(&self) -> u64 {
+        self.held.len().saturating_mul(self.told.len()) as u64
+    }
+
+    /// Holds what the link costs at least by the settings of the near point, less the share of a number. Answers whether that is
+    /// another amount than before at some setting.
+    fn hold(&mut self, costs: &[i64], shares: &Shares, number: u64) -> bool {
+        let mut has_changed = false;
+        for (setting, cost) in costs.iter().enumerate() {
+            let held = cost.saturating_sub(shares.share(setting, number));
+            has_changed = put(&mut self.held, setting, held) || has_changed;
+        }
+        has_changed
+    }
+
+    /// Holds less, by the share of a number. Answers whether that is less at some setting.
+    fn lower(&mut self, shares: &Shares, number: u64) -> bool {
+        let mut has_changed = false;
+        for setting in 0..self.held.len() {
+            let held = number_at(self.held.as_slice(), setting);
+            let held = held.saturating_sub(shares.share(setting, number));
+            has_changed = put(&mut self.held, setting, held) || has_changed;
+        }
+        has_changed
+    }
+
+    /// Computes what is told of what is held. Answers whether that is another amount than before at some setting.
+    fn tell(&mut self, rows: &[Vec<i64>]) -> bool {
+        let mut has_changed = false;
+        for (setting, prices) in rows.iter().enumerate() {
+            let told = least_after(prices.as_slice(), self.held.as_slice());
+            has_changed = put(&mut self.told, setting, told) || has_changed;
+        }
+        has_changed
+    }
+}
+
+/// Puts a number at a place, if there is one. Answers whether there was another number.
+fn put(numbers: &mut Vec<i64>, place: usize, number: i64) -> bool {
+    if place < numbers.len() && numbers[place] != number {
+        numbers[place] = number;
+        true
+    } else {
+        false
+    }
+}
+
+/// The least of the prices, less what is held.
+fn least_after(prices: &[i64], held: &[i64]) -> i64 {
+    let mut least = FAR;
+    for (price, amount) in prices.iter().zip(held) {
+        least = least.min(price.saturating_sub(*amount));
+    }
+    least
+}
+
+/// What sweeps one way carry over all links.
+#[derive(Drop)]
+pub struct Flow {
+    links: Vec<Carried>,
+    /// By point: the least that it costs with what it is told and what it holds.
+    leasts: Vec<i64>,
+    /// The sum of these. No list costs less.
+    pub bound: i64,
+    /// So many prices of links were looked at.
+    pub work: u64,
+    /// By point: whether what it costs or is told has changed since it was visited.
+    is_waiting: Vec<bool>,
+}
+
+impl Flow {
+    /// Nothing is held anywhere, and all points wait.
+    pub fn nothing(
+        alloc: Global,
+        tables: &Tables,
+        network: &Network,
+        forward: bool,
+    ) -> Result<Flow, AllocError> {
+        let mut links = Vec::new(alloc);
+        for first in &network.firsts {
+            let near = if first.is_ahead(forward) {
+                *first
+            } else {
+                first.turned()
+            };
+            let count = tables.rows(near).len();
+            links.push(Carried::nothing(alloc, count, tables.rows(near.turned()))?)?;
+        }
+        let points = network.by_point.len();
+        Ok(Flow {
+            links,
+            leasts: zeros(alloc, points)?,
+            bound: 0,
+            work: 0,
+            is_waiting: vec![in alloc; true; points]?,
+        })
+    }
+
+    /// Takes a point that waits. Answers whether it waited.
+    pub fn take(&mut self, point: usize) -> bool {
+        let waited = self.is_waiting.get(point) == Some(&true);
+        self.set_waiting(point, false);
+        waited
+    }
+
+    /// Lets a point wait.
+    pub fn wake(&mut self, point: usize) {
+        self.set_waiting(point, true);
+    }
+
+    fn set_waiting(&mut self, point: usize, is_waiting: bool) {
+        if point < self.is_waiting.len() {
+            self.is_waiting[point] = is_waiting;
+        }
+    }
+
+    /// What is told over a link, by the settings of its far point.
+    pub fn told(&self, at: usize) -> &[i64] {
+        match self.links.get(at) {
+            Some(carried) => carried.told.as_slice(),
+            None => &[],
+        }
+    }
+
+    /// What is held of a link, by the settings of its near point.
+    pub fn held(&self, at: usize) -> &[i64] {
+        match self.links.get(at) {
+            Some(carried) => carried.held.as_slice(),
+            None => &[],
+        }
+    }
+
+    /// Notes the least that a point costs.
+    pub fn note(&mut self, point: usize, least: i64) {
+        let change = least.saturating_sub(number_at(self.leasts.as_slice(), point));
+        if put(&mut self.leasts, point, least) {
+            self.bound = self.bound.saturating_add(change);
+        }
+    }
+
+    /// Gives the share of a number to the link of an end, whose point is the near one, where the link costs so much at least by
+    /// the settings of that point. Answers whether what is told over it is another amount than before.
+    pub fn give(
+        &mut self,
+        tables: &Tables,
+        end: End,
+        costs: &[i64],
+        shares: &Shares,
+        number: u64,
+    ) -> bool {
+        if end.at < self.links.len() {
+            let carried = &mut self.links[end.at];
+            if !carried.hold(costs, shares, number) {
+                return false;
+            }
+            self.work = self.work.saturating_add(carried.prices());
+            return carried.tell(tables.rows(end.turned()));
+        }
+        false
+    }
+
+    /// Gives the share of a number of what is held of the link of an end to the link.
+    pub fn give_back(&mut self, tables: &Tables, end: End, shares: &Shares, number: u64) -> bool {
+        if end.at < self.links.len() {
+            let carried = &mut self.links[end.at];
+            if !carried.lower(shares, number) {
+                return false;
+            }
+            self.work = self.work.saturating_add(carried.prices());
+            return carried.tell(tables.rows(end.turned()));
+        }
+        false
+    }
+}

@@ -1,0 +1,143 @@
+//! What a point costs by its settings, and how what is above the least is split over its links.
+
+ghost use Rattle.std.specs.Prelude.{ℕ, ◌<◌};
+
+use crate::network::End;
+use crate::numbers::{FAR, add, number_at, overwrite, zeros};
+use std::alloc::{AllocError, Global};
+
+/// How what a point gives is split over the links that are ahead: in equal parts for all of them, and for as many behind.
+#[derive(Clone, Copy)]
+pub struct Split {
+    ahead: u64,
+    parts: u64,
+    ghost divisor: { 0 < parts },
+}
+
+impl Split {
+    /// None where no link is ahead.
+    pub fn of(ends: &[End], forward: bool) -> Option<Split> {
+        let mut ahead: u64 = 0;
+        let mut behind: u64 = 0;
+        for end in ends {
+            if end.is_ahead(forward) {
+                ahead = ahead.saturating_add(1);
+            } else {
+                behind = behind.saturating_add(1);
+            }
+        }
+        if ahead == 0 {
+            return None;
+        }
+        Some(Split {
+            ahead,
+            parts: ahead.max(behind),
+        })
+    }
+
+    /// All for one link.
+    pub fn whole() -> Split {
+        Split { ahead: 1, parts: 1 }
+    }
+}
+
+/// What a point costs by its settings, and what of it goes to its links.
+#[derive(Drop)]
+pub struct Shares {
+    /// How many settings the point has.
+    count: usize,
+    totals: Vec<i64>,
+    /// What each link gets at least.
+    parts: Vec<i64>,
+    /// As many links, the first ones, get one more.
+    more: Vec<i64>,
+    /// So many links get something.
+    links: u64,
+}
+
+impl Shares {
+    /// Room for points of so many settings.
+    pub fn room(alloc: Global, most: usize) -> Result<Shares, AllocError> {
+        Ok(Shares {
+            count: 0,
+            totals: zeros(alloc, most)?,
+            parts: zeros(alloc, most)?,
+            more: zeros(alloc, most)?,
+            links: 0,
+        })
+    }
+
+    /// Begins with what a point costs alone.
+    pub fn begin(&mut self, costs: &[i64]) {
+        self.count = costs.len();
+        overwrite(&mut self.totals, costs);
+    }
+
+    /// Adds what the point costs more by its settings.
+    pub fn add(&mut self, costs: &[i64]) {
+        for (setting, cost) in costs.iter().enumerate() {
+            add(&mut self.totals, setting, *cost);
+        }
+    }
+
+    /// The first setting at which the point costs least.
+    pub fn best(&self) -> usize {
+        let mut best = 0;
+        let mut least = i64::MAX;
+        for (setting, total) in self.totals.iter().enumerate() {
+            if setting < self.count && *total < least {
+                least = *total;
+                best = setting;
+            }
+        }
+        best
+    }
+
+    /// The least that the point costs.
+    pub fn least(&self) -> i64 {
+        number_at(self.totals.as_slice(), self.best())
+    }
+
+    /// Splits what the point costs above its least.
+    pub fn split(&mut self, split: Split) {
+        self.links = split.ahead;
+        let least = self.least();
+        for setting in 0..self.count {
+            let above = number_at(self.totals.as_slice(), setting).saturating_sub(least);
+            let above = above.max(0) as u64;
+            let part = above / split.parts;
+            let left_over = above % split.parts;
+            let more = left_over
+                .saturating_mul(split.ahead)
+                .saturating_add(split.parts - 1)
+                / split.parts;
+            put(&mut self.parts, setting, number_of(part));
+            put(&mut self.more, setting, number_of(more));
+        }
+    }
+
+    /// What the link of a number gets at a setting.
+    pub fn share(&self, setting: usize, number: u64) -> i64 {
+        if number >= self.links {
+            return 0;
+        }
+        let part = number_at(self.parts.as_slice(), setting);
+        if number_of(number) < number_at(self.more.as_slice(), setting) {
+            part.saturating_add(1)
+        } else {
+            part
+        }
+    }
+}
+
+/// Puts a number at a place, if there is one.
+fn put(numbers: &mut Vec<i64>, place: usize, number: i64) {
+    if place < numbers.len() {
+        numbers[place] = number;
+    }
+}
+
+/// The number, or `FAR` where it is greater.
+fn number_of(number: u64) -> i64 {
+    number.min(FAR as u64) as i64
+}

@@ -1,0 +1,5 @@
+pub mod Passing
+pub mod Joined
+pub mod Alone
+pub mod Owned
+pub mod Summed

@@ -1,0 +1,11 @@
+//! The bound by links of one prefix under shifts, without tables of these shifts: what does not depend on shifts is made once,
+//! and then each bound costs about as much as the cells that the prefix leaves open.
+#![tactic(auto)]
+
+mod least;
+mod made;
+mod making;
+mod summing;
+mod values;
+
+pub use made::LinkedBound;
