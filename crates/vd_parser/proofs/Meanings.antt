@@ -20,7 +20,7 @@ use Rattle.vd_core.specs.declared.source.Statement.{Statement}
 use Rattle.vd_core.specs.declared.source.Statement.TheVariants as stmt
 use Rattle.vd_core.specs.declared.source.Function.{Function}
 use Rattle.vd_lexer.specs.declared.token.Token.{Token}
-use Rattle.vd_parser.specs.Syntax.{arguments_of, array_of, assign_of, assigned, atom_of, block_of, body_of, bor_of, both_of, chained, conj_of, conjs_of, direction_of, either_of, else_of, expr_of, exprs_of, fatom_of, fatoms_of, first_of, for_of, form_of, function_of, functions_of, host_list_of, host_name_of, host_of, hosts_of, ident_of, idents_of, if_of, index_of, index_option_of, infix_of, kind_of, label_of, label_option_of, length_of, let_of, more_exprs_of, more_idents_of, more_parameters_of, named_of, new_form_of, value_of, other_atom_of, output_of, parameter_list_of, parameter_of, parameters_of, principals_of, relabelled_of, return_of, returned_of, second_of, shift_links_of, shift_of, signed, signs_of, source_of, span_of, statement_of, statements_of, sum_of, third_of, three_of, token_of, two_of, typed_kind_of, typed_name_of, typed_of, unary_of, var_of, whole_body_of, word_atom_of}
+use Rattle.vd_parser.specs.Syntax.{bracketed, arguments_of, array_of, assign_of, assigned, atom_of, block_of, body_of, bor_of, both_of, chained, conj_of, conjs_of, direction_of, either_of, else_of, expr_of, exprs_of, fatom_of, fatoms_of, first_of, for_of, form_of, function_of, functions_of, host_list_of, host_name_of, host_of, hosts_of, ident_of, idents_of, if_of, index_of, index_option_of, infix_of, kind_of, label_of, label_option_of, length_of, let_of, more_exprs_of, more_idents_of, more_parameters_of, named_of, new_form_of, value_of, other_atom_of, output_of, parameter_list_of, parameter_of, parameters_of, principals_of, relabelled_of, return_of, returned_of, second_of, shift_links_of, shift_of, signed, signs_of, source_of, span_of, statement_of, statements_of, sum_of, third_of, three_of, token_of, two_of, typed_kind_of, typed_name_of, typed_of, unary_of, var_of, whole_body_of, word_atom_of}
 
 pub idents_first : (text : List ℕ) (x : Tree Token) (v : Ident) → v ≡ ident_of text x → (y : Tree Token) → idents_of text (Both x y) ≡ (v ∷ []) ++ more_idents_of text y
 unfolding idents_of
@@ -158,9 +158,9 @@ pub other_endorse : (text : List ℕ) (m x : Tree Token) (a : Expr) (f : Written
 unfolding other_atom_of
 other_endorse text m x a f e0 e1 = ap (λ it. expr.Endorse it f) e0 ∙ ap (λ it. expr.Endorse (first_of text x) it) e1
 
-pub other_brackets : (text : List ℕ) (o x p : Tree Token) (a : Expr) → a ≡ expr_of text x → expr.Brackets a ≡ other_atom_of text (Second (Second (Second (Second (Both o (Both x p))))))
+pub other_brackets : (text : List ℕ) (o x p : Tree Token) (a : Expr) → a ≡ expr_of text x → bracketed a ≡ other_atom_of text (Second (Second (Second (Second (Both o (Both x p))))))
 unfolding other_atom_of
-other_brackets text o x p a e0 = ap (λ it. expr.Brackets it) e0
+other_brackets text o x p a e0 = ap (λ it. bracketed it) e0
 
 pub named_call : (text : List ℕ) (n x : Tree Token) (i : Ident) (es : List Expr) → i ≡ ident_of text n → es ≡ arguments_of text x → expr.Call i es ≡ named_of text (Both n (First (First x)))
 unfolding named_of

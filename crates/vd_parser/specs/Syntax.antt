@@ -1,5 +1,5 @@
 -- The syntax tree that a tree of the grammar stands for. text is the bytes of the source, in which names stand.
-use Rattle.std.specs.Prelude.{ℕ, ◌-◌, true, false, List, [], ◌∷◌, ◌++◌, drop, take, Option, Some, None}
+use Rattle.std.specs.Prelude.{ℕ, ◌-◌, Bool, if◌then◌else◌, true, false, List, [], ◌∷◌, ◌++◌, drop, take, Option, Some, None}
 use mathlib.Core.List.{reverse}
 use Rattle.vd_grammar.specs.Trees.{Tree, Leaf, Both, First, Second, Empty}
 use Rattle.vd_base.specs.declared.ids.Span.{Span}
@@ -18,7 +18,8 @@ use Rattle.vd_core.specs.declared.source.Infix.{Infix}
 use Rattle.vd_core.specs.declared.source.Infix.TheVariants as op
 use Rattle.vd_core.specs.declared.source.Direction.{Direction}
 use Rattle.vd_core.specs.declared.source.Direction.TheVariants as direction
-use Rattle.vd_core.specs.declared.source.Expr.{Expr}
+use Rattle.vd_core.specs.declared.source.Expr.{Expr, fold-Expr}
+use Rattle.vd_core.specs.declared.source.Expr.TheOpen.{Expr-F}
 use Rattle.vd_core.specs.declared.source.Link.{Link}
 use Rattle.vd_core.specs.declared.source.Expr.TheVariants as expr
 use Rattle.vd_core.specs.declared.source.Link.TheVariants as link
@@ -29,6 +30,18 @@ use Rattle.vd_core.specs.declared.source.Source.{Source}
 use Rattle.vd_lexer.specs.declared.token.TokenKind.{TokenKind}
 use Rattle.vd_lexer.specs.declared.token.TokenKind.TheVariants as kind
 use Rattle.vd_lexer.specs.declared.token.Token.{Token}
+
+-- whether an expression stands in brackets
+abbrev pub are_brackets : Expr-F Bool Bool → Bool
+are_brackets (Expr-F.Brackets x) = true
+are_brackets x = false
+
+abbrev pub is_bracketed : Expr → Bool
+is_bracketed = fold-Expr Bool Bool are_brackets (λ x. false)
+
+-- an expression in brackets; what stands in brackets already gets no others
+abbrev pub bracketed : Expr → Expr
+bracketed x = if is_bracketed x then x else expr.Brackets x
 
 abbrev pub no_token : Token
 no_token = record { kind = kind.End; span = record { start = 0; end = 0 }; value = 0 }
@@ -245,7 +258,7 @@ unfoldable mutual
   other_atom_of text (Second (First (Both k x))) = expr.Input (host_name_of text x)
   other_atom_of text (Second (Second (First (Both k x)))) = expr.Declassify (first_of text x) (new_form_of text x)
   other_atom_of text (Second (Second (Second (First (Both k x))))) = expr.Endorse (first_of text x) (new_form_of text x)
-  other_atom_of text (Second (Second (Second (Second (Both o (Both e p)))))) = expr.Brackets (expr_of text e)
+  other_atom_of text (Second (Second (Second (Second (Both o (Both e p)))))) = bracketed (expr_of text e)
   other_atom_of text _ = expr.Number 0
 
   -- a name with what comes after it: arguments, an index, or nothing

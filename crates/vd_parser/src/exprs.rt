@@ -1,7 +1,7 @@
 ghost use Rattle.std.specs.Prelude.{◌≡◌, length, IfOk};
 ghost use Rattle.vd_grammar.specs.Grammar.{Sym};
 ghost use Rattle.vd_parser.specs.Language.{EXPR, SHIFT, UNARY, ATOM, commas, word_atom_rule, other_atom_rule, named_rule, arguments_rule, index_rule, two_rule, three_rule, relabel_rule, host_rule};
-ghost use Rattle.vd_parser.specs.Syntax.{chained, expr_of, shift_of, unary_of, atom_of, word_atom_of, other_atom_of, named_of, arguments_of, exprs_of, index_of, two_of, three_of, relabelled_of, host_name_of};
+ghost use Rattle.vd_parser.specs.Syntax.{bracketed, is_bracketed, chained, expr_of, shift_of, unary_of, atom_of, word_atom_of, other_atom_of, named_of, arguments_of, exprs_of, index_of, two_of, three_of, relabelled_of, host_name_of};
 ghost use Rattle.vd_parser.specs.Levels.{symbol_of, operand_symbol, level_of, operand_of};
 ghost use Rattle.vd_parser.specs.Parsing.{Parses};
 
@@ -12,6 +12,39 @@ use std::alloc::AllocError;
 use vd_core::{Expr, Ident, Link, WrittenForm};
 use vd_items::{Boxed, Items};
 use vd_lexer::TokenKind;
+
+/// Whether an expression stands in brackets.
+fn is_bracketed(expr: &Expr) -> bool
+    ensures { result ≡ is_bracketed expr.now }
+{
+    match expr {
+        Expr::Brackets(_) => true,
+        Expr::Number(_)
+        | Expr::Truth(_)
+        | Expr::Value(_)
+        | Expr::Element(_, _)
+        | Expr::Input(_)
+        | Expr::Call(_, _)
+        | Expr::Min(_, _, _)
+        | Expr::Max(_, _, _)
+        | Expr::Mux(_, _, _, _)
+        | Expr::Declassify(_, _)
+        | Expr::Endorse(_, _)
+        | Expr::Unary(_, _)
+        | Expr::Chain(_, _) => false,
+    }
+}
+
+/// An expression in brackets. What stands in brackets already gets no others.
+fn bracketed(value: Boxed<Expr>) -> Expr
+    ensures { result ≡ bracketed value }
+{
+    if is_bracketed(&value) {
+        value.into_inner()
+    } else {
+        Expr::Brackets(value)
+    }
+}
 
 impl<'a> Parser<'a> {
     /// An operand alone is itself.
@@ -174,7 +207,7 @@ impl<'a> Parser<'a> {
             cursor.expect(TokenKind::OpenParen)?;
             let value = self.boxed(cursor)?;
             cursor.expect(TokenKind::CloseParen)?;
-            Ok(Expr::Brackets(value))
+            Ok(bracketed(value))
         }
     }
 

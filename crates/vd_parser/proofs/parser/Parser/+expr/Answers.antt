@@ -260,7 +260,7 @@ other_atom-returns-in_ok-expect-5 t c =
     let w0 = into_right kind.Endorse (into_right kind.Declassify (into_right kind.Input (into_right kind.Mux start (sym c.is.ensures ∙ c.if-is.false) refl refl) (sym c.is-else-is.ensures ∙ c.if-is-2.false) refl refl) (sym c.is-else-is-2.ensures ∙ c.if-is-3.false) refl refl) (sym c.is-else-is-3.ensures ∙ c.if-is-4.false) refl refl in
     let w1 = next w0 c.in_ok-expect-4.ensures.token in
     let w2 = next w1 c.in_ok-value-3.ensures in
-    last w2 c.in_ok-expect-5.ensures.token (other_brackets _ _ _ _ _ c.in_ok-value-3.ensures.value)
+    last w2 c.in_ok-expect-5.ensures.token (c.bracketed.ensures ∙ other_brackets _ _ _ _ _ c.in_ok-value-3.ensures.value)
 
 pub named-returns-in_err-name : goal.named-returns-in_err-name
 named-returns-in_err-name t c =
