@@ -50,6 +50,7 @@ runs_quiet fits plan before now out status w planned usage comes no_write answer
   was_told = λ t. t;
   left = λ t o. left _;
   silent = λ o e f. refl;
+  unwritten = λ e f. refl;
 }
 
 pub runs_err : (fits : Bool) (plan : Contents → Plan) (before now : FilesView) (out : SinkView) (status : Status) → Executes fits plan before now (Err status) → Runs fits plan before now out out status
@@ -98,6 +99,7 @@ runs_given fits plan before mid now out_before out_now given status w d planned 
   was_told = d.was_told;
   left = λ t o. subst (λ (a : Answer). IsLeft a.printed out_before.taken out_now.taken status) (w.settled t) (d.left o);
   silent = silent;
+  unwritten = d.unwritten;
 }
   where
     all : IsTrue before.told → mid.asked ++ store_calls given.stores ≡ before.asked ++ calls (plan before.contents)
@@ -129,6 +131,7 @@ deliver_ok given Ended before now out_before out_now is fits p w = record {
   part = λ t. (length given.stores, all_stored given.stores before.contents now.contents (p.contents t));
   was_told = w.was_told;
   left = w.whole;
+  unwritten = λ e f. absurd (cc e);
 }
 deliver_ok given NoAssignment before now out_before out_now is fits p w = record {
   later = p.later;
@@ -143,6 +146,7 @@ deliver_ok given NoAssignment before now out_before out_now is fits p w = record
   part = λ t. (length given.stores, all_stored given.stores before.contents now.contents (p.contents t));
   was_told = w.was_told;
   left = λ o. w.whole o ∙ ap (λ (l : List ℕ). out_before.taken ++ l) fits ∙ append-nil out_before.taken;
+  unwritten = λ e f. absurd (cc e);
 }
 deliver_ok given other before now out_before out_now is fits p w = absurd fits
 
@@ -165,6 +169,7 @@ deliver_cut given before now out_before out_now e p w = record {
   part = λ t. (length given.stores, inl (all_stored given.stores before.contents now.contents (p.contents t)));
   was_told = w.was_told;
   left = w.part;
+  unwritten = λ e f. absurd (f w.failed);
 }
 
 -- the stores stand, and a write failed

@@ -110,3 +110,4 @@ pub record Delivers (given : Answer) (before now : FilesView) (out_before out_no
   pub part : IsTrue before.told → IsPartlyStored status given.stores before.contents now.contents
   pub was_told : IsTrue out_now.told → IsTrue out_before.told
   pub left : IsTrue out_now.told → IsLeft given.printed out_before.taken out_now.taken status
+  pub unwritten : status ≡ WriteFault → (Rose out_before.faults out_now.faults → ⊥) → out_now ≡ out_before

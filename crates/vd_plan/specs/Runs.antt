@@ -42,6 +42,8 @@ pub record Runs (fits : Bool) (plan : Contents → Plan) (before now : FilesView
   pub was_told : IsTrue out_now.told → IsTrue out_before.told
   pub left : IsTrue before.told → IsTrue out_now.told → IsLeft (plan before.contents).answer.printed out_before.taken out_now.taken status
   pub silent : IsTrue out_now.told → (IsEnded status → ⊥) → (status ≡ WriteFault → ⊥) → out_now.taken ≡ out_before.taken
+  -- a write's fault that the output did not count is that of a store, and leaves the output alone
+  pub unwritten : status ≡ WriteFault → (Rose out_before.faults out_now.faults → ⊥) → out_now ≡ out_before
 
 -- a good input and no fault give Ended, or want of memory
 abbrev pub IsComplete : (Contents → Plan) → FilesView → FilesView → SinkView → SinkView → Status → Type 0
