@@ -32,7 +32,7 @@ pub fn places_at(places: &[Vec<usize>], slot: usize) -> &[usize] {
 /// Adds to the number at a place, if there is one.
 fn add(numbers: &mut Vec<i64>, place: usize, amount: i64) {
     if place < numbers.len() {
-        numbers[place] = numbers[place].saturating_add(amount);
+        numbers[place] = numbers[place].wrapping_add(amount);
     }
 }
 

@@ -264,7 +264,7 @@ impl State {
 fn least_after(prices: &[i64], nets: &[i64]) -> i64 {
     let mut least = FAR;
     for (price, net) in prices.iter().zip(nets) {
-        least = least.min(price.saturating_sub(*net));
+        least = least.min(price.wrapping_sub(*net));
     }
     least
 }

@@ -12,7 +12,7 @@ use vd_protocol::protocols;
 use vd_space::Problem;
 
 /// At most so many sweeps are made.
-const SWEEPS: u32 = 512;
+const SWEEPS: u32 = 4096;
 
 /// Sweeps end, of an ascent and of the walk behind it, when so many prices of links were looked at, so that both together take a
 /// second or two at most.

@@ -78,7 +78,7 @@ fn put(numbers: &mut Vec<i64>, place: usize, number: i64) -> bool {
 fn least_after(prices: &[i64], held: &[i64]) -> i64 {
     let mut least = FAR;
     for (price, amount) in prices.iter().zip(held) {
-        least = least.min(price.saturating_sub(*amount));
+        least = least.min(price.wrapping_sub(*amount));
     }
     least
 }

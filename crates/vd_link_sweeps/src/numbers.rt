@@ -32,7 +32,7 @@ pub fn settings_at(settings: &[Vec<usize>], point: usize) -> &[usize] {
 /// Adds to the number at a place, if there is one.
 pub fn add(numbers: &mut Vec<i64>, place: usize, amount: i64) {
     if place < numbers.len() {
-        numbers[place] = numbers[place].saturating_add(amount);
+        numbers[place] = numbers[place].wrapping_add(amount);
     }
 }
 

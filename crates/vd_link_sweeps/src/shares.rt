@@ -53,6 +53,8 @@ pub struct Shares {
     more: Vec<i64>,
     /// So many links get something.
     links: u64,
+    /// The number of the sweep, by which the links take turns with what is left over.
+    turn: u64,
 }
 
 impl Shares {
@@ -64,7 +66,13 @@ impl Shares {
             parts: zeros(alloc, most)?,
             more: zeros(alloc, most)?,
             links: 0,
+            turn: 0,
         })
+    }
+
+    /// The next sweep.
+    pub fn turn(&mut self) {
+        self.turn = self.turn.wrapping_add(1);
     }
 
     /// Begins with what a point costs alone.
@@ -122,6 +130,7 @@ impl Shares {
             return 0;
         }
         let part = number_at(self.parts.as_slice(), setting);
+        let number = number.wrapping_add(self.turn) % self.links;
         if number_of(number) < number_at(self.more.as_slice(), setting) {
             part.saturating_add(1)
         } else {

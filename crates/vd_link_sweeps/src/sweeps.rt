@@ -89,6 +89,7 @@ impl State {
     /// One sweep, over the points that wait for it.
     pub fn sweep(&mut self, tables: &Tables, network: &Network, forward: bool) {
         self.is_forward = forward;
+        self.shares.turn();
         let points = network.by_point.len();
         for step in 0..points {
             let point = if forward { step } else { points - 1 - step };

@@ -9,3 +9,4 @@ pub mod Streams
 pub mod Drawn
 pub mod MadeValid
 pub mod EachHost
+pub mod Apart

@@ -1,5 +1,5 @@
 -- The deal that a key makes. Its words are those of ChaCha20, with one stream for each host and one for each kind of each two hosts.
-use Rattle.std.specs.Prelude.{ℕ, ◌+◌, ◌-◌, ◌*◌, ◌%◌, ◌^◌, ◌≤◌, min, max, nat_lt, bit_xor, List, ◌++◌, map, replicate, if◌then◌else◌}
+use Rattle.std.specs.Prelude.{◌≡◌, ◌≢◌, ◌<◌, ℕ, ◌+◌, ◌-◌, ◌*◌, ◌%◌, ◌^◌, ◌≤◌, min, max, nat_lt, bit_xor, List, ◌++◌, map, replicate, if◌then◌else◌}
 use Rattle.std.specs.List.{range_with_len}
 use Rattle.std.specs.Int.{w64, to_le_bytes}
 use Rattle.rand_chacha.specs.ChaCha.{word_at, key_of}
@@ -90,3 +90,16 @@ pub record AreCounts (counts : Counts) : Type 0 where
   pub muls : counts.muls ≤ most_deal_items
   pub ands : counts.ands ≤ most_deal_items
   pub pairs : counts.pairs ≤ most_deal_items
+
+-- ---- what is dealt once
+
+-- a kind of items of two hosts
+pub record IsShared (first second kind : ℕ) : Type 0 where
+  pub order : first < second
+  pub known : second < most_hosts
+  pub kinds : kind < 3
+
+-- each kind of each two hosts has a stream of its own, which is no host's for its own words
+pub record StreamsAreApart : Type 0 where
+  pub shared : (a b k c d l : ℕ) → IsShared a b k → IsShared c d l → shared_stream a b k ≡ shared_stream c d l → (a ≡ c) × (b ≡ d) × (k ≡ l)
+  pub own : (a b k me : ℕ) → IsShared a b k → me < most_hosts → shared_stream a b k ≢ me

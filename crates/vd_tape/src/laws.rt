@@ -4,6 +4,7 @@ ghost use Rattle.std.specs.Prelude.{◌≡◌, ℕ, ◌≤◌, ◌<◌, List, []
 ghost use Rattle.vd_base.specs.Limits.{most_hosts};
 ghost use Rattle.vd_deals.specs.declared.deal.Deal.{Deal};
 ghost use Rattle.vd_deals.specs.Validity.{AreDeals};
+ghost use Rattle.vd_tape.specs.Made.{StreamsAreApart};
 ghost use Rattle.vd_tape.specs.Text.{deal_text, IsDealOf, AreDealsOf};
 ghost use Rattle.vd_tape.specs.Reading.{deal_read};
 ghost use Rattle.vd_tape.specs.Outcome.{DealsFollowGrammar};
@@ -24,4 +25,9 @@ pub fn deals_of_each_host_are_deals()
     ensures more { (hosts : ℕ) (deals : List Deal) (deal : Deal) → AreDealsOf hosts deals → IsDealOf hosts (length deals) deal →
         AreDealsOf hosts (deals ++ deal ∷ []) }
     ensures all { (deals : List Deal) → length deals ≤ most_hosts → AreDealsOf (length deals) deals → AreDeals deals }
+{}
+
+/// No two kinds of items and no two pairs of hosts have one stream, and none is the stream of a host's own words.
+pub fn streams_are_apart()
+    ensures { StreamsAreApart }
 {}
