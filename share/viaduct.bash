@@ -1,0 +1,26 @@
+# Completions of bash for viaduct. Its commands and what stands behind them are those that `viaduct --help` prints.
+_viaduct() {
+  local word=${COMP_WORDS[COMP_CWORD]} help form wanted
+  COMPREPLY=()
+  help=$("${COMP_WORDS[0]}" --help 2> /dev/null) || return
+  if [ "$COMP_CWORD" -eq 1 ]; then
+    mapfile -t COMPREPLY < <(compgen -W "$(sed -n 's/^  viaduct \([a-z-]*\).*/\1/p' <<< "$help")" -- "$word")
+    return
+  fi
+  read -r -a form < <(sed -n "s/^  viaduct ${COMP_WORDS[1]//[^a-z]/} //p" <<< "$help" | sed 's/  .*//')
+  wanted=${form[COMP_CWORD - 2]:-}
+  case $wanted in
+    HOST)
+      mapfile -t COMPREPLY < <(compgen -W \
+        "$(sed -n 's/^ *host  *\([A-Za-z0-9_]*\).*/\1/p' "${COMP_WORDS[2]}" 2> /dev/null)" -- "$word") ;;
+    '[messages]')
+      mapfile -t COMPREPLY < <(compgen -W messages -- "$word") ;;
+    SOURCE)
+      compopt -o filenames 2> /dev/null
+      mapfile -t COMPREPLY < <(compgen -f -X '!*.via' -- "$word"; compgen -d -- "$word") ;;
+    INPUTS | CERT | PREFIX | SCHEDULE | PROGRAM | DEAL | SELF)
+      compopt -o filenames 2> /dev/null
+      mapfile -t COMPREPLY < <(compgen -f -- "$word") ;;
+  esac
+}
+complete -F _viaduct viaduct
