@@ -1,5 +1,5 @@
 -- A deal with one item changed.
-use Rattle.std.proofs.Common.{◌≡◌, ◌≢◌, ℕ, ◌+◌, ◌*◌, ◌%◌, ◌^◌, nat_eq, Bool, true, false, if◌then◌else◌, List, length, ◌⊎◌, inl, inr, refl, sym, ap, subst, subst₂, ◌∙◌, bit_and, bit_xor}
+use Rattle.std.proofs.Common.{◌≡◌, ◌≢◌, ℕ, ◌+◌, ◌*◌, ◌%◌, ◌^◌, nat_eq, ◌&&◌, Bool, true, false, if◌then◌else◌, List, length, ◌⊎◌, inl, inr, refl, sym, ap, subst, subst₂, ◌∙◌, bit_and, bit_xor}
 use Rattle.std.proofs.lemmas.Bool.{eq-eqb, ne_eqb}
 use Rattle.std.proofs.lemmas.Bool.Decides.{eqb_tells}
 use mathlib.Core.Path.{fun_ext}
@@ -8,25 +8,21 @@ use Rattle.vd_execution.specs.Step.{Source, Inputs, OwnWords, Triples, BitTriple
 use Rattle.vd_execution.specs.World.{Tape, zeros_of}
 use Rattle.vd_execution.specs.Deals.{IsValidDeal, IsWord}
 use Rattle.vd_schedules.proofs.Confluence.{same_or_not}
+use Rattle.vd_views.specs.Excused.{with_item}
 use Rattle.vd_views.proofs.Frames.{itself}
 
-unfoldable pub changed : Tape → ℕ → Source → ℕ → List ℕ → Tape
-changed t k s i item g r j = if nat_eq g k then (if same_source r s then (if nat_eq j i then item else t g r j) else t g r j) else t g r j
-
-third : {A : Type 0} (b c d : Bool) (x y : A) → d ≡ false → (if b then (if c then (if d then x else y) else y) else y) ≡ y
+third : {A : Type 0} (b c d : Bool) (x y : A) → d ≡ false → (if b && (c && d) then x else y) ≡ y
 third true true d x y e = ap (λ (q : Bool). if q then x else y) e
 third true false d x y e = refl
 third false c d x y e = refl
 
-second : {A : Type 0} (b c : Bool) (x y : A) → c ≡ false → (if b then (if c then x else y) else y) ≡ y
-second true c x y e = ap (λ (q : Bool). if q then x else y) e
-second false c x y e = refl
+second : {A : Type 0} (b c d : Bool) (x y : A) → c ≡ false → (if b && (c && d) then x else y) ≡ y
+second true c d x y e = ap (λ (q : Bool). if q && d then x else y) e
+second false c d x y e = refl
 
-either : {A : Type 0} (Q : A → Type 0) (b c d : Bool) (x y : A) → Q x → Q y → Q (if b then (if c then (if d then x else y) else y) else y)
-either Q true true true x y p q = p
-either Q true true false x y p q = q
-either Q true false d x y p q = q
-either Q false c d x y p q = q
+either : {A : Type 0} (Q : A → Type 0) (b : Bool) (x y : A) → Q x → Q y → Q (if b then x else y)
+either Q true x y p q = p
+either Q false x y p q = q
 
 pub means_same : (r s : Source) → same_source r s ≡ true → r ≡ s
 means_same Inputs Inputs e = refl
@@ -56,46 +52,46 @@ means_same (Pairs p) (Triples q) e = cc
 means_same (Pairs p) (BitTriples q) e = cc
 
 module _ (t : Tape) (k : ℕ) (s : Source) (i : ℕ) (item : List ℕ) where
-  pub changed_at : changed t k s i item k s i ≡ item
-  unfolding changed
+  pub changed_at : with_item t k s i item k s i ≡ item
+  unfolding with_item
   changed_at =
-      ap (λ (b : Bool). if b then (if same_source s s then (if nat_eq i i then item else t k s i) else t k s i) else t k s i) (eq-eqb k k refl)
-      ∙ ap (λ (b : Bool). if b then (if nat_eq i i then item else t k s i) else t k s i) (itself s)
+      ap (λ (b : Bool). if b && (same_source s s && nat_eq i i) then item else t k s i) (eq-eqb k k refl)
+      ∙ ap (λ (b : Bool). if b && nat_eq i i then item else t k s i) (itself s)
       ∙ ap (λ (b : Bool). if b then item else t k s i) (eq-eqb i i refl)
 
-  pub changed_host : (g : ℕ) (r : Source) (j : ℕ) → g ≢ k → changed t k s i item g r j ≡ t g r j
-  unfolding changed
-  changed_host g r j n = ap (λ (b : Bool). if b then (if same_source r s then (if nat_eq j i then item else t g r j) else t g r j) else t g r j) (ne_eqb g k n)
+  pub changed_host : (g : ℕ) (r : Source) (j : ℕ) → g ≢ k → with_item t k s i item g r j ≡ t g r j
+  unfolding with_item
+  changed_host g r j n = ap (λ (b : Bool). if b && (same_source r s && nat_eq j i) then item else t g r j) (ne_eqb g k n)
 
-  pub changed_source : (g : ℕ) (r : Source) (j : ℕ) → same_source r s ≡ false → changed t k s i item g r j ≡ t g r j
-  unfolding changed
-  changed_source g r j n = second (nat_eq g k) (same_source r s) (if nat_eq j i then item else t g r j) (t g r j) n
+  pub changed_source : (g : ℕ) (r : Source) (j : ℕ) → same_source r s ≡ false → with_item t k s i item g r j ≡ t g r j
+  unfolding with_item
+  changed_source g r j n = second (nat_eq g k) (same_source r s) (nat_eq j i) item (t g r j) n
 
-  pub changed_place : (g : ℕ) (r : Source) (j : ℕ) → j ≢ i → changed t k s i item g r j ≡ t g r j
-  unfolding changed
+  pub changed_place : (g : ℕ) (r : Source) (j : ℕ) → j ≢ i → with_item t k s i item g r j ≡ t g r j
+  unfolding with_item
   changed_place g r j n = third (nat_eq g k) (same_source r s) (nat_eq j i) item (t g r j) (ne_eqb j i n)
 
-  pub changed_either : (Q : List ℕ → Type 0) (g : ℕ) (r : Source) (j : ℕ) → Q item → Q (t g r j) → Q (changed t k s i item g r j)
-  unfolding changed
-  changed_either Q g r j p q = either Q (nat_eq g k) (same_source r s) (nat_eq j i) item (t g r j) p q
+  pub changed_either : (Q : List ℕ → Type 0) (g : ℕ) (r : Source) (j : ℕ) → Q item → Q (t g r j) → Q (with_item t k s i item g r j)
+  unfolding with_item
+  changed_either Q g r j p q = either Q (nat_eq g k && (same_source r s && nat_eq j i)) item (t g r j) p q
 
   -- the items that stand elsewhere
-  pub changed_elsewhere : (g : ℕ) (r : Source) (j : ℕ) → (g ≡ k → r ≡ s → j ≢ i) → changed t k s i item g r j ≡ t g r j
+  pub changed_elsewhere : (g : ℕ) (r : Source) (j : ℕ) → (g ≡ k → r ≡ s → j ≢ i) → with_item t k s i item g r j ≡ t g r j
   changed_elsewhere g r j n = at (same_or_not g k) (same_source r s) refl
     where
-      at : (g ≡ k) ⊎ (g ≢ k) → (b : Bool) → same_source r s ≡ b → changed t k s i item g r j ≡ t g r j
+      at : (g ≡ k) ⊎ (g ≢ k) → (b : Bool) → same_source r s ≡ b → with_item t k s i item g r j ≡ t g r j
       at (inr d) b e = changed_host g r j d
       at (inl d) false e = changed_source g r j e
       at (inl d) true e = changed_place g r j (n d (means_same r s e))
 
-  pub changed_part : (h : ℕ) → h ≢ k → changed t k s i item h ≡ t h
+  pub changed_part : (h : ℕ) → h ≢ k → with_item t k s i item h ≡ t h
   changed_part h n = fun_ext (λ r. fun_ext (λ j. changed_host h r j n))
 
 -- identities of a kind of item are kept
 module _ (t : Tape) (k h : ℕ) (apart : k ≢ h) (src : ℕ → Source) (tests : (q p : ℕ) → same_source (src q) (src p) ≡ nat_eq q p) (i : ℕ) (item : List ℕ)
     (P : List ℕ → List ℕ → Type 0) (one : P item (t h (src k) i)) (two : P (t h (src k) i) item) (all : (g q j : ℕ) → g ≢ q → P (t g (src q) j) (t q (src g) j)) where
   abbrev now : Tape
-  now = changed t k (src h) i item
+  now = with_item t k (src h) i item
 
   same_kind : (g q j : ℕ) → g ≢ q → (j ≡ i) ⊎ (j ≢ i) → (g ≡ k) ⊎ (g ≢ k) → (q ≡ h) ⊎ (q ≢ h) → (q ≡ k) ⊎ (q ≢ k) → (g ≡ h) ⊎ (g ≢ h) → P (now g (src q) j) (now q (src g) j)
   same_kind g q j ne (inr n) _ _ _ _ = subst₂ P (sym (changed_place t k (src h) i item g (src q) j n)) (sym (changed_place t k (src h) i item q (src g) j n)) (all g q j ne)
@@ -136,18 +132,18 @@ abbrev pub AreWords : List ℕ → Type 0
 AreWords xs = (place : ℕ) → IsWord (nth xs place)
 
 module _ (t : Tape) (deal : IsValidDeal t) (k h : ℕ) (apart : k ≢ h) (i : ℕ) (item : List ℕ) (fits : AreWords item) where
-  words_kept : (s : Source) (g : ℕ) (r : Source) (j place : ℕ) → IsWord (nth (changed t k s i item g r j) place)
+  words_kept : (s : Source) (g : ℕ) (r : Source) (j place : ℕ) → IsWord (nth (with_item t k s i item g r j) place)
   words_kept s g r j place = changed_either t k s i item (λ xs. IsWord (nth xs place)) g r j (fits place) (deal.words g r j place)
 
-  lengths_kept : (s : Source) → length item ≡ length (zeros_of s) → (g : ℕ) (r : Source) (j : ℕ) → length (changed t k s i item g r j) ≡ length (zeros_of r)
+  lengths_kept : (s : Source) → length item ≡ length (zeros_of s) → (g : ℕ) (r : Source) (j : ℕ) → length (with_item t k s i item g r j) ≡ length (zeros_of r)
   lengths_kept s whole g r j = at (same_source r s) refl
     where
-      at : (b : Bool) → same_source r s ≡ b → length (changed t k s i item g r j) ≡ length (zeros_of r)
+      at : (b : Bool) → same_source r s ≡ b → length (with_item t k s i item g r j) ≡ length (zeros_of r)
       at true e =
           changed_either t k s i item (λ xs. length xs ≡ length (zeros_of r)) g r j (whole ∙ sym (ap (λ (q : Source). length (zeros_of q)) (means_same r s e))) (deal.lengths g r j)
       at false e = ap (λ (xs : List ℕ). length xs) (changed_source t k s i item g r j e) ∙ deal.lengths g r j
 
-  pub with_triple : length item ≡ 3 → IsTriple item (t h (Triples k) i) → IsTriple (t h (Triples k) i) item → IsValidDeal (changed t k (Triples h) i item)
+  pub with_triple : length item ≡ 3 → IsTriple item (t h (Triples k) i) → IsTriple (t h (Triples k) i) item → IsValidDeal (with_item t k (Triples h) i item)
   with_triple whole one two = record {
     lengths = lengths_kept (Triples h) whole;
     words = words_kept (Triples h);
@@ -156,7 +152,7 @@ module _ (t : Tape) (deal : IsValidDeal t) (k h : ℕ) (apart : k ≢ h) (i : �
     pairs = λ g q j ne. subst₂ IsPair (sym (changed_source t k (Triples h) i item g (Pairs q) j refl)) (sym (changed_source t k (Triples h) i item q (Pairs g) j refl)) (deal.pairs g q j ne);
   }
 
-  pub with_bits : length item ≡ 3 → IsBitTriple item (t h (BitTriples k) i) → IsBitTriple (t h (BitTriples k) i) item → IsValidDeal (changed t k (BitTriples h) i item)
+  pub with_bits : length item ≡ 3 → IsBitTriple item (t h (BitTriples k) i) → IsBitTriple (t h (BitTriples k) i) item → IsValidDeal (with_item t k (BitTriples h) i item)
   with_bits whole one two = record {
     lengths = lengths_kept (BitTriples h) whole;
     words = words_kept (BitTriples h);
@@ -165,7 +161,7 @@ module _ (t : Tape) (deal : IsValidDeal t) (k h : ℕ) (apart : k ≢ h) (i : �
     pairs = λ g q j ne. subst₂ IsPair (sym (changed_source t k (BitTriples h) i item g (Pairs q) j refl)) (sym (changed_source t k (BitTriples h) i item q (Pairs g) j refl)) (deal.pairs g q j ne);
   }
 
-  pub with_pair : length item ≡ 2 → IsPair item (t h (Pairs k) i) → IsPair (t h (Pairs k) i) item → IsValidDeal (changed t k (Pairs h) i item)
+  pub with_pair : length item ≡ 2 → IsPair item (t h (Pairs k) i) → IsPair (t h (Pairs k) i) item → IsValidDeal (with_item t k (Pairs h) i item)
   with_pair whole one two = record {
     lengths = lengths_kept (Pairs h) whole;
     words = words_kept (Pairs h);

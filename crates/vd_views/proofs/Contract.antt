@@ -8,7 +8,7 @@ use Rattle.vd_execution.specs.Deals.{IsValidDeal, IsWord}
 use Rattle.vd_execution.specs.Joint.{fresh}
 use Rattle.vd_execution.specs.Gadgets.{Gadget, IsSound}
 use Rattle.vd_execution.specs.Plans.{Plan}
-use Rattle.vd_views.specs.Contract.{InputWords, with_inputs, CanBeExcused, HasExplanation}
+use Rattle.vd_views.specs.Contract.{InputWords, with_inputs, CanBeExcused, IsExplained}
 use Rattle.vd_views.proofs.Plans.{views_agree}
 
 pub fresh_sound : IsSound fresh
@@ -53,7 +53,7 @@ module _ (h : ℕ) (plan : Plan Gadget) (t : Tape) (second : InputWords) (can : 
   own_part (BitTriples p) i = refl
   own_part (Pairs p) i = refl
 
-  pub explained : HasExplanation h plan t second
+  pub explained : IsExplained h plan t second
   explained =
       let same : t h ≡ with_inputs t second h = fun_ext (λ s. fun_ext (λ i. own_part s i)) in
       let valid : IsValidDeal (with_inputs t second) =
@@ -63,18 +63,15 @@ module _ (h : ℕ) (plan : Plan Gadget) (t : Tape) (second : InputWords) (can : 
         start = record { part = same; looks = record { itself = refl; told = λ g. refl } };
         smooth = can.smooth;
         smooth_too = can.smooth_too;
-        chooses = can.chooses;
         knows = can.knows;
-      }) in (
-        e.0,
-        record {
-          deal = e.1.another.deal;
-          inputs = λ g i. e.1.another.inputs g i;
-          part = e.1.another.part ∙ sym same;
-          own_words = λ g i. e.1.another.own_words g i;
-          past = λ g s i n l. e.1.past g s i l ∙ same_but g s i n;
-          chooses = can.chooses e.0 e.1.another;
-          hides = e.1.hides;
-          view = e.1.view;
-        },
-      )
+      }) in
+      record {
+        deal = e.another.deal;
+        inputs = λ g i. e.another.inputs g i;
+        part = e.another.part ∙ sym same;
+        own_words = λ g i. e.another.own_words g i;
+        past = λ g s i n l. e.past g s i l ∙ same_but g s i n;
+        chooses = e.chooses;
+        hides = e.hides;
+        view = e.view;
+      }

@@ -1,5 +1,6 @@
 -- For every second run there is a deal by which the gadgets hide alike.
-use Rattle.std.proofs.Common.{◌≡◌, ◌≢◌, ℕ, zero, suc, ◌+◌, ◌-◌, ◌*◌, ◌%◌, ◌^◌, ◌<◌, ◌≤◌, List, [], ◌∷◌, ◌++◌, ◌⊎◌, inl, inr, refl, sym, ap, ap₂, subst, ◌∙◌, arith, lit<, false, bit_and, bit_xor}
+use Rattle.std.proofs.Common.{◌≡◌, ◌≢◌, ℕ, zero, suc, ◌+◌, ◌-◌, ◌*◌, ◌%◌, ◌^◌, ◌<◌, ◌≤◌, List, [], ◌∷◌, ◌++◌, ◌⊎◌, inl, inr, refl, sym, ap, ap₂, subst, ◌∙◌, arith, lit<, nat_eq, Bool, true, false, if◌then◌else◌, bit_and, bit_xor}
+use Rattle.std.proofs.lemmas.Bool.Decides.{eqb_tells}
 use Rattle.std.proofs.Math.Nat.{mod-lt, mod-eq_of_lt, add_comm}
 use Rattle.std.proofs.lemmas.Nat.{xor_comm, xor_lt, and_le_l}
 use Rattle.vd_base.specs.declared.ids.HostId.{HostId}
@@ -12,7 +13,6 @@ use Rattle.vd_execution.specs.World.{Tape}
 use Rattle.vd_execution.specs.Deals.{IsValidDeal, IsWord}
 use Rattle.vd_execution.specs.Joint.{Host, Hosts, acted}
 use Rattle.vd_execution.specs.Acts.{run_acts}
-use Rattle.vd_schedules.proofs.Confluence.{same_or_not}
 use Rattle.vd_schedules.proofs.Puts.{put_same, put_other}
 use Rattle.vd_schedules.proofs.Gadgets.{gadget_sound}
 use Rattle.vd_execution.specs.Gadgets.{Sharing, BySums, ByXors, Masking, Pairing, Gadget, Alone, Tells, Shares, BothShare, Opens, Masked, Paired, hide, take, source_of, masking, told_by, acts_of_gadget, GadgetIsTidy, GadgetsAreTidy, IsSound}
@@ -20,8 +20,9 @@ use Rattle.vd_views.specs.Hiding.{next_item, HidesAlike, converted, pair_word, G
 use Rattle.vd_views.proofs.Hiding.{run_append, masking_keeps}
 use Rattle.vd_views.proofs.Frames.{further_same, acts_grow, taken_before, acts_frame}
 use Rattle.vd_views.specs.Items.{raised, turned, sum_item, xor_item, item_for, pair_item}
+use Rattle.vd_views.specs.Excused.{with_item, masked_again, paired_again, item_again}
 use Rattle.vd_views.proofs.Masks.{hides_difference, makes_up, hides_xor, xor_makes_up, xor_back}
-use Rattle.vd_views.proofs.Changed.{changed, changed_at, changed_host, changed_source, changed_elsewhere, changed_part, IsTriple, IsBitTriple, IsPair, AreWords, with_triple, with_bits, with_pair}
+use Rattle.vd_views.proofs.Changed.{changed_at, changed_host, changed_source, changed_elsewhere, changed_part, IsTriple, IsBitTriple, IsPair, AreWords, with_triple, with_bits, with_pair}
 
 pub three_words : (a b c : ℕ) → IsWord a → IsWord b → IsWord c → AreWords (a ∷ b ∷ c ∷ [])
 three_words a b c p q r zero = p
@@ -78,17 +79,16 @@ module _ (xs ys : List ℕ) (x z x' z' : ℕ) (fx : AreWords xs) (fy : AreWords 
 
 -- another deal, the same past what the gadget takes, by which it hides alike, and so it does by each later deal that keeps what was
 -- taken
-pub record GadgetExcuse (h : ℕ) (t u : Tape) (r : Gadget) (w v : Hosts) : Type 0 where
-  pub tape : Tape
-  pub another : IsAnotherDeal h u v tape
-  pub past : (g : ℕ) (s : Source) (i : ℕ) → (run_acts tape (acts_of_gadget r) v g).cursors s ≤ i → tape g s i ≡ u g s i
-  pub hides : (y : Tape) → TakenAlike (run_acts tape (acts_of_gadget r) v) tape y → GadgetHides h t y r w v
+pub record ItemExcuse (h : ℕ) (t u : Tape) (r : Gadget) (w v : Hosts) (y : Tape) : Type 0 where
+  pub another : IsAnotherDeal h u v y
+  pub past : (g : ℕ) (s : Source) (i : ℕ) → (run_acts y (acts_of_gadget r) v g).cursors s ≤ i → y g s i ≡ u g s i
+  pub hides : (z : Tape) → TakenAlike (run_acts y (acts_of_gadget r) v) y z → GadgetHides h t z r w v
 
 pub another_itself : (h : ℕ) (u : Tape) (v : Hosts) → IsValidDeal u → IsAnotherDeal h u v u
 another_itself h u v deal = record { deal = deal; part = refl; inputs = λ g i. refl; own_words = λ g i. refl; taken = λ g s i l. refl }
 
-unchanged : (h : ℕ) (t u : Tape) (r : Gadget) (w v : Hosts) → IsValidDeal u → ((y : Tape) → GadgetHides h t y r w v) → GadgetExcuse h t u r w v
-unchanged h t u r w v deal hides = record { tape = u; another = another_itself h u v deal; past = λ g s i l. refl; hides = λ y k. hides y }
+unchanged : (h : ℕ) (t u : Tape) (r : Gadget) (w v : Hosts) → IsValidDeal u → ((y : Tape) → GadgetHides h t y r w v) → ItemExcuse h t u r w v u
+unchanged h t u r w v du hides = record { another = another_itself h u v du; past = λ g s i l. refl; hides = λ y k. hides y }
 
 module _ (h : ℕ) (t u : Tape) (deal_t : IsValidDeal t) (deal_u : IsValidDeal u) (w v : Hosts) (sound_w : IsSound w) (sound_v : IsSound v) where
   -- the side of the host that is not h takes another item
@@ -103,7 +103,7 @@ module _ (h : ℕ) (t u : Tape) (deal_t : IsValidDeal t) (deal_u : IsValidDeal u
     item = item_for sharing (next_item t w k (source_of sharing h)) (u h (source_of sharing k) place) ((w k).registers m.x.0) ((v k).registers m.x.0) ((w k).registers m.y.0) ((v k).registers m.y.0)
 
     abbrev pub masked_tape : Tape
-    masked_tape = changed u k (source_of sharing h) place item
+    masked_tape = with_item u k (source_of sharing h) place item
 
   pub masked_deal : (sharing : Sharing) (m : Masking) (other : m.host.0 ≢ h) → IsValidDeal (masked_tape sharing m other)
   masked_deal BySums m other =
@@ -181,14 +181,14 @@ second_takes t sharing m n v apart =
 
 -- ---- the deal of each gadget
 
-not_taken : (v : Hosts) (u : Tape) (k : ℕ) (s : Source) (item : List ℕ) → TakenAlike v u (changed u k s ((v k).cursors s) item)
+not_taken : (v : Hosts) (u : Tape) (k : ℕ) (s : Source) (item : List ℕ) → TakenAlike v u (with_item u k s ((v k).cursors s) item)
 not_taken v u k s item g r j less = changed_elsewhere u k s ((v k).cursors s) item g r j (λ e f z. later (let P : ℕ → Type 0 = λ x. j < (v x).cursors r in let Q : Source → Type 0 = λ x. j < (v k).cursors x in subst Q f (subst P e less)) z)
   where
     later : j < (v k).cursors s → j ≡ (v k).cursors s → ⊥
     later l e = omega (arith, l, e)
 
 -- the changed item is one that is taken next
-not_past : (x : Hosts) (u : Tape) (k : ℕ) (s : Source) (c : ℕ) (item : List ℕ) → c < (x k).cursors s → (g : ℕ) (r : Source) (j : ℕ) → (x g).cursors r ≤ j → changed u k s c item g r j ≡ u g r j
+not_past : (x : Hosts) (u : Tape) (k : ℕ) (s : Source) (c : ℕ) (item : List ℕ) → c < (x k).cursors s → (g : ℕ) (r : Source) (j : ℕ) → (x g).cursors r ≤ j → with_item u k s c item g r j ≡ u g r j
 not_past x u k s c item less g r j past =
     changed_elsewhere u k s c item g r j (λ e f z. let P : ℕ → Type 0 = λ q. (x q).cursors r ≤ j in let Q : Source → Type 0 = λ q. (x k).cursors q ≤ j in later (subst Q f (subst P e past)) z)
   where
@@ -203,7 +203,7 @@ no_own : (sharing : Sharing) (h : ℕ) → same_source OwnWords (source_of shari
 no_own BySums h = refl
 no_own ByXors h = refl
 
-pub masked_first : (t u : Tape) → IsValidDeal t → IsValidDeal u → (sharing : Sharing) (m n : Masking) → m.host.0 ≢ n.host.0 → (w v : Hosts) → IsSound w → IsSound v → GadgetExcuse m.host.0 t u (Masked sharing m n) w v
+pub masked_first : (t u : Tape) (dt : IsValidDeal t) (du : IsValidDeal u) (sharing : Sharing) (m n : Masking) (apart : m.host.0 ≢ n.host.0) (w v : Hosts) (sw : IsSound w) (sv : IsSound v) → ItemExcuse m.host.0 t u (Masked sharing m n) w v (with_item u n.host.0 (source_of sharing m.host.0) ((v n.host.0).cursors (source_of sharing m.host.0)) (item m.host.0 t u dt du w v sw sv sharing n (λ e. apart (sym e))))
 masked_first t u dt du sharing m n apart w v sw sv =
     let h : ℕ = m.host.0 in
     let s : Source = source_of sharing h in
@@ -211,7 +211,6 @@ masked_first t u dt du sharing m n apart w v sw sv =
     let it : List ℕ = item h t u dt du w v sw sv sharing n back in
     let y0 : Tape = masked_tape h t u dt du w v sw sv sharing n back in
     record {
-      tape = y0;
       another = record {
         deal = masked_deal h t u dt du w v sw sv sharing n back;
         part = changed_part u n.host.0 s ((v n.host.0).cursors s) it h apart;
@@ -226,14 +225,13 @@ masked_first t u dt du sharing m n apart w v sw sv =
       );
     }
 
-pub masked_second : (t u : Tape) → IsValidDeal t → IsValidDeal u → (sharing : Sharing) (m n : Masking) → m.host.0 ≢ n.host.0 → (w v : Hosts) → IsSound w → IsSound v → GadgetExcuse n.host.0 t u (Masked sharing m n) w v
+pub masked_second : (t u : Tape) (dt : IsValidDeal t) (du : IsValidDeal u) (sharing : Sharing) (m n : Masking) (apart : m.host.0 ≢ n.host.0) (w v : Hosts) (sw : IsSound w) (sv : IsSound v) → ItemExcuse n.host.0 t u (Masked sharing m n) w v (with_item u m.host.0 (source_of sharing n.host.0) ((v m.host.0).cursors (source_of sharing n.host.0)) (item n.host.0 t u dt du w v sw sv sharing m apart))
 masked_second t u dt du sharing m n apart w v sw sv =
     let h : ℕ = n.host.0 in
     let s : Source = source_of sharing h in
     let it : List ℕ = item h t u dt du w v sw sv sharing m apart in
     let y0 : Tape = masked_tape h t u dt du w v sw sv sharing m apart in
     record {
-      tape = y0;
       another = record {
         deal = masked_deal h t u dt du w v sw sv sharing m apart;
         part = changed_part u m.host.0 s ((v m.host.0).cursors s) it h (λ e. apart (sym e));
@@ -269,7 +267,7 @@ pair_takes t p q v apart = (
 )
 
 module _ (t u : Tape) (deal_t : IsValidDeal t) (deal_u : IsValidDeal u) (p q : Pairing) (apart : p.host.0 ≢ q.host.0) (w v : Hosts) (sound_w : IsSound w) (sound_v : IsSound v) where
-  abbrev d : ℕ
+  abbrev pub d : ℕ
   d = raised (pair_word p q t w) (converted p q w) (converted p q v)
 
   d_word : IsWord d
@@ -280,7 +278,7 @@ module _ (t u : Tape) (deal_t : IsValidDeal t) (deal_u : IsValidDeal u) (p q : P
       (xor_lt 32 _ _ (deal_t.words _ _ _ _) (deal_t.words _ _ _ _)) (xor_lt 32 _ _ (sound_w.words _ _) (sound_w.words _ _)) (xor_lt 32 _ _ (sound_v.words _ _) (sound_v.words _ _))
 
   -- the second host is the other one
-  pub paired_first : GadgetExcuse p.host.0 t u (Paired p q) w v
+  pub paired_first : ItemExcuse p.host.0 t u (Paired p q) w v (with_item u q.host.0 (Pairs p.host.0) ((v q.host.0).cursors (Pairs p.host.0)) (pair_item d (u p.host.0 (Pairs q.host.0) ((v q.host.0).cursors (Pairs p.host.0)))))
   unfolding pair_item
   paired_first =
       let h : ℕ = p.host.0 in
@@ -289,9 +287,8 @@ module _ (t u : Tape) (deal_t : IsValidDeal t) (deal_u : IsValidDeal u) (p q : P
       let ys : List ℕ = u h (Pairs k) c in
       let fy : AreWords ys = λ n. deal_u.words _ _ _ n in
       let it : List ℕ = pair_item d ys in
-      let y0 : Tape = changed u k (Pairs h) c it in
+      let y0 : Tape = with_item u k (Pairs h) c it in
       record {
-        tape = y0;
         another = record {
           deal = with_pair u deal_u k h (λ e. apart (sym e)) c it (pair_fits d ys d_word fy) refl (pair_identity d ys d_word fy) (flip_pair it ys (pair_identity d ys d_word fy));
           part = changed_part u k (Pairs h) c it h apart;
@@ -310,7 +307,7 @@ module _ (t u : Tape) (deal_t : IsValidDeal t) (deal_u : IsValidDeal u) (p q : P
       }
 
   -- the first host is the other one
-  pub paired_second : GadgetExcuse q.host.0 t u (Paired p q) w v
+  pub paired_second : ItemExcuse q.host.0 t u (Paired p q) w v (with_item u p.host.0 (Pairs q.host.0) ((v p.host.0).cursors (Pairs q.host.0)) (pair_item d (u q.host.0 (Pairs p.host.0) ((v p.host.0).cursors (Pairs q.host.0)))))
   unfolding pair_item
   paired_second =
       let h : ℕ = q.host.0 in
@@ -319,9 +316,8 @@ module _ (t u : Tape) (deal_t : IsValidDeal t) (deal_u : IsValidDeal u) (p q : P
       let ys : List ℕ = u h (Pairs k) c in
       let fy : AreWords ys = λ n. deal_u.words _ _ _ n in
       let it : List ℕ = pair_item d ys in
-      let y0 : Tape = changed u k (Pairs h) c it in
+      let y0 : Tape = with_item u k (Pairs h) c it in
       record {
-        tape = y0;
         another = record {
           deal = with_pair u deal_u k h apart c it (pair_fits d ys d_word fy) refl (pair_identity d ys d_word fy) (flip_pair it ys (pair_identity d ys d_word fy));
           part = changed_part u k (Pairs h) c it h (λ e. apart (sym e));
@@ -339,38 +335,92 @@ module _ (t u : Tape) (deal_t : IsValidDeal t) (deal_u : IsValidDeal u) (p q : P
             hidden_word ∙ sym (ap (applied binary.Sub (converted p q v)) (ap₂ (λ (a b : List ℕ). bit_xor (nth a 1) (nth b 1)) other mine ∙ xor_back d (nth ys 1)));
       }
 
--- ---- every gadget, and gadgets in a row
+-- ---- every gadget
 
-pub gadget_excuse : (h : ℕ) (t u : Tape) → IsValidDeal t → IsValidDeal u → (r : Gadget) → GadgetIsTidy r → (w v : Hosts) → IsSound w → IsSound v → GadgetExcuse h t u r w v
-gadget_excuse h t u dt du (Alone g a) tidy w v sw sv = unchanged h t u (Alone g a) w v du (λ y. tt)
-gadget_excuse h t u dt du (Tells a said b heard) tidy w v sw sv = unchanged h t u (Tells a said b heard) w v du (λ y. tt)
-gadget_excuse h t u dt du (Shares a r b heard) tidy w v sw sv = unchanged h t u (Shares a r b heard) w v du (λ y. tt)
-gadget_excuse h t u dt du (BothShare a r heard b q heard_b) tidy w v sw sv = unchanged h t u (BothShare a r heard b q heard_b) w v du (λ y. tt)
-gadget_excuse h t u dt du (Opens sharing a x b y heard) tidy w v sw sv = unchanged h t u (Opens sharing a x b y heard) w v du (λ y. tt)
-gadget_excuse h t u dt du (Masked sharing m n) tidy w v sw sv = at (same_or_not m.host.0 h) (same_or_not n.host.0 h)
+abbrev chosen : Bool → Bool → Tape → Tape → Tape → Tape
+chosen b d x y z = if b then x else (if d then y else z)
+
+pub item_excuse : (h : ℕ) (t u : Tape) → IsValidDeal t → IsValidDeal u → (r : Gadget) → GadgetIsTidy r → (w v : Hosts) → IsSound w → IsSound v → ItemExcuse h t u r w v (item_again h t r u w v)
+item_excuse h t u dt du (Alone g a) tidy w v sw sv = unchanged h t u (Alone g a) w v du (λ y. tt)
+item_excuse h t u dt du (Tells a said b heard) tidy w v sw sv = unchanged h t u (Tells a said b heard) w v du (λ y. tt)
+item_excuse h t u dt du (Shares a r b heard) tidy w v sw sv = unchanged h t u (Shares a r b heard) w v du (λ y. tt)
+item_excuse h t u dt du (BothShare a r heard b q heard_b) tidy w v sw sv = unchanged h t u (BothShare a r heard b q heard_b) w v du (λ y. tt)
+item_excuse h t u dt du (Opens sharing a x b y heard) tidy w v sw sv = unchanged h t u (Opens sharing a x b y heard) w v du (λ y. tt)
+item_excuse h t u dt du (Masked sharing m n) tidy w v sw sv = at (eqb_tells m.host.0 h) (eqb_tells n.host.0 h)
   where
-    at : (m.host.0 ≡ h) ⊎ (m.host.0 ≢ h) → (n.host.0 ≡ h) ⊎ (n.host.0 ≢ h) → GadgetExcuse h t u (Masked sharing m n) w v
-    at (inl e) _ = let P : ℕ → Type 0 = λ x. GadgetExcuse x t u (Masked sharing m n) w v in subst P e (masked_first t u dt du sharing m n tidy.0 w v sw sv)
-    at (inr i) (inl e) = let P : ℕ → Type 0 = λ x. GadgetExcuse x t u (Masked sharing m n) w v in subst P e (masked_second t u dt du sharing m n tidy.0 w v sw sv)
-    at (inr i) (inr j) = unchanged h t u (Masked sharing m n) w v du (λ y. ((λ e. absurd (j e)), (λ e. absurd (i e))))
-gadget_excuse h t u dt du (Paired p q) tidy w v sw sv = at (same_or_not p.host.0 h) (same_or_not q.host.0 h)
+    r : Gadget
+    r = Masked sharing m n
+
+    P : Tape → Type 0
+    P y = ItemExcuse h t u r w v y
+
+    first : ℕ → Tape
+    first x = masked_again x t sharing n u w v
+
+    second : ℕ → Tape
+    second x = masked_again x t sharing m u w v
+
+    by_first : ItemExcuse m.host.0 t u r w v (first m.host.0)
+    by_first = masked_first t u dt du sharing m n tidy.0 w v sw sv
+
+    by_second : ItemExcuse n.host.0 t u r w v (second n.host.0)
+    by_second = masked_second t u dt du sharing m n tidy.0 w v sw sv
+
+    at : ((nat_eq m.host.0 h ≡ true) × (m.host.0 ≡ h)) ⊎ ((nat_eq m.host.0 h ≡ false) × (m.host.0 ≢ h)) → ((nat_eq n.host.0 h ≡ true) × (n.host.0 ≡ h)) ⊎ ((nat_eq n.host.0 h ≡ false) × (n.host.0 ≢ h))
+        → ItemExcuse h t u r w v (chosen (nat_eq m.host.0 h) (nat_eq n.host.0 h) (first h) (second h) u)
+    at (inl e) _ =
+        subst P (sym (ap (λ (b : Bool). chosen b (nat_eq n.host.0 h) (first h) (second h) u) e.0)) (subst (λ (x : ℕ). ItemExcuse x t u r w v (first x)) e.1 by_first)
+    at (inr i) (inl e) =
+        subst P (sym (ap (λ (b : Bool). chosen b (nat_eq n.host.0 h) (first h) (second h) u) i.0 ∙ ap (λ (b : Bool). chosen false b (first h) (second h) u) e.0))
+        (subst (λ (x : ℕ). ItemExcuse x t u r w v (second x)) e.1 by_second)
+    at (inr i) (inr j) =
+        subst P (sym (ap (λ (b : Bool). chosen b (nat_eq n.host.0 h) (first h) (second h) u) i.0 ∙ ap (λ (b : Bool). chosen false b (first h) (second h) u) j.0))
+        (unchanged h t u r w v du (λ y. ((λ e. absurd (j.1 e)), (λ e. absurd (i.1 e)))))
+item_excuse h t u dt du (Paired p q) tidy w v sw sv = at (eqb_tells p.host.0 h) (eqb_tells q.host.0 h)
   where
+    r : Gadget
+    r = Paired p q
+
+    P : Tape → Type 0
+    P y = ItemExcuse h t u r w v y
+
+    first : ℕ → Tape
+    first x = paired_again x t p q q.host.0 u w v
+
+    second : ℕ → Tape
+    second x = paired_again x t p q p.host.0 u w v
+
+    by_first : ItemExcuse p.host.0 t u r w v (first p.host.0)
+    by_first = paired_first t u dt du p q tidy w v sw sv
+
+    by_second : ItemExcuse q.host.0 t u r w v (second q.host.0)
+    by_second = paired_second t u dt du p q tidy w v sw sv
+
     neither : (p.host.0 ≢ h) → (q.host.0 ≢ h) → (p.host.0 ≡ h) ⊎ (q.host.0 ≡ h) → ⊥
     neither i j (inl e) = i e
     neither i j (inr e) = j e
 
-    at : (p.host.0 ≡ h) ⊎ (p.host.0 ≢ h) → (q.host.0 ≡ h) ⊎ (q.host.0 ≢ h) → GadgetExcuse h t u (Paired p q) w v
-    at (inl e) _ = let P : ℕ → Type 0 = λ x. GadgetExcuse x t u (Paired p q) w v in subst P e (paired_first t u dt du p q tidy w v sw sv)
-    at (inr i) (inl e) = let P : ℕ → Type 0 = λ x. GadgetExcuse x t u (Paired p q) w v in subst P e (paired_second t u dt du p q tidy w v sw sv)
-    at (inr i) (inr j) = unchanged h t u (Paired p q) w v du (λ y e. absurd (neither i j e))
+    at : ((nat_eq p.host.0 h ≡ true) × (p.host.0 ≡ h)) ⊎ ((nat_eq p.host.0 h ≡ false) × (p.host.0 ≢ h)) → ((nat_eq q.host.0 h ≡ true) × (q.host.0 ≡ h)) ⊎ ((nat_eq q.host.0 h ≡ false) × (q.host.0 ≢ h))
+        → ItemExcuse h t u r w v (chosen (nat_eq p.host.0 h) (nat_eq q.host.0 h) (first h) (second h) u)
+    at (inl e) _ =
+        subst P (sym (ap (λ (b : Bool). chosen b (nat_eq q.host.0 h) (first h) (second h) u) e.0)) (subst (λ (x : ℕ). ItemExcuse x t u r w v (first x)) e.1 by_first)
+    at (inr i) (inl e) =
+        subst P (sym (ap (λ (b : Bool). chosen b (nat_eq q.host.0 h) (first h) (second h) u) i.0 ∙ ap (λ (b : Bool). chosen false b (first h) (second h) u) e.0))
+        (subst (λ (x : ℕ). ItemExcuse x t u r w v (second x)) e.1 by_second)
+    at (inr i) (inr j) =
+        subst P (sym (ap (λ (b : Bool). chosen b (nat_eq q.host.0 h) (first h) (second h) u) i.0 ∙ ap (λ (b : Bool). chosen false b (first h) (second h) u) j.0))
+        (unchanged h t u r w v du (λ y e. absurd (neither i.1 j.1 e)))
+
+-- ---- gadgets in a row
 
 pub gadgets_excuse : (h : ℕ) (t u : Tape) → IsValidDeal t → IsValidDeal u → (gadgets : List Gadget) → GadgetsAreTidy gadgets → (w v : Hosts) → IsSound w → IsSound v → (y : Tape) × IsExcuse h t u gadgets w v y
 gadgets_excuse h t u dt du [] tidy w v sw sv = (u, record { another = another_itself h u v du; hides = tt })
 gadgets_excuse h t u dt du (g ∷ gadgets) tidy w v sw sv =
-    let one : GadgetExcuse h t u g w v = gadget_excuse h t u dt du g tidy.0 w v sw sv in
+    let next : Tape = item_again h t g u w v in
+    let one : ItemExcuse h t u g w v next = item_excuse h t u dt du g tidy.0 w v sw sv in
     let w1 : Hosts = run_acts t (acts_of_gadget g) w in
-    let v1 : Hosts = run_acts one.tape (acts_of_gadget g) v in
-    let more = gadgets_excuse h t one.tape dt one.another.deal gadgets tidy.1 w1 v1 (gadget_sound t dt g tidy.0 w sw) (gadget_sound one.tape one.another.deal g tidy.0 v sv) in
+    let v1 : Hosts = run_acts next (acts_of_gadget g) v in
+    let more = gadgets_excuse h t next dt one.another.deal gadgets tidy.1 w1 v1 (gadget_sound t dt g tidy.0 w sw) (gadget_sound next one.another.deal g tidy.0 v sv) in
     let y : Tape = more.0 in
     let P : Hosts → Type 0 = λ x. AlongGadgets (GadgetHides h t y) t y gadgets w1 x in (
       y,
@@ -380,8 +430,8 @@ gadgets_excuse h t u dt du (g ∷ gadgets) tidy w v sw sv =
           part = more.1.another.part ∙ one.another.part;
           inputs = λ k i. more.1.another.inputs k i ∙ one.another.inputs k i;
           own_words = λ k i. more.1.another.own_words k i ∙ one.another.own_words k i;
-          taken = λ k s i l. taken_before one.tape (acts_of_gadget g) v one.tape y more.1.another.taken k s i l ∙ one.another.taken k s i l;
+          taken = λ k s i l. taken_before next (acts_of_gadget g) v next y more.1.another.taken k s i l ∙ one.another.taken k s i l;
         };
-        hides = (one.hides y more.1.another.taken, subst P (sym (acts_frame one.tape y (acts_of_gadget g) v more.1.another.taken)) more.1.hides);
+        hides = (one.hides y more.1.another.taken, subst P (sym (acts_frame next y (acts_of_gadget g) v more.1.another.taken)) more.1.hides);
       },
     )

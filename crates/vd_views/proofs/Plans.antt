@@ -1,5 +1,6 @@
--- For every second run of a plan there is a deal by which it hides alike.
-use Rattle.std.proofs.Common.{◌≡◌, ℕ, zero, suc, ◌≤◌, ◌+◌, ◌<◌, ◌^◌, Bool, true, false, if◌then◌else◌, List, [], ◌∷◌, ◌⊎◌, inl, inr, refl, sym, ap, subst, ◌∙◌, arith}
+-- For every second run of a plan there is a deal by which what items hide is hidden alike, as far as both runs take the same branches.
+-- Nothing is asked of the two runs.
+use Rattle.std.proofs.Common.{◌≡◌, ℕ, zero, suc, ◌≤◌, ◌+◌, ◌<◌, ◌^◌, Bool, true, false, if◌then◌else◌, List, [], ◌∷◌, refl, sym, ap, subst, ◌∙◌, arith}
 use Rattle.vd_execution.specs.declared.instructions.Act.{Act}
 use Rattle.vd_execution.specs.declared.instructions.Act.TheVariants as act
 use Rattle.vd_execution.specs.Registers.{put}
@@ -18,12 +19,14 @@ use Rattle.vd_execution.specs.Plans.{Plan, Ends, Then, Branch, Loop, joint_of, P
 use Rattle.vd_schedules.specs.Claims.{KeepsSound}
 use Rattle.vd_views.specs.Hiding.{GadgetHides, TakenAlike, IsAnotherDeal}
 use Rattle.vd_views.specs.Plans.{run_branch, run_turn, PlanHides, PlanKnows, PlanChooses}
+use Rattle.vd_views.specs.Hides.{Hides}
+use Rattle.vd_views.specs.Excused.{item_again, if_both, turns_again, excused}
 use Rattle.vd_views.specs.Claims.{AllowsExcuse, HasViewExcuse}
-use Rattle.vd_views.proofs.Blocks.{takes_or_not, tells_first, told_the_same, same_branch, begun_alike}
+use Rattle.vd_views.proofs.Blocks.{tells_first, told_the_same, same_branch, begun_alike}
 use Rattle.vd_views.proofs.Hiding.{gadget_tells, gadget_alike, gadget_back}
 use Rattle.vd_views.proofs.Frames.{acts_grow, acts_frame}
 use Rattle.vd_views.proofs.Joints.{Grows, HasFrame, before, grows_after, begun_grows, turns_grow, branch_grows, joint_grows, frame_after, turns_frame, branch_frame, joint_frame}
-use Rattle.vd_views.proofs.Excuse.{GadgetExcuse, another_itself, gadget_excuse}
+use Rattle.vd_views.proofs.Excuse.{ItemExcuse, another_itself, item_excuse}
 
 -- ---- what hides and says alike tells alike
 
@@ -42,7 +45,7 @@ smooth_rest t (act.Msg p said q heard ∷ acts) j w a = smooth_rest t acts j (ru
 pub begun_cursors : (ps : List Part) (i : ℕ) (w : Hosts) (g : ℕ) (s : Source) → (turn_begun ps i w g).cursors s ≡ (w g).cursors s
 begun_cursors ps i w g s = part_keeps (λ (x : Host). x.cursors s ≡ (w g).cursors s) ps g (λ c. record (w g) { registers = put (w g).registers c i }) (w g) (λ r. refl) refl
 
-begun_sound : (ps : List Part) (i : ℕ) → i < 2 ^ 32 → (w : Hosts) → IsSound w → IsSound (turn_begun ps i w)
+pub begun_sound : (ps : List Part) (i : ℕ) → i < 2 ^ 32 → (w : Hosts) → IsSound w → IsSound (turn_begun ps i w)
 begun_sound ps i small w sound = record {
   words = λ g r. part_keeps (λ (x : Host). x.registers r < 2 ^ 32) ps g (λ c. record (w g) { registers = put (w g).registers c i }) (w g)
       (λ c. put_words (w g).registers c i (sound.words g) small r) (sound.words g r);
@@ -63,10 +66,10 @@ turn_sound ps count body tidy few i less =
     )
 
 -- and a branch, and a loop
-branch_sound : (ps : List Part) (first other rest : Plan Gadget) → PlanIsTidy (Branch ps first other rest) → KeepsSound (run_branch ps first other)
+pub branch_sound : (ps : List Part) (first other rest : Plan Gadget) → PlanIsTidy (Branch ps first other rest) → KeepsSound (run_branch ps first other)
 branch_sound ps first other rest tidy t dt w sw = plan_sound t dt (Branch ps first other Ends) (tidy.0, (tidy.1.0, (tidy.1.1.0, tt))) w sw
 
-loop_sound : (ps : List Part) (count : ℕ) (body rest : Plan Gadget) → PlanIsTidy (Loop ps count body rest) → KeepsSound (λ t w. turns (run_turn ps body t) count 0 w)
+pub loop_sound : (ps : List Part) (count : ℕ) (body rest : Plan Gadget) → PlanIsTidy (Loop ps count body rest) → KeepsSound (λ t w. turns (run_turn ps body t) count 0 w)
 loop_sound ps count body rest tidy t dt w sw = plan_sound t dt (Loop ps count body Ends) (tidy.0, (tidy.1.0, (tidy.1.1.0, tt))) w sw
 
 -- after a branch, and after a loop, h looks alike
@@ -136,7 +139,7 @@ plan_tells h t u dt du same (Loop ps count body rest) tidy w v sw sv l mw mv a b
 
 -- ---- another deal
 
-another_after : (h : ℕ) (run : Tape → Hosts → Hosts) → Grows run → (u y z : Tape) (v : Hosts) → IsAnotherDeal h u v y → IsAnotherDeal h y (run y v) z → IsAnotherDeal h u v z
+pub another_after : (h : ℕ) (run : Tape → Hosts → Hosts) → Grows run → (u y z : Tape) (v : Hosts) → IsAnotherDeal h u v y → IsAnotherDeal h y (run y v) z → IsAnotherDeal h u v z
 another_after h run grows u y z v a b = record {
   deal = b.deal;
   part = b.part ∙ a.part;
@@ -146,51 +149,45 @@ another_after h run grows u y z v a b = record {
 }
 
 -- a deal by which what this run does next hides alike, and so does each later deal that keeps what was taken
-pub record Excused (h : ℕ) (run : Tape → Hosts → Hosts) (Hides : Tape → Type 0) (u : Tape) (v : Hosts) : Type 0 where
-  pub tape : Tape
-  pub another : IsAnotherDeal h u v tape
-  pub past : (g : ℕ) (s : Source) (i : ℕ) → (run tape v g).cursors s ≤ i → tape g s i ≡ u g s i
-  pub hides : (y : Tape) → TakenAlike (run tape v) tape y → Hides y
+pub record RunExcuse (h : ℕ) (run : Tape → Hosts → Hosts) (Hiding : Tape → Type 0) (u : Tape) (v : Hosts) (y : Tape) : Type 0 where
+  pub another : IsAnotherDeal h u v y
+  pub past : (g : ℕ) (s : Source) (i : ℕ) → (run y v g).cursors s ≤ i → y g s i ≡ u g s i
+  pub hides : (z : Tape) → TakenAlike (run y v) y z → Hiding z
+
+unchanged : (h : ℕ) (run : Tape → Hosts → Hosts) (Claims : Tape → Type 0) (u : Tape) (v : Hosts) → IsValidDeal u → ((y : Tape) → Claims y) → RunExcuse h run Claims u v u
+unchanged h run Claims u v du claims = record { another = another_itself h u v du; past = λ g s i l. refl; hides = λ y k. claims y }
 
 -- one run after another
-one_after : (h : ℕ) (first second : Tape → Hosts → Hosts) → Grows first → Grows second → HasFrame first → (Hides : Tape → Type 0) (Later : Tape → Hosts → Type 0) (u : Tape) (v : Hosts)
-    → (one : Excused h first Hides u v) → Excused h second (λ y. Later y (first one.tape v)) one.tape (first one.tape v)
-    → Excused h (λ y x. second y (first y x)) (λ y. Hides y × Later y (first y v)) u v
-one_after h first second grows more frame Hides Later u v one two = record {
-  tape = two.tape;
-  another = another_after h first grows u one.tape two.tape v one.another two.another;
+one_after : (h : ℕ) (first second : Tape → Hosts → Hosts) → Grows first → Grows second → HasFrame first → (Hiding : Tape → Type 0) (Later : Tape → Hosts → Type 0) (u : Tape) (v : Hosts) (y1 z1 : Tape)
+    → RunExcuse h first Hiding u v y1 → RunExcuse h second (λ x. Later x (first y1 v)) y1 (first y1 v) z1
+    → RunExcuse h (λ x q. second x (first x q)) (λ x. Hiding x × Later x (first x v)) u v z1
+one_after h first second grows more frame Hiding Later u v y1 z1 one two = record {
+  another = another_after h first grows u y1 z1 v one.another two.another;
   past = λ g s i l.
-      let P : Hosts → Type 0 = λ x. (second two.tape x g).cursors s ≤ i in
-      let l2 : (second two.tape (first one.tape v) g).cursors s ≤ i = subst P (frame one.tape two.tape v two.another.taken) l in
-      let l1 : (first one.tape v g).cursors s ≤ (second two.tape (first one.tape v) g).cursors s = more two.tape (first one.tape v) g s in
+      let P : Hosts → Type 0 = λ x. (second z1 x g).cursors s ≤ i in
+      let l2 : (second z1 (first y1 v) g).cursors s ≤ i = subst P (frame y1 z1 v two.another.taken) l in
+      let l1 : (first y1 v g).cursors s ≤ (second z1 (first y1 v) g).cursors s = more z1 (first y1 v) g s in
       two.past g s i l2 ∙ one.past g s i (omega (arith, l1, l2));
   hides = λ y k.
-      let v1 : Hosts = first one.tape v in
-      let same : first two.tape v ≡ v1 = frame one.tape two.tape v two.another.taken in
-      let P : Hosts → Type 0 = λ x. TakenAlike (second two.tape x) two.tape y in
-      let later : TakenAlike (second two.tape v1) two.tape y = subst P same k in
-      let kept : TakenAlike v1 one.tape y = λ g s i l. before second more two.tape v1 two.tape y later g s i l ∙ two.another.taken g s i l in
+      let v1 : Hosts = first y1 v in
+      let same : first z1 v ≡ v1 = frame y1 z1 v two.another.taken in
+      let P : Hosts → Type 0 = λ x. TakenAlike (second z1 x) z1 y in
+      let later : TakenAlike (second z1 v1) z1 y = subst P same k in
+      let kept : TakenAlike v1 y1 y = λ g s i l. before second more z1 v1 z1 y later g s i l ∙ two.another.taken g s i l in
       let Q : Hosts → Type 0 = λ x. Later y x in
-      (one.hides y kept, subst Q (sym (frame one.tape y v kept)) (two.hides y later));
+      (one.hides y kept, subst Q (sym (frame y1 y v kept)) (two.hides y later));
 }
-
--- what is known of every other deal is known after the first run
-known_after : (h : ℕ) (first : Tape → Hosts → Hosts) → Grows first → HasFrame first → (Later : Tape → Hosts → Type 0) (u y : Tape) (v : Hosts) → IsAnotherDeal h u v y
-    → ((z : Tape) → IsAnotherDeal h u v z → Later z (first z v)) → (z : Tape) → IsAnotherDeal h y (first y v) z → Later z (first y v)
-known_after h first grows frame Later u y v a known z b =
-    let Q : Hosts → Type 0 = λ x. Later z x in
-    subst Q (frame y z v b.taken) (known z (another_after h first grows u y z v a b))
-
--- ---- gadgets, branches and loops
 
 -- the same run and the same claim by other names
-renamed : (h : ℕ) (run other : Tape → Hosts → Hosts) (Hides Claims : Tape → Type 0) (u : Tape) (v : Hosts) → ((y : Tape) → other y v ≡ run y v) → ((y : Tape) → Hides y → Claims y) → Excused h run Hides u v → Excused h other Claims u v
-renamed h run other Hides Claims u v same claims e = record {
-  tape = e.tape;
+renamed : (h : ℕ) (run other : Tape → Hosts → Hosts) (Hiding Claims : Tape → Type 0) (u : Tape) (v : Hosts) (z1 : Tape) → ((y : Tape) → other y v ≡ run y v) → ((y : Tape) → Hiding y → Claims y)
+    → RunExcuse h run Hiding u v z1 → RunExcuse h other Claims u v z1
+renamed h run other Hiding Claims u v z1 same claims e = record {
   another = e.another;
-  past = λ g s i l. let P : Hosts → Type 0 = λ x. (x g).cursors s ≤ i in e.past g s i (subst P (same e.tape) l);
-  hides = λ y k. let P : Hosts → Type 0 = λ x. TakenAlike x e.tape y in claims y (e.hides y (subst P (same e.tape) k));
+  past = λ g s i l. let P : Hosts → Type 0 = λ x. (x g).cursors s ≤ i in e.past g s i (subst P (same z1) l);
+  hides = λ y k. let P : Hosts → Type 0 = λ x. TakenAlike x z1 y in claims y (e.hides y (subst P (same z1) k));
 }
+
+-- ---- gadgets, branches and loops
 
 acts_grows : (xs : List Act) → Grows (λ t v. run_acts t xs v)
 acts_grows xs t v g s = acts_grow t xs v g s
@@ -210,140 +207,157 @@ run_branch_grows ps first other = branch_grows (λ v. is_other ps v) (λ t v. jo
 pub run_branch_frame : (ps : List Part) (first other : Plan Gadget) → HasFrame (run_branch ps first other)
 run_branch_frame ps first other = branch_frame (λ v. is_other ps v) (λ t v. joint t (joint_of other) v) (λ t v. joint t (joint_of first) v) (joint_frame (joint_of other)) (joint_frame (joint_of first))
 
--- what a body's law says, for all states
+-- ---- the deal that is computed
+
 abbrev pub HasExcuses : ℕ → Tape → Plan Gadget → Type 0
-HasExcuses h t plan = (u : Tape) → IsValidDeal u → (w v : Hosts) → IsSound w → IsSound v
-    → ((y : Tape) → IsAnotherDeal h u v y → PlanChooses h t y plan w v) → Excused h (λ y x. joint y (joint_of plan) x) (λ y. PlanHides h t y plan w v) u v
+HasExcuses h t plan = (u : Tape) → IsValidDeal u → (w v : Hosts) → IsSound w → IsSound v → RunExcuse h (λ y x. joint y (joint_of plan) x) (λ y. Hides h t y plan w v) u v (excused h t plan u w v)
 
--- the turns of a loop in which h takes part
-pub turns_excuse : (h : ℕ) (t : Tape) → IsValidDeal t → (ps : List Part) (count : ℕ) (body : Plan Gadget) → HasExcuses h t body
-    → TurnsKeepSound ps count body
-    → (n i : ℕ) → i + n ≡ count → (u : Tape) → IsValidDeal u → (w v : Hosts) → IsSound w → IsSound v
-    → ((y : Tape) → IsAnotherDeal h u v y → BothTurns (λ i x z. PlanChooses h t y body (turn_begun ps i x) (turn_begun ps i z)) (run_turn ps body t) (run_turn ps body y) n i w v)
-    → Excused h (λ y x. turns (run_turn ps body y) n i x) (λ y. BothTurns (λ i x z. PlanHides h t y body (turn_begun ps i x) (turn_begun ps i z)) (run_turn ps body t) (run_turn ps body y) n i w v) u v
-turns_excuse h t dt ps count body ih keep zero i e u du w v sw sv known = record { tape = u; another = another_itself h u v du; past = λ g s i l. refl; hides = λ y k. tt }
-turns_excuse h t dt ps count body ih keep (suc n) i e u du w v sw sv known =
-    let less : i < count = omega arith in
-    let run : Tape → Hosts → Hosts = λ y x. run_turn ps body y i x in
-    let begun = ih u du (turn_begun ps i w) (turn_begun ps i v) ((keep i less).0 t dt w sw) ((keep i less).0 u du v sv)
-    (λ y a. (known y (record { deal = a.deal; part = a.part; inputs = a.inputs; own_words = a.own_words; taken = before (λ t x. turn_begun ps i x) (begun_grows ps i) u v u y a.taken })).0) in
-    let one : Excused h run (λ y. PlanHides h t y body (turn_begun ps i w) (turn_begun ps i v)) u v = record {
-      tape = begun.tape;
-      another = record {
-        deal = begun.another.deal;
-        part = begun.another.part;
-        inputs = begun.another.inputs;
-        own_words = begun.another.own_words;
-        taken = before (λ t x. turn_begun ps i x) (begun_grows ps i) u v u begun.tape begun.another.taken;
-      };
-      past = begun.past;
-      hides = begun.hides;
-    } in
-    one_after h run (λ y x. turns (run_turn ps body y) n (suc i) x) (run_turn_grows ps body i) (turns_grow (run_turn ps body) (run_turn_grows ps body) n (suc i)) (run_turn_frame ps body i)
-    (λ y. PlanHides h t y body (turn_begun ps i w) (turn_begun ps i v))
-    (λ y x. BothTurns (λ i x z. PlanHides h t y body (turn_begun ps i x) (turn_begun ps i z)) (run_turn ps body t) (run_turn ps body y) n (suc i) (run_turn ps body t i w) x) u v one
-    (turns_excuse h t dt ps count body ih keep n (suc i) (omega arith) one.tape one.another.deal (run_turn ps body t i w) (run one.tape v)
-    ((keep i less).1 t dt w sw) ((keep i less).1 one.tape one.another.deal v sv)
-    (known_after h run (run_turn_grows ps body i) (run_turn_frame ps body i)
-    (λ y x. BothTurns (λ i x z. PlanChooses h t y body (turn_begun ps i x) (turn_begun ps i z)) (run_turn ps body t) (run_turn ps body y) n (suc i) (run_turn ps body t i w) x) u one.tape v one.another
-    (λ z a. (known z a).1)))
+module _ (h : ℕ) (t : Tape) (dt : IsValidDeal t) where
+  -- the turns of a loop from the i-th on
+  abbrev loop_again : List Part → Plan Gadget → ℕ → ℕ → Tape → Hosts → Hosts → Tape
+  loop_again ps body n i u w v = turns_again (λ i z a b. excused h t body z (turn_begun ps i a) (turn_begun ps i b)) (run_turn ps body t) (λ z i b. run_turn ps body z i b) n i u w v
 
-as_excused : (h : ℕ) (t u : Tape) (g : Gadget) (w v : Hosts) → GadgetExcuse h t u g w v → Excused h (λ y x. run_acts y (acts_of_gadget g) x) (λ y. GadgetHides h t y g w v) u v
-as_excused h t u g w v e = record { tape = e.tape; another = e.another; past = e.past; hides = e.hides }
+  turns_excuse : (ps : List Part) (count : ℕ) (body : Plan Gadget) → PlanIsTidy body → count ≤ 2 ^ 32 → HasExcuses h t body
+      → (n i : ℕ) → i + n ≡ count → (u : Tape) → IsValidDeal u → (w v : Hosts) → IsSound w → IsSound v
+      → RunExcuse h (λ y x. turns (run_turn ps body y) n i x) (λ y. BothTurns (λ i x z. Hides h t y body (turn_begun ps i x) (turn_begun ps i z)) (run_turn ps body t) (run_turn ps body y) n i w v) u v
+      (loop_again ps body n i u w v)
+  turns_excuse ps count body tidy few ih zero i e u du w v sw sv = unchanged h (λ y x. x) (λ y. Unit {0}) u v du (λ y. tt)
+  turns_excuse ps count body tidy few ih (suc n) i e u du w v sw sv =
+      let small : i < 2 ^ 32 = omega (arith, e, few) in
+      let run : Tape → Hosts → Hosts = λ y x. run_turn ps body y i x in
+      let y : Tape = excused h t body u (turn_begun ps i w) (turn_begun ps i v) in
+      let begun = ih u du (turn_begun ps i w) (turn_begun ps i v) (begun_sound ps i small w sw) (begun_sound ps i small v sv) in
+      let one : RunExcuse h run (λ y. Hides h t y body (turn_begun ps i w) (turn_begun ps i v)) u v y = record {
+        another = record {
+          deal = begun.another.deal;
+          part = begun.another.part;
+          inputs = begun.another.inputs;
+          own_words = begun.another.own_words;
+          taken = before (λ t x. turn_begun ps i x) (begun_grows ps i) u v u y begun.another.taken;
+        };
+        past = begun.past;
+        hides = begun.hides;
+      } in
+      one_after h run (λ y x. turns (run_turn ps body y) n (suc i) x) (run_turn_grows ps body i) (turns_grow (run_turn ps body) (run_turn_grows ps body) n (suc i)) (run_turn_frame ps body i)
+      (λ y. Hides h t y body (turn_begun ps i w) (turn_begun ps i v))
+      (λ y x. BothTurns (λ i x z. Hides h t y body (turn_begun ps i x) (turn_begun ps i z)) (run_turn ps body t) (run_turn ps body y) n (suc i) (run_turn ps body t i w) x) u v
+      y (loop_again ps body n (suc i) y (run_turn ps body t i w) (run y v)) one
+      (turns_excuse ps count body tidy few ih n (suc i) (omega arith) y one.another.deal (run_turn ps body t i w) (run y v)
+      (plan_sound t dt body tidy (turn_begun ps i w) (begun_sound ps i small w sw)) (plan_sound y one.another.deal body tidy (turn_begun ps i v) (begun_sound ps i small v sv)))
 
-abbrev BranchHides : ℕ → Tape → List Part → Plan Gadget → Plan Gadget → Hosts → Hosts → Bool → Tape → Type 0
-BranchHides h t ps first other w v b y = TakesPart ps h → Unit {0} × ((b ≡ true → PlanHides h t y other w v) × (b ≡ false → PlanHides h t y first w v))
+  -- the claim of a branch, by the branch that the first run takes
+  abbrev BranchHides : List Part → Plan Gadget → Plan Gadget → Hosts → Hosts → Bool → Bool → Tape → Type 0
+  BranchHides ps first other w v b d y = TakesPart ps h → b ≡ d → (b ≡ true → Hides h t y other w v) × (b ≡ false → Hides h t y first w v)
 
--- the branch that both runs take
-branch_excuse : (h : ℕ) (t : Tape) (ps : List Part) (first other : Plan Gadget) → HasExcuses h t first → HasExcuses h t other → (u : Tape) → IsValidDeal u → (w v : Hosts) → IsSound w → IsSound v
-    → ((y : Tape) → IsAnotherDeal h u v y → TakesPart ps h → (is_other ps w ≡ is_other ps v) × ((is_other ps w ≡ true → PlanChooses h t y other w v) × (is_other ps w ≡ false → PlanChooses h t y first w v)))
-    → Excused h (run_branch ps first other)
-    (λ y. TakesPart ps h → Unit {0} × ((is_other ps w ≡ true → PlanHides h t y other w v) × (is_other ps w ≡ false → PlanHides h t y first w v))) u v
-branch_excuse h t ps first other i_first i_other u du w v sw sv known = at (takes_or_not ps h)
-  where
-    taken : TakesPart ps h → (b : Bool) → is_other ps w ≡ b → is_other ps v ≡ b → Excused h (run_branch ps first other) (BranchHides h t ps first other w v b) u v
-    taken q true e f =
-        renamed h (λ y x. joint y (joint_of other) x) (run_branch ps first other) (λ y. PlanHides h t y other w v) (BranchHides h t ps first other w v true) u v
-        (λ y. ap (λ (b : Bool). if b then joint y (joint_of other) v else joint y (joint_of first) v) f)
-        (λ y k _. (tt, ((λ _. k), (λ n. cc))))
-        (i_other u du w v sw sv (λ y a. (known y a q).1.0 e))
-    taken q false e f =
-        renamed h (λ y x. joint y (joint_of first) x) (run_branch ps first other) (λ y. PlanHides h t y first w v) (BranchHides h t ps first other w v false) u v
-        (λ y. ap (λ (b : Bool). if b then joint y (joint_of other) v else joint y (joint_of first) v) f)
-        (λ y k _. (tt, ((λ n. cc), (λ _. k))))
-        (i_first u du w v sw sv (λ y a. (known y a q).1.1 e))
+  branch_excuse : (ps : List Part) (first other : Plan Gadget) → HasExcuses h t first → HasExcuses h t other → (u : Tape) → IsValidDeal u → (w v : Hosts) → IsSound w → IsSound v
+      → RunExcuse h (run_branch ps first other) (BranchHides ps first other w v (is_other ps w) (is_other ps v)) u v
+      (if_both (is_other ps w) (is_other ps v) (excused h t other u w v) (excused h t first u w v) u)
+  branch_excuse ps first other i_first i_other u du w v sw sv = at (is_other ps w) (is_other ps v) refl
+    where
+      at : (b d : Bool) → is_other ps v ≡ d
+          → RunExcuse h (run_branch ps first other) (BranchHides ps first other w v b d) u v (if_both b d (excused h t other u w v) (excused h t first u w v) u)
+      at true true f =
+          renamed h (λ y x. joint y (joint_of other) x) (run_branch ps first other) (λ y. Hides h t y other w v) (BranchHides ps first other w v true true) u v (excused h t other u w v)
+          (λ y. ap (λ (b : Bool). if b then joint y (joint_of other) v else joint y (joint_of first) v) f)
+          (λ y k _ _. ((λ _. k), (λ n. cc)))
+          (i_other u du w v sw sv)
+      at false false f =
+          renamed h (λ y x. joint y (joint_of first) x) (run_branch ps first other) (λ y. Hides h t y first w v) (BranchHides ps first other w v false false) u v (excused h t first u w v)
+          (λ y. ap (λ (b : Bool). if b then joint y (joint_of other) v else joint y (joint_of first) v) f)
+          (λ y k _ _. ((λ n. cc), (λ _. k)))
+          (i_first u du w v sw sv)
+      at true false f = unchanged h (run_branch ps first other) (BranchHides ps first other w v true false) u v du (λ y _ e. cc)
+      at false true f = unchanged h (run_branch ps first other) (BranchHides ps first other w v false true) u v du (λ y _ e. cc)
 
-    at : TakesPart ps h ⊎ (TakesPart ps h → ⊥) → Excused h (run_branch ps first other) (BranchHides h t ps first other w v (is_other ps w)) u v
-    at (inl q) = taken q (is_other ps w) refl (sym (known u (another_itself h u v du) q).0)
-    at (inr out) = record { tape = u; another = another_itself h u v du; past = λ g s i l. refl; hides = λ y k q. absurd (out q) }
+  loop_excuse : (ps : List Part) (count : ℕ) (body : Plan Gadget) → PlanIsTidy body → count ≤ 2 ^ 32 → HasExcuses h t body → (u : Tape) → IsValidDeal u → (w v : Hosts) → IsSound w → IsSound v
+      → RunExcuse h (λ y x. turns (run_turn ps body y) count 0 x)
+      (λ y. TakesPart ps h → BothTurns (λ i x z. Hides h t y body (turn_begun ps i x) (turn_begun ps i z)) (run_turn ps body t) (run_turn ps body y) count 0 w v) u v
+      (loop_again ps body count 0 u w v)
+  loop_excuse ps count body tidy few ih u du w v sw sv =
+      renamed h (λ y x. turns (run_turn ps body y) count 0 x) (λ y x. turns (run_turn ps body y) count 0 x)
+      (λ y. BothTurns (λ i x z. Hides h t y body (turn_begun ps i x) (turn_begun ps i z)) (run_turn ps body t) (run_turn ps body y) count 0 w v)
+      (λ y. TakesPart ps h → BothTurns (λ i x z. Hides h t y body (turn_begun ps i x) (turn_begun ps i z)) (run_turn ps body t) (run_turn ps body y) count 0 w v) u v
+      (loop_again ps body count 0 u w v)
+      (λ y. refl) (λ y k _. k)
+      (turns_excuse ps count body tidy few ih count 0 (omega arith) u du w v sw sv)
 
-loop_excuse : (h : ℕ) (t : Tape) → IsValidDeal t → (ps : List Part) (count : ℕ) (body : Plan Gadget) → HasExcuses h t body
-    → TurnsKeepSound ps count body
-    → (u : Tape) → IsValidDeal u → (w v : Hosts) → IsSound w → IsSound v
-    → ((y : Tape) → IsAnotherDeal h u v y → TakesPart ps h → BothTurns (λ i x z. PlanChooses h t y body (turn_begun ps i x) (turn_begun ps i z)) (run_turn ps body t) (run_turn ps body y) count 0 w v)
-    → Excused h (λ y x. turns (run_turn ps body y) count 0 x)
-    (λ y. TakesPart ps h → BothTurns (λ i x z. PlanHides h t y body (turn_begun ps i x) (turn_begun ps i z)) (run_turn ps body t) (run_turn ps body y) count 0 w v) u v
-loop_excuse h t dt ps count body ih keep u du w v sw sv known = at (takes_or_not ps h)
-  where
-    at : TakesPart ps h ⊎ (TakesPart ps h → ⊥) → Excused h (λ y x. turns (run_turn ps body y) count 0 x)
-        (λ y. TakesPart ps h → BothTurns (λ i x z. PlanHides h t y body (turn_begun ps i x) (turn_begun ps i z)) (run_turn ps body t) (run_turn ps body y) count 0 w v) u v
-    at (inl q) =
-        renamed h (λ y x. turns (run_turn ps body y) count 0 x) (λ y x. turns (run_turn ps body y) count 0 x)
-        (λ y. BothTurns (λ i x z. PlanHides h t y body (turn_begun ps i x) (turn_begun ps i z)) (run_turn ps body t) (run_turn ps body y) count 0 w v)
-        (λ y. TakesPart ps h → BothTurns (λ i x z. PlanHides h t y body (turn_begun ps i x) (turn_begun ps i z)) (run_turn ps body t) (run_turn ps body y) count 0 w v) u v
-        (λ y. refl) (λ y k _. k)
-        (turns_excuse h t dt ps count body ih keep count 0 (omega arith) u du w v sw sv (λ y a. known y a q))
-    at (inr out) = record { tape = u; another = another_itself h u v du; past = λ g s i l. refl; hides = λ y k q. absurd (out q) }
+  pub plan_excuse : (plan : Plan Gadget) → PlanIsTidy plan → HasExcuses h t plan
+  plan_excuse Ends tidy u du w v sw sv = unchanged h (λ y x. x) (λ y. Unit {0}) u v du (λ y. tt)
+  plan_excuse (Then g rest) tidy u du w v sw sv =
+      let xs : List Act = acts_of_gadget g in
+      let y : Tape = item_again h t g u w v in
+      let e : ItemExcuse h t u g w v y = item_excuse h t u dt du g tidy.0 w v sw sv in
+      let one : RunExcuse h (λ y x. run_acts y xs x) (λ y. GadgetHides h t y g w v) u v y = record { another = e.another; past = e.past; hides = e.hides } in
+      let w1 : Hosts = run_acts t xs w in
+      let v1 : Hosts = run_acts y xs v in
+      let z : Tape = excused h t rest y w1 v1 in
+      renamed h (λ y x. joint y (joint_of rest) (run_acts y xs x)) (λ y x. joint y (joint_of (Then g rest)) x) (λ y. Hides h t y (Then g rest) w v) (λ y. Hides h t y (Then g rest) w v) u v z
+      (λ y. runs_first y xs (joint_of rest) v) (λ y k. k)
+      (one_after h (λ y x. run_acts y xs x) (λ y x. joint y (joint_of rest) x) (acts_grows xs) (joint_grows (joint_of rest)) (acts_framed xs)
+      (λ y. GadgetHides h t y g w v) (λ y x. Hides h t y rest w1 x) u v y z one
+      (plan_excuse rest tidy.1 y one.another.deal w1 v1 (gadget_sound t dt g tidy.0 w sw) (gadget_sound y one.another.deal g tidy.0 v sv)))
+  plan_excuse (Branch ps first other rest) tidy u du w v sw sv =
+      let run : Tape → Hosts → Hosts = run_branch ps first other in
+      let sound : KeepsSound run = branch_sound ps first other rest tidy in
+      let y : Tape = if_both (is_other ps w) (is_other ps v) (excused h t other u w v) (excused h t first u w v) u in
+      let one = branch_excuse ps first other (plan_excuse first tidy.1.0) (plan_excuse other tidy.1.1.0) u du w v sw sv in
+      one_after h run (λ y x. joint y (joint_of rest) x) (run_branch_grows ps first other) (joint_grows (joint_of rest)) (run_branch_frame ps first other)
+      (BranchHides ps first other w v (is_other ps w) (is_other ps v))
+      (λ y x. Hides h t y rest (run t w) x) u v y (excused h t rest y (run t w) (run y v)) one
+      (plan_excuse rest tidy.1.1.1 y one.another.deal (run t w) (run y v) (sound t dt w sw) (sound y one.another.deal v sv))
+  plan_excuse (Loop ps count body rest) tidy u du w v sw sv =
+      let run : Tape → Hosts → Hosts = λ y x. turns (run_turn ps body y) count 0 x in
+      let sound : KeepsSound run = loop_sound ps count body rest tidy in
+      let y : Tape = loop_again ps body count 0 u w v in
+      let one = loop_excuse ps count body tidy.1.1.0 tidy.1.0 (plan_excuse body tidy.1.1.0) u du w v sw sv in
+      one_after h run (λ y x. joint y (joint_of rest) x) (turns_grow (run_turn ps body) (run_turn_grows ps body) count 0) (joint_grows (joint_of rest))
+      (turns_frame (run_turn ps body) (run_turn_grows ps body) (run_turn_frame ps body) count 0)
+      (λ y. TakesPart ps h → BothTurns (λ i x z. Hides h t y body (turn_begun ps i x) (turn_begun ps i z)) (run_turn ps body t) (run_turn ps body y) count 0 w v)
+      (λ y x. Hides h t y rest (run t w) x) u v y (excused h t rest y (run t w) (run y v)) one
+      (plan_excuse rest tidy.1.1.1 y one.another.deal (run t w) (run y v) (sound t dt w sw) (sound y one.another.deal v sv))
 
-pub plan_excuse : (h : ℕ) (t : Tape) → IsValidDeal t → (plan : Plan Gadget) → PlanIsTidy plan → HasExcuses h t plan
-plan_excuse h t dt Ends tidy u du w v sw sv known = record { tape = u; another = another_itself h u v du; past = λ g s i l. refl; hides = λ y k. tt }
-plan_excuse h t dt (Then g rest) tidy u du w v sw sv known =
-    let xs : List Act = acts_of_gadget g in
-    let one : Excused h (λ y x. run_acts y xs x) (λ y. GadgetHides h t y g w v) u v = as_excused h t u g w v (gadget_excuse h t u dt du g tidy.0 w v sw sv) in
-    renamed h (λ y x. joint y (joint_of rest) (run_acts y xs x)) (λ y x. joint y (joint_of (Then g rest)) x) (λ y. PlanHides h t y (Then g rest) w v) (λ y. PlanHides h t y (Then g rest) w v) u v
-    (λ y. runs_first y xs (joint_of rest) v) (λ y k. k)
-    (one_after h (λ y x. run_acts y xs x) (λ y x. joint y (joint_of rest) x) (acts_grows xs) (joint_grows (joint_of rest)) (acts_framed xs)
-    (λ y. GadgetHides h t y g w v) (λ y x. PlanHides h t y rest (run_acts t xs w) x) u v one
-    (plan_excuse h t dt rest tidy.1 one.tape one.another.deal (run_acts t xs w) (run_acts one.tape xs v) (gadget_sound t dt g tidy.0 w sw) (gadget_sound one.tape one.another.deal g tidy.0 v sv)
-    (known_after h (λ y x. run_acts y xs x) (acts_grows xs) (acts_framed xs) (λ y x. PlanChooses h t y rest (run_acts t xs w) x) u one.tape v one.another (λ z a. (known z a).1))))
-plan_excuse h t dt (Branch ps first other rest) tidy u du w v sw sv known =
-    let run : Tape → Hosts → Hosts = run_branch ps first other in
-    let sound : KeepsSound run = branch_sound ps first other rest tidy in
-    let one = branch_excuse h t ps first other (plan_excuse h t dt first tidy.1.0) (plan_excuse h t dt other tidy.1.1.0) u du w v sw sv (λ y a. (known y a).0) in
-    one_after h run (λ y x. joint y (joint_of rest) x) (run_branch_grows ps first other) (joint_grows (joint_of rest)) (run_branch_frame ps first other)
-    (λ y. TakesPart ps h → Unit {0} × ((is_other ps w ≡ true → PlanHides h t y other w v) × (is_other ps w ≡ false → PlanHides h t y first w v)))
-    (λ y x. PlanHides h t y rest (run t w) x) u v one
-    (plan_excuse h t dt rest tidy.1.1.1 one.tape one.another.deal (run t w) (run one.tape v) (sound t dt w sw) (sound one.tape one.another.deal v sv)
-    (known_after h run (run_branch_grows ps first other) (run_branch_frame ps first other) (λ y x. PlanChooses h t y rest (run t w) x) u one.tape v one.another (λ z a. (known z a).1)))
-plan_excuse h t dt (Loop ps count body rest) tidy u du w v sw sv known =
-    let run : Tape → Hosts → Hosts = λ y x. turns (run_turn ps body y) count 0 x in
-    let grows : Grows run = turns_grow (run_turn ps body) (run_turn_grows ps body) count 0 in
-    let frame : HasFrame run = turns_frame (run_turn ps body) (run_turn_grows ps body) (run_turn_frame ps body) count 0 in
-    let sound : KeepsSound run = loop_sound ps count body rest tidy in
-    let one = loop_excuse h t dt ps count body (plan_excuse h t dt body tidy.1.1.0) (turn_sound ps count body tidy.1.1.0 tidy.1.0) u du w v sw sv (λ y a. (known y a).0) in
-    one_after h run (λ y x. joint y (joint_of rest) x) grows (joint_grows (joint_of rest)) frame
-    (λ y. TakesPart ps h → BothTurns (λ i x z. PlanHides h t y body (turn_begun ps i x) (turn_begun ps i z)) (run_turn ps body t) (run_turn ps body y) count 0 w v)
-    (λ y x. PlanHides h t y rest (run t w) x) u v one
-    (plan_excuse h t dt rest tidy.1.1.1 one.tape one.another.deal (run t w) (run one.tape v) (sound t dt w sw) (sound one.tape one.another.deal v sv)
-    (known_after h run grows frame (λ y x. PlanChooses h t y rest (run t w) x) u one.tape v one.another (λ z a. (known z a).1)))
+-- ---- how this stands to what the theory of views asks
+
+module _ (h : ℕ) (t u : Tape) where
+  turns_as : (ps : List Part) (body : Plan Gadget) → ((w v : Hosts) → Hides h t u body w v → PlanChooses h t u body w v → PlanHides h t u body w v) → (n i : ℕ) (w v : Hosts)
+      → BothTurns (λ i x z. Hides h t u body (turn_begun ps i x) (turn_begun ps i z)) (run_turn ps body t) (run_turn ps body u) n i w v
+      → BothTurns (λ i x z. PlanChooses h t u body (turn_begun ps i x) (turn_begun ps i z)) (run_turn ps body t) (run_turn ps body u) n i w v
+      → BothTurns (λ i x z. PlanHides h t u body (turn_begun ps i x) (turn_begun ps i z)) (run_turn ps body t) (run_turn ps body u) n i w v
+  turns_as ps body ih zero i w v a c = tt
+  turns_as ps body ih (suc n) i w v a c = (ih (turn_begun ps i w) (turn_begun ps i v) a.0 c.0, turns_as ps body ih n (suc i) (run_turn ps body t i w) (run_turn ps body u i v) a.1 c.1)
+
+  -- where h reads the same guards all is hidden alike
+  pub all_hidden : (plan : Plan Gadget) (w v : Hosts) → Hides h t u plan w v → PlanChooses h t u plan w v → PlanHides h t u plan w v
+  all_hidden Ends w v a c = tt
+  all_hidden (Then g rest) w v a c = (a.0, all_hidden rest (run_acts t (acts_of_gadget g) w) (run_acts u (acts_of_gadget g) v) a.1 c.1)
+  all_hidden (Branch ps first other rest) w v a c = (
+    (λ q. let k = a.0 q (c.0 q).0 in (tt, ((λ e. all_hidden other w v (k.0 e) ((c.0 q).1.0 e)), (λ e. all_hidden first w v (k.1 e) ((c.0 q).1.1 e))))),
+    all_hidden rest (run_branch ps first other t w) (run_branch ps first other u v) a.1 c.1,
+  )
+  all_hidden (Loop ps count body rest) w v a c = (
+    (λ q. turns_as ps body (λ x z p r. all_hidden body x z p r) count 0 w v (a.0 q) (c.0 q)),
+    all_hidden rest (turns (run_turn ps body t) count 0 w) (turns (run_turn ps body u) count 0 v) a.1 c.1,
+  )
 
 -- the view of h is the same
 pub views_agree : (h : ℕ) (t u : Tape) (plan : Plan Gadget) → PlanIsTidy plan → (w v : Hosts) → AllowsExcuse h t u plan w v → HasViewExcuse h t u plan w v
 views_agree h t u plan tidy w v a =
     let dt : IsValidDeal t = a.sound.first_deal in
-    let e = plan_excuse h t dt plan tidy u a.sound.second_deal w v a.sound.first a.sound.second a.chooses in
-    let hides : PlanHides h t e.tape plan w v = e.hides e.tape (λ g s i l. refl) in
-    let part : t h ≡ e.tape h = a.start.part ∙ sym e.another.part in
-    let later : IsSmooth e.tape (joint_of plan) v = a.smooth_too e.tape e.another in (
-      e.tape,
-      record {
-        another = e.another;
-        past = e.past;
-        hides = hides;
-        view = told_the_same h t e.tape part (joint_of plan) (plan_tidy plan tidy) w v a.smooth later a.start.looks
-            (plan_tells h t e.tape dt e.another.deal part plan tidy w v a.sound.first a.sound.second a.start.looks a.smooth later hides (a.knows e.tape e.another hides));
-      },
-    )
+    let y : Tape = excused h t plan u w v in
+    let e = plan_excuse h t dt plan tidy u a.sound.second_deal w v a.sound.first a.sound.second in
+    let hidden : Hides h t y plan w v = e.hides y (λ g s i l. refl) in
+    let known = a.knows y e.another hidden in
+    let hides : PlanHides h t y plan w v = all_hidden h t y plan w v hidden known.0 in
+    let part : t h ≡ y h = a.start.part ∙ sym e.another.part in
+    let later : IsSmooth y (joint_of plan) v = a.smooth_too y e.another in
+    record {
+      another = e.another;
+      past = e.past;
+      chooses = known.0;
+      hides = hides;
+      view = told_the_same h t y part (joint_of plan) (plan_tidy plan tidy) w v a.smooth later a.start.looks
+          (plan_tells h t y dt e.another.deal part plan tidy w v a.sound.first a.sound.second a.start.looks a.smooth later hides known.1);
+    }
 
 -- ---- the way back
 

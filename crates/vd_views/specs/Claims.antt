@@ -11,6 +11,8 @@ use Rattle.vd_views.specs.Views.{LooksAlike, TellsAlike, ActsTellAlike}
 use Rattle.vd_views.specs.Hiding.{next_item, HidesAlike, GadgetsHide, GadgetsKnow, TakenAlike, IsAnotherDeal, IsExcuse}
 use Rattle.vd_views.specs.Plans.{PlanHides, PlanKnows, PlanChooses, IsViewExcuse}
 use Rattle.vd_views.specs.Items.{IsSameItem}
+use Rattle.vd_views.specs.Hides.{Hides}
+use Rattle.vd_views.specs.Excused.{excused}
 
 -- two runs begin: the deals are valid and the states sound
 pub record AreSound (t u : Tape) (w v : Hosts) : Type 0 where
@@ -50,18 +52,18 @@ GadgetsKeepAlike h t u gs =
 abbrev pub HasExcuse : ℕ → Tape → Tape → List Gadget → Hosts → Hosts → Type 0
 HasExcuse h t u gs w v = (y : Tape) × IsExcuse h t u gs w v y
 
--- two runs of a plan: the first is smooth, and under every other deal so is the second, h reads the same guards, and where what
--- items hide is hidden alike, h is told the same openly
+-- two runs of a plan: the first is smooth, and under every other deal so is the second; and where what items hide is hidden
+-- alike, as far as both take the same branches, h reads the same guards and is told the same openly
 pub record AllowsExcuse (h : ℕ) (t u : Tape) (plan : Plan Gadget) (w v : Hosts) : Type 0 where
   pub sound : AreSound t u w v
   pub start : StartAlike h t u w v
   pub smooth : IsSmooth t (joint_of plan) w
   pub smooth_too : (y : Tape) → IsAnotherDeal h u v y → IsSmooth y (joint_of plan) v
-  pub chooses : (y : Tape) → IsAnotherDeal h u v y → PlanChooses h t y plan w v
-  pub knows : (y : Tape) → IsAnotherDeal h u v y → PlanHides h t y plan w v → PlanKnows h t y plan w v
+  pub knows : (y : Tape) → IsAnotherDeal h u v y → Hides h t y plan w v → PlanChooses h t y plan w v × PlanKnows h t y plan w v
 
+-- the deal that is computed along both runs
 abbrev pub HasViewExcuse : ℕ → Tape → Tape → Plan Gadget → Hosts → Hosts → Type 0
-HasViewExcuse h t u plan w v = (y : Tape) × IsViewExcuse h t u plan w v y
+HasViewExcuse h t u plan w v = IsViewExcuse h t u plan w v (excused h t plan u w v)
 
 -- ---- the way back
 

@@ -9,6 +9,8 @@ use Rattle.vd_execution.specs.Gadgets.{Gadget}
 use Rattle.vd_execution.specs.Plans.{Plan, joint_of, PlanIsTidy}
 use Rattle.vd_views.specs.Hiding.{IsAnotherDeal}
 use Rattle.vd_views.specs.Plans.{PlanHides, PlanKnows, PlanChooses}
+use Rattle.vd_views.specs.Hides.{Hides}
+use Rattle.vd_views.specs.Excused.{excused}
 
 -- the input of each host at each place
 abbrev pub InputWords : Type 0
@@ -38,8 +40,8 @@ pub record Explains (h : ℕ) (plan : Plan Gadget) (t : Tape) (second : InputWor
   pub view : LooksAlike h (joint t (joint_of plan) fresh) (joint y (joint_of plan) fresh)
 
 -- what is asked of a plan, a valid deal and second inputs: the plan is tidy and its first run smooth, h has the same inputs, and
--- under each other deal with the second inputs the run is smooth, h reads the same guards, and where what items hide is hidden
--- alike h is told the same openly
+-- under each other deal with the second inputs the run is smooth; and where what items hide is hidden alike, as far as both runs
+-- take the same branches, h reads the same guards and is told the same openly
 pub record CanBeExcused (h : ℕ) (plan : Plan Gadget) (t : Tape) (second : InputWords) : Type 0 where
   pub deal : IsValidDeal t
   pub tidy : PlanIsTidy plan
@@ -47,9 +49,14 @@ pub record CanBeExcused (h : ℕ) (plan : Plan Gadget) (t : Tape) (second : Inpu
   pub inputs : (i : ℕ) → t h Inputs i ≡ second h i ∷ []
   pub words : (g i : ℕ) → second g i < 2 ^ 32
   pub smooth_too : (y : Tape) → IsAnotherDeal h (with_inputs t second) fresh y → IsSmooth y (joint_of plan) fresh
-  pub chooses : (y : Tape) → IsAnotherDeal h (with_inputs t second) fresh y → PlanChooses h t y plan fresh fresh
-  pub knows : (y : Tape) → IsAnotherDeal h (with_inputs t second) fresh y → PlanHides h t y plan fresh fresh → PlanKnows h t y plan fresh fresh
+  pub knows : (y : Tape) → IsAnotherDeal h (with_inputs t second) fresh y → Hides h t y plan fresh fresh
+      → PlanChooses h t y plan fresh fresh × PlanKnows h t y plan fresh fresh
 
+-- the deal that is computed explains
+abbrev pub IsExplained : ℕ → Plan Gadget → Tape → InputWords → Type 0
+IsExplained h plan t second = Explains h plan t second (excused h t plan (with_inputs t second) fresh fresh)
+
+-- so some deal does
 abbrev pub HasExplanation : ℕ → Plan Gadget → Tape → InputWords → Type 0
 HasExplanation h plan t second = (y : Tape) × Explains h plan t second y
 

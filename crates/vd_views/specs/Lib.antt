@@ -2,6 +2,8 @@ pub mod Views
 pub mod Hiding
 pub mod Plans
 pub mod Items
+pub mod Hides
+pub mod Excused
 pub mod Back
 pub mod Contract
 pub mod Claims

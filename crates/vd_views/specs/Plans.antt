@@ -48,9 +48,10 @@ abbrev pub PlanChooses : ℕ → Tape → Tape → Plan Gadget → Hosts → Hos
 PlanChooses h t u plan w v = AlongPlan h (λ g x y. Unit {0}) (λ ps x y. is_other ps x ≡ is_other ps y) t u plan w v
 
 -- the second deal: another deal by which all that items hide is hidden alike, the same past what the second run takes, and
--- under it the second run looks to h as the first
+-- under it h reads the same guards in the second run, which looks to it as the first
 pub record IsViewExcuse (h : ℕ) (t u : Tape) (plan : Plan Gadget) (w v : Hosts) (y : Tape) : Type 0 where
   pub another : IsAnotherDeal h u v y
   pub past : (g : ℕ) (s : Source) (i : ℕ) → (joint y (joint_of plan) v g).cursors s ≤ i → y g s i ≡ u g s i
+  pub chooses : PlanChooses h t y plan w v
   pub hides : PlanHides h t y plan w v
   pub view : LooksAlike h (joint t (joint_of plan) w) (joint y (joint_of plan) v)

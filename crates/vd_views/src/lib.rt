@@ -11,7 +11,7 @@ ghost use Rattle.vd_execution.specs.Plans.{Plan, PlanIsTidy, PlanIsWithin};
 ghost use Rattle.vd_views.specs.Claims.{AreSound, JointKeepsAlike, ActsKeepAlike, TellsFirst, GadgetsKeepAlike, GadgetsHideBack};
 ghost use Rattle.vd_views.specs.Claims.{HasExcuse, AllowsExcuse, HasViewExcuse, PlanHidesBack, IsOnlyItem, AreOnlyItems};
 ghost use Rattle.vd_views.specs.Back.{AreAlternatives, GadgetsAreWith, PlanIsWith, AreOfTwo};
-ghost use Rattle.vd_views.specs.Contract.{InputWords, CanBeExcused, HasExplanation, GoesBack};
+ghost use Rattle.vd_views.specs.Contract.{InputWords, CanBeExcused, IsExplained, GoesBack};
 ghost use Rattle.vd_views.specs.Items.{item_for};
 
 /// A host that has the same inputs and dealt items in two runs, and is told the same words, is the same in both.
@@ -29,15 +29,15 @@ pub fn gadgets_hide()
 {}
 
 /// For every second run there is a valid deal with the same part for the host, the same own words and the same inputs, by
-/// which what items hide is hidden alike. Where the host then is told the same openly and reads the same guards, it sees the
-/// same as in the first run.
+/// which what items hide is hidden alike. It is computed gadget by gadget, along both runs. Where the host then reads the same
+/// guards and is told the same openly, it sees the same as in the first run.
 pub fn every_run_has_an_excuse()
     ensures gadgets { (h : ℕ) (t u : Tape) (gs : List Gadget) (w v : Hosts) → GadgetsAreTidy gs → AreSound t u w v →
         HasExcuse h t u gs w v }
     ensures views { (h : ℕ) (t u : Tape) (plan : Plan Gadget) (w v : Hosts) → PlanIsTidy plan → AllowsExcuse h t u plan w v →
         HasViewExcuse h t u plan w v }
     ensures from_the_start { (h : ℕ) (plan : Plan Gadget) (t : Tape) (second : InputWords) → CanBeExcused h plan t second →
-        HasExplanation h plan t second }
+        IsExplained h plan t second }
 {}
 
 /// Exchanged, the second deal explains the first run by the second just so, and the items that do so are the only ones. So where
