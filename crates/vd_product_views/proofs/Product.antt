@@ -14,7 +14,7 @@ use Rattle.vd_pairs.specs.declared.shares.Shares.{Shares}
 use Rattle.vd_pairs.specs.PairCalls.{shares_of, product_shares}
 use Rattle.vd_words.specs.Example.{alice}
 use Rattle.vd_views.specs.Hiding.{next_item, opened, GadgetsKnow, IsAnotherDeal}
-use Rattle.vd_views.specs.Contract.{InputWords, with_inputs, CanBeExcused, HasExplanation, GoesBack}
+use Rattle.vd_views.specs.Contract.{InputWords, with_inputs, CanBeExcused, IsExplained, GoesBack}
 use Rattle.vd_views.specs.Back.{GadgetsAreWith}
 use Rattle.vd_views.proofs.InARow.{row_tidy, row_with, row_smooth, row_chooses, row_knows, know_append}
 use Rattle.vd_views.proofs.Contract.{explained}
@@ -114,11 +114,10 @@ module _ (h : ℕ) (t : Tape) (second : InputWords) (deal : IsValidDeal t) (othe
     inputs = others.inputs;
     words = others.words;
     smooth_too = λ y a. row_smooth y shared_product fresh (whole_agrees y a.deal);
-    chooses = λ y a. row_chooses h t y shared_product fresh fresh;
-    knows = λ y a hides. row_knows h t y shared_product fresh fresh (whole_known y a);
+    knows = λ y a hides. (row_chooses h t y shared_product fresh fresh, row_knows h t y shared_product fresh fresh (whole_known y a));
   }
 
-  pub product_explained : HasExplanation h product_plan t second
+  pub product_explained : IsExplained h product_plan t second
   product_explained = explained h product_plan t second product_condition
 
 -- ---- the way back

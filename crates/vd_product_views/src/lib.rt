@@ -4,17 +4,17 @@
 ghost use Rattle.std.specs.Prelude.{ℕ, ◌<◌};
 ghost use Rattle.vd_execution.specs.World.{Tape};
 ghost use Rattle.vd_execution.specs.Deals.{IsValidDeal};
-ghost use Rattle.vd_views.specs.Contract.{InputWords, CanBeExcused, HasExplanation, GoesBack};
+ghost use Rattle.vd_views.specs.Contract.{InputWords, CanBeExcused, IsExplained, GoesBack};
 ghost use Rattle.vd_product_views.specs.Product.{product_plan, HaveSameProduct};
 ghost use Rattle.vd_product_views.specs.Example.{WorkedProduct};
 
 /// Two hosts share their inputs, multiply them, and open the product to both. Where other inputs have the same product, and the
-/// host that looks has its own again, a second valid deal explains them to it; explained back, the first deal comes again.
+/// host that looks has its own again, the deal that is computed explains them to it; explained back, the first deal comes again.
 pub fn a_product_can_be_excused()
     ensures condition { (h : ℕ) (t : Tape) (second : InputWords) → IsValidDeal t → HaveSameProduct h t second →
         CanBeExcused h product_plan t second }
     ensures explained { (h : ℕ) (t : Tape) (second : InputWords) → IsValidDeal t → HaveSameProduct h t second →
-        HasExplanation h product_plan t second }
+        IsExplained h product_plan t second }
     ensures back { (h : ℕ) → h < 2 → GoesBack h product_plan }
 {}
 
