@@ -1,0 +1,10 @@
+pub mod Runs
+pub mod Statements
+pub mod Walk
+pub mod Endorsed
+pub mod Freed
+pub mod ShownWords
+pub mod Lawful
+pub mod Theorem
+pub mod Influence
+pub mod Trusted
