@@ -1,14 +1,13 @@
 -- The world follows what each host did by itself.
-use Rattle.std.proofs.Common.{◌≡◌, ◌≢◌, ◌⊎◌, inl, inr, ℕ, zero, suc, ◌+◌, nat_eq, List, [], ◌∷◌, ◌++◌, length, Option, Some, None, refl, sym, ap, ◌∙◌, subst, append_assoc, arith}
+use Rattle.std.proofs.Common.{◌≡◌, ◌⊎◌, inl, inr, ℕ, zero, suc, ◌+◌, List, [], ◌∷◌, ◌++◌, length, Option, Some, None, refl, sym, ap, ◌∙◌, subst, append_assoc, arith}
 use mathlib.Core.Path.{fun_ext}
 use Rattle.std.specs.Prelude.{slice_get}
 use Rattle.vd_execution.specs.Registers.{put}
-use Rattle.vd_execution.specs.Code.{Finished}
 use Rattle.vd_execution.specs.Step.{Source, Cursors, Need, Nothing, Item, Packet, Unequal, Ended, Given, of_length, answer, need}
-use Rattle.vd_execution.specs.Schedule.{Steps, after, counted, run_by, effective_by}
+use Rattle.vd_execution.specs.Schedule.{Steps, after, counted}
 use Rattle.vd_execution.specs.World.{Local, World, Supply, front, given, step, run, effective, moved_on, AllEnded, IsPrefixOf}
 use Rattle.vd_execution.specs.Joint.{Joint, started, at_end}
-use Rattle.vd_schedules.specs.Claims.{RunsWell, IsOnTheWay, Grows, reached, last_of, order_of}
+use Rattle.vd_schedules.specs.Claims.{RunsWell, IsOnTheWay, reached, last_of, order_of}
 use Rattle.vd_schedules.proofs.Confluence.{same_or_not}
 use Rattle.vd_schedules.proofs.Puts.{put_same, put_other, get_append}
 use Rattle.vd_schedules.proofs.Diamond.{Stepped, stepped, steps_to, moved_grows, prefix_same}
@@ -188,13 +187,13 @@ follow s start end order ended (suc m) b left counts behind =
       | inr none ↦ (b, λ h. ap (λ r. gone (run s b start h) r) (sym (none h)) ∙ behind.ends h)
     ]
 
-twin_well : (s : Supply) (j : Joint) → RunsWell s j → RunsWell (twin s) j
+pub twin_well : (s : Supply) (j : Joint) → RunsWell s j → RunsWell (twin s) j
 twin_well s j well = record { tidy = well.tidy; smooth = well.smooth }
 
 end_ended : (s : Supply) (j : Joint) → AllEnded (at_end (last_of s j))
 end_ended s j h = refl
 
-order_ended : (s : Supply) (j : Joint) → RunsWell s j → AllEnded (run (twin s) (order_of (twin s) j) (started j))
+pub order_ended : (s : Supply) (j : Joint) → RunsWell s j → AllEnded (run (twin s) (order_of (twin s) j) (started j))
 order_ended s j well = subst AllEnded (sym (in_program_order (twin s) j (twin_well s j well) (λ h source i less none. cc)).0) (end_ended (twin s) j)
 
 at_start : (s : Supply) (j : Joint) (words : ℕ → List (List ℕ)) → AreHistories s j words → Behind s (stand j words) (started j) words
