@@ -1,0 +1,4 @@
+pub mod Openings
+pub mod Law
+pub mod Sent
+pub mod Compared
