@@ -38,6 +38,11 @@ as_test b f g is = by b (acts f g) (λ t. for_acts f g (is.0 t)) (λ t. is.1 (ac
     by false true there back = back refl
     by false false there back = refl
 
+pub both_if : (a b : Bool) → (b ≡ true → a ≡ true) → (a && b) ≡ b
+both_if a true is = ap (λ c. c && true) (is refl)
+both_if true false is = refl
+both_if false false is = refl
+
 module _ (p : NormalForm) (l : Labels) (h : HostId) (well : IsWellMade p) where
   -- what is reached along the links is the dependence
   reached_depends : (table : ℕ → Bool) → ((x : SlotId) → is_below (length p.slots) x ≡ true → table x.0 ≡ reads_slot p l h x.0) → (r : Reach) → IsReachOf (links_of table h.0 p.body) r → IsDependence p l h r
@@ -55,11 +60,6 @@ module _ (p : NormalForm) (l : Labels) (h : HostId) (well : IsWellMade p) where
         let as_many = satisfies.solves.labelling.slots ∙ same_slots p.body p (Block 0) (at_start p) in
         ap (λ xs. slice_index_or xs x.0 false) is
         ∙ get_or-map (λ label. acts (host_label p h).conf label.conf) l.slots x.0 no_label false (subst (λ n. x.0 < n) (sym as_many) (ltb-true x.0 (length p.slots) low))
-
-    both_if : (a b : Bool) → (b ≡ true → a ≡ true) → (a && b) ≡ b
-    both_if a true is = ap (λ c. c && true) (is refl)
-    both_if true false is = refl
-    both_if false false is = refl
 
     pub answers : (reader : Reader) (links : List Link) (r : Reach) (hosts : ℕ → Bool) → reader.host ≡ h → reader.slots ≡ map (λ label. acts (host_label p h).conf label.conf) l.slots
         → links ≡ links_of (reads_in reader) reader.host.0 p.body → IsReachOf links r → ((k : ℕ) → hosts k ≡ (nat_lt k 8 && r.hosts k)) → AreReached p l h hosts

@@ -35,7 +35,7 @@ and_swap true false = refl
 and_swap false true = refl
 and_swap false false = refl
 
-and_joins : (a b c : Bool) → ((a && b) && c) ≡ (a && (b && c))
+pub and_joins : (a b c : Bool) → ((a && b) && c) ≡ (a && (b && c))
 and_joins true b c = refl
 and_joins false b c = refl
 
@@ -48,7 +48,7 @@ only_joins true b c = refl
 only_joins false b c = refl
 
 -- what is asked of a slot, of the guards around it and of its parts; then one thing more, and two
-alone : (all x around : Bool) → ((all && only_with x around) && only_with x true) ≡ (all && only_with x around)
+pub alone : (all x around : Bool) → ((all && only_with x around) && only_with x true) ≡ (all && only_with x around)
 alone false x around = refl
 alone true true around = and_true around
 alone true false around = refl
@@ -81,19 +81,19 @@ module _ (r : Reach) where
   with_slots_holds : (from : Node) (ys : List SlotId) (links : List Link) → all_hold r (with_slots from ys links) ≡ (all_hold r links && only_with (in_reach r from) (all_in ys))
   with_slots_holds from ys links = list_all-append (holds r) links (map (λ y. record { from = from; to = Slot y }) ys) ∙ ap (λ b. all_hold r links && b) (slots_hold from ys)
 
-  told_holds : (told : Bool) (ys : List SlotId) (links : List Link) → all_hold r (with_told told ys links) ≡ (all_hold r links && only_with told (all_in ys))
+  pub told_holds : (told : Bool) (ys : List SlotId) (links : List Link) → all_hold r (with_told told ys links) ≡ (all_hold r links && only_with told (all_in ys))
   told_holds true ys links = with_slots_holds Told ys links
   told_holds false ys links = sym (and_true (all_hold r links))
 
-  one_told : (told : Bool) (y : SlotId) (links : List Link) → all_hold r (with_told told (y ∷ []) links) ≡ (all_hold r links && only_with told (r.slots y.0))
+  pub one_told : (told : Bool) (y : SlotId) (links : List Link) → all_hold r (with_told told (y ∷ []) links) ≡ (all_hold r links && only_with told (r.slots y.0))
   one_told told y links = told_holds told (y ∷ []) links ∙ ap (λ b. all_hold r links && only_with told b) (and_true (r.slots y.0))
 
-  made_holds : (around : Around) (x : SlotId) (ys : List SlotId) (links : List Link)
+  pub made_holds : (around : Around) (x : SlotId) (ys : List SlotId) (links : List Link)
       → all_hold r (with_made around x ys links) ≡ ((all_hold r links && only_with (r.slots x.0) (all_in around.guards)) && only_with (r.slots x.0) (all_in ys))
   made_holds around x ys links =
       with_slots_holds (Slot x) ys (with_slots (Slot x) around.guards links) ∙ ap (λ b. b && only_with (r.slots x.0) (all_in ys)) (with_slots_holds (Slot x) around.guards links)
 
-  input_holds : (around : Around) (x : SlotId) (host : HostId) (links : List Link)
+  pub input_holds : (around : Around) (x : SlotId) (host : HostId) (links : List Link)
       → all_hold r (with_input around x host links) ≡ (all_hold r links && (only_with (r.slots x.0) (r.hosts host.0) && only_with (r.hosts host.0 || r.slots x.0) (all_in around.guards)))
   input_holds around x host links =
       let link : Link = record { from = Slot x; to = Inputs host } in

@@ -17,11 +17,11 @@ use Rattle.vd_noninter.proofs.Closing.{only_true}
 abbrev pub eight_hosts : Reach
 eight_hosts = record { slots = λ x. true; hosts = λ k. nat_lt k 8 }
 
-all_yes : (xs : List SlotId) → list_all (λ (x : SlotId). true) xs ≡ true
+pub all_yes : (xs : List SlotId) → list_all (λ (x : SlotId). true) xs ≡ true
 all_yes [] = refl
 all_yes (x ∷ xs) = all_yes xs
 
-yes_where : (a b : Bool) → b ≡ true → only_with a b ≡ true
+pub yes_where : (a b : Bool) → b ≡ true → only_with a b ≡ true
 yes_where true b is = is
 yes_where false b is = refl
 

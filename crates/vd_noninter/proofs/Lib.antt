@@ -4,3 +4,5 @@ pub mod Following
 pub mod Declared
 pub mod Hosts
 pub mod Answered
+pub mod Influencing
+pub mod Influenced

@@ -1,3 +1,4 @@
 pub mod Links
 pub mod Reached
 pub mod Hosts
+pub mod InfluenceLinks

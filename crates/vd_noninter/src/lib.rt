@@ -1,8 +1,10 @@
-//! Whose inputs can bear on what a host is told, outside of what is declassified to it.
+//! Whose inputs can bear on what a host is told: outside of what is declassified to it, and declassified words included.
 #![tactic(auto)]
 
 mod around;
 mod dependence;
+mod influence;
+mod influence_walk;
 mod laws;
 mod link;
 mod marks;
@@ -11,4 +13,5 @@ mod reader;
 mod walk;
 
 pub use dependence::depends;
-pub use laws::programs_have_dependences;
+pub use influence::influences;
+pub use laws::{programs_have_dependences, programs_have_influences};

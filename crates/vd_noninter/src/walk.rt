@@ -122,7 +122,7 @@ fn add_put(
 }
 
 /// Adds that a slot is an input: it depends on the host's inputs, and these on the guards around each of them.
-fn add_input(
+pub fn add_input(
     links: &mut Items<Link>,
     around: &Around,
     slot: SlotId,
@@ -153,7 +153,7 @@ fn add_parts(
 }
 
 /// Adds that a slot is made of these parts, under the guards around it.
-fn add_made(
+pub fn add_made(
     links: &mut Items<Link>,
     around: &Around,
     slot: SlotId,
@@ -166,7 +166,7 @@ fn add_made(
 }
 
 /// Adds that the host is told of these slots, where it is.
-fn add_told(links: &mut Items<Link>, told: bool, slots: &[SlotId]) -> Result<(), AllocError>
+pub fn add_told(links: &mut Items<Link>, told: bool, slots: &[SlotId]) -> Result<(), AllocError>
     ensures { OnOk result (links.new ≡ with_told told slots.now links.old) }
 {
     if told {

@@ -1,0 +1,29 @@
+//! The hosts whose inputs can bear on what a host is told.
+
+ghost use Rattle.std.specs.Prelude.{IfOk};
+ghost use Rattle.vd_noninter.specs.Hosts.{members};
+ghost use Rattle.vd_trust.specs.Influence.{AreInfluences};
+
+use crate::influence_walk::influence_links;
+use crate::reached::reach_along;
+use std::alloc::{AllocError, Global};
+use vd_base::{HostId, HostSet};
+use vd_core::Program;
+
+/// The hosts whose inputs can bear on what this host is told, declassifications included: those that do so through endorsements
+/// too, or where `passed` is false those that do so otherwise.
+///
+/// Only want of memory refuses it.
+pub fn influences(
+    alloc: Global,
+    program: &Program,
+    host: HostId,
+    passed: bool,
+) -> Result<HostSet, AllocError>
+    ensures { IfOk result (λ hosts. AreInfluences passed program.now host (members hosts)) }
+{
+    let form = program.form();
+    let links = influence_links(alloc, passed, host, form)?;
+    let reached = reach_along(alloc, links)?;
+    Ok(reached.hosts())
+}
