@@ -1,0 +1,9 @@
+pub mod Turned
+pub mod Exchanged
+pub mod Ending
+pub mod Hosts
+pub mod Instances
+pub mod Passing
+pub mod Rows
+pub mod Testing
+pub mod Careful
