@@ -41,7 +41,7 @@ of_this : (n : ℕ) (o : Option (List ℕ)) (xs : List ℕ) → length xs ≡ n 
 of_this n o xs l e = ap (of_length n) e ∙ grind (arith, l)
 
 -- the words with which it went on are those that the world answers
-able : (g : Given) (c : Cursors) (x : Need) (xs : List ℕ) → GetsFor g.item c x xs → ((p n : ℕ) → x ≡ Packet p n → g.front p ≡ Some xs) → answer g c x ≡ Some xs
+pub able : (g : Given) (c : Cursors) (x : Need) (xs : List ℕ) → GetsFor g.item c x xs → ((p n : ℕ) → x ≡ Packet p n → g.front p ≡ Some xs) → answer g c x ≡ Some xs
 able g c Nothing xs e f = ap Some (sym e)
 able g c (Item source) xs e f = e
 able g c (Packet p n) xs e f = of_this n (g.front p) xs e (f p n refl)
@@ -51,15 +51,15 @@ able g c Ended xs e f = absurd e
 not_ended : (items : Source → ℕ → Option (List ℕ)) (c : Cursors) (x : Need) (xs : List ℕ) → GetsFor items c x xs → x ≡ Ended → ⊥
 not_ended items c x xs e is = subst (λ n. GetsFor items c n xs) is e
 
-sent_packet : (sent : ℕ → List (List ℕ)) (l : Local) (x : Need) (xs : List ℕ) (p n : ℕ) → TakesSent sent l x xs → x ≡ Packet p n → slice_get (sent p) (l.taken p) ≡ Some xs
+pub sent_packet : (sent : ℕ → List (List ℕ)) (l : Local) (x : Need) (xs : List ℕ) (p n : ℕ) → TakesSent sent l x xs → x ≡ Packet p n → slice_get (sent p) (l.taken p) ≡ Some xs
 sent_packet sent l x xs p n t is = subst (λ y. TakesSent sent l y xs) is t
 
 -- ---- all hosts on the way: each in the world where it has still to go on with some words
 
-record Behind (s : Supply) (end w : World) (left : ℕ → List (List ℕ)) : Type 0 where
-  goes : (h : ℕ) → Goes s h (w h) (left h)
-  ends : (h : ℕ) → gone (w h) (left h) ≡ end h
-  linked : (h : ℕ) → IsLinked (λ p. (end p).sent h) (w h) (left h)
+pub record Behind (s : Supply) (end w : World) (left : ℕ → List (List ℕ)) : Type 0 where
+  pub goes : (h : ℕ) → Goes s h (w h) (left h)
+  pub ends : (h : ℕ) → gone (w h) (left h) ≡ end h
+  pub linked : (h : ℕ) → IsLinked (λ p. (end p).sent h) (w h) (left h)
 
 -- a host that can go on as it did
 record Next (s : Supply) (w : World) (left : ℕ → List (List ℕ)) : Type 0 where
@@ -166,7 +166,7 @@ run_more s b g w u e = run_both s b (g ∷ []) w ∙ ap (λ o. after o (run s b 
 
 -- ---- to where all stand
 
-follow : (s : Supply) (start end : World) (order : List ℕ) → AllEnded (run (twin s) order start) → (m : ℕ) (b : List ℕ) (left : ℕ → List (List ℕ))
+pub follow : (s : Supply) (start end : World) (order : List ℕ) → AllEnded (run (twin s) order start) → (m : ℕ) (b : List ℕ) (left : ℕ → List (List ℕ))
     → effective (twin s) order start ≡ effective s b start + m → Behind s end (run s b start) left → (b : List ℕ) × ((h : ℕ) → run s b start h ≡ end h)
 follow s start end order ended zero b left counts behind =
     let r = remaining s start order b ended in
