@@ -8,7 +8,7 @@ ghost use Rattle.vd_split.specs.Places.{takers, acting, guard_acts, branch_acts}
 
 use crate::protocols::Protocols;
 use crate::slots::{proto_of, stands_at};
-use crate::taking::any_takes;
+use crate::taking::takes_either;
 use vd_base::{HostId, Proto, SlotId};
 use vd_core::{Right, Stmt};
 
@@ -41,9 +41,7 @@ fn acts_in_guard<P: Protocols>(
     ensures { result ≡ guard_acts (P.offer protocols.now).calls protos.now from then_block.now else_block.now host.0 }
 {
     for number in 0..protocols.hosts() {
-        let takes = any_takes(protocols, protos, then_block, HostId(number))
-            || any_takes(protocols, protos, else_block, HostId(number));
-        if takes {
+        if takes_either(protocols, protos, then_block, else_block, HostId(number)) {
             if protocols.moves_at(from, Proto::Local(HostId(number)), host) {
                 return true;
             }
@@ -64,8 +62,7 @@ fn acts_in_branch<P: Protocols>(
     ensures { result ≡ branch_acts (P.offer protocols.now).calls protos.now from then_block.now else_block.now host.0 }
 {
     acts_in_guard(protocols, protos, from, then_block, else_block, host)
-        || any_takes(protocols, protos, then_block, host)
-        || any_takes(protocols, protos, else_block, host)
+        || takes_either(protocols, protos, then_block, else_block, host)
 }
 
 /// Whether a host has an instruction where operands are moved.

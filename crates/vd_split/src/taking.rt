@@ -3,7 +3,7 @@ ghost use Rattle.std.specs.List.{list_any};
 ghost use Rattle.vd_joint.specs.Suite.{is_at};
 ghost use Rattle.vd_joint.specs.Emission.{right_takes_part, emission, block_emission};
 ghost use Rattle.vd_split.specs.Offer.{proto_in};
-ghost use Rattle.vd_split.specs.Places.{all_takers};
+ghost use Rattle.vd_split.specs.Places.{all_takers, takers};
 
 use crate::protocols::Protocols;
 use crate::slots::{proto_of, stands_at};
@@ -93,6 +93,19 @@ pub(crate) fn any_takes<P: Protocols>(
     false
 }
 
+/// Whether a host takes part in either of two blocks.
+pub(crate) fn takes_either<P: Protocols>(
+    protocols: &P,
+    protos: &[Proto],
+    then_block: &[Stmt],
+    else_block: &[Stmt],
+    host: HostId,
+) -> bool
+    ensures { result ≡ takers (P.offer protocols.now).calls protos.now then_block.now else_block.now host.0 }
+{
+    any_takes(protocols, protos, then_block, host) || any_takes(protocols, protos, else_block, host)
+}
+
 /// The hosts that take part in either of two blocks, in order.
 #[tactic(auto, using(crate::proofs::Picked::picked_yes, crate::proofs::Picked::picked_no, crate::proofs::Picked::picked_none))]
 pub(crate) fn takers_of<P: Protocols>(
@@ -107,9 +120,7 @@ pub(crate) fn takers_of<P: Protocols>(
 {
     let mut hosts = Items::new(to.alloc());
     for number in 0..protocols.hosts() {
-        let takes = any_takes(protocols, protos, then_block, HostId(number))
-            || any_takes(protocols, protos, else_block, HostId(number));
-        if takes {
+        if takes_either(protocols, protos, then_block, else_block, HostId(number)) {
             hosts.push(HostId(number))?;
         }
     }
