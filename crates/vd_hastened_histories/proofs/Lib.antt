@@ -1,0 +1,5 @@
+pub mod Standing
+pub mod Falling
+pub mod Later
+pub mod HeldUp
+pub mod Maximal

@@ -1,0 +1,20 @@
+//! Hastened hosts, each by itself, over links that are first in, first out. Nothing is computed here: each function's clauses are laws.
+#![tactic(auto)]
+
+ghost use Rattle.vd_hastened_histories.specs.Hastened.{HastenedHistoriesAreOnTheWay};
+ghost use Rattle.vd_hastened_histories.specs.Ahead.{FaultsKeepTheirCauses, NeverLater, NoFaultIsNew};
+
+/// Hosts of which some have hastened codes, and which went on by themselves, each on packets that its peers sent to it, in order, do
+/// what holds under every schedule of the joint code.
+pub fn hastened_histories_are_schedules()
+    ensures { HastenedHistoriesAreOnTheWay }
+{}
+
+/// On whatever packets, a hastened host comes at least as far as it would have come before, has sent and printed at least as much, and
+/// ends in the same state. What would have held it up holds it up, and nothing else does: the same packet that does not come or has
+/// another length, or the same two words that differ.
+pub fn hastened_hosts_are_never_later()
+    ensures never_later { NeverLater }
+    ensures faults { FaultsKeepTheirCauses }
+    ensures no_new_fault { NoFaultIsNew }
+{}
