@@ -1,12 +1,7 @@
--- What is known of a stream.
-use Rattle.std.specs.Prelude.{ℕ, false, List, [], Option}
+-- What a stream tells as a sink.
+use Rattle.std.specs.Prelude.{ℕ, Bool, List, [], Option, unwrap_or}
 use Rattle.vd_outside.specs.Sink.{SinkView}
 
--- the bytes that it holds, where they are known, and how often it has failed
-pub record StreamView : Type 0 where
-  pub contents : Option (List ℕ)
-  pub faults : ℕ
-
--- as a sink it tells its faults alone
-abbrev pub sink_view : StreamView → SinkView
-sink_view stream = record { told = false; taken = []; faults = stream.faults }
+-- the bytes that it holds, where a stream of its kind tells them, and how often it has failed
+abbrev pub sink_view : Bool → Option (List ℕ) → ℕ → SinkView
+sink_view tells held faults = record { told = tells; taken = unwrap_or held []; faults = faults }

@@ -1,3 +1,7 @@
+ghost use Rattle.std.specs.Prelude.{◌≡◌, IfOk, IfSome};
+ghost use Rattle.std.specs.Io.Buffered.{reader_remaining};
+ghost use Rattle.vd_edge.specs.Lines.{GivesByte, GivesLine};
+
 use crate::faults::fault_of;
 use std::alloc::Global;
 use std::io::{BufReader, Read};
@@ -14,7 +18,9 @@ pub struct Lines<O: Read + Drop> {
 
 impl<O: Read + Drop> Lines<O> {
     /// The lines of this stream.
-    pub fn new(alloc: Global, output: O) -> Result<Lines<O>, CallFault> {
+    pub fn new(alloc: Global, output: O) -> Result<Lines<O>, CallFault>
+        ensures { IfOk result (λ lines. IfSome (O.remaining output) (λ left. reader_remaining O.remaining lines.output ≡ Some left)) }
+    {
         match BufReader::new(alloc, output) {
             Ok(output) => Ok(Lines { alloc, output }),
             Err(error) => Err(fault_of(&error)),
@@ -22,7 +28,9 @@ impl<O: Read + Drop> Lines<O> {
     }
 
     /// The next byte, and `None` at the end.
-    fn byte(&mut self) -> Result<Option<u8>, CallFault> {
+    fn byte(&mut self) -> Result<Option<u8>, CallFault>
+        ensures { IfOk result (GivesByte (reader_remaining O.remaining self.old.output) (reader_remaining O.remaining self.new.output)) }
+    {
         let mut byte = [0u8];
         match self.output.read(&mut byte) {
             Ok(0) => Ok(None),
@@ -31,8 +39,11 @@ impl<O: Read + Drop> Lines<O> {
         }
     }
 
-    /// The next line, and `None` at the end. Bytes that no line feed ends are the last line.
-    pub fn next(&mut self) -> Result<Option<Line>, CallFault> {
+    /// The next line, and `None` at the end. Bytes that no line feed ends are the last line. A line that is too long is a
+    /// fault, and so is a read that fails.
+    pub fn next(&mut self) -> Result<Option<Line>, CallFault>
+        ensures { IfOk result (GivesLine (reader_remaining O.remaining self.old.output) (reader_remaining O.remaining self.new.output)) }
+    {
         let mut bytes = Bytes::new(self.alloc);
         for _ in 0..=LINE_BYTES {
             match self.byte()? {
@@ -47,7 +58,9 @@ impl<O: Read + Drop> Lines<O> {
 }
 
 /// These bytes as a line. It is a fault if they are too many.
-fn a_line(bytes: Bytes) -> Result<Option<Line>, CallFault> {
+fn a_line(bytes: Bytes) -> Result<Option<Line>, CallFault>
+    ensures { IfOk result (λ line. line ≡ Some bytes) }
+{
     match Line::from_bytes(bytes) {
         Some(line) => Ok(Some(line)),
         None => Err(CallFault::Failed),

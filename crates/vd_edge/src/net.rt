@@ -1,70 +1,55 @@
-ghost use Rattle.std.specs.Prelude.{◌≡◌, false};
+ghost use Rattle.std.specs.Prelude.{◌≡◌, ◌<◌, ◌++◌, ◌∷◌, [], IfOk, OnOk, Some, slice_get, vec_len};
+ghost use Rattle.std.specs.Result.{result_map_both};
+ghost use Rattle.vd_edge.specs.Duplex.{link_view};
+ghost use Rattle.vd_edge.specs.Net.{net_view};
+ghost use Rattle.vd_outside.specs.Net.{Accepts, Connects, Listens};
 
-#[cfg(test)]
-mod tests;
-
-use crate::RealLink;
 use crate::faults::{count_fault, fault_of};
+use crate::{RealLink, Sockets};
 use std::alloc::Global;
-use std::io::{Read, Write};
-use std::marker::Model;
-use std::net::{Net as Network, OpenListener, OpenStream, TcpListener, TcpStream};
 use vd_base::CallFault;
 use vd_outside::{Link, Net};
 
-/// The network of a runtime, with TCP sockets. Contracts see how many listeners it gave, and how often it has failed.
+/// A net over sockets: its listeners, and how often it has failed.
 #[derive(Drop)]
-pub struct RealNet<R: Network + Drop> {
-    rt: R,
-    listeners: Vec<R::Listener>,
+pub struct RealNet<N: Sockets + Drop> {
+    sockets: N,
+    listeners: Vec<N::Listener>,
     faults: u64,
 }
 
-impl<R: Network + Drop> Model for RealNet<R> {
-    ghost use Rattle.std.specs.Prelude.{vec_len};
-    ghost use Rattle.vd_edge.specs.RealNet.{RealNetState};
-
-    ghost Value = { RealNetState };
-
-    ghost view = { λ net. record { given = vec_len net.listeners; faults = net.faults } };
-}
-
-impl<R: Network + Drop> RealNet<R> {
-    /// The network of this runtime, which gave no listener and has not failed so far.
-    pub fn new(rt: R, alloc: Global) -> RealNet<R>
-        ensures { result ≡ record { given = 0; faults = 0 } }
+impl<N: Sockets + Drop> RealNet<N> {
+    /// A net over these sockets, which gave no listener and has not failed so far.
+    pub fn new(sockets: N, alloc: Global) -> RealNet<N>
+        ensures none { vec_len result.listeners ≡ 0 }
+        ensures faults { result.faults ≡ 0 }
     {
         RealNet {
-            rt,
+            sockets,
             listeners: Vec::new(alloc),
             faults: 0,
         }
     }
 }
 
-/// A link over a stream that is to send each piece at once. A stream that cannot is as good.
-fn linked<S: Read + Write + OpenStream + Drop>(stream: S) -> RealLink<S>
-    ensures ended { result.ended ≡ false }
-    ensures faults { result.faults ≡ 0 }
-{
-    let _ = stream.set_nodelay(true);
-    RealLink::new(stream)
-}
+impl<N: Sockets + Drop> Net for RealNet<N> {
+    type Link = RealLink<N::Stream>;
 
-impl<R: Network + Drop> Net for RealNet<R> {
-    ghost use Rattle.vd_edge.specs.RealNet.{real_net_view};
-
-    type Link = RealLink<R::Stream>;
-
-    ghost view = { real_net_view };
+    ghost view = { λ net. net_view (vec_len net.listeners) net.faults };
 
     fn faults(&self) -> u64 {
         self.faults
     }
 
-    fn listen(&mut self, address: &str) -> Result<u32, CallFault> {
+    fn listen(&mut self, address: &str) -> Result<u32, CallFault>
+        requires { vec_len self.old.listeners < u32.MAX }
+        ensures listens { Listens address.now (net_view (vec_len self.old.listeners) self.old.faults)
+            (net_view (vec_len self.new.listeners) self.new.faults) result }
+        ensures at_address { OnOk result ((listener : N.Listener) ×
+            (self.new.listeners.items ≡ self.old.listeners.items ++ listener ∷ []) × N.listens_at listener address.now) }
+    {
         self.listeners.reserve(1)?;
-        match TcpListener::bind(&self.rt, address) {
+        match self.sockets.listen(address) {
             Ok(listener) => {
                 let number = self.listeners.len() as u32;
                 self.listeners.push_reserved(listener);
@@ -78,9 +63,16 @@ impl<R: Network + Drop> Net for RealNet<R> {
         }
     }
 
-    fn accept(&mut self, listener: u32) -> Result<RealLink<R::Stream>, CallFault> {
-        match self.listeners[listener as usize].accept() {
-            Ok((stream, _)) => Ok(linked(stream)),
+    fn accept(&mut self, listener: u32) -> Result<RealLink<N::Stream>, CallFault>
+        requires { listener < vec_len self.old.listeners }
+        ensures accepts { Accepts listener (net_view (vec_len self.old.listeners) self.old.faults)
+            (net_view (vec_len self.new.listeners) self.new.faults)
+            (result_map_both (λ link. link_view (N.Stream.view link.stream) link.ended link.faults) (λ fault. fault) result) }
+        ensures came { (asked : N.Listener) → slice_get self.old.listeners.items listener ≡ Some asked →
+            IfOk result (λ link. N.came_to link.stream asked) }
+    {
+        match self.sockets.accept(&self.listeners[listener as usize]) {
+            Ok(stream) => Ok(RealLink::new(stream)),
             Err(error) => {
                 let fault = fault_of(&error);
                 count_fault(&mut self.faults, fault);
@@ -89,9 +81,14 @@ impl<R: Network + Drop> Net for RealNet<R> {
         }
     }
 
-    fn connect(&mut self, address: &str) -> Result<RealLink<R::Stream>, CallFault> {
-        match TcpStream::connect(&self.rt, address) {
-            Ok(stream) => Ok(linked(stream)),
+    fn connect(&mut self, address: &str) -> Result<RealLink<N::Stream>, CallFault>
+        ensures connects { Connects address.now (net_view (vec_len self.old.listeners) self.old.faults)
+            (net_view (vec_len self.new.listeners) self.new.faults)
+            (result_map_both (λ link. link_view (N.Stream.view link.stream) link.ended link.faults) (λ fault. fault) result) }
+        ensures leads { IfOk result (λ link. N.leads_to link.stream address.now) }
+    {
+        match self.sockets.connect(address) {
+            Ok(stream) => Ok(RealLink::new(stream)),
             Err(error) => {
                 let fault = fault_of(&error);
                 count_fault(&mut self.faults, fault);
@@ -100,7 +97,7 @@ impl<R: Network + Drop> Net for RealNet<R> {
         }
     }
 
-    fn hang_up(&mut self, link: RealLink<R::Stream>) {
+    fn hang_up(&mut self, link: RealLink<N::Stream>) {
         if link.faults() > 0 {
             self.faults = self.faults.saturating_add(1);
         }

@@ -8,7 +8,7 @@ use std::io::IsTerminal;
 use std::process::ExitCode;
 use std::{env, io};
 use vd_base::Texts;
-use vd_edge::{RealFiles, RealNet, RealSink, RealSpawner};
+use vd_edge::{RealFiles, RealNet, RealSink, RealSpawner, SystemDirectory, SystemSockets};
 use vd_outside::Sink;
 use vd_plan::{Status, tell};
 use vd_telling::{Destination, say_more};
@@ -40,9 +40,9 @@ fn run<O: Sink, E: Sink>(rt: HostRuntime, out: &mut O, err: &mut E) -> io::Resul
         Destination::File
     };
     let words = words(&rt)?;
-    let mut net = RealNet::new(rt.clone()?, alloc);
+    let mut net = RealNet::new(SystemSockets::new(rt.clone()?), alloc);
     let mut spawner = RealSpawner::new(rt.clone()?, alloc);
-    let mut files = RealFiles::new(rt, alloc);
+    let mut files = RealFiles::new(SystemDirectory::new(rt), alloc);
     let status = start(alloc, &words, &mut files, out, err, &mut net, &mut spawner);
 
     // The line stands: where there is no memory to say more of it, no more is said.
