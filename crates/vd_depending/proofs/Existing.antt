@@ -14,7 +14,10 @@ use Rattle.vd_noninter.specs.Reached.{IsReachOf}
 use Rattle.vd_noninter.proofs.Answered.{answers}
 use Rattle.vd_noninter.proofs.Following.{least_reach}
 use Rattle.vd_noninter.proofs.Hosts.{host_more, host_step, none_first}
+use Rattle.vd_noninter.specs.InfluenceLinks.{influence_links_of}
+use Rattle.vd_noninter.proofs.Influenced.{are_influences}
 use Rattle.vd_depending.specs.Outcomes.{DependenceOutcomes}
+use Rattle.vd_depending.specs.Influencing.{InfluenceOutcomes}
 
 -- ---- the set of the first hosts that are marked
 
@@ -61,4 +64,22 @@ some_dependences = record {
   hosts = hosts_of;
   hosts_are = λ p l h well satisfies.
       answers p l h well satisfies (reader_of p l h) (links_at p l h) (reached_at p l h).0 (members (hosts_of p l h)) refl refl refl (reached_at p l h).1 (hosts_of_members p l h);
+}
+
+-- ---- the hosts whose inputs bear on what a host is told
+
+influence_at : (passed : Bool) (p : NormalForm) (h : HostId) → (r : Reach) × IsReachOf (influence_links_of passed h.0 p.body) r
+influence_at passed p h = least_reach (influence_links_of passed h.0 p.body)
+
+bearing_hosts : Bool → NormalForm → HostId → HostSet
+bearing_hosts passed p h = set_of (influence_at passed p h).0.hosts 8
+
+bearing_members : (passed : Bool) (p : NormalForm) (h : HostId) (k : ℕ) → members (bearing_hosts passed p h) k ≡ (nat_lt k 8 && (influence_at passed p h).0.hosts k)
+unfolding bearing_hosts
+bearing_members passed p h k = set_members (influence_at passed p h).0.hosts 8 (omega arith) k
+
+pub some_influences : InfluenceOutcomes
+some_influences = record {
+  hosts = bearing_hosts;
+  hosts_are = λ passed p h well. are_influences passed p h well (influence_at passed p h).0 (members (bearing_hosts passed p h)) (influence_at passed p h).1 (bearing_members passed p h);
 }

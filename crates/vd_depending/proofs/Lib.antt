@@ -1,3 +1,4 @@
 pub mod Existing
 mod Naming
 mod Told
+mod Influence

@@ -1,3 +1,4 @@
 pub mod Outcomes
 pub mod Depending
 pub mod Telling
+pub mod Influencing

@@ -20,7 +20,7 @@ use vd_report::host_of;
 use vd_resolve::Resolved;
 
 /// The host of this name.
-fn host_named(alloc: Global, hosts: &Names, name: &str) -> Result<HostId, Status>
+pub fn host_named(alloc: Global, hosts: &Names, name: &str) -> Result<HostId, Status>
     requires { length hosts.now ≤ most_hosts }
     ensures { Checks (as_host hosts.now name.now) result }
 {
