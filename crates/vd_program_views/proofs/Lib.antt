@@ -1,0 +1,15 @@
+pub mod Compose
+pub mod Plain
+pub mod Words
+pub mod Calls
+pub mod Silent
+pub mod Turns
+pub mod Hiding
+pub mod Steps
+pub mod Blocks
+pub mod Theorem
+pub mod PairUp
+pub mod AnyOrder
+pub mod Promise
+pub mod Lengths
+pub mod Examples
