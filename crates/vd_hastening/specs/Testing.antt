@@ -183,3 +183,24 @@ none_sent_first =
 
 abbrev pub OpeningsAreHastened : Type 0
 OpeningsAreHastened = (hastened may 1 two_openings ≡ both_sent_first) × (hastened may 0 two_openings ≡ none_sent_first)
+
+-- A digest of an own word, as a host makes it behind an answer that it prints and that chooses a word of an array.
+abbrev pub digest_last : Code
+digest_last =
+    Recv 1 (register 40 ∷ [])
+    (Then (action.Print (register 40))
+    (Then (action.Get (register 41) (register 20) 4 (register 40))
+    (Then (action.Hash (register 8) (register 0) (register 16))
+    (Send 1 (row 8 8) Finished))))
+
+abbrev pub digest_first : Code
+digest_first =
+    Then (action.Hash (register 8) (register 0) (register 16))
+    (Send 1 (row 8 8)
+    (Recv 1 (register 40 ∷ [])
+    (Then (action.Get (register 41) (register 20) 4 (register 40))
+    (Then (action.Print (register 40)) Finished))))
+
+-- It goes out before the answer is awaited, and what hangs on the answer stays behind it.
+abbrev pub DigestsAreHastened : Type 0
+DigestsAreHastened = hastened may 1 digest_last ≡ digest_first

@@ -6,8 +6,8 @@ ghost use Rattle.vd_hastening.specs.Hastening.{HastenedHostsAreOnTheWay, Hastene
 ghost use Rattle.vd_hastening.specs.Neighbours.{SendBeforeReceive, SendBeforeSend, SendBeforeAction, SendBeforePrint};
 ghost use Rattle.vd_hastening.specs.Neighbours.{ActionBeforeReceive, ActionBeforeSend, ActionBeforePrint, ActionBeforeAction};
 ghost use Rattle.vd_hastening.specs.Passing.{PassesExchange};
-ghost use Rattle.vd_hastening.specs.Testing.{TestIsSound, EachCodeIsHastened, OpeningsAreHastened};
-ghost use Rattle.vd_hastening.specs.Careful.{CarefulPasses, HastenedStartsAreOnTheWay, HastenedStartsEnd};
+ghost use Rattle.vd_hastening.specs.Testing.{TestIsSound, EachCodeIsHastened, OpeningsAreHastened, DigestsAreHastened};
+ghost use Rattle.vd_hastening.specs.Careful.{CarefulPasses, OpenedWordsStay, HastenedStartsAreOnTheWay, HastenedStartsEnd};
 
 /// Hosts in whose codes neighbours were exchanged do what they did: under every schedule they are on the way to the end of the joint
 /// run, and where the lists suffice for it none is ever short, and they come to that end.
@@ -39,12 +39,15 @@ pub fn passes_exchange()
 pub fn each_code_is_hastened()
     ensures sound { TestIsSound }
     ensures hastened { EachCodeIsHastened }
-    ensures example { OpeningsAreHastened }
+    ensures openings { OpeningsAreHastened }
+    ensures digests { DigestsAreHastened }
 {}
 
-/// The careful pass hastens each code, and leaves all that is to stay in its order.
+/// The careful pass hastens each code, and leaves all that is to stay in its order: so a committed word is not opened before what it
+/// stood behind.
 pub fn careful_passes_keep_the_order()
-    ensures { CarefulPasses }
+    ensures order { CarefulPasses }
+    ensures opened { OpenedWordsStay }
 {}
 
 /// The hosts of a joint code, each with its code hastened by the careful pass, come to the end of the joint run under every schedule.
