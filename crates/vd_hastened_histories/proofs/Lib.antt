@@ -3,3 +3,4 @@ pub mod Falling
 pub mod Later
 pub mod HeldUp
 pub mod Maximal
+pub mod Asking

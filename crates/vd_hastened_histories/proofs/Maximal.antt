@@ -40,7 +40,7 @@ action_needs f (action.Zero r count) e = absurd cc
 action_needs f (action.Get r x count i) e = absurd cc
 action_needs f (action.Put x count i s) e = absurd cc
 
-code_needs : (f : Registers) (c : Code) → need_of f c ≡ Ended → c ≡ Finished
+pub code_needs : (f : Registers) (c : Code) → need_of f c ≡ Ended → c ≡ Finished
 code_needs f Finished e = refl
 code_needs f (Then a c) e = absurd (action_needs f a e)
 code_needs f (Send p rs c) e = absurd cc
@@ -51,7 +51,7 @@ code_needs f (Repeat r t n body c) e = absurd cc
 -- ---- one way
 
 -- held up, or at its end
-abbrev Rests : (ℕ → List (List ℕ)) → Local → Type 0
+abbrev pub Rests : (ℕ → List (List ℕ)) → Local → Type 0
 Rests stream l = IsHeldUp stream l ⊎ (need l.state ≡ Ended)
 
 of_this : (n : ℕ) (zs : List ℕ) → length zs ≡ n → of_length n (Some zs) ≡ Some zs
@@ -86,7 +86,7 @@ same_words items stream l c (Packet p n) xs ys g k f m = let e : Some xs ≡ Som
 same_words items stream l c (Unequal x y) xs ys g k f m = absurd g
 same_words items stream l c Ended xs ys g k f m = absurd g
 
-one_way : (t : Tape) (h : ℕ) (stream : ℕ → List (List ℕ)) (l : Local) (a b : List (List ℕ)) → Goes (endless t) h l a → IsLinked stream l a → Rests stream (gone l a)
+pub one_way : (t : Tape) (h : ℕ) (stream : ℕ → List (List ℕ)) (l : Local) (a b : List (List ℕ)) → Goes (endless t) h l a → IsLinked stream l a → Rests stream (gone l a)
     → Goes (endless t) h l b → IsLinked stream l b → Rests stream (gone l b) → gone l a ≡ gone l b
 one_way t h stream l [] [] ga ka ra gb kb rb = refl
 one_way t h stream l [] (ys ∷ b) ga ka ra gb kb rb = absurd (goes_on t h stream l ys gb.0 kb.0 ra)
@@ -100,11 +100,11 @@ one_way t h stream l (xs ∷ a) (ys ∷ b) ga ka ra gb kb rb =
 
 -- ---- to its end
 
-record Whole (t : Tape) (h : ℕ) (stream : ℕ → List (List ℕ)) (l : Local) : Type 0 where
-  words : List (List ℕ)
-  goes : Goes (endless t) h l words
-  linked : IsLinked stream l words
-  rests : Rests stream (gone l words)
+pub record Whole (t : Tape) (h : ℕ) (stream : ℕ → List (List ℕ)) (l : Local) : Type 0 where
+  pub words : List (List ℕ)
+  pub goes : Goes (endless t) h l words
+  pub linked : IsLinked stream l words
+  pub rests : Rests stream (gone l words)
 
 -- what a host goes on with next, or that it rests
 record Next (t : Tape) (h : ℕ) (stream : ℕ → List (List ℕ)) (l : Local) (n : Need) : Type 0 where
@@ -132,7 +132,7 @@ next_at t h stream l (Packet p n) =
 next_at t h stream l (Unequal x y) = inr (inl _)
 next_at t h stream l Ended = inr (inr refl)
 
-whole : (n : ℕ) (t : Tape) (h : ℕ) (stream : ℕ → List (List ℕ)) (l : Local) → suc (weight l.state.pending) ≤ n → Whole t h stream l
+pub whole : (n : ℕ) (t : Tape) (h : ℕ) (stream : ℕ → List (List ℕ)) (l : Local) → suc (weight l.state.pending) ≤ n → Whole t h stream l
 whole zero t h stream l le = absurd (omega (arith, le))
 whole (suc n) t h stream l le =
     elim (next_at t h stream l (need l.state)) [
