@@ -73,6 +73,8 @@ pub enum FilesCommand {
     Replay(ReplayWords),
     /// `depends SOURCE HOST`.
     Depends(Text, Text),
+    /// `influences SOURCE HOST`.
+    Influences(Text, Text),
     /// `gen N`.
     Gen(u32),
     /// `trial N`.
@@ -315,6 +317,12 @@ fn three_words(
     } else if word.as_str() == "depends" {
         let source = Text::copy_of(alloc, source.as_str())?;
         Ok(Command::OnFiles(FilesCommand::Depends(source, Text::copy_of(alloc, other.as_str())?)))
+    } else if word.as_str() == "influences" {
+        let source = Text::copy_of(alloc, source.as_str())?;
+        Ok(Command::OnFiles(FilesCommand::Influences(
+            source,
+            Text::copy_of(alloc, other.as_str())?,
+        )))
     } else if word.as_str() == "choose" {
         choose_of(alloc, source, number_within(1, most, other))
     } else if word.as_str() == "compile" {

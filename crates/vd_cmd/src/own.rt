@@ -40,6 +40,9 @@ usage:
                                 from PORT on, 1024 to 65520; print what each host printed
   viaduct depends SOURCE HOST   print the hosts whose inputs can bear on what HOST is told, outside of what is
                                 declassified to it
+  viaduct influences SOURCE HOST
+                                print the hosts whose inputs can bear on what HOST is told at all, and then those
+                                of them whose inputs can do so through endorsements alone
   viaduct gen N                 print a source of N coordinates, 1 to 100: whether two hosts' points are near
   viaduct trial N               choose protocols for that source and replay it, on inputs and a deal of its own, and
                                 print the cost of the choice and how each host stands

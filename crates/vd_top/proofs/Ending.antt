@@ -5,7 +5,7 @@ use Rattle.vd_outside.specs.Sink.{SinkView}
 use Rattle.vd_cmd.specs.declared.command.Command.{Command}
 use Rattle.vd_cmd.specs.declared.command.Command.TheVariants.{OnFiles, Host, Run}
 use Rattle.vd_cmd.specs.declared.command.FilesCommand.{FilesCommand}
-use Rattle.vd_cmd.specs.declared.command.FilesCommand.TheVariants.{Depends, Replay, Trial}
+use Rattle.vd_cmd.specs.declared.command.FilesCommand.TheVariants.{Depends, Influences, Replay, Trial}
 use Rattle.vd_cmd.specs.declared.command.ReplayWords.{ReplayWords}
 use Rattle.vd_plan.specs.Deliver.{IsLeft}
 use Rattle.vd_plan.specs.Plans.{Executes, Plan, Settles, refused}
@@ -20,7 +20,7 @@ use Rattle.vd_selecting.proofs.Reading.{some_certificates}
 use Rattle.vd_selection.proofs.Once.{some_choices}
 use Rattle.vd_outcomes.proofs.Picked.{some_outcomes as some_replays}
 use Rattle.vd_replaying.proofs.Accepting.{ends_well}
-use Rattle.vd_depending.proofs.Existing.{some_dependences}
+use Rattle.vd_depending.proofs.Existing.{some_dependences, some_influences}
 use Rattle.vd_top.specs.Commands.{CompletesForm, CompletesWords, Outcomes, RunsForm, plan_of, search_of}
 use Rattle.vd_top.specs.Headline.{KeepsAccepted, ShowsOf, TellsOf}
 use Rattle.vd_top.proofs.Trials.{run_ends}
@@ -78,6 +78,13 @@ module _ (plan : Contents → Plan) (before mid now : FilesView) (out_before out
       record { printed = answer.printed; added = p.1; dependence = tells t p.0 }
   dependence source name (Err came) status w finishes tells = λ t o e. absurd (never came status w finishes t e)
 
+  influence : (source name : List ℕ) (came : Result Answer Status) (status : Status) → Executes true plan before mid came → Finishes came mid now out_before out_now status → TellsOf (Influences source name) before came
+      → ShowsOf (Influences source name) before out_before out_now status
+  influence source name (Ok answer) status w finishes tells = λ t o e.
+      let p = printed answer status w finishes t o e in
+      record { printed = answer.printed; added = p.1; influence = tells t p.0 }
+  influence source name (Err came) status w finishes tells = λ t o e. absurd (never came status w finishes t e)
+
   trial : (coordinates : ℕ) (came : Result Answer Status) (status : Status) → Executes true plan before mid came → Finishes came mid now out_before out_now status → TellsOf (Trial coordinates) before came
       → ShowsOf (Trial coordinates) before out_before out_now status
   trial coordinates (Ok answer) status w finishes tells = λ t. (
@@ -96,6 +103,7 @@ module _ (plan : Contents → Plan) (before mid now : FilesView) (out_before out
       → ShowsOf command before out_before out_now status
   shows (Replay words) came status w finishes tells = headline words came status w finishes tells
   shows (Depends source name) came status w finishes tells = dependence source name came status w finishes tells
+  shows (Influences source name) came status w finishes tells = influence source name came status w finishes tells
   shows (Trial coordinates) came status w finishes tells = trial coordinates came status w finishes tells
   shows command came status w finishes tells = tt
 
@@ -112,5 +120,5 @@ module _ (before now : FilesView) (out_before out_now : SinkView) (status : Stat
   pub accepted : (words : List (List ℕ)) → CompletesWords words before now out_before out_now status → KeepsAccepted words before now out_before out_now status
   accepted words completes_words = λ replay form t is quiet out_quiet.
       let well = ends_well replay before.contents is in
-      let outcomes : Outcomes = record { texts = some_texts; labels = well.0; certificates = some_certificates; choices = some_choices; replays = some_replays; dependences = some_dependences } in
+      let outcomes : Outcomes = record { texts = some_texts; labels = well.0; certificates = some_certificates; choices = some_choices; replays = some_replays; dependences = some_dependences; influences = some_influences } in
       (subst (λ (f : Option Command). CompletesForm f before now out_before out_now status) form completes_words) outcomes t quiet out_quiet (well.1 some_texts some_replays some_choices)

@@ -19,7 +19,7 @@ use Rattle.vd_compiling.proofs.Sure.{compile_follows}
 use Rattle.vd_outcomes.proofs.Picked.{some_outcomes as some_replays}
 use Rattle.vd_replaying.proofs.Sure.{replay_follows}
 use Rattle.vd_trial.proofs.Sure.{trial_follows}
-use Rattle.vd_depending.proofs.Existing.{some_dependences}
+use Rattle.vd_depending.proofs.Existing.{some_dependences, some_influences}
 use Rattle.vd_top.specs.Commands.{Outcomes, plan_of, search_of}
 
 -- an answer of a proper result may be delivered
@@ -29,7 +29,7 @@ given fits (Err status) proper = tt
 
 -- there are outcomes
 pub some_outcomes : Outcomes
-some_outcomes = record { texts = some_texts; labels = some_labels; certificates = some_certificates; choices = some_choices; replays = some_replays; dependences = some_dependences }
+some_outcomes = record { texts = some_texts; labels = some_labels; certificates = some_certificates; choices = some_choices; replays = some_replays; dependences = some_dependences; influences = some_influences }
 
 -- the limits of what is dealt are those of what is made
 pub are_counts : (counts : Counts) → AreWithin counts → AreCounts counts

@@ -1,4 +1,4 @@
--- What a run of `replay` has shown, one of `depends` and one of `trial`, where it ended.
+-- What a run of `replay` has shown, one of `depends`, one of `influences` and one of `trial`, where it ended.
 use Rattle.std.specs.Prelude.{◌≡◌, ◌⊎◌, ℕ, IsTrue, List, ◌++◌, Option, Some, Result}
 use Rattle.vd_outside.specs.Causes.{Rose}
 use Rattle.vd_outside.specs.Files.{FilesView}
@@ -7,12 +7,13 @@ use Rattle.vd_cmd.specs.Commands.{form_of}
 use Rattle.vd_cmd.specs.declared.command.Command.{Command}
 use Rattle.vd_cmd.specs.declared.command.Command.TheVariants.{OnFiles}
 use Rattle.vd_cmd.specs.declared.command.FilesCommand.{FilesCommand}
-use Rattle.vd_cmd.specs.declared.command.FilesCommand.TheVariants.{Depends, Replay, Trial}
+use Rattle.vd_cmd.specs.declared.command.FilesCommand.TheVariants.{Depends, Influences, Replay, Trial}
 use Rattle.vd_cmd.specs.declared.command.ReplayWords.{ReplayWords}
 use Rattle.vd_plan.specs.declared.answer.Answer.{Answer}
 use Rattle.vd_plan.specs.declared.status.Status.{Status}
 use Rattle.vd_plan.specs.declared.status.Status.TheVariants.{Ended, Memory}
 use Rattle.vd_depending.specs.Telling.{IsDependenceOf, TellsDependence}
+use Rattle.vd_depending.specs.Influencing.{IsInfluenceOf, TellsInfluence}
 use Rattle.vd_replaying.specs.Accepting.{IsAccepted}
 use Rattle.vd_replaying.specs.Telling.{IsHeadline, TellsHeadline}
 use Rattle.vd_trial.specs.Telling.{AnswersTrial, EndsTrial, IsTrial, TellsTrial}
@@ -51,6 +52,20 @@ KeepsDependence words before out_before out_now status =
     (source name : List ℕ) → form_of words ≡ Some (OnFiles (Depends source name)) → IsTrue before.told → IsTrue out_now.told → status ≡ Ended
     → PrintsDependence source name before out_before out_now
 
+-- the bytes that were added are a line that names the hosts whose inputs bear on what the host of this name is told
+pub record PrintsInfluence (source name : List ℕ) (before : FilesView) (out_before out_now : SinkView) : Type 0 where
+  pub printed : List ℕ
+  pub added : out_now.taken ≡ out_before.taken ++ printed
+  pub influence : IsInfluenceOf source name before.contents printed
+
+-- Where the words are those of `influences`, and the files and the output tell what they hold, a run with status 0 has printed the
+-- hosts whose inputs alone can bear on what the host is told, and those of them that can do so through endorsements alone: all
+-- others have an integrity that acts for that of the host.
+abbrev pub KeepsInfluence : (words : List (List ℕ)) → FilesView → SinkView → SinkView → Status → Type 0
+KeepsInfluence words before out_before out_now status =
+    (source name : List ℕ) → form_of words ≡ Some (OnFiles (Influences source name)) → IsTrue before.told → IsTrue out_now.told → status ≡ Ended
+    → PrintsInfluence source name before out_before out_now
+
 -- the bytes that were added are the cost of the choice for the generated source, and the report of its run
 pub record PrintsTrial (coordinates : ℕ) (out_before out_now : SinkView) : Type 0 where
   pub printed : List ℕ
@@ -70,10 +85,11 @@ KeepsTrial words before out_before out_now status =
 
 -- ---- the same of a command: its answer, and its run
 
--- what the answer of a command shows, where it is `replay`, `depends` or `trial`
+-- what the answer of a command shows, where it is `replay`, `depends`, `influences` or `trial`
 abbrev pub TellsOf : FilesCommand → FilesView → Result Answer Status → Type 0
 TellsOf (Replay words) before result = TellsHeadline words before result
 TellsOf (Depends source name) before result = TellsDependence source name before result
+TellsOf (Influences source name) before result = TellsInfluence source name before result
 TellsOf (Trial coordinates) before result = TellsTrial coordinates result × AnswersTrial result
 TellsOf command before result = Unit {0}
 
@@ -82,6 +98,8 @@ abbrev pub ShowsOf : FilesCommand → FilesView → SinkView → SinkView → St
 ShowsOf (Replay words) before out_before out_now status = IsTrue before.told → IsTrue out_now.told → status ≡ Ended → PrintsHeadline words before out_before out_now
 ShowsOf (Depends source name) before out_before out_now status =
     IsTrue before.told → IsTrue out_now.told → status ≡ Ended → PrintsDependence source name before out_before out_now
+ShowsOf (Influences source name) before out_before out_now status =
+    IsTrue before.told → IsTrue out_now.told → status ≡ Ended → PrintsInfluence source name before out_before out_now
 ShowsOf (Trial coordinates) before out_before out_now status = IsTrue before.told → ShowsTrial coordinates out_before out_now status
 ShowsOf command before out_before out_now status = Unit {0}
 

@@ -15,6 +15,9 @@ returns-in-None-clause-accepted g c = λ none. c.run.ensures.accepted
 pub returns-in-None-clause-dependence : goal.returns-in-None-clause-dependence
 returns-in-None-clause-dependence g c = λ none. c.run.ensures.dependence
 
+pub returns-in-None-clause-influence : goal.returns-in-None-clause-influence
+returns-in-None-clause-influence g c = λ none. c.run.ensures.influence
+
 pub returns-in-None-clause-host : goal.returns-in-None-clause-host
 returns-in-None-clause-host g c = λ none. c.run.ensures.host
 
