@@ -1,0 +1,366 @@
+-- All hosts of a source over their links.
+use Rattle.std.proofs.Common.{◌≡◌, ◌≢◌, ◌⊎◌, inl, inr, ◌+◌, ◌<◌, ◌≤◌, ℕ, zero, suc, nat_eq, if◌then◌else◌, Bool, true, false, IsTrue, List, [], ◌∷◌, ◌++◌, length, Option, Some, None, Result, Ok, Err, refl, sym, ap, ◌∙◌, subst, append_assoc, arith, map}
+use Rattle.std.proofs.lemmas.Bool.{cases_lt, ne_eqb}
+use Rattle.std.proofs.lemmas.List.FromFn.{get_or-map-range_with_len}
+use Rattle.std.specs.List.{range_with_len}
+use Rattle.std.specs.Prelude.{drop, slice_get, slice_index_or}
+use Rattle.vd_base.specs.HostSets.{host}
+use Rattle.vd_base.specs.declared.ids.HostId.{HostId}
+use Rattle.vd_core.specs.declared.normal.NormalForm.{NormalForm}
+use Rattle.vd_core.specs.declared.source.Source.{Source}
+use Rattle.vd_meaning.specs.SourceMeaning.{source_outputs}
+use Rattle.vd_normal.specs.Normal.{normal_form}
+use Rattle.vd_normal.proofs.Kept.{outputs_kept}
+use Rattle.vd_deals.specs.declared.deal.Deal.{Deal}
+use Rattle.vd_outside.specs.Link.{LinkView}
+use Rattle.vd_outside.specs.Net.{NetView}
+use Rattle.vd_outside.specs.Sink.{SinkView}
+use Rattle.vd_execution.specs.declared.instructions.Instr.{Instr}
+use Rattle.vd_execution.specs.Code.{Finished}
+use Rattle.vd_execution.specs.Joint.{Joint, code_of}
+use Rattle.vd_execution.specs.Step.{Source as List_of, Inputs, OwnWords, Triples, BitTriples, Pairs, State}
+use Rattle.vd_execution.specs.Text.{IsCodeOf, text}
+use Rattle.vd_execution.specs.World.{Supply, IsPrefixOf, Tape, followed_by_zeros}
+use Rattle.vd_schedules.specs.Claims.{last_of}
+use Rattle.vd_schedules.proofs.Confluence.{same_or_not}
+use Rattle.vd_suite.specs.Whole.{RunsAsToldBy, inputs_of}
+use Rattle.vd_machine.specs.Kept.{Kept, at_start, state_of}
+use Rattle.vd_machine.specs.Machines.{item_or_none, items_of}
+use Rattle.vd_machine.specs.declared.lists.Lists.{Lists}
+use Rattle.vd_play.specs.Supplies.{items_for, lists_for, supply_of_files}
+use Rattle.vd_play.proofs.Supplies.{files_are_valid}
+use Rattle.vd_host_programs.specs.Programs.{joint_of, protos_at}
+use Rattle.vd_host_programs.proofs.HostCodes.{codes_can_be_loaded, codes_run_as_told, codes_run_well, ended_past}
+use Rattle.vd_host_text.specs.declared.program.Digest.{Digest}
+use Rattle.vd_read_back.specs.Stored.{CanBeStored, stored_program}
+use Rattle.vd_read_back.proofs.Files.{stored_programs_stand_in_files}
+use Rattle.vd_link.specs.Frames.{greeting}
+use Rattle.vd_link.specs.Receiving.{IsBadByte}
+use Rattle.vd_link.specs.Sessions.{Greeting, IsGreetFault}
+use Rattle.vd_link.specs.declared.faults.GreetFault.{GreetFault}
+use Rattle.vd_link.specs.declared.faults.GreetFault.TheVariants as greet_fault
+use Rattle.vd_link.proofs.GreetingLaws.{no_greet_fault}
+use Rattle.vd_engine.specs.Drives.{Sessions, lines}
+use Rattle.vd_engine.specs.Events.{AtStart, printed}
+use Rattle.vd_engine.specs.declared.engine.Ended.{Ended}
+use Rattle.vd_hosting.specs.Histories.{Held, ended, listening}
+use Rattle.vd_hosting.specs.Peers.{Peer, number_at, peer_at}
+use Rattle.vd_hosting.specs.Plays.{Driven, NoRoom, NotAnnounced, NotGiven, NotGreeted, NotListening, Plays}
+use Rattle.vd_hosting.specs.declared.fault.HostFault.{HostFault}
+use Rattle.vd_hosting.specs.declared.fault.HostFault.TheVariants as fault
+use Rattle.vd_hosting.specs.declared.task.Task.{Task}
+use Rattle.vd_hosting.proofs.Numbers.{earlier_number, later_number, less_or_least, number_apart}
+use Rattle.vd_all_hosts.specs.AllHosts.{AreTold}
+use Rattle.vd_linked_hosts.specs.Linked.{AreHosts, NumbersAreWords}
+use Rattle.vd_linked_hosts.proofs.Driven.{Made}
+use Rattle.vd_linked_hosts.proofs.Fronts.{flat_front, front_both, front_trans}
+use Rattle.vd_linked_hosts.proofs.Joined.{never_bad, tells}
+use Rattle.vd_running_hosts.specs.Links.{Used, bytes_that_came, bytes_that_went, link_to, used_by, used_in, used_or}
+use Rattle.vd_running_hosts.specs.Running.{AreRunOverLinks, BlamesNobody, Run, RunningHostsTellTheSource, WritesUpTo, WritesWhatItIsTold, text_of}
+use Rattle.vd_running_hosts.proofs.Courses.{BadBytes, Course, EndsAs, course, drop_front, ends}
+use Rattle.vd_running_hosts.proofs.Numbers.{numbers_small}
+
+-- ---- who is no peer has no link
+
+abbrev IsStranger : Task → ℕ → Type 0
+IsStranger task p = (place : ℕ) → place < length task.addresses → number_at task.me.0 place ≢ p
+
+not_used : (task : Task) (later : Sessions) (p : ℕ) → IsStranger task p → (all : List Held) (k count : ℕ) → k + count ≤ length task.addresses
+    → map (λ held. held.peer) all ≡ map (peer_at task) (range_with_len k count) → used_in all later p ≡ None
+not_used task later p strange [] k count few is = refl
+not_used task later p strange (held ∷ all) k zero few is = absurd cc
+not_used task later p strange (held ∷ all) k (suc count) few is =
+    let first : held.peer ≡ peer_at task k = cc in
+    let rest : map (λ held. held.peer) all ≡ map (peer_at task) (range_with_len (k + 1) count) = cc in
+    let differs : nat_eq held.peer.number p ≡ false = ne_eqb held.peer.number p (λ e. strange k (omega (arith, few)) (sym (ap (λ (q : Peer). q.number) first) ∙ e)) in
+    ap (λ (b : Bool). if b then used_by held.given (later p) else used_in all later p) differs
+    ∙ not_used task later p strange all (k + 1) count (omega (arith, few)) rest
+
+not_used_or : (task : Task) (p count : ℕ) (given back : LinkView) (others : Option Used) → IsStranger task p → count < length task.addresses → others ≡ None
+    → used_or (number_at task.me.0 count) given back p others ≡ None
+not_used_or task p count given back others strange there none =
+    ap (λ (b : Bool). if b then Some (record { given = given; back = back }) else others) (ne_eqb (number_at task.me.0 count) p (strange count there)) ∙ none
+
+no_link_to : (machine : Kept) (task : Task) (start end : NetView) (ob on : SinkView) {result : Result Ended HostFault} (plays : Plays machine task start end ob on result) (p : ℕ) → IsStranger task p
+    → link_to plays p ≡ None
+no_link_to machine task start end ob on (NotListening count net cause there listened call same) p strange = refl
+no_link_to machine task start end ob on (NotAnnounced failed announces) p strange = refl
+no_link_to machine task start end ob on (NotGiven count sessions met net cause meets there gets back) p strange =
+    not_used task sessions p strange meets.met.all 0 count (omega (arith, there)) meets.met.peers
+no_link_to machine task start end ob on (NoRoom count sessions met net back given meets there gets handed hung) p strange =
+    not_used_or task p count given given (used_in meets.met.all sessions p) strange there (not_used task sessions p strange meets.met.all 0 count (omega (arith, there)) meets.met.peers)
+no_link_to machine task start end ob on (NotGreeted count sessions met net back given link refusal meets there gets greets handed hung) p strange =
+    not_used_or task p count given link (used_in meets.met.all sessions p) strange there (not_used task sessions p strange meets.met.all 0 count (omega (arith, there)) meets.met.peers)
+no_link_to machine task start end ob on (Driven sessions later met out result meets drives back) p strange =
+    not_used task later p strange meets.met.all 0 (length task.addresses) (omega arith) meets.met.peers
+
+number_low : (me place : ℕ) → number_at me place ≤ suc place
+number_low me place =
+    elim (less_or_least place me) [
+      | inl less ↦ let e = earlier_number me place less in omega (arith, e)
+      | inr least ↦ let e = later_number me place least in omega (arith, e)
+    ]
+
+own_stranger : (task : Task) → IsStranger task task.me.0
+own_stranger task place there = number_apart task.me.0 place
+
+past_stranger : (task : Task) (n p : ℕ) → length task.addresses + 1 ≡ n → n ≤ p → IsStranger task p
+past_stranger task n p count past place there e = let low = number_low task.me.0 place in omega (arith, low, e, there, count, past)
+
+-- ---- a fault of a greeting stays one where more comes
+
+bad_more : (offset byte : ℕ) (bytes more : List ℕ) → IsBadByte 0x47 1 0 1 offset byte bytes → IsBadByte 0x47 1 0 1 offset byte (bytes ++ more)
+bad_more offset byte bytes more (inl at) = inl (at.0, record { rest = at.1.rest ++ more; begins = ap (λ (l : List ℕ). l ++ more) at.1.begins; wrong = at.1.wrong })
+bad_more offset byte bytes more (inr at) = inr (at.0, record { rest = at.1.rest ++ more; begins = ap (λ (l : List ℕ). l ++ more) at.1.begins; wrong = at.1.wrong })
+
+greeting_more : (bytes more plan : List ℕ) (from to : ℕ) → Greeting bytes plan from to → Greeting (bytes ++ more) plan from to
+greeting_more bytes more plan from to g = record {
+  rest = g.rest ++ more;
+  digest = g.digest;
+  came = ap (λ (l : List ℕ). l ++ more) g.came ∙ append_assoc (greeting plan from to) g.rest more;
+}
+
+-- no greeting is blamed that is a front of the awaited one and more
+abbrev Blames : GreetFault → Type 0
+Blames (greet_fault.BadFrame offset byte) = Unit {0}
+Blames (greet_fault.WrongProgram ours theirs) = Unit {0}
+Blames (greet_fault.WrongHost wanted named) = Unit {0}
+Blames other = ⊥
+
+fault_more : (plan : List ℕ) (me peer : ℕ) (bytes more : List ℕ) (f : GreetFault) → Blames f → IsGreetFault (ends plan me peer) bytes f → IsGreetFault (ends plan me peer) (bytes ++ more) f
+fault_more plan me peer bytes more greet_fault.Peer b i = absurd b
+fault_more plan me peer bytes more (greet_fault.BadFrame offset byte) b i = bad_more offset byte bytes more i
+fault_more plan me peer bytes more (greet_fault.WrongProgram ours theirs) b i = (i.0, i.1, (i.2.0, i.2.1, greeting_more bytes more theirs i.2.0 i.2.1 i.2.2))
+fault_more plan me peer bytes more (greet_fault.WrongHost wanted named) b i = (i.0, i.1, greeting_more bytes more plan i.0 i.1 i.2, i.3)
+fault_more plan me peer bytes more greet_fault.End b i = absurd b
+
+not_peer : (f : GreetFault) → Blames f → f ≢ greet_fault.Peer
+not_peer greet_fault.Peer b e = b
+not_peer (greet_fault.BadFrame offset byte) b e = cc
+not_peer (greet_fault.WrongProgram ours theirs) b e = cc
+not_peer (greet_fault.WrongHost wanted named) b e = cc
+not_peer greet_fault.End b e = b
+
+never_blamed : (plan : List ℕ) (me peer : ℕ) (bytes more : List ℕ) (f : GreetFault) → length plan ≡ 32 → Blames f → IsPrefixOf bytes (greeting plan peer me ++ more) → IsGreetFault (ends plan me peer) bytes f → ⊥
+never_blamed plan me peer bytes more f long b p i =
+    no_greet_fault (ends plan me peer) more f long (not_peer f b) (subst (λ (l : List ℕ). IsGreetFault (ends plan me peer) l f) p.1 (fault_more plan me peer bytes p.0 f b i))
+
+-- ---- a host that is not declared
+
+abbrev nothing_dealt : Lists
+nothing_dealt = record { inputs = []; deal = record { hosts = 0; me = host 0; own = []; triples = []; bits = []; pairs = [] } }
+
+none_in : {X : Type 0} (f : X → List ℕ) (b : Bool) (i : ℕ) (l : List X) → l ≡ [] → item_or_none f (slice_get (if b then [] else l) i) ≡ None
+none_in f true i l e = refl
+none_in f false i l e = ap (λ q. item_or_none f (slice_get q i)) e
+
+no_items : (source : List_of) (i : ℕ) → items_of nothing_dealt source i ≡ None
+no_items Inputs i = refl
+no_items OwnWords i = refl
+no_items (Triples p) i = none_in _ (nat_eq p 0) i _ refl
+no_items (BitTriples p) i = none_in _ (nat_eq p 0) i _ refl
+no_items (Pairs p) i = none_in _ (nat_eq p 0) i _ refl
+
+past_list : {X : Type 0} (xs : List X) (i : ℕ) → length xs ≤ i → slice_get xs i ≡ None
+past_list [] i past = refl
+past_list (x ∷ xs) zero past = absurd (omega (arith, past))
+past_list (x ∷ xs) (suc i) past = past_list xs i (omega (arith, past))
+
+-- ---- all hosts
+
+module _ (source : Source) (list : List ℕ) (plan : Digest) (inputs : List (List ℕ)) (deals : List Deal) (run : ℕ → Run) (are : AreRunOverLinks (normal_form source) list plan inputs deals run)
+    (one : ℕ) (base : CanBeStored (normal_form source) list plan one) where
+  abbrev program : NormalForm
+  program = normal_form source
+
+  abbrev n : ℕ
+  n = length program.hosts
+
+  abbrev s : Supply
+  s = supply_of_files inputs deals
+
+  abbrev j : Joint
+  j = joint_of program list
+
+  abbrev Place : ℕ → Type 0
+  Place h = (h < n) ⊎ (n ≤ h)
+
+  long : length plan.bytes ≡ 32
+  long = base.digest.0
+
+  task_plan : (h : ℕ) (lt : h < n) → (run h).ready.task.plan ≡ plan.bytes
+  task_plan h lt = (are.starts h lt).starts.plan
+
+  task_me : (h : ℕ) (lt : h < n) → (run h).ready.task.me.0 ≡ h
+  task_me h lt = ap (λ (q : HostId). q.0) (are.starts h lt).starts.me
+
+  task_count : (h : ℕ) (lt : h < n) → length (run h).ready.task.addresses + 1 ≡ n
+  task_count h lt = ap (λ (l : List (List ℕ)). length l + 1) (are.starts h lt).starts.addresses_are ∙ (are.starts h lt).peers
+
+  -- ---- its code
+
+  code_is : (h : ℕ) → h < n → (stored_program program list plan h).code ≡ text (code_of h j) []
+  code_is h lt = get_or-map-range_with_len (λ k. text (code_of k j) []) 0 n h h [] lt (omega arith)
+
+  is_code : (h : ℕ) → h < n → IsCodeOf (stored_program program list plan h).code (code_of h j)
+  is_code h lt = subst (λ (l : List Instr). IsCodeOf l (code_of h j)) (sym (code_is h lt)) (codes_can_be_loaded program list base.made h).nested
+
+  numbers : (h : ℕ) → Place h → NumbersAreWords (code_of h j)
+  numbers h (inl lt) = numbers_small (stored_program program list plan h).code (code_of h j) _ (stored_programs_stand_in_files program list plan h (are.stored h lt)).file.lines (is_code h lt)
+  numbers h (inr le) = subst NumbersAreWords (sym (ended_past program list base.made base.numbers base.runnable h le)) tt
+
+  hosts : AreHosts s j
+  hosts =
+      let valid = files_are_valid inputs deals are.files in
+      record {
+        well = codes_run_well program list base.made base.numbers base.runnable inputs are.files.words s valid.0 valid.1;
+        deal = valid.0;
+        numbers = λ h. numbers h (cases_lt h n);
+      }
+
+  prints : (h : ℕ) → h < n → (last_of s j h).printed ≡ slice_index_or (source_outputs source inputs) h []
+  prints h lt =
+      let t : Tape = followed_by_zeros s in
+      let valid = files_are_valid inputs deals are.files in
+      let told : RunsAsToldBy program (protos_at program list) inputs t = codes_run_as_told program list base.made base.numbers base.runnable inputs are.files.words t valid.0 valid.1 in
+      sym (get_or-map-range_with_len (λ (k : ℕ). (last_of s j k).printed) 0 n h h [] lt (omega arith)) ∙ ap (λ (outputs : List (List ℕ)). slice_index_or outputs h []) (told.prints ∙ outputs_kept source inputs)
+
+  -- ---- its links
+
+  abbrev link_in : (h : ℕ) → Place h → ℕ → Option Used
+  link_in h (inl lt) p = link_to (are.plays h lt) p
+  link_in h (inr le) p = None
+
+  abbrev links : ℕ → ℕ → Option Used
+  links h = link_in h (cases_lt h n)
+
+  abbrev come : ℕ → ℕ → List ℕ
+  come h p = drop 36 (bytes_that_came (links h p))
+
+  abbrev went : ℕ → ℕ → List ℕ
+  went h p = drop 36 (bytes_that_went (links h p))
+
+  -- what came to one from another is a front of what that one sent, whoever they are
+  none_came : (h : ℕ) (lt : h < n) (p : ℕ) → IsStranger (run h).ready.task p → link_to (are.plays h lt) p ≡ None
+  none_came h lt p strange = no_link_to (run h).ready.machine (run h).ready.task (run h).net (run h).net_now (run h).out (run h).out_now (are.plays h lt) p strange
+
+  front_none : (u : Option Used) (ys : List ℕ) → u ≡ None → IsPrefixOf (bytes_that_came u) ys
+  front_none u ys e = subst (λ (o : Option Used). IsPrefixOf (bytes_that_came o) ys) (sym e) (ys, refl)
+
+  in_front : (a b : ℕ) (pa : Place a) (pb : Place b) → IsPrefixOf (bytes_that_came (link_in b pb a)) (bytes_that_went (link_in a pa b))
+  in_front a b pa (inr le) = (bytes_that_went (link_in a pa b), refl)
+  in_front a b (inr past) (inl lt) = front_none _ _ (none_came b lt a (past_stranger (run b).ready.task n a (task_count b lt) past))
+  in_front a b (inl la) (inl lt) =
+      elim (same_or_not a b) [
+        | inl same ↦ front_none _ _ (none_came b lt a (subst (IsStranger (run b).ready.task) (task_me b lt ∙ sym same) (own_stranger (run b).ready.task)))
+        | inr other ↦ are.linked a b la lt other
+      ]
+
+  linked : (a b : ℕ) → IsPrefixOf (come b a) (went a b)
+  linked a b = drop_front 36 _ _ (in_front a b (cases_lt a n) (cases_lt b n))
+
+  -- ---- each host
+
+  record HostAt (h : ℕ) (place : Place h) : Type 0 where
+    lists : Lists
+    supplied : (q : List_of) (i : ℕ) → s h q i ≡ items_of lists q i
+    made : Made lists (at_start (code_of h j)) (λ p. drop 36 (bytes_that_came (link_in h place p))) (λ p. drop 36 (bytes_that_went (link_in h place p)))
+    greets : (p : ℕ) → (more : List ℕ) × IsPrefixOf (bytes_that_went (link_in h place p)) (greeting plan.bytes h p ++ more)
+    written : h < n → IsTrue (run h).out_now.told → (front : List ℕ) × ((run h).out_now.taken ≡ (run h).out.taken ++ front)
+        × (IsPrefixOf front (listening ++ lines (printed made.events)) ⊎ ((made.state.pending ≡ Finished) × IsPrefixOf front (text_of (printed made.events))))
+    ends_as : h < n → EndsAs lists (at_start (code_of h j)) plan.bytes h (link_in h place) (run h).out (run h).out_now made.events made.state (run h).result
+
+  started : (h : ℕ) (lt : h < n) → state_of (run h).ready.machine ≡ at_start (code_of h j)
+  started h lt = (are.starts h lt).starts.state (code_of h j) (is_code h lt)
+
+  abbrev lists_with : List ℕ → Deal → Lists
+  lists_with words deal = record { inputs = words; deal = deal }
+
+  lists_are : (h : ℕ) (lt : h < n) → (run h).ready.machine.lists ≡ lists_for inputs h (are.starts h lt).deal
+  lists_are h lt =
+      let l = (run h).ready.machine.lists in
+      ap (λ (i : List ℕ). lists_with i l.deal) (are.starts h lt).starts.inputs_are ∙ ap (lists_with (inputs_of inputs h)) (are.starts h lt).starts.deal_is
+
+  declared : (h : ℕ) (lt : h < n) (plan_now : List ℕ) (me : ℕ) (from : State) → plan_now ≡ plan.bytes → me ≡ h → from ≡ at_start (code_of h j)
+      → Course (run h).ready.machine.lists from plan_now me (link_in h (inl lt)) (run h).out (run h).out_now (run h).result → HostAt h (inl lt)
+  declared h lt plan_now me from plans mes froms c0 =
+      let l = (run h).ready.machine.lists in
+      let c1 = subst (λ (q : List ℕ). Course l from q me (link_in h (inl lt)) (run h).out (run h).out_now (run h).result) plans c0 in
+      let c2 = subst (λ (q : ℕ). Course l from plan.bytes q (link_in h (inl lt)) (run h).out (run h).out_now (run h).result) mes c1 in
+      let c = subst (λ (q : State). Course l q plan.bytes h (link_in h (inl lt)) (run h).out (run h).out_now (run h).result) froms c2 in
+      record {
+        lists = l;
+        supplied = λ q i. ap (λ (o : Option Deal). items_for inputs h o q i) (are.starts h lt).dealt ∙ ap (λ (k : Lists). items_of k q i) (sym (lists_are h lt));
+        made = c.made;
+        greets = c.greets;
+        written = λ less. c.written;
+        ends_as = λ less. c.ends_as;
+      }
+
+  host_at : (h : ℕ) (place : Place h) → HostAt h place
+  host_at h (inl lt) =
+      declared h lt (run h).ready.task.plan (run h).ready.task.me.0 (state_of (run h).ready.machine) (task_plan h lt) (task_me h lt) (started h lt)
+      (course (run h).ready.machine (run h).ready.task (run h).net (run h).net_now (run h).out (run h).out_now (ap (λ (l : List ℕ). length l) (task_plan h lt) ∙ long) (are.plays h lt) (are.told h lt))
+  host_at h (inr le) = record {
+    lists = nothing_dealt;
+    supplied = λ q i. ap (λ (o : Option Deal). items_for inputs h o q i) (past_list deals h (let e = are.each in omega (arith, le, e))) ∙ sym (no_items q i);
+    made = record { steps = 0; events = []; state = at_start (code_of h j); reached = AtStart; came = λ p. ([], refl); sent = λ p. ([], refl) };
+    greets = λ p. ([], (greeting plan.bytes h p ++ [], refl));
+    written = λ less. absurd (omega (arith, less, le));
+    ends_as = λ less. absurd (omega (arith, less, le));
+  }
+
+  abbrev at : (h : ℕ) → HostAt h (cases_lt h n)
+  at h = host_at h (cases_lt h n)
+
+  abbrev made_by : (h : ℕ) → Made (at h).lists (at_start (code_of h j)) (come h) (went h)
+  made_by h = (at h).made
+
+  told : AreTold s j (λ h. (made_by h).events) (λ h. (made_by h).state)
+  told = tells s j (λ h. (at h).lists) come went hosts (λ h. (at h).supplied) made_by linked
+
+  -- what came to a host from another begins as that one's greeting
+  came_greets : (h p : ℕ) → (more : List ℕ) × IsPrefixOf (bytes_that_came (links h p)) (greeting plan.bytes p h ++ more)
+  came_greets h p = let g = (at p).greets h in (g.0, front_trans _ _ _ (in_front p h (cases_lt p n) (cases_lt h n)) g.1)
+
+  not_blamed : (h p : ℕ) (f : GreetFault) → Blames f → IsGreetFault (ends plan.bytes h p) (bytes_that_came (links h p)) f → ⊥
+  not_blamed h p f b i = let g = came_greets h p in never_blamed plan.bytes h p (bytes_that_came (links h p)) g.0 f long b g.1 i
+
+  not_bad : (h offset byte : ℕ) → BadBytes (at h).lists (at_start (code_of h j)) plan.bytes h (links h) (run h).out (run h).out_now offset byte (made_by h).events (made_by h).state → ⊥
+  not_bad h offset byte (inl greeting) = not_blamed h greeting.0 (greet_fault.BadFrame offset byte) tt greeting.1
+  not_bad h offset byte (inr packet) =
+      never_bad s j (λ h. (at h).lists) come went hosts (λ h. (at h).supplied) made_by linked h packet.0 offset byte packet.1 packet.2 packet.3 packet.4 packet.5 _ packet.6
+
+  blames : (h : ℕ) (r : Result Ended HostFault) → EndsAs (at h).lists (at_start (code_of h j)) plan.bytes h (links h) (run h).out (run h).out_now (made_by h).events (made_by h).state r → BlamesNobody r
+  blames h (Ok done) e = tt
+  blames h (Err (fault.BadFrame offset byte)) e = not_bad h offset byte e
+  blames h (Err (fault.Unequal left right)) e = told.equal h left right e
+  blames h (Err (fault.WrongProgram ours theirs)) e = not_blamed h e.0 (greet_fault.WrongProgram ours theirs) tt e.1
+  blames h (Err (fault.WrongHost wanted named)) e = not_blamed h e.0 (greet_fault.WrongHost wanted named) tt e.1
+  blames h (Err other) e = tt
+
+  -- ---- what is written
+
+  front_of_text : (h : ℕ) (lt : h < n) (front : List ℕ)
+      → IsPrefixOf front (listening ++ lines (printed (made_by h).events)) ⊎ (((made_by h).state.pending ≡ Finished) × IsPrefixOf front (text_of (printed (made_by h).events)))
+      → IsPrefixOf front (text_of (slice_index_or (source_outputs source inputs) h []))
+  front_of_text h lt front (inl part) =
+      let told_words = slice_index_or (source_outputs source inputs) h [] in
+      let words = subst (IsPrefixOf (printed (made_by h).events)) (prints h lt) (told.prints h) in
+      let texts = flat_front _ (printed (made_by h).events) told_words words in
+      front_trans front _ _ part (front_both listening (lines (printed (made_by h).events)) (lines told_words ++ ended) (front_trans _ (lines told_words) _ texts (ended, refl)))
+  front_of_text h lt front (inr all) = subst (λ (words : List ℕ). IsPrefixOf front (text_of words)) (told.all_printed h all.0 ∙ prints h lt) all.1
+
+  writes : (h : ℕ) (lt : h < n) (r : Result Ended HostFault) → (run h).result ≡ r
+      → EndsAs (at h).lists (at_start (code_of h j)) plan.bytes h (links h) (run h).out (run h).out_now (made_by h).events (made_by h).state r
+      → IsTrue (run h).out_now.told → WritesUpTo (run h).out (run h).out_now (text_of (slice_index_or (source_outputs source inputs) h [])) r
+  writes h lt (Ok done) is e t = e.1 t ∙ ap (λ (words : List ℕ). (run h).out.taken ++ text_of words) (told.all_printed h e.0 ∙ prints h lt)
+  writes h lt (Err cause) is e t = let w = (at h).written lt t in (w.0, front_of_text h lt w.0 w.2, w.1)
+
+  pub each_tells : (h : ℕ) → h < n → WritesWhatItIsTold (slice_index_or (source_outputs source inputs) h []) (run h)
+  each_tells h lt =
+      let e = (at h).ends_as lt in
+      record { written = writes h lt (run h).result refl e; blames = blames h (run h).result e }
+
+pub running_hosts_tell_the_source : RunningHostsTellTheSource
+running_hosts_tell_the_source source list plan inputs deals run are h lt = each_tells source list plan inputs deals run are h (are.stored h lt) h lt
