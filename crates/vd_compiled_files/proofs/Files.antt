@@ -1,8 +1,9 @@
 -- The files of all hosts, one after the other.
-use Rattle.std.proofs.Common.{◌≡◌, ℕ, zero, suc, ◌+◌, ◌<◌, ◌≤◌, List, [], ◌++◌, length, map, slice_index_or, Ok, ap, subst, ◌∙◌, arith}
-use Rattle.std.specs.Prelude.{flat_map}
+use Rattle.std.proofs.Common.{◌≡◌, ℕ, zero, suc, ◌+◌, ◌<◌, ◌≤◌, List, [], ◌++◌, length, map, slice_index_or, Ok, refl, ap, subst, ◌∙◌, arith}
+use Rattle.std.specs.Prelude.{codes, flat_map}
 use Rattle.std.specs.List.{AllByRecursion, range_with_len}
 use Rattle.vd_base.specs.HostSets.{host}
+use Rattle.vd_outside.specs.declared.stored.Stored.{Stored}
 use Rattle.vd_core.specs.declared.normal.NormalForm.{NormalForm}
 use Rattle.vd_space.specs.declared.problem.Problem.{Problem}
 use Rattle.vd_execution.specs.declared.instructions.Instr.{Instr}
@@ -13,11 +14,13 @@ use Rattle.vd_host_text.specs.declared.program.HostProgram.{HostProgram}
 use Rattle.vd_host_text.specs.Text.{name_field, program_text}
 use Rattle.vd_hostcode.specs.Outcome.{IsOutcome}
 use Rattle.vd_host_programs.specs.Programs.{joint_of, host_codes}
+use Rattle.vd_host_programs.proofs.HostCodes.{codes_can_be_loaded}
+use Rattle.vd_plan.specs.Numbered.{file_name}
 use Rattle.vd_read_back.specs.Stored.{IsDigest, CanBeStored}
 use Rattle.vd_read_back.proofs.Digests.{is_digest}
 use Rattle.vd_read_back.proofs.Files.{stored_programs_are_read_back, stored_texts_are_short}
 use Rattle.vd_compiling.specs.Compiling.{host_files, printed_at, plan_for, compiled_at}
-use Rattle.vd_compiled_files.specs.Compiled.{CanBeCompiled, IsReadBack, IsShort, CompiledFilesAreReadBack}
+use Rattle.vd_compiled_files.specs.Compiled.{CanBeCompiled, EachFrom, IsReadBack, IsShort, CompiledFilesAreReadBack}
 
 code_at : (f : ℕ → List Instr) (k n h : ℕ) → h < n → slice_index_or (map f (range_with_len k n)) h [] ≡ f (k + h)
 code_at f k zero h lt = absurd (omega (arith, lt))
@@ -54,9 +57,23 @@ module _ (program : NormalForm) (list : List ℕ) (plan : Digest) (digest : IsDi
   read h lt =
       subst (λ (is : List Instr). IsOutcome (program_text (program_at h is)) (Ok (program_at h is))) (part h lt) (stored_programs_are_read_back program list plan h (stored h lt))
 
-  pub files_read : (n k : ℕ) → k + n ≤ hosts → AllByRecursion IsReadBack (host_files prefix program.hosts plan k (map code (range_with_len k n)))
+  pub files_read : (n k : ℕ) → k + n ≤ hosts → EachFrom (IsReadBack program list plan) k (host_files prefix program.hosts plan k (map code (range_with_len k n)))
   files_read zero k le = tt
-  files_read (suc n) k le = ((program_at k (code k), read k (omega (arith, le))), files_read n (k + 1) (omega (arith, le)))
+  files_read (suc n) k le = (
+    record { code = code k; read = read k (omega (arith, le)); part = (codes_can_be_loaded program list can.made k).nested },
+    files_read n (k + 1) (omega (arith, le)),
+  )
+
+  abbrev IsNamed : ℕ → Stored → Type 0
+  IsNamed h file = file.name ≡ file_name prefix h (codes ".host")
+
+  pub files_named : (n k : ℕ) → EachFrom IsNamed k (host_files prefix program.hosts plan k (map code (range_with_len k n)))
+  files_named zero k = tt
+  files_named (suc n) k = (refl, files_named n (k + 1))
+
+  pub files_counted : (n k : ℕ) → length (host_files prefix program.hosts plan k (map code (range_with_len k n))) ≡ n
+  files_counted zero k = refl
+  files_counted (suc n) k = let i = files_counted n (k + 1) in omega (arith, i)
 
   short : length (flat_map name_field program.hosts) ≤ 65536 → (h : ℕ) → h < hosts → length (program_text (program_at h (code h))) ≤ 67108864
   short names h lt =
@@ -80,3 +97,15 @@ pub short_files : (program : NormalForm) (problem : Problem) (list : List ℕ) (
 short_files program problem list least text prefix can names =
     let printed = printed_at program problem list least in
     files_short program list (plan_for text printed) (is_digest (text ++ printed)) can prefix names (length program.hosts) 0 (all_of_them (length program.hosts))
+
+pub named_files : (program : NormalForm) (problem : Problem) (list : List ℕ) (least : ℕ) (text prefix : List ℕ) → CanBeCompiled program list
+    → EachFrom (λ h file. file.name ≡ file_name prefix h (codes ".host")) 0 (compiled_at program problem list least text prefix).stores
+named_files program problem list least text prefix can =
+    let printed = printed_at program problem list least in
+    files_named program list (plan_for text printed) (is_digest (text ++ printed)) can prefix (length program.hosts) 0
+
+pub counted_files : (program : NormalForm) (problem : Problem) (list : List ℕ) (least : ℕ) (text prefix : List ℕ) → CanBeCompiled program list
+    → length (compiled_at program problem list least text prefix).stores ≡ length program.hosts
+counted_files program problem list least text prefix can =
+    let printed = printed_at program problem list least in
+    files_counted program list (plan_for text printed) (is_digest (text ++ printed)) can prefix (length program.hosts) 0

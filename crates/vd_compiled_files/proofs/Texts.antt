@@ -1,6 +1,6 @@
 -- The files of a program that comes from a text: the names of its hosts take no more bytes than the text.
 use Rattle.std.proofs.Common.{◌≡◌, ℕ, ◌+◌, ◌≤◌, List, [], ◌∷◌, length, Ok, refl, sym, ap, subst, ◌∙◌, arith, length-append}
-use Rattle.std.specs.Prelude.{flat_map}
+use Rattle.std.specs.Prelude.{codes, flat_map}
 use Rattle.std.specs.List.{AllByRecursion, sum_by}
 use Rattle.std.proofs.lemmas.List.Concat.{flat_map-cons}
 use Rattle.std.proofs.lemmas.List.Sums.{sum_by-cons}
@@ -13,13 +13,15 @@ use Rattle.vd_parser.specs.Outcomes.{IsParse}
 use Rattle.vd_meaning.specs.SourceMeaning.{host_names}
 use Rattle.vd_normal.specs.Normal.{normal_form}
 use Rattle.vd_joint.specs.Outcome.{NumbersFit}
+use Rattle.vd_host_text.specs.declared.program.Digest.{Digest}
 use Rattle.vd_host_text.specs.Text.{name_field}
+use Rattle.vd_plan.specs.Numbered.{file_name}
 use Rattle.vd_name_sizes.specs.Sizes.{name_bytes}
 use Rattle.vd_name_sizes.proofs.Names.{host_names_fit}
 use Rattle.vd_read_back.specs.Stored.{CountsFit}
 use Rattle.vd_compiling.proofs.Runnable.{runnable_of}
-use Rattle.vd_compiled_files.specs.Compiled.{CanBeCompiled, IsReadBack, IsShort, CompiledFilesAreShort, CanBeRead, CompiledFilesCanBeRead}
-use Rattle.vd_compiled_files.proofs.Files.{compiled_files_are_read_back, short_files}
+use Rattle.vd_compiled_files.specs.Compiled.{CanBeCompiled, EachFrom, IsFileOf, IsReadBack, IsShort, CompiledFilesAreShort, CompiledFilesCanBeRead, plan_at}
+use Rattle.vd_compiled_files.proofs.Files.{compiled_files_are_read_back, counted_files, named_files, short_files}
 
 -- ---- names
 
@@ -50,12 +52,17 @@ compiled_files_are_short text source problem list least prefix parsed can =
 
 -- ---- both
 
-both : (files : List Stored) → AllByRecursion IsShort files → AllByRecursion IsReadBack files → AllByRecursion CanBeRead files
-both [] a b = tt
-both (f ∷ fs) a b = (record { short = a.0; read = b.0 }, both fs a.1 b.1)
+both : (program : NormalForm) (list : List ℕ) (plan : Digest) (prefix : List ℕ) (h : ℕ) (files : List Stored) → EachFrom (λ h file. file.name ≡ file_name prefix h (codes ".host")) h files
+    → AllByRecursion IsShort files → EachFrom (IsReadBack program list plan) h files → EachFrom (IsFileOf program list plan prefix) h files
+both program list plan prefix h [] names a b = tt
+both program list plan prefix h (f ∷ fs) names a b = (record { name = names.0; short = a.0; read = b.0 }, both program list plan prefix (h + 1) fs names.1 a.1 b.1)
 
 pub compiled_files_can_be_read : (program : NormalForm) → IsWellMade program → NumbersFit program → CountsFit program → CompiledFilesCanBeRead program
 compiled_files_can_be_read program made numbers counts problem list least text prefix is =
     let can : CanBeCompiled program list = record { made = made; numbers = numbers; counts = counts; runnable = runnable_of program list made is.selected } in
     let names = subst (λ (p : NormalForm). length (flat_map name_field p.hosts) ≤ 65536) (sym is.form) (names_short text is.source is.parsed) in
-    both _ (short_files program problem list least text prefix can names) (compiled_files_are_read_back program problem list least text prefix can)
+    record {
+      counted = counted_files program problem list least text prefix can;
+      each = both program list (plan_at program problem list least text) prefix 0 _ (named_files program problem list least text prefix can)
+          (short_files program problem list least text prefix can names) (compiled_files_are_read_back program problem list least text prefix can);
+    }

@@ -1,6 +1,7 @@
 -- The files that `compile` stores.
-use Rattle.std.specs.Prelude.{◌≡◌, ℕ, ◌≤◌, List, length, Ok}
+use Rattle.std.specs.Prelude.{◌≡◌, ℕ, ◌+◌, ◌≤◌, List, [], ◌∷◌, length, codes, Ok}
 use Rattle.std.specs.List.{AllByRecursion}
+use Rattle.vd_base.specs.HostSets.{host}
 use Rattle.vd_base.specs.Limits.{most_host_file_bytes}
 use Rattle.vd_outside.specs.declared.stored.Stored.{Stored}
 use Rattle.vd_core.specs.declared.normal.NormalForm.{NormalForm}
@@ -9,13 +10,17 @@ use Rattle.vd_core.specs.Facts.{IsWellMade}
 use Rattle.vd_parser.specs.Outcomes.{IsParse}
 use Rattle.vd_normal.specs.Normal.{normal_form}
 use Rattle.vd_space.specs.declared.problem.Problem.{Problem}
+use Rattle.vd_execution.specs.declared.instructions.Instr.{Instr}
+use Rattle.vd_execution.specs.Joint.{code_of}
+use Rattle.vd_execution.specs.Text.{IsCodeOf}
 use Rattle.vd_joint.specs.Outcome.{NumbersFit}
-use Rattle.vd_host_text.specs.declared.program.HostProgram.{HostProgram}
+use Rattle.vd_host_text.specs.declared.program.Digest.{Digest}
+use Rattle.vd_plan.specs.Numbered.{file_name}
 use Rattle.vd_hostcode.specs.Outcome.{IsOutcome}
-use Rattle.vd_host_programs.specs.Programs.{IsRunnable}
+use Rattle.vd_host_programs.specs.Programs.{IsRunnable, joint_of}
 use Rattle.vd_read_back.specs.Stored.{CountsFit}
 use Rattle.vd_compiling.specs.Selected.{IsSelected}
-use Rattle.vd_compiling.specs.Compiling.{compiled_at}
+use Rattle.vd_compiling.specs.Compiling.{compiled_at, plan_for, printed_at}
 
 -- a well-made program whose numbers are words, and a list of protocols at which it can run
 pub record CanBeCompiled (program : NormalForm) (list : List ℕ) : Type 0 where
@@ -24,14 +29,27 @@ pub record CanBeCompiled (program : NormalForm) (list : List ℕ) : Type 0 where
   pub counts : CountsFit program
   pub runnable : IsRunnable program list
 
--- reading the file gives a program, within all ranges
-abbrev pub IsReadBack : Stored → Type 0
-IsReadBack file = (program : HostProgram) × IsOutcome file.content (Ok program)
+-- Reading the file gives the program of the host with this number: with the names of all hosts, this number and this plan; and its code
+-- is that host's part of the joint code of the program at this list.
+pub record IsReadBack (program : NormalForm) (list : List ℕ) (plan : Digest) (h : ℕ) (file : Stored) : Type 0 where
+  pub code : List Instr
+  pub read : IsOutcome file.content (Ok (record { hosts = program.hosts; me = host h; plan = plan; code = code }))
+  pub part : IsCodeOf code (code_of h (joint_of program list))
 
--- so it is with each file that is stored of a program, whatever the rest of the choice, the source's bytes and the prefix are
+-- so it is of the files of the hosts that are numbered from here on
+abbrev pub EachFrom : (ℕ → Stored → Type 0) → ℕ → List Stored → Type 0
+EachFrom Holds h [] = Unit {0}
+EachFrom Holds h (file ∷ files) = Holds h file × EachFrom Holds (h + 1) files
+
+-- the programs of one source and one choice know each other by this plan
+abbrev pub plan_at : NormalForm → Problem → List ℕ → (least : ℕ) → (text : List ℕ) → Digest
+plan_at program problem list least text = plan_for text (printed_at program problem list least)
+
+-- Each file that is stored of a program is read as the program of its host, whatever the rest of the choice, the source's bytes and the
+-- prefix are.
 abbrev pub CompiledFilesAreReadBack : Type 0
 CompiledFilesAreReadBack = (program : NormalForm) (problem : Problem) (list : List ℕ) (least : ℕ) (text prefix : List ℕ) → CanBeCompiled program list
-    → AllByRecursion IsReadBack (compiled_at program problem list least text prefix).stores
+    → EachFrom (IsReadBack program list (plan_at program problem list least text)) 0 (compiled_at program problem list least text prefix).stores
 
 -- and each is short enough to be read, where the program is the let-normal form of the source that the text spells
 abbrev pub IsShort : Stored → Type 0
@@ -49,11 +67,17 @@ pub record IsCompiled (text : List ℕ) (program : NormalForm) (list : List ℕ)
   pub form : program ≡ normal_form source
   pub selected : IsSelected program list
 
--- not longer than a file that is read, and one of which reading gives a program within all ranges
-pub record CanBeRead (file : Stored) : Type 0 where
+-- The file has the name of the host's, is not longer than one that is read may be, and is read as the host's program.
+pub record IsFileOf (program : NormalForm) (list : List ℕ) (plan : Digest) (prefix : List ℕ) (h : ℕ) (file : Stored) : Type 0 where
+  pub name : file.name ≡ file_name prefix h (codes ".host")
   pub short : IsShort file
-  pub read : IsReadBack file
+  pub read : IsReadBack program list plan h file
+
+-- a file for each host, in order
+pub record AreFilesOf (program : NormalForm) (list : List ℕ) (plan : Digest) (prefix : List ℕ) (files : List Stored) : Type 0 where
+  pub counted : length files ≡ length program.hosts
+  pub each : EachFrom (IsFileOf program list plan prefix) 0 files
 
 abbrev pub CompiledFilesCanBeRead : NormalForm → Type 0
 CompiledFilesCanBeRead program = (problem : Problem) (list : List ℕ) (least : ℕ) (text prefix : List ℕ) → IsCompiled text program list
-    → AllByRecursion CanBeRead (compiled_at program problem list least text prefix).stores
+    → AreFilesOf program list (plan_at program problem list least text) prefix (compiled_at program problem list least text prefix).stores
