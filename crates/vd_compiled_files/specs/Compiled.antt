@@ -48,8 +48,10 @@ plan_at program problem list least text = plan_for text (printed_at program prob
 -- Each file that is stored of a program is read as the program of its host, whatever the rest of the choice, the source's bytes and the
 -- prefix are.
 abbrev pub CompiledFilesAreReadBack : Type 0
-CompiledFilesAreReadBack = (program : NormalForm) (problem : Problem) (list : List ℕ) (least : ℕ) (text prefix : List ℕ) → CanBeCompiled program list
-    → EachFrom (IsReadBack program list (plan_at program problem list least text)) 0 (compiled_at program problem list least text prefix).stores
+CompiledFilesAreReadBack = (program : NormalForm) (problem : Problem) (list : List ℕ) (least : ℕ) (text prefix : List ℕ)
+    → CanBeCompiled program list
+    → EachFrom (IsReadBack program list (plan_at program problem list least text)) 0
+    (compiled_at program problem list least text prefix).stores
 
 -- and each is short enough to be read, where the program is the let-normal form of the source that the text spells
 abbrev pub IsShort : Stored → Type 0

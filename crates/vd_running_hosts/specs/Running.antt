@@ -37,7 +37,8 @@ IsPlayed run = Plays run.ready.machine run.ready.task run.net run.net_now run.ou
 
 -- it starts as the host with this number: from the program that `compile` stores for it, its inputs and its deal, with an address for
 -- each other host
-pub record StartsAs (program : NormalForm) (list : List ℕ) (plan : Digest) (inputs : List (List ℕ)) (deals : List Deal) (h : ℕ) (run : Run) : Type 0 where
+pub record StartsAs (program : NormalForm) (list : List ℕ) (plan : Digest) (inputs : List (List ℕ)) (deals : List Deal) (h : ℕ)
+    (run : Run) : Type 0 where
   pub addresses : List (List ℕ)
   pub deal : Deal
   pub dealt : slice_get deals h ≡ Some deal
@@ -45,8 +46,9 @@ pub record StartsAs (program : NormalForm) (list : List ℕ) (plan : Digest) (in
   pub starts : Starts (stored_program program list plan h) (inputs_of inputs h) deal addresses run.ready
 
 -- All hosts of a program at a valid list of protocols are run, each from its own files, on inputs and a consistent deal. All links tell
--- their bytes, and what came to one host on its link to another is a front of what that one sent there. Nothing is said of when.
-pub record AreRunOverLinks (program : NormalForm) (list : List ℕ) (plan : Digest) (inputs : List (List ℕ)) (deals : List Deal) (run : ℕ → Run) : Type 0 where
+-- their bytes, and what came to one host on its link to another is a prefix of what that one sent there. Nothing is said of when.
+pub record AreRunOverLinks (program : NormalForm) (list : List ℕ) (plan : Digest) (inputs : List (List ℕ)) (deals : List Deal)
+    (run : ℕ → Run) : Type 0 where
   pub stored : (h : ℕ) → h < length program.hosts → CanBeStored program list plan h
   pub files : AreFiles inputs deals
   pub each : length deals ≡ length program.hosts
@@ -60,7 +62,7 @@ pub record AreRunOverLinks (program : NormalForm) (list : List ℕ) (plan : Dige
 abbrev pub text_of : List ℕ → List ℕ
 text_of words = listening ++ (lines words ++ ended)
 
--- with Ok the output took all of this text, and else some front of it
+-- with Ok the output took all of this text, and else some prefix of it
 abbrev pub WritesUpTo : SinkView → SinkView → List ℕ → Result Ended HostFault → Type 0
 WritesUpTo before now text (Ok done) = now.taken ≡ before.taken ++ text
 WritesUpTo before now text (Err cause) = (front : List ℕ) × IsPrefixOf front text × (now.taken ≡ before.taken ++ front)
@@ -73,7 +75,7 @@ BlamesNobody (Err (fault.WrongProgram ours theirs)) = ⊥
 BlamesNobody (Err (fault.WrongHost wanted named)) = ⊥
 BlamesNobody other = Unit {0}
 
--- A host that is told these words writes `listening`, the decimal lines of a front of them and no others; where it ends, the lines of
+-- A host that is told these words writes `listening`, the decimal lines of a prefix of them and no others; where it ends, the lines of
 -- all, and `ended`, whatever becomes of the others.
 pub record WritesWhatItIsTold (words : List ℕ) (run : Run) : Type 0 where
   pub written : IsTrue run.out_now.told → WritesUpTo run.out run.out_now (text_of words) run.result

@@ -4,7 +4,7 @@
 ghost use Rattle.vd_running_hosts.specs.Running.{RunningHostsTellTheSource};
 
 /// All hosts of a source, each run by itself from the program that `compile` stores for it, over links on which what comes is a
-/// front of what was sent there, write what the source tells them: `listening`, a front of the decimal lines of these words, and
+/// prefix of what was sent there, write what the source tells them: `listening`, a prefix of the decimal lines of these words, and
 /// where a host ends all of them, and `ended`. None tells the status of a wrong byte, of words that differ, of another program or
 /// of another host. Nothing is asked of times, or of the order in which anything happens.
 pub fn running_hosts_tell_the_source()
