@@ -76,7 +76,7 @@ BlamesNobody (Err (fault.WrongHost wanted named)) = ⊥
 BlamesNobody other = Unit {0}
 
 -- A host that is told these words writes `listening`, the decimal lines of a prefix of them and no others; where it ends, the lines of
--- all, and `ended`, whatever becomes of the others.
+-- all, and `ended`, however the others end.
 pub record WritesWhatItIsTold (words : List ℕ) (run : Run) : Type 0 where
   pub written : IsTrue run.out_now.told → WritesUpTo run.out run.out_now (text_of words) run.result
   pub blames : BlamesNobody run.result
