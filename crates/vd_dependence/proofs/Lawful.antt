@@ -31,23 +31,24 @@ use Rattle.vd_constraints.specs.Rules.{flows as flow_rules, label, no_authority,
 use Rattle.vd_dependence.specs.Flowing.{Knowledge, only_with, right_flows, right_hides, Flow, all_flow, all_hide, flow_step, flow}
 use Rattle.vd_dependence.specs.Reading.{acts, reads_slot, reads_host, Makes, all_visible, all_hidden, makes_step, makes}
 use Rattle.vd_dependence.proofs.Formulas.{acts_through, for_acts}
+use Rattle.vd_dependence.proofs.Whole.{hearing}
 
 -- ---- parts of lists
 module _ {X : Type 0} (P : X → Type 0) where
-  all_front : (xs ys : List X) → All P (xs ++ ys) → All P xs
+  pub all_front : (xs ys : List X) → All P (xs ++ ys) → All P xs
   all_front [] ys all = All-nil P
   all_front (x ∷ xs) ys all = All-cons P x xs (All-head P x (xs ++ ys) all) (all_front xs ys (All-tail P x (xs ++ ys) all))
 
-  all_back : (xs ys : List X) → All P (xs ++ ys) → All P ys
+  pub all_back : (xs ys : List X) → All P (xs ++ ys) → All P ys
   all_back [] ys all = all
   all_back (x ∷ xs) ys all = all_back xs ys (All-tail P x (xs ++ ys) all)
 
   -- one by one
-  abbrev Each : List X → Type 0
+  abbrev pub Each : List X → Type 0
   Each [] = Unit {0}
   Each (x ∷ xs) = P x × Each xs
 
-  each : (xs : List X) → All P xs → Each xs
+  pub each : (xs : List X) → All P xs → Each xs
   each [] all = tt
   each (x ∷ xs) all = (All-head P x xs all, each xs (All-tail P x xs all))
 
@@ -82,7 +83,7 @@ unfolding formula_of any_of
 names_over p None = refl
 names_over p (Some written) = refl
 
-module _ (p : NormalForm) (l : Labels) (h : HostId) (V : ℕ → Bool) where
+module _ (p : NormalForm) (l : Labels) (h : HostId) (test : ℕ → ℕ → Bool) (V : ℕ → Bool) where
   abbrev pub names : ℕ
   names = length p.principals
 
@@ -93,7 +94,12 @@ module _ (p : NormalForm) (l : Labels) (h : HostId) (V : ℕ → Bool) where
   reads_at at = acts (host_label p h).conf (label_at l at).conf
 
   abbrev pub knowledge : Knowledge
-  knowledge = record { kept = λ x. reads x && V x; told = reads; known = reads_host p h; host = h.0 }
+  knowledge = hearing (λ x. reads x && V x) test (reads_host p h) h.0
+
+  -- what becomes readable is given, and only what is read
+  pub record Tells : Type 0 where
+    pub all : (x y : ℕ) → reads x ≡ true → reads y ≡ false → test x y ≡ true
+    pub read : (x y : ℕ) → test x y ≡ true → reads x ≡ true
 
   -- what is left of a system is met
   pub record Meets (c : Constraints) : Type 0 where
@@ -112,7 +118,7 @@ module _ (p : NormalForm) (l : Labels) (h : HostId) (V : ℕ → Bool) where
   drop_label (Some written) x offset c m = (drop_rules (written_rules written x) c (drop_checks (written_checks written x offset) (with_rules (written_rules written x) c) m).0).0
 
   -- ---- what the host reads
-  module _ (slots : ℕ) (slots_over : (x : SlotId) → x.0 < slots → (label_at l (Slot x)).conf.names ≡ names) (blocks_over : (b : ℕ) → b < length l.blocks → (label_at l (Block b)).conf.names ≡ names) where
+  module _ (slots : ℕ) (slots_over : (x : SlotId) → x.0 < slots → (label_at l (Slot x)).conf.names ≡ names) (blocks_over : (b : ℕ) → b < length l.blocks → (label_at l (Block b)).conf.names ≡ names) (tells : Tells) where
     through : (f g : TruthTable) → f.names ≡ names → acts (host_label p h).conf f ≡ true → ActsFor f g → acts (host_label p h).conf g ≡ true
     through f g over first second = acts_through (host_label p h).conf f g (names_over p _ ∙ sym over) first second
 
@@ -165,6 +171,14 @@ module _ (p : NormalForm) (l : Labels) (h : HostId) (V : ℕ → Bool) where
         then_only (reads x.0 && V x.0) ((reads y.0 && V y.0) && (reads z.0 && V z.0))
         (λ is. and_of (reads y.0 && V y.0) (reads z.0 && V z.0) (kept_from x y low one seen_y is) (kept_from x z low two seen_z is))
 
+    -- a declassified word is given, or its operand is read and so kept
+    given_or_kept : (a v b w u : Bool) → (a ≡ true → b ≡ false → u ≡ true) → w ≡ true → only_with (a && v) (u || (b && w)) ≡ true
+    given_or_kept true true b w true h seen = refl
+    given_or_kept true true true w false h seen = seen
+    given_or_kept true true false w u h seen = rw (h refl refl) refl
+    given_or_kept true false b w u h seen = refl
+    given_or_kept false v b w u h seen = refl
+
     right_is_lawful : (pc : Place) (x : SlotId) (r : Right) → is_below slots x ≡ true → Rules (right_rules p pc x r) → (sight : Sight) → Shown sight → right_sees r sight ≡ true → right_flows knowledge x r ≡ true
     right_is_lawful pc x (Lit n) low rules sight shown sees = refl
     right_is_lawful pc x Turn low rules sight shown sees = refl
@@ -174,8 +188,10 @@ module _ (p : NormalForm) (l : Labels) (h : HostId) (V : ℕ → Bool) where
     right_is_lawful pc x (Input host) low rules sight shown sees =
         then_only (reads x.0 && V x.0) (reads_host p h host.0)
         (λ is. through (label_at l (Slot x)).conf (host_label p host).conf (slots_over x (ltb-true x.0 slots low)) (and_parts (reads x.0) (V x.0) is).0 rules.0)
-    right_is_lawful pc x (Declassify y to) low rules sight shown sees = then_only (reads x.0 && V x.0) (reads x.0) (λ is. (and_parts (reads x.0) (V x.0) is).0)
-    right_is_lawful pc x (Endorse y to) low rules sight shown sees = one_kept x y low rules.0 (binding_shown sight y shown sees)
+    right_is_lawful pc x (Declassify y to) low rules sight shown sees =
+        and_of (only_with (reads x.0 && V x.0) (test x.0 y.0 || (reads y.0 && V y.0))) true (given_or_kept (reads x.0) (V x.0) (reads y.0) (V y.0) (test x.0 y.0) (tells.all x.0 y.0) (binding_shown sight y shown sees)) refl
+    right_is_lawful pc x (Endorse y to) low rules sight shown sees =
+        and_of (only_with (reads x.0 && V x.0) (reads y.0 && V y.0)) true (one_kept x y low rules.0 (binding_shown sight y shown sees)) refl
     right_is_lawful pc x (Load v) low rules sight shown sees = one_kept x v low rules.0 (member V v.0 sight.variables shown.variables sees)
     right_is_lawful pc x (Get v i) low rules sight shown sees =
         let parts = and_parts (is_array sight v) (is_binding sight i) sees in
@@ -194,7 +210,8 @@ module _ (p : NormalForm) (l : Labels) (h : HostId) (V : ℕ → Bool) where
     right_is_hidden pc x (Copy y) low rules checks closed = refl
     right_is_hidden pc x (Apply op ys) low rules checks closed = refl
     right_is_hidden pc x (Input host) low rules checks closed = not_if (reads_host p h host.0) (unread_host host pc checks.1.0 closed)
-    right_is_hidden pc x (Declassify y to) low rules checks closed = not_if (reads x.0) (unread x pc low rules.1.1.1.0 closed)
+    right_is_hidden pc x (Declassify y to) low rules checks closed =
+        and_of (not (test x.0 y.0)) true (not_if (test x.0 y.0) (λ is. unread x pc low rules.1.1.1.0 closed (tells.read x.0 y.0 is))) refl
     right_is_hidden pc x (Endorse y to) low rules checks closed = refl
     right_is_hidden pc x (Load v) low rules checks closed = refl
     right_is_hidden pc x (Get v i) low rules checks closed = refl

@@ -11,11 +11,19 @@ use Rattle.vd_core.specs.declared.normal.Stmt.TheFolds.{fold-roll-Stmt}
 use Rattle.vd_dependence.specs.Flowing.{Knowledge, only_with, right_flows, right_hides, Flow, all_flow, all_hide, flow_step, flow}
 use Rattle.vd_dependence.specs.Dependence.{Reach, right_closes, Closing, all_close, stmt_closes, closes}
 use Rattle.vd_dependence.proofs.Statements.{only}
+use Rattle.vd_dependence.proofs.Whole.{hearing}
 use Rattle.vd_dependence.proofs.Lawful.{then_only, and_of}
 
-module _ (k : Knowledge) (reads : ℕ → Bool) (r : Reach) (kept_read : (x : ℕ) → k.kept x ≡ true → reads x ≡ true) where
+module _ (kept : ℕ → Bool) (test : ℕ → ℕ → Bool) (known : ℕ → Bool) (listener : ℕ) (r : Reach) where
   abbrev pub narrowed : Knowledge
-  narrowed = record { kept = λ x. k.kept x && r.slots x; told = k.told; known = λ host. k.known host && r.hosts host; host = k.host }
+  narrowed = hearing (λ x. kept x && r.slots x) test (λ host. known host && r.hosts host) listener
+
+module _ (kept : ℕ → Bool) (test : ℕ → ℕ → Bool) (known : ℕ → Bool) (listener : ℕ) (r : Reach) (reads : ℕ → Bool) (kept_read : (x : ℕ) → kept x ≡ true → reads x ≡ true) (goes_on : (x y : ℕ) → kept x ≡ true → (test x y || r.slots y) ≡ true) where
+  abbrev k : Knowledge
+  k = hearing kept test known listener
+
+  abbrev K : Knowledge
+  K = narrowed kept test known listener r
 
   -- both halves of what is asked, by both halves of what is given
   both_halves : (a b c d : Bool) → only_with a b ≡ true → (c ≡ true → d ≡ true) → only_with (a && c) (b && d) ≡ true
@@ -43,7 +51,11 @@ module _ (k : Knowledge) (reads : ℕ → Bool) (r : Reach) (kept_read : (x : �
       let b = and_parts (r.slots y) (r.slots z) (second parts.1) in
       and_of (k.kept y && r.slots y) (k.kept z && r.slots z) (and_of (k.kept y) (r.slots y) a.0 b.0) (and_of (k.kept z) (r.slots z) a.1 b.1))
 
-  right_narrows : (around told : Bool) (x : SlotId) (s : Right) → right_closes reads r around told x s ≡ true → right_flows k x s ≡ true → right_flows narrowed x s ≡ true
+  either_both : (a b c : Bool) → (a || b) ≡ true → (a || c) ≡ true → (a || (b && c)) ≡ true
+  either_both true b c first second = refl
+  either_both false b c first second = and_of b c first second
+
+  right_narrows : (around told : Bool) (x : SlotId) (s : Right) → right_closes reads r around told x s ≡ true → right_flows k x s ≡ true → right_flows K x s ≡ true
   right_narrows around told x (Lit n) c f = refl
   right_narrows around told x Turn c f = refl
   right_narrows around told x (Copy y) c f =
@@ -60,10 +72,16 @@ module _ (k : Knowledge) (reads : ℕ → Bool) (r : Reach) (kept_read : (x : �
       let parts = and_parts (only_with (r.slots x.0) (r.hosts host.0)) (only_with (r.hosts host.0 || r.slots x.0) around) c in
       both_halves (k.kept x.0) (k.known host.0) (r.slots x.0) (r.hosts host.0) f (only (r.slots x.0) (r.hosts host.0) parts.0)
   right_narrows around told x (Declassify y to) c f =
-      then_only (k.kept x.0 && r.slots x.0) (k.told x.0) (λ is. only (k.kept x.0) (k.told x.0) f (and_parts (k.kept x.0) (r.slots x.0) is).0)
+      and_of (only_with (k.kept x.0 && r.slots x.0) (test x.0 y.0 || (k.kept y.0 && r.slots y.0))) true
+      (then_only (k.kept x.0 && r.slots x.0) (test x.0 y.0 || (k.kept y.0 && r.slots y.0))
+      (λ is.
+      let here = (and_parts (k.kept x.0) (r.slots x.0) is).0 in
+      either_both (test x.0 y.0) (k.kept y.0) (r.slots y.0) (only (k.kept x.0) (test x.0 y.0 || k.kept y.0) (and_parts (only_with (k.kept x.0) (test x.0 y.0 || k.kept y.0)) true f).0 here) (goes_on x.0 y.0 here)))
+      refl
   right_narrows around told x (Endorse y to) c f =
       let parts = and_parts (only_with (r.slots x.0) (around && r.slots y.0)) (only_with (told && reads x.0) (r.slots y.0)) c in
-      one x.0 y.0 f (after_guards (r.slots x.0) around (r.slots y.0) parts.0)
+      and_of (only_with (k.kept x.0 && r.slots x.0) (k.kept y.0 && r.slots y.0)) true
+      (one x.0 y.0 (and_parts (only_with (k.kept x.0) (k.kept y.0)) true f).0 (after_guards (r.slots x.0) around (r.slots y.0) parts.0)) refl
   right_narrows around told x (Load v) c f =
       let parts = and_parts (only_with (r.slots x.0) (around && r.slots v.0)) (only_with (told && reads x.0) (r.slots x.0)) c in
       one x.0 v.0 f (after_guards (r.slots x.0) around (r.slots v.0) parts.0)
@@ -75,7 +93,7 @@ module _ (k : Knowledge) (reads : ℕ → Bool) (r : Reach) (kept_read : (x : �
   not_both true b h = absurd (true≢false (sym h))
   not_both false b h = refl
 
-  right_stays_hidden : (x : SlotId) (s : Right) → right_hides k x s ≡ true → right_hides narrowed x s ≡ true
+  right_stays_hidden : (x : SlotId) (s : Right) → right_hides k x s ≡ true → right_hides K x s ≡ true
   right_stays_hidden x (Lit n) h = refl
   right_stays_hidden x Turn h = refl
   right_stays_hidden x (Copy y) h = refl
@@ -106,7 +124,7 @@ module _ (k : Knowledge) (reads : ℕ → Bool) (r : Reach) (kept_read : (x : �
   }
 
   abbrev M : Type 0
-  M = (s : Stmt) × Narrows (flow k s) (flow narrowed s) (closes reads k.host r s)
+  M = (s : Stmt) × Narrows (flow k s) (flow K s) (closes reads listener r s)
 
   abbrev statements : List M → List Stmt
   statements = map {B = Stmt} (λ (m : M). m.0)
@@ -115,10 +133,10 @@ module _ (k : Knowledge) (reads : ℕ → Bool) (r : Reach) (kept_read : (x : �
   layer = map-Stmt M Stmt (λ m. m.0)
 
   abbrev BlockNarrows : List Stmt → Type 0
-  BlockNarrows body = Narrows (block (map (flow k) body)) (block (map (flow narrowed) body)) (all_close (map (closes reads k.host r) body))
+  BlockNarrows body = Narrows (block (map (flow k) body)) (block (map (flow K) body)) (all_close (map (closes reads listener r) body))
 
-  stmt_more : (s : Stmt) (body : List Stmt) → Narrows (flow k s) (flow narrowed s) (closes reads k.host r s) → BlockNarrows body → BlockNarrows (s ∷ body)
-  stmt_more s body = more_narrow (flow k s) (flow narrowed s) (map (flow k) body) (map (flow narrowed) body) (closes reads k.host r s) (map (closes reads k.host r) body)
+  stmt_more : (s : Stmt) (body : List Stmt) → Narrows (flow k s) (flow K s) (closes reads listener r s) → BlockNarrows body → BlockNarrows (s ∷ body)
+  stmt_more s body = more_narrow (flow k s) (flow K s) (map (flow k) body) (map (flow K) body) (closes reads listener r s) (map (closes reads listener r) body)
 
   none_narrow : BlockNarrows []
   none_narrow = record { flows = λ guards read closed h. refl; hides = λ h. refl }
@@ -134,7 +152,7 @@ module _ (k : Knowledge) (reads : ℕ → Bool) (r : Reach) (kept_read : (x : �
       one v.0 y.0 h (after_guards (r.slots v.0) (list_all (λ g. r.slots g.0) guards) (r.slots y.0) parts.0)
 
   if_narrows : (g : SlotId) (offset : ℕ) (fs fs' gs gs' : List Flow) (cs ds : List Closing) → Narrows (block fs) (block fs') (all_close cs) → Narrows (block gs) (block gs') (all_close ds)
-      → Narrows (flow_step k (Stmt-F.If g fs gs offset)) (flow_step narrowed (Stmt-F.If g fs' gs' offset)) (stmt_closes reads k.host r (Stmt-F.If g cs ds offset))
+      → Narrows (flow_step k (Stmt-F.If g fs gs offset)) (flow_step K (Stmt-F.If g fs' gs' offset)) (stmt_closes reads listener r (Stmt-F.If g cs ds offset))
   if_narrows g offset fs fs' gs gs' cs ds first second = record {
     flows = λ guards read closed h.
         let parts = and_parts (only_with (guards_read guards && reads g.0) (r.slots g.0)) (all_close cs (g ∷ guards) && all_close ds (g ∷ guards)) closed in
@@ -159,12 +177,12 @@ module _ (k : Knowledge) (reads : ℕ → Bool) (r : Reach) (kept_read : (x : �
       by true is reached flowing h = rw (reached is) (flowing is h)
       by false is reached flowing h = hidden h
 
-  step : (y : Stmt-F M) → Narrows (flow_step k (map-Stmt Stmt Flow (flow k) (layer y))) (flow_step narrowed (map-Stmt Stmt Flow (flow narrowed) (layer y))) (stmt_closes reads k.host r (map-Stmt Stmt Closing (closes reads k.host r) (layer y)))
+  step : (y : Stmt-F M) → Narrows (flow_step k (map-Stmt Stmt Flow (flow k) (layer y))) (flow_step K (map-Stmt Stmt Flow (flow K) (layer y))) (stmt_closes reads listener r (map-Stmt Stmt Closing (closes reads listener r) (layer y)))
   step (Stmt-F.Let x s) = record {
     flows = λ guards read closed h. right_narrows (list_all (λ g. r.slots g.0) guards) (guards_read guards) x s closed h;
     hides = λ h.
         let parts = and_parts (not (k.kept x.0)) (right_hides k x s) h in
-        and_of (not (k.kept x.0 && r.slots x.0)) (right_hides narrowed x s) (not_both (k.kept x.0) (r.slots x.0) parts.0) (right_stays_hidden x s parts.1);
+        and_of (not (k.kept x.0 && r.slots x.0)) (right_hides K x s) (not_both (k.kept x.0) (r.slots x.0) parts.0) (right_stays_hidden x s parts.1);
   }
   step (Stmt-F.NewVar v y) = record { flows = λ guards read closed h. store_narrows v y guards closed h; hides = not_both (k.kept v.0) (r.slots v.0) }
   step (Stmt-F.NewArray v size) = record { flows = λ guards read closed h. refl; hides = not_both (k.kept v.0) (r.slots v.0) }
@@ -178,28 +196,28 @@ module _ (k : Knowledge) (reads : ℕ → Bool) (r : Reach) (kept_read : (x : �
   }
   step (Stmt-F.Output y host offset) = record {
     flows = λ guards read closed h.
-        then_only (nat_eq host.0 k.host) (k.kept y.0 && r.slots y.0)
-        (λ is. and_of (k.kept y.0) (r.slots y.0) (only (nat_eq host.0 k.host) (k.kept y.0) h is) (only (guards_read guards && nat_eq host.0 k.host) (r.slots y.0) closed (and_of (guards_read guards) (nat_eq host.0 k.host) read is)));
+        then_only (nat_eq host.0 listener) (k.kept y.0 && r.slots y.0)
+        (λ is. and_of (k.kept y.0) (r.slots y.0) (only (nat_eq host.0 listener) (k.kept y.0) h is) (only (guards_read guards && nat_eq host.0 listener) (r.slots y.0) closed (and_of (guards_read guards) (nat_eq host.0 listener) read is)));
     hides = λ h. h;
   }
   step (Stmt-F.If g a b offset) =
-      if_narrows g offset (map (flow k) (statements a)) (map (flow narrowed) (statements a)) (map (flow k) (statements b)) (map (flow narrowed) (statements b)) (map (closes reads k.host r) (statements a)) (map (closes reads k.host r) (statements b)) (all_narrow a) (all_narrow b)
+      if_narrows g offset (map (flow k) (statements a)) (map (flow K) (statements a)) (map (flow k) (statements b)) (map (flow K) (statements b)) (map (closes reads listener r) (statements a)) (map (closes reads listener r) (statements b)) (all_narrow a) (all_narrow b)
   step (Stmt-F.For count body) = let all = all_narrow body in record { flows = all.flows; hides = all.hides }
 
-  stmt_narrows : (s : Stmt) → Narrows (flow k s) (flow narrowed s) (closes reads k.host r s)
-  stmt_narrows = ind-Stmt (λ s. Narrows (flow k s) (flow narrowed s) (closes reads k.host r s)) (λ x y is. subst (λ z. Narrows (flow k (roll-Stmt z)) (flow narrowed (roll-Stmt z)) (closes reads k.host r (roll-Stmt z))) is (at_roll y))
+  stmt_narrows : (s : Stmt) → Narrows (flow k s) (flow K s) (closes reads listener r s)
+  stmt_narrows = ind-Stmt (λ s. Narrows (flow k s) (flow K s) (closes reads listener r s)) (λ x y is. subst (λ z. Narrows (flow k (roll-Stmt z)) (flow K (roll-Stmt z)) (closes reads listener r (roll-Stmt z))) is (at_roll y))
     where
-      at_roll : (y : Stmt-F M) → Narrows (flow k (roll-Stmt (layer y))) (flow narrowed (roll-Stmt (layer y))) (closes reads k.host r (roll-Stmt (layer y)))
+      at_roll : (y : Stmt-F M) → Narrows (flow k (roll-Stmt (layer y))) (flow K (roll-Stmt (layer y))) (closes reads listener r (roll-Stmt (layer y)))
       at_roll y =
           rw (
             fold-roll-Stmt Flow (flow_step k) (layer y),
-            fold-roll-Stmt Flow (flow_step narrowed) (layer y),
-            fold-roll-Stmt Closing (stmt_closes reads k.host r) (layer y),
+            fold-roll-Stmt Flow (flow_step K) (layer y),
+            fold-roll-Stmt Closing (stmt_closes reads listener r) (layer y),
           ) (step y)
 
   body_narrows : (body : List Stmt) → BlockNarrows body
   body_narrows [] = none_narrow
   body_narrows (s ∷ body) = stmt_more s body (stmt_narrows s) (body_narrows body)
 
-  pub narrowed_flows : (body : List Stmt) → all_close (map (closes reads k.host r) body) [] ≡ true → all_flow (map (flow k) body) ≡ true → all_flow (map (flow narrowed) body) ≡ true
+  pub narrowed_flows : (body : List Stmt) → all_close (map (closes reads listener r) body) [] ≡ true → all_flow (map (flow k) body) ≡ true → all_flow (map (flow K) body) ≡ true
   narrowed_flows body closed h = (body_narrows body).flows [] refl closed h

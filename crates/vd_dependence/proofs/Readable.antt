@@ -14,11 +14,12 @@ use Rattle.vd_dependence.specs.Flowing.{Knowledge, only_with, right_flows, right
 use Rattle.vd_dependence.specs.Reading.{Makes, all_visible, all_hidden, makes_step, makes}
 use Rattle.vd_dependence.specs.Dependence.{Reach, right_closes, Closing, all_close, stmt_closes, closes}
 use Rattle.vd_dependence.proofs.Statements.{only}
+use Rattle.vd_dependence.proofs.Whole.{hearing}
 use Rattle.vd_dependence.proofs.Lawful.{then_only, and_of, member}
 
-module _ (reads V known : ℕ → Bool) (host : ℕ) (r : Reach) where
+module _ (reads V known : ℕ → Bool) (test : ℕ → ℕ → Bool) (host : ℕ) (r : Reach) where
   abbrev k : Knowledge
-  k = record { kept = λ x. reads x && V x; told = reads; known = known; host = host }
+  k = hearing (λ x. reads x && V x) test known host
 
   abbrev pub readable : Reach
   readable = record { slots = λ x. (reads x && V x) && r.slots x; hosts = λ i. known i && r.hosts i }
@@ -143,7 +144,8 @@ module _ (reads V known : ℕ → Bool) (host : ℕ) (r : Reach) where
       and_of (only_with (kept x.0 && r.slots x.0) around') (only_with (t && reads x.0) (kept x.0 && r.slots x.0)) (guards_only (kept x.0) (r.slots x.0) around around' p.0 guards) (self_first x.0 t seen p.1)
   right_seen around around' t x (Endorse y to) sight guards seen shown sees f c =
       let p = and_parts (only_with (r.slots x.0) (around && r.slots y.0)) (only_with (t && reads x.0) (r.slots y.0)) c in
-      and_of (only_with (kept x.0 && r.slots x.0) (around' && (kept y.0 && r.slots y.0))) (only_with (t && reads x.0) (kept y.0 && r.slots y.0)) (one_onward x.0 y.0 around around' f p.0 guards) (one_first x.0 y.0 t seen f p.1)
+      let made = (and_parts (only_with (kept x.0) (kept y.0)) true f).0 in
+      and_of (only_with (kept x.0 && r.slots x.0) (around' && (kept y.0 && r.slots y.0))) (only_with (t && reads x.0) (kept y.0 && r.slots y.0)) (one_onward x.0 y.0 around around' made p.0 guards) (one_first x.0 y.0 t seen made p.1)
   right_seen around around' t x (Load v) sight guards seen shown sees f c =
       let p = and_parts (only_with (r.slots x.0) (around && r.slots v.0)) (only_with (t && reads x.0) (r.slots x.0)) c in
       and_of (only_with (kept x.0 && r.slots x.0) (around' && (kept v.0 && r.slots v.0))) (only_with (t && reads x.0) (kept x.0 && r.slots x.0)) (one_onward x.0 v.0 around around' f p.0 guards) (self_first x.0 t seen p.1)

@@ -1,25 +1,31 @@
--- What is shown does not depend on what is declassified.
+-- What is shown does not depend on what is given or freed.
 use Rattle.std.proofs.Common.{◌≡◌, ℕ, zero, suc, Bool, true, false, List, [], ◌∷◌, ◌++◌, map, refl, sym, ap, ◌∙◌, subst, if◌then◌else◌, nat_eq}
 use Rattle.vd_core.specs.declared.normal.Stmt.{Stmt, roll-Stmt, map-Stmt, ind-Stmt}
 use Rattle.vd_core.specs.declared.normal.Stmt.TheOpen.{Stmt-F}
 use Rattle.vd_core.specs.declared.normal.Stmt.TheFolds.{fold-roll-Stmt}
 use Rattle.vd_meaning.specs.Turns.{turns}
 use Rattle.vd_meaning.specs.ProgramMeaning.{SlotState, Effect, word_at, in_order}
-use Rattle.vd_dependence.specs.Watching.{Watched, run_of, shown_by, words_in_order, words_of_turns, words_at, shape, Showing, watched_step, watched}
+use Rattle.vd_dependence.specs.Watching.{Watched, Downgrades, Taps, run_of, shown_by, words_in_order, words_of_turns, words_at, shape, Showing, watched_step, watched}
 use Rattle.vd_dependence.proofs.Walk.{run_is, block_run_is}
 
 both_words : (a a' b b' : List ℕ) → a ≡ a' → b ≡ b' → a ++ b ≡ a' ++ b'
 both_words a a' b b' e f = rw (e, f) refl
 
-module _ (told told' kept : ℕ → Bool) (shows : Showing) where
+module _ (given given' freed freed' : Downgrades) (kept : ℕ → Bool) (shows : Showing) where
+  abbrev taps : Taps
+  taps = record { given = given; freed = freed; kept = kept; shows = shows }
+
+  abbrev taps' : Taps
+  taps' = record { given = given'; freed = freed'; kept = kept; shows = shows }
+
   abbrev one : Stmt → Watched
-  one = watched told kept shows
+  one = watched taps
 
   abbrev other : Stmt → Watched
-  other = watched told' kept shows
+  other = watched taps'
 
   runs_same : (s : Stmt) → (one s).run ≡ (other s).run
-  runs_same s = run_is told kept shows s ∙ sym (run_is told' kept shows s)
+  runs_same s = run_is taps s ∙ sym (run_is taps' s)
 
   abbrev SameWords : Stmt → Type 0
   SameWords s = (turn : ℕ) (t : SlotState) → (one s).shown turn t ≡ (other s).shown turn t
@@ -46,7 +52,7 @@ module _ (told told' kept : ℕ → Bool) (shows : Showing) where
   all_same (m ∷ ms) = more_same m.0 (statements ms) m.1 (all_same ms)
 
   block_runs : (body : List Stmt) → in_order (map run_of (map one body)) ≡ in_order (map run_of (map other body))
-  block_runs body = block_run_is told kept shows body ∙ sym (block_run_is told' kept shows body)
+  block_runs body = block_run_is taps body ∙ sym (block_run_is taps' body)
 
   loop_same : (n : ℕ) (body : List Stmt) → BlockSame body → (t : SlotState) → words_of_turns n shown_by (map one body) t ≡ words_of_turns n shown_by (map other body) t
   loop_same zero body same t = refl
@@ -59,7 +65,7 @@ module _ (told told' kept : ℕ → Bool) (shows : Showing) where
   branch_same true a b first second = second
   branch_same false a b first second = first
 
-  step : (y : Stmt-F M) (turn : ℕ) (t : SlotState) → (watched_step told kept shows (map-Stmt Stmt Watched one (layer y))).shown turn t ≡ (watched_step told' kept shows (map-Stmt Stmt Watched other (layer y))).shown turn t
+  step : (y : Stmt-F M) (turn : ℕ) (t : SlotState) → (watched_step taps (map-Stmt Stmt Watched one (layer y))).shown turn t ≡ (watched_step taps' (map-Stmt Stmt Watched other (layer y))).shown turn t
   step (Stmt-F.Let x r) turn t = refl
   step (Stmt-F.NewVar v y) turn t = refl
   step (Stmt-F.NewArray v size) turn t = refl
@@ -89,8 +95,8 @@ module _ (told told' kept : ℕ → Bool) (shows : Showing) where
     where
       at_roll : (y : Stmt-F M) → SameWords (roll-Stmt (layer y))
       at_roll y turn t =
-          ap (λ (w : Watched). w.shown turn t) (fold-roll-Stmt Watched (watched_step told kept shows) (layer y)) ∙ step y turn t
-          ∙ sym (ap (λ (w : Watched). w.shown turn t) (fold-roll-Stmt Watched (watched_step told' kept shows) (layer y)))
+          ap (λ (w : Watched). w.shown turn t) (fold-roll-Stmt Watched (watched_step taps) (layer y)) ∙ step y turn t
+          ∙ sym (ap (λ (w : Watched). w.shown turn t) (fold-roll-Stmt Watched (watched_step taps') (layer y)))
 
   pub body_same : (body : List Stmt) → BlockSame body
   body_same [] turn t = refl

@@ -1,5 +1,5 @@
 -- Each statement keeps two runs in step.
-use Rattle.std.proofs.Common.{◌≡◌, ℕ, Bool, true, false, true≢false, ◌&&◌, not, List, [], ◌∷◌, ◌++◌, map, refl, sym, ap, ◌∙◌, subst, subst₂, if◌then◌else◌, nat_eq, slice_index, slice_index_or}
+use Rattle.std.proofs.Common.{◌≡◌, ℕ, Bool, true, false, true≢false, ◌&&◌, ◌||◌, not, List, [], ◌∷◌, ◌++◌, map, refl, sym, ap, ◌∙◌, subst, subst₂, if◌then◌else◌, nat_eq, slice_index, slice_index_or}
 use Rattle.std.specs.List.{list_all}
 use Rattle.std.proofs.lemmas.Bool.{and_parts, eqb-true, eq-eqb}
 use Rattle.vd_base.specs.declared.ids.SlotId.{SlotId}
@@ -9,9 +9,9 @@ use Rattle.vd_core.specs.declared.normal.Right.TheVariants.{Lit, Turn, Copy, App
 use Rattle.vd_meaning.specs.World.{first_word, later_words, after_input, after_output}
 use Rattle.vd_meaning.specs.Stores.{put}
 use Rattle.vd_meaning.specs.ProgramMeaning.{SlotState, word_at, array_at, with_word, with_array, in_world, right_word, after_right}
-use Rattle.vd_dependence.specs.Flowing.{Knowledge, only_with, right_flows}
+use Rattle.vd_dependence.specs.Flowing.{Knowledge, only_with, downgrade_flows, right_flows}
 use Rattle.vd_dependence.specs.Agreement.{SameWords, Agree}
-use Rattle.vd_dependence.specs.Watching.{right_declassified, words_at}
+use Rattle.vd_dependence.specs.Watching.{right_downgraded, words_at}
 use Rattle.vd_dependence.proofs.Steps.{word_put, word_put_other, item_put, item_put_other, item_set_other, length_set, later_at, told_same, first_same, later_same}
 
 pub only : (a b : Bool) → only_with a b ≡ true → a ≡ true → b ≡ true
@@ -90,25 +90,25 @@ module _ (k : Knowledge) where
     outputs = a.outputs;
   }
 
-  pub agree_output : (s t : SlotState) (host w w' : ℕ) → Agree k s t → (nat_eq host k.host ≡ true → w ≡ w') → Agree k (in_world (after_output s.world host w) s) (in_world (after_output t.world host w') t)
+  pub agree_output : (s t : SlotState) (host w w' : ℕ) → Agree k s t → (k.heard host ≡ true → w ≡ w') → Agree k (in_world (after_output s.world host w) s) (in_world (after_output t.world host w') t)
   agree_output s t host w w' a same = record {
     words = a.words;
     arrays = a.arrays;
     inputs = a.inputs;
     hosts = length_set s.world.outputs host (slice_index_or s.world.outputs host [] ++ w ∷ []) ∙ a.hosts ∙ sym (length_set t.world.outputs host (slice_index_or t.world.outputs host [] ++ w' ∷ []));
-    outputs = by (nat_eq host k.host) refl;
+    outputs = λ i heard. by i heard (nat_eq host i) refl;
   }
     where
-      by : (b : Bool) → nat_eq host k.host ≡ b → slice_index_or (after_output s.world host w).outputs k.host [] ≡ slice_index_or (after_output t.world host w').outputs k.host []
-      by true is =
-          let here = eqb-true host k.host is in
-          let told : slice_index_or s.world.outputs host [] ≡ slice_index_or t.world.outputs host [] = subst (λ z. slice_index_or s.world.outputs z [] ≡ slice_index_or t.world.outputs z []) (sym here) a.outputs in
+      by : (i : ℕ) → k.heard i ≡ true → (b : Bool) → nat_eq host i ≡ b → slice_index_or (after_output s.world host w).outputs i [] ≡ slice_index_or (after_output t.world host w').outputs i []
+      by i heard true is =
+          let here = eqb-true host i is in
+          let told : slice_index_or s.world.outputs host [] ≡ slice_index_or t.world.outputs host [] = subst (λ z. slice_index_or s.world.outputs z [] ≡ slice_index_or t.world.outputs z []) (sym here) (a.outputs i heard) in
           subst (λ z. slice_index_or (after_output s.world host w).outputs z [] ≡ slice_index_or (after_output t.world host w').outputs z []) here
-          (told_same s.world.outputs t.world.outputs host w a.hosts told ∙ ap (λ z. slice_index_or (after_output t.world host z).outputs host []) (same is))
-      by false is =
-          let other : host ≡ k.host → ⊥ = λ h. true≢false (sym (eq-eqb host k.host h) ∙ is) in
-          item_set_other [] s.world.outputs host k.host (slice_index_or s.world.outputs host [] ++ w ∷ []) other ∙ a.outputs
-          ∙ sym (item_set_other [] t.world.outputs host k.host (slice_index_or t.world.outputs host [] ++ w' ∷ []) other)
+          (told_same s.world.outputs t.world.outputs host w a.hosts told ∙ ap (λ z. slice_index_or (after_output t.world host z).outputs host []) (same (ap k.heard here ∙ heard)))
+      by i heard false is =
+          let other : host ≡ i → ⊥ = λ h. true≢false (sym (eq-eqb host i h) ∙ is) in
+          item_set_other [] s.world.outputs host i (slice_index_or s.world.outputs host [] ++ w ∷ []) other ∙ a.outputs i heard
+          ∙ sym (item_set_other [] t.world.outputs host i (slice_index_or t.world.outputs host [] ++ w' ∷ []) other)
 
   -- ---- the words of kept slots
   pub operands_same : (s t : SlotState) (ys : List SlotId) → Agree k s t → list_all (λ y. k.kept y.0) ys ≡ true → map (word_at s) ys ≡ map (word_at t) ys
@@ -127,29 +127,37 @@ module _ (k : Knowledge) where
 
   -- ---- right sides
   pub record RightInStep (x : SlotId) (words words' left_over left_over' : List ℕ) (word word' : ℕ) : Type 0 where
-    pub told : words ≡ words'
+    pub given : words ≡ words'
     pub rest : left_over ≡ left_over'
     pub same : k.kept x.0 ≡ true → word ≡ word'
 
-  pub right_in_step : (x : SlotId) (r : Right) (turn : ℕ) (s t : SlotState) (rest rest' : List ℕ) → Agree k s t → right_flows k x r ≡ true
-      → right_declassified k.told x r s ++ rest ≡ right_declassified k.told x r t ++ rest'
-      → RightInStep x (right_declassified k.told x r s) (right_declassified k.told x r t) rest rest' (right_word r turn s) (right_word r turn t)
-  right_in_step x (Lit n) turn s t rest rest' a flows e = record { told = refl; rest = e; same = λ is. refl }
-  right_in_step x Turn turn s t rest rest' a flows e = record { told = refl; rest = e; same = λ is. refl }
-  right_in_step x (Copy y) turn s t rest rest' a flows e = record { told = refl; rest = e; same = λ is. a.words y.0 (only (k.kept x.0) (k.kept y.0) flows is) }
-  right_in_step x (Apply op ys) turn s t rest rest' a flows e =
-      record { told = refl; rest = e; same = λ is. ap (result_of op) (operands_same s t ys a (only (k.kept x.0) (list_all (λ y. k.kept y.0) ys) flows is)) }
-  right_in_step x (Input host) turn s t rest rest' a flows e =
-      record { told = refl; rest = e; same = λ is. first_same (left s host.0) (left t host.0) (a.inputs host.0 (only (k.kept x.0) (k.known host.0) flows is)) }
-  right_in_step x (Declassify y to) turn s t rest rest' a flows e = by (k.told x.0) (only (k.kept x.0) (k.told x.0) flows) e
+  abbrev word_of : (ℕ → ℕ → Bool) → SlotId → SlotId → SlotState → List ℕ
+  word_of test x y s = if test x.0 y.0 then word_at s y ∷ [] else []
+
+  downgrade_in_step : (given freed : ℕ → ℕ → Bool) (x y : SlotId) (s t : SlotState) (rest rest' : List ℕ) → Agree k s t → downgrade_flows k given freed x y ≡ true → word_of given x y s ++ rest ≡ word_of given x y t ++ rest'
+      → RightInStep x (word_of given x y s) (word_of given x y t) rest rest' (word_at s y) (word_at t y)
+  downgrade_in_step given freed x y s t rest rest' a flows e =
+      by (given x.0 y.0) (only (k.kept x.0) (given x.0 y.0 || k.kept y.0) (and_parts (only_with (k.kept x.0) (given x.0 y.0 || k.kept y.0)) (only_with (freed x.0 y.0) (k.kept y.0)) flows).0) e
     where
-      by : (b : Bool) → (k.kept x.0 ≡ true → b ≡ true) → (if b then word_at s y ∷ [] else []) ++ rest ≡ (if b then word_at t y ∷ [] else []) ++ rest'
+      by : (b : Bool) → (k.kept x.0 ≡ true → (b || k.kept y.0) ≡ true) → (if b then word_at s y ∷ [] else []) ++ rest ≡ (if b then word_at t y ∷ [] else []) ++ rest'
           → RightInStep x (if b then word_at s y ∷ [] else []) (if b then word_at t y ∷ [] else []) rest rest' (word_at s y) (word_at t y)
-      by true h e = record { told = ap (λ z. z ∷ []) (ap first_word e); rest = ap later_words e; same = λ is. ap first_word e }
-      by false h e = record { told = refl; rest = e; same = λ is. absurd (true≢false (sym (h is))) }
-  right_in_step x (Endorse y to) turn s t rest rest' a flows e = record { told = refl; rest = e; same = λ is. a.words y.0 (only (k.kept x.0) (k.kept y.0) flows is) }
-  right_in_step x (Load v) turn s t rest rest' a flows e = record { told = refl; rest = e; same = λ is. a.words v.0 (only (k.kept x.0) (k.kept v.0) flows is) }
-  right_in_step x (Get v i) turn s t rest rest' a flows e = record { told = refl; rest = e; same = same }
+      by true h e = record { given = ap (λ z. z ∷ []) (ap first_word e); rest = ap later_words e; same = λ is. ap first_word e }
+      by false h e = record { given = refl; rest = e; same = λ is. a.words y.0 (h is) }
+
+  pub right_in_step : (x : SlotId) (r : Right) (turn : ℕ) (s t : SlotState) (rest rest' : List ℕ) → Agree k s t → right_flows k x r ≡ true
+      → right_downgraded k.given x r s ++ rest ≡ right_downgraded k.given x r t ++ rest'
+      → RightInStep x (right_downgraded k.given x r s) (right_downgraded k.given x r t) rest rest' (right_word r turn s) (right_word r turn t)
+  right_in_step x (Lit n) turn s t rest rest' a flows e = record { given = refl; rest = e; same = λ is. refl }
+  right_in_step x Turn turn s t rest rest' a flows e = record { given = refl; rest = e; same = λ is. refl }
+  right_in_step x (Copy y) turn s t rest rest' a flows e = record { given = refl; rest = e; same = λ is. a.words y.0 (only (k.kept x.0) (k.kept y.0) flows is) }
+  right_in_step x (Apply op ys) turn s t rest rest' a flows e =
+      record { given = refl; rest = e; same = λ is. ap (result_of op) (operands_same s t ys a (only (k.kept x.0) (list_all (λ y. k.kept y.0) ys) flows is)) }
+  right_in_step x (Input host) turn s t rest rest' a flows e =
+      record { given = refl; rest = e; same = λ is. first_same (left s host.0) (left t host.0) (a.inputs host.0 (only (k.kept x.0) (k.known host.0) flows is)) }
+  right_in_step x (Declassify y to) turn s t rest rest' a flows e = downgrade_in_step k.given.declassified k.freed.declassified x y s t rest rest' a flows e
+  right_in_step x (Endorse y to) turn s t rest rest' a flows e = downgrade_in_step k.given.endorsed k.freed.endorsed x y s t rest rest' a flows e
+  right_in_step x (Load v) turn s t rest rest' a flows e = record { given = refl; rest = e; same = λ is. a.words v.0 (only (k.kept x.0) (k.kept v.0) flows is) }
+  right_in_step x (Get v i) turn s t rest rest' a flows e = record { given = refl; rest = e; same = same }
     where
       same : k.kept x.0 ≡ true → slice_index (array_at s v) (word_at s i) ≡ slice_index (array_at t v) (word_at t i)
       same is = let parts = and_parts (k.kept v.0) (k.kept i.0) (only (k.kept x.0) (k.kept v.0 && k.kept i.0) flows is) in rw (a.arrays v.0 parts.0, a.words i.0 parts.1) refl
@@ -164,3 +172,23 @@ module _ (k : Knowledge) where
   agree_after_right (Endorse y to) s t a = a
   agree_after_right (Load v) s t a = a
   agree_after_right (Get v i) s t a = a
+
+  -- what is freed is kept
+  downgrade_freed : (given freed : ℕ → ℕ → Bool) (x y : SlotId) (s t : SlotState) → Agree k s t → downgrade_flows k given freed x y ≡ true → word_of freed x y s ≡ word_of freed x y t
+  downgrade_freed given freed x y s t a flows =
+      by (freed x.0 y.0) (only (freed x.0 y.0) (k.kept y.0) (and_parts (only_with (k.kept x.0) (given x.0 y.0 || k.kept y.0)) (only_with (freed x.0 y.0) (k.kept y.0)) flows).1)
+    where
+      by : (b : Bool) → (b ≡ true → k.kept y.0 ≡ true) → (if b then word_at s y ∷ [] else []) ≡ (if b then word_at t y ∷ [] else [])
+      by true h = ap (λ z. z ∷ []) (a.words y.0 (h refl))
+      by false h = refl
+
+  pub freed_same : (x : SlotId) (r : Right) (s t : SlotState) → Agree k s t → right_flows k x r ≡ true → right_downgraded k.freed x r s ≡ right_downgraded k.freed x r t
+  freed_same x (Lit n) s t a flows = refl
+  freed_same x Turn s t a flows = refl
+  freed_same x (Copy y) s t a flows = refl
+  freed_same x (Apply op ys) s t a flows = refl
+  freed_same x (Input host) s t a flows = refl
+  freed_same x (Declassify y to) s t a flows = downgrade_freed k.given.declassified k.freed.declassified x y s t a flows
+  freed_same x (Endorse y to) s t a flows = downgrade_freed k.given.endorsed k.freed.endorsed x y s t a flows
+  freed_same x (Load v) s t a flows = refl
+  freed_same x (Get v i) s t a flows = refl

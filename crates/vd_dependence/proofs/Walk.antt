@@ -1,6 +1,6 @@
 -- The whole program keeps two runs in step.
 use Rattle.std.proofs.Common.{◌≡◌, ℕ, Bool, true, false, true≢false, ◌&&◌, not, List, [], ◌∷◌, ◌++◌, map, replicate, refl, sym, ap, ◌∙◌, subst, subst₂, if◌then◌else◌, nat_eq, slice_index, slice_index_or, slice_set}
-use Rattle.std.proofs.lemmas.Bool.{and_parts, eq-eqb}
+use Rattle.std.proofs.lemmas.Bool.{and_parts}
 use Rattle.vd_base.specs.declared.ids.SlotId.{SlotId}
 use Rattle.vd_core.specs.declared.normal.Right.{Right}
 use Rattle.vd_core.specs.declared.normal.Right.TheVariants.{Lit, Turn, Copy, Apply, Input, Declassify, Endorse, Load, Get}
@@ -11,10 +11,13 @@ use Rattle.vd_meaning.specs.World.{later_words, after_input, after_output}
 use Rattle.vd_meaning.specs.ProgramMeaning.{SlotState, Effect, word_at, array_at, with_word, with_array, in_world, right_word, after_right, in_order, stmt_effect, effect, block_effect}
 use Rattle.vd_dependence.specs.Flowing.{Knowledge, only_with, right_flows, right_hides, Flow, all_flow, all_hide, flow_step, flow}
 use Rattle.vd_dependence.specs.Agreement.{Agree}
-use Rattle.vd_dependence.specs.Watching.{Watched, run_of, right_declassified, words_at, Showing, shape, watched_step, watched}
+use Rattle.vd_dependence.specs.Watching.{Watched, Taps, run_of, right_downgraded, words_at, Showing, shape, watched_step, watched}
 use Rattle.vd_dependence.proofs.Steps.{word_put_other, item_put_other, item_set_other, length_set}
 use Rattle.vd_dependence.proofs.Runs.{agree_refl, agree_sym, agree_trans, InStep, Seen, Unseen, block, seen_none, seen_more, seen_loop, unseen_none, unseen_more, unseen_loop, branch, unseen_branch}
-use Rattle.vd_dependence.proofs.Statements.{only, never_true, agree_word, agree_array, agree_output, agree_after_right, right_in_step, shown_same, left}
+use Rattle.vd_dependence.proofs.Statements.{only, never_true, agree_word, agree_array, agree_output, agree_after_right, right_in_step, freed_same, shown_same, left}
+
+abbrev pub taps_of : Knowledge → Showing → Taps
+taps_of k shows = record { given = k.given; freed = k.freed; kept = k.kept; shows = shows }
 
 module _ (k : Knowledge) (shows : Showing) where
   -- ---- where control is not kept
@@ -27,7 +30,7 @@ module _ (k : Knowledge) (shows : Showing) where
     arrays = λ y is. refl;
     inputs = λ host is i. refl;
     hosts = refl;
-    outputs = refl;
+    outputs = λ host is. refl;
   }
 
   hidden_array : (s : SlotState) (x : SlotId) (w : List ℕ) → not (k.kept x.0) ≡ true → Agree k s (with_array x w s)
@@ -36,7 +39,7 @@ module _ (k : Knowledge) (shows : Showing) where
     arrays = λ y is. sym (item_put_other [] s.arrays x.0 y w (apart k.kept x.0 y off is));
     inputs = λ host is i. refl;
     hosts = refl;
-    outputs = refl;
+    outputs = λ host is. refl;
   }
 
   hidden_input : (s : SlotState) (i : ℕ) → not (k.known i) ≡ true → Agree k s (in_world (after_input s.world i) s)
@@ -45,16 +48,16 @@ module _ (k : Knowledge) (shows : Showing) where
     arrays = λ y is. refl;
     inputs = λ host is j. ap (λ z. slice_index z j) (sym (item_set_other [] s.world.inputs i host (later_words (left k s i)) (apart k.known i host off is)));
     hosts = refl;
-    outputs = refl;
+    outputs = λ host is. refl;
   }
 
-  hidden_output : (s : SlotState) (host w : ℕ) → not (nat_eq host k.host) ≡ true → Agree k s (in_world (after_output s.world host w) s)
+  hidden_output : (s : SlotState) (host w : ℕ) → not (k.heard host) ≡ true → Agree k s (in_world (after_output s.world host w) s)
   hidden_output s host w off = record {
     words = λ y is. refl;
     arrays = λ y is. refl;
     inputs = λ i is j. refl;
     hosts = sym (length_set s.world.outputs host (slice_index_or s.world.outputs host [] ++ w ∷ []));
-    outputs = sym (item_set_other [] s.world.outputs host k.host (slice_index_or s.world.outputs host [] ++ w ∷ []) (λ h. never_true (nat_eq host k.host) off (eq-eqb host k.host h)));
+    outputs = λ i is. sym (item_set_other [] s.world.outputs host i (slice_index_or s.world.outputs host [] ++ w ∷ []) (apart k.heard host i off is));
   }
 
   hidden_after_right : (x : SlotId) (r : Right) (s : SlotState) → right_hides k x r ≡ true → Agree k s (in_world (after_right r s.world) s)
@@ -72,16 +75,27 @@ module _ (k : Knowledge) (shows : Showing) where
   untold true ws h = absurd (true≢false (sym h))
   untold false ws h = refl
 
-  right_silent : (x : SlotId) (r : Right) (s : SlotState) → right_hides k x r ≡ true → right_declassified k.told x r s ≡ []
+  right_silent : (x : SlotId) (r : Right) (s : SlotState) → right_hides k x r ≡ true → right_downgraded k.given x r s ≡ []
   right_silent x (Lit n) s h = refl
   right_silent x Turn s h = refl
   right_silent x (Copy y) s h = refl
   right_silent x (Apply op ys) s h = refl
   right_silent x (Input host) s h = refl
-  right_silent x (Declassify y to) s h = untold (k.told x.0) (word_at s y ∷ []) h
-  right_silent x (Endorse y to) s h = refl
+  right_silent x (Declassify y to) s h = untold (k.given.declassified x.0 y.0) (word_at s y ∷ []) (and_parts (not (k.given.declassified x.0 y.0)) (not (k.freed.declassified x.0 y.0)) h).0
+  right_silent x (Endorse y to) s h = untold (k.given.endorsed x.0 y.0) (word_at s y ∷ []) (and_parts (not (k.given.endorsed x.0 y.0)) (not (k.freed.endorsed x.0 y.0)) h).0
   right_silent x (Load v) s h = refl
   right_silent x (Get v i) s h = refl
+
+  right_closed : (x : SlotId) (r : Right) (s : SlotState) → right_hides k x r ≡ true → right_downgraded k.freed x r s ≡ []
+  right_closed x (Lit n) s h = refl
+  right_closed x Turn s h = refl
+  right_closed x (Copy y) s h = refl
+  right_closed x (Apply op ys) s h = refl
+  right_closed x (Input host) s h = refl
+  right_closed x (Declassify y to) s h = untold (k.freed.declassified x.0 y.0) (word_at s y ∷ []) (and_parts (not (k.given.declassified x.0 y.0)) (not (k.freed.declassified x.0 y.0)) h).1
+  right_closed x (Endorse y to) s h = untold (k.freed.endorsed x.0 y.0) (word_at s y ∷ []) (and_parts (not (k.given.endorsed x.0 y.0)) (not (k.freed.endorsed x.0 y.0)) h).1
+  right_closed x (Load v) s h = refl
+  right_closed x (Get v i) s h = refl
 
   -- ---- what a statement keeps
   pub record Keeps (f : Flow) (w : Watched) : Type 0 where
@@ -89,7 +103,7 @@ module _ (k : Knowledge) (shows : Showing) where
     pub hides : f.hides ≡ true → Unseen k w
 
   abbrev step_of : Stmt-F Watched → Watched
-  step_of = watched_step k.told k.kept shows
+  step_of = watched_step (taps_of k shows)
 
   seen_let : (x : SlotId) (r : Right) → right_flows k x r ≡ true → Seen k (step_of (Stmt-F.Let x r))
   seen_let x r flows turn s t rest rest' a e =
@@ -98,7 +112,8 @@ module _ (k : Knowledge) (shows : Showing) where
       agree_word k (in_world (after_right r s.world) s) (in_world (after_right r t.world) t) x (right_word r turn s) (right_word r turn t) (agree_after_right k r s t a) p.same
       in
       record {
-        told = p.told;
+        given = p.given;
+        freed = freed_same k x r s t a flows;
         shown = shown_same k (stmt_effect (Stmt-F.Let x r) turn s) (stmt_effect (Stmt-F.Let x r) turn t) (shows (shape (Stmt-F.Let x r))) after;
         rest = p.rest;
         agree = after;
@@ -110,6 +125,7 @@ module _ (k : Knowledge) (shows : Showing) where
       let between = in_world (after_right r s.world) s in
       record {
         silent = right_silent x r s parts.1;
+        closed = right_closed x r s parts.1;
         agree = agree_trans k s between (with_word x (right_word r turn s) between) (hidden_after_right x r s parts.1) (hidden_word between x (right_word r turn s) parts.0);
       }
 
@@ -137,10 +153,10 @@ module _ (k : Knowledge) (shows : Showing) where
     seen_if is first second turn s t rest rest' a e =
         let same : word_at s g ≡ word_at t g = a.words g.0 is in
         let p = by (nat_eq (word_at s g) 0) (nat_eq (word_at t g) 0) (ap (λ w. nat_eq w 0) same) e in
-        record { told = p.told; shown = guarded (k.kept g.0) (words_at k.kept (shows (shape (Stmt-F.If g A B offset))) s) (words_at k.kept (shows (shape (Stmt-F.If g A B offset))) t) ((branch k (nat_eq (word_at s g) 0) A B).shown turn s) ((branch k (nat_eq (word_at t g) 0) A B).shown turn t) is (shown_same k s t (shows (shape (Stmt-F.If g A B offset))) a) p.shown; rest = p.rest; agree = p.agree }
+        record { given = p.given; freed = p.freed; shown = guarded (k.kept g.0) (words_at k.kept (shows (shape (Stmt-F.If g A B offset))) s) (words_at k.kept (shows (shape (Stmt-F.If g A B offset))) t) ((branch k (nat_eq (word_at s g) 0) A B).shown turn s) ((branch k (nat_eq (word_at t g) 0) A B).shown turn t) is (shown_same k s t (shows (shape (Stmt-F.If g A B offset))) a) p.shown; rest = p.rest; agree = p.agree }
       where
-        by : (c c' : Bool) → c ≡ c' → (branch k c A B).declassified turn s ++ rest ≡ (branch k c' A B).declassified turn t ++ rest'
-            → InStep k ((branch k c A B).declassified turn s) ((branch k c' A B).declassified turn t) ((branch k c A B).shown turn s) ((branch k c' A B).shown turn t) rest rest' ((branch k c A B).run turn s) ((branch k c' A B).run turn t)
+        by : (c c' : Bool) → c ≡ c' → (branch k c A B).given turn s ++ rest ≡ (branch k c' A B).given turn t ++ rest'
+            → InStep k ((branch k c A B).given turn s) ((branch k c' A B).given turn t) ((branch k c A B).freed turn s) ((branch k c' A B).freed turn t) ((branch k c A B).shown turn s) ((branch k c' A B).shown turn t) rest rest' ((branch k c A B).run turn s) ((branch k c' A B).run turn t)
         by true true same e = second turn s t rest rest' a e
         by false false same e = first turn s t rest rest' a e
         by true false same e = absurd (true≢false same)
@@ -149,14 +165,15 @@ module _ (k : Knowledge) (shows : Showing) where
     unseen_if : Unseen k (block k A) → Unseen k (block k B) → Unseen k if_watched
     unseen_if first second turn s =
         let p = unseen_branch k (nat_eq (word_at s g) 0) A B first second turn s in
-        record { silent = p.silent; agree = p.agree }
+        record { silent = p.silent; closed = p.closed; agree = p.agree }
 
     hidden_if : k.kept g.0 ≡ false → Unseen k (block k A) → Unseen k (block k B) → Seen k if_watched
     hidden_if is first second turn s t rest rest' a e =
         let one = unseen_branch k (nat_eq (word_at s g) 0) A B first second turn s in
         let two = unseen_branch k (nat_eq (word_at t g) 0) A B first second turn t in
         record {
-          told = one.silent ∙ sym two.silent;
+          given = one.silent ∙ sym two.silent;
+          freed = one.closed ∙ sym two.closed;
           shown = rw is refl;
           rest = sym (ap (λ z. z ++ rest) one.silent) ∙ e ∙ ap (λ z. z ++ rest') two.silent;
           agree = agree_trans k (if_watched.run turn s) s (if_watched.run turn t) (agree_sym k s (if_watched.run turn s) one.agree) (agree_trans k s t (if_watched.run turn t) a two.agree);
@@ -172,7 +189,7 @@ module _ (k : Knowledge) (shows : Showing) where
 
   -- ---- the walk
   abbrev M : Type 0
-  M = (s : Stmt) × Keeps (flow k s) (watched k.told k.kept shows s)
+  M = (s : Stmt) × Keeps (flow k s) (watched (taps_of k shows) s)
 
   abbrev statements : List M → List Stmt
   statements = map {B = Stmt} (λ (m : M). m.0)
@@ -181,72 +198,73 @@ module _ (k : Knowledge) (shows : Showing) where
   layer = map-Stmt M Stmt (λ m. m.0)
 
   abbrev BlockKeeps : List Stmt → Type 0
-  BlockKeeps body = Keeps (record { flows = all_flow (map (flow k) body); hides = all_hide (map (flow k) body) }) (block k (map (watched k.told k.kept shows) body))
+  BlockKeeps body = Keeps (record { flows = all_flow (map (flow k) body); hides = all_hide (map (flow k) body) }) (block k (map (watched (taps_of k shows)) body))
 
   none_keep : BlockKeeps []
   none_keep = record { flows = λ h. seen_none k; hides = λ h. unseen_none k }
 
-  more_keep : (s : Stmt) (body : List Stmt) → Keeps (flow k s) (watched k.told k.kept shows s) → BlockKeeps body → BlockKeeps (s ∷ body)
+  more_keep : (s : Stmt) (body : List Stmt) → Keeps (flow k s) (watched (taps_of k shows) s) → BlockKeeps body → BlockKeeps (s ∷ body)
   more_keep s body first rest = record {
     flows = λ h.
         let parts = and_parts (flow k s).flows (all_flow (map (flow k) body)) h in
-        seen_more k (watched k.told k.kept shows s) (map (watched k.told k.kept shows) body) (first.flows parts.0) (rest.flows parts.1);
+        seen_more k (watched (taps_of k shows) s) (map (watched (taps_of k shows)) body) (first.flows parts.0) (rest.flows parts.1);
     hides = λ h.
         let parts = and_parts (flow k s).hides (all_hide (map (flow k) body)) h in
-        unseen_more k (watched k.told k.kept shows s) (map (watched k.told k.kept shows) body) (first.hides parts.0) (rest.hides parts.1);
+        unseen_more k (watched (taps_of k shows) s) (map (watched (taps_of k shows)) body) (first.hides parts.0) (rest.hides parts.1);
   }
 
   all_keep : (ms : List M) → BlockKeeps (statements ms)
   all_keep [] = none_keep
   all_keep (m ∷ ms) = more_keep m.0 (statements ms) m.1 (all_keep ms)
 
-  step : (y : Stmt-F M) → Keeps (flow_step k (map-Stmt Stmt Flow (flow k) (layer y))) (step_of (map-Stmt Stmt Watched (watched k.told k.kept shows) (layer y)))
+  step : (y : Stmt-F M) → Keeps (flow_step k (map-Stmt Stmt Flow (flow k) (layer y))) (step_of (map-Stmt Stmt Watched (watched (taps_of k shows)) (layer y)))
   step (Stmt-F.Let x r) = record { flows = λ h. seen_let x r h; hides = λ h. unseen_let x r h }
   step (Stmt-F.NewVar v y) = record {
     flows = λ h turn s t rest rest' a e.
         let after = seen_store v y s t h a in
-        record { told = refl; shown = shown_same k (with_word v (word_at s y) s) (with_word v (word_at t y) t) (shows (shape (Stmt-F.NewVar v y))) after; rest = e; agree = after };
-    hides = λ h turn s. record { silent = refl; agree = hidden_word s v (word_at s y) h };
+        record { given = refl; freed = refl; shown = shown_same k (with_word v (word_at s y) s) (with_word v (word_at t y) t) (shows (shape (Stmt-F.NewVar v y))) after; rest = e; agree = after };
+    hides = λ h turn s. record { silent = refl; closed = refl; agree = hidden_word s v (word_at s y) h };
   }
   step (Stmt-F.NewArray v size) = record {
-    flows = λ h turn s t rest rest' a e. record { told = refl; shown = shown_same k s t (shows (shape (Stmt-F.NewArray v size))) a; rest = e; agree = agree_array k s t v (replicate size 0) (replicate size 0) a (λ is. refl) };
-    hides = λ h turn s. record { silent = refl; agree = hidden_array s v (replicate size 0) h };
+    flows = λ h turn s t rest rest' a e. record { given = refl; freed = refl; shown = shown_same k s t (shows (shape (Stmt-F.NewArray v size))) a; rest = e; agree = agree_array k s t v (replicate size 0) (replicate size 0) a (λ is. refl) };
+    hides = λ h turn s. record { silent = refl; closed = refl; agree = hidden_array s v (replicate size 0) h };
   }
   step (Stmt-F.Store v y) = record {
     flows = λ h turn s t rest rest' a e.
         let after = seen_store v y s t h a in
-        record { told = refl; shown = shown_same k (with_word v (word_at s y) s) (with_word v (word_at t y) t) (shows (shape (Stmt-F.Store v y))) after; rest = e; agree = after };
-    hides = λ h turn s. record { silent = refl; agree = hidden_word s v (word_at s y) h };
+        record { given = refl; freed = refl; shown = shown_same k (with_word v (word_at s y) s) (with_word v (word_at t y) t) (shows (shape (Stmt-F.Store v y))) after; rest = e; agree = after };
+    hides = λ h turn s. record { silent = refl; closed = refl; agree = hidden_word s v (word_at s y) h };
   }
   step (Stmt-F.Put v i y) = record {
-    flows = λ h turn s t rest rest' a e. record { told = refl; shown = shown_same k s t (shows (shape (Stmt-F.Put v i y))) a; rest = e; agree = seen_put v i y s t h a };
-    hides = λ h turn s. record { silent = refl; agree = hidden_array s v (slice_set (array_at s v) (word_at s i) (word_at s y)) h };
+    flows = λ h turn s t rest rest' a e. record { given = refl; freed = refl; shown = shown_same k s t (shows (shape (Stmt-F.Put v i y))) a; rest = e; agree = seen_put v i y s t h a };
+    hides = λ h turn s. record { silent = refl; closed = refl; agree = hidden_array s v (slice_set (array_at s v) (word_at s i) (word_at s y)) h };
   }
   step (Stmt-F.Output y host offset) = record {
     flows = λ h turn s t rest rest' a e.
         record {
-          told = refl;
+          given = refl;
+          freed = refl;
           shown = shown_same k s t (shows (shape (Stmt-F.Output y host offset))) a;
           rest = e;
-          agree = agree_output k s t host.0 (word_at s y) (word_at t y) a (λ is. a.words y.0 (only (nat_eq host.0 k.host) (k.kept y.0) h is));
+          agree = agree_output k s t host.0 (word_at s y) (word_at t y) a (λ is. a.words y.0 (only (k.heard host.0) (k.kept y.0) h is));
         };
-    hides = λ h turn s. record { silent = refl; agree = hidden_output s host.0 (word_at s y) h };
+    hides = λ h turn s. record { silent = refl; closed = refl; agree = hidden_output s host.0 (word_at s y) h };
   }
   step (Stmt-F.If g a b offset) =
-      if_keeps g (map (watched k.told k.kept shows) (statements a)) (map (watched k.told k.kept shows) (statements b)) offset (map (flow k) (statements a)) (map (flow k) (statements b)) (all_keep a) (all_keep b)
+      if_keeps g (map (watched (taps_of k shows)) (statements a)) (map (watched (taps_of k shows)) (statements b)) offset (map (flow k) (statements a)) (map (flow k) (statements b)) (all_keep a) (all_keep b)
   step (Stmt-F.For count body) = record {
     flows = λ h turn s t rest rest' a e.
-        let p = seen_loop k count (map (watched k.told k.kept shows) (statements body)) ((all_keep body).flows h) turn s t rest rest' a e in
-        record { told = p.told; shown = p.shown; rest = p.rest; agree = p.agree };
+        let p = seen_loop k count (map (watched (taps_of k shows)) (statements body)) ((all_keep body).flows h) turn s t rest rest' a e in
+        record { given = p.given; freed = p.freed; shown = p.shown; rest = p.rest; agree = p.agree };
     hides = λ h turn s.
-        let p = unseen_loop k count (map (watched k.told k.kept shows) (statements body)) ((all_keep body).hides h) turn s in
-        record { silent = p.silent; agree = p.agree };
+        let p = unseen_loop k count (map (watched (taps_of k shows)) (statements body)) ((all_keep body).hides h) turn s in
+        record { silent = p.silent; closed = p.closed; agree = p.agree };
   }
 
-  pub stmt_keeps : (s : Stmt) → Keeps (flow k s) (watched k.told k.kept shows s)
-  stmt_keeps = ind-Stmt (λ s. Keeps (flow k s) (watched k.told k.kept shows s)) (λ x y is. subst (λ z. Keeps (flow k (roll-Stmt z)) (watched k.told k.kept shows (roll-Stmt z))) is (at_roll y))
+  pub stmt_keeps : (s : Stmt) → Keeps (flow k s) (watched (taps_of k shows) s)
+  stmt_keeps = ind-Stmt (λ s. Keeps (flow k s) (watched (taps_of k shows) s)) (λ x y is. subst (λ z. Keeps (flow k (roll-Stmt z)) (watched (taps_of k shows) (roll-Stmt z))) is (at_roll y))
     where
-      at_roll : (y : Stmt-F M) → Keeps (flow k (roll-Stmt (layer y))) (watched k.told k.kept shows (roll-Stmt (layer y)))
+      at_roll : (y : Stmt-F M) → Keeps (flow k (roll-Stmt (layer y))) (watched (taps_of k shows) (roll-Stmt (layer y)))
       at_roll y =
           subst₂ Keeps (sym (fold-roll-Stmt Flow (flow_step k) (layer y))) (sym (fold-roll-Stmt Watched step_of (layer y))) (step y)
 
@@ -255,9 +273,9 @@ module _ (k : Knowledge) (shows : Showing) where
   body_keeps (s ∷ body) = more_keep s body (stmt_keeps s) (body_keeps body)
 
 -- ---- what is watched is what is done
-module _ (told kept : ℕ → Bool) (shows : Showing) where
+module _ (taps : Taps) where
   abbrev R : Type 0
-  R = (s : Stmt) × ((watched told kept shows s).run ≡ effect s)
+  R = (s : Stmt) × ((watched taps s).run ≡ effect s)
 
   abbrev named_by : List R → List Stmt
   named_by = map {B = Stmt} (λ (m : R). m.0)
@@ -265,11 +283,11 @@ module _ (told kept : ℕ → Bool) (shows : Showing) where
   abbrev run_layer : Stmt-F R → Stmt-F Stmt
   run_layer = map-Stmt R Stmt (λ m. m.0)
 
-  runs_are : (ms : List R) → map run_of (map (watched told kept shows) (named_by ms)) ≡ map effect (named_by ms)
+  runs_are : (ms : List R) → map run_of (map (watched taps) (named_by ms)) ≡ map effect (named_by ms)
   runs_are [] = refl
   runs_are (m ∷ ms) = rw (m.1, runs_are ms) refl
 
-  run_step : (y : Stmt-F R) → (watched_step told kept shows (map-Stmt Stmt Watched (watched told kept shows) (run_layer y))).run ≡ stmt_effect (map-Stmt Stmt Effect effect (run_layer y))
+  run_step : (y : Stmt-F R) → (watched_step taps (map-Stmt Stmt Watched (watched taps) (run_layer y))).run ≡ stmt_effect (map-Stmt Stmt Effect effect (run_layer y))
   run_step (Stmt-F.Let x r) = refl
   run_step (Stmt-F.NewVar v y) = refl
   run_step (Stmt-F.NewArray v size) = refl
@@ -279,15 +297,15 @@ module _ (told kept : ℕ → Bool) (shows : Showing) where
   run_step (Stmt-F.If g a b offset) = rw (runs_are a, runs_are b) refl
   run_step (Stmt-F.For count body) = rw (runs_are body) refl
 
-  pub run_is : (s : Stmt) → (watched told kept shows s).run ≡ effect s
-  run_is = ind-Stmt (λ s. (watched told kept shows s).run ≡ effect s) (λ x y is. subst (λ z. (watched told kept shows (roll-Stmt z)).run ≡ effect (roll-Stmt z)) is (at_roll y))
+  pub run_is : (s : Stmt) → (watched taps s).run ≡ effect s
+  run_is = ind-Stmt (λ s. (watched taps s).run ≡ effect s) (λ x y is. subst (λ z. (watched taps (roll-Stmt z)).run ≡ effect (roll-Stmt z)) is (at_roll y))
     where
-      at_roll : (y : Stmt-F R) → (watched told kept shows (roll-Stmt (run_layer y))).run ≡ effect (roll-Stmt (run_layer y))
-      at_roll y = ap run_of (fold-roll-Stmt Watched (watched_step told kept shows) (run_layer y)) ∙ run_step y ∙ sym (fold-roll-Stmt Effect stmt_effect (run_layer y))
+      at_roll : (y : Stmt-F R) → (watched taps (roll-Stmt (run_layer y))).run ≡ effect (roll-Stmt (run_layer y))
+      at_roll y = ap run_of (fold-roll-Stmt Watched (watched_step taps) (run_layer y)) ∙ run_step y ∙ sym (fold-roll-Stmt Effect stmt_effect (run_layer y))
 
-  pub block_run_is : (body : List Stmt) → in_order (map run_of (map (watched told kept shows) body)) ≡ block_effect body
+  pub block_run_is : (body : List Stmt) → in_order (map run_of (map (watched taps) body)) ≡ block_effect body
   block_run_is body = ap in_order (all body)
     where
-      all : (body : List Stmt) → map run_of (map (watched told kept shows) body) ≡ map effect body
+      all : (body : List Stmt) → map run_of (map (watched taps) body) ≡ map effect body
       all [] = refl
       all (s ∷ body) = rw (run_is s, all body) refl

@@ -14,7 +14,7 @@ use Rattle.vd_constraints.specs.declared.labels.Labels.{Labels}
 use Rattle.vd_constraints.specs.Rules.{system_of}
 use Rattle.vd_constraints.specs.Satisfies.{Satisfies}
 use Rattle.vd_dependence.specs.Flowing.{only_with}
-use Rattle.vd_dependence.specs.Reading.{reads_slot, reads_host, in_view, LearnsOnly}
+use Rattle.vd_dependence.specs.Reading.{reads_slot, reads_result, reads_host, in_view, LearnsOnly}
 
 -- slots, and hosts whose inputs are among them
 pub record Reach : Type 0 where
@@ -90,7 +90,7 @@ AreReadable p h hosts = (k : ℕ) → hosts k ≡ true → reads_host p h k ≡ 
 
 -- what reaches the host depends on the inputs of these hosts alone
 abbrev pub AreEnough : NormalForm → Labels → HostId → (ℕ → Bool) → Type 0
-AreEnough p l h hosts = (r : Reach) → IsDependence p l h r → LearnsOnly p h (reads_slot p l h) hosts (reached_in_view p l h r)
+AreEnough p l h hosts = (r : Reach) → IsDependence p l h r → LearnsOnly p h (reads_result p l h) hosts (reached_in_view p l h r)
 
 -- at most one set of hosts has this property
 abbrev pub IsSingle : ((ℕ → Bool) → Type 0) → Type 0

@@ -16,7 +16,7 @@ use Rattle.vd_constraints.specs.Satisfies.{label_at}
 use Rattle.vd_meaning.specs.World.{world_at_start}
 use Rattle.vd_meaning.specs.ProgramMeaning.{SlotState, state_at_start, program_outputs}
 use Rattle.vd_dependence.specs.Agreement.{SameWords}
-use Rattle.vd_dependence.specs.Watching.{Watched, Showing, declassified_by, shown_by, words_in_order, watched}
+use Rattle.vd_dependence.specs.Watching.{Watched, Words, Downgrades, Taps, Showing, declassifications, endorsements, no_downgrades, given_by, shown_by, words_in_order, watched}
 
 -- the other formula is true at every set at which this one is
 abbrev pub acts : TruthTable → TruthTable → Bool
@@ -25,6 +25,14 @@ acts f g = list_all (λ set. not (at f set) || at g set) (sets f.names)
 -- the host's confidentiality acts for that of the slot's label
 abbrev pub reads_slot : NormalForm → Labels → HostId → ℕ → Bool
 reads_slot p l h x = acts (host_label p h).conf (label_at l (Slot (record { 0 = x }))).conf
+
+-- by a declassification: the host may read the result
+abbrev pub reads_result : NormalForm → Labels → HostId → ℕ → ℕ → Bool
+reads_result p l h x y = reads_slot p l h x
+
+-- by a declassification: the host may read the result, and not the operand
+abbrev pub becomes_readable_to : NormalForm → Labels → HostId → ℕ → ℕ → Bool
+becomes_readable_to p l h x y = reads_slot p l h x && not (reads_slot p l h y)
 
 -- the host's confidentiality acts for that of another host
 abbrev pub reads_host : NormalForm → HostId → ℕ → Bool
@@ -99,19 +107,26 @@ names test V = fold-Stmt Bool (stmt_names test V)
 abbrev pub NamesVisible : NormalForm → (ℕ → Bool) → Type 0
 NamesVisible p test = list_all (λ b. b) (map (names test (λ x. list_any (nat_eq x) (visible_slots test p.body))) p.body) ≡ true
 
-abbrev pub watched_body : NormalForm → (ℕ → Bool) → (ℕ → Bool) → Showing → List Watched
-watched_body p told kept shows = map (watched told kept shows) p.body
-
 abbrev pub start : NormalForm → List (List ℕ) → SlotState
 start p inputs = state_at_start (world_at_start (length p.hosts) inputs)
 
--- the words of the declassifications whose results pass the test, in order
-abbrev pub declassified_words : NormalForm → (ℕ → Bool) → List (List ℕ) → List ℕ
-declassified_words p told inputs = words_in_order declassified_by (watched_body p told (λ x. false) (λ s. [])) 0 (start p inputs)
+abbrev pub words_of_run : NormalForm → (Watched → Words) → Taps → List (List ℕ) → List ℕ
+words_of_run p which taps inputs = words_in_order which (map (watched taps) p.body) 0 (start p inputs)
+
+-- the words of these downgrades, in order
+abbrev pub downgraded_words : NormalForm → Downgrades → List (List ℕ) → List ℕ
+downgraded_words p these = words_of_run p given_by (record { given = these; freed = no_downgrades; kept = λ x. false; shows = λ s. [] })
+
+-- the words of the declassifications, and of the endorsements, whose result and operand pass the test
+abbrev pub declassified_words : NormalForm → (ℕ → ℕ → Bool) → List (List ℕ) → List ℕ
+declassified_words p test = downgraded_words p (declassifications test)
+
+abbrev pub endorsed_words : NormalForm → (ℕ → ℕ → Bool) → List (List ℕ) → List ℕ
+endorsed_words p test = downgraded_words p (endorsements test)
 
 -- the words that statements show of the slots that pass the test, in order
 abbrev pub shown_words : NormalForm → (ℕ → Bool) → Showing → List (List ℕ) → List ℕ
-shown_words p kept shows inputs = words_in_order shown_by (watched_body p (λ x. false) kept shows) 0 (start p inputs)
+shown_words p kept shows = words_of_run p shown_by (record { given = no_downgrades; freed = no_downgrades; kept = kept; shows = shows })
 
 abbrev pub outputs_to : NormalForm → HostId → List (List ℕ) → List ℕ
 outputs_to p h inputs = slice_index_or (program_outputs p inputs) h.0 []
@@ -120,9 +135,9 @@ outputs_to p h inputs = slice_index_or (program_outputs p inputs) h.0 []
 abbrev pub SameInputs : (ℕ → Bool) → List (List ℕ) → List (List ℕ) → Type 0
 SameInputs known first second = (k : ℕ) → known k ≡ true → SameWords (slice_index_or first k []) (slice_index_or second k [])
 
--- Inputs that agree on known hosts, and on what is declassified to the host, give it the same outputs, and show the same
--- words of the kept slots, whichever of them each statement shows.
-abbrev pub LearnsOnly : NormalForm → HostId → (ℕ → Bool) → (ℕ → Bool) → (ℕ → Bool) → Type 0
+-- Inputs that agree on known hosts, and on the words of these declassifications, give the host the same outputs, and show the
+-- same words of the kept slots, whichever of them each statement shows.
+abbrev pub LearnsOnly : NormalForm → HostId → (ℕ → ℕ → Bool) → (ℕ → Bool) → (ℕ → Bool) → Type 0
 LearnsOnly p h told known kept =
     (first second : List (List ℕ)) → SameInputs known first second → declassified_words p told first ≡ declassified_words p told second
     → (outputs_to p h first ≡ outputs_to p h second) × ((shows : Showing) → shown_words p kept shows first ≡ shown_words p kept shows second)

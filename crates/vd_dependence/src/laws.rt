@@ -5,13 +5,13 @@ ghost use Rattle.vd_base.specs.declared.ids.HostId.{HostId};
 ghost use Rattle.vd_constraints.specs.declared.labels.Labels.{Labels};
 ghost use Rattle.vd_core.specs.declared.normal.NormalForm.{NormalForm};
 ghost use Rattle.vd_core.specs.Facts.{IsWellMade};
-ghost use Rattle.vd_dependence.specs.Reading.{reads_slot, reads_host, in_view, LearnsOnly, NamesVisible};
+ghost use Rattle.vd_dependence.specs.Reading.{becomes_readable_to, reads_host, in_view, LearnsOnly, NamesVisible};
 ghost use Rattle.vd_dependence.specs.Dependence.{AreReached, AreReadable, AreEnough, IsSingle, OfEachHost};
 
-/// Two families of inputs that agree on the hosts that a host may read, and on what is declassified to it, give it the
-/// same outputs, and the same words of all slots in its view.
+/// Two families of inputs that agree on the hosts that a host may read, and on the words that become readable to it by a
+/// declassification, give it the same outputs, and the same words of all slots in its view.
 pub fn inputs_that_agree_tell_the_same()
-    ensures { OfEachHost (λ p l h. LearnsOnly p h (reads_slot p l h) (reads_host p h) (in_view p l h)) }
+    ensures { OfEachHost (λ p l h. LearnsOnly p h (becomes_readable_to p l h) (reads_host p h) (in_view p l h)) }
 {}
 
 /// The hosts whose inputs are reached from what a host is told are among those that it may read, and agreement on their
