@@ -1,9 +1,4 @@
-pub mod Runs
-pub mod Statements
-pub mod Walk
-pub mod Endorsed
-pub mod Freed
-pub mod ShownWords
+pub mod Vouching
 pub mod Lawful
 pub mod Theorem
 pub mod Influence

@@ -6,7 +6,6 @@ use Rattle.vd_base.specs.declared.ids.SlotId.{SlotId}
 use Rattle.vd_base.specs.declared.ids.HostId.{HostId}
 use Rattle.vd_core.specs.declared.normal.NormalForm.{NormalForm}
 use Rattle.vd_core.specs.Facts.{seeing, seeing_all, nothing_seen, IsWellMade}
-use Rattle.vd_meaning.specs.ProgramMeaning.{SlotState, Effect, block_effect}
 use Rattle.vd_formula.specs.TruthTable.{TruthTable, ActsFor, is_subset, sets, at, either_of, implies_of}
 use Rattle.vd_formula.proofs.Acting.{acts_trans}
 use Rattle.vd_formula.proofs.Implies.{if_so}
@@ -16,20 +15,15 @@ use Rattle.vd_constraints.specs.declared.labels.Labels.{Labels}
 use Rattle.vd_constraints.specs.Satisfies.{label_at, no_label, Satisfies}
 use Rattle.vd_constraints.specs.Rules.{at_start, system_of}
 use Rattle.vd_constraints.proofs.InSight.{well_made_scoped}
-use Rattle.vd_dependence.specs.Reading.{visible_slots, all_visible, all_hidden, makes, start, outputs_to, SameInputs}
+use Rattle.vd_dependence.specs.Flowing.{Knowledge, all_flow, all_hide, flow}
+use Rattle.vd_dependence.specs.Watching.{Showing, nothing}
+use Rattle.vd_dependence.specs.Reading.{visible_slots, all_visible, all_hidden, makes, declassified_words, shown_words, outputs_to}
 use Rattle.vd_dependence.proofs.Formulas.{acts_for, for_acts}
 use Rattle.vd_dependence.proofs.Lawful.{not_if}
 use Rattle.vd_dependence.proofs.Members.{all_apart, all_there, made_once}
 use Rattle.vd_dependence.proofs.Same.{same_principals, same_slots}
-use Rattle.vd_trust.specs.Flowing.{Knowledge, all_flow, all_hide, flow}
-use Rattle.vd_trust.specs.Agreement.{Agree}
-use Rattle.vd_trust.specs.Watching.{Watched, Words, Showing, endorsed_by, declassified_by, shown_by, words_in_order, watched}
-use Rattle.vd_trust.specs.Trust.{IsTrust, for_formula, against, trusts_slot, trusts_host, becomes_trusted, becomes_readable, blindly, nothing, endorsed_words, declassified_words, shown_words, IsSameToTrust, IsKept, IsRobust, IsTransparent}
-use Rattle.vd_trust.proofs.Runs.{InStep, block}
-use Rattle.vd_trust.proofs.Walk.{taps_of, body_keeps, block_run_is}
-use Rattle.vd_trust.proofs.Endorsed.{body_same as endorsed_same}
-use Rattle.vd_trust.proofs.Freed.{body_same as freed_same}
-use Rattle.vd_trust.proofs.ShownWords.{body_same as shown_same}
+use Rattle.vd_dependence.proofs.Whole.{hidden_silent, outputs_same, words_same, freed_words_same}
+use Rattle.vd_trust.specs.Trust.{IsTrust, for_formula, against, trusts_slot, trusts_host, becomes_trusted, becomes_readable, blindly, IsSameToTrust, IsKept, IsRobust, IsTransparent}
 use Rattle.vd_trust.proofs.Lawful.{knowledge, Meets, Lawful, FreesTrusted, VouchesAll, VouchedUnderTrust, body_obeys}
 
 -- ---- tests of integrities
@@ -91,46 +85,6 @@ module _ (p : NormalForm) (l : Labels) (well : IsWellMade p) (satisfies : Satisf
       start_over : (label_at l (Block 0)).integ.names ≡ length p.principals
       start_over = let some : 1 ≤ length l.blocks = lawful.before.blocks in block_over 0 (omega arith)
 
-      abbrev tells : Showing → (Watched → Words) → List (List ℕ) → List ℕ
-      tells shows which inputs = words_in_order which (map (watched (taps_of k shows)) p.body) 0 (start p inputs)
-
-      endorsed_is : (shows : Showing) (inputs : List (List ℕ)) → tells shows endorsed_by inputs ≡ endorsed_words p vouched inputs
-      endorsed_is shows inputs = endorsed_same k.vouched k.freed nothing k.kept (λ x. false) shows (λ s. []) p.body 0 (start p inputs)
-
-      -- a program that hides vouches for nothing
-      pub hidden_silent : all_hide (map (flow k) p.body) ≡ true → (inputs : List (List ℕ)) → endorsed_words p vouched inputs ≡ []
-      hidden_silent hides inputs = sym (endorsed_is (λ s. []) inputs) ∙ ((body_keeps k (λ s. []) p.body).hides hides 0 (start p inputs)).silent
-
-      module _ (flows : all_flow (map (flow k) p.body) ≡ true) (shows : Showing) (first second : List (List ℕ)) (inputs : SameInputs k.known first second) (endorsed : endorsed_words p vouched first ≡ endorsed_words p vouched second) where
-        freed_is : (inputs : List (List ℕ)) → tells shows declassified_by inputs ≡ declassified_words p freed inputs
-        freed_is inputs = freed_same k.freed k.vouched nothing k.kept (λ x. false) shows (λ s. []) p.body 0 (start p inputs)
-
-        shown_is : (inputs : List (List ℕ)) → tells shows shown_by inputs ≡ shown_words p k.kept shows inputs
-        shown_is inputs = shown_same k.vouched nothing k.freed nothing k.kept shows p.body 0 (start p inputs)
-
-        abbrev ran : List (List ℕ) → SlotState
-        ran inputs = (block k (map (watched (taps_of k shows)) p.body)).run 0 (start p inputs)
-
-        agree_start : Agree k (start p first) (start p second)
-        agree_start = record { words = λ x is. refl; arrays = λ x is. refl; inputs = inputs; hosts = refl; outputs = λ host is. refl }
-
-        in_step : InStep k (tells shows endorsed_by first) (tells shows endorsed_by second) (tells shows declassified_by first) (tells shows declassified_by second) (tells shows shown_by first) (tells shows shown_by second) [] [] (ran first) (ran second)
-        in_step =
-            (body_keeps k shows p.body).flows flows 0 (start p first) (start p second) [] [] agree_start
-            (ap (λ z. z ++ []) (endorsed_is shows first ∙ endorsed ∙ sym (endorsed_is shows second)))
-
-        ends : Agree k (block_effect p.body 0 (start p first)) (block_effect p.body 0 (start p second))
-        ends = subst (λ (f : Effect). Agree k (f 0 (start p first)) (f 0 (start p second))) (block_run_is (taps_of k shows) p.body) in_step.agree
-
-        pub outputs_same : (h : HostId) → trusts_host p T h.0 ≡ true → outputs_to p h first ≡ outputs_to p h second
-        outputs_same h trusted = ends.outputs h.0 trusted
-
-        pub words_same : shown_words p k.kept shows first ≡ shown_words p k.kept shows second
-        words_same = sym (shown_is first) ∙ in_step.shown ∙ shown_is second
-
-        pub freed_words_same : declassified_words p freed first ≡ declassified_words p freed second
-        freed_words_same = sym (freed_is first) ∙ in_step.freed ∙ freed_is second
-
   module _ (T : TruthTable → Bool) (trust : IsTrust (length p.principals) T) (freed : ℕ → ℕ → Bool) where
     abbrev trust_view : ℕ → Bool
     trust_view x = list_any (nat_eq x) (visible_slots (trusts_slot l T) p.body)
@@ -155,13 +109,13 @@ module _ (p : NormalForm) (l : Labels) (well : IsWellMade p) (satisfies : Satisf
 
       module _ (shows : Showing) (first second : List (List ℕ)) (same : IsSameToTrust p l T first second) where
         pub told_same : (h : HostId) → trusts_host p T h.0 ≡ true → outputs_to p h first ≡ outputs_to p h second
-        told_same = outputs_same T trust gains freed trust_view all_vouched vouched_under frees program_flows shows first second same.inputs same.endorsed
+        told_same = outputs_same p (k T trust gains freed trust_view) program_flows shows first second same.inputs same.endorsed
 
         pub held_same : shown_words p (λ x. trusts_slot l T x && trust_view x) shows first ≡ shown_words p (λ x. trusts_slot l T x && trust_view x) shows second
-        held_same = words_same T trust gains freed trust_view all_vouched vouched_under frees program_flows shows first second same.inputs same.endorsed
+        held_same = words_same p (k T trust gains freed trust_view) program_flows shows first second same.inputs same.endorsed
 
         pub let_out_same : declassified_words p freed first ≡ declassified_words p freed second
-        let_out_same = freed_words_same T trust gains freed trust_view all_vouched vouched_under frees program_flows shows first second same.inputs same.endorsed
+        let_out_same = freed_words_same p (k T trust gains freed trust_view) program_flows shows first second same.inputs same.endorsed
 
   nothing_frees : (T : TruthTable → Bool) (vouched : ℕ → ℕ → Bool) (V : ℕ → Bool) → FreesTrusted p l T vouched nothing V (length p.slots)
   nothing_frees T vouched V to pc x y over low y_low rules is = absurd (true≢false (sym is))
@@ -229,5 +183,5 @@ module _ (p : NormalForm) (l : Labels) (well : IsWellMade p) (satisfies : Satisf
         let frees = nothing_frees nobody (blindly l set) unseen in
         let lawful = lawful nobody nobody_is_trust (blindly l set) nothing unseen none_vouched never_blind frees in
         let over = start_over nobody nobody_is_trust (blindly l set) nothing unseen none_vouched never_blind frees in
-        hidden_silent nobody nobody_is_trust (blindly l set) nothing unseen none_vouched never_blind frees
+        hidden_silent p (k nobody nobody_is_trust (blindly l set) nothing unseen)
         (lawful.hides over refl (none_in (all_visible (map (makes (trusts_slot l nobody)) p.body))) (none_in (all_hidden (map (makes (trusts_slot l nobody)) p.body)))) inputs

@@ -14,16 +14,16 @@ use Rattle.vd_core.specs.Facts.{IsWellMade}
 use Rattle.vd_constraints.specs.declared.labels.Labels.{Labels}
 use Rattle.vd_constraints.specs.Rules.{host_label, system_of}
 use Rattle.vd_constraints.specs.Satisfies.{Satisfies}
-use Rattle.vd_dependence.specs.Flowing.{only_with}
+use Rattle.vd_dependence.specs.Flowing.{Knowledge, only_with, right_flows, right_hides, Flow, all_flow, all_hide, flow_step, flow}
+use Rattle.vd_dependence.specs.Watching.{nothing}
 use Rattle.vd_dependence.specs.Dependence.{Reach, Closing, all_close}
 use Rattle.vd_dependence.specs.Reading.{visible_slots}
 use Rattle.vd_dependence.proofs.Formulas.{for_acts}
 use Rattle.vd_dependence.proofs.Lawful.{and_of}
-use Rattle.vd_trust.specs.Flowing.{Knowledge, right_flows, right_hides, Flow, all_flow, all_hide, flow_step, flow}
-use Rattle.vd_trust.specs.Influence.{right_influences, stmt_influences, influences, AreInfluences, AreTrusted}
-use Rattle.vd_trust.specs.Trust.{for_formula, trusts_slot, becomes_trusted, nothing}
-use Rattle.vd_trust.proofs.Influence.{reached, body_carries}
-use Rattle.vd_trust.proofs.Lawful.{knowledge}
+use Rattle.vd_trust.specs.Influence.{right_influences, stmt_influences, influences, cut, AreInfluences, AreTrusted}
+use Rattle.vd_trust.specs.Trust.{for_formula, trusts_slot, trusts_host, becomes_trusted}
+use Rattle.vd_trust.proofs.Vouching.{vouching}
+use Rattle.vd_trust.proofs.Influence.{body_carries}
 use Rattle.vd_trust.proofs.Theorem.{formula_is_trust, trusted_flows}
 
 with_around : (a g b : Bool) → g ≡ true → only_with a b ≡ true → only_with a (g && b) ≡ true
@@ -56,7 +56,10 @@ nothing_asked : (a : Bool) → only_with a true ≡ true
 nothing_asked true = refl
 nothing_asked false = refl
 
-module _ (k : Knowledge) (h : ℕ) (hears : k.heard h ≡ true) where
+module _ (kept : ℕ → Bool) (vouched freed : ℕ → ℕ → Bool) (known heard : ℕ → Bool) (h : ℕ) (hears : heard h ≡ true) where
+  abbrev k : Knowledge
+  k = vouching kept vouched freed known heard
+
   -- what is kept, and the hosts whose inputs are known
   abbrev pub held : Reach
   held = record { slots = k.kept; hosts = k.known }
@@ -74,7 +77,7 @@ module _ (k : Knowledge) (h : ℕ) (hears : k.heard h ≡ true) where
   right_closed guards x (Apply op ys) is f = with_around (k.kept x.0) (around guards) (list_all (λ y. k.kept y.0) ys) is f
   right_closed guards x (Input host) is f = and_of (only_with (k.kept x.0) (k.known host.0)) (only_with (k.known host.0 || k.kept x.0) (around guards)) f (around_alone (k.known host.0 || k.kept x.0) (around guards) is)
   right_closed guards x (Declassify y to) is f =
-      with_around (k.kept x.0) (around guards) (k.kept y.0) is (and_parts (only_with (k.kept x.0) (k.kept y.0)) (only_with (k.freed x.0 y.0) (k.kept y.0)) f).0
+      with_around (k.kept x.0) (around guards) (k.kept y.0) is (and_parts (only_with (k.kept x.0) (k.kept y.0)) (only_with (freed x.0 y.0) (k.kept y.0)) f).0
   right_closed guards x (Endorse y to) is f = with_around (k.kept x.0) (around guards) true is (nothing_asked (k.kept x.0))
   right_closed guards x (Load v) is f = with_around (k.kept x.0) (around guards) (k.kept v.0) is f
   right_closed guards x (Get v i) is f = with_around (k.kept x.0) (around guards) (k.kept v.0 && k.kept i.0) is f
@@ -172,17 +175,17 @@ pub influences_trusted : (p : NormalForm) (l : Labels) (h : HostId) → IsWellMa
 influences_trusted p l h well satisfies hosts are n is =
     let own = (host_label p h).integ in
     let T = for_formula own in
-    let k = knowledge p l T (becomes_trusted l T) nothing (λ x. list_any (nat_eq x) (visible_slots (trusts_slot l T) p.body)) in
+    let kept : ℕ → Bool = λ x. trusts_slot l T x && list_any (nat_eq x) (visible_slots (trusts_slot l T) p.body) in
     let flows = trusted_flows p l well satisfies T (formula_is_trust (length p.principals) own) in
-    let closed = flows_close k h.0 (for_acts own own (λ set low here. here)) p.body flows in
-    (are.influence.least (held k h.0 (for_acts own own (λ set low here. here))) closed).hosts n (sym (are.same n) ∙ is)
+    let closed = flows_close kept (becomes_trusted l T) nothing (trusts_host p T) (trusts_host p T) h.0 (for_acts own own (λ set low here. here)) p.body flows in
+    (are.influence.least (held kept (becomes_trusted l T) nothing (trusts_host p T) (trusts_host p T) h.0 (for_acts own own (λ set low here. here))) closed).hosts n (sym (are.same n) ∙ is)
 
 -- what is reached without endorsements is reached with them
 pub influences_nest : (p : NormalForm) (h : HostId) (all direct : ℕ → Bool) → AreInfluences true p h all → AreInfluences false p h direct → (k : ℕ) → direct k ≡ true → all k ≡ true
 influences_nest p h all direct are those n is =
     let r = are.reach in
-    let k = reached true h.0 r in
+    let heard : ℕ → Bool = λ k. nat_eq k h.0 in
     let flows = (body_carries true h.0 r p.body [] are.influence.closed).0 refl in
     let own = eq-eqb h.0 h.0 refl in
-    let closed = flows_close k h.0 own p.body flows in
-    are.same n ∙ (those.influence.least (held k h.0 own) closed).hosts n (sym (those.same n) ∙ is)
+    let closed = flows_close r.slots (cut true r) nothing r.hosts heard h.0 own p.body flows in
+    are.same n ∙ (those.influence.least (held r.slots (cut true r) nothing r.hosts heard h.0 own) closed).hosts n (sym (those.same n) ∙ is)

@@ -10,10 +10,10 @@ use Rattle.vd_core.specs.declared.normal.Stmt.TheOpen.{Stmt-F}
 use Rattle.vd_core.specs.declared.normal.Stmt.TheFolds.{fold-Stmt}
 use Rattle.vd_core.specs.declared.normal.NormalForm.{NormalForm}
 use Rattle.vd_dependence.specs.Flowing.{only_with}
-use Rattle.vd_dependence.specs.Reading.{SameInputs, outputs_to}
+use Rattle.vd_dependence.specs.Reading.{SameInputs, endorsed_words, outputs_to}
 use Rattle.vd_dependence.specs.Dependence.{Reach, IsWithin, Closing, all_close}
 use Rattle.vd_constraints.specs.Rules.{host_label}
-use Rattle.vd_trust.specs.Trust.{endorsed_words, for_formula, trusts_host}
+use Rattle.vd_trust.specs.Trust.{for_formula, trusts_host}
 
 -- a right side asks this of a reach, where it makes x; `around` tells whether all guards around it are reached, and `passed`
 -- whether endorsements are passed

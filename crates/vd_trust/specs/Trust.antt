@@ -1,5 +1,5 @@
 -- Whom one trusts, what one trusts, and what nobody else can change.
-use Rattle.std.specs.Prelude.{◌≡◌, ℕ, Bool, true, false, ◌&&◌, not, nat_eq, List, [], length, map}
+use Rattle.std.specs.Prelude.{◌≡◌, ℕ, Bool, true, ◌&&◌, not, nat_eq, List, [], length}
 use Rattle.std.specs.List.{list_any}
 use Rattle.vd_base.specs.declared.ids.HostId.{HostId}
 use Rattle.vd_core.specs.declared.normal.NormalForm.{NormalForm}
@@ -9,8 +9,8 @@ use Rattle.vd_constraints.specs.declared.labels.Labels.{Labels}
 use Rattle.vd_constraints.specs.declared.system.Place.TheVariants.{Slot}
 use Rattle.vd_constraints.specs.Rules.{host_label, system_of}
 use Rattle.vd_constraints.specs.Satisfies.{label_at, Satisfies}
-use Rattle.vd_dependence.specs.Reading.{acts, visible_slots, start, outputs_to, SameInputs}
-use Rattle.vd_trust.specs.Watching.{Watched, Words, Taps, Showing, endorsed_by, declassified_by, shown_by, words_in_order, watched}
+use Rattle.vd_dependence.specs.Watching.{Showing}
+use Rattle.vd_dependence.specs.Reading.{acts, visible_slots, declassified_words, endorsed_words, shown_words, outputs_to, SameInputs}
 
 -- A test of integrities over so many names: what acts for a trusted integrity is trusted.
 abbrev pub IsTrust : ℕ → (TruthTable → Bool) → Type 0
@@ -48,23 +48,6 @@ blindly l set x y =
     at (label_at l (Slot (record { 0 = y }))).integ set
     && not (at (label_at l (Slot (record { 0 = x }))).integ set)
     && not (at (label_at l (Slot (record { 0 = y }))).conf set)
-
-abbrev pub nothing : ℕ → ℕ → Bool
-nothing x y = false
-
-abbrev pub words_of_run : NormalForm → (Watched → Words) → Taps → List (List ℕ) → List ℕ
-words_of_run p which taps inputs = words_in_order which (map (watched taps) p.body) 0 (start p inputs)
-
--- the words of the endorsements, and of the declassifications, whose result and operand pass the test, in order
-abbrev pub endorsed_words : NormalForm → (ℕ → ℕ → Bool) → List (List ℕ) → List ℕ
-endorsed_words p test = words_of_run p endorsed_by (record { vouched = test; freed = nothing; kept = λ x. false; shows = λ s. [] })
-
-abbrev pub declassified_words : NormalForm → (ℕ → ℕ → Bool) → List (List ℕ) → List ℕ
-declassified_words p test = words_of_run p declassified_by (record { vouched = nothing; freed = test; kept = λ x. false; shows = λ s. [] })
-
--- the words that statements show of the slots that pass the test, in order
-abbrev pub shown_words : NormalForm → (ℕ → Bool) → Showing → List (List ℕ) → List ℕ
-shown_words p kept shows = words_of_run p shown_by (record { vouched = nothing; freed = nothing; kept = kept; shows = shows })
 
 -- two families of inputs agree on the trusted hosts, and the same words become trusted
 pub record IsSameToTrust (p : NormalForm) (l : Labels) (T : TruthTable → Bool) (first second : List (List ℕ)) : Type 0 where
