@@ -1,5 +1,5 @@
 -- What comes to a host in clear at a valid assignment depends on the reached hosts alone.
-use Rattle.std.proofs.Common.{◌≡◌, ℕ, zero, suc, ◌<◌, Bool, true, false, true≢false, ◌&&◌, List, [], ◌∷◌, map, length, Option, Some, None, refl, sym, ap, ◌∙◌, subst, arith, slice_get, slice_index_or, nat_eq}
+use Rattle.std.proofs.Common.{◌≡◌, ℕ, zero, suc, ◌<◌, ◌≤◌, Bool, true, false, true≢false, ◌&&◌, ◌||◌, List, [], ◌∷◌, map, length, Option, Some, None, refl, sym, ap, ◌∙◌, subst, arith, slice_get, slice_index_or, nat_eq}
 use Rattle.std.specs.Prelude.{is_some, nat_lt}
 use Rattle.std.specs.List.{list_all, list_any}
 use Rattle.std.specs.Option.{option_map_or}
@@ -29,16 +29,18 @@ use Rattle.vd_space.proofs.Kept.{IsValid, parts_of}
 use Rattle.vd_space.proofs.Programs.{is_labelled}
 use Rattle.vd_dependence.specs.Flowing.{all_flow, flow}
 use Rattle.vd_dependence.specs.Agreement.{Agree}
-use Rattle.vd_dependence.specs.Watching.{declassified_by, words_in_order, watched}
-use Rattle.vd_dependence.specs.Reading.{acts, reads_slot, reads_host, visible_slots, start, declassified_words}
+use Rattle.vd_dependence.specs.Watching.{Taps}
+use Rattle.vd_dependence.specs.Reading.{acts, reads_slot, reads_result, becomes_readable_to, reads_host, in_view, visible_slots, start}
 use Rattle.vd_dependence.specs.Dependence.{Reach, IsClosed, AreReached, OfEachHost}
-use Rattle.vd_dependence.proofs.Declassified.{body_same}
-use Rattle.vd_dependence.proofs.Lawful.{knowledge}
+use Rattle.vd_dependence.proofs.Lawful.{Tells}
 use Rattle.vd_dependence.proofs.Named.{named_are_visible}
 use Rattle.vd_dependence.proofs.Narrow.{narrowed, narrowed_flows}
 use Rattle.vd_dependence.proofs.Same.{same_slots}
-use Rattle.vd_dependence.proofs.Theorem.{program_flows}
-use Rattle.vd_noninter.proofs.Answered.{has_dependence, labels_over}
+use Rattle.vd_dependence.proofs.Theorem.{program_flows, becoming, results, kept_read}
+use Rattle.vd_dependence.proofs.Walk.{taps_of}
+use Rattle.vd_dependence.proofs.Whole.{hearing, given_is}
+use Rattle.vd_noninter.proofs.Answered.{labels_over}
+use Rattle.vd_noninter.proofs.Declared.{body_closed, eight_hosts}
 use Rattle.vd_assigned_dependence.specs.Hearing.{has_clear, Heard, read_of, stands, heard_step, heard}
 use Rattle.vd_assigned_dependence.specs.Assigned.{IsAssignment, HearsOnly, HearsOnlyAssigned}
 use Rattle.vd_assigned_dependence.proofs.Clear.{clear_acts}
@@ -80,7 +82,7 @@ module _ (problem : Problem) (list : List ℕ) (h : HostId) (l : Labels) where
   body_reads [] = refl
   body_reads (s ∷ body) = rw (stmt_reads s, body_reads body) refl
 
-own_label : (p : NormalForm) (labels : List Written) (i : ℕ) (d e : Label) → i < length labels → slice_index_or (map (label p) labels) i d ≡ option_map_or (label p) (slice_get labels i) e
+pub own_label : (p : NormalForm) (labels : List Written) (i : ℕ) (d e : Label) → i < length labels → slice_index_or (map (label p) labels) i d ≡ option_map_or (label p) (slice_get labels i) e
 own_label p [] i d e low = absurd (omega arith)
 own_label p (one ∷ more) zero d e low = refl
 own_label p (one ∷ more) (suc i) d e low = own_label p more i d e (omega arith)
@@ -138,40 +140,45 @@ module _ (p : NormalForm) (l : Labels) (h : HostId) (well : IsWellMade p) (satis
   told_all : (test : HostId → Bool) → list_all test (all_hosts problem) ≡ true → test h ≡ true
   told_all test all = of_host test 0 (length problem.hosts) h.0 all (omega arith) (omega (arith, low))
 
-  kept_read : (x : ℕ) → (knowledge p l h view).kept x ≡ true → reads x ≡ true
-  kept_read x is = (and_parts (reads x) (view x) is).0
-
-  reach_hears : (r : Reach) → IsClosed p l h r → HearsOnly p l list h (λ k. reads_host p h k && r.hosts k)
-  reach_hears r closed first second same told =
-      same_words problem list h l reads view (reads_host p h) r clear_read told_read told_all p.body 1 (start p first) (start p second)
-      (named_are_visible p reads well.made_before) flows (narrowed_flows (knowledge p l h view) reads r kept_read p.body closed flows) closed
+  -- of a closed reach in which a declassified word is given, or its operand is reached
+  reach_hears : (test : ℕ → ℕ → Bool) → Tells p l h test view → (r : Reach) → IsClosed p l h r → ((x y : ℕ) → in_view p l h x ≡ true → (test x y || r.slots y) ≡ true)
+      → HearsOnly p l list h test (λ k. reads_host p h k && r.hosts k)
+  reach_hears test tells r closed goes_on first second same told =
+      let taps : Taps = taps_of (narrowed (in_view p l h) test (reads_host p h) h.0 r) (λ s. []) in
+      same_words problem list h l reads view (reads_host p h) test r clear_read told_read told_all p.body 1 (start p first) (start p second)
+      (named_are_visible p reads well.made_before) flows (narrowed_flows (in_view p l h) test (reads_host p h) h.0 r reads (kept_read p l h well satisfies) goes_on p.body closed flows) closed
       (subst (λ rs. list_all (guard_told problem list) (all_parts rs 1).guards ≡ true) (sym (body_reads problem list h l p.body)) valid.guards)
       (subst (λ rs. list_all (index_told problem list) (all_parts rs 1).indexes ≡ true) (sym (body_reads problem list h l p.body)) valid.indexes)
-      agree (declassified_is first ∙ told ∙ sym (declassified_is second))
+      agree (given_is p taps first ∙ told ∙ sym (given_is p taps second))
     where
-      flows : all_flow (map (flow (knowledge p l h view)) p.body) ≡ true
-      flows = program_flows p l h well satisfies
+      flows : all_flow (map (flow (hearing (in_view p l h) test (reads_host p h) h.0)) p.body) ≡ true
+      flows = program_flows p l h well satisfies test tells
 
-      agree : Agree (narrowed (knowledge p l h view) reads r kept_read) (start p first) (start p second)
-      agree = record { words = λ x is. refl; arrays = λ x is. refl; inputs = same; hosts = refl; outputs = refl }
+      agree : Agree (narrowed (in_view p l h) test (reads_host p h) h.0 r) (start p first) (start p second)
+      agree = record { words = λ x is. refl; arrays = λ x is. refl; inputs = same; hosts = refl; outputs = λ host is. refl }
 
-      declassified_is : (inputs : List (List ℕ)) → words_in_order declassified_by (map (watched reads (λ x. (reads x && view x) && r.slots x) (λ s. [])) p.body) 0 (start p inputs) ≡ declassified_words p reads inputs
-      declassified_is inputs = body_same reads (λ x. (reads x && view x) && r.slots x) (λ x. false) (λ s. []) (λ s. []) p.body 0 (start p inputs)
+  weaker : (test : ℕ → ℕ → Bool) (known known' : ℕ → Bool) → ((k : ℕ) → known k ≡ true → known' k ≡ true) → HearsOnly p l list h test known → HearsOnly p l list h test known'
+  weaker test known known' more hears first second same told = hears first second (λ k is. same k (more k is)) told
 
-  weaker : (known known' : ℕ → Bool) → ((k : ℕ) → known k ≡ true → known' k ≡ true) → HearsOnly p l list h known → HearsOnly p l list h known'
-  weaker known known' more hears first second same told = hears first second (λ k is. same k (more k is)) told
-
-  reached_hear : (hosts : ℕ → Bool) → AreReached p l h hosts → HearsOnly p l list h hosts
+  reached_hear : (hosts : ℕ → Bool) → AreReached p l h hosts → HearsOnly p l list h (reads_result p l h) hosts
   reached_hear hosts are =
-      weaker (λ k. reads_host p h k && are.reach.hosts k) hosts (λ k both. are.same k ∙ (and_parts (reads_host p h k) (are.reach.hosts k) both).1) (reach_hears are.reach are.dependence.closed)
+      weaker (reads_result p l h) (λ k. reads_host p h k && are.reach.hosts k) hosts (λ k both. are.same k ∙ (and_parts (reads_host p h k) (are.reach.hosts k) both).1)
+      (reach_hears (reads_result p l h) (results p l h well satisfies) are.reach are.dependence.closed (λ x y is. rw (kept_read p l h well satisfies x is) refl))
 
-  readable_hear : HearsOnly p l list h (reads_host p h)
+  either_true : (b : Bool) → (b || true) ≡ true
+  either_true true = refl
+  either_true false = refl
+
+  readable_hear : HearsOnly p l list h (becomes_readable_to p l h) (reads_host p h)
   readable_hear =
-      let found = has_dependence p l h well in
-      weaker (λ k. reads_host p h k && found.0.hosts k) (reads_host p h) (λ k both. (and_parts (reads_host p h k) (found.0.hosts k) both).0) (reach_hears found.0 found.1.closed)
+      let few = well.limits.hosts in
+      let few_hosts : length p.hosts ≤ 8 = omega arith in
+      let closed : IsClosed p l h eight_hosts = body_closed reads h.0 (length p.hosts) few_hosts p.body well.known_hosts in
+      weaker (becomes_readable_to p l h) (λ k. reads_host p h k && nat_lt k 8) (reads_host p h) (λ k both. (and_parts (reads_host p h k) (nat_lt k 8) both).0)
+      (reach_hears (becomes_readable_to p l h) (becoming p l h well satisfies) eight_hosts closed (λ x y is. either_true (becomes_readable_to p l h x y)))
 
-pub all_hear_readable : OfEachHost (λ p l h. HearsOnlyAssigned p l h (reads_host p h))
+pub all_hear_readable : OfEachHost (λ p l h. HearsOnlyAssigned p l h (becomes_readable_to p l h) (reads_host p h))
 all_hear_readable p l h well satisfies declared list assigned = readable_hear p l h well satisfies declared list assigned
 
-pub all_hear_reached : OfEachHost (λ p l h. (hosts : ℕ → Bool) → AreReached p l h hosts → HearsOnlyAssigned p l h hosts)
+pub all_hear_reached : OfEachHost (λ p l h. (hosts : ℕ → Bool) → AreReached p l h hosts → HearsOnlyAssigned p l h (reads_result p l h) hosts)
 all_hear_reached p l h well satisfies hosts are declared list assigned = reached_hear p l h well satisfies declared list assigned hosts are

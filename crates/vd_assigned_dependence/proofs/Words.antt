@@ -23,12 +23,13 @@ use Rattle.vd_space.specs.Reading.{Read, all_parts, all_named, all_told, named_b
 use Rattle.vd_space.specs.Validity.{protocol, holder, holds_at, all_hosts, may_read, move_to_host, if_decided, is_told, takes_part, guard_told, index_test, index_told}
 use Rattle.vd_dependence.specs.Flowing.{Knowledge, only_with, right_flows, Flow, all_flow, all_hide, flow_step, flow}
 use Rattle.vd_dependence.specs.Agreement.{Agree}
-use Rattle.vd_dependence.specs.Watching.{Watched, Words, run_of as watched_run, declassified_by, words_in_order, taken, right_declassified, stmt_declassified, Showing, watched_step, watched}
+use Rattle.vd_dependence.specs.Watching.{Watched, Words, run_of as watched_run, given_by, words_in_order, taken, right_downgraded, stmt_downgraded, Showing, watched_step, watched}
 use Rattle.vd_dependence.specs.Reading.{right_names, stmt_names, names}
 use Rattle.vd_dependence.specs.Dependence.{Reach, right_closes, Closing, all_close, stmt_closes, closes}
 use Rattle.vd_dependence.proofs.Runs.{Seen, block, loop, seen_loop}
 use Rattle.vd_dependence.proofs.Statements.{only, right_in_step}
-use Rattle.vd_dependence.proofs.Walk.{Keeps, stmt_keeps, body_keeps, run_is}
+use Rattle.vd_dependence.proofs.Walk.{taps_of, Keeps, stmt_keeps, body_keeps, run_is}
+use Rattle.vd_dependence.proofs.Whole.{hearing}
 use Rattle.vd_dependence.proofs.Narrow.{narrowed}
 use Rattle.vd_dependence.proofs.Lawful.{and_of, false_if}
 use Rattle.vd_assigned_dependence.proofs.Clear.{clear_holds}
@@ -75,21 +76,18 @@ module _ (problem : Problem) (list : List ℕ) (h : HostId) (l : Labels) where
       at_roll : (y : Stmt-F R) → (heard problem list h l (roll-Stmt (run_layer y))).run ≡ effect (roll-Stmt (run_layer y))
       at_roll y = ap run_of (fold-roll-Stmt Heard (heard_step problem list h l) (run_layer y)) ∙ run_step y ∙ sym (fold-roll-Stmt Effect stmt_effect (run_layer y))
 
-module _ (problem : Problem) (list : List ℕ) (h : HostId) (l : Labels) (reads V known : ℕ → Bool) (r : Reach) (clear_read : (x : SlotId) → stands problem list h (has_clear h) x ≡ true → reads x.0 ≡ true) (told_read : (x : SlotId) → may_read problem h x.0 ≡ true → reads x.0 ≡ true) (told_all : (test : HostId → Bool) → list_all test (all_hosts problem) ≡ true → test h ≡ true) where
+module _ (problem : Problem) (list : List ℕ) (h : HostId) (l : Labels) (reads V known : ℕ → Bool) (test : ℕ → ℕ → Bool) (r : Reach) (clear_read : (x : SlotId) → stands problem list h (has_clear h) x ≡ true → reads x.0 ≡ true) (told_read : (x : SlotId) → may_read problem h x.0 ≡ true → reads x.0 ≡ true) (told_all : (test : HostId → Bool) → list_all test (all_hosts problem) ≡ true → test h ≡ true) where
   abbrev k : Knowledge
-  k = record { kept = λ x. reads x && V x; told = reads; known = known; host = h.0 }
-
-  pub kept_read : (x : ℕ) → k.kept x ≡ true → reads x ≡ true
-  kept_read x is = (and_parts (reads x) (V x) is).0
+  k = hearing (λ x. reads x && V x) test known h.0
 
   abbrev pub K : Knowledge
-  K = narrowed k reads r kept_read
+  K = narrowed (λ x. reads x && V x) test known h.0 r
 
   abbrev silent : Showing
   silent s = []
 
   abbrev w : Stmt → Watched
-  w = watched K.told K.kept silent
+  w = watched (taps_of K silent)
 
   abbrev hs : Stmt → Heard
   hs = heard problem list h l
@@ -180,7 +178,7 @@ module _ (problem : Problem) (list : List ℕ) (h : HostId) (l : Labels) (reads 
     indexes : list_all (index_told problem list) (indexes_of weight right) ≡ true
 
   right_alike : (x : SlotId) (right : Right) (around told : Bool) (weight : ℕ) → RightAsked x right around told weight
-      → Alike (λ turn s. right_declassified K.told x right s) (λ turn s. right_heard problem list h x right s)
+      → Alike (λ turn s. right_downgraded K.given x right s) (λ turn s. right_heard problem list h x right s)
   right_alike x (Lit n) around told weight is turn s t rest rest' a e = refl
   right_alike x Turn around told weight is turn s t rest rest' a e = refl
   right_alike x (Copy y) around told weight is turn s t rest rest' a e =
@@ -199,7 +197,8 @@ module _ (problem : Problem) (list : List ℕ) (h : HostId) (l : Labels) (reads 
       (λ comes_here. let read = comes_read y x comes_here in step.same (kept_of x.0 read is.seen (asked told x.0 x.0 parts.1 is.guarded read)))
   right_alike x (Endorse y to) around told weight is turn s t rest rest' a e =
       let parts = and_parts (only_with (r.slots x.0) (around && r.slots y.0)) (only_with (told && reads x.0) (r.slots y.0)) is.closed in
-      word_if_same (coming y x) (word_at s y) (word_at t y) (λ comes_here. a.words y.0 (made_of told x.0 y.0 is.flows parts.1 is.guarded is.seen (comes_read y x comes_here)))
+      let flows = (and_parts (only_with (k.kept x.0) (k.kept y.0)) true is.flows).0 in
+      word_if_same (coming y x) (word_at s y) (word_at t y) (λ comes_here. a.words y.0 (made_of told x.0 y.0 flows parts.1 is.guarded is.seen (comes_read y x comes_here)))
   right_alike x (Load v) around told weight is turn s t rest rest' a e =
       let parts = and_parts (only_with (r.slots x.0) (around && r.slots v.0)) (only_with (told && reads x.0) (r.slots x.0)) is.closed in
       let step = right_in_step K x (Load v) turn s t rest rest' a is.narrow e in
@@ -238,7 +237,7 @@ module _ (problem : Problem) (list : List ℕ) (h : HostId) (l : Labels) (reads 
 
   record Hears (named : Bool) (f narrow : Flow) (closing : Closing) (does : Watched) (hears : Heard) : Type 0 where
     quiet : IsApart hears.read → (turn : ℕ) (s : SlotState) → hears.words turn s ≡ []
-    alike : (guards : List SlotId) (weight : ℕ) → Asked named f narrow closing hears.read guards weight → Alike does.declassified hears.words
+    alike : (guards : List SlotId) (weight : ℕ) → Asked named f narrow closing hears.read guards weight → Alike does.given hears.words
 
   abbrev block_flow : List Flow → Flow
   block_flow fs = record { flows = all_flow fs; hides = all_hide fs }
@@ -266,14 +265,14 @@ module _ (problem : Problem) (list : List ℕ) (h : HostId) (l : Labels) (reads 
   all_both test xs ys all = and_parts (list_all test xs) (list_all test ys) (sym (list_all-append test xs ys) ∙ all)
 
   -- one run after another
-  then_alike : (one two : Watched) (first second : Words) (turn turn' : ℕ) (s t : SlotState) (rest rest' : List ℕ) → Seen K one → Alike one.declassified first → Alike two.declassified second → Agree K s t
-      → (one.declassified turn s ++ two.declassified turn' (one.run turn s)) ++ rest ≡ (one.declassified turn t ++ two.declassified turn' (one.run turn t)) ++ rest'
+  then_alike : (one two : Watched) (first second : Words) (turn turn' : ℕ) (s t : SlotState) (rest rest' : List ℕ) → Seen K one → Alike one.given first → Alike two.given second → Agree K s t
+      → (one.given turn s ++ two.given turn' (one.run turn s)) ++ rest ≡ (one.given turn t ++ two.given turn' (one.run turn t)) ++ rest'
       → first turn s ++ second turn' (one.run turn s) ≡ first turn t ++ second turn' (one.run turn t)
   then_alike one two first second turn turn' s t rest rest' seen here later a e =
-      let left = two.declassified turn' (one.run turn s) ++ rest in
-      let left' = two.declassified turn' (one.run turn t) ++ rest' in
-      let e' : one.declassified turn s ++ left ≡ one.declassified turn t ++ left' =
-      sym (append_assoc (one.declassified turn s) (two.declassified turn' (one.run turn s)) rest) ∙ e ∙ append_assoc (one.declassified turn t) (two.declassified turn' (one.run turn t)) rest'
+      let left = two.given turn' (one.run turn s) ++ rest in
+      let left' = two.given turn' (one.run turn t) ++ rest' in
+      let e' : one.given turn s ++ left ≡ one.given turn t ++ left' =
+      sym (append_assoc (one.given turn s) (two.given turn' (one.run turn s)) rest) ∙ e ∙ append_assoc (one.given turn t) (two.given turn' (one.run turn t)) rest'
       in
       let step = seen turn s t left left' a e' in
       both_words (first turn s) (first turn t) (second turn' (one.run turn s)) (second turn' (one.run turn t)) (here turn s t left left' a e') (later turn' (one.run turn s) (one.run turn t) rest rest' step.agree step.rest)
@@ -303,8 +302,8 @@ module _ (problem : Problem) (list : List ℕ) (h : HostId) (l : Labels) (reads 
   loop_quiet zero hears quiet s = refl
   loop_quiet (suc n) hears quiet s = rw (loop_quiet n hears quiet s, quiet n (turns n (in_order (map run_of hears)) s)) refl
 
-  loop_alike : (n : ℕ) (does : List Watched) (hears : List Heard) → in_order (map run_of hears) ≡ in_order (map watched_run does) → Seen K (block K does) → Alike (block K does).declassified (heard_in_order hears)
-      → Alike (loop K n does).declassified (λ turn s. heard_in_turns n hears s)
+  loop_alike : (n : ℕ) (does : List Watched) (hears : List Heard) → in_order (map run_of hears) ≡ in_order (map watched_run does) → Seen K (block K does) → Alike (block K does).given (heard_in_order hears)
+      → Alike (loop K n does).given (λ turn s. heard_in_turns n hears s)
   loop_alike zero does hears runs seen each turn s t rest rest' a e = refl
   loop_alike (suc n) does hears runs seen each turn s t rest rest' a e =
       subst (λ (run : Effect). heard_in_turns n hears s ++ heard_in_order hears n (turns n run s) ≡ heard_in_turns n hears t ++ heard_in_order hears n (turns n run t)) (sym runs)
@@ -371,12 +370,12 @@ module _ (problem : Problem) (list : List ℕ) (h : HostId) (l : Labels) (reads 
         none : part ≡ false
         none = or_from (list_any (same_host h) (all_told (map read_of hears ++ map read_of hears'))) (list_any holds (all_named (map read_of hears ++ map read_of hears'))) told named
 
-    same_branch : (turn : ℕ) (s t : SlotState) (rest rest' : List ℕ) → Agree K s t → word_at s g ≡ word_at t g → Alike (block K does).declassified (heard_in_order hears) → Alike (block K does').declassified (heard_in_order hears')
-        → words_in_order declassified_by (taken g does does' s) turn s ++ rest ≡ words_in_order declassified_by (taken g does does' t) turn t ++ rest'
+    same_branch : (turn : ℕ) (s t : SlotState) (rest rest' : List ℕ) → Agree K s t → word_at s g ≡ word_at t g → Alike (block K does).given (heard_in_order hears) → Alike (block K does').given (heard_in_order hears')
+        → words_in_order given_by (taken g does does' s) turn s ++ rest ≡ words_in_order given_by (taken g does does' t) turn t ++ rest'
         → heard_in_order (taken g hears hears' s) turn s ≡ heard_in_order (taken g hears hears' t) turn t
     same_branch turn s t rest rest' a same one two e = by (nat_eq (word_at s g) 0) (nat_eq (word_at t g) 0) (ap (λ z. nat_eq z 0) same) e
       where
-        by : (b b' : Bool) → b ≡ b' → words_in_order declassified_by (if b then does' else does) turn s ++ rest ≡ words_in_order declassified_by (if b' then does' else does) turn t ++ rest'
+        by : (b b' : Bool) → b ≡ b' → words_in_order given_by (if b then does' else does) turn s ++ rest ≡ words_in_order given_by (if b' then does' else does) turn t ++ rest'
             → heard_in_order (if b then hears' else hears) turn s ≡ heard_in_order (if b' then hears' else hears) turn t
         by true true is e = two turn s t rest rest' a e
         by false false is e = one turn s t rest rest' a e
@@ -385,7 +384,7 @@ module _ (problem : Problem) (list : List ℕ) (h : HostId) (l : Labels) (reads 
 
     if_alike : (guards : List SlotId) (weight : ℕ)
         → Asked (stmt_names reads V (Stmt-F.If g as' bs offset)) (flow_step k (Stmt-F.If g f f' offset)) (flow_step K (Stmt-F.If g n n' offset)) (stmt_closes reads h.0 r (Stmt-F.If g c c' offset)) (read_step l (Stmt-F.If g (map read_of hears) (map read_of hears') offset)) guards weight
-        → Alike (stmt_declassified K.told (Stmt-F.If g does does' offset)) if_words
+        → Alike (stmt_downgraded K.given given_by (Stmt-F.If g does does' offset)) if_words
     if_alike guards weight is turn s t rest rest' a e = by (K.kept g.0) refl
       where
         asks : (V g.0 ≡ true) × ((if reads g.0 then all_true as' && all_true bs else true) ≡ true)
@@ -448,7 +447,7 @@ module _ (problem : Problem) (list : List ℕ) (h : HostId) (l : Labels) (reads 
   BlockHears body = Hears (all_true (map (names reads V) body)) (block_flow (map (flow k) body)) (block_flow (map (flow K) body)) (all_close (map (closes reads h.0 r) body)) (block K (map w body)) (block_heard (map hs body))
 
   runs_same : (s : Stmt) → (hs s).run ≡ (w s).run
-  runs_same s = heard_runs problem list h l s ∙ sym (run_is K.told K.kept silent s)
+  runs_same s = heard_runs problem list h l s ∙ sym (run_is (taps_of K silent) s)
 
   block_runs : (body : List Stmt) → map run_of (map hs body) ≡ map watched_run (map w body)
   block_runs [] = refl
@@ -507,7 +506,7 @@ module _ (problem : Problem) (list : List ℕ) (h : HostId) (l : Labels) (reads 
   around = list_all (λ g. r.slots g.0)
 
   step : (y : Stmt-F M) → Hears (stmt_names reads V (map-Stmt Stmt Bool (names reads V) (layer y))) (flow_step k (map-Stmt Stmt Flow (flow k) (layer y))) (flow_step K (map-Stmt Stmt Flow (flow K) (layer y)))
-      (stmt_closes reads h.0 r (map-Stmt Stmt Closing (closes reads h.0 r) (layer y))) (watched_step K.told K.kept silent (map-Stmt Stmt Watched w (layer y))) (heard_step problem list h l (map-Stmt Stmt Heard hs (layer y)))
+      (stmt_closes reads h.0 r (map-Stmt Stmt Closing (closes reads h.0 r) (layer y))) (watched_step (taps_of K silent) (map-Stmt Stmt Watched w (layer y))) (heard_step problem list h l (map-Stmt Stmt Heard hs (layer y)))
   step (Stmt-F.Let x right) = record {
     quiet = λ apart turn s. right_quiet x right apart.named s;
     alike = λ guards weight is.
@@ -586,7 +585,7 @@ module _ (problem : Problem) (list : List ℕ) (h : HostId) (l : Labels) (reads 
             fold-roll-Stmt Flow (flow_step k) (layer y),
             fold-roll-Stmt Flow (flow_step K) (layer y),
             fold-roll-Stmt Closing (stmt_closes reads h.0 r) (layer y),
-            fold-roll-Stmt Watched (watched_step K.told K.kept silent) (layer y),
+            fold-roll-Stmt Watched (watched_step (taps_of K silent)) (layer y),
             fold-roll-Stmt Heard (heard_step problem list h l) (layer y),
           ) (step y)
 
@@ -597,7 +596,7 @@ module _ (problem : Problem) (list : List ℕ) (h : HostId) (l : Labels) (reads 
   -- two runs of a whole program
   pub same_words : (body : List Stmt) (weight : ℕ) (s t : SlotState) → list_all (λ b. b) (map (names reads V) body) ≡ true → all_flow (map (flow k) body) ≡ true → all_flow (map (flow K) body) ≡ true → all_close (map (closes reads h.0 r) body) [] ≡ true
       → list_all (guard_told problem list) (all_parts (map read_of (map hs body)) weight).guards ≡ true → list_all (index_told problem list) (all_parts (map read_of (map hs body)) weight).indexes ≡ true
-      → Agree K s t → words_in_order declassified_by (map w body) 0 s ≡ words_in_order declassified_by (map w body) 0 t
+      → Agree K s t → words_in_order given_by (map w body) 0 s ≡ words_in_order given_by (map w body) 0 t
       → heard_in_order (map hs body) 0 s ≡ heard_in_order (map hs body) 0 t
   same_words body weight s t named flows narrow closed told indexes a e =
       (body_hears body).alike [] weight (record { sees = named; flows = flows; narrow_flows = narrow; closed = closed; guards_are_read = refl; guards_told = told; indexes_told = indexes })

@@ -5,7 +5,7 @@ use Rattle.vd_core.specs.declared.normal.NormalForm.{NormalForm}
 use Rattle.vd_constraints.specs.declared.labels.Labels.{Labels}
 use Rattle.vd_space.specs.Reading.{problem_of}
 use Rattle.vd_space.specs.Validity.{is_valid}
-use Rattle.vd_dependence.specs.Reading.{reads_slot, start, declassified_words, SameInputs}
+use Rattle.vd_dependence.specs.Reading.{start, declassified_words, SameInputs}
 use Rattle.vd_assigned_dependence.specs.Hearing.{heard, heard_in_order}
 
 -- a protocol for each slot of the program, valid under these labels
@@ -17,13 +17,13 @@ pub record IsAssignment (p : NormalForm) (l : Labels) (list : List ℕ) : Type 0
 abbrev pub heard_words : NormalForm → Labels → List ℕ → HostId → List (List ℕ) → List ℕ
 heard_words p l list h inputs = heard_in_order (map (heard (problem_of p l) list h l) p.body) 0 (start p inputs)
 
--- inputs that agree on known hosts, and on what is declassified to the host, bring it the same clear words
-abbrev pub HearsOnly : NormalForm → Labels → List ℕ → HostId → (ℕ → Bool) → Type 0
-HearsOnly p l list h known =
+-- inputs that agree on known hosts, and on the words of these declassifications, bring the host the same clear words
+abbrev pub HearsOnly : NormalForm → Labels → List ℕ → HostId → (ℕ → ℕ → Bool) → (ℕ → Bool) → Type 0
+HearsOnly p l list h released known =
     (first second : List (List ℕ)) → SameInputs known first second
-    → declassified_words p (reads_slot p l h) first ≡ declassified_words p (reads_slot p l h) second
+    → declassified_words p released first ≡ declassified_words p released second
     → heard_words p l list h first ≡ heard_words p l list h second
 
 -- so at every valid assignment
-abbrev pub HearsOnlyAssigned : NormalForm → Labels → HostId → (ℕ → Bool) → Type 0
-HearsOnlyAssigned p l h known = h.0 < length p.hosts → (list : List ℕ) → IsAssignment p l list → HearsOnly p l list h known
+abbrev pub HearsOnlyAssigned : NormalForm → Labels → HostId → (ℕ → ℕ → Bool) → (ℕ → Bool) → Type 0
+HearsOnlyAssigned p l h released known = h.0 < length p.hosts → (list : List ℕ) → IsAssignment p l list → HearsOnly p l list h released known

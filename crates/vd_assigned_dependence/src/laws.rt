@@ -5,17 +5,18 @@ ghost use Rattle.std.specs.Prelude.{ℕ, Bool};
 ghost use Rattle.vd_assigned_dependence.specs.Assigned.{HearsOnlyAssigned};
 ghost use Rattle.vd_assigned_dependence.specs.Example.{WorkedWords};
 ghost use Rattle.vd_dependence.specs.Dependence.{AreReached, OfEachHost};
-ghost use Rattle.vd_dependence.specs.Reading.{reads_host};
+ghost use Rattle.vd_dependence.specs.Reading.{becomes_readable_to, reads_host, reads_result};
 
-/// Two families of inputs that agree on the hosts that a host may read, and on what is declassified to it, bring it the
-/// same clear words, at every valid assignment.
+/// Two families of inputs that agree on the hosts that a host may read, and on the words that become readable to it by a
+/// declassification, bring it the same clear words, at every valid assignment.
 pub fn inputs_that_agree_bring_the_same()
-    ensures { OfEachHost (λ p l h. HearsOnlyAssigned p l h (reads_host p h)) }
+    ensures { OfEachHost (λ p l h. HearsOnlyAssigned p l h (becomes_readable_to p l h) (reads_host p h)) }
 {}
 
-/// Agreement on the hosts whose inputs are reached from what a host is told is enough for that.
+/// Agreement on the hosts whose inputs are reached from what a host is told, and on all that is declassified to it, is enough
+/// for that.
 pub fn reached_hosts_are_enough_assigned()
-    ensures { OfEachHost (λ p l h. (hosts : ℕ → Bool) → AreReached p l h hosts → HearsOnlyAssigned p l h hosts) }
+    ensures { OfEachHost (λ p l h. (hosts : ℕ → Bool) → AreReached p l h hosts → HearsOnlyAssigned p l h (reads_result p l h) hosts) }
 {}
 
 /// Of a comparison in shares, declassified to copies, its word comes to a host twice; of a variable that is set under a
