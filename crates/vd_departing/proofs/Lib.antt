@@ -1,0 +1,7 @@
+mod Steps
+mod Local
+mod Each
+mod Shown
+mod Copies
+mod Commitments
+mod Shares

@@ -1,0 +1,4 @@
+pub mod Departing
+pub mod Copies
+pub mod Commitments
+pub mod Shares

@@ -1,0 +1,29 @@
+//! Laws of calls in which hosts depart from their programs. The functions here do nothing: the contract of each is a law.
+
+ghost use Rattle.vd_departing.specs.Commitments.{CommitmentsBind};
+ghost use Rattle.vd_departing.specs.Copies.{CopiesStayRight};
+ghost use Rattle.vd_departing.specs.Departing.{KeepersRunTogether};
+ghost use Rattle.vd_departing.specs.Shares.{SharesAreKept};
+
+/// Where each host that sends keeps to its program, the run is the joint run.
+pub fn keepers_run_together()
+    ensures { KeepersRunTogether }
+{}
+
+/// Words in clear, at one host or as copies at several, stay right at the hosts that keep to their programs, in each call of the back
+/// end. Copies that are shown to a host are right as long as one holder keeps to its program.
+pub fn copies_stay_right()
+    ensures { CopiesStayRight }
+{}
+
+/// Of a commitment the word that is shown is the one that it was made for, as long as one of the two hosts keeps to its program; or two
+/// words are at hand that have one digest.
+pub fn commitments_bind()
+    ensures { CommitmentsBind }
+{}
+
+/// In the calls of words that two hosts share, and in their conversions, no other host sends anything: where both keep to their programs,
+/// all that send do.
+pub fn shares_are_kept()
+    ensures { SharesAreKept }
+{}

@@ -1,0 +1,6 @@
+//! What stays right at the hosts that keep to their programs where others send any words. Nothing is computed here.
+#![tactic(auto)]
+
+mod laws;
+
+pub use laws::{commitments_bind, copies_stay_right, keepers_run_together, shares_are_kept};
