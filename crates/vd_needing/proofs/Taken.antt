@@ -11,7 +11,7 @@ use Rattle.vd_execution.specs.Joint.{Part, Joint, Done, Do, Msg, If, For, Host, 
 use Rattle.vd_schedules.specs.Claims.{RunsWell, Suffices, last_of, reached}
 use Rattle.vd_schedules.proofs.Compiled.{never_short_on_the_way, whole}
 use Rattle.vd_schedules.proofs.Puts.{put_same, put_other}
-use Rattle.vd_needing.specs.Needs.{source_of, one_of, greater, takes, IsStraight, HasWhatItTakes}
+use Rattle.vd_needing.specs.Needs.{source_of, one_of, greater, takes, IsEven, HasWhatItTakes}
 
 further : (c : Cursors) (s r : Source) (b : Bool) → (if b then suc (c r) else c r) ≡ c r + (if b then 1 else 0)
 further c s r true = omega arith
@@ -131,7 +131,7 @@ most t (For ps count body rest) w h r =
     joined : (a b c k n : ℕ) → b ≤ a + k → c ≤ b + n → c ≤ a + (k + n)
     joined a b c k n x y = omega (arith, x, y)
 
--- ---- exactly that, without branches
+-- ---- exactly that, where no branch takes differently
 
 turns_exact : (f : ℕ → Hosts → Hosts) (h : ℕ) (r : Source) (k : ℕ) → ((i : ℕ) (w : Hosts) → (f i w h).cursors r ≡ (w h).cursors r + k)
     → (n i : ℕ) (w : Hosts) → (turns f n i w h).cursors r ≡ (w h).cursors r + n * k
@@ -144,7 +144,12 @@ turns_exact f h r k each (suc n) i w =
     more_turns : (a b c k n : ℕ) → b ≡ a + k → c ≡ b + n * k → c ≡ a + (suc n) * k
     more_turns a b c k n x y = omega (arith, x, y)
 
-pub exact : (t : Tape) (j : Joint) (w : Hosts) (h : ℕ) (r : Source) → IsStraight j → (joint t j w h).cursors r ≡ (w h).cursors r + takes j h r
+branch_exact : (b : Bool) (w u v : Hosts) (h : ℕ) (r : Source) (m n : ℕ) → (u h).cursors r ≡ (w h).cursors r + m → (v h).cursors r ≡ (w h).cursors r + n → m ≡ n
+    → ((if b then v else u) h).cursors r ≡ (w h).cursors r + greater m n
+branch_exact true w u v h r m n x y e = omega (arith, y, e)
+branch_exact false w u v h r m n x y e = omega (arith, x, e)
+
+pub exact : (t : Tape) (j : Joint) (w : Hosts) (h : ℕ) (r : Source) → IsEven j → (joint t j w h).cursors r ≡ (w h).cursors r + takes j h r
 exact t Done w h r s = omega arith
 exact t (Do a x rest) w h r s =
     let e = do_takes t a x w h r in
@@ -155,7 +160,14 @@ exact t (Do a x rest) w h r s =
     joined a b c k n x y = omega (arith, x, y)
 exact t (Msg a xs b ys rest) w h r s =
     exact t rest (after_msg a xs b ys w) h r s ∙ ap (λ k. k + takes rest h r) (msg_takes a xs b ys w h r)
-exact t (If ps first other rest) w h r s = absurd s
+exact t (If ps first other rest) w h r s =
+    let v : Hosts = if is_other ps w then joint t other w else joint t first w in
+    let one = branch_exact (is_other ps w) w (joint t first w) (joint t other w) h r (takes first h r) (takes other h r) (exact t first w h r s.1.0) (exact t other w h r s.1.1.0) (s.0 h r) in
+    let i = exact t rest v h r s.1.1.1 in
+    joined ((w h).cursors r) ((v h).cursors r) ((joint t rest v h).cursors r) (greater (takes first h r) (takes other h r)) (takes rest h r) one i
+  where
+    joined : (a b c k n : ℕ) → b ≡ a + k → c ≡ b + n → c ≡ a + (k + n)
+    joined a b c k n x y = omega (arith, x, y)
 exact t (For ps count body rest) w h r s =
     let f : ℕ → Hosts → Hosts = λ i v. joint t body (turn_begun ps i v) in
     let each : (i : ℕ) (v : Hosts) → (f i v h).cursors r ≡ (v h).cursors r + takes body h r =
@@ -174,12 +186,12 @@ enough s j has h r i less =
     let m = most (followed_by_zeros s) j fresh h r in
     has h r i (omega (arith, less, m))
 
-pub exactly : (s : Supply) (j : Joint) (h : ℕ) (r : Source) → IsStraight j → (last_of s j h).cursors r ≡ takes j h r
-exactly s j h r straight = exact (followed_by_zeros s) j fresh h r straight ∙ zero-add (takes j h r)
+pub exactly : (s : Supply) (j : Joint) (h : ℕ) (r : Source) → IsEven j → (last_of s j h).cursors r ≡ takes j h r
+exactly s j h r even = exact (followed_by_zeros s) j fresh h r even ∙ zero-add (takes j h r)
 
-pub least : (s : Supply) (j : Joint) → IsStraight j → Suffices s (last_of s j) → HasWhatItTakes s j
-least s j straight suffices h r i less =
-    let e = exactly s j h r straight in
+pub least : (s : Supply) (j : Joint) → IsEven j → Suffices s (last_of s j) → HasWhatItTakes s j
+least s j even suffices h r i less =
+    let e = exactly s j h r even in
     suffices h r i (omega (arith, less, e))
 
 pub nobody_short : (s : Supply) (j : Joint) (b : List ℕ) (h : ℕ) → RunsWell s j → HasWhatItTakes s j → IsShort s (reached s j b) h → ⊥

@@ -1,5 +1,5 @@
--- How many items each host takes from each list, read off joint code: a bound on each run, and what each run takes where there are
--- no branches.
+-- How many items each host takes from each list, read off joint code: a bound on each run, and what each run takes where no branch
+-- takes differently.
 use Rattle.std.specs.Prelude.{◌≡◌, ◌≢◌, ℕ, nat_eq, ◌+◌, ◌-◌, ◌*◌, ◌<◌, if◌then◌else◌, List, Option, Some, None}
 use Rattle.vd_execution.specs.declared.instructions.Action.{Action}
 use Rattle.vd_execution.specs.declared.instructions.Action.TheVariants as action
@@ -45,13 +45,17 @@ takes (Msg a said b heard rest) h r = takes rest h r
 takes (If ps first other rest) h r = greater (takes first h r) (takes other h r) + takes rest h r
 takes (For ps count body rest) h r = count * takes body h r + takes rest h r
 
--- joint code without branches
-abbrev pub IsStraight : Joint → Type 0
-IsStraight Done = Unit {0}
-IsStraight (Do a x rest) = IsStraight rest
-IsStraight (Msg a said b heard rest) = IsStraight rest
-IsStraight (If ps first other rest) = ⊥
-IsStraight (For ps count body rest) = IsStraight body × IsStraight rest
+-- both blocks of a branch take equally many items, at each host and from each list
+abbrev pub TakeAlike : Joint → Joint → Type 0
+TakeAlike first other = (h : ℕ) (r : Source) → takes first h r ≡ takes other h r
+
+-- joint code of which no branch takes differently; so is code without branches
+abbrev pub IsEven : Joint → Type 0
+IsEven Done = Unit {0}
+IsEven (Do a x rest) = IsEven rest
+IsEven (Msg a said b heard rest) = IsEven rest
+IsEven (If ps first other rest) = TakeAlike first other × (IsEven first × (IsEven other × IsEven rest))
+IsEven (For ps count body rest) = IsEven body × IsEven rest
 
 -- each list has as many items as are taken at most
 abbrev pub HasWhatItTakes : Supply → Joint → Type 0
@@ -69,13 +73,13 @@ NobodyIsShort = (s : Supply) (j : Joint) (b : List ℕ) (h : ℕ) → RunsWell s
 abbrev pub AllEnd : Type 0
 AllEnd = (s : Supply) (j : Joint) (b : List ℕ) → RunsWell s j → HasWhatItTakes s j → IsStuck s (reached s j b) → reached s j b ≡ at_end (last_of s j)
 
--- Without branches each run takes exactly these,
+-- Where no branch takes differently each run takes exactly these,
 abbrev pub NeedsAreExact : Type 0
-NeedsAreExact = (s : Supply) (j : Joint) (h : ℕ) (r : Source) → IsStraight j → (last_of s j h).cursors r ≡ takes j h r
+NeedsAreExact = (s : Supply) (j : Joint) (h : ℕ) (r : Source) → IsEven j → (last_of s j h).cursors r ≡ takes j h r
 
 -- so no shorter lists suffice.
 abbrev pub NeedsAreLeast : Type 0
-NeedsAreLeast = (s : Supply) (j : Joint) → IsStraight j → Suffices s (last_of s j) → HasWhatItTakes s j
+NeedsAreLeast = (s : Supply) (j : Joint) → IsEven j → Suffices s (last_of s j) → HasWhatItTakes s j
 
 -- ---- from a host's own code
 

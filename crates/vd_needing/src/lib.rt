@@ -1,5 +1,5 @@
-//! How many dealt items and inputs joint code takes, read off its text: enough for every run, and without branches exactly what each
-//! run takes. Nothing is computed here: each function's clauses are laws.
+//! How many dealt items and inputs joint code takes, read off its text: enough for every run, and where no branch takes differently
+//! exactly what each run takes. Nothing is computed here: each function's clauses are laws.
 #![tactic(auto)]
 
 ghost use Rattle.vd_needing.specs.Needs.{AllEnd, NeedsAreEnough, NeedsAreExact, NeedsAreLeast, NeedsAreReadOff, NobodyIsShort};
@@ -12,7 +12,7 @@ pub fn needs_are_enough()
     ensures all_end { AllEnd }
 {}
 
-/// Joint code without branches takes exactly these lengths in each run, so no shorter lists suffice.
+/// Joint code of which no branch takes differently takes exactly these lengths in each run, so no shorter lists suffice.
 pub fn needs_are_least()
     ensures exact { NeedsAreExact }
     ensures least { NeedsAreLeast }
