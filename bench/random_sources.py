@@ -1,8 +1,9 @@
-"""Random sources that have a valid list of protocols, by the way they are made.
+"""Random sources, which have a valid list of protocols or none, by the way they are made.
 
 A source is made of statements over values of which it is kept whose secrets they hold. Values of which one host hands in the
-secrets can stand at that host, those of two in words that both share, and public ones in copies at all hosts. Nothing else is
-made: no value holds the secrets of three hosts, and no division takes what two hosts share.
+secrets can stand at that host, those of two in words that both share, and public ones in copies at all hosts. Only a source that
+shall have no valid list has one statement besides, at a random place: a product that holds the secrets of three hosts, or a
+division of what two hosts share.
 """
 
 import random
@@ -21,6 +22,9 @@ FAMILIES = {
     "mixed": frozenset({"variables", "branches", "loops", "arrays", "functions"}),
     "endorsed": frozenset({"variables", "branches", "loops", "endorsed"}),
 }
+
+# Sources without a valid list, by the family whose statements they have besides.
+WITHOUT = {f"{family}, none valid": frozenset(FAMILIES[family] | {"impossible"}) for family in ("straight", "branches", "mixed")}
 
 # The limits that a source keeps; the language allows 512 statements, and weights of 65,536.
 MOST_STATEMENTS = 505
@@ -64,7 +68,8 @@ class Maker:
 
     def __init__(self, generator, family, hosts, slots):
         self.generator = generator
-        self.parts = FAMILIES[family]
+        self.parts = {**FAMILIES, **WITHOUT}[family]
+        self.impossible_from = generator.randrange(slots) if "impossible" in self.parts else None
         self.is_endorsed = "endorsed" in self.parts
         self.hosts = HOSTS[:hosts]
         self.wanted = slots
@@ -420,6 +425,19 @@ class Maker:
         make = self.generator.choices([choice for choice, _ in choices], [weight for _, weight in choices])[0]
         make()
 
+    def impossible(self):
+        """A word that no protocol can have: of three hosts' secrets, or what two of them share is divided."""
+        owners = self.generator.sample(self.hosts, min(3, len(self.hosts)))
+        names = []
+        for host in owners:
+            names.append(self.fresh("x"))
+            self.add(f"let {names[-1]} = input({host});", 1)
+        form = self.generator.choice(("product", "division")) if len(owners) == 3 else "division"
+        if form == "product":
+            self.add(f"let {self.fresh('v')} = {' * '.join(names)};", 2)
+        else:
+            self.add(f"let {self.fresh('v')} = {names[0]} / {names[1]};", 1)
+
     def function(self):
         """Of one or two words, of what shared words can do."""
         name = self.fresh("f")
@@ -453,7 +471,12 @@ class Maker:
             self.add(f"let {name} = input({host});", 1)
             self.keep(Value(name, "word", frozenset({host}), "let"))
         while self.has_room():
+            if self.impossible_from is not None and self.slots >= self.impossible_from:
+                self.impossible()
+                self.impossible_from = None
             self.statement()
+        if self.impossible_from is not None:
+            self.impossible()
         for host in self.hosts:
             text = self.expression(PUBLIC, "word", 1)
             self.add(f"output {text.text} to {host};", text.slots, 1)
@@ -470,3 +493,73 @@ def source(family, hosts, least, most, seed):
         is_small = maker.statements <= MOST_STATEMENTS and maker.weights <= MOST_WEIGHTS
         if least <= maker.slots <= most and is_small:
             return text, maker.slots
+
+
+class Step(NamedTuple):
+    """A statement of a shuffled source."""
+
+    line: str
+    needs: frozenset  # the names that it mentions
+
+
+def in_random_order(generator, steps):
+    """The lines of the steps, in an order in which each name stands before where it is mentioned."""
+    made = {step.line.split()[1] for step in steps if step.line.startswith("let ")}
+    left, known, lines = list(steps), set(), []
+    while left:
+        ready = [step for step in left if step.needs & made <= known]
+        step = generator.choice(ready)
+        left.remove(step)
+        lines.append("  " + step.line)
+        if step.line.startswith("let "):
+            known.add(step.line.split()[1])
+    return lines
+
+
+def shuffled(hosts, least, most, seed):
+    """A source without branches, of a number of slots in these bounds, and that number.
+
+    Each value is of one operation on two others, whichever they are, of a few kinds that cost the same at many protocols; and
+    the statements stand in random order. So most lists of protocols cost as much as many others.
+    """
+    generator = random.Random(seed)
+    names = HOSTS[:hosts]
+    letters = PRINCIPALS[:hosts]
+    anyone = " | ".join(letters)
+    slots = generator.randrange(least, most + 1) - hosts
+    values, steps = [], []
+    while len(steps) < slots:
+        name = f"v{len(steps)}"
+        kind = generator.choices(("input", "operation", "told"), (2, 8, 1))[0]
+        value = generator.choice(values) if values else None
+        if kind == "told" and value is not None and value.secrets:
+            shared_by = value.secrets if len(value.secrets) == 2 and hosts > 2 else PUBLIC
+            steps.append(Step(f"let {name} = declassify({value.name}, {{{anyone}}});", frozenset({value.name})))
+            values.append(Value(name, "word", PUBLIC, "let", shared_by=shared_by))
+            continue
+        fitting = [] if value is None else [
+            other
+            for other in values
+            if len(value.secrets | other.secrets) <= 2
+            and all(
+                not one.shared_by or len(value.secrets | other.secrets) < 2 or one.shared_by == value.secrets | other.secrets
+                for one in (value, other)
+            )
+        ]
+        if kind != "operation" or not fitting:
+            host = generator.choice(names)
+            steps.append(Step(f"let {name} = input({host});", frozenset()))
+            values.append(Value(name, "word", frozenset({host}), "let"))
+            continue
+        other = generator.choice(fitting)
+        sign = generator.choice(("+", "-", "*"))
+        steps.append(Step(f"let {name} = {value.name} {sign} {other.name};", frozenset({value.name, other.name})))
+        values.append(Value(name, "word", value.secrets | other.secrets, "let"))
+    lines = in_random_order(generator, steps)
+    for host in names:
+        value = generator.choice(values)
+        lines.append(f"  let o{host} = declassify({value.name}, {{{anyone}}});")
+        lines.append(f"  output o{host} to {host};")
+    head = [f"principals {', '.join(letters)};"]
+    head += [f"host {host} {{{own} ; {' & '.join(letters)}}};" for host, own in zip(names, letters)]
+    return "\n".join([*head, "main {", *lines, "}"]) + "\n", slots + hosts
