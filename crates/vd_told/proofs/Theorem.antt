@@ -24,7 +24,7 @@ use Rattle.vd_suite.specs.Whole.{code_at, inputs_of, CanRun}
 use Rattle.vd_suite.proofs.SuiteLaws.{suite_laws}
 use Rattle.vd_whole.specs.Lists.{protos_of, IsChosen}
 use Rattle.vd_whole.proofs.Chosen.{can_run, valid_lists_tell_the_same}
-use Rattle.vd_dependence.specs.Reading.{reads_slot, reads_host, in_view, start, outputs_to, LearnsOnly}
+use Rattle.vd_dependence.specs.Reading.{reads_result, becomes_readable_to, reads_host, in_view, start, outputs_to, LearnsOnly}
 use Rattle.vd_dependence.specs.Dependence.{reached_in_view, AreReached, OfEachHost}
 use Rattle.vd_dependence.proofs.Theorem.{reads_learns, reached_are_enough}
 use Rattle.vd_assigned_dependence.specs.Hearing.{Heard, heard_step, heard_in_order}
@@ -95,17 +95,17 @@ prints p l list chosen h known inputs t dealt =
     ∙ ap (λ (o : List (List ℕ)). slice_index_or o h.0 []) runs.prints
 
 -- what holds of the clear run holds of the joint run
-only : (p : NormalForm) (l : Labels) (h : HostId) (known kept : ℕ → Bool) → IsWellMade p → HearsOnlyAssigned p l h known → LearnsOnly p h (reads_slot p l h) known kept → TellsOnlyAssigned p l h known
-only p l h known kept well hears learns numbers declared list assigned first second t u dealt dealt' same declassified =
+only : (p : NormalForm) (l : Labels) (h : HostId) (released : ℕ → ℕ → Bool) (known kept : ℕ → Bool) → IsWellMade p → HearsOnlyAssigned p l h released known → LearnsOnly p h released known kept → TellsOnlyAssigned p l h released known
+only p l h released known kept well hears learns numbers declared list assigned first second t u dealt dealt' same declassified =
     let chosen : IsChosen p l list = record { made = well; numbers = numbers; whole = assigned.whole; valid = assigned.valid } in
     record {
       words = tells_what_is_heard p l list chosen h declared first t dealt ∙ hears declared list assigned first second same declassified ∙ sym (tells_what_is_heard p l list chosen h declared second u dealt');
       prints = prints p l list chosen h declared first t dealt ∙ (learns first second same declassified).0 ∙ sym (prints p l list chosen h declared second u dealt');
     }
 
-pub told_readable : OfEachHost (λ p l h. TellsOnlyAssigned p l h (reads_host p h))
-told_readable p l h well satisfies = only p l h (reads_host p h) (in_view p l h) well (all_hear_readable p l h well satisfies) (reads_learns p l h well satisfies)
+pub told_readable : OfEachHost (λ p l h. TellsOnlyAssigned p l h (becomes_readable_to p l h) (reads_host p h))
+told_readable p l h well satisfies = only p l h (becomes_readable_to p l h) (reads_host p h) (in_view p l h) well (all_hear_readable p l h well satisfies) (reads_learns p l h well satisfies)
 
-pub told_reached : OfEachHost (λ p l h. (hosts : ℕ → Bool) → AreReached p l h hosts → TellsOnlyAssigned p l h hosts)
+pub told_reached : OfEachHost (λ p l h. (hosts : ℕ → Bool) → AreReached p l h hosts → TellsOnlyAssigned p l h (reads_result p l h) hosts)
 told_reached p l h well satisfies hosts are =
-    only p l h hosts (reached_in_view p l h are.reach) well (all_hear_reached p l h well satisfies hosts are) (reached_are_enough p l h well satisfies hosts are are.reach are.dependence)
+    only p l h (reads_result p l h) hosts (reached_in_view p l h are.reach) well (all_hear_reached p l h well satisfies hosts are) (reached_are_enough p l h well satisfies hosts are are.reach are.dependence)

@@ -15,7 +15,7 @@ use Rattle.vd_suite.specs.Parts.{suite_calls}
 use Rattle.vd_suite.specs.Suite.{AreGiven}
 use Rattle.vd_suite.specs.Whole.{code_at, inputs_of}
 use Rattle.vd_whole.specs.Lists.{protos_of, IsChosen}
-use Rattle.vd_dependence.specs.Reading.{reads_slot, declassified_words, SameInputs}
+use Rattle.vd_dependence.specs.Reading.{declassified_words, SameInputs}
 use Rattle.vd_assigned_dependence.specs.Assigned.{IsAssignment, heard_words}
 use Rattle.vd_told.specs.Telling.{told}
 
@@ -45,14 +45,14 @@ pub record AreToldTheSame (p : NormalForm) (l : Labels) (list : List ℕ) (h : H
   pub words : told_words p l list h first t ≡ told_words p l list h second u
   pub prints : printed_words p l list h t ≡ printed_words p l list h u
 
--- so where their inputs agree on known hosts, and on what is declassified to the host, whatever the two deals
-abbrev pub TellsOnly : NormalForm → Labels → List ℕ → HostId → (ℕ → Bool) → Type 0
-TellsOnly p l list h known =
+-- so where their inputs agree on known hosts, and on the words of these declassifications, whatever the two deals
+abbrev pub TellsOnly : NormalForm → Labels → List ℕ → HostId → (ℕ → ℕ → Bool) → (ℕ → Bool) → Type 0
+TellsOnly p l list h released known =
     (first second : List (List ℕ)) (t u : Tape) → IsDealt first t → IsDealt second u → SameInputs known first second
-    → declassified_words p (reads_slot p l h) first ≡ declassified_words p (reads_slot p l h) second
+    → declassified_words p released first ≡ declassified_words p released second
     → AreToldTheSame p l list h first second t u
 
 -- so at every valid assignment
-abbrev pub TellsOnlyAssigned : NormalForm → Labels → HostId → (ℕ → Bool) → Type 0
-TellsOnlyAssigned p l h known =
-    NumbersFit p → h.0 < length p.hosts → (list : List ℕ) → IsAssignment p l list → TellsOnly p l list h known
+abbrev pub TellsOnlyAssigned : NormalForm → Labels → HostId → (ℕ → ℕ → Bool) → (ℕ → Bool) → Type 0
+TellsOnlyAssigned p l h released known =
+    NumbersFit p → h.0 < length p.hosts → (list : List ℕ) → IsAssignment p l list → TellsOnly p l list h released known

@@ -4,7 +4,7 @@
 
 ghost use Rattle.std.specs.Prelude.{ℕ, Bool};
 ghost use Rattle.vd_dependence.specs.Dependence.{AreReached, OfEachHost};
-ghost use Rattle.vd_dependence.specs.Reading.{reads_host};
+ghost use Rattle.vd_dependence.specs.Reading.{becomes_readable_to, reads_host, reads_result};
 ghost use Rattle.vd_told.specs.Example.{WorkedRegisters};
 ghost use Rattle.vd_told.specs.Told.{TellsWhatIsHeard, TellsOnlyAssigned};
 
@@ -16,10 +16,10 @@ pub fn joint_runs_tell_what_is_heard()
 
 /// So two joint runs, on two valid deals, bring a host the same clear words, and it prints the same, where their inputs agree
 /// on the hosts whose inputs are reached from what it is told, and on what is declassified to it; and where they agree on all
-/// hosts that it may read.
+/// hosts that it may read, and on the words that become readable to it by a declassification.
 pub fn inputs_that_agree_are_told_the_same()
-    ensures reached { OfEachHost (λ p l h. (hosts : ℕ → Bool) → AreReached p l h hosts → TellsOnlyAssigned p l h hosts) }
-    ensures readable { OfEachHost (λ p l h. TellsOnlyAssigned p l h (reads_host p h)) }
+    ensures reached { OfEachHost (λ p l h. (hosts : ℕ → Bool) → AreReached p l h hosts → TellsOnlyAssigned p l h (reads_result p l h) hosts) }
+    ensures readable { OfEachHost (λ p l h. TellsOnlyAssigned p l h (becomes_readable_to p l h) (reads_host p h)) }
 {}
 
 /// Of a variable that is set under a guard, where copies stand at both hosts: the other host's registers hold the guard and
