@@ -5,3 +5,4 @@ mod Shown
 mod Copies
 mod Commitments
 mod Shares
+mod OneWord

@@ -1,5 +1,5 @@
 -- Words in clear, at one host or as copies at several, where some of the hosts depart from their programs.
-use Rattle.std.specs.Prelude.{◌≡◌, ℕ, ◌^◌, ◌<◌, Bool, true, List, [], ◌∷◌, length, slice_index}
+use Rattle.std.specs.Prelude.{◌≡◌, ℕ, ◌^◌, ◌<◌, Bool, true, false, List, [], ◌∷◌, length, slice_index}
 use Rattle.vd_base.specs.declared.ids.HostId.{HostId}
 use Rattle.vd_base.specs.declared.operations.Op.{Op}
 use Rattle.vd_base.specs.declared.protocols.HostSet.{HostSet}
@@ -8,12 +8,13 @@ use Rattle.vd_base.specs.declared.protocols.Proto.TheVariants.{Local, Rep}
 use Rattle.vd_base.specs.Arity.{arity}
 use Rattle.vd_base.specs.Operations.{result_of}
 use Rattle.vd_execution.specs.declared.instructions.Reg.{Reg}
+use Rattle.vd_execution.specs.Gadgets.{acts_of_gadgets}
 use Rattle.vd_execution.specs.Joint.{Hosts}
 use Rattle.vd_execution.specs.World.{Tape}
 use Rattle.vd_duet.specs.Calls.{Places, holders, hosts_of}
 use Rattle.vd_duet.specs.Laws.{AreBelow, AreKnown, IsHost, IsIn, NumberFits, at_host}
 use Rattle.vd_clear.specs.Copies.{clear_calls, spread_to}
-use Rattle.vd_departing.specs.Departing.{AreRight, GivesRight, RunsGadgets}
+use Rattle.vd_departing.specs.Departing.{AreRight, GivesRight, IsRightThen, RunsGadgets, SaysOne}
 
 abbrev pub IsInClear : Proto → Type 0
 IsInClear (Local h) = Unit {0}
@@ -59,3 +60,9 @@ pub record StaysRight (keeps : ℕ → Bool) (p : Proto) (t : Tape) (next : List
 
 abbrev pub CopiesStayRight : Type 0
 CopiesStayRight = (keeps : ℕ → Bool) (p : Proto) → IsInClear p → (t : Tape) (next : List ℕ) (w : Hosts) → AreKnown (holders p) next → StaysRight keeps p t next w
+
+-- A host that departs hands a word to copies: where it says one word to all holders, that word is right from then on.
+abbrev pub OneWordIsRight : Type 0
+OneWordIsRight = (keeps : ℕ → Bool) (p : Proto) (t : Tape) (next : List ℕ) (w w' : Hosts) → AreKnown (holders p) next → (from : HostId) (x : Reg) (word : ℕ) → keeps from.0 ≡ false
+    → (run : RunsGadgets keeps t ((clear_calls p).share from x next).gadgets w w') → SaysOne keeps t from.0 word (acts_of_gadgets ((clear_calls p).share from x next).gadgets) w w' run
+    → IsRightThen keeps next ((clear_calls p).share from x next) w w' word

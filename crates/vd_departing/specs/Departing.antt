@@ -32,6 +32,13 @@ Runs keeps t (act.Msg a said b heard ∷ acts) w w' = (words : List ℕ) × (IsS
 abbrev pub RunsGadgets : (ℕ → Bool) → Tape → List Gadget → Hosts → Hosts → Type 0
 RunsGadgets keeps t gadgets w w' = Runs keeps t (acts_of_gadgets gadgets) w w'
 
+-- a host says this one word each time that it sends
+abbrev pub SaysOne : (keeps : ℕ → Bool) (t : Tape) (from word : ℕ) (acts : List Act) (w w' : Hosts) → Runs keeps t acts w w' → Type 0
+SaysOne keeps t from word [] w w' runs = Unit {0}
+SaysOne keeps t from word (act.Do h a ∷ acts) w w' runs = SaysOne keeps t from word acts (after_do t h.0 a w) w' runs.1
+SaysOne keeps t from word (act.Msg a said b heard ∷ acts) w w' runs =
+    (a.0 ≡ from → runs.0 ≡ word ∷ []) × SaysOne keeps t from word acts (after_telling a.0 runs.0 b.0 heard w) w' runs.1.1
+
 -- each host that sends keeps to its program
 abbrev pub SendersKeep : (ℕ → Bool) → List Act → Type 0
 SendersKeep keeps [] = Unit {0}

@@ -1,7 +1,7 @@
 //! Laws of calls in which hosts depart from their programs. The functions here do nothing: the contract of each is a law.
 
 ghost use Rattle.vd_departing.specs.Commitments.{CommitmentsBind};
-ghost use Rattle.vd_departing.specs.Copies.{CopiesStayRight};
+ghost use Rattle.vd_departing.specs.Copies.{CopiesStayRight, OneWordIsRight};
 ghost use Rattle.vd_departing.specs.Departing.{KeepersRunTogether};
 ghost use Rattle.vd_departing.specs.Shares.{SharesAreKept};
 
@@ -14,6 +14,11 @@ pub fn keepers_run_together()
 /// end. Copies that are shown to a host are right as long as one holder keeps to its program.
 pub fn copies_stay_right()
     ensures { CopiesStayRight }
+{}
+
+/// Where a host that departs hands one word to all holders of copies, that word is right from then on.
+pub fn one_word_is_right()
+    ensures { OneWordIsRight }
 {}
 
 /// Of a commitment the word that is shown is the one that it was made for, as long as one of the two hosts keeps to its program; or two

@@ -3,4 +3,6 @@
 
 mod laws;
 
-pub use laws::{commitments_bind, copies_stay_right, keepers_run_together, shares_are_kept};
+pub use laws::{
+    commitments_bind, copies_stay_right, keepers_run_together, one_word_is_right, shares_are_kept,
+};
