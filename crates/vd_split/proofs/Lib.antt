@@ -1,3 +1,4 @@
+pub mod ActPart
 pub mod Drops
 pub mod EachStatement
 pub mod Flat
@@ -7,6 +8,7 @@ pub mod Picked
 pub mod Picks
 pub mod Rooms
 pub mod Steps
+pub mod TakePart
 pub mod Turns
 pub mod Variants
 pub mod WellMade

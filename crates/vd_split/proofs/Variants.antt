@@ -23,28 +23,28 @@ module _ {P : Type 0} (s : Calls Gadget P) (protos : List Proto) where
   abbrev onto : Emission s pr → List P → List ℕ → Builder → Builder × List P
   onto f held turns c = emitted_onto s pr (f.emit (state s protos c held turns)) c
 
-  let_e : (x : SlotId) (r : Right) → emission s pr (Let x r) ≡ stmt_emission s pr (Stmt-F.Let x r)
+  pub let_e : (x : SlotId) (r : Right) → emission s pr (Let x r) ≡ stmt_emission s pr (Stmt-F.Let x r)
   let_e x r = search (rules, the_lemmas)
 
-  variable_e : (v x : SlotId) → emission s pr (NewVar v x) ≡ stmt_emission s pr (Stmt-F.NewVar v x)
+  pub variable_e : (v x : SlotId) → emission s pr (NewVar v x) ≡ stmt_emission s pr (Stmt-F.NewVar v x)
   variable_e v x = search (rules, the_lemmas)
 
-  array_e : (v : SlotId) (n : ℕ) → emission s pr (NewArray v n) ≡ stmt_emission s pr (Stmt-F.NewArray v n)
+  pub array_e : (v : SlotId) (n : ℕ) → emission s pr (NewArray v n) ≡ stmt_emission s pr (Stmt-F.NewArray v n)
   array_e v n = search (rules, the_lemmas)
 
-  store_e : (v x : SlotId) → emission s pr (Store v x) ≡ stmt_emission s pr (Stmt-F.Store v x)
+  pub store_e : (v x : SlotId) → emission s pr (Store v x) ≡ stmt_emission s pr (Stmt-F.Store v x)
   store_e v x = search (rules, the_lemmas)
 
-  put_e : (v i x : SlotId) → emission s pr (Put v i x) ≡ stmt_emission s pr (Stmt-F.Put v i x)
+  pub put_e : (v i x : SlotId) → emission s pr (Put v i x) ≡ stmt_emission s pr (Stmt-F.Put v i x)
   put_e v i x = search (rules, the_lemmas)
 
-  output_e : (x : SlotId) (h : HostId) (o : ℕ) → emission s pr (Output x h o) ≡ stmt_emission s pr (Stmt-F.Output x h o)
+  pub output_e : (x : SlotId) (h : HostId) (o : ℕ) → emission s pr (Output x h o) ≡ stmt_emission s pr (Stmt-F.Output x h o)
   output_e x h o = search (rules, the_lemmas)
 
   if_e : (x : SlotId) (a b : List Stmt) (o : ℕ) → emission s pr (If x a b o) ≡ stmt_emission s pr (Stmt-F.If x (map (emission s pr) a) (map (emission s pr) b) o)
   if_e x a b o = search (rules, the_lemmas)
 
-  for_e : (n : ℕ) (body : List Stmt) → emission s pr (For n body) ≡ stmt_emission s pr (Stmt-F.For n (map (emission s pr) body))
+  pub for_e : (n : ℕ) (body : List Stmt) → emission s pr (For n body) ≡ stmt_emission s pr (Stmt-F.For n (map (emission s pr) body))
   for_e n body = search (rules, the_lemmas)
 
   pub stmt_let : (x : SlotId) (r : Right) (held : List P) (turns : List ℕ) (c : Builder) (m : Builder × List P) → m ≡ let_onto s protos x r held turns c → m ≡ stmt_onto s protos (Let x r) held turns c

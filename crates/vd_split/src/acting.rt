@@ -1,7 +1,7 @@
-ghost use Rattle.std.specs.Prelude.{◌≡◌, ◌||◌};
+ghost use Rattle.std.specs.Prelude.{◌≡◌, ◌||◌, nat_eq};
 ghost use Rattle.std.specs.List.{list_any};
 ghost use Rattle.vd_base.specs.declared.protocols.Proto.TheVariants.{Local as AtHost};
-ghost use Rattle.vd_joint.specs.Suite.{picked, hosts_of};
+ghost use Rattle.vd_joint.specs.Suite.{is_at, picked, hosts_of};
 ghost use Rattle.vd_joint.specs.Emission.{right_acts_at, emission};
 ghost use Rattle.vd_split.specs.Offer.{proto_in};
 ghost use Rattle.vd_split.specs.Places.{takers, acting, guard_acts, branch_acts};
@@ -9,7 +9,7 @@ ghost use Rattle.vd_split.specs.Places.{takers, acting, guard_acts, branch_acts}
 use crate::protocols::Protocols;
 use crate::slots::{proto_of, stands_at};
 use crate::taking::takes_either;
-use vd_base::{HostId, Proto, SlotId};
+use vd_base::{HostId, Op, Proto, SlotId};
 use vd_core::{Right, Stmt};
 
 /// Whether a host has an instruction where a word is moved to each host of a protocol.
@@ -83,6 +83,91 @@ fn acts_in_operands<P: Protocols>(
     false
 }
 
+/// Whether a host has an instruction where a slot's word is moved to a protocol and stored there.
+fn acts_in_store<P: Protocols>(
+    protocols: &P,
+    protos: &[Proto],
+    slot: SlotId,
+    onto: Proto,
+    host: HostId,
+) -> bool
+    ensures { result ≡ (P.offer protocols.now).calls.moves_at (proto_in protos.now slot.0) onto host.0 || is_at onto host }
+{
+    protocols.moves_at(proto_of(protos, slot), onto, host) || stands_at(onto, host)
+}
+
+/// Whether a host has an instruction where a word is put into an array.
+fn acts_in_put<P: Protocols>(
+    protocols: &P,
+    protos: &[Proto],
+    array: SlotId,
+    index: SlotId,
+    slot: SlotId,
+    host: HostId,
+) -> bool
+    ensures { let s = (P.offer protocols.now).calls in let onto = proto_in protos.now array.0 in
+        result ≡ list_any (λ k. s.moves_at (proto_in protos.now index.0) (AtHost k) host.0) (hosts_of s onto)
+        || s.moves_at (proto_in protos.now slot.0) onto host.0 || is_at onto host }
+{
+    let proto = proto_of(protos, array);
+    acts_in_index(protocols, proto_of(protos, index), proto, host)
+        || acts_in_store(protocols, protos, slot, proto, host)
+}
+
+/// Whether a host has an instruction where a slot's word is printed at a host.
+fn acts_in_output<P: Protocols>(
+    protocols: &P,
+    protos: &[Proto],
+    slot: SlotId,
+    at: HostId,
+    host: HostId,
+) -> bool
+    ensures { result ≡ (P.offer protocols.now).calls.moves_at (proto_in protos.now slot.0) (AtHost at) host.0
+        || nat_eq at.0 host.0 }
+{
+    protocols.moves_at(proto_of(protos, slot), Proto::Local(at), host) || at.0 == host.0
+}
+
+/// Whether a host has an instruction where a word that stands at a protocol is copied and then moved.
+fn acts_in_load<P: Protocols>(protocols: &P, proto: Proto, at: Proto, host: HostId) -> bool
+    ensures { result ≡ is_at proto host || (P.offer protocols.now).calls.moves_at proto at host.0 }
+{
+    stands_at(proto, host) || protocols.moves_at(proto, at, host)
+}
+
+/// Whether a host has an instruction of an operation.
+fn acts_in_apply<P: Protocols>(
+    protocols: &P,
+    protos: &[Proto],
+    at: Proto,
+    op: Op,
+    slots: &[SlotId],
+    host: HostId,
+) -> bool
+    ensures { let s = (P.offer protocols.now).calls in
+        result ≡ list_any (λ slot. s.moves_at (proto_in protos.now slot.0) at host.0) slots.now || s.applies_at op at host.0 }
+{
+    acts_in_operands(protocols, protos, slots, at, host) || protocols.applies_at(op, at, host)
+}
+
+/// Whether a host has an instruction where a word of an array is read.
+fn acts_in_element<P: Protocols>(
+    protocols: &P,
+    protos: &[Proto],
+    at: Proto,
+    array: SlotId,
+    index: SlotId,
+    host: HostId,
+) -> bool
+    ensures { let s = (P.offer protocols.now).calls in let from = proto_in protos.now array.0 in
+        result ≡ list_any (λ k. s.moves_at (proto_in protos.now index.0) (AtHost k) host.0) (hosts_of s from)
+        || is_at from host || s.moves_at from at host.0 }
+{
+    let proto = proto_of(protos, array);
+    acts_in_index(protocols, proto_of(protos, index), proto, host)
+        || acts_in_load(protocols, proto, at, host)
+}
+
 /// Whether a host has an instruction of a right side.
 fn right_acts<P: Protocols>(
     protocols: &P,
@@ -98,22 +183,13 @@ fn right_acts<P: Protocols>(
         Right::Turn => stands_at(at, host),
         Right::Copy(slot) => protocols.moves_at(proto_of(protos, *slot), at, host),
         Right::Apply(op, slots) => {
-            acts_in_operands(protocols, protos, slots.as_slice(), at, host)
-                || protocols.applies_at(*op, at, host)
+            acts_in_apply(protocols, protos, at, *op, slots.as_slice(), host)
         }
         Right::Input(from) => from.0 == host.0,
         Right::Declassify(slot, _) => protocols.moves_at(proto_of(protos, *slot), at, host),
         Right::Endorse(slot, _) => protocols.moves_at(proto_of(protos, *slot), at, host),
-        Right::Load(variable) => {
-            let proto = proto_of(protos, *variable);
-            stands_at(proto, host) || protocols.moves_at(proto, at, host)
-        }
-        Right::Get(array, index) => {
-            let proto = proto_of(protos, *array);
-            acts_in_index(protocols, proto_of(protos, *index), proto, host)
-                || stands_at(proto, host)
-                || protocols.moves_at(proto, at, host)
-        }
+        Right::Load(variable) => acts_in_load(protocols, proto_of(protos, *variable), at, host),
+        Right::Get(array, index) => { acts_in_element(protocols, protos, at, *array, *index, host) }
     }
 }
 
@@ -131,23 +207,16 @@ fn acts<P: Protocols>(protocols: &P, protos: &[Proto], stmt: &Stmt, host: HostId
             host,
         ),
         Stmt::NewVar(variable, slot) => {
-            let proto = proto_of(protos, *variable);
-            protocols.moves_at(proto_of(protos, *slot), proto, host) || stands_at(proto, host)
+            acts_in_store(protocols, protos, *slot, proto_of(protos, *variable), host)
         }
         Stmt::NewArray(array, _) => stands_at(proto_of(protos, *array), host),
         Stmt::Store(variable, slot) => {
-            let proto = proto_of(protos, *variable);
-            protocols.moves_at(proto_of(protos, *slot), proto, host) || stands_at(proto, host)
+            acts_in_store(protocols, protos, *slot, proto_of(protos, *variable), host)
         }
         Stmt::Put(array, index, slot) => {
-            let proto = proto_of(protos, *array);
-            acts_in_index(protocols, proto_of(protos, *index), proto, host)
-                || protocols.moves_at(proto_of(protos, *slot), proto, host)
-                || stands_at(proto, host)
+            acts_in_put(protocols, protos, *array, *index, *slot, host)
         }
-        Stmt::Output(slot, at, _) => {
-            protocols.moves_at(proto_of(protos, *slot), Proto::Local(*at), host) || at.0 == host.0
-        }
+        Stmt::Output(slot, at, _) => acts_in_output(protocols, protos, *slot, *at, host),
         Stmt::If(guard, then_block, else_block, _) => {
             acts_in_branch(
                 protocols,

@@ -1,4 +1,4 @@
-ghost use Rattle.std.specs.Prelude.{◌≡◌, IfOk};
+ghost use Rattle.std.specs.Prelude.{◌≡◌, ◌||◌, nat_eq, IfOk};
 ghost use Rattle.std.specs.List.{list_any};
 ghost use Rattle.vd_joint.specs.Suite.{is_at};
 ghost use Rattle.vd_joint.specs.Emission.{right_takes_part, emission, block_emission};
@@ -25,6 +25,35 @@ fn any_stands_at(protos: &[Proto], slots: &[SlotId], host: HostId) -> bool
     false
 }
 
+/// Whether a slot stands at a host.
+fn slot_stands_at(protos: &[Proto], slot: SlotId, host: HostId) -> bool
+    ensures { result ≡ is_at (proto_in protos.now slot.0) host }
+{
+    stands_at(proto_of(protos, slot), host)
+}
+
+/// Whether either of two slots stands at a host.
+fn either_stands_at(protos: &[Proto], first: SlotId, second: SlotId, host: HostId) -> bool
+    ensures { result ≡ is_at (proto_in protos.now first.0) host || is_at (proto_in protos.now second.0) host }
+{
+    slot_stands_at(protos, first, host) || slot_stands_at(protos, second, host)
+}
+
+/// Whether an array, an index of it or a word that is put into it stands at a host.
+fn put_stands_at(protos: &[Proto], array: SlotId, index: SlotId, slot: SlotId, host: HostId) -> bool
+    ensures { result ≡ is_at (proto_in protos.now array.0) host || is_at (proto_in protos.now index.0) host
+        || is_at (proto_in protos.now slot.0) host }
+{
+    either_stands_at(protos, array, index, host) || slot_stands_at(protos, slot, host)
+}
+
+/// Whether a host takes part in an output at a host.
+fn takes_output(protos: &[Proto], slot: SlotId, at: HostId, host: HostId) -> bool
+    ensures { result ≡ nat_eq at.0 host.0 || is_at (proto_in protos.now slot.0) host }
+{
+    at.0 == host.0 || slot_stands_at(protos, slot, host)
+}
+
 /// Whether a host takes part in a right side.
 fn right_takes<P: Protocols>(protocols: &P, protos: &[Proto], right: &Right, host: HostId) -> bool
     ensures { result ≡ right_takes_part (P.offer protocols.now).calls (proto_in protos.now) right.now host.0 }
@@ -33,15 +62,27 @@ fn right_takes<P: Protocols>(protocols: &P, protos: &[Proto], right: &Right, hos
         Right::Lit(_) => false,
         Right::Turn => false,
         Right::Input(_) => false,
-        Right::Copy(slot) => stands_at(proto_of(protos, *slot), host),
-        Right::Declassify(slot, _) => stands_at(proto_of(protos, *slot), host),
-        Right::Endorse(slot, _) => stands_at(proto_of(protos, *slot), host),
-        Right::Load(slot) => stands_at(proto_of(protos, *slot), host),
+        Right::Copy(slot) => slot_stands_at(protos, *slot, host),
+        Right::Declassify(slot, _) => slot_stands_at(protos, *slot, host),
+        Right::Endorse(slot, _) => slot_stands_at(protos, *slot, host),
+        Right::Load(slot) => slot_stands_at(protos, *slot, host),
         Right::Apply(_, slots) => any_stands_at(protos, slots.as_slice(), host),
-        Right::Get(array, index) => {
-            stands_at(proto_of(protos, *array), host) || stands_at(proto_of(protos, *index), host)
-        }
+        Right::Get(array, index) => either_stands_at(protos, *array, *index, host),
     }
+}
+
+/// Whether a host takes part in a binding.
+fn takes_binding<P: Protocols>(
+    protocols: &P,
+    protos: &[Proto],
+    slot: SlotId,
+    right: &Right,
+    host: HostId,
+) -> bool
+    ensures { result ≡ is_at (proto_in protos.now slot.0) host
+        || right_takes_part (P.offer protocols.now).calls (proto_in protos.now) right.now host.0 }
+{
+    slot_stands_at(protos, slot, host) || right_takes(protocols, protos, right, host)
 }
 
 /// Whether a host takes part in a statement.
@@ -50,24 +91,14 @@ fn takes<P: Protocols>(protocols: &P, protos: &[Proto], stmt: &Stmt, host: HostI
     ensures { result ≡ (emission (P.offer protocols.now).calls (proto_in protos.now) stmt.now).takes_part host.0 }
 {
     match stmt {
-        Stmt::Let(slot, right) => {
-            stands_at(proto_of(protos, *slot), host) || right_takes(protocols, protos, right, host)
-        }
-        Stmt::NewVar(variable, slot) => {
-            stands_at(proto_of(protos, *variable), host) || stands_at(proto_of(protos, *slot), host)
-        }
-        Stmt::NewArray(array, _) => stands_at(proto_of(protos, *array), host),
-        Stmt::Store(variable, slot) => {
-            stands_at(proto_of(protos, *variable), host) || stands_at(proto_of(protos, *slot), host)
-        }
-        Stmt::Put(array, index, slot) => {
-            stands_at(proto_of(protos, *array), host)
-                || stands_at(proto_of(protos, *index), host)
-                || stands_at(proto_of(protos, *slot), host)
-        }
-        Stmt::Output(slot, at, _) => at.0 == host.0 || stands_at(proto_of(protos, *slot), host),
+        Stmt::Let(slot, right) => takes_binding(protocols, protos, *slot, right, host),
+        Stmt::NewVar(variable, slot) => either_stands_at(protos, *variable, *slot, host),
+        Stmt::NewArray(array, _) => slot_stands_at(protos, *array, host),
+        Stmt::Store(variable, slot) => either_stands_at(protos, *variable, *slot, host),
+        Stmt::Put(array, index, slot) => put_stands_at(protos, *array, *index, *slot, host),
+        Stmt::Output(slot, at, _) => takes_output(protos, *slot, *at, host),
         Stmt::If(guard, then_block, else_block, _) => {
-            stands_at(proto_of(protos, *guard), host)
+            slot_stands_at(protos, *guard, host)
                 || any_takes(protocols, protos, then_block.as_slice(), host)
                 || any_takes(protocols, protos, else_block.as_slice(), host)
         }
