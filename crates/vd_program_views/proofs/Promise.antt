@@ -3,7 +3,7 @@ use Rattle.std.proofs.Common.{ℕ, ◌<◌, Bool, sym, subst}
 use Rattle.vd_base.specs.declared.ids.HostId.{HostId}
 use Rattle.vd_core.specs.declared.normal.NormalForm.{NormalForm}
 use Rattle.vd_constraints.specs.declared.labels.Labels.{Labels}
-use Rattle.vd_dependence.specs.Reading.{reads_host}
+use Rattle.vd_dependence.specs.Reading.{becomes_readable_to, reads_host, reads_result}
 use Rattle.vd_dependence.specs.Dependence.{AreReached, OfEachHost}
 use Rattle.vd_assigned_dependence.specs.Assigned.{HearsOnlyAssigned}
 use Rattle.vd_assigned_dependence.proofs.Theorem.{all_hear_readable, all_hear_reached}
@@ -11,8 +11,8 @@ use Rattle.vd_program_views.specs.Explained.{AgreeFor}
 use Rattle.vd_program_views.specs.Promise.{ExplainsOthers}
 use Rattle.vd_program_views.proofs.Theorem.{others_are_explained}
 
-explains : (p : NormalForm) (l : Labels) (h : HostId) (known : ℕ → Bool) → HearsOnlyAssigned p l h known → ExplainsOthers p l h known
-explains p l h known hears list of_two low first second t dealt agree =
+explains : (p : NormalForm) (l : Labels) (h : HostId) (released : ℕ → ℕ → Bool) (known : ℕ → Bool) → HearsOnlyAssigned p l h released known → ExplainsOthers p l h released known
+explains p l h released known hears list of_two low first second t dealt agree =
     let agree_for : AgreeFor p l list h first second = record {
       words = agree.words;
       own = agree.own;
@@ -20,8 +20,8 @@ explains p l h known hears list of_two low first second t dealt agree =
     } in
     (agree_for, others_are_explained p l list of_two h low first second t dealt agree_for)
 
-pub readable_inputs_explain : OfEachHost (λ p l h. ExplainsOthers p l h (reads_host p h))
-readable_inputs_explain p l h well satisfies = explains p l h (reads_host p h) (all_hear_readable p l h well satisfies)
+pub readable_inputs_explain : OfEachHost (λ p l h. ExplainsOthers p l h (becomes_readable_to p l h) (reads_host p h))
+readable_inputs_explain p l h well satisfies = explains p l h (becomes_readable_to p l h) (reads_host p h) (all_hear_readable p l h well satisfies)
 
-pub reached_inputs_explain : OfEachHost (λ p l h. (hosts : ℕ → Bool) → AreReached p l h hosts → ExplainsOthers p l h hosts)
-reached_inputs_explain p l h well satisfies hosts are = explains p l h hosts (all_hear_reached p l h well satisfies hosts are)
+pub reached_inputs_explain : OfEachHost (λ p l h. (hosts : ℕ → Bool) → AreReached p l h hosts → ExplainsOthers p l h (reads_result p l h) hosts)
+reached_inputs_explain p l h well satisfies hosts are = explains p l h (reads_result p l h) hosts (all_hear_reached p l h well satisfies hosts are)

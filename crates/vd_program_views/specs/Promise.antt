@@ -5,20 +5,20 @@ use Rattle.vd_base.specs.declared.ids.HostId.{HostId}
 use Rattle.vd_core.specs.declared.normal.NormalForm.{NormalForm}
 use Rattle.vd_constraints.specs.declared.labels.Labels.{Labels}
 use Rattle.vd_execution.specs.World.{Tape}
-use Rattle.vd_dependence.specs.Reading.{reads_slot, declassified_words, SameInputs}
+use Rattle.vd_dependence.specs.Reading.{declassified_words, SameInputs}
 use Rattle.vd_views.specs.Contract.{IsExplained}
 use Rattle.vd_told.specs.Told.{IsDealt}
 use Rattle.vd_program_views.specs.Explained.{IsOfTwo, plan_of, input_words, AgreeFor}
 
--- other inputs of words: h has the same, and so have the known hosts, and what is declassified to h is the same
-pub record AgreeOn (p : NormalForm) (l : Labels) (h : HostId) (known : ℕ → Bool) (first second : List (List ℕ)) : Type 0 where
+-- other inputs of words: h has the same, and so have the known hosts, and the words of these declassifications are the same
+pub record AgreeOn (p : NormalForm) (h : HostId) (released : ℕ → ℕ → Bool) (known : ℕ → Bool) (first second : List (List ℕ)) : Type 0 where
   pub words : (g i : ℕ) → input_words second g i < 2 ^ 32
   pub own : (i : ℕ) → input_words first h.0 i ≡ input_words second h.0 i
   pub same : SameInputs known first second
-  pub declassified : declassified_words p (reads_slot p l h) first ≡ declassified_words p (reads_slot p l h) second
+  pub declassified : declassified_words p released first ≡ declassified_words p released second
 
 -- whatever valid list without commitments is taken, and whatever was dealt: the second inputs are explained to h
-abbrev pub ExplainsOthers : NormalForm → Labels → HostId → (ℕ → Bool) → Type 0
-ExplainsOthers p l h known =
-    (list : List ℕ) → IsOfTwo p l list → h.0 < 2 → (first second : List (List ℕ)) (t : Tape) → IsDealt first t → AgreeOn p l h known first second
+abbrev pub ExplainsOthers : NormalForm → Labels → HostId → (ℕ → ℕ → Bool) → (ℕ → Bool) → Type 0
+ExplainsOthers p l h released known =
+    (list : List ℕ) → IsOfTwo p l list → h.0 < 2 → (first second : List (List ℕ)) (t : Tape) → IsDealt first t → AgreeOn p h released known first second
     → AgreeFor p l list h first second × IsExplained h.0 (plan_of p l list) t (input_words second)

@@ -4,7 +4,7 @@
 
 ghost use Rattle.std.specs.Prelude.{ℕ, Bool};
 ghost use Rattle.vd_dependence.specs.Dependence.{AreReached, OfEachHost};
-ghost use Rattle.vd_dependence.specs.Reading.{reads_host};
+ghost use Rattle.vd_dependence.specs.Reading.{becomes_readable_to, reads_host, reads_result};
 ghost use Rattle.vd_program_views.specs.Promise.{ExplainsOthers};
 ghost use Rattle.vd_program_views.specs.Explained.{OthersAreExplained, ExplainedBack};
 ghost use Rattle.vd_program_views.specs.PairUp.{DealsPairUp, ThereAreAsMany};
@@ -38,12 +38,12 @@ pub fn any_order_looks_alike()
     ensures { SeesFrontsInAnyOrder }
 {}
 
-/// Whatever a host sees could have come from any inputs that agree on its own, on those of the hosts that it may read, and on what
-/// is declassified to it; and so where they agree on the hosts whose inputs are reached from what it is told. It holds at every
-/// valid list without commitments.
+/// Whatever a host sees could have come from any inputs that agree on its own, on those of the hosts that it may read, and on the
+/// words that become readable to it by a declassification; and so where they agree on the hosts whose inputs are reached from what
+/// it is told, and on all that is declassified to it. It holds at every valid list without commitments.
 pub fn what_may_not_be_read_stays_open()
-    ensures readable { OfEachHost (λ p l h. ExplainsOthers p l h (reads_host p h)) }
-    ensures reached { OfEachHost (λ p l h. (hosts : ℕ → Bool) → AreReached p l h hosts → ExplainsOthers p l h hosts) }
+    ensures readable { OfEachHost (λ p l h. ExplainsOthers p l h (becomes_readable_to p l h) (reads_host p h)) }
+    ensures reached { OfEachHost (λ p l h. (hosts : ℕ → Bool) → AreReached p l h hosts → ExplainsOthers p l h (reads_result p l h) hosts) }
 {}
 
 /// Of the product of two inputs, and of a word that is converted: which item of the other host the deal that is computed
