@@ -13,6 +13,7 @@ use Rattle.vd_constraints.specs.Satisfies.{IsLeast}
 use Rattle.vd_constraints.specs.declared.labels.Labels.{Labels}
 use Rattle.vd_dependence.proofs.Theorem.{reached_once}
 use Rattle.vd_dependence.specs.Dependence.{AreEnough, AreReached, AreReadable}
+use Rattle.vd_dependence.specs.Reading.{reads_result}
 use Rattle.vd_noninter.specs.Hosts.{members}
 use Rattle.vd_assigned_dependence.proofs.Theorem.{all_hear_reached}
 use Rattle.vd_assigned_dependence.specs.Assigned.{HearsOnly, IsAssignment}
@@ -78,7 +79,7 @@ module _ (name : List ℕ) (p : NormalForm) where
 
   -- at a valid assignment, for the host of this name
   assigned : (h : HostId) (labels : Labels) (set : HostSet) → IsWellMade p → host_of p.hosts name ≡ Some h.0 → IsLeast (system_of p) labels → AreReached p labels h (members set)
-      → (list : List ℕ) → IsAssignment p labels list → HearsOnly p labels list h (members set)
+      → (list : List ℕ) → IsAssignment p labels list → HearsOnly p labels list h (reads_result p labels h) (members set)
   assigned h labels set well is is_least reached list valid = all_hear_reached p labels h well is_least.is (members set) reached (within p.hosts name h.0 (sym is)) list valid
 
   pub told : (names : List (List ℕ)) (h : HostId) (labels : Labels) (set : HostSet) (result : Result Answer Status) → IsWellMade p → names ≡ p.hosts → Checks (as_host names name) (Ok h) → IsLeast (system_of p) labels

@@ -8,6 +8,7 @@ use Rattle.vd_constraints.specs.Rules.{system_of}
 use Rattle.vd_constraints.specs.Satisfies.{IsLeast}
 use Rattle.vd_constraints.specs.declared.labels.Labels.{Labels}
 use Rattle.vd_dependence.specs.Dependence.{AreEnough, AreReached, AreReadable}
+use Rattle.vd_dependence.specs.Reading.{reads_result}
 use Rattle.vd_noninter.specs.Hosts.{members}
 use Rattle.vd_assigned_dependence.specs.Assigned.{HearsOnly, IsAssignment}
 use Rattle.vd_normal.specs.Normal.{normal_form}
@@ -36,7 +37,7 @@ pub record IsDependenceLine (name : List ℕ) (p : NormalForm) (printed : List �
   -- it the same outputs, and the same words at every slot that is reached and in its view.
   pub enough : AreEnough p labels host (members set)
   -- Whatever valid assignment of protocols is taken, two such families bring it the same clear words, in order.
-  pub enough_assigned : (list : List ℕ) → IsAssignment p labels list → HearsOnly p labels list host (members set)
+  pub enough_assigned : (list : List ℕ) → IsAssignment p labels list → HearsOnly p labels list host (reads_result p labels host) (members set)
 
 -- The file is the text of a source that meets every rule, and the line is that of its let-normal form.
 pub record IsDependenceOf (source name : List ℕ) (contents : Contents) (printed : List ℕ) : Type 0 where
