@@ -6,3 +6,4 @@ mod Copies
 mod Commitments
 mod Shares
 mod OneWord
+mod Example

@@ -2,3 +2,4 @@ pub mod Departing
 pub mod Copies
 pub mod Commitments
 pub mod Shares
+pub mod Example

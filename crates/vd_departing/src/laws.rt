@@ -3,6 +3,7 @@
 ghost use Rattle.vd_departing.specs.Commitments.{CommitmentsBind};
 ghost use Rattle.vd_departing.specs.Copies.{CopiesStayRight, OneWordIsRight};
 ghost use Rattle.vd_departing.specs.Departing.{KeepersRunTogether};
+ghost use Rattle.vd_departing.specs.Example.{TwoWordsForOne};
 ghost use Rattle.vd_departing.specs.Shares.{SharesAreKept};
 
 /// Where each host that sends keeps to its program, the run is the joint run.
@@ -31,4 +32,9 @@ pub fn commitments_bind()
 /// all that send do.
 pub fn shares_are_kept()
     ensures { SharesAreKept }
+{}
+
+/// A host that departs can hand any two words to two copies, and nobody compares them: the premise that it says one word is needed.
+pub fn two_words_for_one()
+    ensures { TwoWordsForOne }
 {}
