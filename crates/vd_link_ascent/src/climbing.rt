@@ -14,9 +14,12 @@ use vd_space::Problem;
 /// At most so many sweeps are made.
 const SWEEPS: u32 = 4096;
 
-/// Sweeps end, of an ascent and of the walk behind it, when so many prices of links were looked at, so that both together take a
-/// second or two at most.
-pub const WORK: u64 = 1_073_741_824;
+/// The sweeps of an ascent end when so many prices of links were looked at.
+const CLIMB_WORK: u64 = 268_435_456;
+
+/// The walk behind an ascent ends when so many were looked at in both, where other work counts as long as it takes; so that both
+/// together take a second at most.
+pub const WORK: u64 = 536_870_912;
 
 /// The points and links of a problem, and what sweeps over them came to.
 #[derive(Drop)]
@@ -62,7 +65,7 @@ impl Climb {
         };
         let tables = Tables::of(alloc, linked, &network, &order, settings.as_slice())?;
         let mut state = State::of(alloc, &tables, &network, left.most)?;
-        let witness = state.climb(alloc, &tables, &network, SWEEPS, WORK)?;
+        let witness = state.climb(alloc, &tables, &network, SWEEPS, CLIMB_WORK)?;
         state.send_home(&tables, &network);
         Ok(Some(Climb {
             order,
@@ -85,5 +88,31 @@ impl Climb {
         )?;
         lift(alloc, links, &self.network, &self.left, &mut nets)?;
         Ok(nets)
+    }
+
+    /// What it takes to put each point where it costs least: so many costs are looked at.
+    pub fn work_of_decoding(&self) -> u64 {
+        let mut work: u64 = 0;
+        for (point, costs) in self.tables.costs.iter().enumerate() {
+            let links = self.network.of_point(point).len() as u64;
+            let sums = links.saturating_add(1);
+            work = work.saturating_add(sums.saturating_mul(costs.len() as u64));
+        }
+        work
+    }
+
+    /// What it takes to have the amounts as shifts, and the bound of a prefix under these: so many prices are looked at.
+    pub fn work_of_shifts(&self) -> u64 {
+        let mut work: u64 = 0;
+        for death in &self.left.deaths {
+            let links = self.network.of_point(death.point).len() as u64;
+            work = work.saturating_add(links.saturating_mul(self.left.most as u64));
+        }
+        for first in &self.network.firsts {
+            let here = self.tables.rows(*first).len() as u64;
+            let there = self.tables.rows(first.turned()).len() as u64;
+            work = work.saturating_add(here.saturating_mul(there));
+        }
+        work
     }
 }

@@ -1,7 +1,7 @@
 //! A walk down the lists of a problem, in order, that finds prefixes which seem to begin no list of little cost.
 
-ghost use Rattle.std.specs.Prelude.{◌≡◌, ◌==◌, ◌<◌, ◌≤◌, IfOk, IfSome, IsTrue, length, take};
-ghost use Rattle.vd_link_ascent.specs.Walking.{IsRefutation};
+ghost use Rattle.std.specs.Prelude.{◌≡◌, ◌==◌, ◌<◌, ◌≤◌, IfOk, IfSome, length};
+ghost use Rattle.vd_link_ascent.specs.Walking.{IsRefutation, TestsLast, can_enter, entered, made, tree};
 ghost use Rattle.vd_linked.specs.Links.{links};
 ghost use Rattle.vd_linked_path.specs.Tables.{AreLinkedTables};
 ghost use Rattle.vd_space.specs.Labelled.{IsLabelled};
@@ -18,6 +18,15 @@ use vd_space::Problem;
 
 /// A unit of cost, in parts.
 const UNIT: i64 = 256;
+
+/// What the test of the candidate that was chosen last came to.
+#[derive(PartialEq, Eq, Debug, Drop)]
+pub(crate) enum Tested {
+    /// The choice stands.
+    Open,
+    /// It is taken back; with a refutation where shifts can have the amounts.
+    Refuted(Option<Refutation>),
+}
 
 /// A walk over the slots of a problem: at each slot it passes over candidates in order, until one seems to begin a list that
 /// costs at most the aim.
@@ -79,7 +88,7 @@ impl<'a> Walk<'a> {
             };
             if !self.enter(candidate.choice) {
                 self.walker.pass_over(candidate);
-            } else if let Some(refutation) = self.test(alloc, candidate)? {
+            } else if let Tested::Refuted(Some(refutation)) = self.test(alloc, candidate)? {
                 return Ok(Some(refutation));
             }
         }
@@ -88,7 +97,7 @@ impl<'a> Walk<'a> {
 
     /// Whether the walk has come to a whole list.
     pub fn is_whole(&self) -> bool
-        ensures { result ≡ (length (take self.now.path.depth self.now.path.room) == length self.now.path.problem.now.slots) }
+        ensures { result ≡ (length (made self.now.path) == length self.now.problem.now.slots) }
     {
         self.path.depth() == self.path.slots()
     }
@@ -103,10 +112,14 @@ impl<'a> Walk<'a> {
         }
     }
 
-    /// Makes the choice, if the prefix stays valid and its bound within the aim. Answers whether it did.
+    /// Makes the choice, if there are such a slot and such a choice, and the prefix stays valid and its bound within the aim.
+    /// Answers whether it did.
     fn enter(&mut self, choice: u32) -> bool
         ensures problem { self.new.problem.now ≡ self.old.problem.now }
-        ensures entered { IsTrue result → 0 < length (take self.new.path.depth self.new.path.room) }
+        ensures most { self.new.most ≡ self.old.most }
+        ensures tree { tree self.new.path ≡ tree self.old.path }
+        ensures can { result ≡ can_enter (tree self.old.path) self.old.most (made self.old.path) choice }
+        ensures path { made self.new.path ≡ entered result (made self.old.path) choice }
     {
         if self.path.depth() >= self.path.slots() || choice >= self.path.choices() {
             return false;
@@ -121,32 +134,28 @@ impl<'a> Walk<'a> {
 
     /// Tests the candidate that was chosen last. Where it is refuted the choice is taken back; the refutation is answered if
     /// shifts can have the amounts.
-    fn test(
-        &mut self,
-        alloc: Global,
-        candidate: Candidate,
-    ) -> Result<Option<Refutation>, AllocError>
-        requires { 0 < length (take self.old.path.depth self.old.path.room) }
+    fn test(&mut self, alloc: Global, candidate: Candidate) -> Result<Tested, AllocError>
+        requires { 0 < length (made self.old.path) }
         ensures problem { self.new.problem.now ≡ self.old.problem.now }
-        ensures found { IfOk result (λ found. IfSome found (IsRefutation self.old.problem.now)) }
+        ensures tested { IfOk result (TestsLast self.old.problem.now (made self.old.path) (made self.new.path)) }
     {
         match self.walker.test(alloc, candidate)? {
             Verdict::Open => {
                 self.walker.go_on();
-                Ok(None)
+                Ok(Tested::Open)
             }
             Verdict::Refuted => {
                 let refutation = self.refutation(alloc)?;
                 self.walker.take_back(candidate);
                 self.path.leave();
-                Ok(refutation)
+                Ok(Tested::Refuted(refutation))
             }
         }
     }
 
     /// The prefix with the shifts so far, if shifts can have the amounts and there are some.
     fn refutation(&self, alloc: Global) -> Result<Option<Refutation>, AllocError>
-        requires { 0 < length (take self.now.path.depth self.now.path.room) }
+        requires { 0 < length (made self.now.path) }
         ensures { IfOk result (λ found. IfSome found (IsRefutation self.now.problem.now)) }
     {
         let links = self.tables.links.as_slice();
