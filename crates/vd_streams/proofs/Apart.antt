@@ -1,12 +1,14 @@
 -- The words of items, and the keys of numbers.
 use Rattle.std.proofs.Common.{◌≡◌, ◌<◌, ℕ, ◌+◌, ◌*◌, ◌^◌, Bool, true, false, if◌then◌else◌, List, min, max, nat_lt, sym, ap, ap₂, ◌∙◌, arith, add-zero, rules, slice_index}
 use Rattle.std.specs.Int.{w64, to_le_bytes, from_le_bytes}
+use Rattle.std.proofs.lemmas.List.FromFn.{get_or-map-range_with_len}
 use Rattle.std.proofs.lemmas.Nat.{from_le_bytes-to_le_bytes_8}
 use Rattle.rand_core.specs.Steps.{u32_at}
 use Rattle.vd_deals.specs.declared.items.Triple.{Triple}
 use Rattle.vd_deals.specs.declared.items.PairItem.{PairItem}
-use Rattle.vd_tape.specs.Made.{made_key, made_word, shared_stream, mul_item, and_item, pair_item, mul_parts, and_parts, pair_parts, words_from}
-use Rattle.vd_streams.specs.Drawn.{HoldsFive, HoldsThree, ItemsAreApart, KeysAreApart}
+use Rattle.vd_deals.specs.declared.deal.Counts.{Counts}
+use Rattle.vd_tape.specs.Made.{made_key, made_word, shared_stream, mul_item, and_item, pair_item, mul_parts, and_parts, pair_parts, words_from, made_deal}
+use Rattle.vd_streams.specs.Drawn.{HoldsFive, HoldsThree, ItemsAreApart, OwnWordsAreApart, KeysAreApart}
 
 -- ---- items
 
@@ -51,6 +53,11 @@ pairs key a b l i =
 
 pub items_apart : ItemsAreApart
 items_apart = record { products = products; bits = bits; pairs = pairs }
+
+-- ---- own words
+
+pub own_words_apart : OwnWordsAreApart
+own_words_apart counts key me i low = get_or-map-range_with_len (made_word key me) 0 counts.own i i 0 low (omega arith)
 
 -- ---- keys
 

@@ -1,11 +1,12 @@
 //! Which words a key deals. Nothing is computed here: the function's clauses are laws.
 #![tactic(auto)]
 
-ghost use Rattle.vd_streams.specs.Drawn.{ItemsAreApart, KeysAreApart};
+ghost use Rattle.vd_streams.specs.Drawn.{ItemsAreApart, OwnWordsAreApart, KeysAreApart};
 
-/// Each word of a product or a pair is a word of its stream at a place of its own, and no two items of a stream share a place; and
-/// two numbers are two keys of the cipher.
+/// Each word of a product or a pair is a word of its stream at a place of its own, and no two items of a stream share a place. The own
+/// words of a host are those of the stream of its own number. And two numbers are two keys of the cipher.
 pub fn what_is_dealt_is_drawn_once()
     ensures items { ItemsAreApart }
+    ensures own { OwnWordsAreApart }
     ensures keys { KeysAreApart }
 {}

@@ -1,8 +1,11 @@
-use Rattle.vd_streams.proofs.Apart.{items_apart, keys_apart}
+use Rattle.vd_streams.proofs.Apart.{items_apart, own_words_apart, keys_apart}
 use Rattle.vd_streams.proofs.what_is_dealt_is_drawn_once.Goals as goal
 
 pub returns-clause-items : goal.returns-clause-items
 returns-clause-items c = items_apart
+
+pub returns-clause-own : goal.returns-clause-own
+returns-clause-own c = own_words_apart
 
 pub returns-clause-keys : goal.returns-clause-keys
 returns-clause-keys c = keys_apart
