@@ -1,0 +1,4 @@
+mod Rows
+mod Calls
+mod Moves
+mod Programs
