@@ -1,19 +1,18 @@
 -- Two runs along the steps of a plan end with the deal that explains.
-use Rattle.std.proofs.Common.{◌≡◌, ℕ, zero, suc, nat_eq, ◌<◌, ◌≤◌, Bool, true, false, if◌then◌else◌, List, [], ◌∷◌, ◌++◌, map, ◌⊎◌, inl, inr, refl, sym, ap, subst, ◌∙◌, arith, rules}
+use Rattle.std.proofs.Common.{◌≡◌, ℕ, zero, suc, nat_eq, ◌<◌, Bool, true, false, if◌then◌else◌, List, [], ◌∷◌, ◌++◌, map, refl, sym, ap, subst, ◌∙◌, arith, rules}
 use Rattle.vd_execution.specs.declared.instructions.Act.{Act}
 use Rattle.vd_execution.specs.Step.{Source, Pairs}
 use Rattle.vd_execution.specs.World.{Tape}
 use Rattle.vd_execution.specs.Joint.{Part, Hosts, is_other, turn_begun, turns, joint}
 use Rattle.vd_execution.specs.Acts.{run_acts}
-use Rattle.vd_execution.specs.Gadgets.{Sharing, BySums, ByXors, source_of, Gadget, Alone, Tells, Shares, BothShare, Opens, Masked, Paired, acts_of_gadget}
+use Rattle.vd_execution.specs.Gadgets.{BySums, ByXors, source_of, Gadget, Alone, Tells, Shares, BothShare, Opens, Masked, Paired, acts_of_gadget}
 use Rattle.vd_execution.specs.Plans.{Plan, Ends, Then, Branch, Loop, joint_of}
-use Rattle.vd_schedules.proofs.Confluence.{same_or_not}
 use Rattle.vd_schedules.proofs.ActsFirst.{runs_first}
 use Rattle.vd_views.specs.Hiding.{TakenAlike}
 use Rattle.vd_views.specs.Plans.{run_branch, run_turn}
 use Rattle.vd_views.specs.Excused.{with_item, item_again, if_both, turns_again, excused}
 use Rattle.vd_views.proofs.Frames.{acts_grow, acts_frame}
-use Rattle.vd_views.proofs.Joints.{Grows, HasFrame, before, grows_after, frame_after, begun_grows, turns_grow, turns_frame, branch_grows, branch_frame, joint_grows, joint_frame}
+use Rattle.vd_views.proofs.Joints.{Grows, HasFrame, before, frame_after, turns_grow, turns_frame, branch_grows, branch_frame, joint_grows, joint_frame}
 use Rattle.vd_views.proofs.Changed.{changed_elsewhere}
 use Rattle.vd_views.proofs.Plans.{begun_cursors, run_turn_grows}
 use Rattle.vd_excusing.specs.declared.step.Hidden.{Hidden}
@@ -22,8 +21,8 @@ use Rattle.vd_excusing.specs.declared.step.Step.{Step, Hide, Act as ActStep, Bra
 use Rattle.vd_excusing.specs.declared.step.Step.TheOpen.{Step-F}
 use Rattle.vd_excusing.specs.declared.step.Step.TheFolds.{the_lemmas}
 use Rattle.vd_excusing.specs.Steps.{operands_of, part_of, hidden_by, steps_of}
-use Rattle.vd_excusing.specs.Walks.{Both, Walk, hidden_again, run_steps, both_steps, both_begun, both_either, run_either, step_walk, walk, walks}
-use Rattle.vd_excusing.specs.Claims.{explained_end, WalksExcuse}
+use Rattle.vd_excusing.specs.Walks.{Both, Walk, run_steps, both_steps, both_begun, both_either, step_walk, walk, walks}
+use Rattle.vd_excusing.specs.Claims.{WalksExcuse}
 
 abbrev states : Tape → Hosts → Hosts → Both
 states y w v = record { deal = y; first = w; second = v }

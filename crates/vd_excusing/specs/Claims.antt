@@ -1,7 +1,7 @@
 -- What is proved of two runs along the steps of a plan.
 use Rattle.std.specs.Prelude.{◌≡◌, ℕ}
 use Rattle.vd_execution.specs.World.{Tape}
-use Rattle.vd_execution.specs.Joint.{Hosts, joint}
+use Rattle.vd_execution.specs.Joint.{joint}
 use Rattle.vd_execution.specs.Gadgets.{Gadget}
 use Rattle.vd_execution.specs.Plans.{Plan, joint_of}
 use Rattle.vd_views.specs.Excused.{excused}

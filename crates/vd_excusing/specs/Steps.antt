@@ -1,5 +1,5 @@
 -- The steps of a plan: before each item that two hosts share, what it will hide; acts, branches and loops.
-use Rattle.std.specs.Prelude.{ℕ, List, [], ◌∷◌, ◌++◌, map}
+use Rattle.std.specs.Prelude.{List, [], ◌∷◌, ◌++◌, map}
 use Rattle.vd_execution.specs.Gadgets.{BySums, ByXors, Masking, Pairing, Gadget, Alone, Tells, Shares, BothShare, Opens, Masked, Paired, acts_of_gadget}
 use Rattle.vd_execution.specs.Plans.{Plan, Ends, Then, Branch, Loop}
 use Rattle.vd_excusing.specs.declared.step.Operands.{Operands}

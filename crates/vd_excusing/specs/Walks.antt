@@ -1,15 +1,13 @@
 -- Two runs along the same steps, the second by a deal that is changed on the way.
-use Rattle.std.specs.Prelude.{◌≡◌, ℕ, nat_eq, Bool, true, false, if◌then◌else◌, List, [], ◌∷◌, map}
+use Rattle.std.specs.Prelude.{ℕ, nat_eq, if◌then◌else◌, List, [], ◌∷◌, map, bit_xor}
 use Rattle.vd_execution.specs.Step.{Source, Pairs}
 use Rattle.vd_execution.specs.World.{Tape}
-use Rattle.vd_execution.specs.Joint.{Hosts, is_other, turn_begun, turns}
-use Rattle.vd_execution.specs.Joint.{Part as HostPart}
+use Rattle.vd_execution.specs.Joint.{Part as HostPart, Hosts, is_other, turn_begun, turns}
 use Rattle.vd_execution.specs.Acts.{run_act}
 use Rattle.vd_execution.specs.Gadgets.{Sharing, BySums, ByXors, source_of}
 use Rattle.vd_views.specs.Hiding.{next_item}
 use Rattle.vd_views.specs.Items.{item_for, pair_item, raised}
 use Rattle.vd_views.specs.Excused.{with_item, if_both}
-use Rattle.std.specs.Prelude.{bit_xor}
 use Rattle.vd_execution.specs.Registers.{nth}
 use Rattle.vd_excusing.specs.declared.step.Operands.{Operands}
 use Rattle.vd_excusing.specs.declared.step.Part.{Part}

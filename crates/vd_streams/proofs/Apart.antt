@@ -6,8 +6,7 @@ use Rattle.std.proofs.lemmas.Nat.{from_le_bytes-to_le_bytes_8}
 use Rattle.rand_core.specs.Steps.{u32_at}
 use Rattle.vd_deals.specs.declared.items.Triple.{Triple}
 use Rattle.vd_deals.specs.declared.items.PairItem.{PairItem}
-use Rattle.vd_deals.specs.declared.deal.Counts.{Counts}
-use Rattle.vd_tape.specs.Made.{made_key, made_word, shared_stream, mul_item, and_item, pair_item, mul_parts, and_parts, pair_parts, words_from, made_deal}
+use Rattle.vd_tape.specs.Made.{made_key, made_word, shared_stream, mul_item, and_item, pair_item, mul_parts, and_parts, pair_parts, words_from}
 use Rattle.vd_streams.specs.Drawn.{HoldsFive, HoldsThree, ItemsAreApart, OwnWordsAreApart, KeysAreApart}
 
 -- ---- items
