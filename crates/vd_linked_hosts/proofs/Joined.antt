@@ -37,7 +37,7 @@ module _ (s : Supply) (j : Joint) (lists : ℕ → Lists) (come went : ℕ → �
   items h source i =
       item_words source (items_of (lists h) source i) (subst (λ (o : Option (List ℕ)). AreItem (or_zeros source o)) (supplied h source i) (hosts.deal.words h source i))
 
-  sound : (h : ℕ) → AreSound (ran h).events (ran h).state
+  pub sound : (h : ℕ) → AreSound (ran h).events (ran h).state
   sound h = sound_from (lists h) (items h) (at_start (code_of h j)) (λ r. omega arith) (hosts.numbers h) (ran h).steps (ran h).events (ran h).state (ran h).reached
 
   -- what came to b from a, as far as it is told, is a front of the packets of a
@@ -52,7 +52,7 @@ module _ (s : Supply) (j : Joint) (lists : ℕ → Lists) (come went : ℕ → �
       let f = packets_front (received_from a (ran b).events) (sent_to b (ran a).events) (rest ++ (l.0 ++ w.0)) ((sound b).received a) ((sound a).sent b) all in
       (f.0, f.1, l.0 ++ w.0, f.2)
 
-  driven : AreDriven s j lists (λ h. (ran h).events) (λ h. (ran h).state)
+  pub driven : AreDriven s j lists (λ h. (ran h).events) (λ h. (ran h).state)
   driven = record {
     supplied = supplied;
     steps = λ h. (ran h).steps;

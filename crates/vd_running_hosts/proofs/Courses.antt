@@ -123,14 +123,14 @@ each_both : {X : Type 0} (P : X → Type 0) (xs : List X) (x : X) → AllByRecur
 each_both P [] x a p = (p, tt)
 each_both P (y ∷ xs) x a p = (a.0, each_both P xs x a.1 p)
 
-abbrev HasGreeted : Task → Held → Type 0
+abbrev pub HasGreeted : Task → Held → Type 0
 HasGreeted task held = Greets (ends_with task held.peer) held.given held.greeted (Ok tt)
 
-all_greeted : (task : Task) (first : ℕ) (start : NetView) (all : List Held) (now : NetView) → Met task first start all now → AllByRecursion (HasGreeted task) all
+pub all_greeted : (task : Task) (first : ℕ) (start : NetView) (all : List Held) (now : NetView) → Met task first start all now → AllByRecursion (HasGreeted task) all
 all_greeted task first start _ _ NoneMet = tt
 all_greeted task first start _ _ (OneMet all held net now met gets greets) = each_both (HasGreeted task) all held (all_greeted task first start all net met) greets
 
-abbrev session_of : LinkView → SessionView
+abbrev pub session_of : LinkView → SessionView
 session_of greeted = record { link = greeted; received = 36; failed = false }
 
 each_link : (task : Task) (later : Sessions) (p : ℕ) (P : Option SessionView → Option Used → Type 0) → P None None
@@ -171,7 +171,7 @@ or_only plan me peer given back p others told here rest = at (nat_eq peer p) ref
     at true e t = subst (λ (n : ℕ). IsPrefixOf (drop (length given.sent) back.sent) (greeting plan me n)) (eqb-true peer p e) (here t)
     at false e t = rest t
 
-or_itself : (peer : ℕ) (given back : LinkView) (others : Option Used) → used_or peer given back peer others ≡ Some (record { given = given; back = back })
+pub or_itself : (peer : ℕ) (given back : LinkView) (others : Option Used) → used_or peer given back peer others ≡ Some (record { given = given; back = back })
 or_itself peer given back others = ap (λ (b : Bool). if b then Some (record { given = given; back = back }) else others) (eq-eqb peer peer refl)
 
 nothing_went : (xs ys : List ℕ) → IsPrefixOf (drop (length xs) xs) ys
@@ -194,12 +194,12 @@ cut_greeting plan me p given link greet_fault.End told g = front_same _ _ (added
 -- ---- peers that were met, and steps over their links
 
 -- what a link is where its session was driven
-record Agrees (plan : List ℕ) (me p : ℕ) (s l : Option SessionView) (u : Option Used) : Type 0 where
-  came : bytes_to_come s ≡ drop 36 (bytes_that_came u)
-  went : bytes_sent s l ≡ drop 36 (bytes_that_went u)
-  greets : (more : List ℕ) × IsPrefixOf (bytes_that_went u) (greeting plan me p ++ more)
+pub record Agrees (plan : List ℕ) (me p : ℕ) (s l : Option SessionView) (u : Option Used) : Type 0 where
+  pub came : bytes_to_come s ≡ drop 36 (bytes_that_came u)
+  pub went : bytes_sent s l ≡ drop 36 (bytes_that_went u)
+  pub greets : (more : List ℕ) × IsPrefixOf (bytes_that_went u) (greeting plan me p ++ more)
 
-behind_sent : (given greeted back own more : List ℕ) → greeted ≡ given ++ own → back ≡ greeted ++ more → back ≡ given ++ (own ++ more)
+pub behind_sent : (given greeted back own more : List ℕ) → greeted ≡ given ++ own → back ≡ greeted ++ more → back ≡ given ++ (own ++ more)
 behind_sent given greeted back own more e f = f ∙ ap (λ l. l ++ more) e ∙ append_assoc given own more
 
 driven_link : (plan : List ℕ) (me p : ℕ) (given greeted : LinkView) (l : Option SessionView) → length plan ≡ 32 → Greets (ends plan me p) given greeted (Ok tt) → BothStand (Some (session_of greeted)) l
@@ -321,13 +321,13 @@ module _ (machine : Kept) (task : Task) (start end : NetView) (ob on : SinkView)
 
     module _ (mid : SinkView) (result : Result Ended EngineFault) (d : Drives (wants_with machine.lists) (next_with machine.lists) seen_at (state_of machine) sessions later out mid result)
         (told : (p : ℕ) → TellsBytes (links p)) where
-      stands : (p : ℕ) → BothStand (sessions p) (later p)
+      pub stands : (p : ℕ) → BothStand (sessions p) (later p)
       stands = stand d.events _ _ sessions later out mid result d.driven
 
-      all_told : AreTold later
+      pub all_told : AreTold later
       all_told = later_told task meets.met.all sessions later meets.met.are greeted_all long stands told
 
-      agrees : (p : ℕ) → Agrees task.plan task.me.0 p (sessions p) (later p) (links p)
+      pub agrees : (p : ℕ) → Agrees task.plan task.me.0 p (sessions p) (later p) (links p)
       agrees = agree task meets.met.all sessions later meets.met.are greeted_all long stands told (grown d.events _ _ sessions later all_told out mid result d.driven)
           (was_told d.events _ _ sessions later out mid result d.driven)
 

@@ -1,3 +1,5 @@
 pub mod Numbers
 pub mod Courses
+pub mod Printing
+pub mod Stages
 pub mod Running

@@ -1,7 +1,8 @@
 -- All hosts of a source over their links.
 use Rattle.std.proofs.Common.{◌≡◌, ◌≢◌, ◌⊎◌, inl, inr, ◌+◌, ◌<◌, ◌≤◌, ℕ, zero, suc, nat_eq, if◌then◌else◌, Bool, true, false, IsTrue, List, [], ◌∷◌, ◌++◌, length, Option, Some, None, Result, Ok, Err, refl, sym, ap, ◌∙◌, subst, append_assoc, arith, map}
 use Rattle.std.proofs.lemmas.Bool.{cases_lt, ne_eqb}
-use Rattle.std.proofs.lemmas.List.FromFn.{get_or-map-range_with_len}
+use Rattle.std.proofs.lemmas.List.{append-nil}
+use Rattle.std.proofs.lemmas.List.FromFn.{get_or-map-range_with_len, length-map-range_with_len}
 use Rattle.std.specs.List.{range_with_len}
 use Rattle.std.specs.Prelude.{drop, slice_get, slice_index_or}
 use Rattle.vd_base.specs.HostSets.{host}
@@ -17,12 +18,14 @@ use Rattle.vd_outside.specs.Net.{NetView}
 use Rattle.vd_outside.specs.Sink.{SinkView}
 use Rattle.vd_execution.specs.declared.instructions.Instr.{Instr}
 use Rattle.vd_execution.specs.Code.{Finished}
-use Rattle.vd_execution.specs.Joint.{Joint, code_of}
-use Rattle.vd_execution.specs.Step.{Source as List_of, Inputs, OwnWords, Triples, BitTriples, Pairs, State}
+use Rattle.vd_execution.specs.Joint.{Joint, code_of, started}
+use Rattle.vd_execution.specs.Step.{Source as List_of, Inputs, OwnWords, Triples, BitTriples, Pairs, State, Cursors, Need, Nothing, Item, Packet, Unequal, Ended as NoNeed, need, need_of}
 use Rattle.vd_execution.specs.Text.{IsCodeOf, text}
-use Rattle.vd_execution.specs.World.{Supply, IsPrefixOf, Tape, followed_by_zeros}
-use Rattle.vd_schedules.specs.Claims.{last_of}
+use Rattle.vd_execution.specs.World.{Local, Supply, IsPrefixOf, IsShortAt, Tape, followed_by_zeros, or_zeros}
+use Rattle.vd_schedules.specs.Claims.{RunsWell, Suffices, last_of}
+use Rattle.vd_schedules.proofs.Compiled.{never_short_on_the_way}
 use Rattle.vd_schedules.proofs.Confluence.{same_or_not}
+use Rattle.vd_schedules.proofs.Sound.{AreItem}
 use Rattle.vd_suite.specs.Whole.{RunsAsToldBy, inputs_of}
 use Rattle.vd_machine.specs.Kept.{Kept, at_start, state_of}
 use Rattle.vd_machine.specs.Machines.{item_or_none, items_of}
@@ -34,15 +37,20 @@ use Rattle.vd_host_programs.proofs.HostCodes.{codes_can_be_loaded, codes_run_as_
 use Rattle.vd_host_text.specs.declared.program.Digest.{Digest}
 use Rattle.vd_read_back.specs.Stored.{CanBeStored, stored_program}
 use Rattle.vd_read_back.proofs.Files.{stored_programs_stand_in_files}
-use Rattle.vd_link.specs.Frames.{greeting}
+use Rattle.vd_link.specs.Frames.{frames, greeting}
+use Rattle.vd_link.specs.Laws.{AreWords}
 use Rattle.vd_link.specs.Receiving.{IsBadByte}
-use Rattle.vd_link.specs.Sessions.{Greeting, IsGreetFault}
+use Rattle.vd_link.specs.Sessions.{Greeting, IsGreetFault, IsLinkFault}
 use Rattle.vd_link.specs.declared.faults.GreetFault.{GreetFault}
 use Rattle.vd_link.specs.declared.faults.GreetFault.TheVariants as greet_fault
+use Rattle.vd_link.specs.declared.faults.LinkFault.TheVariants as link_fault
 use Rattle.vd_link.proofs.GreetingLaws.{no_greet_fault}
+use Rattle.vd_link.proofs.Streams.{no_fault}
 use Rattle.vd_engine.specs.Drives.{Sessions, lines}
-use Rattle.vd_engine.specs.Events.{AtStart, printed}
+use Rattle.vd_engine.specs.Events.{AtStart, Event, printed, received_from, sent_to}
 use Rattle.vd_engine.specs.declared.engine.Ended.{Ended}
+use Rattle.vd_engine.specs.declared.fault.EngineFault.{EngineFault}
+use Rattle.vd_engine.specs.declared.fault.EngineFault.TheVariants as engine_fault
 use Rattle.vd_hosting.specs.Histories.{Held, ended, listening}
 use Rattle.vd_hosting.specs.Peers.{Peer, number_at, peer_at}
 use Rattle.vd_hosting.specs.Plays.{Driven, NoRoom, NotAnnounced, NotGiven, NotGreeted, NotListening, Plays}
@@ -50,15 +58,23 @@ use Rattle.vd_hosting.specs.declared.fault.HostFault.{HostFault}
 use Rattle.vd_hosting.specs.declared.fault.HostFault.TheVariants as fault
 use Rattle.vd_hosting.specs.declared.task.Task.{Task}
 use Rattle.vd_hosting.proofs.Numbers.{earlier_number, later_number, less_or_least, number_apart}
-use Rattle.vd_all_hosts.specs.AllHosts.{AreTold}
+use Rattle.vd_histories.specs.Histories.{AreHistories, stand}
+use Rattle.vd_histories.proofs.Following.{reached_by}
+use Rattle.vd_all_hosts.specs.AllHosts.{AreDriven, AreTold, WaitsFor}
+use Rattle.vd_all_hosts.proofs.Steps.{Trace}
+use Rattle.vd_all_hosts.proofs.Told.{all_traced, waiting_ended}
 use Rattle.vd_linked_hosts.specs.Linked.{AreHosts, NumbersAreWords}
 use Rattle.vd_linked_hosts.proofs.Driven.{Made}
-use Rattle.vd_linked_hosts.proofs.Fronts.{flat_front, front_both, front_trans}
-use Rattle.vd_linked_hosts.proofs.Joined.{never_bad, tells}
+use Rattle.vd_linked_hosts.proofs.Fronts.{flat_front, front_both, front_same, front_trans, next_there, packets_front}
+use Rattle.vd_linked_hosts.proofs.Joined.{driven, never_bad, sound, tells}
+use Rattle.vd_linked_hosts.proofs.Words.{AreItems, AreSound}
+use Rattle.vd_running_hosts.specs.Ending.{GoesThrough, RunningHostsEnd}
 use Rattle.vd_running_hosts.specs.Links.{Used, bytes_that_came, bytes_that_went, link_to, used_by, used_in, used_or}
 use Rattle.vd_running_hosts.specs.Running.{AreRunOverLinks, BlamesNobody, Run, RunningHostsTellTheSource, WritesUpTo, WritesWhatItIsTold, text_of}
 use Rattle.vd_running_hosts.proofs.Courses.{BadBytes, Course, EndsAs, course, drop_front, ends}
 use Rattle.vd_running_hosts.proofs.Numbers.{numbers_small}
+use Rattle.vd_running_hosts.proofs.Printing.{item_words, printed_words}
+use Rattle.vd_running_hosts.proofs.Stages.{IsGreetedBy, Refused, Stage, Waits, WasDriven, stage}
 
 -- ---- who is no peer has no link
 
@@ -147,14 +163,14 @@ never_blamed plan me peer bytes more f long b p i =
 
 -- ---- a host that is not declared
 
-abbrev nothing_dealt : Lists
+abbrev pub nothing_dealt : Lists
 nothing_dealt = record { inputs = []; deal = record { hosts = 0; me = host 0; own = []; triples = []; bits = []; pairs = [] } }
 
 none_in : {X : Type 0} (f : X → List ℕ) (b : Bool) (i : ℕ) (l : List X) → l ≡ [] → item_or_none f (slice_get (if b then [] else l) i) ≡ None
 none_in f true i l e = refl
 none_in f false i l e = ap (λ q. item_or_none f (slice_get q i)) e
 
-no_items : (source : List_of) (i : ℕ) → items_of nothing_dealt source i ≡ None
+pub no_items : (source : List_of) (i : ℕ) → items_of nothing_dealt source i ≡ None
 no_items Inputs i = refl
 no_items OwnWords i = refl
 no_items (Triples p) i = none_in _ (nat_eq p 0) i _ refl
@@ -165,6 +181,88 @@ past_list : {X : Type 0} (xs : List X) (i : ℕ) → length xs ≤ i → slice_g
 past_list [] i past = refl
 past_list (x ∷ xs) zero past = absurd (omega (arith, past))
 past_list (x ∷ xs) (suc i) past = past_list xs i (omega (arith, past))
+
+-- ---- numbers of peers
+
+behind_place : (me p peers : ℕ) → p ≢ me → me ≤ p → p < peers + 1 → (place : ℕ) × (place < peers) × (number_at me place ≡ p)
+behind_place me zero peers other le few = absurd (other (omega (arith, le)))
+behind_place me (suc place) peers other le few =
+    let least : me ≤ place = omega (arith, le, other) in
+    (place, omega (arith, few), later_number me place least)
+
+-- the place of a host among the peers of another
+place_of : (me p peers : ℕ) → p ≢ me → p < peers + 1 → me < peers + 1 → (place : ℕ) × (place < peers) × (number_at me place ≡ p)
+place_of me p peers other few own =
+    elim (less_or_least p me) [
+      | inl less ↦ (p, omega (arith, less, own), earlier_number me p less)
+      | inr least ↦ behind_place me p peers other least few
+    ]
+
+number_rises : (me a b : ℕ) → a < b → number_at me a < number_at me b
+number_rises me a b lt =
+    elim (less_or_least a me) [
+      | inl early ↦
+          let x = earlier_number me a early in
+          elim (less_or_least b me) [
+            | inl less ↦ let y = earlier_number me b less in omega (arith, x, y, lt)
+            | inr least ↦ let y = later_number me b least in omega (arith, x, y, lt)
+          ]
+      | inr late ↦ let x = later_number me a late in let y = later_number me b (omega (arith, late, lt)) in omega (arith, x, y, lt)
+    ]
+
+-- ---- hosts whose lists suffice
+
+short_same : (items others : List_of → ℕ → Option (List ℕ)) → ((source : List_of) (i : ℕ) → others source i ≡ items source i) → (c : Cursors) (x : Need) → IsShortAt items c x → IsShortAt others c x
+short_same items others same c Nothing h = h
+short_same items others same c (Item source) h = same source (c source) ∙ h
+short_same items others same c (Packet p k) h = h
+short_same items others same c (Unequal x y) h = h
+short_same items others same c NoNeed h = h
+
+never_short : (s : Supply) (j : Joint) (lists : ℕ → Lists) (events : ℕ → List Event) (state : ℕ → State) → RunsWell s j → Suffices s (last_of s j) → AreDriven s j lists events state → (h : ℕ)
+    → IsShortAt (s h) (state h).cursors (need (state h)) → ⊥
+never_short s j lists events state well enough d h short =
+    let t : (h : ℕ) → Trace s h (started j h) (events h) (state h) = all_traced s j lists events state d in
+    let words : ℕ → List (List ℕ) = λ h. (t h).words in
+    let histories : AreHistories s j words = record {
+      each = λ h. (t h).goes;
+      linked = λ h. (t h).links (λ p. (stand j words p).sent h) (λ p. subst (λ q. IsPrefixOf (received_from p (events h)) q) (sym ((t p).sends h)) (d.linked p h));
+    } in
+    let b = reached_by s j words well histories in
+    never_short_on_the_way s j b.0 well enough h
+    (subst (λ (l : Local). IsShortAt (s h) l.state.cursors (need l.state)) (sym (b.1 h)) (subst (λ (q : State). IsShortAt (s h) q.cursors (need q)) (sym (t h).state_is) short))
+
+-- a machine that has ended needs nothing
+ended_need : (m : State) → m.pending ≡ Finished → need m ≡ NoNeed
+ended_need m e = ap (need_of m.registers) e
+
+-- what a machine waits for that has not ended
+abbrev WaitsAs : Lists → List Event → State → (ℕ → List ℕ) → Type 0
+WaitsAs l events m come =
+    (m.pending ≡ Finished) ⊎ (IsShortAt (items_of l) m.cursors (need m)
+    ⊎ ((q : ℕ) × (count : ℕ) × (need m ≡ Packet q count) × (rest : List ℕ) × (come q ≡ frames (received_from q events) ++ rest) × IsLinkFault count 0 rest link_fault.End))
+
+waits_as : (l : Lists) (events : List Event) (m : State) (come : ℕ → List ℕ) (r : Result Ended EngineFault) → Waits l events m come r → WaitsAs l events m come
+waits_as l events m come (Ok done) w = inl w
+waits_as l events m come (Err (engine_fault.Peer peer)) w = absurd w
+waits_as l events m come (Err engine_fault.Write) w = absurd w
+waits_as l events m come (Err (engine_fault.BadFrame peer offset byte)) w = absurd w
+waits_as l events m come (Err (engine_fault.Unequal left right)) w = absurd w
+waits_as l events m come (Err (engine_fault.ShortInput cursor count)) w = inr (inl w)
+waits_as l events m come (Err (engine_fault.ShortDeal kind cursor count)) w = inr (inl w)
+waits_as l events m come (Err (engine_fault.EndOfLink peer)) w = inr (inr (peer.0, w.0, w.1, w.2, w.3, w.4))
+
+-- a machine that has ended was driven well
+ended_well : (l : Lists) (events : List Event) (m : State) (come : ℕ → List ℕ) (r : Result Ended EngineFault) (result : Result Ended HostFault) → Waits l events m come r → m.pending ≡ Finished
+    → ((done : Ended) → r ≡ Ok done → result ≡ Ok done) → (done : Ended) × (result ≡ Ok done)
+ended_well l events m come (Ok done) result w e well = (done, well done refl)
+ended_well l events m come (Err (engine_fault.Peer peer)) result w e well = absurd w
+ended_well l events m come (Err engine_fault.Write) result w e well = absurd w
+ended_well l events m come (Err (engine_fault.BadFrame peer offset byte)) result w e well = absurd w
+ended_well l events m come (Err (engine_fault.Unequal left right)) result w e well = absurd w
+ended_well l events m come (Err (engine_fault.ShortInput cursor count)) result w e well = absurd (subst (λ (x : Need). IsShortAt (items_of l) m.cursors x) (ended_need m e) w)
+ended_well l events m come (Err (engine_fault.ShortDeal kind cursor count)) result w e well = absurd (subst (λ (x : Need). IsShortAt (items_of l) m.cursors x) (ended_need m e) w)
+ended_well l events m come (Err (engine_fault.EndOfLink peer)) result w e well = let wrong : NoNeed ≡ Packet peer.0 w.0 = sym (ended_need m e) ∙ w.1 in absurd (cc wrong)
 
 -- ---- all hosts
 
@@ -270,8 +368,8 @@ module _ (source : Source) (list : List ℕ) (plan : Digest) (inputs : List (Lis
         × (IsPrefixOf front (listening ++ lines (printed made.events)) ⊎ ((made.state.pending ≡ Finished) × IsPrefixOf front (text_of (printed made.events))))
     ends_as : h < n → EndsAs lists (at_start (code_of h j)) plan.bytes h (link_in h place) (run h).out (run h).out_now made.events made.state (run h).result
 
-  started : (h : ℕ) (lt : h < n) → state_of (run h).ready.machine ≡ at_start (code_of h j)
-  started h lt = (are.starts h lt).starts.state (code_of h j) (is_code h lt)
+  started_at : (h : ℕ) (lt : h < n) → state_of (run h).ready.machine ≡ at_start (code_of h j)
+  started_at h lt = (are.starts h lt).starts.state (code_of h j) (is_code h lt)
 
   abbrev lists_with : List ℕ → Deal → Lists
   lists_with words deal = record { inputs = words; deal = deal }
@@ -299,7 +397,7 @@ module _ (source : Source) (list : List ℕ) (plan : Digest) (inputs : List (Lis
 
   host_at : (h : ℕ) (place : Place h) → HostAt h place
   host_at h (inl lt) =
-      declared h lt (run h).ready.task.plan (run h).ready.task.me.0 (state_of (run h).ready.machine) (task_plan h lt) (task_me h lt) (started h lt)
+      declared h lt (run h).ready.task.plan (run h).ready.task.me.0 (state_of (run h).ready.machine) (task_plan h lt) (task_me h lt) (started_at h lt)
       (course (run h).ready.machine (run h).ready.task (run h).net (run h).net_now (run h).out (run h).out_now (ap (λ (l : List ℕ). length l) (task_plan h lt) ∙ long) (are.plays h lt) (are.told h lt))
   host_at h (inr le) = record {
     lists = nothing_dealt;
@@ -362,5 +460,185 @@ module _ (source : Source) (list : List ℕ) (plan : Digest) (inputs : List (Lis
       let e = (at h).ends_as lt in
       record { written = writes h lt (run h).result refl e; blames = blames h (run h).result e }
 
+  -- ---- what it is told are words
+
+  items : (h : ℕ) → AreItems (at h).lists
+  items h q i = item_words q (items_of (at h).lists q i) (subst (λ (o : Option (List ℕ)). AreItem (or_zeros q o)) ((at h).supplied q i) (hosts.deal.words h q i))
+
+  -- what a host is told that ends are numbers of 32 bits
+  pub told_words : (h : ℕ) → h < n → (done : Ended) → (run h).result ≡ Ok done → AreWords (slice_index_or (source_outputs source inputs) h [])
+  told_words h lt done is =
+      let m = made_by h in
+      let e = subst (EndsAs (at h).lists (at_start (code_of h j)) plan.bytes h (links h) (run h).out (run h).out_now m.events m.state) is ((at h).ends_as lt) in
+      subst AreWords (told.all_printed h e.0 ∙ prints h lt)
+      (printed_words (at h).lists (items h) (at_start (code_of h j)) (λ r. omega arith) (numbers h (cases_lt h n)) m.steps m.events m.state m.reached)
+
+  pub outputs_count : length (source_outputs source inputs) ≡ n
+  outputs_count =
+      let t : Tape = followed_by_zeros s in
+      let valid = files_are_valid inputs deals are.files in
+      let as_told : RunsAsToldBy program (protos_at program list) inputs t = codes_run_as_told program list base.made base.numbers base.runnable inputs are.files.words t valid.0 valid.1 in
+      ap (λ (outputs : List (List ℕ)). length outputs) (sym (as_told.prints ∙ outputs_kept source inputs)) ∙ length-map-range_with_len (λ (k : ℕ). (last_of s j k).printed) 0 n
+
+  -- ---- where all goes through, all end
+
+  abbrev peers : ℕ → ℕ
+  peers h = length (run h).ready.task.addresses
+
+  abbrev link_of : (h : ℕ) → h < n → ℕ → Option Used
+  link_of h lt p = link_to (are.plays h lt) p
+
+  abbrev lists_at : ℕ → Lists
+  lists_at h = (run h).ready.machine.lists
+
+  number_in : (h : ℕ) → h < n → (place : ℕ) → place < peers h → number_at h place < n
+  number_in h lt place there = let low = number_low h place in let count = task_count h lt in omega (arith, low, count, there)
+
+  module _ (goes : GoesThrough program list plan inputs deals run are) where
+    stage_of : (h : ℕ) (lt : h < n) → Stage (lists_at h) (at_start (code_of h j)) plan.bytes h (peers h) (link_of h lt) (run h).result
+    stage_of h lt =
+        let l = lists_at h in
+        let c0 = stage (run h).ready.machine (run h).ready.task (run h).net (run h).net_now (run h).out (run h).out_now (ap (λ (q : List ℕ). length q) (task_plan h lt) ∙ long) (are.plays h lt) (are.told h lt)
+        (goes.undisturbed h lt) (each_tells h lt).blames in
+        let c1 = subst (λ (q : List ℕ). Stage l (state_of (run h).ready.machine) q (run h).ready.task.me.0 (peers h) (link_of h lt) (run h).result) (task_plan h lt) c0 in
+        let c2 = subst (λ (q : ℕ). Stage l (state_of (run h).ready.machine) plan.bytes q (peers h) (link_of h lt) (run h).result) (task_me h lt) c1 in
+        subst (λ (q : State). Stage l q plan.bytes h (peers h) (link_of h lt) (run h).result) (started_at h lt) c2
+
+    -- no greeting falls short that was sent whole
+    not_short : (b : ℕ) (lb : b < n) (p : ℕ) (lp : p < n) → p ≢ b → IsGreetFault (ends plan.bytes b p) (bytes_that_came (link_of b lb p)) greet_fault.End → IsGreetedBy plan.bytes p b (link_of p lp b) → ⊥
+    not_short b lb p lp other short g =
+        let came : bytes_that_came (link_of b lb p) ≡ greeting plan.bytes p b ++ g.0 = goes.came p b lp lb other ∙ g.1 in
+        no_greet_fault (ends plan.bytes b p) g.0 greet_fault.End long (λ e. cc) (subst (λ (q : List ℕ). IsGreetFault (ends plan.bytes b p) q greet_fault.End) came short)
+
+    -- a host that is refused waits for one that was refused by a host before it, and so on
+    never_refused : (m b : ℕ) (lb : b < n) (r : Refused plan.bytes b (peers b) (link_of b lb)) → b + number_at b r.count ≤ m → ⊥
+    never_refused zero b lb r le = number_apart b r.count (omega (arith, le))
+    never_refused (suc m) b lb r le =
+        let p : ℕ = number_at b r.count in
+        let lp : number_at b r.count < n = number_in b lb r.count r.there in
+        let apart : number_at b r.count ≢ b = number_apart b r.count in
+        let count = task_count p lp in
+        let q = place_of p b (peers p) (λ e. apart (sym e)) (omega (arith, count, lb)) (omega (arith, count, lp)) in
+        let back : IsGreetedBy plan.bytes p (number_at p q.0) (link_of p lp (number_at p q.0)) → ⊥ =
+        λ g. not_short b lb p lp apart r.short (subst (λ (x : ℕ). IsGreetedBy plan.bytes p x (link_of p lp x)) q.2 g) in
+        elim (stage_of p lp) [
+          | inl other ↦
+              elim (less_or_least other.count q.0) [
+                | inl less ↦ never_refused m p lp other (let rise = number_rises p other.count q.0 less in let at = q.2 in omega (arith, le, rise, at))
+                | inr least ↦ back (other.greeted q.0 least)
+              ]
+          | inr drove ↦ back (drove.greeted q.0 q.1)
+        ]
+
+    drove : (h : ℕ) (lt : h < n) → WasDriven (lists_at h) (at_start (code_of h j)) plan.bytes h (peers h) (link_of h lt) (run h).result
+    drove h lt = elim (stage_of h lt) [ inl r ↦ absurd (never_refused (h + number_at h r.count) h lt r (omega arith)) | inr d ↦ d ]
+
+    -- ---- each host, and what it waits for
+
+    record WaitsAt (h : ℕ) (place : Place h) : Type 0 where
+      lists : Lists
+      supplied : (q : List_of) (i : ℕ) → s h q i ≡ items_of lists q i
+      made : Made lists (at_start (code_of h j)) (λ p. drop 36 (bytes_that_came (link_in h place p))) (λ p. drop 36 (bytes_that_went (link_in h place p)))
+      went_is : (p : ℕ) → drop 36 (bytes_that_went (link_in h place p)) ≡ frames (sent_to p made.events)
+      waits : WaitsAs lists made.events made.state (λ p. drop 36 (bytes_that_came (link_in h place p)))
+      well : h < n → made.state.pending ≡ Finished → (done : Ended) × ((run h).result ≡ Ok done)
+
+    waits_at : (h : ℕ) (place : Place h) → WaitsAt h place
+    waits_at h (inl lt) =
+        let d = drove h lt in
+        let g = d.went_on in
+        record {
+          lists = lists_at h;
+          supplied = λ q i. ap (λ (o : Option Deal). items_for inputs h o q i) (are.starts h lt).dealt ∙ ap (λ (k : Lists). items_of k q i) (sym (lists_are h lt));
+          made = record { steps = g.steps; events = g.events; state = g.state; reached = g.reached; came = g.came; sent = λ p. front_same _ _ (g.went_is p) };
+          went_is = g.went_is;
+          waits = waits_as (lists_at h) g.events g.state (λ p. drop 36 (bytes_that_came (link_of h lt p))) d.engine g.waits;
+          well = λ less e. ended_well (lists_at h) g.events g.state (λ p. drop 36 (bytes_that_came (link_of h lt p))) d.engine (run h).result g.waits e d.well;
+        }
+    waits_at h (inr le) = record {
+      lists = nothing_dealt;
+      supplied = λ q i. ap (λ (o : Option Deal). items_for inputs h o q i) (past_list deals h (let e = are.each in omega (arith, le, e))) ∙ sym (no_items q i);
+      made = record { steps = 0; events = []; state = at_start (code_of h j); reached = AtStart; came = λ p. ([], refl); sent = λ p. ([], refl) };
+      went_is = λ p. refl;
+      waits = inl (ended_past program list base.made base.numbers base.runnable h le);
+      well = λ less e. absurd (omega (arith, less, le));
+    }
+
+    abbrev waiting : (h : ℕ) → WaitsAt h (cases_lt h n)
+    waiting h = waits_at h (cases_lt h n)
+
+    abbrev lists : ℕ → Lists
+    lists h = (waiting h).lists
+
+    abbrev made : (h : ℕ) → Made (lists h) (at_start (code_of h j)) (come h) (went h)
+    made h = (waiting h).made
+
+    abbrev events : ℕ → List Event
+    events h = (made h).events
+
+    abbrev state : ℕ → State
+    state h = (made h).state
+
+    are_driven : AreDriven s j lists events state
+    are_driven = driven s j lists come went hosts (λ h. (waiting h).supplied) made linked
+
+    are_told : AreTold s j events state
+    are_told = tells s j lists come went hosts (λ h. (waiting h).supplied) made linked
+
+    are_sound : (h : ℕ) → AreSound (events h) (state h)
+    are_sound h = sound s j lists come went hosts (λ h. (waiting h).supplied) made linked h
+
+    -- all that one sent to another came there, whoever they are
+    nothing_either : (u v : Option Used) → u ≡ None → v ≡ None → bytes_that_came u ≡ bytes_that_went v
+    nothing_either u v e f = ap bytes_that_came e ∙ ap bytes_that_went (sym f)
+
+    itself_none : (h : ℕ) (lt : h < n) (p : ℕ) → p ≡ h → link_of h lt p ≡ None
+    itself_none h lt p same = none_came h lt p (subst (IsStranger (run h).ready.task) (task_me h lt ∙ sym same) (own_stranger (run h).ready.task))
+
+    same_in : (a b : ℕ) (pa : Place a) (pb : Place b) → bytes_that_came (link_in b pb a) ≡ bytes_that_went (link_in a pa b)
+    same_in a b (inr past) (inr le) = refl
+    same_in a b (inl la) (inr le) = nothing_either None (link_of a la b) refl (none_came a la b (past_stranger (run a).ready.task n b (task_count a la) le))
+    same_in a b (inr past) (inl lb) = nothing_either (link_of b lb a) None (none_came b lb a (past_stranger (run b).ready.task n a (task_count b lb) past)) refl
+    same_in a b (inl la) (inl lb) =
+        elim (same_or_not a b) [
+          | inl same ↦ nothing_either (link_of b lb a) (link_of a la b) (itself_none b lb a same) (itself_none a la b (sym same))
+          | inr other ↦ goes.came a b la lb other
+        ]
+
+    all_came : (a b : ℕ) → come b a ≡ went a b
+    all_came a b = ap (λ (q : List ℕ). drop 36 q) (same_in a b (cases_lt a n) (cases_lt b n))
+
+    -- who waits for a packet has received all that was sent
+    none_left : (h q count : ℕ) → need (state h) ≡ Packet q count → (rest : List ℕ) → IsLinkFault count 0 rest link_fault.End
+        → (zs : List (List ℕ)) → received_from q (events h) ++ zs ≡ sent_to h (events q) → rest ≡ frames zs → received_from q (events h) ≡ sent_to h (events q)
+    none_left h q count needs rest short [] is left = sym (append-nil (received_from q (events h))) ∙ is
+    none_left h q count needs rest short (z ∷ zs) is left =
+        let size : length z ≡ count =
+        are_told.counted h q count z needs (ap (λ (l : List (List ℕ)). slice_get l (length (received_from q (events h)))) (sym is) ∙ next_there (received_from q (events h)) zs z) in
+        absurd (no_fault z (frames zs) 0 link_fault.End (λ e. cc) (subst (λ (l : List ℕ). IsLinkFault (length z) 0 l link_fault.End) left (subst (λ (k : ℕ). IsLinkFault k 0 rest link_fault.End) (sym size) short)))
+
+    received_all : (h q count : ℕ) → need (state h) ≡ Packet q count → (rest : List ℕ) → come h q ≡ frames (received_from q (events h)) ++ rest → IsLinkFault count 0 rest link_fault.End
+        → received_from q (events h) ≡ sent_to h (events q)
+    received_all h q count needs rest comes short =
+        let all : frames (received_from q (events h)) ++ rest ≡ frames (sent_to h (events q)) = sym comes ∙ all_came q h ∙ (waiting q).went_is h in
+        let f = packets_front (received_from q (events h)) (sent_to h (events q)) rest ((are_sound h).received q) ((are_sound q).sent h) all in
+        none_left h q count needs rest short f.0 f.1 f.2
+
+    waits_for : (h : ℕ) → WaitsFor events h (need (state h))
+    waits_for h =
+        elim (waiting h).waits [
+          | inl finished ↦ subst (WaitsFor events h) (sym (ended_need (state h) finished)) tt
+          | inr (inl short) ↦
+              absurd (never_short s j lists events state hosts.well goes.enough are_driven h
+              (short_same (items_of (lists h)) (s h) (waiting h).supplied (state h).cursors (need (state h)) short))
+          | inr (inr w) ↦ subst (WaitsFor events h) (sym w.2) (received_all h w.0 w.1 w.2 w.3 w.4 w.5)
+        ]
+
+    pub each_ends : (h : ℕ) → h < n → (done : Ended) × ((run h).result ≡ Ok done)
+    each_ends h lt = (waiting h).well lt (waiting_ended s j lists events state hosts.well goes.enough are_driven waits_for h)
+
 pub running_hosts_tell_the_source : RunningHostsTellTheSource
 running_hosts_tell_the_source source list plan inputs deals run are h lt = each_tells source list plan inputs deals run are h (are.stored h lt) h lt
+
+pub running_hosts_end : RunningHostsEnd
+running_hosts_end source list plan inputs deals run are goes h lt = each_ends source list plan inputs deals run are h (are.stored h lt) goes h lt

@@ -1,2 +1,3 @@
 pub mod Links
 pub mod Running
+pub mod Ending

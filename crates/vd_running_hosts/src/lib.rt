@@ -1,6 +1,7 @@
-//! Programs that run over links print what the source prints. Nothing is computed here: the clause is a law.
+//! Programs that run over links print what the source prints. Nothing is computed here: the clauses are laws.
 #![tactic(auto)]
 
+ghost use Rattle.vd_running_hosts.specs.Ending.{RunningHostsEnd};
 ghost use Rattle.vd_running_hosts.specs.Running.{RunningHostsTellTheSource};
 
 /// All hosts of a source, each run by itself from the program that `compile` stores for it, over links on which what comes is a
@@ -9,4 +10,11 @@ ghost use Rattle.vd_running_hosts.specs.Running.{RunningHostsTellTheSource};
 /// of another host. Nothing is asked of times, or of the order in which anything happens.
 pub fn running_hosts_tell_the_source()
     ensures { RunningHostsTellTheSource }
+{}
+
+/// Such hosts all end well where inputs and items suffice, nothing outside fails, and all that one sends to another comes there: one
+/// that finds the end of a link has gone on as far as what was sent to it lets it. So they are never all waiting, in their greetings
+/// or behind them, for bytes that nobody will send.
+pub fn running_hosts_end()
+    ensures { RunningHostsEnd }
 {}
