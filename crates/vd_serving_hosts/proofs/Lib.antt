@@ -1,0 +1,4 @@
+pub mod Passing
+pub mod Driving
+pub mod Serving
+pub mod Stored
