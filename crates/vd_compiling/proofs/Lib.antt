@@ -1,4 +1,5 @@
 pub mod Runnable
+pub mod Aloud
 pub mod Storing
 pub mod Compiled
 pub mod Sure

@@ -8,24 +8,27 @@ use Rattle.vd_execution.specs.declared.instructions.Instr.{Instr}
 use Rattle.vd_execution.specs.Joint.{code_of}
 use Rattle.vd_execution.specs.Text.{text}
 use Rattle.vd_space.specs.declared.problem.Problem.{Problem}
+use Rattle.vd_space.specs.Spaces.{IsProblem}
 use Rattle.vd_space.proofs.Counted.{as_many}
+use Rattle.vd_cheapest.specs.Cheapest.{IsCheapest}
+use Rattle.vd_cheapest.proofs.Cheapest.{cheapest}
 use Rattle.vd_selection.specs.Choices.{IsChosen}
 use Rattle.vd_host_programs.specs.Programs.{IsRunnable, host_codes, joint_of}
 use Rattle.vd_selecting.specs.Problems.{IsProblemOf}
 use Rattle.vd_compiling.specs.Selected.{IsSelected}
 
-pub selected_of : (program : NormalForm) (problem : Problem) (list : List ℕ) → IsProblemOf program problem → IsChosen problem (Some list) → IsSelected program list
-selected_of program problem list of chosen = record {
+pub selected_of : (program : NormalForm) (problem : Problem) (list : List ℕ) → IsProblemOf program problem → IsProblem problem → IsChosen problem (Some list) → IsSelected program list
+selected_of program problem list of holds chosen = record {
   labels = of.labels;
   least = of.least;
-  chosen = subst (λ (p : Problem). IsChosen p (Some list)) of.same chosen;
+  cheapest = subst (λ (p : Problem). IsCheapest p list) of.same (cheapest problem list holds chosen);
 }
 
 pub runnable_of : (program : NormalForm) (list : List ℕ) → IsWellMade program → IsSelected program list → IsRunnable program list
 runnable_of program list made is = record {
   labels = is.labels;
-  whole = is.chosen.whole.full ∙ as_many program is.labels made;
-  valid = is.chosen.whole.valid;
+  whole = is.cheapest.is_valid.whole ∙ as_many program is.labels made;
+  valid = is.cheapest.is_valid.valid;
 }
 
 -- there is a code for each host

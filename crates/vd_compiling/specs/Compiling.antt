@@ -1,5 +1,5 @@
 -- The command `compile`.
-use Rattle.std.specs.Prelude.{ℕ, ◌+◌, true, Option, Some, None, List, [], ◌∷◌, ◌++◌, map, Result, codes}
+use Rattle.std.specs.Prelude.{◌≡◌, ℕ, ◌+◌, true, Option, Some, None, List, [], ◌∷◌, ◌++◌, map, slice_get, Result, codes}
 use Rattle.sha2.specs.Sha256.{sha256}
 use Rattle.vd_base.specs.HostSets.{host}
 use Rattle.vd_base.specs.Limits.{most_source_bytes}
@@ -57,6 +57,13 @@ plan_for text printed = record { bytes = sha256 (text ++ printed) }
 abbrev pub compiled_at : NormalForm → Problem → List ℕ → (least : ℕ) → (text prefix : List ℕ) → Answer
 compiled_at program problem list least text prefix =
     ended (host_files prefix program.hosts (plan_for text (printed_at program problem list least)) 0 (host_codes program list)) (printed_at program problem list least)
+
+-- this code is what is stored for the host with this number, whatever the bytes of the source and the prefix of the names are
+abbrev pub IsStoredFor : NormalForm → Problem → List ℕ → (h : ℕ) → List Instr → Type 0
+IsStoredFor program problem list h code = (text prefix : List ℕ) →
+    let least = nat_or_zero (cost problem list) in
+    slice_get (compiled_at program problem list least text prefix).stores h
+    ≡ Some (host_file prefix program.hosts (plan_for text (printed_at program problem list least)) h code)
 
 -- ---- the plan
 

@@ -6,7 +6,7 @@ use Rattle.vd_base.specs.Limits.{most_hosts}
 use Rattle.vd_outside.specs.Files.{Contents}
 use Rattle.vd_core.specs.declared.normal.NormalForm.{NormalForm}
 use Rattle.vd_parser.proofs.Named.{names_are_names}
-use Rattle.vd_kept.proofs.WellMade.{within_limits}
+use Rattle.vd_kept.proofs.WellMade.{well_made, within_limits}
 use Rattle.vd_normal.specs.Normal.{normal_form}
 use Rattle.vd_cmd.specs.declared.command.ReplayWords.{ReplayWords}
 use Rattle.vd_constraints.specs.Rules.{system_of}
@@ -17,7 +17,9 @@ use Rattle.vd_tape.specs.Text.{AreDealsOf}
 use Rattle.vd_tape.proofs.EachHost.{all_deals}
 use Rattle.vd_space.specs.declared.problem.Problem.{Problem}
 use Rattle.vd_space.specs.Reading.{problem_of}
-use Rattle.vd_selection.specs.Choices.{ChoiceOutcomes, needed}
+use Rattle.vd_space.proofs.Weighed.{is_problem}
+use Rattle.vd_cheapest.proofs.Cheapest.{back}
+use Rattle.vd_selection.specs.Choices.{ChoiceOutcomes, IsChosen, needed}
 use Rattle.vd_selection.proofs.Once.{chosen_once}
 use Rattle.vd_frontend.specs.Labelling.{as_labels}
 use Rattle.vd_selecting.specs.Choosing.{sure_search}
@@ -39,20 +41,26 @@ searched choices problem budget list is enough =
 
 module _ (words : ReplayWords) (contents : Contents) (accepted : IsAccepted words contents) where
   abbrev program : NormalForm
-  program = normal_form accepted.source
+  program = normal_form accepted.held.source
 
   abbrev problem : Problem
   problem = problem_of program accepted.selected.labels
 
   few : length program.hosts ≤ most_hosts
-  few = (within_limits accepted.source accepted.held.holds.meets (names_are_names accepted.held.bytes accepted.source accepted.held.holds.parsed)).hosts
+  few = (within_limits accepted.held.source accepted.held.is_source.holds.meets (names_are_names accepted.held.is_source.bytes accepted.held.source accepted.held.is_source.holds.parsed)).hosts
 
-  are_deals : AreDeals accepted.asked.deals
+  -- the list is the choice of the problem's tree
+  chosen : IsChosen problem (Some accepted.list)
+  chosen =
+      let names = names_are_names accepted.held.is_source.bytes accepted.held.source accepted.held.is_source.holds.parsed in
+      back problem accepted.list (is_problem program accepted.selected.labels (well_made accepted.held.source accepted.held.is_source.holds.meets names)) accepted.selected.cheapest
+
+  are_deals : AreDeals accepted.held.asked.deals
   are_deals =
-      let all = accepted.asked_held.all in
+      let all = accepted.held.are_asked.all in
       let limit = few in
-      let of_hosts : AreDealsOf (length program.hosts) accepted.asked.deals = λ number deal e. (accepted.asked_held.deals number deal e).holds.0 in
-      all_deals accepted.asked.deals (omega (arith, all, limit)) (subst (λ (n : ℕ). AreDealsOf n accepted.asked.deals) (sym all) of_hosts)
+      let of_hosts : AreDealsOf (length program.hosts) accepted.held.asked.deals = λ number deal e. (accepted.held.are_asked.deals number deal e).holds.0 in
+      all_deals accepted.held.asked.deals (omega (arith, all, limit)) (subst (λ (n : ℕ). AreDealsOf n accepted.held.asked.deals) (sym all) of_hosts)
 
   pub ends_well : EndsWell words contents
   ends_well = (
@@ -60,14 +68,14 @@ module _ (words : ReplayWords) (contents : Contents) (accepted : IsAccepted word
     λ texts outcomes choices.
         let least = labels_for accepted.selected.labels in
         let labelled = labels_with_these accepted.selected.labels (system_of program) (system_or_not (system_of program)) accepted.selected.least in
-        let choice : choices.choose problem ≡ Some accepted.list = chosen_once problem (choices.choose problem) (Some accepted.list) (choices.choose_is problem) accepted.selected.chosen in
-        let judged = judged_once accepted.asked.deals (outcomes.judge accepted.asked.deals) None (outcomes.judge_is accepted.asked.deals are_deals) accepted.consistent in
-        let listed : Ends contents (list_plan outcomes program problem accepted.asked accepted.list) =
-        check_ends contents (as_consistent (outcomes.judge accepted.asked.deals)) tt _ (ap as_consistent judged) (answer_ends contents (report_for program accepted.list accepted.asked)) in
-        let chosen : Ends contents (choice_plan outcomes program problem accepted.asked (choices.choose problem)) =
-        subst (λ (o : Option (List ℕ)). Ends contents (choice_plan outcomes program problem accepted.asked o)) (sym choice) listed in
-        source_ends contents texts words.source accepted.source (source_plan texts outcomes least choices (sure_search choices) words) accepted.held
-        (asked_ends contents outcomes texts words program.hosts accepted.asked (asked_plan outcomes least choices (sure_search choices) words.budget program) few accepted.asked_held
-        (check_ends contents (problem_for least program) problem (problem_plan outcomes choices (sure_search choices) words.budget program accepted.asked) (ap (λ (r : Result Labels ℕ). as_problem program (as_labels (system_of program) r)) labelled)
-        (check_ends contents (sure_search choices problem words.budget) [] (λ (bytes : List ℕ). choice_plan outcomes program problem accepted.asked (choices.choose problem)) (searched choices problem words.budget accepted.list choice accepted.enough) chosen))),
+        let choice : choices.choose problem ≡ Some accepted.list = chosen_once problem (choices.choose problem) (Some accepted.list) (choices.choose_is problem) chosen in
+        let judged = judged_once accepted.held.asked.deals (outcomes.judge accepted.held.asked.deals) None (outcomes.judge_is accepted.held.asked.deals are_deals) accepted.consistent in
+        let listed : Ends contents (list_plan outcomes program problem accepted.held.asked accepted.list) =
+        check_ends contents (as_consistent (outcomes.judge accepted.held.asked.deals)) tt _ (ap as_consistent judged) (answer_ends contents (report_for program accepted.list accepted.held.asked)) in
+        let ends : Ends contents (choice_plan outcomes program problem accepted.held.asked (choices.choose problem)) =
+        subst (λ (o : Option (List ℕ)). Ends contents (choice_plan outcomes program problem accepted.held.asked o)) (sym choice) listed in
+        source_ends contents texts words.source accepted.held.source (source_plan texts outcomes least choices (sure_search choices) words) accepted.held.is_source
+        (asked_ends contents outcomes texts words program.hosts accepted.held.asked (asked_plan outcomes least choices (sure_search choices) words.budget program) few accepted.held.are_asked
+        (check_ends contents (problem_for least program) problem (problem_plan outcomes choices (sure_search choices) words.budget program accepted.held.asked) (ap (λ (r : Result Labels ℕ). as_problem program (as_labels (system_of program) r)) labelled)
+        (check_ends contents (sure_search choices problem words.budget) [] (λ (bytes : List ℕ). choice_plan outcomes program problem accepted.held.asked (choices.choose problem)) (searched choices problem words.budget accepted.list choice accepted.enough) ends))),
   )

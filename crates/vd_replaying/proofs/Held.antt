@@ -46,10 +46,13 @@ module _ (words : ReplayWords) (before : FilesView) where
       → (IsTrue before.told → HoldsSource words.source before.contents source) → TellsSource words source mid result → TellsHeadline words before result
   headline_told mid source (Ok answer) loads held tells = λ t e.
       let step = source_then some_texts words.source in
+      let r : IsReplay words (normal_form source) (source_outputs source) before.contents answer.printed =
+      subst (λ (files : Contents). IsReplay words (normal_form source) (source_outputs source) files answer.printed) (step_keeps step before mid source (loads some_texts) t)
+      (tells (step_tells step before mid source (loads some_texts) t) e) in
       record {
-        source = source;
-        held = held t;
-        replay = subst (λ (files : Contents). IsReplay words (normal_form source) (source_outputs source) files answer.printed) (step_keeps step before mid source (loads some_texts) t)
-            (tells (step_tells step before mid source (loads some_texts) t) e);
+        held = record { source = source; is_source = held t; asked = r.asked; are_asked = r.held };
+        joint = r.report.joint;
+        told = r.report.told;
+        code = r.report.code;
       }
   headline_told mid source (Err status) loads held tells = λ t. tt

@@ -39,6 +39,7 @@ use Rattle.vd_play.specs.Told.{TellsUnder}
 use Rattle.vd_play.proofs.Told.{programs_tell}
 use Rattle.vd_compiling.specs.Selected.{IsSelected}
 use Rattle.vd_compiling.proofs.Runnable.{code_count, runnable_of}
+use Rattle.vd_compiling.proofs.Aloud.{covered, stored_for}
 use Rattle.vd_asking.specs.declared.asked.Asked.{Asked}
 use Rattle.vd_asking.specs.Asking.{AreAsked}
 use Rattle.vd_replaying.specs.Replaying.{report_for}
@@ -110,7 +111,7 @@ module _ (program : NormalForm) (list : List ℕ) (made : IsWellMade program) (n
       ap (λ (n : ℕ). let f : ℕ → Proto = λ x. proto_at (protocols_of n) (slice_index list x) in f) (sym made.labels ∙ sym (length-map program.labels (label program)))
 
   chosen : IsChosen program selected.labels list
-  chosen = record { made = made; numbers = numbers; whole = runnable.whole; valid = selected.chosen.whole.valid }
+  chosen = record { made = made; numbers = numbers; whole = runnable.whole; valid = selected.cheapest.is_valid.valid }
 
   told : (asked : Asked) → AreAsked (length program.hosts) asked → IsConsistent asked.deals
       → TellsUnder (length program.hosts) (program_outputs program asked.inputs) (supply_of_files asked.inputs asked.deals) (joint_of program list) asked.schedule
@@ -127,4 +128,21 @@ module _ (program : NormalForm) (list : List ℕ) (made : IsWellMade program) (n
   pub is_report : (asked : Asked) (answer : Answer) (printed : List ℕ) → AreAsked (length program.hosts) asked → IsConsistent asked.deals
       → answer ≡ ended [] printed → printed ≡ report_for program list asked → IsReport program (program_outputs program asked.inputs) asked answer.printed
   is_report asked answer printed are consistent is report =
-      record { list = list; selected = selected; consistent = consistent; report = ap (λ (a : Answer). a.printed) is ∙ report; told = told asked are consistent }
+      record {
+        joint = joint_of program list;
+        told = record {
+          codes = host_codes program list;
+          counted = code_count program list;
+          parts = are_codes;
+          consistent = consistent;
+          report = ap (λ (a : Answer). a.printed) is ∙ report;
+          told = told asked are consistent;
+        };
+        code = record {
+          list = list;
+          selected = selected;
+          covered = covered program list made selected;
+          compiled = refl;
+          stored = λ h low. stored_for program (problem_of program selected.labels) list h low;
+        };
+      }

@@ -1,14 +1,21 @@
 -- What is printed: how hosts stand that have printed a front of what the source tells them.
-use Rattle.std.specs.Prelude.{◌≡◌, ℕ, List, length, Result, IfOk}
+use Rattle.std.specs.Prelude.{◌≡◌, ℕ, ◌<◌, List, [], length, Result, IfOk}
 use Rattle.vd_outside.specs.Files.{FilesView, Contents}
 use Rattle.vd_core.specs.declared.normal.NormalForm.{NormalForm}
 use Rattle.vd_core.specs.declared.source.Source.{Source}
 use Rattle.vd_meaning.specs.ProgramMeaning.{program_outputs}
-use Rattle.vd_meaning.specs.SourceMeaning.{source_outputs}
+use Rattle.vd_meaning.specs.SourceMeaning.{host_names, source_outputs}
 use Rattle.vd_normal.specs.Normal.{normal_form}
 use Rattle.vd_cmd.specs.declared.command.ReplayWords.{ReplayWords}
 use Rattle.vd_deals.specs.Validity.{IsConsistent}
+use Rattle.vd_execution.specs.declared.instructions.Instr.{Instr}
+use Rattle.vd_execution.specs.Joint.{Joint, code_of, started}
+use Rattle.vd_execution.specs.Text.{text}
+use Rattle.vd_space.specs.Reading.{problem_of}
 use Rattle.vd_host_programs.specs.Programs.{joint_of}
+use Rattle.vd_play.specs.Loading.{AreCodesOf}
+use Rattle.vd_play.specs.Reports.{report_of}
+use Rattle.vd_play.specs.Schedules.{replayed}
 use Rattle.vd_play.specs.Supplies.{supply_of_files}
 use Rattle.vd_play.specs.Told.{TellsUnder}
 use Rattle.vd_plan.specs.Held.{Finds}
@@ -16,22 +23,44 @@ use Rattle.vd_plan.specs.declared.answer.Answer.{Answer}
 use Rattle.vd_plan.specs.declared.status.Status.{Status}
 use Rattle.vd_plan.specs.declared.status.Status.TheVariants.{Ended}
 use Rattle.vd_frontend.specs.Sources.{HoldsSource}
-use Rattle.vd_compiling.specs.Selected.{IsSelected}
+use Rattle.vd_compiling.specs.Compiling.{IsStoredFor}
+use Rattle.vd_compiling.specs.Selected.{AreCovered, IsSelected}
 use Rattle.vd_asking.specs.declared.asked.Asked.{Asked}
 use Rattle.vd_asking.specs.Asking.{HoldAsked}
-use Rattle.vd_replaying.specs.Replaying.{report_for}
+
+-- ---- the two halves of the headline
+
+-- What is told. Hosts of these names run this joint code, each its own part, and what is printed is the report of their world.
+pub record IsReportOf (names outputs : List (List ℕ)) (asked : Asked) (joint : Joint) (printed : List ℕ) : Type 0 where
+  -- there is a code for each host, which can be loaded and is that host's part of the joint code
+  pub codes : List (List Instr)
+  pub counted : length codes ≡ length names
+  pub parts : AreCodesOf codes joint
+  -- the deals of all hosts keep their identities
+  pub consistent : IsConsistent asked.deals
+  -- what is printed is the report of the world to which the schedule leads from the start of all hosts
+  pub report : let supply = supply_of_files asked.inputs asked.deals in
+      printed ≡ report_of names supply (replayed supply (length names) asked.schedule (started joint)) asked.messages
+  -- in that world each host has printed a front of the words that it is told, and all else holds that is claimed of every schedule
+  pub told : TellsUnder (length names) outputs (supply_of_files asked.inputs asked.deals) joint asked.schedule
+
+-- Which code it is: that of a program at its choice of protocols.
+pub record IsCodeAtChoice (program : NormalForm) (joint : Joint) : Type 0 where
+  -- the choice: valid under the least labels, of least cost, and the first of these in order
+  pub list : List ℕ
+  pub selected : IsSelected program list
+  -- the protocol of each slot covers its least label, in confidentiality and in integrity
+  pub covered : AreCovered program selected.labels list
+  -- the joint code is that of the program at this choice
+  pub compiled : joint ≡ joint_of program list
+  -- and each host's part of it is what `compile` stores for that host
+  pub stored : (h : ℕ) → h < length program.hosts → IsStoredFor program (problem_of program selected.labels) list h (text (code_of h joint) [])
 
 -- The report of a program whose hosts are told these outputs.
 pub record IsReport (program : NormalForm) (outputs : List (List ℕ)) (asked : Asked) (printed : List ℕ) : Type 0 where
-  -- the slots stand at the choice of protocols: valid under the least labels, so that each covers its label, and of least cost
-  pub list : List ℕ
-  pub selected : IsSelected program list
-  -- the deals of all hosts keep their identities
-  pub consistent : IsConsistent asked.deals
-  -- what is printed is the report of the world to which the schedule leads from the codes of all hosts
-  pub report : printed ≡ report_for program list asked
-  -- in that world each host has printed a front of the words that it is told, and all else holds that is claimed of every schedule
-  pub told : TellsUnder (length program.hosts) outputs (supply_of_files asked.inputs asked.deals) (joint_of program list) asked.schedule
+  pub joint : Joint
+  pub told : IsReportOf program.hosts outputs asked joint printed
+  pub code : IsCodeAtChoice program joint
 
 -- The report of a program on what the files say that the words name.
 pub record IsReplay (words : ReplayWords) (program : NormalForm) (outputs : List (List ℕ) → List (List ℕ)) (contents : Contents) (printed : List ℕ) : Type 0 where
@@ -39,14 +68,24 @@ pub record IsReplay (words : ReplayWords) (program : NormalForm) (outputs : List
   pub held : HoldAsked words program.hosts contents asked
   pub report : IsReport program (outputs asked.inputs) asked printed
 
--- The headline. The first file is the text of a source that meets every rule, the others give the inputs, a consistent deal and
--- the schedule, and what is printed is the report of the world that runs the source's split programs, at its choice of protocols,
--- over that schedule: each host has printed a front of the words that the source tells it and sent a front of what the joint run
--- sends, all of it where all hosts have ended.
-pub record IsHeadline (words : ReplayWords) (contents : Contents) (printed : List ℕ) : Type 0 where
+-- ---- the headline
+
+-- What the files hold that the words name: the first is the text of a source that meets every rule, and the others give inputs,
+-- deals and a schedule for its hosts.
+pub record HoldReplay (words : ReplayWords) (contents : Contents) : Type 0 where
   pub source : Source
-  pub held : HoldsSource words.source contents source
-  pub replay : IsReplay words (normal_form source) (source_outputs source) contents printed
+  pub is_source : HoldsSource words.source contents source
+  pub asked : Asked
+  pub are_asked : HoldAsked words (host_names source.hosts) contents asked
+
+-- The headline. What is printed is the report of a world in which each host of the source has printed a front of the words that the
+-- source tells it, and sent a front of what the joint run sends, all of it where all hosts have ended. What runs there is the code of
+-- the source's let-normal form at its choice of protocols.
+pub record IsHeadline (words : ReplayWords) (contents : Contents) (printed : List ℕ) : Type 0 where
+  pub held : HoldReplay words contents
+  pub joint : Joint
+  pub told : IsReportOf (host_names held.source.hosts) (source_outputs held.source held.asked.inputs) held.asked joint printed
+  pub code : IsCodeAtChoice (normal_form held.source) joint
 
 -- ---- where a program was run, what is printed is such a report
 

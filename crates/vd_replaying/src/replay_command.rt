@@ -7,6 +7,7 @@ ghost use Rattle.vd_meaning.specs.ProgramMeaning.{program_outputs};
 ghost use Rattle.vd_plan.specs.Plans.{Computes, ended};
 ghost use Rattle.vd_selection.specs.Choices.{IsChosen};
 ghost use Rattle.vd_selecting.specs.Problems.{IsProblemOf};
+ghost use Rattle.vd_space.specs.Spaces.{IsProblem};
 ghost use Rattle.vd_compiling.specs.Selected.{IsSelected};
 ghost use Rattle.vd_asking.specs.Asking.{AreAsked};
 ghost use Rattle.vd_replaying.specs.Replaying.{ExecutesAsked, ExecutesList, ExecutesProblem, ExecutesProgram, ExecutesReplay, ExecutesSource, report_for};
@@ -77,6 +78,7 @@ fn replay_list(
     asked: Asked,
 ) -> Result<Answer, Status>
     requires problem { IsProblemOf program.now space.now }
+    requires holds { IsProblem space.now }
     requires chosen { IsChosen space.now (Some places.now) }
     requires asked { AreAsked (length program.now.hosts) asked }
     ensures executes { ExecutesList program.now space.now asked places.now result }

@@ -16,6 +16,8 @@ use Rattle.vd_search.specs.Answers.{nat_or_zero}
 use Rattle.vd_space.specs.declared.problem.Problem.{Problem}
 use Rattle.vd_space.specs.Costs.{cost}
 use Rattle.vd_space.specs.Reading.{problem_of}
+use Rattle.vd_space.specs.Spaces.{IsProblem}
+use Rattle.vd_cheapest.proofs.Cheapest.{back}
 use Rattle.vd_selection.specs.Choices.{IsChosen}
 use Rattle.vd_selection.proofs.Once.{chosen_once}
 use Rattle.vd_plan.specs.Plans.{Checks}
@@ -40,14 +42,15 @@ cost_once problem again list other same chosen is =
     ap₂ cost same one
 
 module _ (program : NormalForm) (asked : Asked) where
-  pub run_told : (problem : Problem) (list : List ℕ) (least : ℕ) (report headed : Answer) → IsProblemOf program problem → IsChosen problem (Some list) → nat_or_zero (cost problem list) ≡ least
+  pub run_told : (problem : Problem) (list : List ℕ) (least : ℕ) (report headed : Answer) → IsProblemOf program problem → IsProblem problem → IsChosen problem (Some list) → nat_or_zero (cost problem list) ≡ least
       → IsReport program (program_outputs program asked.inputs) asked report.printed → headed ≡ headed_by least report → TellsOf program asked (Ok headed)
-  run_told problem list least report headed of chosen number is same = λ e.
-      let labels : Ok of.labels ≡ Ok is.selected.labels = labelled_once (system_of program) (Ok of.labels) (Ok is.selected.labels) of.least is.selected.least in
-      let one : of.labels ≡ is.selected.labels = cc labels in
-      let there : problem ≡ problem_of program is.selected.labels = of.same ∙ ap (problem_of program) one in
-      let costs = cost_once problem (problem_of program is.selected.labels) list is.list there chosen is.selected.chosen in
-      let stated : least ≡ nat_or_zero (cost (problem_of program is.selected.labels) is.list) = sym number ∙ ap nat_or_zero costs in
+  run_told problem list least report headed of holds chosen number is same = λ e.
+      let labels : Ok of.labels ≡ Ok is.code.selected.labels = labelled_once (system_of program) (Ok of.labels) (Ok is.code.selected.labels) of.least is.code.selected.least in
+      let one : of.labels ≡ is.code.selected.labels = cc labels in
+      let there : problem ≡ problem_of program is.code.selected.labels = of.same ∙ ap (problem_of program) one in
+      let again = back (problem_of program is.code.selected.labels) is.code.list (subst IsProblem there holds) is.code.selected.cheapest in
+      let costs = cost_once problem (problem_of program is.code.selected.labels) list is.code.list there chosen again in
+      let stated : least ≡ nat_or_zero (cost (problem_of program is.code.selected.labels) is.code.list) = sym number ∙ ap nat_or_zero costs in
       record {
         lines = report.printed;
         report = is;

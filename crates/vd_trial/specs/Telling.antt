@@ -23,7 +23,7 @@ use Rattle.vd_trial.specs.Trial.{trial_asked}
 pub record IsRun (program : NormalForm) (outputs : List (List ℕ)) (asked : Asked) (printed : List ℕ) : Type 0 where
   pub lines : List ℕ
   pub report : IsReport program outputs asked lines
-  pub printed_is : printed ≡ cost_line (nat_or_zero (cost (problem_of program report.selected.labels) report.list)) ++ lines
+  pub printed_is : printed ≡ cost_line (nat_or_zero (cost (problem_of program report.code.selected.labels) report.code.list)) ++ lines
 
 -- what the hosts of a source's let-normal form run on
 abbrev pub asked_of : (coordinates : ℕ) → Source → Asked

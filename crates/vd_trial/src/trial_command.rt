@@ -10,6 +10,7 @@ ghost use Rattle.vd_search.specs.Answers.{nat_or_zero};
 ghost use Rattle.vd_space.specs.Costs.{cost};
 ghost use Rattle.vd_selection.specs.Choices.{IsChosen};
 ghost use Rattle.vd_selecting.specs.Problems.{IsProblemOf};
+ghost use Rattle.vd_space.specs.Spaces.{IsProblem};
 ghost use Rattle.vd_asking.specs.Asking.{AreAsked};
 ghost use Rattle.vd_trial.specs.Telling.{AnswersTrial, IsRun, TellsOf, TellsProgram, TellsSource, TellsTrial};
 ghost use Rattle.vd_trial.specs.Trial.{ExecutesProblem, ExecutesProgram, ExecutesSource, ExecutesTrial, headed_by, trial_text};
@@ -71,6 +72,7 @@ fn trial_at(
     asked: Asked,
 ) -> Result<Answer, Status>
     requires problem { IsProblemOf program.now space.now }
+    requires holds { IsProblem space.now }
     requires chosen { IsChosen space.now (Some places.now) }
     requires least { nat_or_zero (cost space.now places.now) ≡ least }
     requires asked { AreAsked (length program.now.hosts) asked }

@@ -10,7 +10,7 @@ use Rattle.vd_compiling.proofs.compile_command.compile_space.Goals as goal
 pub compile_at-requires : goal.compile_at-requires
 compile_at-requires c =
     let selects = rw c.in-Ok-Found.field-0-is at (rw c.problem.ensures.same at c.in-Ok-Found.ensures.selects) in
-    selected_of c.args.program.now c.args.space.now c.as_slice.result.now c.requires.problem (subst (λ (list : List ℕ). IsChosen c.args.space.now (Some list)) (sym c.as_slice.ensures) selects.0)
+    selected_of c.args.program.now c.args.space.now c.as_slice.result.now c.requires.problem c.problem.ensures.holds (subst (λ (list : List ℕ). IsChosen c.args.space.now (Some list)) (sym c.as_slice.ensures) selects.0)
 
 pub returns-in-Ok-Found : goal.returns-in-Ok-Found
 returns-in-Ok-Found c =

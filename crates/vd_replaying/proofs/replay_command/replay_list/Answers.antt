@@ -8,7 +8,7 @@ pub expect_consistent-requires : goal.expect_consistent-requires
 expect_consistent-requires c = dealt _ c.args.asked c.requires.asked
 
 pub replay_at-requires-clause-selected : goal.replay_at-requires-clause-selected
-replay_at-requires-clause-selected c = selected_of c.args.program.now c.args.space.now c.args.places.now c.requires.problem c.requires.chosen
+replay_at-requires-clause-selected c = selected_of c.args.program.now c.args.space.now c.args.places.now c.requires.problem c.requires.holds c.requires.chosen
 
 pub returns-in_err-expect_consistent-clause-executes : goal.returns-in_err-expect_consistent-clause-executes
 returns-in_err-expect_consistent-clause-executes c = λ outcomes files.

@@ -11,6 +11,9 @@ replay_list-requires-clause-chosen c =
     let selects = rw c.in-Ok-Found.field-0-is at (rw c.problem.ensures.same at c.in-Ok-Found.ensures.selects) in
     subst (λ (list : List ℕ). IsChosen c.args.space.now (Some list)) (sym c.as_slice.ensures) selects.0
 
+pub replay_list-requires-clause-holds : goal.replay_list-requires-clause-holds
+replay_list-requires-clause-holds c = c.problem.ensures.holds
+
 pub returns-in-Ok-Found-clause-executes : goal.returns-in-Ok-Found-clause-executes
 returns-in-Ok-Found-clause-executes c =
     let selects = rw c.in-Ok-Found.field-0-is at (rw c.problem.ensures.same at c.in-Ok-Found.ensures.selects) in

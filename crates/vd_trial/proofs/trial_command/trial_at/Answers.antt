@@ -6,7 +6,7 @@ use Rattle.vd_trial.proofs.Told.{run_told}
 use Rattle.vd_trial.proofs.trial_command.trial_at.Goals as goal
 
 pub replay_at-requires-clause-selected : goal.replay_at-requires-clause-selected
-replay_at-requires-clause-selected c = selected_of c.args.program.now c.args.space.now c.args.places.now c.requires.problem c.requires.chosen
+replay_at-requires-clause-selected c = selected_of c.args.program.now c.args.space.now c.args.places.now c.requires.problem c.requires.holds c.requires.chosen
 
 pub returns-in_err-report-clause-computes : goal.returns-in_err-report-clause-computes
 returns-in_err-report-clause-computes c =
@@ -15,5 +15,5 @@ returns-in_err-report-clause-computes c =
 
 pub returns-clause-tells : goal.returns-clause-tells
 returns-clause-tells c =
-    run_told c.args.program.now c.args.asked c.args.space.now c.args.places.now c.args.least c.in_ok-report.report c.in_ok-headed_by.field-0 c.requires.problem c.requires.chosen c.requires.least
+    run_told c.args.program.now c.args.asked c.args.space.now c.args.places.now c.args.least c.in_ok-report.report c.in_ok-headed_by.field-0 c.requires.problem c.requires.holds c.requires.chosen c.requires.least
     (c.in_ok-report.ensures {u = tt}).tells (c.in_ok-headed_by.ensures {u = tt})

@@ -15,6 +15,9 @@ trial_at-requires-clause-chosen c =
     let selects = rw c.in-Ok-Found.field-0-is at (rw c.problem.ensures.same at c.in-Ok-Found.ensures.selects) in
     subst (λ (list : List ℕ). IsChosen c.args.space.now (Some list)) (sym c.as_slice.ensures) selects.0
 
+pub trial_at-requires-clause-holds : goal.trial_at-requires-clause-holds
+trial_at-requires-clause-holds c = c.problem.ensures.holds
+
 pub trial_at-requires-clause-least : goal.trial_at-requires-clause-least
 trial_at-requires-clause-least c =
     let selects = rw c.in-Ok-Found.field-0-is at (rw c.problem.ensures.same at c.in-Ok-Found.ensures.selects) in
