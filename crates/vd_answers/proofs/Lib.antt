@@ -1,0 +1,9 @@
+pub mod Plans
+pub mod Sources
+pub mod Labels
+pub mod Proved
+pub mod Proofs
+pub mod Short
+pub mod Choices
+pub mod Standing
+pub mod Compiled
