@@ -1,5 +1,5 @@
 -- The files of all hosts, one after the other.
-use Rattle.std.proofs.Common.{◌≡◌, ℕ, zero, suc, ◌+◌, ◌<◌, ◌≤◌, List, [], ◌++◌, length, map, slice_index_or, Ok, refl, ap, subst, ◌∙◌, arith}
+use Rattle.std.proofs.Common.{◌≡◌, ℕ, zero, suc, ◌+◌, ◌<◌, ◌≤◌, List, [], ◌++◌, length, map, slice_index_or, refl, sym, ap, subst, ◌∙◌, arith}
 use Rattle.std.specs.Prelude.{codes, flat_map}
 use Rattle.std.specs.List.{AllByRecursion, range_with_len}
 use Rattle.vd_base.specs.HostSets.{host}
@@ -8,15 +8,14 @@ use Rattle.vd_core.specs.declared.normal.NormalForm.{NormalForm}
 use Rattle.vd_space.specs.declared.problem.Problem.{Problem}
 use Rattle.vd_execution.specs.declared.instructions.Instr.{Instr}
 use Rattle.vd_execution.specs.Joint.{code_of}
-use Rattle.vd_execution.specs.Text.{text}
+use Rattle.vd_execution.specs.Text.{IsCodeOf, text}
 use Rattle.vd_host_text.specs.declared.program.Digest.{Digest}
 use Rattle.vd_host_text.specs.declared.program.HostProgram.{HostProgram}
 use Rattle.vd_host_text.specs.Text.{name_field, program_text}
-use Rattle.vd_hostcode.specs.Outcome.{IsOutcome}
 use Rattle.vd_host_programs.specs.Programs.{joint_of, host_codes}
 use Rattle.vd_host_programs.proofs.HostCodes.{codes_can_be_loaded}
 use Rattle.vd_plan.specs.Numbered.{file_name}
-use Rattle.vd_read_back.specs.Stored.{IsDigest, CanBeStored}
+use Rattle.vd_read_back.specs.Stored.{IsDigest, CanBeStored, stored_program}
 use Rattle.vd_read_back.proofs.Digests.{is_digest}
 use Rattle.vd_read_back.proofs.Files.{stored_programs_are_read_back, stored_texts_are_short}
 use Rattle.vd_compiling.specs.Compiling.{host_files, printed_at, plan_for, compiled_at}
@@ -53,16 +52,21 @@ module _ (program : NormalForm) (list : List ℕ) (plan : Digest) (digest : IsDi
   stored : (h : ℕ) → h < hosts → CanBeStored program list plan h
   stored h lt = record { made = can.made; numbers = can.numbers; counts = can.counts; runnable = can.runnable; digest = digest; declared = lt }
 
-  read : (h : ℕ) → h < hosts → IsOutcome (program_text (program_at h (code h))) (Ok (program_at h (code h)))
-  read h lt =
-      subst (λ (is : List Instr). IsOutcome (program_text (program_at h is)) (Ok (program_at h is))) (part h lt) (stored_programs_are_read_back program list plan h (stored h lt))
+  -- the text that is stored is that of the host's program
+  pub text_is : (h : ℕ) → h < hosts → program_text (stored_program program list plan h) ≡ program_text (program_at h (code h))
+  text_is h lt = ap (λ (is : List Instr). program_text (program_at h is)) (part h lt)
 
-  pub files_read : (n k : ℕ) → k + n ≤ hosts → EachFrom (IsReadBack program list plan) k (host_files prefix program.hosts plan k (map code (range_with_len k n)))
+  pub is_read : (h : ℕ) → h < hosts → IsReadBack program list plan h (program_text (stored_program program list plan h))
+  is_read h lt = record {
+    read = stored_programs_are_read_back program list plan h (stored h lt);
+    part = subst (λ (is : List Instr). IsCodeOf is (code_of h (joint_of program list))) (sym (part h lt)) (codes_can_be_loaded program list can.made h).nested;
+  }
+
+  pub files_read : (n k : ℕ) → k + n ≤ hosts → EachFrom (λ h file. IsReadBack program list plan h file.content) k (host_files prefix program.hosts plan k (map code (range_with_len k n)))
   files_read zero k le = tt
-  files_read (suc n) k le = (
-    record { code = code k; read = read k (omega (arith, le)); part = (codes_can_be_loaded program list can.made k).nested },
-    files_read n (k + 1) (omega (arith, le)),
-  )
+  files_read (suc n) k le =
+      let lt : k < hosts = omega (arith, le) in
+      (subst (IsReadBack program list plan k) (text_is k lt) (is_read k lt), files_read n (k + 1) (omega (arith, le)))
 
   abbrev IsNamed : ℕ → Stored → Type 0
   IsNamed h file = file.name ≡ file_name prefix h (codes ".host")

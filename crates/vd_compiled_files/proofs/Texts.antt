@@ -40,7 +40,7 @@ names_take (h ∷ hs) =
     both : (all one rest bytes others sum : ℕ) → all ≡ one + rest → one ≡ bytes → rest ≡ others → sum ≡ bytes + others → all ≡ sum
     both all one rest bytes others sum p q r s = omega (arith, p, q, r, s)
 
-names_short : (text : List ℕ) (source : Source) → IsParse text (Ok source) → length (flat_map name_field (normal_form source).hosts) ≤ 65536
+pub names_short : (text : List ℕ) (source : Source) → IsParse text (Ok source) → length (flat_map name_field (normal_form source).hosts) ≤ 65536
 names_short text source parsed = within _ _ _ (names_take source.hosts) (host_names_fit text source parsed) parsed.short
   where
     within : (n m k : ℕ) → n ≡ m → m ≤ k → k ≤ 65536 → n ≤ 65536
@@ -53,7 +53,7 @@ compiled_files_are_short text source problem list least prefix parsed can =
 -- ---- both
 
 both : (program : NormalForm) (list : List ℕ) (plan : Digest) (prefix : List ℕ) (h : ℕ) (files : List Stored) → EachFrom (λ h file. file.name ≡ file_name prefix h (codes ".host")) h files
-    → AllByRecursion IsShort files → EachFrom (IsReadBack program list plan) h files → EachFrom (IsFileOf program list plan prefix) h files
+    → AllByRecursion IsShort files → EachFrom (λ h file. IsReadBack program list plan h file.content) h files → EachFrom (IsFileOf program list plan prefix) h files
 both program list plan prefix h [] names a b = tt
 both program list plan prefix h (f ∷ fs) names a b = (record { name = names.0; short = a.0; read = b.0 }, both program list plan prefix (h + 1) fs names.1 a.1 b.1)
 

@@ -1,7 +1,6 @@
 -- The files that `compile` stores.
 use Rattle.std.specs.Prelude.{◌≡◌, ℕ, ◌+◌, ◌≤◌, List, [], ◌∷◌, length, codes, Ok}
 use Rattle.std.specs.List.{AllByRecursion}
-use Rattle.vd_base.specs.HostSets.{host}
 use Rattle.vd_base.specs.Limits.{most_host_file_bytes}
 use Rattle.vd_outside.specs.declared.stored.Stored.{Stored}
 use Rattle.vd_core.specs.declared.normal.NormalForm.{NormalForm}
@@ -10,7 +9,6 @@ use Rattle.vd_core.specs.Facts.{IsWellMade}
 use Rattle.vd_parser.specs.Outcomes.{IsParse}
 use Rattle.vd_normal.specs.Normal.{normal_form}
 use Rattle.vd_space.specs.declared.problem.Problem.{Problem}
-use Rattle.vd_execution.specs.declared.instructions.Instr.{Instr}
 use Rattle.vd_execution.specs.Joint.{code_of}
 use Rattle.vd_execution.specs.Text.{IsCodeOf}
 use Rattle.vd_joint.specs.Outcome.{NumbersFit}
@@ -18,7 +16,7 @@ use Rattle.vd_host_text.specs.declared.program.Digest.{Digest}
 use Rattle.vd_plan.specs.Numbered.{file_name}
 use Rattle.vd_hostcode.specs.Outcome.{IsOutcome}
 use Rattle.vd_host_programs.specs.Programs.{IsRunnable, joint_of}
-use Rattle.vd_read_back.specs.Stored.{CountsFit}
+use Rattle.vd_read_back.specs.Stored.{CountsFit, stored_program}
 use Rattle.vd_compiling.specs.Selected.{IsSelected}
 use Rattle.vd_compiling.specs.Compiling.{compiled_at, plan_for, printed_at}
 
@@ -29,12 +27,11 @@ pub record CanBeCompiled (program : NormalForm) (list : List ℕ) : Type 0 where
   pub counts : CountsFit program
   pub runnable : IsRunnable program list
 
--- Reading the file gives the program of the host with this number: with the names of all hosts, this number and this plan; and its code
--- is that host's part of the joint code of the program at this list.
-pub record IsReadBack (program : NormalForm) (list : List ℕ) (plan : Digest) (h : ℕ) (file : Stored) : Type 0 where
-  pub code : List Instr
-  pub read : IsOutcome file.content (Ok (record { hosts = program.hosts; me = host h; plan = plan; code = code }))
-  pub part : IsCodeOf code (code_of h (joint_of program list))
+-- Reading these bytes gives the program of the host with this number: with the names of all hosts, this number and this plan; and its
+-- code is that host's part of the joint code of the program at this list.
+pub record IsReadBack (program : NormalForm) (list : List ℕ) (plan : Digest) (h : ℕ) (bytes : List ℕ) : Type 0 where
+  pub read : IsOutcome bytes (Ok (stored_program program list plan h))
+  pub part : IsCodeOf (stored_program program list plan h).code (code_of h (joint_of program list))
 
 -- so it is of the files of the hosts that are numbered from here on
 abbrev pub EachFrom : (ℕ → Stored → Type 0) → ℕ → List Stored → Type 0
@@ -50,7 +47,7 @@ plan_at program problem list least text = plan_for text (printed_at program prob
 abbrev pub CompiledFilesAreReadBack : Type 0
 CompiledFilesAreReadBack = (program : NormalForm) (problem : Problem) (list : List ℕ) (least : ℕ) (text prefix : List ℕ)
     → CanBeCompiled program list
-    → EachFrom (IsReadBack program list (plan_at program problem list least text)) 0
+    → EachFrom (λ h file. IsReadBack program list (plan_at program problem list least text) h file.content) 0
     (compiled_at program problem list least text prefix).stores
 
 -- and each is short enough to be read, where the program is the let-normal form of the source that the text spells
@@ -73,7 +70,7 @@ pub record IsCompiled (text : List ℕ) (program : NormalForm) (list : List ℕ)
 pub record IsFileOf (program : NormalForm) (list : List ℕ) (plan : Digest) (prefix : List ℕ) (h : ℕ) (file : Stored) : Type 0 where
   pub name : file.name ≡ file_name prefix h (codes ".host")
   pub short : IsShort file
-  pub read : IsReadBack program list plan h file
+  pub read : IsReadBack program list plan h file.content
 
 -- a file for each host, in order
 pub record AreFilesOf (program : NormalForm) (list : List ℕ) (plan : Digest) (prefix : List ℕ) (files : List Stored) : Type 0 where

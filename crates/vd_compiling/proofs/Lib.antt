@@ -3,3 +3,4 @@ pub mod Aloud
 pub mod Storing
 pub mod Compiled
 pub mod Sure
+pub mod Telling

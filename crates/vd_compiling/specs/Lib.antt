@@ -1,2 +1,3 @@
 pub mod Selected
 pub mod Compiling
+pub mod Telling

@@ -7,6 +7,7 @@ ghost use Rattle.vd_plan.specs.Plans.{Computes};
 ghost use Rattle.vd_selecting.specs.Problems.{IsProblemOf};
 ghost use Rattle.vd_compiling.specs.Selected.{IsSelected};
 ghost use Rattle.vd_compiling.specs.Compiling.{ExecutesCompile, ExecutesProblem, ExecutesProgram, compiled_at, host_file, host_files};
+ghost use Rattle.vd_compiling.specs.Telling.{TellsPrograms, TellsSource};
 
 use crate::checks::no_assignment;
 use std::alloc::{AllocError, Global};
@@ -21,6 +22,7 @@ use vd_host_text::{Digest, host_file, plan_of};
 use vd_items::Items;
 use vd_outside::{Files, Stored};
 use vd_plan::{Answer, Status, file_name, load};
+use vd_read_back::counts_fit;
 use vd_resolve::Resolved;
 use vd_selecting::{least_space, selection_text};
 use vd_selection::{SelectFault, Selection, select};
@@ -74,9 +76,11 @@ fn compile_at(
     prefix: &str,
 ) -> Result<Answer, Status>
     requires { IsSelected program.now places.now }
-    ensures { Computes (compiled_at program.now space.now places.now cost text.now prefix.now) result }
+    ensures computes { Computes (compiled_at program.now space.now places.now cost text.now prefix.now) result }
+    ensures tells { TellsPrograms program.now text.now prefix.now result }
 {
     numbers_fit(program);
+    counts_fit(program);
     let printed = selection_text(alloc, program, space, places, cost)?;
     let codes = split(alloc, program, places)?;
     let plan = plan_of(text, printed.as_slice());
@@ -100,7 +104,8 @@ fn compile_space(
 ) -> Result<Answer, Status>
     requires budget { budget ≤ most_search_budget }
     requires problem { IsProblemOf program.now space.now }
-    ensures { ExecutesProblem program.now space.now text.now prefix.now budget result }
+    ensures executes { ExecutesProblem program.now space.now text.now prefix.now budget result }
+    ensures tells { TellsPrograms program.now text.now prefix.now result }
 {
     match select(alloc, space.problem(), budget) {
         Ok(Selection::Found(places, cost, _)) => {
@@ -121,7 +126,8 @@ fn compile_program(
     budget: u32,
 ) -> Result<Answer, Status>
     requires { budget ≤ most_search_budget }
-    ensures { ExecutesProgram program.now text.now prefix.now budget result }
+    ensures executes { ExecutesProgram program.now text.now prefix.now budget result }
+    ensures tells { TellsPrograms program.now text.now prefix.now result }
 {
     let space = least_space(alloc, program)?;
     compile_space(alloc, program, &space, text, prefix, budget)
@@ -136,7 +142,8 @@ pub fn compile_source(
     budget: u32,
 ) -> Result<Answer, Status>
     requires { budget ≤ most_search_budget }
-    ensures { ExecutesProgram (normal_form source.now) text.now prefix.now budget result }
+    ensures executes { ExecutesProgram (normal_form source.now) text.now prefix.now budget result }
+    ensures tells { TellsPrograms (normal_form source.now) text.now prefix.now result }
 {
     let program = elaborate(alloc, source)?;
     compile_program(alloc, &program, text, prefix, budget)
@@ -152,7 +159,8 @@ pub fn compile<F: Files>(
     budget: u32,
 ) -> Result<Answer, Status>
     requires { budget ≤ most_search_budget }
-    ensures { ExecutesCompile source.now prefix.now budget (F.view files.old) (F.view files.new) result }
+    ensures executes { ExecutesCompile source.now prefix.now budget (F.view files.old) (F.view files.new) result }
+    ensures tells { TellsSource source.now prefix.now (F.view files.old) result }
 {
     let text = load(alloc, files, source, SOURCE_BYTES)?;
     let tree = read_source(alloc, text.as_slice())?;

@@ -34,7 +34,7 @@ use Rattle.vd_running.proofs.Reports.{plays_asks, plays_report}
 same_value : (a b : Source) → ◌≡◌ {A = Result Source ParseFault} (Ok a) (Ok b) → a ≡ b
 same_value a b is = cc is
 
-held_once : (name : List ℕ) (contents : Contents) (a b : Source) → HoldsSource name contents a → HoldsSource name contents b → a ≡ b
+pub held_once : (name : List ℕ) (contents : Contents) (a b : Source) → HoldsSource name contents a → HoldsSource name contents b → a ≡ b
 held_once name contents a b first second =
     let bytes : first.bytes ≡ second.bytes = cc (first.is_fetched, second.is_fetched) in
     same_value a b (parses_once second.bytes (Ok a) (Ok b) (subst (λ (l : List ℕ). IsParse l (Ok a)) bytes first.holds.parsed) second.holds.parsed)

@@ -9,8 +9,8 @@ use Rattle.vd_compiling.proofs.compile_command.compile_program.Goals as goal
 pub compile_space-requires-clause-problem : goal.compile_space-requires-clause-problem
 compile_space-requires-clause-problem c = (c.in_ok-space.ensures {u = tt}).least
 
-pub returns-in_err-space : goal.returns-in_err-space
-returns-in_err-space c = (
+pub returns-in_err-space-clause-executes : goal.returns-in_err-space-clause-executes
+returns-in_err-space-clause-executes c = (
   GaveUp,
   λ certificates choices least files.
       let p = err_from_is_err_and c.from_residual.result c.from_residual.ensures.1 in
@@ -19,9 +19,9 @@ returns-in_err-space c = (
       (problem_plan choices (searched_by certificates choices GaveUp) c.args.text.now c.args.prefix.now c.args.budget c.args.program.now)),
 )
 
-pub returns : goal.returns
-returns c =
-    let s = c.compile_space.ensures in (
+pub returns-clause-executes : goal.returns-clause-executes
+returns-clause-executes c =
+    let s = c.compile_space.ensures.executes in (
       s.0,
       λ certificates choices least files.
           check_step (problem_for least c.args.program.now) files (Ok c.in_ok-space.space) ((c.in_ok-space.ensures {u = tt}).checks least)

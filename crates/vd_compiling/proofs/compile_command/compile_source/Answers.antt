@@ -4,11 +4,15 @@ use Rattle.vd_core.specs.declared.normal.NormalForm.{NormalForm}
 use Rattle.vd_plan.proofs.InSteps.{any_memory}
 use Rattle.vd_selecting.specs.Choosing.{GaveUp}
 use Rattle.vd_compiling.specs.Compiling.{ExecutesProgram}
+use Rattle.vd_compiling.specs.Telling.{TellsPrograms}
 use Rattle.vd_compiling.proofs.compile_command.compile_source.Goals as goal
 
-pub returns-in_err-program : goal.returns-in_err-program
-returns-in_err-program c = (GaveUp, λ certificates choices least files. let p = err_from_is_err_and c.from_residual.result c.from_residual.ensures.1 in rw (p.1, p.2) (any_memory _ files))
+pub returns-in_err-program-clause-executes : goal.returns-in_err-program-clause-executes
+returns-in_err-program-clause-executes c = (GaveUp, λ certificates choices least files. let p = err_from_is_err_and c.from_residual.result c.from_residual.ensures.1 in rw (p.1, p.2) (any_memory _ files))
 
-pub returns : goal.returns
-returns c =
-    subst (λ (form : NormalForm). ExecutesProgram form c.args.text.now c.args.prefix.now c.args.budget c.compile_program.result) c.in_ok-program.ensures.form c.compile_program.ensures
+pub returns-clause-executes : goal.returns-clause-executes
+returns-clause-executes c =
+    subst (λ (form : NormalForm). ExecutesProgram form c.args.text.now c.args.prefix.now c.args.budget c.compile_program.result) c.in_ok-program.ensures.form c.compile_program.ensures.executes
+
+pub returns-clause-tells : goal.returns-clause-tells
+returns-clause-tells c = subst (λ (form : NormalForm). TellsPrograms form c.args.text.now c.args.prefix.now c.compile_program.result) c.in_ok-program.ensures.form c.compile_program.ensures.tells

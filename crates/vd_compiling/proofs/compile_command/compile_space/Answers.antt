@@ -5,6 +5,7 @@ use Rattle.vd_selection.specs.Choices.{IsChosen}
 use Rattle.vd_selection.specs.Selecting.{IsOver}
 use Rattle.vd_compiling.proofs.Compiled.{found, gave_up, list_answered, none_found}
 use Rattle.vd_compiling.proofs.Runnable.{selected_of}
+use Rattle.vd_compiling.proofs.Telling.{none_stored}
 use Rattle.vd_compiling.proofs.compile_command.compile_space.Goals as goal
 
 pub compile_at-requires : goal.compile_at-requires
@@ -12,18 +13,21 @@ compile_at-requires c =
     let selects = rw c.in-Ok-Found.field-0-is at (rw c.problem.ensures.same at c.in-Ok-Found.ensures.selects) in
     selected_of c.args.program.now c.args.space.now c.as_slice.result.now c.requires.problem c.problem.ensures.holds (subst (λ (list : List ℕ). IsChosen c.args.space.now (Some list)) (sym c.as_slice.ensures) selects.0)
 
-pub returns-in-Ok-Found : goal.returns-in-Ok-Found
-returns-in-Ok-Found c =
+pub returns-in-Ok-Found-clause-executes : goal.returns-in-Ok-Found-clause-executes
+returns-in-Ok-Found-clause-executes c =
     let selects = rw c.in-Ok-Found.field-0-is at (rw c.problem.ensures.same at c.in-Ok-Found.ensures.selects) in
     found c.args.program.now c.args.space.now c.args.text.now c.args.prefix.now c.args.budget c.in-Ok-Found.places c.as_slice.result.now c.in-Ok-Found.cost c.in-Ok-Found.field-0-2 _ selects c.as_slice.ensures
-    (list_answered c.args.program.now c.args.space.now c.args.text.now c.args.prefix.now c.as_slice.result.now c.in-Ok-Found.cost _ c.compile_at.ensures)
+    (list_answered c.args.program.now c.args.space.now c.args.text.now c.args.prefix.now c.as_slice.result.now c.in-Ok-Found.cost _ c.compile_at.ensures.computes)
 
-pub returns-in-Ok-NoAssignment : goal.returns-in-Ok-NoAssignment
-returns-in-Ok-NoAssignment c =
+pub returns-in-Ok-NoAssignment-clause-executes : goal.returns-in-Ok-NoAssignment-clause-executes
+returns-in-Ok-NoAssignment-clause-executes c =
     let selects = rw c.in-Ok-NoAssignment.field-0-is at (rw c.problem.ensures.same at c.in-Ok-NoAssignment.ensures.selects) in
     none_found c.args.program.now c.args.space.now c.args.text.now c.args.prefix.now c.args.budget c.in-Ok-NoAssignment.field-0-0 c.no_assignment.result selects c.no_assignment.ensures
 
-pub returns-in-Err-Spent : goal.returns-in-Err-Spent
-returns-in-Err-Spent c =
+pub returns-in-Err-Spent-clause-executes : goal.returns-in-Err-Spent-clause-executes
+returns-in-Err-Spent-clause-executes c =
     gave_up c.args.program.now c.args.space.now c.args.text.now c.args.prefix.now c.args.budget c.problem.ensures.holds
     (subst (λ (p : Problem). IsOver p (usual p) c.args.budget) c.problem.ensures.same (c.in-Err-Spent.ensures.spent (rw c.in-Err-Spent.field-0-is refl)))
+
+pub returns-in-Ok-NoAssignment-clause-tells : goal.returns-in-Ok-NoAssignment-clause-tells
+returns-in-Ok-NoAssignment-clause-tells c = none_stored c.args.program.now c.args.text.now c.args.prefix.now c.no_assignment.result c.no_assignment.ensures

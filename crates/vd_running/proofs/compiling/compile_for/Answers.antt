@@ -59,7 +59,7 @@ returns-in_err-names-clause-compiles g c = (
 
 pub returns-in_err-answer-clause-compiles : goal.returns-in_err-answer-clause-compiles
 returns-in_err-answer-clause-compiles g c =
-    let s = rw c.as_slice-2.ensures at (c.in_err-answer.ensures {u = tt}) in (
+    let s = rw c.as_slice-2.ensures at (c.in_err-answer.ensures {u = tt}).executes in (
       s.0,
       λ certificates choices texts least.
           let p = err_from_is_err_and c.from_residual-in_err-answer.result c.from_residual-in_err-answer.ensures.1 in
@@ -72,7 +72,7 @@ returns-in_err-answer-clause-compiles g c =
 
 pub returns-clause-compiles : goal.returns-clause-compiles
 returns-clause-compiles g c =
-    let s = rw c.as_slice-2.ensures at (c.in_ok-answer.ensures {u = tt}) in (
+    let s = rw c.as_slice-2.ensures at (c.in_ok-answer.ensures {u = tt}).executes in (
       s.0,
       λ certificates choices texts least.
           let search = searched_by certificates choices s.0 in
@@ -97,4 +97,4 @@ returns-clause-few g c =
     (within_limits c.in_ok-resolved.resolved c.source.ensures.resolved c.source.ensures.named).hosts
 
 pub returns-clause-given : goal.returns-clause-given
-returns-clause-given g c = ((c.in_ok-answer.ensures {u = tt}).1 some_certificates some_choices some_labels (g.F.Files.view c.args.files.now)).proper.0
+returns-clause-given g c = ((c.in_ok-answer.ensures {u = tt}).executes.1 some_certificates some_choices some_labels (g.F.Files.view c.args.files.now)).proper.0

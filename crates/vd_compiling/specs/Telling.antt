@@ -1,0 +1,39 @@
+-- What `compile` stores: the programs of all hosts of a source, at its choice of protocols.
+use Rattle.std.specs.Prelude.{◌≡◌, ◌<◌, ℕ, List, length, Result, IfOk}
+use Rattle.vd_base.specs.Limits.{most_source_bytes}
+use Rattle.vd_outside.specs.Files.{FilesView}
+use Rattle.vd_core.specs.declared.normal.NormalForm.{NormalForm}
+use Rattle.vd_core.specs.declared.source.Source.{Source}
+use Rattle.vd_normal.specs.Normal.{normal_form}
+use Rattle.vd_host_programs.specs.Programs.{host_codes}
+use Rattle.vd_read_back.specs.Stored.{CanBeStored}
+use Rattle.vd_plan.specs.Held.{Finds, IsHeld}
+use Rattle.vd_plan.specs.declared.answer.Answer.{Answer}
+use Rattle.vd_plan.specs.declared.status.Status.{Status}
+use Rattle.vd_plan.specs.declared.status.Status.TheVariants.{Ended}
+use Rattle.vd_frontend.specs.Sources.{IsSourceText}
+use Rattle.vd_compiling.specs.Selected.{IsSelected}
+use Rattle.vd_compiling.specs.Compiling.{host_files, plan_for}
+
+-- The answer stores a file for each host, of the host's code at the choice of protocols. The plan is the digest of the source's bytes
+-- and of what is printed. Each of these programs is one that can be read back from its file.
+pub record StoresPrograms (program : NormalForm) (text prefix : List ℕ) (answer : Answer) : Type 0 where
+  pub list : List ℕ
+  pub selected : IsSelected program list
+  pub can_be_stored : (h : ℕ) → h < length program.hosts → CanBeStored program list (plan_for text answer.printed) h
+  pub stores : answer.stores ≡ host_files prefix program.hosts (plan_for text answer.printed) 0 (host_codes program list)
+
+-- So does an answer of a program that ended.
+abbrev pub TellsPrograms : NormalForm → (text prefix : List ℕ) → Result Answer Status → Type 0
+TellsPrograms program text prefix result = IfOk result (λ answer. answer.status ≡ Ended → StoresPrograms program text prefix answer)
+
+-- the text is that of a source that meets every rule, and the programs of its hosts are stored
+pub record CompilesText (text prefix : List ℕ) (answer : Answer) : Type 0 where
+  pub source : Source
+  pub read : IsSourceText source text
+  pub programs : StoresPrograms (normal_form source) text prefix answer
+
+-- Where the files tell what they hold, and the answer ended, the file of this name holds such a text.
+abbrev pub TellsSource : (source prefix : List ℕ) → FilesView → Result Answer Status → Type 0
+TellsSource source prefix before result =
+    Finds before result (λ contents answer. answer.status ≡ Ended → IsHeld source most_source_bytes contents (λ text. CompilesText text prefix answer))
