@@ -2,7 +2,7 @@
 use Rattle.std.proofs.Common.{◌≡◌, ℕ, true, List, Result, Ok, Err, refl, sym, subst, arith}
 use Rattle.vd_outside.specs.Files.{FilesView, Contents}
 use Rattle.vd_plan.specs.declared.status.Status.{Status}
-use Rattle.vd_plan.specs.declared.status.Status.TheVariants.{Ended, Memory, Usage, ReadFault, WriteFault, TooLong, NoAssignment, Host, ChildFault}
+use Rattle.vd_plan.specs.declared.status.Status.TheVariants.{Ended, Memory, Usage, ReadFault, WriteFault, NoAssignment, Host, ChildFault}
 use Rattle.vd_plan.specs.declared.answer.Answer.{Answer}
 use Rattle.vd_plan.specs.Loads.{Loads}
 use Rattle.vd_plan.specs.Plans.{Plan, Executes, Computes, Checks, ExecutesStep, file_then, check_then, answer_then, only, refused}
@@ -46,8 +46,7 @@ check_step wanted now (Err NoAssignment) c = absurd c.err
 check_step wanted now (Err Usage) c = absurd c.err
 check_step wanted now (Err (ReadFault name)) c = absurd c.err
 check_step wanted now (Err WriteFault) c = absurd c.err
-check_step wanted now (Err (TooLong name limit)) c = absurd c.err
-check_step wanted now (Err (Host cause)) c = absurd c.err
+check_step wanted now (Err (Host cause)) c = λ rest. subst (λ (t : Contents → Plan). Executes true t now now (Err (Host cause))) (sym (check_refuses wanted (Host cause) c.err.1 rest)) (computes (refused (Host cause)) now (Err (Host cause)) (record { proper = (c.err.0, refl); no_fault = λ file e. cc e; settled = refl }))
 check_step wanted now (Err (ChildFault name cause)) c = absurd c.err
 check_step wanted now (Err status) c = λ rest. subst (λ (t : Contents → Plan). Executes true t now now (Err status)) (sym (check_refuses wanted status c.err rest)) (computes (refused status) now (Err status) (record { proper = refl; no_fault = λ file e. cc e; settled = refl }))
 

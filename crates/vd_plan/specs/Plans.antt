@@ -7,6 +7,8 @@ use Rattle.vd_outside.specs.declared.files.FilesCall.{FilesCall}
 use Rattle.vd_outside.specs.declared.files.FilesCall.TheVariants.{Fetch}
 use Rattle.vd_outside.specs.declared.faults.FetchFault.{FetchFault}
 use Rattle.vd_outside.specs.declared.faults.FetchFault.TheVariants as fetch_fault
+use Rattle.vd_plan.specs.declared.status.HostStatus.{HostStatus}
+use Rattle.vd_plan.specs.declared.status.HostStatus.TheVariants.{ProgramText, ProgramRange}
 use Rattle.vd_plan.specs.declared.status.Status.{Status}
 use Rattle.vd_plan.specs.declared.status.Status.TheVariants.{Ended, Memory, Usage, ReadFault, WriteFault, TooLong, NoAssignment, Host, ChildFault}
 use Rattle.vd_plan.specs.declared.answer.Answer.{Answer}
@@ -72,9 +74,15 @@ IsGiven Ended printed = Unit {0}
 IsGiven NoAssignment printed = printed ≡ []
 IsGiven status printed = ⊥
 
+-- a file that is no program of a host within the ranges is refused by a plan; all else of one host comes where it is run
+abbrev pub IsOfProgram : HostStatus → Type 0
+IsOfProgram (ProgramText offset) = Unit {0}
+IsOfProgram (ProgramRange number) = Unit {0}
+IsOfProgram other = ⊥
+
 -- the statuses of hosts that are run over a net or as children come in no plan
 abbrev pub IsPlanned : Status → Type 0
-IsPlanned (Host cause) = ⊥
+IsPlanned (Host cause) = IsOfProgram cause
 IsPlanned (ChildFault name cause) = ⊥
 IsPlanned status = Unit {0}
 
@@ -85,7 +93,7 @@ IsProper fits (Err Ended) = ⊥
 IsProper fits (Err NoAssignment) = ⊥
 IsProper fits (Err Usage) = fits ≡ false
 IsProper fits (Err WriteFault) = ⊥
-IsProper fits (Err (Host cause)) = ⊥
+IsProper fits (Err (Host cause)) = IsOfProgram cause × (fits ≡ true)
 IsProper fits (Err (ChildFault name cause)) = ⊥
 IsProper fits (Err status) = fits ≡ true
 
@@ -120,9 +128,8 @@ IsRefusal wanted Memory = Unit {0}
 IsRefusal wanted Usage = ⊥
 IsRefusal wanted (ReadFault name) = ⊥
 IsRefusal wanted WriteFault = ⊥
-IsRefusal wanted (Host cause) = ⊥
+IsRefusal wanted (Host cause) = IsOfProgram cause × (wanted ≡ Err (Host cause))
 IsRefusal wanted (ChildFault name cause) = ⊥
-IsRefusal wanted (TooLong name limit) = ⊥
 IsRefusal wanted status = wanted ≡ Err status
 
 pub record Checks {T : Type 0} (wanted result : Result T Status) : Type 0 where

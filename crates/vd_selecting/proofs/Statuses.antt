@@ -8,7 +8,7 @@ use Rattle.vd_bound.specs.declared.checking.CheckFault.TheVariants as check_faul
 use Rattle.vd_bound.specs.declared.checking.Proved.{Proved}
 use Rattle.vd_plan.specs.Plans.{IsRefusal}
 use Rattle.vd_plan.specs.declared.status.Status.{Status}
-use Rattle.vd_plan.specs.declared.status.Status.TheVariants.{Ended, Memory, Usage, ReadFault, WriteFault, TooLong, NoAssignment, Host, ChildFault}
+use Rattle.vd_plan.specs.declared.status.Status.TheVariants.{Ended, Memory, Usage, ReadFault, WriteFault, NoAssignment, Host, ChildFault}
 use Rattle.vd_selecting.specs.Certifying.{as_proved, check_status}
 use Rattle.vd_selecting.specs.Problems.{as_problem}
 
@@ -28,7 +28,6 @@ problem_refusal program wanted Memory is = is
 problem_refusal program wanted Usage is = is
 problem_refusal program wanted (ReadFault name) is = is
 problem_refusal program wanted WriteFault is = is
-problem_refusal program wanted (TooLong name limit) is = is
-problem_refusal program wanted (Host cause) is = is
+problem_refusal program wanted (Host cause) is = (is.0, ap (as_problem program) is.1)
 problem_refusal program wanted (ChildFault name cause) is = is
 problem_refusal program wanted status is = ap (as_problem program) is
