@@ -15,10 +15,12 @@ _viaduct() {
         "$(sed -n 's/^ *host  *\([A-Za-z0-9_]*\).*/\1/p' "${COMP_WORDS[2]}" 2> /dev/null)" -- "$word") ;;
     '[messages]')
       mapfile -t COMPREPLY < <(compgen -W messages -- "$word") ;;
+    '[each]')
+      mapfile -t COMPREPLY < <(compgen -W each -- "$word") ;;
     SOURCE)
       compopt -o filenames 2> /dev/null
       mapfile -t COMPREPLY < <(compgen -f -X '!*.via' -- "$word"; compgen -d -- "$word") ;;
-    INPUTS | CERT | PREFIX | SCHEDULE | PROGRAM | DEAL | SELF)
+    FILE | INPUTS | CERT | PREFIX | SCHEDULE | PROGRAM | DEAL | SELF)
       compopt -o filenames 2> /dev/null
       mapfile -t COMPREPLY < <(compgen -f -- "$word") ;;
   esac

@@ -8,7 +8,7 @@ use Rattle.vd_cmd.specs.Numbers.{number_within}
 use Rattle.vd_cmd.specs.declared.command.Command.{Command}
 use Rattle.vd_cmd.specs.declared.command.Command.TheVariants.{OnFiles, Host, Run}
 use Rattle.vd_cmd.specs.declared.command.FilesCommand.{FilesCommand}
-use Rattle.vd_cmd.specs.declared.command.FilesCommand.TheVariants.{Clear, Labels, Choose, Certify, Compile, Deal, Replay, Depends, Influences, Gen, Trial}
+use Rattle.vd_cmd.specs.declared.command.FilesCommand.TheVariants.{Clear, Labels, Choose, Certify, Compile, Needs, Deal, Replay, Depends, Influences, Gen, Trial}
 use Rattle.vd_cmd.specs.declared.command.CommandFault.{CommandFault}
 use Rattle.vd_cmd.specs.declared.command.CommandFault.TheVariants.{Usage}
 
@@ -48,6 +48,16 @@ abbrev pub compile_of : (source prefix : List ℕ) → Option ℕ → Option Com
 compile_of source prefix (Some budget) = Some (OnFiles (Compile source prefix budget))
 compile_of source prefix None = None
 
+abbrev pub needs_of : (file : List ℕ) → (each : Bool) → Option ℕ → Option Command
+needs_of file each (Some budget) = Some (OnFiles (Needs (record { file = file; each = each; budget = budget })))
+needs_of file each None = None
+
+-- with one word more: `each`, or a budget
+abbrev pub needs_with : (file other : List ℕ) → Option Command
+needs_with file other =
+    if bytes_eq other (codes "each") then needs_of file true (Some most_search_budget)
+    else needs_of file false (number_within 1 most_search_budget other)
+
 abbrev pub replay_of : (source inputs prefix schedule : List ℕ) → (messages : Bool) → Option ℕ → Option Command
 replay_of source inputs prefix schedule messages (Some budget) =
     Some (OnFiles (Replay (record { source = source; inputs = inputs; prefix = prefix; schedule = schedule; messages = messages; budget = budget })))
@@ -75,6 +85,7 @@ abbrev pub fixed_form_of : List (List ℕ) → Option Command
 fixed_form_of (word ∷ argument ∷ []) =
     if bytes_eq word (codes "labels") then Some (OnFiles (Labels argument))
     else if bytes_eq word (codes "choose") then Some (OnFiles (Choose argument most_search_budget))
+    else if bytes_eq word (codes "needs") then needs_of argument false (Some most_search_budget)
     else if bytes_eq word (codes "gen") then gen_of (number_within 1 most_coordinates argument)
     else if bytes_eq word (codes "trial") then trial_of (number_within 1 most_coordinates argument)
     else None
@@ -85,9 +96,12 @@ fixed_form_of (word ∷ source ∷ other ∷ []) =
     else if bytes_eq word (codes "influences") then Some (OnFiles (Influences source other))
     else if bytes_eq word (codes "choose") then choose_of source (number_within 1 most_search_budget other)
     else if bytes_eq word (codes "compile") then compile_of source other (Some most_search_budget)
+    else if bytes_eq word (codes "needs") then needs_with source other
     else None
 fixed_form_of (word ∷ source ∷ prefix ∷ budget ∷ []) =
-    if bytes_eq word (codes "compile") then compile_of source prefix (number_within 1 most_search_budget budget) else None
+    if bytes_eq word (codes "compile") then compile_of source prefix (number_within 1 most_search_budget budget)
+    else if bytes_eq word (codes "needs") && bytes_eq prefix (codes "each") then needs_of source true (number_within 1 most_search_budget budget)
+    else None
 fixed_form_of (word ∷ source ∷ inputs ∷ prefix ∷ schedule ∷ []) =
     if bytes_eq word (codes "replay") then replay_of source inputs prefix schedule false (Some most_search_budget) else None
 fixed_form_of (word ∷ source ∷ inputs ∷ prefix ∷ schedule ∷ other ∷ []) =
@@ -137,6 +151,7 @@ KeepsFilesLimits (Gen coordinates) = IsSize coordinates
 KeepsFilesLimits (Trial coordinates) = IsSize coordinates
 KeepsFilesLimits (Choose source budget) = IsBudget budget
 KeepsFilesLimits (Compile source prefix budget) = IsBudget budget
+KeepsFilesLimits (Needs words) = IsBudget words.budget
 KeepsFilesLimits (Replay words) = IsBudget words.budget
 KeepsFilesLimits command = Unit {0}
 

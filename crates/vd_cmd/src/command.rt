@@ -1,7 +1,7 @@
 //! The forms of a command line.
 
 ghost use Rattle.std.specs.Prelude.{◌≡◌, [], ◌∷◌, IfOk, IfSome};
-ghost use Rattle.vd_cmd.specs.Commands.{Reads, AreWithin, IsBudget, IsPort, IsSize, choose_of, compile_of, counts_in, deal_in, deal_of, fixed_form_of, form_of, gen_of, host_form_of, replay_of, replay_with, run_of, trial_of};
+ghost use Rattle.vd_cmd.specs.Commands.{Reads, AreWithin, IsBudget, IsPort, IsSize, choose_of, compile_of, counts_in, deal_in, deal_of, fixed_form_of, form_of, gen_of, host_form_of, needs_of, needs_with, replay_of, replay_with, run_of, trial_of};
 ghost use Rattle.vd_cmd.specs.declared.command.CommandFault.TheVariants.{Memory};
 
 use crate::numbers::number_within;
@@ -28,6 +28,17 @@ pub struct ReplayWords {
     pub schedule: Text,
     /// Whether the words that were sent are told too.
     pub messages: bool,
+    /// How many prefixes the search may open.
+    pub budget: u32,
+}
+
+/// The words of `needs FILE [each] [BUDGET]`.
+#[derive(Debug, Drop)]
+pub struct NeedsWords {
+    /// A source, or the program of a host.
+    pub file: Text,
+    /// Whether the needs of each host and of each two hosts are told.
+    pub each: bool,
     /// How many prefixes the search may open.
     pub budget: u32,
 }
@@ -67,6 +78,8 @@ pub enum FilesCommand {
     Certify(Text, Text),
     /// `compile SOURCE PREFIX [BUDGET]`.
     Compile(Text, Text, u32),
+    /// `needs FILE [each] [BUDGET]`.
+    Needs(NeedsWords),
     /// `deal HOSTS OWN MULS ANDS PAIRS KEY PREFIX`.
     Deal(Counts, u64, Text),
     /// `replay SOURCE INPUTS PREFIX SCHEDULE [messages] [BUDGET]`.
@@ -181,6 +194,39 @@ fn compile_of(
     Ok(Command::OnFiles(FilesCommand::Compile(source, prefix, budget as u32)))
 }
 
+/// The command `needs` with this budget, if it is given.
+fn needs_of(
+    alloc: Global,
+    file: &Text,
+    each: bool,
+    budget: Option<u64>,
+) -> Result<Command, CommandFault>
+    requires { IfSome budget IsBudget }
+    ensures { Reads (needs_of file.now each budget) result }
+{
+    let Some(budget) = budget else {
+        return Err(CommandFault::Usage);
+    };
+    let file = Text::copy_of(alloc, file.as_str())?;
+    Ok(Command::OnFiles(FilesCommand::Needs(NeedsWords {
+        file,
+        each,
+        budget: budget as u32,
+    })))
+}
+
+/// The command `needs` with one word more: `each`, or a budget.
+fn needs_with(alloc: Global, file: &Text, other: &Text) -> Result<Command, CommandFault>
+    ensures { Reads (needs_with file.now other.now) result }
+{
+    let most = u64::from(SEARCH_BUDGET);
+    if other.as_str() == "each" {
+        needs_of(alloc, file, true, Some(most))
+    } else {
+        needs_of(alloc, file, false, number_within(1, most, other))
+    }
+}
+
 /// The command `replay` with this budget, if it is given.
 fn replay_of(
     alloc: Global,
@@ -289,6 +335,8 @@ fn two_words(alloc: Global, word: &Text, argument: &Text) -> Result<Command, Com
         Ok(Command::OnFiles(FilesCommand::Labels(Text::copy_of(alloc, argument.as_str())?)))
     } else if word.as_str() == "choose" {
         choose_of(alloc, argument, Some(u64::from(SEARCH_BUDGET)))
+    } else if word.as_str() == "needs" {
+        needs_of(alloc, argument, false, Some(u64::from(SEARCH_BUDGET)))
     } else if word.as_str() == "gen" {
         gen_of(number_within(1, u64::from(COORDINATES), argument))
     } else if word.as_str() == "trial" {
@@ -327,6 +375,8 @@ fn three_words(
         choose_of(alloc, source, number_within(1, most, other))
     } else if word.as_str() == "compile" {
         compile_of(alloc, source, other, Some(most))
+    } else if word.as_str() == "needs" {
+        needs_with(alloc, source, other)
     } else {
         Err(CommandFault::Usage)
     }
@@ -345,6 +395,9 @@ fn four_words(
     if word.as_str() == "compile" {
         let budget = number_within(1, u64::from(SEARCH_BUDGET), budget);
         compile_of(alloc, source, prefix, budget)
+    } else if word.as_str() == "needs" && prefix.as_str() == "each" {
+        let budget = number_within(1, u64::from(SEARCH_BUDGET), budget);
+        needs_of(alloc, source, true, budget)
     } else {
         Err(CommandFault::Usage)
     }

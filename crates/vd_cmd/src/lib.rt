@@ -6,6 +6,6 @@ mod numbers;
 mod own;
 
 pub use command::{
-    Command, CommandFault, FilesCommand, HostWords, ReplayWords, RunWords, read_words,
+    Command, CommandFault, FilesCommand, HostWords, NeedsWords, ReplayWords, RunWords, read_words,
 };
 pub use own::own_text;

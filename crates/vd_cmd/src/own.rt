@@ -23,6 +23,10 @@ usage:
   viaduct compile SOURCE PREFIX [BUDGET]
                                 print the cheapest protocols, as choose does, and store the program of each host i
                                 as PREFIX.i.host
+  viaduct needs FILE [each] [BUDGET]
+                                print the five numbers with which deal makes enough for the source FILE; with each,
+                                how many inputs and items each host and each two hosts take at most; where FILE is
+                                the program of a host, how many that host takes
   viaduct deal HOSTS OWN MULS ANDS PAIRS KEY PREFIX
                                 store PREFIX.i.deal for each host i: OWN own words, and with each other host
                                 MULS and ANDS products and PAIRS pairs, all made from the number KEY

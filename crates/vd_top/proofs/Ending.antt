@@ -5,7 +5,8 @@ use Rattle.vd_outside.specs.Sink.{SinkView}
 use Rattle.vd_cmd.specs.declared.command.Command.{Command}
 use Rattle.vd_cmd.specs.declared.command.Command.TheVariants.{OnFiles, Host, Run}
 use Rattle.vd_cmd.specs.declared.command.FilesCommand.{FilesCommand}
-use Rattle.vd_cmd.specs.declared.command.FilesCommand.TheVariants.{Depends, Influences, Replay, Trial}
+use Rattle.vd_cmd.specs.declared.command.FilesCommand.TheVariants.{Depends, Influences, Needs, Replay, Trial}
+use Rattle.vd_cmd.specs.declared.command.NeedsWords.{NeedsWords}
 use Rattle.vd_cmd.specs.declared.command.ReplayWords.{ReplayWords}
 use Rattle.vd_plan.specs.Deliver.{IsLeft}
 use Rattle.vd_plan.specs.Plans.{Executes, Plan, Settles, refused}
@@ -18,6 +19,7 @@ use Rattle.vd_frontend.proofs.Reading.{some_texts}
 use Rattle.vd_selecting.specs.Choosing.{sure_search}
 use Rattle.vd_selecting.proofs.Reading.{some_certificates}
 use Rattle.vd_selection.proofs.Once.{some_choices}
+use Rattle.vd_needs_command.proofs.Existing.{some_programs}
 use Rattle.vd_outcomes.proofs.Picked.{some_outcomes as some_replays}
 use Rattle.vd_replaying.proofs.Accepting.{ends_well}
 use Rattle.vd_depending.proofs.Existing.{some_dependences, some_influences}
@@ -45,12 +47,12 @@ module _ (plan : Contents → Plan) (before mid now : FilesView) (out_before out
     settled = λ t. any;
   }
 
-  answered : (came : Result Answer Status) (status : Status) (p : Contents → Plan) → Executes true p before mid came → Finishes came mid now out_before out_now status → IsTrue before.told → status ≡ Ended
+  pub answered : (came : Result Answer Status) (status : Status) (p : Contents → Plan) → Executes true p before mid came → Finishes came mid now out_before out_now status → IsTrue before.told → status ≡ Ended
       → Ended ≡ (p before.contents).answer.status
   answered came status p w finishes t e = subst (λ (s : Status). IsAnswered (p before.contents).answer.status s) e ((finishes true p before w).answered t)
 
   -- a refusal does not end well
-  never : (came status : Status) → Executes true plan before mid (Err came) → Finishes (Err came) mid now out_before out_now status → IsTrue before.told → status ≡ Ended → ⊥
+  pub never : (came status : Status) → Executes true plan before mid (Err came) → Finishes (Err came) mid now out_before out_now status → IsTrue before.told → status ≡ Ended → ⊥
   never Ended status w finishes t e = w.proper
   never Memory status w finishes t e = let wrong = answered (Err Memory) status other_plan (unsettled Memory tt w) finishes t e in cc
   never (ReadFault name) status w finishes t e = let wrong = answered (Err (ReadFault name)) status other_plan (unsettled (ReadFault name) tt w) finishes t e in cc
@@ -85,6 +87,13 @@ module _ (plan : Contents → Plan) (before mid now : FilesView) (out_before out
       record { printed = answer.printed; added = p.1; influence = tells t p.0 }
   influence source name (Err came) status w finishes tells = λ t o e. absurd (never came status w finishes t e)
 
+  needs : (words : NeedsWords) (came : Result Answer Status) (status : Status) → Executes true plan before mid came → Finishes came mid now out_before out_now status → TellsOf (Needs words) before came
+      → ShowsOf (Needs words) before out_before out_now status
+  needs words (Ok answer) status w finishes tells = λ t o e.
+      let p = printed answer status w finishes t o e in
+      record { printed = answer.printed; added = p.1; needs = tells t p.0 }
+  needs words (Err came) status w finishes tells = λ t o e. absurd (never came status w finishes t e)
+
   trial : (coordinates : ℕ) (came : Result Answer Status) (status : Status) → Executes true plan before mid came → Finishes came mid now out_before out_now status → TellsOf (Trial coordinates) before came
       → ShowsOf (Trial coordinates) before out_before out_now status
   trial coordinates (Ok answer) status w finishes tells = λ t. (
@@ -104,6 +113,7 @@ module _ (plan : Contents → Plan) (before mid now : FilesView) (out_before out
   shows (Replay words) came status w finishes tells = headline words came status w finishes tells
   shows (Depends source name) came status w finishes tells = dependence source name came status w finishes tells
   shows (Influences source name) came status w finishes tells = influence source name came status w finishes tells
+  shows (Needs words) came status w finishes tells = needs words came status w finishes tells
   shows (Trial coordinates) came status w finishes tells = trial coordinates came status w finishes tells
   shows command came status w finishes tells = tt
 
@@ -120,5 +130,5 @@ module _ (before now : FilesView) (out_before out_now : SinkView) (status : Stat
   pub accepted : (words : List (List ℕ)) → CompletesWords words before now out_before out_now status → KeepsAccepted words before now out_before out_now status
   accepted words completes_words = λ replay form t is quiet out_quiet.
       let well = ends_well replay before.contents is in
-      let outcomes : Outcomes = record { texts = some_texts; labels = well.0; certificates = some_certificates; choices = some_choices; replays = some_replays; dependences = some_dependences; influences = some_influences } in
+      let outcomes : Outcomes = record { texts = some_texts; labels = well.0; certificates = some_certificates; choices = some_choices; programs = some_programs; replays = some_replays; dependences = some_dependences; influences = some_influences } in
       (subst (λ (f : Option Command). CompletesForm f before now out_before out_now status) form completes_words) outcomes t quiet out_quiet (well.1 some_texts some_replays some_choices)

@@ -7,7 +7,7 @@ use Rattle.vd_outside.specs.Spawner.{SpawnerView}
 use Rattle.vd_cmd.specs.Commands.{form_of}
 use Rattle.vd_cmd.specs.declared.command.Command.{Command}
 use Rattle.vd_cmd.specs.declared.command.Command.TheVariants.{OnFiles, Host, Run}
-use Rattle.vd_cmd.specs.declared.command.FilesCommand.TheVariants.{Depends, Influences, Replay, Trial}
+use Rattle.vd_cmd.specs.declared.command.FilesCommand.TheVariants.{Depends, Influences, Needs, Replay, Trial}
 use Rattle.vd_plan.specs.Plans.{Executes, fetch_calls}
 use Rattle.vd_plan.specs.declared.status.Status.{Status}
 use Rattle.vd_plan.specs.declared.status.Status.TheVariants.{Memory, Usage}
@@ -22,7 +22,7 @@ use Rattle.vd_running.specs.RunsHosts.{outside}
 use Rattle.vd_cmd.specs.declared.command.HostWords.{HostWords}
 use Rattle.vd_cmd.specs.declared.command.RunWords.{RunWords}
 use Rattle.vd_top.specs.Commands.{RunsForm, plan_of, search_of, usage_plan}
-use Rattle.vd_top.specs.Headline.{KeepsTrial, KeepsDependence, KeepsHeadline, KeepsInfluence, ShowsForm}
+use Rattle.vd_top.specs.Headline.{KeepsTrial, KeepsDependence, KeepsHeadline, KeepsInfluence, KeepsNeeds, ShowsForm}
 use Rattle.vd_running.proofs.Holding.{complete}
 use Rattle.vd_serving.proofs.Serving.{served}
 use Rattle.vd_top.specs.Hosts.{PlaysForm, ReportsForm, ServesForm, SpawnsForm, speaks_by, spawns_by}
@@ -36,6 +36,9 @@ dependence_of words before out_before out_now status shows = λ source name form
 
 pub influence_of : (words : List (List ℕ)) (before : FilesView) (out_before out_now : SinkView) (status : Status) → ShowsForm (form_of words) before out_before out_now status → KeepsInfluence words before out_before out_now status
 influence_of words before out_before out_now status shows = λ source name form. subst (λ (f : Option Command). ShowsForm f before out_before out_now status) form shows
+
+pub needs_of : (words : List (List ℕ)) (before : FilesView) (out_before out_now : SinkView) (status : Status) → ShowsForm (form_of words) before out_before out_now status → KeepsNeeds words before out_before out_now status
+needs_of words before out_before out_now status shows = λ needs form. subst (λ (f : Option Command). ShowsForm f before out_before out_now status) form shows
 
 pub trial_of : (words : List (List ℕ)) (before : FilesView) (out_before out_now : SinkView) (status : Status) → ShowsForm (form_of words) before out_before out_now status → KeepsTrial words before out_before out_now status
 trial_of words before out_before out_now status shows = λ coordinates form. subst (λ (f : Option Command). ShowsForm f before out_before out_now status) form shows
@@ -54,6 +57,7 @@ module _ (files : FilesView) (out : SinkView) where
   shows_nothing (Some (OnFiles (Replay words))) = λ t o e. absurd (cc e)
   shows_nothing (Some (OnFiles (Depends source name))) = λ t o e. absurd (cc e)
   shows_nothing (Some (OnFiles (Influences source name))) = λ t o e. absurd (cc e)
+  shows_nothing (Some (OnFiles (Needs words))) = λ t o e. absurd (cc e)
   shows_nothing (Some (OnFiles (Trial coordinates))) = λ t. (tt, λ o e. absurd (cc e))
   shows_nothing (Some (OnFiles command)) = tt
   shows_nothing (Some (Host words)) = tt

@@ -1,4 +1,4 @@
--- What a run of `replay` has shown, one of `depends`, one of `influences` and one of `trial`, where it ended.
+-- What a run of `replay` has shown, one of `depends`, one of `influences`, one of `needs` and one of `trial`, where it ended.
 use Rattle.std.specs.Prelude.{◌≡◌, ◌⊎◌, ℕ, IsTrue, List, ◌++◌, Option, Some, Result}
 use Rattle.vd_outside.specs.Causes.{Rose}
 use Rattle.vd_outside.specs.Files.{FilesView}
@@ -7,13 +7,16 @@ use Rattle.vd_cmd.specs.Commands.{form_of}
 use Rattle.vd_cmd.specs.declared.command.Command.{Command}
 use Rattle.vd_cmd.specs.declared.command.Command.TheVariants.{OnFiles}
 use Rattle.vd_cmd.specs.declared.command.FilesCommand.{FilesCommand}
-use Rattle.vd_cmd.specs.declared.command.FilesCommand.TheVariants.{Depends, Influences, Replay, Trial}
+use Rattle.vd_cmd.specs.declared.command.FilesCommand.TheVariants.{Compile, Depends, Influences, Needs, Replay, Trial}
+use Rattle.vd_cmd.specs.declared.command.NeedsWords.{NeedsWords}
 use Rattle.vd_cmd.specs.declared.command.ReplayWords.{ReplayWords}
 use Rattle.vd_plan.specs.declared.answer.Answer.{Answer}
 use Rattle.vd_plan.specs.declared.status.Status.{Status}
 use Rattle.vd_plan.specs.declared.status.Status.TheVariants.{Ended, Memory}
+use Rattle.vd_compiling.specs.Telling.{TellsSource}
 use Rattle.vd_depending.specs.Telling.{IsDependenceOf, TellsDependence}
 use Rattle.vd_depending.specs.Influencing.{IsInfluenceOf, TellsInfluence}
+use Rattle.vd_needs_command.specs.Telling.{IsNeeds, TellsNeeds}
 use Rattle.vd_replaying.specs.Accepting.{IsAccepted}
 use Rattle.vd_replaying.specs.Telling.{IsHeadline, TellsHeadline}
 use Rattle.vd_trial.specs.Telling.{AnswersTrial, EndsTrial, IsTrial, TellsTrial}
@@ -66,6 +69,20 @@ KeepsInfluence words before out_before out_now status =
     (source name : List ℕ) → form_of words ≡ Some (OnFiles (Influences source name)) → IsTrue before.told → IsTrue out_now.told → status ≡ Ended
     → PrintsInfluence source name before out_before out_now
 
+-- the bytes that were added tell what the hosts of a source take, or the host of a program
+pub record PrintsNeeds (words : NeedsWords) (before : FilesView) (out_before out_now : SinkView) : Type 0 where
+  pub printed : List ℕ
+  pub added : out_now.taken ≡ out_before.taken ++ printed
+  pub needs : IsNeeds words before.contents printed
+
+-- Where the words are those of `needs`, and the files and the output tell what they hold, a run with status 0 has printed how much to
+-- deal for the source: every deal of these sizes suffices for all inputs under every schedule, and where no branch takes differently
+-- no smaller one does. Of the program of a host it has printed what that host takes at most.
+abbrev pub KeepsNeeds : (words : List (List ℕ)) → FilesView → SinkView → SinkView → Status → Type 0
+KeepsNeeds words before out_before out_now status =
+    (needs : NeedsWords) → form_of words ≡ Some (OnFiles (Needs needs)) → IsTrue before.told → IsTrue out_now.told → status ≡ Ended
+    → PrintsNeeds needs before out_before out_now
+
 -- the bytes that were added are the cost of the choice for the generated source, and the report of its run
 pub record PrintsTrial (coordinates : ℕ) (out_before out_now : SinkView) : Type 0 where
   pub printed : List ℕ
@@ -85,11 +102,13 @@ KeepsTrial words before out_before out_now status =
 
 -- ---- the same of a command: its answer, and its run
 
--- what the answer of a command shows, where it is `replay`, `depends`, `influences` or `trial`
+-- what the answer of a command shows, where it is `compile`, `replay`, `depends`, `influences`, `needs` or `trial`
 abbrev pub TellsOf : FilesCommand → FilesView → Result Answer Status → Type 0
+TellsOf (Compile source prefix budget) before result = TellsSource source prefix before result
 TellsOf (Replay words) before result = TellsHeadline words before result
 TellsOf (Depends source name) before result = TellsDependence source name before result
 TellsOf (Influences source name) before result = TellsInfluence source name before result
+TellsOf (Needs words) before result = TellsNeeds words before result
 TellsOf (Trial coordinates) before result = TellsTrial coordinates result × AnswersTrial result
 TellsOf command before result = Unit {0}
 
@@ -100,6 +119,7 @@ ShowsOf (Depends source name) before out_before out_now status =
     IsTrue before.told → IsTrue out_now.told → status ≡ Ended → PrintsDependence source name before out_before out_now
 ShowsOf (Influences source name) before out_before out_now status =
     IsTrue before.told → IsTrue out_now.told → status ≡ Ended → PrintsInfluence source name before out_before out_now
+ShowsOf (Needs words) before out_before out_now status = IsTrue before.told → IsTrue out_now.told → status ≡ Ended → PrintsNeeds words before out_before out_now
 ShowsOf (Trial coordinates) before out_before out_now status = IsTrue before.told → ShowsTrial coordinates out_before out_now status
 ShowsOf command before out_before out_now status = Unit {0}
 

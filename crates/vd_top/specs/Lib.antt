@@ -1,3 +1,6 @@
 pub mod Commands
+pub mod Compiled
 pub mod Headline
 pub mod Hosts
+pub mod Answers
+pub mod Promises

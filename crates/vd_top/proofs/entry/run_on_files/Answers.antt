@@ -1,3 +1,4 @@
+use Rattle.vd_top.proofs.Compiling.{stores}
 use Rattle.vd_top.proofs.Ending.{shows}
 use Rattle.vd_top.proofs.Words.{given, some_outcomes}
 use Rattle.vd_top.specs.Commands.{plan_of, search_of}
@@ -13,4 +14,10 @@ pub returns-clause-shows : goal.returns-clause-shows
 returns-clause-shows g c =
     let s = c.answer_command-came.ensures.answers in
     shows (plan_of some_outcomes (search_of some_outcomes s.0) c.args.command.now) (g.F.Files.view c.args.files.now) _ _ _ _ c.args.command.now c.answer_command-came.result c.finish.result (s.1 some_outcomes)
+    c.finish.ensures c.answer_command-came.ensures.tells
+
+pub returns-clause-stores : goal.returns-clause-stores
+returns-clause-stores g c =
+    let s = c.answer_command-came.ensures.answers in
+    stores (plan_of some_outcomes (search_of some_outcomes s.0) c.args.command.now) (g.F.Files.view c.args.files.now) _ _ _ _ c.args.command.now c.answer_command-came.result c.finish.result (s.1 some_outcomes)
     c.finish.ensures c.answer_command-came.ensures.tells

@@ -1,5 +1,7 @@
 use Rattle.std.proofs.Common.{refl}
 use Rattle.vd_cmd.specs.Commands.{form_of}
+use Rattle.vd_top.proofs.Answering.{within_limits}
+use Rattle.vd_top.proofs.Compiling.{stores_by, stores_nothing}
 use Rattle.vd_top.proofs.Telling.{childless_by, plays_by, plays_nothing, plays_refused, runs_by, runs_nothing, runs_refused, shows_by, shows_nothing, shows_refused, silent_by, spawns_as, spawns_nothing, spawns_refused}
 use Rattle.vd_top.proofs.entry.run_words.Goals as goal
 
@@ -62,3 +64,23 @@ returns-in-Err-Memory-clause-host g c = plays_nothing (g.F.Files.view c.args.fil
 
 pub returns-in-Err-Memory-clause-hosts : goal.returns-in-Err-Memory-clause-hosts
 returns-in-Err-Memory-clause-hosts g c = spawns_nothing (g.F.Files.view c.args.files.now) (g.O.Sink.view c.args.out.now) (g.S.Spawner.view c.args.spawner.now) (form_of c.args.words.now)
+
+pub returns-in-Ok-clause-within : goal.returns-in-Ok-clause-within
+returns-in-Ok-clause-within g c = within_limits c.args.words.now c.in-Ok.command c.run_command.result c.in-Ok.ensures.command c.in-Ok.ensures.limits
+
+pub returns-in-Err-Usage-clause-within : goal.returns-in-Err-Usage-clause-within
+returns-in-Err-Usage-clause-within g c = λ command is e. absurd (cc e)
+
+pub returns-in-Err-Memory-clause-within : goal.returns-in-Err-Memory-clause-within
+returns-in-Err-Memory-clause-within g c = λ command is e. absurd (cc e)
+
+pub returns-in-Ok-clause-stores : goal.returns-in-Ok-clause-stores
+returns-in-Ok-clause-stores g c =
+    stores_by (g.F.Files.view c.args.files.now) (g.F.Files.view c.run_command.new.files) (g.O.Sink.view c.args.out.now) (g.O.Sink.view c.run_command.new.out) c.run_command.result
+    (form_of c.args.words.now) c.in-Ok.command c.in-Ok.ensures.command c.run_command.ensures.stores
+
+pub returns-in-Err-Usage-clause-stores : goal.returns-in-Err-Usage-clause-stores
+returns-in-Err-Usage-clause-stores g c = stores_nothing _ _ _ _ _ (λ e. cc e) (form_of c.args.words.now)
+
+pub returns-in-Err-Memory-clause-stores : goal.returns-in-Err-Memory-clause-stores
+returns-in-Err-Memory-clause-stores g c = stores_nothing _ _ _ _ _ (λ e. cc e) (form_of c.args.words.now)

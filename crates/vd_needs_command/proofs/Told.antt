@@ -1,0 +1,114 @@
+-- What is told of needs.
+use Rattle.std.proofs.Common.{◌≡◌, ℕ, Bool, List, [], Result, Ok, Err, IfOk, refl, sym, ap, ◌∙◌, subst}
+use Rattle.vd_base.specs.Limits.{most_host_file_bytes}
+use Rattle.vd_outside.specs.Files.{FilesView}
+use Rattle.vd_core.specs.declared.normal.NormalForm.{NormalForm}
+use Rattle.vd_core.specs.declared.source.Source.{Source}
+use Rattle.vd_core.specs.Facts.{IsWellMade}
+use Rattle.vd_joint.specs.Outcome.{NumbersFit}
+use Rattle.vd_parser.specs.Outcomes.{IsParse}
+use Rattle.vd_normal.specs.Normal.{normal_form}
+use Rattle.vd_execution.specs.Code.{Code}
+use Rattle.vd_execution.specs.Joint.{Joint, IsTidy, code_of}
+use Rattle.vd_execution.specs.Step.{Source as Listed}
+use Rattle.vd_execution.specs.Text.{IsCodeOf}
+use Rattle.vd_needing.specs.Needs.{counts, takes}
+use Rattle.vd_needing.proofs.ReadOff.{read_off}
+use Rattle.vd_needs.specs.Counted.{code_in}
+use Rattle.vd_host_text.specs.declared.program.HostProgram.{HostProgram}
+use Rattle.vd_hostcode.specs.Outcome.{CanRun, IsOutcome}
+use Rattle.vd_read_back.specs.Stored.{CountsFit}
+use Rattle.vd_enough.specs.Enough.{CanBeSplit, sizes_for}
+use Rattle.vd_enough.proofs.Countable.{code_is, of_can_run}
+use Rattle.vd_enough.proofs.Enough.{sizes_are_enough, sizes_are_least}
+use Rattle.vd_enough.proofs.Made.{deals_have_their_sizes}
+use Rattle.vd_cmd.specs.declared.command.NeedsWords.{NeedsWords}
+use Rattle.vd_plan.specs.Loads.{Loads}
+use Rattle.vd_plan.specs.Plans.{Checks, Computes, ended}
+use Rattle.vd_plan.specs.declared.answer.Answer.{Answer}
+use Rattle.vd_plan.specs.declared.status.Status.{Status}
+use Rattle.vd_plan.specs.declared.status.Status.TheVariants.{Ended, NoAssignment}
+use Rattle.vd_plan.proofs.Finding.{loaded_is}
+use Rattle.vd_frontend.specs.Sources.{IsSourceText, resolved_of}
+use Rattle.vd_compiling.specs.Selected.{IsSelected, no_list}
+use Rattle.vd_compiling.proofs.Runnable.{runnable_of}
+use Rattle.vd_needs_command.specs.Lines.{program_lines}
+use Rattle.vd_needs_command.specs.Needing.{needs_text}
+use Rattle.vd_needs_command.specs.Telling.{IsNeedsOf, IsNeedsOfBytes, IsNeedsOfHost, OfHost, OfSource, TellsBytes, TellsHost, TellsNeeds, TellsProgram, TellsText}
+use Rattle.vd_needs_command.proofs.Reading.{meets}
+
+-- ---- with a list of protocols
+
+module _ (each : Bool) (program : NormalForm) (list : List ℕ) (made : IsWellMade program) (numbers : NumbersFit program) (fit : CountsFit program) (selected : IsSelected program list) where
+  can : CanBeSplit program list
+  can = record { made = made; numbers = numbers; counts = fit; runnable = runnable_of program list made selected }
+
+  pub is_needs : (printed : List ℕ) → printed ≡ needs_text each program list → IsNeedsOf each program printed
+  is_needs printed line = record {
+    list = list;
+    selected = selected;
+    line = line;
+    enough = sizes_are_enough program list can;
+    made = deals_have_their_sizes (sizes_for program list);
+    least = sizes_are_least program list can;
+  }
+
+  pub needs_told : (answer : Answer) (printed : List ℕ) → answer ≡ ended [] printed → printed ≡ needs_text each program list → IsNeedsOf each program answer.printed
+  needs_told answer printed is line = is_needs answer.printed (ap (λ (a : Answer). a.printed) is ∙ line)
+
+-- the answer that prints a text
+pub prints : (answer : Answer) (printed wanted : List ℕ) → answer ≡ ended [] printed → printed ≡ wanted → Computes (ended [] wanted) (Ok answer)
+prints answer printed wanted is same =
+    subst (λ (a : Answer). Computes (ended [] wanted) (Ok a)) (sym (is ∙ ap (λ (t : List ℕ). ended [] t) same)) (record { proper = (tt, refl); no_fault = λ file e. cc e; settled = refl })
+
+-- it is told of, whatever the status
+pub told_then : (words : NeedsWords) (program : NormalForm) (result : Result Answer Status) → IfOk result (λ answer. IsNeedsOf words.each program answer.printed) → TellsProgram words program result
+told_then words program (Ok answer) is = λ e. is
+told_then words program (Err status) is = tt
+
+-- where no list is valid, nothing is told
+pub none_told : (words : NeedsWords) (program : NormalForm) (answer : Answer) → answer ≡ no_list → TellsProgram words program (Ok answer)
+none_told words program answer is = λ e. let wrong : NoAssignment ≡ Ended = sym (ap (λ (a : Answer). a.status) is) ∙ e in absurd (cc wrong)
+
+-- ---- with the text of a source
+
+source_text : (bytes : List ℕ) (tree source : Source) → IsParse bytes (Ok tree) → Checks (resolved_of tree) (Ok source) → IsSourceText source bytes
+source_text bytes tree source parsed checks =
+    let m = meets tree source checks in
+    subst (λ (s : Source). IsSourceText s bytes) m.0 (record { parsed = parsed; meets = m.1 })
+
+pub text_told : (words : NeedsWords) (bytes : List ℕ) (tree source : Source) (result : Result Answer Status) → IsParse bytes (Ok tree) → Checks (resolved_of tree) (Ok source)
+    → TellsProgram words (normal_form source) result → TellsText words bytes result
+text_told words bytes tree source (Ok answer) parsed checks tells = λ e. record { source = source; text = source_text bytes tree source parsed checks; needs = tells e }
+text_told words bytes tree source (Err status) parsed checks tells = tt
+
+-- ---- with the program of a host
+
+host_taken : (program : HostProgram) (j : Joint) (list : Listed) → IsTidy j → IsCodeOf program.code (code_of program.me.0 j) → takes j program.me.0 list ≡ counts (code_in program.code) list
+host_taken program j list tidy is =
+    sym (read_off j program.me.0 list tidy) ∙ ap (λ (c : Code). counts c list) (sym (code_is program.code (code_of program.me.0 j) is))
+
+host_is : (bytes : List ℕ) (program : HostProgram) (printed : List ℕ) → IsOutcome bytes (Ok program) → CanRun program → printed ≡ program_lines program → IsNeedsOfHost bytes printed
+host_is bytes program printed read runs line =
+    record { program = program; read = read; line = line; nested = (of_can_run program runs).nested; taken = host_taken program }
+
+pub host_told : (bytes : List ℕ) (program : HostProgram) (result : Result Answer Status) → IsOutcome bytes (Ok program) → CanRun program → Computes (ended [] (program_lines program)) result
+    → TellsHost bytes result
+host_told bytes program (Ok answer) read runs computes = host_is bytes program answer.printed read runs (ap (λ (a : Answer). a.printed) computes.settled)
+host_told bytes program (Err status) read runs computes = tt
+
+-- ---- with the file
+
+pub of_host_told : (words : NeedsWords) (bytes : List ℕ) (result : Result Answer Status) → TellsHost bytes result → TellsBytes words bytes result
+of_host_told words bytes (Ok answer) tells = λ e. OfHost tells
+of_host_told words bytes (Err status) tells = tt
+
+pub of_text_told : (words : NeedsWords) (bytes : List ℕ) (result : Result Answer Status) → TellsText words bytes result → TellsBytes words bytes result
+of_text_told words bytes (Ok answer) tells = λ e. OfSource (tells e)
+of_text_told words bytes (Err status) tells = tt
+
+pub file_told : (words : NeedsWords) (before now : FilesView) (bytes seen : List ℕ) (result : Result Answer Status) → Loads words.file most_host_file_bytes before now (Ok bytes) → seen ≡ bytes
+    → TellsBytes words seen result → TellsNeeds words before result
+file_told words before now bytes seen (Ok answer) loads same tells = λ t e.
+    loaded_is words.file most_host_file_bytes before now bytes seen (λ b. IsNeedsOfBytes words.each b answer.printed) loads same (tells e) t
+file_told words before now bytes seen (Err status) loads same tells = λ t. tt

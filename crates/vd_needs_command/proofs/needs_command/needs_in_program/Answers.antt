@@ -1,0 +1,29 @@
+use Rattle.std.proofs.Common.{Ok, Err}
+use Rattle.std.proofs.lemmas.Result.{err_from_is_err_and}
+use Rattle.vd_plan.proofs.InSteps.{check_step}
+use Rattle.vd_selecting.specs.Choosing.{GaveUp, searched_by}
+use Rattle.vd_selecting.specs.Problems.{problem_for}
+use Rattle.vd_needs_command.specs.Needing.{problem_plan}
+use Rattle.vd_needs_command.proofs.needs_command.needs_in_program.Goals as goal
+
+pub needs_in_space-requires-clause-problem : goal.needs_in_space-requires-clause-problem
+needs_in_space-requires-clause-problem c = (c.in_ok-space.ensures {u = tt}).least
+
+pub returns-in_err-space-clause-executes : goal.returns-in_err-space-clause-executes
+returns-in_err-space-clause-executes c = (
+  GaveUp,
+  λ certificates choices least files.
+      let p = err_from_is_err_and c.from_residual.result c.from_residual.ensures.1 in
+      rw (p.1, p.2)
+      (check_step (problem_for least c.args.program.now) files (Err c.in_err-space.field-0.0) ((c.in_err-space.ensures {u = tt}).checks least)
+      (problem_plan choices (searched_by certificates choices GaveUp) c.args.words.now c.args.program.now)),
+)
+
+pub returns-clause-executes : goal.returns-clause-executes
+returns-clause-executes c =
+    let s = c.needs_in_space.ensures.executes in (
+      s.0,
+      λ certificates choices least files.
+          check_step (problem_for least c.args.program.now) files (Ok c.in_ok-space.space) ((c.in_ok-space.ensures {u = tt}).checks least)
+          (problem_plan choices (searched_by certificates choices s.0) c.args.words.now c.args.program.now) files _ (s.1 certificates choices files),
+    )

@@ -1,0 +1,57 @@
+-- What a run of `labels`, `certify`, `choose`, `compile` or `deal` has shown, where it ended well.
+use Rattle.std.specs.Prelude.{◌≡◌, ℕ, IsTrue, List, ◌++◌, Some}
+use Rattle.vd_outside.specs.Files.{FilesView}
+use Rattle.vd_outside.specs.Sink.{SinkView}
+use Rattle.vd_deals.specs.declared.deal.Counts.{Counts}
+use Rattle.vd_cmd.specs.Commands.{KeepsLimits, form_of}
+use Rattle.vd_cmd.specs.declared.command.Command.{Command}
+use Rattle.vd_cmd.specs.declared.command.Command.TheVariants.{OnFiles}
+use Rattle.vd_cmd.specs.declared.command.FilesCommand.TheVariants.{Certify, Choose, Compile, Deal, Labels}
+use Rattle.vd_plan.specs.declared.status.Status.{Status}
+use Rattle.vd_plan.specs.declared.status.Status.TheVariants.{Ended}
+use Rattle.vd_answers.specs.Answers.{TellsChoice, TellsCompiled, TellsLabels, TellsProof}
+use Rattle.vd_dealt_files.specs.Dealt.{TellsDeal}
+
+-- the bytes that were added to the output are told so
+pub record Adds (Tells : List ℕ → Type 0) (out_before out_now : SinkView) : Type 0 where
+  pub printed : List ℕ
+  pub added : out_now.taken ≡ out_before.taken ++ printed
+  pub tells : Tells printed
+
+-- Where the words are those of `labels`, and the files and the output tell what they hold, a run with status 0 has printed the least
+-- labelling of the source: a line for each slot.
+abbrev pub KeepsLabels : (words : List (List ℕ)) → FilesView → SinkView → SinkView → Status → Type 0
+KeepsLabels words before out_before out_now status =
+    (source : List ℕ) → form_of words ≡ Some (OnFiles (Labels source)) → IsTrue before.told → IsTrue out_now.told → status ≡ Ended
+    → Adds (TellsLabels source before.contents) out_before out_now
+
+-- Where they are those of `certify`, it has printed what a valid list of protocols costs at least, and some does cost, or that there is
+-- no valid list.
+abbrev pub KeepsProof : (words : List (List ℕ)) → FilesView → SinkView → SinkView → Status → Type 0
+KeepsProof words before out_before out_now status =
+    (source certificate : List ℕ) → form_of words ≡ Some (OnFiles (Certify source certificate)) → IsTrue before.told → IsTrue out_now.told → status ≡ Ended
+    → Adds (TellsProof source before.contents) out_before out_now
+
+-- Where they are those of `choose`, it has printed the valid list of least cost, the first of these in order, with that cost, and of the
+-- files that then stand `certify` prints the same cost.
+abbrev pub KeepsChoice : (words : List (List ℕ)) → FilesView → FilesView → SinkView → SinkView → Status → Type 0
+KeepsChoice words before now out_before out_now status =
+    (source : List ℕ) (budget : ℕ) → form_of words ≡ Some (OnFiles (Choose source budget)) → IsTrue before.told → IsTrue out_now.told → status ≡ Ended
+    → Adds (TellsChoice source before.contents now.contents) out_before out_now
+
+-- Where they are those of `compile`, it has printed that list too, and the file of each host stands: the text of its part of the joint
+-- code at that list.
+abbrev pub KeepsCompiled : (words : List (List ℕ)) → FilesView → FilesView → SinkView → SinkView → Status → Type 0
+KeepsCompiled words before now out_before out_now status =
+    (source prefix : List ℕ) (budget : ℕ) → form_of words ≡ Some (OnFiles (Compile source prefix budget)) → IsTrue before.told → IsTrue out_now.told → status ≡ Ended
+    → Adds (TellsCompiled source prefix before.contents now.contents) out_before out_now
+
+-- Where they are those of `deal`, the files that then stand, read back, are consistent deals of all hosts, and `replay` refuses none.
+abbrev pub KeepsDeal : (words : List (List ℕ)) → FilesView → FilesView → Status → Type 0
+KeepsDeal words before now status =
+    (counts : Counts) (key : ℕ) (prefix : List ℕ) → form_of words ≡ Some (OnFiles (Deal counts key prefix)) → IsTrue before.told → status ≡ Ended
+    → TellsDeal counts prefix now.contents
+
+-- words that are run to their end have numbers within the limits
+abbrev pub AreWithinLimits : (words : List (List ℕ)) → Status → Type 0
+AreWithinLimits words status = (command : Command) → form_of words ≡ Some command → status ≡ Ended → KeepsLimits command
