@@ -1,0 +1,92 @@
+//! What the program does, whatever objects it is given.
+
+ghost use Rattle.std.specs.Prelude.{◌≡◌, ◌≤◌, IfOk, drop, if◌then◌else◌, map, string_bytes};
+ghost use Rattle.std.specs.Process.{exit_status};
+ghost use Rattle.vd_plan.specs.Lines.{Says, code_of, status_line};
+ghost use Rattle.vd_telling.specs.declared.telling.Destination.TheVariants.{File, Terminal};
+ghost use Rattle.viaduct.specs.Program.{IsRun};
+
+use std::alloc::{AllocError, Global};
+use std::process::ExitCode;
+use vd_base::Texts;
+use vd_outside::{Files, Net, Sink, Spawner};
+use vd_plan::{Status, tell};
+use vd_telling::{Destination, say_more};
+use vd_top::start;
+
+/// Copies of texts.
+fn copies(alloc: Global, texts: &[String]) -> Result<Texts, AllocError>
+    ensures { IfOk result (λ list. list ≡ map string_bytes texts.now) }
+{
+    let mut list = Texts::new(alloc);
+    for text in texts {
+        list.push(text.as_str())?;
+    }
+    Ok(list)
+}
+
+/// The words of a command line: all arguments but the first, which names the program.
+pub fn words_of(alloc: Global, arguments: &[String]) -> Result<Texts, AllocError>
+    ensures { IfOk result (λ words. words ≡ map string_bytes (drop 1 arguments.now)) }
+{
+    match arguments {
+        [] => Ok(Texts::new(alloc)),
+        [_program, behind @ ..] => copies(alloc, behind),
+    }
+}
+
+/// Where an error stream goes, by whether a terminal is behind it, and whether colours are wanted there.
+pub fn destination_of(is_terminal: bool, coloured: bool) -> Destination
+    ensures { result ≡ (if is_terminal then Terminal coloured else File) }
+{
+    if is_terminal {
+        Destination::Terminal { coloured }
+    } else {
+        Destination::File
+    }
+}
+
+/// The code with which the process ends after a status.
+fn exit_code(status: &Status) -> ExitCode
+    ensures { exit_status result ≡ code_of status.now }
+{
+    ExitCode::from(status.code())
+}
+
+/// Runs a command line over these objects, and gives the code of its status; where the error stream goes to a terminal, it
+/// then says more of a fault.
+pub fn run_program<F: Files, O: Sink, E: Sink, N: Net, S: Spawner>(
+    alloc: Global,
+    destination: Destination,
+    words: &Texts,
+    files: &mut F,
+    out: &mut O,
+    err: &mut E,
+    net: &mut N,
+    spawner: &mut S,
+) -> ExitCode
+    requires listeners { (N.view net.old).given ≤ 4294967000 }
+    requires children { (S.view spawner.old).given ≤ 4294967000 }
+    ensures { IsRun destination words.now (record {
+      files = (F.view files.old, F.view files.new);
+      out = (O.view out.old, O.view out.new);
+      err = (E.view err.old, E.view err.new);
+      net = (N.view net.old, N.view net.new);
+      spawner = (S.view spawner.old, S.view spawner.new);
+    }) (exit_status result) }
+{
+    let status = start(alloc, words, files, out, err, net, spawner);
+
+    // The line stands: where there is no memory to say more of it, no more is said.
+    let _ = say_more(alloc, destination, words, files, err, &status);
+    exit_code(&status)
+}
+
+/// Says how a run ended that began nothing, and gives the code of that.
+pub fn end<E: Sink>(err: &mut E, status: &Status) -> ExitCode
+    ensures says { Says (status_line status.now) (E.view err.old) (E.view err.new) }
+    ensures ends { exit_status result ≡ code_of status.now }
+{
+    tell(err, status);
+    exit_code(status)
+}
