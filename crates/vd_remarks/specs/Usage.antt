@@ -9,11 +9,13 @@ usage_table =
     ∷ (codes "choose", codes "usage: viaduct choose SOURCE [BUDGET]\n")
     ∷ (codes "certify", codes "usage: viaduct certify SOURCE CERT\n")
     ∷ (codes "compile", codes "usage: viaduct compile SOURCE PREFIX [BUDGET]\n")
+    ∷ (codes "needs", codes "usage: viaduct needs FILE [each] [BUDGET]\n")
     ∷ (codes "deal", codes "usage: viaduct deal HOSTS OWN MULS ANDS PAIRS KEY PREFIX\n")
     ∷ (codes "replay", codes "usage: viaduct replay SOURCE INPUTS PREFIX SCHEDULE [messages] [BUDGET]\n")
     ∷ (codes "host", codes "usage: viaduct host PROGRAM INPUTS DEAL ADDR..\n")
     ∷ (codes "run", codes "usage: viaduct run SOURCE INPUTS PREFIX SELF PORT\n")
     ∷ (codes "depends", codes "usage: viaduct depends SOURCE HOST\n")
+    ∷ (codes "influences", codes "usage: viaduct influences SOURCE HOST\n")
     ∷ (codes "gen", codes "usage: viaduct gen N\n")
     ∷ (codes "trial", codes "usage: viaduct trial N\n")
     ∷ []

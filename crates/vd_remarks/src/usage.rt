@@ -5,7 +5,7 @@ ghost use Rattle.vd_remarks.specs.Usage as usage;
 
 use crate::tables::in_table;
 
-const USAGES: [(&[u8], &[u8]); 12] = [
+const USAGES: [(&[u8], &[u8]); 14] = [
     (b"clear", b"usage: viaduct clear SOURCE INPUTS\n"),
     (b"labels", b"usage: viaduct labels SOURCE\n"),
     (b"choose", b"usage: viaduct choose SOURCE [BUDGET]\n"),
@@ -14,6 +14,7 @@ const USAGES: [(&[u8], &[u8]); 12] = [
         b"compile",
         b"usage: viaduct compile SOURCE PREFIX [BUDGET]\n",
     ),
+    (b"needs", b"usage: viaduct needs FILE [each] [BUDGET]\n"),
     (
         b"deal",
         b"usage: viaduct deal HOSTS OWN MULS ANDS PAIRS KEY PREFIX\n",
@@ -28,6 +29,7 @@ const USAGES: [(&[u8], &[u8]); 12] = [
         b"usage: viaduct run SOURCE INPUTS PREFIX SELF PORT\n",
     ),
     (b"depends", b"usage: viaduct depends SOURCE HOST\n"),
+    (b"influences", b"usage: viaduct influences SOURCE HOST\n"),
     (b"gen", b"usage: viaduct gen N\n"),
     (b"trial", b"usage: viaduct trial N\n"),
 ];
