@@ -1,14 +1,14 @@
 -- By the tables a prefix grows by a choice as it should.
-use Rattle.std.proofs.Common.{◌≡◌, ℕ, ◌<◌, List, [], ◌∷◌, length, sym, subst, arith, ℤ, ◌+ℤ◌, ◌-ℤ◌, FitsSigned, to_z, of_z, w64}
+use Rattle.std.proofs.Common.{◌≡◌, ℕ, ◌<◌, true, List, [], ◌∷◌, length, sym, subst, arith, ℤ, ◌+ℤ◌, ◌-ℤ◌, FitsSigned, to_z, of_z, w64}
 use Rattle.std.proofs.lemmas.Int.{ints}
 use Rattle.std.proofs.lemmas.List.Elements.{All-append, All-cons, All-nil}
 use Rattle.vd_space.specs.declared.problem.Problem.{Problem}
 use Rattle.vd_space.specs.Validity.{protocols}
-use Rattle.vd_space.specs.Growth.{extends}
+use Rattle.vd_space.specs.Growth.{extends, guard_names}
 use Rattle.vd_path.specs.declared.tables.Tables.{Tables}
 use Rattle.vd_path.specs.Steps.{changes}
 use Rattle.vd_path.specs.Guards.{guard_changes}
-use Rattle.vd_path.specs.Naming.{allows}
+use Rattle.vd_path.specs.Naming.{all_at, allows}
 use Rattle.vd_path.specs.Transfers.{IsWithin}
 use Rattle.vd_path.specs.Tables.{low_part, shifted_part, common_part, naming_at, gain_at, AreListed, AreTables, IsStep, GrowsBy}
 
@@ -39,6 +39,9 @@ listed_after problem before choice after step =
 module _ (problem : Problem) (tables : Tables) (before : List ℕ) (choice : ℕ) (after : List ℕ) (are : AreTables problem tables) (step : IsStep problem before choice after) where
   grows : GrowsBy problem tables before choice
   grows = are.grows before choice step.listed step.room step.choice_listed
+
+  pub guards_named : all_at (guard_names (length before)) problem.guards (naming_at tables (length before)).guards ≡ true
+  guards_named = grows.named
 
   pub low_grows : gain_at tables.gains (length before) choice +ℤ changes tables.moves tables.links (naming_at tables (length before)).uses before after ≡ low_part problem after -ℤ low_part problem before
   low_grows = subst (λ list. gain_at tables.gains (length before) choice +ℤ changes tables.moves tables.links (naming_at tables (length before)).uses before list ≡ low_part problem list -ℤ low_part problem before) (sym step.grown) grows.low

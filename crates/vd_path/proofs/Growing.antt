@@ -1,5 +1,7 @@
 -- By the links and tellings of what names a slot, sums of least values grow as they should.
-use Rattle.std.proofs.Common.{◌≡◌, ℕ, Bool, Option, Some, List, [], ◌∷◌, ◌++◌, length, map, filter, ◌&&◌, refl, sym, ap, ap₂, ◌∙◌, arith, ℤ, pos, ◌+ℤ◌, ◌-ℤ◌, slice_get}
+use Rattle.std.proofs.Common.{◌≡◌, ℕ, Bool, true, Option, Some, List, [], ◌∷◌, ◌++◌, length, map, filter, ◌&&◌, refl, sym, ap, ap₂, ◌∙◌, arith, ℤ, pos, ◌+ℤ◌, ◌-ℤ◌, inl, inr, slice_get}
+use Rattle.std.specs.List.{list_all}
+use Rattle.std.proofs.lemmas.Bool.{cases_Bool, cond-true, cond-false}
 use Rattle.std.proofs.lemmas.Int.{ints}
 use Rattle.std.specs.Option.{option_map_or}
 use Rattle.vd_space.specs.declared.problem.Problem.{Problem}
@@ -11,7 +13,7 @@ use Rattle.vd_space.specs.Growth.{pair_names, guard_names, guard_sum, grown, wit
 use Rattle.vd_space.proofs.Growth.{total_grows, same_pair, same_guard}
 use Rattle.vd_path.specs.declared.transfers.Link.{Link}
 use Rattle.vd_path.specs.declared.guards.Telling.{Telling}
-use Rattle.vd_path.specs.Naming.{numbers_from, naming_of, allows}
+use Rattle.vd_path.specs.Naming.{numbers_from, naming_of, all_at, allows}
 use Rattle.vd_path.specs.Steps.{under, change, changes}
 use Rattle.vd_path.specs.Guards.{guard_under, change_of_guard, guard_change, guard_changes}
 use Rattle.vd_path.specs.Tables.{AreListed}
@@ -28,6 +30,17 @@ naming_allows problem prefix choice =
     let guards = all_named (guard_names slot) (guard_told problem after) problem.guards in
     let indexes = all_named (index_names slot) (index_told problem after) problem.indexes in
     λ i. is_candidate problem slot choice && uses i && outputs i && guards i && indexes i
+
+-- and the guards among it name the slot
+passed : {X : Type 0} (test : X → Bool) (xs : List X) → list_all test (filter test xs) ≡ true
+passed test [] = refl
+passed test (x ∷ xs) = elim (cases_Bool (test x)) [
+  | inl passes ↦ ap (list_all test) (cond-true (test x) (x ∷ filter test xs) (filter test xs) passes) ∙ ap₂ (λ a b. a && b) passes (passed test xs)
+  | inr fails ↦ ap (list_all test) (cond-false (test x) (x ∷ filter test xs) (filter test xs) fails) ∙ passed test xs
+]
+
+pub naming_named : (problem : Problem) (slot : ℕ) → all_at (guard_names slot) problem.guards (naming_of problem slot).guards ≡ true
+naming_named problem slot = all_named (guard_names slot) (guard_names slot) problem.guards ∙ passed (guard_names slot) problem.guards
 
 module _ (problem : Problem) (prefix : List ℕ) (choice : ℕ) (listed : AreListed problem prefix) (listed_after : AreListed problem (with_choice prefix choice)) where
   -- links of terms of two slots, each made of an item

@@ -7,3 +7,4 @@ pub mod Greater
 pub mod Numbering
 pub mod Placed
 pub mod Growing
+pub mod Joined

@@ -1,11 +1,12 @@
 -- What it costs to tell guards to the hosts that take part, read off tables.
-use Rattle.std.specs.Prelude.{ℕ, Option, IfSome, if◌then◌else◌, slice_get, slice_index_or, List, [], length, ℤ, pos, ◌-ℤ◌}
+use Rattle.std.specs.Prelude.{ℕ, Bool, ◌&&◌, not, Option, IfSome, if◌then◌else◌, slice_get, slice_index_or, List, [], length, ℤ, pos, ◌-ℤ◌}
 use Rattle.std.specs.List.{range_with_len}
 use Rattle.std.specs.Option.{option_map_or}
+use Rattle.vd_base.specs.declared.ids.HostId.{HostId}
 use Rattle.vd_base.specs.HostSets.{host}
 use Rattle.vd_space.specs.declared.problem.Problem.{Problem}
 use Rattle.vd_space.specs.declared.problem.Guard.{Guard}
-use Rattle.vd_space.specs.Validity.{takes_part}
+use Rattle.vd_space.specs.Validity.{holds_at, takes_part}
 use Rattle.vd_space.specs.Costs.{total}
 use Rattle.vd_path.specs.declared.guards.Telling.{Telling}
 use Rattle.vd_path.specs.Transfers.{IsWithin}
@@ -19,6 +20,16 @@ told_if problem prefix guard t h = if takes_part problem prefix guard (host h) t
 
 abbrev pub guard_under : Problem → List ℕ → Guard → Telling → ℤ
 guard_under problem prefix guard t = total (told_if problem prefix guard t) (range_with_len 0 (length problem.hosts))
+
+-- the host holds what stands at p, and takes no part before
+abbrev pub is_joining : Problem → List ℕ → Guard → ℕ → HostId → Bool
+is_joining problem prefix guard p h = holds_at problem h p && not (takes_part problem prefix guard h)
+
+abbrev pub joined_if : Problem → List ℕ → Guard → Telling → ℕ → ℕ → ℤ
+joined_if problem prefix guard t p h = if is_joining problem prefix guard p (host h) then told_under t prefix h else pos 0
+
+abbrev pub joined_under : Problem → List ℕ → Guard → Telling → ℕ → ℤ
+joined_under problem prefix guard t p = total (joined_if problem prefix guard t p) (range_with_len 0 (length problem.hosts))
 
 -- from a prefix to another, of a guard by its number
 abbrev pub change_of_guard : Problem → List ℕ → List ℕ → Guard → Option Telling → ℤ

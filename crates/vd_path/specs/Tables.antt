@@ -5,14 +5,14 @@ use Rattle.vd_space.specs.declared.problem.Problem.{Problem}
 use Rattle.vd_space.specs.Validity.{protocols, is_valid}
 use Rattle.vd_space.specs.Costs.{total, use_term, index_term, ones, guards_total}
 use Rattle.vd_space.specs.Bounds.{least_one, least_pair, shifted_ones, shifted_uses}
-use Rattle.vd_space.specs.Growth.{extends, with_choice}
+use Rattle.vd_space.specs.Growth.{extends, guard_names, with_choice}
 use Rattle.vd_path.specs.declared.naming.Naming.{Naming}
 use Rattle.vd_path.specs.declared.tables.Tables.{Tables}
 use Rattle.vd_path.specs.declared.tables.Sums.{Sums}
 use Rattle.vd_path.specs.Transfers.{ArePrices, IsWithin}
 use Rattle.vd_path.specs.Steps.{AreLinks, changes}
 use Rattle.vd_path.specs.Guards.{AreTellings, guard_changes}
-use Rattle.vd_path.specs.Naming.{allows}
+use Rattle.vd_path.specs.Naming.{all_at, allows}
 
 -- ---- the parts of the bounds
 
@@ -51,6 +51,7 @@ AreListed problem prefix = All (λ p. p < length (protocols problem)) prefix
 
 -- by the tables, a prefix grows by a choice as it should
 pub record GrowsBy (problem : Problem) (tables : Tables) (prefix : List ℕ) (choice : ℕ) : Type 0 where
+  pub named : all_at (guard_names (length prefix)) problem.guards (naming_at tables (length prefix)).guards ≡ true
   pub allowed : allows problem (naming_at tables (length prefix)) (length prefix) choice (with_choice prefix choice) ≡ extends problem prefix choice
   pub low : gain_at tables.gains (length prefix) choice +ℤ changes tables.moves tables.links (naming_at tables (length prefix)).uses prefix (with_choice prefix choice)
       ≡ low_part problem (with_choice prefix choice) -ℤ low_part problem prefix

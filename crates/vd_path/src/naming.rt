@@ -4,13 +4,15 @@ ghost use Rattle.std.specs.Prelude.{◌≡◌, ◌&&◌, true, slice_get, slice_
 ghost use Rattle.std.specs.List.{list_all};
 ghost use Rattle.std.specs.Option.{option_map_or};
 ghost use Rattle.vd_path.specs.Naming.{all_at, allows};
+ghost use Rattle.vd_space.specs.Growth.{guard_names, with_choice};
 ghost use Rattle.vd_space.specs.Labelled.{IsLabelled};
-ghost use Rattle.vd_space.specs.Validity.{guard_told, index_told, is_candidate, output_joins, protocols, use_joins};
+ghost use Rattle.vd_space.specs.Validity.{guard_told, index_told, is_candidate, is_valid, output_joins, protocols, use_joins};
 
 use vd_base::Proto;
 use vd_items::Items;
 use vd_space::{
-    Problem, is_candidate_at, is_guard_told, is_index_told, output_can_move, use_can_move,
+    Guard, Problem, are_holders_told, is_candidate_at, is_guard_told, is_index_told,
+    output_can_move, use_can_move,
 };
 
 /// The numbers of the uses, outputs, guards and indexes that name a slot.
@@ -22,24 +24,34 @@ pub struct Naming {
     pub indexes: Items<u32>,
 }
 
-/// Whether what names a slot allows that it stands at a place, where `prefix` ends with this choice.
+/// Whether what names the slot behind a valid prefix allows a choice for it, which makes one prefix of the other.
 pub fn is_allowed(
     problem: &Problem,
     list: &[Proto],
     naming: &Naming,
-    slot: usize,
     choice: u32,
-    prefix: &[u32],
+    before: &[u32],
+    after: &[u32],
 ) -> bool
     requires list { list.now ≡ protocols problem.now }
     requires labelled { IsLabelled problem.now }
-    ensures { result ≡ allows problem.now naming.now slot choice prefix.now }
+    requires grown { after.now ≡ with_choice before.now choice }
+    requires valid { is_valid problem.now before.now ≡ true }
+    requires named { all_at (guard_names (length before.now)) problem.now.guards naming.now.guards ≡ true }
+    ensures { result ≡ allows problem.now naming.now (length before.now) choice after.now }
 {
-    can_choose(problem, list, slot, choice)
-        && do_uses_join(problem, list, prefix, naming.uses.as_slice())
-        && do_outputs_join(problem, list, prefix, naming.outputs.as_slice())
-        && are_guards_told(problem, list, prefix, naming.guards.as_slice())
-        && are_indexes_told(problem, list, prefix, naming.indexes.as_slice())
+    can_choose(problem, list, before.len(), choice)
+        && do_uses_join(problem, list, after, naming.uses.as_slice())
+        && do_outputs_join(problem, list, after, naming.outputs.as_slice())
+        && are_guards_told(
+            problem,
+            list,
+            naming.guards.as_slice(),
+            choice,
+            before,
+            after,
+        )
+        && are_indexes_told(problem, list, after, naming.indexes.as_slice())
 }
 
 /// Whether the place is a candidate of the slot.
@@ -99,27 +111,71 @@ fn does_output_join(problem: &Problem, list: &[Proto], prefix: &[u32], number: u
     }
 }
 
-fn are_guards_told(problem: &Problem, list: &[Proto], prefix: &[u32], numbers: &[u32]) -> bool
+fn are_guards_told(
+    problem: &Problem,
+    list: &[Proto],
+    numbers: &[u32],
+    choice: u32,
+    before: &[u32],
+    after: &[u32],
+) -> bool
     requires list { list.now ≡ protocols problem.now }
     requires labelled { IsLabelled problem.now }
-    ensures { result ≡ all_at (guard_told problem.now prefix.now) problem.now.guards numbers.now }
+    requires grown { after.now ≡ with_choice before.now choice }
+    requires valid { is_valid problem.now before.now ≡ true }
+    requires named { all_at (guard_names (length before.now)) problem.now.guards numbers.now ≡ true }
+    ensures { result ≡ all_at (guard_told problem.now after.now) problem.now.guards numbers.now }
 {
     for number in numbers {
-        if !is_guard_told_at(problem, list, prefix, *number) {
+        if !is_guard_told_at(problem, list, *number, choice, before, after) {
             return false;
         }
     }
     true
 }
 
-fn is_guard_told_at(problem: &Problem, list: &[Proto], prefix: &[u32], number: u32) -> bool
+fn is_guard_told_at(
+    problem: &Problem,
+    list: &[Proto],
+    number: u32,
+    choice: u32,
+    before: &[u32],
+    after: &[u32],
+) -> bool
     requires list { list.now ≡ protocols problem.now }
     requires labelled { IsLabelled problem.now }
-    ensures { result ≡ option_map_or (guard_told problem.now prefix.now) (slice_get problem.now.guards number) true }
+    requires grown { after.now ≡ with_choice before.now choice }
+    requires valid { is_valid problem.now before.now ≡ true }
+    requires named { option_map_or (guard_names (length before.now)) (slice_get problem.now.guards number) true ≡ true }
+    ensures { result ≡ option_map_or (guard_told problem.now after.now) (slice_get problem.now.guards number) true }
 {
     match problem.guards.as_slice().get(number as usize) {
-        Some(guard) => is_guard_told(problem, list, prefix, guard),
+        Some(guard) => is_guard_still_told(problem, list, guard, choice, before, after),
         None => true,
+    }
+}
+
+/// Whether a guard that was told to all hosts that took part is told to all that take part with a choice more: where the slot
+/// is not the guard's own, to those of the choice.
+fn is_guard_still_told(
+    problem: &Problem,
+    list: &[Proto],
+    guard: &Guard,
+    choice: u32,
+    before: &[u32],
+    after: &[u32],
+) -> bool
+    requires list { list.now ≡ protocols problem.now }
+    requires labelled { IsLabelled problem.now }
+    requires grown { after.now ≡ with_choice before.now choice }
+    requires told { guard_told problem.now before.now guard.now ≡ true }
+    requires named { guard_names (length before.now) guard.now ≡ true }
+    ensures { result ≡ guard_told problem.now after.now guard.now }
+{
+    if usize::from(guard.slot.0) == before.len() {
+        is_guard_told(problem, list, after, guard)
+    } else {
+        are_holders_told(problem, list, after, guard.slot, choice)
     }
 }
 

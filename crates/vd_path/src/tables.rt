@@ -1,9 +1,10 @@
 //! The tables by which the bound of a prefix grows with a further choice.
 
-ghost use Rattle.std.specs.Prelude.{◌≡◌, ◌<◌, [], length, slice_index_or, pos};
+ghost use Rattle.std.specs.Prelude.{◌≡◌, ◌<◌, [], length, slice_index_or, pos, true};
 ghost use Rattle.vd_path.specs.Tables.{AreSumsOf, AreTables, IsStep, common_part, gain_at, low_part, naming_at, shifted_part};
 ghost use Rattle.vd_space.specs.Growth.{extends};
 ghost use Rattle.vd_space.specs.Labelled.{IsLabelled};
+ghost use Rattle.vd_space.specs.Validity.{is_valid};
 
 use crate::guards::{Telling, growth_of_guards};
 use crate::naming::{Naming, is_allowed};
@@ -147,6 +148,7 @@ fn grown_common(
         tables.list.as_slice(),
         tables.tellings.as_slice(),
         naming.guards.as_slice(),
+        choice,
         before,
         after,
     );
@@ -175,7 +177,7 @@ pub fn grown(
     }
 }
 
-/// Whether what names the slot allows the choice, by which a prefix grows.
+/// Whether what names the slot allows the choice, by which a valid prefix grows.
 pub fn can_grow(
     problem: &Problem,
     tables: &Tables,
@@ -186,9 +188,16 @@ pub fn can_grow(
     requires tables { AreTables problem.now tables.now }
     requires labelled { IsLabelled problem.now }
     requires step { IsStep problem.now before.now choice after.now }
+    requires valid { is_valid problem.now before.now ≡ true }
     ensures { result ≡ extends problem.now before.now choice }
 {
-    let slot = before.len();
-    let naming = naming_of(tables, slot);
-    is_allowed(problem, tables.list.as_slice(), naming, slot, choice, after)
+    let naming = naming_of(tables, before.len());
+    is_allowed(
+        problem,
+        tables.list.as_slice(),
+        naming,
+        choice,
+        before,
+        after,
+    )
 }
