@@ -21,12 +21,12 @@ use Rattle.vd_space.proofs.Totals.{total_map}
 use Rattle.vd_path.specs.declared.naming.Naming.{Naming}
 use Rattle.vd_path.specs.declared.tables.Tables.{Tables}
 use Rattle.vd_path.specs.declared.transfers.Link.{Link}
-use Rattle.vd_path.specs.Naming.{naming_of, numbers_from, allows}
+use Rattle.vd_path.specs.Naming.{naming_of, numbers_from, all_at, allows}
 use Rattle.vd_path.specs.Steps.{changes}
 use Rattle.vd_path.specs.Guards.{guard_changes, AreTellings}
 use Rattle.vd_path.specs.Tables.{AreListed, AreTables, AreSmallAt, IsFew, GrowsBy, gain_at, naming_at, no_naming, low_part, shifted_part, common_part}
 use Rattle.vd_path.specs.Transfers.{IsWithin, by_place}
-use Rattle.vd_path.proofs.Growing.{naming_allows, links_grow, guards_grow}
+use Rattle.vd_path.proofs.Growing.{naming_allows, naming_named, links_grow, guards_grow}
 use Rattle.vd_path.proofs.Numbering.{numbered, unnumbered, shifted_numbered}
 use Rattle.vd_path.proofs.Placed.{at_place, size_by_place}
 use Rattle.vd_links.specs.Links.{AreLinksOf}
@@ -222,6 +222,7 @@ module _ (problem : Problem) (labelled : IsLabelled problem) (limits : IsWithinL
 
     grows : GrowsBy problem tables prefix choice
     grows = record {
+      named = ap (λ (n : Naming). all_at (guard_names slot) problem.guards n.guards) (naming_is slot room) ∙ naming_named problem slot;
       allowed = ap (λ naming. allows problem naming slot choice after) (naming_is slot room) ∙ naming_allows problem prefix choice;
       low = low_grows;
       shifted = shifted_grows;
