@@ -1,9 +1,11 @@
 -- A path after a choice more, and with its last choice given back.
-use Rattle.std.proofs.Common.{◌≡◌, ℕ, ◌+◌, ◌-◌, ◌<◌, ◌≤◌, Option, List, [], ◌∷◌, ◌++◌, length, take, set, get_or, get_or-set_same, sym, ap, ap₂, ◌∙◌, subst, arith, length-set}
+use Rattle.std.proofs.Common.{◌≡◌, ℕ, ◌+◌, ◌-◌, ◌<◌, ◌≤◌, Bool, true, false, cond, Option, List, [], ◌∷◌, ◌++◌, length, take, set, get_or, get_or-set_same, sym, ap, ap₂, ◌∙◌, subst, arith, inl, inr, length-set}
+use Rattle.std.specs.Prelude.{IsTrue, nat_lt}
+use Rattle.std.proofs.lemmas.Bool.{cases_eq, true≢false, ltb-false}
 use Rattle.std.proofs.lemmas.List.{take-set-le, take_more, take-take}
 use Rattle.std.proofs.lemmas.List.Elements.{All-append, All-cons, All-nil, All-take}
 use Rattle.vd_space.specs.declared.problem.Problem.{Problem}
-use Rattle.vd_space.specs.Validity.{protocols}
+use Rattle.vd_space.specs.Validity.{protocols, is_valid}
 use Rattle.vd_path.specs.Tables.{AreListed}
 use Rattle.vd_linked_path.specs.States.{states_of}
 use Rattle.vd_linked_path.specs.Tables.{IsLinkedPath}
@@ -21,25 +23,73 @@ last_of room made some low =
     ap (λ n. take n room) same ∙ take_more room (made - 1) 0 (omega (arith, some, low))
 
 module _ (problem : Problem) where
-  pub entered : (room new : List ℕ) (states next : List (Option ℕ)) (made choice : ℕ) → IsLinkedPath problem room states made → made < length problem.slots → choice < length (protocols problem)
-      → new ≡ set room made choice → next ≡ states_of problem (take (made + 1) new) → IsLinkedPath problem new next (made + 1)
-  entered room new states next made choice is low listed written decided =
-      let size = is.room in
-      let more : take (made + 1) new ≡ take made room ++ choice ∷ [] = ap (take (made + 1)) written ∙ with_more room made choice (omega (arith, size, low)) in
-      record {
-        room = ap length written ∙ length-set room made choice ∙ is.room;
-        depth = omega (arith, low);
-        listed = subst (AreListed problem) (sym more)
-            (All-append (λ p. p < length (protocols problem)) (take made room) (choice ∷ []) is.listed (All-cons (λ p. p < length (protocols problem)) choice [] listed (All-nil (λ p. p < length (protocols problem)))));
-        states = decided;
-      }
+  pub entered : (room new : List ℕ) (states next : List (Option ℕ)) (made told now choice : ℕ) (wanted : Bool) → IsLinkedPath problem room states made told → made < length problem.slots → choice < length (protocols problem)
+      → new ≡ set room made choice → wanted ≡ is_valid problem (take (made + 1) new) → next ≡ cond wanted (states_of problem (take (made + 1) new)) states → now ≡ cond wanted (made + 1) told → IsLinkedPath problem new next (made + 1) now
+  entered room new states next made told now choice wanted is low listed written valid decided counted = record {
+    room = ap length written ∙ length-set room made choice ∙ is.room;
+    depth = omega (arith, low);
+    listed = subst (AreListed problem) (sym more)
+        (All-append (λ p. p < length (protocols problem)) (take made room) (choice ∷ []) is.listed (All-cons (λ p. p < length (protocols problem)) choice [] listed (All-nil (λ p. p < length (protocols problem)))));
+    within = known_within wanted counted;
+    states = known wanted decided counted;
+    valid = λ k within is_true. reached wanted valid counted k within is_true;
+  }
+    where
+      size : length room ≡ length problem.slots
+      size = is.room
 
-  pub left : (room : List ℕ) (states next : List (Option ℕ)) (made : ℕ) → IsLinkedPath problem room states made → next ≡ states_of problem (take (made - 1) room) → IsLinkedPath problem room next (made - 1)
-  left room states next made is decided =
+      more : take (made + 1) new ≡ take made room ++ choice ∷ []
+      more = ap (take (made + 1)) written ∙ with_more room made choice (omega (arith, size, low))
+
+      before : (k : ℕ) → k ≤ made → take k new ≡ take k room
+      before k within = ap (take k) written ∙ take-set-le k room made choice within
+
+      known_within : (b : Bool) → now ≡ cond b (made + 1) told → now ≤ made + 1
+      known_within true count = omega (arith, count)
+      known_within false count = let le = is.within in omega (arith, count, le)
+
+      known : (b : Bool) → next ≡ cond b (states_of problem (take (made + 1) new)) states → now ≡ cond b (made + 1) told → next ≡ states_of problem (take now new)
+      known true them count = them ∙ ap (λ n. states_of problem (take n new)) (sym count)
+      known false them count = them ∙ is.states ∙ ap (states_of problem) (sym (before told is.within)) ∙ ap (λ n. states_of problem (take n new)) (sym count)
+
+      reached : (b : Bool) → b ≡ is_valid problem (take (made + 1) new) → now ≡ cond b (made + 1) told → (k : ℕ) → k ≤ made + 1 → IsTrue (is_valid problem (take k new)) → k ≤ now
+      reached true same count k within is_true = omega (arith, count, within)
+      reached false same count k within is_true = elim (cases_eq k (made + 1)) [
+        | inl last ↦ absurd (true≢false (sym (same ∙ ap (λ n. is_valid problem (take n new)) (sym last) ∙ is_true)))
+        | inr other ↦
+            let le = is.valid k (omega (arith, within, other)) (subst (λ l. IsTrue (is_valid problem l)) (before k (omega (arith, within, other))) is_true) in
+            omega (arith, count, le)
+      ]
+
+  pub left : (room : List ℕ) (states next : List (Option ℕ)) (made told now : ℕ) (wanted : Bool) → IsLinkedPath problem room states made told → wanted ≡ nat_lt (made - 1) told
+      → next ≡ cond wanted (states_of problem (take (made - 1) room)) states → now ≡ cond wanted (made - 1) told → IsLinkedPath problem room next (made - 1) now
+  left room states next made told now wanted is more decided counted =
       let deep = is.depth in
       record {
         room = is.room;
         depth = omega (arith, deep);
         listed = subst (AreListed problem) (take-take (made - 1) made room (omega arith)) (All-take (λ p. p < length (protocols problem)) (made - 1) (take made room) is.listed);
-        states = decided;
+        within = known_within wanted more counted;
+        states = known wanted decided counted;
+        valid = λ k within is_true. reached wanted counted k within (is.valid k (omega (arith, within)) is_true);
       }
+    where
+      known_within : (b : Bool) → b ≡ nat_lt (made - 1) told → now ≡ cond b (made - 1) told → now ≤ made - 1
+      known_within true same count = omega (arith, count)
+      known_within false same count = let le = ltb-false (made - 1) told (sym same) in omega (arith, count, le)
+
+      known : (b : Bool) → next ≡ cond b (states_of problem (take (made - 1) room)) states → now ≡ cond b (made - 1) told → next ≡ states_of problem (take now room)
+      known true them count = them ∙ ap (λ n. states_of problem (take n room)) (sym count)
+      known false them count = them ∙ is.states ∙ ap (λ n. states_of problem (take n room)) (sym count)
+
+      reached : (b : Bool) → now ≡ cond b (made - 1) told → (k : ℕ) → k ≤ made - 1 → k ≤ told → k ≤ now
+      reached true count k within le = omega (arith, count, within)
+      reached false count k within le = omega (arith, count, le)
+
+  -- where the prefix is valid, all choices are told
+  pub all_told : (room : List ℕ) (states : List (Option ℕ)) (made told : ℕ) → IsLinkedPath problem room states made told → IsTrue (is_valid problem (take made room)) → states ≡ states_of problem (take made room)
+  all_told room states made told is valid =
+      let low = is.valid made (omega arith) valid in
+      let high = is.within in
+      let same : told ≡ made = omega (arith, low, high) in
+      is.states ∙ ap (λ n. states_of problem (take n room)) same

@@ -10,7 +10,7 @@ ghost use Rattle.vd_space.specs.Spaces.{IsProblem, tree_of};
 ghost use Rattle.vd_space.specs.Validity.{protocols};
 
 use crate::made::LinkedTables;
-use crate::states::{decide, undecided};
+use crate::states::{decide, decide_if, undecided};
 use crate::sums::sum_of_parts;
 use crate::units::whole_units;
 use std::alloc::{AllocError, Global};
@@ -30,17 +30,19 @@ pub struct LinkedPath<'a> {
     path: Path<'a>,
     /// The choices, of which the first are made.
     room: Items<u32>,
-    /// What they decide of each point.
+    /// What the first of them decide of each point.
     states: Items<Option<u32>>,
     /// How many choices are made.
     depth: usize,
+    /// So many of them: all, where the prefix is valid.
+    told: usize,
     ghost holds: { IsProblem problem.now } by { Prim.hlevel props },
     ghost tabled: { AreTables problem.now tables.now } by { Prim.hlevel props },
     ghost linkable: { AreLinkedTables problem.now linked.now } by { Prim.hlevel props },
     ghost plain: { tables.now.shifts ≡ [] } by { Prim.hlevel props },
     ghost same_tree: { tree_of path.problem.now path.tables.now.shifts ≡ tree_of problem.now [] } by { Prim.hlevel props },
     ghost same_prefix: { take path.depth path.room ≡ take depth room } by { Prim.hlevel props },
-    ghost kept: { IsLinkedPath problem.now room states depth } by { Prim.hlevel props },
+    ghost kept: { IsLinkedPath problem.now room states depth told } by { Prim.hlevel props },
 }
 
 impl<'a> Prefixes for LinkedPath<'a> {
@@ -77,24 +79,28 @@ impl<'a> Prefixes for LinkedPath<'a> {
         self.path.enter(choice);
         self.room.set(self.depth, choice);
         self.depth += 1;
-        decide(
+        self.told = decide_if(
+            self.path.is_valid(),
             &mut self.states,
             self.problem,
             self.tables.list.as_slice(),
             self.linked.switches.as_slice(),
             &self.room.as_slice()[..self.depth],
+            self.told,
         );
     }
 
     fn leave(&mut self) {
         self.path.leave();
         self.depth -= 1;
-        decide(
+        self.told = decide_if(
+            self.told > self.depth,
             &mut self.states,
             self.problem,
             self.tables.list.as_slice(),
             self.linked.switches.as_slice(),
             &self.room.as_slice()[..self.depth],
+            self.told,
         );
     }
 }
@@ -127,6 +133,7 @@ impl<'a> LinkedPath<'a> {
             room: no_choices(alloc, problem.slots.as_slice().len())?,
             states,
             depth: 0,
+            told: 0,
         })
     }
 }
