@@ -1,0 +1,4 @@
+pub mod Classes
+pub mod Tags
+pub mod Documents
+pub mod Escapes
