@@ -1,0 +1,4 @@
+pub mod Terms
+pub mod Sums
+pub mod Taking
+pub mod Blocks

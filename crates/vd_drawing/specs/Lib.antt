@@ -1,0 +1,6 @@
+pub mod Lines
+pub mod Texts
+pub mod Moves
+pub mod Rows
+pub mod Parts
+pub mod Costs
