@@ -1,0 +1,3 @@
+pub mod Strangers
+pub mod Short
+pub mod Excused
