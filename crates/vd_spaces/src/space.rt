@@ -92,7 +92,7 @@ impl Space {
         self.problem().uses.as_slice().len() as u32
     }
 
-    /// Whether a list of protocols for the first slots is valid. What the slots behind it would have to meet is left out.
+    /// Whether a list of protocols for the first slots is valid. Of the slots behind it only that each has a candidate is asked.
     pub fn prefix_valid(&self, prefix: &[Proto]) -> bool
         ensures { result ≡ is_valid self.now (places_in self.now prefix.now) }
     {
