@@ -1,6 +1,6 @@
 //! The remark on a program for which no choice of protocols is valid.
 
-ghost use Rattle.std.specs.Prelude.{◌≡◌, ◌<◌, IfOk, length};
+ghost use Rattle.std.specs.Prelude.{◌≡◌, IfOk};
 ghost use Rattle.vd_choice_sentences.specs.Remarks as remarks;
 ghost use Rattle.vd_space.specs.Labelled.{IsLabelled};
 ghost use Rattle.vd_space.specs.Validity.{protocols};
@@ -35,7 +35,6 @@ fn remark_on(
     list: &[Proto],
 ) -> Result<Remark, AllocError>
     requires list { list.now ≡ protocols problem.now }
-    requires few { length list.now < 256 }
     requires labelled { IsLabelled problem.now }
     ensures { IfOk result (remarks.IsNoAssignmentRemark form.now problem.now) }
 {
