@@ -1,6 +1,8 @@
 -- Generated sources are sources.
-use Rattle.std.specs.Prelude.{◌≡◌, ℕ, ◌≤◌, List, Ok}
+use Rattle.std.specs.Prelude.{◌≡◌, ℕ, ◌+◌, ◌*◌, ◌≤◌, List, Ok}
 use Rattle.vd_core.specs.declared.source.Source.{Source}
+use Rattle.vd_core.specs.Facts.{weight_sum}
+use Rattle.vd_normal.specs.Normal.{normal_form}
 use Rattle.vd_gen.specs.Sizes.{most_coordinates}
 use Rattle.vd_gen.specs.Source.{generated}
 use Rattle.vd_frontend.specs.Outcomes.{TextOutcomes}
@@ -14,6 +16,8 @@ AtEachSize P = (coordinates : ℕ) → 1 ≤ coordinates → coordinates ≤ mos
 pub record GivesSource (coordinates : ℕ) : Type 0 where
   pub source : Source
   pub text : IsSourceText source (generated coordinates)
+  -- the statements of its let-normal form are executed at most five times for each coordinate, and five times more
+  pub executed : weight_sum (normal_form source).body ≤ 5 * coordinates + 5
 
 -- Read as the text of a file of this name, it gives a tree and no refusal, and the tree meets every rule.
 pub record IsRead (texts : TextOutcomes) (name : List ℕ) (coordinates : ℕ) : Type 0 where

@@ -6,7 +6,8 @@ ghost use Rattle.vd_frontend.specs.Outcomes.{TextOutcomes};
 ghost use Rattle.vd_generated.specs.Claims.{AtEachSize, GivesSource, IsRead};
 
 /// The text that is generated for 1 to 100 coordinates is that of a source: it has tokens and one tree, no bracket is too deep, and
-/// no byte is too many. The source meets every rule on names, kinds and limits.
+/// no byte is too many. The source meets every rule on names, kinds and limits. The statements of its let-normal form are executed at
+/// most five times for each coordinate, and five times more.
 pub fn generated_texts_are_sources()
     ensures { AtEachSize GivesSource }
 {}
