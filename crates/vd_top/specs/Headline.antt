@@ -83,19 +83,19 @@ KeepsNeeds words before out_before out_now status =
     (needs : NeedsWords) → form_of words ≡ Some (OnFiles (Needs needs)) → IsTrue before.told → IsTrue out_now.told → status ≡ Ended
     → PrintsNeeds needs before out_before out_now
 
--- the bytes that were added are the cost of the choice for the generated source, and the report of its run
+-- the bytes that were added are the cost of the choice for the generated source, and the report of its run, in which all hosts end
 pub record PrintsTrial (coordinates : ℕ) (out_before out_now : SinkView) : Type 0 where
   pub printed : List ℕ
   pub added : out_now.taken ≡ out_before.taken ++ printed
   pub trial : IsTrial coordinates printed
 
 -- The status is one with which a trial ends, so never a refusal of its source for its text, names, kinds or limits. With status 0,
--- where the output tells what it holds, the cost was printed and the report.
+-- where the output tells what it holds, the cost was printed and the report, by which all hosts have ended.
 abbrev pub ShowsTrial : (coordinates : ℕ) → SinkView → SinkView → Status → Type 0
 ShowsTrial coordinates out_before out_now status = EndsTrial status × (IsTrue out_now.told → status ≡ Ended → PrintsTrial coordinates out_before out_now)
 
 -- Where the words are those of `trial`, and the files tell what they hold, the source with this many coordinates is not refused, and
--- a run with status 0 has printed the cost of the choice of protocols for it, and the report of a run of it.
+-- a run with status 0 has printed the cost of the choice of protocols for it, and the report of a run of it in which all hosts end.
 abbrev pub KeepsTrial : (words : List (List ℕ)) → FilesView → SinkView → SinkView → Status → Type 0
 KeepsTrial words before out_before out_now status =
     (coordinates : ℕ) → form_of words ≡ Some (OnFiles (Trial coordinates)) → IsTrue before.told → ShowsTrial coordinates out_before out_now status

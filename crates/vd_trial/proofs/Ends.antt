@@ -1,5 +1,5 @@
 -- How a trial ends: its source is read and meets every rule, so what is left to be refused is what comes of its program.
-use Rattle.std.proofs.Common.{◌≡◌, ℕ, ◌≤◌, Bool, true, false, if◌then◌else◌, Option, Some, None, List, [], length, Result, Ok, Err, IfErr, refl, sym, ap, ◌∙◌, subst, arith}
+use Rattle.std.proofs.Common.{◌≡◌, ℕ, ◌≤◌, Bool, true, false, if◌then◌else◌, Option, Some, None, List, [], Result, Ok, Err, IfErr, refl, sym, ap, ◌∙◌, subst, arith}
 use Rattle.std.specs.Prelude.{nat_lt}
 use Rattle.vd_base.specs.Limits.{most_search_budget}
 use Rattle.vd_outside.specs.Files.{FilesView, Contents}
@@ -25,9 +25,8 @@ use Rattle.vd_selecting.specs.Choosing.{Searched, GaveUp, Certified, is_accepted
 use Rattle.vd_selecting.specs.Outcomes.{CertificateOutcomes}
 use Rattle.vd_selecting.specs.Problems.{as_problem, problem_for}
 use Rattle.vd_selecting.proofs.Reading.{some_certificates}
-use Rattle.vd_asking.specs.declared.asked.Asked.{Asked}
 use Rattle.vd_trial.specs.Telling.{AnswersTrial, EndsTrial}
-use Rattle.vd_trial.specs.Trial.{ExecutesTrial, choice_plan, problem_plan, program_plan, source_plan, trial_asked, trial_plan}
+use Rattle.vd_trial.specs.Trial.{ExecutesTrial, choice_plan, problem_plan, program_plan, source_plan, trial_plan}
 
 -- ---- plans
 
@@ -64,18 +63,17 @@ search_ends : (certificates : CertificateOutcomes) (choices : ChoiceOutcomes) (s
 search_ends certificates choices GaveUp problem budget = spent_ends budget (nat_lt budget (needed problem (choices.choose problem)))
 search_ends certificates choices (Certified bytes) problem budget = accepted_ends bytes (is_accepted problem budget (certificates.read bytes))
 
-choice_ends : (program : NormalForm) (problem : Problem) (asked : Asked) (choice : Option (List ℕ)) (files : Contents) → Ends (choice_plan program problem asked choice files)
+choice_ends : (coordinates : ℕ) (program : NormalForm) (problem : Problem) (choice : Option (List ℕ)) (files : Contents) → Ends (choice_plan coordinates program problem choice files)
 unfolding answer_then
-choice_ends program problem asked None files = record { stores = refl; status = tt }
-choice_ends program problem asked (Some list) files = record { stores = refl; status = tt }
+choice_ends coordinates program problem None files = record { stores = refl; status = tt }
+choice_ends coordinates program problem (Some list) files = record { stores = refl; status = tt }
 
 module _ (texts : TextOutcomes) (least : LabelOutcomes) (certificates : CertificateOutcomes) (choices : ChoiceOutcomes) (searched : Searched) (coordinates : ℕ) (files : Contents) where
   program_ends : (program : NormalForm) → Ends (program_plan least choices (searched_by certificates choices searched) coordinates program files)
   program_ends program =
-      let asked = trial_asked (length program.hosts) coordinates in
-      check_ends (problem_for least program) (problem_plan choices (searched_by certificates choices searched) program asked) files (labels_end program (least.label (system_of program)))
-      (λ problem. check_ends (searched_by certificates choices searched problem most_search_budget) (λ bytes. choice_plan program problem asked (choices.choose problem)) files
-      (search_ends certificates choices searched problem most_search_budget) (λ bytes. choice_ends program problem asked (choices.choose problem) files))
+      check_ends (problem_for least program) (problem_plan choices (searched_by certificates choices searched) coordinates program) files (labels_end program (least.label (system_of program)))
+      (λ problem. check_ends (searched_by certificates choices searched problem most_search_budget) (λ bytes. choice_plan coordinates program problem (choices.choose problem)) files
+      (search_ends certificates choices searched problem most_search_budget) (λ bytes. choice_ends coordinates program problem (choices.choose problem) files))
 
   -- ---- the generated source, which is read and meets every rule
 

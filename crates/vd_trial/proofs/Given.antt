@@ -16,13 +16,13 @@ use Rattle.vd_deals.specs.Identities.{and_left, pair_left}
 use Rattle.vd_deals.specs.Validity.{AreDeals, ArePairWords, AreTripleWords, HasWords, IsWord, peer_at}
 use Rattle.vd_tape.specs.Made.{and_item, and_parts, first_of, made_deal, made_deals, made_word, mul_item, mul_parts, pair_item, pair_parts, shared_stream, words_from}
 use Rattle.vd_tape.specs.Text.{AreDealsOf}
-use Rattle.vd_gen.specs.Sizes.{most_coordinates}
+use Rattle.vd_needs.specs.declared.taking.HostNeeds.{HostNeeds}
+use Rattle.vd_needs.specs.Sizes.{sizes_of}
 use Rattle.vd_base.specs.Limits.{most_hosts}
-use Rattle.vd_tape.specs.Made.{AreCounts}
 use Rattle.vd_asking.specs.declared.asked.Asked.{Asked}
 use Rattle.vd_asking.specs.Asking.{AreAsked}
 use Rattle.vd_asking.specs.Words.{AreWords}
-use Rattle.vd_trial.specs.Trial.{trial_asked, trial_counts, trial_input, trial_inputs, trial_words}
+use Rattle.vd_trial.specs.Trial.{asked_by, most_inputs, trial_input, trial_inputs, trial_words}
 
 -- ---- lists of a function's values
 
@@ -101,37 +101,34 @@ at_each P n f none each past i = elim (cases_lt i (length (first_of n f))) [
   | inr le ↦ subst P (sym (get_or_past (first_of n f) i none le)) past
 ]
 
-input_below : (coordinates host number : ℕ) → coordinates ≤ most_coordinates → number < coordinates → trial_input host number < 2 ^ 32
-input_below coordinates zero number most below = omega (arith, most, below)
-input_below coordinates (suc host) number most below = omega arith
+input_below : (many host number : ℕ) → many ≤ 2 ^ 32 → number < many → trial_input host number < 2 ^ 32
+input_below many zero number most below = omega (arith, most, below)
+input_below many (suc host) number most below = omega arith
 
-pub inputs_are_words : (hosts coordinates : ℕ) → coordinates ≤ most_coordinates → AreWords (trial_inputs hosts coordinates)
-inputs_are_words hosts coordinates most =
-    at_each (λ (words : List ℕ). (i : ℕ) → slice_index words i < 2 ^ 32) hosts (trial_words coordinates) []
-    (λ host declared. at_each (λ (x : ℕ). x < 2 ^ 32) coordinates (trial_input host) 0 (λ number below. input_below coordinates host number most below) (omega arith)) (λ i. omega arith)
+pub inputs_are_words : (hosts many : ℕ) → many ≤ 2 ^ 32 → AreWords (trial_inputs hosts many)
+inputs_are_words hosts many most =
+    at_each (λ (words : List ℕ). (i : ℕ) → slice_index words i < 2 ^ 32) hosts (trial_words many) []
+    (λ host declared. at_each (λ (x : ℕ). x < 2 ^ 32) many (trial_input host) 0 (λ number below. input_below many host number most below) (omega arith)) (λ i. omega arith)
 
-pub count_of_inputs : (hosts coordinates : ℕ) → length (trial_inputs hosts coordinates) ≡ hosts
-count_of_inputs hosts coordinates = length-map-range_with_len (trial_words coordinates) 0 hosts
+pub count_of_inputs : (hosts many : ℕ) → length (trial_inputs hosts many) ≡ hosts
+count_of_inputs hosts many = length-map-range_with_len (trial_words many) 0 hosts
 
 -- ---- all of it
 
-pub are_counts : (hosts coordinates : ℕ) → hosts ≤ most_hosts → coordinates ≤ most_coordinates → AreCounts (trial_counts hosts coordinates)
-are_counts hosts coordinates few most = record { hosts = few; own = omega (arith, most); muls = omega (arith, most); ands = omega arith; pairs = omega arith }
-
-pub are_asked : (hosts coordinates : ℕ) → hosts ≤ most_hosts → coordinates ≤ most_coordinates → AreDeals (trial_asked hosts coordinates).deals → AreAsked hosts (trial_asked hosts coordinates)
-are_asked hosts coordinates few most are = record {
+are_asked : (needs : List HostNeeds) (key : ℕ) → length needs ≤ most_hosts → most_inputs needs ≤ 2 ^ 32 → AreDeals (asked_by needs key).deals → AreAsked (length needs) (asked_by needs key)
+are_asked needs key few most are = record {
   few = few;
-  inputs = count_of_inputs hosts coordinates;
-  words = inputs_are_words hosts coordinates most;
-  all = count_of_deals (trial_counts hosts coordinates) coordinates;
-  deals = deals_of (trial_counts hosts coordinates) coordinates are;
+  inputs = count_of_inputs (length needs) (most_inputs needs);
+  words = inputs_are_words (length needs) (most_inputs needs) most;
+  all = count_of_deals (sizes_of needs) key;
+  deals = deals_of (sizes_of needs) key are;
 }
 
 abbrev asked_with : List (List ℕ) → List Deal → Asked
 asked_with inputs deals = record { inputs = inputs; deals = deals; schedule = record { entries = []; all = true }; messages = false }
 
-pub asked_again : (hosts coordinates : ℕ) → hosts ≤ most_hosts → coordinates ≤ most_coordinates → (inputs : List (List ℕ)) (deals : List Deal) → inputs ≡ trial_inputs hosts coordinates
-    → deals ≡ made_deals (trial_counts hosts coordinates) coordinates → AreDeals deals → AreAsked hosts (asked_with inputs deals)
-asked_again hosts coordinates few most inputs deals same made are =
-    let asked : asked_with inputs deals ≡ trial_asked hosts coordinates = λ i. asked_with (same i) (made i) in
-    subst (AreAsked hosts) (sym asked) (are_asked hosts coordinates few most (subst AreDeals made are))
+pub asked_again : (needs : List HostNeeds) (key : ℕ) → length needs ≤ most_hosts → most_inputs needs ≤ 2 ^ 32 → (inputs : List (List ℕ)) (deals : List Deal)
+    → inputs ≡ trial_inputs (length needs) (most_inputs needs) → deals ≡ made_deals (sizes_of needs) key → AreDeals deals → AreAsked (length needs) (asked_with inputs deals)
+asked_again needs key few most inputs deals same made are =
+    let asked : asked_with inputs deals ≡ asked_by needs key = λ i. asked_with (same i) (made i) in
+    subst (AreAsked (length needs)) (sym asked) (are_asked needs key few most (subst AreDeals made are))

@@ -1,4 +1,5 @@
 pub mod Given
+pub mod Enough
 pub mod Chosen
 pub mod Told
 pub mod Sure

@@ -1,23 +1,40 @@
 -- What is told of a run of a program, of a source, and of the generated text.
-use Rattle.std.proofs.Common.{◌≡◌, ℕ, Some, List, ◌++◌, length, Result, Ok, Err, refl, sym, ap, ap₂, ◌∙◌, subst}
+use Rattle.std.proofs.Common.{◌≡◌, ℕ, zero, suc, ◌+◌, ◌*◌, ◌<◌, ◌≤◌, Bool, true, false, Some, List, [], ◌∷◌, ◌++◌, length, map, Result, Ok, Err, refl, sym, ap, ap₂, ◌∙◌, subst, arith, append-nil}
+use mathlib.Core.Path.{fun_ext}
+use Rattle.std.specs.Prelude.{slice_index_or}
+use Rattle.std.specs.List.{range_with_len}
 use Rattle.vd_core.specs.declared.normal.NormalForm.{NormalForm}
 use Rattle.vd_core.specs.declared.source.Source.{Source}
+use Rattle.vd_core.specs.Facts.{weight_sum}
 use Rattle.vd_constraints.specs.Rules.{system_of}
 use Rattle.vd_least.proofs.Once.{labelled_once}
 use Rattle.vd_meaning.specs.ProgramMeaning.{program_outputs}
+use Rattle.vd_meaning.specs.SourceMeaning.{source_outputs}
 use Rattle.vd_normal.specs.Normal.{normal_form}
 use Rattle.vd_normal.proofs.Kept.{outputs_kept}
 use Rattle.vd_parser.specs.Outcomes.{IsParse}
 use Rattle.vd_resolve.specs.Limits.{resolution}
 use Rattle.vd_resolve.specs.declared.fault.NameFault.{NameFault}
+use Rattle.vd_gen.specs.Sizes.{most_coordinates}
 use Rattle.vd_gen.specs.Source.{generated}
+use Rattle.vd_generated.proofs.Read.{executed_of}
+use Rattle.vd_item_limits.specs.Items.{most_executed}
+use Rattle.vd_execution.specs.Joint.{Joint, started}
+use Rattle.vd_execution.specs.World.{Supply, World}
+use Rattle.vd_schedules.specs.Claims.{Suffices, last_of}
+use Rattle.vd_play.specs.Reports.{line_of, lines_of, report_of}
+use Rattle.vd_play.specs.Schedules.{replayed}
+use Rattle.vd_play.specs.Supplies.{supply_of_files}
+use Rattle.vd_play.specs.Told.{HaveEnded}
 use Rattle.vd_report.specs.ChoiceLines.{cost_line}
+use Rattle.vd_report.specs.ReportLines.{host_lines}
 use Rattle.vd_search.specs.Answers.{nat_or_zero}
 use Rattle.vd_space.specs.declared.problem.Problem.{Problem}
 use Rattle.vd_space.specs.Costs.{cost}
 use Rattle.vd_space.specs.Reading.{problem_of}
 use Rattle.vd_space.specs.Spaces.{IsProblem}
-use Rattle.vd_cheapest.proofs.Cheapest.{back}
+use Rattle.vd_cheapest.specs.Cheapest.{IsCheapest}
+use Rattle.vd_cheapest.proofs.Cheapest.{back, cheapest}
 use Rattle.vd_selection.specs.Choices.{IsChosen}
 use Rattle.vd_selection.proofs.Once.{chosen_once}
 use Rattle.vd_plan.specs.Plans.{Checks}
@@ -28,37 +45,77 @@ use Rattle.vd_frontend.specs.Sources.{as_resolved, resolved_of}
 use Rattle.vd_selecting.specs.Problems.{IsProblemOf}
 use Rattle.vd_compiling.specs.Selected.{no_list}
 use Rattle.vd_asking.specs.declared.asked.Asked.{Asked}
-use Rattle.vd_replaying.specs.Telling.{IsReport}
-use Rattle.vd_trial.specs.Trial.{headed_by, trial_asked}
-use Rattle.vd_trial.specs.Telling.{IsRun, TellsOf, TellsProgram, TellsSource, TellsTrial}
+use Rattle.vd_replaying.specs.Telling.{IsCodeAtChoice, IsReport}
+use Rattle.vd_trial.specs.Trial.{Suffice, headed_by, trial_asked}
+use Rattle.vd_trial.specs.Telling.{IsRun, TellsProgram, TellsSource, TellsTrial, ended_line, ended_lines}
+
+-- ---- all hosts have ended
+
+-- functions that are the same at each number of a range give the same list
+map_alike : {X : Type 0} (f g : ℕ → X) (a n : ℕ) → ((k : ℕ) → k < a + n → f k ≡ g k) → map f (range_with_len a n) ≡ map g (range_with_len a n)
+map_alike f g a zero each = refl
+map_alike {X} f g a (suc n) each =
+    ap₂ (λ (x : X) (xs : List X). x ∷ xs) (each a (omega arith)) (map_alike f g (a + 1) n (λ k below. each k (omega (arith, below))))
+
+-- the lines of hosts that have ended and printed all that they are told
+ended_alike : (outputs : List (List ℕ)) (s : Supply) (w : World) (n : ℕ) → HaveEnded s n w → ((h : ℕ) → h < n → (w h).printed ≡ slice_index_or outputs h [])
+    → lines_of s w n ≡ map (ended_line outputs) (range_with_len 0 n)
+ended_alike outputs s w n ended printed =
+    map_alike (line_of s w) (ended_line outputs) 0 n
+    (λ h below. let lt : h < n = omega (arith, below) in λ i. record { state = ended h lt i; printed = printed h lt i })
+
+module _ (program : NormalForm) (outputs : List (List ℕ)) (asked : Asked) (lines : List ℕ) (is : IsReport program outputs asked lines) where
+  abbrev supply : Supply
+  supply = supply_of_files asked.inputs asked.deals
+
+  abbrev world : World
+  world = replayed supply (length program.hosts) asked.schedule (started is.joint)
+
+  pub all_ended : asked.schedule.all ≡ true → asked.messages ≡ false → Suffice program is.code.list asked → lines ≡ ended_lines program.hosts outputs
+  all_ended all quiet suffice =
+      let there : Suffices supply (last_of supply is.joint) = subst (λ (j : Joint). Suffices supply (last_of supply j)) (sym is.code.compiled) suffice in
+      let ended : HaveEnded supply (length program.hosts) world = is.told.told.ends all there in
+      let printed = is.told.told.told.all_printed ended in
+      let report : lines ≡ host_lines program.hosts program.hosts (lines_of supply world (length program.hosts)) ++ [] =
+      is.told.report ∙ ap (λ (b : Bool). report_of program.hosts supply world b) quiet in
+      report ∙ append-nil (host_lines program.hosts program.hosts (lines_of supply world (length program.hosts)))
+      ∙ ap (host_lines program.hosts program.hosts) (ended_alike outputs supply world (length program.hosts) ended printed)
 
 -- ---- a list of protocols
 
--- there is one choice of protocols for a program, and it has one cost
-cost_once : (problem again : Problem) (list other : List ℕ) → problem ≡ again → IsChosen problem (Some list) → IsChosen again (Some other) → cost problem list ≡ cost again other
-cost_once problem again list other same chosen is =
-    let lists : Some list ≡ Some other = chosen_once again (Some list) (Some other) (subst (λ (p : Problem). IsChosen p (Some list)) same chosen) is in
-    let one : list ≡ other = cc lists in
-    ap₂ cost same one
+-- there is one choice of protocols for a program
+list_once : (program : NormalForm) (problem : Problem) (list : List ℕ) → IsProblemOf program problem → IsProblem problem → IsChosen problem (Some list)
+    → (joint : Joint) (code : IsCodeAtChoice program joint) → list ≡ code.list
+list_once program problem list of holds chosen joint code =
+    let labels : Ok of.labels ≡ Ok code.selected.labels = labelled_once (system_of program) (Ok of.labels) (Ok code.selected.labels) of.least code.selected.least in
+    let same : of.labels ≡ code.selected.labels = cc labels in
+    let there : problem ≡ problem_of program code.selected.labels = of.same ∙ ap (problem_of program) same in
+    let other = back (problem_of program code.selected.labels) code.list (subst IsProblem there holds) code.selected.cheapest in
+    let lists : Some list ≡ Some code.list =
+    chosen_once (problem_of program code.selected.labels) (Some list) (Some code.list) (subst (λ (p : Problem). IsChosen p (Some list)) there chosen) other in
+    cc lists
 
-module _ (program : NormalForm) (asked : Asked) where
-  pub run_told : (problem : Problem) (list : List ℕ) (least : ℕ) (report headed : Answer) → IsProblemOf program problem → IsProblem problem → IsChosen problem (Some list) → nat_or_zero (cost problem list) ≡ least
-      → IsReport program (program_outputs program asked.inputs) asked report.printed → headed ≡ headed_by least report → TellsOf program asked (Ok headed)
-  run_told problem list least report headed of holds chosen number is same = λ e.
-      let labels : Ok of.labels ≡ Ok is.code.selected.labels = labelled_once (system_of program) (Ok of.labels) (Ok is.code.selected.labels) of.least is.code.selected.least in
-      let one : of.labels ≡ is.code.selected.labels = cc labels in
-      let there : problem ≡ problem_of program is.code.selected.labels = of.same ∙ ap (problem_of program) one in
-      let again = back (problem_of program is.code.selected.labels) is.code.list (subst IsProblem there holds) is.code.selected.cheapest in
-      let costs = cost_once problem (problem_of program is.code.selected.labels) list is.code.list there chosen again in
-      let stated : least ≡ nat_or_zero (cost (problem_of program is.code.selected.labels) is.code.list) = sym number ∙ ap nat_or_zero costs in
+module _ (coordinates : ℕ) (program : NormalForm) where
+  pub run_told : (problem : Problem) (list : List ℕ) (least : ℕ) (asked : Asked) (report headed : Answer) → IsProblemOf program problem → IsProblem problem → IsChosen problem (Some list)
+      → nat_or_zero (cost problem list) ≡ least → asked ≡ trial_asked coordinates program list → Suffice program list asked → IsReport program (program_outputs program asked.inputs) asked report.printed
+      → headed ≡ headed_by least report → TellsProgram coordinates program (Ok headed)
+  run_told problem list least asked report headed of holds chosen number made suffice is same = λ e.
+      let own = trial_asked coordinates program list in
+      let there : IsReport program (program_outputs program own.inputs) own report.printed = subst (λ (a : Asked). IsReport program (program_outputs program a.inputs) a report.printed) made is in
+      let one = list_once program problem list of holds chosen there.joint there.code in
+      let enough : Suffice program there.code.list own = subst (λ (l : List ℕ). Suffice program l own) one (subst (Suffice program list) made suffice) in
+      let stated : least ≡ nat_or_zero (cost (problem_of program of.labels) list) = sym number ∙ ap (λ (p : Problem). nat_or_zero (cost p list)) of.same in
       record {
+        list = list;
+        selected = record { labels = of.labels; least = of.least; cheapest = subst (λ (p : Problem). IsCheapest p list) of.same (cheapest problem list holds chosen) };
         lines = report.printed;
-        report = is;
+        report = there;
+        ends = all_ended program (program_outputs program own.inputs) own report.printed there refl refl enough;
         printed_is = ap (λ (a : Answer). a.printed) same ∙ ap (λ (n : ℕ). cost_line n ++ report.printed) stated;
       }
 
   -- where no list is valid, nothing is told
-  pub none_told : (answer : Answer) → answer ≡ no_list → TellsOf program asked (Ok answer)
+  pub none_told : (answer : Answer) → answer ≡ no_list → TellsProgram coordinates program (Ok answer)
   none_told answer is = λ e. let wrong : NoAssignment ≡ Ended = sym (ap (λ (a : Answer). a.status) is) ∙ e in absurd (cc wrong)
 
 -- ---- the source
@@ -66,15 +123,26 @@ module _ (program : NormalForm) (asked : Asked) where
 -- the outputs of a source are those of its let-normal form
 pub source_told : (coordinates : ℕ) (source : Source) (program : NormalForm) (result : Result Answer Status) → program ≡ normal_form source → TellsProgram coordinates program result → TellsSource coordinates source result
 source_told coordinates source program (Ok answer) same tells = λ e.
-    let asked : Asked = trial_asked (length (normal_form source).hosts) coordinates in
-    let run : IsRun (normal_form source) (program_outputs (normal_form source) asked.inputs) asked answer.printed =
-    subst (λ (p : NormalForm). IsRun p (program_outputs p (trial_asked (length p.hosts) coordinates).inputs) (trial_asked (length p.hosts) coordinates) answer.printed) same (tells e) in
-    subst (λ (outputs : List (List ℕ)). IsRun (normal_form source) outputs asked answer.printed) (outputs_kept source asked.inputs) run
+    let run : IsRun coordinates (normal_form source) (program_outputs (normal_form source)) answer.printed =
+    subst (λ (p : NormalForm). IsRun coordinates p (program_outputs p) answer.printed) same (tells e) in
+    let alike : program_outputs (normal_form source) ≡ source_outputs source = fun_ext (λ inputs. outputs_kept source inputs) in
+    subst (λ (outputs : List (List ℕ) → List (List ℕ)). IsRun coordinates (normal_form source) outputs answer.printed) alike run
 source_told coordinates source program (Err status) same tells = tt
 
 resolved_as : (tree source : Source) (found : Result (Unit {0}) NameFault) → resolution tree ≡ found → as_resolved tree found ≡ Ok source → (resolution tree ≡ Ok tt) × (tree ≡ source)
 resolved_as tree source (Ok done) is same = (is, cc same)
 resolved_as tree source (Err fault) is same = absurd (cc same)
+
+-- the statements of the source that was read are executed few times
+pub few_executed : (coordinates : ℕ) → 1 ≤ coordinates → coordinates ≤ most_coordinates → (bytes seen : List ℕ) (tree source : Source) → bytes ≡ generated coordinates → seen ≡ bytes → IsParse seen (Ok tree)
+    → Checks (resolved_of tree) (Ok source) → weight_sum (normal_form source).body ≤ most_executed
+few_executed coordinates some most bytes seen tree source text same parsed checks =
+    let is = resolved_as tree source (resolution tree) refl checks.ok in
+    let few = executed_of coordinates some most tree (subst (λ (b : List ℕ). IsParse b (Ok tree)) (same ∙ text) parsed) in
+    subst (λ (s : Source). weight_sum (normal_form s).body ≤ most_executed) is.1 (within coordinates _ most few)
+  where
+    within : (n w : ℕ) → n ≤ 100 → w ≤ 5 * n + 5 → w ≤ 1024
+    within n w p q = omega (arith, p, q)
 
 pub trial_told : (coordinates : ℕ) (bytes seen : List ℕ) (tree source : Source) (result : Result Answer Status) → bytes ≡ generated coordinates → seen ≡ bytes → IsParse seen (Ok tree) → Checks (resolved_of tree) (Ok source)
     → TellsSource coordinates source result → TellsTrial coordinates result

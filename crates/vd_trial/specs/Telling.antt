@@ -1,13 +1,17 @@
--- What a trial prints: the cost of the choice of protocols, and how hosts stand that have printed what the source tells them. And
--- how it ends.
-use Rattle.std.specs.Prelude.{◌≡◌, ℕ, List, [], ◌++◌, length, Result, Ok, Err, IfOk}
+-- What a trial prints: the cost of the choice of protocols, and that all hosts have ended and printed what the source tells them.
+-- And how it ends.
+use Rattle.std.specs.Prelude.{◌≡◌, ℕ, List, [], ◌++◌, length, map, slice_index_or, Result, Ok, Err, IfOk}
+use Rattle.std.specs.List.{range_with_len}
+use Rattle.vd_base.specs.declared.host_state.HostState.TheVariants as state
 use Rattle.vd_core.specs.declared.normal.NormalForm.{NormalForm}
 use Rattle.vd_core.specs.declared.source.Source.{Source}
 use Rattle.vd_meaning.specs.ProgramMeaning.{program_outputs}
 use Rattle.vd_meaning.specs.SourceMeaning.{source_outputs}
 use Rattle.vd_normal.specs.Normal.{normal_form}
 use Rattle.vd_gen.specs.Source.{generated}
+use Rattle.vd_report.specs.declared.reports.HostLine.{HostLine}
 use Rattle.vd_report.specs.ChoiceLines.{cost_line}
+use Rattle.vd_report.specs.ReportLines.{host_lines}
 use Rattle.vd_search.specs.Answers.{nat_or_zero}
 use Rattle.vd_space.specs.Costs.{cost}
 use Rattle.vd_space.specs.Reading.{problem_of}
@@ -15,38 +19,42 @@ use Rattle.vd_plan.specs.declared.answer.Answer.{Answer}
 use Rattle.vd_plan.specs.declared.status.Status.{Status}
 use Rattle.vd_plan.specs.declared.status.Status.TheVariants.{Ended, Memory, WriteFault, Flow, NoAssignment, Spent}
 use Rattle.vd_frontend.specs.Sources.{IsSourceText}
-use Rattle.vd_asking.specs.declared.asked.Asked.{Asked}
+use Rattle.vd_compiling.specs.Selected.{IsSelected}
 use Rattle.vd_replaying.specs.Telling.{IsReport}
 use Rattle.vd_trial.specs.Trial.{trial_asked}
 
--- the cost of the choice of protocols at which a program is run, and the report of that run, whose hosts are told these outputs
-pub record IsRun (program : NormalForm) (outputs : List (List ℕ)) (asked : Asked) (printed : List ℕ) : Type 0 where
-  pub lines : List ℕ
-  pub report : IsReport program outputs asked lines
-  pub printed_is : printed ≡ cost_line (nat_or_zero (cost (problem_of program report.code.selected.labels) report.code.list)) ++ lines
+-- how a host stands that has ended, and has printed all words that it is told
+abbrev pub ended_line : (outputs : List (List ℕ)) → ℕ → HostLine
+ended_line outputs h = record { state = state.Ended; printed = slice_index_or outputs h [] }
 
--- what the hosts of a source's let-normal form run on
-abbrev pub asked_of : (coordinates : ℕ) → Source → Asked
-asked_of coordinates source = trial_asked (length (normal_form source).hosts) coordinates
+-- the report where all hosts have ended
+abbrev pub ended_lines : (hosts outputs : List (List ℕ)) → List ℕ
+ended_lines hosts outputs = host_lines hosts hosts (map (ended_line outputs) (range_with_len 0 (length hosts)))
+
+-- A run of a program at its choice of protocols, on as many inputs and items as its hosts take there. All hosts have ended, each
+-- with all words that it is told; what is printed are the cost of the choice and the report that says so.
+pub record IsRun (coordinates : ℕ) (program : NormalForm) (outputs : List (List ℕ) → List (List ℕ)) (printed : List ℕ) : Type 0 where
+  pub list : List ℕ
+  pub selected : IsSelected program list
+  pub lines : List ℕ
+  pub report : let asked = trial_asked coordinates program list in IsReport program (outputs asked.inputs) asked lines
+  pub ends : lines ≡ ended_lines program.hosts (outputs (trial_asked coordinates program list).inputs)
+  pub printed_is : printed ≡ cost_line (nat_or_zero (cost (problem_of program selected.labels) list)) ++ lines
 
 -- The generated text is that of a source that meets every rule, and what is printed is the cost of its choice of protocols and
--- the report of a run of it on the inputs, the deal and the schedule of a trial.
+-- the report of a run of it on the inputs, the deal and the schedule of a trial, in which all hosts end.
 pub record IsTrial (coordinates : ℕ) (printed : List ℕ) : Type 0 where
   pub source : Source
   pub text : IsSourceText source (generated coordinates)
-  pub run : IsRun (normal_form source) (source_outputs source (asked_of coordinates source).inputs) (asked_of coordinates source) printed
+  pub run : IsRun coordinates (normal_form source) (source_outputs source) printed
 
 -- ---- where a program was run, what is printed is such a run
 
-abbrev pub TellsOf : NormalForm → Asked → Result Answer Status → Type 0
-TellsOf program asked result = IfOk result (λ answer. answer.status ≡ Ended → IsRun program (program_outputs program asked.inputs) asked answer.printed)
-
 abbrev pub TellsProgram : (coordinates : ℕ) → NormalForm → Result Answer Status → Type 0
-TellsProgram coordinates program result = TellsOf program (trial_asked (length program.hosts) coordinates) result
+TellsProgram coordinates program result = IfOk result (λ answer. answer.status ≡ Ended → IsRun coordinates program (program_outputs program) answer.printed)
 
 abbrev pub TellsSource : (coordinates : ℕ) → Source → Result Answer Status → Type 0
-TellsSource coordinates source result =
-    IfOk result (λ answer. answer.status ≡ Ended → IsRun (normal_form source) (source_outputs source (asked_of coordinates source).inputs) (asked_of coordinates source) answer.printed)
+TellsSource coordinates source result = IfOk result (λ answer. answer.status ≡ Ended → IsRun coordinates (normal_form source) (source_outputs source) answer.printed)
 
 abbrev pub TellsTrial : (coordinates : ℕ) → Result Answer Status → Type 0
 TellsTrial coordinates result = IfOk result (λ answer. answer.status ≡ Ended → IsTrial coordinates answer.printed)

@@ -1,22 +1,27 @@
 //! What the hosts of a trial run on.
 
 ghost use Rattle.std.specs.Prelude.{◌≡◌, ◌≤◌, length, IfOk};
-ghost use Rattle.vd_base.specs.Limits.{most_hosts};
+ghost use Rattle.vd_base.specs.Limits.{most_deal_items, most_hosts};
+ghost use Rattle.vd_core.specs.Facts.{weight_sum};
 ghost use Rattle.vd_deals.specs.Validity.{IsConsistent};
-ghost use Rattle.vd_gen.specs.Sizes.{most_coordinates};
+ghost use Rattle.vd_tape.specs.Made.{AreCounts};
+ghost use Rattle.vd_needs.specs.Sizes.{sizes_of};
+ghost use Rattle.vd_compiling.specs.Selected.{IsSelected};
+ghost use Rattle.vd_item_limits.specs.Items.{most_executed};
 ghost use Rattle.vd_asking.specs.Asking.{AreAsked};
-ghost use Rattle.vd_trial.specs.Trial.{trial_asked, trial_input, trial_inputs, trial_words};
+ghost use Rattle.vd_trial.specs.Trial.{Suffice, asked_by, most_inputs, trial_asked, trial_input, trial_inputs, trial_words};
 
 use std::alloc::{AllocError, Global};
 use vd_asking::Asked;
-use vd_base::{Inputs, Name, Words};
-use vd_deals::Counts;
+use vd_base::{Inputs, Words};
+use vd_core::Program;
+use vd_enough::needs_of_program;
+use vd_host_programs::numbers_fit;
 use vd_items::Items;
+use vd_needs::{HostNeeds, sizes};
+use vd_read_back::counts_fit;
 use vd_report::Schedule;
 use vd_tape::make;
-
-/// How many products of bits are dealt to each two hosts: what one comparison of words takes, and some more.
-const ANDS: u32 = 20;
 
 /// The input with this number, from 0 on, of a host: the first host's inputs are their numbers, all others are 0.
 fn input(host: u8, number: u32) -> u32
@@ -25,51 +30,52 @@ fn input(host: u8, number: u32) -> u32
     if host == 0 { number } else { 0 }
 }
 
-/// The inputs of a host, one for each coordinate.
-fn words_of(alloc: Global, host: u8, coordinates: u32) -> Result<Words, AllocError>
-    ensures { IfOk result (λ words. words ≡ trial_words coordinates host) }
+/// So many inputs of a host.
+fn words_of(alloc: Global, host: u8, many: u32) -> Result<Words, AllocError>
+    ensures { IfOk result (λ words. words ≡ trial_words many host) }
 {
     let mut words = Words::new(alloc);
-    for number in 0..coordinates {
+    for number in 0..many {
         words.push(input(host, number))?;
     }
     Ok(words)
 }
 
-/// The inputs of so many hosts.
-fn inputs_of(alloc: Global, hosts: u8, coordinates: u32) -> Result<Inputs, AllocError>
-    ensures { IfOk result (λ inputs. inputs ≡ trial_inputs hosts coordinates) }
+/// So many inputs of each of so many hosts.
+fn inputs_of(alloc: Global, hosts: u8, many: u32) -> Result<Inputs, AllocError>
+    ensures { IfOk result (λ inputs. inputs ≡ trial_inputs hosts many) }
 {
     let mut inputs = Inputs::new(alloc);
     for host in 0..hosts {
-        let words = words_of(alloc, host, coordinates)?;
+        let words = words_of(alloc, host, many)?;
         inputs.push(words)?;
     }
     Ok(inputs)
 }
 
-/// What the hosts with these names run on, with a deal whose key is the number of coordinates.
-pub(crate) fn asked_for(
-    alloc: Global,
-    names: &[Name],
-    coordinates: u32,
-) -> Result<Asked, AllocError>
-    requires few { length names.now ≤ most_hosts }
-    requires size { coordinates ≤ most_coordinates }
-    ensures made { IfOk result (λ asked. asked ≡ trial_asked (length names.now) coordinates) }
-    ensures asked { IfOk result (AreAsked (length names.now)) }
+/// How many inputs the host takes at most that takes the most.
+fn most_inputs(needs: &[HostNeeds]) -> u32
+    ensures { result ≡ most_inputs needs.now }
+{
+    let mut most = 0;
+    for host in needs {
+        most = most.max(host.inputs);
+    }
+    most
+}
+
+/// As many inputs and items as hosts take that take so many, with a deal of this key.
+fn asked_by(alloc: Global, needs: &[HostNeeds], key: u32) -> Result<Asked, AllocError>
+    requires few { length needs.now ≤ most_hosts }
+    requires inputs { most_inputs needs.now ≤ most_deal_items }
+    requires counts { AreCounts (sizes_of needs.now) }
+    ensures made { IfOk result (λ asked. asked ≡ asked_by needs.now key) }
+    ensures asked { IfOk result (AreAsked (length needs.now)) }
     ensures consistent { IfOk result (λ asked. IsConsistent asked.deals) }
 {
-    let hosts = names.len() as u8;
-    let counts = Counts {
-        hosts,
-        own: coordinates + 1,
-        muls: coordinates,
-        ands: ANDS,
-        pairs: 0,
-    };
-    let inputs = inputs_of(alloc, hosts, coordinates)?;
-    let deals = make(alloc, counts, u64::from(coordinates))?;
+    let counts = sizes(needs);
+    let inputs = inputs_of(alloc, counts.hosts, most_inputs(needs))?;
+    let deals = make(alloc, counts, u64::from(key))?;
     Ok(Asked {
         inputs,
         deals,
@@ -79,4 +85,25 @@ pub(crate) fn asked_for(
         },
         messages: false,
     })
+}
+
+/// What the hosts of a program run on at a list of protocols: as many inputs and items as they take there, so that none is ever
+/// short, with a deal whose key is the number of coordinates.
+pub(crate) fn asked_at(
+    alloc: Global,
+    program: &Program,
+    places: &[u32],
+    coordinates: u32,
+) -> Result<Asked, AllocError>
+    requires few { weight_sum program.now.body ≤ most_executed }
+    requires selected { IsSelected program.now places.now }
+    ensures made { IfOk result (λ asked. asked ≡ trial_asked coordinates program.now places.now) }
+    ensures asked { IfOk result (AreAsked (length program.now.hosts)) }
+    ensures consistent { IfOk result (λ asked. IsConsistent asked.deals) }
+    ensures suffice { IfOk result (Suffice program.now places.now) }
+{
+    numbers_fit(program);
+    counts_fit(program);
+    let needs = needs_of_program(alloc, program, places)?;
+    asked_by(alloc, needs.as_slice(), coordinates)
 }

@@ -1,9 +1,9 @@
 //! The command `trial`.
 
 ghost use Rattle.std.specs.Prelude.{◌≡◌, ◌++◌, ◌≤◌, [], Some, length, IfOk};
-ghost use Rattle.vd_deals.specs.Validity.{IsConsistent};
+ghost use Rattle.vd_core.specs.Facts.{weight_sum};
+ghost use Rattle.vd_normal.specs.Normal.{normal_form};
 ghost use Rattle.vd_gen.specs.Sizes.{most_coordinates};
-ghost use Rattle.vd_meaning.specs.ProgramMeaning.{program_outputs};
 ghost use Rattle.vd_plan.specs.Plans.{Computes, ended};
 ghost use Rattle.vd_report.specs.ChoiceLines.{cost_line};
 ghost use Rattle.vd_search.specs.Answers.{nat_or_zero};
@@ -11,14 +11,13 @@ ghost use Rattle.vd_space.specs.Costs.{cost};
 ghost use Rattle.vd_selection.specs.Choices.{IsChosen};
 ghost use Rattle.vd_selecting.specs.Problems.{IsProblemOf};
 ghost use Rattle.vd_space.specs.Spaces.{IsProblem};
-ghost use Rattle.vd_asking.specs.Asking.{AreAsked};
-ghost use Rattle.vd_trial.specs.Telling.{AnswersTrial, IsRun, TellsOf, TellsProgram, TellsSource, TellsTrial};
+ghost use Rattle.vd_item_limits.specs.Items.{most_executed};
+ghost use Rattle.vd_trial.specs.Telling.{AnswersTrial, TellsProgram, TellsSource, TellsTrial};
 ghost use Rattle.vd_trial.specs.Trial.{ExecutesProblem, ExecutesProgram, ExecutesSource, ExecutesTrial, headed_by, trial_text};
 
-use crate::asking::asked_for;
+use crate::asking::asked_at;
 use itoa::Buffer;
 use std::alloc::{AllocError, Global};
-use vd_asking::Asked;
 use vd_base::Bytes;
 use vd_base::limits::SEARCH_BUDGET;
 use vd_compiling::no_assignment;
@@ -62,24 +61,25 @@ fn headed_by(alloc: Global, cost: u32, answer: Answer) -> Result<Answer, AllocEr
     })
 }
 
-/// Runs a program at a list of protocols of this cost, and prints the cost and the report.
+/// Runs a program at a list of protocols of this cost, on as many inputs and items as its hosts take there, and prints the cost and
+/// the report.
 fn trial_at(
     alloc: Global,
     program: &Program,
     space: &Space,
     places: &[u32],
     least: u32,
-    asked: Asked,
+    coordinates: u32,
 ) -> Result<Answer, Status>
+    requires few { weight_sum program.now.body ≤ most_executed }
     requires problem { IsProblemOf program.now space.now }
     requires holds { IsProblem space.now }
     requires chosen { IsChosen space.now (Some places.now) }
     requires least { nat_or_zero (cost space.now places.now) ≡ least }
-    requires asked { AreAsked (length program.now.hosts) asked }
-    requires consistent { IsConsistent asked.deals }
-    ensures computes { Computes (ended [] (trial_text program.now places.now least asked)) result }
-    ensures tells { TellsOf program.now asked result }
+    ensures computes { Computes (ended [] (trial_text coordinates program.now places.now least)) result }
+    ensures tells { TellsProgram coordinates program.now result }
 {
+    let asked = asked_at(alloc, program, places, coordinates)?;
     let report = replay_at(alloc, program, places, asked)?;
     Ok(headed_by(alloc, least, report)?)
 }
@@ -89,17 +89,16 @@ fn trial_space(
     alloc: Global,
     program: &Program,
     space: &Space,
-    asked: Asked,
+    coordinates: u32,
 ) -> Result<Answer, Status>
+    requires few { weight_sum program.now.body ≤ most_executed }
     requires problem { IsProblemOf program.now space.now }
-    requires asked { AreAsked (length program.now.hosts) asked }
-    requires consistent { IsConsistent asked.deals }
-    ensures executes { ExecutesProblem program.now space.now asked result }
-    ensures tells { TellsOf program.now asked result }
+    ensures executes { ExecutesProblem coordinates program.now space.now result }
+    ensures tells { TellsProgram coordinates program.now result }
 {
     match select(alloc, space.problem(), SEARCH_BUDGET) {
         Ok(Selection::Found(places, cost, _)) => {
-            trial_at(alloc, program, space, places.as_slice(), cost, asked)
+            trial_at(alloc, program, space, places.as_slice(), cost, coordinates)
         }
         Ok(Selection::NoAssignment(_)) => Ok(no_assignment(alloc)),
         Err(SelectFault::Spent) => Err(Status::Spent(SEARCH_BUDGET)),
@@ -109,18 +108,17 @@ fn trial_space(
 
 /// What `trial` does with a program.
 fn trial_program(alloc: Global, program: &Program, coordinates: u32) -> Result<Answer, Status>
-    requires { coordinates ≤ most_coordinates }
+    requires { weight_sum program.now.body ≤ most_executed }
     ensures executes { ExecutesProgram coordinates program.now result }
     ensures tells { TellsProgram coordinates program.now result }
 {
-    let asked = asked_for(alloc, program.form().hosts.as_slice(), coordinates)?;
     let space = least_space(alloc, program)?;
-    trial_space(alloc, program, &space, asked)
+    trial_space(alloc, program, &space, coordinates)
 }
 
 /// What `trial` does with a source that meets every rule.
 fn trial_source(alloc: Global, source: &Resolved, coordinates: u32) -> Result<Answer, Status>
-    requires { coordinates ≤ most_coordinates }
+    requires { weight_sum (normal_form source.now).body ≤ most_executed }
     ensures executes { ExecutesSource coordinates source.now result }
     ensures tells { TellsSource coordinates source.now result }
 {
@@ -129,10 +127,10 @@ fn trial_source(alloc: Global, source: &Resolved, coordinates: u32) -> Result<An
 }
 
 /// The command `trial`: the generated source for points with so many coordinates is run by all its hosts in one process, each
-/// step in turn until none can step. The first host's inputs are the numbers from 0 on, and all others are 0; the deal is
-/// made for them. It prints the cost of the choice of protocols and how each host stands, and uses no files. The source is
-/// never refused for its text, its names, its kinds or its limits; only its flows, the choice of protocols and memory are
-/// left to refuse it for.
+/// step in turn until none can step. The first host's inputs are the numbers from 0 on, and all others are 0; of inputs and dealt
+/// items there are as many as the hosts take at the choice of protocols. So all hosts end. It prints the cost of the choice and
+/// how each host stands, and uses no files. The source is never refused for its text, its names, its kinds or its limits; only
+/// its flows, the choice of protocols and memory are left to refuse it for.
 pub fn trial(alloc: Global, coordinates: u32) -> Result<Answer, Status>
     requires some { 1 ≤ coordinates }
     requires most { coordinates ≤ most_coordinates }

@@ -3,4 +3,4 @@ use Rattle.vd_trial.specs.Trial.{trial_inputs}
 use Rattle.vd_trial.proofs.asking.inputs_of.Given as goal
 
 abbrev pub invariant-loop-host : goal.invariant-loop-host
-invariant-loop-host l = l.inputs ≡ trial_inputs l.host l.coordinates
+invariant-loop-host l = l.inputs ≡ trial_inputs l.host l.many

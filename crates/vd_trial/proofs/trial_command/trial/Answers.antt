@@ -6,12 +6,17 @@ use Rattle.vd_selecting.specs.Choosing.{GaveUp, searched_by}
 use Rattle.vd_generated.proofs.Sizes.{short_source}
 use Rattle.vd_trial.proofs.Ends.{ends}
 use Rattle.vd_trial.proofs.Texts.{rules_refused, source_runs, tree_refused}
-use Rattle.vd_trial.proofs.Told.{trial_told}
+use Rattle.vd_trial.proofs.Told.{few_executed, trial_told}
 use Rattle.vd_trial.proofs.trial_command.trial.Goals as goal
 
 pub read_source-requires : goal.read_source-requires
 read_source-requires c =
     subst (λ (b : List ℕ). length b ≤ most_source_bytes) (sym (c.as_slice.ensures ∙ c.in_ok-text.ensures {u = tt})) (short_source c.args.coordinates c.requires.some c.requires.most)
+
+pub trial_source-requires : goal.trial_source-requires
+trial_source-requires c =
+    few_executed c.args.coordinates c.requires.some c.requires.most c.in_ok-text.text c.as_slice.result.now c.in_ok-tree.tree c.in_ok-source.source (c.in_ok-text.ensures {u = tt}) c.as_slice.ensures
+    (c.in_ok-tree.ensures {u = tt}).parsed (c.in_ok-source.ensures {u = tt})
 
 pub returns-in_err-text-clause-executes : goal.returns-in_err-text-clause-executes
 returns-in_err-text-clause-executes c = (

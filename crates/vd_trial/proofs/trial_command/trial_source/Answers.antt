@@ -1,11 +1,16 @@
-use Rattle.std.proofs.Common.{subst}
+use Rattle.std.proofs.Common.{◌≤◌, sym, subst}
 use Rattle.std.proofs.lemmas.Result.{err_from_is_err_and}
 use Rattle.vd_core.specs.declared.normal.NormalForm.{NormalForm}
+use Rattle.vd_core.specs.Facts.{weight_sum}
 use Rattle.vd_plan.proofs.InSteps.{any_memory}
 use Rattle.vd_selecting.specs.Choosing.{GaveUp}
+use Rattle.vd_item_limits.specs.Items.{most_executed}
 use Rattle.vd_trial.specs.Trial.{ExecutesProgram}
 use Rattle.vd_trial.proofs.Told.{source_told}
 use Rattle.vd_trial.proofs.trial_command.trial_source.Goals as goal
+
+pub trial_program-requires : goal.trial_program-requires
+trial_program-requires c = subst (λ (form : NormalForm). weight_sum form.body ≤ most_executed) (sym c.in_ok-program.ensures.form) c.requires
 
 pub returns-in_err-program-clause-executes : goal.returns-in_err-program-clause-executes
 returns-in_err-program-clause-executes c = (

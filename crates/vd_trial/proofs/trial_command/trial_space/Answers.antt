@@ -26,20 +26,20 @@ trial_at-requires-clause-least c =
 pub returns-in-Ok-Found-clause-executes : goal.returns-in-Ok-Found-clause-executes
 returns-in-Ok-Found-clause-executes c =
     let selects = rw c.in-Ok-Found.field-0-is at (rw c.problem.ensures.same at c.in-Ok-Found.ensures.selects) in
-    found c.args.program.now c.args.space.now c.args.asked c.in-Ok-Found.places c.as_slice.result.now c.in-Ok-Found.cost c.in-Ok-Found.field-0-2 _ selects c.as_slice.ensures c.trial_at.ensures.computes
+    found c.args.coordinates c.args.program.now c.args.space.now c.in-Ok-Found.places c.as_slice.result.now c.in-Ok-Found.cost c.in-Ok-Found.field-0-2 _ selects c.as_slice.ensures c.trial_at.ensures.computes
 
 pub returns-in-Ok-NoAssignment-clause-executes : goal.returns-in-Ok-NoAssignment-clause-executes
 returns-in-Ok-NoAssignment-clause-executes c =
     let selects = rw c.in-Ok-NoAssignment.field-0-is at (rw c.problem.ensures.same at c.in-Ok-NoAssignment.ensures.selects) in
-    none_found c.args.program.now c.args.space.now c.args.asked c.in-Ok-NoAssignment.field-0-0 c.no_assignment.result selects c.no_assignment.ensures
+    none_found c.args.coordinates c.args.program.now c.args.space.now c.in-Ok-NoAssignment.field-0-0 c.no_assignment.result selects c.no_assignment.ensures
 
 pub returns-in-Ok-NoAssignment-clause-tells : goal.returns-in-Ok-NoAssignment-clause-tells
-returns-in-Ok-NoAssignment-clause-tells c = none_told c.args.program.now c.args.asked c.no_assignment.result c.no_assignment.ensures
+returns-in-Ok-NoAssignment-clause-tells c = none_told c.args.coordinates c.args.program.now c.no_assignment.result c.no_assignment.ensures
 
 pub returns-in-Err-Spent-clause-executes : goal.returns-in-Err-Spent-clause-executes
 returns-in-Err-Spent-clause-executes c =
-    gave_up c.args.program.now c.args.space.now c.args.asked c.problem.ensures.holds
+    gave_up c.args.coordinates c.args.program.now c.args.space.now c.problem.ensures.holds
     (subst (λ (p : Problem). IsOver p (usual p) most_search_budget) c.problem.ensures.same (c.in-Err-Spent.ensures.spent (rw c.in-Err-Spent.field-0-is refl)))
 
 pub returns-clause-executes : goal.returns-clause-executes
-returns-clause-executes c = no_memory c.args.program.now c.args.space.now c.args.asked
+returns-clause-executes c = no_memory c.args.coordinates c.args.program.now c.args.space.now
