@@ -33,7 +33,7 @@ with_hosts P hs all = inner hs all (λ h i. i)
 
 module _ (keeps : ℕ → Bool) (t : Tape) (next : List ℕ) (w : Hosts) where
   -- each of some hosts takes a step
-  each_step : (hs : List HostId) → AreKnown hs next → (f : HostId → List ℕ → Made Reg) (v : ℕ)
+  pub each_step : (hs : List HostId) → AreKnown hs next → (f : HostId → List ℕ → Made Reg) (v : ℕ)
       → ((h : HostId) → IsHost hs h.0 → (next' : List ℕ) (u u' : Hosts) → IsSince next w next' u → h.0 < length next' → RunsGadgets keeps t (f h next').gadgets u u' → IsStep keeps next' h (f h next') u u' v)
       → GivesRight keeps t next (each_made f hs next) w v
   each_step hs known f v law w' run =

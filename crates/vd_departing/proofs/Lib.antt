@@ -1,8 +1,8 @@
-mod Steps
-mod Local
-mod Each
-mod Shown
-mod Copies
+pub mod Steps
+pub mod Local
+pub mod Each
+pub mod Shown
+pub mod Copies
 mod Commitments
 mod Shares
 mod OneWord
