@@ -1,0 +1,3 @@
+pub mod Hiding
+mod Own
+mod Deciding

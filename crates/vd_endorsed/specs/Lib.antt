@@ -1,0 +1,2 @@
+pub mod Endorsed
+pub mod Laws
