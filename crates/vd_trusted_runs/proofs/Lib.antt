@@ -1,0 +1,11 @@
+pub mod Touching
+pub mod Fresh
+pub mod Calls
+pub mod Relation
+pub mod Rights
+pub mod Statements
+pub mod Guards
+pub mod Arrays
+pub mod Cells
+pub mod Blocks
+pub mod Theorem

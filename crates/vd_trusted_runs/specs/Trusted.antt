@@ -1,0 +1,45 @@
+-- Whole runs in which hosts for whose integrity attackers can act depart from their programs.
+use Rattle.std.specs.Prelude.{◌≡◌, ℕ, ◌^◌, ◌<◌, Bool, true, List, length}
+use Rattle.vd_base.specs.declared.ids.HostId.{HostId}
+use Rattle.vd_core.specs.declared.normal.NormalForm.{NormalForm}
+use Rattle.vd_constraints.specs.declared.labels.Labels.{Labels}
+use Rattle.vd_space.specs.Reading.{problem_of}
+use Rattle.vd_execution.specs.Joint.{Hosts, fresh}
+use Rattle.vd_execution.specs.World.{Tape}
+use Rattle.vd_joint.specs.Block.{block_of}
+use Rattle.vd_joint.specs.Emission.{emitting_at_start}
+use Rattle.vd_joint.specs.Outcome.{NumbersFit}
+use Rattle.vd_suite.specs.Parts.{suite_calls}
+use Rattle.vd_whole.specs.Lists.{protos_of}
+use Rattle.vd_trust.specs.Trust.{against, becomes_trusted, trusts_host}
+use Rattle.vd_assigned_dependence.specs.Assigned.{IsAssignment}
+use Rattle.vd_told.specs.Told.{IsDealt}
+use Rattle.vd_departing.specs.Copies.{IsInClear}
+use Rattle.vd_endorsed.specs.Endorsed.{outputs_given}
+use Rattle.vd_trusted_runs.specs.Runs.{RunsBlock}
+
+-- the hosts for whose integrity these principals cannot act
+abbrev pub keeps_from : NormalForm → ℕ → ℕ → Bool
+keeps_from p set h = trusts_host p (against set) h
+
+-- The program runs at these protocols from its start to this state of all hosts, where all others may send any words.
+abbrev pub RunsWithAttackers : NormalForm → Labels → List ℕ → ℕ → Tape → Hosts → Type 0
+RunsWithAttackers p l list set t w =
+    RunsBlock (length p.hosts) (protos_of (problem_of p l) list) (keeps_from p set) t (becomes_trusted l (against set)) (block_of p.body)
+    (emitting_at_start (suite_calls (length p.hosts)) (protos_of (problem_of p l) list)) fresh w
+
+-- each slot stands in clear, at one host or as copies at several
+abbrev pub StandsInClear : NormalForm → Labels → List ℕ → Type 0
+StandsInClear p l list = (x : ℕ) → IsInClear (protos_of (problem_of p l) list x)
+
+-- Some words that become trusted explain what the hosts that keep to their programs have printed: it is what the program tells them
+-- on the inputs, where these words are endorsed.
+pub record IsExplained (p : NormalForm) (l : Labels) (set : ℕ) (inputs : List (List ℕ)) (w : Hosts) : Type 0 where
+  pub words : List ℕ
+  pub printed : (h : HostId) → h.0 < length p.hosts → keeps_from p set h.0 ≡ true → (w h.0).printed ≡ outputs_given p (becomes_trusted l (against set)) h words inputs
+
+-- So it is at each valid assignment in clear, with each deal.
+abbrev pub RunsAreExplained : NormalForm → Labels → Type 0
+RunsAreExplained p l =
+    NumbersFit p → (list : List ℕ) → IsAssignment p l list → StandsInClear p l list → (set : ℕ) → set < 2 ^ length p.principals
+    → (inputs : List (List ℕ)) (t : Tape) → IsDealt inputs t → (w : Hosts) → RunsWithAttackers p l list set t w → IsExplained p l set inputs w
