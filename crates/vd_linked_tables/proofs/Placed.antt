@@ -11,7 +11,7 @@ use Rattle.vd_space.specs.declared.problem.Making.{Making}
 use Rattle.vd_space.specs.Validity.{protocols, is_candidate, can_stand}
 use Rattle.vd_space.specs.Costs.{One, Pair}
 use Rattle.vd_space.specs.Bounds.{lesser, least_below, only_if}
-use Rattle.vd_space.proofs.Kept.{listed_at}
+use Rattle.vd_space.proofs.Candidates.{listed_at}
 use Rattle.vd_path.specs.Transfers.{by_place, least_where}
 use Rattle.vd_path.proofs.Placed.{same_least, size_by_place, at_place}
 use Rattle.vd_prefixes.specs.declared.shift.Shift.{Shift}
