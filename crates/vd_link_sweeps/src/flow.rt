@@ -31,23 +31,23 @@ impl Carried {
         self.held.len().saturating_mul(self.told.len()) as u64
     }
 
-    /// Holds what the link costs at least by the settings of the near point, less the share of a number. Answers whether that is
+    /// Holds what the link costs at least by the settings of the near point, less the share of a turn. Answers whether that is
     /// another amount than before at some setting.
-    fn hold(&mut self, costs: &[i64], shares: &Shares, number: u64) -> bool {
+    fn hold(&mut self, costs: &[i64], shares: &Shares, turn: i64) -> bool {
         let mut has_changed = false;
         for (setting, cost) in costs.iter().enumerate() {
-            let held = cost.saturating_sub(shares.share(setting, number));
+            let held = cost.saturating_sub(shares.share(setting, turn));
             has_changed = put(&mut self.held, setting, held) || has_changed;
         }
         has_changed
     }
 
-    /// Holds less, by the share of a number. Answers whether that is less at some setting.
-    fn lower(&mut self, shares: &Shares, number: u64) -> bool {
+    /// Holds less, by the share of a turn. Answers whether that is less at some setting.
+    fn lower(&mut self, shares: &Shares, turn: i64) -> bool {
         let mut has_changed = false;
         for setting in 0..self.held.len() {
             let held = number_at(self.held.as_slice(), setting);
-            let held = held.saturating_sub(shares.share(setting, number));
+            let held = held.saturating_sub(shares.share(setting, turn));
             has_changed = put(&mut self.held, setting, held) || has_changed;
         }
         has_changed
@@ -91,7 +91,7 @@ pub struct Flow {
     leasts: Vec<i64>,
     /// The sum of these. No list costs less.
     pub bound: i64,
-    /// So many prices of links were looked at.
+    /// How much was computed: a price of a link that is looked at counts 1.
     pub work: u64,
     /// By point: whether what it costs or is told has changed since it was visited.
     is_waiting: Vec<bool>,
@@ -167,7 +167,7 @@ impl Flow {
         }
     }
 
-    /// Gives the share of a number to the link of an end, whose point is the near one, where the link costs so much at least by
+    /// Gives the share of a turn to the link of an end, whose point is the near one, where the link costs so much at least by
     /// the settings of that point. Answers whether what is told over it is another amount than before.
     pub fn give(
         &mut self,
@@ -175,29 +175,38 @@ impl Flow {
         end: End,
         costs: &[i64],
         shares: &Shares,
-        number: u64,
+        turn: i64,
     ) -> bool {
         if end.at < self.links.len() {
             let carried = &mut self.links[end.at];
-            if !carried.hold(costs, shares, number) {
+            if !carried.hold(costs, shares, turn) {
                 return false;
             }
-            self.work = self.work.saturating_add(carried.prices());
-            return carried.tell(tables.rows(end.turned()));
+            let prices = carried.prices();
+            let has_changed = carried.tell(tables.rows(end.turned()));
+            self.count(prices);
+            return has_changed;
         }
         false
     }
 
-    /// Gives the share of a number of what is held of the link of an end to the link.
-    pub fn give_back(&mut self, tables: &Tables, end: End, shares: &Shares, number: u64) -> bool {
+    /// Gives the share of a turn of what is held of the link of an end to the link.
+    pub fn give_back(&mut self, tables: &Tables, end: End, shares: &Shares, turn: i64) -> bool {
         if end.at < self.links.len() {
             let carried = &mut self.links[end.at];
-            if !carried.lower(shares, number) {
+            if !carried.lower(shares, turn) {
                 return false;
             }
-            self.work = self.work.saturating_add(carried.prices());
-            return carried.tell(tables.rows(end.turned()));
+            let prices = carried.prices();
+            let has_changed = carried.tell(tables.rows(end.turned()));
+            self.count(prices);
+            return has_changed;
         }
         false
+    }
+
+    /// Counts so much work.
+    pub fn count(&mut self, work: u64) {
+        self.work = self.work.saturating_add(work);
     }
 }

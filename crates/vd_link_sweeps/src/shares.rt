@@ -124,14 +124,18 @@ impl Shares {
         }
     }
 
-    /// What the link of a number gets at a setting.
-    pub fn share(&self, setting: usize, number: u64) -> i64 {
+    /// Whose turn the link of a number is in this sweep; none where it gets nothing.
+    pub fn turn_of(&self, number: u64) -> Option<i64> {
         if number >= self.links {
-            return 0;
+            return None;
         }
+        Some(number_of(number.wrapping_add(self.turn) % self.links))
+    }
+
+    /// What the link with a turn gets at a setting.
+    pub fn share(&self, setting: usize, turn: i64) -> i64 {
         let part = number_at(self.parts.as_slice(), setting);
-        let number = number.wrapping_add(self.turn) % self.links;
-        if number_of(number) < number_at(self.more.as_slice(), setting) {
+        if turn < number_at(self.more.as_slice(), setting) {
             part.saturating_add(1)
         } else {
             part

@@ -14,6 +14,9 @@ use std::alloc::{AllocError, Global};
 /// A climb ends after so many sweeps in which the bound did not rise.
 const PATIENCE: u32 = 48;
 
+/// To split what a point costs at a setting takes as long as to look at so many prices.
+const SPLIT: u64 = 16;
+
 /// What sweeps either way came to.
 #[derive(Drop)]
 pub struct State {
@@ -22,6 +25,10 @@ pub struct State {
     /// Whether the last sweep went forward.
     is_forward: bool,
     shares: Shares,
+    /// What was computed besides the sweeps.
+    besides: u64,
+    /// What it takes to put each point where it costs least.
+    once: u64,
 }
 
 impl State {
@@ -37,6 +44,8 @@ impl State {
             backward: Flow::nothing(alloc, tables, network, false)?,
             is_forward: false,
             shares: Shares::room(alloc, most)?,
+            besides: 0,
+            once: work_of_all(tables, network),
         })
     }
 
@@ -60,9 +69,17 @@ impl State {
         self.last().bound
     }
 
-    /// How much was computed so far: so many prices of links were looked at.
+    /// How much was computed so far, where to look at a price of a link counts 1.
     pub fn work(&self) -> u64 {
-        self.forward.work.saturating_add(self.backward.work)
+        self.forward
+            .work
+            .saturating_add(self.backward.work)
+            .saturating_add(self.besides)
+    }
+
+    /// Counts what is computed besides.
+    pub fn count(&mut self, work: u64) {
+        self.besides = self.besides.saturating_add(work);
     }
 
     /// What the shifts so far come to.
@@ -151,6 +168,7 @@ impl State {
         network: &Network,
         fixed: &[Option<usize>],
     ) -> Result<Witness, AllocError> {
+        self.count(self.once);
         let mut list = Vec::new(alloc);
         for point in 0..network.by_point.len() {
             let setting = match fixed.get(point) {
@@ -214,6 +232,23 @@ impl State {
     }
 }
 
+/// What it takes to sum up what each point costs, and to read what a list costs.
+fn work_of_all(tables: &Tables, network: &Network) -> u64 {
+    let mut work: u64 = 0;
+    for (point, costs) in tables.costs.iter().enumerate() {
+        work = work.saturating_add(work_of(costs.as_slice(), network.of_point(point)));
+    }
+    work
+}
+
+/// What it takes to sum up what a point costs, and to split it over its links.
+fn work_of(costs: &[i64], ends: &[End]) -> u64 {
+    let links = ends.len() as u64;
+    links
+        .saturating_add(SPLIT)
+        .saturating_mul(costs.len() as u64)
+}
+
 /// What the point costs by its settings, with what its links tell it in a sweep that way.
 fn sum_up(
     shares: &mut Shares,
@@ -243,14 +278,9 @@ fn visit(
     point: usize,
     forward: bool,
 ) {
-    sum_up(
-        shares,
-        here,
-        back,
-        row_at(tables.costs.as_slice(), point),
-        ends,
-        forward,
-    );
+    let costs = row_at(tables.costs.as_slice(), point);
+    here.count(work_of(costs, ends));
+    sum_up(shares, here, back, costs, ends, forward);
     here.note(point, shares.least());
     if let Some(split) = Split::of(ends, forward) {
         shares.split(split);
@@ -276,7 +306,9 @@ fn send_back(
     let Some(nearest) = nearest_before(ends) else {
         return;
     };
-    shares.begin(row_at(tables.costs.as_slice(), point));
+    let costs = row_at(tables.costs.as_slice(), point);
+    here.count(work_of(costs, ends));
+    shares.begin(costs);
     for end in ends {
         if end.is_ahead(false) {
             shares.add(here.held(end.at));
@@ -286,7 +318,10 @@ fn send_back(
     }
     here.note(point, shares.least());
     shares.split(Split::whole());
-    if here.give_back(tables, nearest, shares, 0) {
+    let Some(turn) = shares.turn_of(0) else {
+        return;
+    };
+    if here.give_back(tables, nearest, shares, turn) {
         here.wake(nearest.other);
         back.wake(nearest.other);
     }
@@ -294,7 +329,10 @@ fn send_back(
 
 /// Gives the share of a number to the link of an end, and wakes the other point where it is told something else by that.
 fn give(shares: &Shares, here: &mut Flow, back: &mut Flow, tables: &Tables, end: End, number: u64) {
-    if here.give(tables, end, back.told(end.at), shares, number) {
+    let Some(turn) = shares.turn_of(number) else {
+        return;
+    };
+    if here.give(tables, end, back.told(end.at), shares, turn) {
         here.wake(end.other);
         back.wake(end.other);
     }
