@@ -31,7 +31,8 @@ use Rattle.vd_space.specs.Labelled.{HasLabels, IsLabelled}
 use Rattle.vd_space.specs.Reading.{problem_of}
 use Rattle.vd_space.specs.Validity.{acts_for, covers, guard_told, is_told, protocol, protocols, takes_part}
 use Rattle.vd_space.proofs.Counted.{as_many as as_many_slots}
-use Rattle.vd_space.proofs.Kept.{IsValid, listed_at, parts_of}
+use Rattle.vd_space.proofs.Candidates.{listed_at}
+use Rattle.vd_space.proofs.Kept.{IsValid, parts_of}
 use Rattle.vd_space.proofs.Listed.{has_hosts_at}
 use Rattle.vd_space.proofs.Programs.{is_labelled, names_below}
 use Rattle.vd_dependence.proofs.Formulas.{acts_for as acts_at}
