@@ -61,13 +61,13 @@ module _ (hosts : ℕ) (t : Tape) (deal : IsValidDeal t) (inputs : ℕ → List 
   abbrev s : Suite (machine t inputs)
   s = suite t inputs hosts
 
-  abbrev theory : Laws (machine t inputs) (suite t inputs hosts)
+  abbrev pub theory : Laws (machine t inputs) (suite t inputs hosts)
   theory = laws hosts t deal inputs dealt proto clear declared
 
-  abbrev Em : Type 0
+  abbrev pub Em : Type 0
   Em = Emitting (suite_calls hosts) proto
 
-  abbrev emits : Block → Emission (suite_calls hosts) proto
+  abbrev pub emits : Block → Emission (suite_calls hosts) proto
   emits b = emission_of (machine t inputs) (suite t inputs hosts) proto b
 
   abbrev pub Right' : Sight → List Parts → Hosts → SlotState → Type 0
@@ -76,10 +76,10 @@ module _ (hosts : ℕ) (t : Tape) (deal : IsValidDeal t) (inputs : ℕ → List 
   abbrev pub Goes : Sight → Sight → List ℕ → List Parts → List Parts → Doing → ℕ → Hosts → Hosts → SlotState → Type 0
   Goes o o' next held held' does turn w u c = Leads hosts t deal inputs dealt proto clear declared k declassified stays heard o o' next held held' does turn w u c
 
-  abbrev Tie : Sight → Em → Hosts → SlotState → Type 0
+  abbrev pub Tie : Sight → Em → Hosts → SlotState → Type 0
   Tie o e w c = Ties hosts t inputs proto clear o e.next e.held w c
 
-  abbrev Last : Sight → List Parts → ℕ → ℕ → Type 0
+  abbrev pub Last : Sight → List Parts → ℕ → ℕ → Type 0
   Last o held h r = Lasting hosts t inputs proto clear o held h r
 
   -- each host that keeps and has the loop has the number of the turn
@@ -134,7 +134,7 @@ module _ (hosts : ℕ) (t : Tape) (deal : IsValidDeal t) (inputs : ℕ → List 
       further h r low = let le = a0.longer h in omega (arith, low, le)
 
   -- ---- bindings
-  let_step : (o : Sight) (e : Em) (w0 : Hosts) (c0 : SlotState) (turn : ℕ) (has : ℕ → Bool) (x : SlotId) (right : Right) → Tie o e w0 c0 → x.0 ≡ length e.held
+  pub let_step : (o : Sight) (e : Em) (w0 : Hosts) (c0 : SlotState) (turn : ℕ) (has : ℕ → Bool) (x : SlotId) (right : Right) → Tie o e w0 c0 → x.0 ≡ length e.held
       → right_sees right o ≡ true → RightFits hosts right → RightPlaced (machine t inputs) (suite t inputs hosts) proto (proto x.0) right → turn < 2 ^ 32 → (right ≡ Turn → (h : ℕ) → is_at (proto x.0) (host h) ≡ true → has h ≡ true)
       → right_flows k x right ≡ true → (w u : Hosts) (c : SlotState) → Right' o e.held w c → Loop has e w turn
       → RunsGadgets k.known t (right_made (suite_calls hosts) proto (proto x.0) right e).acts w u → (is_given k.given.endorsed x right ≡ true → IsOneWord k.known (right_made (suite_calls hosts) proto (proto x.0) right e).given.at u)
@@ -182,7 +182,7 @@ module _ (hosts : ℕ) (t : Tape) (deal : IsValidDeal t) (inputs : ℕ → List 
       same Array x is = ap Cells (a.arrays x is)
 
   -- ---- branches
-  picked_host : (test : ℕ → Bool) (from count h : ℕ) → from ≤ h → h < from + count → test h ≡ true → IsHost (picked from count test) h
+  pub picked_host : (test : ℕ → Bool) (from count h : ℕ) → from ≤ h → h < from + count → test h ≡ true → IsHost (picked from count test) h
   picked_host test from zero h low high is = absurd (omega (arith, low, high))
   picked_host test from (suc count) h low high is = by (λ d. picked_host test (from + 1) count h (higher d) (omega (arith, high)) is) (test from) refl
     where
@@ -200,28 +200,28 @@ module _ (hosts : ℕ) (t : Tape) (deal : IsValidDeal t) (inputs : ℕ → List 
       (e : Em) (w0 : Hosts) (c0 : SlotState) (turn : ℕ) (has : ℕ → Bool) (is : length e.held ≡ count) (covers1 : (h : ℕ) → turns_at (machine t inputs) (suite t inputs hosts) proto tb h ≡ true → has h ≡ true)
       (covers2 : (h : ℕ) → turns_at (machine t inputs) (suite t inputs hosts) proto eb h ≡ true → has h ≡ true) (small : turn < 2 ^ 32) (ties : Tie o e w0 c0) (ts : TurnsIn (machine t inputs) (suite t inputs hosts) proto has o e w0 turn)
       (w u v : Hosts) (c : SlotState) (trust : Right' o e.held w c) (loop : Loop has e w turn) where
-    abbrev test : ℕ → Bool
+    abbrev pub test : ℕ → Bool
     test g = (emits tb).takes_part g || (emits eb).takes_part g
 
-    abbrev from : Parts
+    abbrev pub from : Parts
     from = part_of hosts t inputs proto clear e.held x.0
 
-    abbrev guard : Made Gadget (List (ℕ × ℕ))
+    abbrev pub guard : Made Gadget (List (ℕ × ℕ))
     guard = delivered (suite_calls hosts) proto (proto x.0) (part_of hosts t inputs proto clear e.held x.0) (picked 0 hosts (λ g. (emits tb).takes_part g || (emits eb).takes_part g)) e.next
 
-    abbrev start : Em
+    abbrev pub start : Em
     start = record { next = guard.next; held = e.held; loop = e.loop }
 
-    abbrev first : Emitted (suite_calls hosts) proto
+    abbrev pub first : Emitted (suite_calls hosts) proto
     first = (emits tb).emit start
 
-    abbrev second : Emitted (suite_calls hosts) proto
+    abbrev pub second : Emitted (suite_calls hosts) proto
     second = (emits eb).emit first.state
 
-    abbrev then_steps : List Doing
+    abbrev pub then_steps : List Doing
     then_steps = each (given_step k.given.endorsed) tb
 
-    abbrev else_steps : List Doing
+    abbrev pub else_steps : List Doing
     else_steps = each (given_step k.given.endorsed) eb
 
     within : {g : ℕ} → g < 0 + hosts → g < hosts
@@ -233,10 +233,10 @@ module _ (hosts : ℕ) (t : Tape) (deal : IsValidDeal t) (inputs : ℕ → List 
     fresh : IsFresh e.next guard.acts guard.next
     fresh = delivered_fresh hosts t deal inputs dealt proto clear declared (proto x.0) (clear x.0) from (picked 0 hosts test) joins e.next ties.ready.known
 
-    comes1 : loops.Comes (machine t inputs) (suite t inputs hosts) proto theory declared (emits tb) (effect_of tb) o (sees tb o).after (length (slots tb)) (turns_at (machine t inputs) (suite t inputs hosts) proto tb) count
+    pub comes1 : loops.Comes (machine t inputs) (suite t inputs hosts) proto theory declared (emits tb) (effect_of tb) o (sees tb o).after (length (slots tb)) (turns_at (machine t inputs) (suite t inputs hosts) proto tb) count
     comes1 = means (machine t inputs) (suite t inputs hosts) proto theory declared tb o count row1 seen1 fits1 placed1
 
-    comes2 : loops.Comes (machine t inputs) (suite t inputs hosts) proto theory declared (emits eb) (effect_of eb) o (sees eb o).after (length (slots eb)) (turns_at (machine t inputs) (suite t inputs hosts) proto eb) (count + length (slots tb))
+    pub comes2 : loops.Comes (machine t inputs) (suite t inputs hosts) proto theory declared (emits eb) (effect_of eb) o (sees eb o).after (length (slots eb)) (turns_at (machine t inputs) (suite t inputs hosts) proto eb) (count + length (slots tb))
     comes2 = means (machine t inputs) (suite t inputs hosts) proto theory declared eb o (count + length (slots tb)) row2 seen2 fits2 placed2
 
     pub after_branch : After (machine t inputs) (suite t inputs hosts) proto o o e (if_made (suite_calls hosts) proto x (emits tb) (emits eb) e) (length (slots tb) + length (slots eb)) w0
@@ -245,30 +245,30 @@ module _ (hosts : ℕ) (t : Tape) (deal : IsValidDeal t) (inputs : ℕ → List 
         loops.branch_after (machine t inputs) (suite t inputs hosts) proto theory declared o (sees tb o).after (sees eb o).after (emits tb) (emits eb) (each stmt_effect tb) (each stmt_effect eb) (length (slots tb)) (length (slots eb)) count
         (turns_at (machine t inputs) (suite t inputs hosts) proto tb) (turns_at (machine t inputs) (suite t inputs hosts) proto eb) comes1 comes2 x sees_x reaches (both_idle (machine t inputs) (suite t inputs hosts) proto theory declared tb eb) e w0 c0 turn has is covers1 covers2 small ties ts
 
-    abbrev w1 : Hosts
+    abbrev pub w1 : Hosts
     w1 = (loops.reached (machine t inputs) (suite t inputs hosts) proto theory declared o (sees tb o).after (sees eb o).after (emits tb) (emits eb) (each stmt_effect tb) (each stmt_effect eb) (length (slots tb)) (length (slots eb)) count
         (turns_at (machine t inputs) (suite t inputs hosts) proto tb) (turns_at (machine t inputs) (suite t inputs hosts) proto eb) comes1 comes2 x sees_x reaches (both_idle (machine t inputs) (suite t inputs hosts) proto theory declared tb eb) e w0 c0 turn has is covers1 covers2 small ties ts).between.reached
 
-    begins : (Tie o start w1 c0 × TurnsIn (machine t inputs) (suite t inputs hosts) proto has o start w1 turn)
+    pub begins : (Tie o start w1 c0 × TurnsIn (machine t inputs) (suite t inputs hosts) proto has o start w1 turn)
         × (Tie o first.state w1 c0 × TurnsIn (machine t inputs) (suite t inputs hosts) proto has o first.state w1 turn × (length first.state.held ≡ count + length (slots tb)))
     begins =
         loops.begins_at (machine t inputs) (suite t inputs hosts) proto theory declared o (sees tb o).after (sees eb o).after (emits tb) (emits eb) (each stmt_effect tb) (each stmt_effect eb) (length (slots tb)) (length (slots eb)) count
         (turns_at (machine t inputs) (suite t inputs hosts) proto tb) (turns_at (machine t inputs) (suite t inputs hosts) proto eb) comes1 comes2 x sees_x reaches (both_idle (machine t inputs) (suite t inputs hosts) proto theory declared tb eb) e w0 c0 turn has is covers1 covers2 small ties ts
 
-    after1 : After (machine t inputs) (suite t inputs hosts) proto o (sees tb o).after start first (length (slots tb)) w1 (effect_of tb turn c0)
+    pub after1 : After (machine t inputs) (suite t inputs hosts) proto o (sees tb o).after start first (length (slots tb)) w1 (effect_of tb turn c0)
     after1 = comes1 start w1 c0 turn has is covers1 small begins.0.0 begins.0.1
 
-    after2 : After (machine t inputs) (suite t inputs hosts) proto o (sees eb o).after first.state second (length (slots eb)) w1 (effect_of eb turn c0)
+    pub after2 : After (machine t inputs) (suite t inputs hosts) proto o (sees eb o).after first.state second (length (slots eb)) w1 (effect_of eb turn c0)
     after2 = comes2 first.state w1 c0 turn has begins.1.2 covers2 small begins.1.0 begins.1.1
 
-    flow1 : flows k tb ≡ true
+    pub flow1 : flows k tb ≡ true
     flow1 = by (k.kept x.0) flow
       where
         by : (b : Bool) → (if b then flows k tb && flows k eb else hides k tb && hides k eb) ≡ true → flows k tb ≡ true
         by true f = (and_parts (flows k tb) (flows k eb) f).0
         by false f = hidden_flows k tb (and_parts (hides k tb) (hides k eb) f).0
 
-    flow2 : flows k eb ≡ true
+    pub flow2 : flows k eb ≡ true
     flow2 = by (k.kept x.0) flow
       where
         by : (b : Bool) → (if b then flows k tb && flows k eb else hides k tb && hides k eb) ≡ true → flows k eb ≡ true
@@ -276,18 +276,18 @@ module _ (hosts : ℕ) (t : Tape) (deal : IsValidDeal t) (inputs : ℕ → List 
         by false f = hidden_flows k eb (and_parts (hides k tb) (hides k eb) f).1
 
     module _ (guard_run : RunsGadgets k.known t guard.acts w u) where
-      framed : IsFramed (Free e.next) w u
+      pub framed : IsFramed (Free e.next) w u
       framed = runs_framed (Free e.next) k.known t guard.acts w u fresh.touches guard_run
 
-      trust1 : Right' o e.held u c
+      pub trust1 : Right' o e.held u c
       trust1 =
           trust_on hosts t inputs proto clear k.known k.kept o e.next e.held w0 c0 ties w u c (still_of e.next w u framed)
           (quiet_outer hosts t inputs proto clear k.known k.kept (Free e.next) w u c.world framed trust.outer) trust
 
-      trust2 : Right' o first.state.held u c
+      pub trust2 : Right' o first.state.held u c
       trust2 = subst (λ (l : List Parts). Right' o l u c) (sym after1.held) (trust_held hosts t inputs proto clear k.known k.kept o e.held after1.more u c ties.made trust1)
 
-      loop1 : Loop has start u turn
+      pub loop1 : Loop has start u turn
       loop1 h low there keep =
           let q = loop h low there keep in
           (still_of e.next w u framed h (slice_index e.loop h) q.1 ∙ q.0, further h (slice_index e.loop h) q.1)
@@ -295,7 +295,7 @@ module _ (hosts : ℕ) (t : Tape) (deal : IsValidDeal t) (inputs : ℕ → List 
           further : (h r : ℕ) → r < slice_index e.next h → r < slice_index guard.next h
           further h r less = let le = fresh.longer h in omega (arith, less, le)
 
-      loop2 : Loop has first.state u turn
+      pub loop2 : Loop has first.state u turn
       loop2 h low there keep =
           let q = loop1 h low there keep in
           let P : List ℕ → Type 0 = λ l. ((u h).registers (slice_index l h) ≡ turn) × (slice_index l h < slice_index first.state.next h) in
@@ -351,7 +351,7 @@ module _ (hosts : ℕ) (t : Tape) (deal : IsValidDeal t) (inputs : ℕ → List 
       all_kept : (other : Bool) → Taken other → (h r : ℕ) → r < slice_index e.next h → Last o e.held h r → (v h).registers r ≡ (w h).registers r
       all_kept other a h r low last = a.kept h r low last ∙ still_of e.next w u framed h r low
 
-      abbrev zero_test : Bool
+      abbrev pub zero_test : Bool
       zero_test = nat_eq (word_at c x) 0
 
       abbrev Whole : Type 0
@@ -368,11 +368,11 @@ module _ (hosts : ℕ) (t : Tape) (deal : IsValidDeal t) (inputs : ℕ → List 
       }
 
       -- nothing in trust changes in either way
-      hidden_agrees : (b : Bool) → hides k tb ≡ true → hides k eb ≡ true → (words : List ℕ) (after : SlotState) → all_done (if b then else_steps else then_steps) turn (given c words) ≡ given after [] → Agree k c after
+      pub hidden_agrees : (b : Bool) → hides k tb ≡ true → hides k eb ≡ true → (words : List ℕ) (after : SlotState) → all_done (if b then else_steps else then_steps) turn (given c words) ≡ given after [] → Agree k c after
       hidden_agrees true h1 h2 words after run = subst (λ (z : Given). Agree k c z.state) run (hidden_still k eb h2 turn (given c words)).agree
       hidden_agrees false h1 h2 words after run = subst (λ (z : Given). Agree k c z.state) run (hidden_still k tb h1 turn (given c words)).agree
 
-      hidden_way : (b : Bool) → hides k tb ≡ true → hides k eb ≡ true → (more : List ℕ)
+      pub hidden_way : (b : Bool) → hides k tb ≡ true → hides k eb ≡ true → (more : List ℕ)
           → all_done (if b then else_steps else then_steps) turn (given c more) ≡ given (in_order (if b then each stmt_effect eb else each stmt_effect tb) turn c) more
       hidden_way true h1 h2 more = hidden_runs k eb h2 turn c more
       hidden_way false h1 h2 more = hidden_runs k tb h1 turn c more
@@ -390,13 +390,13 @@ module _ (hosts : ℕ) (t : Tape) (deal : IsValidDeal t) (inputs : ℕ → List 
             kept = all_kept other a;
           }
 
-      guarded : k.kept x.0 ≡ true → RightAt k.known u (word_at c x) guard.given
+      pub guarded : k.kept x.0 ≡ true → RightAt k.known u (word_at c x) guard.given
       guarded there =
           delivered_right hosts t deal inputs dealt proto clear declared k declassified stays (proto x.0) (clear x.0) (declared x.0) (stays x.0 there) from (slice_index c0.words x.0) (word_at c x) (picked 0 hosts test) joins e.next w0 ties.ready
           (operand_of (machine t inputs) (suite t inputs hosts) proto theory declared o e.next e.held w0 c0 ties x.0 sees_x) w u
           (operand hosts t inputs proto clear k.known k.kept o e.next e.held w0 c0 ties w c trust x.0 sees_x there) guard_run
 
-      nobody : list_any (λ q. k.known q.0) guard.given ≡ false → NoneKeeps hosts t deal inputs dealt proto clear declared k declassified stays n endorses closed alike test
+      pub nobody : list_any (λ q. k.known q.0) guard.given ≡ false → NoneKeeps hosts t deal inputs dealt proto clear declared k declassified stays n endorses closed alike test
       nobody none h low part keep =
           none_keeps k.known guard.given none (picked 0 hosts test) (given_hosts hosts t deal inputs dealt proto clear declared (proto x.0) from (picked 0 hosts test) e.next) h (picked_host test 0 hosts h (omega arith) (omega (arith, low)) part) keep
 
@@ -423,19 +423,19 @@ module _ (hosts : ℕ) (t : Tape) (deal : IsValidDeal t) (inputs : ℕ → List 
   module _ (body : Block) (goes : BlockLeads body) (o : Sight) (count : ℕ) (row : InRow count (slots body)) (seen : (sees body o).all ≡ true) (fits : Fits hosts body) (placed : Placed (machine t inputs) (suite t inputs hosts) proto body)
       (low : low_block hosts t deal inputs dealt proto clear declared k declassified stays n body ≡ true) (flow : flows k body ≡ true) (e : Em) (w0 : Hosts) (c0 : SlotState) (is : length e.held ≡ count) (ties : Tie o e w0 c0)
       (w : Hosts) (c : SlotState) (trust : Right' o e.held w c) where
-    abbrev repeat : Emission (suite_calls hosts) proto
+    abbrev pub repeat : Emission (suite_calls hosts) proto
     repeat = emits body
 
-    abbrev inner : Em
+    abbrev pub inner : Em
     inner = record { next = after_loop_registers repeat.acts_at 0 e.next; held = e.held; loop = e.next }
 
-    abbrev registers : List Part
+    abbrev pub registers : List Part
     registers = loop_registers repeat.acts_at 0 e.next
 
-    abbrev made : Emitted (suite_calls hosts) proto
+    abbrev pub made : Emitted (suite_calls hosts) proto
     made = repeat.emit inner
 
-    comes : loops.Comes (machine t inputs) (suite t inputs hosts) proto theory declared (emits body) (effect_of body) o (sees body o).after (length (slots body)) (turns_at (machine t inputs) (suite t inputs hosts) proto body) count
+    pub comes : loops.Comes (machine t inputs) (suite t inputs hosts) proto theory declared (emits body) (effect_of body) o (sees body o).after (length (slots body)) (turns_at (machine t inputs) (suite t inputs hosts) proto body) count
     comes = means (machine t inputs) (suite t inputs hosts) proto theory declared body o count row seen fits placed
 
     pub after_loop : (often : ℕ) → often ≤ 2 ^ 32 → After (machine t inputs) (suite t inputs hosts) proto o o e (for_made (suite_calls hosts) proto often (emits body) e) (length (slots body)) w0 (turns often (effect_of body) c0)
@@ -444,7 +444,7 @@ module _ (hosts : ℕ) (t : Tape) (deal : IsValidDeal t) (inputs : ℕ → List 
         (turns_act (machine t inputs) (suite t inputs hosts) proto theory declared body) e w0 c0 is ties turns small
 
     -- a loop's registers are free ones
-    fresh_ones : (h r : ℕ) → r < slice_index e.next h → IsIn registers h r → ⊥
+    pub fresh_ones : (h r : ℕ) → r < slice_index e.next h → IsIn registers h r → ⊥
     fresh_ones h r less q =
         let p = loops.not_below repeat.acts_at 0 e.next h r q in
         let a = p.2 in
@@ -452,18 +452,23 @@ module _ (hosts : ℕ) (t : Tape) (deal : IsValidDeal t) (inputs : ℕ → List 
         let same : slice_index e.next h ≡ slice_index e.next p.0 = ap (slice_index e.next) (a ∙ from_zero p.0) in
         omega (arith, less, b, same)
 
-    begun_still : (v : Hosts) (turn : ℕ) → Still hosts t inputs proto clear k.known k.kept e.next v (turn_begun registers turn v)
+    pub begun_still : (v : Hosts) (turn : ℕ) → Still hosts t inputs proto clear k.known k.kept e.next v (turn_begun registers turn v)
     begun_still v turn h r less = theory.begun_keeps v registers turn h r (fresh_ones h r less)
 
-    -- where a loop stands before a turn
-    record Turned (turn : ℕ) (v : Hosts) : Type 0 where
-      words : List ℕ
-      after : SlotState
-      runs : (more : List ℕ) → turns turn (run_of k body) (given c (words ++ more)) ≡ given after more
-      holds : Right' o e.held v after
-      kept : (h r : ℕ) → r < slice_index e.next h → Last o e.held h r → (v h).registers r ≡ (w h).registers r
+    pub loop_at : (u : Hosts) (turn : ℕ) → Loop repeat.acts_at inner (turn_begun registers turn u) turn
+    loop_at u turn h less there keep =
+        let within : h < length e.next = subst (λ z. h < z) (sym ties.ready.known) less in
+        (theory.begun_sets u registers turn h (slice_index e.next h) (loops.has_register repeat.acts_at e.next h within there), loops.register_taken repeat.acts_at e.next h within there)
 
-    all_turned : (turn : ℕ) → turn ≤ 2 ^ 32 → (v : Hosts) → RunsTurns turn (λ i u u'. Run body inner (turn_begun registers i u) u') w v → Turned turn v
+    -- where a loop stands before a turn
+    pub record Turned (turn : ℕ) (v : Hosts) : Type 0 where
+      pub words : List ℕ
+      pub after : SlotState
+      pub runs : (more : List ℕ) → turns turn (run_of k body) (given c (words ++ more)) ≡ given after more
+      pub holds : Right' o e.held v after
+      pub kept : (h r : ℕ) → r < slice_index e.next h → Last o e.held h r → (v h).registers r ≡ (w h).registers r
+
+    pub all_turned : (turn : ℕ) → turn ≤ 2 ^ 32 → (v : Hosts) → RunsTurns turn (λ i u u'. Run body inner (turn_begun registers i u) u') w v → Turned turn v
     all_turned zero small v run = record {
       words = [];
       after = c;
@@ -497,11 +502,6 @@ module _ (hosts : ℕ) (t : Tape) (deal : IsValidDeal t) (inputs : ℕ → List 
       where
         further : (h r : ℕ) → r < slice_index e.next h → r < slice_index inner.next h
         further h r less = let le = loops.after_longer repeat.acts_at 0 e.next h in omega (arith, less, le)
-
-        loop_at : (u : Hosts) (turn : ℕ) → Loop repeat.acts_at inner (turn_begun registers turn u) turn
-        loop_at u turn h less there keep =
-            let within : h < length e.next = subst (λ z. h < z) (sym ties.ready.known) less in
-            (theory.begun_sets u registers turn h (slice_index e.next h) (loops.has_register repeat.acts_at e.next h within there), loops.register_taken repeat.acts_at e.next h within there)
 
     pub loop_leads : (turns : ℕ) → turns ≤ 2 ^ 32 → (turn : ℕ) (v : Hosts) → RunsTurns turns (λ i u u'. Run body inner (turn_begun registers i u) u') w v
         → Goes o o e.next e.held made.state.held (given_step k.given.endorsed (Stmt-F.For turns (each (given_step k.given.endorsed) body))) turn w v c

@@ -8,4 +8,5 @@ pub mod Guards
 pub mod Arrays
 pub mod Cells
 pub mod Blocks
+pub mod Stopping
 pub mod Theorem

@@ -1,11 +1,14 @@
 -- What hosts that keep to their programs print in a whole run in which others depart.
-use Rattle.std.proofs.Common.{◌≡◌, ℕ, zero, suc, ◌+◌, ◌^◌, ◌<◌, ◌≤◌, nat_eq, ◌||◌, Bool, true, false, true≢false, if◌then◌else◌, List, [], ◌∷◌, ◌++◌, inl, length, drop, map, replicate, slice_index, slice_index_or, refl, sym, ap, ◌∙◌, arith}
+use Rattle.std.proofs.Common.{◌≡◌, ℕ, zero, suc, ◌+◌, ◌^◌, ◌<◌, ◌≤◌, nat_eq, ◌||◌, Bool, true, false, true≢false, if◌then◌else◌, List, [], ◌∷◌, ◌++◌, inl, length, drop, map, replicate, slice_index, slice_index_or, refl, sym, ap, subst, ◌∙◌, arith, ◌⊎◌, nat_lt, inr}
+use Rattle.std.proofs.lemmas.Bool.Decides.{nat_tests}
+use Rattle.std.proofs.lemmas.List.{get_or_past}
 use Rattle.std.specs.Prelude.{filter}
 use Rattle.std.specs.List.{concat, list_all, list_any, range_with_len}
 use Rattle.std.proofs.lemmas.Bool.{and_parts, eqb-true}
 use Rattle.vd_base.specs.declared.ids.HostId.{HostId}
 use Rattle.vd_base.specs.declared.protocols.Proto.{Proto}
 use Rattle.vd_base.specs.declared.protocols.Proto.TheVariants.{Local, Rep, Commit, Add, Xor}
+use Rattle.vd_base.specs.Protocols.{protocols_of}
 use Rattle.vd_base.specs.HostSets.{has_host, host}
 use Rattle.vd_core.specs.declared.normal.NormalForm.{NormalForm}
 use Rattle.vd_core.specs.Facts.{nothing_seen, Seeing, slots_step, seeing_step, seeing_all, IsWellMade}
@@ -16,6 +19,7 @@ use Rattle.vd_constraints.specs.Satisfies.{Satisfies}
 use Rattle.vd_constraints.specs.Scoped.{stmt_below}
 use Rattle.vd_constraints.proofs.InSight.{well_made_scoped}
 use Rattle.vd_space.specs.Reading.{problem_of}
+use Rattle.vd_space.specs.Validity.{protocol}
 use Rattle.vd_execution.specs.Joint.{Hosts, fresh}
 use Rattle.vd_execution.specs.World.{Tape}
 use Rattle.vd_joint.specs.Block.{block_of, each}
@@ -48,9 +52,10 @@ use Rattle.vd_told.proofs.Fits.{all_fit, no_turns, tied_at_start}
 use Rattle.vd_departing.specs.Copies.{IsInClear}
 use Rattle.vd_endorsed.specs.Endorsed.{Doing, Given, all_done, given_step}
 use Rattle.vd_endorsed.proofs.Hiding.{run_of}
-use Rattle.vd_trusted_runs.specs.Trusted.{IsExplained, RunsAreExplained, RunsWithAttackers, StandsInClear}
+use Rattle.vd_trusted_runs.specs.Trusted.{Begins, FrontsAreExplained, IsExplained, IsExplainedSoFar, RunsAreExplained, RunsIntoAttack, RunsWithAttackers, StandsInClear}
 use Rattle.vd_trusted_runs.proofs.Calls.{IsKeptAt}
 use Rattle.vd_trusted_runs.proofs.Statements.{given}
+use Rattle.vd_trusted_runs.proofs.Stopping.{Stopped, block_stops}
 use Rattle.vd_trusted_runs.proofs.Blocks.{block_leads, Goes, Right'}
 
 -- ---- a visible slot is one of the program's
@@ -111,6 +116,24 @@ kept_somewhere keeps n few (Commit p v) clear is = absurd clear
 kept_somewhere keeps n few (Add a b) clear is = absurd clear
 kept_somewhere keeps n few (Xor a b) clear is = absurd clear
 
+first_in_clear : (n : ℕ) → IsInClear (slice_index_or (protocols_of n) 0 (Local (host 0)))
+unfolding lib.Count.ones
+first_in_clear zero = tt
+first_in_clear (suc n) = tt
+
+nat_order : (a b : ℕ) → (a < b) ⊎ (b ≤ a)
+nat_order a b = by (nat_lt a b) refl
+  where
+    lower : nat_lt a b ≡ true → a < b
+    lower e = grind (arith, nat_tests)
+
+    higher : nat_lt a b ≡ false → b ≤ a
+    higher e = grind (arith, nat_tests)
+
+    by : (c : Bool) → nat_lt a b ≡ c → (a < b) ⊎ (b ≤ a)
+    by true e = inl (lower e)
+    by false e = inr (higher e)
+
 none_seen : (u : Use) (x : ℕ) → Sees nothing_seen u x → ⊥
 none_seen Binding x i = true≢false (sym i)
 none_seen Variable x i = true≢false (sym i)
@@ -132,7 +155,7 @@ all_dropped (x ∷ xs) = refl
 from_zero : (i : ℕ) → 0 + i ≡ i
 from_zero i = omega arith
 
-module _ (p : NormalForm) (l : Labels) (well : IsWellMade p) (satisfies : Satisfies (system_of p) l) (numbers : NumbersFit p) (list : List ℕ) (assigned : IsAssignment p l list) (clear : StandsInClear p l list) (set : ℕ) (low : set < 2 ^ length p.principals)
+module _ (p : NormalForm) (l : Labels) (well : IsWellMade p) (satisfies : Satisfies (system_of p) l) (numbers : NumbersFit p) (list : List ℕ) (assigned : IsAssignment p l list) (in_clear : StandsInClear p l list) (set : ℕ) (low : set < 2 ^ length p.principals)
     (inputs : List (List ℕ)) (t : Tape) (dealt : IsDealt inputs t) where
   abbrev n : ℕ
   n = length p.hosts
@@ -148,6 +171,13 @@ module _ (p : NormalForm) (l : Labels) (well : IsWellMade p) (satisfies : Satisf
 
   abbrev k : Knowledge
   k = knowledge p l (against set) (becomes_trusted l (against set)) nothing (λ x. list_any (nat_eq x) (visible_slots (trusts_slot l (against set)) p.body))
+
+  -- what is beyond the list stands at the first host
+  clear : (x : ℕ) → IsInClear (protos_of (problem_of p l) list x)
+  clear x = elim (nat_order x (length p.slots)) [
+    | inl less ↦ in_clear x less
+    | inr le ↦ subst (λ q. IsInClear (protocol (problem_of p l) q)) (sym (get_or_past list x 0 (let whole = assigned.whole in omega (arith, le, whole)))) (first_in_clear (length (problem_of p l).hosts))
+  ]
 
   chosen : IsChosen p l list
   chosen = record { made = well; numbers = numbers; whole = assigned.whole; valid = assigned.valid }
@@ -224,5 +254,24 @@ module _ (p : NormalForm) (l : Labels) (well : IsWellMade p) (satisfies : Satisf
           (sym (ap (λ (fs : List Doing). all_done fs 0 (given (start p inputs) (leads.words ++ []))) (fold_each (given_step (becomes_trusted l (against set))) p.body) ∙ leads.runs []));
     }
 
+  module _ (w : Hosts) (run : RunsIntoAttack p l list set t w) where
+    stopped : Stopped n t dealt.deal (inputs_of inputs) dealt.given proto clear can.over k (λ x y. refl) stays (λ h is. is) (length p.slots) endorses (λ x y. (refl, refl)) (λ h is. is) (run_of k (block_of p.body)) 0 w (start p inputs)
+    stopped =
+        block_stops n t dealt.deal (inputs_of inputs) dealt.given proto clear can.over k (λ x y. refl) stays (λ h is. is) (length p.slots) endorses (λ x y. (refl, refl)) (λ h is. is)
+        (block_of p.body) nothing_seen 0 row seen (all_fit p well numbers) can.valid named flowing (emitting_at_start (suite t (inputs_of inputs) n).calls proto) fresh (start p inputs) 0 (λ g. false) refl
+        (λ g i. absurd (no_turns (machine t (inputs_of inputs)) (suite t (inputs_of inputs) n) proto p well g i)) (omega arith)
+        (tied_at_start (machine t (inputs_of inputs)) (suite t (inputs_of inputs) n) proto n refl inputs fresh starts) (λ g lt i. absurd (true≢false (sym i))) fresh w (start p inputs) begins (λ h less i. absurd (true≢false (sym i))) run
+
+    pub explained_so_far : IsExplainedSoFar p l set inputs w
+    explained_so_far = record {
+      words = stopped.words;
+      printed = λ h less keep.
+          subst (λ (z : Given). Begins (w h.0).printed (slice_index_or z.state.world.outputs h.0 []))
+          (sym (ap (λ (fs : List Doing). all_done fs 0 (given (start p inputs) stopped.words)) (fold_each (given_step (becomes_trusted l (against set))) p.body))) (stopped.front h.0 keep);
+    }
+
 pub runs_explained : OfEachProgram (λ p l. RunsAreExplained p l)
 runs_explained p l well satisfies numbers list assigned clear set low inputs t dealt w run = explained p l well satisfies numbers list assigned clear set low inputs t dealt w run
+
+pub fronts_explained : OfEachProgram (λ p l. FrontsAreExplained p l)
+fronts_explained p l well satisfies numbers list assigned clear set low inputs t dealt w run = explained_so_far p l well satisfies numbers list assigned clear set low inputs t dealt w run

@@ -1,5 +1,5 @@
 -- Runs of a whole program in which hosts depart from their programs: what they send may be any words.
-use Rattle.std.specs.Prelude.{◌≡◌, ℕ, zero, suc, ◌^◌, ◌<◌, nat_eq, Bool, true, ◌||◌, List, [], ◌∷◌, ◌++◌}
+use Rattle.std.specs.Prelude.{◌≡◌, ℕ, zero, suc, ◌^◌, ◌<◌, nat_eq, Bool, true, ◌||◌, List, [], ◌∷◌, ◌++◌, ◌⊎◌}
 use Rattle.vd_base.specs.declared.ids.SlotId.{SlotId}
 use Rattle.vd_base.specs.declared.protocols.Proto.{Proto}
 use Rattle.vd_base.specs.declared.protocols.Proto.TheVariants.{Local}
@@ -85,3 +85,42 @@ module _ (hosts : ℕ) (proto : ℕ → Proto) (keeps : ℕ → Bool) (t : Tape)
       let start : E = record { next = after_loop_registers repeat.acts_at 0 e.next; held = e.held; loop = e.next } in
       let registers = loop_registers repeat.acts_at 0 e.next in
       (v : Hosts) × (RunsTurns count (λ i u u'. RunsBlock body start (turn_begun registers i u) u') w v × RunsBlock rest (for_made (suite_calls hosts) proto count repeat e).state v w')
+
+  -- They lead from the one state to the other, and maybe stop there before one of them.
+  abbrev pub RunsInto : Block → E → Hosts → Hosts → Type 0
+  RunsInto End e w w' = w' ≡ w
+  RunsInto (Let x right rest) e w w' =
+      let made = right_made (suite_calls hosts) proto (proto x.0) right e in
+      (w' ≡ w) ⊎ ((u : Hosts) × (Acts made.acts w u × ((is_given test x right ≡ true → IsOneWord keeps made.given.at u) × RunsInto rest (with_parts (suite_calls hosts) proto made e).state u w')))
+  RunsInto (NewVar v y rest) e w w' =
+      let made = and_on (suite_calls hosts) proto ((suite_calls hosts).move (proto y.0) (proto v.0) (held_of e y) e.next) ((suite_calls hosts).keep (proto v.0)) in
+      (w' ≡ w) ⊎ ((u : Hosts) × (Acts made.acts w u × RunsInto rest (with_parts (suite_calls hosts) proto made e).state u w'))
+  RunsInto (NewArray v size rest) e w w' =
+      let made = (suite_calls hosts).cells (proto v.0) size e.next in
+      (w' ≡ w) ⊎ ((u : Hosts) × (Acts made.acts w u × RunsInto rest (with_parts (suite_calls hosts) proto made e).state u w'))
+  RunsInto (Store v y rest) e w w' =
+      let moved = (suite_calls hosts).move (proto y.0) (proto v.0) (held_of e y) e.next in
+      (w' ≡ w) ⊎ ((u : Hosts) × (Acts (moved.acts ++ (suite_calls hosts).renew (proto v.0) (held_of e v) moved.given) w u × RunsInto rest (store_made (suite_calls hosts) proto v y e).state u w'))
+  RunsInto (Put v i y rest) e w w' =
+      let index = delivered (suite_calls hosts) proto (proto i.0) (held_of e i) (hosts_of (suite_calls hosts) (proto v.0)) e.next in
+      let moved = (suite_calls hosts).move (proto y.0) (proto v.0) (held_of e y) index.next in
+      (w' ≡ w)
+      ⊎ ((u : Hosts) × (Acts ((index.acts ++ moved.acts) ++ (suite_calls hosts).put (proto v.0) (held_of e v) index.given moved.given) w u × RunsInto rest (put_made (suite_calls hosts) proto v i y e).state u w'))
+  RunsInto (Output y k offset rest) e w w' =
+      let moved = (suite_calls hosts).move (proto y.0) (Local k) (held_of e y) e.next in
+      (w' ≡ w) ⊎ ((u : Hosts) × (Acts (moved.acts ++ (suite_calls hosts).output k moved.given) w u × RunsInto rest (output_made (suite_calls hosts) proto y k e).state u w'))
+  RunsInto (If x then_block else_block offset rest) e w w' =
+      let then_do = emission_of then_block in
+      let else_do = emission_of else_block in
+      let guard = delivered (suite_calls hosts) proto (proto x.0) (held_of e x) (picked 0 hosts (λ k. then_do.takes_part k || else_do.takes_part k)) e.next in
+      let start : E = record { next = guard.next; held = e.held; loop = e.loop } in
+      (w' ≡ w)
+      ⊎ ((u : Hosts) × (Acts guard.acts w u × ((other : Bool) × (GoThisWay keeps other guard.given u
+      × (choice other (RunsInto else_block (then_do.emit start).state u w') (RunsInto then_block start u w')
+      ⊎ ((v : Hosts) × (choice other (RunsBlock else_block (then_do.emit start).state u v) (RunsBlock then_block start u v) × RunsInto rest (if_made (suite_calls hosts) proto x then_do else_do e).state v w')))))))
+  RunsInto (For count body rest) e w w' =
+      let repeat = emission_of body in
+      let start : E = record { next = after_loop_registers repeat.acts_at 0 e.next; held = e.held; loop = e.next } in
+      let registers = loop_registers repeat.acts_at 0 e.next in
+      ((i : ℕ) × ((i < count) × ((u : Hosts) × (RunsTurns i (λ j v v'. RunsBlock body start (turn_begun registers j v) v') w u × RunsInto body start (turn_begun registers i u) w'))))
+      ⊎ ((w' ≡ w) ⊎ ((v : Hosts) × (RunsTurns count (λ i u u'. RunsBlock body start (turn_begun registers i u) u') w v × RunsInto rest (for_made (suite_calls hosts) proto count repeat e).state v w')))

@@ -1,5 +1,5 @@
 -- Whole runs in which hosts for whose integrity attackers can act depart from their programs.
-use Rattle.std.specs.Prelude.{◌≡◌, ℕ, ◌^◌, ◌<◌, Bool, true, List, length}
+use Rattle.std.specs.Prelude.{◌≡◌, ℕ, ◌^◌, ◌<◌, Bool, true, List, ◌++◌, length}
 use Rattle.vd_base.specs.declared.ids.HostId.{HostId}
 use Rattle.vd_core.specs.declared.normal.NormalForm.{NormalForm}
 use Rattle.vd_constraints.specs.declared.labels.Labels.{Labels}
@@ -16,7 +16,7 @@ use Rattle.vd_assigned_dependence.specs.Assigned.{IsAssignment}
 use Rattle.vd_told.specs.Told.{IsDealt}
 use Rattle.vd_departing.specs.Copies.{IsInClear}
 use Rattle.vd_endorsed.specs.Endorsed.{outputs_given}
-use Rattle.vd_trusted_runs.specs.Runs.{RunsBlock}
+use Rattle.vd_trusted_runs.specs.Runs.{RunsBlock, RunsInto}
 
 -- the hosts for whose integrity these principals cannot act
 abbrev pub keeps_from : NormalForm → ℕ → ℕ → Bool
@@ -28,9 +28,15 @@ RunsWithAttackers p l list set t w =
     RunsBlock (length p.hosts) (protos_of (problem_of p l) list) (keeps_from p set) t (becomes_trusted l (against set)) (block_of p.body)
     (emitting_at_start (suite_calls (length p.hosts)) (protos_of (problem_of p l) list)) fresh w
 
+-- It runs so, and maybe stops there before one of its statements, as where a comparison fails next.
+abbrev pub RunsIntoAttack : NormalForm → Labels → List ℕ → ℕ → Tape → Hosts → Type 0
+RunsIntoAttack p l list set t w =
+    RunsInto (length p.hosts) (protos_of (problem_of p l) list) (keeps_from p set) t (becomes_trusted l (against set)) (block_of p.body)
+    (emitting_at_start (suite_calls (length p.hosts)) (protos_of (problem_of p l) list)) fresh w
+
 -- each slot stands in clear, at one host or as copies at several
 abbrev pub StandsInClear : NormalForm → Labels → List ℕ → Type 0
-StandsInClear p l list = (x : ℕ) → IsInClear (protos_of (problem_of p l) list x)
+StandsInClear p l list = (x : ℕ) → x < length p.slots → IsInClear (protos_of (problem_of p l) list x)
 
 -- Some words that become trusted explain what the hosts that keep to their programs have printed: it is what the program tells them
 -- on the inputs, where these words are endorsed.
@@ -43,3 +49,18 @@ abbrev pub RunsAreExplained : NormalForm → Labels → Type 0
 RunsAreExplained p l =
     NumbersFit p → (list : List ℕ) → IsAssignment p l list → StandsInClear p l list → (set : ℕ) → set < 2 ^ length p.principals
     → (inputs : List (List ℕ)) (t : Tape) → IsDealt inputs t → (w : Hosts) → RunsWithAttackers p l list set t w → IsExplained p l set inputs w
+
+-- The second list begins with the first.
+pub record Begins (front whole : List ℕ) : Type 0 where
+  pub rest : List ℕ
+  pub is : whole ≡ front ++ rest
+
+-- what they have printed is the front of what the program tells them then
+pub record IsExplainedSoFar (p : NormalForm) (l : Labels) (set : ℕ) (inputs : List (List ℕ)) (w : Hosts) : Type 0 where
+  pub words : List ℕ
+  pub printed : (h : HostId) → h.0 < length p.hosts → keeps_from p set h.0 ≡ true → Begins (w h.0).printed (outputs_given p (becomes_trusted l (against set)) h words inputs)
+
+abbrev pub FrontsAreExplained : NormalForm → Labels → Type 0
+FrontsAreExplained p l =
+    NumbersFit p → (list : List ℕ) → IsAssignment p l list → StandsInClear p l list → (set : ℕ) → set < 2 ^ length p.principals
+    → (inputs : List (List ℕ)) (t : Tape) → IsDealt inputs t → (w : Hosts) → RunsIntoAttack p l list set t w → IsExplainedSoFar p l set inputs w

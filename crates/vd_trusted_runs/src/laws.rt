@@ -1,10 +1,15 @@
 //! Laws of whole runs in which hosts depart from their programs. The functions here do nothing: the contract of each is a law.
 
 ghost use Rattle.vd_trust.specs.Trust.{OfEachProgram};
-ghost use Rattle.vd_trusted_runs.specs.Trusted.{RunsAreExplained};
+ghost use Rattle.vd_trusted_runs.specs.Trusted.{FrontsAreExplained, RunsAreExplained};
 
-/// Hosts for whose integrity attackers can act send any words. Then the hosts that keep to their programs print what the program tells
-/// them, but that the attackers choose the words that become trusted by an endorsement, and no more.
+/// Hosts for whose integrity attackers can act send any words. Where such a run comes to its end, the hosts that keep to their programs
+/// have printed what the program tells them, but that the attackers choose the words that become trusted by an endorsement, and no more.
 pub fn attackers_choose_what_is_endorsed()
     ensures { OfEachProgram (λ p l. RunsAreExplained p l) }
+{}
+
+/// Where the run stops before one of its statements, as it does where a comparison fails, they have printed the front of that.
+pub fn stopped_runs_are_explained()
+    ensures { OfEachProgram (λ p l. FrontsAreExplained p l) }
 {}

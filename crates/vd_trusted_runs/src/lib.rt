@@ -3,4 +3,4 @@
 
 mod laws;
 
-pub use laws::attackers_choose_what_is_endorsed;
+pub use laws::{attackers_choose_what_is_endorsed, stopped_runs_are_explained};
