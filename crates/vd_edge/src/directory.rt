@@ -1,8 +1,10 @@
-ghost use Rattle.std.specs.Prelude.{◌≡◌, ℕ, Bool, IsTrue, List, Option, None, Some, false, IfOk, OnOk, IfSome};
-ghost use Rattle.std.specs.Str.{bytes_eq};
+ghost use Rattle.std.specs.Prelude.{◌≡◌, ℕ, Bool, IsTrue, List, Option, None, Some, false, IfOk, OnOk, OnErr, IfSome};
+ghost use Rattle.vd_edge.specs.Store.{Moves, Same, SameElse, is_replaced};
 
-use std::fs;
-use std::io::{self, Read};
+use crate::{Access, Standing};
+use std::fs::{self, OpenFile, OpenOptions, Permissions};
+use std::io::{self, ErrorKind, Read, Write};
+use std::os::unix::fs::{OpenOptionsExt, PermissionsExt};
 use std::rt::Files as Disk;
 
 /// Files by name, as a system has them.
@@ -15,26 +17,87 @@ pub trait Directory {
     /// What stands at a name, where that is known.
     ghost holds: { Self → List ℕ → Option (List ℕ) };
 
+    /// Whether nothing or a plain file stands at a name, so that another file can take its place.
+    ghost replaces: { Self → List ℕ → Bool };
+
+    /// A number that no other process has while this one runs.
+    fn mark(&self) -> u32;
+
     /// Opens the file with this name, to be read from its start.
     fn open(&self, name: &str) -> io::Result<Self::Reader>
         ensures { IfOk result (λ file. IfSome (holds self.now name.now) (λ all. Self.Reader.remaining file ≡ Some all)) };
 
+    /// What stands at a name. A plain file that may not be written is an error.
+    fn standing(&self, name: &str) -> io::Result<Standing>
+        ensures { IfOk result (λ standing. IsTrue tells → replaces self.now name.now ≡ is_replaced standing) };
+
     /// Puts all these bytes at a name, in place of what stood there.
     fn write(&mut self, name: &str, bytes: &[u8]) -> io::Result<()>
         ensures all { OnOk result (IsTrue tells → holds self.new name.now ≡ Some bytes.now) }
-        ensures others { IsTrue tells → (other : List ℕ) → bytes_eq name.now other ≡ false → holds self.new other ≡ holds self.old other };
+        ensures others { IsTrue tells → SameElse name.now (holds self.old) (holds self.new) };
+
+    /// Makes a file at a name at which nothing stands. Where something stands there, that is an error.
+    fn create(&mut self, name: &str, access: Access) -> io::Result<()>
+        ensures free { OnOk result (IsTrue tells → holds self.old name.now ≡ None) }
+        ensures others { OnOk result (IsTrue tells → SameElse name.now (holds self.old) (holds self.new)) }
+        ensures kept { OnErr result (IsTrue tells → Same (holds self.old) (holds self.new)) };
+
+    /// Puts all these bytes into the file at a name, and waits until the disk has them.
+    fn fill(&mut self, name: &str, bytes: &[u8], access: Access) -> io::Result<()>
+        ensures all { OnOk result (IsTrue tells → holds self.new name.now ≡ Some bytes.now) }
+        ensures others { IsTrue tells → SameElse name.now (holds self.old) (holds self.new) };
+
+    /// Gives the file at a name another one, in place of what stood there. It is done in one step or not at all.
+    fn rename(&mut self, from: &str, to: &str) -> io::Result<()>
+        ensures moves { OnOk result (IsTrue tells → Moves from.now to.now (holds self.old) (holds self.new)) }
+        ensures kept { OnErr result (IsTrue tells → Same (holds self.old) (holds self.new)) };
+
+    /// Removes the file at a name.
+    fn remove(&mut self, name: &str) -> io::Result<()>
+        ensures gone { OnOk result (IsTrue tells → holds self.new name.now ≡ None) }
+        ensures others { IsTrue tells → SameElse name.now (holds self.old) (holds self.new) };
+
+    /// Waits until the disk has the names in the folder of this one.
+    fn settle(&self, name: &str) -> io::Result<()>;
 }
 
 /// The files of a runtime. What they hold is not known.
 #[derive(Drop)]
 pub struct SystemDirectory<R: Disk + Drop> {
     rt: R,
+    mark: u32,
 }
 
 impl<R: Disk + Drop> SystemDirectory<R> {
-    /// The files of this runtime.
-    pub fn new(rt: R) -> SystemDirectory<R> {
-        SystemDirectory { rt }
+    /// The files of this runtime, for the process with this number.
+    pub fn new(rt: R, mark: u32) -> SystemDirectory<R> {
+        SystemDirectory { rt, mark }
+    }
+}
+
+/// The bits of a mode that say who may do what.
+const ACCESS_BITS: u32 = 0o777;
+
+/// How a new file is made: one of a given mode is its owner's alone until its bytes stand in it.
+fn new_options(access: Access) -> OpenOptions {
+    let mut options = OpenOptions::new();
+    options.write(true);
+    options.create_new(true);
+    match access {
+        Access::Usual => {}
+        Access::Private | Access::Mode(_) => {
+            options.mode(0o600);
+        }
+    }
+    options
+}
+
+/// The folder in which a name stands.
+fn folder_of(name: &str) -> &str {
+    match name.rsplit_once('/') {
+        Some(("", _)) => "/",
+        Some((folder, _)) => folder,
+        None => ".",
     }
 }
 
@@ -45,11 +108,55 @@ impl<R: Disk + Drop> Directory for SystemDirectory<R> {
 
     ghost holds = { λ directory name. None };
 
+    ghost replaces = { λ directory name. false };
+
+    fn mark(&self) -> u32 {
+        self.mark
+    }
+
     fn open(&self, name: &str) -> io::Result<R::File> {
         fs::open(&self.rt, name)
     }
 
+    fn standing(&self, name: &str) -> io::Result<Standing> {
+        match fs::metadata(&self.rt, name) {
+            Ok(found) if found.is_file() => {
+                OpenOptions::new().write(true).open(&self.rt, name)?;
+                Ok(Standing::Plain(found.permissions().mode() & ACCESS_BITS))
+            }
+            Ok(_) => Ok(Standing::Special),
+            Err(error) if error.kind() == ErrorKind::NotFound => Ok(Standing::Nothing),
+            Err(error) => Err(error),
+        }
+    }
+
     fn write(&mut self, name: &str, bytes: &[u8]) -> io::Result<()> {
         fs::write(&self.rt, name, bytes)
+    }
+
+    fn create(&mut self, name: &str, access: Access) -> io::Result<()> {
+        new_options(access).open(&self.rt, name)?;
+        Ok(())
+    }
+
+    fn fill(&mut self, name: &str, bytes: &[u8], access: Access) -> io::Result<()> {
+        let mut file = OpenOptions::new().write(true).open(&self.rt, name)?;
+        file.write_all(bytes)?;
+        if let Access::Mode(mode) = access {
+            file.set_permissions(Permissions::from_mode(mode))?;
+        }
+        file.sync_all()
+    }
+
+    fn rename(&mut self, from: &str, to: &str) -> io::Result<()> {
+        fs::rename(&self.rt, from, to)
+    }
+
+    fn remove(&mut self, name: &str) -> io::Result<()> {
+        fs::remove_file(&self.rt, name)
+    }
+
+    fn settle(&self, name: &str) -> io::Result<()> {
+        fs::open(&self.rt, folder_of(name))?.sync_all()
     }
 }

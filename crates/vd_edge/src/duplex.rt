@@ -1,7 +1,11 @@
 ghost use Rattle.std.specs.Prelude.{false, []};
 ghost use Rattle.vd_edge.specs.Duplex.{DuplexView, Gives, Takes};
 
-use std::io::{self, Read, Write};
+use crate::Waits;
+use crate::waits::silent;
+use std::io::{self, ErrorKind, Read, Write};
+use std::net::OpenStream;
+use std::time::Duration;
 
 /// A stream of bytes in each direction, such as a socket.
 pub trait Duplex {
@@ -21,23 +25,50 @@ pub trait Duplex {
 #[derive(Drop)]
 pub struct SystemStream<S: Read + Write + Drop> {
     stream: S,
+    waits: Waits,
 }
 
-impl<S: Read + Write + Drop> SystemStream<S> {
-    /// This socket.
-    pub fn new(stream: S) -> SystemStream<S> {
-        SystemStream { stream }
+impl<S: Read + Write + OpenStream + Drop> SystemStream<S> {
+    /// This socket, which sends its pieces at once; one that cannot is as good. Where waits may end, its calls come back each
+    /// second.
+    pub fn new(stream: S, waits: Waits) -> io::Result<SystemStream<S>> {
+        let _ = stream.set_nodelay(true);
+        if waits.may_end() {
+            let second = Some(Duration::from_secs(1));
+            stream.set_read_timeout(second)?;
+            stream.set_write_timeout(second)?;
+        }
+        Ok(SystemStream { stream, waits })
     }
+}
+
+/// Whether a call came back because its time was over.
+fn is_early(error: &io::Error) -> bool {
+    matches!(error.kind(), ErrorKind::WouldBlock | ErrorKind::TimedOut)
 }
 
 impl<S: Read + Write + Drop> Duplex for SystemStream<S> {
     ghost view = { λ stream. record { told = false; sent = []; coming = [] } };
 
     fn take(&mut self, bytes: &[u8]) -> io::Result<usize> {
-        self.stream.write(bytes)
+        for _ in 0..self.waits.turns(1) {
+            match self.stream.write(bytes) {
+                Ok(count) => return Ok(count),
+                Err(error) if is_early(&error) => self.waits.go_on()?,
+                Err(error) => return Err(error),
+            }
+        }
+        Err(silent())
     }
 
     fn give(&mut self, into: &mut [u8]) -> io::Result<usize> {
-        self.stream.read(into)
+        for _ in 0..self.waits.turns(1) {
+            match self.stream.read(into) {
+                Ok(count) => return Ok(count),
+                Err(error) if is_early(&error) => self.waits.go_on()?,
+                Err(error) => return Err(error),
+            }
+        }
+        Err(silent())
     }
 }

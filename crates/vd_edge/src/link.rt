@@ -2,6 +2,7 @@ ghost use Rattle.std.specs.Prelude.{◌≡◌, IsTrue, [], false};
 ghost use Rattle.vd_edge.specs.Duplex.{link_view};
 
 use crate::Duplex;
+use std::io::Error;
 use vd_base::Failed;
 use vd_outside::Link;
 
@@ -14,6 +15,7 @@ pub struct RealLink<S: Duplex + Drop> {
     stream: S,
     ended: bool,
     faults: u64,
+    last: Option<Error>,
 
     // A stream that has told its end has nothing to come.
     ghost drained: { IsTrue ended → IsTrue (S.view stream).told → (S.view stream).coming ≡ [] },
@@ -30,7 +32,13 @@ impl<S: Duplex + Drop> RealLink<S> {
             stream,
             ended: false,
             faults: 0,
+            last: None,
         }
+    }
+
+    /// Why the last call failed, where one did and the system says it.
+    pub fn last(&self) -> Option<Error> {
+        self.last
     }
 }
 
@@ -45,7 +53,8 @@ impl<S: Duplex + Drop> Link for RealLink<S> {
         let most = bytes.len().min(PIECE);
         match self.stream.take(&bytes[..most]) {
             Ok(count) if count > 0 => Ok(count as u32),
-            _ => {
+            failed => {
+                self.last = failed.err();
                 self.faults = self.faults.saturating_add(1);
                 Err(Failed)
             }
@@ -62,7 +71,8 @@ impl<S: Duplex + Drop> Link for RealLink<S> {
                 self.ended = count == 0;
                 Ok(count as u32)
             }
-            Err(_) => {
+            Err(error) => {
+                self.last = Some(error);
                 self.faults = self.faults.saturating_add(1);
                 Err(Failed)
             }

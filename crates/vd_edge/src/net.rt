@@ -5,6 +5,7 @@ ghost use Rattle.vd_edge.specs.Net.{net_view};
 ghost use Rattle.vd_outside.specs.Net.{Accepts, Connects, Listens};
 
 use crate::faults::{count_fault, fault_of};
+use crate::reasons::reason_of;
 use crate::{RealLink, Sockets};
 use std::alloc::Global;
 use vd_base::CallFault;
@@ -14,8 +15,10 @@ use vd_outside::{Link, Net};
 #[derive(Drop)]
 pub struct RealNet<N: Sockets + Drop> {
     sockets: N,
+    alloc: Global,
     listeners: Vec<N::Listener>,
     faults: u64,
+    reason: Option<String>,
 }
 
 impl<N: Sockets + Drop> RealNet<N> {
@@ -26,9 +29,16 @@ impl<N: Sockets + Drop> RealNet<N> {
     {
         RealNet {
             sockets,
+            alloc,
             listeners: Vec::new(alloc),
             faults: 0,
+            reason: None,
         }
+    }
+
+    /// Why the last call failed, where one did.
+    pub fn reason(&self) -> Option<&str> {
+        self.reason.as_deref()
     }
 }
 
@@ -56,6 +66,7 @@ impl<N: Sockets + Drop> Net for RealNet<N> {
                 Ok(number)
             }
             Err(error) => {
+                self.reason = reason_of(self.alloc, "listen at", address, &error);
                 let fault = fault_of(&error);
                 count_fault(&mut self.faults, fault);
                 Err(fault)
@@ -74,6 +85,7 @@ impl<N: Sockets + Drop> Net for RealNet<N> {
         match self.sockets.accept(&self.listeners[listener as usize]) {
             Ok(stream) => Ok(RealLink::new(stream)),
             Err(error) => {
+                self.reason = reason_of(self.alloc, "wait for", "a peer", &error);
                 let fault = fault_of(&error);
                 count_fault(&mut self.faults, fault);
                 Err(fault)
@@ -90,6 +102,7 @@ impl<N: Sockets + Drop> Net for RealNet<N> {
         match self.sockets.connect(address) {
             Ok(stream) => Ok(RealLink::new(stream)),
             Err(error) => {
+                self.reason = reason_of(self.alloc, "connect to", address, &error);
                 let fault = fault_of(&error);
                 count_fault(&mut self.faults, fault);
                 Err(fault)
@@ -98,6 +111,9 @@ impl<N: Sockets + Drop> Net for RealNet<N> {
     }
 
     fn hang_up(&mut self, link: RealLink<N::Stream>) {
+        if let Some(error) = link.last() {
+            self.reason = reason_of(self.alloc, "link to", "a peer", &error);
+        }
         if link.faults() > 0 {
             self.faults = self.faults.saturating_add(1);
         }

@@ -1,31 +1,40 @@
-ghost use Rattle.std.specs.Prelude.{◌≡◌, ◌+◌, ℕ, IfOk, pos, None, Some};
-ghost use Rattle.std.specs.Io.Buffered.{reader_remaining};
-ghost use Rattle.std.specs.Process.{command_args, command_program, exit_code, exit_signal};
-ghost use Rattle.vd_edge.specs.Lines.{GivesLine};
+ghost use Rattle.std.specs.Prelude.{◌≡◌, ◌+◌, ℕ, IfOk, OnOk, codes, decimal, pos, None, Some};
+ghost use Rattle.std.specs.Process.{command_args, command_program, command_var, exit_code, exit_signal};
 
 use crate::faults::fault_of;
 use crate::lines::Lines;
+use crate::next::Next;
 use std::alloc::{AllocError, Global};
+use std::io;
+use std::os::fd::OwnedFd;
+use std::os::unix::net::UnixStream;
 use std::os::unix::process::ExitStatusExt;
-use std::process::{Child, Command, ExitStatus, OpenProcess, Processes, Stdio};
+use std::process::{Child, ChildStdout, Command, ExitStatus, Processes, Stdio, SystemProcess};
 use vd_base::{CallFault, Texts};
-use vd_outside::Line;
+
+/// The variable that tells a child the number of the process that started it.
+pub const PARENT: &str = "VIADUCT_PARENT";
 
 /// A child that was started. Where it is let go before its end was waited for, it is stopped.
-pub struct Running<P: OpenProcess + Drop> {
-    child: Child<P>,
-    lines: Lines<P::Stdout>,
+pub struct Running {
+    child: Child,
+    lines: Lines<ChildStdout>,
+    broken: bool,
 }
 
-impl<P: OpenProcess + Drop> Drop for Running<P> {
+impl Drop for Running {
     fn drop(self) {
-        let Running { child, lines: _ } = self;
+        let Running {
+            child,
+            lines: _,
+            broken: _,
+        } = self;
         stop(child);
     }
 }
 
 /// Ends a child whose end was not waited for, and waits for its end.
-fn stop<P: OpenProcess + Drop>(mut child: Child<P>) {
+fn stop(mut child: Child) {
     if child.kill().is_ok() {
         let _ = child.wait();
     }
@@ -54,6 +63,17 @@ fn command_of(alloc: Global, program: &str, words: &Texts) -> Result<Command, Al
     Ok(command)
 }
 
+/// The same command, which is told the number of the process that starts it.
+fn with_parent(alloc: Global, mut command: Command, parent: u32) -> Result<Command, AllocError>
+    ensures program { IfOk result (λ told. command_program told ≡ command_program command) }
+    ensures words { IfOk result (λ told. command_args told ≡ command_args command) }
+    ensures parent { IfOk result (λ told. command_var told PARENT.now ≡ Some (Some (decimal parent))) }
+{
+    let parent = format!(in alloc; "{parent}")?;
+    command.env(PARENT, parent.as_str())?;
+    Ok(command)
+}
+
 /// The same command without input, of which the output is read here.
 fn piped(mut command: Command) -> Command
     ensures program { command_program result ≡ command_program command }
@@ -64,44 +84,86 @@ fn piped(mut command: Command) -> Command
     command
 }
 
-impl<P: OpenProcess + Drop> Running<P> {
-    /// Starts a program with these words and no input. Its output is read here, its error stream is that of this process.
-    pub fn start<R: Processes<Started = P>>(
+/// The same end of a pipe, from which a read does not wait.
+fn unblocked(output: ChildStdout) -> io::Result<ChildStdout> {
+    let stream = UnixStream::from(OwnedFd::from(output));
+    stream.set_nonblocking(true)?;
+    Ok(ChildStdout::from(OwnedFd::from(stream)))
+}
+
+/// What is read here of a child, without waiting.
+fn output_of(child: &mut Child) -> io::Result<ChildStdout> {
+    match child.stdout.take() {
+        Some(output) => unblocked(output),
+        None => Err(io::Error::other("its output cannot be read")),
+    }
+}
+
+impl Running {
+    /// Starts a program with these words and no input. Its output is read here, its error stream is that of this process, whose
+    /// number it is told.
+    pub fn start<R: Processes<Started = SystemProcess>>(
         rt: &R,
         alloc: Global,
+        parent: u32,
         program: &str,
         words: &Texts,
-    ) -> Result<Running<P>, CallFault> {
-        let mut command = piped(command_of(alloc, program, words)?);
-        match command.spawn(rt) {
-            Ok(child) => Running::over(alloc, child),
-            Err(error) => Err(fault_of(&error)),
-        }
+    ) -> io::Result<Running> {
+        let command = piped(command_of(alloc, program, words)?);
+        let mut command = with_parent(alloc, command, parent)?;
+        Running::over(alloc, command.spawn(rt)?)
     }
 
     // A child with its output, which is stopped if that cannot be read.
-    fn over(alloc: Global, mut child: Child<P>) -> Result<Running<P>, CallFault> {
-        match child.stdout.take() {
-            Some(output) => match Lines::new(alloc, output) {
-                Ok(lines) => Ok(Running { child, lines }),
-                Err(fault) => {
-                    stop(child);
-                    Err(fault)
-                }
-            },
-            None => {
+    fn over(alloc: Global, mut child: Child) -> io::Result<Running> {
+        match output_of(&mut child) {
+            Ok(output) => Ok(Running {
+                child,
+                lines: Lines::new(alloc, output),
+                broken: false,
+            }),
+            Err(error) => {
                 stop(child);
-                Err(CallFault::Failed)
+                Err(error)
             }
         }
     }
 
-    /// Its next line, and `None` at the end of its output.
-    pub fn line(&mut self) -> Result<Option<Line>, CallFault>
-        ensures { IfOk result (GivesLine (reader_remaining P.Stdout.remaining self.old.lines.output)
-            (reader_remaining P.Stdout.remaining self.new.lines.output)) }
-    {
-        self.lines.next()
+    /// Takes what it has written since, and says whether that was anything. Where its output cannot be read, or is more than a host
+    /// writes, none of its lines is given any more.
+    pub fn turn(&mut self) -> Result<bool, CallFault> {
+        match self.lines.turn() {
+            Err(CallFault::Failed) => {
+                self.broken = true;
+                Ok(true)
+            }
+            came => came,
+        }
+    }
+
+    /// What there is of its next line.
+    pub fn next(&mut self) -> Result<Next, CallFault> {
+        if self.broken {
+            Err(CallFault::Failed)
+        } else {
+            self.lines.next()
+        }
+    }
+
+    /// Whether its output has ended.
+    pub fn is_over(&self) -> bool {
+        self.lines.is_over()
+    }
+
+    /// The status with which it ended, if that is known by now and is not 0.
+    pub fn failure(&mut self) -> Option<u32> {
+        if !self.lines.is_over() {
+            return None;
+        }
+        match self.child.try_wait() {
+            Ok(Some(status)) if !status.success() => Some(number_of(status)),
+            _ => None,
+        }
     }
 
     /// Waits for its end.

@@ -1,0 +1,103 @@
+ghost use Rattle.std.specs.Prelude.{◌≡◌, ℕ, List, IsTrue, IfOk, OnOk, OnErr, None, Some, false, string_bytes};
+ghost use Rattle.std.specs.Str.{bytes_eq};
+ghost use Rattle.vd_edge.specs.Store.{IsBeside, MayLeave, Same, SameElse};
+
+use crate::standing::access_of;
+use crate::{Access, Directory};
+use std::alloc::Global;
+use std::io::{self, ErrorKind};
+
+/// How many files that other stores left over are passed over.
+const MOST_PASSED: u32 = 8;
+
+/// Puts these bytes at a name. What can be replaced is replaced whole by a new file or stays as it was; all else is written in
+/// place.
+pub(crate) fn put<D: Directory>(
+    directory: &mut D,
+    alloc: Global,
+    name: &str,
+    bytes: &[u8],
+) -> io::Result<()>
+    ensures all { OnOk result (IsTrue D.tells → D.holds directory.new name.now ≡ Some bytes.now) }
+    ensures kept { OnErr result (IsTrue D.tells → IsTrue (D.replaces directory.old name.now) →
+        D.holds directory.new name.now ≡ D.holds directory.old name.now) }
+    ensures left { IsTrue D.tells → MayLeave name.now (D.holds directory.old) (D.holds directory.new) }
+    ensures others { OnOk result (IsTrue D.tells → SameElse name.now (D.holds directory.old) (D.holds directory.new)) }
+{
+    let standing = directory.standing(name)?;
+    match access_of(standing, bytes) {
+        Some(access) => replace(directory, alloc, name, bytes, access),
+        None => directory.write(name, bytes),
+    }
+}
+
+/// Puts a new file with these bytes in place of what stands at a name.
+fn replace<D: Directory>(
+    directory: &mut D,
+    alloc: Global,
+    name: &str,
+    bytes: &[u8],
+    access: Access,
+) -> io::Result<()>
+    ensures all { OnOk result (IsTrue D.tells → D.holds directory.new name.now ≡ Some bytes.now) }
+    ensures kept { OnErr result (IsTrue D.tells → D.holds directory.new name.now ≡ D.holds directory.old name.now) }
+    ensures left { IsTrue D.tells → MayLeave name.now (D.holds directory.old) (D.holds directory.new) }
+    ensures others { OnOk result (IsTrue D.tells → SameElse name.now (D.holds directory.old) (D.holds directory.new)) }
+{
+    let new = create_beside(directory, alloc, name, access)?;
+    match fill_and_move(directory, new.as_str(), name, bytes, access) {
+        Ok(()) => Ok(()),
+        Err(error) => {
+            // Where it cannot be removed, it is left over.
+            let _ = directory.remove(new.as_str());
+            Err(error)
+        }
+    }
+}
+
+/// Makes a new file beside a name, and gives the new one's name. Names at which something stands are passed over.
+fn create_beside<D: Directory>(
+    directory: &mut D,
+    alloc: Global,
+    name: &str,
+    access: Access,
+) -> io::Result<String>
+    ensures beside { IfOk result (λ new. IsBeside name.now (string_bytes new)) }
+    ensures free { IfOk result (λ new. IsTrue D.tells → D.holds directory.old (string_bytes new) ≡ None) }
+    ensures others { IfOk result (λ new. IsTrue D.tells → SameElse (string_bytes new) (D.holds directory.old) (D.holds directory.new)) }
+    ensures kept { OnErr result (IsTrue D.tells → Same (D.holds directory.old) (D.holds directory.new)) }
+{
+    let mark = directory.mark();
+    for number in 0..MOST_PASSED {
+        let new = format!(in alloc; "{name}.tmp-{mark}-{number}")?;
+        match directory.create(new.as_str(), access) {
+            Ok(()) => return Ok(new),
+            Err(error) if error.kind() == ErrorKind::AlreadyExists => {}
+            Err(error) => return Err(error),
+        }
+    }
+    Err(io::Error::from(ErrorKind::AlreadyExists))
+}
+
+/// Fills a new file, and puts it in place of what stands at a name.
+fn fill_and_move<D: Directory>(
+    directory: &mut D,
+    new: &str,
+    name: &str,
+    bytes: &[u8],
+    access: Access,
+) -> io::Result<()>
+    requires { bytes_eq new.now name.now ≡ false }
+    ensures all { OnOk result (IsTrue D.tells → D.holds directory.new name.now ≡ Some bytes.now) }
+    ensures moved { OnOk result (IsTrue D.tells → D.holds directory.new new.now ≡ None) }
+    ensures others { OnOk result (IsTrue D.tells → (other : List ℕ) → bytes_eq new.now other ≡ false → bytes_eq name.now other ≡ false →
+        D.holds directory.new other ≡ D.holds directory.old other) }
+    ensures kept { OnErr result (IsTrue D.tells → SameElse new.now (D.holds directory.old) (D.holds directory.new)) }
+{
+    directory.fill(new, bytes, access)?;
+    directory.rename(new, name)?;
+
+    // A folder for which nobody can wait is as good.
+    let _ = directory.settle(name);
+    Ok(())
+}
