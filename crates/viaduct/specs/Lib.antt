@@ -1,1 +1,3 @@
+pub mod Limited
 pub mod Program
+pub mod Reasons

@@ -2,16 +2,23 @@
 //! terminal, more is then said of a fault to the person who sits there.
 #![tactic(auto)]
 
+mod limited;
 mod program;
+mod reasons;
 
+use limited::{limit_of, without_limit};
 use program::{destination_of, end, run_program, words_of};
+use reasons::tell_reason;
 use std::alloc::Global;
 use std::env::{Env, VarError};
 use std::io::{IsTerminal, Stderr, Stdout};
+use std::os::unix::process::parent_id;
 use std::process::ExitCode;
-use std::{env, io};
+use std::{env, fs, io, process};
 use vd_base::Texts;
-use vd_edge::{RealFiles, RealNet, RealSink, RealSpawner, SystemDirectory, SystemSockets};
+use vd_edge::{
+    PARENT, RealFiles, RealNet, RealSink, RealSpawner, SystemDirectory, SystemSockets, Waits,
+};
 use vd_plan::Status;
 use vd_telling::Destination;
 
@@ -27,10 +34,37 @@ fn words(rt: &(impl Env + AllocGlobal)) -> io::Result<Texts> {
     }
 }
 
+/// The words that are run, behind their limit of time in seconds if they have one.
+fn asked(rt: &HostRuntime) -> io::Result<(Option<u32>, Texts)> {
+    let words = words(rt)?;
+    match limit_of(&words) {
+        Some(limit) => Ok((Some(limit), without_limit(rt.alloc(), &words)?)),
+        None => Ok((None, words)),
+    }
+}
+
 /// Where standard error goes, and whether there in colours.
 fn destination(rt: &(impl Env + AllocGlobal), stream: &Stderr) -> Destination {
     let coloured = matches!(env::var(rt, "NO_COLOR"), Err(VarError::NotPresent));
     destination_of(stream.is_terminal(), coloured)
+}
+
+/// Whether a person is told why a call of the outside failed: at a terminal, and where a variable asks for it.
+fn tells_reasons(rt: &(impl Env + AllocGlobal), stream: &Stderr) -> bool {
+    stream.is_terminal() || env::var(rt, "VIADUCT_REASONS").is_ok()
+}
+
+/// The number of the process whose end ends the waits of this one: of the run that started it, or of a script between the two.
+fn parent(rt: &HostRuntime) -> Option<u32> {
+    let run: u32 = env::var(rt, PARENT).ok()?.as_str().parse().ok()?;
+    let parent = parent_id(rt.process());
+    let path = format!(in rt.alloc(); "/proc/{run}").ok()?;
+    let runs = fs::exists(rt, path.as_str()).unwrap_or(false);
+    if parent != run && runs {
+        Some(parent)
+    } else {
+        Some(run)
+    }
 }
 
 /// Runs the command line over the real objects, and gives the code of how it ended. An error is that there was no memory.
@@ -41,11 +75,14 @@ fn run(
 ) -> io::Result<ExitCode> {
     let alloc: Global = rt.alloc();
     let destination = destination(&rt, &rt.stderr());
-    let words = words(&rt)?;
-    let mut net = RealNet::new(SystemSockets::new(rt.clone()?), alloc);
-    let mut spawner = RealSpawner::new(rt.clone()?, alloc);
-    let mut files = RealFiles::new(SystemDirectory::new(rt), alloc);
-    Ok(run_program(
+    let (limit, words) = asked(&rt)?;
+    let told = tells_reasons(&rt, &rt.stderr());
+    let process = process::id(rt.process());
+    let waits = Waits::new(rt.process(), parent(&rt), limit);
+    let mut net = RealNet::new(SystemSockets::new(rt.clone()?, waits), alloc);
+    let mut spawner = RealSpawner::new(rt.clone()?, alloc, process);
+    let mut files = RealFiles::new(SystemDirectory::new(rt, process), alloc);
+    let code = run_program(
         alloc,
         destination,
         &words,
@@ -54,7 +91,13 @@ fn run(
         err,
         &mut net,
         &mut spawner,
-    ))
+    );
+    if told && code != ExitCode::SUCCESS {
+        tell_reason(alloc, &words, err, files.reason());
+        tell_reason(alloc, &words, err, net.reason());
+        tell_reason(alloc, &words, err, spawner.reason().as_deref());
+    }
+    Ok(code)
 }
 
 fn main(rt: HostRuntime) -> ExitCode {
