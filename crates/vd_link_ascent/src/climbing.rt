@@ -14,12 +14,11 @@ use vd_space::Problem;
 /// At most so many sweeps are made.
 const SWEEPS: u32 = 4096;
 
-/// The sweeps of an ascent end when so many prices of links were looked at.
-const CLIMB_WORK: u64 = 268_435_456;
+/// The sweeps of an ascent end when so many prices of links were looked at, where other work counts as long as it takes.
+const CLIMB_WORK: u64 = 536_870_912;
 
-/// The walk behind an ascent ends when so many were looked at in both, where other work counts as long as it takes; so that both
-/// together take a second at most.
-pub const WORK: u64 = 536_870_912;
+/// The walk behind an ascent ends when so many were looked at in both, so that both together take a second at most.
+pub const WORK: u64 = 1_073_741_824;
 
 /// The points and links of a problem, and what sweeps over them came to.
 #[derive(Drop)]
@@ -88,17 +87,6 @@ impl Climb {
         )?;
         lift(alloc, links, &self.network, &self.left, &mut nets)?;
         Ok(nets)
-    }
-
-    /// What it takes to put each point where it costs least: so many costs are looked at.
-    pub fn work_of_decoding(&self) -> u64 {
-        let mut work: u64 = 0;
-        for (point, costs) in self.tables.costs.iter().enumerate() {
-            let links = self.network.of_point(point).len() as u64;
-            let sums = links.saturating_add(1);
-            work = work.saturating_add(sums.saturating_mul(costs.len() as u64));
-        }
-        work
     }
 
     /// What it takes to have the amounts as shifts, and the bound of a prefix under these: so many prices are looked at.

@@ -41,10 +41,7 @@ pub struct Walker {
     next: usize,
     /// In parts. Lists that cost more are not looked for.
     most: i64,
-    /// What was computed besides the sweeps.
-    besides: u64,
-    /// What it takes to decode a list, and to show that a candidate is refuted.
-    decoding: u64,
+    /// What it takes to show that a candidate is refuted.
     showing: u64,
 }
 
@@ -55,22 +52,19 @@ impl Walker {
             climb.witness = Witness::none(alloc);
         }
         let fixed = vec![in alloc; None; climb.order.points.len()]?;
-        let decoding = climb.work_of_decoding();
         let showing = climb.work_of_shifts();
         Ok(Walker {
             climb,
             fixed,
             next: 0,
             most,
-            besides: 0,
-            decoding,
             showing,
         })
     }
 
     /// The next candidate of a slot, if one is left, and work may still be done to test it.
     pub fn candidate(&self, slot: u32) -> Option<Candidate> {
-        if self.work() >= WORK {
+        if self.climb.state.work() >= WORK {
             return None;
         }
         let point = self.climb.order.rank(slot);
@@ -80,11 +74,6 @@ impl Walker {
             number: self.next,
             choice: u32::try_from(*setting).ok()?,
         })
-    }
-
-    /// How much was computed so far, the sweeps of the ascent included.
-    fn work(&self) -> u64 {
-        self.climb.state.work().saturating_add(self.besides)
     }
 
     /// What the shifts come to.
@@ -135,7 +124,7 @@ impl Walker {
 
     /// Takes back a test that refuted the candidate, and passes it over.
     pub fn take_back(&mut self, candidate: Candidate) {
-        self.besides = self.besides.saturating_add(self.showing);
+        self.climb.state.count(self.showing);
         self.raise_others(candidate, 0i64.saturating_sub(PENALTY));
         self.fix(candidate.point, None);
         self.pass_over(candidate);
@@ -178,7 +167,6 @@ impl Walker {
 
     /// A list that goes by the shifts.
     fn decoded(&mut self, alloc: Global) -> Result<Witness, AllocError> {
-        self.besides = self.besides.saturating_add(self.decoding);
         let climb = &mut self.climb;
         climb.state.decoded(alloc, &climb.tables, &climb.network, self.fixed.as_slice())
     }
