@@ -1,2 +1,9 @@
 pub mod Steps
 pub mod Words
+pub mod Held
+pub mod Stands
+pub mod Runs
+pub mod Going
+pub mod Follows
+pub mod Changing
+pub mod Walked

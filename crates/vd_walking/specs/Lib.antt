@@ -1,2 +1,4 @@
 pub mod Items
 pub mod Data
+pub mod Supplies
+pub mod Following

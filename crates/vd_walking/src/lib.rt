@@ -3,6 +3,8 @@
 
 mod alone;
 mod items;
+mod laws;
 mod walker;
 
+pub use laws::walks_are_followed;
 pub use walker::Walker;
