@@ -10,3 +10,4 @@ pub mod Cells
 pub mod Blocks
 pub mod Stopping
 pub mod Theorem
+pub mod Example

@@ -1,2 +1,3 @@
 pub mod Runs
 pub mod Trusted
+pub mod Example

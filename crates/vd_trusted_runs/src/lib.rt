@@ -3,4 +3,6 @@
 
 mod laws;
 
-pub use laws::{attackers_choose_what_is_endorsed, stopped_runs_are_explained};
+pub use laws::{
+    attackers_choose_what_is_endorsed, one_word_is_printed_by_both, stopped_runs_are_explained,
+};
