@@ -1,7 +1,7 @@
 //! The searches that are made one after the other: with a small budget under the usual shifts, under better ones and by links,
 //! then with a part of the budget under the better and with the whole under the usual ones, from what each valid list costs at least by links.
 
-ghost use Rattle.std.specs.Prelude.{◌≡◌, ◌≢◌, ◌≤◌, ◌<◌, IfOk, IfSome, Err, length};
+ghost use Rattle.std.specs.Prelude.{◌≡◌, ◌≢◌, ◌+◌, ◌*◌, ◌≤◌, ◌<◌, IfOk, IfSome, Err, length, min};
 ghost use Rattle.vd_base.specs.Limits.{most_certificate_shifts};
 ghost use Rattle.vd_selection.specs.Selecting.{CostsAtLeast, IsOver, Selects};
 ghost use Rattle.vd_selection.specs.Stages.{CanSelect, Tries};
@@ -34,7 +34,8 @@ const LATE_PART: u32 = 8;
 /// The budget of the first search: enough where the usual shifts are good.
 fn first_budget(problem: &Problem, budget: u32) -> u32
     requires limits { IsWithinLimits problem.now }
-    ensures { result ≤ budget }
+    ensures within { result ≤ budget }
+    ensures enough { min budget (1000 + 4 * length problem.now.slots) ≤ result }
 {
     let slots = problem.slots.as_slice().len() as u32;
     budget.min(FIRST_BUDGET + FIRST_BUDGET_OF_A_SLOT * slots)
@@ -43,7 +44,8 @@ fn first_budget(problem: &Problem, budget: u32) -> u32
 /// The budget of a search by links: enough where their shifts leave few ties, which else a walk breaks sooner.
 fn linked_budget(problem: &Problem, budget: u32) -> u32
     requires limits { IsWithinLimits problem.now }
-    ensures { result ≤ budget }
+    ensures within { result ≤ budget }
+    ensures enough { min budget (256 + length problem.now.slots) ≤ result }
 {
     let slots = problem.slots.as_slice().len() as u32;
     budget.min(LINKED_BUDGET + slots)
@@ -51,7 +53,8 @@ fn linked_budget(problem: &Problem, budget: u32) -> u32
 
 /// The budget of the search by better shifts behind that by links.
 fn late_budget(budget: u32) -> u32
-    ensures { result ≤ budget }
+    ensures within { result ≤ budget }
+    ensures enough { budget ≤ 8 * result + 7 }
 {
     budget / LATE_PART
 }

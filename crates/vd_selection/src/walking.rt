@@ -1,8 +1,9 @@
 //! The search by links where ties at the bound of the root are broken by a walk.
 
-ghost use Rattle.std.specs.Prelude.{◌≡◌, ◌≢◌, ◌<◌, [], IfOk, IfSome, Err, nat_lt, true};
+ghost use Rattle.std.specs.Prelude.{◌≡◌, ◌==◌, ◌≢◌, ◌<◌, [], IfOk, IfSome, Err, is_some, length, nat_lt, true};
 ghost use Rattle.std.specs.List.{All, list_all};
 ghost use Rattle.vd_link_ascent.specs.Shifts.{AreLinkShifts};
+ghost use Rattle.vd_link_ascent.specs.Walking.{made};
 ghost use Rattle.vd_linked_bound.specs.Bounds.{IsBoundOf};
 ghost use Rattle.vd_linked_path.specs.Tables.{AreLinkedTables};
 ghost use Rattle.vd_path.specs.Tables.{AreTables};
@@ -102,7 +103,8 @@ fn passed_over(
     requires limits { IsWithinLimits problem.now }
     requires bound { IsBoundOf problem.now bound.now }
     requires walk { walk.old.problem.now ≡ problem.now }
-    ensures { IfOk result (All (IsBeyond problem.now most)) }
+    ensures passed { IfOk result (All (IsBeyond problem.now most)) }
+    ensures problem { walk.new.problem.now ≡ problem.now }
 {
     let mut passed = Items::new(alloc);
     for _ in 0..MOST_PASSED {
@@ -112,6 +114,29 @@ fn passed_over(
         }
     }
     Ok(passed)
+}
+
+/// The prefixes that a walk passes over, at that aim; nothing exactly where it does not come to a whole list.
+fn passed_to_whole(
+    alloc: Global,
+    problem: &Problem,
+    bound: &LinkedBound,
+    walk: &mut Walk,
+    most: u32,
+) -> Result<Option<Items<Items<u32>>>, AllocError>
+    requires holds { IsProblem problem.now }
+    requires labelled { IsLabelled problem.now }
+    requires limits { IsWithinLimits problem.now }
+    requires bound { IsBoundOf problem.now bound.now }
+    requires walk { walk.old.problem.now ≡ problem.now }
+    ensures passed { IfOk result (λ found. IfSome found (All (IsBeyond problem.now most))) }
+    ensures whole { IfOk result (λ found. is_some found ≡ (length (made walk.new.path) == length problem.now.slots)) }
+{
+    let passed = passed_over(alloc, problem, bound, walk, most)?;
+    if !walk.is_whole() {
+        return Ok(None);
+    }
+    Ok(Some(passed))
 }
 
 /// The prefixes that a walk behind an ascent passes over, at that aim; nothing where it does not come to a whole list.
@@ -132,11 +157,7 @@ fn walked(
 {
     let mut walk = Walk::new(alloc, problem, without, path, ascent, most)?;
     let bound = LinkedBound::new(alloc, problem)?;
-    let passed = passed_over(alloc, problem, &bound, &mut walk, most)?;
-    if !walk.is_whole() {
-        return Ok(None);
-    }
-    Ok(Some(passed))
+    passed_to_whole(alloc, problem, &bound, &mut walk, most)
 }
 
 /// The choice, or that there is none, where ties are broken by prefixes that begin no list of that cost; nothing where the budget
