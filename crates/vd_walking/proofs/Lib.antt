@@ -7,3 +7,5 @@ pub mod Going
 pub mod Follows
 pub mod Changing
 pub mod Walked
+pub mod Hosts
+pub mod Ends

@@ -37,7 +37,7 @@ pub get_placed : {X : Type 0} (xs : List X) (c i : ℕ) → i ≡ placed c (leng
 get_placed xs c i e = get_at xs c i (place_cases (length xs) c i e)
 
 -- a word of a list, by the element that is there
-word_or_zero : (xs : List ℕ) (i : ℕ) → slice_index xs i ≡ unwrap_or (slice_get xs i) 0
+pub word_or_zero : (xs : List ℕ) (i : ℕ) → slice_index xs i ≡ unwrap_or (slice_get xs i) 0
 word_or_zero [] zero = refl
 word_or_zero [] (suc i) = refl
 word_or_zero (x ∷ xs) zero = refl

@@ -2,3 +2,5 @@ pub mod Items
 pub mod Data
 pub mod Supplies
 pub mod Following
+pub mod Files
+pub mod Claims

@@ -2,9 +2,12 @@
 #![tactic(auto)]
 
 mod alone;
+mod deals;
+mod explaining;
 mod items;
 mod laws;
 mod walker;
 
+pub use explaining::explaining_deals;
 pub use laws::walks_are_followed;
 pub use walker::Walker;
