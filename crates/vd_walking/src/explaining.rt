@@ -47,7 +47,8 @@ fn walked_deals(
     second: &Inputs,
     deals: &Deals,
 ) -> Result<Deals, AllocError>
-    ensures { IfOk result (λ stored. stored ≡ all_stored 0 (all_both (data_walks steps.now) (walker_of host first.now second.now deals.now)).second deals.now) }
+    ensures { IfOk result (λ stored. stored ≡
+        all_stored 0 (all_both (data_walks steps.now) (walker_of host first.now second.now deals.now)).second deals.now) }
 {
     let walker = walked(alloc, host, steps, first, second, deals)?;
     let Walker {
