@@ -11,7 +11,7 @@ use Rattle.vd_base.specs.declared.protocols.Proto.TheVariants.{Local, Rep, Commi
 use Rattle.vd_base.specs.Protocols.{protocols_of}
 use Rattle.vd_base.specs.HostSets.{has_host, host}
 use Rattle.vd_core.specs.declared.normal.NormalForm.{NormalForm}
-use Rattle.vd_core.specs.Facts.{nothing_seen, Seeing, slots_step, seeing_step, seeing_all, IsWellMade}
+use Rattle.vd_core.specs.Facts.{is_binding, nothing_seen, Seeing, slots_step, seeing_step, seeing_all, IsWellMade}
 use Rattle.vd_formula.specs.TruthTable.{TruthTable}
 use Rattle.vd_constraints.specs.declared.labels.Labels.{Labels}
 use Rattle.vd_constraints.specs.Rules.{system_of}
@@ -23,13 +23,14 @@ use Rattle.vd_space.specs.Validity.{protocol}
 use Rattle.vd_execution.specs.Joint.{Hosts, fresh}
 use Rattle.vd_execution.specs.World.{Tape}
 use Rattle.vd_joint.specs.Block.{block_of, each}
-use Rattle.vd_joint.specs.Emission.{Emitting, emitting_at_start}
+use Rattle.vd_joint.specs.Emission.{Emission, Emitting, emitting_at_start, in_turn, parts_at, stmt_emission}
 use Rattle.vd_joint.specs.Validity.{emission_of}
 use Rattle.vd_joint.specs.Outcome.{NumbersFit, Starts}
 use Rattle.vd_joint.proofs.Folds.{fold_each}
 use Rattle.vd_joint.proofs.Lists.{InRow, row_of}
 use Rattle.vd_joint.proofs.Sight.{Use, Binding, Variable, Array, Sees}
 use Rattle.vd_joint.proofs.Blocks.{slots, sees}
+use Rattle.vd_meaning.specs.ProgramMeaning.{word_at}
 use Rattle.vd_suite.specs.Machine.{machine}
 use Rattle.vd_suite.specs.Parts.{suite_calls}
 use Rattle.vd_suite.specs.Suite.{suite}
@@ -50,9 +51,10 @@ use Rattle.vd_assigned_trust.proofs.Assigned.{words_guarded}
 use Rattle.vd_told.specs.Told.{IsDealt}
 use Rattle.vd_told.proofs.Fits.{all_fit, no_turns, tied_at_start}
 use Rattle.vd_departing.specs.Copies.{IsInClear}
+use Rattle.vd_departing.specs.Departing.{AreRight}
 use Rattle.vd_endorsed.specs.Endorsed.{Doing, Given, all_done, given_step}
 use Rattle.vd_endorsed.proofs.Hiding.{run_of}
-use Rattle.vd_trusted_runs.specs.Trusted.{Begins, FrontsAreExplained, IsExplained, IsExplainedSoFar, RunsAreExplained, RunsIntoAttack, RunsWithAttackers, StandsInClear}
+use Rattle.vd_trusted_runs.specs.Trusted.{Begins, FrontsAreExplained, IsExplained, IsExplainedSoFar, RunsAreExplained, RunsIntoAttack, RunsWithAttackers, StandsInClear, parts_at_end}
 use Rattle.vd_trusted_runs.proofs.Calls.{IsKeptAt}
 use Rattle.vd_trusted_runs.proofs.Statements.{given}
 use Rattle.vd_trusted_runs.proofs.Stopping.{Stopped, block_stops}
@@ -245,13 +247,18 @@ module _ (p : NormalForm) (l : Labels) (well : IsWellMade p) (satisfies : Satisf
         (λ g i. absurd (no_turns (machine t (inputs_of inputs)) (suite t (inputs_of inputs) n) proto p well g i)) (omega arith)
         (tied_at_start (machine t (inputs_of inputs)) (suite t (inputs_of inputs) n) proto n refl inputs fresh starts) (λ g lt i. absurd (true≢false (sym i))) fresh w (start p inputs) begins (λ h less i. absurd (true≢false (sym i))) run
 
-    pub explained : IsExplained p l set inputs w
+    pub explained : IsExplained p l list set inputs w
     explained = record {
       words = leads.words ++ [];
       printed = λ h less keep.
           leads.trust.outer.printed h.0 keep
           ∙ ap (λ (z : Given). slice_index_or z.state.world.outputs h.0 [])
           (sym (ap (λ (fs : List Doing). all_done fs 0 (given (start p inputs) (leads.words ++ []))) (fold_each (given_step (becomes_trusted l (against set))) p.body) ∙ leads.runs []));
+      held = λ x sees_x there.
+          let right = leads.trust.right Binding x.0 (ap (λ (ss : List Seeing). is_binding (seeing_all ss nothing_seen).after x) (sym (fold_each seeing_step p.body)) ∙ sees_x) there in
+          let run_is = ap (λ (fs : List Doing). all_done fs 0 (given (start p inputs) (leads.words ++ []))) (fold_each (given_step (becomes_trusted l (against set))) p.body) ∙ leads.runs [] in
+          subst (λ (z : Given). AreRight k.known w (parts_at_end p l list x).at (word_at z.state x)) (sym run_is)
+          (subst (λ (fs : List (Emission (suite_calls n) proto)). AreRight k.known w (parts_at (suite_calls n) proto ((in_turn (suite_calls n) proto fs).emit e0).state x).at (word_at leads.after x)) (sym (fold_each (stmt_emission (suite_calls n) proto) p.body)) right);
     }
 
   module _ (w : Hosts) (run : RunsIntoAttack p l list set t w) where

@@ -1,21 +1,25 @@
 -- Whole runs in which hosts for whose integrity attackers can act depart from their programs.
-use Rattle.std.specs.Prelude.{◌≡◌, ℕ, ◌^◌, ◌<◌, Bool, true, List, ◌++◌, length}
+use Rattle.std.specs.Prelude.{◌≡◌, ℕ, ◌^◌, ◌<◌, Bool, true, List, ◌++◌, length, map}
 use Rattle.vd_base.specs.declared.ids.HostId.{HostId}
+use Rattle.vd_base.specs.declared.ids.SlotId.{SlotId}
 use Rattle.vd_core.specs.declared.normal.NormalForm.{NormalForm}
+use Rattle.vd_core.specs.Facts.{is_binding, nothing_seen, seeing, seeing_all}
 use Rattle.vd_constraints.specs.declared.labels.Labels.{Labels}
 use Rattle.vd_space.specs.Reading.{problem_of}
+use Rattle.vd_meaning.specs.ProgramMeaning.{word_at}
 use Rattle.vd_execution.specs.Joint.{Hosts, fresh}
 use Rattle.vd_execution.specs.World.{Tape}
 use Rattle.vd_joint.specs.Block.{block_of}
-use Rattle.vd_joint.specs.Emission.{emitting_at_start}
+use Rattle.vd_joint.specs.Emission.{block_emission, emitting_at_start, parts_at}
 use Rattle.vd_joint.specs.Outcome.{NumbersFit}
-use Rattle.vd_suite.specs.Parts.{suite_calls}
+use Rattle.vd_suite.specs.Parts.{Parts, suite_calls}
 use Rattle.vd_whole.specs.Lists.{protos_of}
-use Rattle.vd_trust.specs.Trust.{against, becomes_trusted, trusts_host}
+use Rattle.vd_trust.specs.Trust.{against, becomes_trusted, in_trust, trusts_host}
 use Rattle.vd_assigned_dependence.specs.Assigned.{IsAssignment}
 use Rattle.vd_told.specs.Told.{IsDealt}
 use Rattle.vd_departing.specs.Copies.{IsInClear}
-use Rattle.vd_endorsed.specs.Endorsed.{outputs_given}
+use Rattle.vd_departing.specs.Departing.{AreRight}
+use Rattle.vd_endorsed.specs.Endorsed.{outputs_given, run_given}
 use Rattle.vd_trusted_runs.specs.Runs.{RunsBlock, RunsInto}
 
 -- the hosts for whose integrity these principals cannot act
@@ -38,17 +42,26 @@ RunsIntoAttack p l list set t w =
 abbrev pub StandsInClear : NormalForm → Labels → List ℕ → Type 0
 StandsInClear p l list = (x : ℕ) → x < length p.slots → IsInClear (protos_of (problem_of p l) list x)
 
--- Some words that become trusted explain what the hosts that keep to their programs have printed: it is what the program tells them
--- on the inputs, where these words are endorsed.
-pub record IsExplained (p : NormalForm) (l : Labels) (set : ℕ) (inputs : List (List ℕ)) (w : Hosts) : Type 0 where
+-- the parts of a slot behind the last statement
+abbrev pub parts_at_end : NormalForm → Labels → List ℕ → SlotId → Parts
+parts_at_end p l list x =
+    let calls = suite_calls (length p.hosts) in
+    let proto = protos_of (problem_of p l) list in
+    parts_at calls proto ((block_emission calls proto p.body).emit (emitting_at_start calls proto)).state x
+
+-- Some words that become trusted explain what the hosts that keep to their programs have printed, and what they hold of the bindings
+-- in sight at the end that are in trust: these are those of the program on the inputs, where these words are endorsed.
+pub record IsExplained (p : NormalForm) (l : Labels) (list : List ℕ) (set : ℕ) (inputs : List (List ℕ)) (w : Hosts) : Type 0 where
   pub words : List ℕ
   pub printed : (h : HostId) → h.0 < length p.hosts → keeps_from p set h.0 ≡ true → (w h.0).printed ≡ outputs_given p (becomes_trusted l (against set)) h words inputs
+  pub held : (x : SlotId) → is_binding (seeing_all (map seeing p.body) nothing_seen).after x ≡ true → in_trust p l (against set) x.0 ≡ true
+      → AreRight (keeps_from p set) w (parts_at_end p l list x).at (word_at (run_given p (becomes_trusted l (against set)) words inputs).state x)
 
 -- So it is at each valid assignment in clear, with each deal.
 abbrev pub RunsAreExplained : NormalForm → Labels → Type 0
 RunsAreExplained p l =
     NumbersFit p → (list : List ℕ) → IsAssignment p l list → StandsInClear p l list → (set : ℕ) → set < 2 ^ length p.principals
-    → (inputs : List (List ℕ)) (t : Tape) → IsDealt inputs t → (w : Hosts) → RunsWithAttackers p l list set t w → IsExplained p l set inputs w
+    → (inputs : List (List ℕ)) (t : Tape) → IsDealt inputs t → (w : Hosts) → RunsWithAttackers p l list set t w → IsExplained p l list set inputs w
 
 -- The second list begins with the first.
 pub record Begins (front whole : List ℕ) : Type 0 where

@@ -7,6 +7,7 @@ ghost use Rattle.vd_trusted_runs.specs.Trusted.{FrontsAreExplained, RunsAreExpla
 
 /// Hosts for whose integrity attackers can act send any words. Where such a run comes to its end, the hosts that keep to their programs
 /// have printed what the program tells them, but that the attackers choose the words that become trusted by an endorsement, and no more.
+/// Of the bindings in trust that are in sight at the end they hold the words of that run.
 pub fn attackers_choose_what_is_endorsed()
     ensures { OfEachProgram (λ p l. RunsAreExplained p l) }
 {}
