@@ -52,7 +52,7 @@ fn print_stored<W: Write, F: Files>(
 
 /// Prints what becomes of files that are stored and fetched.
 pub fn print_files<W: Write, R: Disk + Drop>(to: &mut W, rt: R, alloc: Global) -> io::Result<()> {
-    let mut files = RealFiles::new(SystemDirectory::new(rt), alloc);
+    let mut files = RealFiles::new(SystemDirectory::new(rt, 7), alloc);
     print_stored(to, &mut files, "stored", b"12345", 5)?;
     print_stored(to, &mut files, "stored", b"12345", 4)?;
     let text = long_text(alloc, 200_000)?;

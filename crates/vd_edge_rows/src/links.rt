@@ -3,7 +3,8 @@ ghost use Rattle.std.specs.Prelude.{◌<◌, ◌≤◌};
 use std::alloc::Global;
 use std::io::{self, Write};
 use std::net::{Net as Network, OpenListener, TcpListener};
-use vd_edge::{RealNet, SystemSockets};
+use std::time::Clock;
+use vd_edge::{RealNet, SystemSockets, Waits};
 use vd_outside::{Link, Net};
 
 /// An address on the loopback that was free a moment ago.
@@ -46,40 +47,79 @@ fn pass_to_second<N: Net>(net: &mut N, first: &str, address: &str) -> Option<(u3
 }
 
 /// What passes over one link, and how often the net failed.
-fn one_link<R: Network + Drop>(alloc: Global, rt: R) -> Option<((u32, u32, u32), u64)> {
+fn one_link<R: Network + Clock + Drop>(
+    alloc: Global,
+    rt: R,
+    waits: Waits,
+) -> Option<((u32, u32, u32), u64)> {
     let address = free_address(alloc, &rt)?;
-    let mut net = RealNet::new(SystemSockets::new(rt), alloc);
+    let mut net = RealNet::new(SystemSockets::new(rt, waits), alloc);
     let passed = pass(&mut net, address.as_str())?;
     Some((passed, net.faults()))
 }
 
 /// What comes to the second of two listeners, and how often the net failed.
-fn two_listeners<R: Network + Drop>(alloc: Global, rt: R) -> Option<((u32, u32), u64)> {
+fn two_listeners<R: Network + Clock + Drop>(
+    alloc: Global,
+    rt: R,
+    waits: Waits,
+) -> Option<((u32, u32), u64)> {
     let first = free_address(alloc, &rt)?;
     let second = free_address(alloc, &rt)?;
-    let mut net = RealNet::new(SystemSockets::new(rt), alloc);
+    let mut net = RealNet::new(SystemSockets::new(rt, waits), alloc);
     let passed = pass_to_second(&mut net, first.as_str(), second.as_str())?;
     Some((passed, net.faults()))
 }
 
 /// Whether a link to an address at which nobody listens is refused, and how often the net failed.
-fn lone_address<R: Network + Drop>(alloc: Global, rt: R) -> Option<(bool, u64)> {
+fn lone_address<R: Network + Clock + Drop>(
+    alloc: Global,
+    rt: R,
+    waits: Waits,
+) -> Option<(bool, u64)> {
     let address = free_address(alloc, &rt)?;
-    let mut net = RealNet::new(SystemSockets::new(rt), alloc);
+    let mut net = RealNet::new(SystemSockets::new(rt, waits), alloc);
     let refused = net.connect(address.as_str()).is_err();
     Some((refused, net.faults()))
 }
 
 /// Prints what passes over links of the loopback.
-pub fn print_links<W: Write, R: Network + Clone + Drop>(
+pub fn print_links<W: Write, R: Network + Clock + Clone + Drop>(
     to: &mut W,
     rt: R,
     alloc: Global,
+    waits: Waits,
 ) -> io::Result<()> {
-    let one = one_link(alloc, rt.clone()?);
+    let one = one_link(alloc, rt.clone()?, waits);
     writeln!(to, "one link: {one:?}")?;
-    let two = two_listeners(alloc, rt.clone()?);
+    let two = two_listeners(alloc, rt.clone()?, waits);
     writeln!(to, "two listeners: {two:?}")?;
-    let lone = lone_address(alloc, rt);
+    let lone = lone_address(alloc, rt, waits);
+    writeln!(to, "nobody listens: {lone:?}")
+}
+
+/// Whether a wait for a stream that does not come is over, and how often the net failed.
+fn nobody_comes<R: Network + Clock + Drop>(
+    alloc: Global,
+    rt: R,
+    waits: Waits,
+) -> Option<(bool, u64)> {
+    let address = free_address(alloc, &rt)?;
+    let mut net = RealNet::new(SystemSockets::new(rt, waits), alloc);
+    let listener = net.listen(address.as_str()).ok()?;
+    let over = net.accept(listener).is_err();
+    Some((over, net.faults()))
+}
+
+/// Prints what becomes of waits that may end, where nobody comes or can be reached.
+pub fn print_waits<W: Write, R: Network + Clock + Clone + Drop>(
+    to: &mut W,
+    rt: R,
+    alloc: Global,
+    waits: Waits,
+) -> io::Result<()> {
+    let came = nobody_comes(alloc, rt.clone()?, waits);
+    writeln!(to, "nobody comes: {came:?}")?;
+    let lone = lone_address(alloc, rt, waits);
     writeln!(to, "nobody listens: {lone:?}")
 }
