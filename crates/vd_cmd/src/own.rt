@@ -38,6 +38,8 @@ usage:
                                 run the host whose program the file PROGRAM is, over sockets, with its own part of
                                 INPUTS and its deal; there is one ADDR for each other host, in host order, where the
                                 earlier host of the two listens; print listening, then each word, then ended
+  viaduct host-within SECONDS PROGRAM INPUTS DEAL ADDR..
+                                run that host, with no wait for another one longer than SECONDS, 1 to 604800
   viaduct run SOURCE INPUTS PREFIX SELF PORT
                                 compile SOURCE as compile does, and run each host i on this machine as a process of
                                 the program SELF, on INPUTS and the deal PREFIX.i.deal; the hosts meet at the ports
