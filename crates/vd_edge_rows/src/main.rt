@@ -4,6 +4,7 @@
 
 mod children;
 mod files;
+mod kept;
 mod links;
 mod stores;
 mod streams;
@@ -16,6 +17,7 @@ fn main(rt: HostRuntime) -> io::Result<()> {
     let alloc = rt.alloc();
     let mut to = rt.stdout();
     files::print_files(&mut to, rt.clone()?, alloc)?;
+    kept::print_kept(&mut to, rt.clone()?, alloc)?;
     stores::print_stores(&mut to, alloc)?;
     streams::print_streams(&mut to, alloc)?;
     children::print_children(&mut to, rt.clone()?, alloc)?;

@@ -1,9 +1,8 @@
-ghost use Rattle.std.specs.Prelude.{◌<◌, length, false};
-ghost use Rattle.std.proofs.Common.{rules};
+ghost use Rattle.std.specs.Prelude.{◌<◌, length};
 
 use std::alloc::Global;
 use std::io::{self, Write};
-use vd_edge::{RealSink, TellsTaken};
+use vd_edge::RealSink;
 use vd_outside::Sink;
 
 /// A writer that takes a byte at a time, and no more than its room.
@@ -24,12 +23,6 @@ impl Write for Narrow {
     fn flush(&mut self) -> io::Result<()> {
         Ok(())
     }
-}
-
-impl TellsTaken for Narrow {
-    ghost tells = { false };
-
-    ghost told = { Prim.search rules };
 }
 
 /// Writes this piece, and prints how that ended.

@@ -1,0 +1,54 @@
+-- Files that were read ahead of a run: what they tell.
+use Rattle.std.specs.Prelude.{◌≡◌, ◌<◌, ℕ, ◌+◌, Bool, true, false, ◌&&◌, ◌||◌, List, [], ◌∷◌, length, Option, Some, None, ⊤, replicate, if◌then◌else◌}
+use Rattle.std.specs.Str.{bytes_eq}
+use Rattle.vd_outside.specs.Files.{Contents, FilesView, with_content}
+use Rattle.vd_outside.specs.declared.files.FilesCall.{FilesCall}
+use Rattle.vd_outside.specs.declared.files.FilesCall.TheVariants.{Fetch, Store}
+use Rattle.vd_edge.specs.declared.kept.Held.{Held}
+use Rattle.vd_edge.specs.declared.kept.Held.TheVariants.{Whole, Longer}
+use Rattle.vd_edge.specs.declared.kept.Kept.{Kept}
+
+-- A file that is longer than it may be stands for one of so many zeros: no fetch tells one from the other.
+abbrev pub content : Held → List ℕ
+content (Whole bytes) = bytes
+content (Longer most) = replicate (most + 1) 0
+
+-- what was read at a name; the first reading counts
+abbrev pub as_read : List Kept → Contents
+as_read [] name = None
+as_read (file ∷ files) name = if bytes_eq file.name name then Some (content file.held) else as_read files name
+
+-- the same after these stores, the last of which stands first
+abbrev pub after_stores : List (List ℕ × List ℕ) → Contents → Contents
+after_stores [] contents = contents
+after_stores (store ∷ stores) contents = with_content (after_stores stores contents) store.0 (Some store.1)
+
+-- whether one of these calls stores at a name
+abbrev pub stores_at : List ℕ → List FilesCall → Bool
+stores_at name [] = false
+stores_at name (Fetch other ∷ calls) = stores_at name calls
+stores_at name (Store other ∷ calls) = bytes_eq other name || stores_at name calls
+
+-- each of these stores was asked
+abbrev pub were_asked : List FilesCall → List (List ℕ × List ℕ) → Bool
+were_asked calls [] = true
+were_asked calls (store ∷ stores) = stores_at store.0 calls && were_asked calls stores
+
+-- they tell all: what was read, with what was stored since in its place, the calls, and how often they have failed
+abbrev pub kept_view : List Kept → List FilesCall → List (List ℕ × List ℕ) → ℕ → FilesView
+kept_view kept asked stores faults = record { told = true; contents = after_stores stores (as_read kept); asked = asked; faults = faults }
+
+-- what was read is what stood there, where that is known
+abbrev pub IsHeldOf : Held → Option (List ℕ) → Type 0
+IsHeldOf held None = ⊤
+IsHeldOf (Whole bytes) (Some all) = bytes ≡ all
+IsHeldOf (Longer most) (Some all) = most < length all
+
+-- so it is with each of these files
+abbrev pub AreHeldOf : List Kept → Contents → Type 0
+AreHeldOf [] holds = ⊤
+AreHeldOf (file ∷ files) holds = IsHeldOf file.held (holds file.name) × AreHeldOf files holds
+
+-- Files were read ahead, and nothing else was asked of them so far.
+abbrev pub IsReadAhead : Contents → FilesView → Type 0
+IsReadAhead holds view = (read : List Kept) × AreHeldOf read holds × (view ≡ kept_view read [] [] 0)

@@ -1,0 +1,35 @@
+//! What was read of a file.
+
+use vd_base::{Bytes, Text};
+
+/// What a file held.
+#[derive(Debug, Drop)]
+pub enum Held {
+    /// These bytes and no more.
+    Whole(Bytes),
+    /// More bytes than this; which ones is not known.
+    Longer(u32),
+}
+
+/// A file as it was read.
+#[derive(Debug, Drop)]
+pub struct Kept {
+    pub name: Text,
+    pub held: Held,
+}
+
+/// A file that is to be read.
+#[derive(Debug, Drop)]
+pub struct Wanted {
+    pub name: Text,
+    /// The most bytes with which it will be fetched.
+    pub most: u32,
+}
+
+/// A file that could not be read.
+#[derive(Debug, Drop)]
+pub(crate) struct Unread {
+    pub name: Text,
+    /// Why.
+    pub reason: Text,
+}
