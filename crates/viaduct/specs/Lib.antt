@@ -1,3 +1,4 @@
+pub mod Ahead
 pub mod Limited
 pub mod Program
 pub mod Reasons

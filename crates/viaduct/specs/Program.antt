@@ -1,9 +1,13 @@
 -- What the program does, whatever objects it is given.
-use Rattle.std.specs.Prelude.{◌≡◌, ℕ, List, Result}
-use Rattle.vd_outside.specs.Files.{FilesView}
+use Rattle.std.specs.Prelude.{◌≡◌, ◌⊎◌, ℕ, List, Result}
+use Rattle.vd_outside.specs.Files.{Contents, FilesView}
+use Rattle.vd_outside.specs.Net.{NetView}
 use Rattle.vd_outside.specs.Sink.{SinkView}
-use Rattle.vd_plan.specs.Lines.{code_of}
+use Rattle.vd_outside.specs.Spawner.{SpawnerView}
+use Rattle.vd_edge.specs.KeptFiles.{IsReadAhead}
+use Rattle.vd_plan.specs.Lines.{Says, code_of, status_line}
 use Rattle.vd_plan.specs.declared.status.Status.{Status}
+use Rattle.vd_plan.specs.declared.status.Status.TheVariants.{Memory}
 use Rattle.vd_remarks.specs.declared.fault.TellFault.{TellFault}
 use Rattle.vd_telling.specs.Saying.{SaysTo}
 use Rattle.vd_telling.specs.declared.telling.Destination.{Destination}
@@ -19,3 +23,29 @@ pub record IsRun (destination : Destination) (words : List (List ℕ)) (o : Arou
   pub said : Result (Unit {0}) TellFault
   pub more : SaysTo destination words status files o.files.1 err o.err.1 said
   pub ends : code ≡ code_of status
+
+-- the objects that a run uses besides files, each before it and after it
+pub record Streams : Type 0 where
+  pub out : SinkView × SinkView
+  pub err : SinkView × SinkView
+  pub net : NetView × NetView
+  pub spawner : SpawnerView × SpawnerView
+
+-- There was no memory for the files, which is said; nothing else was done.
+pub record WantsMemory (o : Streams) (code : ℕ) : Type 0 where
+  pub says : Says (status_line Memory) o.err.0 o.err.1
+  pub out : o.out.1 ≡ o.out.0
+  pub net : o.net.1 ≡ o.net.0
+  pub spawner : o.spawner.1 ≡ o.spawner.0
+  pub ends : code ≡ code_of Memory
+
+-- The command line was run over files that were read ahead, which held what stood in the directory where it tells that.
+pub record IsRunOver (destination : Destination) (words : List (List ℕ)) (holds : Contents) (o : Streams) (code : ℕ) : Type 0 where
+  pub read : FilesView
+  pub last : FilesView
+  pub ahead : IsReadAhead holds read
+  pub run : IsRun destination words (record { files = (read, last); out = o.out; err = o.err; net = o.net; spawner = o.spawner }) code
+
+-- Either was it, or there was no memory.
+abbrev pub RunsOver : Destination → (words : List (List ℕ)) → (holds : Contents) → Streams → (code : ℕ) → Type 0
+RunsOver destination words holds o code = IsRunOver destination words holds o code ⊎ WantsMemory o code

@@ -2,12 +2,13 @@
 //! terminal, more is then said of a fault to the person who sits there.
 #![tactic(auto)]
 
+mod ahead;
 mod limited;
 mod program;
 mod reasons;
 
 use limited::{limit_of, without_limit};
-use program::{destination_of, end, run_program, words_of};
+use program::{Ran, destination_of, end, reason_of, run_over, words_of};
 use reasons::tell_reason;
 use std::alloc::Global;
 use std::env::{Env, VarError};
@@ -81,19 +82,19 @@ fn run(
     let waits = Waits::new(rt.process(), parent(&rt), limit);
     let mut net = RealNet::new(SystemSockets::new(rt.clone()?, waits), alloc);
     let mut spawner = RealSpawner::new(rt.clone()?, alloc, process);
-    let mut files = RealFiles::new(SystemDirectory::new(rt, process), alloc);
-    let code = run_program(
+    let files = RealFiles::new(SystemDirectory::new(rt, process), alloc);
+    let Ran { code, files } = run_over(
         alloc,
         destination,
         &words,
-        &mut files,
+        files,
         out,
         err,
         &mut net,
         &mut spawner,
     );
     if told && code != ExitCode::SUCCESS {
-        tell_reason(alloc, &words, err, files.reason());
+        tell_reason(alloc, &words, err, reason_of(&files));
         tell_reason(alloc, &words, err, net.reason());
         tell_reason(alloc, &words, err, spawner.reason().as_deref());
     }

@@ -4,11 +4,13 @@ ghost use Rattle.std.specs.Prelude.{◌≡◌, ◌≤◌, IfOk, drop, if◌then�
 ghost use Rattle.std.specs.Process.{exit_status};
 ghost use Rattle.vd_plan.specs.Lines.{Says, code_of, status_line};
 ghost use Rattle.vd_telling.specs.declared.telling.Destination.TheVariants.{File, Terminal};
-ghost use Rattle.viaduct.specs.Program.{IsRun};
+ghost use Rattle.viaduct.specs.Program.{IsRun, RunsOver};
 
+use crate::ahead::read_ahead;
 use std::alloc::{AllocError, Global};
 use std::process::ExitCode;
 use vd_base::Texts;
+use vd_edge::{Directory, KeptFiles, RealFiles};
 use vd_outside::{Files, Net, Sink, Spawner};
 use vd_plan::{Status, tell};
 use vd_telling::{Destination, say_more};
@@ -89,4 +91,64 @@ pub fn end<E: Sink>(err: &mut E, status: &Status) -> ExitCode
 {
     tell(err, status);
     exit_code(status)
+}
+
+/// A run over files that were read ahead: the code of its status, and the files, unless there was no memory for them.
+#[derive(Drop)]
+pub struct Ran<D: Directory + Drop> {
+    pub code: ExitCode,
+    pub files: Option<KeptFiles<D>>,
+}
+
+/// Why the last call of these files failed, where one did.
+pub fn reason_of<D: Directory + Drop>(files: &Option<KeptFiles<D>>) -> Option<&str> {
+    match files {
+        Some(files) => files.reason(),
+        None => None,
+    }
+}
+
+/// Reads the files that a command line may fetch, runs it over what they held, and gives the code of its status. Each file
+/// is read once, so that all of a run, and what is said of it to a person, speaks of the same bytes.
+pub fn run_over<D: Directory + Drop, O: Sink, E: Sink, N: Net, S: Spawner>(
+    alloc: Global,
+    destination: Destination,
+    words: &Texts,
+    files: RealFiles<D>,
+    out: &mut O,
+    err: &mut E,
+    net: &mut N,
+    spawner: &mut S,
+) -> Ran<D>
+    requires listeners { (N.view net.old).given ≤ 4294967000 }
+    requires children { (S.view spawner.old).given ≤ 4294967000 }
+    ensures { RunsOver destination words.now (D.holds files.directory) (record {
+      out = (O.view out.old, O.view out.new);
+      err = (E.view err.old, E.view err.new);
+      net = (N.view net.old, N.view net.new);
+      spawner = (S.view spawner.old, S.view spawner.new);
+    }) (exit_status result.code) }
+{
+    match read_ahead(alloc, words, files) {
+        Ok(mut files) => {
+            let code = run_program(
+                alloc,
+                destination,
+                words,
+                &mut files,
+                out,
+                err,
+                net,
+                spawner,
+            );
+            Ran {
+                code,
+                files: Some(files),
+            }
+        }
+        Err(_) => Ran {
+            code: end(err, &Status::Memory),
+            files: None,
+        },
+    }
 }
