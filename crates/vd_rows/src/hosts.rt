@@ -1,7 +1,7 @@
 //! Two hosts under schedules, on code made by hand.
 
-ghost use Rattle.std.specs.Prelude.{◌≡◌, ◌<◌, ◌∷◌, [], IfOk};
-ghost use Rattle.vd_deals.specs.Validity.{IsDeal};
+ghost use Rattle.std.specs.Prelude.{◌≡◌, ◌<◌, ◌∷◌, [], length, IfOk};
+ghost use Rattle.vd_deals.specs.Validity.{AreWithin, IsDeal};
 ghost use Rattle.vd_execution.specs.Text.{register};
 ghost use Rattle.vd_rows.specs.Codes.{CanLoad};
 ghost use Rattle.vd_rows.specs.Codes as codes;
@@ -9,7 +9,7 @@ ghost use Rattle.vd_rows.specs.Codes as codes;
 use std::alloc::{AllocError, Global};
 use std::test::Fail;
 use vd_base::{HostId, HostState, Words};
-use vd_deals::Deal;
+use vd_deals::{Deal, PairItem, Triple};
 use vd_execution::{Action, Instr, Reg};
 use vd_items::Items;
 use vd_machine::Machine;
@@ -54,36 +54,50 @@ fn taker(alloc: Global) -> Result<Items<Instr>, AllocError>
     Ok(Items::from_vec(code))
 }
 
+/// No products, for the one other host.
+fn no_triples(alloc: Global) -> Result<Items<Items<Triple>>, AllocError>
+    ensures one { IfOk result (λ list. length list ≡ 1) }
+    ensures within { IfOk result AreWithin }
+{
+    let list = vec![in alloc; Items::new(alloc)]?;
+    Ok(Items::from_vec(list))
+}
+
+/// No words that are sums and exclusive ors, for the one other host.
+fn no_pairs(alloc: Global) -> Result<Items<Items<PairItem>>, AllocError>
+    ensures one { IfOk result (λ list. length list ≡ 1) }
+    ensures within { IfOk result AreWithin }
+{
+    let list = vec![in alloc; Items::new(alloc)]?;
+    Ok(Items::from_vec(list))
+}
+
 /// A deal of nothing, to one of two hosts.
 fn no_deal(alloc: Global, me: u8) -> Result<Deal, AllocError>
     requires { me < 2 }
     ensures deal { IfOk result (λ deal. IsDeal deal) }
     ensures hosts { IfOk result (λ deal. deal.hosts ≡ 2) }
 {
-    let triples = vec![in alloc; Items::new(alloc)]?;
-    let bits = vec![in alloc; Items::new(alloc)]?;
-    let pairs = vec![in alloc; Items::new(alloc)]?;
+    let triples = no_triples(alloc)?;
+    let bits = no_triples(alloc)?;
+    let pairs = no_pairs(alloc)?;
     Ok(Deal {
         hosts: 2,
         me: HostId(me),
         own: Items::new(alloc),
-        triples: Items::from_vec(triples),
-        bits: Items::from_vec(bits),
-        pairs: Items::from_vec(pairs),
+        triples,
+        bits,
+        pairs,
     })
 }
 
-fn machine(
-    alloc: Global,
-    code: Items<Instr>,
-    inputs: Words,
-    deal: Deal,
-) -> Result<Machine, AllocError>
+/// One of two hosts with this code and these inputs, to which nothing is dealt.
+fn machine(alloc: Global, me: u8, code: Items<Instr>, inputs: Words) -> Result<Machine, AllocError>
+    requires me { me < 2 }
     requires code { CanLoad code }
-    requires deal { IsDeal deal }
-    requires hosts { deal.hosts ≡ 2 }
     ensures { IfOk result (λ m. m.lists.deal.hosts ≡ 2) }
 {
+    let deal = no_deal(alloc, me)?;
     Machine::load(alloc, code, inputs, deal)
 }
 
@@ -91,25 +105,22 @@ fn machine(
 fn listening(alloc: Global) -> Result<Machine, AllocError>
     ensures { IfOk result (λ m. m.lists.deal.hosts ≡ 2) }
 {
-    let deal = no_deal(alloc, 0)?;
-    machine(alloc, listener(alloc)?, Items::new(alloc), deal)
+    machine(alloc, 0, listener(alloc)?, Items::new(alloc))
 }
 
 /// Host 1, which sends its input.
 fn speaking(alloc: Global, inputs: &[u32]) -> Result<Machine, AllocError>
     ensures { IfOk result (λ m. m.lists.deal.hosts ≡ 2) }
 {
-    let deal = no_deal(alloc, 1)?;
     let inputs = Items::from_slice(alloc, inputs)?;
-    machine(alloc, speaker(alloc)?, inputs, deal)
+    machine(alloc, 1, speaker(alloc)?, inputs)
 }
 
 /// Host 1, which takes a random word.
 fn taking(alloc: Global) -> Result<Machine, AllocError>
     ensures { IfOk result (λ m. m.lists.deal.hosts ≡ 2) }
 {
-    let deal = no_deal(alloc, 1)?;
-    machine(alloc, taker(alloc)?, Items::new(alloc), deal)
+    machine(alloc, 1, taker(alloc)?, Items::new(alloc))
 }
 
 /// Two hosts before their first step, of which the first listens.
@@ -121,9 +132,10 @@ fn two(alloc: Global, second: Machine) -> Result<World, AllocError>
     World::start(alloc, machines)
 }
 
-/// Whether a host could take a step; nothing where there was no memory.
-fn takes_step(world: &mut World, host: u8) -> Option<bool> {
-    world.step(HostId(host)).ok()
+/// Whether a host could take a step, or nothing where there was no memory; and how it stands then.
+fn step(world: &mut World, host: u8) -> (Option<bool>, HostState) {
+    let stepped = world.step(HostId(host)).ok();
+    (stepped, world.state(HostId(host)))
 }
 
 fn run(world: &mut World) -> Result<(), AllocError> {
@@ -138,24 +150,31 @@ fn printed(world: &World) -> &[u32] {
     world.printed(HostId(0))
 }
 
-/// What host 1 sent to host 0.
-fn sent(world: &World) -> &[u32] {
-    world.talk(HostId(1), HostId(0))
+/// Whether host 0 printed these words, and host 1 sent them to it.
+fn are_told(world: &World, words: &[u32]) -> bool {
+    printed(world) == words && world.talk(HostId(1), HostId(0)) == words
+}
+
+/// Two steps of two hosts: that of host 0, and then that of host 1.
+fn two_steps(world: &mut World) -> [(Option<bool>, HostState); 2] {
+    [step(world, 0), step(world, 1)]
 }
 
 const WAITING: HostState = HostState::Waiting(HostId(1));
 
+/// Host 0 cannot step and waits; host 1 takes its input.
+const STEPS: [(Option<bool>, HostState); 2] = [
+    (Some(false), WAITING),
+    (Some(true), HostState::Ready),
+];
+
 #[test]
 fn words_go_from_one_host_to_the_other(rt: HostRuntime) -> Result<(), Fail> {
     let mut world = two(rt.alloc(), speaking(rt.alloc(), &[7])?)?;
-    assert_eq!(rt; takes_step(&mut world, 0), Some(false));
-    assert_eq!(rt; states(&world).0, WAITING);
-    assert_eq!(rt; takes_step(&mut world, 1), Some(true));
-    assert_eq!(rt; states(&world).1, HostState::Ready);
+    assert_eq!(rt; two_steps(&mut world), STEPS);
     run(&mut world)?;
     assert_eq!(rt; states(&world), (HostState::Ended, HostState::Ended));
-    assert_eq!(rt; printed(&world), [7].as_slice());
-    assert_eq!(rt; sent(&world), [7].as_slice());
+    assert!(rt; are_told(&world, &[7]));
     Ok(())
 }
 

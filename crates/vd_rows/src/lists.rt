@@ -6,7 +6,7 @@ use vd_items::{Boxed, Items};
 
 /// A tree that reaches itself through both types.
 #[cycle(tree)]
-#[derive(PartialEq, Eq, Debug, Drop)]
+#[derive(PartialEq, Eq, Drop)]
 enum Tree {
     Leaf(u32),
     Not(Boxed<Tree>),
@@ -14,7 +14,7 @@ enum Tree {
 }
 
 #[cycle(tree)]
-#[derive(PartialEq, Eq, Debug, Drop)]
+#[derive(PartialEq, Eq, Drop)]
 struct Branch {
     name: Items<u8>,
     tree: Tree,
