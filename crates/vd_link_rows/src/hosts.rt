@@ -1,7 +1,7 @@
 //! Host 1 over its link to host 0, on code made by hand.
 
-ghost use Rattle.std.specs.Prelude.{◌≡◌, ◌<◌, ◌+◌, ◌++◌, ◌^◌, false, IfOk, IfSome, OnOk};
-ghost use Rattle.vd_deals.specs.Validity.{IsDeal};
+ghost use Rattle.std.specs.Prelude.{◌≡◌, ◌<◌, ◌+◌, ◌++◌, ◌^◌, false, length, IfOk, IfSome, OnOk};
+ghost use Rattle.vd_deals.specs.Validity.{AreWithin, IsDeal};
 ghost use Rattle.vd_engine.specs.Hosts.{PacketsAreWith};
 ghost use Rattle.vd_execution.specs.Code.{weight};
 ghost use Rattle.vd_link.specs.States.{has_failed, offset_of};
@@ -12,7 +12,7 @@ ghost use Rattle.vd_machine.specs.Kept.{state_of};
 use std::alloc::{AllocError, Global};
 use std::test::Fail;
 use vd_base::{Bytes, HostId, Words};
-use vd_deals::Deal;
+use vd_deals::{Deal, PairItem, Triple};
 use vd_engine::{Ended, EngineFault, Links, drive};
 use vd_execution::{Action, Instr, Reg};
 use vd_items::Items;
@@ -73,37 +73,49 @@ fn speaker(alloc: Global) -> Result<Items<Instr>, AllocError>
     Ok(Items::from_vec(code))
 }
 
+/// No products, for the one other host.
+fn no_triples(alloc: Global) -> Result<Items<Items<Triple>>, AllocError>
+    ensures one { IfOk result (λ list. length list ≡ 1) }
+    ensures within { IfOk result AreWithin }
+{
+    let list = vec![in alloc; Items::new(alloc)]?;
+    Ok(Items::from_vec(list))
+}
+
+/// No words that are sums and exclusive ors, for the one other host.
+fn no_pairs(alloc: Global) -> Result<Items<Items<PairItem>>, AllocError>
+    ensures one { IfOk result (λ list. length list ≡ 1) }
+    ensures within { IfOk result AreWithin }
+{
+    let list = vec![in alloc; Items::new(alloc)]?;
+    Ok(Items::from_vec(list))
+}
+
 /// A deal of nothing to host 1 of two.
 fn no_deal(alloc: Global) -> Result<Deal, AllocError>
     ensures deal { IfOk result (λ deal. IsDeal deal) }
     ensures hosts { IfOk result (λ deal. deal.hosts ≡ 2) }
 {
-    let triples = vec![in alloc; Items::new(alloc)]?;
-    let bits = vec![in alloc; Items::new(alloc)]?;
-    let pairs = vec![in alloc; Items::new(alloc)]?;
+    let triples = no_triples(alloc)?;
+    let bits = no_triples(alloc)?;
+    let pairs = no_pairs(alloc)?;
     Ok(Deal {
         hosts: 2,
         me: HostId(1),
         own: Items::new(alloc),
-        triples: Items::from_vec(triples),
-        bits: Items::from_vec(bits),
-        pairs: Items::from_vec(pairs),
+        triples,
+        bits,
+        pairs,
     })
 }
 
-/// A host with this code, these inputs and this deal.
-fn machine(
-    alloc: Global,
-    code: Items<Instr>,
-    inputs: Words,
-    deal: Deal,
-) -> Result<Machine, AllocError>
-    requires code { CanDrive code }
-    requires deal { IsDeal deal }
-    requires hosts { deal.hosts ≡ 2 }
+/// A host with this code and these inputs, to which nothing is dealt.
+fn machine(alloc: Global, code: Items<Instr>, inputs: Words) -> Result<Machine, AllocError>
+    requires { CanDrive code }
     ensures packets { IfOk result (λ m. PacketsAreWith (λ peer. peer ≡ 0) (state_of m).pending) }
     ensures short { IfOk result (λ m. weight (state_of m).pending < 2 ^ 32) }
 {
+    let deal = no_deal(alloc)?;
     Machine::load(alloc, code, inputs, deal)
 }
 
@@ -112,8 +124,7 @@ fn opening_machine(alloc: Global) -> Result<Machine, AllocError>
     ensures packets { IfOk result (λ m. PacketsAreWith (λ peer. peer ≡ 0) (state_of m).pending) }
     ensures short { IfOk result (λ m. weight (state_of m).pending < 2 ^ 32) }
 {
-    let deal = no_deal(alloc)?;
-    machine(alloc, opener(alloc)?, Items::new(alloc), deal)
+    machine(alloc, opener(alloc)?, Items::new(alloc))
 }
 
 /// A host with this input, which it sends and prints.
@@ -121,9 +132,8 @@ fn speaking_machine(alloc: Global, inputs: &[u32]) -> Result<Machine, AllocError
     ensures packets { IfOk result (λ m. PacketsAreWith (λ peer. peer ≡ 0) (state_of m).pending) }
     ensures short { IfOk result (λ m. weight (state_of m).pending < 2 ^ 32) }
 {
-    let deal = no_deal(alloc)?;
     let inputs = Items::from_slice(alloc, inputs)?;
-    machine(alloc, speaker(alloc)?, inputs, deal)
+    machine(alloc, speaker(alloc)?, inputs)
 }
 
 /// The host over its one session.

@@ -5,11 +5,11 @@ use Rattle.vd_link_rows.proofs.hosts.machine.Goals as goal
 
 pub load-requires-clause-code : goal.load-requires-clause-code
 load-requires-clause-code c =
-    let code = c.requires.code in
-    (code.tree, code.is, subst (λ (hosts : ℕ). IsInRange hosts code.tree) (sym c.requires.hosts) code.range)
+    let code = c.requires in
+    (code.tree, code.is, subst (λ (hosts : ℕ). IsInRange hosts code.tree) (sym (c.in_ok-deal.ensures {u = tt}).hosts) code.range)
 
 pub returns-clause-packets : goal.returns-clause-packets
-returns-clause-packets c = loaded_packets c.requires.code.tree c.load.result (c.load.ensures.pending c.requires.code.tree c.requires.code.is) c.requires.code.packets
+returns-clause-packets c = loaded_packets c.requires.tree c.load.result (c.load.ensures.pending c.requires.tree c.requires.is) c.requires.packets
 
 pub returns-clause-short : goal.returns-clause-short
-returns-clause-short c = loaded_weight c.requires.code.tree c.load.result (c.load.ensures.pending c.requires.code.tree c.requires.code.is) c.requires.code.short
+returns-clause-short c = loaded_weight c.requires.tree c.load.result (c.load.ensures.pending c.requires.tree c.requires.is) c.requires.short
