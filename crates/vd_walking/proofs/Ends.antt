@@ -1,9 +1,9 @@
 -- Both runs from their start to their end, and the deals that are then stored.
 use Rattle.std.proofs.Common.{◌≡◌, ◌≢◌, ℕ, zero, suc, ◌≤◌, ◌<◌, Bool, true, false, if◌then◌else◌, nat_eq, List, [], ◌∷◌, length, map, Option, Some, refl, sym, ap, ap₂, subst, ◌∙◌, inl, inr, arith}
-use Rattle.std.specs.Prelude.{Result, IfOk, Ok, Err, slice_get, slice_index, slice_index_or, unwrap_or}
+use Rattle.std.specs.Prelude.{nat_lt, ◌||◌, Result, IfOk, Ok, Err, slice_get, slice_index, slice_index_or, unwrap_or}
 use Rattle.std.proofs.lemmas.Option.{slice_get_past}
 use Rattle.std.proofs.lemmas.Bool.{eq-eqb}
-use Rattle.std.proofs.lemmas.Bool.Decides.{leb_tells}
+use Rattle.std.proofs.lemmas.Bool.Decides.{leb_tells, nat_tests}
 use mathlib.Core.Path.{fun_ext}
 use Rattle.vd_base.specs.declared.ids.HostId.{HostId}
 use Rattle.vd_deals.specs.declared.deal.Deal.{Deal}
@@ -21,8 +21,11 @@ use Rattle.vd_walking.specs.declared.walker.Walker.{Walker}
 use Rattle.vd_walking.specs.Data.{all_both, data_walks}
 use Rattle.vd_walking.specs.Supplies.{Lists, lists_of, supplies, dealt}
 use Rattle.vd_walking.specs.Following.{placed, IsIn, Stands, Known, Follows, WalksAreFollowed}
-use Rattle.vd_walking.specs.Files.{AreOfTwo, file_tape, counts_of, dealt_sides}
-use Rattle.vd_walking.specs.Claims.{at_start, end_of, EndsWithin, HasSameShape, HaveSameShape, stored_deal, stored_deals, walker_of}
+use Rattle.vd_walking.specs.Files.{AreOfTwo, file_tape, counts_of, dealt_sides, takes_more, is_short, first_of, first_short}
+use Rattle.vd_deals.specs.declared.deal.DealKind.{DealKind}
+use Rattle.vd_deals.specs.declared.deal.DealKind.TheVariants.{Own, Mul, And, Pair}
+use Rattle.vd_walking.proofs.Along.{first_lists}
+use Rattle.vd_walking.specs.Claims.{side_takes_more, either_takes_more, first_taken, at_start, end_of, EndsWithin, HasSameShape, HaveSameShape, stored_deal, stored_deals, walker_of}
 use Rattle.vd_walking.proofs.Stands.{word_or_zero}
 use Rattle.vd_walking.proofs.Hosts.{Part, file, are_files, file_holds, file_count}
 
@@ -255,12 +258,61 @@ module _ (first second : List (List ℕ)) (x y : Part) (few : length second ≤ 
     pub shapes_are : HaveSameShape (file 0 x ∷ file 1 y ∷ []) (stored_deals 0 ended.second (file 0 x ∷ file 1 y ∷ []))
     shapes_are = record { two = refl; each = each_shape }
 
+-- ---- which lists are too short
+
+more_placed : (n c i m : ℕ) → i ≡ placed c n → n ≡ m → nat_lt n i ≡ nat_lt m c
+more_placed n c i m e f = at_placed n c i e ∙ ap (λ k. nat_lt k c) f
+  where
+    at_placed : (n c i : ℕ) → i ≡ placed c n → nat_lt n i ≡ nat_lt n c
+    at_placed n c i e = grind (arith, nat_tests)
+
+module _ (first second : List (List ℕ)) (x y : Part) (few : length second ≤ 2) (law : WalksAreFollowed) (h : HostId) (low : h.0 < 2) (steps : List Step) where
+  abbrev at_end_too : Walker
+  at_end_too = all_both (data_walks steps) (walker_of h first second (file 0 x ∷ file 1 y ∷ []))
+
+  abbrev end_too : Both
+  end_too = end_of h steps first second (file 0 x ∷ file 1 y ∷ [])
+
+  stands_too : (g : ℕ) → Stands (side_at at_end_too.first g) (end_too.first g)
+  stands_too = ((follows_at_end first second x y few law h low steps).first.known (λ e. absurd cc)).stands
+
+  lists_too : (g : ℕ) → lists_of (side_at at_end_too.first g) ≡ lists_of (side_at (dealt_sides 0 first (file 0 x ∷ file 1 y ∷ [])) g)
+  lists_too g = first_lists h (file_tape first (file 0 x ∷ file 1 y ∷ [])) (λ g s. dealt (lists_of (side_at (dealt_sides 0 second (file 0 x ∷ file 1 y ∷ [])) g)) s) (dealt_sides 0 second (file 0 x ∷ file 1 y ∷ []))
+      (peer_apart first second x y few h.0 low) steps (walker_of h first second (file 0 x ∷ file 1 y ∷ [])) g
+
+  more_zero : (kind : DealKind) → side_takes_more kind (side_at at_end_too.first 0) ≡ takes_more (file 0 x ∷ file 1 y ∷ []) end_too.first kind 0
+  more_zero Own = more_placed _ _ _ _ (stands_too 0).taken.own (ap (λ (l : Lists). length l.own) (lists_too 0))
+  more_zero Mul = more_placed _ _ _ _ ((stands_too 0).taken.triples ∙ ap (λ (l : Lists). placed ((end_too.first 0).cursors (Triples l.peer.0)) (length (side_at at_end_too.first 0).triples)) (lists_too 0)) (ap (λ (l : Lists). length l.triples) (lists_too 0))
+  more_zero And = more_placed _ _ _ _ ((stands_too 0).taken.bits ∙ ap (λ (l : Lists). placed ((end_too.first 0).cursors (BitTriples l.peer.0)) (length (side_at at_end_too.first 0).bits)) (lists_too 0)) (ap (λ (l : Lists). length l.bits) (lists_too 0))
+  more_zero Pair = more_placed _ _ _ _ ((stands_too 0).taken.pairs ∙ ap (λ (l : Lists). placed ((end_too.first 0).cursors (Pairs l.peer.0)) (length (side_at at_end_too.first 0).pairs)) (lists_too 0)) (ap (λ (l : Lists). length l.pairs) (lists_too 0))
+
+  more_one : (kind : DealKind) → side_takes_more kind (side_at at_end_too.first 1) ≡ takes_more (file 0 x ∷ file 1 y ∷ []) end_too.first kind 1
+  more_one Own = more_placed _ _ _ _ (stands_too 1).taken.own (ap (λ (l : Lists). length l.own) (lists_too 1))
+  more_one Mul = more_placed _ _ _ _ ((stands_too 1).taken.triples ∙ ap (λ (l : Lists). placed ((end_too.first 1).cursors (Triples l.peer.0)) (length (side_at at_end_too.first 1).triples)) (lists_too 1)) (ap (λ (l : Lists). length l.triples) (lists_too 1))
+  more_one And = more_placed _ _ _ _ ((stands_too 1).taken.bits ∙ ap (λ (l : Lists). placed ((end_too.first 1).cursors (BitTriples l.peer.0)) (length (side_at at_end_too.first 1).bits)) (lists_too 1)) (ap (λ (l : Lists). length l.bits) (lists_too 1))
+  more_one Pair = more_placed _ _ _ _ ((stands_too 1).taken.pairs ∙ ap (λ (l : Lists). placed ((end_too.first 1).cursors (Pairs l.peer.0)) (length (side_at at_end_too.first 1).pairs)) (lists_too 1)) (ap (λ (l : Lists). length l.pairs) (lists_too 1))
+
+  first_same : (p q : DealKind → Bool) (kinds : List DealKind) → ((kind : DealKind) → p kind ≡ q kind) → first_of p kinds ≡ first_of q kinds
+  first_same p q [] same = refl
+  first_same p q (kind ∷ kinds) same = ap (λ (b : Bool). if b then Some kind else first_of p kinds) (same kind) ∙ ap (λ (o : Option DealKind). if q kind then Some kind else o) (first_same p q kinds same)
+
+  pub short_is : first_taken at_end_too.first ≡ first_short (file 0 x ∷ file 1 y ∷ []) end_too.first
+  short_is = first_same (either_takes_more at_end_too.first) (is_short (file 0 x ∷ file 1 y ∷ []) end_too.first) (Own ∷ Mul ∷ And ∷ Pair ∷ []) (λ kind. ap₂ (λ (a b : Bool). a || b) (more_zero kind) (more_one kind))
+
 -- ---- of any two deals
 
 pub record Ended (h : HostId) (steps : List Step) (first second : List (List ℕ)) (deals stored : List Deal) : Type 0 where
   pub same : HaveSameShape deals stored
   pub kept : slice_get stored h.0 ≡ slice_get deals h.0
   pub deal : EndsWithin deals (end_of h steps first second deals) → file_tape second stored ≡ (end_of h steps first second deals).deal
+
+pub short_so : WalksAreFollowed → (h : HostId) → h.0 < 2 → (steps : List Step) (first second : List (List ℕ)) → length second ≤ 2 → (deals : List Deal) → AreOfTwo deals
+    → (l : List Step) → l ≡ steps → (run : Walker) → run ≡ all_both (data_walks l) (walker_of h first second deals) → first_taken run.first ≡ first_short deals (end_of h steps first second deals).first
+short_so law h low steps first second few deals two l same run is =
+    let f = are_files deals two in
+    let P : List Deal → Type 0 = λ ds. first_taken (all_both (data_walks steps) (walker_of h first second ds)).first ≡ first_short ds (end_of h steps first second ds).first in
+    ap (λ (w : Walker). first_taken w.first) (is ∙ ap (λ (q : List Step). all_both (data_walks q) (walker_of h first second deals)) same)
+    ∙ subst P (sym f.2) (short_is first second f.0 f.1 few law h low steps)
 
 pub ended_so : WalksAreFollowed → (h : HostId) → h.0 < 2 → (steps : List Step) (first second : List (List ℕ)) → length second ≤ 2 → (deals : List Deal) → AreOfTwo deals
     → Ended h steps first second deals (stored_deals 0 (all_both (data_walks steps) (walker_of h first second deals)).second deals)

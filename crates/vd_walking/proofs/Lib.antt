@@ -6,6 +6,6 @@ pub mod Runs
 pub mod Going
 pub mod Follows
 pub mod Changing
-pub mod Walked
+pub mod Along
 pub mod Hosts
 pub mod Ends

@@ -1,7 +1,9 @@
 -- What is computed along both runs: the deal at the end.
-use Rattle.std.specs.Prelude.{◌≡◌, ◌≢◌, ℕ, ◌+◌, ◌≤◌, List, [], ◌∷◌, Some, length, map, slice_get, slice_index, slice_index_or}
+use Rattle.std.specs.Prelude.{◌≡◌, ◌≢◌, ℕ, ◌+◌, ◌≤◌, List, [], ◌∷◌, Some, length, map, slice_get, slice_index, slice_index_or, nat_lt, ◌||◌, Bool, Option}
 use Rattle.vd_base.specs.declared.ids.HostId.{HostId}
 use Rattle.vd_deals.specs.declared.deal.Deal.{Deal}
+use Rattle.vd_deals.specs.declared.deal.DealKind.{DealKind}
+use Rattle.vd_deals.specs.declared.deal.DealKind.TheVariants.{Own, Mul, And, Pair}
 use Rattle.vd_execution.specs.Step.{Source, Inputs}
 use Rattle.vd_execution.specs.World.{zeros_of}
 use Rattle.vd_execution.specs.Joint.{fresh}
@@ -11,7 +13,7 @@ use Rattle.vd_excusing.specs.Walks.{Both, both_steps, walks}
 use Rattle.vd_acting.specs.declared.side.Side.{Side}
 use Rattle.vd_acting.specs.Runs.{side_at}
 use Rattle.vd_walking.specs.declared.walker.Walker.{Walker}
-use Rattle.vd_walking.specs.Files.{counts_of, dealt_sides, file_tape}
+use Rattle.vd_walking.specs.Files.{counts_of, dealt_sides, file_tape, first_of}
 
 -- both runs at their start: the second by the first deal, with its own inputs
 abbrev pub at_start : List (List ℕ) → List (List ℕ) → List Deal → Both
@@ -50,3 +52,16 @@ stored_deals g run (d ∷ deals) = stored_deal d (side_at run g) ∷ stored_deal
 -- both runs as lists at their start
 abbrev pub walker_of : HostId → List (List ℕ) → List (List ℕ) → List Deal → Walker
 walker_of h first second deals = record { host = h; first = dealt_sides 0 first deals; second = dealt_sides 0 second deals }
+
+-- whether a host took an item of a kind past the end of its list
+abbrev pub side_takes_more : DealKind → Side → Bool
+side_takes_more Own s = nat_lt (length s.own) s.taken.own
+side_takes_more Mul s = nat_lt (length s.triples) s.taken.triples
+side_takes_more And s = nat_lt (length s.bits) s.taken.bits
+side_takes_more Pair s = nat_lt (length s.pairs) s.taken.pairs
+
+abbrev pub either_takes_more : List Side → DealKind → Bool
+either_takes_more run kind = side_takes_more kind (side_at run 0) || side_takes_more kind (side_at run 1)
+
+abbrev pub first_taken : List Side → Option DealKind
+first_taken run = first_of (either_takes_more run) (Own ∷ Mul ∷ And ∷ Pair ∷ [])

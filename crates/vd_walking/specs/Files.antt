@@ -1,8 +1,11 @@
 -- Deals of two hosts as they stand in files, and how many items a run takes of them.
-use Rattle.std.specs.Prelude.{◌≡◌, ℕ, ◌+◌, List, [], ◌∷◌, Option, Some, None, length, slice_get, slice_index_or}
+use Rattle.std.specs.Prelude.{◌≡◌, ℕ, ◌+◌, List, [], ◌∷◌, Option, Some, None, length, slice_get, slice_index_or, ◌-◌, nat_lt, ◌||◌, if◌then◌else◌, Bool}
 use Rattle.vd_deals.specs.declared.deal.Deal.{Deal}
+use Rattle.vd_deals.specs.declared.deal.DealKind.{DealKind}
+use Rattle.vd_deals.specs.declared.deal.DealKind.TheVariants.{Own, Mul, And, Pair}
 use Rattle.vd_execution.specs.Step.{Source, Inputs, OwnWords, Triples, BitTriples, Pairs}
 use Rattle.vd_execution.specs.World.{Tape, followed_by_zeros}
+use Rattle.vd_execution.specs.Joint.{Hosts}
 use Rattle.vd_machine.specs.Machines.{items_of, list_of}
 use Rattle.vd_acting.specs.declared.side.Side.{Side}
 use Rattle.vd_acting.specs.Sides.{dealt_side}
@@ -44,3 +47,24 @@ pub record AreOfTwo (deals : List Deal) : Type 0 where
 abbrev pub dealt_sides : ℕ → List (List ℕ) → List Deal → List Side
 dealt_sides g inputs [] = []
 dealt_sides g inputs (d ∷ deals) = dealt_side (slice_index_or inputs g []) d ∷ dealt_sides (g + 1) inputs deals
+
+-- ---- whether a run takes an item past the end of a list
+
+abbrev pub list_of_kind : DealKind → ℕ → Source
+list_of_kind Own peer = OwnWords
+list_of_kind Mul peer = Triples peer
+list_of_kind And peer = BitTriples peer
+list_of_kind Pair peer = Pairs peer
+
+abbrev pub takes_more : List Deal → Hosts → DealKind → ℕ → Bool
+takes_more deals last kind g = nat_lt (counts_of deals g (list_of_kind kind (1 - g))) ((last g).cursors (list_of_kind kind (1 - g)))
+
+abbrev pub is_short : List Deal → Hosts → DealKind → Bool
+is_short deals last kind = takes_more deals last kind 0 || takes_more deals last kind 1
+
+abbrev pub first_of : (DealKind → Bool) → List DealKind → Option DealKind
+first_of test [] = None
+first_of test (kind ∷ kinds) = if test kind then Some kind else first_of test kinds
+
+abbrev pub first_short : List Deal → Hosts → Option DealKind
+first_short deals last = first_of (is_short deals last) (Own ∷ Mul ∷ And ∷ Pair ∷ [])

@@ -8,6 +8,6 @@ mod items;
 mod laws;
 mod walker;
 
-pub use explaining::explaining_deals;
+pub use explaining::{Walked, walk};
 pub use laws::walks_are_followed;
 pub use walker::Walker;

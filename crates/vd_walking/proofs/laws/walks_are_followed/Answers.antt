@@ -1,4 +1,4 @@
-use Rattle.vd_walking.proofs.Walked.{steps_follow}
+use Rattle.vd_walking.proofs.Along.{steps_follow}
 use Rattle.vd_walking.proofs.laws.walks_are_followed.Goals as goal
 
 pub returns : goal.returns

@@ -385,3 +385,7 @@ module _ (h : HostId) (t : Tape) (n : ℕ → Source → ℕ) (start : List Side
 
   pub steps_follow : (steps : List Step) (d : Walker) (r : Both) → F d r → F (all_both (data_walks steps) d) (both_steps (walks h.0 t steps) r)
   steps_follow steps d r is = (steps_good steps).both d r is
+
+  -- the lists of the first run stay as they are
+  pub first_lists : (steps : List Step) (d : Walker) (g : ℕ) → lists_of (side_at (all_both (data_walks steps) d).first g) ≡ lists_of (side_at d.first g)
+  first_lists steps d g = ap (λ (run : List Side). lists_of (side_at run g)) ((steps_good steps).first_too d) ∙ (steps_good steps).lists d.first g
