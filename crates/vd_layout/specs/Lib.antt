@@ -1,0 +1,5 @@
+pub mod Numbers
+pub mod Words
+pub mod Lanes
+pub mod Layout
+pub mod Titles

@@ -1,0 +1,15 @@
+//! Where everything stands in a drawing, by whole numbers: the columns, the lanes of hosts and of what they share, what rows cost,
+//! and the words that are written.
+#![tactic(auto)]
+
+mod lanes;
+mod layout;
+mod numbers;
+mod titles;
+mod words;
+
+pub use lanes::{Lane, is_same, lane_x, push_x, set_x};
+pub use layout::{Layout, indent, label_texts, layout_of, name_length};
+pub use numbers::cost_of;
+pub use titles::{label_at, push_row_title};
+pub use words::{cut, printable, protocol_kind, protocol_name, push_number};
