@@ -1,0 +1,34 @@
+-- What `draw` says where it ends well.
+use Rattle.std.specs.Prelude.{◌≡◌, ℕ, List, map}
+use Rattle.vd_outside.specs.Files.{Contents}
+use Rattle.vd_core.specs.declared.source.Source.{Source}
+use Rattle.vd_normal.specs.Normal.{normal_form}
+use Rattle.vd_drawing.specs.Costs.{AddUp}
+use Rattle.vd_picture.specs.Picture.{drawn}
+use Rattle.vd_space.specs.Reading.{problem_of}
+use Rattle.vd_space.specs.Validity.{protocol}
+use Rattle.vd_selection.specs.Choices.{ChoiceOutcomes}
+use Rattle.vd_plan.specs.declared.status.Status.TheVariants.{Ended}
+use Rattle.vd_frontend.specs.Outcomes.{LabelOutcomes, TextOutcomes}
+use Rattle.vd_frontend.specs.Sources.{HoldsSource}
+use Rattle.vd_selecting.specs.Choosing.{Searched, searched_by}
+use Rattle.vd_selecting.specs.Outcomes.{CertificateOutcomes}
+use Rattle.vd_compiling.specs.Selected.{IsSelected}
+use Rattle.vd_draw_command.specs.Drawing.{draw_plan}
+
+-- The file is the text of a source that meets every rule, and what is printed is the drawing of its choice of protocols: of the valid
+-- list of least cost, the first of these in order. The costs of its rows add up to that cost.
+pub record TellsDrawing (name : List ℕ) (contents : Contents) (printed : List ℕ) : Type 0 where
+  pub source : Source
+  pub held : HoldsSource name contents source
+  pub list : List ℕ
+  pub selected : IsSelected (normal_form source) list
+  pub picture : printed ≡ drawn name held.bytes (normal_form source) selected.labels (map (protocol (problem_of (normal_form source) selected.labels)) list)
+  pub costs : AddUp held.bytes (normal_form source) selected.labels list
+
+-- so does its plan, whatever functions pick outcomes and whatever a search answers
+abbrev pub DrawingsTell : Type 0
+DrawingsTell = (texts : TextOutcomes) (least : LabelOutcomes) (certificates : CertificateOutcomes) (choices : ChoiceOutcomes) (searched : Searched)
+    → (name : List ℕ) (budget : ℕ) (contents : Contents)
+    → let plan = draw_plan texts least choices (searched_by certificates choices searched) name budget contents in
+    plan.answer.status ≡ Ended → TellsDrawing name contents plan.answer.printed
