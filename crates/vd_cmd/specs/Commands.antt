@@ -8,7 +8,7 @@ use Rattle.vd_cmd.specs.Numbers.{number_within}
 use Rattle.vd_cmd.specs.declared.command.Command.{Command}
 use Rattle.vd_cmd.specs.declared.command.Command.TheVariants.{OnFiles, Host, Run}
 use Rattle.vd_cmd.specs.declared.command.FilesCommand.{FilesCommand}
-use Rattle.vd_cmd.specs.declared.command.FilesCommand.TheVariants.{Clear, Labels, Choose, Certify, Compile, Needs, Deal, Replay, Depends, Influences, Gen, Trial}
+use Rattle.vd_cmd.specs.declared.command.FilesCommand.TheVariants.{Clear, Labels, Choose, Draw, Certify, Compile, Needs, Deal, Replay, Depends, Influences, Gen, Trial}
 use Rattle.vd_cmd.specs.declared.command.CommandFault.{CommandFault}
 use Rattle.vd_cmd.specs.declared.command.CommandFault.TheVariants.{Usage}
 
@@ -43,6 +43,10 @@ trial_of None = None
 abbrev pub choose_of : List ℕ → Option ℕ → Option Command
 choose_of source (Some budget) = Some (OnFiles (Choose source budget))
 choose_of source None = None
+
+abbrev pub draw_of : List ℕ → Option ℕ → Option Command
+draw_of source (Some budget) = Some (OnFiles (Draw source budget))
+draw_of source None = None
 
 abbrev pub compile_of : (source prefix : List ℕ) → Option ℕ → Option Command
 compile_of source prefix (Some budget) = Some (OnFiles (Compile source prefix budget))
@@ -85,6 +89,7 @@ abbrev pub fixed_form_of : List (List ℕ) → Option Command
 fixed_form_of (word ∷ argument ∷ []) =
     if bytes_eq word (codes "labels") then Some (OnFiles (Labels argument))
     else if bytes_eq word (codes "choose") then Some (OnFiles (Choose argument most_search_budget))
+    else if bytes_eq word (codes "draw") then Some (OnFiles (Draw argument most_search_budget))
     else if bytes_eq word (codes "needs") then needs_of argument false (Some most_search_budget)
     else if bytes_eq word (codes "gen") then gen_of (number_within 1 most_coordinates argument)
     else if bytes_eq word (codes "trial") then trial_of (number_within 1 most_coordinates argument)
@@ -95,6 +100,7 @@ fixed_form_of (word ∷ source ∷ other ∷ []) =
     else if bytes_eq word (codes "depends") then Some (OnFiles (Depends source other))
     else if bytes_eq word (codes "influences") then Some (OnFiles (Influences source other))
     else if bytes_eq word (codes "choose") then choose_of source (number_within 1 most_search_budget other)
+    else if bytes_eq word (codes "draw") then draw_of source (number_within 1 most_search_budget other)
     else if bytes_eq word (codes "compile") then compile_of source other (Some most_search_budget)
     else if bytes_eq word (codes "needs") then needs_with source other
     else None
@@ -150,6 +156,7 @@ KeepsFilesLimits (Deal counts key prefix) = AreWithin counts
 KeepsFilesLimits (Gen coordinates) = IsSize coordinates
 KeepsFilesLimits (Trial coordinates) = IsSize coordinates
 KeepsFilesLimits (Choose source budget) = IsBudget budget
+KeepsFilesLimits (Draw source budget) = IsBudget budget
 KeepsFilesLimits (Compile source prefix budget) = IsBudget budget
 KeepsFilesLimits (Needs words) = IsBudget words.budget
 KeepsFilesLimits (Replay words) = IsBudget words.budget

@@ -1,7 +1,7 @@
 //! The forms of a command line.
 
 ghost use Rattle.std.specs.Prelude.{◌≡◌, [], ◌∷◌, IfOk, IfSome};
-ghost use Rattle.vd_cmd.specs.Commands.{Reads, AreWithin, IsBudget, IsPort, IsSize, choose_of, compile_of, counts_in, deal_in, deal_of, fixed_form_of, form_of, gen_of, host_form_of, needs_of, needs_with, replay_of, replay_with, run_of, trial_of};
+ghost use Rattle.vd_cmd.specs.Commands.{Reads, AreWithin, IsBudget, IsPort, IsSize, choose_of, compile_of, counts_in, deal_in, deal_of, draw_of, fixed_form_of, form_of, gen_of, host_form_of, needs_of, needs_with, replay_of, replay_with, run_of, trial_of};
 ghost use Rattle.vd_cmd.specs.declared.command.CommandFault.TheVariants.{Memory};
 
 use crate::numbers::number_within;
@@ -74,6 +74,8 @@ pub enum FilesCommand {
     Labels(Text),
     /// `choose SOURCE [BUDGET]`.
     Choose(Text, u32),
+    /// `draw SOURCE [BUDGET]`.
+    Draw(Text, u32),
     /// `certify SOURCE CERT`.
     Certify(Text, Text),
     /// `compile SOURCE PREFIX [BUDGET]`.
@@ -174,6 +176,18 @@ fn choose_of(alloc: Global, source: &Text, budget: Option<u64>) -> Result<Comman
     };
     let source = Text::copy_of(alloc, source.as_str())?;
     Ok(Command::OnFiles(FilesCommand::Choose(source, budget as u32)))
+}
+
+/// The command `draw` with this budget, if it is given.
+fn draw_of(alloc: Global, source: &Text, budget: Option<u64>) -> Result<Command, CommandFault>
+    requires { IfSome budget IsBudget }
+    ensures { Reads (draw_of source.now budget) result }
+{
+    let Some(budget) = budget else {
+        return Err(CommandFault::Usage);
+    };
+    let source = Text::copy_of(alloc, source.as_str())?;
+    Ok(Command::OnFiles(FilesCommand::Draw(source, budget as u32)))
 }
 
 /// The command `compile` with this budget, if it is given.
@@ -335,6 +349,8 @@ fn two_words(alloc: Global, word: &Text, argument: &Text) -> Result<Command, Com
         Ok(Command::OnFiles(FilesCommand::Labels(Text::copy_of(alloc, argument.as_str())?)))
     } else if word.as_str() == "choose" {
         choose_of(alloc, argument, Some(u64::from(SEARCH_BUDGET)))
+    } else if word.as_str() == "draw" {
+        draw_of(alloc, argument, Some(u64::from(SEARCH_BUDGET)))
     } else if word.as_str() == "needs" {
         needs_of(alloc, argument, false, Some(u64::from(SEARCH_BUDGET)))
     } else if word.as_str() == "gen" {
@@ -373,6 +389,8 @@ fn three_words(
         )))
     } else if word.as_str() == "choose" {
         choose_of(alloc, source, number_within(1, most, other))
+    } else if word.as_str() == "draw" {
+        draw_of(alloc, source, number_within(1, most, other))
     } else if word.as_str() == "compile" {
         compile_of(alloc, source, other, Some(most))
     } else if word.as_str() == "needs" {

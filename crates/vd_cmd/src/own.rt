@@ -19,6 +19,8 @@ usage:
   viaduct choose SOURCE [BUDGET]
                                 print the cheapest protocol of each slot, and store SOURCE.cert, which shows that;
                                 the search opens at most BUDGET prefixes, 1 to 200000
+  viaduct draw SOURCE [BUDGET]  print the choice of choose as a drawing, an SVG file: where each value is computed, what
+                                goes between hosts and how, and what it costs
   viaduct certify SOURCE CERT   print what the certificate CERT shows: the least cost, or that there is none
   viaduct compile SOURCE PREFIX [BUDGET]
                                 print the cheapest protocols, as choose does, and store the program of each host i

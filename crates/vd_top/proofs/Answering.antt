@@ -7,7 +7,7 @@ use Rattle.vd_cmd.specs.Commands.{KeepsLimits, form_of}
 use Rattle.vd_cmd.specs.declared.command.Command.{Command}
 use Rattle.vd_cmd.specs.declared.command.Command.TheVariants.{OnFiles}
 use Rattle.vd_cmd.specs.declared.command.FilesCommand.{FilesCommand}
-use Rattle.vd_cmd.specs.declared.command.FilesCommand.TheVariants.{Certify, Choose, Compile, Deal, Labels}
+use Rattle.vd_cmd.specs.declared.command.FilesCommand.TheVariants.{Certify, Choose, Compile, Deal, Draw, Labels}
 use Rattle.vd_plan.specs.Deliver.{stored}
 use Rattle.vd_plan.specs.Plans.{answer_then}
 use Rattle.vd_plan.specs.declared.answer.Answer.{Answer}
@@ -21,7 +21,8 @@ use Rattle.vd_answers.proofs.Labels.{labels_tell}
 use Rattle.vd_answers.proofs.Proofs.{proofs_tell}
 use Rattle.vd_dealt_files.specs.Dealt.{TellsDeal}
 use Rattle.vd_dealt_files.proofs.Taken.{deals_tell}
-use Rattle.vd_top.specs.Answers.{Adds, AreWithinLimits, KeepsChoice, KeepsCompiled, KeepsDeal, KeepsLabels, KeepsProof}
+use Rattle.vd_draw_command.proofs.Telling.{drawings_tell}
+use Rattle.vd_top.specs.Answers.{Adds, AreWithinLimits, KeepsChoice, KeepsCompiled, KeepsDeal, KeepsDrawing, KeepsLabels, KeepsProof}
 use Rattle.vd_top.specs.Commands.{RunsForm, RunsWords, plan_of, search_of}
 use Rattle.vd_top.proofs.Words.{are_counts, some_outcomes}
 
@@ -74,6 +75,16 @@ module _ (words : List (List ℕ)) (before now : FilesView) (out_before out_now 
         added = w.left told out_told;
         tells = subst (λ (c : Contents). TellsChoice source before.contents c plan.answer.printed) (sym (w.stores told tt))
             (choices_tell some_outcomes.texts some_outcomes.labels some_outcomes.certificates some_outcomes.choices r.0 source budget before.contents limits.1 (sym (w.answered told)));
+      }
+
+  pub drawing_of : KeepsDrawing words before out_before out_now status
+  drawing_of source budget form told out_told ends =
+      let r = ran (Draw source budget) form ends in
+      let w = r.1 some_outcomes in
+      record {
+        printed = (plan_of some_outcomes (search_of some_outcomes r.0) (Draw source budget) before.contents).answer.printed;
+        added = w.left told out_told;
+        tells = drawings_tell some_outcomes.texts some_outcomes.labels some_outcomes.certificates some_outcomes.choices r.0 source budget before.contents (sym (w.answered told));
       }
 
   pub compiled_of : KeepsCompiled words before now out_before out_now status

@@ -5,7 +5,7 @@ use Rattle.vd_deals.specs.declared.deal.Counts.{Counts}
 use Rattle.vd_tape.specs.Made.{AreCounts}
 use Rattle.vd_cmd.specs.Commands.{AreWithin}
 use Rattle.vd_cmd.specs.declared.command.FilesCommand.{FilesCommand}
-use Rattle.vd_cmd.specs.declared.command.FilesCommand.TheVariants.{Choose, Compile, Needs, Replay, Trial}
+use Rattle.vd_cmd.specs.declared.command.FilesCommand.TheVariants.{Choose, Draw, Compile, Needs, Replay, Trial}
 use Rattle.vd_plan.specs.Plans.{IsProper, IsGiven}
 use Rattle.vd_plan.specs.declared.status.Status.{Status}
 use Rattle.vd_plan.specs.declared.answer.Answer.{Answer}
@@ -16,6 +16,7 @@ use Rattle.vd_selecting.specs.Choosing.{Searched, sure_search}
 use Rattle.vd_selecting.proofs.Reading.{some_certificates}
 use Rattle.vd_selecting.proofs.Sure.{choose_follows}
 use Rattle.vd_compiling.proofs.Sure.{compile_follows}
+use Rattle.vd_draw_command.proofs.Sure.{draw_follows}
 use Rattle.vd_needs_command.proofs.Existing.{some_programs}
 use Rattle.vd_needs_command.proofs.Sure.{needs_follows}
 use Rattle.vd_outcomes.proofs.Picked.{some_outcomes as some_replays}
@@ -40,6 +41,7 @@ are_counts counts within = record { hosts = within.hosts; own = within.own; muls
 -- a plan whose search gives up wherever it may ends well only where each other does, or is out of memory
 pub command_follows : (outcomes : Outcomes) (searched : Searched) (command : FilesCommand) (files : Contents) → Follows (plan_of outcomes (sure_search outcomes.choices) command files) (plan_of outcomes (search_of outcomes searched) command files)
 command_follows outcomes searched (Choose source budget) files = choose_follows outcomes.texts outcomes.labels outcomes.certificates outcomes.choices searched source budget files
+command_follows outcomes searched (Draw source budget) files = draw_follows outcomes.texts outcomes.labels outcomes.certificates outcomes.choices searched source budget files
 command_follows outcomes searched (Compile source prefix budget) files = compile_follows outcomes.texts outcomes.labels outcomes.certificates outcomes.choices searched source prefix budget files
 command_follows outcomes searched (Needs words) files = needs_follows outcomes.texts outcomes.programs outcomes.labels outcomes.certificates outcomes.choices searched words files
 command_follows outcomes searched (Replay words) files = replay_follows outcomes.texts outcomes.replays outcomes.labels outcomes.certificates outcomes.choices searched words files

@@ -1,4 +1,4 @@
--- What a run of `labels`, `certify`, `choose`, `compile` or `deal` has shown, where it ended well.
+-- What a run of `labels`, `certify`, `choose`, `draw`, `compile` or `deal` has shown, where it ended well.
 use Rattle.std.specs.Prelude.{◌≡◌, ℕ, IsTrue, List, ◌++◌, Some}
 use Rattle.vd_outside.specs.Files.{FilesView}
 use Rattle.vd_outside.specs.Sink.{SinkView}
@@ -6,11 +6,12 @@ use Rattle.vd_deals.specs.declared.deal.Counts.{Counts}
 use Rattle.vd_cmd.specs.Commands.{KeepsLimits, form_of}
 use Rattle.vd_cmd.specs.declared.command.Command.{Command}
 use Rattle.vd_cmd.specs.declared.command.Command.TheVariants.{OnFiles}
-use Rattle.vd_cmd.specs.declared.command.FilesCommand.TheVariants.{Certify, Choose, Compile, Deal, Labels}
+use Rattle.vd_cmd.specs.declared.command.FilesCommand.TheVariants.{Certify, Choose, Compile, Deal, Draw, Labels}
 use Rattle.vd_plan.specs.declared.status.Status.{Status}
 use Rattle.vd_plan.specs.declared.status.Status.TheVariants.{Ended}
 use Rattle.vd_answers.specs.Answers.{TellsChoice, TellsCompiled, TellsLabels, TellsProof}
 use Rattle.vd_dealt_files.specs.Dealt.{TellsDeal}
+use Rattle.vd_draw_command.specs.Telling.{TellsDrawing}
 
 -- the bytes that were added to the output are told so
 pub record Adds (Tells : List ℕ → Type 0) (out_before out_now : SinkView) : Type 0 where
@@ -38,6 +39,12 @@ abbrev pub KeepsChoice : (words : List (List ℕ)) → FilesView → FilesView �
 KeepsChoice words before now out_before out_now status =
     (source : List ℕ) (budget : ℕ) → form_of words ≡ Some (OnFiles (Choose source budget)) → IsTrue before.told → IsTrue out_now.told → status ≡ Ended
     → Adds (TellsChoice source before.contents now.contents) out_before out_now
+
+-- Where they are those of `draw`, it has printed the drawing of that list, and the costs of its rows add up to that of the list.
+abbrev pub KeepsDrawing : (words : List (List ℕ)) → FilesView → SinkView → SinkView → Status → Type 0
+KeepsDrawing words before out_before out_now status =
+    (source : List ℕ) (budget : ℕ) → form_of words ≡ Some (OnFiles (Draw source budget)) → IsTrue before.told → IsTrue out_now.told → status ≡ Ended
+    → Adds (TellsDrawing source before.contents) out_before out_now
 
 -- Where they are those of `compile`, it has printed that list too, and the file of each host stands: the text of its part of the joint
 -- code at that list.

@@ -8,7 +8,7 @@ use Rattle.vd_cmd.specs.Own.{own_text_of}
 use Rattle.vd_plan.specs.Lines.{Says, status_line}
 use Rattle.vd_plan.specs.Runs.{Prints}
 use Rattle.vd_plan.specs.declared.status.Status.{Status}
-use Rattle.vd_top.specs.Answers.{KeepsChoice, KeepsCompiled, KeepsDeal, KeepsLabels, KeepsProof}
+use Rattle.vd_top.specs.Answers.{KeepsChoice, KeepsCompiled, KeepsDeal, KeepsDrawing, KeepsLabels, KeepsProof}
 use Rattle.vd_top.specs.Compiled.{KeepsStored}
 use Rattle.vd_top.specs.Commands.{CompletesWords, RunsWords}
 use Rattle.vd_top.specs.Headline.{KeepsAccepted, KeepsDependence, KeepsHeadline, KeepsInfluence, KeepsNeeds, KeepsTrial}
@@ -32,6 +32,7 @@ pub record Keeps (words : List (List ℕ)) (o : Around) (status : Status) : Type
   pub labelled : KeepsLabels words o.files.0 o.out.0 o.out.1 status
   pub certified : KeepsProof words o.files.0 o.out.0 o.out.1 status
   pub chosen : KeepsChoice words o.files.0 o.files.1 o.out.0 o.out.1 status
+  pub drawn : KeepsDrawing words o.files.0 o.out.0 o.out.1 status
   pub compiled : KeepsCompiled words o.files.0 o.files.1 o.out.0 o.out.1 status
   pub stored : KeepsStored words o.files.0 o.files.1 o.out.0 o.out.1 status
   pub dealt : KeepsDeal words o.files.0 o.files.1 status

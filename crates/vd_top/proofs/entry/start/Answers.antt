@@ -13,6 +13,7 @@ returns-in-None g c = record {
     labelled = c.run.ensures.labelled;
     certified = c.run.ensures.certified;
     chosen = c.run.ensures.chosen;
+    drawn = c.run.ensures.drawn;
     compiled = c.run.ensures.compiled;
     stored = c.run.ensures.stored;
     dealt = c.run.ensures.dealt;
