@@ -3,7 +3,7 @@ use Rattle.std.specs.Prelude.{ℕ, List, [], ◌∷◌, ◌++◌, Option, Some, 
 use Rattle.vd_base.specs.Limits.{most_source_bytes, most_inputs_bytes, most_certificate_bytes, most_schedule_bytes, most_deal_bytes, most_host_file_bytes}
 use Rattle.vd_cmd.specs.declared.command.Command.{Command}
 use Rattle.vd_cmd.specs.declared.command.Command.TheVariants.{OnFiles, Host, Run}
-use Rattle.vd_cmd.specs.declared.command.FilesCommand.TheVariants.{Clear, Labels, Choose, Certify, Compile, Needs, Deal, Replay, Depends, Influences, Gen, Trial}
+use Rattle.vd_cmd.specs.declared.command.FilesCommand.TheVariants.{Clear, Labels, Choose, Draw, Certify, Compile, Needs, Deal, Replay, Depends, Influences, Gen, Trial}
 use Rattle.vd_plan.specs.Numbered.{file_name}
 use Rattle.vd_edge.specs.declared.kept.Wanted.{Wanted}
 
@@ -23,6 +23,7 @@ abbrev pub wanted_of : Command → List Wanted
 wanted_of (OnFiles (Clear source inputs)) = file source most_source_bytes ∷ file inputs most_inputs_bytes ∷ []
 wanted_of (OnFiles (Labels source)) = file source most_source_bytes ∷ []
 wanted_of (OnFiles (Choose source budget)) = file source most_source_bytes ∷ []
+wanted_of (OnFiles (Draw source budget)) = file source most_source_bytes ∷ []
 wanted_of (OnFiles (Certify source certificate)) = file source most_source_bytes ∷ file certificate most_certificate_bytes ∷ []
 wanted_of (OnFiles (Compile source prefix budget)) = file source most_source_bytes ∷ []
 wanted_of (OnFiles (Needs words)) = file words.file most_host_file_bytes ∷ []

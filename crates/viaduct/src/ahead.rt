@@ -98,6 +98,7 @@ fn files_of(alloc: Global, command: &Command) -> Result<Items<Wanted>, AllocErro
         Command::OnFiles(
             FilesCommand::Labels(source)
             | FilesCommand::Choose(source, _)
+            | FilesCommand::Draw(source, _)
             | FilesCommand::Compile(source, _, _)
             | FilesCommand::Depends(source, _)
             | FilesCommand::Influences(source, _),
