@@ -5,10 +5,11 @@ ghost use Rattle.vd_remarks.specs.Usage as usage;
 
 use crate::tables::in_table;
 
-const USAGES: [(&[u8], &[u8]); 14] = [
+const USAGES: [(&[u8], &[u8]); 16] = [
     (b"clear", b"usage: viaduct clear SOURCE INPUTS\n"),
     (b"labels", b"usage: viaduct labels SOURCE\n"),
     (b"choose", b"usage: viaduct choose SOURCE [BUDGET]\n"),
+    (b"draw", b"usage: viaduct draw SOURCE [BUDGET]\n"),
     (b"certify", b"usage: viaduct certify SOURCE CERT\n"),
     (
         b"compile",
@@ -24,6 +25,10 @@ const USAGES: [(&[u8], &[u8]); 14] = [
         b"usage: viaduct replay SOURCE INPUTS PREFIX SCHEDULE [messages] [BUDGET]\n",
     ),
     (b"host", b"usage: viaduct host PROGRAM INPUTS DEAL ADDR..\n"),
+    (
+        b"host-within",
+        b"usage: viaduct host-within SECONDS PROGRAM INPUTS DEAL ADDR..\n",
+    ),
     (
         b"run",
         b"usage: viaduct run SOURCE INPUTS PREFIX SELF PORT\n",
