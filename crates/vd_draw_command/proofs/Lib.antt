@@ -1,3 +1,4 @@
 pub mod Drawn
+mod Printed
 pub mod Sure
 pub mod Telling
