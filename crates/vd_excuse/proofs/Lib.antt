@@ -1,0 +1,4 @@
+pub mod Stepped
+pub mod Differing
+pub mod Stored
+pub mod Answered

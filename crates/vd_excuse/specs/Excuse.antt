@@ -1,0 +1,69 @@
+-- The deal that explains other inputs to a host, or why there is none.
+use Rattle.std.specs.Prelude.{◌≡◌, ◌≢◌, ℕ, List, Option, Some, None, length, Result, IfOk, IfErr}
+use Rattle.vd_base.specs.declared.ids.HostId.{HostId}
+use Rattle.vd_core.specs.declared.normal.NormalForm.{NormalForm}
+use Rattle.vd_constraints.specs.declared.labels.Labels.{Labels}
+use Rattle.vd_space.specs.declared.problem.Problem.{Problem}
+use Rattle.vd_space.specs.Reading.{problem_of}
+use Rattle.vd_deals.specs.declared.deal.Deal.{Deal}
+use Rattle.vd_deals.specs.declared.deal.DealKind.{DealKind}
+use Rattle.vd_deals.specs.Validity.{IsConsistent}
+use Rattle.vd_tape.specs.Text.{AreDealsOf}
+use Rattle.vd_execution.specs.Gadgets.{Gadget}
+use Rattle.vd_execution.specs.Plans.{Plan}
+use Rattle.vd_excusing.specs.declared.step.Step.{Step}
+use Rattle.vd_hearing.specs.Difference.{view_difference}
+use Rattle.vd_play.specs.Supplies.{AreWords}
+use Rattle.vd_program_views.specs.Explained.{IsOfTwo, plan_of, AgreeFor}
+use Rattle.vd_deal_views.specs.Files.{IsExcuse}
+use Rattle.vd_deal_excuses.specs.Short.{short_kind}
+use Rattle.vd_deal_excuses.specs.Excuses.{LeadTo, excuse_files}
+use Rattle.vd_walking.specs.declared.explaining.Walked.{Walked}
+use Rattle.vd_walking.specs.Claims.{EndsWithin, HaveSameShape, end_of}
+use Rattle.vd_walking.specs.Files.{file_tape, first_short}
+use Rattle.vd_excuse.specs.declared.fault.ViewFault.{ViewFault}
+use Rattle.vd_excuse.specs.declared.fault.ViewFault.TheVariants.{Short, Differ, Memory}
+
+-- a kind that is short, or else a place at which what is known differs
+abbrev pub fault_of : Option DealKind → Option ℕ → Option ViewFault
+fault_of (Some kind) place = Some (Short kind)
+fault_of None (Some place) = Some (Differ place)
+fault_of None None = None
+
+-- why the second inputs are not explained to h, if they are not
+abbrev pub fault_at : NormalForm → Labels → List ℕ → HostId → (first second : List (List ℕ)) → List Deal → Option ViewFault
+fault_at p l list h first second deals = fault_of (short_kind (plan_of p l list) first deals) (view_difference p l list h first second)
+
+-- inputs of two hosts, others, and a consistent deal of both
+pub record AreAsked (first second : List (List ℕ)) (deals : List Deal) : Type 0 where
+  pub all_first : length first ≡ 2
+  pub all_second : length second ≡ 2
+  pub first_words : AreWords first
+  pub second_words : AreWords second
+  pub all_deals : length deals ≡ 2
+  pub dealt : AreDealsOf 2 deals
+  pub consistent : IsConsistent deals
+
+-- no fault is there, and these are the files that explain the second inputs
+pub record IsExcused (p : NormalForm) (l : Labels) (list : List ℕ) (h : HostId) (first second : List (List ℕ)) (deals stored : List Deal) : Type 0 where
+  pub no_fault : fault_at p l list h first second deals ≡ None
+  pub agree : AgreeFor p l list h first second
+  pub files : stored ≡ excuse_files h.0 (plan_of p l list) first second deals
+  pub excuse : IsExcuse h.0 (plan_of p l list) first second deals stored
+
+-- whatever the labels are by which the problem is that of the program
+abbrev pub Excuses : NormalForm → Problem → List ℕ → HostId → (first second : List (List ℕ)) → List Deal → Result (List Deal) ViewFault → Type 0
+Excuses p problem list h first second deals result =
+    (l : Labels) → problem ≡ problem_of p l → IsOfTwo p l list → IfOk result (IsExcused p l list h first second deals)
+
+abbrev pub Refuses : NormalForm → Problem → List ℕ → HostId → (first second : List (List ℕ)) → List Deal → Result (List Deal) ViewFault → Type 0
+Refuses p problem list h first second deals result =
+    (l : Labels) → problem ≡ problem_of p l → IsOfTwo p l list → IfErr result (λ fault. fault ≢ Memory → fault_at p l list h first second deals ≡ Some fault)
+
+-- both runs were gone along by steps that lead to the ends of this plan
+pub record HasWalked (h : HostId) (plan : Plan Gadget) (first second : List (List ℕ)) (deals : List Deal) (walked : Walked) : Type 0 where
+  pub steps : List Step
+  pub lead : LeadTo steps plan
+  pub short : walked.short ≡ first_short deals (end_of h steps first second deals).first
+  pub same : HaveSameShape deals walked.deals
+  pub deal : let end = end_of h steps first second deals in EndsWithin deals end → file_tape second walked.deals ≡ end.deal
