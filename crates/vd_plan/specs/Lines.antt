@@ -21,7 +21,7 @@ use Rattle.vd_plan.specs.declared.status.HostStatus.TheVariants as host_status
 use Rattle.vd_plan.specs.declared.status.ChildCause.{ChildCause}
 use Rattle.vd_plan.specs.declared.status.ChildCause.TheVariants as child_cause
 use Rattle.vd_plan.specs.declared.status.Status.{Status}
-use Rattle.vd_plan.specs.declared.status.Status.TheVariants.{Ended, Memory, Usage, ReadFault, WriteFault, TooLong, Syntax, Names, Flow, NoAssignment, Spent, InputText, DealText, ScheduleText, CertificateText, BadDeal, CertificateRefused, Host, ChildFault, NoHost}
+use Rattle.vd_plan.specs.declared.status.Status.TheVariants.{Ended, Memory, Usage, ReadFault, WriteFault, TooLong, Syntax, Names, Flow, NoAssignment, Spent, InputText, DealText, ScheduleText, CertificateText, BadDeal, CertificateRefused, Host, ChildFault, NoHost, NotTwo, HasCommit, DealShort, ViewDiffers}
 
 abbrev pub host_code : HostStatus → ℕ
 host_code (host_status.ProgramText offset) = 14
@@ -56,6 +56,10 @@ code_of (CertificateRefused fault) = 17
 code_of (Host status) = host_code status
 code_of (ChildFault name cause) = 26
 code_of (NoHost name) = 27
+code_of (NotTwo count) = 28
+code_of (HasCommit slot) = 29
+code_of (DealShort kind) = 31
+code_of (ViewDiffers place) = 32
 
 -- a text that ends in a number
 abbrev pub offset_line : List ℕ → ℕ → List ℕ
@@ -181,6 +185,10 @@ status_line (CertificateRefused fault) = certificate_line fault
 status_line (Host status) = host_line status
 status_line (ChildFault name cause) = child_line name cause
 status_line (NoHost name) = name_line (codes "viaduct: no host ") name
+status_line (NotTwo count) = offset_line (codes "viaduct: hosts ") count
+status_line (HasCommit slot) = offset_line (codes "viaduct: commitment ") slot
+status_line (DealShort kind) = name_line (codes "viaduct: deal short ") (kind_name kind)
+status_line (ViewDiffers place) = offset_line (codes "viaduct: view differs at ") place
 
 -- the line goes to err, whole unless err failed
 pub record Says (line : List ℕ) (before now : SinkView) : Type 0 where

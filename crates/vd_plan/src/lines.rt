@@ -57,6 +57,10 @@ fn write_status<E: Sink>(err: &mut E, status: &Status) -> Result<(), Failed>
         Status::Host(fault) => write_host_status(err, fault),
         Status::ChildFault(name, cause) => write_child_fault(err, name.as_slice(), *cause),
         Status::NoHost(name) => write_name(err, b"viaduct: no host ", name.as_str().as_bytes()),
+        Status::NotTwo(count) => write_place(err, b"viaduct: hosts ", *count),
+        Status::HasCommit(slot) => write_place(err, b"viaduct: commitment ", *slot),
+        Status::DealShort(kind) => write_name(err, b"viaduct: deal short ", kind_name(*kind)),
+        Status::ViewDiffers(place) => write_place(err, b"viaduct: view differs at ", *place),
     }
 }
 
@@ -291,6 +295,15 @@ pub(crate) fn write_offset<E: Sink>(err: &mut E, text: &[u8], offset: u32) -> Re
 {
     let mut buffer = Buffer::new();
     let number = buffer.format(offset).as_bytes();
+    write_parts(err, &[text, number, b"\n"])
+}
+
+/// Writes a text, a place or a count behind it and the line's end.
+fn write_place<E: Sink>(err: &mut E, text: &[u8], place: usize) -> Result<(), Failed>
+    ensures { WritesAll (offset_line text.now place) (E.view err.old) (E.view err.new) result }
+{
+    let mut buffer = Buffer::new();
+    let number = buffer.format(place as u64).as_bytes();
     write_parts(err, &[text, number, b"\n"])
 }
 

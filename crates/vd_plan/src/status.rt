@@ -163,6 +163,14 @@ pub enum Status {
     ChildFault(Name, ChildCause),
     /// No host of the source has this name.
     NoHost(Text),
+    /// The source has so many hosts, and not two.
+    NotTwo(usize),
+    /// The choice has a commitment: the first slot that stands at one.
+    HasCommit(usize),
+    /// The first kind of items of which a run takes more than a host was dealt.
+    DealShort(DealKind),
+    /// The first place at which what a host knows of two inputs differs.
+    ViewDiffers(usize),
 }
 
 impl Status {
@@ -191,6 +199,10 @@ impl Status {
             Status::Host(fault) => fault.code(),
             Status::ChildFault(_, _) => 26,
             Status::NoHost(_) => 27,
+            Status::NotTwo(_) => 28,
+            Status::HasCommit(_) => 29,
+            Status::DealShort(_) => 31,
+            Status::ViewDiffers(_) => 32,
         }
     }
 }

@@ -23,3 +23,12 @@ returns-in-CertificateText g c = rw c.in-CertificateText.is c.write_offset-in-Ce
 
 pub returns-in-NoHost : goal.returns-in-NoHost
 returns-in-NoHost g c = rw (c.in-NoHost.is, ← c.as_str-in-NoHost.ensures, ← c.as_bytes-in-NoHost.ensures.value) c.write_name.ensures
+
+pub returns-in-NotTwo : goal.returns-in-NotTwo
+returns-in-NotTwo g c = rw c.in-NotTwo.is c.write_place.ensures
+
+pub returns-in-HasCommit : goal.returns-in-HasCommit
+returns-in-HasCommit g c = rw c.in-HasCommit.is c.write_place-in-HasCommit.ensures
+
+pub returns-in-DealShort : goal.returns-in-DealShort
+returns-in-DealShort g c = rw (c.in-DealShort.is, ← c.kind_name.ensures) c.write_name-in-DealShort.ensures
