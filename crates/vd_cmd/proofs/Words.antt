@@ -1,7 +1,7 @@
 -- The forms of words of which only the first are known, and words that have none.
-use Rattle.std.proofs.Common.{◌≡◌, ℕ, ◌<◌, ◌≤◌, true, false, List, [], ◌∷◌, length, get_or, drop, Option, None, Result, Err, codes, refl, subst, arith}
+use Rattle.std.proofs.Common.{◌≡◌, ℕ, ◌<◌, ◌≤◌, true, false, List, [], ◌∷◌, length, get_or, Option, None, Result, Err, codes, refl, subst, arith}
 use Rattle.std.specs.Str.{bytes_eq}
-use Rattle.vd_cmd.specs.Commands.{Reads, deal_in, fixed_form_of, form_of, host_form_of}
+use Rattle.vd_cmd.specs.Commands.{Reads, deal_in, fixed_form_of}
 use Rattle.vd_cmd.specs.declared.command.Command.{Command}
 use Rattle.vd_cmd.specs.declared.command.CommandFault.{CommandFault}
 use Rattle.vd_cmd.specs.declared.command.CommandFault.TheVariants.{Usage}
@@ -73,26 +73,3 @@ none_of_few (w ∷ a ∷ words) few = absurd (omega arith)
 pub none_of_many : (words : List (List ℕ)) → 9 ≤ length words → fixed_form_of words ≡ None
 none_of_many (a ∷ b ∷ c ∷ d ∷ e ∷ f ∷ g ∷ h ∷ i ∷ words) many = refl
 none_of_many words many = absurd (omega arith)
-
--- ---- words that begin with `host`, and others
-
-host_same : (w : List ℕ) (rest : List (List ℕ)) (r : Result Command CommandFault) → bytes_eq w (codes "host") ≡ true → Reads (host_form_of rest) r → Reads (form_of (w ∷ rest)) r
-host_same w rest r is reads = rw is reads
-
-pub of_host : (words rest : List (List ℕ)) (w : List ℕ) (r : Result Command CommandFault) → 1 ≤ length words → w ≡ get_or words 0 w → rest ≡ drop 1 words → bytes_eq w (codes "host") ≡ true
-    → Reads (host_form_of rest) r → Reads (form_of words) r
-of_host [] rest w r least ew er is reads = absurd (omega arith)
-of_host (w' ∷ words) rest w r least ew er is reads =
-    host_same w' words r (subst (λ (v : List ℕ). bytes_eq v (codes "host") ≡ true) ew is) (subst (λ (l : List (List ℕ)). Reads (host_form_of l) r) er reads)
-
-other_same : (w : List ℕ) (rest : List (List ℕ)) (r : Result Command CommandFault) → bytes_eq w (codes "host") ≡ false → Reads (fixed_form_of (w ∷ rest)) r → Reads (form_of (w ∷ rest)) r
-other_same w rest r isnt reads = rw isnt reads
-
-pub of_fixed : (words : List (List ℕ)) (w : List ℕ) (r : Result Command CommandFault) → 1 ≤ length words → w ≡ get_or words 0 w → bytes_eq w (codes "host") ≡ false
-    → Reads (fixed_form_of words) r → Reads (form_of words) r
-of_fixed [] w r least ew isnt reads = absurd (omega arith)
-of_fixed (w' ∷ words) w r least ew isnt reads = other_same w' words r (subst (λ (v : List ℕ). bytes_eq v (codes "host") ≡ false) ew isnt) reads
-
-pub of_nothing : (words : List (List ℕ)) (r : Result Command CommandFault) → length words < 1 → Reads (fixed_form_of words) r → Reads (form_of words) r
-of_nothing [] r few reads = reads
-of_nothing (w ∷ words) r few reads = absurd (omega arith)

@@ -8,7 +8,7 @@ use Rattle.vd_cmd.specs.Numbers.{number_within}
 use Rattle.vd_cmd.specs.declared.command.Command.{Command}
 use Rattle.vd_cmd.specs.declared.command.Command.TheVariants.{OnFiles, Host, Run}
 use Rattle.vd_cmd.specs.declared.command.FilesCommand.{FilesCommand}
-use Rattle.vd_cmd.specs.declared.command.FilesCommand.TheVariants.{Clear, Labels, Choose, Draw, Certify, Compile, Needs, Deal, Replay, Depends, Influences, Gen, Trial}
+use Rattle.vd_cmd.specs.declared.command.FilesCommand.TheVariants.{Clear, Labels, Choose, Draw, Certify, Compile, Needs, Deal, Replay, Excuse, Depends, Influences, Gen, Trial}
 use Rattle.vd_cmd.specs.declared.command.CommandFault.{CommandFault}
 use Rattle.vd_cmd.specs.declared.command.CommandFault.TheVariants.{Usage}
 
@@ -73,6 +73,18 @@ replay_with source inputs prefix schedule other =
     if bytes_eq other (codes "messages") then replay_of source inputs prefix schedule true (Some most_search_budget)
     else replay_of source inputs prefix schedule false (number_within 1 most_search_budget other)
 
+abbrev pub excuse_of : (source inputs second prefix host out : List ℕ) → Option ℕ → Option Command
+excuse_of source inputs second prefix host out (Some budget) =
+    Some (OnFiles (Excuse (record { source = source; inputs = inputs; second = second; prefix = prefix; host = host; out = out; budget = budget })))
+excuse_of source inputs second prefix host out None = None
+
+-- the command `excuse` with these words behind it: six, and a budget if there is one
+abbrev pub excuse_form_of : List (List ℕ) → Option Command
+excuse_form_of (source ∷ inputs ∷ second ∷ prefix ∷ host ∷ out ∷ []) = excuse_of source inputs second prefix host out (Some most_search_budget)
+excuse_form_of (source ∷ inputs ∷ second ∷ prefix ∷ host ∷ out ∷ budget ∷ []) =
+    excuse_of source inputs second prefix host out (number_within 1 most_search_budget budget)
+excuse_form_of words = None
+
 -- the first port of a run: those behind it serve all pairs of hosts
 abbrev pub least_port : ℕ
 least_port = 1024
@@ -130,7 +142,10 @@ host_form_of words = None
 -- the command that the words are, if they have a form
 abbrev pub form_of : List (List ℕ) → Option Command
 form_of [] = None
-form_of (word ∷ words) = if bytes_eq word (codes "host") then host_form_of words else fixed_form_of (word ∷ words)
+form_of (word ∷ words) =
+    if bytes_eq word (codes "host") then host_form_of words
+    else if bytes_eq word (codes "excuse") then excuse_form_of words
+    else fixed_form_of (word ∷ words)
 
 -- the limits of what is dealt
 pub record AreWithin (counts : Counts) : Type 0 where
@@ -160,6 +175,7 @@ KeepsFilesLimits (Draw source budget) = IsBudget budget
 KeepsFilesLimits (Compile source prefix budget) = IsBudget budget
 KeepsFilesLimits (Needs words) = IsBudget words.budget
 KeepsFilesLimits (Replay words) = IsBudget words.budget
+KeepsFilesLimits (Excuse words) = IsBudget words.budget
 KeepsFilesLimits command = Unit {0}
 
 abbrev pub KeepsLimits : Command → Type 0

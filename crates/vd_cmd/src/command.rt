@@ -1,7 +1,7 @@
 //! The forms of a command line.
 
 ghost use Rattle.std.specs.Prelude.{◌≡◌, [], ◌∷◌, IfOk, IfSome};
-ghost use Rattle.vd_cmd.specs.Commands.{Reads, AreWithin, IsBudget, IsPort, IsSize, choose_of, compile_of, counts_in, deal_in, deal_of, draw_of, fixed_form_of, form_of, gen_of, host_form_of, needs_of, needs_with, replay_of, replay_with, run_of, trial_of};
+ghost use Rattle.vd_cmd.specs.Commands.{Reads, AreWithin, IsBudget, IsPort, IsSize, choose_of, compile_of, counts_in, deal_in, deal_of, draw_of, excuse_form_of, excuse_of, fixed_form_of, form_of, gen_of, host_form_of, needs_of, needs_with, replay_of, replay_with, run_of, trial_of};
 ghost use Rattle.vd_cmd.specs.declared.command.CommandFault.TheVariants.{Memory};
 
 use crate::numbers::number_within;
@@ -65,6 +65,22 @@ pub struct RunWords {
     pub port: u32,
 }
 
+/// The words of `excuse SOURCE INPUTS INPUTS2 PREFIX HOST OUT [BUDGET]`.
+#[derive(Debug, Drop)]
+pub struct ExcuseWords {
+    pub source: Text,
+    /// The inputs of the run that was seen.
+    pub inputs: Text,
+    /// The inputs that are to explain it.
+    pub second: Text,
+    pub prefix: Text,
+    /// The name of the host that has seen the run.
+    pub host: Text,
+    /// The prefix of the files that are stored.
+    pub out: Text,
+    pub budget: u32,
+}
+
 /// A command that uses files and the output alone: it reads files, and its answer is what it stores and prints.
 #[derive(Debug, Drop)]
 pub enum FilesCommand {
@@ -86,6 +102,8 @@ pub enum FilesCommand {
     Deal(Counts, u64, Text),
     /// `replay SOURCE INPUTS PREFIX SCHEDULE [messages] [BUDGET]`.
     Replay(ReplayWords),
+    /// `excuse SOURCE INPUTS INPUTS2 PREFIX HOST OUT [BUDGET]`.
+    Excuse(ExcuseWords),
     /// `depends SOURCE HOST`.
     Depends(Text, Text),
     /// `influences SOURCE HOST`.
@@ -291,6 +309,40 @@ fn replay_with(
     }
 }
 
+/// The command `excuse` with this budget, if it is given.
+fn excuse_of(
+    alloc: Global,
+    source: &Text,
+    inputs: &Text,
+    second: &Text,
+    prefix: &Text,
+    host: &Text,
+    out: &Text,
+    budget: Option<u64>,
+) -> Result<Command, CommandFault>
+    requires { IfSome budget IsBudget }
+    ensures { Reads (excuse_of source.now inputs.now second.now prefix.now host.now out.now budget) result }
+{
+    let Some(budget) = budget else {
+        return Err(CommandFault::Usage);
+    };
+    let source = Text::copy_of(alloc, source.as_str())?;
+    let inputs = Text::copy_of(alloc, inputs.as_str())?;
+    let second = Text::copy_of(alloc, second.as_str())?;
+    let prefix = Text::copy_of(alloc, prefix.as_str())?;
+    let host = Text::copy_of(alloc, host.as_str())?;
+    let out = Text::copy_of(alloc, out.as_str())?;
+    Ok(Command::OnFiles(FilesCommand::Excuse(ExcuseWords {
+        source,
+        inputs,
+        second,
+        prefix,
+        host,
+        out,
+        budget: budget as u32,
+    })))
+}
+
 /// The command `run` with this port, if it is given.
 fn run_of(
     alloc: Global,
@@ -464,6 +516,36 @@ fn read_host(alloc: Global, words: &[Text]) -> Result<Command, CommandFault>
     }
 }
 
+/// The command `excuse` with these words behind it: six, and a budget if there is one.
+fn read_excuse(alloc: Global, words: &[Text]) -> Result<Command, CommandFault>
+    ensures { Reads (excuse_form_of words.now) result }
+{
+    let most = u64::from(SEARCH_BUDGET);
+    match words {
+        [source, inputs, second, prefix, host, out] => excuse_of(
+            alloc,
+            source,
+            inputs,
+            second,
+            prefix,
+            host,
+            out,
+            Some(most),
+        ),
+        [source, inputs, second, prefix, host, out, budget] => excuse_of(
+            alloc,
+            source,
+            inputs,
+            second,
+            prefix,
+            host,
+            out,
+            number_within(1, most, budget),
+        ),
+        _ => Err(CommandFault::Usage),
+    }
+}
+
 /// The command that words are, of those with a fixed number of words.
 fn read_fixed(alloc: Global, words: &[Text]) -> Result<Command, CommandFault>
     ensures { Reads (fixed_form_of words.now) result }
@@ -501,6 +583,7 @@ pub fn read_words(alloc: Global, words: &Texts) -> Result<Command, CommandFault>
 {
     match words.as_slice() {
         [word, rest @ ..] if word.as_str() == "host" => read_host(alloc, rest),
+        [word, rest @ ..] if word.as_str() == "excuse" => read_excuse(alloc, rest),
         words => read_fixed(alloc, words),
     }
 }

@@ -46,6 +46,9 @@ usage:
                                 compile SOURCE as compile does, and run each host i on this machine as a process of
                                 the program SELF, on INPUTS and the deal PREFIX.i.deal; the hosts meet at the ports
                                 from PORT on, 1024 to 65520; print what each host printed
+  viaduct excuse SOURCE INPUTS INPUTS2 PREFIX HOST OUT [BUDGET]
+                                where HOST cannot tell INPUTS2 from INPUTS, store deals OUT.i.deal by which it sees of
+                                INPUTS2 what it saw of INPUTS by PREFIX.i.deal, and print what the other host sends it
   viaduct depends SOURCE HOST   print the hosts whose inputs can bear on what HOST is told, outside of what is
                                 declassified to it
   viaduct influences SOURCE HOST
@@ -89,6 +92,10 @@ statuses:
   25  a link ended before all words had come
   26  the process of a host did not end well
   27  no host of SOURCE has the name HOST
+  28  SOURCE has another number of hosts than two
+  29  the choice of protocols for SOURCE has a commitment
+  31  a run takes more dealt items than there are
+  32  HOST can tell INPUTS2 from INPUTS
 ";
 
 /// The text of `--version`.
