@@ -56,7 +56,7 @@ fn load_deal<F: Files>(
 }
 
 /// Fetches the deals of all hosts, in order, and reads them.
-pub(crate) fn load_deals<F: Files>(
+pub fn load_deals<F: Files>(
     alloc: Global,
     files: &mut F,
     prefix: &str,

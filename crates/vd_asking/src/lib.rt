@@ -8,4 +8,6 @@ mod schedules;
 mod words;
 
 pub use asked::Asked;
+pub use deals::load_deals;
 pub use loading::load_asked;
+pub use words::inputs_fit;

@@ -20,7 +20,7 @@ fn words_fit(words: &[u32])
 }
 
 /// The inputs are words.
-pub(crate) fn inputs_fit(inputs: &Inputs)
+pub fn inputs_fit(inputs: &Inputs)
     ensures { AreWords inputs.now }
 {
     for words in inputs.as_slice() {

@@ -14,7 +14,7 @@ use vd_plan::{Answer, Status, file_name};
 use vd_tape::{make, write_deal};
 
 /// The files of deals: `PREFIX.i.deal` for each host i.
-fn files_of(alloc: Global, prefix: &str, deals: &[Deal]) -> Result<Items<Stored>, AllocError>
+pub fn files_of(alloc: Global, prefix: &str, deals: &[Deal]) -> Result<Items<Stored>, AllocError>
     ensures { IfOk result (λ files. files ≡ deal_files prefix.now deals.now) }
 {
     let mut files = Items::new(alloc);

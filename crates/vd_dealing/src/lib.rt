@@ -3,4 +3,4 @@
 
 mod deal_command;
 
-pub use deal_command::deal;
+pub use deal_command::{deal, files_of};

@@ -1,4 +1,4 @@
 pub mod Existing
-mod Naming
+pub mod Naming
 mod Told
 mod Influence

@@ -8,7 +8,7 @@ mod depends_command;
 mod influences_command;
 mod line;
 
-pub use depends_command::depends;
+pub use depends_command::{depends, host_named};
 pub use influences_command::influences;
 
 /// Each host of a labelled program depends on one set of hosts, so there is a function for the clauses to speak of.

@@ -11,7 +11,7 @@ use vd_plan::Status;
 use vd_tape::consistent;
 
 /// Refuses deals with an item that breaks its identity.
-pub(crate) fn expect_consistent(deals: &Deals) -> Result<(), Status>
+pub fn expect_consistent(deals: &Deals) -> Result<(), Status>
     requires { AreDeals deals.now }
     ensures checks { (outcomes : ReplayOutcomes) → Checks (as_consistent (outcomes.judge deals.now)) result }
     ensures consistent { OnOk result (IsConsistent deals.now) }

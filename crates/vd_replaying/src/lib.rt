@@ -4,4 +4,5 @@
 mod checks;
 mod replay_command;
 
+pub use checks::expect_consistent;
 pub use replay_command::{replay, replay_at};
