@@ -1,0 +1,91 @@
+-- What is looked at before anything is explained.
+use Rattle.std.proofs.Common.{◌≡◌, ◌≢◌, ℕ, zero, suc, ◌<◌, ◌≤◌, nat_eq, nat_lt, Bool, true, false, not, cond, if◌then◌else◌, Option, Some, None, List, length, get_or, slice_index, slice_index_or, Result, Ok, Err, refl, sym, ap, ◌∙◌, arith, inl, inr}
+use Rattle.std.specs.List.{position, position_or_len}
+use Rattle.std.proofs.lemmas.Bool.{ltb-true, ltb-false}
+use Rattle.std.proofs.lemmas.Bool.Decides.{eqb_tells}
+use Rattle.std.proofs.lemmas.List.{get_or_past}
+use Rattle.std.proofs.lemmas.List.Sums.{prefix_len_passes}
+use Rattle.vd_base.specs.HostSets.{host}
+use Rattle.vd_base.specs.Protocols.{protocols_of}
+use Rattle.vd_base.specs.declared.ids.HostId.{HostId}
+use Rattle.vd_base.specs.declared.protocols.Proto.{Proto}
+use Rattle.vd_base.specs.declared.protocols.Proto.TheVariants.{Local}
+use Rattle.vd_core.specs.declared.normal.NormalForm.{NormalForm}
+use Rattle.vd_constraints.specs.declared.labels.Labels.{Labels}
+use Rattle.vd_space.specs.declared.problem.Problem.{Problem}
+use Rattle.vd_space.specs.Validity.{protocol, protocols}
+use Rattle.vd_suite.specs.Parts.{has_back_end}
+use Rattle.vd_whole.specs.Lists.{protos_of}
+use Rattle.vd_deals.specs.declared.deal.Deal.{Deal}
+use Rattle.vd_plan.specs.declared.status.Status.{Status}
+use Rattle.vd_plan.specs.declared.status.Status.TheVariants.{NotTwo}
+use Rattle.vd_program_views.specs.Explained.{plan_of}
+use Rattle.vd_deal_excuses.specs.Excuses.{excuse_files}
+use Rattle.vd_excuse.specs.declared.fault.ViewFault.{ViewFault}
+use Rattle.vd_excuse.specs.Excuse.{IsExcused, fault_at}
+use Rattle.vd_excuse_command.specs.declared.runs.Runs.{Runs}
+use Rattle.vd_excuse_command.specs.Excusing.{as_excused, as_two, commitment_at, commitment_in, excused_for}
+
+-- ---- two hosts
+
+two_so : (names : List (List ℕ)) → length names ≡ 2 → as_two names ≡ Ok tt
+two_so names e = ap (λ (n : ℕ). let r : Result (Unit {0}) Status = if nat_eq n 2 then Ok tt else Err (NotTwo n) in r) e
+
+not_two_so : (names : List (List ℕ)) → length names ≢ 2 → as_two names ≡ Err (NotTwo (length names))
+not_two_so names differ = elim (eqb_tells (length names) 2) [
+  | inl same ↦ absurd (differ same.1)
+  | inr other ↦ ap (λ (b : Bool). let r : Result (Unit {0}) Status = if b then Ok tt else Err (NotTwo (length names)) in r) other.0
+]
+
+pub are_two : (names seen : List (List ℕ)) → seen ≡ names → length seen ≡ 2 → as_two names ≡ Ok tt
+are_two names seen same two = two_so names (sym (ap (λ (ns : List (List ℕ)). length ns) same) ∙ two)
+
+pub are_not_two : (names seen : List (List ℕ)) → seen ≡ names → length seen ≢ 2 → as_two names ≡ Err (NotTwo (length seen))
+are_not_two names seen same differ = ap (λ (ns : List (List ℕ)). as_two ns) (sym same) ∙ not_two_so seen differ
+
+-- ---- no commitment
+
+none_found : (n len : ℕ) (b : Bool) → nat_lt n len ≡ b → cond b (Some n) None ≡ None → nat_lt n len ≡ false
+none_found n len true e is = absurd cc
+none_found n len false e is = e
+
+not_not : (b : Bool) → not (not b) ≡ true → b ≡ true
+not_not true e = refl
+not_not false e = e
+
+-- where no other is found, each passes
+all_pass : {X : Type 0} (p : X → Bool) (xs : List X) → position (λ x. not (p x)) xs ≡ None → (k : ℕ) (d : X) → k < length xs → p (get_or xs k d) ≡ true
+all_pass p xs e k d low =
+    let n = position_or_len (λ x. not (p x)) xs in
+    let above : length xs ≤ n = ltb-false n (length xs) (none_found n (length xs) (nat_lt n (length xs)) refl e) in
+    not_not (p (get_or xs k d)) (prefix_len_passes (λ x. not (not (p x))) xs k d (omega (arith, above, low)))
+
+-- the first protocol of all is no commitment
+first_is_free : (n : ℕ) → has_back_end (slice_index_or (protocols_of n) 0 (Local (host 0))) ≡ true
+unfolding lib.Count.ones
+first_is_free zero = refl
+first_is_free (suc n) = refl
+
+module _ (problem : Problem) (list : List ℕ) (none : commitment_in problem list ≡ None) (x : ℕ) where
+  free_at : (b : Bool) → nat_lt x (length list) ≡ b → has_back_end (protocol problem (slice_index list x)) ≡ true
+  free_at true low = all_pass (λ (place : ℕ). has_back_end (protocol problem place)) list none x 0 (ltb-true x (length list) low)
+  free_at false high = ap (λ (place : ℕ). has_back_end (protocol problem place)) (get_or_past list x 0 (ltb-false x (length list) high)) ∙ first_is_free (length problem.hosts)
+
+  pub all_free : has_back_end (protos_of problem list x) ≡ true
+  all_free = free_at (nat_lt x (length list)) refl
+
+-- of a list of protocols that is that of the problem
+pub looked_in : (problem : Problem) (protos : List Proto) (list : List ℕ) (found : Option ℕ) → protos ≡ protocols problem → found ≡ commitment_at protos list → commitment_in problem list ≡ found
+looked_in problem protos list found same is = sym (is ∙ ap (λ (ps : List Proto). commitment_at ps list) same)
+
+-- ---- the deal that explains
+
+module _ (p : NormalForm) (l : Labels) (list : List ℕ) (h : HostId) (runs : Runs) where
+  pub excused_is : (stored : List Deal) → IsExcused p l list h runs.first runs.second runs.deals stored → excused_for p l list h runs ≡ Ok stored
+  excused_is stored x =
+      ap (λ (o : Option ViewFault). as_excused o (excuse_files h.0 (plan_of p l list) runs.first runs.second runs.deals)) x.no_fault
+      ∙ ap (λ (files : List Deal). let r : Result (List Deal) Status = Ok files in r) (sym x.files)
+
+  pub refused_is : (fault : ViewFault) → fault_at p l list h runs.first runs.second runs.deals ≡ Some fault
+      → excused_for p l list h runs ≡ as_excused (Some fault) (excuse_files h.0 (plan_of p l list) runs.first runs.second runs.deals)
+  refused_is fault e = ap (λ (o : Option ViewFault). as_excused o (excuse_files h.0 (plan_of p l list) runs.first runs.second runs.deals)) e

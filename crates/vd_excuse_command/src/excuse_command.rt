@@ -1,0 +1,215 @@
+//! The command `excuse`.
+
+ghost use Rattle.std.specs.Prelude.{◌≡◌, ◌<◌, ◌≤◌, ℕ, length, true};
+ghost use Rattle.vd_base.specs.Limits.{most_search_budget};
+ghost use Rattle.vd_constraints.specs.declared.labels.Labels.{Labels};
+ghost use Rattle.vd_deals.specs.Validity.{IsConsistent};
+ghost use Rattle.vd_normal.specs.Normal.{normal_form};
+ghost use Rattle.vd_selecting.specs.Problems.{IsProblemOf};
+ghost use Rattle.vd_space.specs.Reading.{problem_of};
+ghost use Rattle.vd_suite.specs.Parts.{has_back_end};
+ghost use Rattle.vd_whole.specs.Lists.{protos_of};
+ghost use Rattle.vd_excuse_command.specs.Excusing.{ExecutesExcuse, ExecutesExcused, ExecutesHost, ExecutesLabels, ExecutesList, ExecutesProgram, ExecutesRuns, ExecutesSource, IsSelectedIn};
+ghost use Rattle.vd_excuse_command.specs.Runs.{AreRead};
+ghost use Rattle.vd_excuse_command.specs.Telling.{TellsAt, TellsExcuse, TellsOf, TellsProgram};
+
+use crate::answer::answer;
+use crate::checks::{excused, expect_free, expect_two};
+use crate::runs::{Runs, load_runs};
+use std::alloc::Global;
+use vd_base::HostId;
+use vd_cmd::ExcuseWords;
+use vd_compiling::no_assignment;
+use vd_core::Program;
+use vd_depending::host_named;
+use vd_elaborate::elaborate;
+use vd_frontend::{least_labels, load_source};
+use vd_host_programs::numbers_fit;
+use vd_outside::Files;
+use vd_plan::{Answer, Status};
+use vd_replaying::expect_consistent;
+use vd_resolve::Resolved;
+use vd_selection::{SelectFault, Selection, select};
+use vd_spaces::Space;
+
+/// Explains the second inputs at a list of protocols, none of them a commitment.
+fn excuse_free(
+    alloc: Global,
+    program: &Program,
+    space: &Space,
+    places: &[u32],
+    host: HostId,
+    runs: Runs,
+    out: &str,
+) -> Result<Answer, Status>
+    requires host { host.0 < 2 }
+    requires hosts { length program.now.hosts ≡ 2 }
+    requires selected { IsSelectedIn program.now space.now places.now }
+    requires free { (x : ℕ) → has_back_end (protos_of space.now places.now x) ≡ true }
+    requires read { AreRead 2 runs }
+    requires consistent { IsConsistent runs.deals }
+    ensures executes { (l : Labels) → space.now ≡ problem_of program.now l →
+        ExecutesExcused program.now l host runs out.now places.now result }
+    ensures tells { TellsAt host program.now out.now runs result }
+{
+    numbers_fit(program);
+    let stored = excused(alloc, program, space, places, host, &runs)?;
+    let Runs {
+        first,
+        second: _,
+        deals,
+    } = runs;
+    let answer = answer(
+        alloc,
+        program,
+        places,
+        host,
+        &first,
+        deals,
+        stored.as_slice(),
+        out,
+    )?;
+    Ok(answer)
+}
+
+/// What `excuse` does with a list of protocols.
+fn excuse_list(
+    alloc: Global,
+    program: &Program,
+    space: &Space,
+    places: &[u32],
+    host: HostId,
+    runs: Runs,
+    out: &str,
+) -> Result<Answer, Status>
+    requires host { host.0 < 2 }
+    requires hosts { length program.now.hosts ≡ 2 }
+    requires selected { IsSelectedIn program.now space.now places.now }
+    requires read { AreRead 2 runs }
+    ensures executes { (l : Labels) → space.now ≡ problem_of program.now l →
+        ExecutesList program.now l host runs out.now places.now result }
+    ensures tells { TellsAt host program.now out.now runs result }
+{
+    expect_free(space, places)?;
+    expect_consistent(&runs.deals)?;
+    excuse_free(alloc, program, space, places, host, runs, out)
+}
+
+/// What `excuse` does with the space of a program.
+fn excuse_space(
+    alloc: Global,
+    program: &Program,
+    space: &Space,
+    host: HostId,
+    runs: Runs,
+    out: &str,
+    budget: u32,
+) -> Result<Answer, Status>
+    requires host { host.0 < 2 }
+    requires hosts { length program.now.hosts ≡ 2 }
+    requires budget { budget ≤ most_search_budget }
+    requires problem { IsProblemOf program.now space.now }
+    requires read { AreRead 2 runs }
+    ensures executes { (l : Labels) → space.now ≡ problem_of program.now l →
+        ExecutesLabels program.now l host runs out.now budget result }
+    ensures tells { TellsAt host program.now out.now runs result }
+{
+    match select(alloc, space.problem(), budget) {
+        Ok(Selection::Found(places, _, _)) => {
+            excuse_list(alloc, program, space, places.as_slice(), host, runs, out)
+        }
+        Ok(Selection::NoAssignment(_)) => Ok(no_assignment(alloc)),
+        Err(SelectFault::Spent) => Err(Status::Spent(budget)),
+        Err(SelectFault::Memory) => Err(Status::Memory),
+    }
+}
+
+/// What `excuse` does with a program of two hosts, and both runs.
+fn excuse_host(
+    alloc: Global,
+    words: &ExcuseWords,
+    program: &Program,
+    host: HostId,
+    runs: Runs,
+) -> Result<Answer, Status>
+    requires host { host.0 < 2 }
+    requires hosts { length program.now.hosts ≡ 2 }
+    requires budget { words.now.budget ≤ most_search_budget }
+    requires read { AreRead 2 runs }
+    ensures executes { ExecutesHost words.now program.now host runs result }
+    ensures tells { TellsAt host program.now words.now.out runs result }
+{
+    let labels = least_labels(alloc, program)?;
+    let space = Space::of(alloc, program, &labels)?;
+    excuse_space(
+        alloc,
+        program,
+        &space,
+        host,
+        runs,
+        words.out.as_str(),
+        words.budget,
+    )
+}
+
+/// What `excuse` does with a program, and both runs.
+fn excuse_runs(
+    alloc: Global,
+    words: &ExcuseWords,
+    program: &Program,
+    runs: Runs,
+) -> Result<Answer, Status>
+    requires budget { words.now.budget ≤ most_search_budget }
+    requires read { AreRead (length program.now.hosts) runs }
+    ensures executes { ExecutesRuns words.now program.now runs result }
+    ensures tells { TellsOf words.now.host words.now.out program.now runs result }
+{
+    let names = &program.form().hosts;
+    let host = host_named(alloc, names, words.host.as_str())?;
+    expect_two(names)?;
+    excuse_host(alloc, words, program, host, runs)
+}
+
+/// What `excuse` does with a program.
+fn excuse_program<F: Files>(
+    alloc: Global,
+    files: &mut F,
+    words: &ExcuseWords,
+    program: &Program,
+) -> Result<Answer, Status>
+    requires { words.now.budget ≤ most_search_budget }
+    ensures executes { ExecutesProgram words.now program.now (F.view files.old) (F.view files.new) result }
+    ensures tells { TellsProgram words.now program.now (F.view files.old) result }
+{
+    let runs = load_runs(alloc, files, words, &program.form().hosts)?;
+    excuse_runs(alloc, words, program, runs)
+}
+
+/// What `excuse` does with a source that meets every rule.
+fn excuse_source<F: Files>(
+    alloc: Global,
+    files: &mut F,
+    words: &ExcuseWords,
+    source: &Resolved,
+) -> Result<Answer, Status>
+    requires { words.now.budget ≤ most_search_budget }
+    ensures executes { ExecutesSource words.now source.now (F.view files.old) (F.view files.new) result }
+    ensures tells { TellsProgram words.now (normal_form source.now) (F.view files.old) result }
+{
+    let program = elaborate(alloc, source)?;
+    excuse_program(alloc, files, words, &program)
+}
+
+/// The command `excuse`: deals by which a host of a source of two hosts sees of the second inputs what it saw of the first by the deals
+/// that are there, and what the other host sends it in both runs.
+///
+/// It is refused where no host has the name, where there are not two hosts, where the choice has a commitment, where the deals do not
+/// reach for the first run, and where the host knows other words of the second inputs.
+pub fn excuse<F: Files>(alloc: Global, files: &mut F, words: &ExcuseWords) -> Result<Answer, Status>
+    requires { words.now.budget ≤ most_search_budget }
+    ensures executes { ExecutesExcuse words.now (F.view files.old) (F.view files.new) result }
+    ensures tells { TellsExcuse words.now (F.view files.old) result }
+{
+    let source = load_source(alloc, files, words.source.as_str())?;
+    excuse_source(alloc, files, words, &source)
+}
