@@ -5,7 +5,7 @@ ghost use Rattle.vd_remarks.specs.Usage as usage;
 
 use crate::tables::in_table;
 
-const USAGES: [(&[u8], &[u8]); 16] = [
+const USAGES: [(&[u8], &[u8]); 17] = [
     (b"clear", b"usage: viaduct clear SOURCE INPUTS\n"),
     (b"labels", b"usage: viaduct labels SOURCE\n"),
     (b"choose", b"usage: viaduct choose SOURCE [BUDGET]\n"),
@@ -32,6 +32,10 @@ const USAGES: [(&[u8], &[u8]); 16] = [
     (
         b"run",
         b"usage: viaduct run SOURCE INPUTS PREFIX SELF PORT\n",
+    ),
+    (
+        b"excuse",
+        b"usage: viaduct excuse SOURCE INPUTS INPUTS2 PREFIX HOST OUT [BUDGET]\n",
     ),
     (b"depends", b"usage: viaduct depends SOURCE HOST\n"),
     (b"influences", b"usage: viaduct influences SOURCE HOST\n"),

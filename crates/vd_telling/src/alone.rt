@@ -6,7 +6,7 @@ ghost use Rattle.vd_remarks.specs.Usage.{usage_of as usage_text};
 ghost use Rattle.vd_telling.specs.Alone as texts;
 ghost use Rattle.vd_telling.specs.Files as files;
 
-use crate::words::{CERTIFICATE, DEAL, PROGRAM, command, word_at};
+use crate::words::{CERTIFICATE, DEAL, PROGRAM, command, is_command, word_at};
 use std::alloc::{AllocError, Global};
 use vd_base::{Bytes, Texts};
 use vd_plan::{HostStatus, Status};
@@ -48,10 +48,14 @@ fn of_certificate(alloc: Global, words: &Texts, offset: u32) -> Result<Bytes, Al
     of_word(alloc, words, CERTIFICATE, sentence)
 }
 
-/// What is said of a deal file that goes on as none does from this byte on.
+/// What is said of a deal file that goes on as none does from this byte on; nothing of those of `excuse`, whose prefix is another
+/// word.
 fn of_deal(alloc: Global, words: &Texts, offset: u32) -> Result<Bytes, AllocError>
-    ensures { IfOk result (λ text. text ≡ texts.of_word words.now 3 (sentences.deal_sentence offset)) }
+    ensures { IfOk result (λ text. text ≡ texts.of_deal words.now offset) }
 {
+    if is_command(words, b"excuse") {
+        return Ok(Bytes::new(alloc));
+    }
     let sentence = deal_sentence(alloc, offset)?;
     of_word(alloc, words, DEAL, sentence)
 }

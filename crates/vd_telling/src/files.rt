@@ -29,6 +29,31 @@ fn source_unless(other: &[u8], words: &Texts) -> Option<Reading>
     }
 }
 
+/// The inputs; none of `excuse`, whose words name two files of inputs.
+fn inputs_of(words: &Texts) -> Option<Reading>
+    ensures { result ≡ files.inputs_of words.now }
+{
+    if is_command(words, b"excuse") {
+        None
+    } else {
+        Some(Reading {
+            word: INPUTS,
+            limit: INPUTS_BYTES,
+        })
+    }
+}
+
+/// The source in which the number of a deal file's host stands; none of `excuse`, whose prefix is another word.
+fn source_of_deals(words: &Texts) -> Option<Reading>
+    ensures { result ≡ files.source_of_deals words.now }
+{
+    if is_command(words, b"excuse") {
+        None
+    } else {
+        source_unless(b"host", words)
+    }
+}
+
 /// The file from whose bytes more is said of a status, if there is one. `trial` makes its source, and reads none. The words
 /// of `host` name a deal file; else it is named by a prefix and by its host's number in the source.
 pub(crate) fn reading_of(words: &Texts, status: &Status) -> Option<Reading>
@@ -40,15 +65,12 @@ pub(crate) fn reading_of(words: &Texts, status: &Status) -> Option<Reading>
         | Status::Flow(_, _)
         | Status::NoAssignment
         | Status::Spent(_) => source_unless(b"trial", words),
-        Status::InputText(_) => Some(Reading {
-            word: INPUTS,
-            limit: INPUTS_BYTES,
-        }),
+        Status::InputText(_) => inputs_of(words),
         Status::ScheduleText(_) => Some(Reading {
             word: SCHEDULE,
             limit: SCHEDULE_BYTES,
         }),
-        Status::DealText(_, _) => source_unless(b"host", words),
+        Status::DealText(_, _) => source_of_deals(words),
         _ => None,
     }
 }
