@@ -5,7 +5,7 @@ use Rattle.vd_deals.specs.declared.deal.Counts.{Counts}
 use Rattle.vd_tape.specs.Made.{AreCounts}
 use Rattle.vd_cmd.specs.Commands.{AreWithin}
 use Rattle.vd_cmd.specs.declared.command.FilesCommand.{FilesCommand}
-use Rattle.vd_cmd.specs.declared.command.FilesCommand.TheVariants.{Choose, Draw, Compile, Needs, Replay, Trial}
+use Rattle.vd_cmd.specs.declared.command.FilesCommand.TheVariants.{Choose, Draw, Compile, Excuse, Needs, Replay, Trial}
 use Rattle.vd_plan.specs.Plans.{IsProper, IsGiven}
 use Rattle.vd_plan.specs.declared.status.Status.{Status}
 use Rattle.vd_plan.specs.declared.answer.Answer.{Answer}
@@ -21,6 +21,7 @@ use Rattle.vd_needs_command.proofs.Existing.{some_programs}
 use Rattle.vd_needs_command.proofs.Sure.{needs_follows}
 use Rattle.vd_outcomes.proofs.Picked.{some_outcomes as some_replays}
 use Rattle.vd_replaying.proofs.Sure.{replay_follows}
+use Rattle.vd_excuse_command.proofs.Sure.{excuse_follows}
 use Rattle.vd_trial.proofs.Sure.{trial_follows}
 use Rattle.vd_depending.proofs.Existing.{some_dependences, some_influences}
 use Rattle.vd_top.specs.Commands.{Outcomes, plan_of, search_of}
@@ -45,5 +46,6 @@ command_follows outcomes searched (Draw source budget) files = draw_follows outc
 command_follows outcomes searched (Compile source prefix budget) files = compile_follows outcomes.texts outcomes.labels outcomes.certificates outcomes.choices searched source prefix budget files
 command_follows outcomes searched (Needs words) files = needs_follows outcomes.texts outcomes.programs outcomes.labels outcomes.certificates outcomes.choices searched words files
 command_follows outcomes searched (Replay words) files = replay_follows outcomes.texts outcomes.replays outcomes.labels outcomes.certificates outcomes.choices searched words files
+command_follows outcomes searched (Excuse words) files = excuse_follows outcomes.texts outcomes.replays outcomes.labels outcomes.certificates outcomes.choices searched words files
 command_follows outcomes searched (Trial coordinates) files = trial_follows outcomes.labels outcomes.certificates outcomes.choices searched coordinates files outcomes.texts
 command_follows outcomes searched command files = λ e. inl e

@@ -1,4 +1,4 @@
--- What a run of `compile` has stored, where it ended.
+-- What a run of `compile` has stored, and one of `excuse`, where it ended.
 use Rattle.std.specs.Prelude.{◌≡◌, ◌++◌, ℕ, IsTrue, List, Option, Some}
 use Rattle.vd_base.specs.Limits.{most_source_bytes}
 use Rattle.vd_outside.specs.Files.{FilesView}
@@ -7,11 +7,12 @@ use Rattle.vd_cmd.specs.Commands.{form_of}
 use Rattle.vd_cmd.specs.declared.command.Command.{Command}
 use Rattle.vd_cmd.specs.declared.command.Command.TheVariants.{OnFiles}
 use Rattle.vd_cmd.specs.declared.command.FilesCommand.{FilesCommand}
-use Rattle.vd_cmd.specs.declared.command.FilesCommand.TheVariants.{Compile}
+use Rattle.vd_cmd.specs.declared.command.FilesCommand.TheVariants.{Compile, Excuse}
 use Rattle.vd_plan.specs.Held.{IsHeld}
 use Rattle.vd_plan.specs.declared.status.Status.{Status}
 use Rattle.vd_plan.specs.declared.status.Status.TheVariants.{Ended}
 use Rattle.vd_compiled_files.specs.Holding.{IsCompilation}
+use Rattle.vd_top.specs.Headline.{PrintsExcuse}
 
 -- The first file held the text of a source, and the file of each of its hosts now holds that host's program, at the choice that was
 -- printed.
@@ -31,6 +32,7 @@ KeepsStored words before now out_before out_now status =
 abbrev pub StoresOf : FilesCommand → (before now : FilesView) → (out_before out_now : SinkView) → Status → Type 0
 StoresOf (Compile source prefix budget) before now out_before out_now status =
     IsTrue before.told → status ≡ Ended → StoresPrograms source prefix before now out_before out_now
+StoresOf (Excuse words) before now out_before out_now status = IsTrue before.told → status ≡ Ended → PrintsExcuse words before now out_before out_now
 StoresOf command before now out_before out_now status = Unit {0}
 
 abbrev pub StoresForm : Option Command → (before now : FilesView) → (out_before out_now : SinkView) → Status → Type 0

@@ -1,21 +1,25 @@
--- What a run of `replay` has shown, one of `depends`, one of `influences`, one of `needs` and one of `trial`, where it ended.
+-- What a run of `replay` has shown, one of `excuse`, one of `depends`, one of `influences`, one of `needs` and one of `trial`, where it ended.
 use Rattle.std.specs.Prelude.{◌≡◌, ◌⊎◌, ℕ, IsTrue, List, ◌++◌, Option, Some, Result}
 use Rattle.vd_outside.specs.Causes.{Rose}
 use Rattle.vd_outside.specs.Files.{FilesView}
 use Rattle.vd_outside.specs.Sink.{SinkView}
+use Rattle.vd_outside.specs.declared.stored.Stored.{Stored}
 use Rattle.vd_cmd.specs.Commands.{form_of}
 use Rattle.vd_cmd.specs.declared.command.Command.{Command}
 use Rattle.vd_cmd.specs.declared.command.Command.TheVariants.{OnFiles}
 use Rattle.vd_cmd.specs.declared.command.FilesCommand.{FilesCommand}
-use Rattle.vd_cmd.specs.declared.command.FilesCommand.TheVariants.{Compile, Depends, Influences, Needs, Replay, Trial}
+use Rattle.vd_cmd.specs.declared.command.FilesCommand.TheVariants.{Compile, Depends, Excuse, Influences, Needs, Replay, Trial}
+use Rattle.vd_cmd.specs.declared.command.ExcuseWords.{ExcuseWords}
 use Rattle.vd_cmd.specs.declared.command.NeedsWords.{NeedsWords}
 use Rattle.vd_cmd.specs.declared.command.ReplayWords.{ReplayWords}
+use Rattle.vd_plan.specs.Deliver.{stored}
 use Rattle.vd_plan.specs.declared.answer.Answer.{Answer}
 use Rattle.vd_plan.specs.declared.status.Status.{Status}
 use Rattle.vd_plan.specs.declared.status.Status.TheVariants.{Ended, Memory}
 use Rattle.vd_compiling.specs.Telling.{TellsSource}
 use Rattle.vd_depending.specs.Telling.{IsDependenceOf, TellsDependence}
 use Rattle.vd_depending.specs.Influencing.{IsInfluenceOf, TellsInfluence}
+use Rattle.vd_excuse_command.specs.Telling.{IsExcuseBy, TellsExcuse}
 use Rattle.vd_needs_command.specs.Telling.{IsNeeds, TellsNeeds}
 use Rattle.vd_replaying.specs.Accepting.{IsAccepted}
 use Rattle.vd_replaying.specs.Telling.{IsHeadline, TellsHeadline}
@@ -83,6 +87,20 @@ KeepsNeeds words before out_before out_now status =
     (needs : NeedsWords) → form_of words ≡ Some (OnFiles (Needs needs)) → IsTrue before.told → IsTrue out_now.told → status ≡ Ended
     → PrintsNeeds needs before out_before out_now
 
+-- the bytes that were added are what the other host sends, and these files were stored
+pub record PrintsExcuse (words : ExcuseWords) (before now : FilesView) (out_before out_now : SinkView) : Type 0 where
+  pub printed : List ℕ
+  pub added : IsTrue out_now.told → out_now.taken ≡ out_before.taken ++ printed
+  pub files : List Stored
+  pub kept : now.contents ≡ stored files before.contents
+  pub excuse : IsExcuseBy words before.contents files printed
+
+-- Where the words are those of `excuse`, and the files tell what they hold, a run with status 0 has stored deals by which the host sees
+-- of the second inputs what it saw of the first, and has printed what the other host sends it in both runs.
+abbrev pub KeepsExcuse : (words : List (List ℕ)) → (before now : FilesView) → (out_before out_now : SinkView) → Status → Type 0
+KeepsExcuse words before now out_before out_now status =
+    (excuse : ExcuseWords) → form_of words ≡ Some (OnFiles (Excuse excuse)) → IsTrue before.told → status ≡ Ended → PrintsExcuse excuse before now out_before out_now
+
 -- the bytes that were added are the cost of the choice for the generated source, and the report of its run, in which all hosts end
 pub record PrintsTrial (coordinates : ℕ) (out_before out_now : SinkView) : Type 0 where
   pub printed : List ℕ
@@ -102,10 +120,11 @@ KeepsTrial words before out_before out_now status =
 
 -- ---- the same of a command: its answer, and its run
 
--- what the answer of a command shows, where it is `compile`, `replay`, `depends`, `influences`, `needs` or `trial`
+-- what the answer of a command shows, where it is `compile`, `replay`, `excuse`, `depends`, `influences`, `needs` or `trial`
 abbrev pub TellsOf : FilesCommand → FilesView → Result Answer Status → Type 0
 TellsOf (Compile source prefix budget) before result = TellsSource source prefix before result
 TellsOf (Replay words) before result = TellsHeadline words before result
+TellsOf (Excuse words) before result = TellsExcuse words before result
 TellsOf (Depends source name) before result = TellsDependence source name before result
 TellsOf (Influences source name) before result = TellsInfluence source name before result
 TellsOf (Needs words) before result = TellsNeeds words before result

@@ -11,7 +11,7 @@ use Rattle.vd_plan.specs.declared.status.Status.{Status}
 use Rattle.vd_top.specs.Answers.{KeepsChoice, KeepsCompiled, KeepsDeal, KeepsDrawing, KeepsLabels, KeepsProof}
 use Rattle.vd_top.specs.Compiled.{KeepsStored}
 use Rattle.vd_top.specs.Commands.{CompletesWords, RunsWords}
-use Rattle.vd_top.specs.Headline.{KeepsAccepted, KeepsDependence, KeepsHeadline, KeepsInfluence, KeepsNeeds, KeepsTrial}
+use Rattle.vd_top.specs.Headline.{KeepsAccepted, KeepsDependence, KeepsExcuse, KeepsHeadline, KeepsInfluence, KeepsNeeds, KeepsTrial}
 use Rattle.vd_top.specs.Hosts.{PlaysWords, ReportsWords, ServesWords, SpawnsWords, speaks, spawns}
 
 -- the objects that a run uses, each before it and after it
@@ -26,6 +26,7 @@ pub record Around : Type 0 where
 pub record Keeps (words : List (List ℕ)) (o : Around) (status : Status) : Type 0 where
   pub runs : RunsWords words o.files.0 o.files.1 o.out.0 o.out.1 status
   pub headline : KeepsHeadline words o.files.0 o.out.0 o.out.1 status
+  pub excused : KeepsExcuse words o.files.0 o.files.1 o.out.0 o.out.1 status
   pub dependence : KeepsDependence words o.files.0 o.out.0 o.out.1 status
   pub influence : KeepsInfluence words o.files.0 o.out.0 o.out.1 status
   pub needs : KeepsNeeds words o.files.0 o.out.0 o.out.1 status

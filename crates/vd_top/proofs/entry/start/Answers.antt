@@ -7,6 +7,7 @@ returns-in-None g c = record {
   ran = λ none. record {
     runs = c.run.ensures.runs;
     headline = c.run.ensures.headline;
+    excused = c.run.ensures.excused;
     dependence = c.run.ensures.dependence;
     influence = c.run.ensures.influence;
     needs = c.run.ensures.needs;
