@@ -11,7 +11,9 @@ use vd_base::limits::{
     SOURCE_BYTES,
 };
 use vd_base::{Text, Texts};
-use vd_cmd::{Command, CommandFault, FilesCommand, HostWords, ReplayWords, read_words};
+use vd_cmd::{
+    Command, CommandFault, ExcuseWords, FilesCommand, HostWords, ReplayWords, read_words,
+};
 use vd_edge::{Directory, KeptFiles, RealFiles, Wanted};
 use vd_items::Items;
 use vd_outside::{FetchFault, Files};
@@ -73,6 +75,16 @@ fn replayed(alloc: Global, words: &ReplayWords) -> Result<Items<Wanted>, AllocEr
     Ok(files)
 }
 
+/// The files of `excuse`.
+fn excused(alloc: Global, words: &ExcuseWords) -> Result<Items<Wanted>, AllocError>
+    ensures { IfOk result (λ files. files ≡ wanted_of (Command.OnFiles (FilesCommand.Excuse words.now))) }
+{
+    let mut files = source_and(alloc, &words.source, &words.inputs, INPUTS_BYTES)?;
+    files.push(named(alloc, &words.second, INPUTS_BYTES)?)?;
+    deals(alloc, &words.prefix, &mut files)?;
+    Ok(files)
+}
+
 /// The files of `host`.
 fn of_host(alloc: Global, words: &HostWords) -> Result<Items<Wanted>, AllocError>
     ensures { IfOk result (λ files. files ≡ wanted_of (Command.Host words.now)) }
@@ -105,6 +117,7 @@ fn files_of(alloc: Global, command: &Command) -> Result<Items<Wanted>, AllocErro
         ) => one(alloc, source, SOURCE_BYTES),
         Command::OnFiles(FilesCommand::Needs(words)) => one(alloc, &words.file, HOST_FILE_BYTES),
         Command::OnFiles(FilesCommand::Replay(words)) => replayed(alloc, words),
+        Command::OnFiles(FilesCommand::Excuse(words)) => excused(alloc, words),
         Command::OnFiles(FilesCommand::Deal(..) | FilesCommand::Gen(_) | FilesCommand::Trial(_)) =>
             { Ok(Items::new(alloc)) }
         Command::Host(words) => of_host(alloc, words),
