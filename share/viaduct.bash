@@ -20,7 +20,7 @@ _viaduct() {
     SOURCE)
       compopt -o filenames 2> /dev/null
       mapfile -t COMPREPLY < <(compgen -f -X '!*.via' -- "$word"; compgen -d -- "$word") ;;
-    FILE | INPUTS | CERT | PREFIX | SCHEDULE | PROGRAM | DEAL | SELF)
+    FILE | INPUTS | INPUTS2 | CERT | PREFIX | OUT | SCHEDULE | PROGRAM | DEAL | SELF)
       compopt -o filenames 2> /dev/null
       mapfile -t COMPREPLY < <(compgen -f -- "$word") ;;
   esac
