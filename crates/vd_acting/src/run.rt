@@ -43,7 +43,8 @@ fn reach(sides: &mut Vec<Side>, alloc: Global, at: usize) -> Result<(), AllocErr
 
 fn perform_there(sides: &mut Vec<Side>, at: usize, action: &Action) -> Result<(), AllocError>
     requires { at < length sides.old.items }
-    ensures { OnOk result (sides.new.items ≡ slice_set sides.old.items at (performed action.now (slice_index_or sides.old.items at empty_side))) }
+    ensures { OnOk result (sides.new.items ≡ slice_set sides.old.items at
+        (performed action.now (slice_index_or sides.old.items at empty_side))) }
 {
     sides[at].perform(action)
 }
@@ -67,7 +68,8 @@ fn hear_there(
     words: &[u32],
 ) -> Result<(), AllocError>
     requires { at < length sides.old.items }
-    ensures { OnOk result (sides.new.items ≡ slice_set sides.old.items at (has_heard into.now words.now (slice_index_or sides.old.items at empty_side))) }
+    ensures { OnOk result (sides.new.items ≡ slice_set sides.old.items at
+        (has_heard into.now words.now (slice_index_or sides.old.items at empty_side))) }
 {
     sides[at].hear(into, words)
 }
@@ -79,7 +81,8 @@ fn hear_in(
     into: &[Reg],
     words: &[u32],
 ) -> Result<(), AllocError>
-    ensures { OnOk result (sides.new.items ≡ put_side sides.old.items host.0 (has_heard into.now words.now (side_at sides.old.items host.0))) }
+    ensures { OnOk result (sides.new.items ≡ put_side sides.old.items host.0
+        (has_heard into.now words.now (side_at sides.old.items host.0))) }
 {
     reach(sides, alloc, host.0 as usize)?;
     hear_there(sides, host.0 as usize, into, words)
@@ -87,7 +90,8 @@ fn hear_in(
 
 fn count_there(sides: &mut Vec<Side>, at: usize, counter: u32, turn: u32) -> Result<(), AllocError>
     requires { at < length sides.old.items }
-    ensures { OnOk result (sides.new.items ≡ slice_set sides.old.items at (counted counter turn (slice_index_or sides.old.items at empty_side))) }
+    ensures { OnOk result (sides.new.items ≡ slice_set sides.old.items at
+        (counted counter turn (slice_index_or sides.old.items at empty_side))) }
 {
     sides[at].count_turn(counter, turn)
 }

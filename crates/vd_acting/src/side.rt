@@ -206,7 +206,10 @@ impl Side {
     /// The next own word; 0 past the end.
     fn take_own(&mut self) -> u32
         ensures word { result ≡ slice_index self.old.own self.old.taken.own }
-        ensures rest { self.new ≡ record self.old { taken = record self.old.taken { own = further (length self.old.own) self.old.taken.own } } }
+        ensures rest { self.new ≡ record self.old {
+          taken = record self.old.taken
+              { own = further (length self.old.own) self.old.taken.own };
+        } }
     {
         let word = read(&self.own, self.taken.own);
         self.taken.own = further(self.own.as_slice().len(), self.taken.own);
@@ -216,7 +219,10 @@ impl Side {
     /// The next input; 0 past the end.
     fn take_input(&mut self) -> u32
         ensures word { result ≡ slice_index self.old.inputs self.old.taken.inputs }
-        ensures rest { self.new ≡ record self.old { taken = record self.old.taken { inputs = further (length self.old.inputs) self.old.taken.inputs } } }
+        ensures rest { self.new ≡ record self.old {
+          taken = record self.old.taken
+              { inputs = further (length self.old.inputs) self.old.taken.inputs };
+        } }
     {
         let word = read(&self.inputs, self.taken.inputs);
         self.taken.inputs = further(self.inputs.as_slice().len(), self.taken.inputs);
