@@ -9,6 +9,7 @@ ghost use Rattle.vd_cheapest.specs.Cheapest.{IsCheapest};
 
 /// The choice is the valid list of least cost, and the first of these in order. No bound is named.
 pub fn choices_cost_least()
-    ensures cheapest { (problem : Problems) (list : List ℕ) → IsProblem problem → IsChoice (tree_of problem []) list → IsCheapest problem list }
+    ensures cheapest { (problem : Problems) (list : List ℕ) → IsProblem problem → IsChoice (tree_of problem []) list →
+        IsCheapest problem list }
     ensures back { (problem : Problems) (list : List ℕ) → IsProblem problem → IsCheapest problem list → IsChoice (tree_of problem []) list }
 {}
