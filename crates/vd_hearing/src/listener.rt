@@ -128,7 +128,8 @@ impl<'a> Listener<'a> {
 
     /// Whether the host takes part in the branches of a guard.
     pub(crate) fn is_part(&self, guard: SlotId, then_block: &[Stmt], else_block: &[Stmt]) -> bool
-        ensures { let x = self.now in result ≡ is_part x.problem x.list x.host guard (all_heard x then_block.now) (all_heard x else_block.now) }
+        ensures { let x = self.now in result ≡ is_part x.problem x.list x.host guard (all_heard x then_block.now)
+            (all_heard x else_block.now) }
     {
         self.is_told(then_block)
             || self.is_told(else_block)
