@@ -173,7 +173,8 @@ fn growth_of_guard(
     requires telling { IsTelling telling.now }
     requires grown { after.now ≡ with_choice before.now choice }
     requires named { guard_names (length before.now) guard.now ≡ true }
-    ensures growth { result ≡ guard_under problem.now after.now guard.now telling.now -ℤ guard_under problem.now before.now guard.now telling.now }
+    ensures growth { result ≡ guard_under problem.now after.now guard.now telling.now -ℤ guard_under problem.now before.now
+        guard.now telling.now }
     ensures within { IsWithin 8589934592 result }
 {
     if is_own(guard, telling, before.len()) {
