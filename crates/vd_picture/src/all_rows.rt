@@ -38,7 +38,8 @@ impl Run {
 
 /// Adds a row to a run.
 fn add_row(alloc: Global, run: &mut Run, scene: Scene, row: &Row) -> Result<(), AllocError>
-    ensures { OnOk result (run.new ≡ rows_spec.with_row scene.entry.layout.now scene.entry.hosts.now scene.entry.slots.now scene.entry.labels.now run.old
+    ensures { OnOk result (run.new ≡ rows_spec.with_row scene.entry.layout.now scene.entry.hosts.now scene.entry.slots.now
+        scene.entry.labels.now run.old
         row.now) }
 {
     run.count = run.count.saturating_add(1);
