@@ -76,7 +76,8 @@ impl Reader {
     /// Takes the innermost block off.
     #[tactic(auto, using(crate::proofs::Backward::last_first))]
     fn take_block(&mut self) -> Option<Block>
-        ensures { MatchOption result ((self.old.blocks ≡ []) × (self.new ≡ self.old)) (λ block. self.old ≡ record self.new { blocks = block ∷ self.new.blocks }) }
+        ensures { MatchOption result ((self.old.blocks ≡ []) × (self.new ≡ self.old))
+            (λ block. self.old ≡ record self.new { blocks = block ∷ self.new.blocks }) }
     {
         self.blocks.pop()
     }
