@@ -18,7 +18,8 @@ pub fn joint_runs_tell_what_is_heard()
 /// on the hosts whose inputs are reached from what it is told, and on what is declassified to it; and where they agree on all
 /// hosts that it may read, and on the words that become readable to it by a declassification.
 pub fn inputs_that_agree_are_told_the_same()
-    ensures reached { OfEachHost (λ p l h. (hosts : ℕ → Bool) → AreReached p l h hosts → TellsOnlyAssigned p l h (reads_result p l h) hosts) }
+    ensures reached { OfEachHost (λ p l h. (hosts : ℕ → Bool) → AreReached p l h hosts →
+        TellsOnlyAssigned p l h (reads_result p l h) hosts) }
     ensures readable { OfEachHost (λ p l h. TellsOnlyAssigned p l h (becomes_readable_to p l h) (reads_host p h)) }
 {}
 
