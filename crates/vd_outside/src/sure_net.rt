@@ -1,4 +1,4 @@
-ghost use Rattle.std.specs.Prelude.{◌≡◌, [], ◌∷◌, ◌++◌, ◌+◌, ◌<◌, length, remove, slice_get, Some, None, option_map, IfOk, IfErr, OnOk, OnErr, MatchOption};
+ghost use Rattle.std.specs.Prelude.{◌≡◌, ⊤, [], ◌∷◌, ◌++◌, ◌+◌, ◌<◌, length, remove, slice_get, Some, None, option_map, IfOk, IfErr, OnOk, OnErr, MatchOption};
 ghost use Rattle.vd_outside.specs.Net.{link_at, without_link_at};
 ghost use Rattle.vd_outside.specs.SureNet.{FirstWaits, IsTakenOut, NoneWaits, after_given, empty_link};
 
@@ -135,9 +135,15 @@ impl Net for SureNet {
 
     ghost view = { net_view };
 
+    ghost greets = { λ link greeting. ⊤ };
+
+    ghost has_limit = { λ net seconds. ⊤ };
+
     fn faults(&self) -> u64 {
         0
     }
+
+    fn wait_at_most(&mut self, _seconds: Option<u32>) {}
 
     fn listen(&mut self, address: &str) -> Result<u32, CallFault> {
         let call = NetCall::Listen(Text::copy_of(self.alloc, address)?);
@@ -151,7 +157,7 @@ impl Net for SureNet {
         Ok(number)
     }
 
-    fn accept(&mut self, listener: u32) -> Result<SureLink, CallFault> {
+    fn accept(&mut self, listener: u32, _greeting: &[u8]) -> Result<SureLink, CallFault> {
         let address = self.address_of(listener)?;
         let link = self.give(address.as_str(), NetCall::Accept(listener))?;
         Ok(link)

@@ -2,8 +2,8 @@ use Rattle.std.proofs.Common.{◌≡◌, Some, slice_get, rules, refl, sym, ap, 
 use Rattle.vd_outside.proofs.Waiting.{gives_link}
 use Rattle.vd_outside.proofs.sure_net.SureNetNet.accept.Goals as goal
 
-pub returns : goal.returns
-returns c =
+pub returns-clause-accepts : goal.returns-clause-accepts
+returns-clause-accepts c =
     let at : slice_get c.args.self.now.listeners c.args.listener ≡ Some c.as_str.result.now = c.in_ok-address.ensures ∙ ap Some (sym c.as_str.ensures) in
     record {
       later = search rules;
