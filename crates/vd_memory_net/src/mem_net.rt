@@ -1,4 +1,4 @@
-ghost use Rattle.std.specs.Prelude.{◌≡◌, ◌<◌, [], ◌∷◌, ◌++◌, length, slice_get, Some, IfOk, OnOk, OnErr};
+ghost use Rattle.std.specs.Prelude.{◌≡◌, ◌<◌, ⊤, [], ◌∷◌, ◌++◌, length, slice_get, Some, IfOk, OnOk, OnErr};
 ghost use Rattle.vd_outside.specs.Net.{Accepts, Connects, HangsUp, Listens};
 ghost use Rattle.vd_outside.specs.declared.net.NetCall.TheVariants.{Connect};
 ghost use Rattle.vd_memory_net.specs.MemLink.{limited_link_view};
@@ -123,9 +123,15 @@ impl Net for MemNet {
 
     ghost view = { listed_net_view };
 
+    ghost greets = { λ link greeting. ⊤ };
+
+    ghost has_limit = { λ net seconds. ⊤ };
+
     fn faults(&self) -> u64 {
         self.failures.faults
     }
+
+    fn wait_at_most(&mut self, _seconds: Option<u32>) {}
 
     fn listen(&mut self, address: &str) -> Result<u32, CallFault>
         requires { (listed_net_view self.old).given < u32.MAX }
@@ -149,7 +155,7 @@ impl Net for MemNet {
         Ok(number)
     }
 
-    fn accept(&mut self, listener: u32) -> Result<MemLink, CallFault>
+    fn accept(&mut self, listener: u32, _greeting: &[u8]) -> Result<MemLink, CallFault>
         requires { listener < (listed_net_view self.old).given }
         ensures accept { Accepts listener (listed_net_view self.old) (listed_net_view self.new) (told_link result) }
         ensures state { AcceptsNext listener self.old self.new result }
