@@ -26,6 +26,19 @@ pub const PACKET_TAG: u8 = 0x56;
 /// The most bytes of a packet.
 pub const PACKET_BYTES: usize = 66;
 
+/// The greeting of a host to another, with the digest of its plan.
+pub fn greeting_of(plan: &Digest, from: HostId, to: HostId) -> [u8; GREETING_BYTES]
+    ensures { result ≡ greeting plan.now from.0 to.0 }
+{
+    let mut bytes = [0u8; GREETING_BYTES];
+    bytes[0] = GREETING_TAG;
+    bytes[1] = GREETING_VERSION;
+    bytes[34] = from.0;
+    bytes[35] = to.0;
+    bytes[2..34].copy_from_slice(plan);
+    bytes
+}
+
 /// The bytes of a greeting or a packet that goes out, in room that was taken beforehand.
 #[derive(Debug, Drop)]
 pub struct Frame {

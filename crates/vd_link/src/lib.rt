@@ -13,6 +13,7 @@ mod session;
 mod taking;
 
 pub use faults::{GreetFault, LinkFault};
+pub use frame::greeting_of;
 pub use laws::{faults_exclude_greetings, faults_exclude_packets, streams_have_one_reading};
 pub use packet::words_of;
 pub use session::{Closed, Fresh, Greeted, Session};
