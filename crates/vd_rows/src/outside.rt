@@ -39,7 +39,7 @@ fn meet<N: Net>(net: &mut N, address: &str) -> Result<u32, CallFault>
     requires { (N.view net.old).given < u32.MAX }
 {
     let listener = net.listen(address)?;
-    let accepted = net.accept(listener)?;
+    let accepted = net.accept(listener, b"")?;
     let connected = net.connect(address)?;
     net.hang_up(accepted);
     net.hang_up(connected);
