@@ -1,8 +1,9 @@
-ghost use Rattle.std.specs.Prelude.{◌≡◌, ◌<◌, ◌≤◌, ℕ, List, None, length};
+ghost use Rattle.std.specs.Prelude.{◌≡◌, ◌<◌, ◌≤◌, ℕ, List, None, IfOk, length};
 ghost use Rattle.std.specs.Result.{result_map_both};
 ghost use Rattle.vd_engine.specs.Drives.{sessions_of};
 ghost use Rattle.vd_engine.specs.Links.{session_at};
-ghost use Rattle.vd_hosting.specs.Histories.{Gets, greet_status};
+ghost use Rattle.vd_link.specs.Sessions.{wanted_greeting};
+ghost use Rattle.vd_hosting.specs.Histories.{Gets, ends_with, greet_status};
 ghost use Rattle.vd_hosting.specs.Peers.{number_at, peer_at};
 ghost use Rattle.vd_hosting.specs.Meetings.{MeetsAll, MeetsOne};
 ghost use Rattle.vd_hosting.specs.Stages.{HasListeners};
@@ -13,7 +14,7 @@ use crate::task::{Task, address_at, peer_at};
 use std::alloc::Global;
 use vd_base::{CallFault, HostId};
 use vd_engine::Links;
-use vd_link::{GreetFault, Session};
+use vd_link::{GreetFault, Session, greeting_of};
 use vd_outside::Net;
 
 /// Why a peer was not met, and its link, if one was given.
@@ -36,6 +37,27 @@ fn fault_of_greeting(peer: HostId, fault: GreetFault) -> HostFault
     }
 }
 
+/// The link that comes from the later peer at a place, which is to greet this host by the same plan. Of the listeners the first has
+/// this number.
+fn link_from<N: Net>(
+    net: &mut N,
+    task: &Task,
+    place: usize,
+    first: u32,
+) -> Result<N::Link, CallFault>
+    requires place { place < length task.now.addresses }
+    requires few { length task.now.addresses ≤ 3 }
+    requires room { first ≤ 4294967000 }
+    requires listeners { HasListeners task.now first (N.view net.old) }
+    requires later { task.now.me.0 ≤ place }
+    ensures gets { Gets first task.now.me.0 (peer_at task.now place) (N.view net.old) (N.view net.new)
+        (result_map_both N.Link.view (λ fault. fault) result) }
+    ensures greets { IfOk result (λ link. N.greets link (wanted_greeting (ends_with task.now (peer_at task.now place)))) }
+{
+    let greeting = greeting_of(&task.plan, peer_at(task.me, place), task.me);
+    net.accept(first + (place as u32 - u32::from(task.me.0)), &greeting)
+}
+
 /// The link to the peer at a place. Of the listeners the first has this number.
 fn link_to<N: Net>(net: &mut N, task: &Task, place: usize, first: u32) -> Result<N::Link, CallFault>
     requires place { place < length task.now.addresses }
@@ -46,7 +68,7 @@ fn link_to<N: Net>(net: &mut N, task: &Task, place: usize, first: u32) -> Result
         (result_map_both N.Link.view (λ fault. fault) result) }
 {
     if (task.me.0 as usize) <= place {
-        net.accept(first + (place as u32 - u32::from(task.me.0)))
+        link_from(net, task, place, first)
     } else {
         net.connect(address_at(task, place))
     }
