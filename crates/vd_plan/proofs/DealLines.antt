@@ -5,12 +5,13 @@ use Rattle.vd_outside.specs.Sink.{SinkView}
 use Rattle.vd_deals.specs.declared.deal.BadItem.{BadItem}
 use Rattle.vd_deals.specs.declared.deal.DealKind.{DealKind}
 use Rattle.vd_plan.specs.Deliver.{WritesAll}
+use Rattle.vd_plan.specs.Shown.{shown}
 use Rattle.vd_plan.specs.Lines.{bad_deal_line, deal_line, kind_name, short_deal_line}
 
 pub deal_written : {E : Type 0} (name : List ℕ) (offset : ℕ) (o : List ℕ) (before now : SinkView) (result : Result (Unit {0}) E) → o ≡ decimal offset
-    → WritesAll {E = E} (codes "viaduct: deal text " ++ (name ++ (codes " at " ++ (o ++ codes "\n")))) before now result → WritesAll {E = E} (deal_line name offset) before now result
+    → WritesAll {E = E} (codes "viaduct: deal text " ++ (shown name ++ (codes " at " ++ (o ++ codes "\n")))) before now result → WritesAll {E = E} (deal_line name offset) before now result
 deal_written {E = E} name offset o before now result is w =
-    subst (λ (l : List ℕ). WritesAll {E = E} (codes "viaduct: deal text " ++ (name ++ (codes " at " ++ (l ++ codes "\n")))) before now result) is w
+    subst (λ (l : List ℕ). WritesAll {E = E} (codes "viaduct: deal text " ++ (shown name ++ (codes " at " ++ (l ++ codes "\n")))) before now result) is w
 
 abbrev bad_text : (kind first second index left right : List ℕ) → List ℕ
 bad_text kind first second index left right =

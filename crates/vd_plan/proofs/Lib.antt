@@ -9,3 +9,4 @@ pub mod Following
 pub mod SignedLines
 pub mod DealLines
 pub mod Finding
+pub mod ShownNames

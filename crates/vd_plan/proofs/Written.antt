@@ -78,3 +78,21 @@ says line before now (Ok done) w = record {
   whole = λ t. inr (w.whole t);
 }
 says line before now (Err e) w = record { later = w.later; was_told = w.was_told; part = w.part; whole = λ t. inl w.failed }
+
+-- what failed within the front of a text failed within the text
+pub writes_front : {E : Type 0} (xs ys : List ℕ) (before now : SinkView) (e : E) → WritesAll {E = E} xs before now (Err e) → WritesAll {E = E} (xs ++ ys) before now (Err e)
+writes_front xs ys before now e w = record {
+  later = w.later;
+  failed = w.failed;
+  was_told = w.was_told;
+  whole = λ t. tt;
+  part = λ t. shorter (w.part t);
+}
+  where
+    shorter : ((count : ℕ) × (now.taken ≡ before.taken ++ take count xs)) → (count : ℕ) × (now.taken ≡ before.taken ++ take count (xs ++ ys))
+    shorter p = (min p.0 (length xs), p.1 ∙ ap (λ (l : List ℕ). before.taken ++ l) (sym (take-append-le (min p.0 (length xs)) xs ys (omega arith) ∙ take_min p.0 xs)))
+
+-- a text is written behind another one, whatever comes of it
+pub writes_behind : {E : Type 0} (xs ys : List ℕ) (before mid now : SinkView) (result : Result (Unit {0}) E) → WritesAll {E = E} xs before mid (Ok tt) → WritesAll {E = E} ys mid now result → WritesAll {E = E} (xs ++ ys) before now result
+writes_behind xs ys before mid now (Ok done) a b = writes_ok xs ys before mid now a b
+writes_behind {E = E} xs ys before mid now (Err e) a b = subst (λ (l : List ℕ). WritesAll {E = E} (xs ++ l) before now (Err e)) (append-nil ys) (writes_err xs ys [] before mid now e a b)

@@ -5,3 +5,4 @@ pub mod Deliver
 pub mod Runs
 pub mod Lines
 pub mod Numbered
+pub mod Shown

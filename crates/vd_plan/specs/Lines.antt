@@ -3,6 +3,7 @@ use Rattle.std.specs.Prelude.{◌≡◌, ◌≤◌, ◌⊎◌, ℕ, ℤ, IsTrue,
 use Rattle.std.specs.Fmt.{decimal, signed_decimal}
 use Rattle.vd_outside.specs.Causes.{Rose}
 use Rattle.vd_outside.specs.Sink.{SinkView}
+use Rattle.vd_plan.specs.Shown.{shown}
 use Rattle.vd_plan.specs.declared.status.SyntaxFault.{SyntaxFault}
 use Rattle.vd_plan.specs.declared.status.SyntaxFault.TheVariants.{BadByte, Unexpected, Nesting}
 use Rattle.vd_deals.specs.declared.deal.BadItem.{BadItem}
@@ -91,7 +92,7 @@ input_line (Text offset) = offset_line (codes "viaduct: input text at ") offset
 input_line (UnknownHost offset) = offset_line (codes "viaduct: input host at ") offset
 
 abbrev pub deal_line : List ℕ → ℕ → List ℕ
-deal_line name offset = codes "viaduct: deal text " ++ (name ++ offset_line (codes " at ") offset)
+deal_line name offset = codes "viaduct: deal text " ++ (shown name ++ offset_line (codes " at ") offset)
 
 abbrev pub schedule_line : TextFault → List ℕ
 schedule_line (Text offset) = offset_line (codes "viaduct: schedule text at ") offset
@@ -128,9 +129,9 @@ certificate_line (cert.Cost stated own) = cost_line stated own
 certificate_line (cert.NotViolated mark) = offset_line (codes "viaduct: cert refused not violated ") mark
 certificate_line (cert.NotBounded mark bound cost) = bound_line mark bound cost
 
--- a text that ends in a name, and one that ends in two numbers
+-- a text that ends in a name, which is shown without control characters, and one that ends in two numbers
 abbrev pub name_line : List ℕ → List ℕ → List ℕ
-name_line text name = text ++ (name ++ codes "\n")
+name_line text name = text ++ (shown name ++ codes "\n")
 
 abbrev pub two_line : List ℕ → (first second : ℕ) → List ℕ
 two_line text first second = text ++ (decimal first ++ number_then second (codes "\n"))
@@ -161,16 +162,16 @@ cause_text child_cause.Line = codes " line\n"
 cause_text (child_cause.Status status) = codes " " ++ (decimal status ++ codes "\n")
 
 abbrev pub child_line : List ℕ → ChildCause → List ℕ
-child_line name cause = codes "viaduct: child fault " ++ (name ++ cause_text cause)
+child_line name cause = codes "viaduct: child fault " ++ (shown name ++ cause_text cause)
 
 -- Ended has no line.
 abbrev pub status_line : Status → List ℕ
 status_line Ended = []
 status_line Memory = codes "viaduct: memory\n"
 status_line Usage = codes "viaduct: usage\n"
-status_line (ReadFault name) = codes "viaduct: read fault " ++ (name ++ codes "\n")
+status_line (ReadFault name) = name_line (codes "viaduct: read fault ") name
 status_line WriteFault = codes "viaduct: write fault\n"
-status_line (TooLong name limit) = codes "viaduct: too long " ++ (name ++ (codes " " ++ (decimal limit ++ codes "\n")))
+status_line (TooLong name limit) = codes "viaduct: too long " ++ (shown name ++ (codes " " ++ (decimal limit ++ codes "\n")))
 status_line (Syntax fault) = syntax_line fault
 status_line (Names fault) = rule_line fault
 status_line (Flow check offset) = codes "viaduct: flow check " ++ (decimal check ++ (codes " at " ++ (decimal offset ++ codes "\n")))

@@ -8,6 +8,7 @@ mod host_lines;
 mod lines;
 mod loading;
 mod numbered;
+mod shown;
 mod status;
 
 pub use answer::Answer;
@@ -16,6 +17,7 @@ pub use ending::{finish, print_text};
 pub use lines::tell;
 pub use loading::load;
 pub use numbered::file_name;
+pub use shown::shown_byte;
 pub use status::{
     CertificateFault, ChildCause, HostStatus, RuleFault, Status, SyntaxFault, TextFault,
 };

@@ -1,25 +1,43 @@
 //! The line that says how a run ended.
 
-ghost use Rattle.std.specs.Prelude.{◌≡◌};
+ghost use Rattle.std.specs.Prelude.{◌≡◌, IfSome};
 ghost use Rattle.vd_plan.specs.Deliver.{WritesAll};
 ghost use Rattle.vd_plan.specs.declared.status.RuleFault.TheVariants as rule;
 ghost use Rattle.vd_plan.specs.declared.status.Status.TheVariants.{Flow};
 ghost use Rattle.vd_plan.specs.Lines.{Says, bad_deal_line, bound_line, certificate_line, child_line, cost_line, deal_line, kind_name, name_line, schedule_line, status_line, syntax_line, rule_line, input_line, offset_line, quantity_name};
 
-use crate::deliver::write_parts;
+use crate::deliver::{write_all, write_parts};
 use crate::host_lines::write_host_status;
+use crate::shown::write_named;
 use crate::{CertificateFault, ChildCause, RuleFault, Status, SyntaxFault, TextFault};
 use itoa::Buffer;
+use std::alloc::Global;
 use vd_base::Failed;
 use vd_deals::{BadItem, DealKind};
-use vd_outside::Sink;
+use vd_outside::{Sink, SureSink};
 use vd_resolve::Quantity;
 
-/// Writes the line of a status, as far as the stream takes it.
-pub fn tell<E: Sink>(err: &mut E, status: &Status)
+/// The most bytes of a line that is put together before it is written: as many as a pipe takes whole.
+const LINE_BYTES: usize = 4_096;
+
+/// Writes the line of a status, as far as the stream takes it. It goes out in one write, unless it is longer than a pipe takes whole
+/// or there is no memory for it.
+pub fn tell<E: Sink>(alloc: Global, err: &mut E, status: &Status)
     ensures { Says (status_line status.now) (E.view err.old) (E.view err.new) }
 {
-    let _ = write_status(err, status);
+    let _ = match line_of(alloc, status) {
+        Some(line) => write_all(err, line.bytes()),
+        None => write_status(err, status),
+    };
+}
+
+/// The line of a status, put together. There is none where it is longer than a pipe takes whole, or there is no memory for it.
+fn line_of(alloc: Global, status: &Status) -> Option<SureSink>
+    ensures { IfSome result (λ line. line.bytes ≡ status_line status.now) }
+{
+    let mut line = SureSink::new(alloc, LINE_BYTES).ok()?;
+    write_status(&mut line, status).ok()?;
+    if line.tells() { Some(line) } else { None }
 }
 
 /// Writes the line of a status.
@@ -31,17 +49,14 @@ fn write_status<E: Sink>(err: &mut E, status: &Status) -> Result<(), Failed>
         Status::Memory => write_parts(err, &[b"viaduct: memory\n"]),
         Status::Usage => write_parts(err, &[b"viaduct: usage\n"]),
         Status::ReadFault(name) => {
-            write_parts(
-                err,
-                &[b"viaduct: read fault ", name.as_str().as_bytes(), b"\n"],
-            )
+            write_name(err, b"viaduct: read fault ", name.as_str().as_bytes())
         }
         Status::WriteFault => write_parts(err, &[b"viaduct: write fault\n"]),
         Status::TooLong(name, limit) => {
             let mut buffer = Buffer::new();
             let number = buffer.format(*limit).as_bytes();
             let name = name.as_str().as_bytes();
-            write_parts(err, &[b"viaduct: too long ", name, b" ", number, b"\n"])
+            write_named(err, b"viaduct: too long ", name, &[b" ", number, b"\n"])
         }
         Status::Syntax(fault) => write_syntax_fault(err, *fault),
         Status::Names(fault) => write_rule_fault(err, *fault),
@@ -155,7 +170,7 @@ fn write_deal_fault<E: Sink>(err: &mut E, name: &[u8], offset: u32) -> Result<()
 {
     let mut buffer = Buffer::new();
     let number = buffer.format(offset).as_bytes();
-    write_parts(err, &[b"viaduct: deal text ", name, b" at ", number, b"\n"])
+    write_named(err, b"viaduct: deal text ", name, &[b" at ", number, b"\n"])
 }
 
 /// Writes the line of a fault of a schedule.
@@ -173,12 +188,12 @@ fn write_child_fault<E: Sink>(err: &mut E, name: &[u8], cause: ChildCause) -> Re
     ensures { WritesAll (child_line name.now cause) (E.view err.old) (E.view err.new) result }
 {
     match cause {
-        ChildCause::Failed => write_parts(err, &[b"viaduct: child fault ", name, b"\n"]),
-        ChildCause::Line => write_parts(err, &[b"viaduct: child fault ", name, b" line\n"]),
+        ChildCause::Failed => write_named(err, b"viaduct: child fault ", name, &[b"\n"]),
+        ChildCause::Line => write_named(err, b"viaduct: child fault ", name, &[b" line\n"]),
         ChildCause::Status(status) => {
             let mut buffer = Buffer::new();
             let number = buffer.format(status).as_bytes();
-            write_parts(err, &[b"viaduct: child fault ", name, b" ", number, b"\n"])
+            write_named(err, b"viaduct: child fault ", name, &[b" ", number, b"\n"])
         }
     }
 }
@@ -311,5 +326,5 @@ fn write_place<E: Sink>(err: &mut E, text: &[u8], place: usize) -> Result<(), Fa
 pub(crate) fn write_name<E: Sink>(err: &mut E, text: &[u8], name: &[u8]) -> Result<(), Failed>
     ensures { WritesAll (name_line text.now name.now) (E.view err.old) (E.view err.new) result }
 {
-    write_parts(err, &[text, name, b"\n"])
+    write_named(err, text, name, &[b"\n"])
 }

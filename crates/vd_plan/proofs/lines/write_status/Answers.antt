@@ -7,10 +7,10 @@ pub returns-in-Usage : goal.returns-in-Usage
 returns-in-Usage g c = rw c.in-Usage.is c.write_parts-in-Usage.ensures
 
 pub returns-in-ReadFault : goal.returns-in-ReadFault
-returns-in-ReadFault g c = rw (c.in-ReadFault.is, ← c.as_str.ensures, ← c.as_bytes.ensures.value) c.write_parts-in-ReadFault.ensures
+returns-in-ReadFault g c = rw (c.in-ReadFault.is, ← c.as_str.ensures, ← c.as_bytes.ensures.value) c.write_name.ensures
 
 pub returns-in-TooLong : goal.returns-in-TooLong
-returns-in-TooLong g c = rw (c.in-TooLong.is, ← c.as_str-in-TooLong.ensures, ← c.as_bytes-name.ensures.value, ← c.format.ensures.text, ← c.as_bytes-number.ensures.value) c.write_parts-in-TooLong.ensures
+returns-in-TooLong g c = rw (c.in-TooLong.is, ← c.as_str-in-TooLong.ensures, ← c.as_bytes-name.ensures.value, ← c.format.ensures.text, ← c.as_bytes-number.ensures.value) c.write_named.ensures
 
 pub returns-in-WriteFault : goal.returns-in-WriteFault
 returns-in-WriteFault g c = rw c.in-WriteFault.is c.write_parts-in-WriteFault.ensures
@@ -22,7 +22,7 @@ pub returns-in-CertificateText : goal.returns-in-CertificateText
 returns-in-CertificateText g c = rw c.in-CertificateText.is c.write_offset-in-CertificateText.ensures
 
 pub returns-in-NoHost : goal.returns-in-NoHost
-returns-in-NoHost g c = rw (c.in-NoHost.is, ← c.as_str-in-NoHost.ensures, ← c.as_bytes-in-NoHost.ensures.value) c.write_name.ensures
+returns-in-NoHost g c = rw (c.in-NoHost.is, ← c.as_str-in-NoHost.ensures, ← c.as_bytes-in-NoHost.ensures.value) c.write_name-in-NoHost.ensures
 
 pub returns-in-NotTwo : goal.returns-in-NotTwo
 returns-in-NotTwo g c = rw c.in-NotTwo.is c.write_place.ensures
