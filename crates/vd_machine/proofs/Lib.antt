@@ -12,3 +12,5 @@ pub mod Places
 pub mod Rooms
 pub mod Packets
 pub mod Widths
+pub mod Weights
+pub mod Running

@@ -8,6 +8,7 @@ mod lists;
 mod machine;
 mod ops;
 mod perform;
+mod quiet;
 mod registers;
 mod resolve;
 mod want;

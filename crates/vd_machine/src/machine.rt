@@ -1,6 +1,6 @@
 //! A host's machine: its code, where it stands, its registers and lists.
 
-ghost use Rattle.std.specs.Prelude.{◌≡◌, ◌≤◌, length, IfOk, replicate};
+ghost use Rattle.std.specs.Prelude.{◌≡◌, ℕ, suc, true, length, IfOk, replicate};
 ghost use Rattle.vd_execution.specs.Code.{Code};
 ghost use Rattle.vd_execution.specs.Text.{IsCodeOf};
 ghost use Rattle.vd_machine.specs.Wants.{wanted, IsFromHost};
@@ -9,6 +9,7 @@ ghost use Rattle.vd_execution.specs.Ranges.{IsInRange};
 ghost use Rattle.vd_deals.specs.Validity.{IsDeal};
 ghost use Rattle.vd_execution.specs.Step.{next, need, advanced, deed};
 ghost use Rattle.vd_machine.specs.Machines.{held, cursors_of, IsMet, words_for, SamePeers};
+ghost use Rattle.vd_machine.specs.Quietly.{IsQuiet, QuietSteps, Quietly, RanOn};
 ghost use Rattle.vd_machine.specs.Kept.{state_of, at_start, stepped, CanHear, IsWithin, plain_need, plain_after};
 
 use crate::did::{Did, did_at};
@@ -16,6 +17,7 @@ use crate::frames::{Frame, LoopFrame, choose, settle, turn};
 use crate::lists::{Lists, Taken};
 use crate::ops::{Op, Plain};
 use crate::perform::perform;
+use crate::quiet::{is_quiet_at, run_turns};
 use crate::registers::write_each;
 use crate::resolve::resolve;
 use crate::want::{Want, want_at};
@@ -192,8 +194,69 @@ impl Machine {
         did
     }
 
-    /// One step, on the words that the next instruction waits for.
-    fn advance(&mut self, heard: &[u32])
+    /// Steps on as long as it waits for nothing and nobody sees what it does. Answers whether it stepped at all.
+    pub fn run(&mut self) -> bool
+        ensures steps { RanOn self.old.lists result (state_of self.old) (state_of self.new) }
+        ensures stops { IsQuiet self.new.lists (state_of self.new) → ⊥ }
+        ensures lists { self.new.lists ≡ self.old.lists }
+    {
+        if !self.is_quiet() {
+            return false;
+        }
+        self.run_on();
+        true
+    }
+
+    /// Whether the next step waits for nothing and nobody sees it.
+    fn is_quiet(&self) -> bool
+        ensures yes { result ≡ true → IsQuiet self.now.lists (state_of self.now) }
+        ensures no { IsQuiet self.now.lists (state_of self.now) → result ≡ true }
+    {
+        match self.top {
+            Frame::Loop { .. } => true,
+            Frame::Run { from, to } => {
+                if from == to {
+                    return false;
+                }
+                is_quiet_at(&self.registers, &self.taken, &self.lists, &self.code[from])
+            }
+        }
+    }
+
+    /// A quiet step, and all that follow it.
+    fn run_on(&mut self)
+        requires { IsQuiet self.old.lists (state_of self.old) }
+        ensures steps { (n : ℕ) × QuietSteps self.old.lists (suc n) (state_of self.old) (state_of self.new) }
+        ensures stops { IsQuiet self.new.lists (state_of self.new) → ⊥ }
+        ensures lists { self.new.lists ≡ self.old.lists }
+    {
+        loop {
+            self.advance(&[]);
+            self.run_without_frames();
+            if !self.is_quiet() {
+                return;
+            }
+        }
+    }
+
+    /// Quiet steps, as far as no frame comes or goes.
+    fn run_without_frames(&mut self)
+        ensures steps { Quietly self.old.lists (state_of self.old) (state_of self.new) }
+        ensures lists { self.new.lists ≡ self.old.lists }
+    {
+        run_turns(
+            &mut self.registers,
+            &mut self.taken,
+            &self.lists,
+            &self.code,
+            &mut self.top,
+            &mut self.below,
+        );
+        settle(&mut self.top, &mut self.below);
+    }
+
+    /// One step, on the words that the next instruction waits for, without an answer. It takes no memory.
+    pub fn advance(&mut self, heard: &[u32])
         requires { CanHear self.old heard.now }
         ensures state { state_of self.new ≡ stepped self.old heard.now }
         ensures lists { self.new.lists ≡ self.old.lists }

@@ -15,7 +15,8 @@ use vd_deals::{PairItem, Triple};
 use vd_execution::{Action, Binary};
 use vd_items::Items;
 
-fn apply(operation: Binary, x: u32, y: u32) -> u32
+/// What an operation on two words gives.
+pub fn apply(operation: Binary, x: u32, y: u32) -> u32
     ensures { result ≡ applied operation x y }
 {
     match operation {

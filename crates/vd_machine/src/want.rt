@@ -50,7 +50,8 @@ fn dealt(kind: DealKind, at: usize, count: usize) -> Want
     }
 }
 
-fn want_action(registers: &Vec<u32>, taken: &Taken, lists: &Lists, action: &Action) -> Want
+/// What an action needs.
+pub fn want_action(registers: &Vec<u32>, taken: &Taken, lists: &Lists, action: &Action) -> Want
     requires { ActionFits (length registers.now.items) action.now }
     ensures { result ≡ want_of lists.now (cursors_of taken.now) (need_of_action (held registers.now.items) action.now) }
 {
