@@ -2,7 +2,7 @@
 
 use crate::network::{End, Network};
 use crate::numbers::{FAR, number_at, zeros};
-use crate::shares::Shares;
+use crate::shares::{Shares, share_of};
 use crate::tables::Tables;
 use std::alloc::{AllocError, Global};
 
@@ -35,9 +35,11 @@ impl Carried {
     /// another amount than before at some setting.
     fn hold(&mut self, costs: &[i64], shares: &Shares, turn: i64) -> bool {
         let mut has_changed = false;
-        for (setting, cost) in costs.iter().enumerate() {
-            let held = cost.saturating_sub(shares.share(setting, turn));
-            has_changed = put(&mut self.held, setting, held) || has_changed;
+        let parts = shares.parts.iter().zip(shares.more.as_slice());
+        for ((held, cost), (part, more)) in self.held.iter_mut().zip(costs).zip(parts) {
+            let rest = cost.wrapping_sub(share_of(*part, *more, turn));
+            has_changed = has_changed || *held != rest;
+            *held = rest;
         }
         has_changed
     }
@@ -45,10 +47,11 @@ impl Carried {
     /// Holds less, by the share of a turn. Answers whether that is less at some setting.
     fn lower(&mut self, shares: &Shares, turn: i64) -> bool {
         let mut has_changed = false;
-        for setting in 0..self.held.len() {
-            let held = number_at(self.held.as_slice(), setting);
-            let held = held.saturating_sub(shares.share(setting, turn));
-            has_changed = put(&mut self.held, setting, held) || has_changed;
+        let parts = shares.parts.iter().zip(shares.more.as_slice());
+        for (held, (part, more)) in self.held.iter_mut().zip(parts) {
+            let rest = held.wrapping_sub(share_of(*part, *more, turn));
+            has_changed = has_changed || *held != rest;
+            *held = rest;
         }
         has_changed
     }

@@ -1,12 +1,17 @@
 //! Rows of numbers, read and changed by place. A sum or product that does not fit stays at the nearest number that does.
 
+ghost use Rattle.std.specs.Prelude.{◌≡◌, pos, slice_index_or};
+ghost use Rattle.vd_link_sweeps.specs.Rows.{row_in};
+
 use std::alloc::{AllocError, Global};
 
 /// More than any sum of costs in parts: what it would cost to do what cannot be done.
 pub const FAR: i64 = 1125899906842624;
 
 /// The number at a place, and 0 past the end.
-pub fn number_at(numbers: &[i64], place: usize) -> i64 {
+pub fn number_at(numbers: &[i64], place: usize) -> i64
+    ensures { result ≡ slice_index_or numbers.now place (pos 0) }
+{
     match numbers.get(place) {
         Some(number) => *number,
         None => 0,
@@ -14,7 +19,9 @@ pub fn number_at(numbers: &[i64], place: usize) -> i64 {
 }
 
 /// A row of a table, which is empty past the end.
-pub fn row_at(rows: &[Vec<i64>], row: usize) -> &[i64] {
+pub fn row_at(rows: &[Vec<i64>], row: usize) -> &[i64]
+    ensures { result.now ≡ row_in rows.now row }
+{
     match rows.get(row) {
         Some(numbers) => numbers.as_slice(),
         None => &[],

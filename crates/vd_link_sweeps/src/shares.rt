@@ -3,7 +3,7 @@
 ghost use Rattle.std.specs.Prelude.{ℕ, ◌<◌};
 
 use crate::network::End;
-use crate::numbers::{FAR, add, number_at, overwrite, zeros};
+use crate::numbers::{FAR, number_at, overwrite, zeros};
 use std::alloc::{AllocError, Global};
 
 /// How what a point gives is split over the links that are ahead: in equal parts for all of them, and for as many behind.
@@ -39,6 +39,17 @@ impl Split {
     pub fn whole() -> Split {
         Split { ahead: 1, parts: 1 }
     }
+
+    /// How many links ahead get one more, where so much is left over: their part of it, rounded up.
+    fn shared(self, left_over: u64) -> u64 {
+        if self.ahead == self.parts {
+            return left_over;
+        }
+        left_over
+            .saturating_mul(self.ahead)
+            .saturating_add(self.parts - 1)
+            / self.parts
+    }
 }
 
 /// What a point costs by its settings, and what of it goes to its links.
@@ -47,10 +58,10 @@ pub struct Shares {
     /// How many settings the point has.
     count: usize,
     totals: Vec<i64>,
-    /// What each link gets at least.
-    parts: Vec<i64>,
-    /// As many links, the first ones, get one more.
-    more: Vec<i64>,
+    /// What each link gets at least, by setting.
+    pub parts: Vec<i64>,
+    /// As many links, the first ones, get one more there.
+    pub more: Vec<i64>,
     /// So many links get something.
     links: u64,
     /// The number of the sweep, by which the links take turns with what is left over.
@@ -83,8 +94,8 @@ impl Shares {
 
     /// Adds what the point costs more by its settings.
     pub fn add(&mut self, costs: &[i64]) {
-        for (setting, cost) in costs.iter().enumerate() {
-            add(&mut self.totals, setting, *cost);
+        for (total, cost) in self.totals.iter_mut().zip(costs) {
+            *total = total.wrapping_add(*cost);
         }
     }
 
@@ -92,8 +103,8 @@ impl Shares {
     pub fn best(&self) -> usize {
         let mut best = 0;
         let mut least = i64::MAX;
-        for (setting, total) in self.totals.iter().enumerate() {
-            if setting < self.count && *total < least {
+        for (setting, total) in self.totals.iter().take(self.count).enumerate() {
+            if *total < least {
                 least = *total;
                 best = setting;
             }
@@ -115,12 +126,8 @@ impl Shares {
             let above = above.max(0) as u64;
             let part = above / split.parts;
             let left_over = above % split.parts;
-            let more = left_over
-                .saturating_mul(split.ahead)
-                .saturating_add(split.parts - 1)
-                / split.parts;
             put(&mut self.parts, setting, number_of(part));
-            put(&mut self.more, setting, number_of(more));
+            put(&mut self.more, setting, number_of(split.shared(left_over)));
         }
     }
 
@@ -131,15 +138,14 @@ impl Shares {
         }
         Some(number_of(number.wrapping_add(self.turn) % self.links))
     }
+}
 
-    /// What the link with a turn gets at a setting.
-    pub fn share(&self, setting: usize, turn: i64) -> i64 {
-        let part = number_at(self.parts.as_slice(), setting);
-        if turn < number_at(self.more.as_slice(), setting) {
-            part.saturating_add(1)
-        } else {
-            part
-        }
+/// What a link with a turn gets, where each gets this part, and as many links, the first ones, get one more.
+pub fn share_of(part: i64, more: i64, turn: i64) -> i64 {
+    if turn < more {
+        part.wrapping_add(1)
+    } else {
+        part
     }
 }
 

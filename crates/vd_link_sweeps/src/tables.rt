@@ -13,12 +13,29 @@ pub struct Prices {
     pub by_second: Vec<Vec<i64>>,
 }
 
+impl Prices {
+    /// The rows for the settings at this end.
+    fn rows(&self, side: Side) -> &[Vec<i64>] {
+        match side {
+            Side::First => self.by_first.as_slice(),
+            Side::Second => self.by_second.as_slice(),
+        }
+    }
+
+    /// Whether these are the same.
+    fn are(&self, other: &Prices) -> bool {
+        self.by_first == other.by_first && self.by_second == other.by_second
+    }
+}
+
 #[derive(Drop)]
 pub struct Tables {
     /// By point and setting.
     pub costs: Vec<Vec<i64>>,
-    /// By link.
-    pub prices: Vec<Prices>,
+    /// What links cost, each once.
+    prices: Vec<Prices>,
+    /// By link: the number of its prices.
+    kinds: Vec<usize>,
 }
 
 impl Tables {
@@ -36,15 +53,23 @@ impl Tables {
         }
         let links = tables.links.as_slice();
         let mut prices = Vec::new(alloc);
+        let mut kinds = Vec::new(alloc);
         for first in &network.firsts {
             let by_first = rows_of(alloc, links, *first, settings)?;
             let by_second = rows_of(alloc, links, first.turned(), settings)?;
-            prices.push(Prices {
-                by_first,
-                by_second,
-            })?;
+            kinds.push(kind_of(
+                &mut prices,
+                Prices {
+                    by_first,
+                    by_second,
+                },
+            )?)?;
         }
-        Ok(Tables { costs, prices })
+        Ok(Tables {
+            costs,
+            prices,
+            kinds,
+        })
     }
 
     /// Makes a point cost more at a setting.
@@ -54,14 +79,25 @@ impl Tables {
 
     /// What a link costs, with a row for each setting at this end.
     pub fn rows(&self, end: End) -> &[Vec<i64>] {
-        match self.prices.get(end.at) {
-            Some(prices) => match end.side {
-                Side::First => prices.by_first.as_slice(),
-                Side::Second => prices.by_second.as_slice(),
-            },
+        let Some(kind) = self.kinds.get(end.at) else {
+            return &[];
+        };
+        match self.prices.get(*kind) {
+            Some(prices) => prices.rows(end.side),
             None => &[],
         }
     }
+}
+
+/// The number of these prices among those that are there, to which they are added if they are new.
+fn kind_of(prices: &mut Vec<Prices>, wanted: Prices) -> Result<usize, AllocError> {
+    for (number, known) in prices.iter().enumerate() {
+        if known.are(&wanted) {
+            return Ok(number);
+        }
+    }
+    prices.push(wanted)?;
+    Ok(prices.len() - 1)
 }
 
 /// What a point costs at a setting.
