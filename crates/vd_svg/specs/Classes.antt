@@ -1,5 +1,5 @@
 -- The names of classes.
-use Rattle.std.specs.Prelude.{ℕ, List, codes}
+use Rattle.std.specs.Prelude.{ℕ, List, [], codes}
 use Rattle.vd_svg.specs.declared.classes.Style.{Style}
 use Rattle.vd_svg.specs.declared.classes.Style.TheVariants as style
 use Rattle.vd_svg.specs.declared.classes.Stroke.{Stroke}
@@ -42,6 +42,11 @@ area_class area.Branch = codes "branch"
 area_class area.Loop = codes "loop"
 area_class area.Cost = codes "cost"
 area_class area.Dear = codes "dear"
+
+-- a loop has round corners
+abbrev pub area_corners : Area → List ℕ
+area_corners area.Loop = codes " rx=\"8\""
+area_corners other = []
 
 abbrev pub shape_class : Shape → List ℕ
 shape_class shape.Host = codes "#at-host"

@@ -8,7 +8,7 @@ use Rattle.vd_svg.specs.declared.classes.Style.{Style}
 use Rattle.vd_svg.specs.declared.marks.Mark.{Mark}
 use Rattle.vd_svg.specs.declared.marks.Mark.TheVariants as mark
 use Rattle.vd_svg.specs.declared.marks.Place.{Place}
-use Rattle.vd_svg.specs.Classes.{style_class, stroke_class, area_class, shape_class}
+use Rattle.vd_svg.specs.Classes.{style_class, stroke_class, area_class, area_corners, shape_class}
 
 -- the three bytes that could begin something
 abbrev pub escaped_byte : ℕ → List ℕ
@@ -50,7 +50,7 @@ line_text stroke from to = classed (codes "<line class=\"") (stroke_class stroke
 abbrev pub rectangle_text : Area → Place → ℕ → ℕ → List ℕ
 rectangle_text area at width height =
     classed (codes "<rect class=\"") (area_class area) ++ place_text at
-    ++ attribute (codes " width") width ++ attribute (codes " height") height ++ codes "/>\n"
+    ++ attribute (codes " width") width ++ attribute (codes " height") height ++ area_corners area ++ codes "/>\n"
 
 -- how a tag begins that uses a drawing
 unfoldable pub use_tag : List ℕ

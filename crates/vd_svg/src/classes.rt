@@ -135,6 +135,16 @@ impl Area {
             Area::Dear => b"dear",
         }
     }
+
+    /// How its corners are rounded.
+    pub(crate) fn corners(self) -> &'static [u8]
+        ensures { result.now ≡ classes.area_corners self }
+    {
+        match self {
+            Area::Loop => b" rx=\"8\"",
+            Area::Page | Area::Host | Area::Branch | Area::Cost | Area::Dear => b"",
+        }
+    }
 }
 
 impl Shape {

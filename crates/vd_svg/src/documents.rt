@@ -61,24 +61,16 @@ rect{fill:none;stroke:#000}
 </defs>
 ";
 
-/// What arrows and shapes mean.
-const LEGEND: &str = "<text class=\"bold\" x=\"20\" y=\"0\">What goes between hosts</text>
-<line class=\"clear\" x1=\"24\" y1=\"16\" x2=\"86\" y2=\"16\"/><text class=\"plain\" x=\"112\" y=\"20\">in clear: the other host reads the word</text>
-<line class=\"checked\" x1=\"24\" y1=\"36\" x2=\"86\" y2=\"36\"/><text class=\"plain\" x=\"112\" y=\"40\">in clear from each copy, and compared</text>
-<line class=\"opened\" x1=\"24\" y1=\"56\" x2=\"86\" y2=\"56\"/><line class=\"middle\" x1=\"24\" y1=\"56\" x2=\"86\" y2=\"56\"/><text class=\"plain\" x=\"112\" y=\"60\">opened: the parts are put together, and the word is read</text>
-<line class=\"revealed\" x1=\"24\" y1=\"76\" x2=\"86\" y2=\"76\"/><text class=\"plain\" x=\"112\" y=\"80\">revealed: a committed word, checked by its digest</text>
-<line class=\"shared\" x1=\"24\" y1=\"96\" x2=\"86\" y2=\"96\"/><text class=\"plain\" x=\"112\" y=\"100\">shared: a random word goes out</text>
-<line class=\"committed\" x1=\"24\" y1=\"116\" x2=\"86\" y2=\"116\"/><text class=\"plain\" x=\"112\" y=\"120\">committed: a digest goes out</text>
-<line class=\"converted\" x1=\"24\" y1=\"136\" x2=\"86\" y2=\"136\"/><text class=\"plain\" x=\"112\" y=\"140\">converted between sums and bits</text>
-<line class=\"stays\" x1=\"24\" y1=\"156\" x2=\"86\" y2=\"156\"/><text class=\"plain\" x=\"112\" y=\"160\">there already: nothing goes out</text>
-<text class=\"plain\" x=\"112\" y=\"180\">not drawn: the masked words that operations on sums and bits exchange</text>
-<use xlink:href=\"#at-host\" x=\"30\" y=\"202\"/><text class=\"plain\" x=\"44\" y=\"206\">one host has the word</text>
-<use xlink:href=\"#at-copy\" x=\"213\" y=\"202\"/><text class=\"plain\" x=\"227\" y=\"206\">copies</text>
-<use xlink:href=\"#at-sums\" x=\"291\" y=\"202\"/><text class=\"plain\" x=\"305\" y=\"206\">sums</text>
-<use xlink:href=\"#at-bits\" x=\"355\" y=\"202\"/><text class=\"plain\" x=\"369\" y=\"206\">bits</text>
-<use xlink:href=\"#at-committed\" x=\"419\" y=\"202\"/><text class=\"plain\" x=\"433\" y=\"206\">committed</text>
-<use xlink:href=\"#at-variable\" x=\"518\" y=\"202\"/><text class=\"plain\" x=\"532\" y=\"206\">variable or array</text>
-<use xlink:href=\"#at-printed\" x=\"673\" y=\"202\"/><text class=\"plain\" x=\"687\" y=\"206\">printed</text>
+/// What shapes mean.
+const LEGEND: &str =
+    "<text class=\"plain\" x=\"112\" y=\"0\">not drawn: the masked words that operations on sums and bits exchange</text>
+<use xlink:href=\"#at-host\" x=\"30\" y=\"22\"/><text class=\"plain\" x=\"44\" y=\"26\">one host has the word</text>
+<use xlink:href=\"#at-copy\" x=\"213\" y=\"22\"/><text class=\"plain\" x=\"227\" y=\"26\">copies</text>
+<use xlink:href=\"#at-sums\" x=\"291\" y=\"22\"/><text class=\"plain\" x=\"305\" y=\"26\">sums</text>
+<use xlink:href=\"#at-bits\" x=\"355\" y=\"22\"/><text class=\"plain\" x=\"369\" y=\"26\">bits</text>
+<use xlink:href=\"#at-committed\" x=\"419\" y=\"22\"/><text class=\"plain\" x=\"433\" y=\"26\">committed</text>
+<use xlink:href=\"#at-variable\" x=\"518\" y=\"22\"/><text class=\"plain\" x=\"532\" y=\"26\">variable or array</text>
+<use xlink:href=\"#at-printed\" x=\"673\" y=\"22\"/><text class=\"plain\" x=\"687\" y=\"26\">printed</text>
 ";
 
 #[tactic(auto, unfolding(crate::specs::Documents::look_text))]
@@ -127,8 +119,7 @@ fn push_marks(text: &mut Bytes, marks: &[Mark]) -> Result<(), AllocError>
     Ok(())
 }
 
-/// A drawing of this size with these marks. What arrows and shapes mean stands behind the marks, in the group that the last of
-/// them begins.
+/// A drawing of this size with these marks. What shapes mean stands behind the marks, in the group that the last of them begins.
 pub fn document(alloc: Global, width: u64, height: u64, marks: &[Mark]) -> Result<Bytes, AllocError>
     ensures { IfOk result (λ text. text ≡ documents.document_text width height marks.now) }
 {

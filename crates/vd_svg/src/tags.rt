@@ -135,6 +135,7 @@ fn push_rectangle(
     push_place(text, at)?;
     push_attribute(text, b" width", width)?;
     push_attribute(text, b" height", height)?;
+    text.extend_from_slice(area.corners())?;
     text.extend_from_slice(b"/>\n")
 }
 
