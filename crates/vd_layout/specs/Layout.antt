@@ -7,7 +7,9 @@ use Rattle.vd_constraints.specs.declared.labels.Labels.{Labels}
 use Rattle.vd_drawing.specs.declared.row.Row.{Row}
 use Rattle.vd_layout.specs.declared.layout.Layout.{Layout}
 use Rattle.vd_layout.specs.Lanes.{lane_protocols, lanes_from}
+use Rattle.vd_layout.specs.declared.runs.Drawn.{Drawn}
 use Rattle.vd_layout.specs.Numbers.{plus, times, cost_of}
+use Rattle.vd_layout.specs.Runs.{drawn_rows}
 use Rattle.vd_layout.specs.Words.{protocol_name, label_text}
 
 abbrev pub raised : {X : Type 0} → (X → ℕ) → ℕ → X → ℕ
@@ -56,8 +58,11 @@ with_row total row = plus total (cost_of row)
 abbrev pub total_cost : List Row → ℕ
 total_cost rows = fold with_row 0 rows
 
-abbrev pub greatest_cost : List Row → ℕ
-greatest_cost rows = max (greatest cost_of rows) 1
+abbrev pub cost_drawn : Drawn → ℕ
+cost_drawn row = row.cost
+
+abbrev pub greatest_cost : List Drawn → ℕ
+greatest_cost drawn = max (greatest cost_drawn drawn) 1
 
 -- from the letters of the columns of texts, labels and protocols, and the protocols of the lanes
 abbrev pub columns : List Row → ℕ → ℕ → ℕ → List Proto → Layout
@@ -73,7 +78,8 @@ columns rows texts labels names protocols =
       half = half;
       lanes = lanes_from (plus lanes_x half) (plus half half) protocols;
       cost_x = plus (plus (times (length protocols) (plus half half)) lanes_x) 26;
-      greatest = greatest_cost rows;
+      drawn = drawn_rows rows;
+      greatest = greatest_cost (drawn_rows rows);
       total = total_cost rows;
     }
 

@@ -6,6 +6,7 @@ ghost use Rattle.vd_layout.specs.Layout as layouts;
 
 use crate::lanes::{Lane, lane_protocols, lanes_from};
 use crate::numbers::cost_of;
+use crate::runs::{Drawn, drawn_rows};
 use crate::words::{label_text, protocol_name};
 use std::alloc::{AllocError, Global};
 use vd_base::{Bytes, Names, Proto};
@@ -27,7 +28,9 @@ pub struct Layout {
     pub half: u64,
     pub lanes: Items<Lane>,
     pub cost_x: u64,
-    /// The greatest cost of a row, at least 1.
+    /// The rows of the drawing, from above.
+    pub drawn: Items<Drawn>,
+    /// The greatest cost of a row of the drawing, at least 1.
     pub greatest: u64,
     /// What all rows cost.
     pub total: u64,
@@ -113,13 +116,13 @@ fn behind_column(x: u64, letters: u64) -> u64
         .saturating_add(14)
 }
 
-/// The greatest cost of a row, at least 1.
-fn greatest_cost(rows: &[Row]) -> u64
-    ensures { result ≡ layouts.greatest_cost rows.now }
+/// The greatest cost of a row of the drawing, at least 1.
+fn greatest_cost(drawn: &[Drawn]) -> u64
+    ensures { result ≡ layouts.greatest_cost drawn.now }
 {
     let mut most = 0;
-    for row in rows {
-        most = cost_of(row).max(most);
+    for row in drawn {
+        most = row.cost.max(most);
     }
     most.max(1)
 }
@@ -152,6 +155,8 @@ fn columns(
     let half = half_gap(names);
     let gap = half.saturating_add(half);
     let right = (protocols.len() as u64).saturating_mul(gap);
+    let drawn = drawn_rows(alloc, rows)?;
+    let greatest = greatest_cost(drawn.as_slice());
     Ok(Layout {
         text_letters: texts,
         label_x,
@@ -160,7 +165,8 @@ fn columns(
         half,
         lanes: lanes_from(alloc, lanes_x.saturating_add(half), gap, protocols)?,
         cost_x: right.saturating_add(lanes_x).saturating_add(26),
-        greatest: greatest_cost(rows),
+        drawn,
+        greatest,
         total: total_cost(rows),
     })
 }

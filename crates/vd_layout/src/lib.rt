@@ -2,14 +2,18 @@
 //! and the words that are written.
 #![tactic(auto)]
 
+mod dearest;
 mod lanes;
 mod layout;
 mod numbers;
+mod runs;
 mod titles;
 mod words;
 
+pub use dearest::dear_place;
 pub use lanes::{Lane, is_same, lane_x, push_x, set_x};
 pub use layout::{Layout, indent, label_texts, layout_of, name_length};
 pub use numbers::cost_of;
+pub use runs::{Drawn, arrows_of, drawn_text, goes_on};
 pub use titles::{label_at, push_row_title};
 pub use words::{cut, printable, protocol_kind, protocol_name, push_number};

@@ -1,8 +1,7 @@
 use Rattle.std.proofs.Common.{◌≡◌, take}
 use Rattle.std.specs.List.{fold}
-use Rattle.vd_layout.specs.Numbers.{cost_of}
-use Rattle.vd_layout.specs.Layout.{raised}
+use Rattle.vd_layout.specs.Layout.{cost_drawn, raised}
 use Rattle.vd_layout.proofs.layout.greatest_cost.Given as goal
 
 abbrev pub invariant-loop-row : goal.invariant-loop-row
-invariant-loop-row l = l.most ≡ fold (raised cost_of) 0 (take l.row-index l.rows)
+invariant-loop-row l = l.most ≡ fold (raised cost_drawn) 0 (take l.row-index l.drawn)
