@@ -1,0 +1,4 @@
+pub mod Lines
+pub mod RealSpawner
+pub mod Turns
+pub mod Ends
