@@ -1,5 +1,6 @@
 -- Files that were read ahead of a run: what they tell.
-use Rattle.std.specs.Prelude.{◌≡◌, ◌<◌, ℕ, ◌+◌, Bool, true, false, ◌&&◌, ◌||◌, List, [], ◌∷◌, length, Option, Some, None, ⊤, replicate, if◌then◌else◌}
+use Rattle.std.specs.Prelude.{◌≡◌, ◌<◌, ◌≤◌, ℕ, ◌+◌, ◌-◌, ◌^◌, min, Bool, true, false, ◌&&◌, ◌||◌, IsTrue, List, [], ◌∷◌, ◌++◌, length, Option, Some, None, is_some, ⊤, replicate, if◌then◌else◌}
+use Rattle.std.specs.List.{All}
 use Rattle.std.specs.Str.{bytes_eq}
 use Rattle.vd_outside.specs.Files.{Contents, FilesView, with_content}
 use Rattle.vd_outside.specs.declared.files.FilesCall.{FilesCall}
@@ -7,6 +8,9 @@ use Rattle.vd_outside.specs.declared.files.FilesCall.TheVariants.{Fetch, Store}
 use Rattle.vd_edge.specs.declared.kept.Held.{Held}
 use Rattle.vd_edge.specs.declared.kept.Held.TheVariants.{Whole, Longer}
 use Rattle.vd_edge.specs.declared.kept.Kept.{Kept}
+use Rattle.vd_edge.specs.declared.kept.Reading.{Reading}
+use Rattle.vd_edge.specs.declared.kept.Unread.{Unread}
+use Rattle.vd_edge.specs.declared.kept.Wanted.{Wanted}
 
 -- A file that is longer than it may be stands for one of so many zeros: no fetch tells one from the other.
 abbrev pub content : Held → List ℕ
@@ -49,6 +53,41 @@ abbrev pub AreHeldOf : List Kept → Contents → Type 0
 AreHeldOf [] holds = ⊤
 AreHeldOf (file ∷ files) holds = IsHeldOf file.held (holds file.name) × AreHeldOf files holds
 
--- Files were read ahead, and nothing else was asked of them so far.
-abbrev pub IsReadAhead : Contents → FilesView → Type 0
-IsReadAhead holds view = (read : List Kept) × AreHeldOf read holds × (view ≡ kept_view read [] [] 0)
+-- whether one of these files has this name
+abbrev pub is_unread : List Unread → List ℕ → Bool
+is_unread [] name = false
+is_unread (file ∷ files) name = bytes_eq file.name name || is_unread files name
+
+-- a file with this name was read, or one could not be read
+abbrev pub is_tried : List Kept → List Unread → List ℕ → Bool
+is_tried read unread name = is_some (as_read read name) || is_unread unread name
+
+-- so it is with each of these files
+abbrev pub AreTried : List Wanted → List Kept → List Unread → Type 0
+AreTried wanted read unread = All (λ file. IsTrue (is_tried read unread file.name)) wanted
+
+-- one more file with this name stands at the end
+abbrev pub NotesUnread : List ℕ → List Unread → List Unread → Type 0
+NotesUnread name before now = (file : Unread) × (file.name ≡ name) × (now ≡ before ++ file ∷ [])
+
+-- what was tried before still is
+abbrev pub StillTried : Reading → Reading → Type 0
+StillTried before now = (name : List ℕ) → IsTrue (is_tried before.kept before.unread name) → IsTrue (is_tried now.kept now.unread name)
+
+-- each file that could not be read was a fault of the outside
+abbrev pub AreFaults : List Unread → (before now : ℕ) → Type 0
+AreFaults unread before now = min (before + length unread) (2 ^ 64 - 1) ≤ now
+
+-- Files tell what stood at the names that were read, and nothing was asked of them so far.
+abbrev pub TellsHeld : Contents → FilesView → Type 0
+TellsHeld holds view = (read : List Kept) × AreHeldOf read holds × (view ≡ kept_view read [] [] 0)
+
+-- These files were read ahead, and nothing else was asked of them so far: each that is not kept was a fault of the files below, whose
+-- count went from one number to another.
+pub record IsReadAhead (wanted : List Wanted) (faults : ℕ × ℕ) (holds : Contents) (view : FilesView) : Type 0 where
+  pub read : List Kept
+  pub unread : List Unread
+  pub held : AreHeldOf read holds
+  pub tried : AreTried wanted read unread
+  pub failed : AreFaults unread faults.0 faults.1
+  pub told : view ≡ kept_view read [] [] 0

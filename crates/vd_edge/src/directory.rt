@@ -1,4 +1,4 @@
-ghost use Rattle.std.specs.Prelude.{◌≡◌, ℕ, Bool, IsTrue, List, Option, None, Some, false, IfOk, OnOk, OnErr, IfSome};
+ghost use Rattle.std.specs.Prelude.{◌≡◌, ℕ, Bool, IsTrue, List, Option, None, Some, false, IfOk, OnOk, OnErr, IfSome, ⊤};
 ghost use Rattle.vd_edge.specs.Store.{Moves, Same, SameElse, is_replaced};
 
 use crate::{Access, Standing};
@@ -19,6 +19,9 @@ pub trait Directory {
 
     /// Whether nothing or a plain file stands at a name, so that another file can take its place.
     ghost replaces: { Self → List ℕ → Bool };
+
+    /// The disk was asked to keep the names in the folder of this one.
+    ghost settles: { Self → List ℕ → Type 0 };
 
     /// A number that no other process has while this one runs.
     fn mark(&self) -> u32;
@@ -58,7 +61,9 @@ pub trait Directory {
         ensures others { IsTrue tells → SameElse name.now (holds self.old) (holds self.new) };
 
     /// Waits until the disk has the names in the folder of this one.
-    fn settle(&self, name: &str) -> io::Result<()>;
+    fn settle(&mut self, name: &str) -> io::Result<()>
+        ensures same { IsTrue tells → Same (holds self.old) (holds self.new) }
+        ensures asked { settles self.new name.now };
 }
 
 /// The files of a runtime. What they hold is not known.
@@ -110,6 +115,8 @@ impl<R: Disk + Drop> Directory for SystemDirectory<R> {
 
     ghost replaces = { λ directory name. false };
 
+    ghost settles = { λ directory name. ⊤ };
+
     fn mark(&self) -> u32 {
         self.mark
     }
@@ -156,7 +163,7 @@ impl<R: Disk + Drop> Directory for SystemDirectory<R> {
         fs::remove_file(&self.rt, name)
     }
 
-    fn settle(&self, name: &str) -> io::Result<()> {
+    fn settle(&mut self, name: &str) -> io::Result<()> {
         fs::open(&self.rt, folder_of(name))?.sync_all()
     }
 }

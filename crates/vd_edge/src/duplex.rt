@@ -51,7 +51,7 @@ impl<S: Read + Write + Drop> Duplex for SystemStream<S> {
     ghost view = { λ stream. record { told = false; sent = []; coming = [] } };
 
     fn take(&mut self, bytes: &[u8]) -> io::Result<usize> {
-        for _ in 0..self.waits.turns(1) {
+        for _ in 0..self.waits.turns() {
             match self.stream.write(bytes) {
                 Ok(count) => return Ok(count),
                 Err(error) if is_early(&error) => self.waits.go_on()?,
@@ -62,7 +62,7 @@ impl<S: Read + Write + Drop> Duplex for SystemStream<S> {
     }
 
     fn give(&mut self, into: &mut [u8]) -> io::Result<usize> {
-        for _ in 0..self.waits.turns(1) {
+        for _ in 0..self.waits.turns() {
             match self.stream.read(into) {
                 Ok(count) => return Ok(count),
                 Err(error) if is_early(&error) => self.waits.go_on()?,

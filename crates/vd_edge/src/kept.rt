@@ -1,6 +1,7 @@
 //! What was read of a file.
 
 use vd_base::{Bytes, Text};
+use vd_items::Items;
 
 /// What a file held.
 #[derive(Debug, Drop)]
@@ -30,6 +31,13 @@ pub struct Wanted {
 #[derive(Debug, Drop)]
 pub(crate) struct Unread {
     pub name: Text,
-    /// Why.
-    pub reason: Text,
+    /// Why, where that is known.
+    pub reason: Option<Text>,
+}
+
+/// What came of files that were to be read.
+#[derive(Debug, Drop)]
+pub(crate) struct Reading {
+    pub kept: Items<Kept>,
+    pub unread: Items<Unread>,
 }

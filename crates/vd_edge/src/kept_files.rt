@@ -1,10 +1,11 @@
-ghost use Rattle.std.specs.Prelude.{◌≡◌, [], Some, OnOk, OnErr, IsTrue, IfSome, IfOk, IfErr, IsErrOf, is_some};
-ghost use Rattle.vd_edge.specs.KeptFiles.{AreHeldOf, IsHeldOf, IsReadAhead, as_read, after_stores, content, kept_view, stores_at, were_asked};
+ghost use Rattle.std.specs.Prelude.{◌≡◌, ◌≤◌, ℕ, [], Some, None, OnOk, OnErr, IsTrue, IfSome, IfOk, IfErr, IsErrOf, is_some};
+ghost use Rattle.vd_edge.specs.KeptFiles.{AreFaults, AreHeldOf, AreTried, IsHeldOf, IsReadAhead, NotesUnread, StillTried, as_read, after_stores, content, is_tried, kept_view, stores_at, were_asked};
+ghost use Rattle.vd_outside.specs.Causes.{Rose};
 ghost use Rattle.vd_edge.specs.Store.{MayLeave, SameElse};
 ghost use Rattle.vd_outside.specs.Files.{Stores as StoresAt, fetched};
 ghost use Rattle.vd_outside.specs.declared.faults.FetchFault.TheVariants as fetch_fault;
 
-use crate::kept::Unread;
+use crate::kept::{Reading, Unread};
 use crate::stores::Stores;
 use crate::{Directory, Held, Kept, RealFiles, Wanted};
 use std::alloc::{AllocError, Global};
@@ -91,6 +92,8 @@ fn held_of<D: Directory + Drop>(
     most: u32,
 ) -> Result<Option<Held>, FetchFault>
     ensures held { IfOk result (λ came. IfSome came (λ held. IsHeldOf held (D.holds files.old.directory name.now))) }
+    ensures later { files.old.faults ≤ files.new.faults }
+    ensures failed { IfOk result (λ came. came ≡ None → Rose files.old.faults files.new.faults) }
     ensures same { files.new.directory ≡ files.old.directory }
     ensures memory { IfErr result (λ fault. fault ≡ fetch_fault.Memory) }
 {
@@ -102,31 +105,6 @@ fn held_of<D: Directory + Drop>(
     }
 }
 
-/// Notes why a file could not be read, where that is known.
-fn note_unread(
-    alloc: Global,
-    unread: &mut Items<Unread>,
-    file: &Wanted,
-    reason: Option<&str>,
-) -> Result<(), AllocError> {
-    if let Some(reason) = reason {
-        let name = Text::copy_of(alloc, file.name.as_str())?;
-        let reason = Text::copy_of(alloc, reason)?;
-        unread.push(Unread { name, reason })?;
-    }
-    Ok(())
-}
-
-/// Why the file with this name could not be read, where that is known.
-fn reason_for(alloc: Global, unread: &[Unread], name: &str) -> Option<Text> {
-    for file in unread {
-        if file.name.as_str().as_bytes() == name.as_bytes() {
-            return Text::copy_of(alloc, file.reason.as_str()).ok();
-        }
-    }
-    None
-}
-
 /// A copy of a reason.
 fn copied(alloc: Global, reason: Option<&str>) -> Option<Text> {
     match reason {
@@ -135,27 +113,56 @@ fn copied(alloc: Global, reason: Option<&str>) -> Option<Text> {
     }
 }
 
+/// Notes that a file could not be read, and why, where that is known.
+fn note_unread(
+    alloc: Global,
+    unread: &mut Items<Unread>,
+    file: &Wanted,
+    reason: Option<&str>,
+) -> Result<(), AllocError>
+    ensures { OnOk result (NotesUnread file.now.name unread.old unread.new) }
+{
+    let name = Text::copy_of(alloc, file.name.as_str())?;
+    let reason = copied(alloc, reason);
+    unread.push(Unread { name, reason })
+}
+
+/// Why the file with this name could not be read, where that is known.
+fn reason_for(alloc: Global, unread: &[Unread], name: &str) -> Option<Text> {
+    for file in unread {
+        if file.name.as_str().as_bytes() == name.as_bytes() {
+            return match &file.reason {
+                Some(reason) => Text::copy_of(alloc, reason.as_str()).ok(),
+                None => None,
+            };
+        }
+    }
+    None
+}
+
 /// Reads a file, unless one with its name was read, and keeps what it holds.
-#[tactic(auto, using(crate::proofs::Ahead::held_more))]
 fn keep<D: Directory + Drop>(
     alloc: Global,
     files: &mut RealFiles<D>,
-    kept: &mut Items<Kept>,
-    unread: &mut Items<Unread>,
+    reading: &mut Reading,
     file: &Wanted,
 ) -> Result<(), FetchFault>
-    ensures held { AreHeldOf kept.old (D.holds files.old.directory) → AreHeldOf kept.new (D.holds files.old.directory) }
+    ensures held { AreHeldOf reading.old.kept (D.holds files.old.directory) → AreHeldOf reading.new.kept (D.holds files.old.directory) }
+    ensures tried { OnOk result (IsTrue (is_tried reading.new.kept reading.new.unread file.now.name)) }
+    ensures before { OnOk result (StillTried reading.old reading.new) }
+    ensures failed { OnOk result ((first : ℕ) → AreFaults reading.old.unread first files.old.faults →
+        AreFaults reading.new.unread first files.new.faults) }
     ensures same { files.new.directory ≡ files.old.directory }
     ensures memory { IfErr result (λ fault. fault ≡ fetch_fault.Memory) }
 {
-    if is_kept(kept.as_slice(), file.name.as_str()) {
+    if is_kept(reading.kept.as_slice(), file.name.as_str()) {
         return Ok(());
     }
     if let Some(held) = held_of(files, file.name.as_str(), file.most)? {
         let name = Text::copy_of(alloc, file.name.as_str())?;
-        kept.push(Kept { name, held })?;
+        reading.kept.push(Kept { name, held })?;
     } else {
-        note_unread(alloc, unread, file, files.reason())?;
+        note_unread(alloc, &mut reading.unread, file, files.reason())?;
     }
     Ok(())
 }
@@ -164,17 +171,21 @@ fn keep<D: Directory + Drop>(
 fn read_all<D: Directory + Drop>(
     alloc: Global,
     files: &mut RealFiles<D>,
-    unread: &mut Items<Unread>,
     wanted: &[Wanted],
-) -> Result<Items<Kept>, FetchFault>
-    ensures held { IfOk result (λ kept. AreHeldOf kept (D.holds files.old.directory)) }
+) -> Result<Reading, FetchFault>
+    ensures held { IfOk result (λ reading. AreHeldOf reading.kept (D.holds files.old.directory)) }
+    ensures tried { IfOk result (λ reading. AreTried wanted.now reading.kept reading.unread) }
+    ensures failed { IfOk result (λ reading. AreFaults reading.unread files.old.faults files.new.faults) }
     ensures memory { IfErr result (λ fault. fault ≡ fetch_fault.Memory) }
 {
-    let mut kept = Items::new(alloc);
+    let mut reading = Reading {
+        kept: Items::new(alloc),
+        unread: Items::new(alloc),
+    };
     for file in wanted {
-        keep(alloc, files, &mut kept, unread, file)?;
+        keep(alloc, files, &mut reading, file)?;
     }
-    Ok(kept)
+    Ok(reading)
 }
 
 impl<D: Directory + Drop> KeptFiles<D> {
@@ -185,12 +196,12 @@ impl<D: Directory + Drop> KeptFiles<D> {
         alloc: Global,
         wanted: &[Wanted],
     ) -> Result<KeptFiles<D>, FetchFault>
-        ensures read { IfOk result (λ it. IsReadAhead (D.holds files.directory) (kept_view it.kept it.asked it.stores.pairs it.faults)) }
+        ensures read { IfOk result (λ it. IsReadAhead wanted.now (files.faults, it.files.faults) (D.holds files.directory)
+            (kept_view it.kept it.asked it.stores.pairs it.faults)) }
         ensures memory { IfErr result (λ fault. fault ≡ fetch_fault.Memory) }
     {
         let mut files = files;
-        let mut unread = Items::new(alloc);
-        let kept = read_all(alloc, &mut files, &mut unread, wanted)?;
+        let Reading { kept, unread } = read_all(alloc, &mut files, wanted)?;
         Ok(KeptFiles {
             files,
             alloc,

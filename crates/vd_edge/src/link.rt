@@ -2,6 +2,7 @@ ghost use Rattle.std.specs.Prelude.{◌≡◌, IsTrue, [], false};
 ghost use Rattle.vd_edge.specs.Duplex.{link_view};
 
 use crate::Duplex;
+use crate::meter::Meter;
 use std::io::Error;
 use vd_base::Failed;
 use vd_outside::Link;
@@ -16,6 +17,8 @@ pub struct RealLink<S: Duplex + Drop> {
     ended: bool,
     faults: u64,
     last: Option<Error>,
+    sent: Meter,
+    came: Meter,
 
     // A stream that has told its end has nothing to come.
     ghost drained: { IsTrue ended → IsTrue (S.view stream).told → (S.view stream).coming ≡ [] },
@@ -33,12 +36,28 @@ impl<S: Duplex + Drop> RealLink<S> {
             ended: false,
             faults: 0,
             last: None,
+            sent: Meter::new(),
+            came: Meter::new(),
         }
     }
 
     /// Why the last call failed, where one did and the system says it.
     pub fn last(&self) -> Option<Error> {
         self.last
+    }
+
+    /// How many packets went out, and how many came, each of them whole.
+    pub fn packets(&self) -> (u64, u64)
+        ensures { result ≡ (self.now.sent.packets, self.now.came.packets) }
+    {
+        (self.sent.packets(), self.came.packets())
+    }
+
+    /// Whether it has told its end.
+    pub fn has_ended(&self) -> bool
+        ensures { result ≡ self.now.ended }
+    {
+        self.ended
     }
 }
 
@@ -52,7 +71,10 @@ impl<S: Duplex + Drop> Link for RealLink<S> {
     fn send(&mut self, bytes: &[u8]) -> Result<u32, Failed> {
         let most = bytes.len().min(PIECE);
         match self.stream.take(&bytes[..most]) {
-            Ok(count) if count > 0 => Ok(count as u32),
+            Ok(count) if count > 0 => {
+                self.sent.pass(&bytes[..count]);
+                Ok(count as u32)
+            }
             failed => {
                 self.last = failed.err();
                 self.faults = self.faults.saturating_add(1);
@@ -69,6 +91,7 @@ impl<S: Duplex + Drop> Link for RealLink<S> {
         match self.stream.give(&mut into[..most]) {
             Ok(count) => {
                 self.ended = count == 0;
+                self.came.pass(&into[..count]);
                 Ok(count as u32)
             }
             Err(error) => {

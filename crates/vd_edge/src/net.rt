@@ -4,11 +4,11 @@ ghost use Rattle.vd_edge.specs.Duplex.{link_view};
 ghost use Rattle.vd_edge.specs.Net.{net_view};
 ghost use Rattle.vd_outside.specs.Net.{Accepts, Connects, Listens};
 
-use crate::faults::{count_fault, fault_of};
-use crate::reasons::reason_of;
-use crate::{RealLink, Sockets};
+use crate::peer_reason::{peer_reason, with_cause};
+use crate::{PeerCall, PeerReason, RealLink, Sockets};
 use std::alloc::Global;
 use vd_base::CallFault;
+use vd_causes::{count_fault, fault_of};
 use vd_outside::{Link, Net};
 
 /// A net over sockets: its listeners, and how often it has failed.
@@ -18,7 +18,9 @@ pub struct RealNet<N: Sockets + Drop> {
     alloc: Global,
     listeners: Vec<N::Listener>,
     faults: u64,
-    reason: Option<String>,
+    reason: Option<PeerReason>,
+    sent: u64,
+    came: u64,
 }
 
 impl<N: Sockets + Drop> RealNet<N> {
@@ -33,12 +35,21 @@ impl<N: Sockets + Drop> RealNet<N> {
             listeners: Vec::new(alloc),
             faults: 0,
             reason: None,
+            sent: 0,
+            came: 0,
         }
     }
 
+    /// How many packets went out over the links that came back, and how many came.
+    pub fn packets(&self) -> (u64, u64)
+        ensures { result ≡ (self.now.sent, self.now.came) }
+    {
+        (self.sent, self.came)
+    }
+
     /// Why the last call failed, where one did.
-    pub fn reason(&self) -> Option<&str> {
-        self.reason.as_deref()
+    pub fn reason(&self) -> Option<&PeerReason> {
+        self.reason.as_ref()
     }
 }
 
@@ -47,8 +58,16 @@ impl<N: Sockets + Drop> Net for RealNet<N> {
 
     ghost view = { λ net. net_view (vec_len net.listeners) net.faults };
 
+    ghost greets = { λ link greeting. N.greets link.stream greeting };
+
+    ghost has_limit = { λ net seconds. N.has_limit net.sockets seconds };
+
     fn faults(&self) -> u64 {
         self.faults
+    }
+
+    fn wait_at_most(&mut self, seconds: Option<u32>) {
+        self.sockets.wait_at_most(seconds);
     }
 
     fn listen(&mut self, address: &str) -> Result<u32, CallFault>
@@ -66,7 +85,7 @@ impl<N: Sockets + Drop> Net for RealNet<N> {
                 Ok(number)
             }
             Err(error) => {
-                self.reason = reason_of(self.alloc, "listen at", address, &error);
+                self.reason = peer_reason(self.alloc, PeerCall::Listen, Some(address), &error);
                 let fault = fault_of(&error);
                 count_fault(&mut self.faults, fault);
                 Err(fault)
@@ -74,18 +93,22 @@ impl<N: Sockets + Drop> Net for RealNet<N> {
         }
     }
 
-    fn accept(&mut self, listener: u32) -> Result<RealLink<N::Stream>, CallFault>
+    fn accept(&mut self, listener: u32, greeting: &[u8]) -> Result<RealLink<N::Stream>, CallFault>
         requires { listener < vec_len self.old.listeners }
         ensures accepts { Accepts listener (net_view (vec_len self.old.listeners) self.old.faults)
             (net_view (vec_len self.new.listeners) self.new.faults)
             (result_map_both (λ link. link_view (N.Stream.view link.stream) link.ended link.faults) (λ fault. fault) result) }
         ensures came { (asked : N.Listener) → slice_get self.old.listeners.items listener ≡ Some asked →
             IfOk result (λ link. N.came_to link.stream asked) }
+        ensures greets { IfOk result (λ link. N.greets link.stream greeting.now) }
     {
-        match self.sockets.accept(&self.listeners[listener as usize]) {
+        match self
+            .sockets
+            .accept(&self.listeners[listener as usize], greeting)
+        {
             Ok(stream) => Ok(RealLink::new(stream)),
             Err(error) => {
-                self.reason = reason_of(self.alloc, "wait for", "a peer", &error);
+                self.reason = peer_reason(self.alloc, PeerCall::Accept, None, &error);
                 let fault = fault_of(&error);
                 count_fault(&mut self.faults, fault);
                 Err(fault)
@@ -102,7 +125,7 @@ impl<N: Sockets + Drop> Net for RealNet<N> {
         match self.sockets.connect(address) {
             Ok(stream) => Ok(RealLink::new(stream)),
             Err(error) => {
-                self.reason = reason_of(self.alloc, "connect to", address, &error);
+                self.reason = peer_reason(self.alloc, PeerCall::Connect, Some(address), &error);
                 let fault = fault_of(&error);
                 count_fault(&mut self.faults, fault);
                 Err(fault)
@@ -112,8 +135,13 @@ impl<N: Sockets + Drop> Net for RealNet<N> {
 
     fn hang_up(&mut self, link: RealLink<N::Stream>) {
         if let Some(error) = link.last() {
-            self.reason = reason_of(self.alloc, "link to", "a peer", &error);
+            self.reason = peer_reason(self.alloc, PeerCall::Pass, None, &error);
+        } else if link.has_ended() && self.reason.is_none() {
+            self.reason = with_cause(self.alloc, PeerCall::Pass, None, "closed at its end");
         }
+        let (sent, came) = link.packets();
+        self.sent = self.sent.saturating_add(sent);
+        self.came = self.came.saturating_add(came);
         if link.faults() > 0 {
             self.faults = self.faults.saturating_add(1);
         }

@@ -43,6 +43,7 @@ fn replace<D: Directory>(
     ensures kept { OnErr result (IsTrue D.tells → D.holds directory.new name.now ≡ D.holds directory.old name.now) }
     ensures left { IsTrue D.tells → MayLeave name.now (D.holds directory.old) (D.holds directory.new) }
     ensures others { OnOk result (IsTrue D.tells → SameElse name.now (D.holds directory.old) (D.holds directory.new)) }
+    ensures settled { OnOk result (D.settles directory.new name.now) }
 {
     let new = create_beside(directory, alloc, name, access)?;
     match fill_and_move(directory, new.as_str(), name, bytes, access) {
@@ -93,6 +94,7 @@ fn fill_and_move<D: Directory>(
     ensures others { OnOk result (IsTrue D.tells → (other : List ℕ) → bytes_eq new.now other ≡ false → bytes_eq name.now other ≡ false →
         D.holds directory.new other ≡ D.holds directory.old other) }
     ensures kept { OnErr result (IsTrue D.tells → SameElse new.now (D.holds directory.old) (D.holds directory.new)) }
+    ensures settled { OnOk result (D.settles directory.new name.now) }
 {
     directory.fill(new, bytes, access)?;
     directory.rename(new, name)?;

@@ -1,3 +1,6 @@
+ghost use Rattle.std.specs.Prelude.{◌≡◌, ◌||◌, true, None, OnErr, is_some};
+ghost use Rattle.vd_edge.specs.Waits.{turns};
+
 use std::io::{self, ErrorKind};
 use std::os::unix::process::parent_id;
 use std::process::Process;
@@ -12,35 +15,54 @@ pub struct Waits {
 }
 
 impl Waits {
-    /// Waits of a process that a parent with this number started, if that is known, with this limit.
-    pub fn new(process: Process, parent: Option<u32>, seconds: Option<u32>) -> Waits {
+    /// Waits without a limit, of a process that a parent with this number started, if that is known.
+    pub fn new(process: Process, parent: Option<u32>) -> Waits
+        ensures parent { result.parent ≡ parent }
+        ensures seconds { result.seconds ≡ None }
+    {
         Waits {
             process,
             parent,
-            seconds,
+            seconds: None,
         }
     }
 
+    /// The same waits with this limit in seconds.
+    pub fn within(self, seconds: Option<u32>) -> Waits
+        ensures parent { result.parent ≡ self.parent }
+        ensures seconds { result.seconds ≡ seconds }
+    {
+        Waits { seconds, ..self }
+    }
+
     /// Whether a wait may end before its peer does something.
-    pub fn may_end(&self) -> bool {
+    pub fn may_end(&self) -> bool
+        ensures { result ≡ (is_some self.now.parent || is_some self.now.seconds) }
+    {
         self.parent.is_some() || self.seconds.is_some()
     }
 
     /// The limit in seconds.
-    pub fn seconds(&self) -> Option<u32> {
+    pub fn seconds(&self) -> Option<u32>
+        ensures { result ≡ self.now.seconds }
+    {
         self.seconds
     }
 
-    /// How often a call is made that is made so often in a second.
-    pub fn turns(&self, in_a_second: u32) -> u64 {
+    /// How often a call is made that comes back each second.
+    pub fn turns(&self) -> u64
+        ensures { result ≡ turns self.now.seconds }
+    {
         match self.seconds {
-            Some(seconds) => u64::from(seconds).saturating_mul(u64::from(in_a_second)),
+            Some(seconds) => u64::from(seconds),
             None => u64::MAX,
         }
     }
 
-    /// Goes on waiting. It is an error if the process that started this one is gone.
-    pub fn go_on(&self) -> io::Result<()> {
+    /// Goes on waiting. It is an error if the process that started this one is gone, and where none is known that never is.
+    pub fn go_on(&self) -> io::Result<()>
+        ensures { OnErr result (is_some self.now.parent ≡ true) }
+    {
         match self.parent {
             Some(parent) if parent_id(self.process) != parent => {
                 Err(io::Error::new(ErrorKind::ConnectionAborted, "the run ended"))

@@ -1,6 +1,10 @@
-use Rattle.std.proofs.Common.{◌≡◌}
-use Rattle.vd_edge.specs.KeptFiles.{AreHeldOf}
+use Rattle.std.proofs.Common.{◌≡◌, take}
+use Rattle.vd_edge.specs.KeptFiles.{AreFaults, AreHeldOf, AreTried}
 use Rattle.vd_edge.proofs.kept_files.read_all.Given as goal
 
 abbrev pub invariant-loop-file : goal.invariant-loop-file
-invariant-loop-file g l = AreHeldOf l.kept (g.D.Directory.holds l.fn.files.directory) × (l.files.directory ≡ l.fn.files.directory)
+invariant-loop-file g l =
+    AreHeldOf l.reading.kept (g.D.Directory.holds l.fn.files.directory)
+    × AreTried (take l.file-index l.wanted) l.reading.kept l.reading.unread
+    × AreFaults l.reading.unread l.fn.files.faults l.files.faults
+    × (l.files.directory ≡ l.fn.files.directory)
