@@ -1,5 +1,5 @@
 -- The forms of a command line.
-use Rattle.std.specs.Prelude.{◌≡◌, ◌↔◌, ◌<◌, ◌≤◌, ℕ, ◌-◌, ◌^◌, Bool, true, false, ◌&&◌, List, [], ◌∷◌, Option, Some, None, Result, Err, IfOk, if◌then◌else◌, codes}
+use Rattle.std.specs.Prelude.{◌≡◌, ◌↔◌, ◌<◌, ◌≤◌, ℕ, ◌-◌, ◌^◌, Bool, true, false, ◌&&◌, List, [], ◌∷◌, Option, Some, None, Result, Err, IfOk, IfSome, if◌then◌else◌, codes}
 use Rattle.std.specs.Str.{bytes_eq}
 use Rattle.vd_base.specs.Limits.{most_hosts, most_deal_items, most_search_budget}
 use Rattle.vd_deals.specs.declared.deal.Counts.{Counts}
@@ -134,18 +134,41 @@ fixed_form_of (word ∷ hosts ∷ own ∷ muls ∷ ands ∷ pairs ∷ key ∷ pr
     if bytes_eq word (codes "deal") then deal_in hosts own muls ands pairs key prefix else None
 fixed_form_of words = None
 
--- the command `host` with these words behind it: three files, and any number of addresses
-abbrev pub host_form_of : List (List ℕ) → Option Command
-host_form_of (program ∷ inputs ∷ deal ∷ addresses) = Some (Host (record { program = program; inputs = inputs; deal = deal; addresses = addresses }))
-host_form_of words = None
+-- the command `host` with this limit and these words behind it: three files, and any number of addresses
+abbrev pub host_form_of : (limit : Option ℕ) → List (List ℕ) → Option Command
+host_form_of limit (program ∷ inputs ∷ deal ∷ addresses) =
+    Some (Host (record { program = program; inputs = inputs; deal = deal; addresses = addresses; limit = limit }))
+host_form_of limit words = None
+
+-- the longest limit of a wait for another host: a week in seconds
+abbrev pub most_wait : ℕ
+most_wait = 604800
+
+abbrev pub limited_by : Option ℕ → List (List ℕ) → Option Command
+limited_by None words = None
+limited_by (Some seconds) words = host_form_of (Some seconds) words
+
+-- the command `host-within` with these words behind it: its limit in seconds, and those of `host`
+unfoldable pub limited_form_of : List (List ℕ) → Option Command
+limited_form_of [] = None
+limited_form_of (seconds ∷ words) = limited_by (number_within 1 most_wait seconds) words
+
+-- the command of words that run no host by themselves
+abbrev pub unhosted_form_of : List (List ℕ) → Option Command
+unhosted_form_of [] = None
+unhosted_form_of (word ∷ words) = if bytes_eq word (codes "excuse") then excuse_form_of words else fixed_form_of (word ∷ words)
+
+-- the command of words that do not run a host without a limit
+abbrev pub other_form_of : List (List ℕ) → Option Command
+other_form_of [] = None
+other_form_of (word ∷ words) = if bytes_eq word (codes "host-within") then limited_form_of words else unhosted_form_of (word ∷ words)
 
 -- the command that the words are, if they have a form
 abbrev pub form_of : List (List ℕ) → Option Command
 form_of [] = None
 form_of (word ∷ words) =
-    if bytes_eq word (codes "host") then host_form_of words
-    else if bytes_eq word (codes "excuse") then excuse_form_of words
-    else fixed_form_of (word ∷ words)
+    if bytes_eq word (codes "host") then host_form_of None words
+    else other_form_of (word ∷ words)
 
 -- the limits of what is dealt
 pub record AreWithin (counts : Counts) : Type 0 where
@@ -165,6 +188,9 @@ IsPort port = (least_port ≤ port) × (port ≤ most_port)
 abbrev pub IsBudget : ℕ → Type 0
 IsBudget budget = (1 ≤ budget) × (budget ≤ most_search_budget)
 
+abbrev pub IsWait : ℕ → Type 0
+IsWait seconds = (1 ≤ seconds) × (seconds ≤ most_wait)
+
 -- what the numbers of a command keep
 abbrev pub KeepsFilesLimits : FilesCommand → Type 0
 KeepsFilesLimits (Deal counts key prefix) = AreWithin counts
@@ -180,7 +206,7 @@ KeepsFilesLimits command = Unit {0}
 
 abbrev pub KeepsLimits : Command → Type 0
 KeepsLimits (OnFiles command) = KeepsFilesLimits command
-KeepsLimits (Host words) = Unit {0}
+KeepsLimits (Host words) = IfSome words.limit IsWait
 KeepsLimits (Run words) = IsPort words.port
 
 -- The answer to words of this form: the command, and a fault of usage exactly where there is none.

@@ -1,7 +1,7 @@
 //! The forms of a command line.
 
 ghost use Rattle.std.specs.Prelude.{◌≡◌, [], ◌∷◌, IfOk, IfSome};
-ghost use Rattle.vd_cmd.specs.Commands.{Reads, AreWithin, IsBudget, IsPort, IsSize, choose_of, compile_of, counts_in, deal_in, deal_of, draw_of, excuse_form_of, excuse_of, fixed_form_of, form_of, gen_of, host_form_of, needs_of, needs_with, replay_of, replay_with, run_of, trial_of};
+ghost use Rattle.vd_cmd.specs.Commands.{Reads, AreWithin, IsBudget, IsPort, IsSize, IsWait, choose_of, compile_of, counts_in, deal_in, deal_of, draw_of, excuse_form_of, excuse_of, fixed_form_of, form_of, gen_of, host_form_of, limited_form_of, needs_of, needs_with, other_form_of, replay_of, replay_with, run_of, trial_of, unhosted_form_of};
 ghost use Rattle.vd_cmd.specs.declared.command.CommandFault.TheVariants.{Memory};
 
 use crate::numbers::number_within;
@@ -18,6 +18,9 @@ const FIRST_PORT: u32 = 1024;
 
 /// The greatest first port of a run: those behind it serve all pairs of hosts.
 const LAST_PORT: u32 = 65_520;
+
+/// The longest limit of a wait for another host: a week in seconds.
+const LONGEST_WAIT: u32 = 604_800;
 
 /// The words of `replay SOURCE INPUTS PREFIX SCHEDULE [messages] [BUDGET]`.
 #[derive(Debug, Drop)]
@@ -44,13 +47,15 @@ pub struct NeedsWords {
 }
 
 /// The words of `host PROGRAM INPUTS DEAL ADDR*`: three files, and the addresses of the host's pairs in the order of its
-/// peers.
+/// peers. Those of `host-within SECONDS PROGRAM INPUTS DEAL ADDR*` have a limit besides.
 #[derive(Debug, Drop)]
 pub struct HostWords {
     pub program: Text,
     pub inputs: Text,
     pub deal: Text,
     pub addresses: Texts,
+    /// No wait for another host is longer than so many seconds, where there is a limit.
+    pub limit: Option<u32>,
 }
 
 /// The words of `run SOURCE INPUTS PREFIX SELF PORT`.
@@ -118,7 +123,7 @@ pub enum FilesCommand {
 #[derive(Debug, Drop)]
 pub enum Command {
     OnFiles(FilesCommand),
-    /// `host PROGRAM INPUTS DEAL ADDR*`.
+    /// `host PROGRAM INPUTS DEAL ADDR*`, or `host-within SECONDS PROGRAM INPUTS DEAL ADDR*`.
     Host(HostWords),
     /// `run SOURCE INPUTS PREFIX SELF PORT`.
     Run(RunWords),
@@ -501,9 +506,10 @@ fn copies(alloc: Global, texts: &[Text]) -> Result<Texts, AllocError>
     Ok(list)
 }
 
-/// The command `host` with these words behind it: three files, and any number of addresses.
-fn read_host(alloc: Global, words: &[Text]) -> Result<Command, CommandFault>
-    ensures { Reads (host_form_of words.now) result }
+/// The command `host` with this limit and these words behind it: three files, and any number of addresses.
+fn read_host(alloc: Global, limit: Option<u32>, words: &[Text]) -> Result<Command, CommandFault>
+    requires { IfSome limit IsWait }
+    ensures { Reads (host_form_of limit words.now) result }
 {
     match words {
         [program, inputs, deal, addresses @ ..] => Ok(Command::Host(HostWords {
@@ -511,8 +517,23 @@ fn read_host(alloc: Global, words: &[Text]) -> Result<Command, CommandFault>
             inputs: Text::copy_of(alloc, inputs.as_str())?,
             deal: Text::copy_of(alloc, deal.as_str())?,
             addresses: copies(alloc, addresses)?,
+            limit,
         })),
         _ => Err(CommandFault::Usage),
+    }
+}
+
+/// The command `host-within` with these words behind it: its limit in seconds, and those of `host`.
+#[tactic(auto, unfolding(crate::specs::Commands::limited_form_of))]
+fn read_host_within(alloc: Global, words: &[Text]) -> Result<Command, CommandFault>
+    ensures { Reads (limited_form_of words.now) result }
+{
+    let [seconds, behind @ ..] = words else {
+        return Err(CommandFault::Usage);
+    };
+    match number_within(1, u64::from(LONGEST_WAIT), seconds) {
+        Some(limit) => read_host(alloc, Some(limit as u32), behind),
+        None => Err(CommandFault::Usage),
     }
 }
 
@@ -577,13 +598,32 @@ fn read_fixed(alloc: Global, words: &[Text]) -> Result<Command, CommandFault>
     }
 }
 
+/// The command of words that run no host by themselves.
+fn read_unhosted(alloc: Global, words: &[Text]) -> Result<Command, CommandFault>
+    ensures { Reads (unhosted_form_of words.now) result }
+{
+    match words {
+        [word, rest @ ..] if word.as_str() == "excuse" => read_excuse(alloc, rest),
+        words => read_fixed(alloc, words),
+    }
+}
+
+/// The command of words that do not run a host without a limit.
+fn read_other(alloc: Global, words: &[Text]) -> Result<Command, CommandFault>
+    ensures { Reads (other_form_of words.now) result }
+{
+    match words {
+        [word, rest @ ..] if word.as_str() == "host-within" => read_host_within(alloc, rest),
+        words => read_unhosted(alloc, words),
+    }
+}
+
 /// The command that the words of a command line are.
 pub fn read_words(alloc: Global, words: &Texts) -> Result<Command, CommandFault>
     ensures { Reads (form_of words.now) result }
 {
     match words.as_slice() {
-        [word, rest @ ..] if word.as_str() == "host" => read_host(alloc, rest),
-        [word, rest @ ..] if word.as_str() == "excuse" => read_excuse(alloc, rest),
-        words => read_fixed(alloc, words),
+        [word, rest @ ..] if word.as_str() == "host" => read_host(alloc, None, rest),
+        words => read_other(alloc, words),
     }
 }
