@@ -37,7 +37,7 @@ fn names_of(alloc: Global, names: &Names) -> Result<Names, AllocError>
     Ok(list)
 }
 
-/// Runs a host whose files were read.
+/// Runs a host whose files were read, over a net whose waits are as long as its words allow.
 fn run_loaded<N: Net, O: Sink>(
     alloc: Global,
     net: &mut N,
@@ -47,6 +47,7 @@ fn run_loaded<N: Net, O: Sink>(
 ) -> Result<(), Status>
     requires room { (N.view net.old).given ≤ 4294967000 }
     requires loaded { IsLoaded words.now loaded }
+    requires limited { N.has_limit net.old words.now.limit }
     ensures { RunsLoaded words.now loaded (N.view net.old) (N.view net.new) (O.view out.old) (O.view out.new) result }
 {
     let Loaded {
@@ -64,8 +65,8 @@ fn run_loaded<N: Net, O: Sink>(
 }
 
 /// Runs the host of the program, on its inputs and its deal, over the net: it reads its files, listens for its later peers,
-/// writes `listening`, meets its peers, drives its machine and writes `ended`. Every link that was given is handed back,
-/// however it ends.
+/// writes `listening`, meets its peers, drives its machine and writes `ended`. No wait for a peer is longer than its words
+/// allow. Every link that was given is handed back, however it ends.
 pub fn host<F: Files, N: Net, O: Sink>(
     alloc: Global,
     files: &mut F,
@@ -79,9 +80,12 @@ pub fn host<F: Files, N: Net, O: Sink>(
 {
     match load_host(alloc, files, words) {
         Err(status) => status,
-        Ok(loaded) => match run_loaded(alloc, net, out, words, loaded) {
-            Ok(()) => Status::Ended,
-            Err(status) => status,
-        },
+        Ok(loaded) => {
+            net.wait_at_most(words.limit);
+            match run_loaded(alloc, net, out, words, loaded) {
+                Ok(()) => Status::Ended,
+                Err(status) => status,
+            }
+        }
     }
 }

@@ -6,7 +6,13 @@ pub returns-in-Err : goal.returns-in-Err
 returns-in-Err g c = NotLoaded c.in-Err.status (c.in-Err.ensures {u = tt}).loads refl refl
 
 pub returns-in-Ok-run_loaded : goal.returns-in-Ok-run_loaded
-returns-in-Ok-run_loaded g c = WentWell c.in-Ok.loaded (c.in-Ok.ensures {u = tt}).loads (c.in-Ok.ensures {u = tt}).loaded (c.in-Ok-run_loaded.ensures {u = tt})
+returns-in-Ok-run_loaded g c =
+    let loaded = c.in-Ok.ensures {u = tt} in
+    WentWell c.in-Ok.loaded loaded.loads loaded.loaded
+    (rw (← c.wait_at_most.ensures.same) (c.in-Ok-run_loaded.ensures {u = tt}))
 
 pub returns-in-Err-run_loaded : goal.returns-in-Err-run_loaded
-returns-in-Err-run_loaded g c = WentWrong c.in-Ok.loaded c.in-Err-run_loaded.status (c.in-Ok.ensures {u = tt}).loads (c.in-Ok.ensures {u = tt}).loaded (c.in-Err-run_loaded.ensures {u = tt})
+returns-in-Err-run_loaded g c =
+    let loaded = c.in-Ok.ensures {u = tt} in
+    WentWrong c.in-Ok.loaded c.in-Err-run_loaded.status loaded.loads loaded.loaded
+    (rw (← c.wait_at_most.ensures.same) (c.in-Err-run_loaded.ensures {u = tt}))
