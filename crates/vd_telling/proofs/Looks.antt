@@ -1,6 +1,6 @@
 -- Words and files that are looked at, and what the stream gains then.
 use Rattle.std.proofs.Common.{◌≡◌, ℕ, Bool, List, [], Some, None, Result, Ok, Err, refl, subst}
-use Rattle.std.specs.Prelude.{IfOk, slice_get}
+use Rattle.std.specs.Prelude.{IfOk}
 use Rattle.std.specs.Option.{option_map_or}
 use Rattle.vd_outside.specs.Files.{FilesView, Fetches}
 use Rattle.vd_outside.specs.Sink.{SinkView}
@@ -11,7 +11,7 @@ use Rattle.vd_plan.proofs.Written.{says}
 use Rattle.vd_remarks.specs.declared.fault.TellFault.{TellFault}
 use Rattle.vd_telling.specs.Alone.{alone, of_whole, of_word}
 use Rattle.vd_telling.specs.Deals.{deal_text}
-use Rattle.vd_telling.specs.Files.{reading_of}
+use Rattle.vd_telling.specs.Files.{reading_of, word_at}
 use Rattle.vd_telling.specs.Said.{IsToldOf, IsSaidOfFile, IsSaidOfNamed, IsSaidBy, IsSaid}
 use Rattle.vd_telling.specs.Saying.{SaysMore}
 use Rattle.vd_telling.specs.declared.files.Reading.{Reading}
@@ -19,11 +19,11 @@ use Rattle.vd_telling.specs.declared.files.Reading.{Reading}
 -- ---- the word at a place
 
 module _ {E : Type 0} (words : List (List ℕ)) (place : ℕ) (result : Result (List ℕ) E) where
-  pub of_named : (name sentence : List ℕ) → Some name ≡ slice_get words place → IfOk result (λ text. text ≡ of_whole name sentence) → IfOk result (λ text. text ≡ of_word words place sentence)
+  pub of_named : (name sentence : List ℕ) → Some name ≡ word_at words place → IfOk result (λ text. text ≡ of_whole name sentence) → IfOk result (λ text. text ≡ of_word words place sentence)
   of_named name sentence is said = subst (λ word. IfOk result (λ text. text ≡ option_map_or (λ n. of_whole n sentence) word [])) is said
 
-  pub of_prefixed : (name : List ℕ) (number offset : ℕ) → Some name ≡ slice_get words place → IfOk result (λ text. text ≡ deal_text (Some number) (Some name) offset)
-      → IfOk result (λ text. text ≡ deal_text (Some number) (slice_get words place) offset)
+  pub of_prefixed : (name : List ℕ) (number offset : ℕ) → Some name ≡ word_at words place → IfOk result (λ text. text ≡ deal_text (Some number) (Some name) offset)
+      → IfOk result (λ text. text ≡ deal_text (Some number) (word_at words place) offset)
   of_prefixed name number offset is said = subst (λ word. IfOk result (λ text. text ≡ deal_text (Some number) word offset)) is said
 
 -- ---- a file
@@ -32,7 +32,7 @@ module _ (coloured : Bool) (words : List (List ℕ)) (s : Status) (before now : 
   pub of_file : (name : List ℕ) (limit : ℕ) (came : Result (List ℕ) FetchFault) → Fetches name limit before now came → IfOk result (IsToldOf coloured words s name came) → IsSaidOfFile coloured words s name limit before now result
   of_file name limit came fetches said = record { came = came; fetches = fetches; says = said }
 
-  pub by_name : (reading : Reading) (name : List ℕ) → Some name ≡ slice_get words reading.word → IsSaidOfFile coloured words s name reading.limit before now result
+  pub by_name : (reading : Reading) (name : List ℕ) → Some name ≡ word_at words reading.word → IsSaidOfFile coloured words s name reading.limit before now result
       → IsSaidBy coloured words s (Some reading) before now result
   by_name reading name is said = subst (λ word. IsSaidOfNamed coloured words s word reading.limit before now result) is said
 
@@ -40,7 +40,7 @@ module _ (coloured : Bool) (words : List (List ℕ)) (s : Status) (before now : 
   by_reading reading is said = subst (λ read. IsSaidBy coloured words s read before now result) is said
 
 module _ (coloured : Bool) (words : List (List ℕ)) (s : Status) (files : FilesView) where
-  pub by_no_name : (reading : Reading) (text : List ℕ) → None ≡ slice_get words reading.word → text ≡ [] → IsSaidBy coloured words s (Some reading) files files (Ok text)
+  pub by_no_name : (reading : Reading) (text : List ℕ) → None ≡ word_at words reading.word → text ≡ [] → IsSaidBy coloured words s (Some reading) files files (Ok text)
   by_no_name reading text is empty = subst (λ word. IsSaidOfNamed coloured words s word reading.limit files files (Ok text)) is (record { still = refl; says = empty })
 
   pub by_itself : (result : Result (List ℕ) TellFault) → None ≡ reading_of words s → IfOk result (λ text. text ≡ alone words s) → IsSaid coloured words s files files result

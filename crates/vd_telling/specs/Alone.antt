@@ -1,6 +1,6 @@
 -- What is said of a status of which no file is read: how a command is called, or that a file which only this program writes
 -- is another.
-use Rattle.std.specs.Prelude.{ℕ, false, List, [], codes, if◌then◌else◌, slice_get}
+use Rattle.std.specs.Prelude.{ℕ, false, List, [], codes, if◌then◌else◌}
 use Rattle.std.specs.Option.{option_map_or}
 use Rattle.std.specs.Str.{bytes_eq}
 use Rattle.vd_plan.specs.declared.status.HostStatus.{HostStatus}
@@ -10,7 +10,7 @@ use Rattle.vd_plan.specs.declared.status.Status.TheVariants as status
 use Rattle.vd_remarks.specs.Files.{certificate_sentence, deal_sentence, program_sentence}
 use Rattle.vd_remarks.specs.Remarks.{of_file, told}
 use Rattle.vd_remarks.specs.Usage.{usage_of}
-use Rattle.vd_telling.specs.Files.{command}
+use Rattle.vd_telling.specs.Files.{command, word_at}
 
 -- a sentence on the whole file with this name
 abbrev pub of_whole : List ℕ → List ℕ → List ℕ
@@ -18,7 +18,7 @@ of_whole name sentence = told false name [] (of_file sentence)
 
 -- on the file that the word at this place names; nothing where there is no such word
 abbrev pub of_word : List (List ℕ) → ℕ → List ℕ → List ℕ
-of_word words place sentence = option_map_or (λ name. of_whole name sentence) (slice_get words place) []
+of_word words place sentence = option_map_or (λ name. of_whole name sentence) (word_at words place) []
 
 abbrev pub of_host : List (List ℕ) → HostStatus → List ℕ
 of_host words (host_status.ProgramText offset) = of_word words 1 (program_sentence offset)

@@ -1,5 +1,5 @@
 -- What is said of a status besides its line, by the words of the command line and the file that is read.
-use Rattle.std.specs.Prelude.{◌≡◌, ℕ, Bool, List, [], Option, Some, None, Result, Ok, Err, IfOk, slice_get}
+use Rattle.std.specs.Prelude.{◌≡◌, ℕ, Bool, List, [], Option, Some, None, Result, Ok, Err, IfOk}
 use Rattle.std.specs.Option.{option_map_or}
 use Rattle.vd_outside.specs.Files.{FilesView, Fetches}
 use Rattle.vd_outside.specs.declared.faults.FetchFault.{FetchFault}
@@ -10,7 +10,7 @@ use Rattle.vd_remarks.specs.declared.fault.TellFault.{TellFault}
 use Rattle.vd_remarks.specs.declared.remark.Remark.{Remark}
 use Rattle.vd_telling.specs.Alone.{alone}
 use Rattle.vd_telling.specs.Deals.{IsDealTold}
-use Rattle.vd_telling.specs.Files.{reading_of}
+use Rattle.vd_telling.specs.Files.{reading_of, word_at}
 use Rattle.vd_telling.specs.Remarks.{IsRemarkOn}
 use Rattle.vd_telling.specs.declared.files.Reading.{Reading}
 
@@ -22,7 +22,7 @@ pub record IsRemarkTold (coloured : Bool) (status : Status) (name bytes text : L
 
 -- what is said of a status when the file with this name holds these bytes
 abbrev pub IsTold : Bool → List (List ℕ) → Status → List ℕ → List ℕ → List ℕ → Type 0
-IsTold coloured words (status.DealText host offset) name bytes text = IsDealTold bytes (slice_get words 3) host offset text
+IsTold coloured words (status.DealText host offset) name bytes text = IsDealTold bytes (word_at words 3) host offset text
 IsTold coloured words status name bytes text = IsRemarkTold coloured status name bytes text
 
 -- by what its fetch gave: nothing where it gave no bytes
@@ -48,7 +48,7 @@ IsSaidOfNamed coloured words status (Some name) limit before now result = IsSaid
 
 abbrev pub IsSaidBy : Bool → List (List ℕ) → Status → Option Reading → FilesView → FilesView → Result (List ℕ) TellFault → Type 0
 IsSaidBy coloured words status None before now result = IsSaidAlone (alone words status) before now result
-IsSaidBy coloured words status (Some reading) before now result = IsSaidOfNamed coloured words status (slice_get words reading.word) reading.limit before now result
+IsSaidBy coloured words status (Some reading) before now result = IsSaidOfNamed coloured words status (word_at words reading.word) reading.limit before now result
 
 abbrev pub IsSaid : Bool → List (List ℕ) → Status → FilesView → FilesView → Result (List ℕ) TellFault → Type 0
 IsSaid coloured words status before now result = IsSaidBy coloured words status (reading_of words status) before now result

@@ -1,6 +1,7 @@
 //! What is said of the deal of a host, whose file is named by a prefix and by the host's number in the source.
 
-ghost use Rattle.std.specs.Prelude.{◌≡◌, IfOk, Some, slice_get};
+ghost use Rattle.std.specs.Prelude.{◌≡◌, IfOk, Some};
+ghost use Rattle.vd_telling.specs.Files.{word_at};
 ghost use Rattle.vd_telling.specs.Deals as deals;
 
 use crate::alone::of_whole;
@@ -46,7 +47,7 @@ fn of_numbered(alloc: Global, prefix: &str, number: usize, offset: u32) -> Resul
 
 /// What is said of the deal file of the host with this number.
 fn deal_text(alloc: Global, words: &Texts, number: usize, offset: u32) -> Result<Bytes, AllocError>
-    ensures { IfOk result (λ text. text ≡ deals.deal_text (Some number) (slice_get words.now 3) offset) }
+    ensures { IfOk result (λ text. text ≡ deals.deal_text (Some number) (word_at words.now 3) offset) }
 {
     match word_at(words, PREFIX) {
         Some(prefix) => of_numbered(alloc, prefix, number, offset),
@@ -63,7 +64,7 @@ pub(crate) fn deal_told(
     host: &[u8],
     offset: u32,
 ) -> Result<Bytes, TellFault>
-    ensures { IfOk result (deals.IsDealTold bytes.now (slice_get words.now 3) host.now offset) }
+    ensures { IfOk result (deals.IsDealTold bytes.now (word_at words.now 3) host.now offset) }
 {
     let found = host_number(alloc, bytes, host)?;
     match found {

@@ -47,7 +47,7 @@ fn inputs_of(words: &Texts) -> Option<Reading>
 fn source_of_deals(words: &Texts) -> Option<Reading>
     ensures { result ≡ files.source_of_deals words.now }
 {
-    if is_command(words, b"excuse") {
+    if is_command(words, b"excuse") || is_command(words, b"host-within") {
         None
     } else {
         source_unless(b"host", words)
@@ -55,7 +55,7 @@ fn source_of_deals(words: &Texts) -> Option<Reading>
 }
 
 /// The file from whose bytes more is said of a status, if there is one. `trial` makes its source, and reads none. The words
-/// of `host` name a deal file; else it is named by a prefix and by its host's number in the source.
+/// of `host` and of `host-within` name a deal file; else it is named by a prefix and by its host's number in the source.
 pub(crate) fn reading_of(words: &Texts, status: &Status) -> Option<Reading>
     ensures { result ≡ files.reading_of words.now status.now }
 {

@@ -1,10 +1,10 @@
 //! The words of a command line.
 
-ghost use Rattle.std.specs.Prelude.{◌≡◌, option_map, slice_get};
+ghost use Rattle.std.specs.Prelude.{◌≡◌, option_map};
 ghost use Rattle.std.specs.Str.{bytes_eq};
 ghost use Rattle.vd_telling.specs.Files as files;
 
-use vd_base::Texts;
+use vd_base::{Text, Texts};
 
 /// The places of words that name files.
 pub(crate) const SOURCE: usize = 1;
@@ -21,11 +21,21 @@ pub(crate) const PREFIX: usize = 3;
 
 pub(crate) const SCHEDULE: usize = 4;
 
+/// The words with the places that they have in `host`: those of `host-within` have a limit besides, in the place of the command.
+fn placed(words: &Texts) -> &[Text]
+    ensures { result.now ≡ files.placed words.now }
+{
+    match words.as_slice() {
+        [word, behind @ ..] if word.as_str() == "host-within" => behind,
+        words => words,
+    }
+}
+
 /// The word at this place, if there are so many.
 pub(crate) fn word_at(words: &Texts, place: usize) -> Option<&str>
-    ensures { option_map (λ word. word.now) result ≡ slice_get words.now place }
+    ensures { option_map (λ word. word.now) result ≡ files.word_at words.now place }
 {
-    match words.as_slice().get(place) {
+    match placed(words).get(place) {
         Some(word) => Some(word.as_str()),
         None => None,
     }
