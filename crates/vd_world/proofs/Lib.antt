@@ -4,3 +4,4 @@ pub mod Hearing
 pub mod Worlds
 pub mod Rounds
 pub mod Starting
+pub mod Quieter

@@ -84,3 +84,16 @@ round_stuck s n w0 moved h hosts r supply len e g =
 pub all_are : (s : Supply) (n : ℕ) (w v : World) → EndedFrom n w → Reaches s w v → IsStuck s v → v ≡ then_all s n w
 all_are s n w v ended r stuck =
     r.1 ∙ (one_end (step s) (diamond s) w (all_rounds n w) r.0 (all_stuck s n w ended) (subst (IsStuck s) r.1 stuck)).0
+
+-- a host that went on, or that could not step
+pub round_goes : (s : Supply) (n : ℕ) (w0 w v : World) (moved b new : Bool) (h : ℕ) → Round s n w0 moved h w → Reaches s w v → (b ≡ true → left n v < left n w) → (b ≡ false → v ≡ w) → (b ≡ false → step s h w ≡ None)
+    → new ≡ (if b then true else moved) → Round s n w0 new (h + 1) v
+round_goes s n w0 w v moved true new h r reached falls still stuck k =
+    let less = falls refl in
+    let more = r.no_more in
+    subst (λ x. Round s n w0 x (h + 1) v) (sym k) (record { reached = reach_trans s w0 w v r.reached reached; falls = λ q. omega (arith, less, more); no_more = omega (arith, less, more); still = λ q. absurd cc; stuck = λ q. absurd cc })
+round_goes s n w0 w v moved false new h r reached falls still stuck k =
+    let z : v ≡ w = still refl in
+    let e = stuck refl in
+    let is : v ≡ after (step s h w) w = z ∙ sym (ap (λ o. after o w) e) in
+    subst (λ x. Round s n w0 x (h + 1) v) (sym k) (round_waits s n w0 w v moved h r e is)

@@ -118,6 +118,10 @@ stuck_state (want.Unequal x y) = state.Ready
 abbrev pub gone_on : HostKept → List ℕ → Local
 gone_on k heard = moved_on (local_of k) (words_for k.machine.lists (cursors_of k.machine.taken) heard (need (state_of k.machine)))
 
+-- a host whose machine went on, and nobody saw it
+abbrev pub gone_unseen : HostKept → Kept → HostKept
+gone_unseen k m = record k { machine = m }
+
 -- a host of which what the next step shows is kept, in this state
 abbrev pub noted : Kept → List ℕ → List (List (List ℕ)) → List ℕ → State → Local
 noted machine printed links taken m = done (local (state_of machine) printed links taken) m (deed (state_of machine))

@@ -6,8 +6,9 @@ ghost use Rattle.vd_execution.specs.World.{done, moved_on, words_of};
 ghost use Rattle.vd_machine.specs.Machines.{cursors_of, IsMet, words_for};
 ghost use Rattle.vd_machine.specs.Kept.{state_of, CanHear};
 ghost use Rattle.vd_machine.specs.Wants.{wanted, IsFromHost};
+ghost use Rattle.vd_machine.specs.Quietly.{RanOn};
 ghost use Rattle.vd_world.specs.Links.{IsPlace};
-ghost use Rattle.vd_world.specs.Hosts.{local, local_of, gone_on, noted, host_at_start, HasRoom};
+ghost use Rattle.vd_world.specs.Hosts.{local, local_of, gone_on, gone_unseen, noted, host_at_start, HasRoom};
 
 use crate::link::Link;
 use std::alloc::{AllocError, Global};
@@ -146,6 +147,15 @@ impl Host {
         &self.printed
     }
 
+    /// Steps on as long as it waits for nothing and nobody sees what it does. Answers whether it stepped at all.
+    pub fn run(&mut self) -> bool
+        ensures steps { RanOn self.old.machine.lists result (state_of self.old.machine) (state_of self.new.machine) }
+        ensures lists { self.new.machine.lists ≡ self.old.machine.lists }
+        ensures rest { self.new ≡ gone_unseen self.old self.new.machine }
+    {
+        self.machine.run()
+    }
+
     /// One step, on the words that the next instruction waits for. Out of memory changes nothing.
     pub fn go(&mut self, heard: &[u32]) -> Result<(), AllocError>
         requires met { CanHear self.old.machine heard.now }
@@ -160,7 +170,7 @@ impl Host {
             &mut self.links,
             &mut self.taken,
         )?;
-        self.machine.step(heard);
+        self.machine.advance(heard);
         Ok(())
     }
 }

@@ -101,13 +101,41 @@ impl World {
         }
     }
 
+    /// The steps of a host that nobody sees, as many as follow one another. Answers whether there were any.
+    fn run_at(&mut self, at: usize) -> bool
+        ensures supply { supply_of self.new ≡ supply_of self.old }
+        ensures hosts { length self.new ≡ length self.old }
+        ensures reached { Reaches (supply_of self.old) (world_of self.old) (world_of self.new) }
+        ensures falls { result ≡ true → steps_left self.new < steps_left self.old }
+        ensures still { result ≡ false → world_of self.new ≡ world_of self.old }
+    {
+        if self.hosts.len() <= at {
+            return false;
+        }
+        self.hosts[at].run()
+    }
+
+    /// The steps of a host up to one that others may see, and this one. Answers whether there were any.
+    fn go_on_at(&mut self, at: usize) -> Result<bool, AllocError>
+        ensures supply { supply_of self.new ≡ supply_of self.old }
+        ensures hosts { length self.new ≡ length self.old }
+        ensures reached { Reaches (supply_of self.old) (world_of self.old) (world_of self.new) }
+        ensures falls { IfOk result (λ b. b ≡ true → steps_left self.new < steps_left self.old) }
+        ensures still { IfOk result (λ b. b ≡ false → world_of self.new ≡ world_of self.old) }
+        ensures stuck { IfOk result (λ b. b ≡ false → can_step self.old at ≡ false) }
+    {
+        let ran = self.run_at(at);
+        let stepped = self.step_at(at)?;
+        Ok(either(stepped, ran))
+    }
+
     fn count(&self) -> usize
         ensures { result ≡ length self.now }
     {
         self.hosts.len()
     }
 
-    /// One turn of each host in order. Answers whether any could step.
+    /// Each host in order goes on, up to a step that others may see. Answers whether any could step.
     fn round(&mut self) -> Result<bool, AllocError>
         ensures supply { supply_of self.new ≡ supply_of self.old }
         ensures hosts { length self.new ≡ length self.old }
@@ -118,8 +146,8 @@ impl World {
         let mut moved = false;
         let count = self.count();
         for at in 0..count {
-            let stepped = self.step_at(at)?;
-            moved = either(stepped, moved);
+            let went = self.go_on_at(at)?;
+            moved = either(went, moved);
         }
         Ok(moved)
     }

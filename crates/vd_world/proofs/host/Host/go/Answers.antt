@@ -13,6 +13,6 @@ pub returns-clause-ok : goal.returns-clause-ok
 returns-clause-ok c =
     let h = c.self.inside in
     let k : HostKept = record { machine = h.machine; printed = h.printed.items; links = h.links.items; taken = h.taken.items } in
-    c.in_ok-note.ensures.ok (state_of c.step.new.self)
-    ∙ ap (λ m. done (local_of k) m (deed (state_of k.machine))) c.step.ensures.state
+    c.in_ok-note.ensures.ok (state_of c.advance.new.self)
+    ∙ ap (λ m. done (local_of k) m (deed (state_of k.machine))) c.advance.ensures.state
     ∙ ap (λ (k : HostKept). moved_on (local_of k) (words_for k.machine.lists (cursors_of k.machine.taken) c.args.heard.now (need (state_of k.machine)))) c.self.view_is

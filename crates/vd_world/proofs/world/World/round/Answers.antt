@@ -1,8 +1,8 @@
-use Rattle.std.proofs.Common.{◌≡◌, ◌≤◌, length, subst, ◌∙◌, arith}
-use Rattle.vd_execution.specs.Schedule.{after}
-use Rattle.vd_execution.specs.World.{step, EndedFrom}
-use Rattle.vd_world.specs.Hosts.{world_of, supply_of, is_step}
-use Rattle.vd_world.proofs.Rounds.{round_on, round_stuck, ended_past}
+use Rattle.std.proofs.Common.{◌≡◌, ◌<◌, ◌≤◌, false, length, subst, ◌∙◌, arith}
+use Rattle.vd_execution.specs.World.{step, left}
+use Rattle.vd_world.specs.Hosts.{world_of, supply_of, is_step, Reaches}
+use Rattle.vd_world.proofs.Quieter.{cannot_step}
+use Rattle.vd_world.proofs.Rounds.{reach_trans, round_goes, round_stuck}
 use Rattle.vd_world.proofs.world.World.round.Goals as goal
 
 pub loop-at-preserved : goal.loop-at-preserved
@@ -10,16 +10,26 @@ loop-at-preserved c =
     let s = supply_of c.args.self.now in
     let n = length c.args.self.now in
     let w = world_of c.loop-at.self in
-    let v = world_of c.step_at.new.self in
+    let v = world_of c.go_on_at.new.self in
     let same = c.loop-at.invariant.supply in
-    let ended : EndedFrom n w = subst (λ k. EndedFrom k w) c.loop-at.invariant.len (ended_past c.loop-at.self) in
-    let b = subst (λ x. c.in_ok-stepped.stepped ≡ is_step (step x c.loop-at.at w)) same c.in_ok-stepped.ensures.moved in
-    let is = subst (λ x. v ≡ after (step x c.loop-at.at w) w) same c.in_ok-stepped.ensures.world in
+    let many = c.loop-at.invariant.len in
+    let went = c.in_ok-went.ensures in
     record {
-      supply = c.step_at.ensures.supply ∙ same;
-      len = c.step_at.ensures.hosts ∙ c.loop-at.invariant.len;
-      so_far = round_on s n (world_of c.args.self.now) w v c.loop-at.moved c.in_ok-stepped.stepped c.either-moved.result c.loop-at.at ended c.loop-at.invariant.so_far b is c.either-moved.ensures;
+      supply = c.go_on_at.ensures.supply ∙ same;
+      len = c.go_on_at.ensures.hosts ∙ many;
+      so_far = round_goes s n (world_of c.args.self.now) w v c.loop-at.moved c.in_ok-went.went c.either-moved.result c.loop-at.at c.loop-at.invariant.so_far
+          (subst (λ x. Reaches x w v) same c.go_on_at.ensures.reached)
+          (λ q. subst (λ k. left k v < left n w) (c.go_on_at.ensures.hosts ∙ many) (subst (λ k. left (length c.go_on_at.new.self) v < left k w) many (went.falls q)))
+          went.still
+          (λ q. cannot_step s c.loop-at.at w (subst (λ x. is_step (step x c.loop-at.at w) ≡ false) same (went.stuck q)))
+          c.either-moved.ensures;
     }
+
+pub returns-in_err-went-clause-reached : goal.returns-in_err-went-clause-reached
+returns-in_err-went-clause-reached c =
+    let w = world_of c.loop-at.self in
+    let v = world_of c.go_on_at.new.self in
+    reach_trans (supply_of c.args.self.now) (world_of c.args.self.now) w v c.loop-at.invariant.so_far.reached (subst (λ x. Reaches x w v) c.loop-at.invariant.supply c.go_on_at.ensures.reached)
 
 pub returns-clause-stuck : goal.returns-clause-stuck
 returns-clause-stuck c = λ e.
