@@ -6,3 +6,4 @@ pub mod Going
 pub mod Turns
 pub mod WordLines
 pub mod WordLists
+pub mod Running

@@ -132,7 +132,8 @@ fn take_turn<L: Link + Drop, O: Sink>(
     }
 }
 
-/// Drives a host's machine to its end over its links: each turn is one of its steps, on the words that were received.
+/// Drives a host's machine to its end over its links: each turn is one of its steps, on the words that were received, behind
+/// all that nobody sees.
 /// What it prints is written at once, each word in decimal on a line. It takes no memory.
 ///
 /// A session stands for each peer that the code names, and none of them has answered a fault.
@@ -148,6 +149,7 @@ pub fn drive<L: Link + Drop, O: Sink>(
 {
     let mut printed: u32 = 0;
     loop {
+        machine.run();
         match take_turn(&mut machine, links, out)? {
             Turn::Over => return Ok(Ended { printed }),
             Turn::Quiet => {}
