@@ -1,12 +1,11 @@
 -- What the call comes to.
-use Rattle.std.proofs.Common.{◌≡◌, ◌≢◌, ℕ, ◌-◌, ◌<◌, ◌≤◌, List, [], Option, Some, None, length, Result, Ok, Err, IfOk, refl, sym, ap, ap₂, subst, ◌∙◌, arith}
+use Rattle.std.proofs.Common.{◌≡◌, ℕ, ◌-◌, ◌<◌, List, Option, Some, None, Result, Ok, Err, IfOk, refl, sym, ap, ap₂, subst, ◌∙◌, arith}
 use Rattle.vd_base.specs.declared.ids.HostId.{HostId}
 use Rattle.vd_core.specs.declared.normal.NormalForm.{NormalForm}
 use Rattle.vd_constraints.specs.declared.labels.Labels.{Labels}
 use Rattle.vd_deals.specs.declared.deal.Deal.{Deal}
 use Rattle.vd_deals.specs.declared.deal.DealKind.{DealKind}
 use Rattle.vd_tape.specs.Text.{AreDealsOf}
-use Rattle.vd_execution.specs.Joint.{Hosts}
 use Rattle.vd_hearing.specs.Difference.{view_difference}
 use Rattle.vd_hearing.proofs.Differences.{differs_exactly}
 use Rattle.vd_excusing.specs.declared.step.Step.{Step}
@@ -20,8 +19,7 @@ use Rattle.vd_deal_excuses.proofs.Excused.{excused_files_are_these, excused_file
 use Rattle.vd_walking.specs.declared.explaining.Walked.{Walked}
 use Rattle.vd_walking.specs.Claims.{EndsWithin, HaveSameShape, end_of}
 use Rattle.vd_walking.specs.Files.{file_tape, first_short}
-use Rattle.vd_excuse.specs.declared.fault.ViewFault.{ViewFault}
-use Rattle.vd_excuse.specs.declared.fault.ViewFault.TheVariants.{Short, Differ, Memory}
+use Rattle.vd_excuse.specs.declared.fault.ViewFault.TheVariants.{Short, Differ}
 use Rattle.vd_excuse.specs.Excuse.{AreAsked, HasWalked, IsExcused, fault_at, fault_of}
 use Rattle.vd_excuse.proofs.Stored.{are_excused}
 

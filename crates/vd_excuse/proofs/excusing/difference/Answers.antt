@@ -1,9 +1,8 @@
-use Rattle.std.proofs.Common.{◌≡◌, ℕ, List, Option, IfOk, sym, ap, subst, ◌∙◌}
+use Rattle.std.proofs.Common.{◌≡◌, ℕ, Option, sym, ap, subst, ◌∙◌}
 use Rattle.vd_constraints.specs.declared.labels.Labels.{Labels}
 use Rattle.vd_core.specs.declared.normal.NormalForm.{NormalForm}
 use Rattle.vd_space.specs.Reading.{problem_of}
-use Rattle.vd_hearing.specs.Difference.{view_difference as known_difference, IsDifference}
-use Rattle.vd_hearing.specs.Runs.{Hearer}
+use Rattle.vd_hearing.specs.Difference.{view_difference as known_difference}
 use Rattle.vd_excuse.proofs.Differing.{differ_at}
 use Rattle.vd_excuse.proofs.Stepped.{each_ok}
 use Rattle.vd_excuse.proofs.excusing.difference.Goals as goal

@@ -1,5 +1,4 @@
-use Rattle.std.proofs.Common.{List, IfOk, arith}
-use Rattle.vd_constraints.specs.declared.labels.Labels.{Labels}
+use Rattle.std.proofs.Common.{arith}
 use Rattle.vd_excuse.proofs.Stored.{are_of_two}
 use Rattle.vd_excuse.proofs.Answered.{has_walked}
 use Rattle.vd_excuse.proofs.excusing.walk_both.Goals as goal
