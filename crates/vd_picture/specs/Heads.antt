@@ -1,5 +1,5 @@
 -- What stands above the rows, and the lanes behind them.
-use Rattle.std.specs.Prelude.{ℕ, ◌-◌, List, [], ◌∷◌, ◌++◌, map, codes}
+use Rattle.std.specs.Prelude.{ℕ, ◌-◌, ◌/◌, max, nat_lt, ◌==◌, if◌then◌else◌, List, [], ◌∷◌, ◌++◌, map, codes}
 use Rattle.std.specs.List.{flat_map}
 use Rattle.vd_base.specs.declared.protocols.Proto.{Proto}
 use Rattle.vd_base.specs.declared.protocols.Proto.TheVariants.{Local}
@@ -12,7 +12,9 @@ use Rattle.vd_svg.specs.declared.marks.Mark.{Mark}
 use Rattle.vd_svg.specs.declared.marks.Mark.TheVariants as mark
 use Rattle.vd_layout.specs.declared.lanes.Lane.{Lane}
 use Rattle.vd_layout.specs.declared.layout.Layout.{Layout}
+use Rattle.vd_layout.specs.declared.runs.Drawn.{Drawn}
 use Rattle.vd_picture.specs.Arrows.{at}
+use Rattle.vd_layout.specs.Dearest.{dear_place}
 use Rattle.vd_layout.specs.Layout.{name_length}
 use Rattle.vd_layout.specs.Numbers.{plus, times}
 use Rattle.vd_layout.specs.Words.{cut, number_text, printable, protocol_name, protocol_kind}
@@ -29,8 +31,12 @@ half_name letters = plus (times letters 4) 5
 abbrev pub host_marks : ℕ → ℕ → List ℕ → List Mark
 host_marks x half name = mark.Rectangle area.Host (at (x - half) 54) (plus half half) 19 ∷ text style.Host x 68 name ∷ []
 
+-- a small text that can be read over a lane
+abbrev pub over : ℕ → ℕ → List ℕ → List Mark
+over x y said = text style.Halo x y said ∷ text style.Pair x y said ∷ []
+
 abbrev pub pair_marks : ℕ → List ℕ → List ℕ → List Mark
-pair_marks x name kind = text style.Pair x 60 name ∷ text style.Pair x 72 kind ∷ []
+pair_marks x name kind = over x 60 name ++ over x 72 kind
 
 abbrev pub head_of : List (List ℕ) → Proto → ℕ → List Mark
 head_of hosts (Local h) x = host_marks x (half_name (name_length hosts (Local h))) (cut 30 (protocol_name hosts (Local h)))
@@ -50,11 +56,36 @@ lane_mark bottom lane = mark.Line (lane_stroke lane.at) (at lane.x 74) (at lane.
 
 -- ---- the heading, and the heads of the columns
 
-abbrev pub summary : ℕ → ℕ → List ℕ
-summary cost slots = codes "cost " ++ number_text cost ++ codes ", " ++ number_text slots ++ codes " slots; black: what costs at least a twentieth of that"
+-- of a row with this place among the dearest: `(1) min(a, b) 41 %`
+abbrev pub before_place : ℕ → List ℕ
+before_place place = if nat_lt place 2 then codes "; dearest: (" else codes ", ("
+
+abbrev pub dear_said : ℕ → ℕ → Drawn → List ℕ
+dear_said total place row =
+    before_place place ++ number_text place ++ codes ") " ++ cut 20 row.text ++ codes " "
+    ++ number_text (times row.cost 100 / max total 1) ++ codes " %"
+
+unfoldable pub said_if_dear : Layout → ℕ → Drawn → List ℕ
+said_if_dear g place row = if dear_place g row.number row.cost == place then dear_said g.total place row else []
+
+abbrev pub said_at : Layout → ℕ → List ℕ
+said_at g place = flat_map (said_if_dear g place) g.drawn
+
+-- the cost, how many slots there are, and the dearest rows
+abbrev pub summary : Layout → ℕ → List ℕ
+summary g slots =
+    codes "cost " ++ number_text g.total ++ codes ", " ++ number_text slots ++ codes " slots" ++ said_at g 1 ++ said_at g 2 ++ said_at g 3
+
+abbrev pub width_of : Layout → ℕ
+width_of g = max (plus g.cost_x 298) 790
+
+-- the letters that a line above the drawing may have
+abbrev pub heading_room : Layout → ℕ
+heading_room g = max ((width_of g - 40) / 7) 8
 
 abbrev pub title_marks : List ℕ → Layout → ℕ → List Mark
-title_marks name g slots = text style.Heading 20 24 (cut 60 (printable name)) ∷ text style.Plain 20 42 (summary g.total slots) ∷ []
+title_marks name g slots =
+    text style.Heading 20 24 (cut 60 (printable name)) ∷ text style.Plain 20 42 (cut (heading_room g) (summary g slots)) ∷ []
 
 abbrev pub column : ℕ → List ℕ → Mark
 column x word = text style.Small x 70 word

@@ -1,5 +1,6 @@
 pub mod Arrows
+pub mod Heads
 pub mod RowMarks
 pub mod AllRows
-pub mod Heads
+pub mod Legend
 pub mod Picture

@@ -1,6 +1,5 @@
 -- The marks of a row, from its upper edge down.
-use Rattle.std.specs.Prelude.{ℕ, zero, suc, ◌+◌, ◌-◌, ◌*◌, ◌/◌, min, max, nat_eq, nat_le, nat_lt, Bool, true, false, ◌&&◌, ◌==◌, not, if◌then◌else◌, Option, Some, None, List, [], ◌∷◌, ◌++◌, map, length, slice_index_or, codes}
-use Rattle.std.specs.List.{count_by}
+use Rattle.std.specs.Prelude.{ℕ, zero, suc, ◌+◌, ◌-◌, ◌*◌, ◌/◌, ◌%◌, min, max, nat_lt, Bool, true, false, ◌&&◌, ◌==◌, not, if◌then◌else◌, Option, Some, None, List, [], ◌∷◌, ◌++◌, map, length, slice_index_or, codes}
 use Rattle.vd_base.specs.declared.ids.SlotId.{SlotId}
 use Rattle.vd_base.specs.declared.protocols.Proto.{Proto}
 use Rattle.vd_base.specs.declared.protocols.Proto.TheVariants.{Local, Rep, Commit, Add, Xor}
@@ -19,48 +18,28 @@ use Rattle.vd_svg.specs.declared.marks.Place.{Place}
 use Rattle.vd_drawing.specs.declared.row.Kind.{Kind}
 use Rattle.vd_drawing.specs.declared.row.Kind.TheVariants as kind
 use Rattle.vd_drawing.specs.declared.row.Line.{Line}
-use Rattle.vd_drawing.specs.declared.row.Move.{Move}
 use Rattle.vd_drawing.specs.declared.row.Row.{Row}
-use Rattle.vd_drawing.specs.Moves.{is_seen}
 use Rattle.vd_layout.specs.declared.lanes.Lane.{Lane}
 use Rattle.vd_layout.specs.declared.layout.Layout.{Layout}
 use Rattle.vd_picture.specs.Arrows.{at, one_x, arrow_marks}
-use Rattle.vd_layout.specs.Lanes.{same_protocol, hosts_x}
+use Rattle.vd_layout.specs.Dearest.{dear_place}
+use Rattle.vd_layout.specs.Lanes.{hosts_x}
+use Rattle.vd_layout.specs.Runs.{arrows_of, drawn_text, goes_on}
 use Rattle.vd_layout.specs.Layout.{indent}
 use Rattle.vd_layout.specs.Numbers.{plus, times}
 use Rattle.vd_layout.specs.Words.{cut, number_text, protocol_name}
 
 -- ---- how high a row is
 
-abbrev pub is_move_seen : Move → Bool
-is_move_seen m = is_seen m.from m.to
-
-abbrev pub arrows_of : Row → ℕ
-arrows_of row = count_by is_move_seen row.moves
-
 abbrev pub height_of : Row → ℕ
 height_of row = max (plus (times (arrows_of row) 15) 8) 22
 
--- ---- rows that go on: bindings without arrows, one after another, at one place
+-- the names of the lanes stand above each fortieth row of the drawing but the first
+abbrev pub has_names : ℕ → Bool
+has_names number = number % 40 == 0 && nat_lt 0 number
 
-abbrev pub is_binding : Kind → Bool
-is_binding kind.Binding = true
-is_binding other = false
-
-abbrev pub is_quiet : Row → Bool
-is_quiet row = is_binding row.kind && arrows_of row == 0
-
-abbrev pub same_at : Option Proto → Option Proto → Bool
-same_at (Some p) (Some q) = same_protocol p q
-same_at p q = false
-
-abbrev pub are_like : Row → Row → Bool
-are_like row next = is_quiet row && is_quiet next && same_at row.at next.at && nat_eq row.depth next.depth
-
--- it is drawn with the row behind it
-abbrev pub goes_on : Row → List Row → Bool
-goes_on row [] = false
-goes_on row (next ∷ rest) = are_like row next
+abbrev pub names_height : ℕ → ℕ
+names_height number = if has_names number then 34 else 0
 
 -- a line of the source stands above a row, unless the last one that was shown was the same
 abbrev pub is_other_line : ℕ → Option Line → Bool
@@ -78,18 +57,28 @@ line_behind last (Some line) = line.number
 abbrev pub next_last : ℕ → Row → List Row → ℕ
 next_last last row rest = if goes_on row rest then last else line_behind last row.line
 
--- how high a row is, with the line above it
-abbrev pub whole_height : ℕ → Row → List Row → ℕ
-whole_height last row rest = if goes_on row rest then 0 else plus (line_height last row) (height_of row)
+-- how many rows of the drawing stand above what is behind a row
+abbrev pub next_number : ℕ → Row → List Row → ℕ
+next_number number row rest = if goes_on row rest then number else plus number 1
+
+-- how high what stands above a row is, below so many rows of the drawing
+abbrev pub height_above : ℕ → ℕ → Row → ℕ
+height_above number last row = plus (names_height number) (line_height last row)
+
+-- how high a row is, with what stands above it
+abbrev pub whole_height : ℕ → ℕ → Row → List Row → ℕ
+whole_height number last row rest = if goes_on row rest then 0 else plus (height_above number last row) (height_of row)
 
 -- how high the rows are that follow, as long as they stand deeper
-abbrev pub height_from : ℕ → ℕ → ℕ → List Row → ℕ
-height_from depth height last [] = height
-height_from depth height last (row ∷ rest) =
-    if nat_lt depth row.depth then height_from depth (plus height (whole_height last row rest)) (next_last last row rest) rest else height
+abbrev pub height_from : ℕ → ℕ → ℕ → ℕ → List Row → ℕ
+height_from depth height number last [] = height
+height_from depth height number last (row ∷ rest) =
+    if nat_lt depth row.depth
+    then height_from depth (plus height (whole_height number last row rest)) (next_number number row rest) (next_last last row rest) rest
+    else height
 
-abbrev pub height_inside : ℕ → ℕ → List Row → ℕ
-height_inside depth last rows = height_from depth 0 last rows
+abbrev pub height_inside : ℕ → ℕ → ℕ → List Row → ℕ
+height_inside depth number last rows = height_from depth 0 number last rows
 
 -- ---- the text, the label and the protocol
 
@@ -112,13 +101,8 @@ text_x row = if is_block row.kind then row_x row else row_x row + 28
 abbrev pub room : Layout → Row → ℕ
 room g row = max (g.text_letters - (2 * indent row + 4)) 3
 
--- what stands for so many rows before it
-abbrev pub said_before : ℕ → List ℕ
-said_before zero = []
-said_before (suc n) = codes "+" ++ number_text (suc n) ++ codes ": "
-
 abbrev pub text_mark : Layout → ℕ → Row → Mark
-text_mark g before row = mark.Text (text_style row) (at (text_x row) 15) (cut (room g row) (said_before before ++ row.text))
+text_mark g before row = mark.Text (text_style row) (at (text_x row) 15) (cut (room g row) (drawn_text before row))
 
 abbrev pub small : ℕ → List ℕ → Mark
 small x text = mark.Text style.Small (at x 15) text
@@ -149,13 +133,17 @@ shape_of kind.Store p = shape.Variable
 shape_of kind.Output p = shape.Printed
 shape_of other p = shape_at p
 
--- what joins copies
+-- each copy is joined to the next
 abbrev pub join_mark : ℕ → ℕ → Mark
-join_mark first x = mark.Line stroke.Copies (on_lane first) (on_lane x)
+join_mark last x = mark.Line stroke.Copies (on_lane last) (on_lane x)
+
+abbrev pub joins_from : ℕ → List ℕ → List Mark
+joins_from last [] = []
+joins_from last (x ∷ xs) = join_mark last x ∷ joins_from x xs
 
 abbrev pub joins : List ℕ → List Mark
 joins [] = []
-joins (x ∷ xs) = map (join_mark x) xs
+joins (x ∷ xs) = joins_from x xs
 
 abbrev pub shape_mark : Shape → ℕ → Mark
 shape_mark s x = mark.Shape s (on_lane x)
@@ -185,10 +173,6 @@ lane_marks g hosts slots row =
 abbrev pub bar_width : Layout → ℕ → ℕ
 bar_width g cost = max (min (times cost 90 / g.greatest) 90) 1
 
--- at least a twentieth of all
-abbrev pub is_dear : Layout → ℕ → Bool
-is_dear g cost = nat_le g.total (times cost 20)
-
 -- `5520 = 24 x 230`
 abbrev pub cost_note : ℕ → ℕ → List ℕ
 cost_note cost weight =
@@ -201,14 +185,20 @@ bar_area dear = if dear then area.Dear else area.Cost
 abbrev pub note_style : Bool → Style
 note_style dear = if dear then style.Bold else style.Plain
 
-abbrev pub bar_marks : Layout → ℕ → ℕ → List Mark
-bar_marks g cost weight =
-    mark.Rectangle (bar_area (is_dear g cost)) (at g.cost_x 6) (bar_width g cost) 10
-    ∷ mark.Text (note_style (is_dear g cost)) (at (plus (plus g.cost_x (bar_width g cost)) 6) 15) (cost_note cost weight)
+-- behind it the place among the dearest, of a row that has one
+abbrev pub said_of_cost : ℕ → ℕ → ℕ → List ℕ
+said_of_cost cost weight zero = cost_note cost weight
+said_of_cost cost weight (suc n) = cost_note cost weight ++ codes " (" ++ number_text (suc n) ++ codes ")"
+
+abbrev pub bar_marks : Layout → ℕ → ℕ → ℕ → List Mark
+bar_marks g place cost weight =
+    mark.Rectangle (bar_area (nat_lt 0 place)) (at g.cost_x 6) (bar_width g cost) 10
+    ∷ mark.Text (note_style (nat_lt 0 place)) (at (plus (plus g.cost_x (bar_width g cost)) 6) 15) (said_of_cost cost weight place)
     ∷ []
 
-abbrev pub cost_marks : Layout → ℕ → ℕ → List Mark
-cost_marks g cost weight = if nat_lt 0 cost then bar_marks g cost weight else []
+-- of the row of the drawing with this number
+abbrev pub cost_marks : Layout → ℕ → ℕ → ℕ → List Mark
+cost_marks g number cost weight = if nat_lt 0 cost then bar_marks g (dear_place g number cost) cost weight else []
 
 -- ---- the frame of a block
 
@@ -234,7 +224,8 @@ frame_marks g inside row other = []
 
 -- ---- all of them
 
--- where so many rows before it are drawn with it, and all of them cost so much
-abbrev pub row_marks : Layout → List (List ℕ) → List Slot → List (List ℕ) → ℕ → ℕ → ℕ → Row → List Mark
-row_marks g hosts slots labels inside before cost row =
-    frame_marks g inside row row.kind ++ word_marks g hosts labels before row ++ lane_marks g hosts slots row ++ cost_marks g cost row.weight
+-- of the row of the drawing with this number, where so many rows before it are drawn with it, and all of them cost so much
+abbrev pub row_marks : Layout → List (List ℕ) → List Slot → List (List ℕ) → ℕ → ℕ → ℕ → ℕ → Row → List Mark
+row_marks g hosts slots labels number inside before cost row =
+    frame_marks g inside row row.kind ++ word_marks g hosts labels before row ++ lane_marks g hosts slots row
+    ++ cost_marks g number cost row.weight

@@ -5,14 +5,15 @@ ghost use Rattle.vd_base.specs.Limits.{most_hosts};
 ghost use Rattle.vd_picture.specs.AllRows as rows_spec;
 
 use crate::arrows::Marks;
+use crate::heads::push_heads;
 use crate::row_marks::{
-    Scene, goes_on, height_inside, is_other_line, line_behind, line_height, next_last, push_row,
-    row_x, whole_height,
+    Scene, has_names, height_above, height_inside, is_other_line, line_behind, names_height,
+    next_last, next_number, push_row, row_x, whole_height,
 };
 use std::alloc::{AllocError, Global};
-use vd_base::Bytes;
+use vd_base::{Bytes, Names};
 use vd_drawing::{Line, Row};
-use vd_layout::{Layout, cost_of, cut, push_number, push_row_title};
+use vd_layout::{Lane, Layout, cost_of, cut, goes_on, push_number, push_row_title};
 use vd_svg::{Mark, Place, Style};
 
 /// Rows that are drawn as one: how many, what they cost, and their titles.
@@ -115,12 +116,61 @@ fn push_line_above(
     }
 }
 
+/// Adds the names of the lanes again.
+fn push_names(
+    alloc: Global,
+    marks: &mut Marks,
+    hosts: &Names,
+    y: u64,
+    lanes: &[Lane],
+) -> Result<(), AllocError>
+    ensures { OnOk result (marks.new ≡ marks.old ++ rows_spec.names_marks hosts.now y lanes.now) }
+{
+    marks.push(Mark::Group(y.saturating_sub(46), Bytes::new(alloc)))?;
+    push_heads(alloc, marks, hosts, lanes)?;
+    marks.push(Mark::End)
+}
+
+/// Adds the names of the lanes above a row of the drawing, where they stand there.
+fn push_names_above(
+    alloc: Global,
+    marks: &mut Marks,
+    scene: Scene,
+    y: u64,
+    number: u64,
+) -> Result<(), AllocError>
+    ensures { OnOk result (marks.new ≡ marks.old ++ rows_spec.names_above scene.entry.layout.now scene.entry.hosts.now y number) }
+{
+    if has_names(number) {
+        push_names(alloc, marks, scene.hosts, y, scene.layout.lanes.as_slice())?;
+    }
+    Ok(())
+}
+
+/// Adds what stands above a row of the drawing: the names of the lanes, and a line of the source.
+fn push_above(
+    alloc: Global,
+    marks: &mut Marks,
+    scene: Scene,
+    y: u64,
+    number: u64,
+    last: usize,
+    row: &Row,
+) -> Result<(), AllocError>
+    ensures { OnOk result (marks.new ≡ marks.old ++ rows_spec.above_marks scene.entry.layout.now scene.entry.hosts.now y number last row.now) }
+{
+    push_names_above(alloc, marks, scene, y, number)?;
+    let below = y.saturating_add(names_height(number));
+    push_line_above(alloc, marks, scene.layout, below, last, row)
+}
+
 /// Adds a row with those before it that are drawn with it.
 fn push_group(
     alloc: Global,
     marks: &mut Marks,
     scene: Scene,
     y: u64,
+    number: u64,
     last: usize,
     run: Run,
     row: &Row,
@@ -129,16 +179,18 @@ fn push_group(
     requires few { length scene.hosts.now ≤ most_hosts }
     requires greatest { 1 ≤ scene.layout.now.greatest }
     ensures { OnOk result (marks.new ≡ marks.old ++ rows_spec.group_marks scene.entry.layout.now scene.entry.hosts.now
-        scene.entry.slots.now scene.entry.labels.now y last run row.now rest.now) }
+        scene.entry.slots.now scene.entry.labels.now y number last run row.now rest.now) }
 {
-    let inside = height_inside(row.depth, line_behind(last, &row.line), rest);
+    let shown = line_behind(last, &row.line);
+    let inside = height_inside(row.depth, number.saturating_add(1), shown, rest);
     let Run { count, cost, title } = run;
-    let top = y.saturating_add(line_height(last, row));
+    let top = y.saturating_add(height_above(number, last, row));
     marks.push(Mark::Group(top, title))?;
     push_row(
         alloc,
         marks,
         scene,
+        number,
         inside,
         count.saturating_sub(1),
         cost,
@@ -147,12 +199,13 @@ fn push_group(
     marks.push(Mark::End)
 }
 
-/// Adds a row with those before it that are drawn with it, and the line of the source above it.
+/// Adds a row with those before it that are drawn with it, and what stands above it.
 fn push_run(
     alloc: Global,
     marks: &mut Marks,
     scene: Scene,
     y: u64,
+    number: u64,
     last: usize,
     run: Run,
     row: &Row,
@@ -161,10 +214,10 @@ fn push_run(
     requires few { length scene.hosts.now ≤ most_hosts }
     requires greatest { 1 ≤ scene.layout.now.greatest }
     ensures { OnOk result (marks.new ≡ marks.old ++ rows_spec.run_marks scene.entry.layout.now scene.entry.hosts.now
-        scene.entry.slots.now scene.entry.labels.now y last run row.now rest.now) }
+        scene.entry.slots.now scene.entry.labels.now y number last run row.now rest.now) }
 {
-    push_line_above(alloc, marks, scene.layout, y, last, row)?;
-    push_group(alloc, marks, scene, y, last, run, row, rest)
+    push_above(alloc, marks, scene, y, number, last, row)?;
+    push_group(alloc, marks, scene, y, number, last, run, row, rest)
 }
 
 /// Adds the marks of a row, unless it is drawn with the one behind it; and gives the rows that wait then.
@@ -173,6 +226,7 @@ fn push_step(
     marks: &mut Marks,
     scene: Scene,
     y: u64,
+    number: u64,
     last: usize,
     run: Run,
     row: &Row,
@@ -181,14 +235,14 @@ fn push_step(
     requires few { length scene.hosts.now ≤ most_hosts }
     requires greatest { 1 ≤ scene.layout.now.greatest }
     ensures marks { OnOk result (marks.new ≡ marks.old ++ rows_spec.step_marks scene.entry.layout.now scene.entry.hosts.now
-        scene.entry.slots.now scene.entry.labels.now y last run row.now rest.now) }
+        scene.entry.slots.now scene.entry.labels.now y number last run row.now rest.now) }
     ensures run { IfOk result (λ next. next ≡ rows_spec.next_run scene.entry.layout.now scene.entry.hosts.now scene.entry.slots.now
         scene.entry.labels.now run row.now rest.now) }
 {
     if goes_on(row, rest) {
         return Ok(run);
     }
-    push_run(alloc, marks, scene, y, last, run, row, rest)?;
+    push_run(alloc, marks, scene, y, number, last, run, row, rest)?;
     Ok(Run::none(alloc))
 }
 
@@ -203,18 +257,20 @@ pub(crate) fn push_rows(
     requires few { length scene.hosts.now ≤ most_hosts }
     requires greatest { 1 ≤ scene.layout.now.greatest }
     ensures { OnOk result (marks.new ≡ marks.old ++ rows_spec.rows_marks scene.entry.layout.now scene.entry.hosts.now
-        scene.entry.slots.now scene.entry.labels.now top 0 rows_spec.no_run rows.now) }
+        scene.entry.slots.now scene.entry.labels.now top 0 0 rows_spec.no_run rows.now) }
 {
     let mut y = top;
+    let mut number: u64 = 0;
     let mut last = 0;
     let mut run = Run::none(alloc);
     for place in 0..rows.len() {
         let row = &rows[place];
         let rest = &rows[place + 1..];
         add_row(alloc, &mut run, scene, row)?;
-        run = push_step(alloc, marks, scene, y, last, run, row, rest)?;
-        y = y.saturating_add(whole_height(last, row, rest));
+        run = push_step(alloc, marks, scene, y, number, last, run, row, rest)?;
+        y = y.saturating_add(whole_height(number, last, row, rest));
         last = next_last(last, row, rest);
+        number = next_number(number, row, rest);
     }
     Ok(())
 }

@@ -67,7 +67,13 @@ fn push_middle(marks: &mut Marks, arrow: Arrow, from: Place, to: Place) -> Resul
 }
 
 /// Adds a line from one lane to another.
-fn push_line(marks: &mut Marks, arrow: Arrow, y: u64, from: u64, to: u64) -> Result<(), AllocError>
+pub(crate) fn push_line(
+    marks: &mut Marks,
+    arrow: Arrow,
+    y: u64,
+    from: u64,
+    to: u64,
+) -> Result<(), AllocError>
     ensures { OnOk result (marks.new ≡ marks.old ++ arrows.line_marks arrow y from to) }
 {
     let begin = Place { x: from, y };

@@ -1,6 +1,6 @@
 //! What stands above the rows, and the lanes behind them.
 
-ghost use Rattle.std.specs.Prelude.{◌≡◌, ◌++◌, [], ◌∷◌, map, IfOk, OnOk};
+ghost use Rattle.std.specs.Prelude.{◌≡◌, ◌≤◌, ◌++◌, [], ◌∷◌, map, IfOk, OnOk};
 ghost use Rattle.std.specs.List.{flat_map};
 ghost use Rattle.vd_picture.specs.Heads as heads;
 
@@ -8,7 +8,8 @@ use crate::arrows::Marks;
 use std::alloc::{AllocError, Global};
 use vd_base::{Bytes, Names, Proto};
 use vd_layout::{
-    Lane, Layout, cut, name_length, printable, protocol_kind, protocol_name, push_number,
+    Drawn, Lane, Layout, cut, dear_place, name_length, printable, protocol_kind, protocol_name,
+    push_number,
 };
 use vd_svg::{Area, Mark, Place, Stroke, Style};
 
@@ -38,12 +39,32 @@ fn push_host(marks: &mut Marks, x: u64, half: u64, name: Bytes) -> Result<(), Al
     marks.push(text(Style::Host, x, 68, name))
 }
 
-/// Adds the names of two hosts, and what they share there.
-fn push_pair(marks: &mut Marks, x: u64, name: Bytes, kind: Bytes) -> Result<(), AllocError>
-    ensures { OnOk result (marks.new ≡ marks.old ++ heads.pair_marks x name kind) }
+/// Adds a small text that can be read over a lane.
+fn push_over(
+    alloc: Global,
+    marks: &mut Marks,
+    x: u64,
+    y: u64,
+    said: &[u8],
+) -> Result<(), AllocError>
+    ensures { OnOk result (marks.new ≡ marks.old ++ heads.over x y said.now) }
 {
-    marks.push(text(Style::Pair, x, 60, name))?;
-    marks.push(text(Style::Pair, x, 72, kind))
+    marks.push(text(Style::Halo, x, y, Bytes::from_slice(alloc, said)?))?;
+    marks.push(text(Style::Pair, x, y, Bytes::from_slice(alloc, said)?))
+}
+
+/// Adds the names of two hosts, and what they share there.
+fn push_pair(
+    alloc: Global,
+    marks: &mut Marks,
+    x: u64,
+    name: &[u8],
+    kind: &[u8],
+) -> Result<(), AllocError>
+    ensures { OnOk result (marks.new ≡ marks.old ++ heads.pair_marks x name.now kind.now) }
+{
+    push_over(alloc, marks, x, 60, name)?;
+    push_over(alloc, marks, x, 72, kind)
 }
 
 /// Adds the name of a lane.
@@ -64,8 +85,7 @@ fn push_head(
             push_host(marks, x, half, name)
         }
         Proto::Rep(_) | Proto::Commit(_, _) | Proto::Add(_, _) | Proto::Xor(_, _) => {
-            let kind = Bytes::from_slice(alloc, protocol_kind(at))?;
-            push_pair(marks, x, name, kind)
+            push_pair(alloc, marks, x, name.as_slice(), protocol_kind(at))
         }
     }
 }
@@ -103,7 +123,7 @@ fn push_lanes(marks: &mut Marks, bottom: u64, lanes: &[Lane]) -> Result<(), Allo
 }
 
 /// Adds the names of the lanes.
-fn push_heads(
+pub(crate) fn push_heads(
     alloc: Global,
     marks: &mut Marks,
     hosts: &Names,
@@ -131,16 +151,94 @@ pub(crate) fn push_all_lanes(
     push_heads(alloc, marks, hosts, lanes)
 }
 
-/// What is said of the whole drawing.
-fn summary(alloc: Global, cost: u64, slots: u64) -> Result<Bytes, AllocError>
-    ensures { IfOk result (λ said. said ≡ heads.summary cost slots) }
+/// What stands before the name of a row that has this place among the dearest.
+fn before_place(place: u64) -> &'static [u8]
+    ensures { result.now ≡ heads.before_place place }
+{
+    if place < 2 { b"; dearest: (" } else { b", (" }
+}
+
+/// Puts the name of a row at the end that has this place among the dearest: `(1) min(a, b) 41 %`.
+fn push_dear(
+    alloc: Global,
+    said: &mut Bytes,
+    total: u64,
+    place: u64,
+    row: &Drawn,
+) -> Result<(), AllocError>
+    ensures { OnOk result (said.new ≡ said.old ++ heads.dear_said total place row.now) }
+{
+    said.extend_from_slice(before_place(place))?;
+    push_number(said, place)?;
+    said.extend_from_slice(b") ")?;
+    let name = cut(alloc, 20, row.text.as_slice())?;
+    said.extend_from_slice(name.as_slice())?;
+    said.extend_from_slice(b" ")?;
+    push_number(said, row.cost.saturating_mul(100) / total.max(1))?;
+    said.extend_from_slice(b" %")
+}
+
+/// Puts the name of a row at the end, if it has this place among the dearest.
+#[tactic(auto, unfolding(crate::specs::Heads::said_if_dear))]
+fn push_if_dear(
+    alloc: Global,
+    said: &mut Bytes,
+    layout: &Layout,
+    place: u64,
+    row: &Drawn,
+) -> Result<(), AllocError>
+    ensures { OnOk result (said.new ≡ said.old ++ heads.said_if_dear layout.now place row.now) }
+{
+    if dear_place(layout, row.number, row.cost) == place {
+        push_dear(alloc, said, layout.total, place, row)?;
+    }
+    Ok(())
+}
+
+/// Puts the name of the row at the end that has this place among the dearest, if there is one.
+fn push_dear_at(
+    alloc: Global,
+    said: &mut Bytes,
+    layout: &Layout,
+    place: u64,
+) -> Result<(), AllocError>
+    ensures { OnOk result (said.new ≡ said.old ++ heads.said_at layout.now place) }
+{
+    let drawn = layout.drawn.as_slice();
+    for row in drawn {
+        push_if_dear(alloc, said, layout, place, row)?;
+    }
+    Ok(())
+}
+
+/// What is said of the whole drawing: what it costs, how many slots there are, and which rows are the dearest.
+fn summary(alloc: Global, layout: &Layout, slots: u64) -> Result<Bytes, AllocError>
+    ensures { IfOk result (λ said. said ≡ heads.summary layout.now slots) }
 {
     let mut said = Bytes::from_slice(alloc, b"cost ")?;
-    push_number(&mut said, cost)?;
+    push_number(&mut said, layout.total)?;
     said.extend_from_slice(b", ")?;
     push_number(&mut said, slots)?;
-    said.extend_from_slice(b" slots; black: what costs at least a twentieth of that")?;
+    said.extend_from_slice(b" slots")?;
+    push_dear_at(alloc, &mut said, layout, 1)?;
+    push_dear_at(alloc, &mut said, layout, 2)?;
+    push_dear_at(alloc, &mut said, layout, 3)?;
     Ok(said)
+}
+
+/// How wide a drawing is.
+pub(crate) fn width_of(layout: &Layout) -> u64
+    ensures { result ≡ heads.width_of layout.now }
+{
+    layout.cost_x.saturating_add(298).max(790)
+}
+
+/// The letters that a line above the drawing may have.
+fn heading_room(layout: &Layout) -> u64
+    ensures room { result ≡ heads.heading_room layout.now }
+    ensures some { 8 ≤ result }
+{
+    (width_of(layout).saturating_sub(40) / 7).max(8)
 }
 
 /// Adds the heading.
@@ -156,7 +254,8 @@ pub(crate) fn push_title(
     let name = printable(alloc, name)?;
     let name = cut(alloc, 60, name.as_slice())?;
     marks.push(text(Style::Heading, 20, 24, name))?;
-    let said = summary(alloc, layout.total, slots)?;
+    let said = summary(alloc, layout, slots)?;
+    let said = cut(alloc, heading_room(layout) as usize, said.as_slice())?;
     marks.push(text(Style::Plain, 20, 42, said))
 }
 

@@ -5,6 +5,7 @@
 mod all_rows;
 mod arrows;
 mod heads;
+mod legend;
 mod picture;
 mod row_marks;
 

@@ -1,41 +1,45 @@
 //! The drawing of a choice of protocols.
 
-ghost use Rattle.std.specs.Prelude.{◌≡◌, ◌++◌, ◌≤◌, ◌∷◌, [], length, IfOk, OnOk};
+ghost use Rattle.std.specs.Prelude.{◌≡◌, ◌++◌, ◌≤◌, length, IfOk, OnOk};
 ghost use Rattle.vd_base.specs.Limits.{most_hosts};
 ghost use Rattle.vd_picture.specs.Picture as pictures;
 
 use crate::all_rows::push_rows;
 use crate::arrows::Marks;
-use crate::heads::{push_all_lanes, push_columns, push_title};
+use crate::heads::{push_all_lanes, push_columns, push_title, width_of};
+use crate::legend::{kinds_of, push_meanings};
 use crate::row_marks::{Scene, height_inside};
 use std::alloc::{AllocError, Global};
 use vd_base::{Bytes, Proto};
 use vd_constraints::Labels;
 use vd_core::{NormalForm, Program};
-use vd_drawing::{Row, rows_of};
+use vd_drawing::{Arrow, Row, rows_of};
 use vd_items::Items;
 use vd_layout::{Layout, label_texts, layout_of};
-use vd_svg::{Area, Mark, Place, document};
+use vd_svg::{Area, Mark, Place, Style, document};
 
 /// Where the rows end.
 fn bottom_of(rows: &[Row]) -> u64
     ensures { result ≡ pictures.bottom_of rows.now }
 {
-    height_inside(0, 0, rows).saturating_add(90)
+    height_inside(0, 0, 0, rows).saturating_add(90)
 }
 
-/// How wide a drawing is.
-fn width_of(layout: &Layout) -> u64
-    ensures { result ≡ pictures.width_of layout.now }
+/// Where the meanings of shapes begin, below those of so many kinds of arrows.
+fn shapes_y(bottom: u64, kinds: usize) -> u64
+    ensures { result ≡ pictures.shapes_y bottom kinds }
 {
-    layout.cost_x.saturating_add(270).max(790)
+    (kinds as u64)
+        .saturating_mul(20)
+        .saturating_add(bottom)
+        .saturating_add(50)
 }
 
-/// How high a drawing is whose rows end there.
-fn height_of(bottom: u64) -> u64
-    ensures { result ≡ pictures.height_of bottom }
+/// How high a drawing is whose rows end there, with so many kinds of arrows.
+fn height_of(bottom: u64, kinds: usize) -> u64
+    ensures { result ≡ pictures.height_of bottom kinds }
 {
-    bottom.saturating_add(256)
+    shapes_y(bottom, kinds).saturating_add(46)
 }
 
 /// The page itself.
@@ -52,11 +56,12 @@ fn push_front(
     name: &[u8],
     form: &NormalForm,
     bottom: u64,
+    height: u64,
     layout: &Layout,
 ) -> Result<(), AllocError>
-    ensures { OnOk result (marks.new ≡ marks.old ++ pictures.front_marks name.now form.now layout.now bottom) }
+    ensures { OnOk result (marks.new ≡ marks.old ++ pictures.front_marks name.now form.now layout.now bottom height) }
 {
-    marks.push(page_mark(width_of(layout), height_of(bottom)))?;
+    marks.push(page_mark(width_of(layout), height))?;
     push_title(
         alloc,
         marks,
@@ -76,28 +81,55 @@ fn legend_title() -> &'static [u8]
     b"what arrows and shapes mean"
 }
 
-/// Adds the group of the legend.
-fn push_legend(alloc: Global, marks: &mut Marks, bottom: u64) -> Result<(), AllocError>
-    ensures { OnOk result (marks.new ≡ marks.old ++ pictures.legend bottom ∷ []) }
+/// What stands above the meanings of arrows.
+#[tactic(auto, unfolding(crate::specs::Picture::arrows_title))]
+fn arrows_title() -> &'static [u8]
+    ensures { result.now ≡ pictures.arrows_title }
 {
-    let title = Bytes::from_slice(alloc, legend_title())?;
-    marks.push(Mark::Group(bottom.saturating_add(30), title))
+    b"What goes between hosts"
 }
 
-/// All marks.
+/// Adds the beginning of the legend.
+fn push_legend_head(alloc: Global, marks: &mut Marks, bottom: u64) -> Result<(), AllocError>
+    ensures { OnOk result (marks.new ≡ marks.old ++ pictures.legend_head bottom) }
+{
+    let title = Bytes::from_slice(alloc, legend_title())?;
+    let said = Bytes::from_slice(alloc, arrows_title())?;
+    marks.push(Mark::Group(bottom.saturating_add(30), title))?;
+    marks.push(Mark::Text(Style::Bold, Place { x: 20, y: 0 }, said))
+}
+
+/// Adds what these kinds of arrows mean, and begins the group of what shapes mean.
+fn push_legend(
+    alloc: Global,
+    marks: &mut Marks,
+    bottom: u64,
+    kinds: &[Arrow],
+) -> Result<(), AllocError>
+    ensures { OnOk result (marks.new ≡ marks.old ++ pictures.legend bottom kinds.now) }
+{
+    push_legend_head(alloc, marks, bottom)?;
+    push_meanings(alloc, marks, kinds)?;
+    marks.push(Mark::End)?;
+    marks.push(Mark::Group(shapes_y(bottom, kinds.len()), Bytes::new(alloc)))
+}
+
+/// All marks, where these kinds of arrows occur.
 fn picture_marks(
     alloc: Global,
     name: &[u8],
     form: &NormalForm,
     labels: &Items<Bytes>,
     rows: &[Row],
+    kinds: &[Arrow],
     layout: &Layout,
 ) -> Result<Marks, AllocError>
     requires few { length form.now.hosts ≤ most_hosts }
     requires greatest { 1 ≤ layout.now.greatest }
-    ensures { IfOk result (λ marks. marks ≡ pictures.picture_marks name.now form.now labels.now rows.now layout.now) }
+    ensures { IfOk result (λ marks. marks ≡ pictures.picture_marks name.now form.now labels.now rows.now kinds.now layout.now) }
 {
     let bottom = bottom_of(rows);
+    let height = height_of(bottom, kinds.len());
     let scene = Scene {
         layout,
         hosts: &form.hosts,
@@ -105,29 +137,30 @@ fn picture_marks(
         labels,
     };
     let mut marks = Items::new(alloc);
-    push_front(alloc, &mut marks, name, form, bottom, layout)?;
+    push_front(alloc, &mut marks, name, form, bottom, height, layout)?;
     push_rows(alloc, &mut marks, scene, 86, rows)?;
-    push_legend(alloc, &mut marks, bottom)?;
+    push_legend(alloc, &mut marks, bottom, kinds)?;
     Ok(marks)
 }
 
-/// The drawing of some rows.
+/// The drawing of some rows, where these kinds of arrows occur.
 fn picture(
     alloc: Global,
     name: &[u8],
     form: &NormalForm,
     labels: &Items<Bytes>,
     rows: &[Row],
+    kinds: &[Arrow],
 ) -> Result<Bytes, AllocError>
     requires { length form.now.hosts ≤ most_hosts }
-    ensures { IfOk result (λ text. text ≡ pictures.rows_picture name.now form.now labels.now rows.now) }
+    ensures { IfOk result (λ text. text ≡ pictures.rows_picture name.now form.now labels.now rows.now kinds.now) }
 {
     let layout = layout_of(alloc, &form.hosts, labels.as_slice(), rows)?;
-    let marks = picture_marks(alloc, name, form, labels, rows, &layout)?;
+    let marks = picture_marks(alloc, name, form, labels, rows, kinds, &layout)?;
     document(
         alloc,
         width_of(&layout),
-        height_of(bottom_of(rows)),
+        height_of(bottom_of(rows), kinds.len()),
         marks.as_slice(),
     )
 }
@@ -145,7 +178,10 @@ pub fn drawing(
     ensures { IfOk result (λ text. text ≡ pictures.drawn name.now source.now program.now labels.now list.now) }
 {
     let rows = rows_of(alloc, source, program, list)?;
+    let rows = rows.as_slice();
     let form = program.form();
     let labels = label_texts(alloc, form, labels)?;
-    picture(alloc, name, form, &labels, rows.as_slice())
+    let kinds = kinds_of(alloc, rows)?;
+    let kinds = kinds.as_slice();
+    picture(alloc, name, form, &labels, rows, kinds)
 }

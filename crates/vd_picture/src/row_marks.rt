@@ -8,9 +8,12 @@ use crate::arrows::{Ground, Marks, one_x, push_arrows};
 use std::alloc::{AllocError, Global};
 use vd_base::{Bytes, Names, Proto};
 use vd_core::Slot;
-use vd_drawing::{Kind, Line, Row, is_seen};
+use vd_drawing::{Kind, Line, Row};
 use vd_items::Items;
-use vd_layout::{Lane, Layout, cut, indent, is_same, label_at, protocol_name, push_number, set_x};
+use vd_layout::{
+    Lane, Layout, arrows_of, cut, dear_place, drawn_text, goes_on, indent, label_at, protocol_name,
+    push_number, set_x,
+};
 use vd_svg::{Area, Mark, Place, Shape, Stroke, Style};
 
 /// What is known of all rows: the columns, the names of the hosts, the slots, and their labels as they are printed.
@@ -22,19 +25,6 @@ pub(crate) struct Scene<'a> {
     pub labels: &'a Items<Bytes>,
 }
 
-/// How many moves are drawn.
-fn arrows_of(row: &Row) -> u64
-    ensures { result ≡ row_marks.arrows_of row.now }
-{
-    let mut count: u64 = 0;
-    for one in row.moves.as_slice() {
-        if is_seen(one.from, one.to) {
-            count += 1;
-        }
-    }
-    count
-}
-
 /// How high a row is.
 pub(crate) fn height_of(row: &Row) -> u64
     ensures { result ≡ row_marks.height_of row.now }
@@ -42,45 +32,18 @@ pub(crate) fn height_of(row: &Row) -> u64
     arrows_of(row).saturating_mul(15).saturating_add(8).max(22)
 }
 
-/// Whether a row is a binding without arrows.
-fn is_quiet(row: &Row) -> bool
-    ensures { result ≡ row_marks.is_quiet row.now }
+/// Whether the names of the lanes stand above a row of the drawing, below so many: they do above each fortieth.
+pub(crate) fn has_names(number: u64) -> bool
+    ensures { result ≡ row_marks.has_names number }
 {
-    is_binding(row.kind) && arrows_of(row) == 0
+    number % 40 == 0 && 0 < number
 }
 
-/// Whether a row is a binding.
-fn is_binding(kind: Kind) -> bool
-    ensures { result ≡ row_marks.is_binding kind }
+/// How high the names of the lanes above a row are.
+pub(crate) fn names_height(number: u64) -> u64
+    ensures { result ≡ row_marks.names_height number }
 {
-    matches!(kind, Kind::Binding)
-}
-
-/// Whether two rows are at the same protocol.
-fn is_same_at(first: Option<Proto>, second: Option<Proto>) -> bool
-    ensures { result ≡ row_marks.same_at first second }
-{
-    match (first, second) {
-        (Some(first), Some(second)) => is_same(first, second),
-        _ => false,
-    }
-}
-
-/// Whether two rows are bindings without arrows at one place.
-fn are_like(row: &Row, next: &Row) -> bool
-    ensures { result ≡ row_marks.are_like row.now next.now }
-{
-    is_quiet(row) && is_quiet(next) && is_same_at(row.at, next.at) && row.depth == next.depth
-}
-
-/// Whether a row is drawn with the one behind it.
-pub(crate) fn goes_on(row: &Row, rest: &[Row]) -> bool
-    ensures { result ≡ row_marks.goes_on row.now rest.now }
-{
-    match rest.first() {
-        Some(next) => are_like(row, next),
-        None => false,
-    }
+    if has_names(number) { 34 } else { 0 }
 }
 
 /// Whether a line of the source stands above a row.
@@ -125,21 +88,40 @@ pub(crate) fn next_last(last: usize, row: &Row, rest: &[Row]) -> usize
     }
 }
 
-/// How high a row is, with the line above it.
-pub(crate) fn whole_height(last: usize, row: &Row, rest: &[Row]) -> u64
-    ensures { result ≡ row_marks.whole_height last row.now rest.now }
+/// How many rows of the drawing stand above what is behind a row.
+pub(crate) fn next_number(number: u64, row: &Row, rest: &[Row]) -> u64
+    ensures { result ≡ row_marks.next_number number row.now rest.now }
+{
+    if goes_on(row, rest) {
+        number
+    } else {
+        number.saturating_add(1)
+    }
+}
+
+/// How high what stands above a row is: names of lanes, and a line of the source.
+pub(crate) fn height_above(number: u64, last: usize, row: &Row) -> u64
+    ensures { result ≡ row_marks.height_above number last row.now }
+{
+    names_height(number).saturating_add(line_height(last, row))
+}
+
+/// How high a row is, with what stands above it.
+pub(crate) fn whole_height(number: u64, last: usize, row: &Row, rest: &[Row]) -> u64
+    ensures { result ≡ row_marks.whole_height number last row.now rest.now }
 {
     if goes_on(row, rest) {
         0
     } else {
-        line_height(last, row).saturating_add(height_of(row))
+        height_above(number, last, row).saturating_add(height_of(row))
     }
 }
 
 /// How high the rows are that follow, as long as they stand deeper.
-pub(crate) fn height_inside(depth: u32, last: usize, rows: &[Row]) -> u64
-    ensures { result ≡ row_marks.height_inside depth last rows.now }
+pub(crate) fn height_inside(depth: u32, number: u64, last: usize, rows: &[Row]) -> u64
+    ensures { result ≡ row_marks.height_inside depth number last rows.now }
 {
+    let mut number = number;
     let mut last = last;
     let mut height: u64 = 0;
     for place in 0..rows.len() {
@@ -148,8 +130,9 @@ pub(crate) fn height_inside(depth: u32, last: usize, rows: &[Row]) -> u64
             return height;
         }
         let rest = &rows[place + 1..];
-        height = height.saturating_add(whole_height(last, row, rest));
+        height = height.saturating_add(whole_height(number, last, row, rest));
         last = next_last(last, row, rest);
+        number = next_number(number, row, rest);
     }
     height
 }
@@ -202,26 +185,11 @@ fn room(layout: &Layout, row: &Row) -> u64
         .max(3)
 }
 
-/// What stands for so many rows before a row.
-fn said_before(alloc: Global, before: u64) -> Result<Bytes, AllocError>
-    ensures { IfOk result (λ text. text ≡ row_marks.said_before before) }
-{
-    let mut text = Bytes::new(alloc);
-    if before == 0 {
-        return Ok(text);
-    }
-    text.extend_from_slice(b"+")?;
-    push_number(&mut text, before)?;
-    text.extend_from_slice(b": ")?;
-    Ok(text)
-}
-
 /// The text of a row, where so many rows before it are drawn with it.
 fn text_mark(alloc: Global, layout: &Layout, before: u64, row: &Row) -> Result<Mark, AllocError>
     ensures { IfOk result (λ mark. mark ≡ row_marks.text_mark layout.now before row.now) }
 {
-    let mut said = said_before(alloc, before)?;
-    said.extend_from_slice(row.text.as_slice())?;
+    let said = drawn_text(alloc, before, row)?;
     let shown = cut(alloc, room(layout, row) as usize, said.as_slice())?;
     let place = Place {
         x: text_x(row),
@@ -292,7 +260,7 @@ fn on_lane(x: u64) -> Place
     Place { x, y: 11 }
 }
 
-/// Adds lines from the first of copies to the others.
+/// Adds a line from each of some copies to the next.
 fn push_joins(marks: &mut Marks, xs: &[u64]) -> Result<(), AllocError>
     ensures { OnOk result (marks.new ≡ marks.old ++ row_marks.joins xs.now) }
 {
@@ -302,12 +270,14 @@ fn push_joins(marks: &mut Marks, xs: &[u64]) -> Result<(), AllocError>
     }
 }
 
-/// Adds lines from one copy to the others.
+/// Adds a line from one copy to the next, and so on.
 fn push_joins_from(marks: &mut Marks, first: u64, others: &[u64]) -> Result<(), AllocError>
-    ensures { OnOk result (marks.new ≡ marks.old ++ map (row_marks.join_mark first) others.now) }
+    ensures { OnOk result (marks.new ≡ marks.old ++ row_marks.joins_from first others.now) }
 {
+    let mut last = first;
     for x in others {
-        marks.push(Mark::Line(Stroke::Copies, on_lane(first), on_lane(*x)))?;
+        marks.push(Mark::Line(Stroke::Copies, on_lane(last), on_lane(*x)))?;
+        last = *x;
     }
     Ok(())
 }
@@ -404,13 +374,6 @@ fn bar_width(layout: &Layout, cost: u64) -> u64
     (cost.saturating_mul(90) / layout.greatest).min(90).max(1)
 }
 
-/// Whether a cost is at least a twentieth of all.
-fn is_dear(layout: &Layout, cost: u64) -> bool
-    ensures { result ≡ row_marks.is_dear layout.now cost }
-{
-    layout.total <= cost.saturating_mul(20)
-}
-
 /// A cost as it is told: `5520 = 24 x 230` where it comes more than once.
 fn cost_note(alloc: Global, cost: u64, weight: u32) -> Result<Bytes, AllocError>
     ensures { IfOk result (λ text. text ≡ row_marks.cost_note cost weight) }
@@ -440,45 +403,61 @@ fn note_style(is_dear: bool) -> Style
     if is_dear { Style::Bold } else { Style::Plain }
 }
 
-/// Adds the bar of a cost, and its number.
+/// What is said of a cost: a row that is among the dearest has its place there behind it.
+fn said_of_cost(alloc: Global, cost: u64, weight: u32, place: u64) -> Result<Bytes, AllocError>
+    ensures { IfOk result (λ text. text ≡ row_marks.said_of_cost cost weight place) }
+{
+    let mut text = cost_note(alloc, cost, weight)?;
+    if 0 < place {
+        text.extend_from_slice(b" (")?;
+        push_number(&mut text, place)?;
+        text.extend_from_slice(b")")?;
+    }
+    Ok(text)
+}
+
+/// Adds the bar of a cost, and its number, of a row with this place among the dearest.
 fn push_bar(
     alloc: Global,
     marks: &mut Marks,
     layout: &Layout,
+    place: u64,
     cost: u64,
     weight: u32,
 ) -> Result<(), AllocError>
     requires { 1 ≤ layout.now.greatest }
-    ensures { OnOk result (marks.new ≡ marks.old ++ row_marks.bar_marks layout.now cost weight) }
+    ensures { OnOk result (marks.new ≡ marks.old ++ row_marks.bar_marks layout.now place cost weight) }
 {
     let width = bar_width(layout, cost);
-    let is_dear = is_dear(layout, cost);
+    let is_dear = 0 < place;
     let bar = Place {
         x: layout.cost_x,
         y: 6,
     };
     marks.push(Mark::Rectangle(bar_area(is_dear), bar, width, 10))?;
-    let place = Place {
+    let behind = Place {
         x: layout.cost_x.saturating_add(width).saturating_add(6),
         y: 15,
     };
-    let note = cost_note(alloc, cost, weight)?;
-    marks.push(Mark::Text(note_style(is_dear), place, note))
+    let said = said_of_cost(alloc, cost, weight, place)?;
+    marks.push(Mark::Text(note_style(is_dear), behind, said))
 }
 
-/// Adds what tells a cost, if there is one.
+/// Adds what tells the cost of a row of the drawing, if there is one.
 fn push_cost(
     alloc: Global,
     marks: &mut Marks,
     layout: &Layout,
+    number: u64,
     cost: u64,
     weight: u32,
 ) -> Result<(), AllocError>
     requires { 1 ≤ layout.now.greatest }
-    ensures { OnOk result (marks.new ≡ marks.old ++ row_marks.cost_marks layout.now cost weight) }
+    ensures { OnOk result (marks.new ≡ marks.old ++ row_marks.cost_marks layout.now number cost weight) }
 {
     if 0 < cost {
-        push_bar(alloc, marks, layout, cost, weight)
+        let place = dear_place(layout, number, cost);
+        push_bar(alloc, marks, layout, place, cost, weight)
     } else {
         Ok(())
     }
@@ -541,12 +520,13 @@ fn push_frame(marks: &mut Marks, layout: &Layout, inside: u64, row: &Row) -> Res
     }
 }
 
-/// Adds the marks of a row, where the rows in its block are so high, so many rows before it are drawn with it, and all of
-/// them cost so much.
+/// Adds the marks of a row of the drawing with this number, where the rows in its block are so high, so many rows before it
+/// are drawn with it, and all of them cost so much.
 pub(crate) fn push_row(
     alloc: Global,
     marks: &mut Marks,
     scene: Scene,
+    number: u64,
     inside: u64,
     before: u64,
     cost: u64,
@@ -555,12 +535,12 @@ pub(crate) fn push_row(
     requires few { length scene.hosts.now ≤ most_hosts }
     requires greatest { 1 ≤ scene.layout.now.greatest }
     ensures { OnOk result (marks.new ≡ marks.old ++ row_marks.row_marks scene.entry.layout.now scene.entry.hosts.now
-        scene.entry.slots.now scene.entry.labels.now inside before cost row.now) }
+        scene.entry.slots.now scene.entry.labels.now number inside before cost row.now) }
 {
     push_frame(marks, scene.layout, inside, row)?;
     push_words(alloc, marks, scene, before, row)?;
     push_on_lanes(alloc, marks, scene, row)?;
-    push_cost(alloc, marks, scene.layout, cost, row.weight)
+    push_cost(alloc, marks, scene.layout, number, cost, row.weight)
 }
 
 /// Adds the text of a row, and what is said of the slot that it makes.
