@@ -5,8 +5,8 @@ use std::io::{self, Write};
 use std::process::{Processes, SystemProcess};
 use std::time::Clock;
 use vd_base::{CallFault, Texts};
-use vd_edge::RealSpawner;
 use vd_outside::Spawner;
+use vd_processes::RealSpawner;
 
 /// The words by which a shell does this.
 fn shell_words(alloc: Global, command: &str) -> Result<Texts, AllocError> {

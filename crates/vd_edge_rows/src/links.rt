@@ -20,7 +20,7 @@ fn pass<N: Net>(net: &mut N, address: &str) -> Option<(u32, u32, u32)>
 {
     let listener = net.listen(address).ok()?;
     let mut there = net.connect(address).ok()?;
-    let mut here = net.accept(listener).ok()?;
+    let mut here = net.accept(listener, b"").ok()?;
     let mut into = [0u8; 8];
     let sent = there.send(b"abc").unwrap_or(9);
     let came = here.receive(&mut into).unwrap_or(9);
@@ -37,7 +37,7 @@ fn pass_to_second<N: Net>(net: &mut N, first: &str, address: &str) -> Option<(u3
     net.listen(first).ok()?;
     let second = net.listen(address).ok()?;
     let mut there = net.connect(address).ok()?;
-    let mut here = net.accept(second).ok()?;
+    let mut here = net.accept(second, b"").ok()?;
     let mut into = [0u8; 8];
     there.send(b"abc").ok()?;
     let came = here.receive(&mut into).ok()?;
@@ -53,7 +53,7 @@ fn one_link<R: Network + Clock + Drop>(
     waits: Waits,
 ) -> Option<((u32, u32, u32), u64)> {
     let address = free_address(alloc, &rt)?;
-    let mut net = RealNet::new(SystemSockets::new(rt, waits), alloc);
+    let mut net = RealNet::new(SystemSockets::new(rt, alloc, waits), alloc);
     let passed = pass(&mut net, address.as_str())?;
     Some((passed, net.faults()))
 }
@@ -66,7 +66,7 @@ fn two_listeners<R: Network + Clock + Drop>(
 ) -> Option<((u32, u32), u64)> {
     let first = free_address(alloc, &rt)?;
     let second = free_address(alloc, &rt)?;
-    let mut net = RealNet::new(SystemSockets::new(rt, waits), alloc);
+    let mut net = RealNet::new(SystemSockets::new(rt, alloc, waits), alloc);
     let passed = pass_to_second(&mut net, first.as_str(), second.as_str())?;
     Some((passed, net.faults()))
 }
@@ -78,7 +78,7 @@ fn lone_address<R: Network + Clock + Drop>(
     waits: Waits,
 ) -> Option<(bool, u64)> {
     let address = free_address(alloc, &rt)?;
-    let mut net = RealNet::new(SystemSockets::new(rt, waits), alloc);
+    let mut net = RealNet::new(SystemSockets::new(rt, alloc, waits), alloc);
     let refused = net.connect(address.as_str()).is_err();
     Some((refused, net.faults()))
 }
@@ -105,9 +105,9 @@ fn nobody_comes<R: Network + Clock + Drop>(
     waits: Waits,
 ) -> Option<(bool, u64)> {
     let address = free_address(alloc, &rt)?;
-    let mut net = RealNet::new(SystemSockets::new(rt, waits), alloc);
+    let mut net = RealNet::new(SystemSockets::new(rt, alloc, waits), alloc);
     let listener = net.listen(address.as_str()).ok()?;
-    let over = net.accept(listener).is_err();
+    let over = net.accept(listener, b"").is_err();
     Some((over, net.faults()))
 }
 
@@ -122,4 +122,100 @@ pub fn print_waits<W: Write, R: Network + Clock + Clone + Drop>(
     writeln!(to, "nobody comes: {came:?}")?;
     let lone = lone_address(alloc, rt, waits);
     writeln!(to, "nobody listens: {lone:?}")
+}
+
+/// How many bytes come from the link that a net gives to who awaits `abc`, and the second of them. Before the link that sends these,
+/// one came that sent `axc`.
+fn pass_behind<N: Net>(net: &mut N, address: &str) -> Option<(u32, u8)>
+    requires { (N.view net.old).given < u32.MAX }
+{
+    let listener = net.listen(address).ok()?;
+    let mut stranger = net.connect(address).ok()?;
+    stranger.send(b"axc").ok()?;
+    let mut there = net.connect(address).ok()?;
+    there.send(b"abc").ok()?;
+    let mut here = net.accept(listener, b"abc").ok()?;
+    let mut into = [0u8; 8];
+    let came = here.receive(&mut into).ok()?;
+    net.hang_up(stranger);
+    net.hang_up(there);
+    net.hang_up(here);
+    Some((came, into[1]))
+}
+
+/// What passes behind a stranger, and how often the net failed.
+fn behind_a_stranger<R: Network + Clock + Drop>(
+    alloc: Global,
+    rt: R,
+    waits: Waits,
+) -> Option<((u32, u8), u64)> {
+    let address = free_address(alloc, &rt)?;
+    let mut net = RealNet::new(SystemSockets::new(rt, alloc, waits), alloc);
+    let passed = pass_behind(&mut net, address.as_str())?;
+    Some((passed, net.faults()))
+}
+
+/// How many bytes come from the link that a net with this limit gives to who awaits `abc`. Before the link that sends these, one came
+/// that sent nothing.
+fn pass_behind_silence<N: Net>(net: &mut N, address: &str, limit: u32) -> Option<u32>
+    requires { (N.view net.old).given < u32.MAX }
+{
+    net.wait_at_most(Some(limit));
+    let listener = net.listen(address).ok()?;
+    let silent = net.connect(address).ok()?;
+    let mut there = net.connect(address).ok()?;
+    there.send(b"abc").ok()?;
+    let mut here = net.accept(listener, b"abc").ok()?;
+    let mut into = [0u8; 8];
+    let came = here.receive(&mut into).ok()?;
+    net.hang_up(silent);
+    net.hang_up(there);
+    net.hang_up(here);
+    Some(came)
+}
+
+/// What passes behind a silent stranger within a second, and how often the net failed.
+fn behind_silence<R: Network + Clock + Drop>(
+    alloc: Global,
+    rt: R,
+    waits: Waits,
+) -> Option<(u32, u64)> {
+    let address = free_address(alloc, &rt)?;
+    let mut net = RealNet::new(SystemSockets::new(rt, alloc, waits), alloc);
+    let passed = pass_behind_silence(&mut net, address.as_str(), 1)?;
+    Some((passed, net.faults()))
+}
+
+/// Whether a wait for `abc` is over where one came that sent `axc`, and how often the net failed.
+fn strangers_alone<R: Network + Clock + Drop>(
+    alloc: Global,
+    rt: R,
+    waits: Waits,
+) -> Option<(bool, u64)> {
+    let address = free_address(alloc, &rt)?;
+    let mut net = RealNet::new(SystemSockets::new(rt, alloc, waits), alloc);
+    let listener = net.listen(address.as_str()).ok()?;
+    let mut stranger = net.connect(address.as_str()).ok()?;
+    stranger.send(b"axc").ok()?;
+    let over = net.accept(listener, b"abc").is_err();
+    net.hang_up(stranger);
+    Some((over, net.faults()))
+}
+
+/// Prints to whom a link is given before whom a stranger came: without a limit to the stranger, and within one to who is awaited.
+pub fn print_strangers<W: Write, R: Network + Clock + Clone + Drop>(
+    to: &mut W,
+    rt: R,
+    alloc: Global,
+    alone: Waits,
+    limited: Waits,
+) -> io::Result<()> {
+    let first = behind_a_stranger(alloc, rt.clone()?, alone);
+    writeln!(to, "a stranger first: {first:?}")?;
+    let behind = behind_a_stranger(alloc, rt.clone()?, limited);
+    writeln!(to, "a stranger first: {behind:?}")?;
+    let silent = behind_silence(alloc, rt.clone()?, alone);
+    writeln!(to, "a silent one first: {silent:?}")?;
+    let over = strangers_alone(alloc, rt, limited);
+    writeln!(to, "strangers alone: {over:?}")
 }

@@ -1,5 +1,6 @@
-//! Prints what the objects of the system do: files that are stored and fetched, stores of which one step is refused, streams that
-//! take a byte at a time, children that a shell plays, alone and side by side, and links over the loopback. `stdout` has what is to come.
+//! Prints what the objects of the system do: files that are stored and fetched, stores of which some steps are refused, streams that
+//! take a byte at a time, children that a shell plays, alone and side by side, and links over the loopback, also where a stranger
+//! comes first. `stdout` has what is to come.
 #![tactic(auto)]
 
 mod children;
@@ -21,12 +22,13 @@ fn main(rt: HostRuntime) -> io::Result<()> {
     stores::print_stores(&mut to, alloc)?;
     streams::print_streams(&mut to, alloc)?;
     children::print_children(&mut to, rt.clone()?, alloc)?;
-    let alone = Waits::new(rt.process(), None, None);
+    let alone = Waits::new(rt.process(), None);
     links::print_links(&mut to, rt.clone()?, alloc, alone)?;
-    let watched = Waits::new(rt.process(), Some(parent_id(rt.process())), None);
+    let watched = Waits::new(rt.process(), Some(parent_id(rt.process())));
     links::print_links(&mut to, rt.clone()?, alloc, watched)?;
-    let orphaned = Waits::new(rt.process(), Some(0), None);
+    let orphaned = Waits::new(rt.process(), Some(0));
     links::print_waits(&mut to, rt.clone()?, alloc, orphaned)?;
-    let limited = Waits::new(rt.process(), None, Some(1));
-    links::print_waits(&mut to, rt, alloc, limited)
+    let limited = alone.within(Some(1));
+    links::print_waits(&mut to, rt.clone()?, alloc, limited)?;
+    links::print_strangers(&mut to, rt, alloc, alone, limited)
 }

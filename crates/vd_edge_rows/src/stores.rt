@@ -1,4 +1,4 @@
-ghost use Rattle.std.specs.Prelude.{None, false};
+ghost use Rattle.std.specs.Prelude.{None, false, ⊤};
 
 use std::alloc::Global;
 use std::io::{self, Empty, ErrorKind, Write};
@@ -14,20 +14,28 @@ enum Held {
     New,
 }
 
-/// A directory with two places: a name, and a new file beside it. Its calls are counted, and one of them is refused.
+/// A step of a store.
+#[derive(Clone, Copy, Debug, PartialEq, Eq)]
+enum Step {
+    Standing,
+    Create,
+    Fill,
+    Rename,
+    Remove,
+}
+
+/// A directory with two places: a name, and a new file beside it. Some steps of a store are refused.
 #[derive(Debug, Drop)]
 struct Shelf {
     kept: Held,
     beside: Held,
-    calls: u32,
-    refused: u32,
+    refused: &'static [Step],
 }
 
 impl Shelf {
-    /// Counts a call, and refuses it if it is the one that is to be refused.
-    fn ask(&mut self) -> io::Result<()> {
-        self.calls = self.calls.saturating_add(1);
-        if self.calls == self.refused {
+    /// Refuses a step if it is one that is to be refused.
+    fn ask(&self, step: Step) -> io::Result<()> {
+        if self.refused.contains(&step) {
             return Err(io::Error::from(ErrorKind::Other));
         }
         Ok(())
@@ -43,6 +51,8 @@ impl Directory for Shelf {
 
     ghost replaces = { λ shelf name. false };
 
+    ghost settles = { λ shelf name. ⊤ };
+
     fn mark(&self) -> u32 {
         7
     }
@@ -52,6 +62,7 @@ impl Directory for Shelf {
     }
 
     fn standing(&self, _name: &str) -> io::Result<Standing> {
+        self.ask(Step::Standing)?;
         match self.kept {
             Held::Nothing => Ok(Standing::Nothing),
             _ => Ok(Standing::Plain(0o644)),
@@ -59,48 +70,50 @@ impl Directory for Shelf {
     }
 
     fn write(&mut self, _name: &str, _bytes: &[u8]) -> io::Result<()> {
-        self.kept = Held::Part;
-        self.ask()?;
         self.kept = Held::New;
         Ok(())
     }
 
     fn create(&mut self, _name: &str, _access: Access) -> io::Result<()> {
-        self.ask()?;
+        self.ask(Step::Create)?;
         self.beside = Held::Part;
         Ok(())
     }
 
     fn fill(&mut self, _name: &str, _bytes: &[u8], _access: Access) -> io::Result<()> {
-        self.ask()?;
+        self.ask(Step::Fill)?;
         self.beside = Held::New;
         Ok(())
     }
 
     fn rename(&mut self, _from: &str, _to: &str) -> io::Result<()> {
-        self.ask()?;
+        self.ask(Step::Rename)?;
         self.kept = self.beside;
         self.beside = Held::Nothing;
         Ok(())
     }
 
     fn remove(&mut self, _name: &str) -> io::Result<()> {
-        self.ask()?;
+        self.ask(Step::Remove)?;
         self.beside = Held::Nothing;
         Ok(())
     }
 
-    fn settle(&self, _name: &str) -> io::Result<()> {
+    fn settle(&mut self, _name: &str) -> io::Result<()> {
         Ok(())
     }
 }
 
-/// Prints how a store ends of which this call is refused, and what stands then.
-fn print_store<W: Write>(to: &mut W, alloc: Global, stood: Held, refused: u32) -> io::Result<()> {
+/// Prints how a store ends of which these steps are refused, and what stands then.
+fn print_store<W: Write>(
+    to: &mut W,
+    alloc: Global,
+    stood: Held,
+    refused: &'static [Step],
+) -> io::Result<()> {
     let shelf = Shelf {
         kept: stood,
         beside: Held::Nothing,
-        calls: 0,
         refused,
     };
     let mut files = RealFiles::new(shelf, alloc);
@@ -109,14 +122,25 @@ fn print_store<W: Write>(to: &mut W, alloc: Global, stood: Held, refused: u32) -
     let Shelf { kept, beside, .. } = files.into_inner();
     writeln!(
         to,
-        "{stood:?} stands, call {refused} refused: {stored:?}, {faults} faults, {kept:?} stands, beside it {beside:?}"
+        "{stood:?} stands, {refused:?} refused: {stored:?}, {faults} faults, {kept:?} stands, beside it {beside:?}"
     )
 }
 
-/// Prints what stands after stores of which one call is refused.
+/// The steps that are refused of one store after the other: each once, and the removal of the new file behind those that ask for it.
+const REFUSED: [&[Step]; 7] = [
+    &[],
+    &[Step::Standing],
+    &[Step::Create],
+    &[Step::Fill],
+    &[Step::Rename],
+    &[Step::Fill, Step::Remove],
+    &[Step::Rename, Step::Remove],
+];
+
+/// Prints what stands after stores of which some steps are refused.
 pub fn print_stores<W: Write>(to: &mut W, alloc: Global) -> io::Result<()> {
     for stood in [Held::Nothing, Held::Old] {
-        for refused in 1..=4 {
+        for refused in REFUSED {
             print_store(to, alloc, stood, refused)?;
         }
     }

@@ -6,7 +6,15 @@ use vd_base::Bytes;
 use vd_remarks::{Remark, host_sentence, inputs_sentence, tell, usage_of};
 
 /// Commands, and a word that is none.
-const COMMANDS: [&str; 5] = ["clear", "choose", "host", "depends", "celar"];
+const COMMANDS: [&str; 7] = [
+    "clear",
+    "choose",
+    "draw",
+    "host",
+    "host-within",
+    "depends",
+    "celar",
+];
 
 /// Prints a name, and what a sentence at an offset of an inputs file tells.
 fn print_told<W: Write>(
