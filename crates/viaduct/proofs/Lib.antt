@@ -1,1 +1,2 @@
 mod Deals
+mod Speakers

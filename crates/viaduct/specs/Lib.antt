@@ -1,4 +1,3 @@
 pub mod Ahead
-pub mod Limited
 pub mod Program
 pub mod Reasons

@@ -1,20 +1,27 @@
 -- What the program does, whatever objects it is given.
-use Rattle.std.specs.Prelude.{◌≡◌, ◌⊎◌, ℕ, List, Result}
+use Rattle.std.specs.Prelude.{◌≡◌, ◌⊎◌, ℕ, List, Option, None, Some, Result}
 use Rattle.vd_outside.specs.Files.{Contents, FilesView}
 use Rattle.vd_outside.specs.Net.{NetView}
 use Rattle.vd_outside.specs.Sink.{SinkView}
 use Rattle.vd_outside.specs.Spawner.{SpawnerView}
-use Rattle.vd_edge.specs.KeptFiles.{IsReadAhead}
+use Rattle.vd_edge.specs.KeptFiles.{TellsHeld}
 use Rattle.vd_plan.specs.Lines.{Says, code_of, status_line}
 use Rattle.vd_plan.specs.declared.status.Status.{Status}
-use Rattle.vd_plan.specs.declared.status.Status.TheVariants.{Memory}
+use Rattle.vd_plan.specs.declared.status.Status.TheVariants.{Host, Memory}
+use Rattle.vd_plan.specs.declared.status.HostStatus.TheVariants.{EndOfLink, PeerFault}
 use Rattle.vd_remarks.specs.declared.fault.TellFault.{TellFault}
 use Rattle.vd_telling.specs.Saying.{SaysTo}
 use Rattle.vd_telling.specs.declared.telling.Destination.{Destination}
 use Rattle.vd_top.specs.Promises.{Around, Starts}
 
+-- the peer that a status names
+abbrev pub peer_of : Status → Option (List ℕ)
+peer_of (Host (PeerFault name)) = Some name
+peer_of (Host (EndOfLink name)) = Some name
+peer_of status = None
+
 -- The command line was run; then more was said of its status to the person at a terminal; and the process ends with its number.
-pub record IsRun (destination : Destination) (words : List (List ℕ)) (o : Around) (code : ℕ) : Type 0 where
+pub record IsRun (destination : Destination) (words : List (List ℕ)) (o : Around) (code : ℕ) (peer : Option (List ℕ)) : Type 0 where
   pub status : Status
   -- the files and the error stream between the two
   pub files : FilesView
@@ -23,6 +30,7 @@ pub record IsRun (destination : Destination) (words : List (List ℕ)) (o : Arou
   pub said : Result (Unit {0}) TellFault
   pub more : SaysTo destination words status files o.files.1 err o.err.1 said
   pub ends : code ≡ code_of status
+  pub named : peer ≡ peer_of status
 
 -- the objects that a run uses besides files, each before it and after it
 pub record Streams : Type 0 where
@@ -32,20 +40,21 @@ pub record Streams : Type 0 where
   pub spawner : SpawnerView × SpawnerView
 
 -- There was no memory for the files, which is said; nothing else was done.
-pub record WantsMemory (o : Streams) (code : ℕ) : Type 0 where
+pub record WantsMemory (o : Streams) (code : ℕ) (peer : Option (List ℕ)) : Type 0 where
   pub says : Says (status_line Memory) o.err.0 o.err.1
   pub out : o.out.1 ≡ o.out.0
   pub net : o.net.1 ≡ o.net.0
   pub spawner : o.spawner.1 ≡ o.spawner.0
   pub ends : code ≡ code_of Memory
+  pub named : peer ≡ None
 
 -- The command line was run over files that were read ahead, which held what stood in the directory where it tells that.
-pub record IsRunOver (destination : Destination) (words : List (List ℕ)) (holds : Contents) (o : Streams) (code : ℕ) : Type 0 where
+pub record IsRunOver (destination : Destination) (words : List (List ℕ)) (holds : Contents) (o : Streams) (code : ℕ) (peer : Option (List ℕ)) : Type 0 where
   pub read : FilesView
   pub last : FilesView
-  pub ahead : IsReadAhead holds read
-  pub run : IsRun destination words (record { files = (read, last); out = o.out; err = o.err; net = o.net; spawner = o.spawner }) code
+  pub ahead : TellsHeld holds read
+  pub run : IsRun destination words (record { files = (read, last); out = o.out; err = o.err; net = o.net; spawner = o.spawner }) code peer
 
 -- Either was it, or there was no memory.
-abbrev pub RunsOver : Destination → (words : List (List ℕ)) → (holds : Contents) → Streams → (code : ℕ) → Type 0
-RunsOver destination words holds o code = IsRunOver destination words holds o code ⊎ WantsMemory o code
+abbrev pub RunsOver : Destination → (words : List (List ℕ)) → (holds : Contents) → Streams → (code : ℕ) → (peer : Option (List ℕ)) → Type 0
+RunsOver destination words holds o code peer = IsRunOver destination words holds o code peer ⊎ WantsMemory o code peer

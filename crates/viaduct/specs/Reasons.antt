@@ -1,19 +1,49 @@
 -- The line that tells a person why a call of the outside failed.
-use Rattle.std.specs.Prelude.{ℕ, ◌||◌, nat_eq, nat_lt, List, [], ◌∷◌, ◌++◌, codes, map, if◌then◌else◌}
-use Rattle.std.specs.Str.{bytes_eq}
+use Rattle.std.specs.Prelude.{◌≡◌, ◌⊎◌, ℕ, List, [], ◌∷◌, ◌++◌, codes, Option, None, Some, slice_get}
+use Rattle.std.specs.Fmt.{decimal}
+use Rattle.vd_cmd.specs.declared.command.Command.{Command}
+use Rattle.vd_cmd.specs.declared.command.Command.TheVariants.{Host}
+use Rattle.vd_cmd.specs.declared.command.HostWords.{HostWords}
+use Rattle.vd_edge.specs.PeerReasons.{call_text}
+use Rattle.vd_edge.specs.declared.peer_reason.PeerReason.{PeerReason}
+use Rattle.vd_host_command.specs.Loading.{HoldsProgram}
+use Rattle.vd_host_text.specs.declared.program.HostProgram.{HostProgram}
+use Rattle.vd_outside.specs.Files.{Contents}
+use Rattle.vd_plan.specs.Shown.{shown}
 
--- control characters, those below 32 and 127, are shown as blanks
-abbrev pub shown_byte : ℕ → ℕ
-shown_byte byte = if nat_lt byte 32 || nat_eq byte 127 then 32 else byte
+-- a host speaks by its name, since several can write to one terminal
+abbrev pub speaker : Option (List ℕ) → List ℕ
+speaker None = []
+speaker (Some host) = codes "host " ++ (shown host ++ codes ", ")
 
-abbrev pub shown : List ℕ → List ℕ
-shown bytes = map shown_byte bytes
+abbrev pub reason_line : Option (List ℕ) → List ℕ → List ℕ
+reason_line host reason = codes "viaduct: " ++ (speaker host ++ (shown reason ++ 10 ∷ []))
 
--- a host is named by the file of its program, since several can write to one terminal
-abbrev pub speaker : List (List ℕ) → List ℕ
-speaker [] = []
-speaker (command ∷ []) = []
-speaker (command ∷ program ∷ words) = if bytes_eq command (codes "host") then shown program ++ codes ", " else []
+-- a peer goes by its name, where it is known for whom something was done
+abbrev pub peer_part : Option (List ℕ) → List ℕ
+peer_part None = codes "a peer"
+peer_part (Some name) = name
 
-abbrev pub reason_line : List (List ℕ) → List ℕ → List ℕ
-reason_line words reason = codes "viaduct: " ++ (speaker words ++ (shown reason ++ 10 ∷ []))
+abbrev pub address_part : Option (List ℕ) → List ℕ
+address_part None = []
+address_part (Some address) = codes " at " ++ address
+
+-- what was done for which peer, at which address, and what the system says of it
+abbrev pub peer_text : Option (List ℕ) → PeerReason → List ℕ
+peer_text peer reason = call_text reason.call ++ (codes " " ++ (peer_part peer ++ (address_part reason.address ++ (codes ": " ++ reason.cause))))
+
+-- how many packets a host sent, and how many came to it
+abbrev pub packets_text : (sent came : ℕ) → List ℕ
+packets_text sent came = decimal sent ++ (codes " packets sent, " ++ (decimal came ++ codes " received"))
+
+-- the host of a program goes by its own name, and by that of the program's file where that is none
+abbrev pub IsOwnName : HostWords → Contents → List ℕ → Type 0
+IsOwnName words contents name = (program : HostProgram) × HoldsProgram words contents program × (slice_get program.hosts program.me.0 ≡ Some name)
+
+abbrev pub IsHostName : HostWords → Contents → List ℕ → Type 0
+IsHostName words contents name = IsOwnName words contents name ⊎ (name ≡ words.program)
+
+-- the host that a command line runs; other commands run none here
+abbrev pub IsSpeaker : Option Command → Contents → List ℕ → Type 0
+IsSpeaker (Some (Host words)) contents name = IsHostName words contents name
+IsSpeaker command contents name = ⊥

@@ -3,24 +3,25 @@
 #![tactic(auto)]
 
 mod ahead;
-mod limited;
 mod program;
 mod reasons;
+mod speaker;
 
-use limited::{limit_of, without_limit};
-use program::{Ran, destination_of, end, reason_of, run_over, words_of};
-use reasons::tell_reason;
+use program::{Ending, Ran, destination_of, end, reason_of, run_over, words_of};
+use reasons::{tell_reason, text_of_packets, text_of_peer};
+use speaker::speaker_of;
 use std::alloc::Global;
 use std::env::{Env, VarError};
 use std::io::{IsTerminal, Stderr, Stdout};
 use std::os::unix::process::parent_id;
 use std::process::ExitCode;
 use std::{env, fs, io, process};
-use vd_base::Texts;
+use vd_base::{Bytes, Name, Texts};
 use vd_edge::{
-    PARENT, RealFiles, RealNet, RealSink, RealSpawner, SystemDirectory, SystemSockets, Waits,
+    KeptFiles, PeerReason, RealFiles, RealNet, RealSink, SystemDirectory, SystemSockets, Waits,
 };
 use vd_plan::Status;
+use vd_processes::{PARENT, REASONS, RealSpawner};
 use vd_telling::Destination;
 
 /// The words of the command line after the program's own. Words that are no text make no command line.
@@ -35,15 +36,6 @@ fn words(rt: &(impl Env + AllocGlobal)) -> io::Result<Texts> {
     }
 }
 
-/// The words that are run, behind their limit of time in seconds if they have one.
-fn asked(rt: &HostRuntime) -> io::Result<(Option<u32>, Texts)> {
-    let words = words(rt)?;
-    match limit_of(&words) {
-        Some(limit) => Ok((Some(limit), without_limit(rt.alloc(), &words)?)),
-        None => Ok((None, words)),
-    }
-}
-
 /// Where standard error goes, and whether there in colours.
 fn destination(rt: &(impl Env + AllocGlobal), stream: &Stderr) -> Destination {
     let coloured = matches!(env::var(rt, "NO_COLOR"), Err(VarError::NotPresent));
@@ -52,7 +44,7 @@ fn destination(rt: &(impl Env + AllocGlobal), stream: &Stderr) -> Destination {
 
 /// Whether a person is told why a call of the outside failed: at a terminal, and where a variable asks for it.
 fn tells_reasons(rt: &(impl Env + AllocGlobal), stream: &Stderr) -> bool {
-    stream.is_terminal() || env::var(rt, "VIADUCT_REASONS").is_ok()
+    stream.is_terminal() || env::var(rt, REASONS).is_ok()
 }
 
 /// The number of the process whose end ends the waits of this one: of the run that started it, or of a script between the two.
@@ -68,6 +60,73 @@ fn parent(rt: &HostRuntime) -> Option<u32> {
     }
 }
 
+/// The name by which the host of a command line speaks.
+fn name_of_host(
+    alloc: Global,
+    words: &Texts,
+    files: &mut Option<KeptFiles<SystemDirectory<HostRuntime>>>,
+) -> Option<Bytes> {
+    match files {
+        Some(files) => speaker_of(alloc, words, files),
+        None => None,
+    }
+}
+
+/// The bytes of a name, where there is one.
+fn bytes_of(name: &Option<Bytes>) -> Option<&[u8]> {
+    match name {
+        Some(name) => Some(name.as_slice()),
+        None => None,
+    }
+}
+
+/// Tells why a call failed, where that is known.
+fn tell_text(
+    alloc: Global,
+    host: &Option<Bytes>,
+    err: &mut RealSink<Stderr>,
+    reason: Option<&str>,
+) {
+    if let Some(reason) = reason {
+        tell_reason(alloc, bytes_of(host), err, reason.as_bytes());
+    }
+}
+
+/// Tells why something that was done for a peer failed, where that is known.
+fn tell_peer(
+    alloc: Global,
+    host: &Option<Bytes>,
+    err: &mut RealSink<Stderr>,
+    peer: Option<&Name>,
+    reason: Option<&PeerReason>,
+) {
+    let peer = match peer {
+        Some(name) => Some(name.as_slice()),
+        None => None,
+    };
+    if let Some(reason) = reason {
+        if let Ok(text) = text_of_peer(alloc, peer, reason) {
+            tell_reason(alloc, bytes_of(host), err, text.as_slice());
+        }
+    }
+}
+
+/// Tells how many packets a host sent and how many came to it.
+fn tell_packets(
+    alloc: Global,
+    words: &Texts,
+    files: &mut Option<KeptFiles<SystemDirectory<HostRuntime>>>,
+    err: &mut RealSink<Stderr>,
+    packets: (u64, u64),
+) {
+    let host = name_of_host(alloc, words, files);
+    if host.is_some() {
+        if let Ok(text) = text_of_packets(alloc, packets) {
+            tell_reason(alloc, bytes_of(&host), err, text.as_bytes());
+        }
+    }
+}
+
 /// Runs the command line over the real objects, and gives the code of how it ended. An error is that there was no memory.
 fn run(
     rt: HostRuntime,
@@ -76,14 +135,16 @@ fn run(
 ) -> io::Result<ExitCode> {
     let alloc: Global = rt.alloc();
     let destination = destination(&rt, &rt.stderr());
-    let (limit, words) = asked(&rt)?;
+    let words = words(&rt)?;
     let told = tells_reasons(&rt, &rt.stderr());
     let process = process::id(rt.process());
-    let waits = Waits::new(rt.process(), parent(&rt), limit);
-    let mut net = RealNet::new(SystemSockets::new(rt.clone()?, waits), alloc);
+    let run = parent(&rt);
+    let alone = run.is_none();
+    let waits = Waits::new(rt.process(), run);
+    let mut net = RealNet::new(SystemSockets::new(rt.clone()?, alloc, waits), alloc);
     let mut spawner = RealSpawner::new(rt.clone()?, alloc, process);
     let files = RealFiles::new(SystemDirectory::new(rt, process), alloc);
-    let Ran { code, files } = run_over(
+    let Ran { ending, mut files } = run_over(
         alloc,
         destination,
         &words,
@@ -93,19 +154,27 @@ fn run(
         &mut net,
         &mut spawner,
     );
-    if told && code != ExitCode::SUCCESS {
-        tell_reason(alloc, &words, err, reason_of(&files));
-        tell_reason(alloc, &words, err, net.reason());
-        tell_reason(alloc, &words, err, spawner.reason().as_deref());
+    if told && ending.code != ExitCode::SUCCESS {
+        let host = name_of_host(alloc, &words, &mut files);
+        let written = out.reason(alloc, "standard output");
+        tell_text(alloc, &host, err, reason_of(&files));
+        tell_text(alloc, &host, err, written.as_deref());
+        tell_peer(alloc, &host, err, ending.peer.as_ref(), net.reason());
+        tell_text(alloc, &host, err, spawner.reason().as_deref());
     }
-    Ok(code)
+    let terminal = matches!(destination, Destination::Terminal { .. });
+    if alone && terminal && ending.code == ExitCode::SUCCESS {
+        tell_packets(alloc, &words, &mut files, err, net.packets());
+    }
+    Ok(ending.code)
 }
 
 fn main(rt: HostRuntime) -> ExitCode {
+    let alloc = rt.alloc();
     let mut out = RealSink::new(rt.stdout());
     let mut err = RealSink::new(rt.stderr());
     match run(rt, &mut out, &mut err) {
         Ok(code) => code,
-        Err(_) => end(&mut err, &Status::Memory),
+        Err(_) => end(alloc, &mut err, &Status::Memory),
     }
 }

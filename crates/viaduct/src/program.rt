@@ -4,15 +4,15 @@ ghost use Rattle.std.specs.Prelude.{◌≡◌, ◌≤◌, IfOk, drop, if◌then�
 ghost use Rattle.std.specs.Process.{exit_status};
 ghost use Rattle.vd_plan.specs.Lines.{Says, code_of, status_line};
 ghost use Rattle.vd_telling.specs.declared.telling.Destination.TheVariants.{File, Terminal};
-ghost use Rattle.viaduct.specs.Program.{IsRun, RunsOver};
+ghost use Rattle.viaduct.specs.Program.{IsRun, RunsOver, peer_of};
 
 use crate::ahead::read_ahead;
 use std::alloc::{AllocError, Global};
 use std::process::ExitCode;
-use vd_base::Texts;
+use vd_base::{Name, Texts};
 use vd_edge::{Directory, KeptFiles, RealFiles};
 use vd_outside::{Files, Net, Sink, Spawner};
-use vd_plan::{Status, tell};
+use vd_plan::{HostStatus, Status, tell};
 use vd_telling::{Destination, say_more};
 use vd_top::start;
 
@@ -55,8 +55,25 @@ fn exit_code(status: &Status) -> ExitCode
     ExitCode::from(status.code())
 }
 
-/// Runs a command line over these objects, and gives the code of its status; where the error stream goes to a terminal, it
-/// then says more of a fault.
+/// The peer that a status names.
+fn peer_of(status: Status) -> Option<Name>
+    ensures { result ≡ peer_of status }
+{
+    match status {
+        Status::Host(HostStatus::PeerFault(name) | HostStatus::EndOfLink(name)) => Some(name),
+        _ => None,
+    }
+}
+
+/// How a run ended: the code of its status, and the peer that the status names.
+#[derive(Drop)]
+pub struct Ending {
+    pub code: ExitCode,
+    pub peer: Option<Name>,
+}
+
+/// Runs a command line over these objects, and says how that ended; where the error stream goes to a terminal, it then says
+/// more of a fault.
 pub fn run_program<F: Files, O: Sink, E: Sink, N: Net, S: Spawner>(
     alloc: Global,
     destination: Destination,
@@ -66,7 +83,7 @@ pub fn run_program<F: Files, O: Sink, E: Sink, N: Net, S: Spawner>(
     err: &mut E,
     net: &mut N,
     spawner: &mut S,
-) -> ExitCode
+) -> Ending
     requires listeners { (N.view net.old).given ≤ 4294967000 }
     requires children { (S.view spawner.old).given ≤ 4294967000 }
     ensures { IsRun destination words.now (record {
@@ -75,28 +92,31 @@ pub fn run_program<F: Files, O: Sink, E: Sink, N: Net, S: Spawner>(
       err = (E.view err.old, E.view err.new);
       net = (N.view net.old, N.view net.new);
       spawner = (S.view spawner.old, S.view spawner.new);
-    }) (exit_status result) }
+    }) (exit_status result.code) result.peer }
 {
     let status = start(alloc, words, files, out, err, net, spawner);
 
     // The line stands: where there is no memory to say more of it, no more is said.
     let _ = say_more(alloc, destination, words, files, err, &status);
-    exit_code(&status)
+    Ending {
+        code: exit_code(&status),
+        peer: peer_of(status),
+    }
 }
 
 /// Says how a run ended that began nothing, and gives the code of that.
-pub fn end<E: Sink>(err: &mut E, status: &Status) -> ExitCode
+pub fn end<E: Sink>(alloc: Global, err: &mut E, status: &Status) -> ExitCode
     ensures says { Says (status_line status.now) (E.view err.old) (E.view err.new) }
     ensures ends { exit_status result ≡ code_of status.now }
 {
-    tell(err, status);
+    tell(alloc, err, status);
     exit_code(status)
 }
 
-/// A run over files that were read ahead: the code of its status, and the files, unless there was no memory for them.
+/// A run over files that were read ahead: how it ended, and the files, unless there was no memory for them.
 #[derive(Drop)]
 pub struct Ran<D: Directory + Drop> {
-    pub code: ExitCode,
+    pub ending: Ending,
     pub files: Option<KeptFiles<D>>,
 }
 
@@ -108,7 +128,7 @@ pub fn reason_of<D: Directory + Drop>(files: &Option<KeptFiles<D>>) -> Option<&s
     }
 }
 
-/// Reads the files that a command line may fetch, runs it over what they held, and gives the code of its status. Each file
+/// Reads the files that a command line may fetch, runs it over what they held, and says how that ended. Each file
 /// is read once, so that all of a run, and what is said of it to a person, speaks of the same bytes.
 pub fn run_over<D: Directory + Drop, O: Sink, E: Sink, N: Net, S: Spawner>(
     alloc: Global,
@@ -127,11 +147,11 @@ pub fn run_over<D: Directory + Drop, O: Sink, E: Sink, N: Net, S: Spawner>(
       err = (E.view err.old, E.view err.new);
       net = (N.view net.old, N.view net.new);
       spawner = (S.view spawner.old, S.view spawner.new);
-    }) (exit_status result.code) }
+    }) (exit_status result.ending.code) result.ending.peer }
 {
     match read_ahead(alloc, words, files) {
         Ok(mut files) => {
-            let code = run_program(
+            let ending = run_program(
                 alloc,
                 destination,
                 words,
@@ -142,12 +162,15 @@ pub fn run_over<D: Directory + Drop, O: Sink, E: Sink, N: Net, S: Spawner>(
                 spawner,
             );
             Ran {
-                code,
+                ending,
                 files: Some(files),
             }
         }
         Err(_) => Ran {
-            code: end(err, &Status::Memory),
+            ending: Ending {
+                code: end(alloc, err, &Status::Memory),
+                peer: None,
+            },
             files: None,
         },
     }

@@ -1,65 +1,104 @@
 //! Why a call of the outside failed, as a person is told.
 
-ghost use Rattle.std.specs.Prelude.{◌≡◌, ◌++◌, OnOk, IfOk};
-ghost use Rattle.viaduct.specs.Reasons.{reason_line, shown, shown_byte, speaker};
+ghost use Rattle.std.specs.Prelude.{◌≡◌, ◌++◌, OnOk, IfOk, option_map, string_bytes};
+ghost use Rattle.vd_plan.specs.Shown.{shown};
+ghost use Rattle.viaduct.specs.Reasons.{address_part, packets_text, peer_part, peer_text, reason_line, speaker};
 
 use std::alloc::{AllocError, Global};
-use vd_base::{Bytes, Texts};
+use vd_base::{Bytes, Text};
+use vd_edge::PeerReason;
 use vd_outside::Sink;
-use vd_plan::write_all;
-
-/// A byte as it is shown: a control character as a blank.
-fn shown_byte(byte: u8) -> u8
-    ensures { result ≡ shown_byte byte }
-{
-    if byte < b' ' || byte == 127 {
-        b' '
-    } else {
-        byte
-    }
-}
+use vd_plan::{shown_byte, write_all};
 
 /// Adds a text as it is shown.
-fn push_shown(line: &mut Bytes, text: &str) -> Result<(), AllocError>
+fn push_shown(line: &mut Bytes, text: &[u8]) -> Result<(), AllocError>
     ensures { OnOk result (line.new ≡ line.old ++ shown text.now) }
 {
-    for byte in text.as_bytes() {
+    for byte in text {
         line.push(shown_byte(*byte))?;
     }
     Ok(())
 }
 
-/// Adds who speaks, where several processes can write to one stream.
-fn push_speaker(line: &mut Bytes, words: &Texts) -> Result<(), AllocError>
-    ensures { OnOk result (line.new ≡ line.old ++ speaker words.now) }
+/// Adds who speaks, where that is a host.
+fn push_speaker(line: &mut Bytes, host: Option<&[u8]>) -> Result<(), AllocError>
+    ensures { OnOk result (line.new ≡ line.old ++ speaker (option_map (λ name. name.now) host.entry)) }
 {
-    match words.as_slice() {
-        [command, program, ..] if command.as_str() == "host" => {
-            push_shown(line, program.as_str())?;
+    match host {
+        None => Ok(()),
+        Some(name) => {
+            line.extend_from_slice(b"host ")?;
+            push_shown(line, name)?;
             line.extend_from_slice(b", ")
         }
-        _ => Ok(()),
     }
 }
 
+/// Adds for whom something was done.
+fn push_peer(text: &mut Bytes, peer: Option<&[u8]>) -> Result<(), AllocError>
+    ensures { OnOk result (text.new ≡ text.old ++ peer_part (option_map (λ name. name.now) peer.entry)) }
+{
+    match peer {
+        None => text.extend_from_slice(b"a peer"),
+        Some(name) => text.extend_from_slice(name),
+    }
+}
+
+/// Adds the address at which it was done, where there was one.
+fn push_address(text: &mut Bytes, address: &Option<Text>) -> Result<(), AllocError>
+    ensures { OnOk result (text.new ≡ text.old ++ address_part address.now) }
+{
+    match address {
+        None => Ok(()),
+        Some(address) => {
+            text.extend_from_slice(b" at ")?;
+            text.extend_from_slice(address.as_str().as_bytes())
+        }
+    }
+}
+
+/// Why something that was done for a peer failed, with the peer's name where that is known.
+pub fn text_of_peer(
+    alloc: Global,
+    peer: Option<&[u8]>,
+    reason: &PeerReason,
+) -> Result<Bytes, AllocError>
+    ensures { IfOk result (λ text. text ≡ peer_text (option_map (λ name. name.now) peer.entry) reason.now) }
+{
+    let mut text = Bytes::new(alloc);
+    text.extend_from_slice(reason.call.text().as_bytes())?;
+    text.push(b' ')?;
+    push_peer(&mut text, peer)?;
+    push_address(&mut text, &reason.address)?;
+    text.extend_from_slice(b": ")?;
+    text.extend_from_slice(reason.cause.as_str().as_bytes())?;
+    Ok(text)
+}
+
+/// How many packets a host sent, and how many came to it.
+pub fn text_of_packets(alloc: Global, packets: (u64, u64)) -> Result<String, AllocError>
+    ensures { IfOk result (λ text. string_bytes text ≡ packets_text packets.0 packets.1) }
+{
+    let (sent, came) = packets;
+    Ok(format!(in alloc; "{sent} packets sent, {came} received")?)
+}
+
 /// The line that tells why a call failed.
-fn line_of(alloc: Global, words: &Texts, reason: &str) -> Result<Bytes, AllocError>
-    ensures { IfOk result (λ line. line ≡ reason_line words.now reason.now) }
+fn line_of(alloc: Global, host: Option<&[u8]>, reason: &[u8]) -> Result<Bytes, AllocError>
+    ensures { IfOk result (λ line. line ≡ reason_line (option_map (λ name. name.now) host.entry) reason.now) }
 {
     let mut line = Bytes::new(alloc);
     line.extend_from_slice(b"viaduct: ")?;
-    push_speaker(&mut line, words)?;
+    push_speaker(&mut line, host)?;
     push_shown(&mut line, reason)?;
     line.push(b'\n')?;
     Ok(line)
 }
 
-/// Tells a person why a call failed, where that is known. Where there is no memory for the line, or the stream takes no more, it is
-/// not told.
-pub fn tell_reason<E: Sink>(alloc: Global, words: &Texts, err: &mut E, reason: Option<&str>) {
-    if let Some(reason) = reason {
-        if let Ok(line) = line_of(alloc, words, reason) {
-            let _ = write_all(err, line.as_slice());
-        }
+/// Tells a person why a call failed, and which host says so. Where there is no memory for the line, or the stream takes no more, it
+/// is not told.
+pub fn tell_reason<E: Sink>(alloc: Global, host: Option<&[u8]>, err: &mut E, reason: &[u8]) {
+    if let Ok(line) = line_of(alloc, host, reason) {
+        let _ = write_all(err, line.as_slice());
     }
 }
