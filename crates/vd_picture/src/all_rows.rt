@@ -157,7 +157,8 @@ fn push_above(
     last: usize,
     row: &Row,
 ) -> Result<(), AllocError>
-    ensures { OnOk result (marks.new ≡ marks.old ++ rows_spec.above_marks scene.entry.layout.now scene.entry.hosts.now y number last row.now) }
+    ensures { OnOk result (marks.new ≡ marks.old ++ rows_spec.above_marks scene.entry.layout.now scene.entry.hosts.now y number last
+        row.now) }
 {
     push_names_above(alloc, marks, scene, y, number)?;
     let below = y.saturating_add(names_height(number));
