@@ -1,0 +1,20 @@
+//! What seals the bytes of a link: HMAC-SHA256, HKDF and the stream of ChaCha20; records, whose bytes are covered and whose codes
+//! only those can make who have the key; and the keys of the two directions of a link.
+#![tactic(auto)]
+
+mod codes;
+mod frames;
+mod hellos;
+mod laws;
+mod records;
+mod streams;
+
+pub use codes::{derive, hmac, same};
+pub use frames::Frame;
+pub use hellos::{HELLO_BYTES, Hello, link_keys, nonce};
+pub use laws::{
+    codes_cover_all, digests_cover_both_hellos, keys_have_one_purpose,
+    records_give_back_their_bytes, streams_are_apart,
+};
+pub use records::{Keys, RECORD_BYTES, open};
+pub use streams::{cover, key_stream};
