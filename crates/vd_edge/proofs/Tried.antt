@@ -7,7 +7,7 @@ use Rattle.std.proofs.lemmas.Slice.Eq.{bytes_eq-Decides}
 use Rattle.vd_outside.specs.Causes.{Rose}
 use Rattle.vd_outside.specs.Files.{Contents}
 use Rattle.vd_edge.proofs.Ahead.{held_more}
-use Rattle.vd_edge.specs.KeptFiles.{AreFaults, AreHeldOf, AreTried, IsHeldOf, NotesUnread, StillTried, as_read, content, is_tried, is_unread}
+use Rattle.vd_edge.specs.KeptFiles.{AreFailed, AreFaults, AreHeldOf, AreTried, IsHeldOf, NotesUnread, StillTried, as_read, content, is_tried, is_unread}
 use Rattle.vd_edge.specs.declared.kept.Held.{Held}
 use Rattle.vd_edge.specs.declared.kept.Kept.{Kept}
 use Rattle.vd_edge.specs.declared.kept.Reading.{Reading}
@@ -119,6 +119,17 @@ count_more first before mid last now e rose was = omega (arith, e, rose, was)
 pub fault_more : (before now : List Unread) (name : List ℕ) (first mid last : ℕ) → NotesUnread name before now → Rose mid last → AreFaults before first mid → AreFaults now first last
 fault_more before now name first mid last notes rose was =
     count_more first (length before) mid last (length now) (ap length notes.2 ∙ length-append before (notes.0 ∷ [])) rose was
+
+-- and a read failed at its name
+failed_last : (fails_at : List ℕ → Type 0) (files : List Unread) (file : Unread) → AreFailed fails_at files → fails_at file.name → AreFailed fails_at (files ++ file ∷ [])
+failed_last fails_at [] file are is = (is, tt)
+failed_last fails_at (first ∷ files) file are is = (are.0, failed_last fails_at files file are.1 is)
+
+pub failed_more : (fails_at : List ℕ → Type 0) (before now : List Unread) (asked name : List ℕ) → asked ≡ name → NotesUnread name before now → fails_at asked
+    → AreFailed fails_at before → AreFailed fails_at now
+failed_more fails_at before now asked name same notes is are =
+    subst (λ all. AreFailed fails_at all) (sym notes.2)
+    (failed_last fails_at before notes.0 are (subst (λ n. fails_at n) (same ∙ sym notes.1) is))
 
 pub nothing_came : (came : Option Held) → ((held : Held) → came ≢ Some held) → came ≡ None
 nothing_came None other = refl

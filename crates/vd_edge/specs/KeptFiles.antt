@@ -1,5 +1,5 @@
 -- Files that were read ahead of a run: what they tell.
-use Rattle.std.specs.Prelude.{◌≡◌, ◌<◌, ◌≤◌, ℕ, ◌+◌, ◌-◌, ◌^◌, min, Bool, true, false, ◌&&◌, ◌||◌, IsTrue, List, [], ◌∷◌, ◌++◌, length, Option, Some, None, is_some, ⊤, replicate, if◌then◌else◌}
+use Rattle.std.specs.Prelude.{◌≡◌, ◌<◌, ◌≤◌, ℕ, ◌+◌, ◌-◌, ◌^◌, min, Bool, true, false, nat_lt, ◌&&◌, ◌||◌, IsTrue, List, [], ◌∷◌, ◌++◌, length, Option, Some, None, is_some, ⊤, replicate, if◌then◌else◌}
 use Rattle.std.specs.List.{All}
 use Rattle.std.specs.Str.{bytes_eq}
 use Rattle.vd_outside.specs.Files.{Contents, FilesView, with_content}
@@ -21,6 +21,16 @@ content (Longer most) = replicate (most + 1) 0
 abbrev pub as_read : List Kept → Contents
 as_read [] name = None
 as_read (file ∷ files) name = if bytes_eq file.name name then Some (content file.held) else as_read files name
+
+-- whether what a file holds is not known as far as this limit
+abbrev pub is_unknown : Held → ℕ → Bool
+is_unknown (Whole bytes) limit = false
+is_unknown (Longer most) limit = nat_lt most limit
+
+-- whether what was read gives no answer to a fetch: nothing was read at the name, or what stood there is not known as far as the limit
+abbrev pub is_unanswered : List Kept → List ℕ → ℕ → Bool
+is_unanswered [] name limit = true
+is_unanswered (file ∷ files) name limit = if bytes_eq file.name name then is_unknown file.held limit else is_unanswered files name limit
 
 -- the same after these stores, the last of which stands first
 abbrev pub after_stores : List (List ℕ × List ℕ) → Contents → Contents
@@ -74,20 +84,22 @@ NotesUnread name before now = (file : Unread) × (file.name ≡ name) × (now �
 abbrev pub StillTried : Reading → Reading → Type 0
 StillTried before now = (name : List ℕ) → IsTrue (is_tried before.kept before.unread name) → IsTrue (is_tried now.kept now.unread name)
 
--- each file that could not be read was a fault of the outside
+-- at the name of each file that could not be read, a read failed
+abbrev pub AreFailed : (fails_at : List ℕ → Type 0) → List Unread → Type 0
+AreFailed fails_at [] = ⊤
+AreFailed fails_at (file ∷ files) = fails_at file.name × AreFailed fails_at files
+
+-- each of them was a fault of the outside
 abbrev pub AreFaults : List Unread → (before now : ℕ) → Type 0
 AreFaults unread before now = min (before + length unread) (2 ^ 64 - 1) ≤ now
 
--- Files tell what stood at the names that were read, and nothing was asked of them so far.
-abbrev pub TellsHeld : Contents → FilesView → Type 0
-TellsHeld holds view = (read : List Kept) × AreHeldOf read holds × (view ≡ kept_view read [] [] 0)
-
--- These files were read ahead, and nothing else was asked of them so far: each that is not kept was a fault of the files below, whose
--- count went from one number to another.
-pub record IsReadAhead (wanted : List Wanted) (faults : ℕ × ℕ) (holds : Contents) (view : FilesView) : Type 0 where
+-- These files were read ahead, and nothing else was asked of them so far. What was kept is what stood there, where that is known; each
+-- that is not kept could not be read, and was a fault of the files below, whose count went from one number to another.
+pub record IsReadAhead (wanted : List Wanted) (fails_at : List ℕ → Type 0) (faults : ℕ × ℕ) (holds : Contents) (view : FilesView) : Type 0 where
   pub read : List Kept
   pub unread : List Unread
   pub held : AreHeldOf read holds
   pub tried : AreTried wanted read unread
-  pub failed : AreFaults unread faults.0 faults.1
+  pub failed : AreFailed fails_at unread
+  pub counted : AreFaults unread faults.0 faults.1
   pub told : view ≡ kept_view read [] [] 0

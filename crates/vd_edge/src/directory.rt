@@ -1,16 +1,16 @@
-ghost use Rattle.std.specs.Prelude.{◌≡◌, ℕ, Bool, IsTrue, List, Option, None, Some, false, IfOk, OnOk, OnErr, IfSome, ⊤};
+ghost use Rattle.std.specs.Prelude.{◌≡◌, ℕ, Bool, IsTrue, List, Option, None, Some, false, take, IfOk, OnOk, OnErr, IfSome, ⊤};
 ghost use Rattle.vd_edge.specs.Store.{Moves, Same, SameElse, is_replaced};
 
+use crate::files::read_front;
 use crate::{Access, Standing};
+use std::alloc::Global;
 use std::fs::{self, OpenFile, OpenOptions, Permissions};
-use std::io::{self, ErrorKind, Read, Write};
+use std::io::{self, ErrorKind, Write};
 use std::os::unix::fs::{OpenOptionsExt, PermissionsExt};
 use std::rt::Files as Disk;
 
 /// Files by name, as a system has them.
 pub trait Directory {
-    type Reader: Read + Drop;
-
     /// Whether what stands at each name is known.
     ghost tells: { Bool };
 
@@ -23,12 +23,16 @@ pub trait Directory {
     /// The disk was asked to keep the names in the folder of this one.
     ghost settles: { Self → List ℕ → Type 0 };
 
+    /// The file at a name was to be read, and that failed.
+    ghost fails_at: { Self → List ℕ → Type 0 };
+
     /// A number that no other process has while this one runs.
     fn mark(&self) -> u32;
 
-    /// Opens the file with this name, to be read from its start.
-    fn open(&self, name: &str) -> io::Result<Self::Reader>
-        ensures { IfOk result (λ file. IfSome (holds self.now name.now) (λ all. Self.Reader.remaining file ≡ Some all)) };
+    /// The front of the file with this name: so many bytes of it, or all where it has no more.
+    fn read(&self, alloc: Global, name: &str, most: u64) -> io::Result<Vec<u8>>
+        ensures front { IfOk result (λ bytes. IfSome (holds self.now name.now) (λ all. bytes.items ≡ take most all)) }
+        ensures failed { OnErr result (fails_at self.now name.now) };
 
     /// What stands at a name. A plain file that may not be written is an error.
     fn standing(&self, name: &str) -> io::Result<Standing>
@@ -107,8 +111,6 @@ fn folder_of(name: &str) -> &str {
 }
 
 impl<R: Disk + Drop> Directory for SystemDirectory<R> {
-    type Reader = R::File;
-
     ghost tells = { false };
 
     ghost holds = { λ directory name. None };
@@ -117,12 +119,14 @@ impl<R: Disk + Drop> Directory for SystemDirectory<R> {
 
     ghost settles = { λ directory name. ⊤ };
 
+    ghost fails_at = { λ directory name. ⊤ };
+
     fn mark(&self) -> u32 {
         self.mark
     }
 
-    fn open(&self, name: &str) -> io::Result<R::File> {
-        fs::open(&self.rt, name)
+    fn read(&self, alloc: Global, name: &str, most: u64) -> io::Result<Vec<u8>> {
+        read_front(alloc, fs::open(&self.rt, name)?, most)
     }
 
     fn standing(&self, name: &str) -> io::Result<Standing> {

@@ -1,8 +1,8 @@
-ghost use Rattle.std.specs.Prelude.{◌≡◌, ◌≤◌, ℕ, [], Some, None, OnOk, OnErr, IsTrue, IfSome, IfOk, IfErr, IsErrOf, is_some};
-ghost use Rattle.vd_edge.specs.KeptFiles.{AreFaults, AreHeldOf, AreTried, IsHeldOf, IsReadAhead, NotesUnread, StillTried, as_read, after_stores, content, is_tried, kept_view, stores_at, were_asked};
+ghost use Rattle.std.specs.Prelude.{◌≡◌, ◌≤◌, ℕ, [], Some, None, OnOk, OnErr, ◌||◌, IsTrue, IfSome, IfOk, IfErr, IsErrOf, is_some};
+ghost use Rattle.vd_edge.specs.KeptFiles.{AreFailed, AreFaults, AreHeldOf, AreTried, IsHeldOf, IsReadAhead, NotesUnread, StillTried, as_read, after_stores, content, is_tried, is_unanswered, is_unknown, kept_view, stores_at, were_asked};
 ghost use Rattle.vd_outside.specs.Causes.{Rose};
 ghost use Rattle.vd_edge.specs.Store.{MayLeave, SameElse};
-ghost use Rattle.vd_outside.specs.Files.{Stores as StoresAt, fetched};
+ghost use Rattle.vd_outside.specs.Files.{Fetches, Stores as StoresAt, fetched};
 ghost use Rattle.vd_outside.specs.declared.faults.FetchFault.TheVariants as fetch_fault;
 
 use crate::kept::{Reading, Unread};
@@ -34,6 +34,7 @@ pub struct KeptFiles<D: Directory + Drop> {
 fn bytes_within(alloc: Global, held: &Held, limit: u32) -> Result<Bytes, FetchFault>
     ensures gives { IfOk result (λ bytes. fetched (Some (content held.now)) limit ≡ Ok bytes) }
     ensures too_long { IsErrOf result fetch_fault.TooLong → fetched (Some (content held.now)) limit ≡ Err fetch_fault.TooLong }
+    ensures unknown { IsErrOf result fetch_fault.Failed → IsTrue (is_unknown held.now limit) }
 {
     match held {
         Held::Whole(bytes) if bytes.as_slice().len() <= limit as usize => {
@@ -50,6 +51,7 @@ fn bytes_within(alloc: Global, held: &Held, limit: u32) -> Result<Bytes, FetchFa
 fn fetch_kept(alloc: Global, kept: &[Kept], name: &str, limit: u32) -> Result<Bytes, FetchFault>
     ensures gives { IfOk result (λ bytes. fetched (as_read kept.now name.now) limit ≡ Ok bytes) }
     ensures too_long { IsErrOf result fetch_fault.TooLong → fetched (as_read kept.now name.now) limit ≡ Err fetch_fault.TooLong }
+    ensures unanswered { IsErrOf result fetch_fault.Failed → IsTrue (is_unanswered kept.now name.now limit) }
 {
     for file in kept {
         if file.name.as_str().as_bytes() == name.as_bytes() {
@@ -93,7 +95,8 @@ fn held_of<D: Directory + Drop>(
 ) -> Result<Option<Held>, FetchFault>
     ensures held { IfOk result (λ came. IfSome came (λ held. IsHeldOf held (D.holds files.old.directory name.now))) }
     ensures later { files.old.faults ≤ files.new.faults }
-    ensures failed { IfOk result (λ came. came ≡ None → Rose files.old.faults files.new.faults) }
+    ensures rose { IfOk result (λ came. came ≡ None → Rose files.old.faults files.new.faults) }
+    ensures failed { IfOk result (λ came. came ≡ None → D.fails_at files.old.directory name.now) }
     ensures same { files.new.directory ≡ files.old.directory }
     ensures memory { IfErr result (λ fault. fault ≡ fetch_fault.Memory) }
 {
@@ -150,8 +153,10 @@ fn keep<D: Directory + Drop>(
     ensures held { AreHeldOf reading.old.kept (D.holds files.old.directory) → AreHeldOf reading.new.kept (D.holds files.old.directory) }
     ensures tried { OnOk result (IsTrue (is_tried reading.new.kept reading.new.unread file.now.name)) }
     ensures before { OnOk result (StillTried reading.old reading.new) }
-    ensures failed { OnOk result ((first : ℕ) → AreFaults reading.old.unread first files.old.faults →
+    ensures counted { OnOk result ((first : ℕ) → AreFaults reading.old.unread first files.old.faults →
         AreFaults reading.new.unread first files.new.faults) }
+    ensures failed { OnOk result (AreFailed (D.fails_at files.old.directory) reading.old.unread →
+        AreFailed (D.fails_at files.old.directory) reading.new.unread) }
     ensures same { files.new.directory ≡ files.old.directory }
     ensures memory { IfErr result (λ fault. fault ≡ fetch_fault.Memory) }
 {
@@ -175,7 +180,8 @@ fn read_all<D: Directory + Drop>(
 ) -> Result<Reading, FetchFault>
     ensures held { IfOk result (λ reading. AreHeldOf reading.kept (D.holds files.old.directory)) }
     ensures tried { IfOk result (λ reading. AreTried wanted.now reading.kept reading.unread) }
-    ensures failed { IfOk result (λ reading. AreFaults reading.unread files.old.faults files.new.faults) }
+    ensures counted { IfOk result (λ reading. AreFaults reading.unread files.old.faults files.new.faults) }
+    ensures failed { IfOk result (λ reading. AreFailed (D.fails_at files.old.directory) reading.unread) }
     ensures memory { IfErr result (λ fault. fault ≡ fetch_fault.Memory) }
 {
     let mut reading = Reading {
@@ -196,8 +202,8 @@ impl<D: Directory + Drop> KeptFiles<D> {
         alloc: Global,
         wanted: &[Wanted],
     ) -> Result<KeptFiles<D>, FetchFault>
-        ensures read { IfOk result (λ it. IsReadAhead wanted.now (files.faults, it.files.faults) (D.holds files.directory)
-            (kept_view it.kept it.asked it.stores.pairs it.faults)) }
+        ensures read { IfOk result (λ it. IsReadAhead wanted.now (D.fails_at files.directory) (files.faults, it.files.faults)
+            (D.holds files.directory) (kept_view it.kept it.asked it.stores.pairs it.faults)) }
         ensures memory { IfErr result (λ fault. fault ≡ fetch_fault.Memory) }
     {
         let mut files = files;
@@ -229,6 +235,8 @@ impl<D: Directory + Drop> KeptFiles<D> {
             fetched (after_stores self.now.stores.pairs (as_read self.now.kept) name.now) limit ≡ Ok bytes) }
         ensures too_long { IsErrOf result fetch_fault.TooLong →
             fetched (after_stores self.now.stores.pairs (as_read self.now.kept) name.now) limit ≡ Err fetch_fault.TooLong }
+        ensures unanswered { IsErrOf result fetch_fault.Failed →
+            IsTrue (stores_at name.now self.now.asked || is_unanswered self.now.kept name.now limit) }
     {
         if stores_at(name, self.asked.as_slice()) {
             return Err(FetchFault::Failed);
@@ -245,7 +253,12 @@ impl<D: Directory + Drop> Files for KeptFiles<D> {
     }
 
     #[tactic(auto, using(crate::proofs::Ahead::asked_more))]
-    fn fetch(&mut self, name: &str, limit: u32) -> Result<Bytes, FetchFault> {
+    fn fetch(&mut self, name: &str, limit: u32) -> Result<Bytes, FetchFault>
+        ensures fetches { Fetches name.now limit (kept_view self.old.kept self.old.asked self.old.stores.pairs self.old.faults)
+            (kept_view self.new.kept self.new.asked self.new.stores.pairs self.new.faults) result }
+        ensures unanswered { IsErrOf result fetch_fault.Failed →
+            IsTrue (stores_at name.now self.old.asked || is_unanswered self.old.kept name.now limit) }
+    {
         let call = FilesCall::Fetch(Text::copy_of(self.alloc, name)?);
         let answer = self.answer(name, limit);
         if matches!(answer, Err(FetchFault::Memory)) {

@@ -7,6 +7,7 @@ ghost use Rattle.vd_outside.specs.Net.{Accepts, Connects, Listens};
 use crate::peer_reason::{peer_reason, with_cause};
 use crate::{PeerCall, PeerReason, RealLink, Sockets};
 use std::alloc::Global;
+use std::io::Error;
 use vd_base::CallFault;
 use vd_causes::{count_fault, fault_of};
 use vd_outside::{Link, Net};
@@ -17,6 +18,7 @@ pub struct RealNet<N: Sockets + Drop> {
     sockets: N,
     alloc: Global,
     listeners: Vec<N::Listener>,
+    limit: Option<u32>,
     faults: u64,
     reason: Option<PeerReason>,
     sent: u64,
@@ -33,6 +35,7 @@ impl<N: Sockets + Drop> RealNet<N> {
             sockets,
             alloc,
             listeners: Vec::new(alloc),
+            limit: None,
             faults: 0,
             reason: None,
             sent: 0,
@@ -45,6 +48,11 @@ impl<N: Sockets + Drop> RealNet<N> {
         ensures { result ≡ (self.now.sent, self.now.came) }
     {
         (self.sent, self.came)
+    }
+
+    // Why a call failed.
+    fn failed(&self, call: PeerCall, address: Option<&str>, error: &Error) -> Option<PeerReason> {
+        peer_reason(self.alloc, self.limit, call, address, error)
     }
 
     /// Why the last call failed, where one did.
@@ -68,6 +76,7 @@ impl<N: Sockets + Drop> Net for RealNet<N> {
 
     fn wait_at_most(&mut self, seconds: Option<u32>) {
         self.sockets.wait_at_most(seconds);
+        self.limit = seconds;
     }
 
     fn listen(&mut self, address: &str) -> Result<u32, CallFault>
@@ -85,7 +94,7 @@ impl<N: Sockets + Drop> Net for RealNet<N> {
                 Ok(number)
             }
             Err(error) => {
-                self.reason = peer_reason(self.alloc, PeerCall::Listen, Some(address), &error);
+                self.reason = self.failed(PeerCall::Listen, Some(address), &error);
                 let fault = fault_of(&error);
                 count_fault(&mut self.faults, fault);
                 Err(fault)
@@ -108,7 +117,7 @@ impl<N: Sockets + Drop> Net for RealNet<N> {
         {
             Ok(stream) => Ok(RealLink::new(stream)),
             Err(error) => {
-                self.reason = peer_reason(self.alloc, PeerCall::Accept, None, &error);
+                self.reason = self.failed(PeerCall::Accept, None, &error);
                 let fault = fault_of(&error);
                 count_fault(&mut self.faults, fault);
                 Err(fault)
@@ -125,7 +134,7 @@ impl<N: Sockets + Drop> Net for RealNet<N> {
         match self.sockets.connect(address) {
             Ok(stream) => Ok(RealLink::new(stream)),
             Err(error) => {
-                self.reason = peer_reason(self.alloc, PeerCall::Connect, Some(address), &error);
+                self.reason = self.failed(PeerCall::Connect, Some(address), &error);
                 let fault = fault_of(&error);
                 count_fault(&mut self.faults, fault);
                 Err(fault)
@@ -135,7 +144,7 @@ impl<N: Sockets + Drop> Net for RealNet<N> {
 
     fn hang_up(&mut self, link: RealLink<N::Stream>) {
         if let Some(error) = link.last() {
-            self.reason = peer_reason(self.alloc, PeerCall::Pass, None, &error);
+            self.reason = self.failed(PeerCall::Pass, None, &error);
         } else if link.has_ended() && self.reason.is_none() {
             self.reason = with_cause(self.alloc, PeerCall::Pass, None, "closed at its end");
         }

@@ -2,7 +2,7 @@ ghost use Rattle.std.specs.Prelude.{◌≡◌, IfSome, option_map};
 ghost use Rattle.vd_edge.specs.PeerReasons.{call_text};
 
 use std::alloc::Global;
-use std::io::Error;
+use std::io::{Error, ErrorKind};
 use vd_base::Text;
 
 /// What is done for a peer.
@@ -65,9 +65,26 @@ pub(crate) fn with_cause(
     })
 }
 
-/// Why something that was done for a peer failed, with what the system says of it. Where there is no memory for it, nothing is told.
+/// Whether an error is that of a wait that was over: the system's own errors have a number.
+fn is_silence(error: &Error) -> bool {
+    error.kind() == ErrorKind::TimedOut && error.raw_os_error().is_none()
+}
+
+/// What is told of an error, where no wait may be longer than so many seconds.
+fn text_of(alloc: Global, limit: Option<u32>, error: &Error) -> Option<String> {
+    match limit {
+        Some(seconds) if is_silence(error) => {
+            format!(in alloc; "silent for {seconds} seconds").ok()
+        }
+        _ => format!(in alloc; "{error}").ok(),
+    }
+}
+
+/// Why something that was done for a peer failed, with what the system says of it, or how long the peer was silent. Where there is no
+/// memory for it, nothing is told.
 pub(crate) fn peer_reason(
     alloc: Global,
+    limit: Option<u32>,
     call: PeerCall,
     address: Option<&str>,
     error: &Error,
@@ -75,6 +92,6 @@ pub(crate) fn peer_reason(
     ensures call { IfSome result (λ reason. reason.call ≡ call) }
     ensures address { IfSome result (λ reason. reason.address ≡ option_map (λ address. address.now) address.entry) }
 {
-    let cause = format!(in alloc; "{error}").ok()?;
+    let cause = text_of(alloc, limit, error)?;
     with_cause(alloc, call, address, cause.as_str())
 }

@@ -224,7 +224,7 @@ fn unmet<S: Drop>(comers: &Comers<S>) -> io::Error {
     if comers.strangers == 0 && comers.waiting.is_empty() {
         silent()
     } else {
-        io::Error::new(ErrorKind::TimedOut, "nobody greeted as it is awaited")
+        io::Error::new(ErrorKind::InvalidData, "nobody greeted as it is awaited")
     }
 }
 
@@ -275,6 +275,18 @@ fn accepted<R: Network + Clock>(
     } else {
         let (stream, _) = listener.accept()?;
         Ok(stream)
+    }
+}
+
+/// The same address, if a port stands in it.
+fn with_port(address: &str) -> io::Result<&str>
+    ensures { IfOk result (λ same. same.now ≡ address.now) }
+{
+    if address.contains(':') {
+        Ok(address)
+    } else {
+        let without = io::Error::new(ErrorKind::InvalidInput, "no port in the address");
+        Err(without)
     }
 }
 
@@ -363,7 +375,7 @@ impl<R: Network + Clock + Drop> Sockets for SystemSockets<R> {
     }
 
     fn listen(&self, address: &str) -> io::Result<R::Listener> {
-        TcpListener::bind(&self.rt, address)
+        TcpListener::bind(&self.rt, with_port(address)?)
     }
 
     fn accept(
@@ -376,6 +388,7 @@ impl<R: Network + Clock + Drop> Sockets for SystemSockets<R> {
     }
 
     fn connect(&self, address: &str) -> io::Result<SystemStream<R::Stream>> {
-        SystemStream::new(connected(&self.rt, &self.waits, address)?, self.waits)
+        let stream = connected(&self.rt, &self.waits, with_port(address)?)?;
+        SystemStream::new(stream, self.waits)
     }
 }

@@ -1,7 +1,7 @@
 ghost use Rattle.std.specs.Prelude.{None, false, ⊤};
 
 use std::alloc::Global;
-use std::io::{self, Empty, ErrorKind, Write};
+use std::io::{self, ErrorKind, Write};
 use vd_edge::{Access, Directory, RealFiles, Standing};
 use vd_outside::Files;
 
@@ -43,8 +43,6 @@ impl Shelf {
 }
 
 impl Directory for Shelf {
-    type Reader = Empty;
-
     ghost tells = { false };
 
     ghost holds = { λ shelf name. None };
@@ -53,12 +51,14 @@ impl Directory for Shelf {
 
     ghost settles = { λ shelf name. ⊤ };
 
+    ghost fails_at = { λ shelf name. ⊤ };
+
     fn mark(&self) -> u32 {
         7
     }
 
-    fn open(&self, _name: &str) -> io::Result<Empty> {
-        Ok(io::empty())
+    fn read(&self, alloc: Global, _name: &str, _most: u64) -> io::Result<Vec<u8>> {
+        Ok(Vec::new(alloc))
     }
 
     fn standing(&self, _name: &str) -> io::Result<Standing> {

@@ -1,5 +1,5 @@
 use Rattle.std.proofs.Common.{◌∙◌, sym}
-use Rattle.vd_edge.proofs.Tried.{read_is_held, read_is_tried, read_still, noted_is_tried, more_noted, fault_more, nothing_came}
+use Rattle.vd_edge.proofs.Tried.{read_is_held, read_is_tried, read_still, noted_is_tried, more_noted, fault_more, failed_more, nothing_came}
 use Rattle.vd_edge.proofs.kept_files.keep.Goals as goal
 
 pub returns-in_ok-push-clause-held : goal.returns-in_ok-push-clause-held
@@ -24,7 +24,12 @@ pub returns-in_ok-note_unread-clause-before : goal.returns-in_ok-note_unread-cla
 returns-in_ok-note_unread-clause-before g c = λ name.
     more_noted c.args.reading.now.kept c.args.reading.now.unread c.note_unread.new.unread c.args.file.now.name name c.in_ok-note_unread.ensures
 
-pub returns-in_ok-note_unread-clause-failed : goal.returns-in_ok-note_unread-clause-failed
-returns-in_ok-note_unread-clause-failed g c = λ first.
+pub returns-in_ok-note_unread-clause-counted : goal.returns-in_ok-note_unread-clause-counted
+returns-in_ok-note_unread-clause-counted g c = λ first.
     fault_more c.args.reading.now.unread c.note_unread.new.unread c.args.file.now.name first c.args.files.now.faults c.held_of.new.files.faults c.in_ok-note_unread.ensures
-    (c.in_ok-held.ensures.failed (nothing_came c.in_ok-held.field-0 c.in_default.not-Some))
+    (c.in_ok-held.ensures.rose (nothing_came c.in_ok-held.field-0 c.in_default.not-Some))
+
+pub returns-in_ok-note_unread-clause-failed : goal.returns-in_ok-note_unread-clause-failed
+returns-in_ok-note_unread-clause-failed g c =
+    failed_more (g.D.Directory.fails_at c.args.files.now.directory) c.args.reading.now.unread c.note_unread.new.unread c.as_str-2.result.now c.args.file.now.name c.as_str-2.ensures
+    c.in_ok-note_unread.ensures (c.in_ok-held.ensures.failed (nothing_came c.in_ok-held.field-0 c.in_default.not-Some))
