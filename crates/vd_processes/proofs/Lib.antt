@@ -1,3 +1,4 @@
 mod Cutting
 mod Known
 mod ByTurns
+mod Ended

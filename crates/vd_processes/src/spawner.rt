@@ -1,4 +1,4 @@
-ghost use Rattle.std.specs.Prelude.{◌≡◌, []};
+ghost use Rattle.std.specs.Prelude.{◌≡◌, ◌<◌, [], length, IfSome};
 
 use crate::running::Running;
 use crate::turns::{first_failure, next_line};
@@ -51,14 +51,17 @@ impl<R: Processes<Started = SystemProcess> + Clock + Drop> RealSpawner<R> {
         }
     }
 
-    /// Why the run of its children failed, where that is known: a program could not be started, or one of them ended with a fault
-    /// that is not that of a peer.
-    pub fn reason(&mut self) -> Option<String> {
-        if self.reason.is_some() {
-            return self.reason.take();
-        }
-        let (number, status) = first_failure(&self.rt, self.children.as_mut_slice())?;
-        format!(in self.alloc; "host {number} ended first, with status {status}").ok()
+    /// Why a program could not be started, where that is so.
+    pub fn reason(&self) -> Option<&str> {
+        self.reason.as_deref()
+    }
+
+    /// The number of the child that most likely was the first to end with a fault, and its status. All children have a moment to end.
+    pub fn first_failure(&mut self) -> Option<(usize, u32)>
+        ensures found { IfSome result (λ found. found.0 < length self.new.statuses) }
+        ensures same { self.new ≡ self.old }
+    {
+        first_failure(&self.rt, self.children.as_mut_slice())
     }
 }
 

@@ -1,7 +1,7 @@
 //! Children that are read by turns.
 
-ghost use Rattle.std.specs.Prelude.{◌<◌, length, IfOk, IfSome, OnOk};
-ghost use Rattle.vd_processes.specs.Turns.{GivesLineOf, KeepAll};
+ghost use Rattle.std.specs.Prelude.{◌≡◌, ◌<◌, length, IfOk, IfSome, OnOk};
+ghost use Rattle.vd_processes.specs.Turns.{EndedAs, GivesLineOf, KeepAll, likelier, remoteness};
 
 use crate::next::Next;
 use crate::player::Player;
@@ -111,7 +111,9 @@ const LAST_ASKS: u32 = 20;
 
 /// How far a status is from being a cause: a link that ended is nearly always what became of another host's fault, and a peer that
 /// failed is so often.
-fn remoteness(status: u32) -> u32 {
+fn remoteness(status: u32) -> u32
+    ensures { result ≡ remoteness status }
+{
     match status {
         25 => 2,
         18 => 1,
@@ -119,19 +121,29 @@ fn remoteness(status: u32) -> u32 {
     }
 }
 
+/// What was found so far, or this child in its place, where it ended with a fault whose status is less likely to come of another's.
+fn likelier(found: Option<(usize, u32)>, number: usize, status: Option<u32>) -> Option<(usize, u32)>
+    ensures { result ≡ likelier found number status }
+{
+    match status {
+        None => found,
+        Some(status) => match found {
+            Some((_, known)) if remoteness(known) <= remoteness(status) => found,
+            _ => Some((number, status)),
+        },
+    }
+}
+
 /// The number of the child that most likely failed first, and its status: of those that have ended with a fault the one whose status
 /// is the least likely to come of another's.
 fn likeliest<P: Player>(children: &mut [P]) -> Option<(usize, u32)>
-    ensures { IfSome result (λ found. found.0 < length children.old) }
+    ensures found { IfSome result (λ found. found.0 < length children.old) }
+    ensures ended { IfSome result (λ found. EndedAs P.ended children.new found.0 found.1) }
 {
-    let mut found: Option<(usize, u32)> = None;
+    let mut found = None;
     for number in 0..children.len() {
-        if let Some(status) = children[number].failure() {
-            match found {
-                Some((_, known)) if remoteness(known) <= remoteness(status) => {}
-                _ => found = Some((number, status)),
-            }
-        }
+        let status = children[number].failure();
+        found = likelier(found, number, status);
     }
     found
 }
@@ -143,7 +155,8 @@ fn are_over<P: Player>(children: &[P]) -> bool {
 
 /// The child that most likely failed first, after a run. All children have a moment to end.
 pub fn first_failure<R: Clock, P: Player>(rt: &R, children: &mut [P]) -> Option<(usize, u32)>
-    ensures { IfSome result (λ found. found.0 < length children.old) }
+    ensures found { IfSome result (λ found. found.0 < length children.old) }
+    ensures ended { IfSome result (λ found. EndedAs P.ended children.new found.0 found.1) }
 {
     for _ in 0..LAST_ASKS {
         if are_over(children) {
