@@ -4,7 +4,8 @@ use Rattle.vd_outside.specs.Files.{Contents, FilesView}
 use Rattle.vd_outside.specs.Net.{NetView}
 use Rattle.vd_outside.specs.Sink.{SinkView}
 use Rattle.vd_outside.specs.Spawner.{SpawnerView}
-use Rattle.vd_edge.specs.KeptFiles.{TellsHeld}
+use Rattle.vd_cmd.specs.Commands.{form_of}
+use Rattle.vd_edge.specs.KeptFiles.{IsReadAhead}
 use Rattle.vd_plan.specs.Lines.{Says, code_of, status_line}
 use Rattle.vd_plan.specs.declared.status.Status.{Status}
 use Rattle.vd_plan.specs.declared.status.Status.TheVariants.{Host, Memory}
@@ -13,6 +14,7 @@ use Rattle.vd_remarks.specs.declared.fault.TellFault.{TellFault}
 use Rattle.vd_telling.specs.Saying.{SaysTo}
 use Rattle.vd_telling.specs.declared.telling.Destination.{Destination}
 use Rattle.vd_top.specs.Promises.{Around, Starts}
+use Rattle.viaduct.specs.Ahead.{wanted_by}
 
 -- the peer that a status names
 abbrev pub peer_of : Status → Option (List ℕ)
@@ -48,13 +50,14 @@ pub record WantsMemory (o : Streams) (code : ℕ) (peer : Option (List ℕ)) : T
   pub ends : code ≡ code_of Memory
   pub named : peer ≡ None
 
--- The command line was run over files that were read ahead, which held what stood in the directory where it tells that.
-pub record IsRunOver (destination : Destination) (words : List (List ℕ)) (holds : Contents) (o : Streams) (code : ℕ) (peer : Option (List ℕ)) : Type 0 where
+-- The command line was run over the files that it may fetch, each of which was read ahead, or a read of it failed.
+pub record IsRunOver (destination : Destination) (words : List (List ℕ)) (fails_at : List ℕ → Type 0) (holds : Contents) (o : Streams) (code : ℕ) (peer : Option (List ℕ)) : Type 0 where
   pub read : FilesView
   pub last : FilesView
-  pub ahead : TellsHeld holds read
+  pub faults : ℕ × ℕ
+  pub ahead : IsReadAhead (wanted_by (form_of words)) fails_at faults holds read
   pub run : IsRun destination words (record { files = (read, last); out = o.out; err = o.err; net = o.net; spawner = o.spawner }) code peer
 
 -- Either was it, or there was no memory.
-abbrev pub RunsOver : Destination → (words : List (List ℕ)) → (holds : Contents) → Streams → (code : ℕ) → (peer : Option (List ℕ)) → Type 0
-RunsOver destination words holds o code peer = IsRunOver destination words holds o code peer ⊎ WantsMemory o code peer
+abbrev pub RunsOver : Destination → (words : List (List ℕ)) → (fails_at : List ℕ → Type 0) → (holds : Contents) → Streams → (code : ℕ) → (peer : Option (List ℕ)) → Type 0
+RunsOver destination words fails_at holds o code peer = IsRunOver destination words fails_at holds o code peer ⊎ WantsMemory o code peer

@@ -2,7 +2,7 @@
 
 ghost use Rattle.std.specs.Prelude.{◌≡◌, ◌∷◌, ◌++◌, [], IfOk, IfErr, OnOk};
 ghost use Rattle.vd_cmd.specs.Commands.{form_of};
-ghost use Rattle.vd_edge.specs.KeptFiles.{IsReadAhead, TellsHeld};
+ghost use Rattle.vd_edge.specs.KeptFiles.{IsReadAhead};
 ghost use Rattle.viaduct.specs.Ahead.{deals_of, wanted_by, wanted_of};
 
 use std::alloc::{AllocError, Global};
@@ -146,9 +146,8 @@ pub fn read_ahead<D: Directory + Drop>(
     words: &Texts,
     files: RealFiles<D>,
 ) -> Result<KeptFiles<D>, FetchFault>
-    ensures read { IfOk result (λ kept. IsReadAhead (wanted_by (form_of words.now)) (files.faults, kept.files.faults)
-        (D.holds files.directory) (⟦<KeptFiles<D> as Files>⟧.view kept)) }
-    ensures held { IfOk result (λ kept. TellsHeld (D.holds files.directory) (⟦<KeptFiles<D> as Files>⟧.view kept)) }
+    ensures read { IfOk result (λ kept. IsReadAhead (wanted_by (form_of words.now)) (D.fails_at files.directory)
+        (files.faults, kept.files.faults) (D.holds files.directory) (⟦<KeptFiles<D> as Files>⟧.view kept)) }
     ensures memory { IfErr result (λ fault. fault ≡ FetchFault.Memory) }
 {
     match files_of_words(alloc, words) {

@@ -3,12 +3,14 @@
 #![tactic(auto)]
 
 mod ahead;
+mod first;
 mod program;
 mod reasons;
 mod speaker;
 
+use first::host_numbered;
 use program::{Ending, Ran, destination_of, end, reason_of, run_over, words_of};
-use reasons::{tell_reason, text_of_packets, text_of_peer};
+use reasons::{tell_reason, text_of_first, text_of_packets, text_of_peer};
 use speaker::speaker_of;
 use std::alloc::Global;
 use std::env::{Env, VarError};
@@ -24,15 +26,23 @@ use vd_plan::Status;
 use vd_processes::{PARENT, REASONS, RealSpawner};
 use vd_telling::Destination;
 
-/// The words of the command line after the program's own. Words that are no text make no command line.
-fn words(rt: &(impl Env + AllocGlobal)) -> io::Result<Texts> {
+/// The words of the command line after the program's own, and none where one of them is no text.
+fn words(rt: &(impl Env + AllocGlobal)) -> io::Result<Option<Texts>> {
     match env::args(rt) {
         Ok(arguments) => {
             let arguments: Vec<String> = arguments.collect(rt.alloc())?;
-            Ok(words_of(rt.alloc(), arguments.as_slice())?)
+            Ok(Some(words_of(rt.alloc(), arguments.as_slice())?))
         }
         Err(error) if error.kind() == io::ErrorKind::OutOfMemory => Err(error),
-        Err(_) => Ok(Texts::new(rt.alloc())),
+        Err(_) => Ok(None),
+    }
+}
+
+/// The command line of these words. Words that are no text make none.
+fn line_of(alloc: Global, words: Option<Texts>) -> Texts {
+    match words {
+        Some(words) => words,
+        None => Texts::new(alloc),
     }
 }
 
@@ -111,6 +121,41 @@ fn tell_peer(
     }
 }
 
+/// Tells which host of a run was the first to end with a fault.
+fn tell_first(
+    alloc: Global,
+    words: &Texts,
+    files: &mut Option<KeptFiles<SystemDirectory<HostRuntime>>>,
+    err: &mut RealSink<Stderr>,
+    number: usize,
+    status: u32,
+) {
+    let host = match files {
+        Some(files) => host_numbered(alloc, words, files, number),
+        None => None,
+    };
+    if let Ok(text) = text_of_first(alloc, bytes_of(&host), number, status) {
+        tell_reason(alloc, None, err, text.as_slice());
+    }
+}
+
+/// Tells why a program could not be started, and else which host of a run was the first to end with a fault, where that is known.
+fn tell_children(
+    alloc: Global,
+    words: &Texts,
+    files: &mut Option<KeptFiles<SystemDirectory<HostRuntime>>>,
+    err: &mut RealSink<Stderr>,
+    spawner: &mut RealSpawner<HostRuntime>,
+) {
+    let started = spawner.reason().is_none();
+    tell_text(alloc, &None, err, spawner.reason());
+    if started {
+        if let Some((number, status)) = spawner.first_failure() {
+            tell_first(alloc, words, files, err, number, status);
+        }
+    }
+}
+
 /// Tells how many packets a host sent and how many came to it.
 fn tell_packets(
     alloc: Global,
@@ -135,12 +180,12 @@ fn run(
 ) -> io::Result<ExitCode> {
     let alloc: Global = rt.alloc();
     let destination = destination(&rt, &rt.stderr());
-    let words = words(&rt)?;
+    let arguments = words(&rt)?;
+    let readable = arguments.is_some();
+    let words = line_of(alloc, arguments);
     let told = tells_reasons(&rt, &rt.stderr());
     let process = process::id(rt.process());
-    let run = parent(&rt);
-    let alone = run.is_none();
-    let waits = Waits::new(rt.process(), run);
+    let waits = Waits::new(rt.process(), parent(&rt));
     let mut net = RealNet::new(SystemSockets::new(rt.clone()?, alloc, waits), alloc);
     let mut spawner = RealSpawner::new(rt.clone()?, alloc, process);
     let files = RealFiles::new(SystemDirectory::new(rt, process), alloc);
@@ -154,17 +199,19 @@ fn run(
         &mut net,
         &mut spawner,
     );
-    if told && ending.code != ExitCode::SUCCESS {
+    if ending.code == ExitCode::SUCCESS {
+        if matches!(destination, Destination::Terminal { .. }) {
+            tell_packets(alloc, &words, &mut files, err, net.packets());
+        }
+    } else if told && !readable {
+        tell_reason(alloc, None, err, b"a word is no UTF-8");
+    } else if told {
         let host = name_of_host(alloc, &words, &mut files);
         let written = out.reason(alloc, "standard output");
         tell_text(alloc, &host, err, reason_of(&files));
         tell_text(alloc, &host, err, written.as_deref());
         tell_peer(alloc, &host, err, ending.peer.as_ref(), net.reason());
-        tell_text(alloc, &host, err, spawner.reason().as_deref());
-    }
-    let terminal = matches!(destination, Destination::Terminal { .. });
-    if alone && terminal && ending.code == ExitCode::SUCCESS {
-        tell_packets(alloc, &words, &mut files, err, net.packets());
+        tell_children(alloc, &words, &mut files, err, &mut spawner);
     }
     Ok(ending.code)
 }

@@ -142,7 +142,7 @@ pub fn run_over<D: Directory + Drop, O: Sink, E: Sink, N: Net, S: Spawner>(
 ) -> Ran<D>
     requires listeners { (N.view net.old).given ≤ 4294967000 }
     requires children { (S.view spawner.old).given ≤ 4294967000 }
-    ensures { RunsOver destination words.now (D.holds files.directory) (record {
+    ensures { RunsOver destination words.now (D.fails_at files.directory) (D.holds files.directory) (record {
       out = (O.view out.old, O.view out.new);
       err = (E.view err.old, E.view err.new);
       net = (N.view net.old, N.view net.new);

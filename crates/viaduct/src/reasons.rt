@@ -2,7 +2,7 @@
 
 ghost use Rattle.std.specs.Prelude.{◌≡◌, ◌++◌, OnOk, IfOk, option_map, string_bytes};
 ghost use Rattle.vd_plan.specs.Shown.{shown};
-ghost use Rattle.viaduct.specs.Reasons.{address_part, packets_text, peer_part, peer_text, reason_line, speaker};
+ghost use Rattle.viaduct.specs.Reasons.{address_part, first_text, host_part, packets_text, peer_part, peer_text, reason_line, speaker};
 
 use std::alloc::{AllocError, Global};
 use vd_base::{Bytes, Text};
@@ -72,6 +72,41 @@ pub fn text_of_peer(
     push_address(&mut text, &reason.address)?;
     text.extend_from_slice(b": ")?;
     text.extend_from_slice(reason.cause.as_str().as_bytes())?;
+    Ok(text)
+}
+
+/// Adds by what a host of a run goes.
+fn push_host(
+    text: &mut Bytes,
+    alloc: Global,
+    host: Option<&[u8]>,
+    number: usize,
+) -> Result<(), AllocError>
+    ensures { OnOk result (text.new ≡ text.old ++ host_part (option_map (λ name. name.now) host.entry) number) }
+{
+    match host {
+        Some(name) => text.extend_from_slice(name),
+        None => {
+            let number = format!(in alloc; "{number}")?;
+            text.extend_from_slice(number.as_str().as_bytes())
+        }
+    }
+}
+
+/// Which host of a run was the first to end with a fault, and with which status.
+pub fn text_of_first(
+    alloc: Global,
+    host: Option<&[u8]>,
+    number: usize,
+    status: u32,
+) -> Result<Bytes, AllocError>
+    ensures { IfOk result (λ text. text ≡ first_text (option_map (λ name. name.now) host.entry) number status) }
+{
+    let mut text = Bytes::new(alloc);
+    text.extend_from_slice(b"host ")?;
+    push_host(&mut text, alloc, host, number)?;
+    let status = format!(in alloc; " ended first, with status {status}")?;
+    text.extend_from_slice(status.as_str().as_bytes())?;
     Ok(text)
 }
 
