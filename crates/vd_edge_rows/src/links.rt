@@ -1,11 +1,112 @@
-ghost use Rattle.std.specs.Prelude.{◌<◌, ◌≤◌};
+ghost use Rattle.std.specs.Prelude.{◌≡◌, ◌<◌, ◌≤◌, ◌+◌, IfSome};
 
 use std::alloc::Global;
 use std::io::{self, Write};
 use std::net::{Net as Network, OpenListener, TcpListener};
+use std::os::unix::process::parent_id;
+use std::process::Process;
 use std::time::Clock;
 use vd_edge::{RealNet, SystemSockets, Waits};
 use vd_outside::{Link, Net};
+
+/// What is known of the process that started this one.
+#[derive(Clone, Copy, Debug)]
+enum Parent {
+    /// Nothing.
+    Unknown,
+    /// It runs.
+    Runs,
+    /// It is gone.
+    Gone,
+}
+
+/// A meeting over the loopback: who comes to a listener, and who is awaited there.
+#[derive(Drop)]
+struct Meeting {
+    name: &'static str,
+    parent: Parent,
+    /// The limit of each wait, in seconds.
+    seconds: Option<u32>,
+    /// Whether another listener was made before.
+    second: bool,
+    /// What a stranger sends who comes first, if one does.
+    stranger: Option<&'static [u8]>,
+    /// What the peer sends, if it comes.
+    peer: Option<&'static [u8]>,
+    greeting: &'static [u8],
+}
+
+/// A meeting of a peer that sends `abc` with one who awaits no greeting.
+const PLAIN: Meeting = Meeting {
+    name: "one link",
+    parent: Parent::Unknown,
+    seconds: None,
+    second: false,
+    stranger: None,
+    peer: Some(b"abc"),
+    greeting: b"",
+};
+
+/// Meetings. Without a limit the link is given to the stranger, and within one to the peer, which greets as it is awaited.
+const MEETINGS: [Meeting; 10] = [
+    PLAIN,
+    Meeting {
+        name: "one link, watched",
+        parent: Parent::Runs,
+        ..PLAIN
+    },
+    Meeting {
+        name: "two listeners",
+        second: true,
+        ..PLAIN
+    },
+    Meeting {
+        name: "two listeners, watched",
+        parent: Parent::Runs,
+        second: true,
+        ..PLAIN
+    },
+    Meeting {
+        name: "nobody comes, orphaned",
+        parent: Parent::Gone,
+        peer: None,
+        ..PLAIN
+    },
+    Meeting {
+        name: "nobody comes within a second",
+        seconds: Some(1),
+        peer: None,
+        ..PLAIN
+    },
+    Meeting {
+        name: "a stranger first",
+        stranger: Some(b"axc"),
+        greeting: b"abc",
+        ..PLAIN
+    },
+    Meeting {
+        name: "a stranger first, limited",
+        seconds: Some(10),
+        stranger: Some(b"axc"),
+        greeting: b"abc",
+        ..PLAIN
+    },
+    Meeting {
+        name: "a silent one first, limited",
+        seconds: Some(10),
+        stranger: Some(b""),
+        greeting: b"abc",
+        ..PLAIN
+    },
+    Meeting {
+        name: "a stranger alone",
+        seconds: Some(1),
+        stranger: Some(b"axc"),
+        peer: None,
+        greeting: b"abc",
+        ..PLAIN
+    },
+];
 
 /// An address on the loopback that was free a moment ago.
 fn free_address<R: Network>(alloc: Global, rt: &R) -> Option<String> {
@@ -14,73 +115,112 @@ fn free_address<R: Network>(alloc: Global, rt: &R) -> Option<String> {
     format!(in alloc; "{address}").ok()
 }
 
-/// What passes from one end of a link to the other: how many bytes were sent, and how many came then and behind the end.
-fn pass<N: Net>(net: &mut N, address: &str) -> Option<(u32, u32, u32)>
+/// The number of a listener at an address.
+fn listener_at<N: Net>(net: &mut N, address: &str) -> Option<u32>
     requires { (N.view net.old).given < u32.MAX }
+    ensures number { IfSome result (λ listener. listener < (N.view net.new).given) }
+    ensures most { (N.view net.new).given ≤ (N.view net.old).given + 1 }
 {
-    let listener = net.listen(address).ok()?;
-    let mut there = net.connect(address).ok()?;
-    let mut here = net.accept(listener, b"").ok()?;
-    let mut into = [0u8; 8];
-    let sent = there.send(b"abc").unwrap_or(9);
-    let came = here.receive(&mut into).unwrap_or(9);
-    net.hang_up(there);
-    let behind = here.receive(&mut into).unwrap_or(9);
-    net.hang_up(here);
-    Some((sent, came, behind))
+    net.listen(address).ok()
 }
 
-/// The number of the second of two listeners, and how many bytes come there from one that connects to it.
-fn pass_to_second<N: Net>(net: &mut N, first: &str, address: &str) -> Option<(u32, u32)>
+/// The number of a listener at the second address, made behind one at the first if that is wanted.
+fn last_listener<N: Net>(net: &mut N, first: &str, address: &str, second: bool) -> Option<u32>
+    requires { (N.view net.old).given ≤ 4294967000 }
+    ensures { IfSome result (λ listener. listener < (N.view net.new).given) }
+{
+    if second {
+        let _ = listener_at(net, first);
+    }
+    listener_at(net, address)
+}
+
+/// A link to an address over which these bytes go, where so many were sent; none where nobody comes.
+fn link_of<N: Net>(net: &mut N, address: &str, bytes: Option<&[u8]>) -> Option<N::Link>
+    ensures { (N.view net.new).given ≡ (N.view net.old).given }
+{
+    let bytes = bytes?;
+    let mut link = net.connect(address).ok()?;
+    if !bytes.is_empty() {
+        let sent = link.send(bytes).ok()?;
+        if sent as usize != bytes.len() {
+            return None;
+        }
+    }
+    Some(link)
+}
+
+/// How many bytes come over a link, and the second of them.
+fn front_of<L: Link>(link: &mut Option<L>) -> Option<(u32, u8)> {
+    let link = link.as_mut()?;
+    let mut into = [0u8; 8];
+    let came = link.receive(&mut into).ok()?;
+    Some((came, into[1]))
+}
+
+/// Hands a link back, if there is one.
+fn hang_up<N: Net>(net: &mut N, link: Option<N::Link>) {
+    if let Some(link) = link {
+        net.hang_up(link);
+    }
+}
+
+/// What comes of a meeting: the number of the listener, and what passes over the link that it is given, at first and behind its end.
+type Met = (u32, Option<(u32, u8)>, Option<(u32, u8)>);
+
+/// What comes of a meeting at an address.
+fn meet<N: Net>(net: &mut N, first: &str, address: &str, meeting: &Meeting) -> Option<Met>
     requires { (N.view net.old).given ≤ 4294967000 }
 {
-    net.listen(first).ok()?;
-    let second = net.listen(address).ok()?;
-    let mut there = net.connect(address).ok()?;
-    let mut here = net.accept(second, b"").ok()?;
-    let mut into = [0u8; 8];
-    there.send(b"abc").ok()?;
-    let came = here.receive(&mut into).ok()?;
-    net.hang_up(there);
-    net.hang_up(here);
-    Some((second, came))
+    let listener = last_listener(net, first, address, meeting.second)?;
+    let stranger = link_of(net, address, meeting.stranger);
+    let peer = link_of(net, address, meeting.peer);
+    let mut here = net.accept(listener, meeting.greeting).ok();
+    let front = front_of(&mut here);
+    hang_up(net, stranger);
+    hang_up(net, peer);
+    let behind = front_of(&mut here);
+    hang_up(net, here);
+    Some((listener, front, behind))
 }
 
-/// What passes over one link, and how often the net failed.
-fn one_link<R: Network + Clock + Drop>(
+/// What is waited for by a net, as a meeting says.
+fn waits_of(process: Process, parent: Parent) -> Waits {
+    let number = match parent {
+        Parent::Unknown => None,
+        Parent::Runs => Some(parent_id(process)),
+        Parent::Gone => Some(0),
+    };
+    Waits::new(process, number)
+}
+
+/// What comes of a meeting, and how often the net failed.
+fn met<R: Network + Clock + Drop>(
     alloc: Global,
     rt: R,
     waits: Waits,
-) -> Option<((u32, u32, u32), u64)> {
+    meeting: &Meeting,
+) -> Option<(Option<Met>, u64)> {
+    let first = free_address(alloc, &rt)?;
     let address = free_address(alloc, &rt)?;
     let mut net = RealNet::new(SystemSockets::new(rt, alloc, waits), alloc);
-    let passed = pass(&mut net, address.as_str())?;
-    Some((passed, net.faults()))
+    net.wait_at_most(meeting.seconds);
+    let met = meet(&mut net, first.as_str(), address.as_str(), meeting);
+    Some((met, net.faults()))
 }
 
-/// What comes to the second of two listeners, and how often the net failed.
-fn two_listeners<R: Network + Clock + Drop>(
+/// How often a net failed that went to an address at which nobody listens, and whether a link was given there.
+fn gone_alone<R: Network + Clock + Drop>(
     alloc: Global,
     rt: R,
     waits: Waits,
-) -> Option<((u32, u32), u64)> {
-    let first = free_address(alloc, &rt)?;
-    let second = free_address(alloc, &rt)?;
-    let mut net = RealNet::new(SystemSockets::new(rt, alloc, waits), alloc);
-    let passed = pass_to_second(&mut net, first.as_str(), second.as_str())?;
-    Some((passed, net.faults()))
-}
-
-/// Whether a link to an address at which nobody listens is refused, and how often the net failed.
-fn lone_address<R: Network + Clock + Drop>(
-    alloc: Global,
-    rt: R,
-    waits: Waits,
+    seconds: Option<u32>,
 ) -> Option<(bool, u64)> {
     let address = free_address(alloc, &rt)?;
     let mut net = RealNet::new(SystemSockets::new(rt, alloc, waits), alloc);
-    let refused = net.connect(address.as_str()).is_err();
-    Some((refused, net.faults()))
+    net.wait_at_most(seconds);
+    let link = net.connect(address.as_str());
+    Some((link.is_ok(), net.faults()))
 }
 
 /// Prints what passes over links of the loopback.
@@ -88,134 +228,21 @@ pub fn print_links<W: Write, R: Network + Clock + Clone + Drop>(
     to: &mut W,
     rt: R,
     alloc: Global,
-    waits: Waits,
+    process: Process,
 ) -> io::Result<()> {
-    let one = one_link(alloc, rt.clone()?, waits);
-    writeln!(to, "one link: {one:?}")?;
-    let two = two_listeners(alloc, rt.clone()?, waits);
-    writeln!(to, "two listeners: {two:?}")?;
-    let lone = lone_address(alloc, rt, waits);
-    writeln!(to, "nobody listens: {lone:?}")
-}
-
-/// Whether a wait for a stream that does not come is over, and how often the net failed.
-fn nobody_comes<R: Network + Clock + Drop>(
-    alloc: Global,
-    rt: R,
-    waits: Waits,
-) -> Option<(bool, u64)> {
-    let address = free_address(alloc, &rt)?;
-    let mut net = RealNet::new(SystemSockets::new(rt, alloc, waits), alloc);
-    let listener = net.listen(address.as_str()).ok()?;
-    let over = net.accept(listener, b"").is_err();
-    Some((over, net.faults()))
-}
-
-/// Prints what becomes of waits that may end, where nobody comes or can be reached.
-pub fn print_waits<W: Write, R: Network + Clock + Clone + Drop>(
-    to: &mut W,
-    rt: R,
-    alloc: Global,
-    waits: Waits,
-) -> io::Result<()> {
-    let came = nobody_comes(alloc, rt.clone()?, waits);
-    writeln!(to, "nobody comes: {came:?}")?;
-    let lone = lone_address(alloc, rt, waits);
-    writeln!(to, "nobody listens: {lone:?}")
-}
-
-/// How many bytes come from the link that a net gives to who awaits `abc`, and the second of them. Before the link that sends these,
-/// one came that sent `axc`.
-fn pass_behind<N: Net>(net: &mut N, address: &str) -> Option<(u32, u8)>
-    requires { (N.view net.old).given < u32.MAX }
-{
-    let listener = net.listen(address).ok()?;
-    let mut stranger = net.connect(address).ok()?;
-    stranger.send(b"axc").ok()?;
-    let mut there = net.connect(address).ok()?;
-    there.send(b"abc").ok()?;
-    let mut here = net.accept(listener, b"abc").ok()?;
-    let mut into = [0u8; 8];
-    let came = here.receive(&mut into).ok()?;
-    net.hang_up(stranger);
-    net.hang_up(there);
-    net.hang_up(here);
-    Some((came, into[1]))
-}
-
-/// What passes behind a stranger, and how often the net failed.
-fn behind_a_stranger<R: Network + Clock + Drop>(
-    alloc: Global,
-    rt: R,
-    waits: Waits,
-) -> Option<((u32, u8), u64)> {
-    let address = free_address(alloc, &rt)?;
-    let mut net = RealNet::new(SystemSockets::new(rt, alloc, waits), alloc);
-    let passed = pass_behind(&mut net, address.as_str())?;
-    Some((passed, net.faults()))
-}
-
-/// How many bytes come from the link that a net with this limit gives to who awaits `abc`. Before the link that sends these, one came
-/// that sent nothing.
-fn pass_behind_silence<N: Net>(net: &mut N, address: &str, limit: u32) -> Option<u32>
-    requires { (N.view net.old).given < u32.MAX }
-{
-    net.wait_at_most(Some(limit));
-    let listener = net.listen(address).ok()?;
-    let silent = net.connect(address).ok()?;
-    let mut there = net.connect(address).ok()?;
-    there.send(b"abc").ok()?;
-    let mut here = net.accept(listener, b"abc").ok()?;
-    let mut into = [0u8; 8];
-    let came = here.receive(&mut into).ok()?;
-    net.hang_up(silent);
-    net.hang_up(there);
-    net.hang_up(here);
-    Some(came)
-}
-
-/// What passes behind a silent stranger within a second, and how often the net failed.
-fn behind_silence<R: Network + Clock + Drop>(
-    alloc: Global,
-    rt: R,
-    waits: Waits,
-) -> Option<(u32, u64)> {
-    let address = free_address(alloc, &rt)?;
-    let mut net = RealNet::new(SystemSockets::new(rt, alloc, waits), alloc);
-    let passed = pass_behind_silence(&mut net, address.as_str(), 1)?;
-    Some((passed, net.faults()))
-}
-
-/// Whether a wait for `abc` is over where one came that sent `axc`, and how often the net failed.
-fn strangers_alone<R: Network + Clock + Drop>(
-    alloc: Global,
-    rt: R,
-    waits: Waits,
-) -> Option<(bool, u64)> {
-    let address = free_address(alloc, &rt)?;
-    let mut net = RealNet::new(SystemSockets::new(rt, alloc, waits), alloc);
-    let listener = net.listen(address.as_str()).ok()?;
-    let mut stranger = net.connect(address.as_str()).ok()?;
-    stranger.send(b"axc").ok()?;
-    let over = net.accept(listener, b"abc").is_err();
-    net.hang_up(stranger);
-    Some((over, net.faults()))
-}
-
-/// Prints to whom a link is given before whom a stranger came: without a limit to the stranger, and within one to who is awaited.
-pub fn print_strangers<W: Write, R: Network + Clock + Clone + Drop>(
-    to: &mut W,
-    rt: R,
-    alloc: Global,
-    alone: Waits,
-    limited: Waits,
-) -> io::Result<()> {
-    let first = behind_a_stranger(alloc, rt.clone()?, alone);
-    writeln!(to, "a stranger first: {first:?}")?;
-    let behind = behind_a_stranger(alloc, rt.clone()?, limited);
-    writeln!(to, "a stranger first: {behind:?}")?;
-    let silent = behind_silence(alloc, rt.clone()?, alone);
-    writeln!(to, "a silent one first: {silent:?}")?;
-    let over = strangers_alone(alloc, rt, limited);
-    writeln!(to, "strangers alone: {over:?}")
+    for meeting in &MEETINGS {
+        let came = met(
+            alloc,
+            rt.clone()?,
+            waits_of(process, meeting.parent),
+            meeting,
+        );
+        writeln!(to, "{}: {came:?}", meeting.name)?;
+    }
+    for parent in [Parent::Unknown, Parent::Runs, Parent::Gone] {
+        let came = gone_alone(alloc, rt.clone()?, waits_of(process, parent), None);
+        writeln!(to, "nobody listens, {parent:?}: {came:?}")?;
+    }
+    let came = gone_alone(alloc, rt, waits_of(process, Parent::Unknown), Some(1));
+    writeln!(to, "nobody listens within a second: {came:?}")
 }
