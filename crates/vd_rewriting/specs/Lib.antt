@@ -1,0 +1,3 @@
+pub mod Rewriting
+pub mod Stops
+pub mod Limits
