@@ -1,0 +1,5 @@
+pub mod BooleanGuards
+pub mod Selections
+pub mod Truths
+pub mod Walks
+pub mod Hidden
