@@ -1,0 +1,6 @@
+pub mod Rows
+pub mod Tests
+pub mod Texts
+pub mod Sinking
+pub mod Room
+pub mod Before
