@@ -1,0 +1,463 @@
+-- What hosts do with their own codes in program order, hastened hosts do over links that have room for as many packets as may be ahead.
+use Rattle.std.proofs.Common.{◌≡◌, ◌⊎◌, inl, inr, ℕ, zero, suc, ◌+◌, ◌-◌, ◌<◌, ◌≤◌, nat_eq, nat_lt, Bool, true, false, if◌then◌else◌, List, [], ◌∷◌, ◌++◌, length, Option, Some, None, refl, sym, ap, ◌∙◌, subst, subst₂, arith}
+use Rattle.std.specs.Prelude.{slice_get, drop}
+use Rattle.std.proofs.lemmas.List.{length-drop, length_push}
+use Rattle.std.proofs.lemmas.Bool.{ltb-true, lt-ltb}
+use Rattle.vd_execution.specs.declared.instructions.Reg.{Reg}
+use Rattle.vd_execution.specs.Registers.{put}
+use Rattle.vd_execution.specs.Code.{Code, Finished, Then, Send, Recv, Choose, Repeat, followed_by}
+use Rattle.vd_execution.specs.Step.{State, Deed, Quiet, Said, Heard, Printed, answer, need, next, deed, deed_of, deed_of_print, word_printed}
+use Rattle.vd_execution.specs.World.{Local, World, Supply, Tape, given, done, moved_on, queue, step, endless}
+use Rattle.vd_execution.specs.Joint.{supplied}
+use Rattle.vd_schedules.proofs.Confluence.{same_or_not, Through, through_all}
+use Rattle.vd_schedules.proofs.Puts.{put_same, put_other, put_twice, put_itself}
+use Rattle.vd_schedules.proofs.Diamond.{Below, answer_more, Stepped, stepped, steps_to}
+use Rattle.vd_hastening.specs.Hastening.{Piece, Acts, Sends, Awaits, before, at, without_packets}
+use Rattle.vd_hastening.proofs.Turned.{piece_moves, piece_leaves}
+use Rattle.vd_room.specs.Room.{has_room, narrow}
+use Rattle.vd_hastened_room.proofs.Calm.{Calm, To}
+use Rattle.vd_hastened_room.proofs.Passed.{ahead, packet, sends, AllPass, Sunk, Passed, Nowhere, Behind, InBranch, InLoop, followed, first_same, no_branch, no_loop}
+use Rattle.vd_hastened_room.proofs.Early.{Items, eager, eagerly, IsFree, AllFree, answered, all_free, free_before, free_behind, free_both, ahead_append, eagerly_append, sends_append, at_itself, eager_stands, eagerly_leaves, past, still_gets, all_take, sent_by_one, sent_by_all, eagerly_sent}
+
+-- a host with a hastened code has already done some pieces that stand before what it would do next
+pub record Hasty (t : Tape) (n h : ℕ) (l k : Local) : Type 0 where
+  pub code : Code
+  pub passed : Passed n l.state.pending code
+  pub early : List Piece
+  pub rest : Code
+  pub split : code ≡ ahead early rest
+  pub free : AllFree early
+  pub few : sends early ≤ n
+  pub stands : k ≡ eagerly (t h) early (at l code)
+
+abbrev pub AllHasty : Tape → ℕ → World → World → Type 0
+AllHasty t n v w = (h : ℕ) → Hasty t n h (v h) (w h)
+
+-- ---- what was taken only grows
+
+put_more : (f : ℕ → ℕ) (p q : ℕ) → f q ≤ put f p (suc (f p)) q
+put_more f p q =
+    elim (same_or_not q p) [
+      | inl same ↦
+          let e : put f p (suc (f p)) q ≡ suc (f q) = ap (put f p (suc (f p))) same ∙ put_same f p (suc (f p)) ∙ ap (λ i. suc (f i)) (sym same) in
+          omega (arith, e)
+      | inr other ↦ let e : put f p (suc (f p)) q ≡ f q = put_other f p (suc (f p)) q other in omega (arith, e)
+    ]
+
+done_took : (l : Local) (m : State) (d : Deed) (q : ℕ) → l.taken q ≤ (done l m d).taken q
+done_took l m Quiet q = omega arith
+done_took l m (Said p words) q = omega arith
+done_took l m (Heard p) q = put_more l.taken p q
+done_took l m (Printed x) q = omega arith
+
+took : (w : World) (g p : ℕ) (xs : List ℕ) (h : ℕ) → (w p).taken h ≤ (put w g (moved_on (w g) xs) p).taken h
+took w g p xs h =
+    elim (same_or_not p g) [
+      | inl same ↦
+          let e : (put w g (moved_on (w g) xs) p).taken h ≡ (moved_on (w g) xs).taken h = ap (λ i. (put w g (moved_on (w g) xs) i).taken h) same ∙ ap (λ (l : Local). l.taken h) (put_same w g (moved_on (w g) xs)) in
+          let f : (w p).taken h ≡ (w g).taken h = ap (λ i. (w i).taken h) same in
+          let m = done_took (w g) (next (w g).state xs) (deed (w g).state) h in
+          omega (arith, e, f, m)
+      | inr other ↦
+          let e : (put w g (moved_on (w g) xs) p).taken h ≡ (w p).taken h = ap (λ (l : Local). l.taken h) (put_other w g (moved_on (w g) xs) p other) in
+          omega (arith, e)
+    ]
+
+-- ---- a host goes ahead
+
+print_has_room : (room : ℕ) (v : World) (h : ℕ) (o : Option ℕ) → has_room room v h (deed_of_print o) ≡ true
+print_has_room room v h None = refl
+print_has_room room v h (Some x) = refl
+
+piece_has_room : (room : ℕ) (w : World) (h : ℕ) (x : Piece) (c : Code) (l : Local) → ((p : ℕ) (rs : List Reg) → x ≡ Sends p rs → length (queue w h p) < room) → w h ≡ l → l.state.pending ≡ before x c
+    → has_room room w h (deed (w h).state) ≡ true
+piece_has_room room w h (Acts a) c l few there is =
+    ap (λ (m : Local). has_room room w h (deed m.state)) there ∙ ap (λ k. has_room room w h (deed_of l.state.registers k)) is ∙ print_has_room room w h (word_printed l.state.registers a)
+piece_has_room room w h (Sends p rs) c l few there is =
+    ap (λ (m : Local). has_room room w h (deed m.state)) there ∙ ap (λ k. has_room room w h (deed_of l.state.registers k)) is ∙ lt-ltb (length (queue w h p)) room (few p rs refl)
+piece_has_room room w h (Awaits p rs) c l few there is =
+    ap (λ (m : Local). has_room room w h (deed m.state)) there ∙ ap (λ k. has_room room w h (deed_of l.state.registers k)) is
+
+there_is_room : (room : ℕ) (s : Supply) (h : ℕ) (w u : World) → has_room room w h (deed (w h).state) ≡ true → step s h w ≡ Some u → narrow room s h w ≡ Some u
+there_is_room room s h w u r e = ap (λ b. if b then step s h w else None) r ∙ e
+
+items_below : (t : Tape) (w : World) (h : ℕ) (l : Local) → Below (without_packets (t h)) (given (endless t) w h l)
+items_below t w h l = record { item = λ s i x e. e; front = λ p x e. absurd cc }
+
+abbrev times : List Piece → ℕ → List ℕ
+times [] h = []
+times (y ∷ ys) h = h ∷ times ys h
+
+-- each link from the host has room for all packets among them
+abbrev Roomy : ℕ → World → ℕ → List Piece → Type 0
+Roomy room w h ys = (p : ℕ) → length ((w h).sent p) + sends ys ≤ (w p).taken h + room
+
+rushes : (room : ℕ) (t : Tape) (h : ℕ) (ys : List Piece) (w : World) (l : Local) (c : Code) → AllFree ys → w h ≡ at l (ahead ys c) → Roomy (suc room) w h ys
+    → Through (narrow (suc room) (endless t)) (times ys h) w (put w h (eagerly (t h) ys (at l (ahead ys c))))
+rushes room t h [] w l c free there roomy = sym (ap (put w h) (sym there) ∙ put_itself w h)
+rushes room t h (y ∷ ys) w l c free there roomy =
+    let s : Supply = endless t in
+    let d : Code = ahead ys c in
+    let k : Local = at l (before y d) in
+    let xs : List ℕ = supplied (t h) l.state.cursors (need k.state) in
+    let m : Local = eager (t h) k in
+    let u : World = put w h m in
+    let able : answer (given s w h k) k.state.cursors (need k.state) ≡ Some xs =
+    answer_more _ _ k.state.cursors (need k.state) xs (items_below t w h k) (free.0.gets (t h) l d) in
+    let goes : step s h w ≡ Some u = steps_to s h w k xs there able in
+    let less : (p : ℕ) (rs : List Reg) → y ≡ Sends p rs → length (queue w h p) < suc room = λ p rs is.
+    let r = roomy p in
+    let e = length-drop ((w p).taken h) ((w h).sent p) in
+    let some : packet y ≡ 1 = ap packet is in
+    omega (arith, r, e, some) in
+    let fits : narrow (suc room) s h w ≡ Some u = there_is_room (suc room) s h w u (piece_has_room (suc room) w h y d k less there refl) goes in
+    let stands : at m d ≡ m = eager_stands (t h) y l d in
+    let next_roomy : Roomy (suc room) u h ys = λ p.
+    let r = roomy p in
+    let sent : length ((u h).sent p) ≡ length (m.sent p) = ap (λ (x : Local). length (x.sent p)) (put_same w h m) in
+    let old : length ((w h).sent p) ≡ length (l.sent p) = ap (λ (x : Local). length (x.sent p)) there in
+    let one = sent_by_one (t h) y l d p in
+    let more = took w h p xs h in
+    let was : (put w h (moved_on (w h) xs) p).taken h ≡ (u p).taken h = ap (λ x. (put w h (moved_on x xs) p).taken h) there in
+    omega (arith, r, sent, old, one, more, was) in
+    let ih = rushes room t h ys u m c free.1 (put_same w h m ∙ sym stands) next_roomy in
+    let to : put u h (eagerly (t h) ys (at m d)) ≡ put w h (eagerly (t h) ys m) = put_twice w h m (eagerly (t h) ys (at m d)) ∙ ap (λ x. put w h (eagerly (t h) ys x)) stands in
+    (u, fits, subst (λ x. Through (narrow (suc room) s) (times ys h) u x) to ih)
+
+-- ---- what stands before and behind an instruction
+
+record IsDue (es ys : List Piece) (r : Code) (x : Piece) (q : Code) : Type 0 where
+  left : List Piece
+  all : ys ≡ es ++ left
+  stands : r ≡ ahead left (before x q)
+
+record WasEarly (es ys : List Piece) (r : Code) (x : Piece) (q : Code) : Type 0 where
+  more : List Piece
+  all : es ≡ ys ++ x ∷ more
+  stands : q ≡ ahead more r
+
+-- what was done early ends before the instruction, or it is among it
+compare : (es ys : List Piece) (r : Code) (x : Piece) (q : Code) → ahead es r ≡ ahead ys (before x q) → IsDue es ys r x q ⊎ WasEarly es ys r x q
+compare [] ys r x q e = inl (record { left = ys; all = refl; stands = e })
+compare (z ∷ es) [] r x q e =
+    let s = first_same z x (ahead es r) q e in
+    inr (record { more = es; all = ap (λ p. p ∷ es) s.0; stands = sym s.1 })
+compare (z ∷ es) (y ∷ ys) r x q e =
+    let s = first_same z y (ahead es r) (ahead ys (before x q)) e in
+    elim (compare es ys r x q s.1) [
+      | inl a ↦ inl (record { left = a.left; all = ap (λ l. y ∷ l) a.all ∙ ap (λ p. p ∷ es ++ a.left) (sym s.0); stands = a.stands })
+      | inr b ↦ inr (record { more = b.more; all = ap (λ l. z ∷ l) b.all ∙ ap (λ p. p ∷ ys ++ x ∷ b.more) s.0; stands = b.stands })
+    ]
+
+none_before_branch : (items : Items) (es : List Piece) (r : Code) (l : Local) (g : ℕ) (first other rest : Code) → Choose g first other rest ≡ ahead es r
+    → eagerly items es (at l (Choose g first other rest)) ≡ at l (Choose g first other rest)
+none_before_branch items [] r l g first other rest e = refl
+none_before_branch items (y ∷ es) r l g first other rest e = absurd (no_branch y (ahead es r) g first other rest (sym e))
+
+none_before_loop : (items : Items) (es : List Piece) (r : Code) (l : Local) (c i n : ℕ) (body rest : Code) → Repeat c i n body rest ≡ ahead es r
+    → eagerly items es (at l (Repeat c i n body rest)) ≡ at l (Repeat c i n body rest)
+none_before_loop items [] r l c i n body rest e = refl
+none_before_loop items (y ∷ es) r l c i n body rest e = absurd (no_loop y (ahead es r) c i n body rest (sym e))
+
+-- ---- one step
+
+module _ (room : ℕ) (t : Tape) (v w : World) (all : AllHasty t (suc room) v w) (h : ℕ) where
+  -- the hastened hosts get from here to where they stand behind the step
+  pub record Follows (u : World) : Type 0 where
+    pub hosts : List ℕ
+    pub world : World
+    pub through : Through (narrow (suc room) (endless t)) hosts w world
+    pub all_hasty : AllHasty t (suc room) u world
+
+  -- host h has gone on, in both
+  both_put : (l k : Local) → Hasty t (suc room) h l k → AllHasty t (suc room) (put v h l) (put w h k)
+  both_put l k y g =
+      elim (same_or_not g h) [
+        | inl same ↦
+            subst (λ i. Hasty t (suc room) i (put v h l i) (put w h k i)) (sym same) (subst₂ (λ (a b : Local). Hasty t (suc room) h a b) (sym (put_same v h l)) (sym (put_same w h k)) y)
+        | inr other ↦ subst₂ (λ (a b : Local). Hasty t (suc room) g a b) (sym (put_other v h l g other)) (sym (put_other w h k g other)) (all g)
+      ]
+
+  follows_through : (u : World) (hosts : List ℕ) (l k : Local) → u ≡ put v h l → Through (narrow (suc room) (endless t)) hosts w (put w h k) → Hasty t (suc room) h l k → Follows u
+  follows_through u hosts l k made through y = record {
+    hosts = hosts;
+    world = put w h k;
+    through = through;
+    all_hasty = subst (λ x. AllHasty t (suc room) x (put w h k)) (sym made) (both_put l k y);
+  }
+
+  -- what each host took is what it took with its own code
+  same_taken : (p q : ℕ) → (w p).taken q ≡ (v p).taken q
+  same_taken p q =
+      let y = all p in
+      ap (λ (k : Local). k.taken q) y.stands
+      ∙ ap (λ c. (eagerly (t p) y.early (at (v p) c)).taken q) y.split
+      ∙ ap (λ (f : ℕ → ℕ). f q) (all_take (t p) y.early y.free (v p) y.rest)
+
+  -- and what it sent stands before what it sent early
+  sent_stays : (p q i : ℕ) (z : List ℕ) → slice_get ((v p).sent q) i ≡ Some z → slice_get ((w p).sent q) i ≡ Some z
+  sent_stays p q i z e =
+      let y = all p in
+      ap (λ (k : Local). slice_get (k.sent q) i) y.stands ∙ eagerly_sent (t p) y.early (at (v p) y.code) q i z e
+
+  module _ (u : World) (a : Stepped (endless t) h v u) (calm : Calm v h) where
+    -- ---- an instruction outside of blocks
+    module _ (x : Piece) (c d e : Code) (is : (v h).state.pending ≡ before x c) (passed : Passed (suc room) c d) (s : Sunk (suc room) x d e) (code_is : (all h).code ≡ e) where
+      old_is : at (v h) (before x c) ≡ v h
+      old_is = at_itself (v h) (before x c) is
+
+      gets_old : answer (given (endless t) v h (v h)) (v h).state.cursors (need (at (v h) (before x c)).state) ≡ Some a.words
+      gets_old = ap (λ (m : Local). answer (given (endless t) v h (v h)) (v h).state.cursors (need m.state)) old_is ∙ a.able
+
+      -- where the host stands before the instruction, with all that passes it done
+      abbrev m : Local
+      m = eagerly (t h) s.pieces (at (v h) (ahead s.pieces (before x s.rest)))
+
+      m_free : AllFree s.pieces
+      m_free = all_free x s.pieces s.may
+
+      code_split : (all h).code ≡ ahead s.pieces (before x s.rest)
+      code_split = code_is ∙ s.new
+
+      -- behind the instruction, with its own code and with the other
+      new_pending : (moved_on (v h) a.words).state.pending ≡ c
+      new_pending = ap (λ (k : Local). (moved_on k a.words).state.pending) (sym old_is) ∙ piece_leaves x (v h) c a.words
+
+      new_stands : moved_on m a.words ≡ eagerly (t h) s.pieces (at (moved_on (v h) a.words) d)
+      new_stands =
+          sym (past (t h) x s.pieces s.may (v h) s.rest a.words)
+          ∙ ap (λ k. eagerly (t h) s.pieces (moved_on (at (v h) (before x k)) a.words)) (sym s.old)
+          ∙ ap (eagerly (t h) s.pieces) (piece_moves x (v h) c d a.words)
+          ∙ ap (λ (k : Local). eagerly (t h) s.pieces (at (moved_on k a.words) d)) old_is
+
+      new_passed : Passed (suc room) (moved_on (v h) a.words).state.pending d
+      new_passed = subst (λ k. Passed (suc room) k d) (sym new_pending) passed
+
+      -- it is done now
+      due : IsDue (all h).early s.pieces (all h).rest x s.rest → Follows u
+      due n =
+          let y = all h in
+          let es : List Piece = y.early in
+          let b : Code = before x s.rest in
+          let there : w h ≡ eagerly (t h) es (at (v h) (ahead es (ahead n.left b))) =
+          y.stands ∙ ap (λ k. eagerly (t h) es (at (v h) k)) (y.split ∙ ap (ahead es) n.stands) in
+          let k : Local = eagerly (t h) es (at (v h) (ahead es (ahead n.left b))) in
+          let k_pending : k.state.pending ≡ ahead n.left b = eagerly_leaves (t h) es (v h) (ahead n.left b) in
+          let k_stands : at k (ahead n.left b) ≡ k = at_itself k (ahead n.left b) k_pending in
+          let whole : eagerly (t h) n.left k ≡ m =
+          sym (eagerly_append (t h) es n.left (at (v h) (ahead es (ahead n.left b))))
+          ∙ ap (λ q. eagerly (t h) (es ++ n.left) (at (v h) q)) (sym (ahead_append es n.left b))
+          ∙ ap (λ q. eagerly (t h) q (at (v h) (ahead q b))) (sym n.all) in
+          let all_free_left : AllFree n.left = free_behind es n.left (subst AllFree n.all m_free) in
+          let count : sends s.pieces ≡ sends es + sends n.left = ap sends n.all ∙ sends_append es n.left in
+          let roomy : Roomy (suc room) w h n.left = λ p.
+          let old = calm p in
+          let dropped = length-drop ((v p).taken h) ((v h).sent p) in
+          let sent = sent_by_all (t h) es (v h) (ahead n.left b) p in
+          let same : length ((w h).sent p) ≡ length (k.sent p) = ap (λ (q : Local). length (q.sent p)) there in
+          let took_same = same_taken p h in
+          let fits = s.few in
+          omega (arith, old, dropped, sent, same, took_same, fits, count) in
+          let rush = rushes room t h n.left w k b all_free_left (there ∙ sym k_stands) roomy in
+          let w1 : World = put w h m in
+          let to_m : Through (narrow (suc room) (endless t)) (times n.left h) w w1 =
+          subst (λ q. Through (narrow (suc room) (endless t)) (times n.left h) w (put w h q)) (ap (eagerly (t h) n.left) k_stands ∙ whole) rush in
+          let m_pending : m.state.pending ≡ b = eagerly_leaves (t h) s.pieces (v h) b in
+          let m_taken : m.taken ≡ (v h).taken = all_take (t h) s.pieces m_free (v h) b in
+          let m_gets : answer (given (endless t) v h (v h)) m.state.cursors (need m.state) ≡ Some a.words =
+          still_gets (t h) x s.pieces s.may (given (endless t) v h (v h)) (v h) c s.rest a.words gets_old in
+          let w1_sent : (p i : ℕ) (z : List ℕ) → slice_get ((v p).sent h) i ≡ Some z → slice_get ((w1 p).sent h) i ≡ Some z =
+          λ p i z q. elim (same_or_not p h) [
+            | inl same ↦
+                ap (λ j. slice_get ((w1 j).sent h) i) same
+                ∙ ap (λ (f : Local). slice_get (f.sent h) i) (put_same w h m)
+                ∙ eagerly_sent (t h) s.pieces (at (v h) (ahead s.pieces b)) h i z (ap (λ j. slice_get ((v j).sent h) i) (sym same) ∙ q)
+            | inr other ↦ ap (λ (f : Local). slice_get (f.sent h) i) (put_other w h m p other) ∙ sent_stays p h i z q
+          ] in
+          let wider : Below (given (endless t) v h (v h)) (given (endless t) w1 h m) = record {
+            item = λ q i z f. f;
+            front = λ p z f. ap (λ (g : ℕ → ℕ). slice_get ((w1 p).sent h) (g p)) m_taken ∙ w1_sent p ((v h).taken p) z f;
+          } in
+          let goes : step (endless t) h w1 ≡ Some (put w1 h (moved_on m a.words)) =
+          steps_to (endless t) h w1 m a.words (put_same w h m) (answer_more _ _ m.state.cursors (need m.state) a.words wider m_gets) in
+          let less : (p : ℕ) (rs : List Reg) → x ≡ Sends p rs → length (queue w1 h p) < suc room = λ p rs that.
+          let fits = s.few in
+          let empty = calm p in
+          let one : packet x ≡ 1 = ap packet that in
+          let dropped = length-drop ((v p).taken h) ((v h).sent p) in
+          let dropped_now = length-drop ((w1 p).taken h) ((w1 h).sent p) in
+          let sent = sent_by_all (t h) s.pieces (v h) b p in
+          let same : length ((w1 h).sent p) ≡ length (m.sent p) = ap (λ (q : Local). length (q.sent p)) (put_same w h m) in
+          let took_same : (w1 p).taken h ≡ (v p).taken h = w1_taken p m_taken in
+          omega (arith, fits, empty, one, dropped, dropped_now, sent, same, took_same) in
+          let fits : narrow (suc room) (endless t) h w1 ≡ Some (put w1 h (moved_on m a.words)) =
+          there_is_room (suc room) (endless t) h w1 _ (piece_has_room (suc room) w1 h x s.rest m less (put_same w h m) m_pending) goes in
+          let fewer : sends s.pieces ≤ suc room = let f = s.few in omega (arith, f) in
+          let last : Through (narrow (suc room) (endless t)) (h ∷ []) w1 (put w h (moved_on m a.words)) =
+          (put w1 h (moved_on m a.words), fits, put_twice w h m (moved_on m a.words)) in
+          follows_through u (times n.left h ++ h ∷ []) (moved_on (v h) a.words) (moved_on m a.words) a.made
+          (through_all (narrow (suc room) (endless t)) (times n.left h) (h ∷ []) w w1 (put w h (moved_on m a.words)) to_m last)
+          (record { code = d; passed = new_passed; early = s.pieces; rest = s.rest; split = s.old; free = m_free; few = fewer; stands = new_stands })
+        where
+          w1_taken : (p : ℕ) → m.taken ≡ (v h).taken → (put w h m p).taken h ≡ (v p).taken h
+          w1_taken p same =
+              elim (same_or_not p h) [
+                | inl here ↦ ap (λ j. (put w h m j).taken h) here ∙ ap (λ (f : Local). f.taken h) (put_same w h m) ∙ ap (λ (g : ℕ → ℕ). g h) same ∙ ap (λ j. (v j).taken h) (sym here)
+                | inr other ↦ ap (λ (f : Local). f.taken h) (put_other w h m p other) ∙ same_taken p h
+              ]
+
+      -- it was done early
+      was_early : WasEarly (all h).early s.pieces (all h).rest x s.rest → Follows u
+      was_early n =
+          let y = all h in
+          let b : Code = before x s.rest in
+          let early_free : AllFree (s.pieces ++ x ∷ n.more) = subst AllFree n.all y.free in
+          let x_free : IsFree x = (free_behind s.pieces (x ∷ n.more) early_free).0 in
+          let more_free : AllFree n.more = (free_behind s.pieces (x ∷ n.more) early_free).1 in
+          let sup : List ℕ = supplied (t h) (v h).state.cursors (need (at (v h) (before x c)).state) in
+          let got : answer (without_packets (t h)) (v h).state.cursors (need (at (v h) (before x c)).state) ≡ Some sup = x_free.gets (t h) (v h) c in
+          let got_here : answer (given (endless t) v h (v h)) (v h).state.cursors (need (at (v h) (before x c)).state) ≡ Some sup =
+          answer_more _ _ (v h).state.cursors (need (at (v h) (before x c)).state) sup (items_below t v h (v h)) got in
+          let same_words : sup ≡ a.words = some_same sup a.words (sym got_here ∙ gets_old) in
+          let m_gets = still_gets (t h) x s.pieces s.may (without_packets (t h)) (v h) c s.rest sup got in
+          let m_words : supplied (t h) m.state.cursors (need m.state) ≡ a.words = answered (t h) m.state.cursors (need m.state) sup m_gets ∙ same_words in
+          let there : w h ≡ eagerly (t h) (s.pieces ++ n.more) (at (moved_on (v h) a.words) d) =
+          y.stands
+          ∙ ap (λ k. eagerly (t h) y.early (at (v h) k)) code_split
+          ∙ ap (λ q. eagerly (t h) q (at (v h) (ahead s.pieces b))) n.all
+          ∙ eagerly_append (t h) s.pieces (x ∷ n.more) (at (v h) (ahead s.pieces b))
+          ∙ ap (λ q. eagerly (t h) n.more (moved_on m q)) m_words
+          ∙ ap (eagerly (t h) n.more) new_stands
+          ∙ sym (eagerly_append (t h) s.pieces n.more (at (moved_on (v h) a.words) d)) in
+          let count = sends_append s.pieces n.more in
+          let count_early : sends y.early ≡ sends s.pieces + sends (x ∷ n.more) = ap sends n.all ∙ sends_append s.pieces (x ∷ n.more) in
+          let fits = y.few in
+          let same : w ≡ put w h (w h) = sym (put_itself w h) in
+          follows_through u [] (moved_on (v h) a.words) (w h) a.made same
+          (record {
+            code = d;
+            passed = new_passed;
+            early = s.pieces ++ n.more;
+            rest = y.rest;
+            split = s.old ∙ ap (ahead s.pieces) n.stands ∙ sym (ahead_append s.pieces n.more y.rest);
+            free = free_both s.pieces n.more m_free more_free;
+            few = omega (arith, count, count_early, fits);
+            stands = there;
+          })
+        where
+          some_same : (p q : List ℕ) → Some p ≡ Some q → p ≡ q
+          some_same p q e = cc
+
+      instruction : Follows u
+      instruction =
+          elim (compare (all h).early s.pieces (all h).rest x s.rest (sym (all h).split ∙ code_split)) [
+            | inl n ↦ due n
+            | inr n ↦ was_early n
+          ]
+
+    -- ---- blocks
+
+    at_branch : (g : ℕ) (first other rest one two last : Code) → (v h).state.pending ≡ Choose g first other rest → Passed (suc room) first one → Passed (suc room) other two → Passed (suc room) rest last
+        → (all h).code ≡ Choose g one two last → Follows u
+    at_branch g first other rest one two last is p q o code_is =
+        let y = all h in
+        let c : Code = Choose g first other rest in
+        let d : Code = Choose g one two last in
+        let old : at (v h) c ≡ v h = at_itself (v h) c is in
+        let k : Local = at (v h) d in
+        let there : w h ≡ k =
+        y.stands ∙ ap (λ e. eagerly (t h) y.early (at (v h) e)) code_is ∙ none_before_branch (t h) y.early y.rest (v h) g one two last (sym code_is ∙ y.split) in
+        let b : Bool = nat_eq ((v h).state.registers g) 0 in
+        let able : answer (given (endless t) w h k) k.state.cursors (need k.state) ≡ Some a.words =
+        ap (λ (f : Local). answer (given (endless t) v h (v h)) (v h).state.cursors (need f.state)) old ∙ a.able in
+        let new : Local = moved_on k a.words in
+        let goes : step (endless t) h w ≡ Some (put w h new) = steps_to (endless t) h w k a.words there able in
+        let fits : narrow (suc room) (endless t) h w ≡ Some (put w h new) =
+        there_is_room (suc room) (endless t) h w _ (ap (λ (f : Local). has_room (suc room) w h (deed f.state)) there) goes in
+        let code : Code = followed_by (if b then two else one) last in
+        let now : Passed (suc room) (followed_by (if b then other else first) rest) code =
+        followed (suc room) (either b) rest last o in
+        follows_through u (h ∷ []) (moved_on (v h) a.words) new a.made (put w h new, fits, refl)
+        (record {
+          code = code;
+          passed = subst (λ (f : Local). Passed (suc room) (moved_on f a.words).state.pending code) old now;
+          early = [];
+          rest = code;
+          split = refl;
+          free = tt;
+          few = omega arith;
+          stands = ap (λ (f : Local). at (moved_on f a.words) code) old;
+        })
+      where
+        either : (b : Bool) → Passed (suc room) (if b then other else first) (if b then two else one)
+        either true = q
+        either false = p
+
+    at_loop : (r i n : ℕ) (body rest one last : Code) → (v h).state.pending ≡ Repeat r i n body rest → Passed (suc room) body one → Passed (suc room) rest last → (all h).code ≡ Repeat r i n one last → Follows u
+    at_loop r i n body rest one last is p o code_is =
+        let y = all h in
+        let c : Code = Repeat r i n body rest in
+        let d : Code = Repeat r i n one last in
+        let old : at (v h) c ≡ v h = at_itself (v h) c is in
+        let k : Local = at (v h) d in
+        let there : w h ≡ k =
+        y.stands ∙ ap (λ e. eagerly (t h) y.early (at (v h) e)) code_is ∙ none_before_loop (t h) y.early y.rest (v h) r i n one last (sym code_is ∙ y.split) in
+        let b : Bool = nat_lt i n in
+        let able : answer (given (endless t) w h k) k.state.cursors (need k.state) ≡ Some a.words =
+        ap (λ (f : Local). answer (given (endless t) v h (v h)) (v h).state.cursors (need f.state)) old ∙ a.able in
+        let new : Local = moved_on k a.words in
+        let goes : step (endless t) h w ≡ Some (put w h new) = steps_to (endless t) h w k a.words there able in
+        let fits : narrow (suc room) (endless t) h w ≡ Some (put w h new) =
+        there_is_room (suc room) (endless t) h w _ (ap (λ (f : Local). has_room (suc room) w h (deed f.state)) there) goes in
+        let code : Code = if b then followed_by one (Repeat r (suc i) n one last) else last in
+        let now : Passed (suc room) (if b then followed_by body (Repeat r (suc i) n body rest) else rest) code = turned b in
+        follows_through u (h ∷ []) (moved_on (v h) a.words) new a.made (put w h new, fits, refl)
+        (record {
+          code = code;
+          passed = subst (λ (f : Local). Passed (suc room) (moved_on f a.words).state.pending code) old now;
+          early = [];
+          rest = code;
+          split = refl;
+          free = tt;
+          few = omega arith;
+          stands = ap (λ (f : Local). at (moved_on f a.words) code) old;
+        })
+      where
+        turned : (b : Bool) → Passed (suc room) (if b then followed_by body (Repeat r (suc i) n body rest) else rest) (if b then followed_by one (Repeat r (suc i) n one last) else last)
+        turned true = followed (suc room) p (Repeat r (suc i) n body rest) (Repeat r (suc i) n one last) (InLoop r (suc i) n body rest one last p o)
+        turned false = o
+
+    at_end_of : (v h).state.pending ≡ Finished → Follows u
+    at_end_of is =
+        let e : answer (given (endless t) v h (v h)) (v h).state.cursors (need (at (v h) Finished).state) ≡ Some a.words =
+        ap (λ (f : Local). answer (given (endless t) v h (v h)) (v h).state.cursors (need f.state)) (at_itself (v h) Finished is) ∙ a.able in
+        absurd cc
+
+    by_code : {c d : Code} → Passed (suc room) c d → (v h).state.pending ≡ c → (all h).code ≡ d → Follows u
+    by_code Nowhere is code_is = at_end_of is
+    by_code (Behind x c d e passed s) is code_is = instruction x c d e is passed s code_is
+    by_code (InBranch g first other rest one two last p q o) is code_is = at_branch g first other rest one two last is p q o code_is
+    by_code (InLoop r i n body rest one last p o) is code_is = at_loop r i n body rest one last is p o code_is
+
+  pub follow : (u : World) → step (endless t) h v ≡ Some u → Calm v h → Follows u
+  follow u e calm = by_code u (stepped (endless t) h v u e) calm (all h).passed refl refl
+
+-- ---- all steps
+
+pub record Ends (room : ℕ) (t : Tape) (w u : World) : Type 0 where
+  pub hosts : List ℕ
+  pub world : World
+  pub through : Through (narrow (suc room) (endless t)) hosts w world
+  pub all_hasty : AllHasty t (suc room) u world
+
+pub along : (room : ℕ) (t : Tape) (hs : List ℕ) (v u w : World) → AllHasty t (suc room) v w → To t hs v u → Ends room t w u
+along room t [] v u w all p = record { hosts = []; world = w; through = refl; all_hasty = subst (λ x. AllHasty t (suc room) x w) p all }
+along room t (h ∷ hs) v u w all p =
+    let f = follow room t v w all h p.0 p.1 p.2 in
+    let r = along room t hs p.0 u f.world f.all_hasty p.3 in
+    record {
+      hosts = f.hosts ++ r.hosts;
+      world = r.world;
+      through = through_all (narrow (suc room) (endless t)) f.hosts r.hosts w f.world r.world f.through r.through;
+      all_hasty = r.all_hasty;
+    }
