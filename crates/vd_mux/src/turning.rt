@@ -47,7 +47,7 @@ pub fn turn(
             Ok(Some(Program::new(form)))
         }
         Err(Stop::TooMany) => Ok(None),
-        Err(Stop::Memory) => Err(AllocError),
+        Err(Stop::Memory(refused)) => Err(refused),
     }
 }
 

@@ -10,13 +10,13 @@ pub enum Stop {
     #[error("more statements than a program may have")]
     TooMany,
     #[error("out of memory")]
-    Memory,
+    Memory(AllocError),
 }
 
 impl From<AllocError> for Stop {
-    ghost from_gives = { λ _ fault. fault ≡ stop.Memory };
+    ghost from_gives = { λ refused fault. fault ≡ stop.Memory refused };
 
-    fn from(_: AllocError) -> Self {
-        Stop::Memory
+    fn from(refused: AllocError) -> Self {
+        Stop::Memory(refused)
     }
 }
