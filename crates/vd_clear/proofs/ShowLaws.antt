@@ -10,7 +10,7 @@ use Rattle.vd_execution.specs.Deals.{IsValidDeal}
 use Rattle.vd_execution.specs.Joint.{Host, Hosts, after_do, after_msg}
 use Rattle.vd_execution.specs.Acts.{run_acts, ActsAgree}
 use Rattle.vd_execution.specs.Gadgets.{Gadget, Alone, Tells, acts_of_gadgets, GadgetsAreTidy, IsSound}
-use Rattle.vd_schedules.proofs.Puts.{put_itself}
+use Rattle.vd_execution.proofs.Puts.{put_itself}
 use Rattle.vd_duet.specs.Builder.{next_at, taken}
 use Rattle.vd_duet.specs.Calls.{Places, hosts_of, Made}
 use Rattle.vd_duet.specs.Acting.{is_among}

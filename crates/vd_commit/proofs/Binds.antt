@@ -11,7 +11,7 @@ use Rattle.vd_execution.specs.Joint.{Hosts, after_do, after_msg}
 use Rattle.vd_execution.specs.Acts.{run_acts}
 use Rattle.vd_execution.specs.Gadgets.{acts_of_gadgets, GadgetsAreTidy}
 use Rattle.vd_execution.specs.Text.{register}
-use Rattle.vd_schedules.proofs.Gadgets.{gadgets_sound}
+use Rattle.vd_execution.proofs.Gadgets.{gadgets_sound}
 use Rattle.vd_duet.specs.Builder.{taken}
 use Rattle.vd_duet.specs.Calls.{Made}
 use Rattle.vd_duet.proofs.Leads.{taken_known, taken_there, taken_other, taken_bounds}

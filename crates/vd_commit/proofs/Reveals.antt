@@ -11,8 +11,8 @@ use Rattle.vd_execution.specs.Joint.{Host, Hosts, after_do, after_msg}
 use Rattle.vd_execution.specs.Acts.{run_acts, ActsAgree}
 use Rattle.vd_execution.specs.Gadgets.{acts_of_gadgets, GadgetsAreTidy, IsSound}
 use Rattle.vd_execution.specs.Text.{register}
-use Rattle.vd_schedules.proofs.Puts.{put_itself}
-use Rattle.vd_schedules.proofs.Gadgets.{gadgets_sound}
+use Rattle.vd_execution.proofs.Puts.{put_itself}
+use Rattle.vd_execution.proofs.Gadgets.{gadgets_sound}
 use Rattle.vd_duet.specs.Builder.{taken}
 use Rattle.vd_duet.proofs.Leads.{taken_known, taken_bounds}
 use Rattle.vd_pairs.proofs.Adds.{Adds}

@@ -9,7 +9,7 @@ use Rattle.vd_execution.specs.Registers.{Registers, digest_of, put, put_each, wo
 use Rattle.vd_execution.specs.Step.{words_in}
 use Rattle.vd_execution.specs.Text.{register}
 use Rattle.vd_execution.specs.World.{Tape}
-use Rattle.vd_schedules.proofs.Puts.{put_other, put_same}
+use Rattle.vd_execution.proofs.Puts.{put_other, put_same}
 use Rattle.vd_pairs.proofs.Adds.{Adds}
 use Rattle.vd_commit.specs.declared.ends.Held.{Held}
 use Rattle.vd_commit.specs.declared.ends.Seen.{Seen}

@@ -8,7 +8,7 @@ use Rattle.vd_execution.specs.declared.instructions.Reg.{Reg}
 use Rattle.vd_execution.specs.Gadgets.{Alone}
 use Rattle.vd_execution.specs.Joint.{Host, Hosts, acted, after_do}
 use Rattle.vd_execution.specs.World.{Tape}
-use Rattle.vd_schedules.proofs.Puts.{put_other, put_same}
+use Rattle.vd_execution.proofs.Puts.{put_other, put_same}
 use Rattle.vd_duet.specs.Acting.{is_among}
 use Rattle.vd_duet.specs.Builder.{next_at, taken}
 use Rattle.vd_duet.specs.Calls.{Made, Places, hosts_of}

@@ -9,7 +9,7 @@ use Rattle.vd_execution.specs.Gadgets.{Gadget, acts_of_gadgets}
 use Rattle.vd_execution.specs.Joint.{Host, Hosts, after_do, has_heard, said_to}
 use Rattle.vd_execution.specs.Registers.{put}
 use Rattle.vd_execution.specs.World.{Tape}
-use Rattle.vd_schedules.proofs.Puts.{put_other, put_same}
+use Rattle.vd_execution.proofs.Puts.{put_other, put_same}
 use Rattle.vd_duet.proofs.Leads.{gadgets_append}
 use Rattle.vd_duet.proofs.Writes.{wrote, writes_own}
 use Rattle.vd_departing.specs.Departing.{AreStill, KeepersRunTogether, Runs, RunsGadgets, SendersKeep, after_telling}

@@ -7,7 +7,7 @@ use Rattle.vd_execution.specs.Registers.{put, nth}
 use Rattle.vd_execution.specs.Step.{OwnWords, Inputs}
 use Rattle.vd_execution.specs.Joint.{Host, Hosts, acted, after_do, after_msg, said_to, has_heard}
 use Rattle.vd_execution.specs.World.{Tape}
-use Rattle.vd_schedules.proofs.Puts.{put_same, put_other}
+use Rattle.vd_execution.proofs.Puts.{put_same, put_other}
 
 pub record Writes (h r v : ℕ) (w w' : Hosts) : Type 0 where
   pub there : (w' h).registers r ≡ v

@@ -7,7 +7,7 @@ use Rattle.vd_execution.specs.Joint.{Part, Hosts, is_other, turn_begun, turns, j
 use Rattle.vd_execution.specs.Acts.{run_acts}
 use Rattle.vd_execution.specs.Gadgets.{BySums, ByXors, source_of, Gadget, Alone, Tells, Shares, BothShare, Opens, Masked, Paired, acts_of_gadget}
 use Rattle.vd_execution.specs.Plans.{Plan, Ends, Then, Branch, Loop, joint_of}
-use Rattle.vd_schedules.proofs.ActsFirst.{runs_first}
+use Rattle.vd_execution.proofs.ActsFirst.{runs_first}
 use Rattle.vd_views.specs.Hiding.{TakenAlike}
 use Rattle.vd_views.specs.Plans.{run_branch, run_turn}
 use Rattle.vd_views.specs.Excused.{with_item, item_again, if_both, turns_again, excused}

@@ -7,8 +7,8 @@ use Rattle.vd_execution.specs.Code.{Code, Finished}
 use Rattle.vd_execution.specs.Step.{answer, need}
 use Rattle.vd_execution.specs.Schedule.{Steps}
 use Rattle.vd_execution.specs.World.{Local, World, Supply, Tape, given, moved_on, step, endless, AllEnded}
-use Rattle.vd_schedules.proofs.Confluence.{same_or_not, strip}
-use Rattle.vd_schedules.proofs.Puts.{put_same, put_twice, put_itself}
+use Rattle.vd_execution.proofs.Puts.{same_or_not, put_same, put_twice, put_itself}
+use Rattle.vd_schedules.proofs.Confluence.{strip}
 use Rattle.vd_schedules.proofs.Diamond.{diamond, Below, answer_more, stepped, steps_to, moved_grows, front_later}
 use Rattle.vd_schedules.proofs.Reached.{ended_stuck}
 use Rattle.vd_hastening.specs.Hastening.{before, at, without_packets, Place, Here, Behind, InFirst, InOther, InBody, BehindBranch, BehindLoop, with_code, IsExchanged, Exchanges}

@@ -5,8 +5,7 @@ use Rattle.vd_execution.specs.Registers.{Registers, put}
 use Rattle.vd_execution.specs.Code.{Code, Then}
 use Rattle.vd_execution.specs.Step.{State, Cursors, Deed, Quiet, Said, Heard, Printed, answer, need, next, deed}
 use Rattle.vd_execution.specs.World.{Local, World, Supply, given, done, moved_on, step}
-use Rattle.vd_schedules.proofs.Confluence.{same_or_not}
-use Rattle.vd_schedules.proofs.Puts.{put_same, put_other, put_commutes}
+use Rattle.vd_execution.proofs.Puts.{same_or_not, put_same, put_other, put_commutes}
 use Rattle.vd_schedules.proofs.Diamond.{Below, answer_more, stepped, steps_to}
 use Rattle.vd_hastening.specs.Hastening.{Piece, Acts, Sends, Awaits, before, at}
 

@@ -6,8 +6,8 @@ use Rattle.vd_execution.specs.Schedule.{Steps}
 use Rattle.vd_execution.specs.World.{Local, World, Supply, given, step, run, moved_on}
 use Rattle.vd_execution.specs.Joint.{started, at_end}
 use Rattle.vd_schedules.specs.Claims.{last_of, order_of}
-use Rattle.vd_schedules.proofs.Confluence.{same_or_not, steps_keep}
-use Rattle.vd_schedules.proofs.Puts.{put_other}
+use Rattle.vd_execution.proofs.Puts.{same_or_not, put_other}
+use Rattle.vd_schedules.proofs.Confluence.{steps_keep}
 use Rattle.vd_schedules.proofs.Diamond.{stepped}
 use Rattle.vd_schedules.proofs.Reached.{twin, remaining, ended_needs}
 use Rattle.vd_schedules.proofs.Compiled.{in_program_order}

@@ -8,8 +8,7 @@ use Rattle.vd_execution.specs.Schedule.{Steps, after, counted}
 use Rattle.vd_execution.specs.World.{Local, World, Supply, front, given, step, run, effective, moved_on, AllEnded, IsPrefixOf}
 use Rattle.vd_execution.specs.Joint.{Joint, started, at_end}
 use Rattle.vd_schedules.specs.Claims.{RunsWell, IsOnTheWay, reached, last_of, order_of}
-use Rattle.vd_schedules.proofs.Confluence.{same_or_not}
-use Rattle.vd_schedules.proofs.Puts.{put_same, put_other, get_append}
+use Rattle.vd_execution.proofs.Puts.{same_or_not, put_same, put_other, get_append}
 use Rattle.vd_schedules.proofs.Diamond.{Stepped, stepped, steps_to, moved_grows, prefix_same}
 use Rattle.vd_schedules.proofs.Reached.{twin, remaining, ended_needs}
 use Rattle.vd_schedules.proofs.Rounds.{run_both}

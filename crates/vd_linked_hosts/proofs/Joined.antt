@@ -6,7 +6,7 @@ use Rattle.vd_execution.specs.Joint.{Joint, code_of}
 use Rattle.vd_execution.specs.Step.{Source, Packet, need}
 use Rattle.vd_execution.specs.World.{Supply, IsPrefixOf, or_zeros}
 use Rattle.vd_schedules.specs.Claims.{last_of}
-use Rattle.vd_schedules.proofs.Sound.{AreItem}
+use Rattle.vd_execution.proofs.Sound.{AreItem}
 use Rattle.vd_machine.specs.declared.lists.Lists.{Lists}
 use Rattle.vd_machine.specs.Kept.{at_start}
 use Rattle.vd_machine.specs.Machines.{items_of, or_empty}

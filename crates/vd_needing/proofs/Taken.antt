@@ -10,7 +10,7 @@ use Rattle.vd_execution.specs.World.{Supply, Tape, followed_by_zeros, IsShort, I
 use Rattle.vd_execution.specs.Joint.{Part, Joint, Done, Do, Msg, If, For, Host, Hosts, fresh, acted, after_do, after_msg, said_to, has_heard, is_other, turn_begun, turns, joint, at_end}
 use Rattle.vd_schedules.specs.Claims.{RunsWell, Suffices, last_of, reached}
 use Rattle.vd_schedules.proofs.Compiled.{never_short_on_the_way, whole}
-use Rattle.vd_schedules.proofs.Puts.{put_same, put_other}
+use Rattle.vd_execution.proofs.Puts.{put_same, put_other}
 use Rattle.vd_needing.specs.Needs.{source_of, one_of, greater, takes, IsEven, HasWhatItTakes}
 
 further : (c : Cursors) (s r : Source) (b : Bool) → (if b then suc (c r) else c r) ≡ c r + (if b then 1 else 0)

@@ -11,7 +11,7 @@ use Rattle.vd_execution.specs.Joint.{Host, Hosts, acted, after_do, after_msg}
 use Rattle.vd_execution.specs.Acts.{run_act, run_acts, ActsAgree}
 use Rattle.vd_execution.specs.Gadgets.{Gadget, Alone, acts_of_gadgets}
 use Rattle.vd_execution.specs.Text.{register}
-use Rattle.vd_schedules.proofs.Puts.{put_itself, put_same}
+use Rattle.vd_execution.proofs.Puts.{put_itself, put_same}
 use Rattle.vd_duet.specs.Builder.{next_at, taken}
 use Rattle.vd_duet.specs.Calls.{Places, hosts_of, Made}
 use Rattle.vd_duet.specs.Acting.{is_among}

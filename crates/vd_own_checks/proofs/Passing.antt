@@ -9,7 +9,7 @@ use Rattle.vd_execution.specs.Joint.{Joint}
 use Rattle.vd_execution.specs.Registers.{Registers, digest_of, nth, put, put_each, put_from, words_from}
 use Rattle.vd_execution.specs.Step.{State, next, words_in}
 use Rattle.vd_execution.specs.Text.{register}
-use Rattle.vd_schedules.proofs.Puts.{put_same, put_other}
+use Rattle.vd_execution.proofs.Puts.{put_same, put_other}
 use Rattle.vd_duet.specs.Acting.{is_among}
 use Rattle.vd_duet.specs.Builder.{next_at, taken}
 use Rattle.vd_duet.specs.Calls.{Made, Places, hosts_of}

@@ -10,7 +10,7 @@ use Rattle.vd_execution.specs.Deals.{IsValidDeal}
 use Rattle.vd_execution.specs.Joint.{Hosts, fresh}
 use Rattle.vd_execution.specs.Acts.{run_acts, ActsAgree}
 use Rattle.vd_execution.specs.Gadgets.{Gadget, acts_of_gadgets, GadgetsAreTidy, IsSound}
-use Rattle.vd_schedules.proofs.Gadgets.{gadgets_sound}
+use Rattle.vd_execution.proofs.Gadgets.{gadgets_sound}
 use Rattle.vd_duet.specs.Calls.{Places, hosts_of, holders, Calls, Stand}
 use Rattle.vd_duet.specs.Builder.{most_taken}
 use Rattle.vd_duet.specs.Laws.{IsIn, IsInOne, nowhere, AreBelow, words_at, Leads, Gives, StandFor, Copies, Operand, GivesWord, BackendLaws}

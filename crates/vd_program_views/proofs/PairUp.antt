@@ -10,7 +10,7 @@ use Rattle.vd_execution.specs.World.{Tape}
 use Rattle.vd_execution.specs.Joint.{fresh, joint}
 use Rattle.vd_execution.specs.Gadgets.{Gadget}
 use Rattle.vd_execution.specs.Plans.{Plan, joint_of, PlanIsTidy}
-use Rattle.vd_schedules.proofs.Sound.{is_shared}
+use Rattle.vd_execution.proofs.Sound.{is_shared}
 use Rattle.vd_views.specs.Back.{PlanIsWith}
 use Rattle.vd_views.specs.Contract.{with_inputs, Explains, HasExplanation}
 use Rattle.vd_views.specs.Excused.{excused}

@@ -13,7 +13,7 @@ use Rattle.vd_execution.specs.Gadgets.{Sharing, BySums, ByXors, Gadget, Alone, T
 use Rattle.vd_execution.specs.Joint.{Part, Joint, if_part, code_of, TakesPart, Within}
 use Rattle.vd_execution.specs.Plans.{Plan, Ends, Then, Branch, Loop, joint_of, PlanIsWithin, PlanIsTidy}
 use Rattle.vd_execution.specs.Ranges.{ActionFits}
-use Rattle.vd_schedules.proofs.Confluence.{same_or_not}
+use Rattle.vd_execution.proofs.Puts.{same_or_not}
 use Rattle.vd_duet.specs.Laws.{Each}
 use Rattle.vd_counts.specs.Fits.{PacketFits, ActFits, GadgetFits}
 use Rattle.vd_ranges.proofs.Fits.{PlanFits}

@@ -7,8 +7,7 @@ use Rattle.vd_execution.specs.Registers.{put}
 use Rattle.vd_execution.specs.Step.{State, Deed, Quiet, Said, Heard, Printed, next, deed}
 use Rattle.vd_execution.specs.Schedule.{HasDiamond}
 use Rattle.vd_execution.specs.World.{Local, World, Supply, done, moved_on, queue, step}
-use Rattle.vd_schedules.proofs.Confluence.{same_or_not}
-use Rattle.vd_schedules.proofs.Puts.{put_same, put_other}
+use Rattle.vd_execution.proofs.Puts.{same_or_not, put_same, put_other}
 use Rattle.vd_schedules.proofs.Diamond.{diamond, stepped}
 use Rattle.vd_room.specs.Room.{has_room, narrow}
 

@@ -9,8 +9,8 @@ use Rattle.vd_execution.specs.Code.{Code, Then, Send, Recv, Choose, Repeat, foll
 use Rattle.vd_execution.specs.Step.{word_printed, deed_of_print, deed, deed_of}
 use Rattle.vd_execution.specs.World.{Local, World, Supply, Tape, moved_on, endless, step}
 use Rattle.vd_execution.specs.Joint.{Part, hosts_of, TakesPart, Apart, Host, Hosts, Agrees, acted, after_msg, resting}
-use Rattle.vd_schedules.proofs.Confluence.{same_or_not, Through, through_all}
-use Rattle.vd_schedules.proofs.Puts.{put_same, put_other}
+use Rattle.vd_execution.proofs.Puts.{same_or_not, put_same, put_other}
+use Rattle.vd_schedules.proofs.Confluence.{Through, through_all}
 use Rattle.vd_schedules.proofs.Parts.{Every}
 use Rattle.vd_schedules.proofs.Diamond.{stepped}
 use Rattle.vd_schedules.proofs.Resting.{local_of, all_taken, resting_put, same_resting}

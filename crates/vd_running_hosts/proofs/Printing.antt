@@ -6,7 +6,7 @@ use Rattle.vd_execution.specs.Code.{Code, Finished, Then, Send, Recv, Choose, Re
 use Rattle.vd_execution.specs.Registers.{Registers}
 use Rattle.vd_execution.specs.Step.{Source, State, Deed, Quiet, Said, Heard, Printed as Shows, deed_of, deed_of_print, word_printed}
 use Rattle.vd_execution.specs.World.{or_zeros}
-use Rattle.vd_schedules.proofs.Sound.{AreItem}
+use Rattle.vd_execution.proofs.Sound.{AreItem}
 use Rattle.vd_machine.specs.declared.lists.Lists.{Lists}
 use Rattle.vd_machine.specs.declared.want.Want.{Want}
 use Rattle.vd_machine.specs.declared.want.Want.TheVariants as want

@@ -24,8 +24,8 @@ use Rattle.vd_execution.specs.Text.{IsCodeOf, text}
 use Rattle.vd_execution.specs.World.{Local, Supply, IsPrefixOf, IsShortAt, Tape, followed_by_zeros, or_zeros}
 use Rattle.vd_schedules.specs.Claims.{RunsWell, Suffices, last_of}
 use Rattle.vd_schedules.proofs.Compiled.{never_short_on_the_way}
-use Rattle.vd_schedules.proofs.Confluence.{same_or_not}
-use Rattle.vd_schedules.proofs.Sound.{AreItem}
+use Rattle.vd_execution.proofs.Puts.{same_or_not}
+use Rattle.vd_execution.proofs.Sound.{AreItem}
 use Rattle.vd_suite.specs.Whole.{RunsAsToldBy, inputs_of}
 use Rattle.vd_machine.specs.Kept.{Kept, at_start, state_of}
 use Rattle.vd_machine.specs.Machines.{item_or_none, items_of}

@@ -12,7 +12,7 @@ use Rattle.vd_outside.specs.Sink.{SinkView}
 use Rattle.vd_execution.specs.Code.{Finished}
 use Rattle.vd_execution.specs.Step.{Source, Inputs, OwnWords, Triples, BitTriples, Pairs, State, Cursors, Need, Nothing, Item, Packet, Unequal, Ended as NoNeed, need}
 use Rattle.vd_execution.specs.World.{IsPrefixOf, IsShortAt}
-use Rattle.vd_schedules.proofs.Confluence.{same_or_not}
+use Rattle.vd_execution.proofs.Puts.{same_or_not}
 use Rattle.vd_machine.specs.Kept.{Kept, state_of}
 use Rattle.vd_machine.specs.Machines.{item_or_none, items_of}
 use Rattle.vd_machine.specs.Wants.{count_of, short, want_of}

@@ -1,4 +1,3 @@
-pub mod Puts
 pub mod Confluence
 pub mod Diamond
 pub mod Reached
@@ -10,12 +9,7 @@ pub mod Reading
 pub mod Picks
 pub mod Queues
 pub mod Taking
-pub mod ActsFirst
 pub mod Untouched
 pub mod Small
 pub mod Standing
 pub mod Rounds
-pub mod Words
-pub mod Digests
-pub mod Sound
-pub mod Gadgets

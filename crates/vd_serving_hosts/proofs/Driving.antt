@@ -8,11 +8,11 @@ use Rattle.vd_execution.specs.Step.{Source, Inputs, OwnWords, Triples, BitTriple
 use Rattle.vd_execution.specs.Schedule.{Steps}
 use Rattle.vd_execution.specs.World.{Local, World, Supply, done, given, step, moved_on, or_zeros}
 use Rattle.vd_execution.specs.Joint.{Joint, code_of, started}
-use Rattle.vd_schedules.proofs.Confluence.{same_or_not, steps_keep}
-use Rattle.vd_schedules.proofs.Puts.{put_same, put_other}
+use Rattle.vd_execution.proofs.Puts.{same_or_not, put_same, put_other}
+use Rattle.vd_schedules.proofs.Confluence.{steps_keep}
 use Rattle.vd_schedules.proofs.Diamond.{stepped}
 use Rattle.vd_schedules.proofs.Reached.{done_state}
-use Rattle.vd_schedules.proofs.Sound.{AreItem}
+use Rattle.vd_execution.proofs.Sound.{AreItem}
 use Rattle.vd_machine.specs.declared.lists.Lists.{Lists}
 use Rattle.vd_machine.specs.declared.want.Want.{Want}
 use Rattle.vd_machine.specs.declared.want.Want.TheVariants as want

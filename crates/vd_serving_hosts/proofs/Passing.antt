@@ -6,8 +6,7 @@ use Rattle.vd_execution.specs.Registers.{put}
 use Rattle.vd_execution.specs.Step.{Cursors, Need, Nothing, Item, Packet, Unequal, Ended, Given, of_length, answer, need}
 use Rattle.vd_execution.specs.Schedule.{Steps}
 use Rattle.vd_execution.specs.World.{Local, World, Supply, front, given, step, moved_on, IsPrefixOf}
-use Rattle.vd_schedules.proofs.Confluence.{same_or_not}
-use Rattle.vd_schedules.proofs.Puts.{put_same, put_other, get_append}
+use Rattle.vd_execution.proofs.Puts.{same_or_not, put_same, put_other, get_append}
 use Rattle.vd_schedules.proofs.Diamond.{Stepped, stepped}
 use Rattle.vd_schedules.proofs.Reached.{grows_along}
 use Rattle.vd_histories.specs.Histories.{GetsFor, Goes, gone, TakesSent, IsLinked}

@@ -15,7 +15,7 @@ use Rattle.vd_execution.specs.Deals.{IsValidDeal}
 use Rattle.vd_execution.specs.Joint.{Part, Host, Hosts, acted}
 use Rattle.vd_execution.specs.Text.{register}
 use Rattle.vd_execution.specs.Gadgets.{Alone, GadgetsAreTidy, IsSound}
-use Rattle.vd_schedules.proofs.Puts.{put_same}
+use Rattle.vd_execution.proofs.Puts.{put_same}
 use Rattle.vd_duet.specs.Builder.{next_at, taken}
 use Rattle.vd_duet.specs.Calls.{holders, hosts_of, Stand}
 use Rattle.vd_duet.specs.Laws.{Each, IsHost, IsIn, nowhere, words_at, Copies, Leads as DuetLeads}

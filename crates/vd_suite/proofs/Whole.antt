@@ -9,8 +9,8 @@ use Rattle.vd_execution.specs.World.{Tape, followed_by_zeros}
 use Rattle.vd_execution.specs.Joint.{Part, Hosts, TakesPart, Within, fresh, joint}
 use Rattle.vd_execution.specs.Gadgets.{Gadget, acts_of_gadget}
 use Rattle.vd_execution.specs.Plans.{Plan, Ends, Then, Branch, Loop, joint_of, PlanIsWithin, PlanIsTidy}
-use Rattle.vd_schedules.proofs.ActsFirst.{within_first}
-use Rattle.vd_schedules.proofs.Gadgets.{plan_sound, plan_tidy}
+use Rattle.vd_execution.proofs.ActsFirst.{within_first}
+use Rattle.vd_execution.proofs.Gadgets.{plan_sound, plan_tidy}
 use Rattle.vd_schedules.proofs.Parts.{absent}
 use Rattle.vd_joint.specs.Joint.{Hosts as AnyHosts, joint as run_plan}
 use Rattle.vd_joint.specs.Suite.{Suite, Laws}

@@ -13,7 +13,7 @@ use Rattle.vd_execution.specs.World.{Tape}
 use Rattle.vd_execution.specs.Deals.{IsValidDeal}
 use Rattle.vd_execution.specs.Joint.{Part, Host, Hosts, acted}
 use Rattle.vd_execution.specs.Gadgets.{Gadget, Alone, GadgetsAreTidy, IsSound}
-use Rattle.vd_schedules.proofs.Puts.{put_same, put_other}
+use Rattle.vd_execution.proofs.Puts.{put_same, put_other}
 use Rattle.vd_duet.specs.Calls.{Places, holders, hosts_of, Stand}
 use Rattle.vd_duet.specs.Laws.{IsHost, IsIn, words_at, Leads as DuetLeads}
 use Rattle.vd_duet.proofs.Leads.{leads_nothing, leads_on}

@@ -14,7 +14,7 @@ use Rattle.vd_execution.specs.Joint.{Host, Hosts, Part, acted}
 use Rattle.vd_execution.specs.Registers.{Registers, put, zeroed}
 use Rattle.vd_execution.specs.Text.{register}
 use Rattle.vd_execution.specs.World.{Tape}
-use Rattle.vd_schedules.proofs.Puts.{put_other, put_same}
+use Rattle.vd_execution.proofs.Puts.{put_other, put_same}
 use Rattle.vd_duet.specs.Builder.{next_at, taken}
 use Rattle.vd_duet.specs.Calls.{Places, holders, hosts_of}
 use Rattle.vd_duet.specs.Laws.{AreKnown, IsHost, IsIn}

@@ -14,7 +14,7 @@ use Rattle.vd_execution.specs.Gadgets.{Gadget}
 use Rattle.vd_execution.specs.Joint.{Hosts}
 use Rattle.vd_execution.specs.World.{Tape}
 use Rattle.vd_execution.specs.Deals.{IsValidDeal}
-use Rattle.vd_schedules.proofs.Words.{operation_word}
+use Rattle.vd_execution.proofs.Words.{operation_word}
 use Rattle.vd_duet.specs.Calls.{holders}
 use Rattle.vd_duet.specs.Laws.{AreKnown, Each}
 use Rattle.vd_joint.specs.Joint.{Each as EachOf}

@@ -21,7 +21,7 @@ use Rattle.vd_execution.specs.Registers.{put, nth}
 use Rattle.vd_execution.specs.Step.{Inputs}
 use Rattle.vd_execution.specs.World.{Tape}
 use Rattle.vd_execution.specs.Deals.{IsValidDeal}
-use Rattle.vd_schedules.proofs.Puts.{put_other, put_same}
+use Rattle.vd_execution.proofs.Puts.{put_other, put_same}
 use Rattle.vd_duet.specs.Builder.{next_at}
 use Rattle.vd_duet.specs.Calls.{Calls, Places, holders, hosts_of}
 use Rattle.vd_duet.specs.Laws.{AreKnown, IsHost, IsIn}

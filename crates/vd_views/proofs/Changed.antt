@@ -7,7 +7,7 @@ use Rattle.vd_execution.specs.Registers.{nth}
 use Rattle.vd_execution.specs.Step.{Source, Inputs, OwnWords, Triples, BitTriples, Pairs, same_source}
 use Rattle.vd_execution.specs.World.{Tape, zeros_of}
 use Rattle.vd_execution.specs.Deals.{IsValidDeal, IsWord}
-use Rattle.vd_schedules.proofs.Confluence.{same_or_not}
+use Rattle.vd_execution.proofs.Puts.{same_or_not}
 use Rattle.vd_views.specs.Excused.{with_item}
 use Rattle.vd_views.proofs.Frames.{itself}
 

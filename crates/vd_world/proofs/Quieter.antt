@@ -7,8 +7,7 @@ use Rattle.vd_execution.specs.Code.{Finished}
 use Rattle.vd_execution.specs.Schedule.{after}
 use Rattle.vd_execution.specs.Step.{State, need, need_of, next, deed}
 use Rattle.vd_execution.specs.World.{Local, World, Supply, EndedFrom, given, step, with_answer, done, left, run}
-use Rattle.vd_schedules.proofs.Puts.{put_same, put_other}
-use Rattle.vd_schedules.proofs.Confluence.{same_or_not}
+use Rattle.vd_execution.proofs.Puts.{put_same, put_other, same_or_not}
 use Rattle.vd_schedules.proofs.Rounds.{step_falls}
 use Rattle.vd_machine.specs.declared.lists.Lists.{Lists}
 use Rattle.vd_machine.specs.Kept.{state_of}

@@ -6,8 +6,7 @@ use Rattle.vd_execution.specs.Registers.{put}
 use Rattle.vd_execution.specs.Schedule.{after}
 use Rattle.vd_execution.specs.Step.{need}
 use Rattle.vd_execution.specs.World.{World, with_host, with_answer, step, moved_on}
-use Rattle.vd_schedules.proofs.Puts.{put_same, put_other}
-use Rattle.vd_schedules.proofs.Confluence.{same_or_not}
+use Rattle.vd_execution.proofs.Puts.{put_same, put_other, same_or_not}
 use Rattle.vd_base.specs.declared.packet.Packet.{Packet}
 use Rattle.vd_base.specs.Packets.{packet_words}
 use Rattle.vd_machine.specs.Machines.{items_of, cursors_of, words_for}

@@ -1,4 +1,4 @@
-use Rattle.vd_schedules.proofs.Gadgets.{plan_tidy}
+use Rattle.vd_execution.proofs.Gadgets.{plan_tidy}
 use Rattle.vd_schedules.proofs.tidy_plans_are_tidy.Goals as goal
 
 pub returns : goal.returns

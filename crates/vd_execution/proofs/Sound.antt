@@ -14,9 +14,9 @@ use Rattle.vd_execution.specs.Deals.{IsValidDeal}
 use Rattle.vd_execution.specs.Joint.{Host, Hosts, supplied, acted, after_do, after_msg, said_to, has_heard}
 use Rattle.vd_execution.specs.Acts.{run_act, run_acts}
 use Rattle.vd_execution.specs.Gadgets.{TakesNoPart}
-use Rattle.vd_schedules.proofs.Confluence.{same_or_not}
-use Rattle.vd_schedules.proofs.Words.{operation_word}
-use Rattle.vd_schedules.proofs.Digests.{Each, digest_words}
+use Rattle.vd_execution.proofs.Puts.{same_or_not}
+use Rattle.vd_execution.proofs.Words.{operation_word}
+use Rattle.vd_execution.proofs.Digests.{Each, digest_words}
 
 -- ---- words
 

@@ -12,9 +12,9 @@ use Rattle.vd_execution.specs.Joint.{Part, if_part, Host, Hosts, after_do, is_ot
 use Rattle.vd_execution.specs.Acts.{run_act, run_acts, ActsAreTidy}
 use Rattle.vd_execution.specs.Gadgets.{BySums, ByXors, Gadget, Alone, Tells, Shares, BothShare, Opens, Masked, Paired, hide, told_by, acts_of_gadget, acts_of_gadgets, TakesNoPart, GadgetIsTidy, GadgetsAreTidy, IsSound}
 use Rattle.vd_execution.specs.Plans.{Plan, Ends, Then, Branch, Loop, joint_of, PlanIsWithin, PlanIsTidy}
-use Rattle.vd_schedules.proofs.ActsFirst.{runs_first, tidy_first, within_first}
-use Rattle.vd_schedules.proofs.Digests.{Each}
-use Rattle.vd_schedules.proofs.Sound.{AreWords, AllAreWords, NumberFits, ActFits, acts_words, put_words, Keeps, Takes, keeps_on, do_keeps, msg_keeps, put_takes, after_both, crossed, not_both}
+use Rattle.vd_execution.proofs.ActsFirst.{runs_first, tidy_first, within_first}
+use Rattle.vd_execution.proofs.Digests.{Each}
+use Rattle.vd_execution.proofs.Sound.{AreWords, AllAreWords, NumberFits, ActFits, acts_words, put_words, Keeps, Takes, keeps_on, do_keeps, msg_keeps, put_takes, after_both, crossed, not_both}
 
 -- ---- sound states
 
