@@ -6,7 +6,7 @@ use Rattle.vd_execution.specs.declared.instructions.Line.{Line}
 use Rattle.vd_duet.specs.Builder.{Builder, TakesAtMost}
 use Rattle.vd_duet.specs.Calls.{called, Made}
 use Rattle.vd_algebra.specs.Gates.{Gate}
-use Rattle.vd_clear.proofs.Loops.{emitted_append}
+use Rattle.vd_duet.proofs.Leads.{emitted_append}
 use Rattle.vd_pairs.specs.declared.shares.Shares.{Shares}
 use Rattle.vd_pairs.specs.PairCalls.{shares_of}
 use Rattle.vd_bits.specs.declared.gates.Gate.{Gate as Written}

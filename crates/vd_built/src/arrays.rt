@@ -4,9 +4,9 @@ ghost use Rattle.std.specs.Prelude.{◌≡◌, ◌+◌, ◌≤◌, IfOk, OnOk, l
 ghost use Rattle.vd_execution.specs.Gadgets.{Alone};
 ghost use Rattle.vd_execution.specs.declared.instructions.Action.TheVariants as action;
 ghost use Rattle.vd_duet.specs.Builder.{HasRoom, TakesAtMost, TakesFew, most_taken};
-ghost use Rattle.vd_duet.specs.Calls.{Makes, appended, holders as holders_of, hosts_of, in_clear};
+ghost use Rattle.vd_duet.specs.Calls.{Makes, appended, holders as holders_of, hosts_of, in_clear, register_of};
 ghost use Rattle.vd_duet.specs.Laws.{AreKnown};
-ghost use Rattle.vd_clear.specs.Copies.{each_made, register_of, written_by};
+ghost use Rattle.vd_clear.specs.Copies.{each_made, written_by};
 ghost use Rattle.vd_joint.specs.Suite.{Made as AnyMade};
 ghost use Rattle.vd_suite.specs.Parts.{cell_read, cell_written, index_of, new_cells, zeros_at};
 ghost use Rattle.vd_moves.specs.Formed.{AreFormed};
@@ -16,8 +16,8 @@ use crate::held::Held;
 use crate::loops::holders;
 use std::alloc::AllocError;
 use vd_base::{HostId, Proto};
-use vd_clear::{Step, each_host, register_at};
-use vd_duet::{Clear, Duet, Parts};
+use vd_clear::{Step, each_host};
+use vd_duet::{Clear, Duet, Parts, register_at};
 use vd_execution::{Act, Action, Reg};
 use vd_items::Items;
 

@@ -1,5 +1,5 @@
 -- What the step of one host gives.
-use Rattle.std.proofs.Common.{◌≡◌, ◌≢◌, ℕ, ◌+◌, ◌-◌, ◌*◌, ◌%◌, ◌^◌, ◌<◌, bit_and, bit_xor, nat_eq, Bool, true, false, if◌then◌else◌, List, [], ◌∷◌, ◌⊎◌, inl, inr, length, slice_index, refl, sym, ap, ap₂, subst, subst₂, ◌∙◌, arith, rules}
+use Rattle.std.proofs.Common.{◌≡◌, ◌≢◌, ℕ, ◌+◌, ◌-◌, ◌*◌, ◌%◌, ◌^◌, ◌<◌, bit_and, bit_xor, nat_eq, Bool, true, false, if◌then◌else◌, List, [], ◌∷◌, inl, inr, length, slice_index, refl, sym, ap, ap₂, subst, subst₂, ◌∙◌, arith}
 use Rattle.std.specs.Int.Bits.{xor_add_and}
 use Rattle.std.proofs.lemmas.Nat.{and_mask}
 use Rattle.std.proofs.Math.Nat.{mod-eq_of_lt}
@@ -20,58 +20,12 @@ use Rattle.vd_execution.specs.Deals.{IsValidDeal}
 use Rattle.vd_execution.specs.Joint.{Hosts, after_do, after_msg, Agrees}
 use Rattle.vd_execution.specs.Gadgets.{Alone, Tells, TakesNoPart, IsSound}
 use Rattle.vd_duet.specs.Builder.{next_at, taken}
-use Rattle.vd_duet.specs.Calls.{Places, hosts_of, Made}
-use Rattle.vd_duet.specs.Laws.{Leads, GivesThere, IsIn, IsHost, nowhere, AreBelow, Copies, NumberFits}
+use Rattle.vd_duet.specs.Calls.{Places, Made, register_of}
+use Rattle.vd_duet.specs.Laws.{Leads, GivesThere, IsIn, nowhere, NumberFits}
+use Rattle.vd_duet.proofs.Found.{Found, Holds, differ_of, equal_of}
 use Rattle.vd_duet.proofs.Writes.{Writes, wrote, writes_own, writes_heard}
 use Rattle.vd_duet.proofs.Leads.{leads_nothing, leads_writing, leads_on, orderly_still, orderly_fresh, taken_there, taken_bounds}
-use Rattle.vd_clear.specs.Copies.{register_of, written_by, with_number, passed, adopted, operated}
-
-equal_of : (a b : ℕ) → nat_eq a b ≡ true → a ≡ b
-equal_of a b e = grind (arith, rules)
-
-differ_of : (a b : ℕ) → nat_eq a b ≡ false → a ≢ b
-differ_of a b e f = grind (arith, rules)
-
--- a register of a host has a word, and is taken
-pub record Holds (next : List ℕ) (w : Hosts) (h : HostId) (x : Reg) (v : ℕ) : Type 0 where
-  pub here : (w h.0).registers x.0 ≡ v
-  pub low : x.0 < slice_index next h.0
-
--- ---- the register of a host among copies
-
-pub record Found (next : List ℕ) (w : Hosts) (x : Places) (h : HostId) (v : ℕ) : Type 0 where
-  pub holds : Holds next w h (register_of x h.0) v
-  pub named : IsIn x h.0 (register_of x h.0).0
-
-pub found : (next : List ℕ) (w : Hosts) (x : Places) (h : HostId) (v : ℕ) → IsHost (hosts_of x) h.0 → AreBelow next x → Copies w x v → Found next w x h v
-found next w [] h v i below copies = absurd i
-found next w (q ∷ x) h v i below copies = at (λ j. found next w x h v j below.1 copies.1) (nat_eq h.0 q.0.0) refl
-  where
-    rest : (IsHost (hosts_of x) h.0 → Found next w x h v) → nat_eq h.0 q.0.0 ≡ false → (h.0 ≡ q.0.0) ⊎ IsHost (hosts_of x) h.0 → Found next w x h v
-    rest again e (inl f) = absurd (differ_of h.0 q.0.0 e f)
-    rest again e (inr j) = again j
-
-    at : (IsHost (hosts_of x) h.0 → Found next w x h v) → (same : Bool) → nat_eq h.0 q.0.0 ≡ same → Found next w (q ∷ x) h v
-    at again true e =
-        let f : h.0 ≡ q.0.0 = equal_of h.0 q.0.0 e in
-        let g : register_of (q ∷ x) h.0 ≡ q.1 = ap (λ (b : Bool). if b then q.1 else register_of x h.0) e in
-        record {
-          holds = record {
-            here = ap (λ (r : Reg). (w h.0).registers r.0) g ∙ ap (λ z. (w z).registers q.1.0) f ∙ copies.0;
-            low = subst (λ (r : Reg). r.0 < slice_index next h.0) (sym g) (subst (λ z. q.1.0 < slice_index next z) (sym f) below.0);
-          };
-          named = subst (λ (r : Reg). IsIn (q ∷ x) h.0 r.0) (sym g) (inl (f, refl));
-        }
-    at again false e =
-        let f = rest again e i in
-        let g : register_of (q ∷ x) h.0 ≡ register_of x h.0 = ap (λ (b : Bool). if b then q.1 else register_of x h.0) e in
-        record {
-          holds = record {
-            here = ap (λ (r : Reg). (w h.0).registers r.0) g ∙ f.holds.here;
-            low = subst (λ (r : Reg). r.0 < slice_index next h.0) (sym g) f.holds.low;
-          };
-          named = inr (subst (λ (r : Reg). IsIn x h.0 r.0) (sym g) f.named);
-        }
+use Rattle.vd_clear.specs.Copies.{written_by, with_number, passed, adopted, operated}
 
 -- a copy that a host has already
 pub adopted_there : (t : Tape) (next : List ℕ) (w : Hosts) (x : Places) (h : HostId) (v : ℕ) → IsSound w → Found next w x h v

@@ -2,29 +2,18 @@
 use Rattle.std.proofs.Common.{◌≡◌, ℕ, ◌+◌, ◌*◌, ◌<◌, List, [], ◌∷◌, ◌++◌, length, drop, get_or, refl, sym, ap, ap₂, subst, ◌∙◌, arith, append_assoc, append-nil}
 use Rattle.std.proofs.lemmas.List.{map-append, drop_more}
 use Rattle.vd_base.specs.declared.ids.HostId.{HostId}
-use Rattle.vd_execution.specs.declared.instructions.Act.{Act}
 use Rattle.vd_execution.specs.declared.instructions.Line.{Line}
-use Rattle.vd_execution.specs.declared.instructions.Line.TheVariants as line
 use Rattle.vd_execution.specs.declared.instructions.Reg.{Reg}
-use Rattle.vd_execution.specs.Gadgets.{Gadget, acts_of_gadgets}
-use Rattle.vd_execution.specs.Acts.{lines_of}
 use Rattle.vd_duet.specs.Builder.{Builder, TakesAtMost}
 use Rattle.vd_duet.specs.Laws.{AreKnown}
 use Rattle.vd_duet.specs.declared.parts.Clear.{Clear}
 use Rattle.vd_duet.specs.Calls.{Places, Made, emitted, called, in_clear, hosts_of}
-use Rattle.vd_duet.proofs.Leads.{gadgets_append}
+use Rattle.vd_duet.proofs.Leads.{emitted_append}
 use Rattle.vd_clear.specs.Copies.{each_made}
 
 -- what is still to be made, behind what was made
 abbrev pub behind : {X : Type 0} → List X → Made (List X) → Builder → List X × Builder
 behind xs made b = (xs ++ made.given, record { lines = b.lines ++ emitted made.gadgets; next = made.next })
-
-lines_append : (xs ys : List Act) → lines_of (xs ++ ys) ≡ lines_of xs ++ lines_of ys
-lines_append [] ys = refl
-lines_append (x ∷ xs) ys = ap (λ (l : List Line). line.Act x ∷ l) (lines_append xs ys)
-
-pub emitted_append : (xs ys : List Gadget) → emitted (xs ++ ys) ≡ emitted xs ++ emitted ys
-emitted_append xs ys = ap lines_of (gadgets_append xs ys) ∙ lines_append (acts_of_gadgets xs) (acts_of_gadgets ys)
 
 pub behind_end : {X : Type 0} (xs : List X) (b : Builder) → behind xs (record { given = []; gadgets = []; next = b.next }) b ≡ (xs, b)
 behind_end xs b = ap₂ (λ (a : List _) (l : List Line). let p : List _ × Builder = (a, record { lines = l; next = b.next }) in p) (append-nil xs) (append-nil b.lines)

@@ -1,5 +1,5 @@
 -- Copies that are told to a host, which compares them.
-use Rattle.std.proofs.Common.{◌≡◌, ◌≢◌, ℕ, suc, ◌+◌, ◌<◌, ◌≤◌, nat_eq, Bool, true, false, if◌then◌else◌, ◌||◌, List, [], ◌∷◌, ◌++◌, inl, inr, length, map, slice_index, refl, sym, ap, subst, ◌∙◌, arith, rules}
+use Rattle.std.proofs.Common.{◌≡◌, ◌≢◌, ℕ, suc, ◌+◌, ◌<◌, ◌≤◌, nat_eq, Bool, true, false, if◌then◌else◌, ◌||◌, List, [], ◌∷◌, ◌++◌, inl, inr, length, map, slice_index, refl, sym, ap, subst, ◌∙◌, arith}
 use Rattle.vd_base.specs.declared.ids.HostId.{HostId}
 use Rattle.vd_execution.specs.declared.instructions.Reg.{Reg}
 use Rattle.vd_execution.specs.declared.instructions.Action.TheVariants as action
@@ -15,10 +15,11 @@ use Rattle.vd_duet.specs.Builder.{next_at, taken}
 use Rattle.vd_duet.specs.Calls.{Places, hosts_of, Made}
 use Rattle.vd_duet.specs.Acting.{is_among}
 use Rattle.vd_duet.specs.Laws.{Leads, IsOrderly, Gives, GivesThere, IsIn, IsHost, nowhere, AreBelow, Copies}
+use Rattle.vd_duet.proofs.Found.{differ_of, equal_of, found}
 use Rattle.vd_duet.proofs.Writes.{writes_heard}
 use Rattle.vd_duet.proofs.Leads.{leads_nothing, leads_writing, leads_on, orderly_still, orderly_fresh, orderly_on, orderly_wider, tidy_append, taken_known, taken_bounds, below_later}
 use Rattle.vd_clear.specs.Copies.{adopted, told, compared, first_register, shown}
-use Rattle.vd_clear.proofs.HostLaws.{found, adopted_there}
+use Rattle.vd_clear.proofs.HostLaws.{adopted_there}
 
 -- registers of one host
 abbrev pub all_at : HostId → List Reg → Places
@@ -107,12 +108,6 @@ module _ (t : Tape) (to : HostId) (r : Reg) (v : ℕ) (w : Hosts) (first : (w to
   compared_tidy (s ∷ rs) = (tt, compared_tidy rs)
 
 -- ---- the whole
-
-equal_of : (a b : ℕ) → nat_eq a b ≡ true → a ≡ b
-equal_of a b i = grind (arith, rules)
-
-differ_of : (a b : ℕ) → nat_eq a b ≡ false → a ≢ b
-differ_of a b e f = grind (arith, rules)
 
 is_host : (hosts : List HostId) (h : ℕ) → is_among hosts h ≡ true → IsHost hosts h
 is_host [] h e = cc

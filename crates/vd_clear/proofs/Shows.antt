@@ -4,10 +4,10 @@ use Rattle.vd_base.specs.declared.ids.HostId.{HostId}
 use Rattle.vd_execution.specs.declared.instructions.Line.{Line}
 use Rattle.vd_execution.specs.declared.instructions.Reg.{Reg}
 use Rattle.vd_duet.specs.Builder.{Builder}
-use Rattle.vd_duet.specs.Calls.{Places, hosts_of, Made, called, appended}
+use Rattle.vd_duet.specs.Calls.{Places, hosts_of, Made, called, appended, register_of}
 use Rattle.vd_duet.specs.Acting.{is_among}
-use Rattle.vd_clear.specs.Copies.{register_of, adopted, told, compared, first_register, shown}
-use Rattle.vd_clear.proofs.Loops.{emitted_append}
+use Rattle.vd_clear.specs.Copies.{adopted, told, compared, first_register, shown}
+use Rattle.vd_duet.proofs.Leads.{emitted_append}
 
 abbrev told_all : Places → HostId → Builder → Made Reg
 told_all x to b = record {

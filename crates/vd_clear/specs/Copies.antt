@@ -14,13 +14,8 @@ use Rattle.vd_execution.specs.declared.instructions.Action.TheVariants as action
 use Rattle.vd_execution.specs.Gadgets.{Gadget, Alone, Tells}
 use Rattle.vd_execution.specs.Text.{register}
 use Rattle.vd_duet.specs.Builder.{next_at, taken}
-use Rattle.vd_duet.specs.Calls.{Places, hosts_of, holders, Made, Calls}
+use Rattle.vd_duet.specs.Calls.{Places, hosts_of, register_of, holders, Made, Calls}
 use Rattle.vd_duet.specs.Acting.{is_among}
-
--- the register of a host's part
-abbrev pub register_of : Places → ℕ → Reg
-register_of [] h = register 0
-register_of (q ∷ x) h = if nat_eq h q.0.0 then q.1 else register_of x h
 
 -- ---- what one host does to have its copy
 

@@ -5,10 +5,9 @@ ghost use Rattle.vd_execution.specs.declared.instructions.Action.TheVariants as 
 ghost use Rattle.vd_clear.specs.Copies.{applied_at, operated, first_of, after_first, written_by, with_number};
 
 use crate::each::Step;
-use crate::registers::register_at;
 use std::alloc::AllocError;
 use vd_base::{HostId, Op};
-use vd_duet::{Args, Clear, Duet};
+use vd_duet::{Args, Clear, Duet, register_at};
 use vd_execution::{Act, Action, Binary, Reg};
 
 /// An operation on the copies that a host has of the operands.

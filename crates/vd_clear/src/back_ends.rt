@@ -8,12 +8,11 @@ ghost use Rattle.vd_clear.specs.Copies.{clear_calls, renewed, spread_to};
 
 use crate::apply::Apply;
 use crate::each::each_host;
-use crate::registers::register_at;
 use crate::show::show;
 use crate::steps::{Adopt, Keep, Literal, Share, Show};
 use std::alloc::{AllocError, Global};
 use vd_base::{HostId, HostSet, Op, Proto};
-use vd_duet::{Args, Backend, Clear, Duet, Parts};
+use vd_duet::{Args, Backend, Clear, Duet, Parts, register_at};
 use vd_execution::{Act, Action, Reg};
 use vd_items::Items;
 

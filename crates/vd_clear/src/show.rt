@@ -1,14 +1,26 @@
 ghost use Rattle.std.specs.Prelude.{◌≡◌, ◌<◌, ◌≤◌, ◌+◌, ◌^◌, IfOk, OnOk, length, slice_index};
 ghost use Rattle.vd_duet.specs.Builder.{TakesAtMost};
-ghost use Rattle.vd_duet.specs.Calls.{Makes, appended, in_clear};
+ghost use Rattle.vd_duet.specs.Calls.{Makes, appended, hosts_of, in_clear};
+ghost use Rattle.vd_duet.specs.Acting.{is_among};
 ghost use Rattle.vd_clear.specs.Copies.{told, compared, first_register, shown};
 
-use crate::registers::{has_part, register_at};
 use std::alloc::AllocError;
 use vd_base::HostId;
-use vd_duet::{Clear, Duet, Parts};
+use vd_duet::{Clear, Duet, Parts, register_at};
 use vd_execution::{Act, Action, Reg};
 use vd_items::Items;
+
+/// Whether a host has a part.
+fn has_part(x: &Parts<Clear>, host: HostId) -> bool
+    ensures { result ≡ is_among (hosts_of (in_clear x.now)) host.0 }
+{
+    for part in x.as_slice() {
+        if host.0 == part.0.0 {
+            return true;
+        }
+    }
+    false
+}
 
 /// Each host tells its copy to a host.
 fn tell(x: &Parts<Clear>, host: HostId, to: &mut Duet) -> Result<Items<Reg>, AllocError>

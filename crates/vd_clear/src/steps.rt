@@ -4,11 +4,10 @@ ghost use Rattle.vd_duet.specs.Calls.{Makes, in_clear};
 ghost use Rattle.vd_clear.specs.Copies.{literal_at, passed, adopted, kept_by, shown};
 
 use crate::each::Step;
-use crate::registers::register_at;
 use crate::show::show;
 use std::alloc::AllocError;
 use vd_base::HostId;
-use vd_duet::{Clear, Duet, Parts};
+use vd_duet::{Clear, Duet, Parts, register_at};
 use vd_execution::{Act, Action, Reg};
 use vd_items::Items;
 

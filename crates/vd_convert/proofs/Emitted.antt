@@ -5,7 +5,7 @@ use Rattle.vd_base.specs.declared.operations.Op.TheVariants as op
 use Rattle.vd_execution.specs.declared.instructions.Line.{Line}
 use Rattle.vd_duet.specs.Builder.{Builder}
 use Rattle.vd_duet.specs.Calls.{Places, Made, called}
-use Rattle.vd_clear.proofs.Loops.{emitted_append}
+use Rattle.vd_duet.proofs.Leads.{emitted_append}
 use Rattle.vd_pairs.specs.declared.pair.Pair.{Pair}
 use Rattle.vd_pairs.specs.declared.shares.Shares.{Shares}
 use Rattle.vd_pairs.specs.declared.shares.Sharing.TheVariants as way

@@ -11,10 +11,10 @@ use Rattle.vd_execution.specs.declared.instructions.Action.TheVariants as action
 use Rattle.vd_execution.specs.Gadgets.{Alone, Tells}
 use Rattle.vd_execution.specs.Ranges.{ActionFits}
 use Rattle.vd_duet.specs.Builder.{next_at, taken}
-use Rattle.vd_duet.specs.Calls.{Places, hosts_of, Made}
+use Rattle.vd_duet.specs.Calls.{Places, hosts_of, Made, register_of}
 use Rattle.vd_duet.specs.Laws.{Each}
 use Rattle.vd_duet.specs.Acting.{is_among}
-use Rattle.vd_clear.specs.Copies.{register_of, written_by, with_number, passed, adopted, first_of, after_first, operated, applied_at, told, compared, first_register, shown, each_made, renewed}
+use Rattle.vd_clear.specs.Copies.{written_by, with_number, passed, adopted, first_of, after_first, operated, applied_at, told, compared, first_register, shown, each_made, renewed}
 use Rattle.vd_counts.specs.Fits.{IsLow, GadgetFits, PlacesFit}
 use Rattle.vd_counts.proofs.Bounds.{low_more, taken_low, one_fits, gadgets_fit, places_more, RegFits, PlacesMade}
 

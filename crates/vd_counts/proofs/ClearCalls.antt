@@ -7,9 +7,9 @@ use Rattle.vd_base.specs.declared.protocols.Proto.{Proto}
 use Rattle.vd_base.specs.declared.protocols.Proto.TheVariants.{Local, Rep, Commit, Add, Xor}
 use Rattle.vd_execution.specs.declared.instructions.Reg.{Reg}
 use Rattle.vd_execution.specs.declared.instructions.Action.TheVariants as action
-use Rattle.vd_duet.specs.Calls.{Places, holders, Made}
+use Rattle.vd_duet.specs.Calls.{Places, holders, Made, register_of}
 use Rattle.vd_duet.specs.Laws.{Each}
-use Rattle.vd_clear.specs.Copies.{register_of, literal_at, passed, adopted, kept_by, applied_at, shown, each_made, clear_calls, spread_to}
+use Rattle.vd_clear.specs.Copies.{literal_at, passed, adopted, kept_by, applied_at, shown, each_made, clear_calls, spread_to}
 use Rattle.vd_clear.proofs.Members.{few_members}
 use Rattle.vd_counts.specs.Fits.{IsLow, AreHere, PlacesFit, PartsFit, WordMade, Room, MoveFits, CallsFit}
 use Rattle.vd_counts.proofs.Bounds.{places_more, all_places, RegFits, host_word, stays}

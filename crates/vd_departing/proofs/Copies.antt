@@ -13,10 +13,10 @@ use Rattle.vd_execution.specs.declared.instructions.Reg.{Reg}
 use Rattle.vd_execution.specs.Joint.{Hosts}
 use Rattle.vd_execution.specs.Registers.{put}
 use Rattle.vd_execution.specs.World.{Tape}
-use Rattle.vd_duet.specs.Calls.{Made, Places, holders, hosts_of}
+use Rattle.vd_duet.specs.Calls.{Made, Places, holders, hosts_of, register_of}
 use Rattle.vd_duet.specs.Laws.{AreBelow, AreKnown, Each, IsHost, IsIn, at_host}
 use Rattle.vd_duet.proofs.Writes.{wrote}
-use Rattle.vd_clear.specs.Copies.{adopted, after_first, applied_at, clear_calls, each_made, first_of, kept_by, literal_at, passed, register_of, renewed, shown, spread_to}
+use Rattle.vd_clear.specs.Copies.{adopted, after_first, applied_at, clear_calls, each_made, first_of, kept_by, literal_at, passed, renewed, shown, spread_to}
 use Rattle.vd_departing.specs.Departing.{AreRight, GivesRight, RunsGadgets}
 use Rattle.vd_departing.specs.Copies.{AreOperands, CopiesStayRight, IsOperand, IsRenewed, SomeKeeps}
 use Rattle.vd_departing.proofs.Each.{IsSince, all_right}

@@ -11,10 +11,10 @@ use Rattle.vd_execution.specs.World.{Tape}
 use Rattle.vd_execution.proofs.Puts.{put_other, put_same}
 use Rattle.vd_duet.specs.Acting.{is_among}
 use Rattle.vd_duet.specs.Builder.{next_at, taken}
-use Rattle.vd_duet.specs.Calls.{Made, Places, hosts_of}
+use Rattle.vd_duet.specs.Calls.{Made, Places, hosts_of, register_of}
 use Rattle.vd_duet.specs.Laws.{AreBelow, IsHost}
 use Rattle.vd_duet.proofs.Leads.{taken_bounds, taken_known, taken_there}
-use Rattle.vd_clear.specs.Copies.{adopted, compared, first_register, register_of, shown, told}
+use Rattle.vd_clear.specs.Copies.{adopted, compared, first_register, shown, told}
 use Rattle.vd_departing.specs.Departing.{AreRight, AreStill, RunsGadgets, after_telling}
 use Rattle.vd_departing.specs.Copies.{SomeKeeps}
 use Rattle.vd_departing.proofs.Local.{IsStep, found, there_already}

@@ -4,15 +4,17 @@ use Rattle.std.proofs.lemmas.List.{get_or-set_same, get_or-set_other}
 use native.Mathlib.Decide.{ℕ_discrete}
 use Rattle.vd_base.specs.declared.ids.HostId.{HostId}
 use Rattle.vd_execution.specs.declared.instructions.Act.{Act}
+use Rattle.vd_execution.specs.declared.instructions.Line.{Line}
+use Rattle.vd_execution.specs.declared.instructions.Line.TheVariants as line
 use Rattle.vd_execution.specs.declared.instructions.Reg.{Reg}
 use Rattle.vd_execution.specs.World.{Tape}
 use Rattle.vd_execution.specs.Joint.{Hosts}
 use Rattle.vd_execution.specs.Deals.{IsValidDeal}
-use Rattle.vd_execution.specs.Acts.{run_act, run_acts, ActsAgree}
+use Rattle.vd_execution.specs.Acts.{lines_of, run_act, run_acts, ActsAgree}
 use Rattle.vd_execution.specs.Gadgets.{Gadget, acts_of_gadget, acts_of_gadgets, GadgetsAreTidy, IsSound}
 use Rattle.vd_execution.proofs.Gadgets.{gadgets_sound}
 use Rattle.vd_duet.specs.Builder.{taken}
-use Rattle.vd_duet.specs.Calls.{Places, Made}
+use Rattle.vd_duet.specs.Calls.{Places, Made, emitted}
 use Rattle.vd_duet.specs.Laws.{Leads, IsOrderly, IsIn, AreBelow, nowhere}
 use Rattle.vd_duet.proofs.Writes.{Writes}
 
@@ -29,6 +31,13 @@ agree_append t (x ∷ xs) ys w a b = (a.0, agree_append t xs ys (run_act t x w) 
 pub gadgets_append : (xs ys : List Gadget) → acts_of_gadgets (xs ++ ys) ≡ acts_of_gadgets xs ++ acts_of_gadgets ys
 gadgets_append [] ys = refl
 gadgets_append (x ∷ xs) ys = ap (λ (l : List Act). acts_of_gadget x ++ l) (gadgets_append xs ys) ∙ sym (append_assoc (acts_of_gadget x) (acts_of_gadgets xs) (acts_of_gadgets ys))
+
+lines_append : (xs ys : List Act) → lines_of (xs ++ ys) ≡ lines_of xs ++ lines_of ys
+lines_append [] ys = refl
+lines_append (x ∷ xs) ys = ap (λ (l : List Line). line.Act x ∷ l) (lines_append xs ys)
+
+pub emitted_append : (xs ys : List Gadget) → emitted (xs ++ ys) ≡ emitted xs ++ emitted ys
+emitted_append xs ys = ap lines_of (gadgets_append xs ys) ∙ lines_append (acts_of_gadgets xs) (acts_of_gadgets ys)
 
 pub tidy_append : (xs ys : List Gadget) → GadgetsAreTidy xs → GadgetsAreTidy ys → GadgetsAreTidy (xs ++ ys)
 tidy_append [] ys a b = b

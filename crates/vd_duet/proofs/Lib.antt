@@ -1,3 +1,4 @@
 pub mod Rooms
+pub mod Found
 pub mod Writes
 pub mod Leads

@@ -1,5 +1,5 @@
 -- The calls of a back end, each a function of the next free registers. What a call makes is gadgets, never acts.
-use Rattle.std.specs.Prelude.{◌≡◌, ℕ, ◌+◌, ◌%◌, ◌^◌, bit_xor, Bool, List, [], ◌∷◌, ◌++◌, map}
+use Rattle.std.specs.Prelude.{◌≡◌, ℕ, ◌+◌, ◌%◌, ◌^◌, bit_xor, nat_eq, Bool, if◌then◌else◌, List, [], ◌∷◌, ◌++◌, map}
 use Rattle.vd_base.specs.declared.ids.HostId.{HostId}
 use Rattle.vd_base.specs.declared.operations.Op.{Op}
 use Rattle.vd_base.specs.declared.protocols.Proto.{Proto}
@@ -9,6 +9,7 @@ use Rattle.vd_execution.specs.declared.instructions.Reg.{Reg}
 use Rattle.vd_execution.specs.declared.instructions.Line.{Line}
 use Rattle.vd_execution.specs.Acts.{lines_of}
 use Rattle.vd_execution.specs.Gadgets.{Gadget, acts_of_gadgets}
+use Rattle.vd_execution.specs.Text.{register}
 use Rattle.vd_duet.specs.Builder.{Builder}
 use Rattle.vd_duet.specs.declared.parts.Clear.{Clear}
 
@@ -28,6 +29,11 @@ in_clear x = placed (λ c. c.0) x
 
 abbrev pub hosts_of : Places → List HostId
 hosts_of x = map (λ q. q.0) x
+
+-- the register of a host's part
+abbrev pub register_of : Places → ℕ → Reg
+register_of [] h = register 0
+register_of (q ∷ x) h = if nat_eq h q.0.0 then q.1 else register_of x h
 
 -- the hosts of a protocol, in the order of its parts
 abbrev pub holders : Proto → List HostId

@@ -7,4 +7,4 @@ mod parts;
 
 pub use backend::Backend;
 pub use duet::Duet;
-pub use parts::{Args, Clear, Parts};
+pub use parts::{Args, Clear, Parts, register_at};

@@ -11,8 +11,7 @@ use Rattle.vd_execution.specs.Acts.{lines_of}
 use Rattle.vd_execution.specs.Gadgets.{Sharing, hide, Masking, Gadget, Alone, Shares as SharesWith, Opens, Masked}
 use Rattle.vd_execution.specs.Text.{register}
 use Rattle.vd_duet.specs.Builder.{Builder, next_at, taken}
-use Rattle.vd_duet.specs.Calls.{Places, Made, Calls}
-use Rattle.vd_clear.specs.Copies.{register_of}
+use Rattle.vd_duet.specs.Calls.{Places, Made, Calls, register_of}
 use Rattle.vd_pairs.specs.declared.shares.Shares.{Shares}
 use Rattle.vd_pairs.specs.Sharings.{shared_by, join, multiply}
 

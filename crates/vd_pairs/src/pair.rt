@@ -9,8 +9,7 @@ ghost use Rattle.vd_pairs.specs.PairCalls.{AreLow, reserved_both, literal_shares
 use crate::shares::{Shares, Sharing};
 use std::alloc::AllocError;
 use vd_base::HostId;
-use vd_clear::register_at;
-use vd_duet::{Clear, Duet, Parts};
+use vd_duet::{Clear, Duet, Parts, register_at};
 use vd_execution::{Act, Action, Binary, Reg};
 use vd_items::Items;
 

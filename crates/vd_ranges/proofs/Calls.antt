@@ -11,9 +11,9 @@ use Rattle.vd_execution.specs.Joint.{Part}
 use Rattle.vd_execution.specs.Gadgets.{Gadget, Alone}
 use Rattle.vd_execution.specs.Text.{register}
 use Rattle.vd_duet.specs.Builder.{next_at, taken}
-use Rattle.vd_duet.specs.Calls.{Places, holders, Made, Calls}
+use Rattle.vd_duet.specs.Calls.{Places, holders, Made, Calls, register_of}
 use Rattle.vd_duet.specs.Laws.{Each}
-use Rattle.vd_clear.specs.Copies.{register_of, written_by}
+use Rattle.vd_clear.specs.Copies.{written_by}
 use Rattle.vd_pairs.specs.declared.shares.Shares.{Shares}
 use Rattle.vd_pairs.specs.PairCalls.{shares_of, at_hosts}
 use Rattle.vd_joint.specs.Suite.{Made as AnyMade}

@@ -11,8 +11,8 @@ use Rattle.vd_execution.specs.declared.instructions.Action.TheVariants as action
 use Rattle.vd_execution.specs.Gadgets.{Gadget, Alone}
 use Rattle.vd_execution.specs.Joint.{Part}
 use Rattle.vd_duet.specs.Builder.{next_at}
-use Rattle.vd_duet.specs.Calls.{Places, holders, Made, Calls}
-use Rattle.vd_clear.specs.Copies.{register_of, written_by, shown}
+use Rattle.vd_duet.specs.Calls.{Places, holders, Made, Calls, register_of}
+use Rattle.vd_clear.specs.Copies.{written_by, shown}
 use Rattle.vd_joint.specs.Suite.{Made as AnyMade}
 use Rattle.vd_commit.specs.Commit.{revealed}
 use Rattle.vd_suite.specs.Commits.{place, held_of, seen_of, taken_over, shown_bound, commit_calls}

@@ -9,8 +9,8 @@ use Rattle.vd_execution.specs.declared.instructions.Action.TheVariants as action
 use Rattle.vd_execution.specs.Gadgets.{Gadget, Alone}
 use Rattle.vd_execution.specs.Joint.{Part}
 use Rattle.vd_duet.specs.Builder.{next_at}
-use Rattle.vd_duet.specs.Calls.{Places, holders, Made, Calls}
-use Rattle.vd_clear.specs.Copies.{register_of, written_by, shown}
+use Rattle.vd_duet.specs.Calls.{Places, holders, Made, Calls, register_of}
+use Rattle.vd_clear.specs.Copies.{written_by, shown}
 use Rattle.vd_joint.specs.Suite.{Made as AnyMade}
 use Rattle.vd_suite.specs.Moves.{Route, Share, Adopt, Show, ShowAll, Spread, Same, SameBound, ToXor, ToAdd, only, copies_at, moved}
 use Rattle.vd_suite.specs.Parts.{Parts, made_of, back_end, route, turn_part, turned, put_in, index_of, cell_read, cell_written}

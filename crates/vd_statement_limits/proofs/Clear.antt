@@ -9,9 +9,9 @@ use Rattle.vd_execution.specs.declared.instructions.Action.{Action}
 use Rattle.vd_execution.specs.declared.instructions.Action.TheVariants as action
 use Rattle.vd_execution.specs.Gadgets.{Alone, Tells}
 use Rattle.vd_duet.specs.Builder.{next_at, taken}
-use Rattle.vd_duet.specs.Calls.{Places, hosts_of, holders, Made}
+use Rattle.vd_duet.specs.Calls.{Places, hosts_of, holders, Made, register_of}
 use Rattle.vd_duet.specs.Acting.{is_among}
-use Rattle.vd_clear.specs.Copies.{register_of, written_by, literal_at, passed, adopted, kept_by, first_of, after_first, operated, applied_at, told, compared, first_register, shown, each_made, renewed, clear_calls}
+use Rattle.vd_clear.specs.Copies.{written_by, literal_at, passed, adopted, kept_by, first_of, after_first, operated, applied_at, told, compared, first_register, shown, each_made, renewed, clear_calls}
 use Rattle.vd_counts.proofs.ClearCalls.{few_holders, each_length}
 use Rattle.vd_statement_limits.proofs.Counts.{acts_in, Grows, one_grows, Takes, takes_none, takes_more, takes_both, WordTakes, CallsTake, most_plain, most_applied, some_room}
 

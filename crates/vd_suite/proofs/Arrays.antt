@@ -17,11 +17,11 @@ use Rattle.vd_execution.specs.Text.{register}
 use Rattle.vd_execution.specs.Gadgets.{Alone, GadgetsAreTidy, IsSound}
 use Rattle.vd_execution.proofs.Puts.{put_same}
 use Rattle.vd_duet.specs.Builder.{next_at, taken}
-use Rattle.vd_duet.specs.Calls.{holders, hosts_of, Stand}
+use Rattle.vd_duet.specs.Calls.{holders, hosts_of, Stand, register_of}
 use Rattle.vd_duet.specs.Laws.{Each, IsHost, IsIn, nowhere, words_at, Copies, Leads as DuetLeads}
 use Rattle.vd_duet.proofs.Writes.{wrote}
 use Rattle.vd_duet.proofs.Leads.{leads_nothing, leads_on, taken_known, taken_there, taken_bounds, Since}
-use Rattle.vd_clear.specs.Copies.{register_of, written_by, each_made}
+use Rattle.vd_clear.specs.Copies.{written_by, each_made}
 use Rattle.vd_clear.proofs.HostLaws.{written_there}
 use Rattle.vd_joint.specs.Joint.{Each as EachPart}
 use Rattle.vd_joint.specs.Suite.{is_at, Cells, Word, Gives, Ready, Below, Delivered, nothing, hosts_of as hosts_at}

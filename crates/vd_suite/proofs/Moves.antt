@@ -13,7 +13,7 @@ use Rattle.vd_duet.specs.Laws.{IsIn, IsHost, IsReady, AreKnown, AreBelow, Operan
 use Rattle.vd_duet.proofs.Leads.{leads_nothing, orderly_still, orderly_wider}
 use Rattle.vd_clear.specs.Copies.{spread_to}
 use Rattle.vd_clear.proofs.ClearLaws.{spread_law}
-use Rattle.vd_clear.proofs.HostLaws.{Found, found}
+use Rattle.vd_duet.proofs.Found.{Found, found}
 use Rattle.vd_pairs.specs.PairCalls.{shares_of, places_at}
 use Rattle.vd_words.specs.AddCalls.{add_calls}
 use Rattle.vd_bits.specs.BitCalls.{bit_calls}

@@ -19,11 +19,11 @@ use Rattle.vd_execution.specs.Joint.{Host, Hosts, acted}
 use Rattle.vd_execution.specs.Text.{register}
 use Rattle.vd_execution.proofs.Puts.{put_same, put_other}
 use Rattle.vd_duet.specs.Builder.{next_at, taken}
-use Rattle.vd_duet.specs.Calls.{Places, holders, hosts_of, Stand}
+use Rattle.vd_duet.specs.Calls.{Places, holders, hosts_of, Stand, register_of}
 use Rattle.vd_duet.specs.Laws.{IsIn, nowhere, Copies, StandFor, GivesThere}
 use Rattle.vd_duet.proofs.Writes.{wrote}
 use Rattle.vd_duet.proofs.Leads.{taken_known, taken_there, taken_bounds, Since}
-use Rattle.vd_clear.specs.Copies.{register_of, written_by, clear_calls}
+use Rattle.vd_clear.specs.Copies.{written_by, clear_calls}
 use Rattle.vd_clear.proofs.HostLaws.{written_there}
 use Rattle.vd_clear.proofs.ClearLaws.{copies_of}
 use Rattle.vd_joint.specs.Suite.{is_at, Word, Gives, Ready, Operand, Takes, Tells, nothing}

@@ -10,10 +10,10 @@ use Rattle.vd_execution.specs.declared.instructions.Reg.{Reg}
 use Rattle.vd_execution.specs.World.{Tape}
 use Rattle.vd_execution.specs.Joint.{Hosts}
 use Rattle.vd_duet.specs.Builder.{most_taken}
-use Rattle.vd_duet.specs.Calls.{Places, hosts_of, holders, Made, Stand, AllAre}
+use Rattle.vd_duet.specs.Calls.{Places, hosts_of, holders, Made, Stand, AllAre, register_of}
 use Rattle.vd_duet.specs.Laws.{Each, IsIn, IsHost, nowhere, words_at, Copies, Gives as DuetGives, GivesThere, at_host}
 use Rattle.vd_duet.proofs.Leads.{leads_nothing, leads_on, orderly_still, orderly_on, orderly_wider, Since, since_on, since_start}
-use Rattle.vd_clear.specs.Copies.{register_of, each_made}
+use Rattle.vd_clear.specs.Copies.{each_made}
 use Rattle.vd_joint.specs.Suite.{Word, Gives, Ready, nothing}
 use Rattle.vd_joint.proofs.Lists.{AreApart}
 use Rattle.vd_suite.specs.Parts.{made_of, has_back_end, back_end}

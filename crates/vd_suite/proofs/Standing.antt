@@ -6,9 +6,8 @@ use Rattle.vd_base.specs.declared.protocols.Proto.TheVariants.{Local, Rep, Commi
 use Rattle.vd_execution.specs.Registers.{digest_of}
 use Rattle.vd_execution.specs.Joint.{Hosts}
 use Rattle.vd_execution.specs.Text.{register}
-use Rattle.vd_duet.specs.Calls.{Places, hosts_of, holders, Calls, Stand}
+use Rattle.vd_duet.specs.Calls.{Places, hosts_of, holders, Calls, Stand, register_of}
 use Rattle.vd_duet.specs.Laws.{IsIn, IsHost, words_at, AreBelow, StandFor}
-use Rattle.vd_clear.specs.Copies.{register_of}
 use Rattle.vd_commit.proofs.Rows.{words_alike}
 use Rattle.vd_joint.specs.Suite.{Content, Word, Cells}
 use Rattle.vd_suite.specs.Commits.{held_of, seen_of}

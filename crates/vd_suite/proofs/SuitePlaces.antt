@@ -15,12 +15,12 @@ use Rattle.vd_execution.specs.Deals.{IsValidDeal}
 use Rattle.vd_execution.specs.Joint.{Part, Hosts}
 use Rattle.vd_execution.specs.Acts.{run_acts}
 use Rattle.vd_execution.specs.Gadgets.{Gadget, Alone, acts_of_gadget, GadgetIsTidy, GadgetsAreTidy}
-use Rattle.vd_duet.specs.Calls.{Places as RegisterPlaces, holders, hosts_of, Made}
+use Rattle.vd_duet.specs.Calls.{Places as RegisterPlaces, holders, hosts_of, Made, register_of}
 use Rattle.vd_duet.specs.Laws.{IsHost}
 use Rattle.vd_duet.specs.Acting.{is_either, acts_at, is_among, is_holder, pass_at, told_at, apply_at, is_negation, ActsWhereItSays}
 use Rattle.vd_duet.proofs.Leads.{tidy_append}
 use Rattle.vd_duet.specs.Builder.{next_at}
-use Rattle.vd_clear.specs.Copies.{register_of, written_by, each_made}
+use Rattle.vd_clear.specs.Copies.{written_by, each_made}
 use Rattle.vd_clear.proofs.ClearActs.{each_acts, clear_acts, spread_acts}
 use Rattle.vd_words.proofs.AddLaws.{add_acts}
 use Rattle.vd_bits.proofs.BitActs.{circuit_acts}

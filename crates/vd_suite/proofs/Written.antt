@@ -14,10 +14,9 @@ use Rattle.vd_execution.specs.Deals.{IsValidDeal}
 use Rattle.vd_execution.specs.Joint.{Part, Host, Hosts, acted}
 use Rattle.vd_execution.specs.Gadgets.{Gadget, Alone, GadgetsAreTidy, IsSound}
 use Rattle.vd_execution.proofs.Puts.{put_same, put_other}
-use Rattle.vd_duet.specs.Calls.{Places, holders, hosts_of, Stand}
+use Rattle.vd_duet.specs.Calls.{Places, holders, hosts_of, Stand, register_of}
 use Rattle.vd_duet.specs.Laws.{IsHost, IsIn, words_at, Leads as DuetLeads}
 use Rattle.vd_duet.proofs.Leads.{leads_nothing, leads_on}
-use Rattle.vd_clear.specs.Copies.{register_of}
 use Rattle.vd_joint.specs.Suite.{Word, Cells, Ready, Below, Operand, Delivered, Renews, hosts_of as hosts_at}
 use Rattle.vd_joint.proofs.Lists.{AreApart}
 use Rattle.vd_suite.specs.Parts.{Parts, has_back_end, index_of, cell_written}

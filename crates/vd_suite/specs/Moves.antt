@@ -9,10 +9,10 @@ use Rattle.vd_execution.specs.declared.instructions.Reg.{Reg}
 use Rattle.vd_execution.specs.World.{Tape}
 use Rattle.vd_execution.specs.Joint.{Hosts}
 use Rattle.vd_execution.specs.Text.{register}
-use Rattle.vd_duet.specs.Calls.{Places, holders, Made, Calls}
+use Rattle.vd_duet.specs.Calls.{Places, holders, Made, Calls, register_of}
 use Rattle.vd_duet.specs.Laws.{Joins, IsIn, IsHost, at_host, IsReady, Operand, GivesWord, BackendLaws}
 use Rattle.vd_duet.specs.Acting.{is_either, share_at, adopt_at, told_at, show_at, show_all_at}
-use Rattle.vd_clear.specs.Copies.{register_of, clear_calls, spread_to}
+use Rattle.vd_clear.specs.Copies.{clear_calls, spread_to}
 use Rattle.vd_pairs.specs.PairCalls.{shares_of, places_at}
 use Rattle.vd_convert.specs.Convert.{to_xor_made, to_add_made}
 use Rattle.vd_suite.specs.Commits.{committed_at, held_of, seen_of}

@@ -9,10 +9,10 @@ use Rattle.vd_execution.specs.Joint.{Part}
 use Rattle.vd_execution.specs.Gadgets.{Gadget, Alone}
 use Rattle.vd_execution.specs.Text.{register}
 use Rattle.vd_duet.specs.Builder.{next_at, taken}
-use Rattle.vd_duet.specs.Calls.{Places, holders, Made, Calls}
+use Rattle.vd_duet.specs.Calls.{Places, holders, Made, Calls, register_of}
 use Rattle.vd_duet.specs.Acting.{apply_at}
 use Rattle.vd_duet.specs.Laws.{at_host}
-use Rattle.vd_clear.specs.Copies.{register_of, written_by, each_made, clear_calls}
+use Rattle.vd_clear.specs.Copies.{written_by, each_made, clear_calls}
 use Rattle.vd_words.specs.AddCalls.{add_calls}
 use Rattle.vd_circuit.specs.CircuitCalls.{circuit_calls}
 use Rattle.vd_joint.specs.Suite.{Calls as AllCalls, Made as AnyMade}

@@ -8,9 +8,9 @@ use Rattle.vd_base.specs.declared.protocols.Proto.TheVariants.{Local, Rep, Commi
 use Rattle.vd_base.specs.HostSets.{same_host, has_host}
 use Rattle.vd_execution.specs.declared.instructions.Reg.{Reg}
 use Rattle.vd_execution.specs.Joint.{Hosts}
-use Rattle.vd_duet.specs.Calls.{Places, hosts_of}
+use Rattle.vd_duet.specs.Calls.{Places, hosts_of, register_of}
 use Rattle.vd_duet.specs.Laws.{IsHost, StandFor, Copies}
-use Rattle.vd_clear.specs.Copies.{register_of, clear_calls}
+use Rattle.vd_clear.specs.Copies.{clear_calls}
 use Rattle.vd_clear.proofs.ClearLaws.{copies_of}
 use Rattle.vd_commit.specs.Commit.{eight}
 use Rattle.vd_joint.specs.Suite.{Word}

@@ -16,10 +16,10 @@ use Rattle.vd_execution.specs.Text.{register}
 use Rattle.vd_execution.specs.World.{Tape}
 use Rattle.vd_execution.proofs.Puts.{put_other, put_same}
 use Rattle.vd_duet.specs.Builder.{next_at, taken}
-use Rattle.vd_duet.specs.Calls.{Places, holders, hosts_of}
+use Rattle.vd_duet.specs.Calls.{Places, holders, hosts_of, register_of}
 use Rattle.vd_duet.specs.Laws.{AreKnown, IsHost, IsIn}
 use Rattle.vd_duet.proofs.Leads.{taken_known, taken_there}
-use Rattle.vd_clear.specs.Copies.{each_made, register_of, written_by}
+use Rattle.vd_clear.specs.Copies.{each_made, written_by}
 use Rattle.vd_joint.proofs.Lists.{AreApart}
 use Rattle.vd_suite.specs.Parts.{Parts, zeros_at, index_of, cell_read, cell_written}
 use Rattle.vd_suite.specs.Suite.{Names, cell}

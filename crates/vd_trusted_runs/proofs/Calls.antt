@@ -11,9 +11,9 @@ use Rattle.vd_execution.specs.declared.instructions.Action.TheVariants as action
 use Rattle.vd_execution.specs.Joint.{Hosts}
 use Rattle.vd_execution.specs.World.{Tape}
 use Rattle.vd_duet.specs.Builder.{next_at}
-use Rattle.vd_duet.specs.Calls.{Calls, Made, Places, holders, hosts_of}
+use Rattle.vd_duet.specs.Calls.{Calls, Made, Places, holders, hosts_of, register_of}
 use Rattle.vd_duet.specs.Laws.{AreBelow, AreKnown, IsHost, NumberFits}
-use Rattle.vd_clear.specs.Copies.{clear_calls, each_made, register_of, written_by}
+use Rattle.vd_clear.specs.Copies.{clear_calls, each_made, written_by}
 use Rattle.vd_departing.specs.Departing.{AreRight, AreStill, GivesRight, RunsGadgets}
 use Rattle.vd_departing.specs.Copies.{AreOperands, IsInClear, IsOperand, IsRenewed, SomeKeeps}
 use Rattle.vd_departing.proofs.Copies.{copies_stay_right, each_step}

@@ -14,10 +14,10 @@ use Rattle.vd_execution.specs.Gadgets.{Gadget, Alone, Tells}
 use Rattle.vd_execution.specs.Joint.{Part}
 use Rattle.vd_duet.specs.Acting.{is_among}
 use Rattle.vd_duet.specs.Builder.{next_at, taken}
-use Rattle.vd_duet.specs.Calls.{Made, Places, holders, hosts_of}
+use Rattle.vd_duet.specs.Calls.{Made, Places, holders, hosts_of, register_of}
 use Rattle.vd_duet.specs.Laws.{AreKnown, Each}
 use Rattle.vd_duet.proofs.Leads.{taken_bounds, taken_known}
-use Rattle.vd_clear.specs.Copies.{adopted, applied_at, compared, each_made, first_register, kept_by, literal_at, operated, passed, register_of, shown, told, with_number, written_by}
+use Rattle.vd_clear.specs.Copies.{adopted, applied_at, compared, each_made, first_register, kept_by, literal_at, operated, passed, shown, told, with_number, written_by}
 use Rattle.vd_departing.specs.Copies.{IsInClear}
 use Rattle.vd_suite.specs.Moves.{moved, only}
 use Rattle.vd_suite.specs.Parts.{Parts, back_end, route, turn_part, turned, index_of, zeros_at, new_cells, cell_read}

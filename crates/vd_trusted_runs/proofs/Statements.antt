@@ -23,9 +23,9 @@ use Rattle.vd_execution.specs.World.{Tape}
 use Rattle.vd_execution.specs.Deals.{IsValidDeal}
 use Rattle.vd_execution.proofs.Puts.{put_other, put_same}
 use Rattle.vd_duet.specs.Builder.{next_at}
-use Rattle.vd_duet.specs.Calls.{Calls, Places, holders, hosts_of}
+use Rattle.vd_duet.specs.Calls.{Calls, Places, holders, hosts_of, register_of}
 use Rattle.vd_duet.specs.Laws.{AreKnown, IsHost, IsIn}
-use Rattle.vd_clear.specs.Copies.{register_of, renewed}
+use Rattle.vd_clear.specs.Copies.{renewed}
 use Rattle.vd_joint.specs.Suite.{Made, is_at}
 use Rattle.vd_joint.specs.Emission.{Emitting, and_on, right_made}
 use Rattle.vd_joint.specs.Validity.{RightFits, RightPlaced}

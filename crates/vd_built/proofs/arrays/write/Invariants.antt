@@ -1,8 +1,7 @@
 use Rattle.std.proofs.Common.{◌≡◌, drop, map}
 use Rattle.vd_execution.specs.Gadgets.{Alone}
 use Rattle.vd_execution.specs.declared.instructions.Action.TheVariants as action
-use Rattle.vd_duet.specs.Calls.{appended}
-use Rattle.vd_clear.specs.Copies.{register_of}
+use Rattle.vd_duet.specs.Calls.{appended, register_of}
 use Rattle.vd_suite.specs.Parts.{index_of}
 use Rattle.vd_built.proofs.arrays.write.Given as goal
 
