@@ -8,5 +8,6 @@ pub mod TwoByTwo
 pub mod Streams
 pub mod Drawn
 pub mod MadeValid
+pub mod MadeWords
 pub mod EachHost
 pub mod Apart

@@ -72,10 +72,10 @@ made_are_deals counts key are = record {
 
 -- ---- the identities
 
-below_word : (x : ℕ) → x % 2 ^ 32 < 2 ^ 32
+pub below_word : (x : ℕ) → x % 2 ^ 32 < 2 ^ 32
 below_word x = omega arith
 
-word_bound : (key stream place : ℕ) → made_word key stream place < 2 ^ 32
+pub word_bound : (key stream place : ℕ) → made_word key stream place < 2 ^ 32
 unfolding made_word block_word
 word_bound key stream place = below_word _
 
