@@ -1,15 +1,16 @@
 -- The steps that read the deals of all hosts.
-use Rattle.std.specs.Prelude.{◌≡◌, ℕ, ◌+◌, List, [], ◌∷◌, ◌++◌, length, slice_get, Some, Result, Ok, Err, codes}
+use Rattle.std.specs.Prelude.{◌≡◌, ℕ, ◌+◌, List, [], ◌∷◌, ◌++◌, length, slice_get, Option, Some, None, Result, Ok, Err, codes}
 use Rattle.vd_base.specs.Limits.{most_deal_bytes}
 use Rattle.vd_outside.specs.Files.{FilesView, Contents}
 use Rattle.vd_bytes.specs.Reading.{capped}
+use Rattle.vd_deals.specs.declared.deal.BadItem.{BadItem}
 use Rattle.vd_deals.specs.declared.deal.Deal.{Deal}
 use Rattle.vd_tape.specs.Text.{IsFileOf}
 use Rattle.vd_plan.specs.Held.{IsHeld}
 use Rattle.vd_plan.specs.Numbered.{file_name}
 use Rattle.vd_plan.specs.Plans.{Plan, ExecutesStep, file_then, check_then}
 use Rattle.vd_plan.specs.declared.status.Status.{Status}
-use Rattle.vd_plan.specs.declared.status.Status.TheVariants.{DealText}
+use Rattle.vd_plan.specs.declared.status.Status.TheVariants.{BadDeal, DealText}
 use Rattle.vd_outcomes.specs.Outcomes.{ReplayOutcomes}
 
 abbrev pub as_deal : List ℕ → Result Deal ℕ → Result Deal Status
@@ -49,3 +50,8 @@ HoldsDeal prefix hosts number contents deal = IsHeld (file_name prefix number (c
 -- the files of the first hosts, in order, are the texts of these deals
 abbrev pub HoldDeals : (prefix : List ℕ) → (hosts : ℕ) → Contents → List Deal → Type 0
 HoldDeals prefix hosts contents deals = (number : ℕ) (deal : Deal) → slice_get deals number ≡ Some deal → HoldsDeal prefix hosts number contents deal
+
+-- deals go on where no item breaks its identity, and the first that does is the status of their refusal
+abbrev pub as_consistent : Option BadItem → Result (Unit {0}) Status
+as_consistent None = Ok tt
+as_consistent (Some bad) = Err (BadDeal bad)

@@ -22,8 +22,7 @@ use Rattle.vd_dealing.specs.Dealing.{deal_answer}
 use Rattle.vd_outcomes.specs.Outcomes.{ReplayOutcomes}
 use Rattle.vd_outcomes.proofs.Judged.{judged_once}
 use Rattle.vd_outcomes.proofs.Picked.{outcomes_are_single}
-use Rattle.vd_asking.specs.Deals.{HoldDeals, HoldsDeal, as_deal, deal_of, deal_then, deals_from}
-use Rattle.vd_replaying.specs.Replaying.{as_consistent}
+use Rattle.vd_asking.specs.Deals.{HoldDeals, HoldsDeal, as_deal, deal_of, deal_then, deals_from, as_consistent}
 use Rattle.vd_tape.proofs.MadeWords.{count_of_deals, deals_of}
 use Rattle.vd_answers.proofs.Plans.{Leads, held_leads}
 use Rattle.vd_answers.proofs.Standing.{files_from, standing}

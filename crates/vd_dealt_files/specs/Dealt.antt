@@ -11,8 +11,7 @@ use Rattle.vd_plan.specs.Deliver.{stored}
 use Rattle.vd_plan.specs.Plans.{Plan}
 use Rattle.vd_dealing.specs.Dealing.{deal_answer}
 use Rattle.vd_outcomes.specs.Outcomes.{ReplayOutcomes}
-use Rattle.vd_asking.specs.Deals.{HoldDeals, deals_then}
-use Rattle.vd_replaying.specs.Replaying.{as_consistent}
+use Rattle.vd_asking.specs.Deals.{HoldDeals, deals_then, as_consistent}
 
 -- whatever a command does with the deals of hosts with these names, it does with these deals
 abbrev pub AreTaken : (prefix : List ℕ) → (names : List (List ℕ)) → Contents → List Deal → Type 0

@@ -22,7 +22,7 @@ use Rattle.vd_selecting.proofs.Selected.{selected_then, spent_then}
 use Rattle.vd_compiling.specs.Selected.{no_list}
 use Rattle.vd_compiling.proofs.Compiled.{none_computes}
 use Rattle.vd_outcomes.specs.Outcomes.{ReplayOutcomes}
-use Rattle.vd_replaying.specs.Replaying.{as_consistent}
+use Rattle.vd_asking.specs.Deals.{as_consistent}
 use Rattle.vd_excuse_command.specs.declared.runs.Runs.{Runs}
 use Rattle.vd_excuse_command.specs.Excusing.{ExecutesExcused, ExecutesLabels, ExecutesList, as_free, choice_plan, commitment_in, excuse_answer, excused_for, excused_plan, list_plan}
 use Rattle.vd_excuse_command.specs.Telling.{TellsAt}

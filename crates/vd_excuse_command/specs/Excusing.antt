@@ -33,7 +33,7 @@ use Rattle.vd_selecting.specs.Problems.{IsProblemOf}
 use Rattle.vd_selecting.specs.Selected.{choice_then}
 use Rattle.vd_compiling.specs.Selected.{no_list}
 use Rattle.vd_outcomes.specs.Outcomes.{ReplayOutcomes}
-use Rattle.vd_replaying.specs.Replaying.{as_consistent}
+use Rattle.vd_asking.specs.Deals.{as_consistent}
 use Rattle.vd_program_views.specs.Explained.{plan_of}
 use Rattle.vd_deal_excuses.specs.Excuses.{excuse_files}
 use Rattle.vd_excuse.specs.declared.fault.ViewFault.{ViewFault}

@@ -26,7 +26,8 @@ use Rattle.vd_selecting.specs.Choosing.{sure_search}
 use Rattle.vd_selecting.specs.Problems.{as_problem, problem_for}
 use Rattle.vd_outcomes.proofs.Judged.{judged_once}
 use Rattle.vd_replaying.specs.Accepting.{EndsWell, IsAccepted}
-use Rattle.vd_replaying.specs.Replaying.{as_consistent, asked_plan, choice_plan, list_plan, problem_plan, report_for, source_plan}
+use Rattle.vd_asking.specs.Deals.{as_consistent}
+use Rattle.vd_replaying.specs.Replaying.{asked_plan, choice_plan, list_plan, problem_plan, report_for, source_plan}
 use Rattle.vd_replaying.proofs.Steps.{Ends, answer_ends, asked_ends, check_ends, labels_for, labels_with_these, source_ends}
 
 -- ---- the choice

@@ -19,7 +19,8 @@ use Rattle.vd_compiling.specs.Selected.{no_list}
 use Rattle.vd_compiling.proofs.Compiled.{none_computes}
 use Rattle.vd_outcomes.specs.Outcomes.{ReplayOutcomes}
 use Rattle.vd_asking.specs.declared.asked.Asked.{Asked}
-use Rattle.vd_replaying.specs.Replaying.{ExecutesList, ExecutesProblem, as_consistent, choice_plan, list_plan, report_for}
+use Rattle.vd_asking.specs.Deals.{as_consistent}
+use Rattle.vd_replaying.specs.Replaying.{ExecutesList, ExecutesProblem, choice_plan, list_plan, report_for}
 use Rattle.vd_replaying.specs.Telling.{TellsOf}
 
 module _ (program : NormalForm) (problem : Problem) (asked : Asked) where

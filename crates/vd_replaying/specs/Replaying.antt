@@ -1,11 +1,10 @@
 -- The command `replay`.
-use Rattle.std.specs.Prelude.{ℕ, true, Option, Some, None, List, [], length, Result, Ok, Err}
+use Rattle.std.specs.Prelude.{ℕ, true, Option, Some, None, List, [], length, Result}
 use Rattle.vd_outside.specs.Files.{FilesView, Contents}
 use Rattle.vd_core.specs.declared.normal.NormalForm.{NormalForm}
 use Rattle.vd_core.specs.declared.source.Source.{Source}
 use Rattle.vd_normal.specs.Normal.{normal_form}
 use Rattle.vd_cmd.specs.declared.command.ReplayWords.{ReplayWords}
-use Rattle.vd_deals.specs.declared.deal.BadItem.{BadItem}
 use Rattle.vd_execution.specs.Joint.{started}
 use Rattle.vd_execution.specs.World.{World}
 use Rattle.vd_space.specs.declared.problem.Problem.{Problem}
@@ -17,7 +16,6 @@ use Rattle.vd_play.specs.Reports.{report_of}
 use Rattle.vd_plan.specs.Plans.{Plan, Executes, check_then, answer_then, ended}
 use Rattle.vd_plan.specs.declared.answer.Answer.{Answer}
 use Rattle.vd_plan.specs.declared.status.Status.{Status}
-use Rattle.vd_plan.specs.declared.status.Status.TheVariants.{BadDeal}
 use Rattle.vd_frontend.specs.Outcomes.{TextOutcomes, LabelOutcomes}
 use Rattle.vd_frontend.specs.Sources.{source_then}
 use Rattle.vd_selecting.specs.Choosing.{Search, SomeSearch}
@@ -27,6 +25,7 @@ use Rattle.vd_compiling.specs.Selected.{no_list}
 use Rattle.vd_outcomes.specs.Outcomes.{ReplayOutcomes}
 use Rattle.vd_asking.specs.declared.asked.Asked.{Asked}
 use Rattle.vd_asking.specs.Asking.{asked_then}
+use Rattle.vd_asking.specs.Deals.{as_consistent}
 
 -- ---- what it runs
 
@@ -41,10 +40,6 @@ report_for program list asked =
     report_of program.hosts (supply_of_files asked.inputs asked.deals) (world_for program list asked) asked.messages
 
 -- ---- the plan
-
-abbrev pub as_consistent : Option BadItem → Result (Unit {0}) Status
-as_consistent None = Ok tt
-as_consistent (Some bad) = Err (BadDeal bad)
 
 -- with a list of protocols
 abbrev pub list_plan : ReplayOutcomes → NormalForm → Problem → Asked → List ℕ → Contents → Plan

@@ -13,9 +13,8 @@ ghost use Rattle.vd_asking.specs.Asking.{AreAsked};
 ghost use Rattle.vd_replaying.specs.Replaying.{ExecutesAsked, ExecutesList, ExecutesProblem, ExecutesProgram, ExecutesReplay, ExecutesSource, report_for};
 ghost use Rattle.vd_replaying.specs.Telling.{IsReport, TellsHeadline, TellsOf, TellsProgram, TellsSource};
 
-use crate::checks::expect_consistent;
 use std::alloc::Global;
-use vd_asking::{Asked, load_asked};
+use vd_asking::{Asked, expect_consistent, load_asked};
 use vd_base::Bytes;
 use vd_cmd::ReplayWords;
 use vd_compiling::no_assignment;

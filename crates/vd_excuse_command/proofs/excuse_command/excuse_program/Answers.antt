@@ -1,15 +1,15 @@
-use Rattle.std.proofs.Common.{length, subst}
+use Rattle.std.proofs.Common.{◌≤◌, length, subst, sym}
 use Rattle.std.proofs.lemmas.Result.{err_from_is_err_and}
+use Rattle.vd_base.specs.Limits.{most_hosts}
 use Rattle.vd_core.specs.declared.normal.NormalForm.{NormalForm}
 use Rattle.vd_selecting.specs.Choosing.{GaveUp, searched_by}
-use Rattle.vd_replaying.proofs.Playable.{few_names}
 use Rattle.vd_excuse_command.specs.Runs.{AreRead}
 use Rattle.vd_excuse_command.specs.Excusing.{runs_plan}
 use Rattle.vd_excuse_command.proofs.Held.{program_told}
 use Rattle.vd_excuse_command.proofs.excuse_command.excuse_program.Goals as goal
 
 pub load_runs-requires : goal.load_runs-requires
-load_runs-requires g c = few_names c.args.program.now c.form.result.now c.form.ensures.well_made c.form.ensures.same
+load_runs-requires g c = subst (λ (form : NormalForm). length form.hosts ≤ most_hosts) (sym c.form.ensures.same) c.form.ensures.well_made.limits.hosts
 
 pub excuse_runs-requires-clause-read : goal.excuse_runs-requires-clause-read
 excuse_runs-requires-clause-read g c = subst (λ (form : NormalForm). AreRead (length form.hosts) c.in_ok-runs.runs) c.form.ensures.same (c.in_ok-runs.ensures {u = tt}).read

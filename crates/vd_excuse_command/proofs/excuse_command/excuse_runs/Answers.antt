@@ -1,15 +1,15 @@
-use Rattle.std.proofs.Common.{ℕ, length, ap, sym, subst, ◌∙◌}
+use Rattle.std.proofs.Common.{ℕ, ◌≤◌, length, ap, sym, subst, ◌∙◌}
 use Rattle.std.proofs.lemmas.Result.{err_from_is_err_and}
+use Rattle.vd_base.specs.Limits.{most_hosts}
 use Rattle.vd_core.specs.declared.normal.NormalForm.{NormalForm}
 use Rattle.vd_selecting.specs.Choosing.{GaveUp, searched_by}
 use Rattle.vd_depending.proofs.Naming.{named}
-use Rattle.vd_replaying.proofs.Playable.{few_names}
 use Rattle.vd_excuse_command.specs.Runs.{AreRead}
 use Rattle.vd_excuse_command.proofs.Naming.{is_low, not_two, of_two_hosts, unnamed}
 use Rattle.vd_excuse_command.proofs.excuse_command.excuse_runs.Goals as goal
 
 pub host_named-requires : goal.host_named-requires
-host_named-requires c = few_names c.args.program.now c.form.result.now c.form.ensures.well_made c.form.ensures.same
+host_named-requires c = subst (λ (form : NormalForm). length form.hosts ≤ most_hosts) (sym c.form.ensures.same) c.form.ensures.well_made.limits.hosts
 
 pub excuse_host-requires-clause-hosts : goal.excuse_host-requires-clause-hosts
 excuse_host-requires-clause-hosts c = sym (ap (λ (f : NormalForm). length f.hosts) c.form.ensures.same) ∙ (c.in_ok-expect_two.ensures {u = tt}).two

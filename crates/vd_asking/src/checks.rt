@@ -4,7 +4,7 @@ ghost use Rattle.std.specs.Prelude.{OnOk};
 ghost use Rattle.vd_deals.specs.Validity.{AreDeals, IsConsistent};
 ghost use Rattle.vd_plan.specs.Plans.{Checks};
 ghost use Rattle.vd_outcomes.specs.Outcomes.{ReplayOutcomes};
-ghost use Rattle.vd_replaying.specs.Replaying.{as_consistent};
+ghost use Rattle.vd_asking.specs.Deals.{as_consistent};
 
 use vd_deals::Deals;
 use vd_plan::Status;

@@ -1,7 +1,7 @@
 use Rattle.std.proofs.Common.{None, Some, ap}
 use Rattle.vd_outcomes.proofs.Judged.{judged_once}
-use Rattle.vd_replaying.specs.Replaying.{as_consistent}
-use Rattle.vd_replaying.proofs.checks.expect_consistent.Goals as goal
+use Rattle.vd_asking.specs.Deals.{as_consistent}
+use Rattle.vd_asking.proofs.checks.expect_consistent.Goals as goal
 
 pub returns-in-Ok-clause-checks : goal.returns-in-Ok-clause-checks
 returns-in-Ok-clause-checks c = λ outcomes. record {
