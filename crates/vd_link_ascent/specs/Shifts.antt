@@ -1,7 +1,9 @@
 -- What shifts of links a certificate can have.
-use Rattle.std.specs.Prelude.{ℕ, ◌<◌, ◌≤◌, List, length}
-use Rattle.std.specs.List.{AllByRecursion}
+use Rattle.std.specs.Prelude.{◌≡◌, ℕ, zero, suc, ◌<◌, ◌≤◌, Bool, true, false, List, [], ◌∷◌, ◌++◌, length, slice_index_or, ℤ, pos, negsuc}
+use Rattle.std.specs.List.{AllByRecursion, flat_map, range_with_len}
 use Rattle.vd_base.specs.Limits.{most_certificate_shifts}
+use Rattle.vd_link_sweeps.specs.declared.nets.Nets.{Nets}
+use Rattle.vd_link_sweeps.specs.Rows.{row_of}
 use Rattle.vd_linked.specs.Links.{links}
 use Rattle.vd_prefixes.specs.declared.shift.Shift.{Shift}
 use Rattle.vd_space.specs.declared.problem.Problem.{Problem}
@@ -23,6 +25,36 @@ pub record AreShiftsOf (count choices : ℕ) (shifts : List Shift) : Type 0 wher
 
 abbrev pub AreLinkShifts : Problem → List Shift → Type 0
 AreLinkShifts problem shifts = AreShiftsOf (length (links problem)) (length (protocols problem)) shifts
+
+-- ---- the shifts that come to amounts: one for each that is not 0
+
+abbrev pub shift_by : ℕ → ℕ → ℕ → Bool → ℕ → Shift
+shift_by at side place add amount = record { at = at; side = side; proto = place; add = add; amount = amount }
+
+abbrev pub shift_to : ℕ → ℕ → ℕ → ℤ → List Shift
+shift_to at side place (pos zero) = []
+shift_to at side place (pos (suc n)) = shift_by at side place true (suc n) ∷ []
+shift_to at side place (negsuc n) = shift_by at side place false (suc n) ∷ []
+
+-- at one end of a link, by place
+abbrev pub row_shifts : ℕ → ℕ → List ℤ → ℕ → List Shift
+row_shifts at side row places = flat_map (λ place. shift_to at side place (slice_index_or row place (pos 0))) (range_with_len 0 places)
+
+-- at both ends of a link, by the amounts at the first and the second ends of all links
+abbrev pub link_shifts : (ℕ → List ℤ) → (ℕ → List ℤ) → ℕ → ℕ → List Shift
+link_shifts firsts seconds places at = row_shifts at 0 (firsts at) places ++ row_shifts at 1 (seconds at) places
+
+-- of so many links
+abbrev pub net_shifts : (ℕ → List ℤ) → (ℕ → List ℤ) → ℕ → ℕ → List Shift
+net_shifts firsts seconds places links = flat_map (link_shifts firsts seconds places) (range_with_len 0 links)
+
+-- the shifts of so many links that come to amounts at so many places of each end
+abbrev pub shifts_by : Nets → ℕ → ℕ → List Shift
+shifts_by nets places links = net_shifts (row_of nets.firsts) (row_of nets.seconds) places links
+
+-- what is done is that, and where it is not done nothing is said
+abbrev pub Adds : List Shift → List Shift → List Shift → Bool → Type 0
+Adds more before after done = done ≡ true → after ≡ before ++ more
 
 -- ---- what a step adds to a list, however many links and protocols there are
 

@@ -1,7 +1,8 @@
 //! The shifts that come to given amounts.
 
-ghost use Rattle.std.specs.Prelude.{◌<◌, ◌≤◌, IfOk, IfSome, OnOk};
-ghost use Rattle.vd_link_ascent.specs.Shifts.{AreShiftsOf, Puts, PutsRow};
+ghost use Rattle.std.specs.Prelude.{◌≡◌, ◌<◌, ◌≤◌, IfOk, IfSome, OnOk};
+ghost use Rattle.vd_link_sweeps.specs.Rows.{row_of};
+ghost use Rattle.vd_link_ascent.specs.Shifts.{Adds, AreShiftsOf, Puts, PutsRow, link_shifts, row_shifts, shift_to, shifts_by};
 
 use std::alloc::{AllocError, Global};
 use vd_base::limits;
@@ -23,7 +24,8 @@ fn put_shift(
 ) -> Result<bool, AllocError>
     requires side { side ≤ 1 }
     requires place { place < 256 }
-    ensures { OnOk result (Puts at place shifts.old shifts.new) }
+    ensures puts { OnOk result (Puts at place shifts.old shifts.new) }
+    ensures adds { IfOk result (Adds (shift_to at side place amount) shifts.old shifts.new) }
 {
     let size = amount.unsigned_abs();
     if size == 0 {
@@ -52,7 +54,8 @@ fn put_row(
 ) -> Result<bool, AllocError>
     requires side { side ≤ 1 }
     requires places { places ≤ 256 }
-    ensures { OnOk result (PutsRow at places shifts.old shifts.new) }
+    ensures puts { OnOk result (PutsRow at places shifts.old shifts.new) }
+    ensures adds { IfOk result (Adds (row_shifts at side row.now places) shifts.old shifts.new) }
 {
     for place in 0..places {
         if !put_shift(shifts, at, side, place, number_at(row, place))? {
@@ -60,6 +63,26 @@ fn put_row(
         }
     }
     Ok(true)
+}
+
+/// Adds the shifts of a link, at so many places of each end. Answers whether shifts can have all the amounts.
+fn put_link(
+    shifts: &mut Items<Shift>,
+    at: u32,
+    places: usize,
+    nets: &Nets,
+) -> Result<bool, AllocError>
+    requires places { places ≤ 256 }
+    ensures puts { OnOk result (PutsRow at places shifts.old shifts.new) }
+    ensures adds { IfOk result (Adds (link_shifts (row_of nets.now.firsts) (row_of nets.now.seconds) places at)
+        shifts.old shifts.new) }
+{
+    let firsts = row_at(nets.firsts.as_slice(), at as usize);
+    if !put_row(shifts, at, 0, places, firsts)? {
+        return Ok(false);
+    }
+    let seconds = row_at(nets.seconds.as_slice(), at as usize);
+    put_row(shifts, at, 1, places, seconds)
 }
 
 /// The shifts of so many links, at so many places of each end, that come to these amounts; none where an amount is too great for a
@@ -72,15 +95,12 @@ fn shifts_of_few(
 ) -> Result<Option<Items<Shift>>, AllocError>
     requires links { links ≤ 4294967295 }
     requires places { places ≤ 256 }
-    ensures { IfOk result (λ found. IfSome found (AreShiftsOf links places)) }
+    ensures shifts { IfOk result (λ found. IfSome found (AreShiftsOf links places)) }
+    ensures amounts { IfOk result (λ found. IfSome found (λ shifts. shifts ≡ shifts_by nets.now places links)) }
 {
     let mut shifts = Items::new(alloc);
     for at in 0..links {
-        let firsts = row_at(nets.firsts.as_slice(), at);
-        let seconds = row_at(nets.seconds.as_slice(), at);
-        if !put_row(&mut shifts, at as u32, 0, places, firsts)?
-            || !put_row(&mut shifts, at as u32, 1, places, seconds)?
-        {
+        if !put_link(&mut shifts, at as u32, places, nets)? {
             return Ok(None);
         }
     }
@@ -95,7 +115,8 @@ pub fn shifts_of(
     nets: &Nets,
 ) -> Result<Option<Items<Shift>>, AllocError>
     requires places { places ≤ 256 }
-    ensures { IfOk result (λ found. IfSome found (AreShiftsOf links places)) }
+    ensures shifts { IfOk result (λ found. IfSome found (AreShiftsOf links places)) }
+    ensures amounts { IfOk result (λ found. IfSome found (λ shifts. shifts ≡ shifts_by nets.now places links)) }
 {
     if links > u32::MAX as usize {
         return Ok(None);

@@ -1,5 +1,9 @@
-use Rattle.vd_link_ascent.specs.Shifts.{PutsRow}
+use Rattle.std.proofs.Common.{◌≡◌, ◌++◌}
+use Rattle.vd_link_ascent.specs.Shifts.{PutsRow, row_shifts}
 use Rattle.vd_link_ascent.proofs.made.put_row.Given as goal
 
 abbrev pub invariant-loop-place : goal.invariant-loop-place
-invariant-loop-place l = PutsRow l.at l.place l.initial.shifts l.shifts
+invariant-loop-place l = record {
+  puts : PutsRow l.at l.place l.initial.shifts l.shifts;
+  adds : l.shifts ≡ l.initial.shifts ++ row_shifts l.at l.side l.row l.place;
+}
