@@ -1,6 +1,6 @@
 -- What the search by links answers, as a selection.
-use Rattle.std.proofs.Common.{◌≡◌, ℕ, ◌+◌, ◌<◌, ◌≤◌, true, false, Option, Some, None, List, [], ◌∷◌, ◌++◌, length, refl, sym, ◌∙◌, subst, arith, ℤ}
-use Rattle.std.specs.Prelude.{nat_lt}
+use Rattle.std.proofs.Common.{◌≡◌, ℕ, ◌+◌, ◌<◌, ◌≤◌, true, false, Option, Some, None, Result, Ok, Err, List, [], ◌∷◌, ◌++◌, length, refl, sym, ◌∙◌, subst, arith, ℤ}
+use Rattle.std.specs.Prelude.{IfOk, nat_lt}
 use Rattle.std.specs.List.{AllByRecursion}
 use Rattle.std.proofs.lemmas.Int.{ints}
 use Rattle.std.proofs.lemmas.Bool.{true≢false, lt-ltb, and_from}
@@ -183,3 +183,8 @@ better problem shifts tables labelled are some tabled same = record {
   few = subst (λ (s : List Shift). length s ≤ most_certificate_shifts) (sym same) are.few;
   some = subst (λ (s : List Shift). 1 ≤ length s) (sym same) some;
 }
+
+-- the tables that a call made
+pub better_result : {E : Type 0} (problem : Problem) (shifts : List Shift) (result : Result LinkedTables E) → IsLabelled problem → AreLinkShifts problem shifts → 1 ≤ length shifts → IfOk result (AreLinkedTables problem) → IfOk result (λ t. t.shifts ≡ shifts) → IfOk result (CanLink problem)
+better_result problem shifts (Ok tables) labelled are some tabled same = better problem shifts tables labelled are some tabled same
+better_result problem shifts (Err cause) labelled are some tabled same = tt

@@ -8,3 +8,4 @@ pub mod ByLinks
 mod Floors
 mod Untied
 mod Passed
+mod Spent

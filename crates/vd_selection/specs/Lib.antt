@@ -4,3 +4,4 @@ pub mod Selecting
 pub mod Naming
 pub mod Stages
 pub mod Linking
+pub mod Spending

@@ -1,14 +1,17 @@
 //! The choice of protocols for a problem, with a certificate that the checker accepts.
 #![tactic(auto)]
 
+mod ascents;
 mod confirming;
 mod laws;
 mod linking;
+mod passing;
 mod selecting;
 mod stages;
 mod trying;
 mod walking;
 
+pub use ascents::{Ascents, LinkAscent, Sweeps};
 pub use confirming::confirm;
 pub use laws::problems_have_one_choice;
 pub use selecting::{SelectFault, Selection};

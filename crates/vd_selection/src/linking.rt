@@ -1,17 +1,20 @@
 //! The search by links.
 
-ghost use Rattle.std.specs.Prelude.{◌≡◌, ◌≢◌, ◌<◌, [], IfOk, IfSome, Err, true};
+ghost use Rattle.std.specs.Prelude.{◌≡◌, ◌≢◌, ◌<◌, ◌≤◌, [], IfNone, IfOk, IfSome, Err, length, true};
 ghost use Rattle.vd_link_ascent.specs.Shifts.{AreLinkShifts};
+ghost use Rattle.vd_linked.specs.Linked.{linked_tree};
 ghost use Rattle.vd_linked_path.specs.Tables.{AreLinkedTables};
 ghost use Rattle.vd_path.specs.Tables.{AreTables};
 ghost use Rattle.vd_selection.specs.Linking.{CanLink, Tells};
 ghost use Rattle.vd_selection.specs.Selecting.{CostsAtLeast, Selects};
+ghost use Rattle.vd_selection.specs.Spending.{GivesOnly, HasNoRootBound, IfUnended, IsOverByLinks, IsRootBound, IsSpentByLinks};
 ghost use Rattle.vd_selection.specs.Stages.{Tries};
 ghost use Rattle.vd_selection.specs.declared.selecting.SelectFault.TheVariants as select_fault;
 ghost use Rattle.vd_space.specs.Labelled.{IsLabelled};
 ghost use Rattle.vd_space.specs.Sizes.{IsWithinLimits};
 ghost use Rattle.vd_space.specs.Spaces.{IsProblem};
 
+use crate::ascents::{Ascents, LinkAscent};
 use crate::selecting::{SelectFault, Selection};
 use crate::trying::Tried;
 use crate::walking::select_by_walk;
@@ -82,6 +85,7 @@ fn select_by_links(
     requires linked { CanLink problem.now linked.now }
     requires budget { budget < 4294967295 }
     ensures selects { IfOk result (λ found. IfSome found (Selects problem.now budget)) }
+    ensures over { IfOk result (λ found. IfNone found (IsOverByLinks problem.now linked.now.shifts budget)) }
     ensures unspent { result ≢ Err select_fault.Spent }
 {
     let mut path = LinkedPath::new(alloc, problem, tables, linked)?;
@@ -95,48 +99,11 @@ fn select_by_links(
     }
 }
 
-/// The tables of these shifts of links, if there are any.
-fn tables_of_some(
-    alloc: Global,
-    problem: &Problem,
-    shifts: Items<Shift>,
-) -> Result<Option<LinkedTables>, AllocError>
-    requires holds { IsProblem problem.now }
-    requires labelled { IsLabelled problem.now }
-    requires limits { IsWithinLimits problem.now }
-    requires shifts { AreLinkShifts problem.now shifts }
-    ensures { IfOk result (λ found. IfSome found (CanLink problem.now)) }
-{
-    if shifts.as_slice().len() == 0 {
-        return Ok(None);
-    }
-    let linked = linked_tables(alloc, problem, shifts)?;
-    Ok(Some(linked))
-}
-
-/// The tables of the shifts of links that an ascent came to, by those without shifts, where there are some.
-fn better_links(
-    alloc: Global,
-    problem: &Problem,
-    without: &LinkedTables,
-    ascent: &Ascent,
-) -> Result<Option<LinkedTables>, AllocError>
-    requires holds { IsProblem problem.now }
-    requires labelled { IsLabelled problem.now }
-    requires limits { IsWithinLimits problem.now }
-    requires without { AreLinkedTables problem.now without.now }
-    ensures { IfOk result (λ found. IfSome found (CanLink problem.now)) }
-{
-    match ascent.shifts(alloc, problem, without)? {
-        Some(shifts) => tables_of_some(alloc, problem, shifts),
-        None => Ok(None),
-    }
-}
-
 /// The choice, or that there is none, by these tables of links, and where they leave too many ties by a walk; nothing where the
 /// budget is spent.
-fn select_linked(
+fn select_linked<A: Ascents>(
     alloc: Global,
+    ascents: &A,
     problem: &Problem,
     tables: &Tables,
     without: &LinkedTables,
@@ -153,11 +120,30 @@ fn select_linked(
     requires linked { CanLink problem.now linked.now }
     requires budget { budget < 4294967295 }
     ensures selects { IfOk result (λ found. IfSome found (Selects problem.now budget)) }
+    ensures spent { IfOk result (λ found. IfNone found
+        (IsSpentByLinks problem.now budget (A.walks_give ascents.now problem.now) linked.now.shifts)) }
     ensures unspent { result ≢ Err select_fault.Spent }
 {
     match select_by_links(alloc, problem, tables, linked, budget)? {
         Some(selection) => Ok(Some(selection)),
-        None => select_by_walk(alloc, problem, tables, without, linked, ascent, budget),
+        None => select_by_walk(
+            alloc, ascents, problem, tables, without, linked, ascent, budget,
+        ),
+    }
+}
+
+/// The bound of all lists, from the empty prefix, where that is valid and the bound is a number of 32 bits.
+pub(crate) fn bound_of_all(path: &LinkedPath) -> Option<u32>
+    requires { path.now.depth ≡ 0 }
+    ensures bound { IfSome result (IsRootBound (linked_tree path.now.problem.now path.now.linked.now.shifts)) }
+    ensures none { IfNone result (HasNoRootBound (linked_tree path.now.problem.now path.now.linked.now.shifts)) }
+{
+    if !path.is_valid() {
+        return None;
+    }
+    match u32::try_from(path.bound()) {
+        Ok(most) => Some(most),
+        Err(_) => None,
     }
 }
 
@@ -176,19 +162,17 @@ fn floor_by_links(
     ensures { IfOk result (CostsAtLeast problem.now) }
 {
     let path = LinkedPath::new(alloc, problem, tables, linked)?;
-    if !path.is_valid() {
-        return Ok(0);
-    }
-    match u32::try_from(path.bound()) {
-        Ok(floor) => Ok(floor),
-        Err(_) => Ok(0),
+    match bound_of_all(&path) {
+        Some(floor) => Ok(floor),
+        None => Ok(0),
     }
 }
 
 /// The choice, or that there is none, by these tables of links, and where these leave too many ties by a walk; what each valid
 /// list costs at least by them where the budget is spent.
-fn try_linked(
+fn try_linked<A: Ascents>(
     alloc: Global,
+    ascents: &A,
     problem: &Problem,
     without: &LinkedTables,
     linked: &LinkedTables,
@@ -202,10 +186,14 @@ fn try_linked(
     requires linked { CanLink problem.now linked.now }
     requires budget { budget < 4294967295 }
     ensures tries { IfOk result (Tries problem.now budget) }
+    ensures spent { IfOk result (IfUnended
+        (IsSpentByLinks problem.now budget (A.walks_give ascents.now problem.now) linked.now.shifts)) }
     ensures unspent { result ≢ Err select_fault.Spent }
 {
     let tables = tables(alloc, problem, Items::new(alloc))?;
-    let selected = select_linked(alloc, problem, &tables, without, linked, ascent, budget)?;
+    let selected = select_linked(
+        alloc, ascents, problem, &tables, without, linked, ascent, budget,
+    )?;
     if let Some(selection) = selected {
         return Ok(Tried::Selected(selection));
     }
@@ -213,41 +201,69 @@ fn try_linked(
     Ok(Tried::Unended(floor))
 }
 
-/// The same by the shifts of links that an ascent came to; 0 where there are none.
-fn try_ascent(
+/// The tables of these shifts of links.
+fn tables_of(
     alloc: Global,
     problem: &Problem,
+    shifts: Items<Shift>,
+) -> Result<LinkedTables, AllocError>
+    requires holds { IsProblem problem.now }
+    requires labelled { IsLabelled problem.now }
+    requires limits { IsWithinLimits problem.now }
+    requires shifts { AreLinkShifts problem.now shifts }
+    requires some { 1 ≤ length shifts }
+    ensures tables { IfOk result (CanLink problem.now) }
+    ensures shifts { IfOk result (λ linked. linked.shifts ≡ shifts) }
+{
+    linked_tables(alloc, problem, shifts)
+}
+
+/// The same by the shifts of links that an ascent came to.
+fn try_ascent<A: Ascents>(
+    alloc: Global,
+    ascents: &A,
+    problem: &Problem,
     without: &LinkedTables,
-    ascent: Ascent,
+    found: LinkAscent,
     budget: u32,
 ) -> Result<Tried, SelectFault>
     requires holds { IsProblem problem.now }
     requires labelled { IsLabelled problem.now }
     requires limits { IsWithinLimits problem.now }
     requires without { AreLinkedTables problem.now without.now }
+    requires shifts { AreLinkShifts problem.now found.shifts }
+    requires some { 1 ≤ length found.shifts }
     requires budget { budget < 4294967295 }
     ensures tries { IfOk result (Tries problem.now budget) }
+    ensures spent { IfOk result (IfUnended
+        (IsSpentByLinks problem.now budget (A.walks_give ascents.now problem.now) found.shifts)) }
     ensures unspent { result ≢ Err select_fault.Spent }
 {
-    match better_links(alloc, problem, without, &ascent)? {
-        Some(linked) => try_linked(alloc, problem, without, &linked, ascent, budget),
-        None => Ok(Tried::Unended(0)),
-    }
+    let LinkAscent { ascent, shifts } = found;
+    let linked = tables_of(alloc, problem, shifts)?;
+    try_linked(alloc, ascents, problem, without, &linked, ascent, budget)
 }
 
-/// The choice, or that there is none, by better shifts of links, and where these leave too many ties by a walk; else what each
-/// valid list costs at least.
-pub(crate) fn try_links(alloc: Global, problem: &Problem, budget: u32) -> Result<Tried, SelectFault>
+/// The choice, or that there is none, by the shifts of links that an ascent gives, and where these leave too many ties by a walk;
+/// else what each valid list costs at least, 0 where there are none.
+pub(crate) fn try_links<A: Ascents>(
+    alloc: Global,
+    ascents: &A,
+    problem: &Problem,
+    budget: u32,
+) -> Result<Tried, SelectFault>
     requires holds { IsProblem problem.now }
     requires labelled { IsLabelled problem.now }
     requires limits { IsWithinLimits problem.now }
     requires budget { budget < 4294967295 }
     ensures tries { IfOk result (Tries problem.now budget) }
+    ensures links { IfOk result (IfUnended (GivesOnly (A.links_give ascents.now problem.now)
+        (IsSpentByLinks problem.now budget (A.walks_give ascents.now problem.now)))) }
     ensures unspent { result ≢ Err select_fault.Spent }
 {
     let without = linked_tables(alloc, problem, Items::new(alloc))?;
-    match Ascent::of(alloc, problem, &without)? {
-        Some(ascent) => try_ascent(alloc, problem, &without, ascent, budget),
+    match ascents.over_links(alloc, problem, &without)? {
+        Some(found) => try_ascent(alloc, ascents, problem, &without, found, budget),
         None => Ok(Tried::Unended(0)),
     }
 }

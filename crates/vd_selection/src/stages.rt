@@ -1,9 +1,9 @@
 //! The searches that are made one after the other: with a small budget under the usual shifts, under better ones and by links,
 //! then with a part of the budget under the better and with the whole under the usual ones, from what each valid list costs at least by links.
 
-ghost use Rattle.std.specs.Prelude.{◌≡◌, ◌≢◌, ◌+◌, ◌*◌, ◌≤◌, ◌<◌, IfOk, IfSome, Err, length, min};
-ghost use Rattle.vd_base.specs.Limits.{most_certificate_shifts};
+ghost use Rattle.std.specs.Prelude.{◌≡◌, ◌≢◌, ◌≤◌, ◌<◌, IfNone, IfOk, IfSome, Err, option_map};
 ghost use Rattle.vd_selection.specs.Selecting.{CostsAtLeast, IsOver, Selects};
+ghost use Rattle.vd_selection.specs.Spending.{GivesOnly, IfUnended, IsOverBy, IsOverTwice, IsSpent, IsSpentByLinks, early_part, late_part, linked_part};
 ghost use Rattle.vd_selection.specs.Stages.{CanSelect, Tries};
 ghost use Rattle.vd_selection.specs.declared.selecting.SelectFault.TheVariants as select_fault;
 ghost use Rattle.vd_space.specs.Labelled.{IsLabelled};
@@ -11,11 +11,11 @@ ghost use Rattle.vd_space.specs.Sizes.{IsWithinLimits};
 ghost use Rattle.vd_space.specs.Spaces.{IsProblem};
 ghost use Rattle.vd_space.specs.Usual.{usual as usual_shifts};
 
+use crate::ascents::Ascents;
 use crate::linking::try_links;
 use crate::selecting::{SelectFault, Selection, select_by, usual_tables};
 use crate::trying::Tried;
 use std::alloc::{AllocError, Global};
-use vd_ascent::ascend;
 use vd_path::Tables;
 use vd_space::Problem;
 use vd_tables::tables;
@@ -35,7 +35,7 @@ const LATE_PART: u32 = 8;
 fn first_budget(problem: &Problem, budget: u32) -> u32
     requires limits { IsWithinLimits problem.now }
     ensures within { result ≤ budget }
-    ensures enough { min budget (1000 + 4 * length problem.now.slots) ≤ result }
+    ensures part { result ≡ early_part problem.now budget }
 {
     let slots = problem.slots.as_slice().len() as u32;
     budget.min(FIRST_BUDGET + FIRST_BUDGET_OF_A_SLOT * slots)
@@ -45,7 +45,7 @@ fn first_budget(problem: &Problem, budget: u32) -> u32
 fn linked_budget(problem: &Problem, budget: u32) -> u32
     requires limits { IsWithinLimits problem.now }
     ensures within { result ≤ budget }
-    ensures enough { min budget (256 + length problem.now.slots) ≤ result }
+    ensures part { result ≡ linked_part problem.now budget }
 {
     let slots = problem.slots.as_slice().len() as u32;
     budget.min(LINKED_BUDGET + slots)
@@ -54,7 +54,7 @@ fn linked_budget(problem: &Problem, budget: u32) -> u32
 /// The budget of the search by better shifts behind that by links.
 fn late_budget(budget: u32) -> u32
     ensures within { result ≤ budget }
-    ensures enough { budget ≤ 8 * result + 7 }
+    ensures part { result ≡ late_part budget }
 {
     budget / LATE_PART
 }
@@ -74,6 +74,7 @@ fn try_by(
     requires floor { CostsAtLeast problem.now floor }
     requires budget { budget < 4294967295 }
     ensures selects { IfOk result (λ found. IfSome found (Selects problem.now budget)) }
+    ensures over { IfOk result (λ found. IfNone found (IsOver problem.now tables.now.shifts budget)) }
     ensures unspent { result ≢ Err select_fault.Spent }
 {
     match select_by(alloc, problem, tables, floor, budget) {
@@ -84,13 +85,18 @@ fn try_by(
 }
 
 /// The tables of better shifts, where there are some.
-fn better_tables(alloc: Global, problem: &Problem) -> Result<Option<Tables>, AllocError>
+fn better_tables<A: Ascents>(
+    alloc: Global,
+    ascents: &A,
+    problem: &Problem,
+) -> Result<Option<Tables>, AllocError>
     requires holds { IsProblem problem.now }
     requires labelled { IsLabelled problem.now }
     requires limits { IsWithinLimits problem.now }
-    ensures { IfOk result (λ found. IfSome found (CanSelect problem.now)) }
+    ensures tables { IfOk result (λ found. IfSome found (CanSelect problem.now)) }
+    ensures gives { IfOk result (λ found. A.uses_give ascents.now problem.now (option_map (λ t. t.shifts) found)) }
 {
-    match ascend(alloc, problem)? {
+    match ascents.over_uses(alloc, problem)? {
         Some(shifts) => Ok(Some(tables(alloc, problem, shifts)?)),
         None => Ok(None),
     }
@@ -111,6 +117,7 @@ fn try_some(
     requires floor { CostsAtLeast problem.now floor }
     requires budget { budget < 4294967295 }
     ensures selects { IfOk result (λ found. IfSome found (Selects problem.now budget)) }
+    ensures over { IfOk result (λ found. IfNone found (IsOverBy problem.now tables.now budget)) }
     ensures unspent { result ≢ Err select_fault.Spent }
 {
     match tables {
@@ -121,8 +128,9 @@ fn try_some(
 
 /// The choice, or that there is none, by these tables with a small budget, or by links with that; where neither search ends,
 /// what each valid list costs at least by links.
-fn try_small(
+fn try_small<A: Ascents>(
     alloc: Global,
+    ascents: &A,
     problem: &Problem,
     tables: &Option<Tables>,
     budget: u32,
@@ -133,11 +141,14 @@ fn try_small(
     requires tables { IfSome tables.now (CanSelect problem.now) }
     requires budget { budget < 4294967295 }
     ensures tries { IfOk result (Tries problem.now budget) }
+    ensures over { IfOk result (IfUnended (IsOverBy problem.now tables.now budget)) }
+    ensures links { IfOk result (IfUnended (GivesOnly (A.links_give ascents.now problem.now)
+        (IsSpentByLinks problem.now (linked_part problem.now budget) (A.walks_give ascents.now problem.now)))) }
     ensures unspent { result ≢ Err select_fault.Spent }
 {
     match try_some(alloc, problem, tables, 0, budget)? {
         Some(selection) => Ok(Tried::Selected(selection)),
-        None => try_links(alloc, problem, linked_budget(problem, budget)),
+        None => try_links(alloc, ascents, problem, linked_budget(problem, budget)),
     }
 }
 
@@ -156,6 +167,7 @@ fn try_above(
     requires floor { CostsAtLeast problem.now floor }
     requires budget { budget < 4294967295 }
     ensures tries { IfOk result (Tries problem.now budget) }
+    ensures over { IfOk result (IfUnended (IsOverBy problem.now tables.now budget)) }
     ensures unspent { result ≢ Err select_fault.Spent }
 {
     match try_some(alloc, problem, tables, floor, budget)? {
@@ -166,16 +178,30 @@ fn try_above(
 
 /// The choice, or that there is none, by better shifts or by links with a small budget, or by better shifts with a greater one;
 /// where no search ends, what each valid list costs at least.
-fn try_better(alloc: Global, problem: &Problem, budget: u32) -> Result<Tried, SelectFault>
+fn try_better<A: Ascents>(
+    alloc: Global,
+    ascents: &A,
+    problem: &Problem,
+    budget: u32,
+) -> Result<Tried, SelectFault>
     requires holds { IsProblem problem.now }
     requires labelled { IsLabelled problem.now }
     requires limits { IsWithinLimits problem.now }
     requires budget { budget < 4294967295 }
     ensures tries { IfOk result (Tries problem.now budget) }
+    ensures uses { IfOk result (IfUnended (GivesOnly (A.uses_give ascents.now problem.now) (IsOverTwice problem.now budget))) }
+    ensures links { IfOk result (IfUnended (GivesOnly (A.links_give ascents.now problem.now)
+        (IsSpentByLinks problem.now (linked_part problem.now budget) (A.walks_give ascents.now problem.now)))) }
     ensures unspent { result ≢ Err select_fault.Spent }
 {
-    let better = better_tables(alloc, problem)?;
-    match try_small(alloc, problem, &better, first_budget(problem, budget))? {
+    let better = better_tables(alloc, ascents, problem)?;
+    match try_small(
+        alloc,
+        ascents,
+        problem,
+        &better,
+        first_budget(problem, budget),
+    )? {
         Tried::Selected(selection) => Ok(Tried::Selected(selection)),
         Tried::Unended(floor) => try_above(alloc, problem, &better, floor, late_budget(budget)),
     }
@@ -183,8 +209,9 @@ fn try_better(alloc: Global, problem: &Problem, budget: u32) -> Result<Tried, Se
 
 /// The choice, or that there is none, by the usual shifts with a small budget, by better ones, or by links; where no search
 /// ends, what each valid list costs at least.
-fn try_early(
+fn try_early<A: Ascents>(
     alloc: Global,
+    ascents: &A,
     problem: &Problem,
     usual: &Tables,
     budget: u32,
@@ -195,26 +222,38 @@ fn try_early(
     requires usual { CanSelect problem.now usual.now }
     requires budget { budget < 4294967295 }
     ensures tries { IfOk result (Tries problem.now budget) }
+    ensures uses { IfOk result (IfUnended (GivesOnly (A.uses_give ascents.now problem.now) (IsOverTwice problem.now budget))) }
+    ensures links { IfOk result (IfUnended (GivesOnly (A.links_give ascents.now problem.now)
+        (IsSpentByLinks problem.now (linked_part problem.now budget) (A.walks_give ascents.now problem.now)))) }
     ensures unspent { result ≢ Err select_fault.Spent }
 {
     match try_by(alloc, problem, usual, 0, first_budget(problem, budget))? {
         Some(selection) => Ok(Tried::Selected(selection)),
-        None => try_better(alloc, problem, budget),
+        None => try_better(alloc, ascents, problem, budget),
     }
 }
 
 /// The choice of protocols for a problem, or that no list of protocols is valid; with a certificate of that, which opens at
-/// most so many prefixes. The budget is spent only where it does not do under the usual shifts.
-pub fn select(alloc: Global, problem: &Problem, budget: u32) -> Result<Selection, SelectFault>
+/// most so many prefixes. The budget is spent only where it does not do under the usual shifts, nor its parts under the shifts that
+/// each of the ascents gives.
+pub fn select<A: Ascents>(
+    alloc: Global,
+    ascents: &A,
+    problem: &Problem,
+    budget: u32,
+) -> Result<Selection, SelectFault>
     requires holds { IsProblem problem.now }
     requires labelled { IsLabelled problem.now }
     requires limits { IsWithinLimits problem.now }
     requires budget { budget < 4294967295 }
     ensures selects { IfOk result (Selects problem.now budget) }
     ensures spent { result ≡ Err select_fault.Spent → IsOver problem.now (usual_shifts problem.now) budget }
+    ensures stages { result ≡ Err select_fault.Spent →
+        IsSpent problem.now budget (A.uses_give ascents.now problem.now) (A.links_give ascents.now problem.now)
+        (A.walks_give ascents.now problem.now) }
 {
     let tables = usual_tables(alloc, problem)?;
-    match try_early(alloc, problem, &tables, budget)? {
+    match try_early(alloc, ascents, problem, &tables, budget)? {
         Tried::Selected(selection) => Ok(selection),
         Tried::Unended(floor) => select_by(alloc, problem, &tables, floor, budget),
     }

@@ -1,164 +1,30 @@
 //! The search by links where ties at the bound of the root are broken by a walk.
 
-ghost use Rattle.std.specs.Prelude.{◌≡◌, ◌==◌, ◌≢◌, ◌<◌, [], IfOk, IfSome, Err, is_some, length, nat_lt, true};
-ghost use Rattle.std.specs.List.{All, list_all};
-ghost use Rattle.vd_link_ascent.specs.Shifts.{AreLinkShifts};
-ghost use Rattle.vd_link_ascent.specs.Walking.{made};
-ghost use Rattle.vd_linked_bound.specs.Bounds.{IsBoundOf};
+ghost use Rattle.std.specs.Prelude.{◌≡◌, ◌≢◌, ◌<◌, [], IfNone, IfOk, IfSome, Err};
+ghost use Rattle.std.specs.List.{All};
+ghost use Rattle.vd_linked.specs.Linked.{linked_tree};
 ghost use Rattle.vd_linked_path.specs.Tables.{AreLinkedTables};
 ghost use Rattle.vd_path.specs.Tables.{AreTables};
 ghost use Rattle.vd_selection.specs.Linking.{CanLink, IsBeyond};
 ghost use Rattle.vd_selection.specs.Selecting.{Selects};
+ghost use Rattle.vd_selection.specs.Spending.{GivesOnly, IsOverByWalk};
 ghost use Rattle.vd_selection.specs.declared.selecting.SelectFault.TheVariants as select_fault;
 ghost use Rattle.vd_space.specs.Labelled.{IsLabelled};
 ghost use Rattle.vd_space.specs.Sizes.{IsWithinLimits};
 ghost use Rattle.vd_space.specs.Spaces.{IsProblem};
+ghost use Rattle.vd_untied.specs.Untied.{WhySpent};
 
-use crate::linking::linked_selection;
+use crate::ascents::Ascents;
+use crate::linking::{bound_of_all, linked_selection};
 use crate::selecting::{SelectFault, Selection};
-use std::alloc::{AllocError, Global};
+use std::alloc::Global;
 use vd_items::Items;
-use vd_link_ascent::{Ascent, Refutation, Walk};
-use vd_linked_bound::LinkedBound;
+use vd_link_ascent::Ascent;
 use vd_linked_path::{LinkedPath, LinkedTables};
 use vd_path::Tables;
-use vd_prefixes::{Prefixes, Shift};
 use vd_search::Stop;
 use vd_space::Problem;
 use vd_untied::search_untied;
-
-/// At most so many prefixes are passed over.
-const MOST_PASSED: u32 = 1024;
-
-/// Whether each choice is one of so many.
-fn are_among(choices: &[u32], count: usize) -> bool
-    ensures { result ≡ list_all (λ choice. nat_lt choice count) choices.now }
-{
-    for choice in choices {
-        if *choice as usize >= count {
-            return false;
-        }
-    }
-    true
-}
-
-/// Whether by the bound under these shifts of links each list that begins so costs more than that.
-fn is_beyond(
-    alloc: Global,
-    problem: &Problem,
-    bound: &LinkedBound,
-    shifts: &[Shift],
-    prefix: &[u32],
-    most: u32,
-) -> Result<bool, AllocError>
-    requires holds { IsProblem problem.now }
-    requires labelled { IsLabelled problem.now }
-    requires limits { IsWithinLimits problem.now }
-    requires bound { IsBoundOf problem.now bound.now }
-    requires shifts { AreLinkShifts problem.now shifts.now }
-    ensures { IfOk result (λ beyond. beyond ≡ true → IsBeyond problem.now most prefix.now) }
-{
-    if !are_among(prefix, bound.list.as_slice().len()) {
-        return Ok(false);
-    }
-    let least = bound.bound(alloc, problem, shifts, prefix)?;
-    Ok(least > i64::from(most))
-}
-
-/// Notes the prefix of a refutation, if it is shown that each list that begins so costs more than that.
-fn pass_over(
-    alloc: Global,
-    problem: &Problem,
-    bound: &LinkedBound,
-    found: Refutation,
-    most: u32,
-    passed: &mut Items<Items<u32>>,
-) -> Result<(), AllocError>
-    requires holds { IsProblem problem.now }
-    requires labelled { IsLabelled problem.now }
-    requires limits { IsWithinLimits problem.now }
-    requires bound { IsBoundOf problem.now bound.now }
-    requires shifts { AreLinkShifts problem.now found.shifts }
-    requires passed { All (IsBeyond problem.now most) passed.old }
-    ensures { IfOk result (λ _. All (IsBeyond problem.now most) passed.new) }
-{
-    let Refutation { prefix, shifts } = found;
-    let shifts = shifts.as_slice();
-    if !is_beyond(alloc, problem, bound, shifts, prefix.as_slice(), most)? {
-        return Ok(());
-    }
-    passed.push(prefix)
-}
-
-/// The prefixes that a walk passes over, as far as it is shown that each list that begins so costs more than that.
-fn passed_over(
-    alloc: Global,
-    problem: &Problem,
-    bound: &LinkedBound,
-    walk: &mut Walk,
-    most: u32,
-) -> Result<Items<Items<u32>>, AllocError>
-    requires holds { IsProblem problem.now }
-    requires labelled { IsLabelled problem.now }
-    requires limits { IsWithinLimits problem.now }
-    requires bound { IsBoundOf problem.now bound.now }
-    requires walk { walk.old.problem.now ≡ problem.now }
-    ensures passed { IfOk result (All (IsBeyond problem.now most)) }
-    ensures problem { walk.new.problem.now ≡ problem.now }
-{
-    let mut passed = Items::new(alloc);
-    for _ in 0..MOST_PASSED {
-        match walk.next(alloc)? {
-            Some(found) => pass_over(alloc, problem, bound, found, most, &mut passed)?,
-            None => break,
-        }
-    }
-    Ok(passed)
-}
-
-/// The prefixes that a walk passes over, at that aim; nothing exactly where it does not come to a whole list.
-fn passed_to_whole(
-    alloc: Global,
-    problem: &Problem,
-    bound: &LinkedBound,
-    walk: &mut Walk,
-    most: u32,
-) -> Result<Option<Items<Items<u32>>>, AllocError>
-    requires holds { IsProblem problem.now }
-    requires labelled { IsLabelled problem.now }
-    requires limits { IsWithinLimits problem.now }
-    requires bound { IsBoundOf problem.now bound.now }
-    requires walk { walk.old.problem.now ≡ problem.now }
-    ensures passed { IfOk result (λ found. IfSome found (All (IsBeyond problem.now most))) }
-    ensures whole { IfOk result (λ found. is_some found ≡ (length (made walk.new.path) == length problem.now.slots)) }
-{
-    let passed = passed_over(alloc, problem, bound, walk, most)?;
-    if !walk.is_whole() {
-        return Ok(None);
-    }
-    Ok(Some(passed))
-}
-
-/// The prefixes that a walk behind an ascent passes over, at that aim; nothing where it does not come to a whole list.
-fn walked(
-    alloc: Global,
-    problem: &Problem,
-    without: &LinkedTables,
-    path: LinkedPath,
-    ascent: Ascent,
-    most: u32,
-) -> Result<Option<Items<Items<u32>>>, AllocError>
-    requires holds { IsProblem problem.now }
-    requires labelled { IsLabelled problem.now }
-    requires limits { IsWithinLimits problem.now }
-    requires without { AreLinkedTables problem.now without.now }
-    requires path { path.problem.now ≡ problem.now }
-    ensures { IfOk result (λ found. IfSome found (All (IsBeyond problem.now most))) }
-{
-    let mut walk = Walk::new(alloc, problem, without, path, ascent, most)?;
-    let bound = LinkedBound::new(alloc, problem)?;
-    passed_to_whole(alloc, problem, &bound, &mut walk, most)
-}
 
 /// The choice, or that there is none, where ties are broken by prefixes that begin no list of that cost; nothing where the budget
 /// is spent, or the least cost is another.
@@ -179,6 +45,7 @@ fn select_untied(
     requires passed { All (IsBeyond problem.now most) passed }
     requires budget { budget < 4294967295 }
     ensures selects { IfOk result (λ found. IfSome found (Selects problem.now budget)) }
+    ensures over { IfOk result (λ found. IfNone found (WhySpent (linked_tree problem.now linked.now.shifts) most passed budget)) }
     ensures unspent { result ≢ Err select_fault.Spent }
 {
     let root = LinkedPath::new(alloc, problem, tables, linked)?;
@@ -192,10 +59,45 @@ fn select_untied(
     }
 }
 
+/// The choice, or that there is none, where a walk to lists of that cost breaks ties, which begins at this path; nothing where the
+/// budget is spent, or the least cost is another.
+fn select_at<A: Ascents>(
+    alloc: Global,
+    ascents: &A,
+    problem: &Problem,
+    tables: &Tables,
+    without: &LinkedTables,
+    linked: &LinkedTables,
+    path: LinkedPath,
+    ascent: Ascent,
+    most: u32,
+    budget: u32,
+) -> Result<Option<Selection>, SelectFault>
+    requires holds { IsProblem problem.now }
+    requires labelled { IsLabelled problem.now }
+    requires limits { IsWithinLimits problem.now }
+    requires tables { AreTables problem.now tables.now }
+    requires plain { tables.now.shifts ≡ [] }
+    requires without { AreLinkedTables problem.now without.now }
+    requires linked { CanLink problem.now linked.now }
+    requires path { path.problem.now ≡ problem.now }
+    requires budget { budget < 4294967295 }
+    ensures selects { IfOk result (λ found. IfSome found (Selects problem.now budget)) }
+    ensures over { IfOk result (λ found. IfNone found (GivesOnly (A.walks_give ascents.now problem.now most)
+        (λ passed. WhySpent (linked_tree problem.now linked.now.shifts) most passed budget))) }
+    ensures unspent { result ≢ Err select_fault.Spent }
+{
+    match ascents.over_prefixes(alloc, problem, without, path, ascent, most)? {
+        Some(passed) => select_untied(alloc, problem, tables, linked, passed, most, budget),
+        None => Ok(None),
+    }
+}
+
 /// The choice, or that there is none, by the tables without shifts, plain and by links, and by those of better shifts of links,
 /// where a walk breaks the ties at the bound of all lists; nothing where the budget is spent, or the least cost is above that.
-pub fn select_by_walk(
+pub(crate) fn select_by_walk<A: Ascents>(
     alloc: Global,
+    ascents: &A,
     problem: &Problem,
     tables: &Tables,
     without: &LinkedTables,
@@ -212,17 +114,17 @@ pub fn select_by_walk(
     requires linked { CanLink problem.now linked.now }
     requires budget { budget < 4294967295 }
     ensures selects { IfOk result (λ found. IfSome found (Selects problem.now budget)) }
+    ensures over { IfOk result (λ found. IfNone found
+        (IsOverByWalk problem.now linked.now.shifts budget (A.walks_give ascents.now problem.now))) }
     ensures unspent { result ≢ Err select_fault.Spent }
 {
     let path = LinkedPath::new(alloc, problem, tables, linked)?;
-    if !path.is_valid() {
-        return Ok(None);
-    }
-    let Ok(most) = u32::try_from(path.bound()) else {
-        return Ok(None);
-    };
-    match walked(alloc, problem, without, path, ascent, most)? {
-        Some(passed) => select_untied(alloc, problem, tables, linked, passed, most, budget),
+    match bound_of_all(&path) {
+        Some(most) => {
+            select_at(
+                alloc, ascents, problem, tables, without, linked, path, ascent, most, budget,
+            )
+        }
         None => Ok(None),
     }
 }

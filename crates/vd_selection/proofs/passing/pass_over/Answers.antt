@@ -1,7 +1,7 @@
 use Rattle.std.proofs.Common.{subst}
 use Rattle.vd_selection.specs.Linking.{IsBeyond}
 use Rattle.vd_selection.proofs.Untied.{one_more}
-use Rattle.vd_selection.proofs.walking.pass_over.Goals as goal
+use Rattle.vd_selection.proofs.passing.pass_over.Goals as goal
 
 pub returns : goal.returns
 returns c =
