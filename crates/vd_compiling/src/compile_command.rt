@@ -25,7 +25,7 @@ use vd_plan::{Answer, Status, file_name, load};
 use vd_read_back::counts_fit;
 use vd_resolve::Resolved;
 use vd_selecting::{least_space, selection_text};
-use vd_selection::{SelectFault, Selection, select};
+use vd_selection::{SelectFault, Selection, Sweeps, select};
 use vd_spaces::Space;
 
 /// The file of a host's program, `PREFIX.i.host` for host i, where these are the names of all hosts.
@@ -107,7 +107,7 @@ fn compile_space(
     ensures executes { ExecutesProblem program.now space.now text.now prefix.now budget result }
     ensures tells { TellsPrograms program.now text.now prefix.now result }
 {
-    match select(alloc, space.problem(), budget) {
+    match select(alloc, &Sweeps, space.problem(), budget) {
         Ok(Selection::Found(places, cost, _)) => {
             compile_at(alloc, program, space, places.as_slice(), cost, text, prefix)
         }

@@ -22,7 +22,7 @@ use vd_outside::Files;
 use vd_picture::drawing;
 use vd_plan::{Answer, Status, load};
 use vd_resolve::Resolved;
-use vd_selection::{SelectFault, Selection, select};
+use vd_selection::{SelectFault, Selection, Sweeps, select};
 use vd_space::protocol_at;
 use vd_spaces::Space;
 
@@ -92,7 +92,7 @@ fn draw_space(
     requires space { space.now ≡ problem_of program.now labels.now }
     ensures { ExecutesLabels program.now labels.now name.now text.now budget result }
 {
-    match select(alloc, space.problem(), budget) {
+    match select(alloc, &Sweeps, space.problem(), budget) {
         Ok(Selection::Found(places, _, _)) => {
             draw_choice(alloc, program, labels, space, places.as_slice(), name, text)
         }

@@ -29,7 +29,7 @@ use vd_host_programs::numbers_fit;
 use vd_outside::Files;
 use vd_plan::{Answer, Status};
 use vd_resolve::Resolved;
-use vd_selection::{SelectFault, Selection, select};
+use vd_selection::{SelectFault, Selection, Sweeps, select};
 use vd_spaces::Space;
 
 /// Explains the second inputs at a list of protocols, none of them a commitment.
@@ -114,7 +114,7 @@ fn excuse_space(
         ExecutesLabels program.now l host runs out.now budget result }
     ensures tells { TellsAt host program.now out.now runs result }
 {
-    match select(alloc, space.problem(), budget) {
+    match select(alloc, &Sweeps, space.problem(), budget) {
         Ok(Selection::Found(places, _, _)) => {
             excuse_list(alloc, program, space, places.as_slice(), host, runs, out)
         }

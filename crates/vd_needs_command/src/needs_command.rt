@@ -33,7 +33,7 @@ use vd_plan::{Answer, Status, load};
 use vd_read_back::counts_fit;
 use vd_resolve::Resolved;
 use vd_selecting::least_space;
-use vd_selection::{SelectFault, Selection, select};
+use vd_selection::{SelectFault, Selection, Sweeps, select};
 use vd_spaces::Space;
 
 /// The answer that prints this and stores nothing.
@@ -90,7 +90,7 @@ fn needs_in_space(
     ensures executes { ExecutesProblem words.now program.now space.now result }
     ensures tells { TellsProgram words.now program.now result }
 {
-    match select(alloc, space.problem(), words.budget) {
+    match select(alloc, &Sweeps, space.problem(), words.budget) {
         Ok(Selection::Found(places, _, _)) => {
             needs_at(alloc, program, places.as_slice(), words.each)
         }

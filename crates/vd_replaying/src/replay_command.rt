@@ -28,7 +28,7 @@ use vd_plan::{Answer, Status};
 use vd_play::{play, report};
 use vd_resolve::Resolved;
 use vd_selecting::least_space;
-use vd_selection::{SelectFault, Selection, select};
+use vd_selection::{SelectFault, Selection, Sweeps, select};
 use vd_spaces::Space;
 
 /// The answer that prints this and stores nothing.
@@ -101,7 +101,7 @@ fn replay_space(
     ensures executes { ExecutesProblem program.now space.now asked budget result }
     ensures tells { TellsOf program.now asked result }
 {
-    match select(alloc, space.problem(), budget) {
+    match select(alloc, &Sweeps, space.problem(), budget) {
         Ok(Selection::Found(places, _, _)) => {
             replay_list(alloc, program, space, places.as_slice(), asked)
         }

@@ -23,7 +23,7 @@ use vd_outside::{Files, Stored};
 use vd_plan::{Answer, Status};
 use vd_report::choice_text;
 use vd_resolve::Resolved;
-use vd_selection::{SelectFault, Selection, select};
+use vd_selection::{SelectFault, Selection, Sweeps, select};
 use vd_spaces::Space;
 
 /// The protocol at a place of the list.
@@ -116,7 +116,7 @@ fn choose_for_space(
     requires { budget ≤ most_search_budget }
     ensures { ExecutesProblem program.now space.now source.now budget result }
 {
-    match select(alloc, space.problem(), budget) {
+    match select(alloc, &Sweeps, space.problem(), budget) {
         Ok(selection) => answer_selection(alloc, program, space, source, &selection),
         Err(SelectFault::Spent) => Err(Status::Spent(budget)),
         Err(SelectFault::Memory) => Err(Status::Memory),

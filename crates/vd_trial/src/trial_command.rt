@@ -29,7 +29,7 @@ use vd_plan::{Answer, Status};
 use vd_replaying::replay_at;
 use vd_resolve::Resolved;
 use vd_selecting::least_space;
-use vd_selection::{SelectFault, Selection, select};
+use vd_selection::{SelectFault, Selection, Sweeps, select};
 use vd_spaces::Space;
 
 /// The line of a cost.
@@ -96,7 +96,7 @@ fn trial_space(
     ensures executes { ExecutesProblem coordinates program.now space.now result }
     ensures tells { TellsProgram coordinates program.now result }
 {
-    match select(alloc, space.problem(), SEARCH_BUDGET) {
+    match select(alloc, &Sweeps, space.problem(), SEARCH_BUDGET) {
         Ok(Selection::Found(places, cost, _)) => {
             trial_at(alloc, program, space, places.as_slice(), cost, coordinates)
         }
