@@ -10,12 +10,10 @@ use Rattle.vd_execution.specs.Text.{IsCodeOf}
 use Rattle.vd_machine.specs.declared.lists.Lists.{Lists}
 use Rattle.vd_machine.specs.declared.lists.Taken.{Taken}
 use Rattle.vd_machine.specs.declared.ops.Op.{Op}
-use Rattle.vd_machine.specs.declared.ops.Plain.TheVariants as plain
-use Rattle.vd_machine.specs.declared.ops.Op.TheVariants.{Plain as One, If, For}
 use Rattle.vd_machine.specs.declared.frames.Frame.{Frame}
 use Rattle.vd_machine.specs.declared.frames.Frame.TheVariants.{Run}
 use Rattle.vd_machine.specs.Machines.{held, cursors_of, SamePeers}
-use Rattle.vd_machine.specs.Kept.{code_of, span, IsFit, FrameFits, IsSettled, IsSound, frames_code, pending_of, PacketFits, IsSmall, at_start, FramesHaveRoom, HasRoom}
+use Rattle.vd_machine.specs.Kept.{code_of, span, IsFit, FrameFits, IsSettled, IsSound, frames_code, pending_of, PacketFits, at_start, FramesHaveRoom, HasRoom}
 use Rattle.vd_machine.specs.Resolved.{ops_of}
 use Rattle.vd_execution.specs.Ranges.{CodeFits, PacketsFit, depth}
 use Rattle.vd_machine.proofs.Spans.{followed_by_none, span_whole}
@@ -103,13 +101,6 @@ at_start_is p c f k e r q = λ i. record { pending = e i; registers = r i; curso
 -- the instruction that stands at a place
 pub packet_at : (hosts : ℕ) (is : List Op) (at : ℕ) (i : Op) → All (λ j. PacketFits hosts j) is → at < length is → i ≡ get_or is at i → PacketFits hosts i
 packet_at hosts is at i all h e = subst (PacketFits hosts) (sym e) (all at i h)
-
-pub small_of : (hosts : ℕ) (i : Op) → PacketFits hosts i → IsSmall i
-small_of hosts (One (plain.Do a)) f = tt
-small_of hosts (One (plain.Send p rs)) f = f.1
-small_of hosts (One (plain.Recv p rs)) f = f.1
-small_of hosts (If r a b) f = tt
-small_of hosts (For r k a) f = tt
 
 pub within : (registers : List ℕ) (code : List Op) (from to : ℕ) (top : Frame) → top ≡ Run from to → FrameFits (length registers) code top → (from ≡ to → ⊥) → from < length code
 within registers code from to top is fits differ =

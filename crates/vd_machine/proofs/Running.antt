@@ -39,19 +39,13 @@ both (suc n) l s t u p q = let r = both n l (next s (words_for l s.cursors [] (n
 pub quietly_both : (l : Lists) (s t u : State) → Quietly l s t → Quietly l t u → Quietly l s u
 quietly_both l s t u p q = both p.0 l s t u p.1 q
 
-moved : (n : ℕ) (l : Lists) (s t u v : State) → QuietSteps l n s t → IsQuiet l t → u ≡ next t (words_for l t.cursors [] (need t)) → Quietly l u v → (k : ℕ) × QuietSteps l (suc k) s v
-moved zero l s t u v e q is p =
-    let r : Quietly l (next t (words_for l t.cursors [] (need t))) v = subst (λ x. Quietly l x v) is p in
-    subst (λ x. (k : ℕ) × QuietSteps l (suc k) x v) e (r.0, (q, r.1))
-moved (suc n) l s t u v p q is r =
-    let z = moved n l (next s (words_for l s.cursors [] (need s))) t u v p.1 q is r in (suc z.0, (p.0, z.1))
-
--- a quiet step after quiet steps, and quiet steps after it
-pub moves : (l : Lists) (s t u v : State) → Quietly l s t → IsQuiet l t → u ≡ next t (words_for l t.cursors [] (need t)) → Quietly l u v → (k : ℕ) × QuietSteps l (suc k) s v
-moves l s t u v p q is r = moved p.0 l s t u v p.1 q is r
-
-pub some_steps : (l : Lists) (s t : State) → (k : ℕ) × QuietSteps l (suc k) s t → Quietly l s t
-some_steps l s t p = (suc p.0, p.1)
+-- where quiet steps lead from what is quiet to what is not, there is one at least
+pub one_at_least : (l k : Lists) (s t : State) → k ≡ l → Quietly l s t → IsQuiet l s → (IsQuiet k t → ⊥) → (n : ℕ) × QuietSteps l (suc n) s t
+one_at_least l k s t same p quiet stops = counted p.0 p.1
+  where
+    counted : (n : ℕ) → QuietSteps l n s t → (i : ℕ) × QuietSteps l (suc i) s t
+    counted zero e = absurd (stops (subst (λ x. IsQuiet x t) (sym same) (subst (λ x. IsQuiet l x) (sym e) quiet)))
+    counted (suc n) q = (n, q)
 
 -- ---- what is quiet
 
@@ -234,18 +228,20 @@ turning_falls code top from to at top2 below below2 regs regs2 regs3 l t u is st
     let same : weight (pending_of code top below) ≡ weight (pending_of code (Run from to) below) = ap (λ f. weight (pending_of code f below)) is in
     omega (arith, one, all, same)
 
--- ---- one step by itself, and what follows
+-- ---- quiet steps, and one more by itself
 
-pub ran_more : (start at one last : Kept) → at.lists ≡ start.lists → one.lists ≡ at.lists → Quietly start.lists (state_of start) (state_of at) → IsQuiet at.lists (state_of at)
-    → state_of one ≡ stepped at [] → Quietly one.lists (state_of one) (state_of last) → (k : ℕ) × QuietSteps start.lists (suc k) (state_of start) (state_of last)
-ran_more start at one last e f so_far quiet is more =
-    moves start.lists (state_of start) (state_of at) (state_of one) (state_of last) so_far (subst (λ l. IsQuiet l (state_of at)) e quiet)
-    (is ∙ ap (λ l. next (state_of at) (words_for l (cursors_of at.taken) [] (need (state_of at)))) e)
-    (subst (λ l. Quietly l (state_of one) (state_of last)) (f ∙ e) more)
+pub then_one : (start at one last : Kept) → at.lists ≡ start.lists → one.lists ≡ at.lists → Quietly start.lists (state_of start) (state_of at) → Quietly at.lists (state_of at) (state_of one)
+    → IsQuiet one.lists (state_of one) → state_of last ≡ stepped one [] → Quietly start.lists (state_of start) (state_of last)
+then_one start at one last e f so_far steps quiet is =
+    quietly_both start.lists (state_of start) (state_of one) (state_of last)
+    (quietly_both start.lists (state_of start) (state_of at) (state_of one) so_far (subst (λ l. Quietly l (state_of at) (state_of one)) e steps))
+    (quietly_one start.lists (state_of one) (state_of last) (subst (λ l. IsQuiet l (state_of one)) (f ∙ e) quiet)
+    (is ∙ ap (λ l. next (state_of one) (words_for l (cursors_of one.taken) [] (need (state_of one)))) (f ∙ e)))
 
-pub more_falls : (at one last : Kept) → IsQuiet at.lists (state_of at) → state_of one ≡ stepped at [] → Quietly one.lists (state_of one) (state_of last) → weight (state_of last).pending < weight (state_of at).pending
-more_falls at one last quiet is more =
-    let a : weight (next (state_of at) (words_for at.lists (cursors_of at.taken) [] (need (state_of at)))).pending < weight (state_of at).pending = step_falls at.lists (state_of at) (words_for at.lists (cursors_of at.taken) [] (need (state_of at))) quiet in
-    let b : weight (state_of one).pending ≡ weight (next (state_of at) (words_for at.lists (cursors_of at.taken) [] (need (state_of at)))).pending = ap (λ (s : State). weight s.pending) is in
-    let c : weight (state_of last).pending ≤ weight (state_of one).pending = quietly_falls one.lists (state_of one) (state_of last) more in
-    omega (arith, a, b, c)
+pub then_falls : (at one last : Kept) → Quietly at.lists (state_of at) (state_of one) → IsQuiet one.lists (state_of one) → state_of last ≡ stepped one [] → weight (state_of last).pending < weight (state_of at).pending
+then_falls at one last steps quiet is =
+    let words = words_for one.lists (cursors_of one.taken) [] (need (state_of one)) in
+    let a : weight (state_of one).pending ≤ weight (state_of at).pending = quietly_falls at.lists (state_of at) (state_of one) steps in
+    let b : weight (next (state_of one) words).pending < weight (state_of one).pending = step_falls one.lists (state_of one) words quiet in
+    let e : weight (state_of last).pending ≡ weight (next (state_of one) words).pending = ap (λ (s : State). weight s.pending) is in
+    omega (arith, a, b, e)

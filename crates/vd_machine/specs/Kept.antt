@@ -1,6 +1,5 @@
 -- What a machine keeps, and the state that it stands for.
 use Rattle.std.specs.Prelude.{◌≡◌, ℕ, zero, suc, ◌+◌, ◌-◌, ◌<◌, ◌≤◌, List, [], ◌∷◌, ◌++◌, take, drop, length, All, max, nat_lt, if◌then◌else◌}
-use Rattle.vd_base.specs.Limits.{most_packet_words}
 use Rattle.vd_execution.specs.declared.instructions.Action.{Action}
 use Rattle.vd_execution.specs.Registers.{Registers, put, put_each, written}
 use Rattle.vd_execution.specs.Code.{Code, Finished, Then, Send, Recv, Choose, Repeat, followed_by}
@@ -61,13 +60,6 @@ PacketFits hosts (One (plain.Send p rs)) = IsPacketRange hosts p.0 rs
 PacketFits hosts (One (plain.Recv p rs)) = IsPacketRange hosts p.0 rs
 PacketFits hosts (If r a b) = Unit {0}
 PacketFits hosts (For r k a) = Unit {0}
-
-abbrev pub IsSmall : Op → Type 0
-IsSmall (One (plain.Do a)) = Unit {0}
-IsSmall (One (plain.Send p rs)) = length rs ≤ most_packet_words
-IsSmall (One (plain.Recv p rs)) = length rs ≤ most_packet_words
-IsSmall (If r a b) = Unit {0}
-IsSmall (For r k a) = Unit {0}
 
 abbrev pub op_need : Registers → Op → Need
 op_need f (One i) = plain_need f i

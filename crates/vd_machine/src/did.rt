@@ -5,8 +5,8 @@ ghost use Rattle.vd_base.specs.Limits.{most_packet_words};
 ghost use Rattle.vd_base.specs.Packets.{packet_words};
 ghost use Rattle.vd_execution.specs.Step.{words_in};
 ghost use Rattle.vd_machine.specs.Machines.{held};
-ghost use Rattle.vd_machine.specs.Kept.{OpIsWithin, IsSmall, PacketFits, op_deed};
-ghost use Rattle.vd_machine.specs.Dids.{deed_of_did, seen, IsToHost};
+ghost use Rattle.vd_machine.specs.Kept.{OpIsWithin, PacketFits, op_deed};
+ghost use Rattle.vd_machine.specs.Dids.{deed_of_outgoing, seen, OutgoingFits};
 
 use crate::ops::{Op, Plain};
 use vd_base::{HostId, Packet};
@@ -23,9 +23,20 @@ pub enum Did {
     Print(u32),
 }
 
+/// What others will see of a step, where the words of a packet still stand in registers.
+#[derive(Clone, Copy, Debug)]
+pub enum Outgoing<'a> {
+    /// Nothing.
+    Quiet,
+    /// The words of these registers go to a peer.
+    Say(HostId, &'a [Reg]),
+    /// A word is printed.
+    Print(u32),
+}
+
 /// The words of registers, of which a packet has room for all.
 #[tactic(auto, using(crate::proofs::Packets::one_more))]
-fn packet_of(registers: &Vec<u32>, from: &[Reg]) -> Packet
+pub fn packet_of(registers: &Vec<u32>, from: &[Reg]) -> Packet
     requires within { All (λ r. r.0 < length registers.now.items) from.now }
     requires few { length from.now ≤ most_packet_words }
     ensures count { result.count ≤ most_packet_words }
@@ -43,16 +54,15 @@ fn packet_of(registers: &Vec<u32>, from: &[Reg]) -> Packet
     }
 }
 
-/// What others see of an instruction.
-pub fn did_at(registers: &Vec<u32>, op: &Op) -> Did
-    requires within { OpIsWithin (length registers.now.items) op.now }
-    requires few { IsSmall op.now }
-    ensures deed { deed_of_did result ≡ seen (op_deed (held registers.now.items) op.now) }
-    ensures host { (hosts : ℕ) → PacketFits hosts op.now → IsToHost hosts result }
+/// What others will see of an instruction.
+pub fn outgoing_at<'a>(registers: &Vec<u32>, op: &'a Op) -> Outgoing<'a>
+    requires { OpIsWithin (length registers.now.items) op.now }
+    ensures deed { deed_of_outgoing (held registers.now.items) result ≡ seen (op_deed (held registers.now.items) op.now) }
+    ensures fits { (hosts : ℕ) → PacketFits hosts op.now → OutgoingFits (length registers.now.items) hosts result }
 {
     match op {
-        Op::Plain(Plain::Do(Action::Print(r))) => Did::Print(registers[r.0 as usize]),
-        Op::Plain(Plain::Send(p, from)) => Did::Say(*p, packet_of(registers, from)),
-        _ => Did::Quiet,
+        Op::Plain(Plain::Do(Action::Print(r))) => Outgoing::Print(registers[r.0 as usize]),
+        Op::Plain(Plain::Send(p, from)) => Outgoing::Say(*p, from.as_slice()),
+        _ => Outgoing::Quiet,
     }
 }

@@ -14,6 +14,6 @@ mod resolve;
 mod want;
 mod width;
 
-pub use did::Did;
+pub use did::{Did, Outgoing};
 pub use machine::Machine;
 pub use want::Want;

@@ -4,7 +4,7 @@ ghost use Rattle.std.specs.Prelude.{◌≡◌, ℕ, suc, true, length, IfOk, rep
 ghost use Rattle.vd_execution.specs.Code.{Code};
 ghost use Rattle.vd_execution.specs.Text.{IsCodeOf};
 ghost use Rattle.vd_machine.specs.Wants.{wanted, IsFromHost};
-ghost use Rattle.vd_machine.specs.Dids.{deed_of_did, seen, IsToHost};
+ghost use Rattle.vd_machine.specs.Dids.{deed_of_did, deed_of_outgoing, seen, IsToHost, OutgoingFits};
 ghost use Rattle.vd_execution.specs.Ranges.{IsInRange};
 ghost use Rattle.vd_deals.specs.Validity.{IsDeal};
 ghost use Rattle.vd_execution.specs.Step.{next, need, advanced, deed};
@@ -12,7 +12,7 @@ ghost use Rattle.vd_machine.specs.Machines.{held, cursors_of, IsMet, words_for, 
 ghost use Rattle.vd_machine.specs.Quietly.{IsQuiet, QuietSteps, Quietly, RanOn};
 ghost use Rattle.vd_machine.specs.Kept.{state_of, at_start, stepped, CanHear, IsWithin, plain_need, plain_after};
 
-use crate::did::{Did, did_at};
+use crate::did::{Did, Outgoing, outgoing_at, packet_of};
 use crate::frames::{Frame, LoopFrame, choose, settle, turn};
 use crate::lists::{Lists, Taken};
 use crate::ops::{Op, Plain};
@@ -165,19 +165,38 @@ impl Machine {
         }
     }
 
+    /// The words of its registers.
+    pub fn registers(&self) -> &[u32]
+        ensures { result.now ≡ self.now.registers }
+    {
+        &self.registers
+    }
+
+    /// What others will see of the next step, where the words of a packet still stand in registers.
+    pub fn outgoing(&self) -> Outgoing<'_>
+        ensures fits { OutgoingFits (length self.now.registers) self.now.lists.deal.hosts result }
+        ensures deed { deed_of_outgoing (held self.now.registers) result ≡ seen (deed (state_of self.now)) }
+    {
+        match self.top {
+            Frame::Loop { .. } => Outgoing::Quiet,
+            Frame::Run { from, to } => {
+                if from == to {
+                    return Outgoing::Quiet;
+                }
+                outgoing_at(&self.registers, &self.code[from])
+            }
+        }
+    }
+
     /// What others will see of the next step.
-    pub fn deed(&self) -> Did
+    fn deed(&self) -> Did
         ensures host { IsToHost self.now.lists.deal.hosts result }
         ensures deed { deed_of_did result ≡ seen (deed (state_of self.now)) }
     {
-        match self.top {
-            Frame::Loop { .. } => Did::Quiet,
-            Frame::Run { from, to } => {
-                if from == to {
-                    return Did::Quiet;
-                }
-                did_at(&self.registers, &self.code[from])
-            }
+        match self.outgoing() {
+            Outgoing::Quiet => Did::Quiet,
+            Outgoing::Say(peer, from) => Did::Say(peer, packet_of(&self.registers, from)),
+            Outgoing::Print(word) => Did::Print(word),
         }
     }
 
@@ -223,7 +242,7 @@ impl Machine {
         }
     }
 
-    /// A quiet step, and all that follow it.
+    /// All quiet steps that follow one another, of which there is one at least.
     fn run_on(&mut self)
         requires { IsQuiet self.old.lists (state_of self.old) }
         ensures steps { (n : ℕ) × QuietSteps self.old.lists (suc n) (state_of self.old) (state_of self.new) }
@@ -231,11 +250,11 @@ impl Machine {
         ensures lists { self.new.lists ≡ self.old.lists }
     {
         loop {
-            self.advance(&[]);
             self.run_without_frames();
             if !self.is_quiet() {
                 return;
             }
+            self.advance(&[]);
         }
     }
 

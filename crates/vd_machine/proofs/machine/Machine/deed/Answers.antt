@@ -1,39 +1,14 @@
-use Rattle.std.proofs.Common.{◌≡◌, ◌<◌, length, arith, subst, sym, ap, ◌∙◌}
-use Rattle.vd_execution.specs.Code.{Finished}
-use Rattle.vd_execution.specs.Step.{deed, deed_of}
-use Rattle.vd_machine.specs.declared.frames.Frame.TheVariants.{Run}
+use Rattle.std.proofs.Common.{◌<◌, length, subst, sym, ap, ◌∙◌}
+use Rattle.std.specs.Prelude.{All}
+use Rattle.vd_execution.specs.Step.{Said, words_in}
 use Rattle.vd_machine.specs.Machines.{held}
-use Rattle.vd_machine.specs.Kept.{op_deed, FrameFits, frame_code, frames_code, state_of}
-use Rattle.vd_machine.specs.Dids.{seen, IsToHost}
-use Rattle.vd_machine.proofs.Loading.{packet_at, small_of, within}
-use Rattle.vd_machine.proofs.Spans.{run_first, run_deed}
+use Rattle.vd_machine.specs.Kept.{Kept}
 use Rattle.vd_machine.proofs.machine.Machine.deed.Goals as goal
 
-pub did_at-requires-clause-within : goal.did_at-requires-clause-within
-did_at-requires-clause-within c =
-    let m = c.self.inside in
-    let fits : FrameFits (length m.registers.items) m.code.items (Run c.in-Run.from c.in-Run.to) = subst (λ f. FrameFits (length m.registers.items) m.code.items f) c.in-Run.is c.self.invariant.0.top in
-    let more : c.in-Run.from < c.in-Run.to = omega arith in
-    run_first (length m.registers.items) m.code.items c.in-Run.from c.in-Run.to c.index.result.now fits more c.index.ensures
+pub packet_of-requires-clause-within : goal.packet_of-requires-clause-within
+packet_of-requires-clause-within c =
+    subst (λ (k : Kept). All (λ r. r.0 < length k.registers) c.in-Say.from.now) (sym c.self.view_is) c.in-Say.ensures.fits.1
 
-pub returns-else-from-to-clause-deed : goal.returns-else-from-to-clause-deed
-returns-else-from-to-clause-deed c =
-    let m = c.self.inside in
-    let fits : FrameFits (length m.registers.items) m.code.items (Run c.in-Run.from c.in-Run.to) = subst (λ f. FrameFits (length m.registers.items) m.code.items f) c.in-Run.is c.self.invariant.0.top in
-    let more : c.in-Run.from < c.in-Run.to = omega arith in
-    let rest = frames_code m.code.items m.below.items Finished in
-    let e = run_deed (length m.registers.items) (held m.registers.items) m.code.items c.in-Run.from c.in-Run.to c.index.result.now rest fits more c.index.ensures in
-    let at = ap (λ f. deed_of (held m.registers.items) (frame_code m.code.items f rest)) c.in-Run.is in
-    let is : op_deed (held m.registers.items) c.index.result.now ≡ deed (state_of c.args.self.now) = sym (at ∙ e) ∙ ap (λ k. deed (state_of k)) c.self.view_is in
-    c.did_at.ensures.deed ∙ ap seen is
-
-pub did_at-requires-clause-few : goal.did_at-requires-clause-few
-did_at-requires-clause-few c =
-    let m = c.self.inside in
-    small_of m.lists.deal.hosts c.index.result.now (packet_at m.lists.deal.hosts m.code.items c.in-Run.from c.index.result.now c.self.invariant.3 (within c.self.inside.registers.items m.code.items c.in-Run.from c.in-Run.to m.top c.in-Run.is c.self.invariant.0.top (omega arith)) c.index.ensures)
-
-pub returns-else-from-to-clause-host : goal.returns-else-from-to-clause-host
-returns-else-from-to-clause-host c =
-    let m = c.self.inside in
-    subst (λ k. IsToHost k.lists.deal.hosts c.did_at.result) c.self.view_is
-    (c.did_at.ensures.host m.lists.deal.hosts (packet_at m.lists.deal.hosts m.code.items c.in-Run.from c.index.result.now c.self.invariant.3 (within c.self.inside.registers.items m.code.items c.in-Run.from c.in-Run.to m.top c.in-Run.is c.self.invariant.0.top (omega arith)) c.index.ensures))
+pub returns-in-Say-clause-deed : goal.returns-in-Say-clause-deed
+returns-in-Say-clause-deed c =
+    ap (Said c.in-Say.peer.0) (c.packet_of.ensures.words ∙ ap (λ (k : Kept). words_in (held k.registers) c.in-Say.from.now) c.self.view_is) ∙ c.in-Say.ensures.deed
