@@ -1,6 +1,6 @@
 -- What a host wants, and what it is given.
-use Rattle.std.proofs.Common.{◌≡◌, ℕ, ◌+◌, ◌<◌, ◌≤◌, ◌^◌, Bool, true, false, List, [], ◌∷◌, length, refl, sym, ap, ◌∙◌, subst, arith, rules, ◌⊎◌, inl, inr}
-use Rattle.std.specs.Prelude.{Some, None, slice_get, slice_index, slice_index_or, nat_lt, nat_eq, if◌then◌else◌}
+use Rattle.std.proofs.Common.{◌≡◌, ℕ, ◌<◌, ◌≤◌, Bool, true, false, List, [], ◌∷◌, length, refl, sym, ap, ◌∙◌, subst, arith, rules, ◌⊎◌, inl, inr}
+use Rattle.std.specs.Prelude.{Some, None, slice_get, slice_index_or, nat_lt, nat_eq, if◌then◌else◌}
 use Rattle.std.proofs.lemmas.Option.{slice_get_past}
 use borrow.Author.Tests.{ltb-true}
 use Rattle.vd_base.specs.declared.ids.HostId.{HostId}
@@ -14,7 +14,7 @@ use Rattle.vd_machine.proofs.Items.{get_there}
 use Rattle.vd_base.specs.HostSets.{host}
 use Rattle.vd_base.specs.declared.host_state.HostState.TheVariants as state
 use Rattle.vd_execution.specs.States.{state_for, ready_or, short_of}
-use Rattle.vd_world.specs.Hosts.{HasRoom, stuck_state}
+use Rattle.vd_world.specs.Hosts.{stuck_state}
 use Rattle.vd_world.proofs.Noting.{wants_words}
 
 -- ---- the items of a list
@@ -72,9 +72,6 @@ goes_alone g l c (Packet p k) items e = absurd cc
 goes_alone g l c (Unequal x y) items e = absurd cc
 goes_alone g l c Ended items e = absurd cc
 
-pub room_alone : (taken : List ℕ) (l : Lists) (c : Cursors) (n : Need) → want.Nothing ≡ want_of l c n → HasRoom taken n
-room_alone taken l c n e p k is = absurd (let z = e ∙ ap (want_of l c) is in cc)
-
 -- ---- words are wanted
 
 equal : (n k : ℕ) → n ≡ k → nat_eq n k ≡ true
@@ -87,13 +84,6 @@ goes_on g l c n p k xs e f h =
       met = subst (IsMet l c xs) (sym is) h;
       given = ap (answer g c) is ∙ ap (of_length k) f ∙ ap (λ b. if b then Some xs else None) (equal (length xs) k h) ∙ ap (λ m. Some (words_for l c xs m)) (sym is);
     }
-
-pub room_on : (taken : List ℕ) (l : Lists) (c : Cursors) (n : Need) (p : HostId) (k : ℕ) → want.Words p k ≡ want_of l c n → slice_index taken p.0 + 1 < 2 ^ 64 → HasRoom taken n
-room_on taken l c n p k e h q m is =
-    subst (λ x. slice_index taken x + 1 < 2 ^ 64) (the_peer p.0 q k m (sym (wants_words l c n p k e) ∙ is)) h
-  where
-    the_peer : (a b i j : ℕ) → Packet a i ≡ Packet b j → a ≡ b
-    the_peer a b i j e = cc
 
 unequal : (n k : ℕ) → (n ≡ k → ⊥) → nat_eq n k ≡ false
 unequal n k e = grind (arith, rules, e)
@@ -132,7 +122,14 @@ stopped g l c n w items e stop = at n (ap stops (sym e) ∙ stop)
     at (Unequal x y) f = refl
     at Ended f = refl
 
--- ---- how a host stands that can not step
+-- ---- how a host stands
+
+pub ready : (g : Given) (c : Cursors) (n : Need) (xs : List ℕ) → answer g c n ≡ Some xs → state.Ready ≡ state_for g c n
+ready g c Nothing xs e = refl
+ready g c (Item s) xs e = sym (ap (ready_or (short_of s)) e)
+ready g c (Packet p k) xs e = sym (ap (ready_or (state.Waiting (host p))) e)
+ready g c (Unequal x y) xs e = refl
+ready g c Ended xs e = absurd cc
 
 short_state : (s : Source) (i j : ℕ) → stuck_state (short s i j) ≡ short_of s
 short_state Inputs i j = refl

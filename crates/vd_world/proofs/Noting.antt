@@ -1,6 +1,6 @@
 -- What a step shows, and what is kept of it.
-use Rattle.std.proofs.Common.{◌≡◌, ℕ, suc, ◌+◌, ◌<◌, Bool, true, false, List, [], ◌∷◌, ◌++◌, length, get_or, get_or-set_same, get_or-set_other, sym, ap, ◌∙◌, inl, inr, add-one}
-use Rattle.std.specs.Prelude.{slice_set, slice_index, slice_index_or, nat_eq, nat_lt, if◌then◌else◌}
+use Rattle.std.proofs.Common.{◌≡◌, ℕ, suc, ◌+◌, ◌<◌, Bool, true, false, List, [], ◌∷◌, ◌++◌, length, get_or, get_or-set_same, get_or-set_other, refl, sym, ap, ◌∙◌, inl, inr, add-one}
+use Rattle.std.specs.Prelude.{Option, None, Some, slice_set, slice_index, slice_index_or, nat_eq, nat_lt, if◌then◌else◌}
 use Rattle.std.proofs.lemmas.List.{get_or_default}
 use mathlib.Core.Path.{fun_ext}
 use Rattle.vd_base.specs.declared.ids.HostId.{HostId}
@@ -9,7 +9,7 @@ use Rattle.vd_execution.specs.declared.instructions.Action.{Action}
 use Rattle.vd_execution.specs.declared.instructions.Action.TheVariants as action
 use Rattle.vd_execution.specs.Registers.{Registers, put}
 use Rattle.vd_execution.specs.Code.{Code, Finished, Then, Send, Recv, Choose, Repeat}
-use Rattle.vd_execution.specs.Step.{Source, Inputs, OwnWords, Triples, BitTriples, Pairs, State, Cursors, Need, Nothing, Item, Packet, Unequal, Ended, need_of_action, need_of, need, Deed, Quiet, Said, Heard, Printed, deed_of, deed}
+use Rattle.vd_execution.specs.Step.{Source, Inputs, OwnWords, Triples, BitTriples, Pairs, State, Cursors, Need, Nothing, Item, Packet, Unequal, Ended, need_of_action, need_of, need, word_printed, deed_of_print, Deed, Quiet, Said, Heard, Printed, deed_of, deed}
 use Rattle.vd_execution.specs.World.{done}
 use Rattle.vd_execution.proofs.Puts.{put_same, put_other, same_or_not}
 use Rattle.vd_machine.specs.declared.lists.Lists.{Lists}
@@ -86,6 +86,24 @@ hears_code f (Repeat r turn count body c) p n e = absurd cc
 
 pub hears : (m : State) (p n : ℕ) → need m ≡ Packet p n → deed m ≡ Heard p
 hears m p n e = hears_code m.registers m.pending p n e
+
+-- ---- what nobody sees
+
+unprinted : (o : Option ℕ) → Quiet ≡ seen (deed_of_print o) → deed_of_print o ≡ Quiet
+unprinted None e = refl
+unprinted (Some x) e = absurd cc
+
+unheard_code : (l : Lists) (k : Cursors) (f : Registers) (c : Code) → want.Nothing ≡ want_of l k (need_of f c) → Quiet ≡ seen (deed_of f c) → deed_of f c ≡ Quiet
+unheard_code l k f Finished w e = refl
+unheard_code l k f (Then a c) w e = unprinted (word_printed f a) e
+unheard_code l k f (Send q rs c) w e = absurd cc
+unheard_code l k f (Recv q rs c) w e = absurd cc
+unheard_code l k f (Choose g first other c) w e = refl
+unheard_code l k f (Repeat r turn count body c) w e = refl
+
+-- a step that waits for nothing hears nothing
+pub unheard : (l : Lists) (s : State) → want.Nothing ≡ want_of l s.cursors (need s) → Quiet ≡ seen (deed s) → deed s ≡ Quiet
+unheard l s w e = unheard_code l s.cursors s.registers s.pending w e
 
 -- ---- what was said
 

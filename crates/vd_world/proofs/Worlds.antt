@@ -4,14 +4,10 @@ use Rattle.std.specs.Prelude.{Option, Some, None, slice_get, slice_set}
 use mathlib.Core.Path.{fun_ext}
 use Rattle.vd_execution.specs.Registers.{put}
 use Rattle.vd_execution.specs.Schedule.{after}
-use Rattle.vd_execution.specs.Step.{need}
 use Rattle.vd_execution.specs.World.{World, with_host, with_answer, step, moved_on}
 use Rattle.vd_execution.proofs.Puts.{put_same, put_other, same_or_not}
-use Rattle.vd_base.specs.declared.packet.Packet.{Packet}
-use Rattle.vd_base.specs.Packets.{packet_words}
-use Rattle.vd_machine.specs.Machines.{items_of, cursors_of, words_for}
-use Rattle.vd_machine.specs.Kept.{state_of}
-use Rattle.vd_world.specs.Hosts.{HostKept, local_of, local_or_nobody, world_of, supply_of, lists_of, gets, Hears}
+use Rattle.vd_machine.specs.Machines.{items_of}
+use Rattle.vd_world.specs.Hosts.{HostKept, local_of, local_or_nobody, world_of, supply_of, lists_of, gets, given_words, gone_on}
 
 pub get_set_same : {X : Type 0} (w : List X) (h : ℕ) (l k : X) → slice_get w h ≡ Some l → slice_get (slice_set w h k) h ≡ Some k
 get_set_same [] h l k e = cc
@@ -70,11 +66,13 @@ is_after_none w o e = ap (λ z. after z w) (sym e)
 the_same : (k0 k : HostKept) → Some k0 ≡ Some k → k0 ≡ k
 the_same k0 k e = cc
 
--- the step of a host that heard a packet
-pub stepped_on : (all hosts : List HostKept) (h : ℕ) (k0 k new : HostKept) (packet : Packet) → hosts ≡ all → slice_get all h ≡ Some k0 → slice_get all h ≡ Some k → Hears hosts h k0 (Some packet)
-    → local_of new ≡ moved_on (local_of k) (words_for k.machine.lists (cursors_of k.machine.taken) (packet_words packet) (need (state_of k.machine)))
-    → step (supply_of all) h (world_of all) ≡ Some (world_of (slice_set all h new))
-stepped_on all hosts h k0 k new packet e there0 there hears is =
-    let same : k0 ≡ k = the_same k0 k (sym there0 ∙ there) in
-    let heard : Hears all h k (Some packet) = subst (λ l. Hears l h k (Some packet)) e (subst (λ x. Hears hosts h x (Some packet)) same hears) in
-    can all h k (words_for k.machine.lists (cursors_of k.machine.taken) (packet_words packet) (need (state_of k.machine))) new there heard.1 is
+pub same_host : (all : List HostKept) (h : ℕ) (k0 k : HostKept) → slice_get all h ≡ Some k0 → slice_get all h ≡ Some k → k0 ≡ k
+same_host all h k0 k there0 there = the_same k0 k (sym there0 ∙ there)
+
+-- the step of a host that heard these words
+pub stepped_on : (all hosts : List HostKept) (h : ℕ) (k0 k new : HostKept) (xs : List ℕ) → hosts ≡ all → slice_get all h ≡ Some k0 → slice_get all h ≡ Some k → gets hosts h k0 ≡ Some (given_words k0 xs)
+    → local_of new ≡ gone_on k xs → step (supply_of all) h (world_of all) ≡ Some (world_of (slice_set all h new))
+stepped_on all hosts h k0 k new xs e there0 there heard is =
+    let given : gets all h k ≡ Some (given_words k xs) =
+    subst (λ l. gets l h k ≡ Some (given_words k xs)) e (subst (λ x. gets hosts h x ≡ Some (given_words x xs)) (same_host all h k0 k there0 there) heard) in
+    can all h k (given_words k xs) new there given is

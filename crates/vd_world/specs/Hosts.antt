@@ -1,16 +1,14 @@
 -- The hosts of a world, and what they stand for.
-use Rattle.std.specs.Prelude.{◌≡◌, ℕ, ◌+◌, ◌<◌, ◌^◌, List, [], Option, Some, None, Bool, true, false, slice_get, slice_index, slice_index_or, length, ◌≤◌, map, replicate, All}
+use Rattle.std.specs.Prelude.{◌≡◌, ℕ, List, [], Option, Some, None, Bool, true, false, slice_get, slice_index, slice_index_or, length, ◌≤◌, map, replicate, All}
 use Rattle.vd_base.specs.declared.host_state.HostState.{HostState}
 use Rattle.vd_base.specs.declared.host_state.HostState.TheVariants as state
 use Rattle.vd_machine.specs.declared.want.Want.{Want}
 use Rattle.vd_machine.specs.declared.want.Want.TheVariants as want
-use Rattle.vd_base.specs.declared.packet.Packet.{Packet}
-use Rattle.vd_base.specs.Packets.{packet_words}
 use Rattle.vd_execution.specs.Code.{Finished}
-use Rattle.vd_execution.specs.Step.{Source, State, Need, Packet as Awaited, answer, need, deed}
+use Rattle.vd_execution.specs.Step.{Source, State, answer, need, deed}
 use Rattle.vd_execution.specs.World.{Local, World, Supply, given, step, run, left, done, moved_on}
 use Rattle.vd_execution.specs.Schedule.{after}
-use Rattle.vd_machine.specs.Machines.{items_of, cursors_of, IsMet, words_for}
+use Rattle.vd_machine.specs.Machines.{items_of, cursors_of, words_for}
 use Rattle.vd_machine.specs.Kept.{Kept, state_of, at_start}
 use Rattle.vd_execution.specs.Joint.{Joint, code_of}
 
@@ -75,16 +73,9 @@ pub record AreLoaded (machines : List Kept) (j : Joint) : Type 0 where
 abbrev pub gets : List HostKept → ℕ → HostKept → Option (List ℕ)
 gets hosts h k = answer (given (supply_of hosts) (world_of hosts) h (local_of k)) (state_of k.machine).cursors (need (state_of k.machine))
 
--- a machine that hears this packet goes on as it should, or can not go on
-abbrev pub Hears : List HostKept → ℕ → HostKept → Option Packet → Type 0
-Hears hosts h k None = gets hosts h k ≡ None
-Hears hosts h k (Some packet) =
-    IsMet k.machine.lists (cursors_of k.machine.taken) (packet_words packet) (need (state_of k.machine))
-    × (gets hosts h k ≡ Some (words_for k.machine.lists (cursors_of k.machine.taken) (packet_words packet) (need (state_of k.machine))))
-
--- one more packet may be counted where one is taken
-abbrev pub HasRoom : List ℕ → Need → Type 0
-HasRoom taken n = (p count : ℕ) → n ≡ Awaited p count → slice_index taken p + 1 < 2 ^ 64
+-- the words that it gets where it hears these
+abbrev pub given_words : HostKept → List ℕ → List ℕ
+given_words k heard = words_for k.machine.lists (cursors_of k.machine.taken) heard (need (state_of k.machine))
 
 -- some schedule leads from w to v
 abbrev pub Reaches : Supply → World → World → Type 0
@@ -116,7 +107,7 @@ stuck_state (want.Unequal x y) = state.Ready
 
 -- a host after its next step, on the words that it heard
 abbrev pub gone_on : HostKept → List ℕ → Local
-gone_on k heard = moved_on (local_of k) (words_for k.machine.lists (cursors_of k.machine.taken) heard (need (state_of k.machine)))
+gone_on k heard = moved_on (local_of k) (given_words k heard)
 
 -- a host whose machine went on, and nobody saw it
 abbrev pub gone_unseen : HostKept → Kept → HostKept

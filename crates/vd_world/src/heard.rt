@@ -1,28 +1,23 @@
 //! What a host hears at its next step.
 
-ghost use Rattle.std.specs.Prelude.{◌≡◌, ◌≤◌, length, Some, IfSome, slice_get, ◌+◌, ◌^◌, ◌<◌};
-ghost use Rattle.vd_base.specs.Limits.{most_packet_words};
-ghost use Rattle.vd_base.specs.Packets.{packet_words};
-ghost use Rattle.vd_execution.specs.Step.{need};
-ghost use Rattle.vd_machine.specs.Kept.{state_of};
+ghost use Rattle.std.specs.Prelude.{◌≡◌, Some, IfSome, slice_get, ◌+◌, ◌^◌, ◌<◌};
+ghost use Rattle.vd_world.specs.Hears.{Hears, CanTake};
 ghost use Rattle.vd_world.specs.Links.{IsPlace};
-ghost use Rattle.vd_world.specs.Hosts.{world_of, Hears, HasRoom};
+ghost use Rattle.vd_world.specs.Hosts.{world_of};
 
 use crate::host::Host;
-use vd_base::Packet;
+use vd_base::HostId;
 use vd_machine::Want;
 
-fn packet_of(words: &[u32]) -> Packet
-    requires { length words.now ≤ most_packet_words }
-    ensures words { packet_words result ≡ words.now }
-    ensures count { result.count ≤ most_packet_words }
-{
-    let mut all = [0; 16];
-    all[..words.len()].copy_from_slice(words);
-    Packet {
-        count: words.len() as u8,
-        words: all,
-    }
+/// How a host goes on at its next step.
+#[derive(Clone, Copy)]
+pub enum Turn<'a> {
+    /// By itself.
+    Alone,
+    /// With a packet of these words, from a peer.
+    Take(HostId, &'a [u32]),
+    /// It cannot step.
+    Stuck,
 }
 
 /// A packet that one host sent to another, by its place among those.
@@ -36,34 +31,30 @@ fn sent<'a>(hosts: &'a [Host], from: usize, to: usize, place: usize) -> Option<&
     hosts[from].packet_to(to, place)
 }
 
-/// What host h, which this is, hears at its next step, or nothing where it cannot step.
-pub fn heard(hosts: &[Host], h: usize, host: &Host) -> Option<Packet>
+/// How host h, which this is, goes on at its next step, by what it hears.
+pub fn heard<'a>(hosts: &'a [Host], h: usize, host: &Host) -> Turn<'a>
     requires { slice_get hosts.now h ≡ Some host.now }
     ensures hears { Hears hosts.now h host.now result }
-    ensures room { IfSome result (λ _. HasRoom host.now.taken (need (state_of host.now.machine))) }
-    ensures few { IfSome result (λ p. p.count ≤ most_packet_words) }
+    ensures takes { CanTake host.now result }
 {
     match host.want() {
-        Want::Nothing => Some(Packet {
-            count: 0,
-            words: [0; 16],
-        }),
+        Want::Nothing => Turn::Alone,
         Want::Words(peer, count) => {
             let from = peer.0 as usize;
             match sent(hosts, from, h, host.taken_from(from)) {
-                None => None,
+                None => Turn::Stuck,
                 Some(words) => {
                     if words.len() == count as usize {
-                        Some(packet_of(words))
+                        Turn::Take(peer, words)
                     } else {
-                        None
+                        Turn::Stuck
                     }
                 }
             }
         }
-        Want::Ended => None,
-        Want::ShortInput(_, _) => None,
-        Want::ShortDeal(_, _, _) => None,
-        Want::Unequal(_, _) => None,
+        Want::Ended => Turn::Stuck,
+        Want::ShortInput(_, _) => Turn::Stuck,
+        Want::ShortDeal(_, _, _) => Turn::Stuck,
+        Want::Unequal(_, _) => Turn::Stuck,
     }
 }

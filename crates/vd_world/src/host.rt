@@ -1,19 +1,20 @@
 //! One host of a world.
 
-ghost use Rattle.std.specs.Prelude.{◌≡◌, ◌<◌, length, replicate, [], OnOk, OnErr, IfOk, IfSome, slice_get, slice_index, ◌+◌, ◌^◌};
-ghost use Rattle.vd_execution.specs.Step.{State, need, deed};
-ghost use Rattle.vd_execution.specs.World.{done, moved_on, words_of};
-ghost use Rattle.vd_machine.specs.Machines.{cursors_of, IsMet, words_for};
-ghost use Rattle.vd_machine.specs.Kept.{state_of, CanHear};
+ghost use Rattle.std.specs.Prelude.{◌≡◌, ℕ, List, ◌<◌, length, replicate, [], OnOk, OnErr, IfOk, IfSome, slice_get, slice_index, ◌+◌, ◌^◌};
+ghost use Rattle.vd_execution.specs.Step.{State, deed};
+ghost use Rattle.vd_execution.specs.World.{done, words_of};
+ghost use Rattle.vd_machine.specs.Kept.{state_of};
 ghost use Rattle.vd_machine.specs.Wants.{wanted, IsFromHost};
 ghost use Rattle.vd_machine.specs.Quietly.{RanOn};
+ghost use Rattle.vd_world.specs.Hears.{IsTaken};
 ghost use Rattle.vd_world.specs.Links.{IsPlace};
-ghost use Rattle.vd_world.specs.Hosts.{local, local_of, gone_on, gone_unseen, noted, host_at_start, HasRoom};
+ghost use Rattle.vd_world.specs.Hosts.{local, local_of, gone_on, gone_unseen, noted, host_at_start};
 
 use crate::link::Link;
 use std::alloc::{AllocError, Global};
 use std::marker::Model;
-use vd_machine::{Did, Machine, Want};
+use vd_base::HostId;
+use vd_machine::{Machine, Outgoing, Want};
 
 /// A host: its machine, what it printed, what it sent to each host, and how many packets it took from each.
 #[derive(Drop)]
@@ -53,34 +54,22 @@ fn none_taken(alloc: Global, hosts: usize) -> Result<Vec<usize>, AllocError>
     vec![in alloc; 0usize; hosts]
 }
 
-/// Keeps what the next step of a machine will show. Out of memory changes nothing.
-fn note(
-    machine: &Machine,
-    printed: &mut Vec<u32>,
-    links: &mut Vec<Link>,
-    taken: &mut Vec<usize>,
-) -> Result<(), AllocError>
+/// Keeps what the next step of a machine will show, which waits for nothing. Out of memory changes nothing.
+fn note(machine: &Machine, printed: &mut Vec<u32>, links: &mut Vec<Link>) -> Result<(), AllocError>
+    requires waits { Want.Nothing ≡ wanted machine.now }
     requires links { length links.old.items ≡ machine.now.lists.deal.hosts }
-    requires taken { length taken.old.items ≡ machine.now.lists.deal.hosts }
-    requires room { HasRoom taken.old.items (need (state_of machine.now)) }
-    ensures ok { (m : State) → OnOk result (local m printed.new.items links.new.items taken.new.items
-        ≡ noted machine.now printed.old.items links.old.items taken.old.items m) }
+    ensures ok { (m : State) (taken : List ℕ) → OnOk result (local m printed.new.items links.new.items taken
+        ≡ noted machine.now printed.old.items links.old.items taken m) }
     ensures printed { OnErr result (printed.new.items ≡ printed.old.items) }
     ensures links { OnErr result (links.new.items ≡ links.old.items) }
-    ensures taken { OnErr result (taken.new.items ≡ taken.old.items) }
     ensures links_len { length links.new.items ≡ length links.old.items }
-    ensures taken_len { length taken.new.items ≡ length taken.old.items }
 {
-    match machine.deed() {
-        Did::Print(word) => printed.push(word)?,
-        Did::Say(peer, packet) => {
-            links[peer.0 as usize].send(&packet.words[..packet.count as usize])?
+    match machine.outgoing() {
+        Outgoing::Quiet => {}
+        Outgoing::Say(peer, from) => {
+            links[peer.0 as usize].send_registers(machine.registers(), from)?
         }
-        Did::Quiet => {
-            if let Want::Words(peer, _) = machine.want() {
-                taken[peer.0 as usize] += 1;
-            }
-        }
+        Outgoing::Print(word) => printed.push(word)?,
     }
     Ok(())
 }
@@ -156,21 +145,26 @@ impl Host {
         self.machine.run()
     }
 
-    /// One step, on the words that the next instruction waits for. Out of memory changes nothing.
-    pub fn go(&mut self, heard: &[u32]) -> Result<(), AllocError>
-        requires met { CanHear self.old.machine heard.now }
-        requires room { HasRoom self.old.taken (need (state_of self.old.machine)) }
-        ensures ok { OnOk result (local_of self.new ≡ gone_on self.old heard.now) }
+    /// One step that waits for nothing. Out of memory changes nothing.
+    pub fn go(&mut self) -> Result<(), AllocError>
+        requires { Want.Nothing ≡ wanted self.old.machine }
+        ensures ok { OnOk result (local_of self.new ≡ gone_on self.old []) }
         ensures lists { self.new.machine.lists ≡ self.old.machine.lists }
         ensures err { OnErr result (self.new ≡ self.old) }
     {
-        note(
-            &self.machine,
-            &mut self.printed,
-            &mut self.links,
-            &mut self.taken,
-        )?;
-        self.machine.advance(heard);
+        note(&self.machine, &mut self.printed, &mut self.links)?;
+        self.machine.advance(&[]);
         Ok(())
+    }
+
+    /// The step that takes a packet of these words from a peer.
+    pub fn take(&mut self, peer: HostId, words: &[u32])
+        requires waits { Want.Words peer (length words.now) ≡ wanted self.old.machine }
+        requires taken { IsTaken self.old peer.0 words.now }
+        ensures state { local_of self.new ≡ gone_on self.old words.now }
+        ensures lists { self.new.machine.lists ≡ self.old.machine.lists }
+    {
+        self.taken[peer.0 as usize] += 1;
+        self.machine.advance(words);
     }
 }

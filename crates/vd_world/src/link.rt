@@ -1,11 +1,14 @@
 //! What one host sends to another.
 
-ghost use Rattle.std.specs.Prelude.{◌≡◌, ◌++◌, ◌∷◌, [], OnOk, OnErr, slice_get, IfSome, ◌+◌, ◌-◌, ◌^◌, ◌<◌, ◌≤◌, length, take, drop};
+ghost use Rattle.std.specs.Prelude.{◌≡◌, ◌++◌, ◌∷◌, [], All, OnOk, OnErr, slice_get, IfSome, ◌+◌, ◌-◌, ◌^◌, ◌<◌, ◌≤◌, length, take, drop, vec_capacity};
+ghost use Rattle.vd_execution.specs.Step.{words_in};
 ghost use Rattle.vd_execution.specs.World.{words_of};
+ghost use Rattle.vd_machine.specs.Machines.{held};
 ghost use Rattle.vd_world.specs.Links.{IsPlace, begin};
 
 use std::alloc::{AllocError, Global};
 use std::marker::Model;
+use vd_execution::Reg;
 
 /// All packets that were ever sent from one host to another, in order. The words of all of them stand in one list.
 #[derive(Drop)]
@@ -47,6 +50,17 @@ fn between(words: &[u32], start: usize, end: usize) -> &[u32]
     &words[start..end]
 }
 
+/// The words of registers, at the end of words that have room for them.
+fn push_each(words: &mut Vec<u32>, registers: &[u32], from: &[Reg])
+    requires within { All (λ r. r.0 < length registers.now) from.now }
+    requires room { length words.old.items + length from.now ≤ vec_capacity words.old }
+    ensures { words.new.items ≡ words.old.items ++ words_in (held registers.now) from.now }
+{
+    for register in from {
+        words.push_reserved(registers[register.0 as usize]);
+    }
+}
+
 impl Link {
     /// Nothing was sent.
     pub fn new(alloc: Global) -> Link
@@ -58,21 +72,18 @@ impl Link {
         }
     }
 
-    /// One more packet, at the end. Out of memory changes nothing.
-    pub fn send(&mut self, packet: &[u32]) -> Result<(), AllocError>
-        ensures ok { OnOk result (self.new ≡ self.old ++ packet.now ∷ []) }
+    /// One more packet, of the words of registers, at the end. Out of memory changes nothing.
+    pub fn send_registers(&mut self, registers: &[u32], from: &[Reg]) -> Result<(), AllocError>
+        requires { All (λ r. r.0 < length registers.now) from.now }
+        ensures ok { OnOk result (self.new ≡ self.old ++ words_in (held registers.now) from.now ∷ []) }
         ensures err { OnErr result (self.new ≡ self.old) }
     {
-        let old = self.words.len();
-        self.words.extend_from_slice(packet)?;
+        self.words.reserve(from.len())?;
+        self.ends.reserve(1)?;
+        push_each(&mut self.words, registers, from);
         let end = self.words.len();
-        match self.ends.push(end) {
-            Ok(()) => Ok(()),
-            Err(fault) => {
-                self.words.truncate(old);
-                Err(AllocError::from(fault))
-            }
-        }
+        self.ends.push_reserved(end);
+        Ok(())
     }
 
     /// The packet at a place, if so many were sent.

@@ -1,16 +1,17 @@
 //! All hosts.
 
-ghost use Rattle.std.specs.Prelude.{◌≡◌, ◌<◌, IfOk, OnOk, OnErr, length, true, false, if◌then◌else◌};
+ghost use Rattle.std.specs.Prelude.{◌≡◌, ◌<◌, ◌≤◌, IfOk, OnOk, OnErr, length, vec_capacity, true, false, if◌then◌else◌};
 ghost use Rattle.vd_execution.specs.States.{host_state};
 ghost use Rattle.vd_execution.specs.World.{words_of, IsStuck};
 ghost use Rattle.vd_world.specs.Hosts.{world_of, supply_of, turned, can_step, steps_left, stuck_state, Reaches};
 ghost use Rattle.vd_world.specs.Hosts.{AreMachines, hosts_at_start};
 ghost use Rattle.vd_schedules.specs.Claims.{then_all};
 
-use crate::heard::heard;
+use crate::heard::{Turn, heard};
 use crate::host::Host;
 use std::alloc::{AllocError, Global};
 use std::marker::Model;
+use vd_base::limits::PACKET_WORDS;
 use vd_base::{HostId, HostState};
 use vd_machine::{Machine, Want};
 
@@ -44,21 +45,34 @@ fn state_of_want(want: Want) -> HostState
     }
 }
 
+/// Puts words into a list that has room for them, in the place of what it holds.
+fn refill(list: &mut Vec<u32>, words: &[u32])
+    requires { length words.now ≤ vec_capacity list.old }
+    ensures items { list.new.items ≡ words.now }
+    ensures capacity { vec_capacity list.old ≤ vec_capacity list.new }
+{
+    list.clear();
+    list.extend_from_slice(words).unwrap();
+}
+
 /// All hosts, which step one at a time.
 #[derive(Drop)]
 pub struct World {
     hosts: Vec<Host>,
+    /// Room for the words of a packet that is being taken.
+    words: Vec<u32>,
 }
 
 impl Model for World {
-    ghost use Rattle.std.specs.Prelude.{List, length};
+    ghost use Rattle.std.specs.Prelude.{List, length, vec_capacity, ◌≤◌};
+    ghost use Rattle.vd_base.specs.Limits.{most_packet_words};
     ghost use Rattle.vd_world.specs.Hosts.{HostKept, AreOf};
 
     ghost Value = { List HostKept };
 
     ghost view = { λ w. w.hosts.items };
 
-    ghost invariant = { λ w. AreOf (length w.hosts.items) w.hosts.items };
+    ghost invariant = { λ w. AreOf (length w.hosts.items) w.hosts.items × (most_packet_words ≤ vec_capacity w.words) };
 }
 
 impl World {
@@ -68,7 +82,8 @@ impl World {
         ensures { IfOk result (λ w. w ≡ hosts_at_start machines.items) }
     {
         let hosts = started(alloc, machines)?;
-        Ok(World { hosts })
+        let words = Vec::with_capacity(alloc, PACKET_WORDS as usize)?;
+        Ok(World { hosts, words })
     }
 
     /// One step of a host and true, or false and no change where it cannot step. Out of memory changes nothing.
@@ -93,9 +108,14 @@ impl World {
             return Ok(false);
         }
         match heard(&self.hosts, at, &self.hosts[at]) {
-            None => Ok(false),
-            Some(packet) => {
-                self.hosts[at].go(&packet.words[..packet.count as usize])?;
+            Turn::Stuck => Ok(false),
+            Turn::Alone => {
+                self.hosts[at].go()?;
+                Ok(true)
+            }
+            Turn::Take(peer, words) => {
+                refill(&mut self.words, words);
+                self.hosts[at].take(peer, &self.words);
                 Ok(true)
             }
         }
@@ -177,8 +197,9 @@ impl World {
         }
         let host = &self.hosts[at];
         match heard(&self.hosts, at, host) {
-            Some(_) => HostState::Ready,
-            None => state_of_want(host.want()),
+            Turn::Alone => HostState::Ready,
+            Turn::Take(_, _) => HostState::Ready,
+            Turn::Stuck => state_of_want(host.want()),
         }
     }
 
