@@ -1,14 +1,19 @@
 -- A path after a choice more, and with its last choice given back.
 use Rattle.std.proofs.Common.{◌≡◌, ℕ, ◌+◌, ◌-◌, ◌<◌, ◌≤◌, Bool, true, false, cond, Option, List, [], ◌∷◌, ◌++◌, length, take, set, get_or, get_or-set_same, sym, ap, ap₂, ◌∙◌, subst, arith, inl, inr, length-set}
 use Rattle.std.specs.Prelude.{IsTrue, nat_lt}
-use Rattle.std.proofs.lemmas.Bool.{cases_eq, true≢false, ltb-false}
-use Rattle.std.proofs.lemmas.List.{take-set-le, take_more, take-take}
+use Rattle.std.proofs.lemmas.Bool.{and_parts, cases_eq, true≢false, ltb-false}
+use Rattle.std.proofs.lemmas.List.{length-take-le, take-set-le, take_more, take-take}
 use Rattle.std.proofs.lemmas.List.Elements.{All-append, All-cons, All-nil, All-take}
 use Rattle.vd_space.specs.declared.problem.Problem.{Problem}
 use Rattle.vd_space.specs.Validity.{protocols, is_valid}
+use Rattle.vd_space.specs.Growth.{extends, with_choice}
+use Rattle.vd_space.proofs.Growth.{valid_grows}
 use Rattle.vd_path.specs.Tables.{AreListed}
-use Rattle.vd_linked_path.specs.States.{states_of}
+use Rattle.vd_linked_path.specs.declared.made.SwitchTable.{SwitchTable}
+use Rattle.vd_linked_path.specs.Reach.{AreDecidedBeside}
+use Rattle.vd_linked_path.specs.States.{AreSwitchTables, states_of}
 use Rattle.vd_linked_path.specs.Tables.{IsLinkedPath}
+use Rattle.vd_linked_path.proofs.Turning.{beside_after, beside_before}
 
 -- a choice that is written down behind those that are made
 pub with_more : (room : List ℕ) (made choice : ℕ) → made < length room → take (made + 1) (set room made choice) ≡ take made room ++ choice ∷ []
@@ -93,3 +98,28 @@ module _ (problem : Problem) where
       let high = is.within in
       let same : told ≡ made = omega (arith, low, high) in
       is.states ∙ ap (λ n. states_of problem (take n room)) same
+
+  -- what stands there is right but for the slot of a choice that makes a valid prefix
+  pub entering : (tables : List SwitchTable) (room new : List ℕ) (states : List (Option ℕ)) (made told choice : ℕ) → AreSwitchTables problem tables → IsLinkedPath problem room states made told → made < length problem.slots
+      → new ≡ set room made choice → IsTrue (is_valid problem (take (made + 1) new)) → AreDecidedBeside problem tables (take (made + 1) new) made states
+  entering tables room new states made told choice are is low written valid =
+      let size = is.room in
+      let more : take (made + 1) new ≡ with_choice (take made room) choice = ap (take (made + 1)) written ∙ with_more room made choice (omega (arith, size, low)) in
+      let before : IsTrue (is_valid problem (take made room)) =
+      (and_parts (is_valid problem (take made room)) (extends problem (take made room) choice) (sym (valid_grows problem (take made room) choice) ∙ sym (ap (is_valid problem) more) ∙ valid)).0 in
+      let beside = beside_after problem (take made room) choice tables are states (all_told room states made told is before) in
+      subst (λ n. AreDecidedBeside problem tables (take (made + 1) new) n states) (length-take-le made room (omega (arith, size, low)))
+      (subst (λ list. AreDecidedBeside problem tables list (length (take made room)) states) (sym more) beside)
+
+  -- and but for that of a choice that is given back
+  pub leaving : (tables : List SwitchTable) (room : List ℕ) (states : List (Option ℕ)) (made told : ℕ) → AreSwitchTables problem tables → IsLinkedPath problem room states made told → 0 < made → made - 1 < told
+      → AreDecidedBeside problem tables (take (made - 1) room) (made - 1) states
+  leaving tables room states made told are is some more =
+      let size = is.room in
+      let deep = is.depth in
+      let within = is.within in
+      let all : told ≡ made = omega (arith, within, more) in
+      let last = get_or room (made - 1) 0 in
+      let whole : take told room ≡ with_choice (take (made - 1) room) last = ap (λ n. take n room) all ∙ last_of room made some (omega (arith, size, deep)) in
+      let beside = beside_before problem (take (made - 1) room) last tables are states (is.states ∙ ap (states_of problem) whole) in
+      subst (λ n. AreDecidedBeside problem tables (take (made - 1) room) n states) (length-take-le (made - 1) room (omega (arith, size, deep))) beside

@@ -104,3 +104,10 @@ AreSmallPoints tables = (number : ℕ) → IfSome (slice_get tables number) IsSm
 
 abbrev pub AreSmallLinks : List LinkTable → Type 0
 AreSmallLinks tables = (number : ℕ) → IfSome (slice_get tables number) IsSmallLink
+
+-- and they are not more than a machine can have
+pub record AreSmallTables (tables : LinkedTables) : Type 0 where
+  pub points : AreSmallPoints tables.points
+  pub links : AreSmallLinks tables.links
+  pub few_points : length tables.points < 18446744073709551616
+  pub few_links : length tables.links < 18446744073709551616

@@ -1,9 +1,11 @@
-//! The bound by links along a path from the empty prefix down. Each bound is summed up anew, by the tables of all points and
-//! links, so it costs about as much as there are links.
+//! The bound by links along a path from the empty prefix down. A further choice costs about as much as there are links of its slot
+//! and of the switches that it turns.
 #![tactic(auto)]
 
+mod deciding;
 mod made;
 mod path;
+mod reach;
 mod states;
 mod sums;
 mod units;

@@ -3,14 +3,18 @@
 ghost use Rattle.std.specs.Prelude.{◌≡◌, ◌<◌, [], length, take, IfOk};
 ghost use Rattle.std.proofs.Props.{props};
 ghost use Rattle.vd_linked.specs.Linked.{linked_tree};
+ghost use Rattle.vd_linked_path.specs.Reach.{IsReach};
+ghost use Rattle.vd_linked_path.specs.States.{AreSmallTables, as_states, parts_by};
 ghost use Rattle.vd_linked_path.specs.Tables.{AreLinkedTables, IsLinkedPath};
 ghost use Rattle.vd_path.specs.Tables.{AreTables};
 ghost use Rattle.vd_space.specs.Labelled.{IsLabelled};
 ghost use Rattle.vd_space.specs.Spaces.{IsProblem, tree_of};
 ghost use Rattle.vd_space.specs.Validity.{protocols};
 
+use crate::deciding::{Known, decide_if};
 use crate::made::LinkedTables;
-use crate::states::{decide, decide_if, undecided};
+use crate::reach::Reach;
+use crate::states::{decide, undecided};
 use crate::sums::sum_of_parts;
 use crate::units::whole_units;
 use std::alloc::{AllocError, Global};
@@ -30,19 +34,22 @@ pub struct LinkedPath<'a> {
     path: Path<'a>,
     /// The choices, of which the first are made.
     room: Items<u32>,
-    /// What the first of them decide of each point.
-    states: Items<Option<u32>>,
+    /// What a choice may change.
+    reach: Reach,
+    /// What the first of them decide: all, where the prefix is valid.
+    known: Known,
     /// How many choices are made.
     depth: usize,
-    /// So many of them: all, where the prefix is valid.
-    told: usize,
     ghost holds: { IsProblem problem.now } by { Prim.hlevel props },
     ghost tabled: { AreTables problem.now tables.now } by { Prim.hlevel props },
     ghost linkable: { AreLinkedTables problem.now linked.now } by { Prim.hlevel props },
     ghost plain: { tables.now.shifts ≡ [] } by { Prim.hlevel props },
     ghost same_tree: { tree_of path.problem.now path.tables.now.shifts ≡ tree_of problem.now [] } by { Prim.hlevel props },
     ghost same_prefix: { take path.depth path.room ≡ take depth room } by { Prim.hlevel props },
-    ghost kept: { IsLinkedPath problem.now room states depth told } by { Prim.hlevel props },
+    ghost small: { AreSmallTables linked.now } by { Prim.hlevel props },
+    ghost reached: { IsReach problem.now linked.now reach } by { Prim.hlevel props },
+    ghost summed: { known.parts ≡ parts_by linked.now (as_states known.states) } by { Prim.hlevel props },
+    ghost kept: { IsLinkedPath problem.now room known.states depth known.told } by { Prim.hlevel props },
 }
 
 impl<'a> Prefixes for LinkedPath<'a> {
@@ -67,8 +74,7 @@ impl<'a> Prefixes for LinkedPath<'a> {
     }
 
     fn bound(&self) -> i64 {
-        let parts = sum_of_parts(self.linked, self.states.as_slice());
-        self.path.bound().max(whole_units(parts))
+        self.path.bound().max(whole_units(self.known.parts))
     }
 
     fn list(&self, alloc: Global) -> Result<Items<u32>, AllocError> {
@@ -79,28 +85,30 @@ impl<'a> Prefixes for LinkedPath<'a> {
         self.path.enter(choice);
         self.room.set(self.depth, choice);
         self.depth += 1;
-        self.told = decide_if(
+        decide_if(
             self.path.is_valid(),
-            &mut self.states,
+            &mut self.known,
             self.problem,
             self.tables.list.as_slice(),
-            self.linked.switches.as_slice(),
+            self.linked,
+            &self.reach,
             &self.room.as_slice()[..self.depth],
-            self.told,
+            self.depth - 1,
         );
     }
 
     fn leave(&mut self) {
         self.path.leave();
         self.depth -= 1;
-        self.told = decide_if(
-            self.told > self.depth,
-            &mut self.states,
+        decide_if(
+            self.known.told > self.depth,
+            &mut self.known,
             self.problem,
             self.tables.list.as_slice(),
-            self.linked.switches.as_slice(),
+            self.linked,
+            &self.reach,
             &self.room.as_slice()[..self.depth],
-            self.told,
+            self.depth,
         );
     }
 }
@@ -125,15 +133,20 @@ impl<'a> LinkedPath<'a> {
         let mut states = undecided(alloc, linked.points.as_slice().len())?;
         let list = tables.list.as_slice();
         decide(&mut states, problem, list, linked.switches.as_slice(), &[]);
+        let parts = sum_of_parts(linked, states.as_slice());
         Ok(LinkedPath {
             problem,
             tables,
             linked,
             path: Path::new(alloc, problem, tables)?,
             room: no_choices(alloc, problem.slots.as_slice().len())?,
-            states,
+            reach: Reach::of(alloc, problem, linked)?,
+            known: Known {
+                states,
+                parts,
+                told: 0,
+            },
             depth: 0,
-            told: 0,
         })
     }
 }

@@ -87,7 +87,7 @@ fn switch_state(
 }
 
 /// What the prefix decides of a point.
-fn point_state(
+pub(crate) fn point_state(
     problem: &Problem,
     list: &[Proto],
     tables: &[SwitchTable],
@@ -122,31 +122,6 @@ pub fn decide(
     let count = states.as_slice().len();
     for point in 0..count {
         states.set(point, point_state(problem, list, tables, prefix, point));
-    }
-}
-
-/// Writes down what the prefix decides of each point, where that is wanted. Answers how many choices decide what stands there,
-/// where so many did before.
-pub(crate) fn decide_if(
-    wanted: bool,
-    states: &mut Items<Option<u32>>,
-    problem: &Problem,
-    list: &[Proto],
-    tables: &[SwitchTable],
-    prefix: &[u32],
-    told: usize,
-) -> usize
-    requires list { list.now ≡ protocols problem.now }
-    requires switches { AreSwitchTables problem.now tables.now }
-    requires room { length states.old ≡ count_of_points problem.now }
-    ensures states { states.new ≡ (if wanted then states_of problem.now prefix.now else states.old) }
-    ensures told { result ≡ (if wanted then length prefix.now else told) }
-{
-    if wanted {
-        decide(states, problem, list, tables, prefix);
-        prefix.len()
-    } else {
-        told
     }
 }
 

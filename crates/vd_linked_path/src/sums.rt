@@ -1,9 +1,9 @@
 //! What points and links cost at least by what is decided, and the sum of all.
 
-ghost use Rattle.std.specs.Prelude.{◌≡◌, ◌*◌, None, [], length, slice_index_or, unwrap_or};
+ghost use Rattle.std.specs.Prelude.{◌≡◌, ◌+◌, ◌*◌, ◌<◌, ◌+ℤ◌, None, [], length, slice_index_or, unwrap_or};
 ghost use Rattle.std.specs.List.{range_with_len};
 ghost use Rattle.vd_linked.specs.Linked.{no_parts_left};
-ghost use Rattle.vd_linked_path.specs.States.{AreSmallLinks, AreSmallPoints, IsSmallLink, IsSmallPoint, as_states, link_at, link_part, parts_by, point_at, point_part};
+ghost use Rattle.vd_linked_path.specs.States.{AreSmallLinks, AreSmallPoints, AreSmallTables, IsSmallLink, IsSmallPoint, as_states, link_at, link_part, parts_by, point_at, point_part};
 ghost use Rattle.vd_path.specs.Transfers.{IsWithin};
 ghost use Rattle.vd_space.specs.Costs.{total};
 
@@ -15,7 +15,7 @@ use vd_path::amount_at;
 const NOTHING_LEFT: i64 = 256_000_000_000;
 
 /// What is decided of a point.
-fn state_at(states: &[Option<u32>], point: usize) -> Option<u32>
+pub(crate) fn state_at(states: &[Option<u32>], point: usize) -> Option<u32>
     ensures { result ≡ slice_index_or states.now point None }
 {
     match states.get(point) {
@@ -90,6 +90,7 @@ fn sum_of_points(tables: &[PointTable], states: &[Option<u32>]) -> i128
     requires { AreSmallPoints tables.now }
     ensures sum { result ≡ total (point_part tables.now (as_states states.now)) (range_with_len 0 (length tables.now)) }
     ensures within { IsWithin (1125899906842624 * length tables.now) result }
+    ensures few { length tables.now < 18446744073709551616 }
 {
     let mut sum = 0;
     for point in 0..tables.len() {
@@ -119,6 +120,7 @@ fn sum_of_links(tables: &[LinkTable], states: &[Option<u32>]) -> i128
     requires { AreSmallLinks tables.now }
     ensures sum { result ≡ total (link_part tables.now (as_states states.now)) (range_with_len 0 (length tables.now)) }
     ensures within { IsWithin (1125899906842624 * length tables.now) result }
+    ensures few { length tables.now < 18446744073709551616 }
 {
     let mut sum = 0;
     for number in 0..tables.len() {
@@ -131,7 +133,38 @@ fn sum_of_links(tables: &[LinkTable], states: &[Option<u32>]) -> i128
 pub(crate) fn sum_of_parts(tables: &LinkedTables, states: &[Option<u32>]) -> i128
     requires points { AreSmallPoints tables.now.points }
     requires links { AreSmallLinks tables.now.links }
-    ensures { result ≡ parts_by tables.now (as_states states.now) }
+    ensures sum { result ≡ parts_by tables.now (as_states states.now) }
+    ensures small { AreSmallTables tables.now }
 {
     sum_of_points(tables.points.as_slice(), states) + sum_of_links(tables.links.as_slice(), states)
+}
+
+/// What the links with these numbers come to.
+fn sum_of_some(tables: &[LinkTable], states: &[Option<u32>], numbers: &[usize]) -> i128
+    requires { AreSmallLinks tables.now }
+    ensures sum { result ≡ total (link_part tables.now (as_states states.now)) numbers.now }
+    ensures within { IsWithin (1125899906842624 * length numbers.now) result }
+{
+    let mut sum = 0;
+    for number in numbers {
+        sum += i128::from(part_of_link(tables, states, *number));
+    }
+    sum
+}
+
+/// What a point and the links with these numbers come to.
+pub(crate) fn sum_of_parts_at(
+    tables: &LinkedTables,
+    states: &[Option<u32>],
+    point: usize,
+    numbers: &[usize],
+) -> i128
+    requires points { AreSmallPoints tables.now.points }
+    requires links { AreSmallLinks tables.now.links }
+    ensures sum { result ≡ point_part tables.now.points (as_states states.now) point
+        +ℤ total (link_part tables.now.links (as_states states.now)) numbers.now }
+    ensures within { IsWithin (1125899906842624 * (length numbers.now + 1)) result }
+{
+    i128::from(part_of_point(tables.points.as_slice(), states, point))
+        + sum_of_some(tables.links.as_slice(), states, numbers)
 }

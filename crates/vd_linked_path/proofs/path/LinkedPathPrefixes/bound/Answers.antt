@@ -1,12 +1,13 @@
-use Rattle.std.proofs.Common.{◌≡◌, [], take, sym, ap, ap₂, ◌∙◌, subst, to_z, of_z, w64}
+use Rattle.std.proofs.Common.{◌≡◌, [], take, sym, ap, ap₂, ◌∙◌, subst, to_z, of_z, w64, arith}
 use Rattle.std.specs.Prelude.{IsTrue}
 use Rattle.std.specs.Int.{int_max, w128}
-use Rattle.std.proofs.lemmas.Int.{to_z-of_z}
+use Rattle.std.proofs.lemmas.Int.{ints, to_z-of_z}
 use Rattle.vd_prefixes.specs.Trees.{Tree}
 use Rattle.vd_space.specs.Validity.{is_valid}
 use Rattle.vd_space.specs.Bounds.{high}
 use Rattle.vd_linked.specs.Linked.{linked, units}
-use Rattle.vd_linked_path.specs.States.{as_states, parts_by}
+use Rattle.vd_linked_path.specs.States.{as_states}
+use Rattle.vd_linked_path.proofs.Moving.{parts_small}
 use Rattle.vd_linked_path.proofs.Steps.{all_told}
 use Rattle.vd_linked_path.proofs.Summing.{parts_are}
 use Rattle.vd_linked_path.proofs.path.LinkedPathPrefixes.bound.Goals as goal
@@ -23,9 +24,13 @@ returns c =
     let prefix = take p.depth p.room in
     let plain : to_z w64 (of_z w64 c.bound.result) ≡ high problem [] prefix =
     to_z-of_z w64 c.bound.result (record { sfits = c.bound.type_inv }) ∙ c.bound.ensures ∙ ap (λ (tree : Tree). tree.bound (take p.path.depth p.path.room)) p.same_tree ∙ ap (high problem []) p.same_prefix in
-    let parts : to_z w128 (of_z w128 c.sum_of_parts-parts.result) ≡ linked problem p.linked.now.shifts prefix =
-    to_z-of_z w128 c.sum_of_parts-parts.result (record { sfits = c.sum_of_parts-parts.type_inv }) ∙ c.sum_of_parts-parts.ensures
-    ∙ ap (λ states. parts_by p.linked.now (as_states states)) c.as_slice.ensures ∙ parts_are problem p.linked.now prefix p.states p.linkable p.kept.listed (all_told problem p.room p.states p.depth p.told p.kept c.requires) in
+    let small = parts_small p.linked.now (as_states p.known.states) p.small in
+    let small_low = small.low in
+    let small_high = small.high in
+    let summed = p.summed in
+    let whole : p.known.parts ≡ linked problem p.linked.now.shifts prefix =
+    p.summed ∙ parts_are problem p.linked.now prefix p.known.states p.linkable p.kept.listed (all_told problem p.room p.known.states p.depth p.known.told p.kept c.requires) in
+    let parts : to_z w128 (of_z w128 p.known.parts) ≡ linked problem p.linked.now.shifts prefix = omega (arith, ints, whole, summed, small_low, small_high) in
     let by_links : to_z w64 (of_z w64 c.whole_units.result) ≡ units (linked problem p.linked.now.shifts prefix) =
     to_z-of_z w64 c.whole_units.result (record { sfits = c.whole_units.type_inv }) ∙ c.whole_units.ensures.units ∙ ap units parts in
     to_z-of_z w64 c.max.result (record { sfits = c.max.type_inv }) ∙ c.max.ensures.value ∙ ap₂ int_max plain by_links
