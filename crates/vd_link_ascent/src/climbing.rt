@@ -79,12 +79,10 @@ impl Climb {
 
     /// What the shifts come to by all settings, where those that are not left are lifted.
     pub fn lifted(&self, alloc: Global, links: &[LinkTable]) -> Result<Nets, AllocError> {
-        let mut nets = self.state.nets(alloc, &self.network)?.spread(
-            alloc,
-            self.network.firsts.as_slice(),
-            self.settings.as_slice(),
-            self.left.most,
-        )?;
+        let settings = self.settings.as_slice();
+        let mut nets = self
+            .state
+            .nets(alloc, &self.network, settings, self.left.most)?;
         lift(alloc, links, &self.network, &self.left, &mut nets)?;
         Ok(nets)
     }

@@ -1,7 +1,7 @@
 //! What sweeps one way carry over the links.
 
 use crate::network::{End, Network};
-use crate::numbers::{FAR, number_at, zeros};
+use crate::numbers::{FAR, MOST_SMALL, nearest_small, number_at, zeros};
 use crate::shares::{Shares, share_of};
 use crate::tables::Tables;
 use std::alloc::{AllocError, Global};
@@ -11,19 +11,23 @@ use std::alloc::{AllocError, Global};
 struct Carried {
     /// What is put on the near point and taken from the link, by the settings of that point.
     held: Vec<i64>,
+    /// Room for the same in 32 bits.
+    small_held: Vec<i32>,
     /// What the link then costs at least, by the settings of the far point.
     told: Vec<i64>,
+    /// Room for the same in 32 bits.
+    small_told: Vec<i32>,
 }
 
 impl Carried {
-    /// Nothing is held, where the far point has these rows of prices by the settings of the near one.
-    fn nothing(alloc: Global, count: usize, rows: &[Vec<i64>]) -> Result<Carried, AllocError> {
-        let mut carried = Carried {
-            held: zeros(alloc, count)?,
-            told: zeros(alloc, rows.len())?,
-        };
-        carried.tell(rows);
-        Ok(carried)
+    /// Nothing is held by so many settings of the near point, and nothing told yet to so many of the far one.
+    fn nothing(alloc: Global, near: usize, far: usize) -> Result<Carried, AllocError> {
+        Ok(Carried {
+            held: zeros(alloc, near)?,
+            small_held: vec![in alloc; 0; near]?,
+            told: zeros(alloc, far)?,
+            small_told: vec![in alloc; 0; far]?,
+        })
     }
 
     /// How many prices the link has.
@@ -34,36 +38,81 @@ impl Carried {
     /// Holds what the link costs at least by the settings of the near point, less the share of a turn. Answers whether that is
     /// another amount than before at some setting.
     fn hold(&mut self, costs: &[i64], shares: &Shares, turn: i64) -> bool {
-        let mut has_changed = false;
+        let mut changes = 0;
         let parts = shares.parts.iter().zip(shares.more.as_slice());
         for ((held, cost), (part, more)) in self.held.iter_mut().zip(costs).zip(parts) {
             let rest = cost.wrapping_sub(share_of(*part, *more, turn));
-            has_changed = has_changed || *held != rest;
+            changes |= *held ^ rest;
             *held = rest;
         }
-        has_changed
+        changes != 0
     }
 
     /// Holds less, by the share of a turn. Answers whether that is less at some setting.
     fn lower(&mut self, shares: &Shares, turn: i64) -> bool {
-        let mut has_changed = false;
+        let mut changes = 0;
         let parts = shares.parts.iter().zip(shares.more.as_slice());
         for (held, (part, more)) in self.held.iter_mut().zip(parts) {
             let rest = held.wrapping_sub(share_of(*part, *more, turn));
-            has_changed = has_changed || *held != rest;
+            changes |= *held ^ rest;
             *held = rest;
         }
-        has_changed
+        changes != 0
     }
 
-    /// Computes what is told of what is held. Answers whether that is another amount than before at some setting.
-    fn tell(&mut self, rows: &[Vec<i64>]) -> bool {
+    /// Computes what is told of what is held, where the far point is at this end of the link. Answers whether that is another
+    /// amount than before at some setting.
+    fn tell(&mut self, tables: &Tables, end: End) -> bool {
+        if self.shrink() && self.tell_small(tables, end) {
+            self.widen()
+        } else {
+            self.tell_whole(tables.rows(end))
+        }
+    }
+
+    /// The same by rows of prices.
+    fn tell_whole(&mut self, rows: &[Vec<i64>]) -> bool {
         let mut has_changed = false;
         for (setting, prices) in rows.iter().enumerate() {
             let told = least_after(prices.as_slice(), self.held.as_slice());
             has_changed = put(&mut self.told, setting, told) || has_changed;
         }
         has_changed
+    }
+
+    /// Computes in 32 bits what is told of what is held, by rows for the settings of the point that has fewer. Answers whether
+    /// that is all: the prices are small too, and each setting of the far point joins with one of the near one.
+    fn tell_small(&mut self, tables: &Tables, end: End) -> bool {
+        if self.small_held.len() < self.small_told.len() {
+            let rows = tables.small_rows(end.turned());
+            least_of_rows(&mut self.small_told, rows, self.small_held.as_slice());
+        } else {
+            let rows = tables.small_rows(end);
+            least_by_row(&mut self.small_told, rows, self.small_held.as_slice());
+        }
+        greatest(self.small_told.as_slice()) <= MOST_SMALL
+    }
+
+    /// Writes down in 32 bits what is held. Answers whether all of it is small.
+    fn shrink(&mut self) -> bool {
+        let mut rest = 0;
+        for (small, held) in self.small_held.iter_mut().zip(self.held.as_slice()) {
+            let nearest = nearest_small(*held);
+            rest |= *held ^ i64::from(nearest);
+            *small = nearest;
+        }
+        rest == 0
+    }
+
+    /// Tells what was computed in 32 bits. Answers whether that is another amount than before at some setting.
+    fn widen(&mut self) -> bool {
+        let mut changes = 0;
+        for (told, small) in self.told.iter_mut().zip(self.small_told.as_slice()) {
+            let amount = i64::from(*small);
+            changes |= *told ^ amount;
+            *told = amount;
+        }
+        changes != 0
     }
 }
 
@@ -84,6 +133,49 @@ fn least_after(prices: &[i64], held: &[i64]) -> i64 {
         least = least.min(price.wrapping_sub(*amount));
     }
     least
+}
+
+/// The least of small prices, less small amounts that are held.
+fn small_least_after(prices: &[i32], held: &[i32]) -> i32 {
+    let mut least = i32::MAX;
+    for (price, amount) in prices.iter().zip(held) {
+        least = least.min(price.wrapping_sub(*amount));
+    }
+    least
+}
+
+/// The same of each row; more than all of them where there are no rows.
+fn least_by_row(leasts: &mut Vec<i32>, rows: &[Vec<i32>], held: &[i32]) {
+    start(leasts);
+    for (least, prices) in leasts.iter_mut().zip(rows) {
+        *least = small_least_after(prices.as_slice(), held);
+    }
+}
+
+/// The same of each column, where an amount is held for each row.
+fn least_of_rows(leasts: &mut Vec<i32>, rows: &[Vec<i32>], held: &[i32]) {
+    start(leasts);
+    for (prices, amount) in rows.iter().zip(held) {
+        for (least, price) in leasts.iter_mut().zip(prices.as_slice()) {
+            *least = (*least).min(price.wrapping_sub(*amount));
+        }
+    }
+}
+
+/// Begins with numbers that are greater than all others.
+fn start(leasts: &mut Vec<i32>) {
+    for least in leasts.iter_mut() {
+        *least = i32::MAX;
+    }
+}
+
+/// The greatest of the numbers.
+fn greatest(numbers: &[i32]) -> i32 {
+    let mut greatest = i32::MIN;
+    for number in numbers {
+        greatest = greatest.max(*number);
+    }
+    greatest
 }
 
 /// What sweeps one way carry over all links.
@@ -115,8 +207,12 @@ impl Flow {
             } else {
                 first.turned()
             };
-            let count = tables.rows(near).len();
-            links.push(Carried::nothing(alloc, count, tables.rows(near.turned()))?)?;
+            let far = near.turned();
+            let near_count = tables.rows(near).len();
+            let far_count = tables.rows(far).len();
+            let mut carried = Carried::nothing(alloc, near_count, far_count)?;
+            carried.tell(tables, far);
+            links.push(carried)?;
         }
         let points = network.by_point.len();
         Ok(Flow {
@@ -186,7 +282,7 @@ impl Flow {
                 return false;
             }
             let prices = carried.prices();
-            let has_changed = carried.tell(tables.rows(end.turned()));
+            let has_changed = carried.tell(tables, end.turned());
             self.count(prices);
             return has_changed;
         }
@@ -201,7 +297,7 @@ impl Flow {
                 return false;
             }
             let prices = carried.prices();
-            let has_changed = carried.tell(tables.rows(end.turned()));
+            let has_changed = carried.tell(tables, end.turned());
             self.count(prices);
             return has_changed;
         }

@@ -19,5 +19,5 @@ pub use network::{End, Network, Side};
 pub use numbers::{FAR, number_at, row_at, settings_at};
 pub use order::Order;
 pub use sweeps::State;
-pub use tables::{Prices, Tables};
+pub use tables::Tables;
 pub use witness::Witness;

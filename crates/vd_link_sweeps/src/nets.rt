@@ -1,7 +1,7 @@
 //! What shifts come to, all together.
 
 use crate::network::{End, Side};
-use crate::numbers::{add_at, row_at, settings_at, zeros};
+use crate::numbers::{add_at, row_at, zeros};
 use std::alloc::{AllocError, Global};
 
 /// For each link, by setting, what is put on the point at either end and taken from the link.
@@ -42,34 +42,10 @@ impl Nets {
             Side::Second => add_at(&mut self.seconds, end.at, setting, amount),
         }
     }
-
-    /// The same amounts by the setting among so many, where each point was left these settings.
-    pub fn spread(
-        &self,
-        alloc: Global,
-        links: &[End],
-        settings: &[Vec<usize>],
-        count: usize,
-    ) -> Result<Nets, AllocError> {
-        let mut nets = Nets {
-            firsts: Vec::new(alloc),
-            seconds: Vec::new(alloc),
-        };
-        for first in links {
-            let second = first.turned();
-            let from = settings_at(settings, first.point);
-            let to = settings_at(settings, second.point);
-            nets.firsts
-                .push(spread_row(alloc, self.row(*first), from, count)?)?;
-            nets.seconds
-                .push(spread_row(alloc, self.row(second), to, count)?)?;
-        }
-        Ok(nets)
-    }
 }
 
 /// A row of so many, with the numbers at these places.
-fn spread_row(
+pub fn spread(
     alloc: Global,
     row: &[i64],
     places: &[usize],

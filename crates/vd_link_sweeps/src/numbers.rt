@@ -8,6 +8,20 @@ use std::alloc::{AllocError, Global};
 /// More than any sum of costs in parts: what it would cost to do what cannot be done.
 pub const FAR: i64 = 1125899906842624;
 
+/// Prices and amounts that are no greater are subtracted and compared in 32 bits: 1,048,576 units.
+pub const SMALL: i64 = 268_435_456;
+
+/// More than any small price less any small amount: what it would cost to do what cannot be done, in 32 bits.
+pub const SMALL_FAR: i32 = 1_073_741_824;
+
+/// No small price less a small amount is more.
+pub const MOST_SMALL: i32 = 536_870_912;
+
+/// The nearest small number.
+pub fn nearest_small(number: i64) -> i32 {
+    number.max(-SMALL).min(SMALL) as i32
+}
+
 /// The number at a place, and 0 past the end.
 pub fn number_at(numbers: &[i64], place: usize) -> i64
     ensures { result ≡ slice_index_or numbers.now place (pos 0) }

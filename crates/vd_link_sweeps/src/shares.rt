@@ -118,9 +118,8 @@ impl Shares {
     }
 
     /// Splits what the point costs above its least.
-    pub fn split(&mut self, split: Split) {
+    pub fn split(&mut self, split: Split, least: i64) {
         self.links = split.ahead;
-        let least = self.least();
         for setting in 0..self.count {
             let above = number_at(self.totals.as_slice(), setting).saturating_sub(least);
             let above = above.max(0) as u64;
@@ -131,22 +130,33 @@ impl Shares {
         }
     }
 
-    /// Whose turn the link of a number is in this sweep; none where it gets nothing.
-    pub fn turn_of(&self, number: u64) -> Option<i64> {
-        if number >= self.links {
+    /// Whose turn the first of the links is in this sweep; none where no link gets anything.
+    pub fn first_turn(&self) -> Option<i64> {
+        if self.links == 0 {
             return None;
         }
-        Some(number_of(number.wrapping_add(self.turn) % self.links))
+        Some(number_of(self.turn % self.links))
+    }
+
+    /// Whose turn the link behind one with that turn is.
+    pub fn turn_after(&self, turn: i64) -> i64 {
+        let next = turn.saturating_add(1);
+        if next < number_of(self.links) {
+            next
+        } else {
+            0
+        }
     }
 }
 
 /// What a link with a turn gets, where each gets this part, and as many links, the first ones, get one more.
 pub fn share_of(part: i64, more: i64, turn: i64) -> i64 {
-    if turn < more {
-        part.wrapping_add(1)
-    } else {
-        part
-    }
+    part.wrapping_sub(minus_one_below(turn, more))
+}
+
+/// -1 where the number is less than the other, and else 0, of numbers no greater than `FAR`: all bits are that of the sign.
+fn minus_one_below(number: i64, other: i64) -> i64 {
+    number.wrapping_sub(other) >> 63
 }
 
 /// Puts a number at a place, if there is one.

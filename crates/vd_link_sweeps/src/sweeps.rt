@@ -3,9 +3,9 @@
 //! told, or that it costs.
 
 use crate::flow::Flow;
-use crate::nets::Nets;
+use crate::nets::{Nets, spread};
 use crate::network::{End, Network};
-use crate::numbers::row_at;
+use crate::numbers::{row_at, settings_at};
 use crate::shares::{Shares, Split};
 use crate::tables::Tables;
 use crate::witness::Witness;
@@ -82,23 +82,30 @@ impl State {
         self.besides = self.besides.saturating_add(work);
     }
 
-    /// What the shifts so far come to.
-    pub fn nets(&self, alloc: Global, network: &Network) -> Result<Nets, AllocError> {
+    /// What the shifts so far come to by the setting among so many, where each point was left these settings.
+    pub fn nets(
+        &self,
+        alloc: Global,
+        network: &Network,
+        settings: &[Vec<usize>],
+        count: usize,
+    ) -> Result<Nets, AllocError> {
         let flow = self.last();
         let mut nets = Nets {
-            firsts: Vec::new(alloc),
-            seconds: Vec::new(alloc),
+            firsts: Vec::with_capacity(alloc, network.firsts.len())?,
+            seconds: Vec::with_capacity(alloc, network.firsts.len())?,
         };
         for first in &network.firsts {
-            let held = Vec::from_slice(alloc, flow.held(first.at))?;
-            let told = Vec::from_slice(alloc, flow.told(first.at))?;
-            if first.is_ahead(self.is_forward) {
-                nets.firsts.push(held)?;
-                nets.seconds.push(told)?;
+            let (on_first, on_second) = if first.is_ahead(self.is_forward) {
+                (flow.held(first.at), flow.told(first.at))
             } else {
-                nets.firsts.push(told)?;
-                nets.seconds.push(held)?;
-            }
+                (flow.told(first.at), flow.held(first.at))
+            };
+            let firsts = settings_at(settings, first.point);
+            let seconds = settings_at(settings, first.other);
+            nets.firsts.push(spread(alloc, on_first, firsts, count)?)?;
+            nets.seconds
+                .push(spread(alloc, on_second, seconds, count)?)?;
         }
         Ok(nets)
     }
@@ -281,15 +288,30 @@ fn visit(
     let costs = row_at(tables.costs.as_slice(), point);
     here.count(work_of(costs, ends));
     sum_up(shares, here, back, costs, ends, forward);
-    here.note(point, shares.least());
+    let least = shares.least();
+    here.note(point, least);
     if let Some(split) = Split::of(ends, forward) {
-        shares.split(split);
-        let mut number = 0;
-        for end in ends {
-            if end.is_ahead(forward) {
-                give(shares, here, back, tables, *end, number);
-                number = number.saturating_add(1);
-            }
+        shares.split(split, least);
+        give_all(shares, here, back, tables, ends, forward);
+    }
+}
+
+/// Gives their shares to the links that are ahead.
+fn give_all(
+    shares: &Shares,
+    here: &mut Flow,
+    back: &mut Flow,
+    tables: &Tables,
+    ends: &[End],
+    forward: bool,
+) {
+    let Some(mut turn) = shares.first_turn() else {
+        return;
+    };
+    for end in ends {
+        if end.is_ahead(forward) {
+            give(shares, here, back, tables, *end, turn);
+            turn = shares.turn_after(turn);
         }
     }
 }
@@ -316,9 +338,10 @@ fn send_back(
             shares.add(here.told(end.at));
         }
     }
-    here.note(point, shares.least());
-    shares.split(Split::whole());
-    let Some(turn) = shares.turn_of(0) else {
+    let least = shares.least();
+    here.note(point, least);
+    shares.split(Split::whole(), least);
+    let Some(turn) = shares.first_turn() else {
         return;
     };
     if here.give_back(tables, nearest, shares, turn) {
@@ -327,11 +350,8 @@ fn send_back(
     }
 }
 
-/// Gives the share of a number to the link of an end, and wakes the other point where it is told something else by that.
-fn give(shares: &Shares, here: &mut Flow, back: &mut Flow, tables: &Tables, end: End, number: u64) {
-    let Some(turn) = shares.turn_of(number) else {
-        return;
-    };
+/// Gives the share of a turn to the link of an end, and wakes the other point where it is told something else by that.
+fn give(shares: &Shares, here: &mut Flow, back: &mut Flow, tables: &Tables, end: End, turn: i64) {
     if here.give(tables, end, back.told(end.at), shares, turn) {
         here.wake(end.other);
         back.wake(end.other);
