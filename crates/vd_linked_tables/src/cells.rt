@@ -76,7 +76,7 @@ fn column_of(
 ) -> Result<Items<Option<i64>>, AllocError>
     ensures { IfOk result (λ column. column ≡ map (λ row. slice_index_or row second None) cells.now) }
 {
-    let mut column = Items::new(alloc);
+    let mut column = Items::from_vec(Vec::with_capacity(alloc, cells.len())?);
     for row in cells {
         column.push(value_at(row.as_slice(), second))?;
     }
@@ -104,7 +104,7 @@ fn least_columns(
 fn numbers_of(alloc: Global, values: &[Option<i64>]) -> Result<Items<i64>, AllocError>
     ensures { IfOk result (λ numbers. numbers ≡ map (λ value. unwrap_or value no_parts_left) values.now) }
 {
-    let mut numbers = Items::new(alloc);
+    let mut numbers = Items::from_vec(Vec::with_capacity(alloc, values.len())?);
     for value in values {
         numbers.push(number_of(*value))?;
     }
@@ -146,7 +146,7 @@ fn shifted_row(
     requires to { (w : ℕ) → IsWithin 562949953421312 (slice_index_or to.now w (pos 0)) }
     ensures { IfOk result (λ shifted. shifted ≡ shifted_row row.now (slice_index_or from.now first (pos 0)) to.now) }
 {
-    let mut shifted = Items::new(alloc);
+    let mut shifted = Items::from_vec(Vec::with_capacity(alloc, row.len())?);
     for second in 0..row.len() {
         shifted.push(less(value_at(row, second), taken(from, first, to, second)))?;
     }

@@ -50,7 +50,7 @@ fn scaled_row(
     requires prices { (q : ℕ) → unwrap_or (slice_index_or prices.now q None) 0 ≤ 848 }
     ensures { IfOk result (λ row. row ≡ map (λ price. parts (weigh weight price)) prices.now) }
 {
-    let mut row = Items::new(alloc);
+    let mut row = Items::from_vec(Vec::with_capacity(alloc, prices.len())?);
     for price in prices {
         row.push(scaled(weight, *price))?;
     }

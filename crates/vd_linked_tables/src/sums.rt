@@ -104,7 +104,7 @@ fn zeros(alloc: Global, count: usize, places: usize) -> Result<Vec<Items<i64>>, 
 fn zero_row(alloc: Global, places: usize) -> Result<Items<i64>, AllocError>
     ensures { IfOk result (λ row. row ≡ replicate places (pos 0)) }
 {
-    let mut row = Items::new(alloc);
+    let mut row = Items::from_vec(Vec::with_capacity(alloc, places)?);
     for _ in 0..places {
         row.push(0)?;
     }
