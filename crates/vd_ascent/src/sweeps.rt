@@ -136,10 +136,13 @@ impl State {
         }
     }
 
-    /// What a sweep does at a slot.
+    /// What a sweep does at a slot. From a use that is ahead there is nothing to take but in the first sweep: the sweep before
+    /// took it, and since then neither of its slots was visited.
     fn visit(&mut self, tables: &Tables, ends: &[End], slot: usize, forward: bool, turn: u32) {
         for end in ends {
-            self.collect(tables, *end);
+            if turn == 0 || !end.is_ahead(forward) {
+                self.collect(tables, *end);
+            }
         }
         if let Some(split) = Split::of(ends, forward) {
             let least = self.least_at(slot);
@@ -169,25 +172,13 @@ impl State {
         }
     }
 
-    /// The sum of the least that each slot and each use costs.
-    fn bound(&self, tables: &Tables, uses: &Uses) -> i64 {
+    /// The sum of the least that each slot costs. Behind a sweep each use costs nothing at least, so no list costs less than that.
+    fn bound(&self) -> i64 {
         let mut sum: i64 = 0;
         for costs in &self.terms {
             sum = sum.saturating_add(least(costs.as_slice()));
         }
-        for source in &uses.sources {
-            sum = sum.saturating_add(self.least_of_use(tables, *source));
-        }
         sum
-    }
-
-    /// The least that a use costs.
-    fn least_of_use(&self, tables: &Tables, source: End) -> i64 {
-        let mut least = FAR;
-        for (place, prices) in tables.rows(source).iter().enumerate() {
-            least = least.min(self.least_from(prices.as_slice(), source, place));
-        }
-        least
     }
 
     /// What a list costs that puts each slot, in order, where it costs least together with its uses of the slots before it;
@@ -316,7 +307,7 @@ pub fn climb(
     let mut idle: u32 = 0;
     for turn in 0..sweeps {
         state.sweep(tables, uses, turn);
-        let reached = state.bound(tables, uses);
+        let reached = state.bound();
         idle = if reached > bound {
             0
         } else {

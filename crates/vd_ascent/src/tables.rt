@@ -129,7 +129,7 @@ fn row_from(
     partners: &[usize],
     scale: i64,
 ) -> Result<Vec<i64>, AllocError> {
-    let mut row = Vec::new(alloc);
+    let mut row = Vec::with_capacity(alloc, partners.len())?;
     for there in partners {
         row.push(scaled(end.price(terms.moves.as_slice(), here, *there), scale))?;
     }
