@@ -1,5 +1,5 @@
 -- In program order each host steps while all that it sent is taken.
-use Rattle.std.proofs.Common.{◌≡◌, ◌≢◌, ◌⊎◌, inl, inr, ℕ, zero, suc, ◌+◌, ◌<◌, nat_eq, nat_lt, if◌then◌else◌, Bool, true, false, List, [], ◌∷◌, ◌++◌, length, Option, Some, None, refl, sym, ap, ◌∙◌, subst, subst₂, arith}
+use Rattle.std.proofs.Common.{◌≡◌, ◌≢◌, ◌⊎◌, inl, inr, ℕ, zero, suc, ◌+◌, ◌<◌, nat_eq, nat_lt, if◌then◌else◌, Bool, true, false, List, [], ◌∷◌, ◌++◌, length, Some, refl, sym, ap, ◌∙◌, subst, subst₂, arith}
 use Rattle.std.specs.Prelude.{drop}
 use Rattle.std.proofs.Math.Seq.{drop-length}
 use Rattle.std.proofs.lemmas.Bool.Decides.{nat_tests}
@@ -10,8 +10,7 @@ use Rattle.vd_execution.specs.Registers.{put}
 use Rattle.vd_execution.specs.Code.{Code, Then, Send, Recv, Choose, Repeat, followed_by}
 use Rattle.vd_execution.specs.World.{Local, World, Tape, moved_on, queue, step, endless}
 use Rattle.vd_execution.specs.Joint.{Part, Joint, Done, Do, Msg, If, For, if_part, code_of, hosts_of, TakesPart, Apart, Within, Host, Hosts, Agrees, acted, after_do, after_msg, is_other, turn_begun, turns, joint, in_turns, program_order, IsTidy, GuardsAre, AllTurns, IsSmooth, resting}
-use Rattle.vd_schedules.proofs.Confluence.{same_or_not}
-use Rattle.vd_schedules.proofs.Puts.{put_same, put_other}
+use Rattle.vd_execution.proofs.Puts.{same_or_not, put_same, put_other}
 use Rattle.vd_schedules.proofs.Parts.{Every, every_map, every_zip, absent_part, parts_at, part_keeps, guards_each, map_part, do_here, do_there, said_here, heard_here, msg_there, absent}
 use Rattle.vd_schedules.proofs.Diamond.{stepped}
 use Rattle.vd_schedules.proofs.Resting.{Quietly, acts, branch_quietly, turn_quietly, over_quietly, local_of, all_taken, resting_put, same_resting}

@@ -1,5 +1,5 @@
 -- A host that does the pieces before it, each with the items alone.
-use Rattle.std.proofs.Common.{◌≡◌, inl, inr, ℕ, zero, suc, ◌+◌, ◌≤◌, List, [], ◌∷◌, ◌++◌, length, Option, Some, None, refl, sym, ap, ◌∙◌, arith}
+use Rattle.std.proofs.Common.{◌≡◌, inl, inr, ℕ, ◌+◌, ◌≤◌, List, [], ◌∷◌, ◌++◌, length, Option, Some, None, refl, sym, ap, ◌∙◌, arith}
 use Rattle.std.specs.Prelude.{slice_get}
 use Rattle.std.proofs.lemmas.List.{length_push}
 use Rattle.vd_execution.specs.Registers.{put}
@@ -7,8 +7,7 @@ use Rattle.vd_execution.specs.Code.{Code}
 use Rattle.vd_execution.specs.Step.{Source, State, Cursors, Need, Nothing, Item, Packet, Unequal, Ended, Given, answer, need, next, word_printed, deed_of_print, words_in}
 use Rattle.vd_execution.specs.World.{Local, done, moved_on, IsPrefixOf}
 use Rattle.vd_execution.specs.Joint.{supplied}
-use Rattle.vd_schedules.proofs.Confluence.{same_or_not}
-use Rattle.vd_schedules.proofs.Puts.{put_same, put_other, get_append}
+use Rattle.vd_execution.proofs.Puts.{same_or_not, put_same, put_other, get_append}
 use Rattle.vd_schedules.proofs.Diamond.{moved_grows}
 use Rattle.vd_hastening.specs.Hastening.{Piece, Acts, Sends, Awaits, before, at, without_packets, MayPass}
 use Rattle.vd_hastening.proofs.Turned.{piece_needs, piece_moves, piece_leaves}

@@ -1,24 +1,23 @@
 -- Room for as many packets as the window is enough.
 use Rattle.std.proofs.Common.{◌≡◌, ℕ, suc, ◌≤◌, Bool, true, false, if◌then◌else◌, List, [], ◌∷◌, Option, None, refl, sym, ap, ◌∙◌, subst, arith}
-use Rattle.std.proofs.lemmas.List.{length-drop}
 use mathlib.Core.Path.{fun_ext}
 use Rattle.vd_execution.specs.Code.{Code, Finished, followed_by}
-use Rattle.vd_execution.specs.Step.{Source, deed}
+use Rattle.vd_execution.specs.Step.{deed}
 use Rattle.vd_execution.specs.Schedule.{run_by, IsStuckBy}
-use Rattle.vd_execution.specs.World.{Local, World, Tape, step, endless, AllEnded}
-use Rattle.vd_execution.specs.Joint.{Joint, fresh, joint, started, resting, at_end, code_of, program_order, IsTidy, IsSmooth}
+use Rattle.vd_execution.specs.World.{Local, World, Tape, step, endless}
+use Rattle.vd_execution.specs.Joint.{Joint, fresh, joint, started, at_end, code_of, program_order}
 use Rattle.vd_schedules.proofs.Confluence.{through_run, one_end}
 use Rattle.vd_schedules.proofs.Reached.{ended_stuck}
 use Rattle.vd_schedules.proofs.Reading.{ends_there}
 use Rattle.vd_schedules.proofs.Resting.{same_resting}
-use Rattle.vd_hastening.specs.Hastening.{Piece, before, at, MayPass}
+use Rattle.vd_hastening.specs.Hastening.{Piece, at, MayPass}
 use Rattle.vd_hastening.specs.Passing.{IsSoundTest, hastened}
 use Rattle.vd_hastening.specs.Testing.{may}
 use Rattle.vd_hastening.specs.Careful.{careful}
 use Rattle.vd_hastening.proofs.Testing.{sound}
 use Rattle.vd_room.specs.Room.{has_room, narrow}
 use Rattle.vd_room.proofs.Commuting.{commute}
-use Rattle.vd_hastened_room.specs.Window.{begun, EndsOver, RoomForTheWindowIsEnough, RoomForCarefulHostsIsEnough}
+use Rattle.vd_hastened_room.specs.Window.{begun, RoomForTheWindowIsEnough, RoomForCarefulHostsIsEnough}
 use Rattle.vd_hastened_room.proofs.Calm.{To, from, order}
 use Rattle.vd_hastened_room.proofs.Passed.{ahead, hastened_passed, no_end, end_is_end}
 use Rattle.vd_hastened_room.proofs.Early.{Items, eagerly}

@@ -1,23 +1,23 @@
 -- What hosts do with their own codes in program order, hastened hosts do over links that have room for as many packets as may be ahead.
-use Rattle.std.proofs.Common.{◌≡◌, ◌⊎◌, inl, inr, ℕ, zero, suc, ◌+◌, ◌-◌, ◌<◌, ◌≤◌, nat_eq, nat_lt, Bool, true, false, if◌then◌else◌, List, [], ◌∷◌, ◌++◌, length, Option, Some, None, refl, sym, ap, ◌∙◌, subst, subst₂, arith}
-use Rattle.std.specs.Prelude.{slice_get, drop}
-use Rattle.std.proofs.lemmas.List.{length-drop, length_push}
-use Rattle.std.proofs.lemmas.Bool.{ltb-true, lt-ltb}
+use Rattle.std.proofs.Common.{◌≡◌, ◌⊎◌, inl, inr, ℕ, suc, ◌+◌, ◌<◌, ◌≤◌, nat_eq, nat_lt, Bool, true, false, if◌then◌else◌, List, [], ◌∷◌, ◌++◌, length, Option, Some, None, refl, sym, ap, ◌∙◌, subst, subst₂, arith}
+use Rattle.std.specs.Prelude.{slice_get}
+use Rattle.std.proofs.lemmas.List.{length-drop}
+use Rattle.std.proofs.lemmas.Bool.{lt-ltb}
 use Rattle.vd_execution.specs.declared.instructions.Reg.{Reg}
 use Rattle.vd_execution.specs.Registers.{put}
-use Rattle.vd_execution.specs.Code.{Code, Finished, Then, Send, Recv, Choose, Repeat, followed_by}
+use Rattle.vd_execution.specs.Code.{Code, Finished, Choose, Repeat, followed_by}
 use Rattle.vd_execution.specs.Step.{State, Deed, Quiet, Said, Heard, Printed, answer, need, next, deed, deed_of, deed_of_print, word_printed}
 use Rattle.vd_execution.specs.World.{Local, World, Supply, Tape, given, done, moved_on, queue, step, endless}
 use Rattle.vd_execution.specs.Joint.{supplied}
-use Rattle.vd_schedules.proofs.Confluence.{same_or_not, Through, through_all}
-use Rattle.vd_schedules.proofs.Puts.{put_same, put_other, put_twice, put_itself}
+use Rattle.vd_schedules.proofs.Confluence.{Through, through_all}
+use Rattle.vd_execution.proofs.Puts.{same_or_not, put_same, put_other, put_twice, put_itself}
 use Rattle.vd_schedules.proofs.Diamond.{Below, answer_more, Stepped, stepped, steps_to}
 use Rattle.vd_hastening.specs.Hastening.{Piece, Acts, Sends, Awaits, before, at, without_packets}
 use Rattle.vd_hastening.proofs.Turned.{piece_moves, piece_leaves}
 use Rattle.vd_room.specs.Room.{has_room, narrow}
 use Rattle.vd_hastened_room.proofs.Calm.{Calm, To}
-use Rattle.vd_hastened_room.proofs.Passed.{ahead, packet, sends, AllPass, Sunk, Passed, Nowhere, Behind, InBranch, InLoop, followed, first_same, no_branch, no_loop}
-use Rattle.vd_hastened_room.proofs.Early.{Items, eager, eagerly, IsFree, AllFree, answered, all_free, free_before, free_behind, free_both, ahead_append, eagerly_append, sends_append, at_itself, eager_stands, eagerly_leaves, past, still_gets, all_take, sent_by_one, sent_by_all, eagerly_sent}
+use Rattle.vd_hastened_room.proofs.Passed.{ahead, packet, sends, Sunk, Passed, Nowhere, Behind, InBranch, InLoop, followed, first_same, no_branch, no_loop}
+use Rattle.vd_hastened_room.proofs.Early.{Items, eager, eagerly, IsFree, AllFree, answered, all_free, free_behind, free_both, ahead_append, eagerly_append, sends_append, at_itself, eager_stands, eagerly_leaves, past, still_gets, all_take, sent_by_one, sent_by_all, eagerly_sent}
 
 -- a host with a hastened code has already done some pieces that stand before what it would do next
 pub record Hasty (t : Tape) (n h : ℕ) (l k : Local) : Type 0 where

@@ -1,6 +1,5 @@
 -- Codes in which each instruction went behind some others, of which few are packets.
-use Rattle.std.proofs.Common.{◌≡◌, ℕ, zero, suc, ◌+◌, ◌≤◌, Bool, true, false, if◌then◌else◌, List, [], ◌∷◌, ◌++◌, refl, sym, ap, ◌∙◌, subst, arith}
-use Rattle.vd_execution.specs.declared.instructions.Reg.{Reg}
+use Rattle.std.proofs.Common.{◌≡◌, ℕ, zero, suc, ◌+◌, ◌≤◌, Bool, true, false, if◌then◌else◌, List, [], ◌∷◌, refl, sym, ap, ◌∙◌, subst, arith}
 use Rattle.vd_execution.specs.Code.{Code, Finished, Then, Send, Recv, Choose, Repeat, followed_by}
 use Rattle.vd_hastening.specs.Hastening.{Piece, Acts, Sends, Awaits, before, MayPass}
 use Rattle.vd_hastening.specs.Passing.{IsSoundTest, sunk, hastened}
