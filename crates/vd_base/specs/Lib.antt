@@ -8,3 +8,4 @@ pub mod Moves
 pub mod Arity
 pub mod Limits
 pub mod Packets
+pub mod Identities

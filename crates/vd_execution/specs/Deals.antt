@@ -1,6 +1,6 @@
 -- Valid deals: what the two hosts that share an item can rely on.
 use Rattle.std.specs.Prelude.{◌≡◌, ◌≢◌, ℕ, ◌^◌, ◌<◌, length}
-use Rattle.vd_deals.specs.Identities.{mul_left, mul_right, and_left, and_right, pair_left, pair_right}
+use Rattle.vd_base.specs.Identities.{mul_left, mul_right, and_left, and_right, pair_left, pair_right}
 use Rattle.vd_execution.specs.Registers.{nth}
 use Rattle.vd_execution.specs.Step.{Source, Triples, BitTriples, Pairs}
 use Rattle.vd_execution.specs.World.{Tape, zeros_of}

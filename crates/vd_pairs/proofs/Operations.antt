@@ -3,7 +3,7 @@ use Rattle.std.proofs.Common.{◌≡◌, ◌≢◌, ℕ, ◌+◌, ◌^◌, ◌<�
 use Rattle.std.specs.Prelude.{slice_index}
 use Rattle.vd_base.specs.declared.ids.HostId.{HostId}
 use Rattle.vd_base.specs.declared.operations.Op.{Op}
-use Rattle.vd_deals.specs.Identities.{mul_left, mul_right, and_left, and_right}
+use Rattle.vd_base.specs.Identities.{mul_left, mul_right, and_left, and_right}
 use Rattle.vd_execution.specs.declared.instructions.Binary.{Binary}
 use Rattle.vd_execution.specs.declared.instructions.Action.TheVariants as action
 use Rattle.vd_execution.specs.Registers.{applied}

@@ -16,7 +16,8 @@ use Rattle.vd_deals.specs.declared.deal.Deal.{Deal}
 use Rattle.vd_deals.specs.declared.deal.Counts.{Counts}
 use Rattle.vd_deals.specs.declared.deal.DealKind.{DealKind}
 use Rattle.vd_deals.specs.declared.deal.DealKind.TheVariants.{Own, Mul, And, Pair}
-use Rattle.vd_deals.specs.Identities.{MeetsMul, MeetsAnd, MeetsPair, mul_left, and_left, pair_left, zero_triple, zero_pair}
+use Rattle.vd_base.specs.Identities.{mul_left, and_left, pair_left}
+use Rattle.vd_deals.specs.Identities.{MeetsMul, MeetsAnd, MeetsPair, zero_triple, zero_pair}
 use Rattle.vd_deals.specs.Validity.{peer_at, peer_place, shared_with, Meets, IsDeal, AreDeals, AreWithin, IsConsistent}
 use Rattle.vd_tape.specs.Made.{made_word, words_from, shared_stream, part_of, mul_parts, and_parts, pair_parts, mul_item, and_item, pair_item, first_of, made_deal, made_deals, AreCounts}
 

@@ -7,7 +7,7 @@ use Rattle.std.proofs.lemmas.Nat.{xor_lt}
 use Rattle.std.proofs.lemmas.Option.{slice_get_within, get_or_from_slice_get}
 use Rattle.std.proofs.lemmas.List.Elements.{All-from_recursion}
 use Rattle.std.proofs.lemmas.List.FromFn.{length-map-range_with_len, get_or-map-range_with_len}
-use Rattle.vd_deals.specs.Identities.{and_left, pair_left}
+use Rattle.vd_base.specs.Identities.{and_left, pair_left}
 use Rattle.vd_deals.specs.declared.deal.Counts.{Counts}
 use Rattle.vd_deals.specs.Validity.{AreDeals, ArePairWords, AreTripleWords, HasWords, IsWord, peer_at}
 use Rattle.vd_tape.specs.Made.{and_item, and_parts, first_of, made_deal, made_deals, made_word, mul_item, mul_parts, pair_item, pair_parts, shared_stream, words_from}

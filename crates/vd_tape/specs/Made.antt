@@ -8,7 +8,7 @@ use Rattle.vd_deals.specs.declared.items.Triple.{Triple}
 use Rattle.vd_deals.specs.declared.items.PairItem.{PairItem}
 use Rattle.vd_deals.specs.declared.deal.Deal.{Deal}
 use Rattle.vd_deals.specs.declared.deal.Counts.{Counts}
-use Rattle.vd_deals.specs.Identities.{mul_left, and_left, pair_left}
+use Rattle.vd_base.specs.Identities.{mul_left, and_left, pair_left}
 use Rattle.vd_deals.specs.Validity.{peer_at}
 
 -- ---- the words
