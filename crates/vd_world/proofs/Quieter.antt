@@ -1,12 +1,11 @@
 -- Steps of a host that nobody sees.
-use Rattle.std.proofs.Common.{◌≡◌, ◌≢◌, ℕ, zero, suc, ◌+◌, ◌<◌, ◌≤◌, Bool, true, false, List, [], ◌∷◌, length, refl, sym, ap, ◌∙◌, subst, inl, inr, arith}
+use Rattle.std.proofs.Common.{◌≡◌, ℕ, zero, suc, ◌+◌, ◌<◌, ◌≤◌, Bool, true, false, List, [], ◌∷◌, length, refl, sym, ap, ◌∙◌, subst, inl, inr, arith}
 use Rattle.std.specs.Prelude.{Option, Some, None, slice_get, slice_set, if◌then◌else◌}
 use mathlib.Core.Path.{fun_ext}
 use Rattle.vd_execution.specs.Registers.{put}
-use Rattle.vd_execution.specs.Code.{Finished}
 use Rattle.vd_execution.specs.Schedule.{after}
-use Rattle.vd_execution.specs.Step.{State, need, need_of, next, deed}
-use Rattle.vd_execution.specs.World.{Local, World, Supply, EndedFrom, given, step, with_answer, done, left, run}
+use Rattle.vd_execution.specs.Step.{State, need, need_of, next}
+use Rattle.vd_execution.specs.World.{Local, World, Supply, EndedFrom, given, step, with_answer, done, left}
 use Rattle.vd_execution.proofs.Puts.{put_same, put_other, same_or_not}
 use Rattle.vd_schedules.proofs.Rounds.{step_falls}
 use Rattle.vd_machine.specs.declared.lists.Lists.{Lists}

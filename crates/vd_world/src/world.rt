@@ -149,13 +149,32 @@ impl World {
         Ok(either(stepped, ran))
     }
 
+    /// The steps of a host, until it cannot step. Answers whether there were any.
+    fn run_out_at(&mut self, at: usize) -> Result<bool, AllocError>
+        ensures supply { supply_of self.new ≡ supply_of self.old }
+        ensures hosts { length self.new ≡ length self.old }
+        ensures reached { Reaches (supply_of self.old) (world_of self.old) (world_of self.new) }
+        ensures falls { IfOk result (λ b. b ≡ true → steps_left self.new < steps_left self.old) }
+        ensures still { IfOk result (λ b. b ≡ false → world_of self.new ≡ world_of self.old) }
+        ensures stuck { IfOk result (λ b. b ≡ false → can_step self.old at ≡ false) }
+    {
+        let mut went = false;
+        loop {
+            let more = self.go_on_at(at)?;
+            if !more {
+                return Ok(went);
+            }
+            went = true;
+        }
+    }
+
     fn count(&self) -> usize
         ensures { result ≡ length self.now }
     {
         self.hosts.len()
     }
 
-    /// Each host in order goes on, up to a step that others may see. Answers whether any could step.
+    /// Each host in order goes on until it cannot step. Answers whether any could step.
     fn round(&mut self) -> Result<bool, AllocError>
         ensures supply { supply_of self.new ≡ supply_of self.old }
         ensures hosts { length self.new ≡ length self.old }
@@ -166,7 +185,7 @@ impl World {
         let mut moved = false;
         let count = self.count();
         for at in 0..count {
-            let went = self.go_on_at(at)?;
+            let went = self.run_out_at(at)?;
             moved = either(went, moved);
         }
         Ok(moved)
