@@ -1,4 +1,6 @@
 pub mod Cuts
+pub mod Packets
+pub mod Counting
 pub mod Noting
 pub mod Hearing
 pub mod Worlds

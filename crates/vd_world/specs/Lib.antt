@@ -1,3 +1,4 @@
 pub mod Links
 pub mod Hosts
 pub mod Hears
+pub mod Packets

@@ -119,6 +119,16 @@ impl Host {
         }
     }
 
+    /// How many packets it sent to a host.
+    pub fn packets_to(&self, peer: usize) -> usize
+        ensures { result ≡ length ((local_of self.now).sent peer) }
+    {
+        match self.links.get(peer) {
+            Some(link) => link.count(),
+            None => 0,
+        }
+    }
+
     /// All words that it sent to a host.
     pub fn words_to(&self, peer: usize) -> &[u32]
         ensures { result.now ≡ words_of ((local_of self.now).sent peer) }

@@ -7,5 +7,5 @@ mod laws;
 mod link;
 mod world;
 
-pub use laws::worlds_start_at_their_joint_code;
+pub use laws::{packets_are_counted, worlds_start_at_their_joint_code};
 pub use world::World;

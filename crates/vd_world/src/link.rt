@@ -98,6 +98,13 @@ impl Link {
         Some(between(&self.words, start_of(&self.ends, place), end))
     }
 
+    /// How many packets were sent.
+    pub fn count(&self) -> usize
+        ensures { result ≡ length self.now }
+    {
+        self.ends.len()
+    }
+
     /// The words of all packets.
     pub fn words(&self) -> &[u32]
         ensures { result.now ≡ words_of self.now }

@@ -1,10 +1,11 @@
 //! All hosts.
 
-ghost use Rattle.std.specs.Prelude.{◌≡◌, ◌<◌, ◌≤◌, IfOk, OnOk, OnErr, length, vec_capacity, true, false, if◌then◌else◌};
+ghost use Rattle.std.specs.Prelude.{◌≡◌, ◌+◌, ◌<◌, ◌≤◌, IfOk, OnOk, OnErr, length, vec_capacity, true, false, if◌then◌else◌};
 ghost use Rattle.vd_execution.specs.States.{host_state};
 ghost use Rattle.vd_execution.specs.World.{words_of, IsStuck};
 ghost use Rattle.vd_world.specs.Hosts.{world_of, supply_of, turned, can_step, steps_left, stuck_state, Reaches};
 ghost use Rattle.vd_world.specs.Hosts.{AreMachines, hosts_at_start};
+ghost use Rattle.vd_world.specs.Packets.{counted, packets_of, sent_by};
 ghost use Rattle.vd_schedules.specs.Claims.{then_all};
 
 use crate::heard::{Turn, heard};
@@ -43,6 +44,13 @@ fn state_of_want(want: Want) -> HostState
         Want::ShortDeal(_, _, _) => HostState::ShortDeal,
         Want::Unequal(_, _) => HostState::Ready,
     }
+}
+
+/// A sum, as far as 64 bits tell it.
+fn plus(a: u64, b: u64) -> u64
+    ensures { result ≡ counted (a + b) }
+{
+    a.saturating_add(b)
 }
 
 /// Puts words into a list that has room for them, in the place of what it holds.
@@ -240,5 +248,39 @@ impl World {
             Some(host) => host.words_to(to.0 as usize),
             None => &[],
         }
+    }
+
+    /// How many packets a host sent to another.
+    fn packets_between(&self, from: usize, to: usize) -> usize
+        ensures { result ≡ length ((world_of self.now from).sent to) }
+    {
+        match self.hosts.get(from) {
+            Some(host) => host.packets_to(to),
+            None => 0,
+        }
+    }
+
+    /// How many packets a host sent.
+    fn packets_from(&self, from: usize) -> u64
+        ensures { result ≡ counted (sent_by (world_of self.now) (length self.now) from) }
+    {
+        let mut packets: u64 = 0;
+        let hosts = self.count();
+        for to in 0..hosts {
+            packets = plus(packets, self.packets_between(from, to) as u64);
+        }
+        packets
+    }
+
+    /// How many packets the hosts have sent to one another since they started, up to the greatest number of 64 bits.
+    pub fn packets_sent(&self) -> u64
+        ensures { result ≡ counted (packets_of (world_of self.now) (length self.now)) }
+    {
+        let mut packets: u64 = 0;
+        let hosts = self.count();
+        for from in 0..hosts {
+            packets = plus(packets, self.packets_from(from));
+        }
+        packets
     }
 }
