@@ -26,7 +26,8 @@ fn code_of<F: Files, O: Sink, E: Sink, N: Net, S: Spawner>(
     requires listeners { (N.view net.old).given ≤ 4294967000 }
     requires children { (S.view spawner.old).given ≤ 4294967000 }
 {
-    start(alloc, words, files, out, err, net, spawner).code()
+    let mut packets = None;
+    start(alloc, words, files, out, err, net, spawner, &mut packets).code()
 }
 
 /// Runs one example, and prints what it leaves; the files that it leaves stand there for the next one.

@@ -1,5 +1,5 @@
 -- The codes of a selected list of protocols can be played, and the world that is then played is reported.
-use Rattle.std.proofs.Common.{◌≡◌, ℕ, ◌≤◌, Some, List, [], length, refl, sym, ap, ◌∙◌, subst, arith, Result, Ok, Err, IfOk}
+use Rattle.std.proofs.Common.{◌≡◌, ℕ, ◌≤◌, Some, List, [], length, refl, sym, ap, ap₂, ◌∙◌, subst, arith, Result, Ok, Err, IfOk}
 use Rattle.std.specs.Prelude.{slice_get, slice_index}
 use Rattle.std.proofs.lemmas.List.{length-map}
 use Rattle.std.proofs.lemmas.List.FromFn.{get_or-map-range_with_len}
@@ -31,6 +31,7 @@ use Rattle.vd_host_programs.proofs.HostCodes.{codes_can_be_loaded, codes_run_as_
 use Rattle.vd_plan.specs.Plans.{Computes, ended}
 use Rattle.vd_plan.specs.declared.answer.Answer.{Answer}
 use Rattle.vd_plan.specs.declared.status.Status.{Status}
+use Rattle.vd_world.specs.Packets.{counted, packets_of}
 use Rattle.vd_play.specs.Loading.{AreCodesOf, AreForAll}
 use Rattle.vd_play.specs.Reports.{report_of}
 use Rattle.vd_play.specs.Schedules.{replayed}
@@ -42,7 +43,8 @@ use Rattle.vd_compiling.proofs.Runnable.{code_count, runnable_of}
 use Rattle.vd_compiling.proofs.Aloud.{covered, stored_for}
 use Rattle.vd_asking.specs.declared.asked.Asked.{Asked}
 use Rattle.vd_asking.specs.Asking.{AreAsked}
-use Rattle.vd_replaying.specs.Replaying.{report_for}
+use Rattle.vd_replaying.specs.Counting.{packets_for}
+use Rattle.vd_replaying.specs.Replaying.{report_for, world_for}
 use Rattle.vd_replaying.specs.Telling.{IsReport, TellsOf}
 
 -- the deals that were read are the deals of all hosts
@@ -94,15 +96,28 @@ module _ (program : NormalForm) (list : List ℕ) (made : IsWellMade program) (n
     are_deals = dealt (length program.hosts) asked are;
   })
 
+  host_count : (codes : List (List Instr)) → codes ≡ host_codes program list → length codes ≡ length program.hosts
+  host_count codes is = ap (λ (cs : List (List Instr)). length cs) is ∙ code_count program list
+
+  world_is : (codes : List (List Instr)) (asked : Asked) (w : World) → codes ≡ host_codes program list
+      → ((j : Joint) → AreCodesOf codes j → w ≡ replayed (supply_of_files asked.inputs asked.deals) (length codes) asked.schedule (started j)) → w ≡ world_for program list asked
+  world_is codes asked w is world =
+      let of_joint : AreCodesOf codes (joint_of program list) = subst (λ (cs : List (List Instr)). AreCodesOf cs (joint_of program list)) (sym is) are_codes in
+      world (joint_of program list) of_joint ∙ ap (λ (k : ℕ). replayed (supply_of_files asked.inputs asked.deals) k asked.schedule (started (joint_of program list))) (host_count codes is)
+
   pub report_is : (codes : List (List Instr)) (asked : Asked) (form : NormalForm) (s : Supply) (w : World) (printed : List ℕ) → codes ≡ host_codes program list → form ≡ program
       → s ≡ supply_of_files asked.inputs asked.deals → ((j : Joint) → AreCodesOf codes j → w ≡ replayed (supply_of_files asked.inputs asked.deals) (length codes) asked.schedule (started j))
       → printed ≡ report_of form.hosts s w asked.messages → printed ≡ report_for program list asked
   report_is codes asked form s w printed is same supply world report =
-      let of_joint : AreCodesOf codes (joint_of program list) = subst (λ (cs : List (List Instr)). AreCodesOf cs (joint_of program list)) (sym is) are_codes in
-      let hosts : length codes ≡ length program.hosts = ap (λ (cs : List (List Instr)). length cs) is ∙ code_count program list in
-      let there : w ≡ replayed (supply_of_files asked.inputs asked.deals) (length program.hosts) asked.schedule (started (joint_of program list)) =
-      world (joint_of program list) of_joint ∙ ap (λ (k : ℕ). replayed (supply_of_files asked.inputs asked.deals) k asked.schedule (started (joint_of program list))) hosts in
+      let there = world_is codes asked w is world in
       report ∙ (λ i. report_of (same i).hosts (supply i) (there i) asked.messages)
+
+  -- the packets of that world are counted
+  pub count_is : (codes : List (List Instr)) (asked : Asked) (w : World) (hosts packets : ℕ) → codes ≡ host_codes program list
+      → ((j : Joint) → AreCodesOf codes j → w ≡ replayed (supply_of_files asked.inputs asked.deals) (length codes) asked.schedule (started j)) → hosts ≡ length codes
+      → packets ≡ counted (packets_of w hosts) → packets ≡ packets_for program list asked
+  count_is codes asked w hosts packets is world all count =
+      count ∙ ap₂ (λ (v : World) (n : ℕ). counted (packets_of v n)) (world_is codes asked w is world) (all ∙ host_count codes is)
 
   -- ---- what is told
 

@@ -1,3 +1,4 @@
 pub mod Replaying
+pub mod Counting
 pub mod Telling
 pub mod Accepting

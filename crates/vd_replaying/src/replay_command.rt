@@ -1,6 +1,6 @@
 //! The command `replay`.
 
-ghost use Rattle.std.specs.Prelude.{◌≡◌, ◌≤◌, [], Some, length, IfOk};
+ghost use Rattle.std.specs.Prelude.{◌≡◌, ◌≤◌, [], Some, length, IfOk, OnOk};
 ghost use Rattle.vd_base.specs.Limits.{most_search_budget};
 ghost use Rattle.vd_deals.specs.Validity.{IsConsistent};
 ghost use Rattle.vd_meaning.specs.ProgramMeaning.{program_outputs};
@@ -10,6 +10,7 @@ ghost use Rattle.vd_selecting.specs.Problems.{IsProblemOf};
 ghost use Rattle.vd_space.specs.Spaces.{IsProblem};
 ghost use Rattle.vd_compiling.specs.Selected.{IsSelected};
 ghost use Rattle.vd_asking.specs.Asking.{AreAsked};
+ghost use Rattle.vd_replaying.specs.Counting.{CountsOf, CountsProgram, CountsReplay, CountsSource, packets_for};
 ghost use Rattle.vd_replaying.specs.Replaying.{ExecutesAsked, ExecutesList, ExecutesProblem, ExecutesProgram, ExecutesReplay, ExecutesSource, report_for};
 ghost use Rattle.vd_replaying.specs.Telling.{IsReport, TellsHeadline, TellsOf, TellsProgram, TellsSource};
 
@@ -42,6 +43,35 @@ fn printing(alloc: Global, printed: Bytes) -> Answer
     }
 }
 
+/// Runs a program at a list of protocols, keeps how many packets its hosts sent, and prints the report.
+fn replay_counted(
+    alloc: Global,
+    program: &Program,
+    places: &[u32],
+    asked: Asked,
+    packets: &mut Option<u64>,
+) -> Result<Answer, Status>
+    requires selected { IsSelected program.now places.now }
+    requires asked { AreAsked (length program.now.hosts) asked }
+    requires consistent { IsConsistent asked.deals }
+    ensures computes { Computes (ended [] (report_for program.now places.now asked)) result }
+    ensures tells { IfOk result (λ answer. IsReport program.now (program_outputs program.now asked.inputs) asked answer.printed) }
+    ensures counts { OnOk result (packets.new ≡ Some (packets_for program.now places.now asked)) }
+{
+    numbers_fit(program);
+    let Asked {
+        inputs,
+        deals,
+        schedule,
+        messages,
+    } = asked;
+    let codes = split(alloc, program, places)?;
+    let world = play(alloc, codes, inputs, deals, &schedule)?;
+    *packets = Some(world.packets_sent());
+    let printed = report(alloc, &program.form().hosts, &world, messages)?;
+    Ok(printing(alloc, printed))
+}
+
 /// Runs a program at a list of protocols, and prints the report.
 pub fn replay_at(
     alloc: Global,
@@ -55,17 +85,8 @@ pub fn replay_at(
     ensures computes { Computes (ended [] (report_for program.now places.now asked)) result }
     ensures tells { IfOk result (λ answer. IsReport program.now (program_outputs program.now asked.inputs) asked answer.printed) }
 {
-    numbers_fit(program);
-    let Asked {
-        inputs,
-        deals,
-        schedule,
-        messages,
-    } = asked;
-    let codes = split(alloc, program, places)?;
-    let world = play(alloc, codes, inputs, deals, &schedule)?;
-    let printed = report(alloc, &program.form().hosts, &world, messages)?;
-    Ok(printing(alloc, printed))
+    let mut packets = None;
+    replay_counted(alloc, program, places, asked, &mut packets)
 }
 
 /// What `replay` does with a list of protocols.
@@ -75,6 +96,7 @@ fn replay_list(
     space: &Space,
     places: &[u32],
     asked: Asked,
+    packets: &mut Option<u64>,
 ) -> Result<Answer, Status>
     requires problem { IsProblemOf program.now space.now }
     requires holds { IsProblem space.now }
@@ -82,9 +104,10 @@ fn replay_list(
     requires asked { AreAsked (length program.now.hosts) asked }
     ensures executes { ExecutesList program.now space.now asked places.now result }
     ensures tells { TellsOf program.now asked result }
+    ensures counts { CountsOf program.now asked packets.new result }
 {
     expect_consistent(&asked.deals)?;
-    replay_at(alloc, program, places, asked)
+    replay_counted(alloc, program, places, asked, packets)
 }
 
 /// What `replay` does with the space of a program.
@@ -94,16 +117,18 @@ fn replay_space(
     space: &Space,
     asked: Asked,
     budget: u32,
+    packets: &mut Option<u64>,
 ) -> Result<Answer, Status>
     requires budget { budget ≤ most_search_budget }
     requires problem { IsProblemOf program.now space.now }
     requires asked { AreAsked (length program.now.hosts) asked }
     ensures executes { ExecutesProblem program.now space.now asked budget result }
     ensures tells { TellsOf program.now asked result }
+    ensures counts { CountsOf program.now asked packets.new result }
 {
     match select(alloc, &Sweeps, space.problem(), budget) {
         Ok(Selection::Found(places, _, _)) => {
-            replay_list(alloc, program, space, places.as_slice(), asked)
+            replay_list(alloc, program, space, places.as_slice(), asked, packets)
         }
         Ok(Selection::NoAssignment(_)) => Ok(no_assignment(alloc)),
         Err(SelectFault::Spent) => Err(Status::Spent(budget)),
@@ -117,14 +142,16 @@ fn replay_asked(
     program: &Program,
     asked: Asked,
     budget: u32,
+    packets: &mut Option<u64>,
 ) -> Result<Answer, Status>
     requires budget { budget ≤ most_search_budget }
     requires asked { AreAsked (length program.now.hosts) asked }
     ensures executes { ExecutesAsked program.now asked budget result }
     ensures tells { TellsOf program.now asked result }
+    ensures counts { CountsOf program.now asked packets.new result }
 {
     let space = least_space(alloc, program)?;
-    replay_space(alloc, program, &space, asked, budget)
+    replay_space(alloc, program, &space, asked, budget, packets)
 }
 
 /// What `replay` does with a program.
@@ -133,13 +160,15 @@ fn replay_program<F: Files>(
     files: &mut F,
     words: &ReplayWords,
     program: &Program,
+    packets: &mut Option<u64>,
 ) -> Result<Answer, Status>
     requires { words.now.budget ≤ most_search_budget }
     ensures executes { ExecutesProgram words.now program.now (F.view files.old) (F.view files.new) result }
     ensures tells { TellsProgram words.now program.now (F.view files.old) result }
+    ensures counts { CountsProgram words.now program.now (F.view files.old) packets.new result }
 {
     let asked = load_asked(alloc, files, words, &program.form().hosts)?;
-    replay_asked(alloc, program, asked, words.budget)
+    replay_asked(alloc, program, asked, words.budget, packets)
 }
 
 /// What `replay` does with a source that meets every rule.
@@ -148,21 +177,30 @@ fn replay_source<F: Files>(
     files: &mut F,
     words: &ReplayWords,
     source: &Resolved,
+    packets: &mut Option<u64>,
 ) -> Result<Answer, Status>
     requires { words.now.budget ≤ most_search_budget }
     ensures executes { ExecutesSource words.now source.now (F.view files.old) (F.view files.new) result }
     ensures tells { TellsSource words.now source.now (F.view files.old) result }
+    ensures counts { CountsSource words.now source.now (F.view files.old) packets.new result }
 {
     let program = elaborate(alloc, source)?;
-    replay_program(alloc, files, words, &program)
+    replay_program(alloc, files, words, &program, packets)
 }
 
-/// The command `replay`: all hosts of a source run over a schedule, and how each stands then.
-pub fn replay<F: Files>(alloc: Global, files: &mut F, words: &ReplayWords) -> Result<Answer, Status>
+/// The command `replay`: all hosts of a source run over a schedule, and how each stands then. Where they ran, it is kept how many
+/// packets they sent to one another.
+pub fn replay<F: Files>(
+    alloc: Global,
+    files: &mut F,
+    words: &ReplayWords,
+    packets: &mut Option<u64>,
+) -> Result<Answer, Status>
     requires { words.now.budget ≤ most_search_budget }
     ensures executes { ExecutesReplay words.now (F.view files.old) (F.view files.new) result }
     ensures tells { TellsHeadline words.now (F.view files.old) result }
+    ensures counts { CountsReplay words.now (F.view files.old) packets.new result }
 {
     let source = load_source(alloc, files, words.source.as_str())?;
-    replay_source(alloc, files, words, &source)
+    replay_source(alloc, files, words, &source, packets)
 }

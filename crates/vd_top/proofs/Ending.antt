@@ -24,6 +24,7 @@ use Rattle.vd_outcomes.proofs.Picked.{some_outcomes as some_replays}
 use Rattle.vd_replaying.proofs.Accepting.{ends_well}
 use Rattle.vd_depending.proofs.Existing.{some_dependences, some_influences}
 use Rattle.vd_top.specs.Commands.{CompletesForm, CompletesWords, Outcomes, RunsForm, plan_of, search_of}
+use Rattle.vd_top.specs.Counts.{CountedBy, CountsOf}
 use Rattle.vd_top.specs.Headline.{KeepsAccepted, ShowsOf, TellsOf}
 use Rattle.vd_top.proofs.Trials.{run_ends}
 use Rattle.vd_top.proofs.Words.{command_follows}
@@ -58,13 +59,17 @@ module _ (plan : Contents → Plan) (before mid now : FilesView) (out_before out
   never (ReadFault name) status w finishes t e = let wrong = answered (Err (ReadFault name)) status other_plan (unsettled (ReadFault name) tt w) finishes t e in cc
   never other status w finishes t e = let wrong = answered (Err other) status plan w finishes t e ∙ sym (ap (λ (a : Answer). a.status) (w.settled t)) in cc
 
-  -- the answer ended well, and was printed
+  -- the answer ended well
+  ended : (answer : Answer) (status : Status) → Executes true plan before mid (Ok answer) → Finishes (Ok answer) mid now out_before out_now status → IsTrue before.told → status ≡ Ended → answer.status ≡ Ended
+  ended answer status w finishes t e = ap (λ (a : Answer). a.status) (w.settled t) ∙ sym (answered (Ok answer) status plan w finishes t e)
+
+  -- and was printed
   printed : (answer : Answer) (status : Status) → Executes true plan before mid (Ok answer) → Finishes (Ok answer) mid now out_before out_now status → IsTrue before.told → IsTrue out_now.told → status ≡ Ended
       → (answer.status ≡ Ended) × (out_now.taken ≡ out_before.taken ++ answer.printed)
   printed answer status w finishes t o e =
       let same = w.settled t in
       let left = subst (λ (s : Status). IsLeft (plan before.contents).answer.printed out_before.taken out_now.taken s) e ((finishes true plan before w).left t o) in
-      (ap (λ (a : Answer). a.status) same ∙ sym (answered (Ok answer) status plan w finishes t e), left ∙ ap (λ (a : Answer). out_before.taken ++ a.printed) (sym same))
+      (ended answer status w finishes t e, left ∙ ap (λ (a : Answer). out_before.taken ++ a.printed) (sym same))
 
   headline : (words : ReplayWords) (came : Result Answer Status) (status : Status) → Executes true plan before mid came → Finishes came mid now out_before out_now status → TellsOf (Replay words) before came
       → ShowsOf (Replay words) before out_before out_now status
@@ -106,6 +111,17 @@ module _ (plan : Contents → Plan) (before mid now : FilesView) (out_before out
     run_ends mid now out_before out_now (w.still_told t) (Err came) status w.proper tells.1 finishes,
     λ o e. absurd (never came status w finishes t e),
   )
+
+  count : (words : ReplayWords) (packets : Option ℕ) (came : Result Answer Status) (status : Status) → Executes true plan before mid came → Finishes came mid now out_before out_now status → CountsOf (Replay words) before packets came
+      → CountedBy (Replay words) before packets status
+  count words packets (Ok answer) status w finishes counts = λ t e. counts t (ended answer status w finishes t e)
+  count words packets (Err came) status w finishes counts = λ t e. absurd (never came status w finishes t e)
+
+  -- what the answer of a command counts, its run counts
+  pub counted : (command : FilesCommand) (packets : Option ℕ) (came : Result Answer Status) (status : Status) → Executes true plan before mid came → Finishes came mid now out_before out_now status → CountsOf command before packets came
+      → CountedBy command before packets status
+  counted (Replay words) packets came status w finishes counts = count words packets came status w finishes counts
+  counted command packets came status w finishes counts = tt
 
   -- what the answer of a command shows, its run shows
   pub shows : (command : FilesCommand) (came : Result Answer Status) (status : Status) → Executes true plan before mid came → Finishes came mid now out_before out_now status → TellsOf command before came

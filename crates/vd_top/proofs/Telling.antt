@@ -10,7 +10,7 @@ use Rattle.vd_cmd.specs.declared.command.Command.TheVariants.{OnFiles, Host, Run
 use Rattle.vd_cmd.specs.declared.command.FilesCommand.TheVariants.{Depends, Influences, Needs, Replay, Trial}
 use Rattle.vd_plan.specs.Plans.{Executes, fetch_calls}
 use Rattle.vd_plan.specs.declared.status.Status.{Status}
-use Rattle.vd_plan.specs.declared.status.Status.TheVariants.{Memory, Usage}
+use Rattle.vd_plan.specs.declared.status.Status.TheVariants.{Ended, Memory, Usage}
 use Rattle.vd_plan.proofs.Fronts.{same_within}
 use Rattle.vd_plan.proofs.InSteps.{any_memory}
 use Rattle.vd_plan.proofs.WholeRuns.{runs_err}
@@ -22,6 +22,7 @@ use Rattle.vd_running.specs.RunsHosts.{outside}
 use Rattle.vd_cmd.specs.declared.command.HostWords.{HostWords}
 use Rattle.vd_cmd.specs.declared.command.RunWords.{RunWords}
 use Rattle.vd_top.specs.Commands.{RunsForm, plan_of, search_of, usage_plan}
+use Rattle.vd_top.specs.Counts.{CountedForm, KeepsCount}
 use Rattle.vd_top.specs.Headline.{KeepsTrial, KeepsDependence, KeepsHeadline, KeepsInfluence, KeepsNeeds, ShowsForm}
 use Rattle.vd_running.proofs.Holding.{complete}
 use Rattle.vd_serving.proofs.Serving.{served}
@@ -42,6 +43,17 @@ needs_of words before out_before out_now status shows = λ needs form. subst (λ
 
 pub trial_of : (words : List (List ℕ)) (before : FilesView) (out_before out_now : SinkView) (status : Status) → ShowsForm (form_of words) before out_before out_now status → KeepsTrial words before out_before out_now status
 trial_of words before out_before out_now status shows = λ coordinates form. subst (λ (f : Option Command). ShowsForm f before out_before out_now status) form shows
+
+pub count_of : (words : List (List ℕ)) (before : FilesView) (packets : Option ℕ) (status : Status) → CountedForm (form_of words) before packets status → KeepsCount words before packets status
+count_of words before packets status counted = λ replay form. subst (λ (f : Option Command). CountedForm f before packets status) form counted
+
+-- where it did not end well, nothing is counted
+pub counts_nothing : (before : FilesView) (packets : Option ℕ) (status : Status) → (status ≡ Ended → ⊥) → (form : Option Command) → CountedForm form before packets status
+counts_nothing before packets status bad None = tt
+counts_nothing before packets status bad (Some (OnFiles (Replay words))) = λ t e. absurd (bad e)
+counts_nothing before packets status bad (Some (OnFiles command)) = tt
+counts_nothing before packets status bad (Some (Host words)) = tt
+counts_nothing before packets status bad (Some (Run words)) = tt
 
 -- ---- where there was no memory for the words, nothing was done
 
@@ -137,6 +149,9 @@ module _ (form : Option Command) (command : Command) (is : form ≡ Some command
 
   pub shows_by : (files : FilesView) (out out_now : SinkView) (status : Status) → ShowsForm (Some command) files out out_now status → ShowsForm form files out out_now status
   shows_by files out out_now status said = subst (λ (f : Option Command). ShowsForm f files out out_now status) (sym is) said
+
+  pub counts_by : (files : FilesView) (packets : Option ℕ) (status : Status) → CountedForm (Some command) files packets status → CountedForm form files packets status
+  counts_by files packets status said = subst (λ (f : Option Command). CountedForm f files packets status) (sym is) said
 
   pub plays_by : (files files_now : FilesView) (net net_now : NetView) (out out_now : SinkView) (status : Status) → PlaysForm (Some command) files files_now net net_now out out_now status
       → PlaysForm form files files_now net net_now out out_now status

@@ -1,5 +1,6 @@
 pub mod Commands
 pub mod Compiled
+pub mod Counts
 pub mod Headline
 pub mod Hosts
 pub mod Answers

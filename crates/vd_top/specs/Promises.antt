@@ -10,17 +10,19 @@ use Rattle.vd_plan.specs.Runs.{Prints}
 use Rattle.vd_plan.specs.declared.status.Status.{Status}
 use Rattle.vd_top.specs.Answers.{KeepsChoice, KeepsCompiled, KeepsDeal, KeepsDrawing, KeepsLabels, KeepsProof}
 use Rattle.vd_top.specs.Compiled.{KeepsStored}
+use Rattle.vd_top.specs.Counts.{KeepsCount}
 use Rattle.vd_top.specs.Commands.{CompletesWords, RunsWords}
 use Rattle.vd_top.specs.Headline.{KeepsAccepted, KeepsDependence, KeepsExcuse, KeepsHeadline, KeepsInfluence, KeepsNeeds, KeepsTrial}
 use Rattle.vd_top.specs.Hosts.{PlaysWords, ReportsWords, ServesWords, SpawnsWords, speaks, spawns}
 
--- the objects that a run uses, each before it and after it
+-- the objects that a run uses, each before it and after it, and how many packets it says that hosts sent in this process
 pub record Around : Type 0 where
   pub files : FilesView × FilesView
   pub out : SinkView × SinkView
   pub err : SinkView × SinkView
   pub net : NetView × NetView
   pub spawner : SpawnerView × SpawnerView
+  pub packets : Option ℕ
 
 -- what `run` promises of its words, clause by clause
 pub record Keeps (words : List (List ℕ)) (o : Around) (status : Status) : Type 0 where
@@ -43,6 +45,7 @@ pub record Keeps (words : List (List ℕ)) (o : Around) (status : Status) : Type
   pub host : PlaysWords words o.files.0 o.files.1 o.net.0 o.net.1 o.out.0 o.out.1 status
   pub hosts : SpawnsWords words o.files.0 o.files.1 o.out.0 o.out.1 o.spawner.0 o.spawner.1 status
   pub served : ServesWords words o.files.0 o.files.1 o.net.0 o.net.1 o.out.0 o.out.1 status
+  pub counted : KeepsCount words o.files.0 o.packets status
   pub reported : ReportsWords words o.files.0 o.files.1 o.out.0 o.out.1 o.spawner.0 o.spawner.1 status
 
 -- What `start` promises. A lone word that asks for a text of the program's own gets that text, and no file is asked for; all other

@@ -34,12 +34,13 @@ pub record IsRun (destination : Destination) (words : List (List ℕ)) (o : Arou
   pub ends : code ≡ code_of status
   pub named : peer ≡ peer_of status
 
--- the objects that a run uses besides files, each before it and after it
+-- the objects that a run uses besides files, each before it and after it, and how many packets it says that hosts sent
 pub record Streams : Type 0 where
   pub out : SinkView × SinkView
   pub err : SinkView × SinkView
   pub net : NetView × NetView
   pub spawner : SpawnerView × SpawnerView
+  pub packets : Option ℕ
 
 -- There was no memory for the files, which is said; nothing else was done.
 pub record WantsMemory (o : Streams) (code : ℕ) (peer : Option (List ℕ)) : Type 0 where
@@ -47,6 +48,7 @@ pub record WantsMemory (o : Streams) (code : ℕ) (peer : Option (List ℕ)) : T
   pub out : o.out.1 ≡ o.out.0
   pub net : o.net.1 ≡ o.net.0
   pub spawner : o.spawner.1 ≡ o.spawner.0
+  pub packets : o.packets ≡ None
   pub ends : code ≡ code_of Memory
   pub named : peer ≡ None
 
@@ -56,7 +58,7 @@ pub record IsRunOver (destination : Destination) (words : List (List ℕ)) (fail
   pub last : FilesView
   pub faults : ℕ × ℕ
   pub ahead : IsReadAhead (wanted_by (form_of words)) fails_at faults holds read
-  pub run : IsRun destination words (record { files = (read, last); out = o.out; err = o.err; net = o.net; spawner = o.spawner }) code peer
+  pub run : IsRun destination words (record { files = (read, last); out = o.out; err = o.err; net = o.net; spawner = o.spawner; packets = o.packets }) code peer
 
 -- Either was it, or there was no memory.
 abbrev pub RunsOver : Destination → (words : List (List ℕ)) → (fails_at : List ℕ → Type 0) → (holds : Contents) → Streams → (code : ℕ) → (peer : Option (List ℕ)) → Type 0

@@ -1,5 +1,5 @@
 -- The line that tells a person why a call of the outside failed.
-use Rattle.std.specs.Prelude.{◌≡◌, ◌⊎◌, ℕ, List, [], ◌∷◌, ◌++◌, codes, Option, None, Some, slice_get}
+use Rattle.std.specs.Prelude.{◌≡◌, ◌⊎◌, ℕ, List, [], ◌∷◌, ◌++◌, codes, Option, None, Some, slice_get, nat_eq, if◌then◌else◌}
 use Rattle.std.specs.Fmt.{decimal}
 use Rattle.vd_cmd.specs.declared.command.Command.{Command}
 use Rattle.vd_cmd.specs.declared.command.Command.TheVariants.{Host, Run}
@@ -34,9 +34,17 @@ address_part (Some address) = codes " at " ++ address
 abbrev pub peer_text : Option (List ℕ) → PeerReason → List ℕ
 peer_text peer reason = call_text reason.call ++ (codes " " ++ (peer_part peer ++ (address_part reason.address ++ (codes ": " ++ reason.cause))))
 
+-- one packet, or so many packets
+abbrev pub noun_of : ℕ → List ℕ
+noun_of count = if nat_eq count 1 then codes "packet" else codes "packets"
+
 -- how many packets a host sent, and how many came to it
 abbrev pub packets_text : (sent came : ℕ) → List ℕ
-packets_text sent came = decimal sent ++ (codes " packets sent, " ++ (decimal came ++ codes " received"))
+packets_text sent came = decimal sent ++ (codes " " ++ (noun_of sent ++ (codes " sent, " ++ (decimal came ++ codes " received"))))
+
+-- how many packets the hosts of a replay sent to one another
+abbrev pub sent_text : (sent : ℕ) → List ℕ
+sent_text sent = decimal sent ++ (codes " " ++ (noun_of sent ++ codes " sent"))
 
 -- the host of a program goes by its own name, and by that of the program's file where that is none
 abbrev pub IsOwnName : HostWords → Contents → List ℕ → Type 0

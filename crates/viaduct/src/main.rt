@@ -10,7 +10,7 @@ mod speaker;
 
 use first::host_numbered;
 use program::{Ending, Ran, destination_of, end, reason_of, run_over, words_of};
-use reasons::{tell_reason, text_of_first, text_of_packets, text_of_peer};
+use reasons::{tell_reason, text_of_first, text_of_packets, text_of_peer, text_of_sent};
 use speaker::speaker_of;
 use std::alloc::Global;
 use std::env::{Env, VarError};
@@ -172,6 +172,15 @@ fn tell_packets(
     }
 }
 
+/// Tells how many packets the hosts of a replay sent to one another, where it ran any.
+fn tell_sent(alloc: Global, err: &mut RealSink<Stderr>, packets: Option<u64>) {
+    if let Some(sent) = packets {
+        if let Ok(text) = text_of_sent(alloc, sent) {
+            tell_reason(alloc, None, err, text.as_bytes());
+        }
+    }
+}
+
 /// Runs the command line over the real objects, and gives the code of how it ended. An error is that there was no memory.
 fn run(
     rt: HostRuntime,
@@ -202,6 +211,7 @@ fn run(
     if ending.code == ExitCode::SUCCESS {
         if matches!(destination, Destination::Terminal { .. }) {
             tell_packets(alloc, &words, &mut files, err, net.packets());
+            tell_sent(alloc, err, ending.packets);
         }
     } else if told && !readable {
         tell_reason(alloc, None, err, b"a word is no UTF-8");

@@ -65,11 +65,12 @@ fn peer_of(status: Status) -> Option<Name>
     }
 }
 
-/// How a run ended: the code of its status, and the peer that the status names.
+/// How a run ended: the code of its status, the peer that the status names, and how many packets the hosts of a `replay` sent.
 #[derive(Drop)]
 pub struct Ending {
     pub code: ExitCode,
     pub peer: Option<Name>,
+    pub packets: Option<u64>,
 }
 
 /// Runs a command line over these objects, and says how that ended; where the error stream goes to a terminal, it then says
@@ -92,15 +93,18 @@ pub fn run_program<F: Files, O: Sink, E: Sink, N: Net, S: Spawner>(
       err = (E.view err.old, E.view err.new);
       net = (N.view net.old, N.view net.new);
       spawner = (S.view spawner.old, S.view spawner.new);
+      packets = result.packets;
     }) (exit_status result.code) result.peer }
 {
-    let status = start(alloc, words, files, out, err, net, spawner);
+    let mut packets = None;
+    let status = start(alloc, words, files, out, err, net, spawner, &mut packets);
 
     // The line stands: where there is no memory to say more of it, no more is said.
     let _ = say_more(alloc, destination, words, files, err, &status);
     Ending {
         code: exit_code(&status),
         peer: peer_of(status),
+        packets,
     }
 }
 
@@ -147,6 +151,7 @@ pub fn run_over<D: Directory + Drop, O: Sink, E: Sink, N: Net, S: Spawner>(
       err = (E.view err.old, E.view err.new);
       net = (N.view net.old, N.view net.new);
       spawner = (S.view spawner.old, S.view spawner.new);
+      packets = result.ending.packets;
     }) (exit_status result.ending.code) result.ending.peer }
 {
     match read_ahead(alloc, words, files) {
@@ -170,6 +175,7 @@ pub fn run_over<D: Directory + Drop, O: Sink, E: Sink, N: Net, S: Spawner>(
             ending: Ending {
                 code: end(alloc, err, &Status::Memory),
                 peer: None,
+                packets: None,
             },
             files: None,
         },

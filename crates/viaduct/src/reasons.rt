@@ -2,7 +2,7 @@
 
 ghost use Rattle.std.specs.Prelude.{◌≡◌, ◌++◌, OnOk, IfOk, option_map, string_bytes};
 ghost use Rattle.vd_plan.specs.Shown.{shown};
-ghost use Rattle.viaduct.specs.Reasons.{address_part, first_text, host_part, packets_text, peer_part, peer_text, reason_line, speaker};
+ghost use Rattle.viaduct.specs.Reasons.{address_part, first_text, host_part, noun_of, packets_text, peer_part, peer_text, reason_line, sent_text, speaker};
 
 use std::alloc::{AllocError, Global};
 use vd_base::{Bytes, Text};
@@ -110,12 +110,28 @@ pub fn text_of_first(
     Ok(text)
 }
 
+/// What so many packets are called.
+fn noun(count: u64) -> &'static str
+    ensures { result.now ≡ noun_of count }
+{
+    if count == 1 { "packet" } else { "packets" }
+}
+
 /// How many packets a host sent, and how many came to it.
 pub fn text_of_packets(alloc: Global, packets: (u64, u64)) -> Result<String, AllocError>
     ensures { IfOk result (λ text. string_bytes text ≡ packets_text packets.0 packets.1) }
 {
     let (sent, came) = packets;
-    Ok(format!(in alloc; "{sent} packets sent, {came} received")?)
+    let noun = noun(sent);
+    Ok(format!(in alloc; "{sent} {noun} sent, {came} received")?)
+}
+
+/// How many packets the hosts of a replay sent to one another.
+pub fn text_of_sent(alloc: Global, sent: u64) -> Result<String, AllocError>
+    ensures { IfOk result (λ text. string_bytes text ≡ sent_text sent) }
+{
+    let noun = noun(sent);
+    Ok(format!(in alloc; "{sent} {noun} sent")?)
 }
 
 /// The line that tells why a call failed.

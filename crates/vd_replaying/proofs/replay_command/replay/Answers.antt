@@ -1,6 +1,7 @@
 use Rattle.std.proofs.lemmas.Result.{err_from_is_err_and}
 use Rattle.vd_selecting.specs.Choosing.{GaveUp, searched_by}
 use Rattle.vd_replaying.specs.Replaying.{source_plan}
+use Rattle.vd_replaying.proofs.Counting.{replay_counted}
 use Rattle.vd_replaying.proofs.Held.{headline_told}
 use Rattle.vd_replaying.proofs.replay_command.replay.Goals as goal
 
@@ -27,3 +28,9 @@ returns-clause-tells g c =
     let loads = rw c.as_str.ensures at (c.in_ok-source.ensures {u = tt}).loads in
     let given = rw c.as_str.ensures at (c.in_ok-source.ensures {u = tt}).given in
     headline_told c.args.words.now (g.F.Files.view c.args.files.now) (g.F.Files.view c.load_source.new.files) c.in_ok-source.source c.replay_source.result loads given c.replay_source.ensures.tells
+
+pub returns-clause-counts : goal.returns-clause-counts
+returns-clause-counts g c =
+    let loads = rw c.as_str.ensures at (c.in_ok-source.ensures {u = tt}).loads in
+    let given = rw c.as_str.ensures at (c.in_ok-source.ensures {u = tt}).given in
+    replay_counted c.args.words.now (g.F.Files.view c.args.files.now) c.replay_source.new.packets (g.F.Files.view c.load_source.new.files) c.in_ok-source.source c.replay_source.result loads given c.replay_source.ensures.counts

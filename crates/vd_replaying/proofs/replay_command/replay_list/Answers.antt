@@ -1,5 +1,6 @@
 use Rattle.std.proofs.lemmas.Result.{err_from_is_err_and}
 use Rattle.vd_compiling.proofs.Runnable.{selected_of}
+use Rattle.vd_replaying.proofs.Counting.{list_counted}
 use Rattle.vd_replaying.proofs.Playable.{dealt, told_then}
 use Rattle.vd_replaying.proofs.Replayed.{list_answered, list_refused}
 use Rattle.vd_replaying.proofs.replay_command.replay_list.Goals as goal
@@ -7,8 +8,8 @@ use Rattle.vd_replaying.proofs.replay_command.replay_list.Goals as goal
 pub expect_consistent-requires : goal.expect_consistent-requires
 expect_consistent-requires c = dealt _ c.args.asked c.requires.asked
 
-pub replay_at-requires-clause-selected : goal.replay_at-requires-clause-selected
-replay_at-requires-clause-selected c = selected_of c.args.program.now c.args.space.now c.args.places.now c.requires.problem c.requires.holds c.requires.chosen
+pub replay_counted-requires-clause-selected : goal.replay_counted-requires-clause-selected
+replay_counted-requires-clause-selected c = selected_of c.args.program.now c.args.space.now c.args.places.now c.requires.problem c.requires.holds c.requires.chosen
 
 pub returns-in_err-expect_consistent-clause-executes : goal.returns-in_err-expect_consistent-clause-executes
 returns-in_err-expect_consistent-clause-executes c = λ outcomes files.
@@ -18,7 +19,12 @@ returns-in_err-expect_consistent-clause-executes c = λ outcomes files.
 
 pub returns-clause-executes : goal.returns-clause-executes
 returns-clause-executes c =
-    list_answered c.args.program.now c.args.space.now c.args.asked c.args.places.now _ (c.in_ok-expect_consistent.ensures {u = tt}).checks c.replay_at.ensures.computes
+    list_answered c.args.program.now c.args.space.now c.args.asked c.args.places.now _ (c.in_ok-expect_consistent.ensures {u = tt}).checks c.replay_counted.ensures.computes
 
 pub returns-clause-tells : goal.returns-clause-tells
-returns-clause-tells c = told_then c.args.program.now c.args.asked c.replay_at.result c.replay_at.ensures.tells
+returns-clause-tells c = told_then c.args.program.now c.args.asked c.replay_counted.result c.replay_counted.ensures.tells
+
+pub returns-clause-counts : goal.returns-clause-counts
+returns-clause-counts c =
+    list_counted c.args.program.now c.args.places.now c.args.asked c.replay_counted.new.packets c.replay_counted.result
+    (selected_of c.args.program.now c.args.space.now c.args.places.now c.requires.problem c.requires.holds c.requires.chosen) c.replay_counted.ensures.counts

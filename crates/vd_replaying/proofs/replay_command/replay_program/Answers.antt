@@ -4,6 +4,7 @@ use Rattle.vd_core.specs.declared.normal.NormalForm.{NormalForm}
 use Rattle.vd_selecting.specs.Choosing.{GaveUp, searched_by}
 use Rattle.vd_asking.specs.Asking.{AreAsked}
 use Rattle.vd_replaying.specs.Replaying.{asked_plan}
+use Rattle.vd_replaying.proofs.Counting.{program_counted}
 use Rattle.vd_replaying.proofs.Held.{program_told}
 use Rattle.vd_replaying.proofs.Playable.{few_names}
 use Rattle.vd_replaying.proofs.replay_command.replay_program.Goals as goal
@@ -35,3 +36,8 @@ returns-clause-executes g c =
 pub returns-clause-tells : goal.returns-clause-tells
 returns-clause-tells g c =
     program_told c.args.words.now (g.F.Files.view c.args.files.now) c.args.program.now c.form.result.now c.in_ok-asked.asked c.replay_asked.result c.form.ensures.same (c.in_ok-asked.ensures {u = tt}).given c.replay_asked.ensures.tells
+
+pub returns-clause-counts : goal.returns-clause-counts
+returns-clause-counts g c =
+    program_counted c.args.words.now (g.F.Files.view c.args.files.now) c.replay_asked.new.packets c.args.program.now c.form.result.now c.in_ok-asked.asked c.replay_asked.result c.form.ensures.same (c.in_ok-asked.ensures {u = tt}).given
+    c.replay_asked.ensures.counts

@@ -3,6 +3,7 @@ use Rattle.std.proofs.lemmas.Result.{err_from_is_err_and}
 use Rattle.vd_core.specs.declared.normal.NormalForm.{NormalForm}
 use Rattle.vd_plan.proofs.InSteps.{any_memory}
 use Rattle.vd_selecting.specs.Choosing.{GaveUp}
+use Rattle.vd_replaying.specs.Counting.{CountsProgram}
 use Rattle.vd_replaying.specs.Replaying.{ExecutesProgram}
 use Rattle.vd_replaying.proofs.Held.{source_told}
 use Rattle.vd_replaying.proofs.replay_command.replay_source.Goals as goal
@@ -20,3 +21,7 @@ returns-clause-executes g c =
 pub returns-clause-tells : goal.returns-clause-tells
 returns-clause-tells g c =
     source_told c.args.words.now (g.F.Files.view c.args.files.now) c.args.source.now c.in_ok-program.program c.replay_program.result c.in_ok-program.ensures.form c.replay_program.ensures.tells
+
+pub returns-clause-counts : goal.returns-clause-counts
+returns-clause-counts g c =
+    subst (λ (form : NormalForm). CountsProgram c.args.words.now form (g.F.Files.view c.args.files.now) c.replay_program.new.packets c.replay_program.result) c.in_ok-program.ensures.form c.replay_program.ensures.counts

@@ -3,6 +3,7 @@ use Rattle.vd_space.specs.declared.problem.Problem.{Problem}
 use Rattle.vd_space.specs.Usual.{usual}
 use Rattle.vd_selection.specs.Choices.{IsChosen}
 use Rattle.vd_selection.specs.Selecting.{IsOver}
+use Rattle.vd_replaying.proofs.Counting.{none_counted}
 use Rattle.vd_replaying.proofs.Replayed.{found, gave_up, no_memory, none_found, none_told}
 use Rattle.vd_replaying.proofs.replay_command.replay_space.Goals as goal
 
@@ -26,6 +27,9 @@ returns-in-Ok-NoAssignment-clause-executes c =
 
 pub returns-in-Ok-NoAssignment-clause-tells : goal.returns-in-Ok-NoAssignment-clause-tells
 returns-in-Ok-NoAssignment-clause-tells c = none_told c.args.program.now c.args.asked c.no_assignment.result c.no_assignment.ensures
+
+pub returns-in-Ok-NoAssignment-clause-counts : goal.returns-in-Ok-NoAssignment-clause-counts
+returns-in-Ok-NoAssignment-clause-counts c = none_counted c.args.program.now c.args.asked c.args.packets.now c.no_assignment.result c.no_assignment.ensures
 
 pub returns-in-Err-Spent-clause-executes : goal.returns-in-Err-Spent-clause-executes
 returns-in-Err-Spent-clause-executes c =

@@ -1,5 +1,5 @@
 use Rattle.vd_top.proofs.Compiling.{stores}
-use Rattle.vd_top.proofs.Ending.{shows}
+use Rattle.vd_top.proofs.Ending.{counted, shows}
 use Rattle.vd_top.proofs.Words.{given, some_outcomes}
 use Rattle.vd_top.specs.Commands.{plan_of, search_of}
 use Rattle.vd_top.proofs.entry.run_on_files.Goals as goal
@@ -21,3 +21,9 @@ returns-clause-stores g c =
     let s = c.answer_command-came.ensures.answers in
     stores (plan_of some_outcomes (search_of some_outcomes s.0) c.args.command.now) (g.F.Files.view c.args.files.now) _ _ _ _ c.args.command.now c.answer_command-came.result c.finish.result (s.1 some_outcomes)
     c.finish.ensures c.answer_command-came.ensures.tells
+
+pub returns-clause-counts : goal.returns-clause-counts
+returns-clause-counts g c =
+    let s = c.answer_command-came.ensures.answers in
+    counted (plan_of some_outcomes (search_of some_outcomes s.0) c.args.command.now) (g.F.Files.view c.args.files.now) _ _ _ _ c.args.command.now c.answer_command-came.new.packets c.answer_command-came.result c.finish.result (s.1 some_outcomes)
+    c.finish.ensures c.answer_command-came.ensures.counts

@@ -2,7 +2,7 @@ use Rattle.std.proofs.Common.{refl}
 use Rattle.vd_cmd.specs.Commands.{form_of}
 use Rattle.vd_top.proofs.Answering.{within_limits}
 use Rattle.vd_top.proofs.Compiling.{stores_by, stores_nothing}
-use Rattle.vd_top.proofs.Telling.{childless_by, plays_by, plays_nothing, plays_refused, runs_by, runs_nothing, runs_refused, shows_by, shows_nothing, shows_refused, silent_by, spawns_as, spawns_nothing, spawns_refused}
+use Rattle.vd_top.proofs.Telling.{childless_by, counts_by, counts_nothing, plays_by, plays_nothing, plays_refused, runs_by, runs_nothing, runs_refused, shows_by, shows_nothing, shows_refused, silent_by, spawns_as, spawns_nothing, spawns_refused}
 use Rattle.vd_top.proofs.entry.run_words.Goals as goal
 
 pub returns-in-Ok-clause-runs : goal.returns-in-Ok-clause-runs
@@ -14,6 +14,16 @@ pub returns-in-Ok-clause-shows : goal.returns-in-Ok-clause-shows
 returns-in-Ok-clause-shows g c =
     shows_by (form_of c.args.words.now) c.in-Ok.command c.in-Ok.ensures.command (g.F.Files.view c.args.files.now) (g.O.Sink.view c.args.out.now) (g.O.Sink.view c.run_command.new.out) c.run_command.result
     c.run_command.ensures.shows
+
+pub returns-in-Ok-clause-counts : goal.returns-in-Ok-clause-counts
+returns-in-Ok-clause-counts g c =
+    counts_by (form_of c.args.words.now) c.in-Ok.command c.in-Ok.ensures.command (g.F.Files.view c.args.files.now) c.run_command.new.packets c.run_command.result c.run_command.ensures.counts
+
+pub returns-in-Err-Usage-clause-counts : goal.returns-in-Err-Usage-clause-counts
+returns-in-Err-Usage-clause-counts g c = counts_nothing _ _ _ (λ e. cc e) (form_of c.args.words.now)
+
+pub returns-in-Err-Memory-clause-counts : goal.returns-in-Err-Memory-clause-counts
+returns-in-Err-Memory-clause-counts g c = counts_nothing _ _ _ (λ e. cc e) (form_of c.args.words.now)
 
 pub returns-in-Ok-clause-host : goal.returns-in-Ok-clause-host
 returns-in-Ok-clause-host g c =

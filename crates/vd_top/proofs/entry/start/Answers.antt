@@ -24,6 +24,7 @@ returns-in-None g c = record {
     host = c.run.ensures.host;
     hosts = c.run.ensures.hosts;
     served = c.run.ensures.served;
+    counted = c.run.ensures.counted;
     reported = c.run.ensures.reported;
   };
   says = c.run.ensures.says;

@@ -1,6 +1,7 @@
+use Rattle.std.proofs.Common.{Some, ap}
 use Rattle.vd_compiling.proofs.Runnable.{runnable_of}
-use Rattle.vd_replaying.proofs.Playable.{are_for_all, few_names, is_report, prints, report_is}
-use Rattle.vd_replaying.proofs.replay_command.replay_at.Goals as goal
+use Rattle.vd_replaying.proofs.Playable.{are_for_all, count_is, few_names, is_report, prints, report_is}
+use Rattle.vd_replaying.proofs.replay_command.replay_counted.Goals as goal
 
 pub split-requires : goal.split-requires
 split-requires c = runnable_of c.args.program.now c.args.places.now c.numbers_fit.ensures.well_made c.requires.selected
@@ -26,3 +27,10 @@ returns-clause-tells c =
     c.requires.consistent c.printing.ensures
     (report_is c.args.program.now c.args.places.now c.numbers_fit.ensures.well_made c.numbers_fit.ensures.fit c.requires.selected c.in_ok-codes.codes c.args.asked c.form.result.now _ _ c.in_ok-printed.printed
     (c.in_ok-codes.ensures {u = tt}) c.form.ensures.same w.supply w.world (c.in_ok-printed.ensures {u = tt}))
+
+pub returns-clause-counts : goal.returns-clause-counts
+returns-clause-counts c =
+    let w = c.in_ok-world.ensures {u = tt} in
+    ap Some
+    (count_is c.args.program.now c.args.places.now c.numbers_fit.ensures.well_made c.numbers_fit.ensures.fit c.requires.selected c.in_ok-codes.codes c.args.asked _ _ c.packets_sent.result (c.in_ok-codes.ensures {u = tt})
+    w.world w.hosts c.packets_sent.ensures)
