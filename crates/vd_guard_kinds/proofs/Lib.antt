@@ -1,0 +1,5 @@
+mod SlotKinds
+mod Beside
+mod Typed
+mod Walked
+pub mod Guards
