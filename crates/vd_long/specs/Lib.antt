@@ -1,0 +1,7 @@
+pub mod Template
+pub mod LongDivision
+pub mod Lengthened
+pub mod Steps
+pub mod Divisions
+pub mod Walks
+pub mod Marks

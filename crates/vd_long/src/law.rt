@@ -1,0 +1,29 @@
+//! What is true of long divisions. Nothing is computed.
+
+ghost use Rattle.std.specs.Prelude.{◌≡◌, ◌<◌, ◌≤◌, ◌^◌, ℕ, List, Bool};
+ghost use Rattle.vd_base.specs.declared.ids.SlotId.{SlotId};
+ghost use Rattle.vd_core.specs.declared.normal.NormalForm.{NormalForm};
+ghost use Rattle.vd_core.specs.Facts.{IsWellMade};
+ghost use Rattle.vd_meaning.specs.ProgramMeaning.{program_outputs};
+ghost use Rattle.vd_long.specs.Lengthened.{lengthened, InputsAreWords, NumbersFit};
+ghost use Rattle.vd_long.specs.LongDivision.{divided, IsDividedSoFar};
+
+/// Whichever divisions become loops, each host is told the same, in every program that is well made and whose numbers are words,
+/// and for all inputs that are words.
+pub fn long_divisions_keep_outputs()
+    ensures { (lengthens : SlotId → Bool) (program : NormalForm) → IsWellMade program → NumbersFit program →
+        (inputs : List (List ℕ)) → InputsAreWords inputs →
+        program_outputs (lengthened lengthens program) inputs ≡ program_outputs program inputs }
+{}
+
+/// A program with loops in the place of divisions is well made.
+pub fn long_divisions_are_well_made()
+    ensures { (lengthens : SlotId → Bool) (program : NormalForm) → IsWellMade program → IsWellMade (lengthened lengthens program) }
+{}
+
+/// Before each of the 32 turns the remainder and the quotient are those of the bits of the dividend so far; by a divisor of 0 the
+/// remainder is these bits.
+pub fn each_turn_divides_the_bits_so_far()
+    ensures { (dividend divisor turn : ℕ) → dividend < 2 ^ 32 → turn ≤ 32 →
+        IsDividedSoFar dividend divisor turn (divided dividend divisor turn) }
+{}
