@@ -1,0 +1,4 @@
+mod Asked
+mod Labelled
+mod Walked
+pub mod KeptLabels
