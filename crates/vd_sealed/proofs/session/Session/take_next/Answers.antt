@@ -1,0 +1,42 @@
+use Rattle.std.proofs.Common.{refl, arith, ◌+◌, ap, Err}
+use Rattle.vd_seal.specs.Keys.{direction}
+use Rattle.vd_sealed.specs.Opened.{plain_of}
+use Rattle.vd_sealed.proofs.Next.{nothing_comes, still_comes}
+use Rattle.vd_sealed.proofs.session.Session.take_next.Goals as goal
+
+pub returns-else-is_empty-clause-takes : goal.returns-else-is_empty-clause-takes
+returns-else-is_empty-clause-takes g c =
+    let session = c.args.self.now in
+    let t = (c.in-Ok.ensures {u = tt}).takes in
+    record {
+      later = omega arith;
+      failed = tt;
+      ends = c.requires.goes_on;
+      goes_on = tt;
+      still_told = t.still_told;
+      sent = refl {a = c.args.self.now.sent.bytes};
+      coming = λ told. still_comes (direction session.theirs) session.next_in session.ended session.closed
+          (plain_of (direction session.theirs) session.next_in (g.L.Link.view c.args.before.now.value).coming)
+          (plain_of (direction session.theirs) (session.next_in + 1) (g.L.Link.view c.of.result.value).coming)
+          session.piece (g.L.Link.view c.args.link.now).coming (g.L.Link.view c.take_record.new.link).coming c.in-Ok.piece
+          c.requires.goes_on c.requires.open c.requires.none_left (t.came told);
+      none = λ told e. absurd cc;
+    }
+
+pub returns-in-Err-End-clause-takes : goal.returns-in-Err-End-clause-takes
+returns-in-Err-End-clause-takes g c =
+    let session = c.args.self.now in
+    let t = (c.in-Err-End.ensures {u = tt}).takes in
+    record {
+      later = omega arith;
+      failed = tt;
+      ends = refl;
+      goes_on = tt;
+      still_told = t.still_told;
+      sent = refl {a = c.args.self.now.sent.bytes};
+      coming = λ told. nothing_comes (direction session.theirs) session.next_in session.ended session.closed
+          (plain_of (direction session.theirs) session.next_in (g.L.Link.view c.args.before.now.value).coming)
+          session.piece (g.L.Link.view c.args.link.now).coming
+          c.requires.goes_on c.requires.open c.requires.none_left ((c.in-Err-End.ensures {u = tt}).cut told (ap Err c.in-Err-End.field-0-is));
+      none = λ told e. refl;
+    }

@@ -1,0 +1,22 @@
+//! Links over which only those are heard who have their key: each piece goes in a record with a code of its own.
+#![tactic(auto)]
+
+mod fault;
+mod filling;
+mod laws;
+mod noted;
+mod piece;
+mod sealed_link;
+mod sending;
+mod session;
+mod taking;
+
+pub use fault::SealFault;
+pub use filling::fill;
+pub use laws::{opened_is_covered, opened_is_sent, sent_is_carried};
+pub use noted::Noted;
+pub use piece::Piece;
+pub use sealed_link::SealedLink;
+pub use sending::send_all;
+pub use session::Session;
+pub use taking::take_record;
