@@ -1,8 +1,8 @@
 -- What hastened hosts did, each by itself, over links that give what was sent, in order.
-use Rattle.std.specs.Prelude.{ℕ, List}
-use Rattle.vd_execution.specs.Code.{Code}
+use Rattle.std.specs.Prelude.{◌≡◌, ℕ, List}
+use Rattle.vd_execution.specs.Code.{Code, Finished}
 use Rattle.vd_execution.specs.World.{World, Supply}
-use Rattle.vd_execution.specs.Joint.{Joint, fresh, resting}
+use Rattle.vd_execution.specs.Joint.{Joint, fresh, resting, at_end}
 use Rattle.vd_schedules.specs.Claims.{RunsWell, IsOnTheWay, last_of}
 use Rattle.vd_histories.specs.Histories.{Goes, gone, IsLinked}
 use Rattle.vd_hastening.specs.Hastening.{AreHastened}
@@ -20,3 +20,9 @@ pub record AreHistoriesFrom (s : Supply) (start : World) (words : ℕ → List (
 abbrev pub HastenedHistoriesAreOnTheWay : Type 0
 HastenedHistoriesAreOnTheWay = (s : Supply) (j : Joint) (n : ℕ) (codes : ℕ → Code) (words : ℕ → List (List ℕ)) → RunsWell s j → AreHastened n j codes
     → AreHistoriesFrom s (resting codes fresh) words → IsOnTheWay s (stand_from (resting codes fresh) words) (last_of s j)
+
+-- One that has ended did all that the joint run has it do, wherever the others stand.
+abbrev pub EndedHastenedHostsAreWhole : Type 0
+EndedHastenedHostsAreWhole = (s : Supply) (j : Joint) (n : ℕ) (codes : ℕ → Code) (words : ℕ → List (List ℕ)) → RunsWell s j → AreHastened n j codes
+    → AreHistoriesFrom s (resting codes fresh) words → (h : ℕ) → (stand_from (resting codes fresh) words h).state.pending ≡ Finished
+    → stand_from (resting codes fresh) words h ≡ at_end (last_of s j) h

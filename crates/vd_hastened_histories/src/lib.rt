@@ -1,14 +1,15 @@
 //! Hastened hosts, each by itself, over links that are first in, first out. Nothing is computed here: each function's clauses are laws.
 #![tactic(auto)]
 
-ghost use Rattle.vd_hastened_histories.specs.Hastened.{HastenedHistoriesAreOnTheWay};
+ghost use Rattle.vd_hastened_histories.specs.Hastened.{HastenedHistoriesAreOnTheWay, EndedHastenedHostsAreWhole};
 ghost use Rattle.vd_hastened_histories.specs.Ahead.{FaultsKeepTheirCauses, NeverLater, NoFaultIsNew};
 ghost use Rattle.vd_hastened_histories.specs.Short.{NoItemIsNew};
 
 /// Hosts of which some have hastened codes, and which went on by themselves, each on packets that its peers sent to it, in order, do
-/// what holds under every schedule of the joint code.
+/// what holds under every schedule of the joint code. One that has ended did all that the joint run has it do, wherever the others stand.
 pub fn hastened_histories_are_schedules()
-    ensures { HastenedHistoriesAreOnTheWay }
+    ensures on_the_way { HastenedHistoriesAreOnTheWay }
+    ensures ended { EndedHastenedHostsAreWhole }
 {}
 
 /// On whatever packets, a hastened host comes at least as far as it would have come before, has sent and printed at least as much, and
