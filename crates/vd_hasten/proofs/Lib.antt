@@ -4,3 +4,4 @@ pub mod Texts
 pub mod Sinking
 pub mod Room
 pub mod Before
+pub mod Secrets
