@@ -1,0 +1,5 @@
+pub mod Alike
+pub mod Turned
+pub mod Tidy
+pub mod Apart
+pub mod Own
