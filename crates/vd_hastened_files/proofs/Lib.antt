@@ -1,0 +1,5 @@
+pub mod Reordered
+pub mod Lines
+pub mod Ranges
+pub mod Back
+pub mod Whole
