@@ -1,0 +1,9 @@
+//! The command `hasten`: a host's program with each packet that tells nothing brought forward.
+#![tactic(auto)]
+
+mod hasten_command;
+mod laws;
+mod program;
+
+pub use hasten_command::hasten;
+pub use laws::{hastened_programs_tell, readings_exist};
