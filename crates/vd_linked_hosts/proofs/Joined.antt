@@ -1,12 +1,14 @@
 -- All hosts over their links.
-use Rattle.std.proofs.Common.{◌≡◌, ℕ, IsTrue, List, ◌++◌, length, Option, Some, None, Result, Ok, Err, sym, ap, ◌∙◌, subst, append_assoc, arith}
+use Rattle.std.proofs.Common.{◌≡◌, ℕ, IsTrue, List, ◌++◌, length, Option, Some, None, Result, Ok, Err, refl, sym, ap, ◌∙◌, subst, append_assoc, arith}
 use Rattle.std.specs.Prelude.{slice_get}
 use Rattle.vd_outside.specs.Sink.{SinkView}
+use Rattle.vd_execution.specs.Code.{Code}
 use Rattle.vd_execution.specs.Joint.{Joint, code_of}
 use Rattle.vd_execution.specs.Step.{Source, Packet, need}
 use Rattle.vd_execution.specs.World.{Supply, IsPrefixOf, or_zeros}
 use Rattle.vd_schedules.specs.Claims.{last_of}
 use Rattle.vd_execution.proofs.Sound.{AreItem}
+use Rattle.vd_hastening.specs.Hastening.{AreHastened}
 use Rattle.vd_machine.specs.declared.lists.Lists.{Lists}
 use Rattle.vd_machine.specs.Kept.{at_start}
 use Rattle.vd_machine.specs.Machines.{items_of, or_empty}
@@ -29,16 +31,16 @@ item_words : (source : Source) (o : Option (List ℕ)) → AreItem (or_zeros sou
 item_words source None all = λ place. omega arith
 item_words source (Some xs) all = all
 
-module _ (s : Supply) (j : Joint) (lists : ℕ → Lists) (come went : ℕ → ℕ → List ℕ) (hosts : AreHosts s j)
+module _ (s : Supply) (j : Joint) (n : ℕ) (codes : ℕ → Code) (lists : ℕ → Lists) (come went : ℕ → ℕ → List ℕ) (hosts : AreHosts s j n codes)
     (supplied : (h : ℕ) (source : Source) (i : ℕ) → s h source i ≡ items_of (lists h) source i)
-    (ran : (h : ℕ) → Made (lists h) (at_start (code_of h j)) (come h) (went h))
+    (ran : (h : ℕ) → Made (lists h) (at_start (codes h)) (come h) (went h))
     (linked : (a b : ℕ) → IsPrefixOf (come b a) (went a b)) where
   items : (h : ℕ) → AreItems (lists h)
   items h source i =
       item_words source (items_of (lists h) source i) (subst (λ (o : Option (List ℕ)). AreItem (or_zeros source o)) (supplied h source i) (hosts.deal.words h source i))
 
   pub sound : (h : ℕ) → AreSound (ran h).events (ran h).state
-  sound h = sound_from (lists h) (items h) (at_start (code_of h j)) (λ r. omega arith) (hosts.numbers h) (ran h).steps (ran h).events (ran h).state (ran h).reached
+  sound h = sound_from (lists h) (items h) (at_start (codes h)) (λ r. omega arith) (hosts.numbers h) (ran h).steps (ran h).events (ran h).state (ran h).reached
 
   -- what came to b from a, as far as it is told, is a front of the packets of a
   stream : (a b : ℕ) (rest : List ℕ) → come b a ≡ frames (received_from a (ran b).events) ++ rest
@@ -52,7 +54,7 @@ module _ (s : Supply) (j : Joint) (lists : ℕ → Lists) (come went : ℕ → �
       let f = packets_front (received_from a (ran b).events) (sent_to b (ran a).events) (rest ++ (l.0 ++ w.0)) ((sound b).received a) ((sound a).sent b) all in
       (f.0, f.1, l.0 ++ w.0, f.2)
 
-  pub driven : AreDriven s j lists (λ h. (ran h).events) (λ h. (ran h).state)
+  pub driven : AreDriven s codes lists (λ h. (ran h).events) (λ h. (ran h).state)
   driven = record {
     supplied = supplied;
     steps = λ h. (ran h).steps;
@@ -61,7 +63,7 @@ module _ (s : Supply) (j : Joint) (lists : ℕ → Lists) (come went : ℕ → �
   }
 
   pub tells : AreTold s j (λ h. (ran h).events) (λ h. (ran h).state)
-  tells = told s j lists (λ h. (ran h).events) (λ h. (ran h).state) hosts.well driven
+  tells = told s j n codes lists (λ h. (ran h).events) (λ h. (ran h).state) hosts.well hosts.hastened driven
 
   pub never_bad : (h host offset byte : ℕ) (count : ℕ) → need (ran h).state ≡ Packet host count → (rest : List ℕ) → come h host ≡ frames (received_from host (ran h).events) ++ rest
       → (place next : ℕ) → IsBadByte 0x56 count place next offset byte rest → ⊥
@@ -71,21 +73,22 @@ module _ (s : Supply) (j : Joint) (lists : ℕ → Lists) (come went : ℕ → �
       (λ z after e. tells.counted h host count z needs
       (ap (λ l. slice_get l (length (received_from host (ran h).events))) (sym f.1 ∙ ap (λ l. received_from host (ran h).events ++ l) e) ∙ next_there (received_from host (ran h).events) after z)) bad
 
-module _ (s : Supply) (j : Joint) (lists : ℕ → Lists) (come went : ℕ → ℕ → List ℕ) (ob on : ℕ → SinkView) (result : ℕ → Result Done EngineFault) (hosts : AreHosts s j)
+module _ (s : Supply) (j : Joint) (n : ℕ) (codes : ℕ → Code) (lists : ℕ → Lists) (come went : ℕ → ℕ → List ℕ) (ob on : ℕ → SinkView) (result : ℕ → Result Done EngineFault)
+    (hosts : AreHosts s j n codes)
     (supplied : (h : ℕ) (source : Source) (i : ℕ) → s h source i ≡ items_of (lists h) source i)
-    (ran : (h : ℕ) → Ran (lists h) (at_start (code_of h j)) (come h) (went h) (ob h) (on h) (result h))
+    (ran : (h : ℕ) → Ran (lists h) (at_start (codes h)) (come h) (went h) (ob h) (on h) (result h))
     (linked : (a b : ℕ) → IsPrefixOf (come b a) (went a b)) where
-  abbrev made : (h : ℕ) → Made (lists h) (at_start (code_of h j)) (come h) (went h)
+  abbrev made : (h : ℕ) → Made (lists h) (at_start (codes h)) (come h) (went h)
   made h = (ran h).made
 
   told_all : AreTold s j (λ h. (made h).events) (λ h. (made h).state)
-  told_all = tells s j lists come went hosts supplied made linked
+  told_all = tells s j n codes lists come went hosts supplied made linked
 
   blames_at : (h : ℕ) (r : Result Done EngineFault) → EndsSo (come h) (lists h) (made h).events (made h).state (ob h) (on h) r → BlamesNobody r
   blames_at h (Ok done) e = tt
   blames_at h (Err (fault.Peer host)) e = tt
   blames_at h (Err fault.Write) e = tt
-  blames_at h (Err (fault.BadFrame host offset byte)) e = never_bad s j lists come went hosts supplied made linked h host.0 offset byte e.0 e.1 e.2 e.3 e.4 _ e.5
+  blames_at h (Err (fault.BadFrame host offset byte)) e = never_bad s j n codes lists come went hosts supplied made linked h host.0 offset byte e.0 e.1 e.2 e.3 e.4 _ e.5
   blames_at h (Err (fault.Unequal left right)) e = told_all.equal h left right e
   blames_at h (Err (fault.ShortInput cursor count)) e = tt
   blames_at h (Err (fault.ShortDeal kind cursor count)) e = tt
@@ -101,7 +104,11 @@ module _ (s : Supply) (j : Joint) (lists : ℕ → Lists) (come went : ℕ → �
   pub joined : TellTheSame s j ob on result
   joined = record { written = λ h t. writes_at h (result h) (ran h).ends t; blames = λ h. blames_at h (result h) (ran h).ends }
 
+-- no exchange leads from a code to itself
+pub own_codes : (n : ℕ) (j : Joint) → AreHastened n j (λ h. code_of h j)
+own_codes n j = record { each = λ h. (0, refl); others = λ h le. refl }
+
 pub linked_hosts_tell_the_same : LinkedHostsTellTheSame
-linked_hosts_tell_the_same s j lists before now ob on result hosts l =
-    joined s j lists (λ h p. bytes_to_come (before h p)) (λ h p. bytes_sent (before h p) (now h p)) ob on result hosts l.supplied
-    (λ h. driven_ran (lists h) (at_start (code_of h j)) (before h) (now h) (ob h) (on h) (result h) (l.told h) (l.drives h)) l.linked
+linked_hosts_tell_the_same s j n codes lists before now ob on result hosts l =
+    joined s j n codes lists (λ h p. bytes_to_come (before h p)) (λ h p. bytes_sent (before h p) (now h p)) ob on result hosts l.supplied
+    (λ h. driven_ran (lists h) (at_start (codes h)) (before h) (now h) (ob h) (on h) (result h) (l.told h) (l.drives h)) l.linked

@@ -1,4 +1,4 @@
--- Hosts of a joint code, each driven by itself over links that give what was sent, in order.
+-- Hosts of a joint code, each driven by itself over links that give what was sent, in order. Any of them may have a hastened code.
 use Rattle.std.specs.Prelude.{◌≡◌, ◌<◌, ◌^◌, ◌++◌, ℕ, IsTrue, List, [], Option, Some, None, Result, Ok, Err, drop, length}
 use Rattle.vd_outside.specs.Sink.{SinkView}
 use Rattle.vd_execution.specs.declared.instructions.Action.{Action}
@@ -9,6 +9,7 @@ use Rattle.vd_execution.specs.Joint.{Joint, code_of}
 use Rattle.vd_execution.specs.Step.{Source}
 use Rattle.vd_execution.specs.World.{Supply, IsPrefixOf, followed_by_zeros}
 use Rattle.vd_schedules.specs.Claims.{RunsWell, last_of}
+use Rattle.vd_hastening.specs.Hastening.{AreHastened}
 use Rattle.vd_machine.specs.declared.lists.Lists.{Lists}
 use Rattle.vd_machine.specs.Kept.{at_start}
 use Rattle.vd_machine.specs.Machines.{items_of}
@@ -49,17 +50,23 @@ bytes_sent before now = []
 
 -- Each host was driven from its start on its own lists, as `drive` says; all links tell their bytes; and what comes to a host on its
 -- link to another is a front of what that one sent there. Nothing is said of when.
-pub record AreLinked (s : Supply) (j : Joint) (lists : ℕ → Lists) (before now : ℕ → Sessions) (out_before out_now : ℕ → SinkView) (result : ℕ → Result Ended EngineFault) : Type 0 where
+pub record AreLinked (s : Supply) (codes : ℕ → Code) (lists : ℕ → Lists) (before now : ℕ → Sessions) (out_before out_now : ℕ → SinkView) (result : ℕ → Result Ended EngineFault) : Type 0 where
   pub supplied : (h : ℕ) (source : Source) (i : ℕ) → s h source i ≡ items_of (lists h) source i
-  pub drives : (h : ℕ) → Drives (wants_with (lists h)) (next_with (lists h)) seen_at (at_start (code_of h j)) (before h) (now h) (out_before h) (out_now h) (result h)
+  pub drives : (h : ℕ) → Drives (wants_with (lists h)) (next_with (lists h)) seen_at (at_start (codes h)) (before h) (now h) (out_before h) (out_now h) (result h)
   pub told : (h : ℕ) → AreTold (now h)
   pub linked : (a b : ℕ) → IsPrefixOf (bytes_to_come (before b a)) (bytes_sent (before a b) (now a b))
 
--- the hosts of a code that runs well on the lists, which hold a valid deal; its numbers are words
-pub record AreHosts (s : Supply) (j : Joint) : Type 0 where
+-- the hosts of a code that runs well on the lists, which hold a valid deal; any of the first n may have hastened codes, and their numbers
+-- are words
+pub record AreHosts (s : Supply) (j : Joint) (n : ℕ) (codes : ℕ → Code) : Type 0 where
   pub well : RunsWell s j
   pub deal : IsValidDeal (followed_by_zeros s)
-  pub numbers : (h : ℕ) → NumbersAreWords (code_of h j)
+  pub hastened : AreHastened n j codes
+  pub numbers : (h : ℕ) → NumbersAreWords (codes h)
+
+-- all with their own codes
+abbrev pub AreOwnHosts : Supply → Joint → Type 0
+AreOwnHosts s j = AreHosts s j 0 (λ h. code_of h j)
 
 -- the output took these bytes
 abbrev pub Takes : SinkView → SinkView → List ℕ → Type 0
@@ -83,5 +90,5 @@ pub record TellTheSame (s : Supply) (j : Joint) (out_before out_now : ℕ → Si
   pub blames : (h : ℕ) → BlamesNobody (result h)
 
 abbrev pub LinkedHostsTellTheSame : Type 0
-LinkedHostsTellTheSame = (s : Supply) (j : Joint) (lists : ℕ → Lists) (before now : ℕ → Sessions) (out_before out_now : ℕ → SinkView) (result : ℕ → Result Ended EngineFault)
-    → AreHosts s j → AreLinked s j lists before now out_before out_now result → TellTheSame s j out_before out_now result
+LinkedHostsTellTheSame = (s : Supply) (j : Joint) (n : ℕ) (codes : ℕ → Code) (lists : ℕ → Lists) (before now : ℕ → Sessions) (out_before out_now : ℕ → SinkView)
+    (result : ℕ → Result Ended EngineFault) → AreHosts s j n codes → AreLinked s codes lists before now out_before out_now result → TellTheSame s j out_before out_now result

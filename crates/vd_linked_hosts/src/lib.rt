@@ -3,8 +3,9 @@
 
 ghost use Rattle.vd_linked_hosts.specs.Linked.{LinkedHostsTellTheSame};
 
-/// Hosts that are driven over links on which what comes is a front of what was sent there write what the joint run prints: a front
-/// of its decimal lines, and all of them where they end. None blames another for a byte or for words that differ.
+/// Hosts that are driven over links on which what comes is a front of what was sent there, and of which any have hastened codes, write
+/// what the joint run prints: a front of its decimal lines, and all of them where they end. None blames another for a byte or for words
+/// that differ.
 pub fn linked_hosts_tell_the_same()
     ensures { LinkedHostsTellTheSame }
 {}
