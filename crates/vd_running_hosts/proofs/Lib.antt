@@ -3,3 +3,4 @@ pub mod Courses
 pub mod Printing
 pub mod Stages
 pub mod Running
+pub mod Exchanged

@@ -17,13 +17,12 @@ use Rattle.vd_outside.specs.Link.{LinkView}
 use Rattle.vd_outside.specs.Net.{NetView}
 use Rattle.vd_outside.specs.Sink.{SinkView}
 use Rattle.vd_execution.specs.declared.instructions.Instr.{Instr}
-use Rattle.vd_execution.specs.Code.{Finished}
-use Rattle.vd_execution.specs.Joint.{Joint, code_of, started}
+use Rattle.vd_execution.specs.Code.{Code, Finished}
+use Rattle.vd_execution.specs.Joint.{Joint, code_of, fresh, resting}
 use Rattle.vd_execution.specs.Step.{Source as List_of, Inputs, OwnWords, Triples, BitTriples, Pairs, State, Cursors, Need, Nothing, Item, Packet, Unequal, Ended as NoNeed, need, need_of}
-use Rattle.vd_execution.specs.Text.{IsCodeOf, text}
+use Rattle.vd_execution.specs.Text.{IsCodeOf, Reading, text}
 use Rattle.vd_execution.specs.World.{Local, Supply, IsPrefixOf, IsShortAt, Tape, followed_by_zeros, or_zeros}
 use Rattle.vd_schedules.specs.Claims.{RunsWell, Suffices, last_of}
-use Rattle.vd_schedules.proofs.Compiled.{never_short_on_the_way}
 use Rattle.vd_execution.proofs.Puts.{same_or_not}
 use Rattle.vd_execution.proofs.Sound.{AreItem}
 use Rattle.vd_suite.specs.Whole.{RunsAsToldBy, inputs_of}
@@ -58,8 +57,10 @@ use Rattle.vd_hosting.specs.declared.fault.HostFault.{HostFault}
 use Rattle.vd_hosting.specs.declared.fault.HostFault.TheVariants as fault
 use Rattle.vd_hosting.specs.declared.task.Task.{Task}
 use Rattle.vd_hosting.proofs.Numbers.{earlier_number, later_number, less_or_least, number_apart}
-use Rattle.vd_histories.specs.Histories.{AreHistories, stand}
-use Rattle.vd_histories.proofs.Following.{reached_by}
+use Rattle.vd_hastening.specs.Hastening.{AreHastened, IsHastened}
+use Rattle.vd_hastening.proofs.Hosts.{hastened_never_short}
+use Rattle.vd_hastened_histories.specs.Hastened.{AreHistoriesFrom, stand_from}
+use Rattle.vd_hastened_histories.proofs.Standing.{reached_from}
 use Rattle.vd_all_hosts.specs.AllHosts.{AreDriven, AreTold, WaitsFor}
 use Rattle.vd_all_hosts.proofs.Steps.{Trace}
 use Rattle.vd_all_hosts.proofs.Told.{all_traced, waiting_ended}
@@ -72,6 +73,7 @@ use Rattle.vd_running_hosts.specs.Ending.{GoesThrough, RunningHostsEnd}
 use Rattle.vd_running_hosts.specs.Links.{Used, bytes_that_came, bytes_that_went, link_to, used_by, used_in, used_or}
 use Rattle.vd_running_hosts.specs.Running.{AreRunOverLinks, BlamesNobody, Run, RunningHostsTellTheSource, WritesUpTo, WritesWhatItIsTold, text_of}
 use Rattle.vd_running_hosts.proofs.Courses.{BadBytes, Course, EndsAs, course, drop_front, ends}
+use Rattle.vd_running_hosts.proofs.Exchanged.{hastened_small}
 use Rattle.vd_running_hosts.proofs.Numbers.{numbers_small}
 use Rattle.vd_running_hosts.proofs.Printing.{item_words, printed_words}
 use Rattle.vd_running_hosts.proofs.Stages.{IsGreetedBy, Refused, Stage, Waits, WasDriven, stage}
@@ -219,18 +221,28 @@ short_same items others same c (Packet p k) h = h
 short_same items others same c (Unequal x y) h = h
 short_same items others same c NoNeed h = h
 
-never_short : (s : Supply) (j : Joint) (lists : ℕ → Lists) (events : ℕ → List Event) (state : ℕ → State) → RunsWell s j → Suffices s (last_of s j) → AreDriven s j lists events state → (h : ℕ)
-    → IsShortAt (s h) (state h).cursors (need (state h)) → ⊥
-never_short s j lists events state well enough d h short =
-    let t : (h : ℕ) → Trace s h (started j h) (events h) (state h) = all_traced s j lists events state d in
+never_short : (s : Supply) (j : Joint) (n : ℕ) (codes : ℕ → Code) (lists : ℕ → Lists) (events : ℕ → List Event) (state : ℕ → State) → RunsWell s j → AreHastened n j codes
+    → Suffices s (last_of s j) → AreDriven s codes lists events state → (h : ℕ) → IsShortAt (s h) (state h).cursors (need (state h)) → ⊥
+never_short s j n codes lists events state well are enough d h short =
+    let t : (h : ℕ) → Trace s h (resting codes fresh h) (events h) (state h) = all_traced s codes lists events state d in
     let words : ℕ → List (List ℕ) = λ h. (t h).words in
-    let histories : AreHistories s j words = record {
+    let histories : AreHistoriesFrom s (resting codes fresh) words = record {
       each = λ h. (t h).goes;
-      linked = λ h. (t h).links (λ p. (stand j words p).sent h) (λ p. subst (λ q. IsPrefixOf (received_from p (events h)) q) (sym ((t p).sends h)) (d.linked p h));
+      linked = λ h. (t h).links (λ p. (stand_from (resting codes fresh) words p).sent h) (λ p. subst (λ q. IsPrefixOf (received_from p (events h)) q) (sym ((t p).sends h)) (d.linked p h));
     } in
-    let b = reached_by s j words well histories in
-    never_short_on_the_way s j b.0 well enough h
+    let b = reached_from s j n codes words well are histories in
+    hastened_never_short s j n codes b.0 h (record { well = well; enough = enough }) are
     (subst (λ (l : Local). IsShortAt (s h) l.state.cursors (need l.state)) (sym (b.1 h)) (subst (λ (q : State). IsShortAt (s h) q.cursors (need q)) (sym (t h).state_is) short))
+
+abbrev reading : Code → Reading
+reading k = record { code = k; blocks = [] }
+
+-- a text is that of one code
+same_code : (is : List Instr) (c d : Code) → IsCodeOf is c → IsCodeOf is d → c ≡ d
+same_code is c d e f =
+    let same : Some (reading c) ≡ Some (reading d) = sym e ∙ f in
+    let one : reading c ≡ reading d = cc in
+    ap (λ (r : Reading). r.code) one
 
 -- a machine that has ended needs nothing
 ended_need : (m : State) → m.pending ≡ Finished → need m ≡ NoNeed
@@ -287,15 +299,15 @@ module _ (source : Source) (list : List ℕ) (plan : Digest) (inputs : List (Lis
   long = base.digest.0
 
   task_plan : (h : ℕ) (lt : h < n) → (run h).ready.task.plan ≡ plan.bytes
-  task_plan h lt = (are.starts h lt).starts.plan
+  task_plan h lt = (are.starts h lt).starts.plan ∙ ap (λ (d : Digest). d.bytes) (are.starts h lt).hastened.plan
 
   task_me : (h : ℕ) (lt : h < n) → (run h).ready.task.me.0 ≡ h
-  task_me h lt = ap (λ (q : HostId). q.0) (are.starts h lt).starts.me
+  task_me h lt = ap (λ (q : HostId). q.0) ((are.starts h lt).starts.me ∙ (are.starts h lt).hastened.me)
 
   task_count : (h : ℕ) (lt : h < n) → length (run h).ready.task.addresses + 1 ≡ n
   task_count h lt = ap (λ (l : List (List ℕ)). length l + 1) (are.starts h lt).starts.addresses_are ∙ (are.starts h lt).peers
 
-  -- ---- its code
+  -- ---- its own code, and the one from which it is run
 
   code_is : (h : ℕ) → h < n → (stored_program program list plan h).code ≡ text (code_of h j) []
   code_is h lt = get_or-map-range_with_len (λ k. text (code_of k j) []) 0 n h h [] lt (omega arith)
@@ -303,17 +315,44 @@ module _ (source : Source) (list : List ℕ) (plan : Digest) (inputs : List (Lis
   is_code : (h : ℕ) → h < n → IsCodeOf (stored_program program list plan h).code (code_of h j)
   is_code h lt = subst (λ (l : List Instr). IsCodeOf l (code_of h j)) (sym (code_is h lt)) (codes_can_be_loaded program list base.made h).nested
 
-  numbers : (h : ℕ) → Place h → NumbersAreWords (code_of h j)
-  numbers h (inl lt) = numbers_small (stored_program program list plan h).code (code_of h j) _ (stored_programs_stand_in_files program list plan h (are.stored h lt)).file.lines (is_code h lt)
-  numbers h (inr le) = subst NumbersAreWords (sym (ended_past program list base.made base.numbers base.runnable h le)) tt
+  abbrev code_at : (h : ℕ) → Place h → Code
+  code_at h (inl lt) = (are.starts h lt).hastened.new_code
+  code_at h (inr le) = code_of h j
 
-  hosts : AreHosts s j
+  abbrev codes : ℕ → Code
+  codes h = code_at h (cases_lt h n)
+
+  from_own : (h : ℕ) (lt : h < n) → IsHastened (code_of h j) (are.starts h lt).hastened.new_code
+  from_own h lt =
+      let y = (are.starts h lt).hastened in
+      subst (λ c. IsHastened c y.new_code) (same_code (stored_program program list plan h).code y.old_code (code_of h j) y.old_is (is_code h lt)) y.hastened
+
+  each_hastened : (h : ℕ) (place : Place h) → IsHastened (code_of h j) (code_at h place)
+  each_hastened h (inl lt) = from_own h lt
+  each_hastened h (inr le) = (0, refl)
+
+  past_own : (h : ℕ) (place : Place h) → n ≤ h → code_of h j ≡ code_at h place
+  past_own h (inl lt) past = absurd (omega (arith, lt, past))
+  past_own h (inr le) past = refl
+
+  all_hastened : AreHastened n j codes
+  all_hastened = record { each = λ h. each_hastened h (cases_lt h n); others = λ h past. past_own h (cases_lt h n) past }
+
+  own_numbers : (h : ℕ) → Place h → NumbersAreWords (code_of h j)
+  own_numbers h (inl lt) = numbers_small (stored_program program list plan h).code (code_of h j) _ (stored_programs_stand_in_files program list plan h (are.stored h lt)).file.lines (is_code h lt)
+  own_numbers h (inr le) = subst NumbersAreWords (sym (ended_past program list base.made base.numbers base.runnable h le)) tt
+
+  numbers : (h : ℕ) → NumbersAreWords (codes h)
+  numbers h = hastened_small (code_of h j) (codes h) (each_hastened h (cases_lt h n)) (own_numbers h (cases_lt h n))
+
+  hosts : AreHosts s j n codes
   hosts =
       let valid = files_are_valid inputs deals are.files in
       record {
         well = codes_run_well program list base.made base.numbers base.runnable inputs are.files.words s valid.0 valid.1;
         deal = valid.0;
-        numbers = λ h. numbers h (cases_lt h n);
+        hastened = all_hastened;
+        numbers = numbers;
       }
 
   prints : (h : ℕ) → h < n → (last_of s j h).printed ≡ slice_index_or (source_outputs source inputs) h []
@@ -362,14 +401,14 @@ module _ (source : Source) (list : List ℕ) (plan : Digest) (inputs : List (Lis
   record HostAt (h : ℕ) (place : Place h) : Type 0 where
     lists : Lists
     supplied : (q : List_of) (i : ℕ) → s h q i ≡ items_of lists q i
-    made : Made lists (at_start (code_of h j)) (λ p. drop 36 (bytes_that_came (link_in h place p))) (λ p. drop 36 (bytes_that_went (link_in h place p)))
+    made : Made lists (at_start (code_at h place)) (λ p. drop 36 (bytes_that_came (link_in h place p))) (λ p. drop 36 (bytes_that_went (link_in h place p)))
     greets : (p : ℕ) → (more : List ℕ) × IsPrefixOf (bytes_that_went (link_in h place p)) (greeting plan.bytes h p ++ more)
     written : h < n → IsTrue (run h).out_now.told → (front : List ℕ) × ((run h).out_now.taken ≡ (run h).out.taken ++ front)
         × (IsPrefixOf front (listening ++ lines (printed made.events)) ⊎ ((made.state.pending ≡ Finished) × IsPrefixOf front (text_of (printed made.events))))
-    ends_as : h < n → EndsAs lists (at_start (code_of h j)) plan.bytes h (link_in h place) (run h).out (run h).out_now made.events made.state (run h).result
+    ends_as : h < n → EndsAs lists (at_start (code_at h place)) plan.bytes h (link_in h place) (run h).out (run h).out_now made.events made.state (run h).result
 
-  started_at : (h : ℕ) (lt : h < n) → state_of (run h).ready.machine ≡ at_start (code_of h j)
-  started_at h lt = (are.starts h lt).starts.state (code_of h j) (is_code h lt)
+  started_at : (h : ℕ) (lt : h < n) → state_of (run h).ready.machine ≡ at_start (code_at h (inl lt))
+  started_at h lt = (are.starts h lt).starts.state (are.starts h lt).hastened.new_code (are.starts h lt).hastened.new_is
 
   abbrev lists_with : List ℕ → Deal → Lists
   lists_with words deal = record { inputs = words; deal = deal }
@@ -379,7 +418,7 @@ module _ (source : Source) (list : List ℕ) (plan : Digest) (inputs : List (Lis
       let l = (run h).ready.machine.lists in
       ap (λ (i : List ℕ). lists_with i l.deal) (are.starts h lt).starts.inputs_are ∙ ap (lists_with (inputs_of inputs h)) (are.starts h lt).starts.deal_is
 
-  declared : (h : ℕ) (lt : h < n) (plan_now : List ℕ) (me : ℕ) (from : State) → plan_now ≡ plan.bytes → me ≡ h → from ≡ at_start (code_of h j)
+  declared : (h : ℕ) (lt : h < n) (plan_now : List ℕ) (me : ℕ) (from : State) → plan_now ≡ plan.bytes → me ≡ h → from ≡ at_start (code_at h (inl lt))
       → Course (run h).ready.machine.lists from plan_now me (link_in h (inl lt)) (run h).out (run h).out_now (run h).result → HostAt h (inl lt)
   declared h lt plan_now me from plans mes froms c0 =
       let l = (run h).ready.machine.lists in
@@ -402,7 +441,7 @@ module _ (source : Source) (list : List ℕ) (plan : Digest) (inputs : List (Lis
   host_at h (inr le) = record {
     lists = nothing_dealt;
     supplied = λ q i. ap (λ (o : Option Deal). items_for inputs h o q i) (past_list deals h (let e = are.each in omega (arith, le, e))) ∙ sym (no_items q i);
-    made = record { steps = 0; events = []; state = at_start (code_of h j); reached = AtStart; came = λ p. ([], refl); sent = λ p. ([], refl) };
+    made = record { steps = 0; events = []; state = at_start (code_at h (inr le)); reached = AtStart; came = λ p. ([], refl); sent = λ p. ([], refl) };
     greets = λ p. ([], (greeting plan.bytes h p ++ [], refl));
     written = λ less. absurd (omega (arith, less, le));
     ends_as = λ less. absurd (omega (arith, less, le));
@@ -411,11 +450,11 @@ module _ (source : Source) (list : List ℕ) (plan : Digest) (inputs : List (Lis
   abbrev at : (h : ℕ) → HostAt h (cases_lt h n)
   at h = host_at h (cases_lt h n)
 
-  abbrev made_by : (h : ℕ) → Made (at h).lists (at_start (code_of h j)) (come h) (went h)
+  abbrev made_by : (h : ℕ) → Made (at h).lists (at_start (codes h)) (come h) (went h)
   made_by h = (at h).made
 
   told : AreTold s j (λ h. (made_by h).events) (λ h. (made_by h).state)
-  told = tells s j (λ h. (at h).lists) come went hosts (λ h. (at h).supplied) made_by linked
+  told = tells s j n codes (λ h. (at h).lists) come went hosts (λ h. (at h).supplied) made_by linked
 
   -- what came to a host from another begins as that one's greeting
   came_greets : (h p : ℕ) → (more : List ℕ) × IsPrefixOf (bytes_that_came (links h p)) (greeting plan.bytes p h ++ more)
@@ -424,12 +463,12 @@ module _ (source : Source) (list : List ℕ) (plan : Digest) (inputs : List (Lis
   not_blamed : (h p : ℕ) (f : GreetFault) → Blames f → IsGreetFault (ends plan.bytes h p) (bytes_that_came (links h p)) f → ⊥
   not_blamed h p f b i = let g = came_greets h p in never_blamed plan.bytes h p (bytes_that_came (links h p)) g.0 f long b g.1 i
 
-  not_bad : (h offset byte : ℕ) → BadBytes (at h).lists (at_start (code_of h j)) plan.bytes h (links h) (run h).out (run h).out_now offset byte (made_by h).events (made_by h).state → ⊥
+  not_bad : (h offset byte : ℕ) → BadBytes (at h).lists (at_start (codes h)) plan.bytes h (links h) (run h).out (run h).out_now offset byte (made_by h).events (made_by h).state → ⊥
   not_bad h offset byte (inl greeting) = not_blamed h greeting.0 (greet_fault.BadFrame offset byte) tt greeting.1
   not_bad h offset byte (inr packet) =
-      never_bad s j (λ h. (at h).lists) come went hosts (λ h. (at h).supplied) made_by linked h packet.0 offset byte packet.1 packet.2 packet.3 packet.4 packet.5 _ packet.6
+      never_bad s j n codes (λ h. (at h).lists) come went hosts (λ h. (at h).supplied) made_by linked h packet.0 offset byte packet.1 packet.2 packet.3 packet.4 packet.5 _ packet.6
 
-  blames : (h : ℕ) (r : Result Ended HostFault) → EndsAs (at h).lists (at_start (code_of h j)) plan.bytes h (links h) (run h).out (run h).out_now (made_by h).events (made_by h).state r → BlamesNobody r
+  blames : (h : ℕ) (r : Result Ended HostFault) → EndsAs (at h).lists (at_start (codes h)) plan.bytes h (links h) (run h).out (run h).out_now (made_by h).events (made_by h).state r → BlamesNobody r
   blames h (Ok done) e = tt
   blames h (Err (fault.BadFrame offset byte)) e = not_bad h offset byte e
   blames h (Err (fault.Unequal left right)) e = told.equal h left right e
@@ -450,7 +489,7 @@ module _ (source : Source) (list : List ℕ) (plan : Digest) (inputs : List (Lis
   front_of_text h lt front (inr all) = subst (λ (words : List ℕ). IsPrefixOf front (text_of words)) (told.all_printed h all.0 ∙ prints h lt) all.1
 
   writes : (h : ℕ) (lt : h < n) (r : Result Ended HostFault) → (run h).result ≡ r
-      → EndsAs (at h).lists (at_start (code_of h j)) plan.bytes h (links h) (run h).out (run h).out_now (made_by h).events (made_by h).state r
+      → EndsAs (at h).lists (at_start (codes h)) plan.bytes h (links h) (run h).out (run h).out_now (made_by h).events (made_by h).state r
       → IsTrue (run h).out_now.told → WritesUpTo (run h).out (run h).out_now (text_of (slice_index_or (source_outputs source inputs) h [])) r
   writes h lt (Ok done) is e t = e.1 t ∙ ap (λ (words : List ℕ). (run h).out.taken ++ text_of words) (told.all_printed h e.0 ∙ prints h lt)
   writes h lt (Err cause) is e t = let w = (at h).written lt t in (w.0, front_of_text h lt w.0 w.2, w.1)
@@ -469,9 +508,9 @@ module _ (source : Source) (list : List ℕ) (plan : Digest) (inputs : List (Lis
   pub told_words : (h : ℕ) → h < n → (done : Ended) → (run h).result ≡ Ok done → AreWords (slice_index_or (source_outputs source inputs) h [])
   told_words h lt done is =
       let m = made_by h in
-      let e = subst (EndsAs (at h).lists (at_start (code_of h j)) plan.bytes h (links h) (run h).out (run h).out_now m.events m.state) is ((at h).ends_as lt) in
+      let e = subst (EndsAs (at h).lists (at_start (codes h)) plan.bytes h (links h) (run h).out (run h).out_now m.events m.state) is ((at h).ends_as lt) in
       subst AreWords (told.all_printed h e.0 ∙ prints h lt)
-      (printed_words (at h).lists (items h) (at_start (code_of h j)) (λ r. omega arith) (numbers h (cases_lt h n)) m.steps m.events m.state m.reached)
+      (printed_words (at h).lists (items h) (at_start (codes h)) (λ r. omega arith) (numbers h) m.steps m.events m.state m.reached)
 
   pub outputs_count : length (source_outputs source inputs) ≡ n
   outputs_count =
@@ -495,7 +534,7 @@ module _ (source : Source) (list : List ℕ) (plan : Digest) (inputs : List (Lis
   number_in h lt place there = let low = number_low h place in let count = task_count h lt in omega (arith, low, count, there)
 
   module _ (goes : GoesThrough program list plan inputs deals run are) where
-    stage_of : (h : ℕ) (lt : h < n) → Stage (lists_at h) (at_start (code_of h j)) plan.bytes h (peers h) (link_of h lt) (run h).result
+    stage_of : (h : ℕ) (lt : h < n) → Stage (lists_at h) (at_start (code_at h (inl lt))) plan.bytes h (peers h) (link_of h lt) (run h).result
     stage_of h lt =
         let l = lists_at h in
         let c0 = stage (run h).ready.machine (run h).ready.task (run h).net (run h).net_now (run h).out (run h).out_now (ap (λ (q : List ℕ). length q) (task_plan h lt) ∙ long) (are.plays h lt) (are.told h lt)
@@ -530,7 +569,7 @@ module _ (source : Source) (list : List ℕ) (plan : Digest) (inputs : List (Lis
           | inr drove ↦ back (drove.greeted q.0 q.1)
         ]
 
-    drove : (h : ℕ) (lt : h < n) → WasDriven (lists_at h) (at_start (code_of h j)) plan.bytes h (peers h) (link_of h lt) (run h).result
+    drove : (h : ℕ) (lt : h < n) → WasDriven (lists_at h) (at_start (code_at h (inl lt))) plan.bytes h (peers h) (link_of h lt) (run h).result
     drove h lt = elim (stage_of h lt) [ inl r ↦ absurd (never_refused (h + number_at h r.count) h lt r (omega arith)) | inr d ↦ d ]
 
     -- ---- each host, and what it waits for
@@ -538,7 +577,7 @@ module _ (source : Source) (list : List ℕ) (plan : Digest) (inputs : List (Lis
     record WaitsAt (h : ℕ) (place : Place h) : Type 0 where
       lists : Lists
       supplied : (q : List_of) (i : ℕ) → s h q i ≡ items_of lists q i
-      made : Made lists (at_start (code_of h j)) (λ p. drop 36 (bytes_that_came (link_in h place p))) (λ p. drop 36 (bytes_that_went (link_in h place p)))
+      made : Made lists (at_start (code_at h place)) (λ p. drop 36 (bytes_that_came (link_in h place p))) (λ p. drop 36 (bytes_that_went (link_in h place p)))
       went_is : (p : ℕ) → drop 36 (bytes_that_went (link_in h place p)) ≡ frames (sent_to p made.events)
       waits : WaitsAs lists made.events made.state (λ p. drop 36 (bytes_that_came (link_in h place p)))
       well : h < n → made.state.pending ≡ Finished → (done : Ended) × ((run h).result ≡ Ok done)
@@ -558,7 +597,7 @@ module _ (source : Source) (list : List ℕ) (plan : Digest) (inputs : List (Lis
     waits_at h (inr le) = record {
       lists = nothing_dealt;
       supplied = λ q i. ap (λ (o : Option Deal). items_for inputs h o q i) (past_list deals h (let e = are.each in omega (arith, le, e))) ∙ sym (no_items q i);
-      made = record { steps = 0; events = []; state = at_start (code_of h j); reached = AtStart; came = λ p. ([], refl); sent = λ p. ([], refl) };
+      made = record { steps = 0; events = []; state = at_start (code_at h (inr le)); reached = AtStart; came = λ p. ([], refl); sent = λ p. ([], refl) };
       went_is = λ p. refl;
       waits = inl (ended_past program list base.made base.numbers base.runnable h le);
       well = λ less e. absurd (omega (arith, less, le));
@@ -570,7 +609,7 @@ module _ (source : Source) (list : List ℕ) (plan : Digest) (inputs : List (Lis
     abbrev lists : ℕ → Lists
     lists h = (waiting h).lists
 
-    abbrev made : (h : ℕ) → Made (lists h) (at_start (code_of h j)) (come h) (went h)
+    abbrev made : (h : ℕ) → Made (lists h) (at_start (codes h)) (come h) (went h)
     made h = (waiting h).made
 
     abbrev events : ℕ → List Event
@@ -579,14 +618,14 @@ module _ (source : Source) (list : List ℕ) (plan : Digest) (inputs : List (Lis
     abbrev state : ℕ → State
     state h = (made h).state
 
-    are_driven : AreDriven s j lists events state
-    are_driven = driven s j lists come went hosts (λ h. (waiting h).supplied) made linked
+    are_driven : AreDriven s codes lists events state
+    are_driven = driven s j n codes lists come went hosts (λ h. (waiting h).supplied) made linked
 
     are_told : AreTold s j events state
-    are_told = tells s j lists come went hosts (λ h. (waiting h).supplied) made linked
+    are_told = tells s j n codes lists come went hosts (λ h. (waiting h).supplied) made linked
 
     are_sound : (h : ℕ) → AreSound (events h) (state h)
-    are_sound h = sound s j lists come went hosts (λ h. (waiting h).supplied) made linked h
+    are_sound h = sound s j n codes lists come went hosts (λ h. (waiting h).supplied) made linked h
 
     -- all that one sent to another came there, whoever they are
     nothing_either : (u v : Option Used) → u ≡ None → v ≡ None → bytes_that_came u ≡ bytes_that_went v
@@ -629,13 +668,13 @@ module _ (source : Source) (list : List ℕ) (plan : Digest) (inputs : List (Lis
         elim (waiting h).waits [
           | inl finished ↦ subst (WaitsFor events h) (sym (ended_need (state h) finished)) tt
           | inr (inl short) ↦
-              absurd (never_short s j lists events state hosts.well goes.enough are_driven h
+              absurd (never_short s j n codes lists events state hosts.well all_hastened goes.enough are_driven h
               (short_same (items_of (lists h)) (s h) (waiting h).supplied (state h).cursors (need (state h)) short))
           | inr (inr w) ↦ subst (WaitsFor events h) (sym w.2) (received_all h w.0 w.1 w.2 w.3 w.4 w.5)
         ]
 
     pub each_ends : (h : ℕ) → h < n → (done : Ended) × ((run h).result ≡ Ok done)
-    each_ends h lt = (waiting h).well lt (waiting_ended s j lists events state hosts.well goes.enough are_driven waits_for h)
+    each_ends h lt = (waiting h).well lt (waiting_ended s j n codes lists events state hosts.well goes.enough all_hastened are_driven waits_for h)
 
 pub running_hosts_tell_the_source : RunningHostsTellTheSource
 running_hosts_tell_the_source source list plan inputs deals run are h lt = each_tells source list plan inputs deals run are h (are.stored h lt) h lt

@@ -1,14 +1,18 @@
--- Programs that run over links: each host by itself, from its own files.
+-- Programs that run over links: each host by itself, from its own files. Any of the programs may be hastened.
 use Rattle.std.specs.Prelude.{◌≡◌, ◌≢◌, ◌<◌, ◌+◌, ◌++◌, ℕ, IsTrue, List, [], Some, Result, Ok, Err, length, slice_get, slice_index_or}
 use Rattle.vd_core.specs.declared.normal.NormalForm.{NormalForm}
 use Rattle.vd_core.specs.declared.source.Source.{Source}
 use Rattle.vd_meaning.specs.SourceMeaning.{source_outputs}
 use Rattle.vd_normal.specs.Normal.{normal_form}
 use Rattle.vd_deals.specs.declared.deal.Deal.{Deal}
+use Rattle.vd_execution.specs.Code.{Code}
+use Rattle.vd_execution.specs.Text.{IsCodeOf}
 use Rattle.vd_execution.specs.World.{IsPrefixOf}
+use Rattle.vd_hastening.specs.Hastening.{IsHastened}
 use Rattle.vd_suite.specs.Whole.{inputs_of}
 use Rattle.vd_play.specs.Supplies.{AreFiles}
 use Rattle.vd_host_text.specs.declared.program.Digest.{Digest}
+use Rattle.vd_host_text.specs.declared.program.HostProgram.{HostProgram}
 use Rattle.vd_read_back.specs.Stored.{CanBeStored, stored_program}
 use Rattle.vd_outside.specs.Net.{NetView}
 use Rattle.vd_outside.specs.Sink.{SinkView}
@@ -35,15 +39,28 @@ pub record Run : Type 0 where
 abbrev pub IsPlayed : Run → Type 0
 IsPlayed run = Plays run.ready.machine run.ready.task run.net run.net_now run.out run.out_now run.result
 
--- it starts as the host with this number: from the program that `compile` stores for it, its inputs and its deal, with an address for
--- each other host
+-- the same host of the same plan, with a code to which exchanges of neighbours lead: the program itself, or what `hasten` makes of it
+pub record IsHastenedProgram (own now : HostProgram) : Type 0 where
+  pub hosts : now.hosts ≡ own.hosts
+  pub me : now.me ≡ own.me
+  pub plan : now.plan ≡ own.plan
+  pub old_code : Code
+  pub new_code : Code
+  pub old_is : IsCodeOf own.code old_code
+  pub new_is : IsCodeOf now.code new_code
+  pub hastened : IsHastened old_code new_code
+
+-- it starts as the host with this number: from the program that `compile` stores for it or from a hastened one, its inputs and its deal,
+-- with an address for each other host
 pub record StartsAs (program : NormalForm) (list : List ℕ) (plan : Digest) (inputs : List (List ℕ)) (deals : List Deal) (h : ℕ)
     (run : Run) : Type 0 where
   pub addresses : List (List ℕ)
   pub deal : Deal
   pub dealt : slice_get deals h ≡ Some deal
   pub peers : length addresses + 1 ≡ length program.hosts
-  pub starts : Starts (stored_program program list plan h) (inputs_of inputs h) deal addresses run.ready
+  pub host : HostProgram
+  pub hastened : IsHastenedProgram (stored_program program list plan h) host
+  pub starts : Starts host (inputs_of inputs h) deal addresses run.ready
 
 -- All hosts of a program at a valid list of protocols are run, each from its own files, on inputs and a consistent deal. All links tell
 -- their bytes, and what came to one host on its link to another is a prefix of what that one sent there. Nothing is said of when.
