@@ -11,7 +11,7 @@ use Rattle.vd_machine.specs.Machines.{cursors_of, held}
 use Rattle.vd_read_back.specs.Stored.{stored_program}
 use Rattle.vd_host_start.specs.Starts.{Starts}
 use Rattle.vd_suite.specs.Whole.{inputs_of}
-use Rattle.vd_running_hosts.specs.Running.{StartsAs}
+use Rattle.vd_running_hosts.specs.Running.{IsHastenedProgram, StartsAs}
 use Rattle.vd_running_instance.specs.Instance.{address, deal_of, deals, inputs, list, machine_a, machine_b, plan, register, run, run_a, run_b}
 use Rattle.vd_running_instance.proofs.Files.{no_word}
 use Rattle.vd_running_instance.proofs.Program.{joint, joint_is, program}
@@ -79,7 +79,11 @@ starts_b = record {
   deal_is = refl;
 }
 
+-- each runs the program as it is stored
+as_stored : (h : ℕ) (c : Code) → IsCodeOf (stored_program program list plan h).code c → IsHastenedProgram (stored_program program list plan h) (stored_program program list plan h)
+as_stored h c is = record { hosts = refl; me = refl; plan = refl; old_code = c; new_code = c; old_is = is; new_is = is; hastened = (0, refl) }
+
 pub starts : (h : ℕ) → h < 2 → StartsAs program list plan inputs deals h (run h)
-starts zero lt = record { addresses = address ∷ []; deal = deal_of 0; dealt = refl; peers = refl; starts = starts_a }
-starts (suc zero) lt = record { addresses = address ∷ []; deal = deal_of 1; dealt = refl; peers = refl; starts = starts_b }
+starts zero lt = record { addresses = address ∷ []; deal = deal_of 0; dealt = refl; peers = refl; host = stored_program program list plan 0; hastened = as_stored 0 tree_a read_a; starts = starts_a }
+starts (suc zero) lt = record { addresses = address ∷ []; deal = deal_of 1; dealt = refl; peers = refl; host = stored_program program list plan 1; hastened = as_stored 1 tree_b read_b; starts = starts_b }
 starts (suc (suc h)) lt = absurd (omega (arith, lt))
