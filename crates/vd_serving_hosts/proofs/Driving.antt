@@ -23,7 +23,7 @@ use Rattle.vd_machine.specs.Wants.{count_of, short, want_of}
 use Rattle.vd_link.specs.Laws.{ArePackets, AreWords}
 use Rattle.vd_engine.specs.Events.{Event, Reached, AtStart, OneMore, IsHeard, received_in, shown, packet_to, sent_to}
 use Rattle.vd_engine.specs.Hosts.{wants_with, next_with, seen_at}
-use Rattle.vd_linked_hosts.specs.Linked.{AreHosts}
+use Rattle.vd_linked_hosts.specs.Linked.{AreOwnHosts}
 use Rattle.vd_linked_hosts.proofs.Fronts.{flat_both}
 use Rattle.vd_linked_hosts.proofs.Words.{AreItems, sound_from}
 use Rattle.vd_serving_hosts.proofs.Passing.{of_that_length}
@@ -111,7 +111,7 @@ item_words : (source : Source) (o : Option (List ℕ)) → AreItem (or_zeros sou
 item_words source None all = λ place. omega arith
 item_words source (Some xs) all = all
 
-module _ (s : Supply) (j : Joint) (lists : ℕ → Lists) (hosts : AreHosts s j) (supplied : (g : ℕ) (source : Source) (i : ℕ) → s g source i ≡ items_of (lists g) source i) where
+module _ (s : Supply) (j : Joint) (lists : ℕ → Lists) (hosts : AreOwnHosts s j) (supplied : (g : ℕ) (source : Source) (i : ℕ) → s g source i ≡ items_of (lists g) source i) where
   abbrev pub start : ℕ → State
   start h = at_start (code_of h j)
 

@@ -22,7 +22,7 @@ use Rattle.vd_engine.specs.Events.{Event, Reached, received_from}
 use Rattle.vd_engine.specs.Hosts.{wants_with, next_with, seen_at}
 use Rattle.vd_histories.specs.Histories.{GetsFor, Goes, gone, IsLinked, TakesSent}
 use Rattle.vd_all_hosts.proofs.Steps.{traced}
-use Rattle.vd_linked_hosts.specs.Linked.{AreHosts}
+use Rattle.vd_linked_hosts.specs.Linked.{AreOwnHosts}
 use Rattle.vd_linked_hosts.proofs.Fronts.{packets_front}
 use Rattle.vd_linked_hosts.proofs.Words.{sound_from}
 use Rattle.vd_serving_hosts.specs.Serving.{Brings, IsSentAll, OthersSendEnough}
@@ -86,7 +86,7 @@ comes_next p count events sent z (Some session) fit others come brings size at =
 
 -- ---- all of it
 
-module _ (s : Supply) (j : Joint) (lists : ℕ → Lists) (h : ℕ) (sessions : Sessions) (hosts : AreHosts s j) (enough : Suffices s (last_of s j))
+module _ (s : Supply) (j : Joint) (lists : ℕ → Lists) (h : ℕ) (sessions : Sessions) (hosts : AreOwnHosts s j) (enough : Suffices s (last_of s j))
     (supplied : (g : ℕ) (source : Source) (i : ℕ) → s g source i ≡ items_of (lists g) source i) (brought : IsSentAll s j h sessions) where
   abbrev end : World
   end = at_end (last_of s j)
@@ -123,7 +123,7 @@ module _ (s : Supply) (j : Joint) (lists : ℕ → Lists) (h : ℕ) (sessions : 
 
     all_there : IsThere sessions events (wants_with (lists h) state)
     all_there =
-        let t = traced s h (lists h) j (supplied h) steps events state reached in
+        let t = traced s h (lists h) (λ g. code_of g j) (supplied h) steps events state reached in
         let f = passed s count (started j) end to_end h in
         let linked = t.links sent (λ p. front_of (received_from p events) (sent p) (sessions p) (received_packets p) (sent_packets p) (come p) (brought p)) in
         let r = rest_of s h sent (started j h) t.words f.words t.goes linked f.goes f.linked (ap (λ (l : Local). l.state.pending) f.ends) in

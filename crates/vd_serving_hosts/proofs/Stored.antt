@@ -23,7 +23,8 @@ use Rattle.vd_play.specs.Supplies.{AreFiles, items_for, lists_for, supply_of_fil
 use Rattle.vd_play.proofs.Supplies.{files_are_valid}
 use Rattle.vd_read_back.specs.Stored.{CanBeStored, stored_program}
 use Rattle.vd_read_back.proofs.Files.{stored_programs_stand_in_files}
-use Rattle.vd_linked_hosts.specs.Linked.{AreHosts, NumbersAreWords}
+use Rattle.vd_linked_hosts.specs.Linked.{AreOwnHosts, NumbersAreWords}
+use Rattle.vd_linked_hosts.proofs.Joined.{own_codes}
 use Rattle.vd_running_hosts.proofs.Numbers.{numbers_small}
 use Rattle.vd_running_hosts.proofs.Running.{no_items, nothing_dealt}
 use Rattle.vd_serving_hosts.specs.Serving.{StoredHostsAreServed}
@@ -71,12 +72,13 @@ module _ (program : NormalForm) (list : List ℕ) (plan : Digest) (inputs : List
   numbers g (inl lt) = numbers_small (stored_program program list plan g).code (code_of g j) _ (stored_programs_stand_in_files program list plan g (can_be g lt)).file.lines (is_code g lt)
   numbers g (inr le) = subst NumbersAreWords (sym (ended_past program list can.made can.numbers can.runnable g le)) tt
 
-  hosts : AreHosts s j
+  hosts : AreOwnHosts s j
   hosts =
       let valid = files_are_valid inputs deals files in
       record {
         well = codes_run_well program list can.made can.numbers can.runnable inputs files.words s valid.0 valid.1;
         deal = valid.0;
+        hastened = own_codes 0 j;
         numbers = λ g. numbers g (cases_lt g n);
       }
 

@@ -17,7 +17,7 @@ use Rattle.vd_engine.specs.Enough.{IsEnough}
 use Rattle.vd_host_programs.specs.Programs.{joint_of}
 use Rattle.vd_host_text.specs.declared.program.Digest.{Digest}
 use Rattle.vd_play.specs.Supplies.{AreFiles, lists_for, supply_of_files}
-use Rattle.vd_linked_hosts.specs.Linked.{AreHosts}
+use Rattle.vd_linked_hosts.specs.Linked.{AreOwnHosts}
 use Rattle.vd_read_back.specs.Stored.{CanBeStored, stored_program}
 
 -- these packets come on a session, and nothing else; where there is no session there are none
@@ -32,7 +32,7 @@ IsSentAll s j h sessions = (p : ℕ) → Brings ((last_of s j p).sent h) (sessio
 -- Where the lists of all hosts suffice, a host has all that it wants to whom the others send what they send in the joint run: wherever
 -- its steps lead on the packets that come, the awaited one comes whole, no compared words differ, and its own lists suffice.
 abbrev pub OthersSendEnough : Type 0
-OthersSendEnough = (s : Supply) (j : Joint) (lists : ℕ → Lists) (h : ℕ) (sessions : Sessions) → AreHosts s j → Suffices s (last_of s j)
+OthersSendEnough = (s : Supply) (j : Joint) (lists : ℕ → Lists) (h : ℕ) (sessions : Sessions) → AreOwnHosts s j → Suffices s (last_of s j)
     → ((g : ℕ) (source : Source) (i : ℕ) → s g source i ≡ items_of (lists g) source i) → IsSentAll s j h sessions
     → IsEnough (lists h) (at_start (code_of h j)) sessions
 
