@@ -1,0 +1,6 @@
+mod Steps
+mod Untouched
+mod Once
+mod Numbers
+mod Told
+pub mod Made
