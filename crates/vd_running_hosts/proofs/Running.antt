@@ -8,10 +8,8 @@ use Rattle.std.specs.Prelude.{drop, slice_get, slice_index_or}
 use Rattle.vd_base.specs.HostSets.{host}
 use Rattle.vd_base.specs.declared.ids.HostId.{HostId}
 use Rattle.vd_core.specs.declared.normal.NormalForm.{NormalForm}
-use Rattle.vd_core.specs.declared.source.Source.{Source}
+use Rattle.vd_meaning.specs.ProgramMeaning.{program_outputs}
 use Rattle.vd_meaning.specs.SourceMeaning.{source_outputs}
-use Rattle.vd_normal.specs.Normal.{normal_form}
-use Rattle.vd_normal.proofs.Kept.{outputs_kept}
 use Rattle.vd_deals.specs.declared.deal.Deal.{Deal}
 use Rattle.vd_outside.specs.Link.{LinkView}
 use Rattle.vd_outside.specs.Net.{NetView}
@@ -278,11 +276,8 @@ ended_well l events m come (Err (engine_fault.EndOfLink peer)) result w e well =
 
 -- ---- all hosts
 
-module _ (source : Source) (list : List ℕ) (plan : Digest) (inputs : List (List ℕ)) (deals : List Deal) (run : ℕ → Run) (are : AreRunOverLinks (normal_form source) list plan inputs deals run)
-    (one : ℕ) (base : CanBeStored (normal_form source) list plan one) where
-  abbrev program : NormalForm
-  program = normal_form source
-
+module _ (program : NormalForm) (list : List ℕ) (plan : Digest) (inputs : List (List ℕ)) (deals : List Deal) (run : ℕ → Run) (outputs : List (List ℕ)) (same : program_outputs program inputs ≡ outputs)
+    (are : AreRunOverLinks program list plan inputs deals run) (one : ℕ) (base : CanBeStored program list plan one) where
   abbrev n : ℕ
   n = length program.hosts
 
@@ -355,12 +350,12 @@ module _ (source : Source) (list : List ℕ) (plan : Digest) (inputs : List (Lis
         numbers = numbers;
       }
 
-  prints : (h : ℕ) → h < n → (last_of s j h).printed ≡ slice_index_or (source_outputs source inputs) h []
+  prints : (h : ℕ) → h < n → (last_of s j h).printed ≡ slice_index_or outputs h []
   prints h lt =
       let t : Tape = followed_by_zeros s in
       let valid = files_are_valid inputs deals are.files in
       let told : RunsAsToldBy program (protos_at program list) inputs t = codes_run_as_told program list base.made base.numbers base.runnable inputs are.files.words t valid.0 valid.1 in
-      sym (get_or-map-range_with_len (λ (k : ℕ). (last_of s j k).printed) 0 n h h [] lt (omega arith)) ∙ ap (λ (outputs : List (List ℕ)). slice_index_or outputs h []) (told.prints ∙ outputs_kept source inputs)
+      sym (get_or-map-range_with_len (λ (k : ℕ). (last_of s j k).printed) 0 n h h [] lt (omega arith)) ∙ ap (λ (o : List (List ℕ)). slice_index_or o h []) (told.prints ∙ same)
 
   -- ---- its links
 
@@ -480,9 +475,9 @@ module _ (source : Source) (list : List ℕ) (plan : Digest) (inputs : List (Lis
 
   front_of_text : (h : ℕ) (lt : h < n) (front : List ℕ)
       → IsPrefixOf front (listening ++ lines (printed (made_by h).events)) ⊎ (((made_by h).state.pending ≡ Finished) × IsPrefixOf front (text_of (printed (made_by h).events)))
-      → IsPrefixOf front (text_of (slice_index_or (source_outputs source inputs) h []))
+      → IsPrefixOf front (text_of (slice_index_or outputs h []))
   front_of_text h lt front (inl part) =
-      let told_words = slice_index_or (source_outputs source inputs) h [] in
+      let told_words = slice_index_or outputs h [] in
       let words = subst (IsPrefixOf (printed (made_by h).events)) (prints h lt) (told.prints h) in
       let texts = flat_front _ (printed (made_by h).events) told_words words in
       front_trans front _ _ part (front_both listening (lines (printed (made_by h).events)) (lines told_words ++ ended) (front_trans _ (lines told_words) _ texts (ended, refl)))
@@ -490,11 +485,11 @@ module _ (source : Source) (list : List ℕ) (plan : Digest) (inputs : List (Lis
 
   writes : (h : ℕ) (lt : h < n) (r : Result Ended HostFault) → (run h).result ≡ r
       → EndsAs (at h).lists (at_start (codes h)) plan.bytes h (links h) (run h).out (run h).out_now (made_by h).events (made_by h).state r
-      → IsTrue (run h).out_now.told → WritesUpTo (run h).out (run h).out_now (text_of (slice_index_or (source_outputs source inputs) h [])) r
+      → IsTrue (run h).out_now.told → WritesUpTo (run h).out (run h).out_now (text_of (slice_index_or outputs h [])) r
   writes h lt (Ok done) is e t = e.1 t ∙ ap (λ (words : List ℕ). (run h).out.taken ++ text_of words) (told.all_printed h e.0 ∙ prints h lt)
   writes h lt (Err cause) is e t = let w = (at h).written lt t in (w.0, front_of_text h lt w.0 w.2, w.1)
 
-  pub each_tells : (h : ℕ) → h < n → WritesWhatItIsTold (slice_index_or (source_outputs source inputs) h []) (run h)
+  pub each_tells : (h : ℕ) → h < n → WritesWhatItIsTold (slice_index_or outputs h []) (run h)
   each_tells h lt =
       let e = (at h).ends_as lt in
       record { written = writes h lt (run h).result refl e; blames = blames h (run h).result e }
@@ -505,19 +500,19 @@ module _ (source : Source) (list : List ℕ) (plan : Digest) (inputs : List (Lis
   items h q i = item_words q (items_of (at h).lists q i) (subst (λ (o : Option (List ℕ)). AreItem (or_zeros q o)) ((at h).supplied q i) (hosts.deal.words h q i))
 
   -- what a host is told that ends are numbers of 32 bits
-  pub told_words : (h : ℕ) → h < n → (done : Ended) → (run h).result ≡ Ok done → AreWords (slice_index_or (source_outputs source inputs) h [])
+  pub told_words : (h : ℕ) → h < n → (done : Ended) → (run h).result ≡ Ok done → AreWords (slice_index_or outputs h [])
   told_words h lt done is =
       let m = made_by h in
       let e = subst (EndsAs (at h).lists (at_start (codes h)) plan.bytes h (links h) (run h).out (run h).out_now m.events m.state) is ((at h).ends_as lt) in
       subst AreWords (told.all_printed h e.0 ∙ prints h lt)
       (printed_words (at h).lists (items h) (at_start (codes h)) (λ r. omega arith) (numbers h) m.steps m.events m.state m.reached)
 
-  pub outputs_count : length (source_outputs source inputs) ≡ n
+  pub outputs_count : length outputs ≡ n
   outputs_count =
       let t : Tape = followed_by_zeros s in
       let valid = files_are_valid inputs deals are.files in
       let as_told : RunsAsToldBy program (protos_at program list) inputs t = codes_run_as_told program list base.made base.numbers base.runnable inputs are.files.words t valid.0 valid.1 in
-      ap (λ (outputs : List (List ℕ)). length outputs) (sym (as_told.prints ∙ outputs_kept source inputs)) ∙ length-map-range_with_len (λ (k : ℕ). (last_of s j k).printed) 0 n
+      ap (λ (o : List (List ℕ)). length o) (sym (as_told.prints ∙ same)) ∙ length-map-range_with_len (λ (k : ℕ). (last_of s j k).printed) 0 n
 
   -- ---- where all goes through, all end
 
@@ -677,7 +672,7 @@ module _ (source : Source) (list : List ℕ) (plan : Digest) (inputs : List (Lis
     each_ends h lt = (waiting h).well lt (waiting_ended s j n codes lists events state hosts.well goes.enough all_hastened are_driven waits_for h)
 
 pub running_hosts_tell_the_source : RunningHostsTellTheSource
-running_hosts_tell_the_source source list plan inputs deals run are h lt = each_tells source list plan inputs deals run are h (are.stored h lt) h lt
+running_hosts_tell_the_source source program list plan inputs deals run same are h lt = each_tells program list plan inputs deals run (source_outputs source inputs) same are h (are.stored h lt) h lt
 
 pub running_hosts_end : RunningHostsEnd
-running_hosts_end source list plan inputs deals run are goes h lt = each_ends source list plan inputs deals run are h (are.stored h lt) goes h lt
+running_hosts_end program list plan inputs deals run are goes h lt = each_ends program list plan inputs deals run (program_outputs program inputs) refl are h (are.stored h lt) goes h lt

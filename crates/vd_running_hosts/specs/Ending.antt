@@ -1,8 +1,6 @@
 -- When all hosts that are run end.
 use Rattle.std.specs.Prelude.{◌≡◌, ◌≢◌, ◌<◌, ℕ, List, length, Result, Ok, Err}
 use Rattle.vd_core.specs.declared.normal.NormalForm.{NormalForm}
-use Rattle.vd_core.specs.declared.source.Source.{Source}
-use Rattle.vd_normal.specs.Normal.{normal_form}
 use Rattle.vd_deals.specs.declared.deal.Deal.{Deal}
 use Rattle.vd_schedules.specs.Claims.{Suffices, last_of}
 use Rattle.vd_play.specs.Supplies.{supply_of_files}
@@ -30,8 +28,8 @@ pub record GoesThrough (program : NormalForm) (list : List ℕ) (plan : Digest) 
       → bytes_that_came (link_to (are.plays b is_b) a) ≡ bytes_that_went (link_to (are.plays a is_a) b)
   pub enough : Suffices (supply_of_files inputs deals) (last_of (supply_of_files inputs deals) (joint_of program list))
 
--- Then all hosts of the source end well: they are never all waiting for bytes that nobody will send.
+-- Then all hosts of the program end well: they are never all waiting for bytes that nobody will send.
 abbrev pub RunningHostsEnd : Type 0
-RunningHostsEnd = (source : Source) (list : List ℕ) (plan : Digest) (inputs : List (List ℕ)) (deals : List Deal) (run : ℕ → Run)
-    → (are : AreRunOverLinks (normal_form source) list plan inputs deals run) → GoesThrough (normal_form source) list plan inputs deals run are
-    → (h : ℕ) → h < length (normal_form source).hosts → (done : Ended) × ((run h).result ≡ Ok done)
+RunningHostsEnd = (program : NormalForm) (list : List ℕ) (plan : Digest) (inputs : List (List ℕ)) (deals : List Deal) (run : ℕ → Run)
+    → (are : AreRunOverLinks program list plan inputs deals run) → GoesThrough program list plan inputs deals run are
+    → (h : ℕ) → h < length program.hosts → (done : Ended) × ((run h).result ≡ Ok done)

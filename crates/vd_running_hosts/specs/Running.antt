@@ -2,8 +2,8 @@
 use Rattle.std.specs.Prelude.{◌≡◌, ◌≢◌, ◌<◌, ◌+◌, ◌++◌, ℕ, IsTrue, List, [], Some, Result, Ok, Err, length, slice_get, slice_index_or}
 use Rattle.vd_core.specs.declared.normal.NormalForm.{NormalForm}
 use Rattle.vd_core.specs.declared.source.Source.{Source}
+use Rattle.vd_meaning.specs.ProgramMeaning.{program_outputs}
 use Rattle.vd_meaning.specs.SourceMeaning.{source_outputs}
-use Rattle.vd_normal.specs.Normal.{normal_form}
 use Rattle.vd_deals.specs.declared.deal.Deal.{Deal}
 use Rattle.vd_execution.specs.Code.{Code}
 use Rattle.vd_execution.specs.Text.{IsCodeOf}
@@ -98,8 +98,8 @@ pub record WritesWhatItIsTold (words : List ℕ) (run : Run) : Type 0 where
   pub written : IsTrue run.out_now.told → WritesUpTo run.out run.out_now (text_of words) run.result
   pub blames : BlamesNobody run.result
 
--- So do all hosts of a source.
+-- So do all hosts of a program that tells them what a source tells them.
 abbrev pub RunningHostsTellTheSource : Type 0
-RunningHostsTellTheSource = (source : Source) (list : List ℕ) (plan : Digest) (inputs : List (List ℕ)) (deals : List Deal) (run : ℕ → Run)
-    → AreRunOverLinks (normal_form source) list plan inputs deals run
-    → (h : ℕ) → h < length (normal_form source).hosts → WritesWhatItIsTold (slice_index_or (source_outputs source inputs) h []) (run h)
+RunningHostsTellTheSource = (source : Source) (program : NormalForm) (list : List ℕ) (plan : Digest) (inputs : List (List ℕ)) (deals : List Deal) (run : ℕ → Run)
+    → program_outputs program inputs ≡ source_outputs source inputs → AreRunOverLinks program list plan inputs deals run
+    → (h : ℕ) → h < length program.hosts → WritesWhatItIsTold (slice_index_or (source_outputs source inputs) h []) (run h)
