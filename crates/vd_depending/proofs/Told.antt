@@ -102,5 +102,5 @@ module _ (name : List ℕ) (p : NormalForm) where
 
 pub dependence_told : (source name : List ℕ) (before : FilesView) (tree : Source) (result : Result Answer Status) → (IsTrue before.told → HoldsSource source before.contents tree) → TellsSource name tree result
     → TellsDependence source name before result
-dependence_told source name before tree (Ok answer) held tells = λ t ends. record { tree = tree; held = held t; line = tells ends }
+dependence_told source name before tree (Ok answer) held tells = λ t ends. let run = tells ends in record { tree = tree; held = held t; program = run.0; is_run = run.1; line = run.2 }
 dependence_told source name before tree (Err status) held tells = λ t. tt

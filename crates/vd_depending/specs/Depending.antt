@@ -7,6 +7,7 @@ use Rattle.vd_base.specs.declared.protocols.HostSet.{HostSet}
 use Rattle.vd_core.specs.declared.source.Source.{Source}
 use Rattle.vd_core.specs.declared.normal.NormalForm.{NormalForm}
 use Rattle.vd_normal.specs.Normal.{normal_form}
+use Rattle.vd_rewritten.specs.RunPrograms.{run_form}
 use Rattle.vd_outside.specs.Files.{FilesView, Contents}
 use Rattle.vd_report.specs.Hosts.{host_of}
 use Rattle.vd_report.specs.Lines.{number_field}
@@ -39,14 +40,15 @@ program_plan least outcomes name p =
     check_then (as_host p.hosts name) (λ h. check_then (labels_of least p) (λ labels. answer_then (ended [] (hosts_line p.hosts h (outcomes.hosts p labels h)))))
 
 abbrev pub depends_plan : TextOutcomes → LabelOutcomes → DependenceOutcomes → List ℕ → List ℕ → Contents → Plan
-depends_plan texts least outcomes source name = source_then texts source (λ tree. program_plan least outcomes name (normal_form tree))
+depends_plan texts least outcomes source name = source_then texts source (λ tree. program_plan least outcomes name (run_form least (normal_form tree)))
 
 abbrev pub ExecutesProgram : List ℕ → NormalForm → Result Answer Status → Type 0
 ExecutesProgram name p result =
     (least : LabelOutcomes) (outcomes : DependenceOutcomes) (files : FilesView) → Executes true (program_plan least outcomes name p) files files result
 
 abbrev pub ExecutesSource : List ℕ → Source → Result Answer Status → Type 0
-ExecutesSource name source result = ExecutesProgram name (normal_form source) result
+ExecutesSource name source result =
+    (least : LabelOutcomes) (outcomes : DependenceOutcomes) (files : FilesView) → Executes true (program_plan least outcomes name (run_form least (normal_form source))) files files result
 
 abbrev pub ExecutesDepends : List ℕ → List ℕ → FilesView → FilesView → Result Answer Status → Type 0
 ExecutesDepends source name before now result =

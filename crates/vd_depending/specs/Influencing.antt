@@ -7,6 +7,8 @@ use Rattle.vd_core.specs.Facts.{IsWellMade}
 use Rattle.vd_core.specs.declared.source.Source.{Source}
 use Rattle.vd_core.specs.declared.normal.NormalForm.{NormalForm}
 use Rattle.vd_normal.specs.Normal.{normal_form}
+use Rattle.vd_rewritten.specs.RunPrograms.{run_form}
+use Rattle.vd_rewritten.specs.RunPrograms.{IsRunProgram}
 use Rattle.vd_outside.specs.Files.{FilesView, Contents}
 use Rattle.vd_report.specs.Hosts.{host_of}
 use Rattle.vd_report.specs.Lines.{number_field}
@@ -47,14 +49,15 @@ influence_plan least outcomes name p =
     check_then (as_host p.hosts name) (λ h. check_then (labels_of least p) (λ labels. answer_then (ended [] (influence_line p.hosts h (outcomes.hosts true p h) (outcomes.hosts false p h)))))
 
 abbrev pub influences_plan : TextOutcomes → LabelOutcomes → InfluenceOutcomes → List ℕ → List ℕ → Contents → Plan
-influences_plan texts least outcomes source name = source_then texts source (λ tree. influence_plan least outcomes name (normal_form tree))
+influences_plan texts least outcomes source name = source_then texts source (λ tree. influence_plan least outcomes name (run_form least (normal_form tree)))
 
 abbrev pub ExecutesProgram : List ℕ → NormalForm → Result Answer Status → Type 0
 ExecutesProgram name p result =
     (least : LabelOutcomes) (outcomes : InfluenceOutcomes) (files : FilesView) → Executes true (influence_plan least outcomes name p) files files result
 
 abbrev pub ExecutesSource : List ℕ → Source → Result Answer Status → Type 0
-ExecutesSource name source result = ExecutesProgram name (normal_form source) result
+ExecutesSource name source result =
+    (least : LabelOutcomes) (outcomes : InfluenceOutcomes) (files : FilesView) → Executes true (influence_plan least outcomes name (run_form least (normal_form source))) files files result
 
 abbrev pub ExecutesInfluences : List ℕ → List ℕ → FilesView → FilesView → Result Answer Status → Type 0
 ExecutesInfluences source name before now result =
@@ -79,17 +82,19 @@ pub record IsInfluenceLine (name : List ℕ) (p : NormalForm) (printed : List �
   -- each that is not named a second time has an integrity that acts for that of the host
   pub trusted : AreTrusted p host (is_member direct)
 
--- The file is the text of a source that meets every rule, and the line is that of its let-normal form.
+-- The file is the text of a source that meets every rule, and the line is that of the program that is run for it.
 pub record IsInfluenceOf (source name : List ℕ) (contents : Contents) (printed : List ℕ) : Type 0 where
   pub tree : Source
   pub held : HoldsSource source contents tree
-  pub line : IsInfluenceLine name (normal_form tree) printed
+  pub program : NormalForm
+  pub is_run : IsRunProgram tree program
+  pub line : IsInfluenceLine name program printed
 
 abbrev pub TellsProgram : List ℕ → NormalForm → Result Answer Status → Type 0
 TellsProgram name p result = IfOk result (λ answer. answer.status ≡ Ended → IsInfluenceLine name p answer.printed)
 
 abbrev pub TellsSource : List ℕ → Source → Result Answer Status → Type 0
-TellsSource name source result = TellsProgram name (normal_form source) result
+TellsSource name source result = IfOk result (λ answer. answer.status ≡ Ended → (program : NormalForm) × IsRunProgram source program × IsInfluenceLine name program answer.printed)
 
 abbrev pub TellsInfluence : (source name : List ℕ) → FilesView → Result Answer Status → Type 0
 TellsInfluence source name before result = Finds before result (λ contents answer. answer.status ≡ Ended → IsInfluenceOf source name contents answer.printed)

@@ -11,7 +11,7 @@ use Rattle.vd_dependence.specs.Dependence.{AreEnough, AreReached, AreReadable}
 use Rattle.vd_dependence.specs.Reading.{reads_result}
 use Rattle.vd_noninter.specs.Hosts.{members}
 use Rattle.vd_assigned_dependence.specs.Assigned.{HearsOnly, IsAssignment}
-use Rattle.vd_normal.specs.Normal.{normal_form}
+use Rattle.vd_rewritten.specs.RunPrograms.{IsRunProgram}
 use Rattle.vd_outside.specs.Files.{FilesView, Contents}
 use Rattle.vd_report.specs.Hosts.{host_of}
 use Rattle.vd_plan.specs.Held.{Finds}
@@ -39,17 +39,19 @@ pub record IsDependenceLine (name : List ℕ) (p : NormalForm) (printed : List �
   -- Whatever valid assignment of protocols is taken, two such families bring it the same clear words, in order.
   pub enough_assigned : (list : List ℕ) → IsAssignment p labels list → HearsOnly p labels list host (reads_result p labels host) (members set)
 
--- The file is the text of a source that meets every rule, and the line is that of its let-normal form.
+-- The file is the text of a source that meets every rule, and the line is that of the program that is run for it.
 pub record IsDependenceOf (source name : List ℕ) (contents : Contents) (printed : List ℕ) : Type 0 where
   pub tree : Source
   pub held : HoldsSource source contents tree
-  pub line : IsDependenceLine name (normal_form tree) printed
+  pub program : NormalForm
+  pub is_run : IsRunProgram tree program
+  pub line : IsDependenceLine name program printed
 
 abbrev pub TellsProgram : List ℕ → NormalForm → Result Answer Status → Type 0
 TellsProgram name p result = IfOk result (λ answer. answer.status ≡ Ended → IsDependenceLine name p answer.printed)
 
 abbrev pub TellsSource : List ℕ → Source → Result Answer Status → Type 0
-TellsSource name source result = TellsProgram name (normal_form source) result
+TellsSource name source result = IfOk result (λ answer. answer.status ≡ Ended → (program : NormalForm) × IsRunProgram source program × IsDependenceLine name program answer.printed)
 
 abbrev pub TellsDependence : (source name : List ℕ) → FilesView → Result Answer Status → Type 0
 TellsDependence source name before result = Finds before result (λ contents answer. answer.status ≡ Ended → IsDependenceOf source name contents answer.printed)

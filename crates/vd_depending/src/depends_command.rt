@@ -10,7 +10,6 @@ use crate::line::hosts_text;
 use std::alloc::Global;
 use vd_base::{HostId, HostSet, Names, Text};
 use vd_core::Program;
-use vd_elaborate::elaborate;
 use vd_frontend::{least_labels, load_source};
 use vd_items::Items;
 use vd_noninter::depends as hosts_that_matter;
@@ -18,6 +17,7 @@ use vd_outside::Files;
 use vd_plan::{Answer, Status};
 use vd_report::host_of;
 use vd_resolve::Resolved;
+use vd_rewritten::run_program;
 
 /// The host of this name.
 pub fn host_named(alloc: Global, hosts: &Names, name: &str) -> Result<HostId, Status>
@@ -66,7 +66,7 @@ fn depends_in_source(alloc: Global, source: &Resolved, name: &str) -> Result<Ans
     ensures executes { ExecutesSource name.now source.now result }
     ensures tells { TellsSource name.now source.now result }
 {
-    let program = elaborate(alloc, source)?;
+    let program = run_program(alloc, source)?;
     depends_in_program(alloc, &program, name)
 }
 

@@ -10,13 +10,13 @@ use crate::line::influence_text;
 use std::alloc::Global;
 use vd_base::{HostId, HostSet, Names};
 use vd_core::Program;
-use vd_elaborate::elaborate;
 use vd_frontend::{least_labels, load_source};
 use vd_items::Items;
 use vd_noninter::influences as hosts_that_bear;
 use vd_outside::Files;
 use vd_plan::{Answer, Status};
 use vd_resolve::Resolved;
+use vd_rewritten::run_program;
 
 /// Prints the line of a host and the hosts whose inputs bear on what it is told.
 fn influence_answer(
@@ -56,7 +56,7 @@ fn influences_in_source(alloc: Global, source: &Resolved, name: &str) -> Result<
     ensures executes { ExecutesSource name.now source.now result }
     ensures tells { TellsSource name.now source.now result }
 {
-    let program = elaborate(alloc, source)?;
+    let program = run_program(alloc, source)?;
     influences_in_program(alloc, &program, name)
 }
 
