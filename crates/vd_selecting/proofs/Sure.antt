@@ -8,6 +8,7 @@ use Rattle.vd_outside.specs.declared.stored.Stored.{Stored}
 use Rattle.vd_core.specs.declared.normal.NormalForm.{NormalForm}
 use Rattle.vd_core.specs.declared.source.Source.{Source}
 use Rattle.vd_normal.specs.Normal.{normal_form}
+use Rattle.vd_rewritten.specs.RunPrograms.{run_form}
 use Rattle.vd_space.specs.declared.problem.Problem.{Problem}
 use Rattle.vd_selection.specs.Choices.{ChoiceOutcomes, needed}
 use Rattle.vd_plan.specs.Plans.{Plan, check_then, answer_then}
@@ -79,5 +80,5 @@ pub choose_follows : (texts : TextOutcomes) (least : LabelOutcomes) (certificate
     → Follows (choose_plan texts least choices (sure_search choices) source budget files) (choose_plan texts least choices (searched_by certificates choices searched) source budget files)
 choose_follows texts least certificates choices searched source budget files =
     source_follows texts source (selected_plan least choices (sure_search choices) source budget) (selected_plan least choices (searched_by certificates choices searched) source budget) files
-    (λ tree. check_follows (problem_for least (normal_form tree)) (problem_plan choices (sure_search choices) source budget (normal_form tree)) (problem_plan choices (searched_by certificates choices searched) source budget (normal_form tree)) files
-    (λ problem. problem_follows choices source budget (normal_form tree) problem files certificates searched))
+    (λ tree. check_follows (problem_for least (run_form least (normal_form tree))) (problem_plan choices (sure_search choices) source budget (run_form least (normal_form tree))) (problem_plan choices (searched_by certificates choices searched) source budget (run_form least (normal_form tree))) files
+    (λ problem. problem_follows choices source budget (run_form least (normal_form tree)) problem files certificates searched))

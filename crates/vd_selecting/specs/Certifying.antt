@@ -6,6 +6,7 @@ use Rattle.vd_outside.specs.Files.{FilesView, Contents}
 use Rattle.vd_core.specs.declared.normal.NormalForm.{NormalForm}
 use Rattle.vd_core.specs.declared.source.Source.{Source}
 use Rattle.vd_normal.specs.Normal.{normal_form}
+use Rattle.vd_rewritten.specs.RunPrograms.{run_form}
 use Rattle.vd_certificate.specs.declared.certificate.Certificate.{Certificate}
 use Rattle.vd_bound.specs.declared.checking.CheckFault.{CheckFault}
 use Rattle.vd_bound.specs.declared.checking.CheckFault.TheVariants as check_fault
@@ -71,7 +72,7 @@ certified_plan least program certificate = check_then (problem_for least program
 
 -- what it does with a source that meets every rule
 abbrev pub certificate_plan : LabelOutcomes → CertificateOutcomes → List ℕ → Source → Contents → Plan
-certificate_plan least certificates name source = certificate_then certificates name (certified_plan least (normal_form source))
+certificate_plan least certificates name source = certificate_then certificates name (certified_plan least (run_form least (normal_form source)))
 
 abbrev pub certify_plan : TextOutcomes → LabelOutcomes → CertificateOutcomes → List ℕ → List ℕ → Contents → Plan
 certify_plan texts least certificates source name = source_then texts source (certificate_plan least certificates name)

@@ -5,6 +5,7 @@ use Rattle.vd_outside.specs.declared.stored.Stored.{Stored}
 use Rattle.vd_core.specs.declared.normal.NormalForm.{NormalForm}
 use Rattle.vd_core.specs.declared.source.Source.{Source}
 use Rattle.vd_normal.specs.Normal.{normal_form}
+use Rattle.vd_rewritten.specs.RunPrograms.{run_form}
 use Rattle.vd_report.specs.ChoiceLines.{choice_lines}
 use Rattle.vd_certificate.specs.declared.certificate.Certificate.{Certificate}
 use Rattle.vd_certificate.specs.Texts.{text_of}
@@ -73,12 +74,12 @@ abbrev pub problem_plan : ChoiceOutcomes → Search → List ℕ → ℕ → Nor
 problem_plan choices search source budget program problem =
     check_then (search problem budget) (λ bytes. answer_then (choice_answer program problem (choices.choose problem) (certificate_file source bytes)))
 
--- what `choose` does with a program, and with a source that meets every rule
+-- what `choose` does with a program, and with a source that meets every rule: it is the program that is run that it chooses for
 abbrev pub chosen_plan : LabelOutcomes → ChoiceOutcomes → Search → List ℕ → ℕ → NormalForm → Contents → Plan
 chosen_plan least choices search source budget program = check_then (problem_for least program) (problem_plan choices search source budget program)
 
 abbrev pub selected_plan : LabelOutcomes → ChoiceOutcomes → Search → List ℕ → ℕ → Source → Contents → Plan
-selected_plan least choices search source budget tree = chosen_plan least choices search source budget (normal_form tree)
+selected_plan least choices search source budget tree = chosen_plan least choices search source budget (run_form least (normal_form tree))
 
 abbrev pub choose_plan : TextOutcomes → LabelOutcomes → ChoiceOutcomes → Search → List ℕ → ℕ → Contents → Plan
 choose_plan texts least choices search source budget = source_then texts source (selected_plan least choices search source budget)
@@ -94,6 +95,10 @@ ExecutesProblem program problem source budget result =
 abbrev pub ExecutesProgram : NormalForm → List ℕ → ℕ → Result Answer Status → Type 0
 ExecutesProgram program source budget result =
     SomeSearch (λ choices search. (least : LabelOutcomes) (files : FilesView) → Executes true (chosen_plan least choices search source budget program) files files result)
+
+abbrev pub ExecutesTree : Source → List ℕ → ℕ → Result Answer Status → Type 0
+ExecutesTree tree source budget result =
+    SomeSearch (λ choices search. (least : LabelOutcomes) (files : FilesView) → Executes true (selected_plan least choices search source budget tree) files files result)
 
 abbrev pub ExecutesChoose : List ℕ → ℕ → FilesView → FilesView → Result Answer Status → Type 0
 ExecutesChoose source budget before now result =

@@ -14,12 +14,12 @@ use vd_base::Bytes;
 use vd_bound::{CheckFault, Proved};
 use vd_certificate::Certificate;
 use vd_core::Program;
-use vd_elaborate::elaborate;
 use vd_frontend::load_source;
 use vd_items::Items;
 use vd_outside::Files;
 use vd_plan::{Answer, CertificateFault, Status};
 use vd_resolve::Resolved;
+use vd_rewritten::run_program;
 use vd_selection::confirm;
 use vd_spaces::Space;
 
@@ -114,7 +114,7 @@ fn certify_source<F: Files>(
     ensures { ExecutesCertificate name.now source.now (F.view files.old) (F.view files.new) result }
 {
     let certificate = load_certificate(alloc, files, name)?;
-    let program = elaborate(alloc, source)?;
+    let program = run_program(alloc, source)?;
     certify_program(alloc, &program, &certificate)
 }
 

@@ -5,24 +5,23 @@ ghost use Rattle.vd_base.specs.HostSets.{host};
 ghost use Rattle.vd_base.specs.Limits.{most_search_budget};
 ghost use Rattle.vd_base.specs.declared.protocols.Proto.TheVariants.{Local as local};
 ghost use Rattle.vd_certificate.specs.Texts.{text_of};
-ghost use Rattle.vd_normal.specs.Normal.{normal_form};
 ghost use Rattle.vd_plan.specs.Plans.{Computes};
 ghost use Rattle.vd_report.specs.ChoiceLines.{choice_lines};
 ghost use Rattle.vd_space.specs.Validity.{protocol};
-ghost use Rattle.vd_selecting.specs.Choosing.{ExecutesChoose, ExecutesProblem, ExecutesProgram, certificate_file, selection_answer};
+ghost use Rattle.vd_selecting.specs.Choosing.{ExecutesChoose, ExecutesProblem, ExecutesProgram, ExecutesTree, certificate_file, selection_answer};
 
 use crate::spaces::least_space;
 use std::alloc::{AllocError, Global};
 use vd_base::{Bytes, HostId, Proto, Text};
 use vd_certificate::Certificate;
 use vd_core::Program;
-use vd_elaborate::elaborate;
 use vd_frontend::load_source;
 use vd_items::Items;
 use vd_outside::{Files, Stored};
 use vd_plan::{Answer, Status};
 use vd_report::choice_text;
 use vd_resolve::Resolved;
+use vd_rewritten::run_program;
 use vd_selection::{SelectFault, Selection, Sweeps, select};
 use vd_spaces::Space;
 
@@ -145,9 +144,9 @@ fn choose_for_source(
     budget: u32,
 ) -> Result<Answer, Status>
     requires { budget ≤ most_search_budget }
-    ensures { ExecutesProgram (normal_form source.now) name.now budget result }
+    ensures { ExecutesTree source.now name.now budget result }
 {
-    let program = elaborate(alloc, source)?;
+    let program = run_program(alloc, source)?;
     choose_for_program(alloc, &program, name, budget)
 }
 
