@@ -3,6 +3,7 @@ use Rattle.std.proofs.Common.{ℕ, List}
 use Rattle.vd_base.specs.Limits.{most_source_bytes}
 use Rattle.vd_outside.specs.Files.{Contents}
 use Rattle.vd_normal.specs.Normal.{normal_form}
+use Rattle.vd_rewritten.specs.RunPrograms.{run_form}
 use Rattle.vd_selection.specs.Choices.{ChoiceOutcomes}
 use Rattle.vd_plan.specs.Plans.{check_then}
 use Rattle.vd_plan.proofs.Following.{Follows, file_follows, check_follows}
@@ -21,6 +22,6 @@ compile_follows texts least certificates choices searched source prefix budget f
     (λ text. check_follows (source_of texts source text) (λ tree. check_then (resolved_of tree) (source_plan least choices (sure_search choices) text prefix budget))
     (λ tree. check_then (resolved_of tree) (source_plan least choices (searched_by certificates choices searched) text prefix budget)) files
     (λ tree. check_follows (resolved_of tree) (source_plan least choices (sure_search choices) text prefix budget) (source_plan least choices (searched_by certificates choices searched) text prefix budget) files
-    (λ resolved. check_follows (problem_for least (normal_form resolved)) (problem_plan choices (sure_search choices) text prefix budget (normal_form resolved))
-    (problem_plan choices (searched_by certificates choices searched) text prefix budget (normal_form resolved)) files
-    (λ problem. choice_follows problem budget certificates choices (choice_plan (normal_form resolved) problem text prefix) searched files))))
+    (λ resolved. check_follows (problem_for least (run_form least (normal_form resolved))) (problem_plan choices (sure_search choices) text prefix budget (run_form least (normal_form resolved)))
+    (problem_plan choices (searched_by certificates choices searched) text prefix budget (run_form least (normal_form resolved))) files
+    (λ problem. choice_follows problem budget certificates choices (choice_plan (run_form least (normal_form resolved)) problem text prefix) searched files))))

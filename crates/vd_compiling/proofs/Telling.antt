@@ -10,7 +10,6 @@ use Rattle.vd_core.specs.Facts.{IsWellMade}
 use Rattle.vd_parser.specs.Outcomes.{IsParse}
 use Rattle.vd_resolve.specs.Limits.{resolution}
 use Rattle.vd_resolve.specs.declared.fault.NameFault.{NameFault}
-use Rattle.vd_normal.specs.Normal.{normal_form}
 use Rattle.vd_execution.specs.declared.instructions.Instr.{Instr}
 use Rattle.vd_joint.specs.Outcome.{NumbersFit}
 use Rattle.vd_host_text.specs.declared.program.Digest.{Digest}
@@ -26,7 +25,7 @@ use Rattle.vd_plan.proofs.Finding.{loaded_is}
 use Rattle.vd_frontend.specs.Sources.{IsSourceText, as_resolved, resolved_of}
 use Rattle.vd_compiling.specs.Selected.{IsSelected, no_list}
 use Rattle.vd_compiling.specs.Compiling.{host_files, plan_for}
-use Rattle.vd_compiling.specs.Telling.{CompilesText, StoresPrograms, TellsPrograms, TellsSource}
+use Rattle.vd_compiling.specs.Telling.{CompilesText, StoresPrograms, TellsPrograms, TellsSource, TellsTree}
 use Rattle.vd_compiling.proofs.Runnable.{runnable_of}
 
 abbrev made : List Stored → List ℕ → Answer
@@ -61,9 +60,10 @@ source_text text tree source parsed is = subst (λ (s : Source). IsSourceText s 
 -- what was fetched is the text of the source
 pub source_stored : (name prefix bytes seen again : List ℕ) (before now : FilesView) (tree source : Source) (result : Result Answer Status)
     → Loads name most_source_bytes before now (Ok bytes) → seen ≡ bytes → again ≡ bytes → IsParse seen (Ok tree) → Checks (resolved_of tree) (Ok source)
-    → TellsPrograms (normal_form source) again prefix result → TellsSource name prefix before result
+    → TellsTree source again prefix result → TellsSource name prefix before result
 source_stored name prefix bytes seen again before now tree source (Ok answer) loads same other parsed checks tells = λ t e.
     let text = source_text bytes tree source (subst (λ (b : List ℕ). IsParse b (Ok tree)) same parsed) (meets tree source (resolution tree) refl checks.ok) in
-    let programs = subst (λ (b : List ℕ). StoresPrograms (normal_form source) b prefix answer) other (tells e) in
-    loaded_is name most_source_bytes before now bytes bytes (λ b. CompilesText b prefix answer) loads refl (record { source = source; read = text; programs = programs }) t
+    let run = tells e in
+    let programs = subst (λ (b : List ℕ). StoresPrograms run.0 b prefix answer) other run.3 in
+    loaded_is name most_source_bytes before now bytes bytes (λ b. CompilesText b prefix answer) loads refl (record { source = source; read = text; program = run.0; is_run = run.1; tells = run.2; programs = programs }) t
 source_stored name prefix bytes seen again before now tree source (Err status) loads same other parsed checks tells = λ t. tt

@@ -8,6 +8,7 @@ use Rattle.vd_outside.specs.declared.stored.Stored.{Stored}
 use Rattle.vd_core.specs.declared.normal.NormalForm.{NormalForm}
 use Rattle.vd_core.specs.declared.source.Source.{Source}
 use Rattle.vd_normal.specs.Normal.{normal_form}
+use Rattle.vd_rewritten.specs.RunPrograms.{run_form}
 use Rattle.vd_execution.specs.declared.instructions.Instr.{Instr}
 use Rattle.vd_host_text.specs.declared.program.Digest.{Digest}
 use Rattle.vd_host_text.specs.Text.{program_text}
@@ -84,7 +85,7 @@ abbrev pub program_plan : LabelOutcomes → ChoiceOutcomes → Search → (text 
 program_plan least choices search text prefix budget program = check_then (problem_for least program) (problem_plan choices search text prefix budget program)
 
 abbrev pub source_plan : LabelOutcomes → ChoiceOutcomes → Search → (text prefix : List ℕ) → (budget : ℕ) → Source → Contents → Plan
-source_plan least choices search text prefix budget source = program_plan least choices search text prefix budget (normal_form source)
+source_plan least choices search text prefix budget source = program_plan least choices search text prefix budget (run_form least (normal_form source))
 
 -- with the bytes of a source
 abbrev pub text_plan : TextOutcomes → LabelOutcomes → ChoiceOutcomes → Search → (source prefix : List ℕ) → (budget : ℕ) → List ℕ → Contents → Plan
@@ -106,6 +107,10 @@ ExecutesProblem program problem text prefix budget result =
 abbrev pub ExecutesProgram : NormalForm → (text prefix : List ℕ) → (budget : ℕ) → Result Answer Status → Type 0
 ExecutesProgram program text prefix budget result =
     SomeSearch (λ choices search. (least : LabelOutcomes) (files : FilesView) → Executes true (program_plan least choices search text prefix budget program) files files result)
+
+abbrev pub ExecutesSource : Source → (text prefix : List ℕ) → (budget : ℕ) → Result Answer Status → Type 0
+ExecutesSource source text prefix budget result =
+    SomeSearch (λ choices search. (least : LabelOutcomes) (files : FilesView) → Executes true (source_plan least choices search text prefix budget source) files files result)
 
 abbrev pub ExecutesCompile : (source prefix : List ℕ) → (budget : ℕ) → FilesView → FilesView → Result Answer Status → Type 0
 ExecutesCompile source prefix budget before now result =

@@ -4,7 +4,7 @@ use Rattle.vd_base.specs.Limits.{most_source_bytes}
 use Rattle.vd_outside.specs.Files.{FilesView}
 use Rattle.vd_core.specs.declared.normal.NormalForm.{NormalForm}
 use Rattle.vd_core.specs.declared.source.Source.{Source}
-use Rattle.vd_normal.specs.Normal.{normal_form}
+use Rattle.vd_rewritten.specs.RunPrograms.{IsRunProgram, TellsAs}
 use Rattle.vd_host_programs.specs.Programs.{host_codes}
 use Rattle.vd_read_back.specs.Stored.{CanBeStored}
 use Rattle.vd_plan.specs.Held.{Finds, IsHeld}
@@ -27,11 +27,19 @@ pub record StoresPrograms (program : NormalForm) (text prefix : List ℕ) (answe
 abbrev pub TellsPrograms : NormalForm → (text prefix : List ℕ) → Result Answer Status → Type 0
 TellsPrograms program text prefix result = IfOk result (λ answer. answer.status ≡ Ended → StoresPrograms program text prefix answer)
 
+-- so does an answer of the program that is run for a source that ended
+abbrev pub TellsTree : Source → (text prefix : List ℕ) → Result Answer Status → Type 0
+TellsTree source text prefix result =
+    IfOk result (λ answer. answer.status ≡ Ended → (program : NormalForm) × IsRunProgram source program × TellsAs source program × StoresPrograms program text prefix answer)
+
 -- the text is that of a source that meets every rule, and the programs of its hosts are stored
 pub record CompilesText (text prefix : List ℕ) (answer : Answer) : Type 0 where
   pub source : Source
   pub read : IsSourceText source text
-  pub programs : StoresPrograms (normal_form source) text prefix answer
+  pub program : NormalForm
+  pub is_run : IsRunProgram source program
+  pub tells : TellsAs source program
+  pub programs : StoresPrograms program text prefix answer
 
 -- Where the files tell what they hold, and the answer ended, the file of this name holds such a text.
 abbrev pub TellsSource : (source prefix : List ℕ) → FilesView → Result Answer Status → Type 0

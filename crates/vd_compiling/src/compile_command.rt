@@ -2,19 +2,17 @@
 
 ghost use Rattle.std.specs.Prelude.{◌≡◌, ◌≤◌, length, IfOk};
 ghost use Rattle.vd_base.specs.Limits.{most_hosts, most_search_budget};
-ghost use Rattle.vd_normal.specs.Normal.{normal_form};
 ghost use Rattle.vd_plan.specs.Plans.{Computes};
 ghost use Rattle.vd_selecting.specs.Problems.{IsProblemOf};
 ghost use Rattle.vd_compiling.specs.Selected.{IsSelected};
-ghost use Rattle.vd_compiling.specs.Compiling.{ExecutesCompile, ExecutesProblem, ExecutesProgram, compiled_at, host_file, host_files};
-ghost use Rattle.vd_compiling.specs.Telling.{TellsPrograms, TellsSource};
+ghost use Rattle.vd_compiling.specs.Compiling.{ExecutesCompile, ExecutesProblem, ExecutesProgram, ExecutesSource, compiled_at, host_file, host_files};
+ghost use Rattle.vd_compiling.specs.Telling.{TellsPrograms, TellsSource, TellsTree};
 
 use crate::checks::no_assignment;
 use std::alloc::{AllocError, Global};
 use vd_base::limits::SOURCE_BYTES;
 use vd_base::{HostId, Names};
 use vd_core::Program;
-use vd_elaborate::elaborate;
 use vd_execution::Instr;
 use vd_frontend::{read_source, resolve_source};
 use vd_host_programs::{numbers_fit, split};
@@ -24,6 +22,7 @@ use vd_outside::{Files, Stored};
 use vd_plan::{Answer, Status, file_name, load};
 use vd_read_back::counts_fit;
 use vd_resolve::Resolved;
+use vd_rewritten::run_program;
 use vd_selecting::{least_space, selection_text};
 use vd_selection::{SelectFault, Selection, Sweeps, select};
 use vd_spaces::Space;
@@ -142,10 +141,10 @@ pub fn compile_source(
     budget: u32,
 ) -> Result<Answer, Status>
     requires { budget ≤ most_search_budget }
-    ensures executes { ExecutesProgram (normal_form source.now) text.now prefix.now budget result }
-    ensures tells { TellsPrograms (normal_form source.now) text.now prefix.now result }
+    ensures executes { ExecutesSource source.now text.now prefix.now budget result }
+    ensures tells { TellsTree source.now text.now prefix.now result }
 {
-    let program = elaborate(alloc, source)?;
+    let program = run_program(alloc, source)?;
     compile_program(alloc, &program, text, prefix, budget)
 }
 
