@@ -24,6 +24,8 @@ use Rattle.vd_certificate.specs.declared.certificate.Certificate.{Certificate}
 use Rattle.vd_certificate.specs.Outcomes.{HasOutcome}
 use Rattle.vd_certificate.specs.Texts.{IsTextOf}
 use Rattle.vd_certificate.proofs.Outcomes.{outcome_once}
+use Rattle.vd_rewritten.specs.RunPrograms.{IsRunProgram, run_form}
+use Rattle.vd_rewritten.proofs.Made.{run_form_is, run_once, run_well_made}
 use Rattle.vd_cheapest.specs.Cheapest.{IsCheapest, IsValid}
 use Rattle.vd_cheapest.proofs.Cheapest.{cheapest}
 use Rattle.vd_search.specs.Answers.{nat_or_zero}
@@ -159,15 +161,12 @@ certificate_leads contents certificates name bytes c rest answer is text last =
 
 -- ---- the choice
 
-module _ (name : List ℕ) (contents : Contents) (source : Source) (held : HoldsSource name contents source) (labels : Labels) (least : IsLeast (system_of (normal_form source)) labels) (budget : ℕ) (low : budget ≤ most_search_budget) where
-  abbrev program : NormalForm
-  program = normal_form source
-
+module _ (name : List ℕ) (contents : Contents) (source : Source) (held : HoldsSource name contents source) (program : NormalForm) (is_run : IsRunProgram source program) (labels : Labels) (least : IsLeast (system_of program) labels) (budget : ℕ) (low : budget ≤ most_search_budget) where
   abbrev problem : Problem
   problem = problem_of program labels
 
   made : IsWellMade program
-  made = made_of name contents source held
+  made = run_well_made source program (made_of name contents source held) is_run
 
   holds : IsProblem problem
   holds = is_problem program labels made
@@ -197,8 +196,10 @@ module _ (name : List ℕ) (contents : Contents) (source : Source) (held : Holds
       let last : Leads after (answer_then (ended [] (proved_text a.proved))) answer = answered after (ended [] (proved_text a.proved)) ∙ ap (λ (text : List ℕ). ended [] text) (line_is list is a.proved shown) in
       let confirm : Leads after (confirmed_plan a.c problem) answer = check_leads after (proved_of problem a.c) a.proved (λ proved. answer_then (ended [] (proved_text proved))) answer (ap as_proved a.accepted) last in
       let space : Leads after (certified_plan labelling program a.c) answer = check_leads after (problem_for labelling program) problem (confirmed_plan a.c) answer (problem_found labelling program made labels least) confirm in
+      let program_there : Leads after (certified_plan labelling (run_form labelling (normal_form source)) a.c) answer =
+      subst (λ (p : NormalForm). Leads after (certified_plan labelling p a.c) answer) (run_once source program (made_of name contents source held) is_run labelling) space in
       let read : Leads after (certificate_plan labelling certificates (beside name bytes contents) source) answer =
-      certificate_leads after certificates (beside name bytes contents) bytes a.c (certified_plan labelling program) answer (is_read name bytes contents (short bytes a)) a.text space in
+      certificate_leads after certificates (beside name bytes contents) bytes a.c (certified_plan labelling (run_form labelling (normal_form source))) answer (is_read name bytes contents (short bytes a)) a.text program_there in
       source_leads after texts name source (certificate_plan labelling certificates (beside name bytes contents)) answer (still_held name bytes contents source held) read
 
   -- what is printed of the choice
@@ -206,6 +207,8 @@ module _ (name : List ℕ) (contents : Contents) (source : Source) (held : Holds
   assigned list best = record {
     source = source;
     held = held;
+    program = program;
+    is_run = is_run;
     list = list;
     selected = record { labels = labels; least = least; cheapest = best };
     number = nat_or_zero (cost problem list);
@@ -226,8 +229,9 @@ choices_tell texts least certificates choices searched name budget contents low 
     let search = searched_by certificates choices searched in
     let whole = choose_plan texts least choices search name budget in
     let file = source_came contents texts name (selected_plan least choices search name budget) ends in
-    let program : NormalForm = normal_form file.0 in
-    let made = made_of name contents file.0 file.1 in
+    let program : NormalForm = run_form least (normal_form file.0) in
+    let is_run = run_form_is least file.0 (made_of name contents file.0 file.1) in
+    let made = run_well_made file.0 program (made_of name contents file.0 file.1) is_run in
     let searching = problem_plan choices search name budget program in
     let begun = ends_as contents whole (chosen_plan least choices search name budget program) ends file.2 in
     let space = check_came contents (problem_for least program) searching (problem_never least program made) begun in
@@ -239,5 +243,5 @@ choices_tell texts least certificates choices searched name budget contents low 
     let found = check_came contents (search problem budget) rest (search_never certificates choices problem budget searched) (ends_as contents whole (searching problem) ends upto) in
     let bytes : List ℕ = found.0 in
     let a = is_answer problem budget bytes (certificates.read bytes) (certificates.read_is bytes) (search_gave certificates choices problem budget searched bytes found.1) in
-    told name contents file.0 file.1 of.labels of.least budget low (choices.choose problem) (choices.choose_is problem) bytes a (whole contents).answer
+    told name contents file.0 file.1 program is_run of.labels of.least budget low (choices.choose problem) (choices.choose_is problem) bytes a (whole contents).answer
     (upto ∙ found.2 ∙ answered contents (choice_answer program problem (choices.choose problem) (certificate_file name bytes))) ends

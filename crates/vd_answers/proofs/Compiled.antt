@@ -13,6 +13,8 @@ use Rattle.vd_constraints.specs.Rules.{system_of}
 use Rattle.vd_constraints.specs.Satisfies.{IsLeast}
 use Rattle.vd_constraints.specs.declared.labels.Labels.{Labels}
 use Rattle.vd_normal.specs.Normal.{normal_form}
+use Rattle.vd_rewritten.specs.RunPrograms.{IsRunProgram, run_form}
+use Rattle.vd_rewritten.proofs.Made.{run_form_is, run_well_made}
 use Rattle.vd_cheapest.proofs.Cheapest.{cheapest}
 use Rattle.vd_execution.specs.declared.instructions.Instr.{Instr}
 use Rattle.vd_execution.specs.Joint.{code_of}
@@ -65,10 +67,7 @@ stands program list plan prefix contents few h low =
 
 -- ---- the choice
 
-module _ (name prefix : List ℕ) (contents : Contents) (source : Source) (held : HoldsSource name contents source) (labels : Labels) (least : IsLeast (system_of (normal_form source)) labels) where
-  abbrev program : NormalForm
-  program = normal_form source
-
+module _ (name prefix : List ℕ) (contents : Contents) (source : Source) (held : HoldsSource name contents source) (program : NormalForm) (is_run : IsRunProgram source program) (labels : Labels) (least : IsLeast (system_of program) labels) where
   abbrev problem : Problem
   problem = problem_of program labels
 
@@ -76,12 +75,12 @@ module _ (name prefix : List ℕ) (contents : Contents) (source : Source) (held 
       → TellsCompiled name prefix contents (stored answer.stores contents) answer.printed
   told None chosen answer is ends = let wrong : NoAssignment ≡ Ended = ap (λ (x : Answer). x.status) (sym (answered contents no_list) ∙ is) ∙ ends in absurd (cc wrong)
   told (Some list) chosen answer is ends =
-      let made = made_of name contents source held in
+      let made = run_well_made source program (made_of name contents source held) is_run in
       let few : length program.hosts ≤ 4 = let limit = made.limits.hosts in omega (arith, limit) in
       let number = nat_or_zero (cost problem list) in
       let plan = plan_for held.bytes (printed_at program problem list number) in
       subst (λ (x : Answer). TellsCompiled name prefix contents (stored x.stores contents) x.printed) (sym (answered contents (compiled_at program problem list number held.bytes prefix)) ∙ is) (record {
-        choice = assigned name contents source held labels least most_search_budget (omega arith) list (cheapest problem list (is_problem program labels made) chosen);
+        choice = assigned name contents source held program is_run labels least most_search_budget (omega arith) list (cheapest problem list (is_problem program labels made) chosen);
         files = λ h low. stands program list plan prefix contents few h low;
       })
 
@@ -93,8 +92,9 @@ compiled_tell texts least certificates choices searched name prefix budget conte
     let file = read_came contents texts name rest whole refl ends in
     let source = file.0 in
     let held : HoldsSource name contents source = file.1 in
-    let program : NormalForm = normal_form source in
-    let made = made_of name contents source held in
+    let program : NormalForm = run_form least (normal_form source) in
+    let is_run = run_form_is least source (made_of name contents source held) in
+    let made = run_well_made source program (made_of name contents source held) is_run in
     let begun = ends_as contents whole (rest held.bytes source) ends file.2 in
     let searching = problem_plan choices search held.bytes prefix budget program in
     let space = check_came contents (problem_for least program) searching (problem_never least program made) begun in
@@ -104,4 +104,4 @@ compiled_tell texts least certificates choices searched name prefix budget conte
     let upto = file.2 ∙ leads in
     let chosen : List ℕ → Contents → Plan = λ bytes. choice_plan program problem held.bytes prefix (choices.choose problem) in
     let found = check_came contents (search problem budget) chosen (search_never certificates choices problem budget searched) (ends_as contents whole (searching problem) ends upto) in
-    told name prefix contents source held of.labels of.least (choices.choose problem) (choices.choose_is problem) (whole contents).answer (sym (upto ∙ found.2)) ends
+    told name prefix contents source held program is_run of.labels of.least (choices.choose problem) (choices.choose_is problem) (whole contents).answer (sym (upto ∙ found.2)) ends

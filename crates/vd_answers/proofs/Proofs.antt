@@ -5,6 +5,8 @@ use Rattle.vd_outside.specs.Files.{Contents}
 use Rattle.vd_core.specs.declared.normal.NormalForm.{NormalForm}
 use Rattle.vd_constraints.specs.declared.labels.Labels.{Labels}
 use Rattle.vd_normal.specs.Normal.{normal_form}
+use Rattle.vd_rewritten.specs.RunPrograms.{IsRunProgram, run_form}
+use Rattle.vd_rewritten.proofs.Made.{run_form_is, run_well_made}
 use Rattle.vd_bound.specs.declared.checking.CheckFault.{CheckFault}
 use Rattle.vd_bound.specs.declared.checking.CheckFault.TheVariants as check_fault
 use Rattle.vd_bound.specs.declared.checking.Proved.{Proved}
@@ -67,8 +69,9 @@ pub proofs_tell : ProofsTell
 proofs_tell texts least certificates name certificate contents ends =
     let whole = certify_plan texts least certificates name certificate in
     let file = source_came contents texts name (certificate_plan least certificates certificate) ends in
-    let program : NormalForm = normal_form file.0 in
-    let made = made_of name contents file.0 file.1 in
+    let program : NormalForm = run_form least (normal_form file.0) in
+    let is_run = run_form_is least file.0 (made_of name contents file.0 file.1) in
+    let made = run_well_made file.0 program (made_of name contents file.0 file.1) is_run in
     let certified = certified_plan least program in
     let read = certificate_came contents certificates certificate certified (ends_as contents whole (certificate_plan least certificates certificate file.0) ends file.2) in
     let upto = file.2 ∙ read.1 in
@@ -84,6 +87,8 @@ proofs_tell texts least certificates name certificate contents ends =
     record {
       source = file.0;
       held = file.1;
+      program = program;
+      is_run = is_run;
       labels = of.labels;
       least = of.least;
       proved = shown_line (problem_of program of.labels) shows.0 _ line shown;

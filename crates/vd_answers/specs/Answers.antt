@@ -5,6 +5,8 @@ use Rattle.vd_outside.specs.Files.{Contents}
 use Rattle.vd_outside.specs.declared.stored.Stored.{Stored}
 use Rattle.vd_core.specs.declared.source.Source.{Source}
 use Rattle.vd_normal.specs.Normal.{normal_form}
+use Rattle.vd_core.specs.declared.normal.NormalForm.{NormalForm}
+use Rattle.vd_rewritten.specs.RunPrograms.{IsRunProgram}
 use Rattle.vd_constraints.specs.Rules.{system_of}
 use Rattle.vd_constraints.specs.Satisfies.{IsLeast}
 use Rattle.vd_constraints.specs.declared.labels.Labels.{Labels}
@@ -55,13 +57,15 @@ pub record HasNone (problem : Problem) (printed : List ℕ) : Type 0 where
   pub none : (list : List ℕ) → IsValid problem list → ⊥
 
 -- The file is the text of a source that meets every rule, and what is printed is the least cost of the lists of protocols that are
--- valid under its least labels, or that there are none, whoever made the certificate.
+-- valid for the program that is run for it, under the least labels of that, or that there are none, whoever made the certificate.
 pub record TellsProof (name : List ℕ) (contents : Contents) (printed : List ℕ) : Type 0 where
   pub source : Source
   pub held : HoldsSource name contents source
+  pub program : NormalForm
+  pub is_run : IsRunProgram source program
   pub labels : Labels
-  pub least : IsLeast (system_of (normal_form source)) labels
-  pub proved : IsLeastCost (problem_of (normal_form source) labels) printed ⊎ HasNone (problem_of (normal_form source) labels) printed
+  pub least : IsLeast (system_of program) labels
+  pub proved : IsLeastCost (problem_of program labels) printed ⊎ HasNone (problem_of program labels) printed
 
 -- ---- choose and compile
 
@@ -70,11 +74,13 @@ pub record TellsProof (name : List ℕ) (contents : Contents) (printed : List �
 pub record TellsAssignment (name : List ℕ) (contents : Contents) (printed : List ℕ) : Type 0 where
   pub source : Source
   pub held : HoldsSource name contents source
+  pub program : NormalForm
+  pub is_run : IsRunProgram source program
   pub list : List ℕ
-  pub selected : IsSelected (normal_form source) list
+  pub selected : IsSelected program list
   pub number : ℕ
-  pub costs : cost (problem_of (normal_form source) selected.labels) list ≡ pos number
-  pub lines : printed ≡ printed_at (normal_form source) (problem_of (normal_form source) selected.labels) list number
+  pub costs : cost (problem_of program selected.labels) list ≡ pos number
+  pub lines : printed ≡ printed_at program (problem_of program selected.labels) list number
 
 -- `certify` on these two files ends well and prints this cost, whatever functions pick outcomes
 abbrev pub IsCertified : (name certificate : List ℕ) → Contents → ℕ → Type 0
@@ -94,5 +100,5 @@ Stands contents file = contents file.name ≡ Some file.content
 -- at this choice, with the names of all hosts and the digest of the source and the choice.
 pub record TellsCompiled (name prefix : List ℕ) (contents now : Contents) (printed : List ℕ) : Type 0 where
   pub choice : TellsAssignment name contents printed
-  pub files : let program = normal_form choice.source in (h : ℕ) → h < length program.hosts
+  pub files : let program = choice.program in (h : ℕ) → h < length program.hosts
       → Stands now (host_file prefix program.hosts (plan_for choice.held.bytes printed) h (text (code_of h (joint_of program choice.list)) []))
