@@ -10,7 +10,6 @@ use Rattle.vd_base.specs.HostSets.{host}
 use Rattle.vd_base.specs.Limits.{most_host_file_bytes}
 use Rattle.vd_core.specs.declared.normal.NormalForm.{NormalForm}
 use Rattle.vd_core.specs.Facts.{IsWellMade}
-use Rattle.vd_normal.specs.Normal.{normal_form}
 use Rattle.vd_outside.specs.Files.{Contents, fetched, with_content}
 use Rattle.vd_outside.specs.declared.faults.FetchFault.{FetchFault}
 use Rattle.vd_outside.specs.declared.faults.FetchFault.TheVariants as fetch_fault
@@ -101,7 +100,7 @@ compilable program list plan h can = record { made = can.made; numbers = can.num
 
 module _ (text prefix : List ℕ) (answer : Answer) (before now : Contents) (is : CompilesText text prefix answer) (same : now ≡ stored answer.stores before) where
   abbrev program : NormalForm
-  program = normal_form is.source
+  program = is.program
 
   abbrev list : List ℕ
   list = is.programs.list
@@ -118,9 +117,9 @@ module _ (text prefix : List ℕ) (answer : Answer) (before now : Contents) (is 
       let bytes = program_text (stored_program program list plan h) in
       record {
         bytes = bytes;
-        is_fetched = is_fetched (now (file_name prefix h (codes ".host"))) most_host_file_bytes bytes (found ∙ here) (stored_texts_are_short program list plan h can (names_short text is.source is.read.parsed));
+        is_fetched = is_fetched (now (file_name prefix h (codes ".host"))) most_host_file_bytes bytes (found ∙ here) (stored_texts_are_short program list plan h can (names_short text is.source program is.read.parsed is.is_run.hosts));
         holds = is_read program list plan can.digest (compilable program list plan h can) prefix h lt;
       }
 
   pub programs_held : IsCompilation text prefix answer.printed now
-  programs_held = record { source = is.source; read = is.read; list = list; selected = is.programs.selected; programs = held; can_be_stored = is.programs.can_be_stored }
+  programs_held = record { source = is.source; read = is.read; program = program; is_run = is.is_run; tells = is.tells; list = list; selected = is.programs.selected; programs = held; can_be_stored = is.programs.can_be_stored }

@@ -40,15 +40,15 @@ names_take (h ∷ hs) =
     both : (all one rest bytes others sum : ℕ) → all ≡ one + rest → one ≡ bytes → rest ≡ others → sum ≡ bytes + others → all ≡ sum
     both all one rest bytes others sum p q r s = omega (arith, p, q, r, s)
 
-pub names_short : (text : List ℕ) (source : Source) → IsParse text (Ok source) → length (flat_map name_field (normal_form source).hosts) ≤ 65536
-names_short text source parsed = within _ _ _ (names_take source.hosts) (host_names_fit text source parsed) parsed.short
+pub names_short : (text : List ℕ) (source : Source) (program : NormalForm) → IsParse text (Ok source) → program.hosts ≡ (normal_form source).hosts → length (flat_map name_field program.hosts) ≤ 65536
+names_short text source program parsed same =
+    subst (λ (hosts : List (List ℕ)). length (flat_map name_field hosts) ≤ 65536) (sym same) (within _ _ _ (names_take source.hosts) (host_names_fit text source parsed) parsed.short)
   where
     within : (n m k : ℕ) → n ≡ m → m ≤ k → k ≤ 65536 → n ≤ 65536
     within n m k p q r = omega (arith, p, q, r)
 
 pub compiled_files_are_short : CompiledFilesAreShort
-compiled_files_are_short text source problem list least prefix parsed can =
-    short_files (normal_form source) problem list least text prefix can (names_short text source parsed)
+compiled_files_are_short text source program problem list least prefix parsed same can = short_files program problem list least text prefix can (names_short text source program parsed same)
 
 -- ---- both
 
@@ -60,7 +60,7 @@ both program list plan prefix h (f ∷ fs) names a b = (record { name = names.0;
 pub compiled_files_can_be_read : (program : NormalForm) → IsWellMade program → NumbersFit program → CountsFit program → CompiledFilesCanBeRead program
 compiled_files_can_be_read program made numbers counts problem list least text prefix is =
     let can : CanBeCompiled program list = record { made = made; numbers = numbers; counts = counts; runnable = runnable_of program list made is.selected } in
-    let names = subst (λ (p : NormalForm). length (flat_map name_field p.hosts) ≤ 65536) (sym is.form) (names_short text is.source is.parsed) in
+    let names = names_short text is.source program is.parsed is.is_run.hosts in
     record {
       counted = counted_files program problem list least text prefix can;
       each = both program list (plan_at program problem list least text) prefix 0 _ (named_files program problem list least text prefix can)

@@ -8,6 +8,7 @@ use Rattle.vd_core.specs.declared.source.Source.{Source}
 use Rattle.vd_core.specs.Facts.{IsWellMade}
 use Rattle.vd_parser.specs.Outcomes.{IsParse}
 use Rattle.vd_normal.specs.Normal.{normal_form}
+use Rattle.vd_rewritten.specs.RunPrograms.{IsRunProgram}
 use Rattle.vd_space.specs.declared.problem.Problem.{Problem}
 use Rattle.vd_execution.specs.Joint.{code_of}
 use Rattle.vd_execution.specs.Text.{IsCodeOf}
@@ -50,20 +51,20 @@ CompiledFilesAreReadBack = (program : NormalForm) (problem : Problem) (list : Li
     → EachFrom (λ h file. IsReadBack program list (plan_at program problem list least text) h file.content) 0
     (compiled_at program problem list least text prefix).stores
 
--- and each is short enough to be read, where the program is the let-normal form of the source that the text spells
+-- and each is short enough to be read, where the program has the hosts of the source that the text spells
 abbrev pub IsShort : Stored → Type 0
 IsShort file = length file.content ≤ most_host_file_bytes
 
 abbrev pub CompiledFilesAreShort : Type 0
-CompiledFilesAreShort = (text : List ℕ) (source : Source) (problem : Problem) (list : List ℕ) (least : ℕ) (prefix : List ℕ)
-    → IsParse text (Ok source) → CanBeCompiled (normal_form source) list
-    → AllByRecursion IsShort (compiled_at (normal_form source) problem list least text prefix).stores
+CompiledFilesAreShort = (text : List ℕ) (source : Source) (program : NormalForm) (problem : Problem) (list : List ℕ) (least : ℕ) (prefix : List ℕ)
+    → IsParse text (Ok source) → program.hosts ≡ (normal_form source).hosts → CanBeCompiled program list
+    → AllByRecursion IsShort (compiled_at program problem list least text prefix).stores
 
--- the text spells a source, the program is the let-normal form of that source, and the list is its choice of protocols
+-- the text spells a source, the program is the one that is run for that source, and the list is its choice of protocols
 pub record IsCompiled (text : List ℕ) (program : NormalForm) (list : List ℕ) : Type 0 where
   pub source : Source
   pub parsed : IsParse text (Ok source)
-  pub form : program ≡ normal_form source
+  pub is_run : IsRunProgram source program
   pub selected : IsSelected program list
 
 -- The file has the name of the host's, is not longer than one that is read may be, and is read as the host's program.

@@ -3,7 +3,7 @@ use Rattle.std.specs.Prelude.{◌<◌, ℕ, List, codes, length}
 use Rattle.vd_base.specs.Limits.{most_host_file_bytes}
 use Rattle.vd_core.specs.declared.normal.NormalForm.{NormalForm}
 use Rattle.vd_core.specs.declared.source.Source.{Source}
-use Rattle.vd_normal.specs.Normal.{normal_form}
+use Rattle.vd_rewritten.specs.RunPrograms.{IsRunProgram, TellsAs}
 use Rattle.vd_outside.specs.Files.{Contents}
 use Rattle.vd_host_text.specs.declared.program.Digest.{Digest}
 use Rattle.vd_plan.specs.Held.{IsHeld}
@@ -19,14 +19,17 @@ abbrev pub HoldsProgram : NormalForm → List ℕ → Digest → (prefix : List 
 HoldsProgram program list plan prefix contents h =
     IsHeld (file_name prefix h (codes ".host")) most_host_file_bytes contents (IsReadBack program list plan h)
 
--- These bytes are the text of a source that meets every rule. Its slots stand at their choice of protocols, and each host's file holds
--- its part of the joint code of the source's let-normal form at that choice. All programs have one plan: the digest of these bytes and
--- of what was printed.
+-- These bytes are the text of a source that meets every rule. The slots of the program that is run for it stand at their choice of
+-- protocols, and each host's file holds its part of that program's joint code at that choice. All programs have one plan: the digest
+-- of these bytes and of what was printed.
 pub record IsCompilation (text prefix printed : List ℕ) (contents : Contents) : Type 0 where
   pub source : Source
   pub read : IsSourceText source text
+  pub program : NormalForm
+  pub is_run : IsRunProgram source program
+  pub tells : TellsAs source program
   pub list : List ℕ
-  pub selected : IsSelected (normal_form source) list
-  pub programs : (h : ℕ) → h < length (normal_form source).hosts → HoldsProgram (normal_form source) list (plan_for text printed) prefix contents h
+  pub selected : IsSelected program list
+  pub programs : (h : ℕ) → h < length program.hosts → HoldsProgram program list (plan_for text printed) prefix contents h
   -- what the laws on hosts that run these programs ask of them
-  pub can_be_stored : (h : ℕ) → h < length (normal_form source).hosts → CanBeStored (normal_form source) list (plan_for text printed) h
+  pub can_be_stored : (h : ℕ) → h < length program.hosts → CanBeStored program list (plan_for text printed) h
