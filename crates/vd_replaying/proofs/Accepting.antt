@@ -5,9 +5,12 @@ use Rattle.std.proofs.lemmas.Bool.Decides.{nat_tests}
 use Rattle.vd_base.specs.Limits.{most_hosts}
 use Rattle.vd_outside.specs.Files.{Contents}
 use Rattle.vd_core.specs.declared.normal.NormalForm.{NormalForm}
+use Rattle.vd_core.specs.declared.source.Source.{Source}
+use Rattle.vd_core.specs.Facts.{IsWellMade}
 use Rattle.vd_parser.proofs.Named.{names_are_names}
-use Rattle.vd_kept.proofs.WellMade.{well_made, within_limits}
+use Rattle.vd_kept.proofs.WellMade.{well_made}
 use Rattle.vd_normal.specs.Normal.{normal_form}
+use Rattle.vd_rewritten.proofs.Made.{run_once, run_well_made}
 use Rattle.vd_cmd.specs.declared.command.ReplayWords.{ReplayWords}
 use Rattle.vd_constraints.specs.Rules.{system_of}
 use Rattle.vd_constraints.specs.declared.labels.Labels.{Labels}
@@ -26,8 +29,9 @@ use Rattle.vd_selecting.specs.Choosing.{sure_search}
 use Rattle.vd_selecting.specs.Problems.{as_problem, problem_for}
 use Rattle.vd_outcomes.proofs.Judged.{judged_once}
 use Rattle.vd_replaying.specs.Accepting.{EndsWell, IsAccepted}
+use Rattle.vd_asking.specs.Asking.{HoldAsked}
 use Rattle.vd_asking.specs.Deals.{as_consistent}
-use Rattle.vd_replaying.specs.Replaying.{asked_plan, choice_plan, list_plan, problem_plan, report_for, source_plan}
+use Rattle.vd_replaying.specs.Replaying.{asked_plan, choice_plan, list_plan, problem_plan, program_plan, report_for, source_plan}
 use Rattle.vd_replaying.proofs.Steps.{Ends, answer_ends, asked_ends, check_ends, labels_for, labels_with_these, source_ends}
 
 -- ---- the choice
@@ -41,26 +45,36 @@ searched choices problem budget list is enough =
     rw room refl
 
 module _ (words : ReplayWords) (contents : Contents) (accepted : IsAccepted words contents) where
+  abbrev source : Source
+  source = accepted.held.source
+
   abbrev program : NormalForm
-  program = normal_form accepted.held.source
+  program = accepted.program
+
+  source_made : IsWellMade (normal_form source)
+  source_made = well_made source accepted.held.is_source.holds.meets (names_are_names accepted.held.is_source.bytes source accepted.held.is_source.holds.parsed)
+
+  made : IsWellMade program
+  made = run_well_made source program source_made accepted.is_run
+
+  are_asked : HoldAsked words program.hosts contents accepted.held.asked
+  are_asked = subst (λ (hosts : List (List ℕ)). HoldAsked words hosts contents accepted.held.asked) (sym accepted.is_run.hosts) accepted.held.are_asked
 
   abbrev problem : Problem
   problem = problem_of program accepted.selected.labels
 
   few : length program.hosts ≤ most_hosts
-  few = (within_limits accepted.held.source accepted.held.is_source.holds.meets (names_are_names accepted.held.is_source.bytes accepted.held.source accepted.held.is_source.holds.parsed)).hosts
+  few = made.limits.hosts
 
   -- the list is the choice of the problem's tree
   chosen : IsChosen problem (Some accepted.list)
-  chosen =
-      let names = names_are_names accepted.held.is_source.bytes accepted.held.source accepted.held.is_source.holds.parsed in
-      back problem accepted.list (is_problem program accepted.selected.labels (well_made accepted.held.source accepted.held.is_source.holds.meets names)) accepted.selected.cheapest
+  chosen = back problem accepted.list (is_problem program accepted.selected.labels made) accepted.selected.cheapest
 
   are_deals : AreDeals accepted.held.asked.deals
   are_deals =
-      let all = accepted.held.are_asked.all in
+      let all = are_asked.all in
       let limit = few in
-      let of_hosts : AreDealsOf (length program.hosts) accepted.held.asked.deals = λ number deal e. (accepted.held.are_asked.deals number deal e).holds.0 in
+      let of_hosts : AreDealsOf (length program.hosts) accepted.held.asked.deals = λ number deal e. (are_asked.deals number deal e).holds.0 in
       all_deals accepted.held.asked.deals (omega (arith, all, limit)) (subst (λ (n : ℕ). AreDealsOf n accepted.held.asked.deals) (sym all) of_hosts)
 
   pub ends_well : EndsWell words contents
@@ -75,8 +89,9 @@ module _ (words : ReplayWords) (contents : Contents) (accepted : IsAccepted word
         check_ends contents (as_consistent (outcomes.judge accepted.held.asked.deals)) tt _ (ap as_consistent judged) (answer_ends contents (report_for program accepted.list accepted.held.asked)) in
         let ends : Ends contents (choice_plan outcomes program problem accepted.held.asked (choices.choose problem)) =
         subst (λ (o : Option (List ℕ)). Ends contents (choice_plan outcomes program problem accepted.held.asked o)) (sym choice) listed in
-        source_ends contents texts words.source accepted.held.source (source_plan texts outcomes least choices (sure_search choices) words) accepted.held.is_source
-        (asked_ends contents outcomes texts words program.hosts accepted.held.asked (asked_plan outcomes least choices (sure_search choices) words.budget program) few accepted.held.are_asked
+        source_ends contents texts words.source source (source_plan texts outcomes least choices (sure_search choices) words) accepted.held.is_source
+        (subst (λ (p : NormalForm). Ends contents (program_plan texts outcomes least choices (sure_search choices) words p)) (run_once source program source_made accepted.is_run least)
+        (asked_ends contents outcomes texts words program.hosts accepted.held.asked (asked_plan outcomes least choices (sure_search choices) words.budget program) few are_asked
         (check_ends contents (problem_for least program) problem (problem_plan outcomes choices (sure_search choices) words.budget program accepted.held.asked) (ap (λ (r : Result Labels ℕ). as_problem program (as_labels (system_of program) r)) labelled)
-        (check_ends contents (sure_search choices problem words.budget) [] (λ (bytes : List ℕ). choice_plan outcomes program problem accepted.held.asked (choices.choose problem)) (searched choices problem words.budget accepted.list choice accepted.enough) ends))),
+        (check_ends contents (sure_search choices problem words.budget) [] (λ (bytes : List ℕ). choice_plan outcomes program problem accepted.held.asked (choices.choose problem)) (searched choices problem words.budget accepted.list choice accepted.enough) ends)))),
   )

@@ -5,6 +5,7 @@ use Rattle.vd_outside.specs.Files.{Contents}
 use Rattle.vd_core.specs.declared.normal.NormalForm.{NormalForm}
 use Rattle.vd_core.specs.declared.source.Source.{Source}
 use Rattle.vd_normal.specs.Normal.{normal_form}
+use Rattle.vd_rewritten.specs.RunPrograms.{run_form}
 use Rattle.vd_deals.specs.declared.deal.Deal.{Deal}
 use Rattle.vd_cmd.specs.declared.command.ReplayWords.{ReplayWords}
 use Rattle.vd_report.specs.declared.schedule.Schedule.{Schedule}
@@ -64,10 +65,10 @@ module _ (texts : TextOutcomes) (outcomes : ReplayOutcomes) (least : LabelOutcom
 
   tree_goes : (tree : Source) → Follows (source_plan texts outcomes least choices (sure_search choices) words tree files) (source_plan texts outcomes least choices (searched_by certificates choices searched) words tree files)
   tree_goes tree =
-      inputs_follow files texts words.inputs (normal_form tree).hosts _ _ (λ inputs.
-      deals_follow files outcomes words.prefix (length (normal_form tree).hosts) 0 (normal_form tree).hosts [] _ _ (λ deals.
-      schedule_follows files outcomes words.schedule (normal_form tree).hosts _ _ (λ schedule.
-      asked_follows (normal_form tree) (asked_of words inputs deals schedule))))
+      inputs_follow files texts words.inputs (run_form least (normal_form tree)).hosts _ _ (λ inputs.
+      deals_follow files outcomes words.prefix (length (run_form least (normal_form tree)).hosts) 0 (run_form least (normal_form tree)).hosts [] _ _ (λ deals.
+      schedule_follows files outcomes words.schedule (run_form least (normal_form tree)).hosts _ _ (λ schedule.
+      asked_follows (run_form least (normal_form tree)) (asked_of words inputs deals schedule))))
 
   pub replay_follows : Follows (replay_plan texts outcomes least choices (sure_search choices) words files) (replay_plan texts outcomes least choices (searched_by certificates choices searched) words files)
   replay_follows =

@@ -1,7 +1,8 @@
 -- Which files `replay` accepts.
 use Rattle.std.specs.Prelude.{◌≡◌, ◌≤◌, ℕ, List, Some}
 use Rattle.vd_outside.specs.Files.{Contents}
-use Rattle.vd_normal.specs.Normal.{normal_form}
+use Rattle.vd_core.specs.declared.normal.NormalForm.{NormalForm}
+use Rattle.vd_rewritten.specs.RunPrograms.{IsRunProgram}
 use Rattle.vd_cmd.specs.declared.command.ReplayWords.{ReplayWords}
 use Rattle.vd_deals.specs.Validity.{IsConsistent}
 use Rattle.vd_space.specs.Reading.{problem_of}
@@ -14,14 +15,16 @@ use Rattle.vd_outcomes.specs.Outcomes.{ReplayOutcomes}
 use Rattle.vd_replaying.specs.Replaying.{replay_plan}
 use Rattle.vd_replaying.specs.Telling.{HoldReplay}
 
--- The files hold a source that meets every rule, inputs, a consistent deal and a schedule; and the source has a least labelling, and
--- a choice of protocols for which the budget is enough.
+-- The files hold a source that meets every rule, inputs, a consistent deal and a schedule; and the program that is run for it has a
+-- least labelling, and a choice of protocols for which the budget is enough.
 pub record IsAccepted (words : ReplayWords) (contents : Contents) : Type 0 where
   pub held : HoldReplay words contents
   pub consistent : IsConsistent held.asked.deals
+  pub program : NormalForm
+  pub is_run : IsRunProgram held.source program
   pub list : List ℕ
-  pub selected : IsSelected (normal_form held.source) list
-  pub enough : needed (problem_of (normal_form held.source) selected.labels) (Some list) ≤ words.budget
+  pub selected : IsSelected program list
+  pub enough : needed (problem_of program selected.labels) (Some list) ≤ words.budget
 
 -- With some function that gives least labellings, and whatever other functions pick outcomes, the plan of the command ends well.
 abbrev pub EndsWell : ReplayWords → Contents → Type 0

@@ -4,6 +4,7 @@ use Rattle.vd_outside.specs.Files.{FilesView, Contents}
 use Rattle.vd_core.specs.declared.normal.NormalForm.{NormalForm}
 use Rattle.vd_core.specs.declared.source.Source.{Source}
 use Rattle.vd_normal.specs.Normal.{normal_form}
+use Rattle.vd_rewritten.specs.RunPrograms.{run_form}
 use Rattle.vd_cmd.specs.declared.command.ReplayWords.{ReplayWords}
 use Rattle.vd_execution.specs.Joint.{started}
 use Rattle.vd_execution.specs.World.{World}
@@ -65,7 +66,7 @@ program_plan texts outcomes least choices search words program =
     asked_then texts outcomes words program.hosts (asked_plan outcomes least choices search words.budget program)
 
 abbrev pub source_plan : TextOutcomes → ReplayOutcomes → LabelOutcomes → ChoiceOutcomes → Search → ReplayWords → Source → Contents → Plan
-source_plan texts outcomes least choices search words source = program_plan texts outcomes least choices search words (normal_form source)
+source_plan texts outcomes least choices search words source = program_plan texts outcomes least choices search words (run_form least (normal_form source))
 
 abbrev pub replay_plan : TextOutcomes → ReplayOutcomes → LabelOutcomes → ChoiceOutcomes → Search → ReplayWords → Contents → Plan
 replay_plan texts outcomes least choices search words =
@@ -93,7 +94,9 @@ ExecutesProgram words program before now result =
     → Executes true (program_plan texts outcomes least choices search words program) before now result)
 
 abbrev pub ExecutesSource : ReplayWords → Source → FilesView → FilesView → Result Answer Status → Type 0
-ExecutesSource words source before now result = ExecutesProgram words (normal_form source) before now result
+ExecutesSource words source before now result =
+    SomeSearch (λ choices search. (texts : TextOutcomes) (outcomes : ReplayOutcomes) (least : LabelOutcomes)
+    → Executes true (source_plan texts outcomes least choices search words source) before now result)
 
 abbrev pub ExecutesReplay : ReplayWords → FilesView → FilesView → Result Answer Status → Type 0
 ExecutesReplay words before now result =

@@ -5,7 +5,7 @@ use Rattle.vd_core.specs.declared.normal.NormalForm.{NormalForm}
 use Rattle.vd_core.specs.declared.source.Source.{Source}
 use Rattle.vd_meaning.specs.ProgramMeaning.{program_outputs}
 use Rattle.vd_meaning.specs.SourceMeaning.{host_names, source_outputs}
-use Rattle.vd_normal.specs.Normal.{normal_form}
+use Rattle.vd_rewritten.specs.RunPrograms.{IsRunProgram}
 use Rattle.vd_cmd.specs.declared.command.ReplayWords.{ReplayWords}
 use Rattle.vd_deals.specs.Validity.{IsConsistent}
 use Rattle.vd_execution.specs.declared.instructions.Instr.{Instr}
@@ -16,7 +16,7 @@ use Rattle.vd_host_programs.specs.Programs.{joint_of}
 use Rattle.vd_play.specs.Loading.{AreCodesOf}
 use Rattle.vd_play.specs.Reports.{report_of}
 use Rattle.vd_play.specs.Schedules.{replayed}
-use Rattle.vd_play.specs.Supplies.{supply_of_files}
+use Rattle.vd_play.specs.Supplies.{AreWords, supply_of_files}
 use Rattle.vd_play.specs.Told.{TellsUnder}
 use Rattle.vd_plan.specs.Held.{Finds}
 use Rattle.vd_plan.specs.declared.answer.Answer.{Answer}
@@ -66,7 +66,14 @@ pub record IsReport (program : NormalForm) (outputs : List (List ℕ)) (asked : 
 pub record IsReplay (words : ReplayWords) (program : NormalForm) (outputs : List (List ℕ) → List (List ℕ)) (contents : Contents) (printed : List ℕ) : Type 0 where
   pub asked : Asked
   pub held : HoldAsked words program.hosts contents asked
+  pub are_words : AreWords asked.inputs
   pub report : IsReport program (outputs asked.inputs) asked printed
+
+-- The report of the program that is run for a source.
+pub record IsReplayOf (words : ReplayWords) (source : Source) (contents : Contents) (printed : List ℕ) : Type 0 where
+  pub program : NormalForm
+  pub is_run : IsRunProgram source program
+  pub replay : IsReplay words program (source_outputs source) contents printed
 
 -- ---- the headline
 
@@ -79,13 +86,15 @@ pub record HoldReplay (words : ReplayWords) (contents : Contents) : Type 0 where
   pub are_asked : HoldAsked words (host_names source.hosts) contents asked
 
 -- The headline. What is printed is the report of a world in which each host of the source has printed a front of the words that the
--- source tells it, and sent a front of what the joint run sends, all of it where all hosts have ended. What runs there is the code of
--- the source's let-normal form at its choice of protocols.
+-- source tells it, and sent a front of what the joint run sends, all of it where all hosts have ended. What runs there is the code, at
+-- its choice of protocols, of the program that is run for the source.
 pub record IsHeadline (words : ReplayWords) (contents : Contents) (printed : List ℕ) : Type 0 where
   pub held : HoldReplay words contents
   pub joint : Joint
   pub told : IsReportOf (host_names held.source.hosts) (source_outputs held.source held.asked.inputs) held.asked joint printed
-  pub code : IsCodeAtChoice (normal_form held.source) joint
+  pub program : NormalForm
+  pub is_run : IsRunProgram held.source program
+  pub code : IsCodeAtChoice program joint
 
 -- ---- where a program was run, what is printed is such a report
 
@@ -98,7 +107,7 @@ TellsProgram words program before result =
 
 abbrev pub TellsSource : ReplayWords → Source → FilesView → Result Answer Status → Type 0
 TellsSource words source before result =
-    Finds before result (λ contents answer. answer.status ≡ Ended → IsReplay words (normal_form source) (source_outputs source) contents answer.printed)
+    Finds before result (λ contents answer. answer.status ≡ Ended → IsReplayOf words source contents answer.printed)
 
 abbrev pub TellsHeadline : ReplayWords → FilesView → Result Answer Status → Type 0
 TellsHeadline words before result = Finds before result (λ contents answer. answer.status ≡ Ended → IsHeadline words contents answer.printed)

@@ -20,7 +20,6 @@ use vd_base::Bytes;
 use vd_cmd::ReplayWords;
 use vd_compiling::no_assignment;
 use vd_core::Program;
-use vd_elaborate::elaborate;
 use vd_frontend::load_source;
 use vd_host_programs::{numbers_fit, split};
 use vd_items::Items;
@@ -28,6 +27,7 @@ use vd_outside::Files;
 use vd_plan::{Answer, Status};
 use vd_play::{play, report};
 use vd_resolve::Resolved;
+use vd_rewritten::run_program;
 use vd_selecting::least_space;
 use vd_selection::{SelectFault, Selection, Sweeps, select};
 use vd_spaces::Space;
@@ -184,7 +184,7 @@ fn replay_source<F: Files>(
     ensures tells { TellsSource words.now source.now (F.view files.old) result }
     ensures counts { CountsSource words.now source.now (F.view files.old) packets.new result }
 {
-    let program = elaborate(alloc, source)?;
+    let program = run_program(alloc, source)?;
     replay_program(alloc, files, words, &program, packets)
 }
 

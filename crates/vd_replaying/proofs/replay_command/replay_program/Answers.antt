@@ -35,7 +35,7 @@ returns-clause-executes g c =
 
 pub returns-clause-tells : goal.returns-clause-tells
 returns-clause-tells g c =
-    program_told c.args.words.now (g.F.Files.view c.args.files.now) c.args.program.now c.form.result.now c.in_ok-asked.asked c.replay_asked.result c.form.ensures.same (c.in_ok-asked.ensures {u = tt}).given c.replay_asked.ensures.tells
+    program_told c.args.words.now (g.F.Files.view c.args.files.now) c.args.program.now c.form.result.now c.in_ok-asked.asked c.replay_asked.result c.form.ensures.same (c.in_ok-asked.ensures {u = tt}).given (c.in_ok-asked.ensures {u = tt}).asked.words c.replay_asked.ensures.tells
 
 pub returns-clause-counts : goal.returns-clause-counts
 returns-clause-counts g c =
