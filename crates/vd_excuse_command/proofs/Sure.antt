@@ -6,6 +6,7 @@ use Rattle.vd_outside.specs.Files.{Contents}
 use Rattle.vd_core.specs.declared.normal.NormalForm.{NormalForm}
 use Rattle.vd_core.specs.declared.source.Source.{Source}
 use Rattle.vd_normal.specs.Normal.{normal_form}
+use Rattle.vd_rewritten.specs.RunPrograms.{run_form}
 use Rattle.vd_space.specs.Reading.{problem_of}
 use Rattle.vd_cmd.specs.declared.command.ExcuseWords.{ExcuseWords}
 use Rattle.vd_deals.specs.declared.deal.Deal.{Deal}
@@ -68,10 +69,10 @@ module _ (texts : TextOutcomes) (outcomes : ReplayOutcomes) (least : LabelOutcom
 
   tree_goes : (tree : Source) → Follows (source_plan texts outcomes least choices (sure_search choices) words tree files) (source_plan texts outcomes least choices (searched_by certificates choices searched) words tree files)
   tree_goes tree =
-      inputs_follow files texts words.inputs (normal_form tree).hosts _ _ (λ first.
-      inputs_follow files texts words.second (normal_form tree).hosts _ _ (λ second.
-      deals_follow files outcomes words.prefix (length (normal_form tree).hosts) 0 (normal_form tree).hosts [] _ _ (λ deals.
-      runs_follow (normal_form tree) (runs_of first second deals))))
+      inputs_follow files texts words.inputs (run_form least (normal_form tree)).hosts _ _ (λ first.
+      inputs_follow files texts words.second (run_form least (normal_form tree)).hosts _ _ (λ second.
+      deals_follow files outcomes words.prefix (length (run_form least (normal_form tree)).hosts) 0 (run_form least (normal_form tree)).hosts [] _ _ (λ deals.
+      runs_follow (run_form least (normal_form tree)) (runs_of first second deals))))
 
   pub excuse_follows : Follows (excuse_plan texts outcomes least choices (sure_search choices) words files) (excuse_plan texts outcomes least choices (searched_by certificates choices searched) words files)
   excuse_follows =

@@ -9,6 +9,7 @@ use Rattle.vd_outside.specs.Files.{FilesView, Contents}
 use Rattle.vd_core.specs.declared.normal.NormalForm.{NormalForm}
 use Rattle.vd_core.specs.declared.source.Source.{Source}
 use Rattle.vd_normal.specs.Normal.{normal_form}
+use Rattle.vd_rewritten.specs.RunPrograms.{run_form}
 use Rattle.vd_constraints.specs.declared.labels.Labels.{Labels}
 use Rattle.vd_space.specs.declared.problem.Problem.{Problem}
 use Rattle.vd_space.specs.Reading.{problem_of}
@@ -123,7 +124,7 @@ abbrev pub program_plan : TextOutcomes → ReplayOutcomes → LabelOutcomes → 
 program_plan texts outcomes least choices search words p = runs_then texts outcomes words p.hosts (runs_plan outcomes least choices search words p)
 
 abbrev pub source_plan : TextOutcomes → ReplayOutcomes → LabelOutcomes → ChoiceOutcomes → Search → ExcuseWords → Source → Contents → Plan
-source_plan texts outcomes least choices search words source = program_plan texts outcomes least choices search words (normal_form source)
+source_plan texts outcomes least choices search words source = program_plan texts outcomes least choices search words (run_form least (normal_form source))
 
 abbrev pub excuse_plan : TextOutcomes → ReplayOutcomes → LabelOutcomes → ChoiceOutcomes → Search → ExcuseWords → Contents → Plan
 excuse_plan texts outcomes least choices search words = source_then texts words.source (source_plan texts outcomes least choices search words)
@@ -158,7 +159,9 @@ ExecutesProgram words p before now result =
     → Executes true (program_plan texts outcomes least choices search words p) before now result)
 
 abbrev pub ExecutesSource : ExcuseWords → Source → FilesView → FilesView → Result Answer Status → Type 0
-ExecutesSource words source before now result = ExecutesProgram words (normal_form source) before now result
+ExecutesSource words source before now result =
+    SomeSearch (λ choices search. (texts : TextOutcomes) (outcomes : ReplayOutcomes) (least : LabelOutcomes)
+    → Executes true (source_plan texts outcomes least choices search words source) before now result)
 
 abbrev pub ExecutesExcuse : ExcuseWords → FilesView → FilesView → Result Answer Status → Type 0
 ExecutesExcuse words before now result =

@@ -5,7 +5,7 @@ use Rattle.vd_outside.specs.Files.{FilesView, Contents}
 use Rattle.vd_outside.specs.declared.stored.Stored.{Stored}
 use Rattle.vd_core.specs.declared.normal.NormalForm.{NormalForm}
 use Rattle.vd_core.specs.declared.source.Source.{Source}
-use Rattle.vd_normal.specs.Normal.{normal_form}
+use Rattle.vd_rewritten.specs.RunPrograms.{IsRunProgram}
 use Rattle.vd_cmd.specs.declared.command.ExcuseWords.{ExcuseWords}
 use Rattle.vd_deals.specs.declared.deal.Deal.{Deal}
 use Rattle.vd_report.specs.Hosts.{host_of}
@@ -46,11 +46,13 @@ pub record IsExcuseIn (words : ExcuseWords) (p : NormalForm) (contents : Content
   pub held : HoldRuns words p.hosts contents runs
   pub excuse : IsExcuseOf words.host p runs words.out stored printed
 
--- of the source that the first file holds
+-- of the program that is run for the source that the first file holds
 pub record IsExcuseBy (words : ExcuseWords) (contents : Contents) (stored : List Stored) (printed : List ℕ) : Type 0 where
   pub source : Source
   pub is_source : HoldsSource words.source contents source
-  pub excuse : IsExcuseIn words (normal_form source) contents stored printed
+  pub program : NormalForm
+  pub is_run : IsRunProgram source program
+  pub excuse : IsExcuseIn words program contents stored printed
 
 -- ---- where the command ended well, its answer is such
 
@@ -63,6 +65,10 @@ TellsAt h p out runs result = (name : List ℕ) → host_of p.hosts name ≡ Som
 
 abbrev pub TellsProgram : ExcuseWords → NormalForm → FilesView → Result Answer Status → Type 0
 TellsProgram words p before result = Finds before result (λ contents answer. answer.status ≡ Ended → IsExcuseIn words p contents answer.stores answer.printed)
+
+abbrev pub TellsSource : ExcuseWords → Source → FilesView → Result Answer Status → Type 0
+TellsSource words source before result =
+    Finds before result (λ contents answer. answer.status ≡ Ended → (p : NormalForm) × IsRunProgram source p × IsExcuseIn words p contents answer.stores answer.printed)
 
 abbrev pub TellsExcuse : ExcuseWords → FilesView → Result Answer Status → Type 0
 TellsExcuse words before result = Finds before result (λ contents answer. answer.status ≡ Ended → IsExcuseBy words contents answer.stores answer.printed)

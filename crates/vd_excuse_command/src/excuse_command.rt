@@ -4,14 +4,13 @@ ghost use Rattle.std.specs.Prelude.{◌≡◌, ◌<◌, ◌≤◌, ℕ, length, 
 ghost use Rattle.vd_base.specs.Limits.{most_search_budget};
 ghost use Rattle.vd_constraints.specs.declared.labels.Labels.{Labels};
 ghost use Rattle.vd_deals.specs.Validity.{IsConsistent};
-ghost use Rattle.vd_normal.specs.Normal.{normal_form};
 ghost use Rattle.vd_selecting.specs.Problems.{IsProblemOf};
 ghost use Rattle.vd_space.specs.Reading.{problem_of};
 ghost use Rattle.vd_suite.specs.Parts.{has_back_end};
 ghost use Rattle.vd_whole.specs.Lists.{protos_of};
 ghost use Rattle.vd_excuse_command.specs.Excusing.{ExecutesExcuse, ExecutesExcused, ExecutesHost, ExecutesLabels, ExecutesList, ExecutesProgram, ExecutesRuns, ExecutesSource, IsSelectedIn};
 ghost use Rattle.vd_excuse_command.specs.Runs.{AreRead};
-ghost use Rattle.vd_excuse_command.specs.Telling.{TellsAt, TellsExcuse, TellsOf, TellsProgram};
+ghost use Rattle.vd_excuse_command.specs.Telling.{TellsAt, TellsExcuse, TellsOf, TellsProgram, TellsSource};
 
 use crate::answer::answer;
 use crate::checks::{excused, expect_free, expect_two};
@@ -23,12 +22,12 @@ use vd_cmd::ExcuseWords;
 use vd_compiling::no_assignment;
 use vd_core::Program;
 use vd_depending::host_named;
-use vd_elaborate::elaborate;
 use vd_frontend::{least_labels, load_source};
 use vd_host_programs::numbers_fit;
 use vd_outside::Files;
 use vd_plan::{Answer, Status};
 use vd_resolve::Resolved;
+use vd_rewritten::run_program;
 use vd_selection::{SelectFault, Selection, Sweeps, select};
 use vd_spaces::Space;
 
@@ -194,9 +193,9 @@ fn excuse_source<F: Files>(
 ) -> Result<Answer, Status>
     requires { words.now.budget ≤ most_search_budget }
     ensures executes { ExecutesSource words.now source.now (F.view files.old) (F.view files.new) result }
-    ensures tells { TellsProgram words.now (normal_form source.now) (F.view files.old) result }
+    ensures tells { TellsSource words.now source.now (F.view files.old) result }
 {
-    let program = elaborate(alloc, source)?;
+    let program = run_program(alloc, source)?;
     excuse_program(alloc, files, words, &program)
 }
 
