@@ -3,6 +3,7 @@ use Rattle.std.proofs.Common.{inl, ℕ, Bool, true, false, if◌then◌else◌, 
 use Rattle.vd_base.specs.Limits.{most_host_file_bytes}
 use Rattle.vd_outside.specs.Files.{Contents}
 use Rattle.vd_normal.specs.Normal.{normal_form}
+use Rattle.vd_rewritten.specs.RunPrograms.{run_form}
 use Rattle.vd_selection.specs.Choices.{ChoiceOutcomes}
 use Rattle.vd_cmd.specs.declared.command.NeedsWords.{NeedsWords}
 use Rattle.vd_plan.specs.Plans.{Plan}
@@ -25,9 +26,9 @@ module _ (texts : TextOutcomes) (programs : ProgramOutcomes) (least : LabelOutco
   text_follows bytes =
       check_follows (source_of texts words.file bytes) (tree_plan least choices (sure_search choices) words) (tree_plan least choices (searched_by certificates choices searched) words) files
       (λ tree. check_follows (resolved_of tree) (source_plan least choices (sure_search choices) words) (source_plan least choices (searched_by certificates choices searched) words) files
-      (λ resolved. check_follows (problem_for least (normal_form resolved)) (problem_plan choices (sure_search choices) words (normal_form resolved))
-      (problem_plan choices (searched_by certificates choices searched) words (normal_form resolved)) files
-      (λ problem. choice_follows problem words.budget certificates choices (choice_plan words.each (normal_form resolved)) searched files)))
+      (λ resolved. check_follows (problem_for least (run_form least (normal_form resolved))) (problem_plan choices (sure_search choices) words (run_form least (normal_form resolved)))
+      (problem_plan choices (searched_by certificates choices searched) words (run_form least (normal_form resolved))) files
+      (λ problem. choice_follows problem words.budget certificates choices (choice_plan words.each (run_form least (normal_form resolved))) searched files)))
 
   pub needs_follows : Follows (needs_plan texts programs least choices (sure_search choices) words files) (needs_plan texts programs least choices (searched_by certificates choices searched) words files)
   needs_follows =

@@ -7,7 +7,6 @@ use Rattle.vd_core.specs.declared.source.Source.{Source}
 use Rattle.vd_core.specs.Facts.{IsWellMade}
 use Rattle.vd_joint.specs.Outcome.{NumbersFit}
 use Rattle.vd_parser.specs.Outcomes.{IsParse}
-use Rattle.vd_normal.specs.Normal.{normal_form}
 use Rattle.vd_execution.specs.Code.{Code}
 use Rattle.vd_execution.specs.Joint.{Joint, IsTidy, code_of}
 use Rattle.vd_execution.specs.Step.{Source as Listed}
@@ -34,7 +33,7 @@ use Rattle.vd_compiling.specs.Selected.{IsSelected, no_list}
 use Rattle.vd_compiling.proofs.Runnable.{runnable_of}
 use Rattle.vd_needs_command.specs.Lines.{program_lines}
 use Rattle.vd_needs_command.specs.Needing.{needs_text}
-use Rattle.vd_needs_command.specs.Telling.{IsNeedsOf, IsNeedsOfBytes, IsNeedsOfHost, OfHost, OfSource, TellsBytes, TellsHost, TellsNeeds, TellsProgram, TellsText}
+use Rattle.vd_needs_command.specs.Telling.{IsNeedsOf, IsNeedsOfBytes, IsNeedsOfHost, OfHost, OfSource, TellsBytes, TellsHost, TellsNeeds, TellsProgram, TellsSource, TellsText}
 use Rattle.vd_needs_command.proofs.Reading.{meets}
 
 -- ---- with a list of protocols
@@ -78,8 +77,8 @@ source_text bytes tree source parsed checks =
     subst (λ (s : Source). IsSourceText s bytes) m.0 (record { parsed = parsed; meets = m.1 })
 
 pub text_told : (words : NeedsWords) (bytes : List ℕ) (tree source : Source) (result : Result Answer Status) → IsParse bytes (Ok tree) → Checks (resolved_of tree) (Ok source)
-    → TellsProgram words (normal_form source) result → TellsText words bytes result
-text_told words bytes tree source (Ok answer) parsed checks tells = λ e. record { source = source; text = source_text bytes tree source parsed checks; needs = tells e }
+    → TellsSource words source result → TellsText words bytes result
+text_told words bytes tree source (Ok answer) parsed checks tells = λ e. let run = tells e in record { source = source; text = source_text bytes tree source parsed checks; program = run.0; is_run = run.1; needs = run.2 }
 text_told words bytes tree source (Err status) parsed checks tells = tt
 
 -- ---- with the program of a host

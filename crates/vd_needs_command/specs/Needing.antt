@@ -6,6 +6,7 @@ use Rattle.vd_outside.specs.Files.{FilesView, Contents}
 use Rattle.vd_core.specs.declared.normal.NormalForm.{NormalForm}
 use Rattle.vd_core.specs.declared.source.Source.{Source}
 use Rattle.vd_normal.specs.Normal.{normal_form}
+use Rattle.vd_rewritten.specs.RunPrograms.{run_form}
 use Rattle.vd_needs.specs.Sizes.{sizes_of}
 use Rattle.vd_host_text.specs.declared.program.HostProgram.{HostProgram}
 use Rattle.vd_hostcode.specs.declared.fault.CodeFault.{CodeFault}
@@ -50,7 +51,11 @@ abbrev pub program_plan : LabelOutcomes → ChoiceOutcomes → Search → NeedsW
 program_plan least choices search words program = check_then (problem_for least program) (problem_plan choices search words program)
 
 abbrev pub source_plan : LabelOutcomes → ChoiceOutcomes → Search → NeedsWords → Source → Contents → Plan
-source_plan least choices search words source = program_plan least choices search words (normal_form source)
+source_plan least choices search words source = program_plan least choices search words (run_form least (normal_form source))
+
+abbrev pub ExecutesSource : NeedsWords → Source → Result Answer Status → Type 0
+ExecutesSource words source result =
+    SomeSearch (λ choices search. (least : LabelOutcomes) (files : FilesView) → Executes true (source_plan least choices search words source) files files result)
 
 -- with the tree, and with the bytes of a source
 abbrev pub tree_plan : LabelOutcomes → ChoiceOutcomes → Search → NeedsWords → Source → Contents → Plan

@@ -4,7 +4,7 @@ use Rattle.vd_base.specs.Limits.{most_host_file_bytes}
 use Rattle.vd_outside.specs.Files.{FilesView, Contents}
 use Rattle.vd_core.specs.declared.normal.NormalForm.{NormalForm}
 use Rattle.vd_core.specs.declared.source.Source.{Source}
-use Rattle.vd_normal.specs.Normal.{normal_form}
+use Rattle.vd_rewritten.specs.RunPrograms.{IsRunProgram}
 use Rattle.vd_execution.specs.Joint.{Joint, IsTidy, code_of}
 use Rattle.vd_execution.specs.Step.{Source as Listed}
 use Rattle.vd_execution.specs.Text.{IsCodeOf}
@@ -37,7 +37,9 @@ pub record IsNeedsOf (each : Bool) (program : NormalForm) (printed : List ℕ) :
 pub record IsNeedsOfSource (each : Bool) (bytes printed : List ℕ) : Type 0 where
   pub source : Source
   pub text : IsSourceText source bytes
-  pub needs : IsNeedsOf each (normal_form source) printed
+  pub program : NormalForm
+  pub is_run : IsRunProgram source program
+  pub needs : IsNeedsOf each program printed
 
 -- Of the program of a host: what it takes at most, whatever joint code it is that host's part of.
 pub record IsNeedsOfHost (bytes printed : List ℕ) : Type 0 where
@@ -59,6 +61,9 @@ IsNeeds words contents printed = IsHeld words.file most_host_file_bytes contents
 
 abbrev pub TellsProgram : NeedsWords → NormalForm → Result Answer Status → Type 0
 TellsProgram words program result = IfOk result (λ answer. answer.status ≡ Ended → IsNeedsOf words.each program answer.printed)
+
+abbrev pub TellsSource : NeedsWords → Source → Result Answer Status → Type 0
+TellsSource words source result = IfOk result (λ answer. answer.status ≡ Ended → (program : NormalForm) × IsRunProgram source program × IsNeedsOf words.each program answer.printed)
 
 abbrev pub TellsText : NeedsWords → List ℕ → Result Answer Status → Type 0
 TellsText words bytes result = IfOk result (λ answer. answer.status ≡ Ended → IsNeedsOfSource words.each bytes answer.printed)

@@ -3,7 +3,6 @@
 ghost use Rattle.std.specs.Prelude.{◌≡◌, ◌≤◌, [], Ok, IfOk};
 ghost use Rattle.vd_base.specs.Limits.{most_search_budget};
 ghost use Rattle.vd_core.specs.Named.{HasNames};
-ghost use Rattle.vd_normal.specs.Normal.{normal_form};
 ghost use Rattle.vd_parser.specs.Outcomes.{IsParse};
 ghost use Rattle.vd_plan.specs.Plans.{Checks, Computes, ended};
 ghost use Rattle.vd_frontend.specs.Outcomes.{TextOutcomes};
@@ -11,8 +10,8 @@ ghost use Rattle.vd_frontend.specs.Sources.{source_of};
 ghost use Rattle.vd_host_programs.specs.Programs.{IsRunnable};
 ghost use Rattle.vd_selecting.specs.Problems.{IsProblemOf};
 ghost use Rattle.vd_compiling.specs.Selected.{IsSelected};
-ghost use Rattle.vd_needs_command.specs.Needing.{ExecutesBytes, ExecutesNeeds, ExecutesProblem, ExecutesProgram, ExecutesText, needs_text};
-ghost use Rattle.vd_needs_command.specs.Telling.{IsNeedsOf, TellsBytes, TellsNeeds, TellsProgram, TellsText};
+ghost use Rattle.vd_needs_command.specs.Needing.{ExecutesBytes, ExecutesNeeds, ExecutesProblem, ExecutesProgram, ExecutesSource, ExecutesText, needs_text};
+ghost use Rattle.vd_needs_command.specs.Telling.{IsNeedsOf, TellsBytes, TellsNeeds, TellsProgram, TellsSource, TellsText};
 
 use crate::lines::{each_text, sizes_text};
 use crate::program::{is_program, needs_in_host};
@@ -22,7 +21,6 @@ use vd_base::{Bytes, Text};
 use vd_cmd::NeedsWords;
 use vd_compiling::no_assignment;
 use vd_core::{Program, Source};
-use vd_elaborate::elaborate;
 use vd_enough::needs_of_program;
 use vd_frontend::{read_source, resolve_source};
 use vd_host_programs::numbers_fit;
@@ -32,6 +30,7 @@ use vd_outside::Files;
 use vd_plan::{Answer, Status, load};
 use vd_read_back::counts_fit;
 use vd_resolve::Resolved;
+use vd_rewritten::run_program;
 use vd_selecting::least_space;
 use vd_selection::{SelectFault, Selection, Sweeps, select};
 use vd_spaces::Space;
@@ -113,10 +112,10 @@ fn needs_in_program(alloc: Global, words: &NeedsWords, program: &Program) -> Res
 /// What `needs` does with a source that meets every rule.
 fn needs_in_source(alloc: Global, words: &NeedsWords, source: &Resolved) -> Result<Answer, Status>
     requires { words.now.budget ≤ most_search_budget }
-    ensures executes { ExecutesProgram words.now (normal_form source.now) result }
-    ensures tells { TellsProgram words.now (normal_form source.now) result }
+    ensures executes { ExecutesSource words.now source.now result }
+    ensures tells { TellsSource words.now source.now result }
 {
-    let program = elaborate(alloc, source)?;
+    let program = run_program(alloc, source)?;
     needs_in_program(alloc, words, &program)
 }
 
