@@ -3,6 +3,7 @@ use Rattle.std.proofs.Common.{ℕ, List}
 use Rattle.vd_base.specs.Limits.{most_source_bytes}
 use Rattle.vd_outside.specs.Files.{Contents}
 use Rattle.vd_normal.specs.Normal.{normal_form}
+use Rattle.vd_rewritten.specs.RunPrograms.{run_form}
 use Rattle.vd_space.specs.Reading.{problem_of}
 use Rattle.vd_selection.specs.Choices.{ChoiceOutcomes}
 use Rattle.vd_plan.specs.Plans.{check_then}
@@ -22,6 +23,6 @@ draw_follows texts least certificates choices searched name budget files =
     (λ text. check_follows (source_of texts name text) (λ tree. check_then (resolved_of tree) (source_plan least choices (sure_search choices) name text budget))
     (λ tree. check_then (resolved_of tree) (source_plan least choices (searched_by certificates choices searched) name text budget)) files
     (λ tree. check_follows (resolved_of tree) (source_plan least choices (sure_search choices) name text budget) (source_plan least choices (searched_by certificates choices searched) name text budget) files
-    (λ resolved. check_follows (labels_of least (normal_form resolved)) (labels_plan choices (sure_search choices) name text budget (normal_form resolved))
-    (labels_plan choices (searched_by certificates choices searched) name text budget (normal_form resolved)) files
-    (λ labels. choice_follows (problem_of (normal_form resolved) labels) budget certificates choices (choice_plan name text (normal_form resolved) labels) searched files))))
+    (λ resolved. check_follows (labels_of least (run_form least (normal_form resolved))) (labels_plan choices (sure_search choices) name text budget (run_form least (normal_form resolved)))
+    (labels_plan choices (searched_by certificates choices searched) name text budget (run_form least (normal_form resolved))) files
+    (λ labels. choice_follows (problem_of (run_form least (normal_form resolved)) labels) budget certificates choices (choice_plan name text (run_form least (normal_form resolved)) labels) searched files))))

@@ -8,6 +8,8 @@ use Rattle.vd_constraints.specs.Rules.{system_of}
 use Rattle.vd_constraints.specs.Satisfies.{IsLeast}
 use Rattle.vd_constraints.specs.declared.labels.Labels.{Labels}
 use Rattle.vd_normal.specs.Normal.{normal_form}
+use Rattle.vd_rewritten.specs.RunPrograms.{IsRunProgram, run_form}
+use Rattle.vd_rewritten.proofs.Made.{run_form_is, run_well_made}
 use Rattle.vd_cheapest.proofs.Cheapest.{cheapest}
 use Rattle.vd_selection.specs.Choices.{IsChosen}
 use Rattle.vd_space.specs.declared.problem.Problem.{Problem}
@@ -28,10 +30,7 @@ use Rattle.vd_drawing.proofs.Sums.{add_up}
 use Rattle.vd_draw_command.specs.Drawing.{choice_plan, draw_plan, drawn_answer, labels_plan, no_drawing, source_plan}
 use Rattle.vd_draw_command.specs.Telling.{DrawingsTell, TellsDrawing}
 
-module _ (name : List ℕ) (contents : Contents) (source : Source) (held : HoldsSource name contents source) (labels : Labels) (least : IsLeast (system_of (normal_form source)) labels) where
-  abbrev program : NormalForm
-  program = normal_form source
-
+module _ (name : List ℕ) (contents : Contents) (source : Source) (held : HoldsSource name contents source) (program : NormalForm) (is_run : IsRunProgram source program) (labels : Labels) (least : IsLeast (system_of program) labels) where
   abbrev problem : Problem
   problem = problem_of program labels
 
@@ -39,11 +38,13 @@ module _ (name : List ℕ) (contents : Contents) (source : Source) (held : Holds
       → TellsDrawing name contents answer.printed
   told None chosen answer is ends = let wrong : NoAssignment ≡ Ended = ap (λ (x : Answer). x.status) (sym (answered contents no_drawing) ∙ is) ∙ ends in absurd (cc wrong)
   told (Some list) chosen answer is ends =
-      let made : IsWellMade program = made_of name contents source held in
+      let made : IsWellMade program = run_well_made source program (made_of name contents source held) is_run in
       let best = cheapest problem list (is_problem program labels made) chosen in
       subst (λ (x : Answer). TellsDrawing name contents x.printed) (sym (answered contents (drawn_answer name held.bytes program labels list)) ∙ is) (record {
         source = source;
         held = held;
+        program = program;
+        is_run = is_run;
         list = list;
         selected = record { labels = labels; least = least; cheapest = best };
         picture = refl;
@@ -58,8 +59,9 @@ drawings_tell texts least certificates choices searched name budget contents end
     let file = read_came contents texts name rest whole refl ends in
     let source = file.0 in
     let held : HoldsSource name contents source = file.1 in
-    let program : NormalForm = normal_form source in
-    let made = made_of name contents source held in
+    let program : NormalForm = run_form least (normal_form source) in
+    let is_run = run_form_is least source (made_of name contents source held) in
+    let made = run_well_made source program (made_of name contents source held) is_run in
     let begun = ends_as contents whole (rest held.bytes source) ends file.2 in
     let searching : Labels → Contents → Plan = labels_plan choices search name held.bytes budget program in
     let of = check_came contents (labels_of least program) searching (labels_never least program made) begun in
@@ -68,4 +70,4 @@ drawings_tell texts least certificates choices searched name budget contents end
     let upto = file.2 ∙ of.2 in
     let chosen : List ℕ → Contents → Plan = λ bytes. choice_plan name held.bytes program labels (choices.choose problem) in
     let found = check_came contents (search problem budget) chosen (search_never certificates choices problem budget searched) (ends_as contents whole (searching labels) ends upto) in
-    told name contents source held labels (labels_are least program made labels of.1) (choices.choose problem) (choices.choose_is problem) (whole contents).answer (sym (upto ∙ found.2)) ends
+    told name contents source held program is_run labels (labels_are least program made labels of.1) (choices.choose problem) (choices.choose_is problem) (whole contents).answer (sym (upto ∙ found.2)) ends

@@ -5,6 +5,7 @@ use Rattle.vd_outside.specs.Files.{FilesView, Contents}
 use Rattle.vd_core.specs.declared.normal.NormalForm.{NormalForm}
 use Rattle.vd_core.specs.declared.source.Source.{Source}
 use Rattle.vd_normal.specs.Normal.{normal_form}
+use Rattle.vd_rewritten.specs.RunPrograms.{run_form}
 use Rattle.vd_constraints.specs.declared.labels.Labels.{Labels}
 use Rattle.vd_picture.specs.Picture as pictures
 use Rattle.vd_space.specs.declared.problem.Problem.{Problem}
@@ -44,7 +45,7 @@ abbrev pub program_plan : LabelOutcomes → ChoiceOutcomes → Search → (name 
 program_plan least choices search name text budget program = check_then (labels_of least program) (labels_plan choices search name text budget program)
 
 abbrev pub source_plan : LabelOutcomes → ChoiceOutcomes → Search → (name text : List ℕ) → (budget : ℕ) → Source → Contents → Plan
-source_plan least choices search name text budget source = program_plan least choices search name text budget (normal_form source)
+source_plan least choices search name text budget source = program_plan least choices search name text budget (run_form least (normal_form source))
 
 -- with the bytes of a source
 abbrev pub text_plan : TextOutcomes → LabelOutcomes → ChoiceOutcomes → Search → (name : List ℕ) → (budget : ℕ) → List ℕ → Contents → Plan
@@ -63,6 +64,10 @@ ExecutesLabels program l name text budget result =
 abbrev pub ExecutesProgram : NormalForm → (name text : List ℕ) → (budget : ℕ) → Result Answer Status → Type 0
 ExecutesProgram program name text budget result =
     SomeSearch (λ choices search. (least : LabelOutcomes) (files : FilesView) → Executes true (program_plan least choices search name text budget program) files files result)
+
+abbrev pub ExecutesSource : Source → (name text : List ℕ) → (budget : ℕ) → Result Answer Status → Type 0
+ExecutesSource source name text budget result =
+    SomeSearch (λ choices search. (least : LabelOutcomes) (files : FilesView) → Executes true (source_plan least choices search name text budget source) files files result)
 
 abbrev pub ExecutesDraw : (name : List ℕ) → (budget : ℕ) → FilesView → FilesView → Result Answer Status → Type 0
 ExecutesDraw name budget before now result =

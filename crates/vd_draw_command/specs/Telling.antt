@@ -2,7 +2,8 @@
 use Rattle.std.specs.Prelude.{◌≡◌, ℕ, List, map}
 use Rattle.vd_outside.specs.Files.{Contents}
 use Rattle.vd_core.specs.declared.source.Source.{Source}
-use Rattle.vd_normal.specs.Normal.{normal_form}
+use Rattle.vd_core.specs.declared.normal.NormalForm.{NormalForm}
+use Rattle.vd_rewritten.specs.RunPrograms.{IsRunProgram}
 use Rattle.vd_drawing.specs.Costs.{AddUp}
 use Rattle.vd_picture.specs.Picture.{drawn}
 use Rattle.vd_space.specs.Reading.{problem_of}
@@ -21,10 +22,12 @@ use Rattle.vd_draw_command.specs.Drawing.{draw_plan}
 pub record TellsDrawing (name : List ℕ) (contents : Contents) (printed : List ℕ) : Type 0 where
   pub source : Source
   pub held : HoldsSource name contents source
+  pub program : NormalForm
+  pub is_run : IsRunProgram source program
   pub list : List ℕ
-  pub selected : IsSelected (normal_form source) list
-  pub picture : printed ≡ drawn name held.bytes (normal_form source) selected.labels (map (protocol (problem_of (normal_form source) selected.labels)) list)
-  pub costs : AddUp held.bytes (normal_form source) selected.labels list
+  pub selected : IsSelected program list
+  pub picture : printed ≡ drawn name held.bytes program selected.labels (map (protocol (problem_of program selected.labels)) list)
+  pub costs : AddUp held.bytes program selected.labels list
 
 -- so does its plan, whatever functions pick outcomes and whatever a search answers
 abbrev pub DrawingsTell : Type 0

@@ -4,24 +4,23 @@ ghost use Rattle.std.specs.Prelude.{◌≡◌, ◌≤◌, map, IfOk};
 ghost use Rattle.vd_base.specs.Limits.{most_search_budget};
 ghost use Rattle.vd_constraints.specs.Rules.{system_of};
 ghost use Rattle.vd_constraints.specs.Satisfies.{IsLeast};
-ghost use Rattle.vd_normal.specs.Normal.{normal_form};
 ghost use Rattle.vd_plan.specs.Plans.{Computes};
 ghost use Rattle.vd_space.specs.Reading.{problem_of};
 ghost use Rattle.vd_space.specs.Validity.{protocol};
-ghost use Rattle.vd_draw_command.specs.Drawing.{ExecutesDraw, ExecutesLabels, ExecutesProgram, drawn_answer, no_drawing};
+ghost use Rattle.vd_draw_command.specs.Drawing.{ExecutesDraw, ExecutesLabels, ExecutesProgram, ExecutesSource, drawn_answer, no_drawing};
 
 use std::alloc::{AllocError, Global};
 use vd_base::limits::SOURCE_BYTES;
 use vd_base::{Bytes, Proto};
 use vd_constraints::Labels;
 use vd_core::Program;
-use vd_elaborate::elaborate;
 use vd_frontend::{least_labels, read_source, resolve_source};
 use vd_items::Items;
 use vd_outside::Files;
 use vd_picture::drawing;
 use vd_plan::{Answer, Status, load};
 use vd_resolve::Resolved;
+use vd_rewritten::run_program;
 use vd_selection::{SelectFault, Selection, Sweeps, select};
 use vd_space::protocol_at;
 use vd_spaces::Space;
@@ -143,9 +142,9 @@ fn draw_source(
     budget: u32,
 ) -> Result<Answer, Status>
     requires { budget ≤ most_search_budget }
-    ensures { ExecutesProgram (normal_form source.now) name.now text.now budget result }
+    ensures { ExecutesSource source.now name.now text.now budget result }
 {
-    let program = elaborate(alloc, source)?;
+    let program = run_program(alloc, source)?;
     draw_program(alloc, &program, name, text, budget)
 }
 
