@@ -1,12 +1,14 @@
 -- What is reported of children that are runs of hosts.
-use Rattle.std.proofs.Common.{◌≡◌, ℕ, zero, suc, ◌+◌, ◌<◌, List, [], ◌∷◌, ◌++◌, length, Some, Result, Ok, Err, codes, refl, sym, ap, ◌∙◌, append_assoc, arith}
+use Rattle.std.proofs.Common.{◌≡◌, ℕ, zero, suc, ◌+◌, ◌<◌, List, [], ◌∷◌, ◌++◌, length, Some, Result, Ok, Err, codes, refl, sym, ap, ◌∙◌, subst, append_assoc, arith}
 use Rattle.std.specs.Prelude.{slice_get, slice_index_or}
 use Rattle.std.proofs.lemmas.List.{append_cancel_left, append_cancel_right, length-map}
 use Rattle.std.proofs.lemmas.List.FromFn.{length-map-range_with_len}
 use Rattle.vd_core.specs.declared.source.Host.{Host}
 use Rattle.vd_core.specs.declared.source.Source.{Source}
+use Rattle.vd_core.specs.declared.normal.NormalForm.{NormalForm}
+use Rattle.vd_meaning.specs.ProgramMeaning.{program_outputs}
 use Rattle.vd_meaning.specs.SourceMeaning.{host_names, source_outputs}
-use Rattle.vd_normal.specs.Normal.{normal_form}
+use Rattle.vd_rewritten.specs.RunPrograms.{IsRunProgram, TellsAs}
 use Rattle.vd_deals.specs.declared.deal.Deal.{Deal}
 use Rattle.vd_host_text.specs.declared.program.Digest.{Digest}
 use Rattle.vd_outside.specs.Sink.{SinkView}
@@ -84,9 +86,10 @@ by_place (x ∷ xs) (y ∷ ys) e same =
     let rest : xs ≡ ys = by_place xs ys (omega (arith, e)) (λ h lt. same (suc h) (omega (arith, lt))) in
     λ i. first i ∷ rest i
 
-module _ (source : Source) (list : List ℕ) (plan : Digest) (inputs : List (List ℕ)) (deals : List Deal) (run : ℕ → Run) (are : AreRunOverLinks (normal_form source) list plan inputs deals run) where
+module _ (source : Source) (program : NormalForm) (list : List ℕ) (plan : Digest) (inputs : List (List ℕ)) (deals : List Deal) (run : ℕ → Run) (same : program_outputs program inputs ≡ source_outputs source inputs)
+    (are : AreRunOverLinks program list plan inputs deals run) where
   abbrev n : ℕ
-  n = length (normal_form source).hosts
+  n = length program.hosts
 
   abbrev told : ℕ → List ℕ
   told h = slice_index_or (source_outputs source inputs) h []
@@ -100,14 +103,14 @@ module _ (source : Source) (list : List ℕ) (plan : Digest) (inputs : List (Lis
       let c = child_at printed children hosts h lt in
       let is = runs h c.0 c.1 in
       let done = is.well c.2.ends_well in
-      same_as_told (told h) (slice_index_or printed h []) (run h) c.0 done.0 done.1 (told_words source list plan inputs deals run are h (are.stored h below) h below done.0 done.1)
-      (running_hosts_tell_the_source source list plan inputs deals run are h below) is c.2
+      same_as_told (told h) (slice_index_or printed h []) (run h) c.0 done.0 done.1 (told_words program list plan inputs deals run (source_outputs source inputs) same are h (are.stored h below) h below done.0 done.1)
+      (running_hosts_tell_the_source source program list plan inputs deals run same are h below) is c.2
 
   -- so all printed what the source tells them, where there is a host
   all_same : 0 < n → (printed : List (List ℕ)) (children : List Child) → AreHosts printed children → ((h : ℕ) (child : Child) → slice_get children h ≡ Some child → IsRunOf (run h) child)
       → length children ≡ n → printed ≡ source_outputs source inputs
   all_same some printed children hosts runs count =
-      by_place printed (source_outputs source inputs) (as_many printed children hosts ∙ count ∙ sym (outputs_count source list plan inputs deals run are 0 (are.stored 0 some)))
+      by_place printed (source_outputs source inputs) (as_many printed children hosts ∙ count ∙ sym (outputs_count program list plan inputs deals run (source_outputs source inputs) same are 0 (are.stored 0 some)))
       (each_same printed children hosts runs count)
 
 -- ---- the report
@@ -117,8 +120,9 @@ reported_lines : (names printed outputs : List (List ℕ)) → (0 < length names
 reported_lines [] printed outputs same = refl
 reported_lines (name ∷ names) printed outputs same = ap (ended_lines (name ∷ names)) (same (omega arith))
 
-module _ (words : RunWords) (before now : Outside) (tell : AllTell before now) (source : Source) (held : HoldsSource words.source before.files.contents source) (list : List ℕ) (plan : Digest)
-    (inputs : List (List ℕ)) (deals : List Deal) (run : ℕ → Run) (are : AreRunOverLinks (normal_form source) list plan inputs deals run) (runs : AreRuns run (length source.hosts) before.spawner) where
+module _ (words : RunWords) (before now : Outside) (tell : AllTell before now) (source : Source) (held : HoldsSource words.source before.files.contents source)
+    (program : NormalForm) (is_run : IsRunProgram source program) (tells : TellsAs source program) (list : List ℕ) (plan : Digest)
+    (inputs : List (List ℕ)) (deals : List Deal) (run : ℕ → Run) (are : AreRunOverLinks program list plan inputs deals run) (runs : AreRuns run (length source.hosts) before.spawner) where
   hosts_count : length (host_names source.hosts) ≡ length source.hosts
   hosts_count = length-map source.hosts (λ (h : Host). h.name.name)
 
@@ -126,9 +130,9 @@ module _ (words : RunWords) (before now : Outside) (tell : AllTell before now) (
       → ((h : ℕ) (child : Child) → slice_get children h ≡ Some child → IsRunOf (run h) child) → AreHosts printed children
       → ended_lines names printed ≡ ended_lines (host_names source.hosts) (source_outputs source inputs)
   reported names printed same children count each hosts =
-      let number : length children ≡ length (normal_form source).hosts = count ∙ ap (λ (l : List (List ℕ)). length l) same in
+      let number : length children ≡ length program.hosts = count ∙ ap (λ (l : List (List ℕ)). length l) (same ∙ sym is_run.hosts) in
       ap (λ (l : List (List ℕ)). ended_lines l printed) same
-      ∙ reported_lines (host_names source.hosts) printed (source_outputs source inputs) (λ some. all_same source list plan inputs deals run are some printed children hosts each number)
+      ∙ reported_lines (host_names source.hosts) printed (source_outputs source inputs) (λ some. all_same source program list plan inputs deals run (tells inputs are.files.words) are (subst (λ (l : List (List ℕ)). 0 < length l) (sym is_run.hosts) some) printed children hosts each number)
 
   all_told : Runs words before now Ended → now.out.taken ≡ before.out.taken ++ ended_lines (host_names source.hosts) (source_outputs source inputs)
   all_told ran =
@@ -142,4 +146,4 @@ module _ (words : RunWords) (before now : Outside) (tell : AllTell before now) (
       r.reported tell.out ∙ ap (λ (l : List ℕ). before.out.taken ++ l) (reported r.names r.printed names e.children count each e.are_hosts)
 
 pub children_tell_the_source : ChildrenTellTheSource
-children_tell_the_source words before now ran tell source held list plan inputs deals run are runs = all_told words before now tell source held list plan inputs deals run are runs ran
+children_tell_the_source words before now ran tell source held program is_run tells list plan inputs deals run are runs = all_told words before now tell source held program is_run tells list plan inputs deals run are runs ran

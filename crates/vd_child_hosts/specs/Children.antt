@@ -2,7 +2,8 @@
 use Rattle.std.specs.Prelude.{◌≡◌, ◌++◌, ℕ, IsTrue, List, length, flat_map, codes, slice_get, Some, Ok}
 use Rattle.vd_core.specs.declared.source.Source.{Source}
 use Rattle.vd_meaning.specs.SourceMeaning.{host_names, source_outputs}
-use Rattle.vd_normal.specs.Normal.{normal_form}
+use Rattle.vd_core.specs.declared.normal.NormalForm.{NormalForm}
+use Rattle.vd_rewritten.specs.RunPrograms.{IsRunProgram, TellsAs}
 use Rattle.vd_deals.specs.declared.deal.Deal.{Deal}
 use Rattle.vd_host_text.specs.declared.program.Digest.{Digest}
 use Rattle.vd_outside.specs.Spawner.{SpawnerView}
@@ -43,6 +44,7 @@ pub record AllTell (before now : Outside) : Type 0 where
 abbrev pub ChildrenTellTheSource : Type 0
 ChildrenTellTheSource = (words : RunWords) (before now : Outside) → Runs words before now Ended → AllTell before now
     → (source : Source) → HoldsSource words.source before.files.contents source
+    → (program : NormalForm) → IsRunProgram source program → TellsAs source program
     → (list : List ℕ) (plan : Digest) (inputs : List (List ℕ)) (deals : List Deal) (run : ℕ → Run)
-    → AreRunOverLinks (normal_form source) list plan inputs deals run → AreRuns run (length source.hosts) before.spawner
+    → AreRunOverLinks program list plan inputs deals run → AreRuns run (length source.hosts) before.spawner
     → now.out.taken ≡ before.out.taken ++ ended_lines (host_names source.hosts) (source_outputs source inputs)
