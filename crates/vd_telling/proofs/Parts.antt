@@ -4,12 +4,13 @@ use Rattle.vd_core.specs.declared.normal.NormalForm.{NormalForm}
 use Rattle.vd_space.specs.declared.problem.Problem.{Problem}
 use Rattle.vd_choice_sentences.specs.Spaces.{IsSpaceFor}
 use Rattle.vd_choice_sentences.specs.Spent.{TellsSearch}
+use Rattle.vd_hidden_sentences.specs.Phrases.{IsBranchRemark}
 use Rattle.vd_plan.specs.declared.status.Status.{Status}
 use Rattle.vd_remarks.specs.Remarks.{told}
 use Rattle.vd_remarks.specs.declared.remark.Remark.{Remark}
 use Rattle.vd_sentences.specs.SourceRemarks.{IsSourceRemark}
 use Rattle.vd_telling.specs.Deals.{IsHostNumber, deal_text, IsDealTold}
-use Rattle.vd_telling.specs.Programs.{IsProgramOf, IsOfProgram, IsOfSpace, IsSearchRemark}
+use Rattle.vd_telling.specs.Programs.{IsAssignmentRemark, IsProgramOf, IsOfProgram, IsOfSpace, IsSearchRemark, IsSlotRemark}
 use Rattle.vd_telling.specs.Remarks.{IsDeclaredBefore, IsTwiceOr, IsRemarkOn}
 use Rattle.vd_telling.specs.Said.{IsRemarkTold}
 
@@ -28,6 +29,13 @@ module _ (Says : Problem → Remark → Type 0) (form : NormalForm) (space : Opt
 
   pub of_no_space : space ≡ None → IsSpaceFor form space → IsOfSpace Says form None
   of_no_space same is = record { space = None; is = subst (IsSpaceFor form) same is; says = refl }
+
+module _ (form : NormalForm) (hidden : Option Remark) where
+  pub of_branch : (remark : Remark) → hidden ≡ Some remark → IsBranchRemark form hidden → IsAssignmentRemark form (Some remark)
+  of_branch remark same is = record { hidden = Some remark; is = subst (IsBranchRemark form) same is; says = refl }
+
+  pub of_slots : (remark : Option Remark) → hidden ≡ None → IsBranchRemark form hidden → IsSlotRemark form remark → IsAssignmentRemark form remark
+  of_slots remark same is says = record { hidden = None; is = subst (IsBranchRemark form) same is; says = says }
 
 pub of_search : (budget : ℕ) (form : NormalForm) (space : Option Problem) (q : Problem) (sentence : List ℕ) → space ≡ Some q → IsSpaceFor form space → TellsSearch q budget sentence
     → IsSearchRemark budget form (Some (record { offset = None; sentence = sentence }))

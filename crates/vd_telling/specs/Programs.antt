@@ -1,22 +1,23 @@
--- What is said of the let-normal program of a source.
+-- What is said of the program of a source that is run.
 use Rattle.std.specs.Prelude.{◌≡◌, ℕ, List, Option, Some, None, Result, Ok, Err}
 use Rattle.vd_core.specs.declared.source.Source.{Source}
 use Rattle.vd_core.specs.declared.normal.NormalForm.{NormalForm}
-use Rattle.vd_normal.specs.Normal.{normal_form}
 use Rattle.vd_parser.specs.Outcomes.{IsParse}
 use Rattle.vd_parser.specs.declared.fault.ParseFault.{ParseFault}
 use Rattle.vd_resolve.specs.Limits.{resolution, IsResolved}
 use Rattle.vd_resolve.specs.declared.fault.NameFault.{NameFault}
+use Rattle.vd_rewritten.specs.RunPrograms.{IsRunProgram}
 use Rattle.vd_space.specs.declared.problem.Problem.{Problem}
+use Rattle.vd_hidden_sentences.specs.Phrases.{IsBranchRemark}
 use Rattle.vd_remarks.specs.declared.remark.Remark.{Remark}
 use Rattle.vd_choice_sentences.specs.Remarks.{IsNoAssignmentRemark}
 use Rattle.vd_choice_sentences.specs.Spaces.{IsSpaceFor}
 use Rattle.vd_choice_sentences.specs.Spent.{TellsSearch}
 
--- the let-normal form of a source that meets every rule
+-- the program that is run of a source that meets every rule
 abbrev pub IsProgramOfTree : Source → Option NormalForm → Type 0
 IsProgramOfTree source None = (fault : NameFault) × (resolution source ≡ Err fault)
-IsProgramOfTree source (Some form) = IsResolved source × (form ≡ normal_form source)
+IsProgramOfTree source (Some form) = IsResolved source × IsRunProgram source form
 
 -- the same of bytes; none where they are no source
 abbrev pub IsProgramOfOutcome : Result Source ParseFault → Option NormalForm → Type 0
@@ -47,9 +48,20 @@ pub record IsOfSpace (Says : Problem → Remark → Type 0) (form : NormalForm) 
   pub is : IsSpaceFor form space
   pub says : SaysIfSome (SaysOne Says) space remark
 
--- that no choice is valid
-abbrev pub IsAssignmentRemark : NormalForm → Option Remark → Type 0
-IsAssignmentRemark form = IsOfSpace (IsNoAssignmentRemark form) form
+-- of its slots, that no choice is valid
+abbrev pub IsSlotRemark : NormalForm → Option Remark → Type 0
+IsSlotRemark form = IsOfSpace (IsNoAssignmentRemark form) form
+
+-- where there is no branch that cannot be hidden
+abbrev pub SaysOfSlots : NormalForm → Option Remark → Option Remark → Type 0
+SaysOfSlots form None remark = IsSlotRemark form remark
+SaysOfSlots form (Some hidden) remark = remark ≡ Some hidden
+
+-- that no choice is valid: of the first branch that cannot be hidden, or of its slots
+pub record IsAssignmentRemark (form : NormalForm) (remark : Option Remark) : Type 0 where
+  pub hidden : Option Remark
+  pub is : IsBranchRemark form hidden
+  pub says : SaysOfSlots form hidden remark
 
 -- how far the search with this budget came
 pub record IsBudgetRemark (budget : ℕ) (problem : Problem) (remark : Remark) : Type 0 where

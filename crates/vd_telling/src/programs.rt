@@ -1,4 +1,4 @@
-//! Remarks on the let-normal program of a source.
+//! Remarks on the program of a source that is run.
 
 ghost use Rattle.std.specs.Prelude.{◌≢◌, IfOk, OnOk};
 ghost use Rattle.vd_core.specs.Named.{HasNames};
@@ -11,11 +11,12 @@ ghost use Rattle.vd_telling.specs.Programs.{IsOfProgram};
 use std::alloc::Global;
 use vd_choice_sentences::{no_assignment_remark, search_sentence, space_for};
 use vd_core::{Program, Source};
-use vd_elaborate::elaborate;
 use vd_flow_sentences::flow_remark;
+use vd_hidden_sentences::branch_remark;
 use vd_parser::{ParseFault, parse};
 use vd_remarks::{Remark, TellFault};
 use vd_resolve::{NameFault, resolve};
+use vd_rewritten::run_program;
 
 /// Whether a fault of a text is one of its bytes, and not want of memory.
 pub(crate) fn of_bytes(fault: ParseFault) -> Result<(), TellFault>
@@ -37,14 +38,14 @@ fn of_rules(fault: NameFault) -> Result<(), TellFault>
     }
 }
 
-/// The let-normal program of a tree; none where it breaks a rule.
+/// The program of a tree that is run; none where it breaks a rule. Where the source has no labels, it is its let-normal form.
 fn program_of_tree(alloc: Global, source: Source) -> Result<Option<Program>, TellFault>
     requires { HasNames source }
     ensures { IfOk result (programs.IsProgramOfTree source) }
 {
     match resolve(alloc, source) {
         Ok(resolved) => {
-            let program = elaborate(alloc, &resolved)?;
+            let program = run_program(alloc, &resolved)?;
             Ok(Some(program))
         }
         Err(fault) => {
@@ -54,7 +55,7 @@ fn program_of_tree(alloc: Global, source: Source) -> Result<Option<Program>, Tel
     }
 }
 
-/// The let-normal program of a source; none where the bytes are no source that meets every rule.
+/// The program of a source that is run; none where the bytes are no source that meets every rule.
 fn program_of(alloc: Global, bytes: &[u8]) -> Result<Option<Program>, TellFault>
     ensures { IfOk result (programs.IsProgramOf bytes.now) }
 {
@@ -78,9 +79,9 @@ pub(crate) fn remark_on_flow(alloc: Global, bytes: &[u8]) -> Result<Option<Remar
     }
 }
 
-/// The remark on a program for which no choice of protocols is valid.
-fn remark_on_space(alloc: Global, program: &Program) -> Result<Option<Remark>, TellFault>
-    ensures { IfOk result (programs.IsAssignmentRemark program.now) }
+/// The remark on the slots of a program for which no choice of protocols is valid.
+fn remark_on_slots(alloc: Global, program: &Program) -> Result<Option<Remark>, TellFault>
+    ensures { IfOk result (programs.IsSlotRemark program.now) }
 {
     let found = space_for(alloc, program)?;
     match found {
@@ -89,6 +90,17 @@ fn remark_on_space(alloc: Global, program: &Program) -> Result<Option<Remark>, T
             Ok(Some(remark))
         }
         None => Ok(None),
+    }
+}
+
+/// The remark on a program for which no choice of protocols is valid: on a branch that cannot be hidden, or on its slots.
+fn remark_on_space(alloc: Global, program: &Program) -> Result<Option<Remark>, TellFault>
+    ensures { IfOk result (programs.IsAssignmentRemark program.now) }
+{
+    let hidden = branch_remark(alloc, program)?;
+    match hidden {
+        Some(remark) => Ok(Some(remark)),
+        None => remark_on_slots(alloc, program),
     }
 }
 

@@ -1,10 +1,12 @@
-use Rattle.vd_choice_sentences.specs.Remarks.{IsNoAssignmentRemark}
-use Rattle.vd_telling.proofs.Parts.{of_space, of_no_space}
+use Rattle.std.proofs.lemmas.Result.{IfOk-weaker}
+use Rattle.vd_telling.specs.Programs.{IsAssignmentRemark, IsSlotRemark}
+use Rattle.vd_telling.proofs.Parts.{of_branch, of_slots}
 use Rattle.vd_telling.proofs.programs.remark_on_space.Goals as goal
 
-pub returns-in_ok-remark-in-Some : goal.returns-in_ok-remark-in-Some
-returns-in_ok-remark-in-Some c =
-    of_space (IsNoAssignmentRemark c.args.program.now) c.args.program.now c.in_ok-found.found c.in-Some.space c.in_ok-remark-in-Some.remark c.in-Some.is (c.in_ok-found.ensures {u = tt}) (c.in_ok-remark-in-Some.ensures {u = tt})
+pub returns-in-Some : goal.returns-in-Some
+returns-in-Some c = of_branch c.args.program.now c.in_ok-hidden.hidden c.in-Some.remark c.in-Some.is (c.in_ok-hidden.ensures {u = tt})
 
 pub returns-in-None : goal.returns-in-None
-returns-in-None c = of_no_space (IsNoAssignmentRemark c.args.program.now) c.args.program.now c.in_ok-found.found c.in-None.is (c.in_ok-found.ensures {u = tt})
+returns-in-None c =
+    IfOk-weaker c.remark_on_slots.result (IsSlotRemark c.args.program.now) (IsAssignmentRemark c.args.program.now)
+    (λ remark says. of_slots c.args.program.now c.in_ok-hidden.hidden remark c.in-None.is (c.in_ok-hidden.ensures {u = tt}) says) c.remark_on_slots.ensures
