@@ -2,8 +2,8 @@
 
 A source is made of statements over values of which it is kept whose secrets they hold. Values of which one host hands in the
 secrets can stand at that host, those of two in words that both share, and public ones in copies at all hosts. Only a source that
-shall have no valid list has one statement besides, at a random place: a product that holds the secrets of three hosts, or a
-division of what two hosts share.
+shall have no valid list has one statement besides, at a random place: a product that holds the secrets of three hosts, or an
+array that is written at an index that two hosts share.
 """
 
 import random
@@ -426,17 +426,19 @@ class Maker:
         make()
 
     def impossible(self):
-        """A word that no protocol can have: of three hosts' secrets, or what two of them share is divided."""
+        """A word that no protocol can have: of three hosts' secrets, or in an array at an index that two of them share."""
         owners = self.generator.sample(self.hosts, min(3, len(self.hosts)))
         names = []
         for host in owners:
             names.append(self.fresh("x"))
             self.add(f"let {names[-1]} = input({host});", 1)
-        form = self.generator.choice(("product", "division")) if len(owners) == 3 else "division"
+        form = self.generator.choice(("product", "index")) if len(owners) == 3 else "index"
         if form == "product":
             self.add(f"let {self.fresh('v')} = {' * '.join(names)};", 2)
         else:
-            self.add(f"let {self.fresh('v')} = {names[0]} / {names[1]};", 1)
+            name = self.fresh("t")
+            self.add(f"array {name}: word[2];", 1)
+            self.add(f"{name}[{names[0]} ^ {names[1]}] := {names[0]};", 1, 1)
 
     def function(self):
         """Of one or two words, of what shared words can do."""
