@@ -103,6 +103,8 @@ pub enum FilesCommand {
     Compile(Text, Text, u32),
     /// `needs FILE [each] [BUDGET]`.
     Needs(NeedsWords),
+    /// `hasten PROGRAM OUT`.
+    Hasten(Text, Text),
     /// `deal HOSTS OWN MULS ANDS PAIRS KEY PREFIX`.
     Deal(Counts, u64, Text),
     /// `replay SOURCE INPUTS PREFIX SCHEDULE [messages] [BUDGET]`.
@@ -435,6 +437,9 @@ fn three_words(
     } else if word.as_str() == "certify" {
         let source = Text::copy_of(alloc, source.as_str())?;
         Ok(Command::OnFiles(FilesCommand::Certify(source, Text::copy_of(alloc, other.as_str())?)))
+    } else if word.as_str() == "hasten" {
+        let program = Text::copy_of(alloc, source.as_str())?;
+        Ok(Command::OnFiles(FilesCommand::Hasten(program, Text::copy_of(alloc, other.as_str())?)))
     } else if word.as_str() == "depends" {
         let source = Text::copy_of(alloc, source.as_str())?;
         Ok(Command::OnFiles(FilesCommand::Depends(source, Text::copy_of(alloc, other.as_str())?)))

@@ -29,6 +29,8 @@ usage:
                                 print the five numbers with which deal makes enough for the source FILE; with each,
                                 how many inputs and items each host and each two hosts take at most; where FILE is
                                 the program of a host, how many that host takes
+  viaduct hasten PROGRAM OUT    store the program of a host again as OUT, with packets that tell nothing brought
+                                forward: it waits less often, and its peers need not know
   viaduct deal HOSTS OWN MULS ANDS PAIRS KEY PREFIX
                                 store PREFIX.i.deal for each host i: OWN own words, and with each other host
                                 MULS and ANDS products and PAIRS pairs, all made from the number KEY
