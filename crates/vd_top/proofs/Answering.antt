@@ -7,7 +7,7 @@ use Rattle.vd_cmd.specs.Commands.{KeepsLimits, form_of}
 use Rattle.vd_cmd.specs.declared.command.Command.{Command}
 use Rattle.vd_cmd.specs.declared.command.Command.TheVariants.{OnFiles}
 use Rattle.vd_cmd.specs.declared.command.FilesCommand.{FilesCommand}
-use Rattle.vd_cmd.specs.declared.command.FilesCommand.TheVariants.{Certify, Choose, Compile, Deal, Draw, Labels}
+use Rattle.vd_cmd.specs.declared.command.FilesCommand.TheVariants.{Certify, Choose, Compile, Deal, Draw, Hasten, Labels}
 use Rattle.vd_plan.specs.Deliver.{stored}
 use Rattle.vd_plan.specs.Plans.{answer_then}
 use Rattle.vd_plan.specs.declared.answer.Answer.{Answer}
@@ -22,7 +22,9 @@ use Rattle.vd_answers.proofs.Proofs.{proofs_tell}
 use Rattle.vd_dealt_files.specs.Dealt.{TellsDeal}
 use Rattle.vd_dealt_files.proofs.Taken.{deals_tell}
 use Rattle.vd_draw_command.proofs.Telling.{drawings_tell}
-use Rattle.vd_top.specs.Answers.{Adds, AreWithinLimits, KeepsChoice, KeepsCompiled, KeepsDeal, KeepsDrawing, KeepsLabels, KeepsProof}
+use Rattle.vd_hasten_command.proofs.Told.{hastens_tell}
+use Rattle.vd_hasten_command.specs.Telling.{TellsHastened}
+use Rattle.vd_top.specs.Answers.{Adds, AreWithinLimits, KeepsChoice, KeepsCompiled, KeepsDeal, KeepsDrawing, KeepsHastened, KeepsLabels, KeepsProof}
 use Rattle.vd_top.specs.Commands.{RunsForm, RunsWords, plan_of, search_of}
 use Rattle.vd_top.proofs.Words.{are_counts, some_outcomes}
 
@@ -98,6 +100,12 @@ module _ (words : List (List ℕ)) (before now : FilesView) (out_before out_now 
         tells = subst (λ (c : Contents). TellsCompiled source prefix before.contents c plan.answer.printed) (sym (w.stores told tt))
             (compiled_tell some_outcomes.texts some_outcomes.labels some_outcomes.certificates some_outcomes.choices r.0 source prefix budget before.contents (sym (w.answered told)));
       }
+
+  pub hastened_of : KeepsHastened words before now status
+  hastened_of name out form told ends =
+      let r = ran (Hasten name out) form ends in
+      let w = r.1 some_outcomes in
+      subst (λ (c : Contents). TellsHastened name out before.contents c) (sym (w.stores told tt)) (hastens_tell some_outcomes.readings name out before.contents (sym (w.answered told)))
 
   pub deal_of : AreWithinLimits words status → KeepsDeal words before now status
   deal_of within counts key prefix form told ends =

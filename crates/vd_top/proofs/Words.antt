@@ -17,6 +17,7 @@ use Rattle.vd_selecting.proofs.Reading.{some_certificates}
 use Rattle.vd_selecting.proofs.Sure.{choose_follows}
 use Rattle.vd_compiling.proofs.Sure.{compile_follows}
 use Rattle.vd_draw_command.proofs.Sure.{draw_follows}
+use Rattle.vd_hasten_command.proofs.Existing.{some_reading}
 use Rattle.vd_needs_command.proofs.Existing.{some_programs}
 use Rattle.vd_needs_command.proofs.Sure.{needs_follows}
 use Rattle.vd_outcomes.proofs.Picked.{some_outcomes as some_replays}
@@ -33,7 +34,7 @@ given fits (Err status) proper = tt
 
 -- there are outcomes
 pub some_outcomes : Outcomes
-some_outcomes = record { texts = some_texts; labels = some_labels; certificates = some_certificates; choices = some_choices; programs = some_programs; replays = some_replays; dependences = some_dependences; influences = some_influences }
+some_outcomes = record { texts = some_texts; labels = some_labels; certificates = some_certificates; choices = some_choices; programs = some_programs; readings = some_reading; replays = some_replays; dependences = some_dependences; influences = some_influences }
 
 -- the limits of what is dealt are those of what is made
 pub are_counts : (counts : Counts) → AreWithin counts → AreCounts counts

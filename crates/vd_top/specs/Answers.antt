@@ -1,4 +1,4 @@
--- What a run of `labels`, `certify`, `choose`, `draw`, `compile` or `deal` has shown, where it ended well.
+-- What a run of `labels`, `certify`, `choose`, `draw`, `compile`, `hasten` or `deal` has shown, where it ended well.
 use Rattle.std.specs.Prelude.{◌≡◌, ℕ, IsTrue, List, ◌++◌, Some}
 use Rattle.vd_outside.specs.Files.{FilesView}
 use Rattle.vd_outside.specs.Sink.{SinkView}
@@ -6,12 +6,13 @@ use Rattle.vd_deals.specs.declared.deal.Counts.{Counts}
 use Rattle.vd_cmd.specs.Commands.{KeepsLimits, form_of}
 use Rattle.vd_cmd.specs.declared.command.Command.{Command}
 use Rattle.vd_cmd.specs.declared.command.Command.TheVariants.{OnFiles}
-use Rattle.vd_cmd.specs.declared.command.FilesCommand.TheVariants.{Certify, Choose, Compile, Deal, Draw, Labels}
+use Rattle.vd_cmd.specs.declared.command.FilesCommand.TheVariants.{Certify, Choose, Compile, Deal, Draw, Hasten, Labels}
 use Rattle.vd_plan.specs.declared.status.Status.{Status}
 use Rattle.vd_plan.specs.declared.status.Status.TheVariants.{Ended}
 use Rattle.vd_answers.specs.Answers.{TellsChoice, TellsCompiled, TellsLabels, TellsProof}
 use Rattle.vd_dealt_files.specs.Dealt.{TellsDeal}
 use Rattle.vd_draw_command.specs.Telling.{TellsDrawing}
+use Rattle.vd_hasten_command.specs.Telling.{TellsHastened}
 
 -- the bytes that were added to the output are told so
 pub record Adds (Tells : List ℕ → Type 0) (out_before out_now : SinkView) : Type 0 where
@@ -52,6 +53,13 @@ abbrev pub KeepsCompiled : (words : List (List ℕ)) → FilesView → FilesView
 KeepsCompiled words before now out_before out_now status =
     (source prefix : List ℕ) (budget : ℕ) → form_of words ≡ Some (OnFiles (Compile source prefix budget)) → IsTrue before.told → IsTrue out_now.told → status ≡ Ended
     → Adds (TellsCompiled source prefix before.contents now.contents) out_before out_now
+
+-- Where they are those of `hasten`, the file that it stored is the text of the program that it read with its code hastened: exchanges of
+-- neighbours lead to it, and what the host tells, opens, awaits, compares and prints stands in its order.
+abbrev pub KeepsHastened : (words : List (List ℕ)) → FilesView → FilesView → Status → Type 0
+KeepsHastened words before now status =
+    (name out : List ℕ) → form_of words ≡ Some (OnFiles (Hasten name out)) → IsTrue before.told → status ≡ Ended
+    → TellsHastened name out before.contents now.contents
 
 -- Where they are those of `deal`, the files that then stand, read back, are consistent deals of all hosts, and `replay` refuses none.
 abbrev pub KeepsDeal : (words : List (List ℕ)) → FilesView → FilesView → Status → Type 0

@@ -8,7 +8,7 @@ use Rattle.vd_cmd.specs.Own.{own_text_of}
 use Rattle.vd_plan.specs.Lines.{Says, status_line}
 use Rattle.vd_plan.specs.Runs.{Prints}
 use Rattle.vd_plan.specs.declared.status.Status.{Status}
-use Rattle.vd_top.specs.Answers.{KeepsChoice, KeepsCompiled, KeepsDeal, KeepsDrawing, KeepsLabels, KeepsProof}
+use Rattle.vd_top.specs.Answers.{KeepsChoice, KeepsCompiled, KeepsDeal, KeepsDrawing, KeepsHastened, KeepsLabels, KeepsProof}
 use Rattle.vd_top.specs.Compiled.{KeepsStored}
 use Rattle.vd_top.specs.Counts.{KeepsCount}
 use Rattle.vd_top.specs.Commands.{CompletesWords, RunsWords}
@@ -38,6 +38,7 @@ pub record Keeps (words : List (List ℕ)) (o : Around) (status : Status) : Type
   pub drawn : KeepsDrawing words o.files.0 o.out.0 o.out.1 status
   pub compiled : KeepsCompiled words o.files.0 o.files.1 o.out.0 o.out.1 status
   pub stored : KeepsStored words o.files.0 o.files.1 o.out.0 o.out.1 status
+  pub hastened : KeepsHastened words o.files.0 o.files.1 status
   pub dealt : KeepsDeal words o.files.0 o.files.1 status
   pub trial : KeepsTrial words o.files.0 o.out.0 o.out.1 status
   pub accepted : KeepsAccepted words o.files.0 o.files.1 o.out.0 o.out.1 status

@@ -17,6 +17,7 @@ returns-in-None g c = record {
     drawn = c.run.ensures.drawn;
     compiled = c.run.ensures.compiled;
     stored = c.run.ensures.stored;
+    hastened = c.run.ensures.hastened;
     dealt = c.run.ensures.dealt;
     trial = c.run.ensures.trial;
     accepted = c.run.ensures.accepted;
