@@ -3,7 +3,7 @@ use Rattle.std.specs.Prelude.{ℕ, List, [], ◌∷◌, ◌++◌, Option, Some, 
 use Rattle.vd_base.specs.Limits.{most_source_bytes, most_inputs_bytes, most_certificate_bytes, most_schedule_bytes, most_deal_bytes, most_host_file_bytes}
 use Rattle.vd_cmd.specs.declared.command.Command.{Command}
 use Rattle.vd_cmd.specs.declared.command.Command.TheVariants.{OnFiles, Host, Run}
-use Rattle.vd_cmd.specs.declared.command.FilesCommand.TheVariants.{Clear, Labels, Choose, Draw, Certify, Compile, Needs, Deal, Replay, Excuse, Depends, Influences, Gen, Trial}
+use Rattle.vd_cmd.specs.declared.command.FilesCommand.TheVariants.{Clear, Labels, Choose, Draw, Certify, Compile, Needs, Hasten, Deal, Replay, Excuse, Depends, Influences, Gen, Trial}
 use Rattle.vd_plan.specs.Numbered.{file_name}
 use Rattle.vd_edge.specs.declared.kept.Wanted.{Wanted}
 
@@ -27,6 +27,7 @@ wanted_of (OnFiles (Draw source budget)) = file source most_source_bytes ∷ []
 wanted_of (OnFiles (Certify source certificate)) = file source most_source_bytes ∷ file certificate most_certificate_bytes ∷ []
 wanted_of (OnFiles (Compile source prefix budget)) = file source most_source_bytes ∷ []
 wanted_of (OnFiles (Needs words)) = file words.file most_host_file_bytes ∷ []
+wanted_of (OnFiles (Hasten program out)) = file program most_host_file_bytes ∷ []
 wanted_of (OnFiles (Deal counts key prefix)) = []
 wanted_of (OnFiles (Replay words)) =
     (file words.source most_source_bytes ∷ file words.inputs most_inputs_bytes ∷ []) ++ deals_of words.prefix ++ file words.schedule most_schedule_bytes ∷ []
