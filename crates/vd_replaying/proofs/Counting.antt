@@ -3,7 +3,7 @@ use Rattle.std.proofs.Common.{◌≡◌, ℕ, IsTrue, List, Option, Some, Result
 use Rattle.vd_outside.specs.Files.{FilesView, Contents}
 use Rattle.vd_core.specs.declared.normal.NormalForm.{NormalForm}
 use Rattle.vd_core.specs.declared.source.Source.{Source}
-use Rattle.vd_normal.specs.Normal.{normal_form}
+use Rattle.vd_rewritten.specs.RunPrograms.{IsRunProgram}
 use Rattle.vd_cmd.specs.declared.command.ReplayWords.{ReplayWords}
 use Rattle.vd_plan.specs.Plans.{ExecutesStep}
 use Rattle.vd_plan.specs.declared.answer.Answer.{Answer}
@@ -16,7 +16,7 @@ use Rattle.vd_frontend.proofs.Reading.{some_texts}
 use Rattle.vd_compiling.specs.Selected.{IsSelected, no_list}
 use Rattle.vd_asking.specs.declared.asked.Asked.{Asked}
 use Rattle.vd_asking.specs.Asking.{HoldAsked}
-use Rattle.vd_replaying.specs.Counting.{CountsOf, CountsProgram, CountsReplay, CountsSource, IsCountOf, packets_for}
+use Rattle.vd_replaying.specs.Counting.{CountsOf, CountsProgram, CountsReplay, CountsSource, IsCountFor, packets_for}
 
 -- at the choice of protocols
 pub list_counted : (program : NormalForm) (list : List ℕ) (asked : Asked) (packets : Option ℕ) (result : Result Answer Status) → IsSelected program list → OnOk result (packets ≡ Some (packets_for program list asked))
@@ -38,6 +38,10 @@ module _ (words : ReplayWords) (before : FilesView) (packets : Option ℕ) where
   }
   program_counted program form asked (Err status) same held counts = λ t. tt
 
+  pub source_counted : (source : Source) (program : NormalForm) (result : Result Answer Status) → IsRunProgram source program → CountsProgram words program before packets result → CountsSource words source before packets result
+  source_counted source program (Ok answer) is counts = λ t e. record { program = program; is_run = is; count = counts t e }
+  source_counted source program (Err status) is counts = λ t. tt
+
   -- the files say the same after the source was fetched
   pub replay_counted : (mid : FilesView) (source : Source) (result : Result Answer Status) → ((texts : TextOutcomes) → ExecutesStep (source_then texts words.source) before mid (Ok source))
       → (IsTrue before.told → HoldsSource words.source before.contents source) → CountsSource words source mid packets result → CountsReplay words before packets result
@@ -46,7 +50,7 @@ module _ (words : ReplayWords) (before : FilesView) (packets : Option ℕ) where
       record {
         source = source;
         is_source = held t;
-        count = subst (λ (files : Contents). IsCountOf words (normal_form source) files packets) (step_keeps step before mid source (loads some_texts) t)
+        count = subst (λ (files : Contents). IsCountFor words source files packets) (step_keeps step before mid source (loads some_texts) t)
             (counts (step_tells step before mid source (loads some_texts) t) e);
       }
   replay_counted mid source (Err status) loads held counts = λ t. tt

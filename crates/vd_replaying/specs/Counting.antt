@@ -3,7 +3,7 @@ use Rattle.std.specs.Prelude.{◌≡◌, ℕ, Option, Some, List, length, Result
 use Rattle.vd_outside.specs.Files.{FilesView, Contents}
 use Rattle.vd_core.specs.declared.normal.NormalForm.{NormalForm}
 use Rattle.vd_core.specs.declared.source.Source.{Source}
-use Rattle.vd_normal.specs.Normal.{normal_form}
+use Rattle.vd_rewritten.specs.RunPrograms.{IsRunProgram}
 use Rattle.vd_cmd.specs.declared.command.ReplayWords.{ReplayWords}
 use Rattle.vd_world.specs.Packets.{counted, packets_of}
 use Rattle.vd_plan.specs.Held.{Finds}
@@ -32,11 +32,17 @@ pub record IsCountOf (words : ReplayWords) (program : NormalForm) (contents : Co
   pub held : HoldAsked words program.hosts contents asked
   pub count : IsCount program asked packets
 
+-- of the program that is run for a source
+pub record IsCountFor (words : ReplayWords) (source : Source) (contents : Contents) (packets : Option ℕ) : Type 0 where
+  pub program : NormalForm
+  pub is_run : IsRunProgram source program
+  pub count : IsCountOf words program contents packets
+
 -- and of the source that they hold
 pub record IsReplayCount (words : ReplayWords) (contents : Contents) (packets : Option ℕ) : Type 0 where
   pub source : Source
   pub is_source : HoldsSource words.source contents source
-  pub count : IsCountOf words (normal_form source) contents packets
+  pub count : IsCountFor words source contents packets
 
 -- ---- where a program was run, so many packets are counted
 
@@ -47,7 +53,7 @@ abbrev pub CountsProgram : ReplayWords → NormalForm → FilesView → Option �
 CountsProgram words program before packets result = Finds before result (λ contents answer. answer.status ≡ Ended → IsCountOf words program contents packets)
 
 abbrev pub CountsSource : ReplayWords → Source → FilesView → Option ℕ → Result Answer Status → Type 0
-CountsSource words source before packets result = CountsProgram words (normal_form source) before packets result
+CountsSource words source before packets result = Finds before result (λ contents answer. answer.status ≡ Ended → IsCountFor words source contents packets)
 
 abbrev pub CountsReplay : ReplayWords → FilesView → Option ℕ → Result Answer Status → Type 0
 CountsReplay words before packets result = Finds before result (λ contents answer. answer.status ≡ Ended → IsReplayCount words contents packets)

@@ -4,8 +4,8 @@ use Rattle.vd_core.specs.declared.normal.NormalForm.{NormalForm}
 use Rattle.vd_plan.specs.Plans.{Executes}
 use Rattle.vd_plan.proofs.InSteps.{any_memory}
 use Rattle.vd_selecting.specs.Choosing.{GaveUp, searched_by}
-use Rattle.vd_replaying.specs.Counting.{CountsProgram}
 use Rattle.vd_replaying.specs.Replaying.{program_plan}
+use Rattle.vd_replaying.proofs.Counting.{source_counted}
 use Rattle.vd_replaying.proofs.Held.{source_told}
 use Rattle.vd_replaying.proofs.replay_command.replay_source.Goals as goal
 
@@ -32,4 +32,4 @@ returns-clause-tells g c =
 
 pub returns-clause-counts : goal.returns-clause-counts
 returns-clause-counts g c =
-    subst (λ (form : NormalForm). CountsProgram c.args.words.now form (g.F.Files.view c.args.files.now) c.replay_program.new.packets c.replay_program.result) c.in_ok-program.ensures.form c.replay_program.ensures.counts
+    source_counted c.args.words.now (g.F.Files.view c.args.files.now) c.replay_program.new.packets c.args.source.now c.in_ok-program.program c.replay_program.result c.in_ok-program.ensures.made c.replay_program.ensures.counts
