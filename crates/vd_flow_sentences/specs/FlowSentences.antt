@@ -19,6 +19,10 @@ lowered own = three (codes "; `declassify(.., {") own (codes "})` lets it be rea
 abbrev pub lowered_guard : List ℕ → List ℕ
 lowered_guard own = three (codes "; a guard in `declassify(.., {") own (codes "})` lets it be known, where those who answer for the guard may decide so")
 
+-- or a word that is made whatever the guard is, and told outside of the branch
+abbrev pub told_outside : List ℕ → List ℕ
+told_outside own = three (lowered_guard own) (codes "; outside of the branch, `mux` gives what can be output") []
+
 -- a value of the integrity that is asked: its rules ask for no more than these or its readers
 abbrev pub raised : List ℕ → List ℕ
 raised asked = three (codes "; `endorse(.., {") asked (codes "})` accepts a value as it is")
@@ -29,7 +33,7 @@ abbrev pub output_sentence : List ℕ → List ℕ → List ℕ → List ℕ
 output_sentence host own asked = three (three (codes "host ") host (codes " may not read ")) (guarded asked) (lowered own)
 
 abbrev pub told_sentence : List ℕ → List ℕ → List ℕ → List ℕ
-told_sentence host own asked = three (three (codes "host ") host (codes " may not know that this is reached, which tells ")) (guarded asked) (lowered_guard own)
+told_sentence host own asked = three (three (codes "host ") host (codes " may not know that this is reached, which tells ")) (guarded asked) (told_outside own)
 
 abbrev pub asked_sentence : List ℕ → List ℕ → List ℕ → List ℕ
 asked_sentence host own asked = three (three (codes "host ") host (codes " may not know that it is asked here, which tells ")) (guarded asked) (lowered_guard own)

@@ -37,6 +37,19 @@ fn lowered_guard(alloc: Global, own: &[u8]) -> Result<Bytes, AllocError>
     )
 }
 
+/// The same, or a word that is made whatever the guard is and told outside of the branch.
+fn told_outside(alloc: Global, own: &[u8]) -> Result<Bytes, AllocError>
+    ensures { IfOk result (λ text. text ≡ sentences.told_outside own.now) }
+{
+    let mend = lowered_guard(alloc, own)?;
+    three(
+        alloc,
+        mend.as_slice(),
+        b"; outside of the branch, `mux` gives what can be output",
+        b"",
+    )
+}
+
 /// What makes a value one that these answer for.
 fn raised(alloc: Global, asked: &[u8]) -> Result<Bytes, AllocError>
     ensures { IfOk result (λ text. text ≡ sentences.raised asked.now) }
@@ -75,7 +88,7 @@ fn told_sentence(alloc: Global, host: &[u8], own: &[u8], asked: &[u8]) -> Result
         b" may not know that this is reached, which tells ",
     )?;
     let what = guarded(alloc, asked)?;
-    let mend = lowered_guard(alloc, own)?;
+    let mend = told_outside(alloc, own)?;
     three(alloc, who.as_slice(), what.as_slice(), mend.as_slice())
 }
 
