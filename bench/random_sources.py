@@ -2,8 +2,8 @@
 
 A source is made of statements over values of which it is kept whose secrets they hold. Values of which one host hands in the
 secrets can stand at that host, those of two in words that both share, and public ones in copies at all hosts. Only a source that
-shall have no valid list has one statement besides, at a random place: a product that holds the secrets of three hosts, or an
-array that is written at an index that two hosts share.
+shall have no valid list has one statement besides, at a random place: a product that holds the secrets of three hosts, or a
+division of what two hosts share, in a loop of so many turns that a loop in its place would break the limit on weights.
 """
 
 import random
@@ -29,6 +29,9 @@ WITHOUT = {f"{family}, none valid": frozenset(FAMILIES[family] | {"impossible"})
 # The limits that a source keeps; the language allows 512 statements, and weights of 65,536.
 MOST_STATEMENTS = 505
 MOST_WEIGHTS = 65000
+
+# How often a division is executed that no loop can stand for: each costs 488 weights there.
+DIVIDED = 140
 
 
 class Value(NamedTuple):
@@ -426,19 +429,21 @@ class Maker:
         make()
 
     def impossible(self):
-        """A word that no protocol can have: of three hosts' secrets, or in an array at an index that two of them share."""
+        """A word that no protocol can have: of three hosts' secrets, or what two of them share is divided too often."""
         owners = self.generator.sample(self.hosts, min(3, len(self.hosts)))
         names = []
         for host in owners:
             names.append(self.fresh("x"))
             self.add(f"let {names[-1]} = input({host});", 1)
-        form = self.generator.choice(("product", "index")) if len(owners) == 3 else "index"
+        form = self.generator.choice(("product", "division")) if len(owners) == 3 else "division"
         if form == "product":
             self.add(f"let {self.fresh('v')} = {' * '.join(names)};", 2)
         else:
-            name = self.fresh("t")
-            self.add(f"array {name}: word[2];", 1)
-            self.add(f"{name}[{names[0]} ^ {names[1]}] := {names[0]};", 1, 1)
+            self.enter(DIVIDED)
+            self.depth += 1
+            self.add(f"let {self.fresh('v')} = {names[0]} / {names[1]};", 1)
+            self.depth -= 1
+            self.leave(DIVIDED)
 
     def function(self):
         """Of one or two words, of what shared words can do."""
