@@ -1,7 +1,7 @@
 //! What sweeps one way carry over the links.
 
 use crate::network::{End, Network};
-use crate::numbers::{FAR, MOST_SMALL, nearest_small, number_at, zeros};
+use crate::numbers::{put, small_at, small_zeros};
 use crate::shares::{Shares, share_of};
 use crate::tables::Tables;
 use std::alloc::{AllocError, Global};
@@ -10,23 +10,20 @@ use std::alloc::{AllocError, Global};
 #[derive(Drop)]
 struct Carried {
     /// What is put on the near point and taken from the link, by the settings of that point.
-    held: Vec<i64>,
-    /// Room for the same in 32 bits.
-    small_held: Vec<i32>,
+    held: Vec<i32>,
     /// What the link then costs at least, by the settings of the far point.
-    told: Vec<i64>,
-    /// Room for the same in 32 bits.
-    small_told: Vec<i32>,
+    told: Vec<i32>,
+    /// Room for what it costs next.
+    room: Vec<i32>,
 }
 
 impl Carried {
     /// Nothing is held by so many settings of the near point, and nothing told yet to so many of the far one.
     fn nothing(alloc: Global, near: usize, far: usize) -> Result<Carried, AllocError> {
         Ok(Carried {
-            held: zeros(alloc, near)?,
-            small_held: vec![in alloc; 0; near]?,
-            told: zeros(alloc, far)?,
-            small_told: vec![in alloc; 0; far]?,
+            held: small_zeros(alloc, near)?,
+            told: small_zeros(alloc, far)?,
+            room: small_zeros(alloc, far)?,
         })
     }
 
@@ -37,7 +34,7 @@ impl Carried {
 
     /// Holds what the link costs at least by the settings of the near point, less the share of a turn. Answers whether that is
     /// another amount than before at some setting.
-    fn hold(&mut self, costs: &[i64], shares: &Shares, turn: i64) -> bool {
+    fn hold(&mut self, costs: &[i32], shares: &Shares, turn: i32) -> bool {
         let mut changes = 0;
         let parts = shares.parts.iter().zip(shares.more.as_slice());
         for ((held, cost), (part, more)) in self.held.iter_mut().zip(costs).zip(parts) {
@@ -49,7 +46,7 @@ impl Carried {
     }
 
     /// Holds less, by the share of a turn. Answers whether that is less at some setting.
-    fn lower(&mut self, shares: &Shares, turn: i64) -> bool {
+    fn lower(&mut self, shares: &Shares, turn: i32) -> bool {
         let mut changes = 0;
         let parts = shares.parts.iter().zip(shares.more.as_slice());
         for (held, (part, more)) in self.held.iter_mut().zip(parts) {
@@ -60,83 +57,29 @@ impl Carried {
         changes != 0
     }
 
-    /// Computes what is told of what is held, where the far point is at this end of the link. Answers whether that is another
-    /// amount than before at some setting.
+    /// Computes what is told of what is held, where the far point is at this end of the link, by rows for the settings of the
+    /// point that has fewer. Answers whether that is another amount than before at some setting.
     fn tell(&mut self, tables: &Tables, end: End) -> bool {
-        if self.shrink() && self.tell_small(tables, end) {
-            self.widen()
+        if self.held.len() < self.told.len() {
+            least_of_rows(
+                &mut self.room,
+                tables.rows(end.turned()),
+                self.held.as_slice(),
+            );
         } else {
-            self.tell_whole(tables.rows(end))
+            least_by_row(&mut self.room, tables.rows(end), self.held.as_slice());
         }
-    }
-
-    /// The same by rows of prices.
-    fn tell_whole(&mut self, rows: &[Vec<i64>]) -> bool {
-        let mut has_changed = false;
-        for (setting, prices) in rows.iter().enumerate() {
-            let told = least_after(prices.as_slice(), self.held.as_slice());
-            has_changed = put(&mut self.told, setting, told) || has_changed;
-        }
-        has_changed
-    }
-
-    /// Computes in 32 bits what is told of what is held, by rows for the settings of the point that has fewer. Answers whether
-    /// that is all: the prices are small too, and each setting of the far point joins with one of the near one.
-    fn tell_small(&mut self, tables: &Tables, end: End) -> bool {
-        if self.small_held.len() < self.small_told.len() {
-            let rows = tables.small_rows(end.turned());
-            least_of_rows(&mut self.small_told, rows, self.small_held.as_slice());
-        } else {
-            let rows = tables.small_rows(end);
-            least_by_row(&mut self.small_told, rows, self.small_held.as_slice());
-        }
-        greatest(self.small_told.as_slice()) <= MOST_SMALL
-    }
-
-    /// Writes down in 32 bits what is held. Answers whether all of it is small.
-    fn shrink(&mut self) -> bool {
-        let mut rest = 0;
-        for (small, held) in self.small_held.iter_mut().zip(self.held.as_slice()) {
-            let nearest = nearest_small(*held);
-            rest |= *held ^ i64::from(nearest);
-            *small = nearest;
-        }
-        rest == 0
-    }
-
-    /// Tells what was computed in 32 bits. Answers whether that is another amount than before at some setting.
-    fn widen(&mut self) -> bool {
         let mut changes = 0;
-        for (told, small) in self.told.iter_mut().zip(self.small_told.as_slice()) {
-            let amount = i64::from(*small);
-            changes |= *told ^ amount;
-            *told = amount;
+        for (told, amount) in self.told.iter_mut().zip(self.room.as_slice()) {
+            changes |= *told ^ *amount;
+            *told = *amount;
         }
         changes != 0
     }
 }
 
-/// Puts a number at a place, if there is one. Answers whether there was another number.
-fn put(numbers: &mut Vec<i64>, place: usize, number: i64) -> bool {
-    if place < numbers.len() && numbers[place] != number {
-        numbers[place] = number;
-        true
-    } else {
-        false
-    }
-}
-
 /// The least of the prices, less what is held.
-fn least_after(prices: &[i64], held: &[i64]) -> i64 {
-    let mut least = FAR;
-    for (price, amount) in prices.iter().zip(held) {
-        least = least.min(price.wrapping_sub(*amount));
-    }
-    least
-}
-
-/// The least of small prices, less small amounts that are held.
-fn small_least_after(prices: &[i32], held: &[i32]) -> i32 {
+fn least_after(prices: &[i32], held: &[i32]) -> i32 {
     let mut least = i32::MAX;
     for (price, amount) in prices.iter().zip(held) {
         least = least.min(price.wrapping_sub(*amount));
@@ -144,17 +87,18 @@ fn small_least_after(prices: &[i32], held: &[i32]) -> i32 {
     least
 }
 
-/// The same of each row; more than all of them where there are no rows.
+/// The same of each row.
 fn least_by_row(leasts: &mut Vec<i32>, rows: &[Vec<i32>], held: &[i32]) {
-    start(leasts);
     for (least, prices) in leasts.iter_mut().zip(rows) {
-        *least = small_least_after(prices.as_slice(), held);
+        *least = least_after(prices.as_slice(), held);
     }
 }
 
 /// The same of each column, where an amount is held for each row.
 fn least_of_rows(leasts: &mut Vec<i32>, rows: &[Vec<i32>], held: &[i32]) {
-    start(leasts);
+    for least in leasts.iter_mut() {
+        *least = i32::MAX;
+    }
     for (prices, amount) in rows.iter().zip(held) {
         for (least, price) in leasts.iter_mut().zip(prices.as_slice()) {
             *least = (*least).min(price.wrapping_sub(*amount));
@@ -162,28 +106,12 @@ fn least_of_rows(leasts: &mut Vec<i32>, rows: &[Vec<i32>], held: &[i32]) {
     }
 }
 
-/// Begins with numbers that are greater than all others.
-fn start(leasts: &mut Vec<i32>) {
-    for least in leasts.iter_mut() {
-        *least = i32::MAX;
-    }
-}
-
-/// The greatest of the numbers.
-fn greatest(numbers: &[i32]) -> i32 {
-    let mut greatest = i32::MIN;
-    for number in numbers {
-        greatest = greatest.max(*number);
-    }
-    greatest
-}
-
 /// What sweeps one way carry over all links.
 #[derive(Drop)]
 pub struct Flow {
     links: Vec<Carried>,
     /// By point: the least that it costs with what it is told and what it holds.
-    leasts: Vec<i64>,
+    leasts: Vec<i32>,
     /// The sum of these. No list costs less.
     pub bound: i64,
     /// How much was computed: a price of a link that is looked at counts 1.
@@ -217,7 +145,7 @@ impl Flow {
         let points = network.by_point.len();
         Ok(Flow {
             links,
-            leasts: zeros(alloc, points)?,
+            leasts: small_zeros(alloc, points)?,
             bound: 0,
             work: 0,
             is_waiting: vec![in alloc; true; points]?,
@@ -243,7 +171,7 @@ impl Flow {
     }
 
     /// What is told over a link, by the settings of its far point.
-    pub fn told(&self, at: usize) -> &[i64] {
+    pub fn told(&self, at: usize) -> &[i32] {
         match self.links.get(at) {
             Some(carried) => carried.told.as_slice(),
             None => &[],
@@ -251,7 +179,7 @@ impl Flow {
     }
 
     /// What is held of a link, by the settings of its near point.
-    pub fn held(&self, at: usize) -> &[i64] {
+    pub fn held(&self, at: usize) -> &[i32] {
         match self.links.get(at) {
             Some(carried) => carried.held.as_slice(),
             None => &[],
@@ -259,11 +187,11 @@ impl Flow {
     }
 
     /// Notes the least that a point costs.
-    pub fn note(&mut self, point: usize, least: i64) {
-        let change = least.saturating_sub(number_at(self.leasts.as_slice(), point));
-        if put(&mut self.leasts, point, least) {
-            self.bound = self.bound.saturating_add(change);
-        }
+    pub fn note(&mut self, point: usize, least: i32) {
+        let before = i64::from(small_at(self.leasts.as_slice(), point));
+        let change = i64::from(least).saturating_sub(before);
+        put(&mut self.leasts, point, least);
+        self.bound = self.bound.saturating_add(change);
     }
 
     /// Gives the share of a turn to the link of an end, whose point is the near one, where the link costs so much at least by
@@ -272,9 +200,9 @@ impl Flow {
         &mut self,
         tables: &Tables,
         end: End,
-        costs: &[i64],
+        costs: &[i32],
         shares: &Shares,
-        turn: i64,
+        turn: i32,
     ) -> bool {
         if end.at < self.links.len() {
             let carried = &mut self.links[end.at];
@@ -290,7 +218,7 @@ impl Flow {
     }
 
     /// Gives the share of a turn of what is held of the link of an end to the link.
-    pub fn give_back(&mut self, tables: &Tables, end: End, shares: &Shares, turn: i64) -> bool {
+    pub fn give_back(&mut self, tables: &Tables, end: End, shares: &Shares, turn: i32) -> bool {
         if end.at < self.links.len() {
             let carried = &mut self.links[end.at];
             if !carried.lower(shares, turn) {

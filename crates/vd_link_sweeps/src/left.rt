@@ -156,6 +156,15 @@ impl Left {
         Ok(())
     }
 
+    /// How many settings each point has, with those that are not left.
+    pub fn counts(&self, alloc: Global) -> Result<Vec<usize>, AllocError> {
+        let mut counts = Vec::new(alloc);
+        for row in &self.live {
+            counts.push(row.len())?;
+        }
+        Ok(counts)
+    }
+
     /// The settings that are left for each point; none where a point has none left.
     pub fn settings(&self, alloc: Global) -> Result<Option<Vec<Vec<usize>>>, AllocError> {
         let mut settings = Vec::new(alloc);

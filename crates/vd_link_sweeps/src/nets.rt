@@ -44,24 +44,25 @@ impl Nets {
     }
 }
 
-/// A row of so many, with the numbers at these places.
+/// A row of so many, with the numbers at these places, each of so many bits more.
 pub fn spread(
     alloc: Global,
-    row: &[i64],
+    row: &[i32],
     places: &[usize],
     count: usize,
+    bits: u32,
 ) -> Result<Vec<i64>, AllocError> {
     let mut spread = zeros(alloc, count)?;
     for (number, place) in row.iter().zip(places) {
         if *place < spread.len() {
-            spread[*place] = *number;
+            spread[*place] = i64::from(*number).wrapping_shl(bits);
         }
     }
     Ok(spread)
 }
 
 /// A count of the list, and 0 past the end.
-fn count_at(counts: &[usize], point: usize) -> usize {
+pub fn count_at(counts: &[usize], point: usize) -> usize {
     match counts.get(point) {
         Some(count) => *count,
         None => 0,

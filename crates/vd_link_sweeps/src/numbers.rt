@@ -8,14 +8,11 @@ use std::alloc::{AllocError, Global};
 /// More than any sum of costs in parts: what it would cost to do what cannot be done.
 pub const FAR: i64 = 1125899906842624;
 
-/// Prices and amounts that are no greater are subtracted and compared in 32 bits: 1,048,576 units.
-pub const SMALL: i64 = 268_435_456;
+/// All that points and links cost together is no greater, in steps.
+pub const SMALL: i64 = 536_870_912;
 
-/// More than any small price less any small amount: what it would cost to do what cannot be done, in 32 bits.
+/// More than any such sum: what it would cost to do what cannot be done, in steps.
 pub const SMALL_FAR: i32 = 1_073_741_824;
-
-/// No small price less a small amount is more.
-pub const MOST_SMALL: i32 = 536_870_912;
 
 /// The nearest small number.
 pub fn nearest_small(number: i64) -> i32 {
@@ -32,10 +29,26 @@ pub fn number_at(numbers: &[i64], place: usize) -> i64
     }
 }
 
+/// The small number at a place, and 0 past the end.
+pub fn small_at(numbers: &[i32], place: usize) -> i32 {
+    match numbers.get(place) {
+        Some(number) => *number,
+        None => 0,
+    }
+}
+
 /// A row of a table, which is empty past the end.
 pub fn row_at(rows: &[Vec<i64>], row: usize) -> &[i64]
     ensures { result.now ≡ row_in rows.now row }
 {
+    match rows.get(row) {
+        Some(numbers) => numbers.as_slice(),
+        None => &[],
+    }
+}
+
+/// A row of a table of small numbers, which is empty past the end.
+pub fn small_row_at(rows: &[Vec<i32>], row: usize) -> &[i32] {
     match rows.get(row) {
         Some(numbers) => numbers.as_slice(),
         None => &[],
@@ -64,19 +77,19 @@ pub fn add_at(rows: &mut Vec<Vec<i64>>, row: usize, place: usize, amount: i64) {
     }
 }
 
-/// Writes the numbers of a row over those of another, as far as both go. Answers whether one of them changed.
-pub fn overwrite(numbers: &mut Vec<i64>, row: &[i64]) -> bool {
-    let mut has_changed = false;
-    for (place, number) in row.iter().enumerate() {
-        if place < numbers.len() && numbers[place] != *number {
-            numbers[place] = *number;
-            has_changed = true;
-        }
+/// Puts a small number at a place, if there is one.
+pub fn put(numbers: &mut Vec<i32>, place: usize, number: i32) {
+    if place < numbers.len() {
+        numbers[place] = number;
     }
-    has_changed
 }
 
 /// A row of so many zeros.
 pub fn zeros(alloc: Global, count: usize) -> Result<Vec<i64>, AllocError> {
+    vec![in alloc; 0; count]
+}
+
+/// A row of so many small zeros.
+pub fn small_zeros(alloc: Global, count: usize) -> Result<Vec<i32>, AllocError> {
     vec![in alloc; 0; count]
 }

@@ -3,22 +3,22 @@
 ghost use Rattle.std.specs.Prelude.{ℕ, ◌<◌};
 
 use crate::network::End;
-use crate::numbers::{FAR, number_at, overwrite, zeros};
+use crate::numbers::{SMALL_FAR, put, small_at, small_zeros, zeros};
 use std::alloc::{AllocError, Global};
 
 /// How what a point gives is split over the links that are ahead: in equal parts for all of them, and for as many behind.
 #[derive(Clone, Copy)]
 pub struct Split {
-    ahead: u64,
-    parts: u64,
+    ahead: u32,
+    parts: u32,
     ghost divisor: { 0 < parts },
 }
 
 impl Split {
     /// None where no link is ahead.
     pub fn of(ends: &[End], forward: bool) -> Option<Split> {
-        let mut ahead: u64 = 0;
-        let mut behind: u64 = 0;
+        let mut ahead: u32 = 0;
+        let mut behind: u32 = 0;
         for end in ends {
             if end.is_ahead(forward) {
                 ahead = ahead.saturating_add(1);
@@ -41,7 +41,7 @@ impl Split {
     }
 
     /// How many links ahead get one more, where so much is left over: their part of it, rounded up.
-    fn shared(self, left_over: u64) -> u64 {
+    fn shared(self, left_over: u32) -> u32 {
         if self.ahead == self.parts {
             return left_over;
         }
@@ -57,15 +57,17 @@ impl Split {
 pub struct Shares {
     /// How many settings the point has.
     count: usize,
-    totals: Vec<i64>,
+    totals: Vec<i32>,
     /// What each link gets at least, by setting.
-    pub parts: Vec<i64>,
+    pub parts: Vec<i32>,
     /// As many links, the first ones, get one more there.
-    pub more: Vec<i64>,
+    pub more: Vec<i32>,
+    /// Room for sums in which a price may be that of what cannot be done.
+    sums: Vec<i64>,
     /// So many links get something.
-    links: u64,
+    links: u32,
     /// The number of the sweep, by which the links take turns with what is left over.
-    turn: u64,
+    turn: u32,
 }
 
 impl Shares {
@@ -73,9 +75,10 @@ impl Shares {
     pub fn room(alloc: Global, most: usize) -> Result<Shares, AllocError> {
         Ok(Shares {
             count: 0,
-            totals: zeros(alloc, most)?,
-            parts: zeros(alloc, most)?,
-            more: zeros(alloc, most)?,
+            totals: small_zeros(alloc, most)?,
+            parts: small_zeros(alloc, most)?,
+            more: small_zeros(alloc, most)?,
+            sums: zeros(alloc, most)?,
             links: 0,
             turn: 0,
         })
@@ -87,42 +90,63 @@ impl Shares {
     }
 
     /// Begins with what a point costs alone.
-    pub fn begin(&mut self, costs: &[i64]) {
+    pub fn begin(&mut self, costs: &[i32]) {
         self.count = costs.len();
-        overwrite(&mut self.totals, costs);
+        for (total, cost) in self.totals.iter_mut().zip(costs) {
+            *total = *cost;
+        }
     }
 
     /// Adds what the point costs more by its settings.
-    pub fn add(&mut self, costs: &[i64]) {
+    pub fn add(&mut self, costs: &[i32]) {
         for (total, cost) in self.totals.iter_mut().zip(costs) {
             *total = total.wrapping_add(*cost);
         }
     }
 
-    /// The first setting at which the point costs least.
+    /// The least that the point costs.
+    pub fn least(&self) -> i32 {
+        let mut least = i32::MAX;
+        for total in self.totals.iter().take(self.count) {
+            least = least.min(*total);
+        }
+        least
+    }
+
+    /// Begins sums with what a point costs alone.
+    pub fn begin_sums(&mut self, costs: &[i32]) {
+        self.count = costs.len();
+        for (sum, cost) in self.sums.iter_mut().zip(costs) {
+            *sum = i64::from(*cost);
+        }
+    }
+
+    /// Adds to the sums.
+    pub fn sum(&mut self, costs: &[i32]) {
+        for (sum, cost) in self.sums.iter_mut().zip(costs) {
+            *sum = sum.wrapping_add(i64::from(*cost));
+        }
+    }
+
+    /// The first setting of the least sum.
     pub fn best(&self) -> usize {
         let mut best = 0;
         let mut least = i64::MAX;
-        for (setting, total) in self.totals.iter().take(self.count).enumerate() {
-            if *total < least {
-                least = *total;
+        for (setting, sum) in self.sums.iter().take(self.count).enumerate() {
+            if *sum < least {
+                least = *sum;
                 best = setting;
             }
         }
         best
     }
 
-    /// The least that the point costs.
-    pub fn least(&self) -> i64 {
-        number_at(self.totals.as_slice(), self.best())
-    }
-
     /// Splits what the point costs above its least.
-    pub fn split(&mut self, split: Split, least: i64) {
+    pub fn split(&mut self, split: Split, least: i32) {
         self.links = split.ahead;
         for setting in 0..self.count {
-            let above = number_at(self.totals.as_slice(), setting).saturating_sub(least);
-            let above = above.max(0) as u64;
+            let above = small_at(self.totals.as_slice(), setting).saturating_sub(least);
+            let above = above.max(0) as u32;
             let part = above / split.parts;
             let left_over = above % split.parts;
             put(&mut self.parts, setting, number_of(part));
@@ -131,7 +155,7 @@ impl Shares {
     }
 
     /// Whose turn the first of the links is in this sweep; none where no link gets anything.
-    pub fn first_turn(&self) -> Option<i64> {
+    pub fn first_turn(&self) -> Option<i32> {
         if self.links == 0 {
             return None;
         }
@@ -139,7 +163,7 @@ impl Shares {
     }
 
     /// Whose turn the link behind one with that turn is.
-    pub fn turn_after(&self, turn: i64) -> i64 {
+    pub fn turn_after(&self, turn: i32) -> i32 {
         let next = turn.saturating_add(1);
         if next < number_of(self.links) {
             next
@@ -150,23 +174,16 @@ impl Shares {
 }
 
 /// What a link with a turn gets, where each gets this part, and as many links, the first ones, get one more.
-pub fn share_of(part: i64, more: i64, turn: i64) -> i64 {
+pub fn share_of(part: i32, more: i32, turn: i32) -> i32 {
     part.wrapping_sub(minus_one_below(turn, more))
 }
 
-/// -1 where the number is less than the other, and else 0, of numbers no greater than `FAR`: all bits are that of the sign.
-fn minus_one_below(number: i64, other: i64) -> i64 {
-    number.wrapping_sub(other) >> 63
+/// -1 where the number is less than the other, and else 0, of numbers from 0 to `SMALL_FAR`: all bits are that of the sign.
+fn minus_one_below(number: i32, other: i32) -> i32 {
+    number.wrapping_sub(other) >> 31
 }
 
-/// Puts a number at a place, if there is one.
-fn put(numbers: &mut Vec<i64>, place: usize, number: i64) {
-    if place < numbers.len() {
-        numbers[place] = number;
-    }
-}
-
-/// The number, or `FAR` where it is greater.
-fn number_of(number: u64) -> i64 {
-    number.min(FAR as u64) as i64
+/// The number, or `SMALL_FAR` where it is greater.
+fn number_of(number: u32) -> i32 {
+    number.min(SMALL_FAR as u32) as i32
 }

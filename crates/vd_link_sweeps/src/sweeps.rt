@@ -3,9 +3,9 @@
 //! told, or that it costs.
 
 use crate::flow::Flow;
-use crate::nets::{Nets, spread};
+use crate::nets::{Nets, count_at, spread};
 use crate::network::{End, Network};
-use crate::numbers::{row_at, settings_at};
+use crate::numbers::{settings_at, small_row_at};
 use crate::shares::{Shares, Split};
 use crate::tables::Tables;
 use crate::witness::Witness;
@@ -64,7 +64,7 @@ impl State {
         }
     }
 
-    /// No list costs less, as the last sweep shows.
+    /// No list costs less, as the last sweep shows, in steps.
     pub fn bound(&self) -> i64 {
         self.last().bound
     }
@@ -82,13 +82,14 @@ impl State {
         self.besides = self.besides.saturating_add(work);
     }
 
-    /// What the shifts so far come to by the setting among so many, where each point was left these settings.
+    /// What the shifts so far come to by the setting, in parts, where each point has so many and was left these of them.
     pub fn nets(
         &self,
         alloc: Global,
+        tables: &Tables,
         network: &Network,
         settings: &[Vec<usize>],
-        count: usize,
+        counts: &[usize],
     ) -> Result<Nets, AllocError> {
         let flow = self.last();
         let mut nets = Nets {
@@ -103,9 +104,12 @@ impl State {
             };
             let firsts = settings_at(settings, first.point);
             let seconds = settings_at(settings, first.other);
-            nets.firsts.push(spread(alloc, on_first, firsts, count)?)?;
+            let many = count_at(counts, first.point);
+            nets.firsts
+                .push(spread(alloc, on_first, firsts, many, tables.bits)?)?;
+            let many = count_at(counts, first.other);
             nets.seconds
-                .push(spread(alloc, on_second, seconds, count)?)?;
+                .push(spread(alloc, on_second, seconds, many, tables.bits)?)?;
         }
         Ok(nets)
     }
@@ -196,11 +200,14 @@ impl State {
         point: usize,
         list: &[usize],
     ) -> usize {
-        self.shares.begin(row_at(tables.costs.as_slice(), point));
+        self.shares
+            .begin_sums(small_row_at(tables.costs.as_slice(), point));
         for end in ends {
             match list.get(end.other) {
-                Some(there) => self.shares.add(row_at(tables.rows(end.turned()), *there)),
-                None => self.shares.add(self.backward.told(end.at)),
+                Some(there) => self
+                    .shares
+                    .sum(small_row_at(tables.rows(end.turned()), *there)),
+                None => self.shares.sum(self.backward.told(end.at)),
             }
         }
         self.shares.best()
@@ -249,7 +256,7 @@ fn work_of_all(tables: &Tables, network: &Network) -> u64 {
 }
 
 /// What it takes to sum up what a point costs, and to split it over its links.
-fn work_of(costs: &[i64], ends: &[End]) -> u64 {
+fn work_of(costs: &[i32], ends: &[End]) -> u64 {
     let links = ends.len() as u64;
     links
         .saturating_add(SPLIT)
@@ -261,7 +268,7 @@ fn sum_up(
     shares: &mut Shares,
     here: &Flow,
     back: &Flow,
-    costs: &[i64],
+    costs: &[i32],
     ends: &[End],
     forward: bool,
 ) {
@@ -285,7 +292,7 @@ fn visit(
     point: usize,
     forward: bool,
 ) {
-    let costs = row_at(tables.costs.as_slice(), point);
+    let costs = small_row_at(tables.costs.as_slice(), point);
     here.count(work_of(costs, ends));
     sum_up(shares, here, back, costs, ends, forward);
     let least = shares.least();
@@ -328,7 +335,7 @@ fn send_back(
     let Some(nearest) = nearest_before(ends) else {
         return;
     };
-    let costs = row_at(tables.costs.as_slice(), point);
+    let costs = small_row_at(tables.costs.as_slice(), point);
     here.count(work_of(costs, ends));
     shares.begin(costs);
     for end in ends {
@@ -351,7 +358,7 @@ fn send_back(
 }
 
 /// Gives the share of a turn to the link of an end, and wakes the other point where it is told something else by that.
-fn give(shares: &Shares, here: &mut Flow, back: &mut Flow, tables: &Tables, end: End, turn: i64) {
+fn give(shares: &Shares, here: &mut Flow, back: &mut Flow, tables: &Tables, end: End, turn: i32) {
     if here.give(tables, end, back.told(end.at), shares, turn) {
         here.wake(end.other);
         back.wake(end.other);

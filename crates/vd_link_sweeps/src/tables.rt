@@ -1,54 +1,43 @@
-//! What points and links cost by the settings that are left, in parts of a unit.
+//! What points and links cost by the settings that are left, in steps: parts of a unit, or so many bits more where costs are great.
 
 use crate::network::{End, Network, Side};
-use crate::numbers::{FAR, SMALL_FAR, add_at, nearest_small, settings_at};
+use crate::numbers::{FAR, SMALL, SMALL_FAR, nearest_small, settings_at};
 use crate::order::Order;
 use std::alloc::{AllocError, Global};
 use vd_linked_path::{LinkTable, LinkedTables, PointTable};
 
-/// What a link costs, with a row for each setting at one end.
-#[derive(Drop)]
-pub struct Rows {
-    /// `FAR` where two settings do not join.
-    whole: Vec<Vec<i64>>,
-    /// The same in 32 bits if all prices are small, and no rows else.
-    small: Vec<Vec<i32>>,
-}
+/// A step has at most so many bits more than a part of a unit: more than the limits of sources ever ask for.
+const MOST_BITS: u32 = 32;
 
-impl Rows {
-    /// These rows, and the same in 32 bits.
-    fn of(alloc: Global, whole: Vec<Vec<i64>>) -> Result<Rows, AllocError> {
-        let small = small_rows(alloc, whole.as_slice())?;
-        Ok(Rows { whole, small })
-    }
-}
-
-/// What a link costs by the settings that are left at both ends: a row for each setting at one end.
+/// What a link costs by the settings that are left at both ends: a row for each setting at one end, with `SMALL_FAR` where two
+/// settings do not join.
 #[derive(Drop)]
 struct Prices {
-    by_first: Rows,
-    by_second: Rows,
+    by_first: Vec<Vec<i32>>,
+    by_second: Vec<Vec<i32>>,
 }
 
 impl Prices {
     /// The rows for the settings at this end.
-    fn rows(&self, side: Side) -> &Rows {
+    fn rows(&self, side: Side) -> &[Vec<i32>] {
         match side {
-            Side::First => &self.by_first,
-            Side::Second => &self.by_second,
+            Side::First => self.by_first.as_slice(),
+            Side::Second => self.by_second.as_slice(),
         }
     }
 
     /// Whether these are the same.
-    fn are(&self, by_first: &Vec<Vec<i64>>, by_second: &Vec<Vec<i64>>) -> bool {
-        self.by_first.whole == *by_first && self.by_second.whole == *by_second
+    fn are(&self, by_first: &Vec<Vec<i32>>, by_second: &Vec<Vec<i32>>) -> bool {
+        self.by_first == *by_first && self.by_second == *by_second
     }
 }
 
 #[derive(Drop)]
 pub struct Tables {
+    /// So many bits a step is more than a part of a unit.
+    pub bits: u32,
     /// By point and setting.
-    pub costs: Vec<Vec<i64>>,
+    pub costs: Vec<Vec<i32>>,
     /// What links cost, each once.
     prices: Vec<Prices>,
     /// By link: the number of its prices.
@@ -64,19 +53,22 @@ impl Tables {
         order: &Order,
         settings: &[Vec<usize>],
     ) -> Result<Tables, AllocError> {
+        let points = tables.points.as_slice();
+        let links = tables.links.as_slice();
+        let bits = bits_of(greatest_sum(points, links, network, order, settings));
         let mut costs = Vec::new(alloc);
         for (point, left) in order.points.iter().zip(settings) {
-            costs.push(costs_of(alloc, tables.points.as_slice(), *point, left.as_slice())?)?;
+            costs.push(costs_of(alloc, points, *point, left.as_slice(), bits)?)?;
         }
-        let links = tables.links.as_slice();
         let mut prices = Vec::new(alloc);
         let mut kinds = Vec::new(alloc);
         for first in &network.firsts {
-            let by_first = rows_of(alloc, links, *first, settings)?;
-            let by_second = rows_of(alloc, links, first.turned(), settings)?;
-            kinds.push(kind_of(alloc, &mut prices, by_first, by_second)?)?;
+            let by_first = rows_of(alloc, links, *first, settings, bits)?;
+            let by_second = rows_of(alloc, links, first.turned(), settings, bits)?;
+            kinds.push(kind_of(&mut prices, by_first, by_second)?)?;
         }
         Ok(Tables {
+            bits,
             costs,
             prices,
             kinds,
@@ -84,22 +76,16 @@ impl Tables {
     }
 
     /// Makes a point cost more at a setting.
-    pub fn raise(&mut self, point: usize, setting: usize, amount: i64) {
-        add_at(&mut self.costs, point, setting, amount);
-    }
-
-    /// What a link costs, with a row for each setting at this end.
-    pub fn rows(&self, end: End) -> &[Vec<i64>] {
-        match self.prices_of(end) {
-            Some(prices) => prices.rows(end.side).whole.as_slice(),
-            None => &[],
+    pub fn raise(&mut self, point: usize, setting: usize, amount: i32) {
+        if point < self.costs.len() {
+            add(&mut self.costs[point], setting, amount);
         }
     }
 
-    /// The same in 32 bits if all prices are small, and no rows else.
-    pub fn small_rows(&self, end: End) -> &[Vec<i32>] {
+    /// What a link costs, with a row for each setting at this end.
+    pub fn rows(&self, end: End) -> &[Vec<i32>] {
         match self.prices_of(end) {
-            Some(prices) => prices.rows(end.side).small.as_slice(),
+            Some(prices) => prices.rows(end.side),
             None => &[],
         }
     }
@@ -110,12 +96,18 @@ impl Tables {
     }
 }
 
+/// Adds to the number at a place, if there is one.
+fn add(numbers: &mut Vec<i32>, place: usize, amount: i32) {
+    if place < numbers.len() {
+        numbers[place] = numbers[place].wrapping_add(amount);
+    }
+}
+
 /// The number of the prices with these rows among those that are there, to which they are added if they are new.
 fn kind_of(
-    alloc: Global,
     prices: &mut Vec<Prices>,
-    by_first: Vec<Vec<i64>>,
-    by_second: Vec<Vec<i64>>,
+    by_first: Vec<Vec<i32>>,
+    by_second: Vec<Vec<i32>>,
 ) -> Result<usize, AllocError> {
     for (number, known) in prices.iter().enumerate() {
         if known.are(&by_first, &by_second) {
@@ -123,48 +115,77 @@ fn kind_of(
         }
     }
     prices.push(Prices {
-        by_first: Rows::of(alloc, by_first)?,
-        by_second: Rows::of(alloc, by_second)?,
+        by_first,
+        by_second,
     })?;
     Ok(prices.len() - 1)
 }
 
-/// Whether each price is small, where there is one.
-fn are_small(prices: &[i64]) -> bool {
-    for price in prices {
-        if *price < FAR && i64::from(nearest_small(*price)) != *price {
-            return false;
+/// How many bits a step is more than a part, so that no sum is too great that is at most this one in parts.
+fn bits_of(greatest: i64) -> u32 {
+    for bits in 0..MOST_BITS {
+        if greatest.wrapping_shr(bits) <= SMALL {
+            return bits;
         }
     }
-    true
+    MOST_BITS
 }
 
-/// Small prices in 32 bits.
-fn small_row(alloc: Global, prices: &[i64]) -> Result<Vec<i32>, AllocError> {
-    let mut row = Vec::with_capacity(alloc, prices.len())?;
-    for price in prices {
-        row.push(if *price < FAR {
-            nearest_small(*price)
-        } else {
-            SMALL_FAR
-        })?;
+/// The sum of what each point and each link costs at most where it can be.
+fn greatest_sum(
+    points: &[PointTable],
+    links: &[LinkTable],
+    network: &Network,
+    order: &Order,
+    settings: &[Vec<usize>],
+) -> i64 {
+    let mut sum: i64 = 0;
+    for (point, left) in order.points.iter().zip(settings) {
+        sum = sum.saturating_add(greatest_cost(points, *point, left.as_slice()));
     }
-    Ok(row)
+    for first in &network.firsts {
+        sum = sum.saturating_add(greatest_price(links, *first, settings));
+    }
+    sum
 }
 
-/// Rows of small prices in 32 bits; no rows where a price is not small.
-fn small_rows(alloc: Global, rows: &[Vec<i64>]) -> Result<Vec<Vec<i32>>, AllocError> {
-    let mut small = Vec::new(alloc);
-    for prices in rows {
-        if !are_small(prices.as_slice()) {
-            return Ok(Vec::new(alloc));
+/// What a point costs at most at settings that are left.
+fn greatest_cost(points: &[PointTable], point: usize, left: &[usize]) -> i64 {
+    let mut greatest = 0;
+    for setting in left {
+        let cost = cost_at(points, point, *setting);
+        if cost < FAR {
+            greatest = cost.max(greatest);
         }
-        small.push(small_row(alloc, prices.as_slice())?)?;
     }
-    Ok(small)
+    greatest
 }
 
-/// What a point costs at a setting.
+/// What a link costs at most at settings that are left and join.
+fn greatest_price(links: &[LinkTable], end: End, settings: &[Vec<usize>]) -> i64 {
+    let partners = settings_at(settings, end.other);
+    let mut greatest = 0;
+    for here in settings_at(settings, end.point) {
+        for there in partners {
+            let price = end.price(links, *here, *there);
+            if price < FAR {
+                greatest = price.max(greatest);
+            }
+        }
+    }
+    greatest
+}
+
+/// A cost or a price in steps.
+fn in_steps(amount: i64, bits: u32) -> i32 {
+    if amount < FAR {
+        nearest_small(amount.wrapping_shr(bits))
+    } else {
+        SMALL_FAR
+    }
+}
+
+/// What a point costs at a setting, in parts.
 fn cost_at(points: &[PointTable], point: usize, setting: usize) -> i64 {
     match points.get(point) {
         Some(table) => match table.costs.as_slice().get(setting) {
@@ -181,10 +202,11 @@ fn costs_of(
     points: &[PointTable],
     point: usize,
     left: &[usize],
-) -> Result<Vec<i64>, AllocError> {
+    bits: u32,
+) -> Result<Vec<i32>, AllocError> {
     let mut costs = Vec::new(alloc);
     for setting in left {
-        costs.push(cost_at(points, point, *setting))?;
+        costs.push(in_steps(cost_at(points, point, *setting), bits))?;
     }
     Ok(costs)
 }
@@ -195,11 +217,12 @@ fn rows_of(
     links: &[LinkTable],
     end: End,
     settings: &[Vec<usize>],
-) -> Result<Vec<Vec<i64>>, AllocError> {
+    bits: u32,
+) -> Result<Vec<Vec<i32>>, AllocError> {
     let partners = settings_at(settings, end.other);
     let mut rows = Vec::new(alloc);
     for here in settings_at(settings, end.point) {
-        rows.push(row_from(alloc, links, end, *here, partners)?)?;
+        rows.push(row_from(alloc, links, end, *here, partners, bits)?)?;
     }
     Ok(rows)
 }
@@ -211,10 +234,11 @@ fn row_from(
     end: End,
     here: usize,
     partners: &[usize],
-) -> Result<Vec<i64>, AllocError> {
+    bits: u32,
+) -> Result<Vec<i32>, AllocError> {
     let mut row = Vec::with_capacity(alloc, partners.len())?;
     for there in partners {
-        row.push(end.price(links, here, *there))?;
+        row.push(in_steps(end.price(links, here, *there), bits))?;
     }
     Ok(row)
 }

@@ -1,11 +1,11 @@
 //! Lists that are known.
 
 use crate::network::{End, Network};
-use crate::numbers::{FAR, number_at, row_at};
+use crate::numbers::{FAR, SMALL_FAR, small_at, small_row_at};
 use crate::tables::Tables;
 use std::alloc::Global;
 
-/// A list of settings, one for each point, and what it costs in parts: `i64::MAX` where a link does not join.
+/// A list of settings, one for each point, and what it costs in steps: `i64::MAX` where a link does not join.
 #[derive(Drop)]
 pub struct Witness {
     pub settings: Vec<usize>,
@@ -42,7 +42,7 @@ impl Witness {
 fn cost_of(tables: &Tables, network: &Network, list: &[usize]) -> i64 {
     let mut sum: i64 = 0;
     for (costs, setting) in tables.costs.iter().zip(list) {
-        sum = sum.saturating_add(number_at(costs.as_slice(), *setting));
+        sum = sum.saturating_add(i64::from(small_at(costs.as_slice(), *setting)));
     }
     for first in &network.firsts {
         sum = sum.saturating_add(price_in(tables, *first, list));
@@ -53,7 +53,14 @@ fn cost_of(tables: &Tables, network: &Network, list: &[usize]) -> i64 {
 /// What a link costs in a list of settings.
 fn price_in(tables: &Tables, first: End, list: &[usize]) -> i64 {
     match (list.get(first.point), list.get(first.other)) {
-        (Some(here), Some(there)) => number_at(row_at(tables.rows(first), *here), *there),
+        (Some(here), Some(there)) => {
+            let price = small_at(small_row_at(tables.rows(first), *here), *there);
+            if price < SMALL_FAR {
+                i64::from(price)
+            } else {
+                FAR
+            }
+        }
         _ => FAR,
     }
 }
