@@ -1,5 +1,5 @@
 -- What shifts of links a certificate can have.
-use Rattle.std.specs.Prelude.{◌≡◌, ℕ, zero, suc, ◌<◌, ◌≤◌, Bool, true, false, List, [], ◌∷◌, ◌++◌, length, slice_index_or, ℤ, pos, negsuc}
+use Rattle.std.specs.Prelude.{◌≡◌, ℕ, zero, suc, ◌<◌, ◌≤◌, Bool, true, false, List, [], ◌∷◌, ◌++◌, length, slice_index_or, ℤ, pos, negsuc, Vec}
 use Rattle.std.specs.List.{AllByRecursion, flat_map, range_with_len}
 use Rattle.vd_base.specs.Limits.{most_certificate_shifts}
 use Rattle.vd_link_sweeps.specs.declared.nets.Nets.{Nets}
@@ -51,6 +51,10 @@ net_shifts firsts seconds places links = flat_map (link_shifts firsts seconds pl
 -- the shifts of so many links that come to amounts at so many places of each end
 abbrev pub shifts_by : Nets → ℕ → ℕ → List Shift
 shifts_by nets places links = net_shifts (row_of nets.firsts) (row_of nets.seconds) places links
+
+-- the amount of a link, by the amounts at an end of all links
+abbrev pub amount_in : {Y Z : Type 0} → Vec (Vec ℤ Z) Y → ℕ → ℕ → ℤ
+amount_in rows at place = slice_index_or (row_of rows at) place (pos 0)
 
 -- what is done is that, and where it is not done nothing is said
 abbrev pub Adds : List Shift → List Shift → List Shift → Bool → Type 0

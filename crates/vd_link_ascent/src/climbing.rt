@@ -26,6 +26,8 @@ pub struct Climb {
     pub order: Order,
     pub network: Network,
     pub left: Left,
+    /// How many settings each point has, with those that are not left.
+    pub counts: Vec<usize>,
     /// By point.
     pub settings: Vec<Vec<usize>>,
     /// By the settings that are left.
@@ -62,6 +64,7 @@ impl Climb {
         let Some(settings) = left.settings(alloc)? else {
             return Ok(None);
         };
+        let counts = left.counts(alloc)?;
         let tables = Tables::of(alloc, linked, &network, &order, settings.as_slice())?;
         let mut state = State::of(alloc, &tables, &network, left.most)?;
         let witness = state.climb(alloc, &tables, &network, SWEEPS, CLIMB_WORK)?;
@@ -70,6 +73,7 @@ impl Climb {
             order,
             network,
             left,
+            counts,
             settings,
             tables,
             state,
@@ -80,10 +84,11 @@ impl Climb {
     /// What the shifts come to by all settings, where those that are not left are lifted.
     pub fn lifted(&self, alloc: Global, links: &[LinkTable]) -> Result<Nets, AllocError> {
         let settings = self.settings.as_slice();
+        let counts = self.counts.as_slice();
         let mut nets = self
             .state
-            .nets(alloc, &self.network, settings, self.left.most)?;
-        lift(alloc, links, &self.network, &self.left, &mut nets)?;
+            .nets(alloc, &self.tables, &self.network, settings, counts)?;
+        lift(alloc, links, &self.network, &self.left, counts, &mut nets)?;
         Ok(nets)
     }
 

@@ -4,6 +4,7 @@
 
 mod ascent;
 mod climbing;
+mod laws;
 mod lifting;
 mod made;
 mod refutation;
@@ -11,5 +12,6 @@ mod walk;
 mod walker;
 
 pub use ascent::Ascent;
+pub use laws::shifts_take_the_amounts;
 pub use refutation::Refutation;
 pub use walk::Walk;

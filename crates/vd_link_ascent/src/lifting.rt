@@ -9,16 +9,17 @@ use vd_linked_path::LinkTable;
 /// So many parts more are put on each: 65,536 units, so that some hundred lifts together still are an amount of 32 bits.
 const LIFT: i64 = 16_777_216;
 
-/// Lifts all that went, from the last to the first: by that time those are lifted that it had for partners.
+/// Lifts all that went, from the last to the first: by that time those are lifted that it had for partners. Each point has so many
+/// settings.
 pub fn lift(
     alloc: Global,
     links: &[LinkTable],
     network: &Network,
     left: &Left,
+    counts: &[usize],
     nets: &mut Nets,
 ) -> Result<(), AllocError> {
-    let counts = vec![in alloc; left.most; network.by_point.len()]?;
-    let mut lifts = Nets::none(alloc, network.firsts.as_slice(), counts.as_slice())?;
+    let mut lifts = Nets::none(alloc, network.firsts.as_slice(), counts)?;
     for death in left.deaths.iter().rev() {
         lift_one(links, network, death, nets, &mut lifts);
     }
@@ -56,18 +57,27 @@ fn is_at(death: &Death, end: End) -> bool {
 }
 
 /// What a link must cost more at a setting, so that it costs enough with each partner that was lifted at the link, and with the
-/// others no less than nothing.
+/// others no less than nothing. No price is less than nothing, so that of a partner which asks for no more need not be looked at.
 fn needed(links: &[LinkTable], nets: &Nets, lifts: &Nets, end: End, setting: usize) -> i64 {
     let there = end.turned();
+    let amounts = nets.row(there);
     let mut most = 0;
     for (partner, lift) in lifts.row(there).iter().enumerate() {
-        let price = end.price(links, setting, partner);
-        if price < FAR {
-            most = most.max(if *lift > 0 {
-                lift.saturating_add(LIFT)
-            } else {
-                number_at(nets.row(there), partner).saturating_sub(price)
-            });
+        let is_lifted = *lift > 0;
+        let asked = if is_lifted {
+            lift.saturating_add(LIFT)
+        } else {
+            number_at(amounts, partner)
+        };
+        if asked > most {
+            let price = end.price(links, setting, partner);
+            if price < FAR {
+                most = most.max(if is_lifted {
+                    asked
+                } else {
+                    asked.saturating_sub(price)
+                });
+            }
         }
     }
     most

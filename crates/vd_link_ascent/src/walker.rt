@@ -9,8 +9,8 @@ use vd_linked_path::LinkTable;
 /// So many sweeps forward are made for one candidate at most, and as many backward.
 const ROUNDS: u32 = 12;
 
-/// What a setting costs more at which a point is not to be, in parts: 4,096 units.
-const PENALTY: i64 = 1_048_576;
+/// What a setting costs more at which a point is not to be, in steps: at least 4,096 units.
+const PENALTY: i32 = 1_048_576;
 
 /// A candidate of a slot: a setting of its point.
 #[derive(Clone, Copy, PartialEq, Eq, Debug)]
@@ -39,15 +39,16 @@ pub struct Walker {
     fixed: Vec<Option<usize>>,
     /// The number of the next candidate of the slot, among the settings that are left.
     next: usize,
-    /// In parts. Lists that cost more are not looked for.
+    /// In steps. Lists that cost more are not looked for.
     most: i64,
     /// What it takes to show that a candidate is refuted.
     showing: u64,
 }
 
 impl Walker {
-    /// At the empty prefix.
+    /// At the empty prefix, where lists that cost more parts are not looked for.
     pub fn of(mut climb: Climb, alloc: Global, most: i64) -> Result<Walker, AllocError> {
+        let most = most.wrapping_shr(climb.tables.bits);
         if climb.witness.cost > most {
             climb.witness = Witness::none(alloc);
         }
@@ -125,7 +126,7 @@ impl Walker {
     /// Takes back a test that refuted the candidate, and passes it over.
     pub fn take_back(&mut self, candidate: Candidate) {
         self.climb.state.count(self.showing);
-        self.raise_others(candidate, 0i64.saturating_sub(PENALTY));
+        self.raise_others(candidate, 0i32.saturating_sub(PENALTY));
         self.fix(candidate.point, None);
         self.pass_over(candidate);
     }
@@ -144,7 +145,7 @@ impl Walker {
     }
 
     /// Makes the other settings of the point cost more.
-    fn raise_others(&mut self, candidate: Candidate, amount: i64) {
+    fn raise_others(&mut self, candidate: Candidate, amount: i32) {
         for other in 0..settings_at(self.climb.settings.as_slice(), candidate.point).len() {
             if other != candidate.number {
                 self.raise(candidate.point, other, amount);
@@ -153,7 +154,7 @@ impl Walker {
     }
 
     /// Makes a setting of a point cost more.
-    fn raise(&mut self, point: usize, number: usize, amount: i64) {
+    fn raise(&mut self, point: usize, number: usize, amount: i32) {
         self.climb.tables.raise(point, number, amount);
         self.climb.state.wake(point);
     }
