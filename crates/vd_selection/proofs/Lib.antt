@@ -3,7 +3,6 @@ pub mod Once
 pub mod Accepted
 pub mod Named
 pub mod Answered
-pub mod Staged
 pub mod ByLinks
 mod Floors
 mod Untied
