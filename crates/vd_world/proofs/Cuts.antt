@@ -1,6 +1,6 @@
 -- Packets whose words stand in one list.
 use Rattle.std.proofs.Common.{◌≡◌, ℕ, zero, suc, ◌+◌, ◌-◌, ◌≤◌, List, [], ◌∷◌, ◌++◌, length, length-append, take, drop, refl, sym, ap, ap₂, ◌∙◌, subst, arith}
-use Rattle.std.specs.Prelude.{slice_get, Some, None}
+use Rattle.std.specs.Prelude.{slice_get, slice_index, Some, None}
 use Rattle.vd_execution.specs.World.{words_of}
 use Rattle.vd_world.specs.Links.{cut, Rises, begin}
 
@@ -117,3 +117,8 @@ sent_cut ends ends' words words' xs end r e f g =
     let more = length-append words xs in
     let all = ap length e in
     ap₂ (λ (a b : List ℕ). cut 0 a b) f e ∙ cut_more 0 ends words xs end r (omega (arith, more, all, g))
+
+-- a packet that is not the first one begins where the one before it ends
+pub begin_after : (ends : List ℕ) (place : ℕ) → (place ≡ 0 → ⊥) → begin 0 ends place ≡ slice_index ends (place - 1)
+begin_after ends zero h = absurd (h refl)
+begin_after ends (suc i) h = ap (slice_index ends) (omega arith)

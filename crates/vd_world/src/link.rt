@@ -14,32 +14,41 @@ use vd_execution::Reg;
 #[derive(Drop)]
 pub struct Link {
     words: Vec<u32>,
-    /// Where each packet ends among the words.
-    ends: Vec<usize>,
+    /// Where each packet ends among the words, as long as 32 bits can tell it.
+    ends: Vec<u32>,
+    /// Where each later packet ends.
+    far_ends: Vec<usize>,
 }
 
 impl Model for Link {
-    ghost use Rattle.std.specs.Prelude.{ℕ, List, length};
+    ghost use Rattle.std.specs.Prelude.{ℕ, List, length, ◌++◌};
     ghost use Rattle.vd_world.specs.Links.{cut, Rises};
 
     ghost Value = { List (List ℕ) };
 
-    ghost view = { λ l. cut 0 l.ends.items l.words.items };
+    ghost view = { λ l. cut 0 (l.ends.items ++ l.far_ends.items) l.words.items };
 
-    ghost invariant = { λ l. Rises 0 l.ends.items (length l.words.items) };
+    ghost invariant = { λ l. Rises 0 (l.ends.items ++ l.far_ends.items) (length l.words.items) };
+}
+
+/// Where the packet at a place ends, if so many were sent.
+fn end_of(near: &[u32], far: &[usize], place: usize) -> Option<usize>
+    ensures { result ≡ slice_get (near.now ++ far.now) place }
+{
+    match near.get(place) {
+        Some(end) => Some(*end as usize),
+        None => far.get(place - near.len()).copied(),
+    }
 }
 
 /// Where the packet at a place begins.
-fn start_of(ends: &[usize], place: usize) -> usize
-    ensures { result ≡ begin 0 ends.now place }
+fn start_of(near: &[u32], far: &[usize], place: usize) -> usize
+    ensures { result ≡ begin 0 (near.now ++ far.now) place }
 {
     if place == 0 {
         return 0;
     }
-    match ends.get(place - 1) {
-        Some(end) => *end,
-        None => 0,
-    }
+    end_of(near, far, place - 1).unwrap_or(0)
 }
 
 fn between(words: &[u32], start: usize, end: usize) -> &[u32]
@@ -61,6 +70,19 @@ fn push_each(words: &mut Vec<u32>, registers: &[u32], from: &[Reg])
     }
 }
 
+/// One more end, behind all others. Out of memory changes nothing.
+fn push_end(near: &mut Vec<u32>, far: &mut Vec<usize>, end: usize) -> Result<(), AllocError>
+    ensures ok { OnOk result (near.new.items ++ far.new.items ≡ (near.old.items ++ far.old.items) ++ end ∷ []) }
+    ensures err { OnErr result (near.new.items ++ far.new.items ≡ near.old.items ++ far.old.items) }
+{
+    if far.is_empty() && end <= u32::MAX as usize {
+        near.push(end as u32)?;
+    } else {
+        far.push(end)?;
+    }
+    Ok(())
+}
+
 impl Link {
     /// Nothing was sent.
     pub fn new(alloc: Global) -> Link
@@ -69,6 +91,7 @@ impl Link {
         Link {
             words: Vec::new(alloc),
             ends: Vec::new(alloc),
+            far_ends: Vec::new(alloc),
         }
     }
 
@@ -79,10 +102,9 @@ impl Link {
         ensures err { OnErr result (self.new ≡ self.old) }
     {
         self.words.reserve(from.len())?;
-        self.ends.reserve(1)?;
+        let end = self.words.len() + from.len();
+        push_end(&mut self.ends, &mut self.far_ends, end)?;
         push_each(&mut self.words, registers, from);
-        let end = self.words.len();
-        self.ends.push_reserved(end);
         Ok(())
     }
 
@@ -91,18 +113,20 @@ impl Link {
         ensures packet { IsPlace result (slice_get self.now place) }
         ensures room { IfSome result (λ _. place + 1 < 2 ^ 64) }
     {
-        if self.ends.len() <= place {
-            return None;
+        match end_of(&self.ends, &self.far_ends, place) {
+            None => None,
+            Some(end) => {
+                let start = start_of(&self.ends, &self.far_ends, place);
+                Some(between(&self.words, start, end))
+            }
         }
-        let end = self.ends[place];
-        Some(between(&self.words, start_of(&self.ends, place), end))
     }
 
     /// How many packets were sent.
     pub fn count(&self) -> usize
         ensures { result ≡ length self.now }
     {
-        self.ends.len()
+        self.ends.len() + self.far_ends.len()
     }
 
     /// The words of all packets.

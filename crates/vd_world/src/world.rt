@@ -60,7 +60,9 @@ fn refill(list: &mut Vec<u32>, words: &[u32])
     ensures capacity { vec_capacity list.old ≤ vec_capacity list.new }
 {
     list.clear();
-    list.extend_from_slice(words).unwrap();
+    for word in words {
+        list.push_reserved(*word);
+    }
 }
 
 /// All hosts, which step one at a time.
