@@ -25,10 +25,10 @@ abbrev shares_in : Deal → Shares
 shares_in d = shares_of d.triples d.bits d.pairs
 
 pub record Fit (hosts me : ℕ) (d : Deal) : Type 0 where
-  hosts_are : d.hosts ≡ hosts
-  me_is : d.me.0 ≡ me
-  own : FitsList IsWord d.own
-  shares : FitsShares (hosts - 1) (shares_in d)
+  pub hosts_are : d.hosts ≡ hosts
+  pub me_is : d.me.0 ≡ me
+  pub own : FitsList IsWord d.own
+  pub shares : FitsShares (hosts - 1) (shares_in d)
 
 within_and : {X : Type 0} (Fits : X → Type 0) (xss : List (List X)) → AllByRecursion (λ xs. length xs ≤ most_deal_items) xss → AllByRecursion (All Fits) xss → AllByRecursion (FitsList Fits) xss
 within_and Fits [] w f = tt
@@ -51,7 +51,7 @@ are_within Fits xss h = All-from_recursion (λ xs. length xs ≤ most_deal_items
 are_words : {X : Type 0} (Fits : X → Type 0) (xss : List (List X)) → AllByRecursion (FitsList Fits) xss → All (All Fits) xss
 are_words Fits xss h = All-from_recursion (All Fits) xss (all_of Fits xss h)
 
-fit : (hosts me : ℕ) (d : Deal) → IsDealOf hosts me d → Fit hosts me d
+pub fit : (hosts me : ℕ) (d : Deal) → IsDealOf hosts me d → Fit hosts me d
 fit hosts me d h = record {
   hosts_are = h.hosts_are;
   me_is = h.me_is;
@@ -63,7 +63,7 @@ fit hosts me d h = record {
   );
 }
 
-is_deal_of : (hosts me : ℕ) (d : Deal) → hosts ≤ most_hosts → me < hosts → Fit hosts me d → IsDealOf hosts me d
+pub is_deal_of : (hosts me : ℕ) (d : Deal) → hosts ≤ most_hosts → me < hosts → Fit hosts me d → IsDealOf hosts me d
 is_deal_of hosts me d few below h = record {
   is = record {
     few = omega (arith, h.hosts_are);
@@ -96,7 +96,7 @@ same_deal d hosts me own ss h m o s =
     ap (λ x. made_of x d.me.0 d.own (shares_in d)) h ∙ ap (λ x. made_of hosts x d.own (shares_in d)) m
     ∙ ap (λ x. made_of hosts me x (shares_in d)) o ∙ ap (made_of hosts me own) s
 
-fit_made : (hosts me : ℕ) (own : List ℕ) (ss : Shares) → FitsList IsWord own → FitsShares (hosts - 1) ss → Fit hosts me (made_of hosts me own ss)
+pub fit_made : (hosts me : ℕ) (own : List ℕ) (ss : Shares) → FitsList IsWord own → FitsShares (hosts - 1) ss → Fit hosts me (made_of hosts me own ss)
 fit_made hosts me own ss fits_own fits_ss = record { hosts_are = refl; me_is = refl; own = fits_own; shares = fits_ss }
 
 abbrev shares_text_of : ℕ → Deal → List ℕ

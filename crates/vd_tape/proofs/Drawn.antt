@@ -7,7 +7,7 @@ use Rattle.vd_deals.specs.declared.items.PairItem.{PairItem}
 use Rattle.vd_deals.specs.declared.deal.Deal.{Deal}
 use Rattle.vd_deals.specs.declared.deal.Counts.{Counts}
 use Rattle.vd_deals.specs.Validity.{peer_at}
-use Rattle.vd_tape.specs.Made.{made_key, made_word, words_from, first_of, mul_item, and_item, pair_item, made_deal}
+use Rattle.vd_tape.specs.Made.{cipher_key, keyed_word, words_from, first_of, mul_item, and_item, pair_item, keyed_deal}
 use Rattle.vd_tape.specs.Generator.{IsAt, stands_at, words_at}
 
 -- one more of a function's values
@@ -15,20 +15,20 @@ pub next_of : {X : Type 0} (f : ℕ → X) (n : ℕ) (xs new : List X) (x : X) �
 next_of {X = X} f n xs new x are e is =
     e ∙ ap (λ ys. ys ++ x ∷ []) are ∙ ap (λ y. first_of n f ++ y ∷ []) is ∙ sym (map-range_with_len_more f 0 n n (omega arith))
 
-pub moved : (key stream place step next : ℕ) (g h : ChaCha) → IsAt g key stream place → h ≡ stands_at g (g.word_pos + step) → place + step ≡ next → IsAt h key stream next
+pub moved : (key : List ℕ) (stream place step next : ℕ) (g h : ChaCha) → IsAt g key stream place → h ≡ stands_at g (g.word_pos + step) → place + step ≡ next → IsAt h key stream next
 moved key stream place step next g h is e n =
-    let f : ℕ → ChaCha = λ p. record { key = made_key key; stream = stream; word_pos = p } in
+    let f : ℕ → ChaCha = λ p. record { key = cipher_key key; stream = stream; word_pos = p } in
     e ∙ ap (λ (k : ChaCha). stands_at k (k.word_pos + step)) is ∙ ap f n
 
-pub word_drawn : (key stream place x : ℕ) (g : ChaCha) → IsAt g key stream place → x ≡ word_at 10 g.key g.stream g.word_pos → x ≡ made_word key stream place
-unfolding made_word
+pub word_drawn : (key : List ℕ) (stream place x : ℕ) (g : ChaCha) → IsAt g key stream place → x ≡ word_at 10 g.key g.stream g.word_pos → x ≡ keyed_word key stream place
+unfolding keyed_word
 word_drawn key stream place x g is e = e ∙ ap (λ (k : ChaCha). word_at 10 k.key k.stream k.word_pos) is
 
-words_are : (key stream place : ℕ) (g : ChaCha) → IsAt g key stream place → words_at g ≡ words_from key stream place
-unfolding made_word
+words_are : (key : List ℕ) (stream place : ℕ) (g : ChaCha) → IsAt g key stream place → words_at g ≡ words_from key stream place
+unfolding keyed_word
 words_are key stream place g is = ap words_at is
 
-pub drawn : {P X : Type 0} (make : (ℕ → ℕ) → P) (pick : P → X) (key stream step i : ℕ) (g : ChaCha) (parts : P) (x : X) → IsAt g key stream (step * i) → parts ≡ make (words_at g) → x ≡ pick parts
+pub drawn : {P X : Type 0} (make : (ℕ → ℕ) → P) (pick : P → X) (key : List ℕ) (stream step i : ℕ) (g : ChaCha) (parts : P) (x : X) → IsAt g key stream (step * i) → parts ≡ make (words_at g) → x ≡ pick parts
     → x ≡ pick (make (words_from key stream (step * i)))
 drawn make pick key stream step i g parts x is p e = e ∙ ap pick (p ∙ ap make (words_are key stream (step * i) g is))
 
@@ -38,15 +38,15 @@ next_place step i = omega arith
 abbrev deal_of : ℕ → ℕ → List ℕ → List (List Triple) → List (List Triple) → List (List PairItem) → Deal
 deal_of hosts me own ts bs ps = record { hosts = hosts; me = record { 0 = me }; own = own; triples = ts; bits = bs; pairs = ps }
 
-pub is_made : (counts : Counts) (key me place : ℕ) (own : List ℕ) (ts bs : List (List Triple)) (ps : List (List PairItem)) → place ≡ counts.hosts - 1
-    → own ≡ first_of counts.own (made_word key me)
+pub is_made : (counts : Counts) (key : List ℕ) (me place : ℕ) (own : List ℕ) (ts bs : List (List Triple)) (ps : List (List PairItem)) → place ≡ counts.hosts - 1
+    → own ≡ first_of counts.own (keyed_word key me)
     → ts ≡ first_of place (λ k. first_of counts.muls (mul_item key me (peer_at me k)))
     → bs ≡ first_of place (λ k. first_of counts.ands (and_item key me (peer_at me k)))
     → ps ≡ first_of place (λ k. first_of counts.pairs (pair_item key me (peer_at me k)))
-    → deal_of counts.hosts me own ts bs ps ≡ made_deal counts key me
+    → deal_of counts.hosts me own ts bs ps ≡ keyed_deal counts key me
 is_made counts key me place own ts bs ps end o t b p =
     ap (λ x. deal_of counts.hosts me x ts bs ps) o
-    ∙ ap (λ x. deal_of counts.hosts me (first_of counts.own (made_word key me)) x bs ps) t
-    ∙ ap (λ x. deal_of counts.hosts me (first_of counts.own (made_word key me)) (first_of place (λ k. first_of counts.muls (mul_item key me (peer_at me k)))) x ps) b
-    ∙ ap (λ x. deal_of counts.hosts me (first_of counts.own (made_word key me)) (first_of place (λ k. first_of counts.muls (mul_item key me (peer_at me k)))) (first_of place (λ k. first_of counts.ands (and_item key me (peer_at me k)))) x) p
-    ∙ ap (λ n. deal_of counts.hosts me (first_of counts.own (made_word key me)) (first_of n (λ k. first_of counts.muls (mul_item key me (peer_at me k)))) (first_of n (λ k. first_of counts.ands (and_item key me (peer_at me k)))) (first_of n (λ k. first_of counts.pairs (pair_item key me (peer_at me k))))) end
+    ∙ ap (λ x. deal_of counts.hosts me (first_of counts.own (keyed_word key me)) x bs ps) t
+    ∙ ap (λ x. deal_of counts.hosts me (first_of counts.own (keyed_word key me)) (first_of place (λ k. first_of counts.muls (mul_item key me (peer_at me k)))) x ps) b
+    ∙ ap (λ x. deal_of counts.hosts me (first_of counts.own (keyed_word key me)) (first_of place (λ k. first_of counts.muls (mul_item key me (peer_at me k)))) (first_of place (λ k. first_of counts.ands (and_item key me (peer_at me k)))) x) p
+    ∙ ap (λ n. deal_of counts.hosts me (first_of counts.own (keyed_word key me)) (first_of n (λ k. first_of counts.muls (mul_item key me (peer_at me k)))) (first_of n (λ k. first_of counts.ands (and_item key me (peer_at me k)))) (first_of n (λ k. first_of counts.pairs (pair_item key me (peer_at me k))))) end

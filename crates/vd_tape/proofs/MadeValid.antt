@@ -1,4 +1,4 @@
--- The deal that a key makes is valid.
+-- The deals that a key makes are valid.
 use Rattle.std.proofs.Common.{◌≡◌, ℕ, zero, suc, ◌+◌, ◌-◌, ◌*◌, ◌%◌, ◌^◌, ◌<◌, ◌≤◌, min, max, true, false, List, [], length, Some, None, Result, Ok, Err, inl, inr, refl, sym, ap, subst, ◌∙◌, arith}
 use Rattle.std.specs.Prelude.{slice_get, unwrap_or, nat_lt, bit_xor, map, IfOk}
 use Rattle.std.specs.List.{AllByRecursion, range_with_len}
@@ -19,7 +19,7 @@ use Rattle.vd_deals.specs.declared.deal.DealKind.TheVariants.{Own, Mul, And, Pai
 use Rattle.vd_base.specs.Identities.{mul_left, and_left, pair_left}
 use Rattle.vd_deals.specs.Identities.{MeetsMul, MeetsAnd, MeetsPair, zero_triple, zero_pair}
 use Rattle.vd_deals.specs.Validity.{peer_at, peer_place, shared_with, Meets, IsDeal, AreDeals, AreWithin, IsConsistent}
-use Rattle.vd_tape.specs.Made.{made_word, words_from, shared_stream, part_of, mul_parts, and_parts, pair_parts, mul_item, and_item, pair_item, first_of, made_deal, made_deals, AreCounts}
+use Rattle.vd_tape.specs.Made.{keyed_word, words_from, shared_stream, part_of, mul_parts, and_parts, pair_parts, mul_item, and_item, pair_item, first_of, keyed_deal, keyed_deals, number_key, made_deals, AreCounts}
 
 -- ---- values of a function
 
@@ -47,11 +47,11 @@ within_limit n count f le =
     All-from_recursion (λ items. length items ≤ most_deal_items) (first_of n (λ place. first_of count (f place)))
     (all_of (λ items. length items ≤ most_deal_items) (λ place. first_of count (f place)) (λ k. omega (arith, length_first count (f k), le)) 0 n)
 
-made_is_deal : (counts : Counts) (key me : ℕ) → AreCounts counts → me < counts.hosts → IsDeal (made_deal counts key me)
+made_is_deal : (counts : Counts) (key : List ℕ) (me : ℕ) → AreCounts counts → me < counts.hosts → IsDeal (keyed_deal counts key me)
 made_is_deal counts key me are below = record {
   few = are.hosts;
   own_number = below;
-  own = omega (arith, length_first counts.own (made_word key me), are.own);
+  own = omega (arith, length_first counts.own (keyed_word key me), are.own);
   triples = omega (arith, length_first (counts.hosts - 1) (λ place. first_of counts.muls (mul_item key me (peer_at me place))));
   bits = omega (arith, length_first (counts.hosts - 1) (λ place. first_of counts.ands (and_item key me (peer_at me place))));
   pairs = omega (arith, length_first (counts.hosts - 1) (λ place. first_of counts.pairs (pair_item key me (peer_at me place))));
@@ -60,14 +60,14 @@ made_is_deal counts key me are below = record {
   pairs_within = within_limit (counts.hosts - 1) counts.pairs (λ place. pair_item key me (peer_at me place)) are.pairs;
 }
 
-made_are_deals : (counts : Counts) (key : ℕ) → AreCounts counts → AreDeals (made_deals counts key)
+made_are_deals : (counts : Counts) (key : List ℕ) → AreCounts counts → AreDeals (keyed_deals counts key)
 made_are_deals counts key are = record {
-  few = omega (arith, length_first counts.hosts (made_deal counts key), are.hosts);
+  few = omega (arith, length_first counts.hosts (keyed_deal counts key), are.hosts);
   each = λ host deal e.
-      let at = first_at counts.hosts (made_deal counts key) host deal e in (
+      let at = first_at counts.hosts (keyed_deal counts key) host deal e in (
         subst IsDeal (sym at.1) (made_is_deal counts key host are at.0),
         ap (λ (d : Deal). d.me.0) at.1,
-        ap (λ (d : Deal). d.hosts) at.1 ∙ sym (length_first counts.hosts (made_deal counts key)),
+        ap (λ (d : Deal). d.hosts) at.1 ∙ sym (length_first counts.hosts (keyed_deal counts key)),
       );
 }
 
@@ -76,8 +76,8 @@ made_are_deals counts key are = record {
 pub below_word : (x : ℕ) → x % 2 ^ 32 < 2 ^ 32
 below_word x = omega arith
 
-pub word_bound : (key stream place : ℕ) → made_word key stream place < 2 ^ 32
-unfolding made_word block_word
+pub word_bound : (key : List ℕ) (stream place : ℕ) → keyed_word key stream place < 2 ^ 32
+unfolding keyed_word block_word
 word_bound key stream place = below_word _
 
 rest_of_sum : (t c : ℕ) → t < 2 ^ 32 → c < 2 ^ 32 → t ≡ (c + (t + (2 ^ 32 - c)) % 2 ^ 32) % 2 ^ 32
@@ -140,7 +140,7 @@ shared_meet R none hosts first second n item lt below zeros each i =
     let b = shared_made hosts second first (λ peer. first_of n (item second peer)) (λ e. omega (arith, e)) below (omega arith) in
     rw (a, b) (lists_meet R none n (item first second) (item second first) zeros each i)
 
-made_meets : (counts : Counts) (key first second : ℕ) → first < second → second < counts.hosts → (kind : DealKind) (i : ℕ) → Meets (made_deal counts key first) (made_deal counts key second) kind i
+made_meets : (counts : Counts) (key : List ℕ) (first second : ℕ) → first < second → second < counts.hosts → (kind : DealKind) (i : ℕ) → Meets (keyed_deal counts key first) (keyed_deal counts key second) kind i
 made_meets counts key first second lt below Own i = refl
 made_meets counts key first second lt below Mul i =
     shared_meet MeetsMul zero_triple counts.hosts first second counts.muls (mul_item key) lt below refl
@@ -153,19 +153,26 @@ made_meets counts key first second lt below Pair i =
     shared_meet MeetsPair zero_pair counts.hosts first second counts.pairs (pair_item key) lt below refl
     (λ j. both_parts MeetsPair first second (λ a b. pair_parts (words_from key (shared_stream a b 2) (3 * j))) lt (pair_meets (words_from key (shared_stream first second 2) (3 * j)))) i
 
-made_consistent : (counts : Counts) (key : ℕ) → IsConsistent (made_deals counts key)
+made_consistent : (counts : Counts) (key : List ℕ) → IsConsistent (keyed_deals counts key)
 made_consistent counts key first second p q lt ep eq kind i =
-    let a = first_at counts.hosts (made_deal counts key) first p ep in
-    let b = first_at counts.hosts (made_deal counts key) second q eq in
-    let one : Meets p (made_deal counts key second) kind i = subst (λ d. Meets d (made_deal counts key second) kind i) (sym a.1) (made_meets counts key first second lt b.0 kind i) in
+    let a = first_at counts.hosts (keyed_deal counts key) first p ep in
+    let b = first_at counts.hosts (keyed_deal counts key) second q eq in
+    let one : Meets p (keyed_deal counts key second) kind i = subst (λ d. Meets d (keyed_deal counts key second) kind i) (sym a.1) (made_meets counts key first second lt b.0 kind i) in
     subst (λ d. Meets p d kind i) (sym b.1) one
 
 -- ---- as answered
 
-pub valid_if_made : (counts : Counts) (key : ℕ) (r : Result (List Deal) AllocError) → AreCounts counts → IfOk r (λ deals. deals ≡ made_deals counts key) → IfOk r AreDeals
-valid_if_made counts key (Ok deals) are e = subst AreDeals (sym e) (made_are_deals counts key are)
-valid_if_made counts key (Err why) are e = tt
+pub valid_if_keyed : (counts : Counts) (key : List ℕ) (r : Result (List Deal) AllocError) → AreCounts counts → IfOk r (λ deals. deals ≡ keyed_deals counts key) → IfOk r AreDeals
+valid_if_keyed counts key (Ok deals) are e = subst AreDeals (sym e) (made_are_deals counts key are)
+valid_if_keyed counts key (Err why) are e = tt
 
-pub consistent_if_made : (counts : Counts) (key : ℕ) (r : Result (List Deal) AllocError) → IfOk r (λ deals. deals ≡ made_deals counts key) → IfOk r IsConsistent
-consistent_if_made counts key (Ok deals) e = subst IsConsistent (sym e) (made_consistent counts key)
-consistent_if_made counts key (Err why) e = tt
+pub consistent_if_keyed : (counts : Counts) (key : List ℕ) (r : Result (List Deal) AllocError) → IfOk r (λ deals. deals ≡ keyed_deals counts key) → IfOk r IsConsistent
+consistent_if_keyed counts key (Ok deals) e = subst IsConsistent (sym e) (made_consistent counts key)
+consistent_if_keyed counts key (Err why) e = tt
+
+-- those that a number makes
+pub valid_if_made : (counts : Counts) (number : ℕ) (r : Result (List Deal) AllocError) → AreCounts counts → IfOk r (λ deals. deals ≡ made_deals counts number) → IfOk r AreDeals
+valid_if_made counts number r are e = valid_if_keyed counts (number_key number) r are e
+
+pub consistent_if_made : (counts : Counts) (number : ℕ) (r : Result (List Deal) AllocError) → IfOk r (λ deals. deals ≡ made_deals counts number) → IfOk r IsConsistent
+consistent_if_made counts number r e = consistent_if_keyed counts (number_key number) r e

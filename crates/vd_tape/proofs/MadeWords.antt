@@ -1,5 +1,5 @@
 -- The numbers of the deals that a key makes are words, and the deals are those of so many hosts.
-use Rattle.std.proofs.Common.{◌≡◌, ℕ, zero, suc, ◌+◌, ◌-◌, ◌*◌, min, max, ◌^◌, ◌<◌, Bool, true, false, if◌then◌else◌, length, map, sym, ◌∙◌, subst, arith}
+use Rattle.std.proofs.Common.{◌≡◌, ℕ, zero, suc, ◌+◌, ◌-◌, ◌*◌, min, max, ◌^◌, ◌<◌, Bool, true, false, if◌then◌else◌, List, length, map, sym, ◌∙◌, subst, arith}
 use Rattle.std.specs.Prelude.{nat_lt, bit_xor}
 use Rattle.std.specs.List.{All, AllByRecursion, range_with_len}
 use Rattle.std.specs.Int.Bits.{and_lt}
@@ -10,7 +10,7 @@ use Rattle.std.proofs.lemmas.List.FromFn.{length-map-range_with_len, get_or-map-
 use Rattle.vd_base.specs.Identities.{and_left, pair_left}
 use Rattle.vd_deals.specs.declared.deal.Counts.{Counts}
 use Rattle.vd_deals.specs.Validity.{AreDeals, ArePairWords, AreTripleWords, HasWords, IsWord, peer_at}
-use Rattle.vd_tape.specs.Made.{and_item, and_parts, first_of, made_deal, made_deals, made_word, mul_item, mul_parts, pair_item, pair_parts, shared_stream, words_from}
+use Rattle.vd_tape.specs.Made.{and_item, and_parts, first_of, keyed_deal, keyed_deals, keyed_word, made_deals, mul_item, mul_parts, number_key, pair_item, pair_parts, shared_stream, words_from}
 use Rattle.vd_tape.specs.Text.{AreDealsOf}
 use Rattle.vd_tape.proofs.MadeValid.{below_word, word_bound}
 
@@ -42,13 +42,13 @@ module _ (word : ℕ → ℕ) (below : (k : ℕ) → word k < 2 ^ 32) where
   pair_words : ArePairWords (pair_parts word).0 × ArePairWords (pair_parts word).1
   pair_words = ((below 0, below 2), (below 1, xor_lt 32 (pair_left (word 0) (word 1)) (word 2) (below_word _) (below 2)))
 
-module _ (counts : Counts) (key me : ℕ) where
+module _ (counts : Counts) (key : List ℕ) (me : ℕ) where
   stream_words : (kind peer place k : ℕ) → words_from key (shared_stream (min me peer) (max me peer) kind) place k < 2 ^ 32
   stream_words kind peer place k = word_bound key (shared_stream (min me peer) (max me peer) kind) (place + k)
 
-  made_has_words : HasWords (made_deal counts key me)
+  made_has_words : HasWords (keyed_deal counts key me)
   made_has_words = record {
-    own = all_first IsWord counts.own (made_word key me) (λ k below. word_bound key me k);
+    own = all_first IsWord counts.own (keyed_word key me) (λ k below. word_bound key me k);
     triples = all_first (All AreTripleWords) (counts.hosts - 1) (λ place. first_of counts.muls (mul_item key me (peer_at me place)))
         (λ place below. all_first AreTripleWords counts.muls (mul_item key me (peer_at me place)) (λ i under.
         let both = mul_words (words_from key (shared_stream (min me (peer_at me place)) (max me (peer_at me place)) 0) (5 * i)) (stream_words 0 (peer_at me place) (5 * i)) in
@@ -63,14 +63,21 @@ module _ (counts : Counts) (key me : ℕ) where
         either ArePairWords (nat_lt me (peer_at me place)) _ _ both.0 both.1));
   }
 
-pub count_of_deals : (counts : Counts) (key : ℕ) → length (made_deals counts key) ≡ counts.hosts
-count_of_deals counts key = length-map-range_with_len (made_deal counts key) 0 counts.hosts
+pub count_of_keyed : (counts : Counts) (key : List ℕ) → length (keyed_deals counts key) ≡ counts.hosts
+count_of_keyed counts key = length-map-range_with_len (keyed_deal counts key) 0 counts.hosts
 
-pub deals_of : (counts : Counts) (key : ℕ) → AreDeals (made_deals counts key) → AreDealsOf counts.hosts (made_deals counts key)
-deals_of counts key are host deal e =
+pub keyed_of : (counts : Counts) (key : List ℕ) → AreDeals (keyed_deals counts key) → AreDealsOf counts.hosts (keyed_deals counts key)
+keyed_of counts key are host deal e =
     let is = are.each host deal e in
-    let within = slice_get_within (made_deals counts key) host deal e in
-    let count = count_of_deals counts key in
-    let same : deal ≡ made_deal counts key host =
-    sym (get_or_from_slice_get (made_deals counts key) host deal deal e) ∙ get_or-map-range_with_len (made_deal counts key) 0 counts.hosts host host deal (omega (arith, within, count)) (omega arith) in
+    let within = slice_get_within (keyed_deals counts key) host deal e in
+    let count = count_of_keyed counts key in
+    let same : deal ≡ keyed_deal counts key host =
+    sym (get_or_from_slice_get (keyed_deals counts key) host deal deal e) ∙ get_or-map-range_with_len (keyed_deal counts key) 0 counts.hosts host host deal (omega (arith, within, count)) (omega arith) in
     record { is = is.0; words = subst HasWords (sym same) (made_has_words counts key host); hosts_are = is.2 ∙ count; me_is = is.1 }
+
+-- those that a number makes
+pub count_of_deals : (counts : Counts) (number : ℕ) → length (made_deals counts number) ≡ counts.hosts
+count_of_deals counts number = count_of_keyed counts (number_key number)
+
+pub deals_of : (counts : Counts) (number : ℕ) → AreDeals (made_deals counts number) → AreDealsOf counts.hosts (made_deals counts number)
+deals_of counts number are = keyed_of counts (number_key number) are

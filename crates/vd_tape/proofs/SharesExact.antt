@@ -18,7 +18,7 @@ use Rattle.vd_tape.proofs.ShareLoop.{same_shares}
 
 -- ---- the three lines of a peer
 
-heading_exact : {X : Type 0} (Fits : X → Type 0) (text : X → List ℕ) (kind : List ℕ) (peer : ℕ) (bytes : List ℕ) (x : X) (f : List ℕ → Reading X) → Fits x
+pub heading_exact : {X : Type 0} (Fits : X → Type 0) (text : X → List ℕ) (kind : List ℕ) (peer : ℕ) (bytes : List ℕ) (x : X) (f : List ℕ → Reading X) → Fits x
     → ((mid : List ℕ) → IsExact IsAnything Fits text mid (f mid)) → IsExact IsAnything Fits (λ x. kind ++ (field peer ++ text x)) bytes (heading_at kind peer bytes >>= λ y. f y.1)
 unfolding heading_at
 heading_exact Fits text kind peer bytes x f fits exact =
@@ -38,10 +38,10 @@ own_exact bytes = list_exact IsWord field 0 word_at bytes (omega arith) (λ t bs
 abbrev pub FitsShare : Share → Type 0
 FitsShare s = FitsList AreTripleWords s.triples × FitsList AreTripleWords s.bits × FitsList ArePairWords s.pairs
 
-abbrev text_of : ℕ → Share → List ℕ
+abbrev pub text_of : ℕ → Share → List ℕ
 text_of peer s = share_text peer s.triples s.bits s.pairs
 
-abbrev share_of : List Triple → List Triple → List PairItem → Share
+abbrev pub share_of : List Triple → List Triple → List PairItem → Share
 share_of ts bs ps = record { triples = ts; bits = bs; pairs = ps }
 
 same_share : (s : Share) (ts bs : List Triple) (ps : List PairItem) → s.triples ≡ ts → s.bits ≡ bs → s.pairs ≡ ps → s ≡ share_of ts bs ps
@@ -54,7 +54,7 @@ behind_triples peer s = codes "and" ++ (field peer ++ (list_text triple_text s.b
 abbrev behind_bits : ℕ → Share → List ℕ
 behind_bits peer s = codes "pair" ++ (field peer ++ list_text pair_text s.pairs)
 
-none_fits : {X : Type 0} (Fits : X → Type 0) → FitsList Fits []
+pub none_fits : {X : Type 0} (Fits : X → Type 0) → FitsList Fits []
 none_fits Fits = (omega arith, tt)
 
 picks_triples : (peer : ℕ) → Picks IsAnything (FitsList AreTripleWords) (list_text triple_text) IsAnything FitsShare (λ s. list_text triple_text s.triples ++ behind_triples peer s) (behind_triples peer) (λ s. s.triples)
@@ -83,7 +83,7 @@ picks_pairs ts bs fits_ts fits_bs = record {
   break = λ s behind h k. tt;
 }
 
-share_exact : (peer : ℕ) (bytes : List ℕ) → IsExact IsAnything FitsShare (text_of peer) bytes (share_at peer bytes)
+pub share_exact : (peer : ℕ) (bytes : List ℕ) → IsExact IsAnything FitsShare (text_of peer) bytes (share_at peer bytes)
 unfolding share_at
 share_exact peer bytes =
     heading_exact FitsShare (λ s. list_text triple_text s.triples ++ behind_triples peer s) (codes "mul") peer bytes (share_of [] [] [])
@@ -133,17 +133,17 @@ no_items_fit Fits (suc n) = let rest = no_items_fit Fits n in (ap suc rest.0, (n
 pub empty_shares : (n : ℕ) → (ss : Shares) × FitsShares n ss
 empty_shares n = (record { triples = no_items n; bits = no_items n; pairs = no_items n }, (no_items_fit AreTripleWords n, no_items_fit AreTripleWords n, no_items_fit ArePairWords n))
 
-abbrev first_share : Shares → Share
+abbrev pub first_share : Shares → Share
 first_share ss = share_of (head_or [] ss.triples) (head_or [] ss.bits) (head_or [] ss.pairs)
 
 abbrev other_shares : Shares → Shares
 other_shares ss = record { triples = tail ss.triples; bits = tail ss.bits; pairs = tail ss.pairs }
 
-head_fits : {X : Type 0} (Fits : X → Type 0) (n : ℕ) (xss : List (List X)) → AreEach (FitsList Fits) (suc n) xss → FitsList Fits (head_or [] xss)
+pub head_fits : {X : Type 0} (Fits : X → Type 0) (n : ℕ) (xss : List (List X)) → AreEach (FitsList Fits) (suc n) xss → FitsList Fits (head_or [] xss)
 head_fits Fits n [] h = none_fits Fits
 head_fits Fits n (xs ∷ xss) h = h.1.0
 
-tail_fits : {X : Type 0} (Fits : X → Type 0) (n : ℕ) (xss : List (List X)) → AreEach (FitsList Fits) (suc n) xss → AreEach (FitsList Fits) n (tail xss)
+pub tail_fits : {X : Type 0} (Fits : X → Type 0) (n : ℕ) (xss : List (List X)) → AreEach (FitsList Fits) (suc n) xss → AreEach (FitsList Fits) n (tail xss)
 tail_fits Fits n [] h = absurd (omega (arith, h.0))
 tail_fits Fits n (xs ∷ xss) h = (omega (arith, h.0), h.1.1)
 
@@ -155,7 +155,7 @@ split_shares me place n [] bs ps ht hb hp = absurd (omega (arith, ht))
 split_shares me place n (t ∷ ts) [] ps ht hb hp = absurd (omega (arith, hb))
 split_shares me place n (t ∷ ts) (b ∷ bs) [] ht hb hp = absurd (omega (arith, hp))
 
-with_one : (n : ℕ) (s : Share) (ss : Shares) → FitsShare s → FitsShares n ss → FitsShares (suc n) (with_share s ss)
+pub with_one : (n : ℕ) (s : Share) (ss : Shares) → FitsShare s → FitsShares n ss → FitsShares (suc n) (with_share s ss)
 with_one n s ss h g = ((ap suc g.0.0, (h.0, g.0.1)), (ap suc g.1.0, (h.1, g.1.1)), (ap suc g.2.0, (h.2, g.2.1)))
 
 picks_first : (me place n : ℕ) → Picks IsAnything FitsShare (text_of (peer_at me place)) IsAnything (FitsShares (suc n)) (texts_of me place) (λ ss. texts_of me (place + 1) (other_shares ss)) first_share
@@ -182,7 +182,7 @@ same_with n ss s rest h f o =
     (same_cons [] s.bits n rest.bits ss.bits h.1.0 (ap (λ (x : Share). x.bits) f) (ap (λ (x : Shares). x.bits) o))
     (same_cons [] s.pairs n rest.pairs ss.pairs h.2.0 (ap (λ (x : Share). x.pairs) f) (ap (λ (x : Shares). x.pairs) o))
 
-nil_of : {X : Type 0} (xs : List X) → length xs ≡ 0 → xs ≡ []
+pub nil_of : {X : Type 0} (xs : List X) → length xs ≡ 0 → xs ≡ []
 nil_of [] h = refl
 nil_of (x ∷ xs) h = absurd (omega (arith, h))
 

@@ -7,7 +7,7 @@ use Rattle.vd_deals.specs.declared.items.PairItem.{PairItem}
 use Rattle.vd_deals.specs.Validity.{peer_at}
 use Rattle.vd_tape.specs.Text.{share_text, shares_text}
 
-from_place : {X : Type 0} (xs : List X) (i : ℕ) (x : X) → i < length xs → x ≡ get_or xs i x → drop i xs ≡ x ∷ drop (i + 1) xs
+pub from_place : {X : Type 0} (xs : List X) (i : ℕ) (x : X) → i < length xs → x ≡ get_or xs i x → drop i xs ≡ x ∷ drop (i + 1) xs
 from_place xs i x h e = rw (add-one, drop-cons xs i x) (ap (λ y. y ∷ drop (suc i) xs) (sym e))
 
 here : (me place : ℕ) (t b : List Triple) (p : List PairItem) (ts bs : List (List Triple)) (ps : List (List PairItem))

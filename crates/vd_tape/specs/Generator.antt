@@ -1,12 +1,12 @@
 -- Where a generator stands, and the words that it gives from there on.
-use Rattle.std.specs.Prelude.{◌≡◌, ℕ, ◌+◌}
+use Rattle.std.specs.Prelude.{◌≡◌, ℕ, ◌+◌, List}
 use Rattle.rand_chacha.specs.ChaCha.{ChaCha, word_at}
 use Rattle.vd_deals.specs.declared.items.Triple.{Triple}
-use Rattle.vd_tape.specs.Made.{made_key}
+use Rattle.vd_tape.specs.Made.{cipher_key}
 
 -- it has this key, and stands at this place of this stream
-abbrev pub IsAt : ChaCha → (key stream place : ℕ) → Type 0
-IsAt generator key stream place = generator ≡ record { key = made_key key; stream = stream; word_pos = place }
+abbrev pub IsAt : ChaCha → (key : List ℕ) → (stream place : ℕ) → Type 0
+IsAt generator key stream place = generator ≡ record { key = cipher_key key; stream = stream; word_pos = place }
 
 abbrev pub stands_at : ChaCha → ℕ → ChaCha
 stands_at generator place = record generator { word_pos = place }

@@ -1,4 +1,5 @@
--- The deal that a key makes. Its words are those of ChaCha20, with one stream for each host and one for each kind of each two hosts.
+-- The deal that a key of 32 bytes makes, and that of a number. Its words are those of ChaCha20, with one stream for each host and one for each
+-- kind of each two hosts.
 use Rattle.std.specs.Prelude.{◌≡◌, ◌≢◌, ◌<◌, ℕ, ◌+◌, ◌-◌, ◌*◌, ◌%◌, ◌^◌, ◌≤◌, min, max, nat_lt, bit_xor, List, ◌++◌, map, replicate, if◌then◌else◌}
 use Rattle.std.specs.List.{range_with_len}
 use Rattle.std.specs.Int.{w64, to_le_bytes}
@@ -13,13 +14,13 @@ use Rattle.vd_deals.specs.Validity.{peer_at}
 
 -- ---- the words
 
--- the key: eight bytes of the number, the lowest first, and 24 zero bytes
-unfoldable pub made_key : ℕ → List ℕ
-made_key key = key_of (to_le_bytes w64 key ++ replicate 24 0)
+-- the cipher's key: the eight words of 32 bytes
+unfoldable pub cipher_key : List ℕ → List ℕ
+cipher_key key = key_of key
 
 -- the word at a place of a stream, after 20 rounds
-unfoldable pub made_word : (key stream place : ℕ) → ℕ
-made_word key stream place = word_at 10 (made_key key) stream place
+unfoldable pub keyed_word : (key : List ℕ) → (stream place : ℕ) → ℕ
+keyed_word key stream place = word_at 10 (cipher_key key) stream place
 
 -- the stream of one kind of items of two hosts: 0 for products, 1 for products of bits, 2 for pairs
 abbrev pub shared_stream : (first second kind : ℕ) → ℕ
@@ -46,21 +47,21 @@ pair_parts word = (
 )
 
 -- the words from a place of a stream on
-abbrev pub words_from : (key stream place : ℕ) → ℕ → ℕ
-words_from key stream place k = made_word key stream (place + k)
+abbrev pub words_from : (key : List ℕ) → (stream place : ℕ) → ℕ → ℕ
+words_from key stream place k = keyed_word key stream (place + k)
 
 -- of the parts of two hosts, that of `me`
 abbrev pub part_of : {X : Type 0} → (me peer : ℕ) → X × X → X
 part_of me peer parts = if nat_lt me peer then parts.0 else parts.1
 
 -- an item: five words for each product, three for each pair
-abbrev pub mul_item : (key me peer : ℕ) → ℕ → Triple
+abbrev pub mul_item : (key : List ℕ) → (me peer : ℕ) → ℕ → Triple
 mul_item key me peer i = part_of me peer (mul_parts (words_from key (shared_stream (min me peer) (max me peer) 0) (5 * i)))
 
-abbrev pub and_item : (key me peer : ℕ) → ℕ → Triple
+abbrev pub and_item : (key : List ℕ) → (me peer : ℕ) → ℕ → Triple
 and_item key me peer i = part_of me peer (and_parts (words_from key (shared_stream (min me peer) (max me peer) 1) (5 * i)))
 
-abbrev pub pair_item : (key me peer : ℕ) → ℕ → PairItem
+abbrev pub pair_item : (key : List ℕ) → (me peer : ℕ) → ℕ → PairItem
 pair_item key me peer i = part_of me peer (pair_parts (words_from key (shared_stream (min me peer) (max me peer) 2) (3 * i)))
 
 -- ---- the deals
@@ -69,19 +70,27 @@ abbrev pub first_of : {X : Type 0} → ℕ → (ℕ → X) → List X
 first_of n f = map f (range_with_len 0 n)
 
 -- the deal of one host: its own words are the first of the stream of its number
-abbrev pub made_deal : Counts → (key me : ℕ) → Deal
-made_deal counts key me = record {
+abbrev pub keyed_deal : Counts → (key : List ℕ) → (me : ℕ) → Deal
+keyed_deal counts key me = record {
   hosts = counts.hosts;
   me = record { 0 = me };
-  own = first_of counts.own (made_word key me);
+  own = first_of counts.own (keyed_word key me);
   triples = first_of (counts.hosts - 1) (λ place. first_of counts.muls (mul_item key me (peer_at me place)));
   bits = first_of (counts.hosts - 1) (λ place. first_of counts.ands (and_item key me (peer_at me place)));
   pairs = first_of (counts.hosts - 1) (λ place. first_of counts.pairs (pair_item key me (peer_at me place)));
 }
 
 -- the deals of all hosts
-abbrev pub made_deals : Counts → ℕ → List Deal
-made_deals counts key = first_of counts.hosts (made_deal counts key)
+abbrev pub keyed_deals : Counts → (key : List ℕ) → List Deal
+keyed_deals counts key = first_of counts.hosts (keyed_deal counts key)
+
+-- the key of a number: its eight bytes, the lowest first, and 24 zero bytes
+unfoldable pub number_key : ℕ → List ℕ
+number_key number = to_le_bytes w64 number ++ replicate 24 0
+
+-- the deals that a number makes
+abbrev pub made_deals : Counts → (number : ℕ) → List Deal
+made_deals counts number = keyed_deals counts (number_key number)
 
 -- what may be asked for
 pub record AreCounts (counts : Counts) : Type 0 where

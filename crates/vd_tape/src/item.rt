@@ -11,7 +11,7 @@ use vd_bytes::{Cursor, Stopped, push_field};
 use vd_deals::{PairItem, Triple};
 
 /// What stands in a dealt list: words, each behind a space.
-pub(crate) trait Item: Copy + Drop {
+pub trait Item: Copy + Drop {
     ghost reading: { List ℕ → Reading Self };
 
     ghost text: { Self → List ℕ };

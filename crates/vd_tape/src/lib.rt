@@ -1,4 +1,4 @@
-//! Deals: the dealer's files, their validity, and the deal that a key makes.
+//! Deals: the dealer's files, their validity, and the deals that a key makes.
 #![tactic(auto)]
 
 mod consistency;
@@ -13,9 +13,11 @@ mod writing;
 pub use consistency::consistent;
 pub use fault::TapeFault;
 pub use files::read_deal;
+pub use item::Item;
 pub use laws::{
     deals_follow_the_grammar, deals_of_each_host_are_deals, streams_are_apart,
     written_deals_are_read,
 };
-pub use making::make;
-pub use writing::write_deal;
+pub use making::{make, make_by_key};
+pub use reading::{Share, Shares, peer, read_heading, read_list, read_plain, read_share};
+pub use writing::{push_heading, push_list, push_share, write_deal};

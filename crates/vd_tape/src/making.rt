@@ -1,10 +1,10 @@
-//! The deal that a key makes.
+//! The deals that a key of 32 bytes makes, and those of a number.
 
 ghost use Rattle.std.specs.Prelude.{◌≡◌, min, max, ◌+◌, ◌<◌, ◌≤◌, ◌^◌, IfOk};
 ghost use Rattle.rand_chacha.specs.ChaCha.{word_at};
 ghost use Rattle.vd_base.specs.Limits.{most_hosts, most_deal_items};
 ghost use Rattle.vd_deals.specs.Validity.{AreDeals, IsConsistent, peer_at};
-ghost use Rattle.vd_tape.specs.Made.{AreCounts, made_deals, made_deal, made_key, made_word, words_from, shared_stream, mul_parts, and_parts, pair_parts, part_of, mul_item, and_item, pair_item, first_of};
+ghost use Rattle.vd_tape.specs.Made.{AreCounts, made_deals, keyed_deals, keyed_deal, keyed_word, number_key, words_from, shared_stream, mul_parts, and_parts, pair_parts, part_of, mul_item, and_item, pair_item, first_of};
 ghost use Rattle.vd_tape.specs.Generator.{IsAt, stands_at, words_at, open_parts};
 
 use crate::reading::peer;
@@ -16,10 +16,29 @@ use vd_base::{HostId, Words};
 use vd_deals::{Counts, Deal, Deals, PairItem, Triple, and_sides, mul_sides, pair_sides};
 use vd_items::Items;
 
-/// The deals of all hosts that a key makes.
-pub fn make(alloc: Global, counts: Counts, key: u64) -> Result<Deals, AllocError>
+/// The deals of all hosts that a number makes.
+pub fn make(alloc: Global, counts: Counts, number: u64) -> Result<Deals, AllocError>
     requires { AreCounts counts }
-    ensures made { IfOk result (λ deals. deals ≡ made_deals counts key) }
+    ensures made { IfOk result (λ deals. deals ≡ made_deals counts number) }
+    ensures valid { IfOk result AreDeals }
+    ensures consistent { IfOk result IsConsistent }
+{
+    make_by_key(alloc, counts, &number_key(number))
+}
+
+/// The key of a number: its eight bytes, the lowest first, and zeros behind them.
+fn number_key(number: u64) -> [u8; 32]
+    ensures { result ≡ number_key number }
+{
+    let mut key = [0; 32];
+    key[..8].copy_from_slice(&number.to_le_bytes());
+    key
+}
+
+/// The deals of all hosts that a key makes.
+pub fn make_by_key(alloc: Global, counts: Counts, key: &[u8; 32]) -> Result<Deals, AllocError>
+    requires { AreCounts counts }
+    ensures made { IfOk result (λ deals. deals ≡ keyed_deals counts key.now) }
     ensures valid { IfOk result AreDeals }
     ensures consistent { IfOk result IsConsistent }
 {
@@ -27,8 +46,8 @@ pub fn make(alloc: Global, counts: Counts, key: u64) -> Result<Deals, AllocError
 }
 
 /// The deals, one host after the other.
-fn make_all(alloc: Global, counts: Counts, key: u64) -> Result<Deals, AllocError>
-    ensures { IfOk result (λ deals. deals ≡ made_deals counts key) }
+fn make_all(alloc: Global, counts: Counts, key: &[u8; 32]) -> Result<Deals, AllocError>
+    ensures { IfOk result (λ deals. deals ≡ keyed_deals counts key.now) }
 {
     let mut deals = Deals::new(alloc);
     for me in 0..counts.hosts {
@@ -39,9 +58,9 @@ fn make_all(alloc: Global, counts: Counts, key: u64) -> Result<Deals, AllocError
 }
 
 /// The deal of one host.
-fn make_deal(alloc: Global, counts: Counts, key: u64, me: u8) -> Result<Deal, AllocError>
+fn make_deal(alloc: Global, counts: Counts, key: &[u8; 32], me: u8) -> Result<Deal, AllocError>
     requires { 0 < counts.hosts }
-    ensures { IfOk result (λ deal. deal ≡ made_deal counts key me) }
+    ensures { IfOk result (λ deal. deal ≡ keyed_deal counts key.now me) }
 {
     let own = own_words(alloc, key, me, counts.own)?;
     let peers = counts.hosts - 1;
@@ -61,12 +80,12 @@ fn make_deal(alloc: Global, counts: Counts, key: u64, me: u8) -> Result<Deal, Al
 /// For each peer, the parts of products.
 fn shared_muls(
     alloc: Global,
-    key: u64,
+    key: &[u8; 32],
     me: u8,
     peers: u8,
     count: u32,
 ) -> Result<Items<Items<Triple>>, AllocError>
-    ensures { IfOk result (λ lists. lists ≡ first_of peers (λ place. first_of count (mul_item key me (peer_at me place)))) }
+    ensures { IfOk result (λ lists. lists ≡ first_of peers (λ place. first_of count (mul_item key.now me (peer_at me place)))) }
 {
     let mut lists = Items::new(alloc);
     for place in 0..peers {
@@ -79,12 +98,12 @@ fn shared_muls(
 /// For each peer, the parts of products of bits.
 fn shared_ands(
     alloc: Global,
-    key: u64,
+    key: &[u8; 32],
     me: u8,
     peers: u8,
     count: u32,
 ) -> Result<Items<Items<Triple>>, AllocError>
-    ensures { IfOk result (λ lists. lists ≡ first_of peers (λ place. first_of count (and_item key me (peer_at me place)))) }
+    ensures { IfOk result (λ lists. lists ≡ first_of peers (λ place. first_of count (and_item key.now me (peer_at me place)))) }
 {
     let mut lists = Items::new(alloc);
     for place in 0..peers {
@@ -97,12 +116,12 @@ fn shared_ands(
 /// For each peer, the parts of sums and exclusive ors.
 fn shared_pairs(
     alloc: Global,
-    key: u64,
+    key: &[u8; 32],
     me: u8,
     peers: u8,
     count: u32,
 ) -> Result<Items<Items<PairItem>>, AllocError>
-    ensures { IfOk result (λ lists. lists ≡ first_of peers (λ place. first_of count (pair_item key me (peer_at me place)))) }
+    ensures { IfOk result (λ lists. lists ≡ first_of peers (λ place. first_of count (pair_item key.now me (peer_at me place)))) }
 {
     let mut lists = Items::new(alloc);
     for place in 0..peers {
@@ -113,8 +132,8 @@ fn shared_pairs(
 }
 
 /// The own words of a host.
-fn own_words(alloc: Global, key: u64, me: u8, count: u32) -> Result<Words, AllocError>
-    ensures { IfOk result (λ words. words ≡ first_of count (made_word key me)) }
+fn own_words(alloc: Global, key: &[u8; 32], me: u8, count: u32) -> Result<Words, AllocError>
+    ensures { IfOk result (λ words. words ≡ first_of count (keyed_word key.now me)) }
 {
     let mut generator = stream(key, u64::from(me));
     let mut words = Words::new(alloc);
@@ -127,12 +146,12 @@ fn own_words(alloc: Global, key: u64, me: u8, count: u32) -> Result<Words, Alloc
 /// The parts of products that a host shares with a peer.
 fn mul_items(
     alloc: Global,
-    key: u64,
+    key: &[u8; 32],
     me: u8,
     peer: u8,
     count: u32,
 ) -> Result<Items<Triple>, AllocError>
-    ensures { IfOk result (λ items. items ≡ first_of count (mul_item key me peer)) }
+    ensures { IfOk result (λ items. items ≡ first_of count (mul_item key.now me peer)) }
 {
     let mut generator = stream(key, shared_stream(me, peer, 0));
     let mut items = Items::new(alloc);
@@ -145,12 +164,12 @@ fn mul_items(
 /// The parts of products of bits that a host shares with a peer.
 fn and_items(
     alloc: Global,
-    key: u64,
+    key: &[u8; 32],
     me: u8,
     peer: u8,
     count: u32,
 ) -> Result<Items<Triple>, AllocError>
-    ensures { IfOk result (λ items. items ≡ first_of count (and_item key me peer)) }
+    ensures { IfOk result (λ items. items ≡ first_of count (and_item key.now me peer)) }
 {
     let mut generator = stream(key, shared_stream(me, peer, 1));
     let mut items = Items::new(alloc);
@@ -163,12 +182,12 @@ fn and_items(
 /// The parts of sums and exclusive ors that a host shares with a peer.
 fn pair_items(
     alloc: Global,
-    key: u64,
+    key: &[u8; 32],
     me: u8,
     peer: u8,
     count: u32,
 ) -> Result<Items<PairItem>, AllocError>
-    ensures { IfOk result (λ items. items ≡ first_of count (pair_item key me peer)) }
+    ensures { IfOk result (λ items. items ≡ first_of count (pair_item key.now me peer)) }
 {
     let mut generator = stream(key, shared_stream(me, peer, 2));
     let mut items = Items::new(alloc);
@@ -197,12 +216,10 @@ fn shared_stream(me: u8, peer: u8, kind: u64) -> u64
 }
 
 /// The stream of the key, at its first word.
-fn stream(key: u64, number: u64) -> ChaCha20Rng
-    ensures { IsAt result key number 0 }
+fn stream(key: &[u8; 32], number: u64) -> ChaCha20Rng
+    ensures { IsAt result key.now number 0 }
 {
-    let mut seed = [0; 32];
-    seed[..8].copy_from_slice(&key.to_le_bytes());
-    let mut generator = ChaCha20Rng::from_seed(seed);
+    let mut generator = ChaCha20Rng::from_seed(*key);
     generator.set_stream(number);
     generator
 }

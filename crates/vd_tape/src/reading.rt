@@ -16,18 +16,18 @@ use vd_items::Items;
 
 /// What a host shares with one peer.
 #[derive(Drop)]
-struct Share {
-    triples: Items<Triple>,
-    bits: Items<Triple>,
-    pairs: Items<PairItem>,
+pub struct Share {
+    pub triples: Items<Triple>,
+    pub bits: Items<Triple>,
+    pub pairs: Items<PairItem>,
 }
 
 /// What a host shares with its peers, in their order.
 #[derive(Drop)]
-struct Shares {
-    triples: Items<Items<Triple>>,
-    bits: Items<Items<Triple>>,
-    pairs: Items<Items<PairItem>>,
+pub struct Shares {
+    pub triples: Items<Items<Triple>>,
+    pub bits: Items<Items<Triple>>,
+    pub pairs: Items<Items<PairItem>>,
 }
 
 /// The whole file.
@@ -40,14 +40,19 @@ pub(crate) fn read_file(
     requires { 0 < hosts }
     ensures { GivesOrMemory result cursor.new (to_the_end (deal_at hosts me.0 cursor.old)) }
 {
-    let deal = read_deal(alloc, cursor, hosts, me)?;
+    let deal = read_plain(alloc, cursor, hosts, me)?;
     cursor.end()?;
     Ok(deal)
 }
 
-/// All lines.
+/// All lines of a file.
 #[tactic(auto, unfolding(crate::specs::Reading::deal_at))]
-fn read_deal(alloc: Global, cursor: &mut Cursor, hosts: u8, me: HostId) -> Result<Deal, ReadFault>
+pub fn read_plain(
+    alloc: Global,
+    cursor: &mut Cursor,
+    hosts: u8,
+    me: HostId,
+) -> Result<Deal, ReadFault>
     requires { 0 < hosts }
     ensures { GivesOrMemory result cursor.new (deal_at hosts me.0 cursor.old) }
 {
@@ -86,7 +91,7 @@ fn read_shares(alloc: Global, cursor: &mut Cursor, count: u8, me: u8) -> Result<
 }
 
 /// The peer that stands at a place among the peers of a host.
-pub(crate) fn peer(me: u8, place: u8) -> u8
+pub fn peer(me: u8, place: u8) -> u8
     requires { place < 255 }
     ensures { result ≡ peer_at me place }
 {
@@ -95,7 +100,7 @@ pub(crate) fn peer(me: u8, place: u8) -> u8
 
 /// The three lines of a peer.
 #[tactic(auto, unfolding(crate::specs::Reading::share_at))]
-fn read_share(alloc: Global, cursor: &mut Cursor, peer: u8) -> Result<Share, ReadFault>
+pub fn read_share(alloc: Global, cursor: &mut Cursor, peer: u8) -> Result<Share, ReadFault>
     ensures { GivesOrMemory result cursor.new (share_at peer cursor.old) }
 {
     read_heading(cursor, b"mul", peer)?;
@@ -113,7 +118,7 @@ fn read_share(alloc: Global, cursor: &mut Cursor, peer: u8) -> Result<Share, Rea
 
 /// The head of a line: the kind of its items, and the peer.
 #[tactic(auto, unfolding(crate::specs::Reading::heading_at))]
-fn read_heading(cursor: &mut Cursor, kind: &[u8], peer: u8) -> Result<(), Stopped>
+pub fn read_heading(cursor: &mut Cursor, kind: &[u8], peer: u8) -> Result<(), Stopped>
     ensures { Gives result cursor.new (heading_at kind.now peer cursor.old) }
 {
     cursor.literal(kind)?;
@@ -122,7 +127,7 @@ fn read_heading(cursor: &mut Cursor, kind: &[u8], peer: u8) -> Result<(), Stoppe
 
 /// The rest of a line: how many items there are, and the items.
 #[tactic(auto, unfolding(crate::specs::Reading::list_at))]
-fn read_list<T: Item>(alloc: Global, cursor: &mut Cursor) -> Result<Items<T>, ReadFault>
+pub fn read_list<T: Item>(alloc: Global, cursor: &mut Cursor) -> Result<Items<T>, ReadFault>
     ensures { GivesOrMemory result cursor.new (list_at T.reading cursor.old) }
 {
     let count = cursor.field(DEAL_ITEMS)?;

@@ -57,7 +57,7 @@ fn peer(me: u8, place: usize) -> u64
 }
 
 /// Puts the three lines of a peer at the end.
-fn push_share(
+pub fn push_share(
     text: &mut Bytes,
     peer: u64,
     triples: &[Triple],
@@ -75,7 +75,7 @@ fn push_share(
 }
 
 /// Puts the head of a line at the end: the kind of its items, and the peer.
-fn push_heading(text: &mut Bytes, kind: &[u8], peer: u64) -> Result<(), AllocError>
+pub fn push_heading(text: &mut Bytes, kind: &[u8], peer: u64) -> Result<(), AllocError>
     ensures { OnOk result (text.new ≡ text.old ++ (kind.now ++ field peer)) }
 {
     text.extend_from_slice(kind)?;
@@ -83,7 +83,7 @@ fn push_heading(text: &mut Bytes, kind: &[u8], peer: u64) -> Result<(), AllocErr
 }
 
 /// Puts the rest of a line at the end: how many items there are, and the items.
-fn push_list<T: Item>(text: &mut Bytes, items: &[T]) -> Result<(), AllocError>
+pub fn push_list<T: Item>(text: &mut Bytes, items: &[T]) -> Result<(), AllocError>
     ensures { OnOk result (text.new ≡ text.old ++ list_text T.text items.now) }
 {
     push_field(text, items.len() as u64)?;

@@ -1,8 +1,8 @@
-use Rattle.vd_tape.proofs.MadeValid.{valid_if_made, consistent_if_made}
+use Rattle.std.proofs.Common.{◌≡◌, List, ℕ, subst}
+use Rattle.std.specs.Prelude.{IfOk}
+use Rattle.vd_tape.specs.Made.{keyed_deals}
 use Rattle.vd_tape.proofs.making.make.Goals as goal
 
-pub returns-clause-valid : goal.returns-clause-valid
-returns-clause-valid c = valid_if_made c.args.counts c.args.key c.make_all.result c.requires c.make_all.ensures
-
-pub returns-clause-consistent : goal.returns-clause-consistent
-returns-clause-consistent c = consistent_if_made c.args.counts c.args.key c.make_all.result c.make_all.ensures
+pub returns-clause-made : goal.returns-clause-made
+returns-clause-made c =
+    subst (λ (key : List ℕ). IfOk c.make_by_key.result (λ deals. deals ≡ keyed_deals c.args.counts key)) c.number_key.ensures c.make_by_key.ensures.made
