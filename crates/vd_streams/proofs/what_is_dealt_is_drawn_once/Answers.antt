@@ -1,4 +1,5 @@
-use Rattle.vd_streams.proofs.Apart.{items_apart, own_words_apart, keys_apart}
+use Rattle.vd_streams.proofs.Apart.{items_apart, own_words_apart, numbers_apart}
+use Rattle.vd_streams.proofs.Keys.{keys_apart}
 use Rattle.vd_streams.proofs.what_is_dealt_is_drawn_once.Goals as goal
 
 pub returns-clause-items : goal.returns-clause-items
@@ -9,3 +10,6 @@ returns-clause-own c = own_words_apart
 
 pub returns-clause-keys : goal.returns-clause-keys
 returns-clause-keys c = keys_apart
+
+pub returns-clause-numbers : goal.returns-clause-numbers
+returns-clause-numbers c = numbers_apart
