@@ -1,0 +1,4 @@
+pub mod Outcome
+pub mod Plain
+pub mod Reading
+pub mod Text
