@@ -7,7 +7,7 @@ use Rattle.std.proofs.lemmas.Option.{get_or_from_slice_get, slice_get_within, un
 use Rattle.vd_deals.specs.declared.deal.Counts.{Counts}
 use Rattle.vd_deals.specs.declared.deal.Deal.{Deal}
 use Rattle.vd_deals.specs.Validity.{peer_at, peer_place, shared_with}
-use Rattle.vd_tape.specs.Made.{and_item, first_of, made_deal, made_deals, made_word, mul_item, pair_item}
+use Rattle.vd_tape.specs.Made.{and_item, first_of, keyed_deal, keyed_deals, keyed_word, mul_item, pair_item}
 use Rattle.vd_enough.specs.Enough.{DealsHaveTheirSizes, HasSizes}
 
 place_below : (n h p : ℕ) → h < n → p < n → p ≢ h → peer_place h p < n - 1
@@ -24,21 +24,21 @@ module _ {X : Type 0} (n m : ℕ) (item : ℕ → ℕ → X) where
       ap (λ (l : List X). length l) (unwrap_or-slice_get lists place [] ∙ get_or-map-range_with_len (λ place. first_of m (item place)) 0 (n - 1) place place [] (place_below n h p x y ne) (omega arith))
       ∙ length-map-range_with_len (item place) 0 m
 
-module _ (sizes : Counts) (key : ℕ) where
+module _ (sizes : Counts) (key : List ℕ) where
   abbrev deals : List Deal
-  deals = made_deals sizes key
+  deals = keyed_deals sizes key
 
   count : length deals ≡ sizes.hosts
-  count = length-map-range_with_len (made_deal sizes key) 0 sizes.hosts
+  count = length-map-range_with_len (keyed_deal sizes key) 0 sizes.hosts
 
   declared : (h : ℕ) (deal : Deal) → slice_get deals h ≡ Some deal → h < sizes.hosts
   declared h deal is = let w = slice_get_within deals h deal is in let n = count in omega (arith, w, n)
 
-  deal_is : (h : ℕ) (deal : Deal) → slice_get deals h ≡ Some deal → deal ≡ made_deal sizes key h
-  deal_is h deal is = sym (get_or_from_slice_get deals h deal deal is) ∙ get_or-map-range_with_len (made_deal sizes key) 0 sizes.hosts h h deal (declared h deal is) (omega arith)
+  deal_is : (h : ℕ) (deal : Deal) → slice_get deals h ≡ Some deal → deal ≡ keyed_deal sizes key h
+  deal_is h deal is = sym (get_or_from_slice_get deals h deal deal is) ∙ get_or-map-range_with_len (keyed_deal sizes key) 0 sizes.hosts h h deal (declared h deal is) (omega arith)
 
   own_length : (h : ℕ) (deal : Deal) → slice_get deals h ≡ Some deal → length deal.own ≡ sizes.own
-  own_length h deal is = ap (λ (d : Deal). length d.own) (deal_is h deal is) ∙ length-map-range_with_len (made_word key h) 0 sizes.own
+  own_length h deal is = ap (λ (d : Deal). length d.own) (deal_is h deal is) ∙ length-map-range_with_len (keyed_word key h) 0 sizes.own
 
   among : (h p : ℕ) (deal : Deal) → slice_get deals h ≡ Some deal → p < length deals → p < sizes.hosts
   among h p deal is lt = let n = count in omega (arith, lt, n)

@@ -6,7 +6,7 @@ use Rattle.vd_joint.specs.Outcome.{NumbersFit}
 use Rattle.vd_deals.specs.declared.deal.Counts.{Counts}
 use Rattle.vd_deals.specs.declared.deal.Deal.{Deal}
 use Rattle.vd_deals.specs.Validity.{shared_with}
-use Rattle.vd_tape.specs.Made.{made_deals}
+use Rattle.vd_tape.specs.Made.{keyed_deals}
 use Rattle.vd_execution.specs.Step.{Inputs}
 use Rattle.vd_execution.specs.World.{Supply, IsShort, IsStuck}
 use Rattle.vd_execution.specs.Joint.{Joint, at_end}
@@ -55,7 +55,7 @@ pub record AreBelow (sizes others : Counts) : Type 0 where
 
 -- the deal that is made of some sizes has them, whatever the key is
 abbrev pub AreMade : Counts → Type 0
-AreMade sizes = (key : ℕ) → HasSizes sizes (made_deals sizes key)
+AreMade sizes = (key : List ℕ) → HasSizes sizes (keyed_deals sizes key)
 
 -- ---- what they are enough for
 
