@@ -29,10 +29,10 @@ cover_long bytes stream = length-map-range_with_len _ 0 (length bytes)
 abbrev pub parts : (count : ℕ) → (covered code rest : List ℕ) → List ℕ
 parts count covered code rest = 0x58 ∷ count ∷ (covered ++ (code ++ rest))
 
-covered_there : (n : ℕ) (covered code rest : List ℕ) → length covered ≡ n → covered_at (parts n covered code rest) ≡ covered
+pub covered_there : (n : ℕ) (covered code rest : List ℕ) → length covered ≡ n → covered_at (parts n covered code rest) ≡ covered
 covered_there n covered code rest is = take_front n covered (code ++ rest) is
 
-code_there : (n : ℕ) (covered code rest : List ℕ) → length covered ≡ n → length code ≡ 32 → code_at (parts n covered code rest) ≡ code
+pub code_there : (n : ℕ) (covered code rest : List ℕ) → length covered ≡ n → length code ≡ 32 → code_at (parts n covered code rest) ≡ code
 code_there n covered code rest is long = ap (take 32) (drop_front n covered (code ++ rest) is) ∙ take_front 32 code rest long
 
 behind_there : (n : ℕ) (covered code rest : List ℕ) → length covered ≡ n → length code ≡ 32 → behind (parts n covered code rest) ≡ rest

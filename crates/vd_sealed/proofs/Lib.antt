@@ -3,6 +3,7 @@ pub mod Front
 pub mod Filled
 pub mod Given
 pub mod Next
+pub mod Refused
 pub mod Sent
 pub mod SentParts
 pub mod Walk

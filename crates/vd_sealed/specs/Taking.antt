@@ -1,9 +1,10 @@
 -- A record that comes.
-use Rattle.std.specs.Prelude.{◌≡◌, ◌≤◌, ◌<◌, ℕ, ◌+◌, IsTrue, List, [], ◌∷◌, ◌++◌, length, slice_index, Result, IfOk, IsErrOf}
+use Rattle.std.specs.Prelude.{◌≡◌, ◌≤◌, ◌<◌, ℕ, ◌+◌, true, false, ◌&&◌, IsTrue, List, [], ◌∷◌, ◌++◌, length, slice_index, Result, IfOk, IfErr, IsErrOf}
 use Rattle.vd_outside.specs.Causes.{Rose}
 use Rattle.vd_outside.specs.Link.{LinkView}
 use Rattle.vd_seal.specs.Records.{Direction, record_code, sealed}
 use Rattle.vd_seal.specs.Streams.{key_stream, under}
+use Rattle.vd_sealed.specs.Opened.{has_code, has_tag, is_few, length_at}
 use Rattle.vd_sealed.specs.declared.fault.SealFault.{SealFault}
 use Rattle.vd_sealed.specs.declared.fault.SealFault.TheVariants as fault
 
@@ -37,6 +38,25 @@ TakesCarried keys number before now result = TakesRecord (Carries keys number be
 abbrev pub TakesSealed : Direction → ℕ → LinkView → LinkView → Result (List ℕ) SealFault → Type 0
 TakesSealed keys number before now result = TakesRecord (Brings keys number before.coming now.coming) before now result
 
--- where the link ended, what was to come ends within a record
-abbrev pub EndsCut : {T : Type 0} → (before now : LinkView) → Result T SealFault → Type 0
-EndsCut before now result = IsTrue now.told → IsErrOf result fault.End → IsCut before.coming
+-- these bytes begin with what begins no record
+abbrev pub HasNoHead : List ℕ → Type 0
+HasNoHead coming = (2 ≤ length coming) × ((has_tag coming && is_few coming) ≡ false)
+
+-- a record stands at their front whole, with another code than that of this direction and number
+abbrev pub HasOtherCode : Direction → ℕ → List ℕ → Type 0
+HasOtherCode keys number coming =
+    ((has_tag coming && is_few coming) ≡ true) × (34 + length_at coming ≤ length coming) × (has_code keys number coming ≡ false)
+
+-- what a fault says of the bytes that came
+abbrev pub IsReason : Direction → ℕ → List ℕ → SealFault → Type 0
+IsReason keys number coming fault.Peer = Unit {0}
+IsReason keys number coming fault.End = IsCut coming
+IsReason keys number coming fault.Version = ⊥
+IsReason keys number coming fault.Dealing = ⊥
+IsReason keys number coming fault.Host = ⊥
+IsReason keys number coming fault.Head = HasNoHead coming
+IsReason keys number coming fault.Code = HasOtherCode keys number coming
+
+-- bytes are refused for what is wrong with them
+abbrev pub Refuses : {T : Type 0} → (keys : Direction) → (number : ℕ) → (before now : LinkView) → Result T SealFault → Type 0
+Refuses keys number before now result = IsTrue now.told → IfErr result (IsReason keys number before.coming)

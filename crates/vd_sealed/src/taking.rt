@@ -1,7 +1,7 @@
 //! Records that come.
 
 ghost use Rattle.vd_seal.specs.Keys.{direction};
-ghost use Rattle.vd_sealed.specs.Taking.{EndsCut, TakesCarried, TakesSealed};
+ghost use Rattle.vd_sealed.specs.Taking.{Refuses, TakesCarried, TakesSealed};
 
 use crate::fault::SealFault;
 use crate::filling::fill;
@@ -12,12 +12,15 @@ use vd_seal::{Keys, open};
 /// Takes a record whose code is that of this number.
 fn take_covered<L: Link>(link: &mut L, keys: &Keys, number: u64) -> Result<Piece, SealFault>
     ensures takes { TakesCarried (direction keys.now) number (L.view link.old) (L.view link.new) result }
-    ensures cut { EndsCut (L.view link.old) (L.view link.new) result }
+    ensures refused { Refuses (direction keys.now) number (L.view link.old) (L.view link.new) result }
 {
     let mut head = [0u8; 2];
     fill(link, &mut head)?;
     let [tag, count] = head;
-    if tag != 0x58 || count > 128 {
+    if tag != 0x58 {
+        return Err(SealFault::Head);
+    }
+    if count > 128 {
         return Err(SealFault::Head);
     }
     let mut room = [0u8; 128];
@@ -38,7 +41,7 @@ fn take_covered<L: Link>(link: &mut L, keys: &Keys, number: u64) -> Result<Piece
 #[tactic(auto, using(crate::proofs::Carried::brings))]
 pub fn take_record<L: Link>(link: &mut L, keys: &Keys, number: u64) -> Result<Piece, SealFault>
     ensures takes { TakesSealed (direction keys.now) number (L.view link.old) (L.view link.new) result }
-    ensures cut { EndsCut (L.view link.old) (L.view link.new) result }
+    ensures refused { Refuses (direction keys.now) number (L.view link.old) (L.view link.new) result }
 {
     take_covered(link, keys, number)
 }

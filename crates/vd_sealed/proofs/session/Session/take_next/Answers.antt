@@ -1,7 +1,8 @@
-use Rattle.std.proofs.Common.{refl, arith, ◌+◌, ap, Err}
+use Rattle.std.proofs.Common.{refl, arith, ◌+◌}
 use Rattle.vd_seal.specs.Keys.{direction}
 use Rattle.vd_sealed.specs.Opened.{plain_of}
 use Rattle.vd_sealed.proofs.Next.{nothing_comes, still_comes}
+use Rattle.vd_sealed.proofs.Refused.{cut_of}
 use Rattle.vd_sealed.proofs.session.Session.take_next.Goals as goal
 
 pub returns-else-is_empty-clause-takes : goal.returns-else-is_empty-clause-takes
@@ -37,6 +38,6 @@ returns-in-Err-End-clause-takes g c =
       coming = λ told. nothing_comes (direction session.theirs) session.next_in session.ended session.closed
           (plain_of (direction session.theirs) session.next_in (g.L.Link.view c.args.before.now.value).coming)
           session.piece (g.L.Link.view c.args.link.now).coming
-          c.requires.goes_on c.requires.open c.requires.none_left ((c.in-Err-End.ensures {u = tt}).cut told (ap Err c.in-Err-End.field-0-is));
+          c.requires.goes_on c.requires.open c.requires.none_left (cut_of (direction session.theirs) session.next_in (g.L.Link.view c.args.link.now).coming _ c.in-Err-End.field-0-is ((c.in-Err-End.ensures {u = tt}).refused told));
       none = λ told e. refl;
     }
