@@ -1,5 +1,5 @@
 -- A hello that came piece by piece.
-use Rattle.std.proofs.Common.{◌≡◌, ◌∙◌, ◌++◌, ◌∷◌, [], ℕ, Bool, IsTrue, List, Ok, ap, sym, refl, subst, arith, append_assoc}
+use Rattle.std.proofs.Common.{◌≡◌, ◌∙◌, ◌++◌, ◌∷◌, [], ℕ, Bool, IsTrue, List, Ok, length, ap, sym, refl, subst, arith, append_assoc}
 use Rattle.vd_base.specs.declared.ids.HostId.{HostId}
 use Rattle.vd_outside.specs.Link.{LinkView}
 use Rattle.vd_seal.specs.Hellos.{hello_bytes}
@@ -23,9 +23,9 @@ told now before same holds = subst (λ (b : Bool). IsTrue b) same holds
 -- its four pieces one after the other
 pub taken : (id : List ℕ) (from to : HostId) (v0 v1 v2 v3 v4 : LinkView) (version heard ends nonce : List ℕ)
     → Fills version v0 v1 (Ok tt) → Fills heard v1 v2 (Ok tt) → Fills ends v2 v3 (Ok tt) → Fills nonce v3 v4 (Ok tt)
-    → version ≡ 0x47 ∷ 2 ∷ [] → heard ≡ id → ends ≡ from.0 ∷ to.0 ∷ []
+    → version ≡ 0x47 ∷ 2 ∷ [] → heard ≡ id → ends ≡ from.0 ∷ to.0 ∷ [] → length nonce ≡ 32
     → TakesHello id from to v0 v4 (Ok (record { id = heard; from = from; to = to; nonce = nonce }))
-taken id from to v0 v1 v2 v3 v4 version heard ends nonce a b c d v i n =
+taken id from to v0 v1 v2 v3 v4 version heard ends nonce a b c d v i n long =
     let hello : Hello = record { id = heard; from = from; to = to; nonce = nonce } in
     let third = told v4.told v3.told d.still_told in
     let second = λ (t : IsTrue v4.told). told v3.told v2.told c.still_told (third t) in
@@ -39,6 +39,7 @@ taken id from to v0 v1 v2 v3 v4 version heard ends nonce a b c d v i n =
       id_is = i;
       from_is = refl;
       to_is = refl;
+      nonce = long;
       came = λ t. hello_came hello version heard ends v0.coming v1.coming v2.coming v3.coming v4.coming
           (a.whole (first t)) (b.whole (second t)) (c.whole (third t)) (d.whole t) v refl n;
     }

@@ -1,7 +1,7 @@
 //! How both ends of a sealed link begin: each says a hello, and then proves that it has the key of the link.
 
 ghost use Rattle.vd_seal.specs.Keys.{direction};
-ghost use Rattle.vd_meeting.specs.Meeting.{Meets, Proves, Says, TakesHello};
+ghost use Rattle.vd_meeting.specs.Meeting.{IsMeetFault, IsProofFault, Meets, Proves, RefusesFor, RefusesHello, Says, TakesHello};
 
 use vd_base::HostId;
 use vd_outside::Link;
@@ -17,7 +17,8 @@ pub fn take_hello<L: Link>(
     from: HostId,
     to: HostId,
 ) -> Result<Hello, SealFault>
-    ensures { TakesHello id.now from to (L.view link.old) (L.view link.new) result }
+    ensures takes { TakesHello id.now from to (L.view link.old) (L.view link.new) result }
+    ensures refused { RefusesHello id.now from to (L.view link.old) (L.view link.new) result }
 {
     let mut version = [0u8; 2];
     fill(link, &mut version)?;
@@ -50,7 +51,8 @@ fn exchange_hellos<L: Link>(
     frame: &mut Frame,
     mine: &Hello,
 ) -> Result<Hello, SealFault>
-    ensures { Says mine.now (L.view link.old) (L.view link.new) result }
+    ensures says { Says mine.now (L.view link.old) (L.view link.new) result }
+    ensures refused { RefusesHello mine.now.id mine.now.to mine.now.from (L.view link.old) (L.view link.new) result }
 {
     frame.set_hello(mine);
     if send_all(link, frame.as_slice()).is_err() {
@@ -60,13 +62,15 @@ fn exchange_hellos<L: Link>(
 }
 
 /// Sends the record that proves who has the key, and takes that of the peer. Neither carries bytes.
+#[tactic(auto, using(crate::proofs::Refusing::record_refused, crate::proofs::Refusing::some_bytes))]
 fn prove_both<L: Link>(
     link: &mut L,
     frame: &mut Frame,
     ours: &Keys,
     theirs: &Keys,
 ) -> Result<(), SealFault>
-    ensures { Proves (direction ours.now) (direction theirs.now) (L.view link.old) (L.view link.new) result }
+    ensures proves { Proves (direction ours.now) (direction theirs.now) (L.view link.old) (L.view link.new) result }
+    ensures refused { RefusesFor (IsProofFault (direction theirs.now)) (L.view link.old) (L.view link.new) result }
 {
     frame.set_record(ours, 0, &[]);
     if send_all(link, frame.as_slice()).is_err() {
@@ -84,13 +88,15 @@ fn prove_both<L: Link>(
 ///
 /// Refuses a peer of another version, of another dealing or with another number, and one that does not prove that it has the key
 /// and heard the same two hellos.
+#[tactic(auto, using(crate::proofs::Refusing::of_hello))]
 pub fn meet<L: Link>(
     link: &mut L,
     frame: &mut Frame,
     mine: &Hello,
     key: &[u8; 32],
 ) -> Result<(Keys, Keys), SealFault>
-    ensures { Meets mine.now key.now (L.view link.old) (L.view link.new) result }
+    ensures meets { Meets mine.now key.now (L.view link.old) (L.view link.new) result }
+    ensures refused { RefusesFor (IsMeetFault mine.now key.now) (L.view link.old) (L.view link.new) result }
 {
     let theirs = exchange_hellos(link, frame, mine)?;
     let (own, other) = frame.keys_of(key, mine, &theirs);
