@@ -1,0 +1,9 @@
+//! A net whose links are sealed: it owns another net, and once it is told what to seal by it gives only links to hosts that proved
+//! that they have the link's key.
+#![tactic(auto)]
+
+mod seal;
+mod sealed_net;
+
+pub use seal::Seal;
+pub use sealed_net::SealedNet;
