@@ -2,21 +2,21 @@
 
 ghost use Rattle.std.specs.Prelude.{◌≡◌, IsTrue, None, OnOk, Some, false, IfOk, string_bytes};
 ghost use Rattle.vd_edge.specs.Store.{Same};
-ghost use Rattle.vd_marks.specs.Marks.{Claims, Releases};
+ghost use Rattle.vd_marks.specs.Marks.{Claims, Draws, Releases};
 ghost use Rattle.vd_marks.specs.Places.{mark_at};
 ghost use Rattle.vd_real_marks.specs.Views.{marks_view};
 
+use crate::randomness::Randomness;
 use std::alloc::Global;
 use std::io::{self, Error, ErrorKind};
-use std::random::RandomSource;
 use vd_base::CallFault;
 use vd_causes::{count_fault, fault_of, reason_of};
 use vd_edge::{Access, Directory};
 use vd_marks::{Marks, mark_at};
 
-/// Marks as files of a directory, which only their owner may read, and random bytes of a source.
+/// Marks as files of a directory, which only their owner may read, and the random bytes that a source gives.
 #[derive(Drop)]
-pub struct RealMarks<D: Directory + Drop, R: RandomSource + Drop> {
+pub struct RealMarks<D: Directory + Drop, R: Randomness + Drop> {
     directory: D,
     source: R,
     alloc: Global,
@@ -24,7 +24,7 @@ pub struct RealMarks<D: Directory + Drop, R: RandomSource + Drop> {
     reason: Option<String>,
 }
 
-impl<D: Directory + Drop, R: RandomSource + Drop> RealMarks<D, R> {
+impl<D: Directory + Drop, R: Randomness + Drop> RealMarks<D, R> {
     /// Marks in this directory, which have not failed so far.
     pub fn new(directory: D, source: R, alloc: Global) -> RealMarks<D, R>
         ensures directory { result.directory ≡ directory }
@@ -79,17 +79,19 @@ fn place_of(alloc: Global, beside: &str, name: &[u8]) -> io::Result<String>
     Ok(String::from_str(alloc, text)?)
 }
 
-impl<D: Directory + Drop, R: RandomSource + Drop> Marks for RealMarks<D, R> {
+impl<D: Directory + Drop, R: Randomness + Drop> Marks for RealMarks<D, R> {
     ghost view = { λ marks. marks_view marks.faults };
 
     fn faults(&self) -> u64 {
         self.faults
     }
 
-    fn draw(&mut self) -> Result<[u8; 32], CallFault> {
-        let mut bytes = [0; 32];
-        match self.source.fill_bytes(&mut bytes) {
-            Ok(()) => Ok(bytes),
+    fn draw(&mut self) -> Result<[u8; 32], CallFault>
+        ensures draws { Draws (marks_view self.old.faults) (marks_view self.new.faults) result }
+        ensures given { IfOk result (R.gave self.old.source) }
+    {
+        match self.source.give() {
+            Ok(bytes) => Ok(bytes),
             Err(error) => {
                 self.reason = reason_of(self.alloc, "draw", "random bytes", &error);
                 let fault = fault_of(&error);
