@@ -5,7 +5,8 @@ use Rattle.vd_bytes.specs.Exact.{StopsAt}
 use Rattle.vd_deals.specs.declared.deal.Deal.{Deal}
 use Rattle.vd_deals.specs.declared.deal.BadItem.{BadItem}
 use Rattle.vd_deals.specs.Validity.{AreDeals, IsConsistent, IsFirstBad}
-use Rattle.vd_tape.specs.Text.{IsDealText, IsFileOf}
+use Rattle.vd_dealt.specs.Plain.{IsDealIn}
+use Rattle.vd_dealt.specs.Text.{IsDealtText}
 use Rattle.vd_report.specs.declared.fault.ReadFault.{ReadFault}
 use Rattle.vd_report.specs.declared.schedule.Schedule.{Schedule}
 use Rattle.vd_report.specs.Outcome.{FirstWrong}
@@ -13,8 +14,8 @@ use Rattle.vd_report.specs.ScheduleText.{GivesSchedule, IsScheduleText}
 
 -- the one outcome of the deal file of a host among so many: its deal, or the first offset at which the bytes go on as no deal does
 abbrev pub IsDealRead : (hosts me : ℕ) → List ℕ → Result Deal ℕ → Type 0
-IsDealRead hosts me bytes (Ok deal) = IsFileOf hosts me bytes deal
-IsDealRead hosts me bytes (Err offset) = StopsAt (IsDealText hosts me) bytes offset
+IsDealRead hosts me bytes (Ok deal) = IsDealIn hosts me bytes deal
+IsDealRead hosts me bytes (Err offset) = StopsAt (IsDealtText hosts me) bytes offset
 
 -- the one outcome of a schedule file: the schedule that it gives, or the fault of the first token that cannot stand
 abbrev pub IsScheduleRead : List (List ℕ) → List ℕ → Result Schedule ReadFault → Type 0
