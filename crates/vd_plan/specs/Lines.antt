@@ -22,7 +22,7 @@ use Rattle.vd_plan.specs.declared.status.HostStatus.TheVariants as host_status
 use Rattle.vd_plan.specs.declared.status.ChildCause.{ChildCause}
 use Rattle.vd_plan.specs.declared.status.ChildCause.TheVariants as child_cause
 use Rattle.vd_plan.specs.declared.status.Status.{Status}
-use Rattle.vd_plan.specs.declared.status.Status.TheVariants.{Ended, Memory, Usage, ReadFault, WriteFault, TooLong, Syntax, Names, Flow, NoAssignment, Spent, InputText, DealText, ScheduleText, CertificateText, BadDeal, CertificateRefused, Host, ChildFault, NoHost, NotTwo, HasCommit, DealShort, ViewDiffers}
+use Rattle.vd_plan.specs.declared.status.Status.TheVariants.{Ended, Memory, Usage, ReadFault, WriteFault, TooLong, Syntax, Names, Flow, NoAssignment, Spent, InputText, DealText, ScheduleText, CertificateText, BadDeal, CertificateRefused, Host, ChildFault, NoHost, NotTwo, HasCommit, DealShort, ViewDiffers, DealUsed, ShortKey}
 
 abbrev pub host_code : HostStatus → ℕ
 host_code (host_status.ProgramText offset) = 14
@@ -61,6 +61,8 @@ code_of (NotTwo count) = 28
 code_of (HasCommit slot) = 29
 code_of (DealShort kind) = 31
 code_of (ViewDiffers place) = 32
+code_of (DealUsed name) = 33
+code_of (ShortKey name length) = 34
 
 -- a text that ends in a number
 abbrev pub offset_line : List ℕ → ℕ → List ℕ
@@ -129,9 +131,12 @@ certificate_line (cert.Cost stated own) = cost_line stated own
 certificate_line (cert.NotViolated mark) = offset_line (codes "viaduct: cert refused not violated ") mark
 certificate_line (cert.NotBounded mark bound cost) = bound_line mark bound cost
 
--- a text that ends in a name, which is shown without control characters, and one that ends in two numbers
+-- a text that ends in a name, which is shown without control characters; with a number of bytes behind it; and one that ends in two numbers
 abbrev pub name_line : List ℕ → List ℕ → List ℕ
 name_line text name = text ++ (shown name ++ codes "\n")
+
+abbrev pub sized_line : List ℕ → (name : List ℕ) → (size : ℕ) → List ℕ
+sized_line text name size = text ++ (shown name ++ (codes " " ++ (decimal size ++ codes "\n")))
 
 abbrev pub two_line : List ℕ → (first second : ℕ) → List ℕ
 two_line text first second = text ++ (decimal first ++ number_then second (codes "\n"))
@@ -171,7 +176,7 @@ status_line Memory = codes "viaduct: memory\n"
 status_line Usage = codes "viaduct: usage\n"
 status_line (ReadFault name) = name_line (codes "viaduct: read fault ") name
 status_line WriteFault = codes "viaduct: write fault\n"
-status_line (TooLong name limit) = codes "viaduct: too long " ++ (shown name ++ (codes " " ++ (decimal limit ++ codes "\n")))
+status_line (TooLong name limit) = sized_line (codes "viaduct: too long ") name limit
 status_line (Syntax fault) = syntax_line fault
 status_line (Names fault) = rule_line fault
 status_line (Flow check offset) = codes "viaduct: flow check " ++ (decimal check ++ (codes " at " ++ (decimal offset ++ codes "\n")))
@@ -190,6 +195,8 @@ status_line (NotTwo count) = offset_line (codes "viaduct: hosts ") count
 status_line (HasCommit slot) = offset_line (codes "viaduct: commitment ") slot
 status_line (DealShort kind) = name_line (codes "viaduct: deal short ") (kind_name kind)
 status_line (ViewDiffers place) = offset_line (codes "viaduct: view differs at ") place
+status_line (DealUsed name) = name_line (codes "viaduct: deal used ") name
+status_line (ShortKey name length) = sized_line (codes "viaduct: short key ") name length
 
 -- the line goes to err, whole unless err failed
 pub record Says (line : List ℕ) (before now : SinkView) : Type 0 where

@@ -4,7 +4,7 @@ ghost use Rattle.std.specs.Prelude.{◌≡◌, IfSome};
 ghost use Rattle.vd_plan.specs.Deliver.{WritesAll};
 ghost use Rattle.vd_plan.specs.declared.status.RuleFault.TheVariants as rule;
 ghost use Rattle.vd_plan.specs.declared.status.Status.TheVariants.{Flow};
-ghost use Rattle.vd_plan.specs.Lines.{Says, bad_deal_line, bound_line, certificate_line, child_line, cost_line, deal_line, kind_name, name_line, schedule_line, status_line, syntax_line, rule_line, input_line, offset_line, quantity_name};
+ghost use Rattle.vd_plan.specs.Lines.{Says, bad_deal_line, bound_line, certificate_line, child_line, cost_line, deal_line, kind_name, name_line, schedule_line, sized_line, status_line, syntax_line, rule_line, input_line, offset_line, quantity_name};
 
 use crate::deliver::{write_all, write_parts};
 use crate::host_lines::write_host_status;
@@ -53,10 +53,7 @@ fn write_status<E: Sink>(err: &mut E, status: &Status) -> Result<(), Failed>
         }
         Status::WriteFault => write_parts(err, &[b"viaduct: write fault\n"]),
         Status::TooLong(name, limit) => {
-            let mut buffer = Buffer::new();
-            let number = buffer.format(*limit).as_bytes();
-            let name = name.as_str().as_bytes();
-            write_named(err, b"viaduct: too long ", name, &[b" ", number, b"\n"])
+            write_sized(err, b"viaduct: too long ", name.as_str().as_bytes(), *limit)
         }
         Status::Syntax(fault) => write_syntax_fault(err, *fault),
         Status::Names(fault) => write_rule_fault(err, *fault),
@@ -76,7 +73,25 @@ fn write_status<E: Sink>(err: &mut E, status: &Status) -> Result<(), Failed>
         Status::HasCommit(slot) => write_place(err, b"viaduct: commitment ", *slot),
         Status::DealShort(kind) => write_name(err, b"viaduct: deal short ", kind_name(*kind)),
         Status::ViewDiffers(place) => write_place(err, b"viaduct: view differs at ", *place),
+        Status::DealUsed(name) => write_name(err, b"viaduct: deal used ", name.as_str().as_bytes()),
+        Status::ShortKey(name, length) => {
+            write_sized(
+                err,
+                b"viaduct: short key ",
+                name.as_str().as_bytes(),
+                *length,
+            )
+        }
     }
+}
+
+/// Writes a text, a name behind it, and then a number of bytes.
+fn write_sized<E: Sink>(err: &mut E, text: &[u8], name: &[u8], size: u32) -> Result<(), Failed>
+    ensures { WritesAll (sized_line text.now name.now size) (E.view err.old) (E.view err.new) result }
+{
+    let mut buffer = Buffer::new();
+    let number = buffer.format(size).as_bytes();
+    write_named(err, text, name, &[b" ", number, b"\n"])
 }
 
 /// Writes the line of a fault of a source's text.

@@ -171,6 +171,10 @@ pub enum Status {
     DealShort(DealKind),
     /// The first place at which what a host knows of two inputs differs.
     ViewDiffers(usize),
+    /// The deal in this file was used before.
+    DealUsed(Text),
+    /// This file of a key has so many bytes, and not 32.
+    ShortKey(Text, u32),
 }
 
 impl Status {
@@ -203,6 +207,8 @@ impl Status {
             Status::HasCommit(_) => 29,
             Status::DealShort(_) => 31,
             Status::ViewDiffers(_) => 32,
+            Status::DealUsed(_) => 33,
+            Status::ShortKey(_, _) => 34,
         }
     }
 }

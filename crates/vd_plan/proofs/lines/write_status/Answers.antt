@@ -10,7 +10,7 @@ pub returns-in-ReadFault : goal.returns-in-ReadFault
 returns-in-ReadFault g c = rw (c.in-ReadFault.is, ← c.as_str.ensures, ← c.as_bytes.ensures.value) c.write_name.ensures
 
 pub returns-in-TooLong : goal.returns-in-TooLong
-returns-in-TooLong g c = rw (c.in-TooLong.is, ← c.as_str-in-TooLong.ensures, ← c.as_bytes-name.ensures.value, ← c.format.ensures.text, ← c.as_bytes-number.ensures.value) c.write_named.ensures
+returns-in-TooLong g c = rw (c.in-TooLong.is, ← c.as_str-in-TooLong.ensures, ← c.as_bytes-in-TooLong.ensures.value) c.write_sized.ensures
 
 pub returns-in-WriteFault : goal.returns-in-WriteFault
 returns-in-WriteFault g c = rw c.in-WriteFault.is c.write_parts-in-WriteFault.ensures
@@ -32,3 +32,9 @@ returns-in-HasCommit g c = rw c.in-HasCommit.is c.write_place-in-HasCommit.ensur
 
 pub returns-in-DealShort : goal.returns-in-DealShort
 returns-in-DealShort g c = rw (c.in-DealShort.is, ← c.kind_name.ensures) c.write_name-in-DealShort.ensures
+
+pub returns-in-DealUsed : goal.returns-in-DealUsed
+returns-in-DealUsed g c = rw (c.in-DealUsed.is, ← c.as_str-in-DealUsed.ensures, ← c.as_bytes-in-DealUsed.ensures.value) c.write_name-in-DealUsed.ensures
+
+pub returns-in-ShortKey : goal.returns-in-ShortKey
+returns-in-ShortKey g c = rw (c.in-ShortKey.is, ← c.as_str-in-ShortKey.ensures, ← c.as_bytes-in-ShortKey.ensures.value) c.write_sized-in-ShortKey.ensures
