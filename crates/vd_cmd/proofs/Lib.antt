@@ -1,3 +1,4 @@
 mod Behind
+mod Keys
 mod Values
 mod Words

@@ -1,12 +1,14 @@
 -- The forms of a command line.
-use Rattle.std.specs.Prelude.{◌≡◌, ◌↔◌, ◌<◌, ◌≤◌, ℕ, ◌-◌, ◌^◌, Bool, true, false, ◌&&◌, List, [], ◌∷◌, Option, Some, None, Result, Err, IfOk, IfSome, if◌then◌else◌, codes}
+use Rattle.std.specs.Prelude.{◌≡◌, ◌↔◌, ◌<◌, ◌≤◌, ℕ, ◌-◌, ◌^◌, Bool, true, false, ◌&&◌, List, [], ◌∷◌, Option, Some, None, Result, Err, IfOk, IfSome, if◌then◌else◌, codes, nat_eq}
 use Rattle.std.specs.Str.{bytes_eq}
 use Rattle.vd_base.specs.Limits.{most_hosts, most_deal_items, most_search_budget}
 use Rattle.vd_deals.specs.declared.deal.Counts.{Counts}
 use Rattle.vd_gen.specs.Sizes.{most_coordinates}
 use Rattle.vd_cmd.specs.Numbers.{number_within}
 use Rattle.vd_cmd.specs.declared.command.Command.{Command}
-use Rattle.vd_cmd.specs.declared.command.Command.TheVariants.{OnFiles, Host, Run}
+use Rattle.vd_cmd.specs.declared.command.Command.TheVariants.{OnFiles, KeyDeal, Host, Run}
+use Rattle.vd_cmd.specs.declared.command.KeySource.{KeySource}
+use Rattle.vd_cmd.specs.declared.command.KeySource.TheVariants.{Drawn, InFile}
 use Rattle.vd_cmd.specs.declared.command.FilesCommand.{FilesCommand}
 use Rattle.vd_cmd.specs.declared.command.FilesCommand.TheVariants.{Clear, Labels, Choose, Draw, Certify, Compile, Needs, Hasten, Deal, Replay, Excuse, Depends, Influences, Gen, Trial}
 use Rattle.vd_cmd.specs.declared.command.CommandFault.{CommandFault}
@@ -28,9 +30,26 @@ abbrev pub deal_of : Option Counts → Option ℕ → List ℕ → Option Comman
 deal_of (Some counts) (Some key) prefix = Some (OnFiles (Deal counts key prefix))
 deal_of counts key prefix = None
 
+-- where a key of 32 bytes comes from: it is drawn, or a file has it
+abbrev pub key_file : List ℕ → Option KeySource
+key_file [] = None
+key_file (first ∷ name) = if nat_eq first 0x40 then Some (InFile name) else None
+
+abbrev pub key_source : List ℕ → Option KeySource
+key_source word = if bytes_eq word (codes "draw") then Some Drawn else key_file word
+
+abbrev pub key_deal_of : Option Counts → KeySource → List ℕ → Option Command
+key_deal_of (Some counts) key prefix = Some (KeyDeal (record { counts = counts; key = key; prefix = prefix }))
+key_deal_of None key prefix = None
+
+-- by a number, or by a key of 32 bytes
+abbrev pub deal_by : Option KeySource → Option Counts → (key prefix : List ℕ) → Option Command
+deal_by None counts key prefix = deal_of counts (number_within 0 (2 ^ 64 - 1) key) prefix
+deal_by (Some source) counts key prefix = key_deal_of counts source prefix
+
 -- the command `deal` with the numbers that these texts are
 abbrev pub deal_in : (hosts own muls ands pairs key prefix : List ℕ) → Option Command
-deal_in hosts own muls ands pairs key prefix = deal_of (counts_in hosts own muls ands pairs) (number_within 0 (2 ^ 64 - 1) key) prefix
+deal_in hosts own muls ands pairs key prefix = deal_by (key_source key) (counts_in hosts own muls ands pairs) key prefix
 
 abbrev pub gen_of : Option ℕ → Option Command
 gen_of (Some coordinates) = Some (OnFiles (Gen coordinates))
@@ -207,6 +226,7 @@ KeepsFilesLimits command = Unit {0}
 
 abbrev pub KeepsLimits : Command → Type 0
 KeepsLimits (OnFiles command) = KeepsFilesLimits command
+KeepsLimits (KeyDeal words) = AreWithin words.counts
 KeepsLimits (Host words) = IfSome words.limit IsWait
 KeepsLimits (Run words) = IsPort words.port
 

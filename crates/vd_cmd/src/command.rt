@@ -1,8 +1,9 @@
 //! The forms of a command line.
 
-ghost use Rattle.std.specs.Prelude.{◌≡◌, [], ◌∷◌, IfOk, IfSome};
-ghost use Rattle.vd_cmd.specs.Commands.{Reads, AreWithin, IsBudget, IsPort, IsSize, IsWait, choose_of, compile_of, counts_in, deal_in, deal_of, draw_of, excuse_form_of, excuse_of, fixed_form_of, form_of, gen_of, host_form_of, limited_form_of, needs_of, needs_with, other_form_of, replay_of, replay_with, run_of, trial_of, unhosted_form_of};
+ghost use Rattle.std.specs.Prelude.{◌≡◌, [], ◌∷◌, None, IfOk, IfSome, MatchOption};
+ghost use Rattle.vd_cmd.specs.Commands.{Reads, AreWithin, IsBudget, IsPort, IsSize, IsWait, choose_of, compile_of, counts_in, deal_in, deal_of, draw_of, excuse_form_of, excuse_of, fixed_form_of, form_of, gen_of, host_form_of, key_deal_of, key_file, limited_form_of, needs_of, needs_with, other_form_of, replay_of, replay_with, run_of, trial_of, unhosted_form_of};
 ghost use Rattle.vd_cmd.specs.declared.command.CommandFault.TheVariants.{Memory};
+ghost use Rattle.vd_cmd.specs.declared.command.KeySource.TheVariants.{Drawn, InFile};
 
 use crate::numbers::number_within;
 use std::alloc::{AllocError, Global};
@@ -70,6 +71,23 @@ pub struct RunWords {
     pub port: u32,
 }
 
+/// Where a key of 32 bytes comes from.
+#[derive(Debug, Drop)]
+pub enum KeySource {
+    /// `draw`: it is drawn, and kept nowhere.
+    Drawn,
+    /// `@FILE`: it is what this file holds.
+    InFile(Text),
+}
+
+/// The words of `deal HOSTS OWN MULS ANDS PAIRS draw PREFIX` and `deal HOSTS OWN MULS ANDS PAIRS @FILE PREFIX`.
+#[derive(Debug, Drop)]
+pub struct KeyDealWords {
+    pub counts: Counts,
+    pub key: KeySource,
+    pub prefix: Text,
+}
+
 /// The words of `excuse SOURCE INPUTS INPUTS2 PREFIX HOST OUT [BUDGET]`.
 #[derive(Debug, Drop)]
 pub struct ExcuseWords {
@@ -125,6 +143,8 @@ pub enum FilesCommand {
 #[derive(Debug, Drop)]
 pub enum Command {
     OnFiles(FilesCommand),
+    /// `deal HOSTS OWN MULS ANDS PAIRS draw PREFIX`, or with `@FILE` in place of `draw`.
+    KeyDeal(KeyDealWords),
     /// `host PROGRAM INPUTS DEAL ADDR*`, or `host-within SECONDS PROGRAM INPUTS DEAL ADDR*`.
     Host(HostWords),
     /// `run SOURCE INPUTS PREFIX SELF PORT`.
@@ -189,6 +209,48 @@ fn deal_of(
     };
     let prefix = Text::copy_of(alloc, prefix.as_str())?;
     Ok(Command::OnFiles(FilesCommand::Deal(counts, key, prefix)))
+}
+
+/// The name of the file that a key stands in, where a word is `@` and such a name.
+fn key_file(word: &str) -> Option<&str>
+    ensures { MatchOption result (key_file word.now ≡ None) (λ name. key_file word.now ≡ Some (InFile name.now)) }
+{
+    word.strip_prefix('@')
+}
+
+/// The command `deal` with these counts and a key that is drawn, if they are given.
+fn deal_drawn(alloc: Global, counts: Option<Counts>, prefix: &Text) -> Result<Command, CommandFault>
+    requires { IfSome counts AreWithin }
+    ensures { Reads (key_deal_of counts Drawn prefix.now) result }
+{
+    let Some(counts) = counts else {
+        return Err(CommandFault::Usage);
+    };
+    Ok(Command::KeyDeal(KeyDealWords {
+        counts,
+        key: KeySource::Drawn,
+        prefix: Text::copy_of(alloc, prefix.as_str())?,
+    }))
+}
+
+/// The command `deal` with these counts and the key that a file has, if they are given.
+fn deal_from_file(
+    alloc: Global,
+    counts: Option<Counts>,
+    name: &str,
+    prefix: &Text,
+) -> Result<Command, CommandFault>
+    requires { IfSome counts AreWithin }
+    ensures { Reads (key_deal_of counts (InFile name.now) prefix.now) result }
+{
+    let Some(counts) = counts else {
+        return Err(CommandFault::Usage);
+    };
+    Ok(Command::KeyDeal(KeyDealWords {
+        counts,
+        key: KeySource::InFile(Text::copy_of(alloc, name)?),
+        prefix: Text::copy_of(alloc, prefix.as_str())?,
+    }))
 }
 
 /// The command `choose` with this budget, if it is given.
@@ -483,7 +545,8 @@ fn four_words(
     }
 }
 
-/// The command `deal` with the numbers that these texts are, if they are numbers that it takes.
+/// The command `deal` with the numbers that these texts are, if they are numbers that it takes, and a key: a number, or where one of 32
+/// bytes comes from.
 fn read_deal(
     alloc: Global,
     hosts: &Text,
@@ -497,7 +560,13 @@ fn read_deal(
     ensures { Reads (deal_in hosts.now own.now muls.now ands.now pairs.now key.now prefix.now) result }
 {
     let counts = read_counts(hosts, own, muls, ands, pairs);
-    deal_of(alloc, counts, number_within(0, u64::MAX, key), prefix)
+    if key.as_str() == "draw" {
+        return deal_drawn(alloc, counts, prefix);
+    }
+    match key_file(key.as_str()) {
+        Some(name) => deal_from_file(alloc, counts, name, prefix),
+        None => deal_of(alloc, counts, number_within(0, u64::MAX, key), prefix),
+    }
 }
 
 /// Copies of texts.

@@ -33,7 +33,9 @@ usage:
                                 forward: it waits less often, and its peers need not know
   viaduct deal HOSTS OWN MULS ANDS PAIRS KEY PREFIX
                                 store PREFIX.i.deal for each host i: OWN own words, and with each other host
-                                MULS and ANDS products and PAIRS pairs, all made from the number KEY
+                                MULS and ANDS products and PAIRS pairs, all made from the number KEY; or, where KEY is
+                                draw, or @ and the name of a file of 32 bytes, from a key that is drawn or read, for a
+                                run whose links are sealed
   viaduct replay SOURCE INPUTS PREFIX SCHEDULE [messages] [BUDGET]
                                 run the programs of all hosts on INPUTS and the deals PREFIX.i.deal in one process,
                                 step by step as SCHEDULE says, and print how each host stands and what it printed;
@@ -41,7 +43,9 @@ usage:
   viaduct host PROGRAM INPUTS DEAL ADDR..
                                 run the host whose program the file PROGRAM is, over sockets, with its own part of
                                 INPUTS and its deal; there is one ADDR for each other host, in host order, where the
-                                earlier host of the two listens; print listening, then each word, then ended
+                                earlier host of the two listens; print listening, then each word, then ended; links
+                                are sealed, and DEAL is used once, where the dealer's KEY was draw or a file, and
+                                else neither encrypted nor authenticated: put them into a tunnel
   viaduct host-within SECONDS PROGRAM INPUTS DEAL ADDR..
                                 run that host, with no wait for another one longer than SECONDS, 1 to 604800
   viaduct run SOURCE INPUTS PREFIX SELF PORT
@@ -99,6 +103,8 @@ statuses:
   29  the choice of protocols for SOURCE has a commitment
   31  a run takes more dealt items than there are
   32  HOST can tell INPUTS2 from INPUTS
+  33  DEAL was used before
+  34  the file of a key has fewer than 32 bytes
 ";
 
 /// The text of `--version`.
