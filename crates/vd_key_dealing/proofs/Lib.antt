@@ -1,0 +1,3 @@
+mod Digests
+mod OneMore
+pub mod ReadBack

@@ -1,0 +1,3 @@
+pub mod KeyDealing
+pub mod Laws
+pub mod Sources
