@@ -6,7 +6,7 @@ use Rattle.vd_bytes.specs.Reading.{capped}
 use Rattle.vd_deals.specs.declared.deal.Deal.{Deal}
 use Rattle.vd_tape.specs.declared.fault.TapeFault.{TapeFault}
 use Rattle.vd_tape.specs.declared.fault.TapeFault.TheVariants as tape_fault
-use Rattle.vd_tape.specs.Outcome.{Accepts, Refuses}
+use Rattle.vd_dealt.specs.Plain.{Accepts, Refuses}
 use Rattle.vd_report.specs.Outcome.{FirstWrong, Accepts as TextAccepts, Refuses as TextRefuses}
 use Rattle.vd_report.specs.declared.fault.ReadFault.{ReadFault}
 use Rattle.vd_report.specs.declared.fault.ReadFault.TheVariants as read_fault

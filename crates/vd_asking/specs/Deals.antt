@@ -5,7 +5,7 @@ use Rattle.vd_outside.specs.Files.{FilesView, Contents}
 use Rattle.vd_bytes.specs.Reading.{capped}
 use Rattle.vd_deals.specs.declared.deal.BadItem.{BadItem}
 use Rattle.vd_deals.specs.declared.deal.Deal.{Deal}
-use Rattle.vd_tape.specs.Text.{IsFileOf}
+use Rattle.vd_dealt.specs.Plain.{IsDealIn}
 use Rattle.vd_plan.specs.Held.{IsHeld}
 use Rattle.vd_plan.specs.Numbered.{file_name}
 use Rattle.vd_plan.specs.Plans.{Plan, ExecutesStep, file_then, check_then}
@@ -45,7 +45,7 @@ LoadsDeals prefix names before now result = (outcomes : ReplayOutcomes) → Exec
 
 -- the file of the host with this number, among so many, is the text of this deal
 abbrev pub HoldsDeal : (prefix : List ℕ) → (hosts number : ℕ) → Contents → Deal → Type 0
-HoldsDeal prefix hosts number contents deal = IsHeld (file_name prefix number (codes ".deal")) most_deal_bytes contents (λ bytes. IsFileOf hosts number bytes deal)
+HoldsDeal prefix hosts number contents deal = IsHeld (file_name prefix number (codes ".deal")) most_deal_bytes contents (λ bytes. IsDealIn hosts number bytes deal)
 
 -- the files of the first hosts, in order, are the texts of these deals
 abbrev pub HoldDeals : (prefix : List ℕ) → (hosts : ℕ) → Contents → List Deal → Type 0

@@ -4,7 +4,8 @@ ghost use Rattle.std.specs.Prelude.{◌≡◌, ◌<◌, ◌≤◌, length, IfOk}
 ghost use Rattle.vd_base.specs.Limits.{most_hosts};
 ghost use Rattle.vd_plan.specs.Held.{Finds};
 ghost use Rattle.vd_plan.specs.Plans.{Checks};
-ghost use Rattle.vd_tape.specs.Text.{AreDealsOf, IsDealOf, IsFileOf};
+ghost use Rattle.vd_tape.specs.Text.{AreDealsOf, IsDealOf};
+ghost use Rattle.vd_dealt.specs.Plain.{IsDealIn};
 ghost use Rattle.vd_asking.specs.Deals.{HoldDeals, HoldsDeal, LoadsDeal, LoadsDeals, deal_of};
 ghost use Rattle.vd_outcomes.specs.Outcomes.{ReplayOutcomes};
 
@@ -12,10 +13,11 @@ use std::alloc::Global;
 use vd_base::limits::DEAL_BYTES;
 use vd_base::{HostId, Name};
 use vd_deals::{Deal, Deals};
+use vd_dealt::read_plain_deal;
 use vd_items::Items;
 use vd_outside::Files;
 use vd_plan::{Status, file_name, load};
-use vd_tape::{TapeFault, read_deal};
+use vd_tape::TapeFault;
 
 /// The deal of a host among so many, or why there is none.
 fn deal_in(alloc: Global, bytes: &[u8], hosts: u8, number: u8, name: &Name) -> Result<Deal, Status>
@@ -23,9 +25,9 @@ fn deal_in(alloc: Global, bytes: &[u8], hosts: u8, number: u8, name: &Name) -> R
     requires declared { number < hosts }
     ensures reads { (outcomes : ReplayOutcomes) → Checks (deal_of outcomes hosts number name.now bytes.now) result }
     ensures deal { IfOk result (IsDealOf hosts number) }
-    ensures given { IfOk result (IsFileOf hosts number bytes.now) }
+    ensures given { IfOk result (IsDealIn hosts number bytes.now) }
 {
-    match read_deal(alloc, bytes, hosts, HostId(number)) {
+    match read_plain_deal(alloc, bytes, hosts, HostId(number)) {
         Ok(deal) => Ok(deal),
         Err(TapeFault::Text(offset)) => {
             let name = Name::from_slice(alloc, name.as_slice())?;

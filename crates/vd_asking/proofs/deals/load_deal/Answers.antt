@@ -3,7 +3,7 @@ use Rattle.std.proofs.lemmas.Result.{err_from_is_err_and}
 use Rattle.vd_plan.specs.Numbered.{file_name}
 use Rattle.vd_base.specs.Limits.{most_deal_bytes}
 use Rattle.vd_deals.specs.declared.deal.Deal.{Deal}
-use Rattle.vd_tape.specs.Text.{IsFileOf}
+use Rattle.vd_dealt.specs.Plain.{IsDealIn}
 use Rattle.vd_asking.proofs.Reading.{deal_err, deal_ok, found}
 use Rattle.vd_asking.proofs.deals.load_deal.Goals as goal
 
@@ -23,4 +23,4 @@ pub returns-clause-given : goal.returns-clause-given
 returns-clause-given g c =
     let named = c.as_str.ensures ∙ c.in_ok-file.ensures {u = tt} ∙ ap (λ (n : ℕ). file_name c.args.prefix.now n (codes ".deal")) c.from.ensures in
     found (file_name c.args.prefix.now c.args.number (codes ".deal")) c.as_str.result.now most_deal_bytes _ _ c.in_ok-bytes.bytes c.as_slice.result.now c.deal_in.result
-    (λ (bytes : List ℕ) (deal : Deal). IsFileOf c.args.hosts c.args.number bytes deal) named (c.in_ok-bytes.ensures {u = tt}).loads c.as_slice.ensures c.deal_in.ensures.given
+    (λ (bytes : List ℕ) (deal : Deal). IsDealIn c.args.hosts c.args.number bytes deal) named (c.in_ok-bytes.ensures {u = tt}).loads c.as_slice.ensures c.deal_in.ensures.given
