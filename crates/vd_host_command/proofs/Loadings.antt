@@ -1,5 +1,5 @@
 -- The files of a host, one behind the other.
-use Rattle.std.proofs.Common.{arith, ◌≡◌, ◌≢◌, ◌≤◌, ◌+◌, ℕ, IsTrue, List, [], ◌∷◌, ◌++◌, length, Some, Result, Ok, Err, IfOk, IfErr, refl, sym, ap, subst, ◌∙◌, append_assoc}
+use Rattle.std.proofs.Common.{arith, ◌≡◌, ◌≢◌, ◌≤◌, ◌+◌, ℕ, IsTrue, List, [], ◌∷◌, ◌++◌, length, Option, Some, None, Result, Ok, Err, IfOk, IfErr, refl, sym, ap, subst, ◌∙◌, append_assoc}
 use Rattle.std.specs.Prelude.{slice_get}
 use Rattle.std.proofs.lemmas.List.{append-nil}
 use Rattle.vd_outside.specs.Files.{Contents, FilesView}
@@ -7,7 +7,8 @@ use Rattle.vd_outside.specs.declared.files.FilesCall.{FilesCall}
 use Rattle.vd_outside.specs.declared.files.FilesCall.TheVariants.{Fetch}
 use Rattle.vd_base.specs.Limits.{most_deal_bytes, most_host_file_bytes, most_inputs_bytes}
 use Rattle.vd_cmd.specs.declared.command.HostWords.{HostWords}
-use Rattle.vd_deals.specs.declared.deal.Deal.{Deal}
+use Rattle.vd_dealt.specs.declared.dealt.Dealt.{Dealt}
+use Rattle.vd_dealt.specs.Text.{Fit_by, IsDealtFile, IsDealtOf}
 use Rattle.vd_host_text.specs.declared.program.HostProgram.{HostProgram}
 use Rattle.vd_plan.specs.Held.{IsHeld}
 use Rattle.vd_plan.specs.Loads.{Loads}
@@ -16,7 +17,8 @@ use Rattle.vd_plan.specs.declared.status.Status.{Status}
 use Rattle.vd_plan.specs.declared.status.Status.TheVariants.{ReadFault, Usage}
 use Rattle.vd_plan.proofs.Fronts.{front_within, later_within, more_within}
 use Rattle.vd_report.specs.InputsText.{GivesInputs}
-use Rattle.vd_tape.specs.Text.{IsFileOf}
+use Rattle.vd_secrets.specs.declared.secrets.Secrets.{Secrets}
+use Rattle.vd_tape.specs.Text.{IsDealOf}
 use Rattle.vd_host_command.specs.Loading.{AreInputsOf, HasAddresses, HoldsProgram, HoldsInputs, IsCause, IsDealEnd, IsFileCause, IsInputsEnd, IsProgramEnd, IsProgramOf, LoadsDeal, LoadsFile, LoadsHost, LoadsInputs, LoadsProgram, OfAddresses, OfDeal, OfInputs, OfProgram, files_of}
 use Rattle.vd_host_command.proofs.Files.{IsRead, deal_read, gives, inputs_read, program_read, refused}
 
@@ -49,11 +51,11 @@ pub inputs_file : (words : HostWords) (program : HostProgram) (before now : File
 inputs_file words program before now bytes seen inputs own loads same are here =
     read_file {T = List ℕ} words.inputs most_inputs_bytes (AreInputsOf program.hosts program.me.0) (IsInputsEnd program.hosts) before now bytes seen (Ok own) loads same (inputs, are, here) tt
 
-pub deal_file : (words : HostWords) (program : HostProgram) (before now : FilesView) (bytes seen : List ℕ) (result : Result Deal Status) → Loads words.deal most_deal_bytes before now (Ok bytes) → seen ≡ bytes
-    → IfOk result (λ deal. IsFileOf (length program.hosts) program.me.0 seen deal) → IfErr result (IsDealEnd program.hosts program.me.0 seen) → LoadsDeal words program before now result
+pub deal_file : (words : HostWords) (program : HostProgram) (before now : FilesView) (bytes seen : List ℕ) (result : Result Dealt Status) → Loads words.deal most_deal_bytes before now (Ok bytes) → seen ≡ bytes
+    → IfOk result (λ dealt. IsDealtFile (length program.hosts) program.me.0 seen dealt) → IfErr result (IsDealEnd program.hosts program.me.0 seen) → LoadsDeal words program before now result
 deal_file words program before now bytes seen result loads same ok err =
-    read_file {T = Deal} words.deal most_deal_bytes (IsFileOf (length program.hosts) program.me.0) (IsDealEnd program.hosts program.me.0) before now bytes seen result loads same ok
-    (both {T = Deal} (IsDealEnd program.hosts program.me.0) seen result (deal_read program.hosts program.me.0 seen) err)
+    read_file {T = Dealt} words.deal most_deal_bytes (IsDealtFile (length program.hosts) program.me.0) (IsDealEnd program.hosts program.me.0) before now bytes seen result loads same ok
+    (both {T = Dealt} (IsDealEnd program.hosts program.me.0) seen result (deal_read program.hosts program.me.0 seen) err)
 
 -- these files were fetched and read so far
 pub record SoFar (before mid : FilesView) (calls : List FilesCall) : Type 0 where
@@ -148,13 +150,13 @@ module _ (words : HostWords) (before : FilesView) where
         -- the deal is not loaded
         pub no_deal : (now : FilesView) (status : Status) → LoadsDeal words program late now (Err status) → LoadsHost words before now (Err status)
         no_deal now status loads =
-            stops {T = Deal} words.deal most_deal_bytes (IsFileOf (length program.hosts) program.me.0) (IsDealEnd program.hosts program.me.0) before late now (Fetch words.program ∷ Fetch words.inputs ∷ []) behind_inputs words [] status refl loads
+            stops {T = Dealt} words.deal most_deal_bytes (IsDealtFile (length program.hosts) program.me.0) (IsDealEnd program.hosts program.me.0) before late now (Fetch words.program ∷ Fetch words.inputs ∷ []) behind_inputs words [] status refl loads
             (λ t cause. OfDeal program own (program_held t) addresses (inputs_held t) cause)
 
         -- all is loaded
-        pub all_loaded : (now : FilesView) (deal : Deal) → LoadsDeal words program late now (Ok deal) → LoadsHost words before now (Ok (record { program = program; inputs = own; deal = deal }))
-        all_loaded now deal loads =
-            let so = one_more {T = Deal} words.deal most_deal_bytes (IsFileOf (length program.hosts) program.me.0) (IsDealEnd program.hosts program.me.0) before late now (Fetch words.program ∷ Fetch words.inputs ∷ []) behind_inputs deal loads in
+        pub all_loaded : (now : FilesView) (dealt : Dealt) → LoadsDeal words program late now (Ok dealt) → LoadsHost words before now (Ok (record { program = program; inputs = own; dealt = dealt }))
+        all_loaded now dealt loads =
+            let so = one_more {T = Dealt} words.deal most_deal_bytes (IsDealtFile (length program.hosts) program.me.0) (IsDealEnd program.hosts program.me.0) before late now (Fetch words.program ∷ Fetch words.inputs ∷ []) behind_inputs dealt loads in
             record {
               later = so.later;
               ends = tt;
@@ -168,7 +170,15 @@ module _ (words : HostWords) (before : FilesView) where
                 program = program_held t;
                 addresses = addresses;
                 inputs = inputs_held t;
-                deal = held {T = Deal} words.deal most_deal_bytes (IsFileOf (length program.hosts) program.me.0) (IsDealEnd program.hosts program.me.0) before late now (Fetch words.program ∷ Fetch words.inputs ∷ []) behind_inputs deal loads t;
+                deal = held {T = Dealt} words.deal most_deal_bytes (IsDealtFile (length program.hosts) program.me.0) (IsDealEnd program.hosts program.me.0) before late now (Fetch words.program ∷ Fetch words.inputs ∷ []) behind_inputs dealt loads t;
               };
               cause = λ t. tt;
             }
+
+-- a deal of either version is a deal
+pub plain_deal : (hosts me : ℕ) (dealt : Dealt) → IsDealtOf hosts me dealt → IsDealOf hosts me dealt.deal
+plain_deal hosts me dealt is = by dealt.secrets is
+  where
+    by : (secrets : Option Secrets) → Fit_by hosts me dealt.deal secrets → IsDealOf hosts me dealt.deal
+    by None fits = fits
+    by (Some secrets) fits = fits.0

@@ -15,9 +15,9 @@ use Rattle.vd_host_command.specs.declared.loading.Loaded.{Loaded}
 use Rattle.vd_host_command.proofs.Named.{names_a_host}
 
 module _ (words : HostWords) (loaded : Loaded) (addresses : List (List ℕ)) (ready : Ready) (net net_now : NetView) (out out_now : SinkView) (same : addresses ≡ words.addresses)
-    (starts : Starts loaded.program loaded.inputs loaded.deal addresses ready) (can : CanPlay ready) where
-  by_words : Starts loaded.program loaded.inputs loaded.deal words.addresses ready
-  by_words = subst (λ (l : List (List ℕ)). Starts loaded.program loaded.inputs loaded.deal l ready) same starts
+    (starts : Starts loaded.program loaded.inputs loaded.dealt.deal addresses ready) (can : CanPlay ready) where
+  by_words : Starts loaded.program loaded.inputs loaded.dealt.deal words.addresses ready
+  by_words = subst (λ (l : List (List ℕ)). Starts loaded.program loaded.inputs loaded.dealt.deal l ready) same starts
 
   pub ran_well : (done : Ended) → Plays ready.machine ready.task net net_now out out_now (Ok done) → RunsLoaded words loaded net net_now out out_now (Ok tt)
   ran_well done plays = RanWell ready done by_words can plays

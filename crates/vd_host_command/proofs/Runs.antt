@@ -19,7 +19,7 @@ use Rattle.vd_host_start.specs.declared.starting.Ready.{Ready}
 use Rattle.vd_plan.specs.declared.status.Status.{Status}
 use Rattle.vd_plan.specs.declared.status.HostStatus.TheVariants as host_status
 use Rattle.vd_plan.specs.declared.status.Status.TheVariants as status
-use Rattle.vd_host_command.specs.Hosts.{HostRuns, NotLoaded, NotReady, RanWell, RanWrong, RunsLoaded, WentWell, WentWrong}
+use Rattle.vd_host_command.specs.Hosts.{PlainRuns, NotLoaded, NotReady, RanWell, RanWrong, RunsLoaded, WentWell, WentWrong}
 use Rattle.vd_host_command.specs.Laws.{AsksFor, HostsAskInOrder, LinksComeBack, StatusesHaveCauses, calls_for, task_of}
 use Rattle.vd_host_command.specs.Laws as laws
 use Rattle.vd_host_command.specs.Loading.{LoadsHost}
@@ -27,7 +27,7 @@ use Rattle.vd_host_command.specs.Statuses.{status_of}
 use Rattle.vd_host_command.specs.declared.loading.Loaded.{Loaded}
 
 -- the task of a host that is ready is that of the program
-same_task : (program : HostProgram) (words : HostWords) (inputs : List ℕ) (loaded : Loaded) (ready : Ready) → Starts loaded.program loaded.inputs loaded.deal words.addresses ready → ready.task ≡ task_of loaded.program words.addresses
+same_task : (program : HostProgram) (words : HostWords) (inputs : List ℕ) (loaded : Loaded) (ready : Ready) → Starts loaded.program loaded.inputs loaded.dealt.deal words.addresses ready → ready.task ≡ task_of loaded.program words.addresses
 same_task program words inputs loaded ready starts = λ j. record { me = starts.me j; plan = starts.plan j; addresses = starts.addresses_are j }
 
 -- the cause of a fault is that of its status
@@ -78,13 +78,13 @@ loaded_asks words loaded net net_now out out_now told (RanWrong ready cause star
 pub asks_in_order : HostsAskInOrder
 asks_in_order words files files_now net net_now out out_now end runs told = by runs
   where
-    by : {end : Status} → HostRuns words files files_now net net_now out out_now end → (net_now ≡ net) ⊎ AsksFor words files files_now net net_now end
+    by : {end : Status} → PlainRuns words files files_now net net_now out out_now end → (net_now ≡ net) ⊎ AsksFor words files files_now net net_now end
     by (NotLoaded refusal loads same_net same_out) = inl same_net
-    by (WentWell loaded loads is ran) = ⊎_elim
+    by (WentWell loaded loads is plain ran) = ⊎_elim
         (λ (same : net_now ≡ net). inl same)
         (λ (asks : Asks words loaded.program net net_now (Ok tt)). inr (record { loaded = loaded; loads = loads; front = asks.0; whole = λ e. asks.1 }))
         (loaded_asks words loaded net net_now out out_now told ran)
-    by (WentWrong loaded refusal loads is ran) = ⊎_elim
+    by (WentWrong loaded refusal loads is plain ran) = ⊎_elim
         (λ (same : net_now ≡ net). inl same)
         (λ (asks : Asks words loaded.program net net_now (Err refusal)). inr (record { loaded = loaded; loads = loads; front = asks.0; whole = λ e. absurd (asks.2 e) }))
         (loaded_asks words loaded net net_now out out_now told ran)
@@ -108,10 +108,10 @@ loaded_cause words loaded files files_now net net_now out out_now (RanWrong read
 pub have_causes : StatusesHaveCauses
 have_causes words files files_now net net_now out out_now end runs = by runs
   where
-    by : {end : Status} → HostRuns words files files_now net net_now out out_now end → laws.HasCause files files_now net net_now out out_now end
+    by : {end : Status} → PlainRuns words files files_now net net_now out out_now end → laws.HasCause files files_now net net_now out out_now end
     by (NotLoaded refusal loads same_net same_out) = loading_cause words files files_now net net_now out out_now refusal loads
-    by (WentWell loaded loads is ran) = tt
-    by (WentWrong loaded refusal loads is ran) = loaded_cause words loaded files files_now net net_now out out_now ran
+    by (WentWell loaded loads is plain ran) = tt
+    by (WentWrong loaded refusal loads is plain ran) = loaded_cause words loaded files files_now net net_now out out_now ran
 
 -- ---- links
 
@@ -127,7 +127,7 @@ loaded_back words loaded net net_now out out_now told room (RanWrong ready cause
 pub come_back : LinksComeBack
 come_back words files files_now net net_now out out_now end runs told room = by runs
   where
-    by : {end : Status} → HostRuns words files files_now net net_now out out_now end → ComesBack net net_now
+    by : {end : Status} → PlainRuns words files files_now net net_now out out_now end → ComesBack net net_now
     by (NotLoaded refusal loads same_net same_out) = nothing_given net net_now same_net
-    by (WentWell loaded loads is ran) = loaded_back words loaded net net_now out out_now told room ran
-    by (WentWrong loaded refusal loads is ran) = loaded_back words loaded net net_now out out_now told room ran
+    by (WentWell loaded loads is plain ran) = loaded_back words loaded net net_now out out_now told room ran
+    by (WentWrong loaded refusal loads is plain ran) = loaded_back words loaded net net_now out out_now told room ran

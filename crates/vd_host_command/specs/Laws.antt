@@ -12,14 +12,14 @@ use Rattle.vd_hosting.specs.declared.task.Task.{Task}
 use Rattle.vd_plan.specs.declared.status.HostStatus.TheVariants as host_status
 use Rattle.vd_plan.specs.declared.status.Status.{Status}
 use Rattle.vd_plan.specs.declared.status.Status.TheVariants as status
-use Rattle.vd_host_command.specs.Hosts.{HostRuns}
+use Rattle.vd_host_command.specs.Hosts.{PlainRuns}
 use Rattle.vd_host_command.specs.Loading.{LoadsHost}
 use Rattle.vd_host_command.specs.declared.loading.Loaded.{Loaded}
 
--- of every run of the command
+-- of every run of the command with a deal of version 1
 abbrev pub OfEachRun : (HostWords → FilesView → FilesView → NetView → NetView → SinkView → SinkView → Status → Type 0) → Type 0
 OfEachRun Holds = (words : HostWords) (files files_now : FilesView) (net net_now : NetView) (out out_now : SinkView) (end : Status)
-    → HostRuns words files files_now net net_now out out_now end → Holds words files files_now net net_now out out_now end
+    → PlainRuns words files files_now net net_now out out_now end → Holds words files files_now net net_now out out_now end
 
 -- ---- the calls of the net
 

@@ -1,4 +1,6 @@
 pub mod Hosts
 pub mod Laws
 pub mod Loading
+pub mod Marking
+pub mod Once
 pub mod Statuses

@@ -6,7 +6,7 @@ use Rattle.vd_outside.specs.Files.{Contents, FilesView, fetched}
 use Rattle.vd_outside.specs.declared.faults.FetchFault.TheVariants as fetch_fault
 use Rattle.vd_outside.specs.declared.files.FilesCall.TheVariants.{Fetch}
 use Rattle.vd_cmd.specs.declared.command.HostWords.{HostWords}
-use Rattle.vd_deals.specs.declared.deal.Deal.{Deal}
+use Rattle.vd_dealt.specs.declared.dealt.Dealt.{Dealt}
 use Rattle.vd_hostcode.specs.Outcome.{CanRun, IsHeaded, IsOutcome}
 use Rattle.vd_hostcode.specs.declared.fault.CodeFault.TheVariants as code_fault
 use Rattle.vd_host_text.specs.declared.program.HostProgram.{HostProgram}
@@ -19,8 +19,9 @@ use Rattle.vd_plan.specs.declared.status.TextFault.TheVariants as text_fault
 use Rattle.vd_report.specs.InputsText.{GivesInputs, IsInputsText}
 use Rattle.vd_report.specs.Outcome.{FirstWrong}
 use Rattle.vd_report.specs.declared.fault.ReadFault.TheVariants as read_fault
-use Rattle.vd_tape.specs.Outcome.{IsFirstWrong}
-use Rattle.vd_tape.specs.Text.{IsDealOf, IsFileOf}
+use Rattle.vd_dealt.specs.Outcome.{IsFirstWrong}
+use Rattle.vd_dealt.specs.Text.{IsDealtFile, IsDealtOf}
+use Rattle.vd_tape.specs.Text.{IsDealOf}
 use Rattle.vd_tape.specs.declared.fault.TapeFault.TheVariants as tape_fault
 use Rattle.vd_host_command.specs.declared.loading.Loaded.{Loaded}
 
@@ -91,9 +92,9 @@ LoadsProgram words before now result = LoadsFile words.program most_host_file_by
 abbrev pub LoadsInputs : HostWords → HostProgram → FilesView → FilesView → Result (List ℕ) Status → Type 0
 LoadsInputs words program before now result = LoadsFile words.inputs most_inputs_bytes (AreInputsOf program.hosts program.me.0) (IsInputsEnd program.hosts) before now result
 
-abbrev pub LoadsDeal : HostWords → HostProgram → FilesView → FilesView → Result Deal Status → Type 0
+abbrev pub LoadsDeal : HostWords → HostProgram → FilesView → FilesView → Result Dealt Status → Type 0
 LoadsDeal words program before now result =
-    LoadsFile words.deal most_deal_bytes (IsFileOf (length program.hosts) program.me.0) (IsDealEnd program.hosts program.me.0) before now result
+    LoadsFile words.deal most_deal_bytes (IsDealtFile (length program.hosts) program.me.0) (IsDealEnd program.hosts program.me.0) before now result
 
 -- ---- all files
 
@@ -111,7 +112,7 @@ pub record HoldsHost (words : HostWords) (contents : Contents) (loaded : Loaded)
   pub program : HoldsProgram words contents loaded.program
   pub addresses : HasAddresses words loaded.program
   pub inputs : HoldsInputs words contents loaded.program loaded.inputs
-  pub deal : IsHeld words.deal most_deal_bytes contents (λ bytes. IsFileOf (length loaded.program.hosts) loaded.program.me.0 bytes loaded.deal)
+  pub deal : IsHeld words.deal most_deal_bytes contents (λ bytes. IsDealtFile (length loaded.program.hosts) loaded.program.me.0 bytes loaded.dealt)
 
 -- a program as its reader gives it
 pub record IsProgramRead (program : HostProgram) : Type 0 where
@@ -119,11 +120,12 @@ pub record IsProgramRead (program : HostProgram) : Type 0 where
   pub heading : IsHeaded program
   pub code : CanRun program
 
--- such a program, as many addresses as it has peers, and a deal of its host
+-- such a program, as many addresses as it has peers, and a deal of its host, of either version
 pub record IsLoaded (words : HostWords) (loaded : Loaded) : Type 0 where
   pub program : IsProgramRead loaded.program
   pub addresses : HasAddresses words loaded.program
-  pub deal : IsDealOf (length loaded.program.hosts) loaded.program.me.0 loaded.deal
+  pub deal : IsDealOf (length loaded.program.hosts) loaded.program.me.0 loaded.dealt.deal
+  pub dealt : IsDealtOf (length loaded.program.hosts) loaded.program.me.0 loaded.dealt
 
 -- Why the files were not loaded, in the order in which that is looked at: the program, the number of addresses, the inputs,
 -- the deal.

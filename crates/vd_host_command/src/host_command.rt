@@ -1,10 +1,12 @@
 //! The command `host`.
 
-ghost use Rattle.std.specs.Prelude.{◌≡◌, ◌≤◌, IfOk};
-ghost use Rattle.vd_host_command.specs.Hosts.{HostRuns, RunsLoaded};
-ghost use Rattle.vd_host_command.specs.Loading.{IsLoaded};
+ghost use Rattle.std.specs.Prelude.{◌≡◌, ◌≤◌, true, None, Ok, IfOk, OnErr, is_some};
+ghost use Rattle.vd_outside.specs.Files.{FilesView};
+ghost use Rattle.vd_host_command.specs.Hosts.{EndsMarked, HostRuns, PlainRuns, RunsLoaded, nets_of, status_after};
+ghost use Rattle.vd_host_command.specs.Loading.{IsLoaded, LoadsHost};
 
 use crate::loading::{Loaded, load_host};
+use crate::marking::{claim, leave};
 use crate::statuses::status_of;
 use std::alloc::{AllocError, Global};
 use vd_base::{Name, Names, Text};
@@ -12,8 +14,11 @@ use vd_cmd::HostWords;
 use vd_host_start::{Ready, start};
 use vd_hosting::play;
 use vd_items::Items;
+use vd_marks::Marks;
 use vd_outside::{Files, Net, Sink};
 use vd_plan::Status;
+use vd_sealed_net::SealedNet;
+use vd_secrets::Secrets;
 
 /// Copies of texts.
 fn copies(alloc: Global, texts: &[Text]) -> Result<Items<Text>, AllocError>
@@ -53,39 +58,133 @@ fn run_loaded<N: Net, O: Sink>(
     let Loaded {
         program,
         inputs,
-        deal,
+        dealt,
     } = loaded;
     let names = names_of(alloc, &program.hosts)?;
     let addresses = copies(alloc, words.addresses.as_slice())?;
-    let Ready { task, machine } = start(alloc, program, inputs, deal, addresses)?;
+    let Ready { task, machine } = start(alloc, program, inputs, dealt.deal, addresses)?;
     match play(alloc, net, out, &task, machine) {
         Ok(_) => Ok(()),
         Err(fault) => Err(status_of(names, fault)),
     }
 }
 
+/// The status of a host that ran.
+fn status_after(ran: Result<(), Status>) -> Status
+    ensures { result ≡ status_after ran }
+{
+    match ran {
+        Ok(()) => Status::Ended,
+        Err(status) => status,
+    }
+}
+
+/// Runs a host whose deal is of version 2, over sealed links: its mark is taken first, and taken back where nothing went out that the
+/// deal masks.
+fn run_marked<M: Marks, N: Net + Drop, O: Sink>(
+    alloc: Global,
+    marks: &mut M,
+    net: &mut SealedNet<N>,
+    out: &mut O,
+    words: &HostWords,
+    loaded: Loaded,
+    secrets: Secrets,
+) -> Status
+    requires room { (N.view net.old.net).given ≤ 4294967000 }
+    requires loaded { IsLoaded words.now loaded }
+    requires limited { N.has_limit net.old.net words.now.limit }
+    ensures { EndsMarked words.now loaded secrets (M.view marks.old) (M.view marks.new)
+        (nets_of (N.view net.old.net) net.old.seal net.old.faults) (nets_of (N.view net.new.net) net.new.seal net.new.faults)
+        (O.view out.old) (O.view out.new) result }
+{
+    let id = secrets.id;
+    let claimed = match claim(alloc, marks, words, &id, &loaded.program) {
+        Ok(claimed) => claimed,
+        Err(status) => return status,
+    };
+    net.seal(loaded.program.me, secrets, claimed.seed);
+    let ran = run_loaded(alloc, net, out, words, loaded);
+    leave(marks, words, claimed.name.as_slice(), net.has_sent());
+    status_after(ran)
+}
+
+/// A copy of what a host knows of its dealing, where its deal is of version 2.
+fn secrets_of(alloc: Global, loaded: &Loaded) -> Result<Option<Secrets>, AllocError>
+    ensures same { IfOk result (λ secrets. secrets ≡ loaded.now.dealt.secrets) }
+    ensures some { OnErr result (is_some loaded.now.dealt.secrets ≡ true) }
+{
+    match &loaded.dealt.secrets {
+        None => Ok(None),
+        Some(secrets) => Ok(Some(secrets.copy(alloc)?)),
+    }
+}
+
+/// Runs a host whose deal is of version 1, over the net as it is.
+fn run_plain<N: Net + Drop, O: Sink>(
+    alloc: Global,
+    net: &mut SealedNet<N>,
+    out: &mut O,
+    words: &HostWords,
+    loaded: Loaded,
+) -> Status
+    requires room { (N.view net.old.net).given ≤ 4294967000 }
+    requires loaded { IsLoaded words.now loaded }
+    requires limited { N.has_limit net.old.net words.now.limit }
+    requires plain { loaded.dealt.secrets ≡ None }
+    ensures runs { (before now : FilesView) → LoadsHost words.now before now (Ok loaded) →
+        PlainRuns words.now before now (N.view net.old.net) (N.view net.new.net) (O.view out.old) (O.view out.new) result }
+    ensures same { net.new.seal ≡ net.old.seal }
+{
+    let ran = run_loaded(alloc, &mut net.net, out, words, loaded);
+    status_after(ran)
+}
+
+/// Runs a host whose files were read, by the version of its deal.
+fn run_dealt<M: Marks, N: Net + Drop, O: Sink>(
+    alloc: Global,
+    marks: &mut M,
+    net: &mut SealedNet<N>,
+    out: &mut O,
+    words: &HostWords,
+    loaded: Loaded,
+) -> Status
+    requires room { (N.view net.old.net).given ≤ 4294967000 }
+    requires loaded { IsLoaded words.now loaded }
+    requires limited { N.has_limit net.old.net words.now.limit }
+    ensures { (before now : FilesView) → LoadsHost words.now before now (Ok loaded) →
+        HostRuns words.now before now (M.view marks.old) (M.view marks.new)
+        (nets_of (N.view net.old.net) net.old.seal net.old.faults) (nets_of (N.view net.new.net) net.new.seal net.new.faults)
+        (O.view out.old) (O.view out.new) result }
+{
+    match secrets_of(alloc, &loaded) {
+        Ok(None) => run_plain(alloc, net, out, words, loaded),
+        Ok(Some(secrets)) => run_marked(alloc, marks, net, out, words, loaded, secrets),
+        Err(_error) => Status::Memory,
+    }
+}
+
 /// Runs the host of the program, on its inputs and its deal, over the net: it reads its files, listens for its later peers,
 /// writes `listening`, meets its peers, drives its machine and writes `ended`. No wait for a peer is longer than its words
-/// allow. Every link that was given is handed back, however it ends.
-pub fn host<F: Files, N: Net, O: Sink>(
+/// allow. Every link that was given is handed back, however it ends. With a deal of version 2 its links are sealed, and the deal is
+/// marked as used before anything is sent.
+pub fn host<F: Files, M: Marks, N: Net + Drop, O: Sink>(
     alloc: Global,
     files: &mut F,
-    net: &mut N,
+    marks: &mut M,
+    net: &mut SealedNet<N>,
     out: &mut O,
     words: &HostWords,
 ) -> Status
-    requires room { (N.view net.old).given ≤ 4294967000 }
-    ensures { HostRuns words.now (F.view files.old) (F.view files.new) (N.view net.old) (N.view net.new) (O.view out.old)
-        (O.view out.new) result }
+    requires room { (N.view net.old.net).given ≤ 4294967000 }
+    ensures { HostRuns words.now (F.view files.old) (F.view files.new) (M.view marks.old) (M.view marks.new)
+        (nets_of (N.view net.old.net) net.old.seal net.old.faults) (nets_of (N.view net.new.net) net.new.seal net.new.faults)
+        (O.view out.old) (O.view out.new) result }
 {
     match load_host(alloc, files, words) {
         Err(status) => status,
         Ok(loaded) => {
-            net.wait_at_most(words.limit);
-            match run_loaded(alloc, net, out, words, loaded) {
-                Ok(()) => Status::Ended,
-                Err(status) => status,
-            }
+            net.net.wait_at_most(words.limit);
+            run_dealt(alloc, marks, net, out, words, loaded)
         }
     }
 }

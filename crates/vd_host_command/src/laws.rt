@@ -1,6 +1,7 @@
-//! What holds of each run of the command. Nothing is computed here: the functions' clauses are laws.
+//! What holds of each run of the command, and the first three of those with a deal of version 1. Nothing is computed here: the functions' clauses are laws.
 
 ghost use Rattle.vd_host_command.specs.Laws.{HostsAskInOrder, LinksComeBack, StatusesHaveCauses};
+ghost use Rattle.vd_host_command.specs.Once.{DealsAreUsedOnce};
 
 /// A net is asked for a front of the host's calls and for no other: for all with status 0, and for none where the files were
 /// not loaded.
@@ -17,4 +18,10 @@ pub fn statuses_have_causes()
 /// Whatever the status is, each link that was given comes back to a net that tells them.
 pub fn links_come_back()
     ensures { LinksComeBack }
+{}
+
+/// Where something went out over a sealed link behind its greeting, the deal is of version 2, and its mark was not there before and is
+/// there now: no second run passes.
+pub fn deals_are_used_once()
+    ensures { DealsAreUsedOnce }
 {}

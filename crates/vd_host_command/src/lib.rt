@@ -4,7 +4,8 @@
 mod host_command;
 mod laws;
 mod loading;
+mod marking;
 mod statuses;
 
 pub use host_command::host;
-pub use laws::{hosts_ask_in_order, links_come_back, statuses_have_causes};
+pub use laws::{deals_are_used_once, hosts_ask_in_order, links_come_back, statuses_have_causes};

@@ -6,26 +6,26 @@ ghost use Rattle.vd_host_command.specs.Loading.{IsDealEnd, IsInputsEnd, IsLoaded
 ghost use Rattle.vd_hostcode.specs.Outcome.{IsOutcome};
 ghost use Rattle.vd_plan.specs.declared.status.Status.TheVariants.{Usage};
 ghost use Rattle.vd_report.specs.InputsText.{GivesInputs};
-ghost use Rattle.vd_tape.specs.Text.{IsDealOf, IsFileOf};
+ghost use Rattle.vd_dealt.specs.Text.{IsDealtFile, IsDealtOf};
 
 use std::alloc::{AllocError, Global};
 use vd_base::limits::{DEAL_BYTES, HOST_FILE_BYTES, INPUTS_BYTES};
 use vd_base::{HostId, Inputs, Name, Names, Words};
 use vd_cmd::HostWords;
-use vd_deals::Deal;
+use vd_dealt::{Dealt, read_dealt};
 use vd_host_text::HostProgram;
 use vd_hostcode::{CodeFault, read};
 use vd_outside::Files;
 use vd_plan::{HostStatus, Status, TextFault, load};
 use vd_report::{ReadFault, read_inputs};
-use vd_tape::{TapeFault, read_deal};
+use vd_tape::TapeFault;
 
 /// What a host's files hold: its program, its inputs and its deal.
 #[derive(Drop)]
 pub struct Loaded {
     pub program: HostProgram,
     pub inputs: Words,
-    pub deal: Deal,
+    pub dealt: Dealt,
 }
 
 /// The program of a file.
@@ -76,16 +76,16 @@ fn own_name(alloc: Global, hosts: &Names, me: HostId) -> Result<Name, AllocError
     Ok(Name::from_slice(alloc, name.as_slice())?)
 }
 
-/// The deal of a file, to one of these hosts.
-fn deal_in(alloc: Global, bytes: &[u8], hosts: &Names, me: HostId) -> Result<Deal, Status>
+/// The deal of a file of either version, to one of these hosts.
+fn deal_in(alloc: Global, bytes: &[u8], hosts: &Names, me: HostId) -> Result<Dealt, Status>
     requires few { length hosts.now ≤ most_hosts }
     requires declared { me.0 < length hosts.now }
-    ensures given { IfOk result (IsFileOf (length hosts.now) me.0 bytes.now) }
-    ensures deal { IfOk result (IsDealOf (length hosts.now) me.0) }
+    ensures given { IfOk result (IsDealtFile (length hosts.now) me.0 bytes.now) }
+    ensures dealt { IfOk result (IsDealtOf (length hosts.now) me.0) }
     ensures refused { IfErr result (IsDealEnd hosts.now me.0 bytes.now) }
 {
-    match read_deal(alloc, bytes, hosts.as_slice().len() as u8, me) {
-        Ok(deal) => Ok(deal),
+    match read_dealt(alloc, bytes, hosts.as_slice().len() as u8, me) {
+        Ok(dealt) => Ok(dealt),
         Err(TapeFault::Text(offset)) => {
             let name = own_name(alloc, hosts, me)?;
             Err(Status::DealText(name, offset))
@@ -140,10 +140,10 @@ fn load_deal<F: Files>(
     files: &mut F,
     words: &HostWords,
     program: &HostProgram,
-) -> Result<Deal, Status>
+) -> Result<Dealt, Status>
     requires { IsProgramRead program.now }
     ensures loads { LoadsDeal words.now program.now (F.view files.old) (F.view files.new) result }
-    ensures deal { IfOk result (IsDealOf (length program.now.hosts) program.now.me.0) }
+    ensures dealt { IfOk result (IsDealtOf (length program.now.hosts) program.now.me.0) }
 {
     let bytes = load(alloc, files, words.deal.as_str(), DEAL_BYTES)?;
     deal_in(alloc, bytes.as_slice(), &program.hosts, program.me)
@@ -162,10 +162,10 @@ pub fn load_host<F: Files>(
     let program = load_program(alloc, files, words)?;
     expect_addresses(&program, words)?;
     let inputs = load_inputs(alloc, files, words, &program)?;
-    let deal = load_deal(alloc, files, words, &program)?;
+    let dealt = load_deal(alloc, files, words, &program)?;
     Ok(Loaded {
         program,
         inputs,
-        deal,
+        dealt,
     })
 }

@@ -31,8 +31,8 @@ returns-in-Ok g c =
     ran_well c.args.words.now c.args.loaded c.in_ok-addresses.addresses c.in_ok-task.field-0 _ _ _ _ (c.in_ok-addresses.ensures {u = tt} ∙ c.as_slice.ensures) made.starts made.ready
     c.in-Ok.field-0 (c.in-Ok.ensures {u = tt})
 
-pub returns-in-Err : goal.returns-in-Err
-returns-in-Err g c =
+pub returns : goal.returns
+returns g c =
     let made = c.in_ok-task.ensures {u = tt} in
     rw c.status_of.ensures
     (ran_wrong c.args.words.now c.args.loaded c.in_ok-addresses.addresses c.in_ok-task.field-0 _ _ _ _ (c.in_ok-addresses.ensures {u = tt} ∙ c.as_slice.ensures) made.starts made.ready

@@ -3,7 +3,7 @@ use Rattle.vd_tape.specs.declared.fault.TapeFault.TheVariants as tape_fault
 use Rattle.vd_host_command.proofs.loading.deal_in.Goals as goal
 
 pub returns-in-Ok-clause-given : goal.returns-in-Ok-clause-given
-returns-in-Ok-clause-given c = rw (← c.as_slice.ensures) ((c.in-Ok.ensures.given (λ e. cc e) c.in-Ok.deal).0 refl)
+returns-in-Ok-clause-given c = rw (← c.as_slice.ensures) ((c.in-Ok.ensures.given (λ e. cc e) c.in-Ok.dealt).0 refl)
 
 pub returns-in_ok-name-in-Err-Text-clause-refused : goal.returns-in_ok-name-in-Err-Text-clause-refused
 returns-in_ok-name-in-Err-Text-clause-refused c =

@@ -1,8 +1,8 @@
 use Rattle.std.proofs.Common.{length}
 use Rattle.std.proofs.lemmas.Result.{err_from_is_err_and}
 use Rattle.vd_base.specs.Limits.{most_deal_bytes}
-use Rattle.vd_deals.specs.declared.deal.Deal.{Deal}
-use Rattle.vd_tape.specs.Text.{IsFileOf}
+use Rattle.vd_dealt.specs.declared.dealt.Dealt.{Dealt}
+use Rattle.vd_dealt.specs.Text.{IsDealtFile}
 use Rattle.vd_host_command.specs.Loading.{IsDealEnd}
 use Rattle.vd_host_command.proofs.Files.{not_fetched}
 use Rattle.vd_host_command.proofs.Loadings.{deal_file}
@@ -12,7 +12,7 @@ pub returns-in_err-bytes-clause-loads : goal.returns-in_err-bytes-clause-loads
 returns-in_err-bytes-clause-loads g c =
     let p = err_from_is_err_and c.from_residual.result c.from_residual.ensures.1 in
     rw (p.1, p.2)
-    (not_fetched {T = Deal} c.args.words.now.deal most_deal_bytes (IsFileOf (length c.args.program.now.hosts) c.args.program.now.me.0) (IsDealEnd c.args.program.now.hosts c.args.program.now.me.0) _ _ _
+    (not_fetched {T = Dealt} c.args.words.now.deal most_deal_bytes (IsDealtFile (length c.args.program.now.hosts) c.args.program.now.me.0) (IsDealEnd c.args.program.now.hosts c.args.program.now.me.0) _ _ _
     (rw c.as_str.ensures at (c.in_err-bytes.ensures {u = tt}).loads))
 
 pub returns-clause-loads : goal.returns-clause-loads
