@@ -4,7 +4,7 @@ use Rattle.std.specs.Prelude.{slice_get}
 use Rattle.vd_base.specs.Limits.{most_deal_bytes, most_host_file_bytes, most_hosts, most_inputs_bytes}
 use Rattle.vd_outside.specs.Files.{Contents}
 use Rattle.vd_cmd.specs.declared.command.HostWords.{HostWords}
-use Rattle.vd_deals.specs.declared.deal.Deal.{Deal}
+use Rattle.vd_dealt.specs.declared.dealt.Dealt.{Dealt}
 use Rattle.vd_hostcode.specs.Outcome.{IsOutcome}
 use Rattle.vd_hostcode.specs.declared.fault.CodeFault.{CodeFault}
 use Rattle.vd_hostcode.specs.declared.fault.CodeFault.TheVariants as code_fault
@@ -21,9 +21,9 @@ use Rattle.vd_report.specs.Outcome.{FirstWrong}
 use Rattle.vd_report.specs.declared.fault.ReadFault.{ReadFault as InputsFault}
 use Rattle.vd_report.specs.declared.fault.ReadFault.TheVariants as read_fault
 use Rattle.vd_report.proofs.InputsFaults.{follows_grammar}
-use Rattle.vd_tape.specs.Reading.{deal_read}
-use Rattle.vd_tape.specs.Text.{IsFileOf}
-use Rattle.vd_tape.proofs.DealExact.{follow_grammar}
+use Rattle.vd_dealt.specs.Reading.{dealt_read}
+use Rattle.vd_dealt.specs.Text.{IsDealtFile}
+use Rattle.vd_dealt.proofs.DealtExact.{follow_grammar}
 use Rattle.vd_host_command.specs.Loading.{AreInputsOf, HoldsHost, HoldsInputs, HoldsProgram, IsCause, IsDealEnd, IsFileCause, IsInputsEnd, IsProgramEnd, IsProgramOf, OfAddresses, OfDeal, OfInputs, OfProgram}
 use Rattle.vd_host_command.specs.declared.loading.Loaded.{Loaded}
 
@@ -65,10 +65,10 @@ no_inputs_fault hosts bytes a fault h k =
 
 -- ---- a deal
 
-one_deal : (hosts me : ℕ) (bytes : List ℕ) (a b : Deal) → hosts ≤ most_hosts → me < hosts → IsFileOf hosts me bytes a → IsFileOf hosts me bytes b → a ≡ b
+one_deal : (hosts me : ℕ) (bytes : List ℕ) (a b : Dealt) → hosts ≤ most_hosts → me < hosts → IsDealtFile hosts me bytes a → IsDealtFile hosts me bytes b → a ≡ b
 one_deal hosts me bytes a b few declared h k =
-    let first : deal_read hosts me bytes ≡ Ok a = ((follow_grammar hosts me bytes few declared).given a).1 h in
-    let second : deal_read hosts me bytes ≡ Ok b = ((follow_grammar hosts me bytes few declared).given b).1 k in
+    let first : dealt_read hosts me bytes ≡ Ok a = ((follow_grammar hosts me bytes few declared).given a).1 h in
+    let second : dealt_read hosts me bytes ≡ Ok b = ((follow_grammar hosts me bytes few declared).given b).1 k in
     cc
 
 -- ---- what is held at a name
@@ -103,7 +103,7 @@ inputs_wrong hosts me own bytes (InputText (text_fault.Text offset)) is wrong = 
 inputs_wrong hosts me own bytes (InputText (text_fault.UnknownHost offset)) is wrong = absurd (no_inputs_fault hosts bytes is.0 (read_fault.UnknownHost offset) is.1 wrong)
 inputs_wrong hosts me own bytes other is wrong = absurd wrong
 
-deal_wrong : (hosts : List (List ℕ)) (me : ℕ) (deal : Deal) (bytes : List ℕ) (end : Status) → IsFileOf (length hosts) me bytes deal → IsDealEnd hosts me bytes end → end ≡ Memory
+deal_wrong : (hosts : List (List ℕ)) (me : ℕ) (deal : Dealt) (bytes : List ℕ) (end : Status) → IsDealtFile (length hosts) me bytes deal → IsDealEnd hosts me bytes end → end ≡ Memory
 deal_wrong hosts me deal bytes Memory is wrong = refl
 deal_wrong hosts me deal bytes (DealText name offset) is wrong = absurd (wrong.1.1.no_text (deal, is))
 deal_wrong hosts me deal bytes other is wrong = absurd wrong
@@ -118,12 +118,12 @@ module _ (words : HostWords) (contents : Contents) where
   same_own program own other a b =
       same_held {T = List ℕ} words.inputs most_inputs_bytes contents (AreInputsOf program.hosts program.me.0) own other (λ bytes h k. one_own program.hosts program.me.0 bytes own other h k) a b
 
-  abbrev HoldsDeal : HostProgram → Deal → Type 0
-  HoldsDeal program deal = IsHeld words.deal most_deal_bytes contents (λ bytes. IsFileOf (length program.hosts) program.me.0 bytes deal)
+  abbrev HoldsDeal : HostProgram → Dealt → Type 0
+  HoldsDeal program deal = IsHeld words.deal most_deal_bytes contents (λ bytes. IsDealtFile (length program.hosts) program.me.0 bytes deal)
 
-  same_deal : (program : HostProgram) (deal other : Deal) → length program.hosts ≤ most_hosts → program.me.0 < length program.hosts → HoldsDeal program deal → HoldsDeal program other → deal ≡ other
+  same_deal : (program : HostProgram) (deal other : Dealt) → length program.hosts ≤ most_hosts → program.me.0 < length program.hosts → HoldsDeal program deal → HoldsDeal program other → deal ≡ other
   same_deal program deal other few declared a b =
-      same_held {T = Deal} words.deal most_deal_bytes contents (IsFileOf (length program.hosts) program.me.0) deal other
+      same_held {T = Dealt} words.deal most_deal_bytes contents (IsDealtFile (length program.hosts) program.me.0) deal other
       (λ bytes h k. one_deal (length program.hosts) program.me.0 bytes deal other few declared h k) a b
 
   pub same_loaded : (a b : Loaded) → HoldsHost words contents a → HoldsHost words contents b → a ≡ b
@@ -131,8 +131,8 @@ module _ (words : HostWords) (contents : Contents) where
       let programs = same_program a.program b.program h.program k.program in
       let heading = headed h.program.bytes a.program h.program.holds.0 in
       let own = same_own a.program a.inputs b.inputs h.inputs (subst (λ (p : HostProgram). HoldsInputs words contents p b.inputs) (sym programs) k.inputs) in
-      let deals = same_deal a.program a.deal b.deal heading.few heading.me h.deal (subst (λ (p : HostProgram). HoldsDeal p b.deal) (sym programs) k.deal) in
-      λ j. record { program = programs j; inputs = own j; deal = deals j }
+      let deals = same_deal a.program a.dealt b.dealt heading.few heading.me h.deal (subst (λ (p : HostProgram). HoldsDeal p b.dealt) (sym programs) k.deal) in
+      λ j. record { program = programs j; inputs = own j; dealt = deals j }
 
   pub not_refused : (loaded : Loaded) (end : Status) → HoldsHost words contents loaded → ((file : List ℕ) → end ≡ ReadFault file → ⊥) → IsCause words contents end → end ≡ Memory
   not_refused loaded end held read (OfProgram cause) =
@@ -145,5 +145,5 @@ module _ (words : HostWords) (contents : Contents) where
       (subst (λ (p : HostProgram). HoldsInputs words contents p loaded.inputs) same held.inputs) (λ bytes is wrong. inputs_wrong program.hosts program.me.0 loaded.inputs bytes end is wrong) read cause
   not_refused loaded end held read (OfDeal program own is addresses owned cause) =
       let same = same_program loaded.program program held.program is in
-      file_cause words.deal most_deal_bytes (IsDealEnd program.hosts program.me.0) (λ bytes. IsFileOf (length program.hosts) program.me.0 bytes loaded.deal) contents end
-      (subst (λ (p : HostProgram). HoldsDeal p loaded.deal) same held.deal) (λ bytes is wrong. deal_wrong program.hosts program.me.0 loaded.deal bytes end is wrong) read cause
+      file_cause words.deal most_deal_bytes (IsDealEnd program.hosts program.me.0) (λ bytes. IsDealtFile (length program.hosts) program.me.0 bytes loaded.dealt) contents end
+      (subst (λ (p : HostProgram). HoldsDeal p loaded.dealt) same held.deal) (λ bytes is wrong. deal_wrong program.hosts program.me.0 loaded.dealt bytes end is wrong) read cause

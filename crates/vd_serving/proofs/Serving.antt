@@ -1,5 +1,5 @@
 -- A host that is served ends well.
-use Rattle.std.proofs.Common.{◌≡◌, ◌≤◌, ◌⊎◌, inl, inr, IsTrue, length, Result, Err, IfErr, refl, sym, ap, subst, ◌∙◌}
+use Rattle.std.proofs.Common.{◌≡◌, ◌≤◌, ◌⊎◌, inl, inr, IsTrue, length, Some, None, Result, Ok, Err, IfErr, refl, sym, ap, subst, ◌∙◌}
 use Rattle.vd_execution.specs.Step.{State}
 use Rattle.vd_execution.specs.Text.{IsCodeOf}
 use Rattle.vd_machine.specs.Kept.{at_start, state_of}
@@ -8,6 +8,7 @@ use Rattle.vd_outside.specs.Files.{FilesView}
 use Rattle.vd_outside.specs.Net.{NetView}
 use Rattle.vd_outside.specs.Sink.{SinkView}
 use Rattle.vd_cmd.specs.declared.command.HostWords.{HostWords}
+use Rattle.vd_secrets.specs.declared.secrets.Secrets.{Secrets}
 use Rattle.vd_engine.specs.Enough.{IsEnough}
 use Rattle.vd_hosting.specs.declared.fault.HostFault.TheVariants as fault
 use Rattle.vd_hosting.specs.declared.task.Task.{Task}
@@ -15,8 +16,9 @@ use Rattle.vd_host_start.specs.Starts.{Starts}
 use Rattle.vd_host_start.specs.declared.starting.Ready.{Ready}
 use Rattle.vd_plan.specs.declared.status.Status.{Status}
 use Rattle.vd_plan.specs.declared.status.Status.TheVariants as status
-use Rattle.vd_host_command.specs.Hosts.{HostRuns, NotLoaded, NotReady, RanWell, RanWrong, RunsLoaded, WentWell, WentWrong}
+use Rattle.vd_host_command.specs.Hosts.{PlainRuns, NotLoaded, NotReady, RanWell, RanWrong, RunsLoaded, WentWell, WentWrong}
 use Rattle.vd_host_command.specs.Laws.{task_of}
+use Rattle.vd_host_command.specs.Loading.{LoadsHost}
 use Rattle.vd_host_command.specs.Statuses.{status_of}
 use Rattle.vd_host_command.specs.declared.loading.Loaded.{Loaded}
 use Rattle.vd_serving.specs.Serving.{AllServe, IsQuiet, IsServed, ServedHostsEndWell, lists_of}
@@ -26,7 +28,7 @@ use Rattle.vd_serving.proofs.Files.{not_refused, plan_length, same_loaded}
 module _ (words : HostWords) (files files_now : FilesView) (net net_now : NetView) (out out_now : SinkView) (net_told : IsTrue net.told) (room : length net.back ≤ net.links)
     (quiet : IsQuiet files files_now net net_now out out_now) (is : IsServed words files.contents net) where
   -- the host that was made ready is the one that is served
-  served_at : (loaded : Loaded) (ready : Ready) → loaded ≡ is.loaded → Starts loaded.program loaded.inputs loaded.deal words.addresses ready → IsServedAt ready.task ready.machine net
+  served_at : (loaded : Loaded) (ready : Ready) → loaded ≡ is.loaded → Starts loaded.program loaded.inputs loaded.dealt.deal words.addresses ready → IsServedAt ready.task ready.machine net
   served_at loaded ready same starts =
       let its_task : ready.task ≡ task_of loaded.program words.addresses = λ j. record { me = starts.me j; plan = starts.plan j; addresses = starts.addresses_are j } in
       let its_lists : ready.machine.lists ≡ lists_of loaded = λ j. record { inputs = starts.inputs_are j; deal = starts.deal_is j } in
@@ -52,9 +54,17 @@ module _ (words : HostWords) (files files_now : FilesView) (net net_now : NetVie
 pub served : ServedHostsEndWell
 served words files files_now net net_now out out_now end runs files_told net_told room quiet is = by runs
   where
-    by : {end : Status} → HostRuns words files files_now net net_now out out_now end → (end ≡ status.Ended) ⊎ (end ≡ status.Memory)
+    by : {end : Status} → PlainRuns words files files_now net net_now out out_now end → (end ≡ status.Ended) ⊎ (end ≡ status.Memory)
     by (NotLoaded refusal loads same_net same_out) =
         inr (not_refused words files.contents is.loaded refusal is.held (λ file e. quiet.no_file (loads.fault file (ap (λ (s : Status). Err s) e))) (loads.cause files_told))
-    by (WentWell loaded loads loaded_is ran_well) = inl refl
-    by (WentWrong loaded refusal loads loaded_is ran_wrong) =
+    by (WentWell loaded loads loaded_is plain ran_well) = inl refl
+    by (WentWrong loaded refusal loads loaded_is plain ran_wrong) =
         inr (ran words files files_now net net_now out out_now net_told room quiet is loaded (same_loaded words files.contents loaded is.loaded (loads.given files_told) is.held) ran_wrong)
+
+-- a host that is served has a deal of version 1
+pub plain_served : (words : HostWords) (files files_now : FilesView) (net : NetView) (loaded : Loaded) (secrets : Secrets) → IsTrue files.told → IsServed words files.contents net
+    → LoadsHost words files files_now (Ok loaded) → loaded.dealt.secrets ≡ Some secrets → ⊥
+plain_served words files files_now net loaded secrets told is loads dealt =
+    let same = same_loaded words files.contents loaded is.loaded (loads.given told) is.held in
+    let both : Some secrets ≡ None = sym dealt ∙ ap (λ (l : Loaded). l.dealt.secrets) same ∙ is.plain in
+    cc

@@ -1,5 +1,5 @@
 -- When a host ends well.
-use Rattle.std.specs.Prelude.{◌≡◌, ◌<◌, ◌≤◌, ◌⊎◌, ◌++◌, ℕ, zero, suc, IsTrue, length, drop, Option, Some}
+use Rattle.std.specs.Prelude.{◌≡◌, ◌<◌, ◌≤◌, ◌⊎◌, ◌++◌, ℕ, zero, suc, IsTrue, length, drop, Option, Some, None}
 use Rattle.std.specs.List.{AllByRecursion}
 use Rattle.vd_execution.specs.Code.{Code}
 use Rattle.vd_execution.specs.Text.{IsCodeOf}
@@ -45,14 +45,15 @@ AllServe task net sessions = (place : ℕ) → place < length task.addresses →
 
 -- the lists that a host takes its inputs and items from
 abbrev pub lists_of : Loaded → Lists
-lists_of loaded = record { inputs = loaded.inputs; deal = loaded.deal }
+lists_of loaded = record { inputs = loaded.inputs; deal = loaded.dealt.deal }
 
--- The files hold a host, and the net has as many listeners as it counts. Every greeting comes whole and equal; and wherever the
+-- The files hold a host with a deal of version 1, and the net has as many listeners as it counts. Every greeting comes whole and equal; and wherever the
 -- steps of the host's code lead on the packets that come, the awaited one comes whole, no compared words differ, and its inputs
 -- and items suffice.
 pub record IsServed (words : HostWords) (contents : Contents) (net : NetView) : Type 0 where
   pub loaded : Loaded
   pub held : HoldsHost words contents loaded
+  pub plain : loaded.dealt.secrets ≡ None
   pub listeners : length net.listeners ≡ net.given
   pub sessions : Sessions
   pub peers : AllServe (task_of loaded.program words.addresses) net sessions
