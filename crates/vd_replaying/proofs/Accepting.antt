@@ -16,8 +16,11 @@ use Rattle.vd_constraints.specs.Rules.{system_of}
 use Rattle.vd_constraints.specs.declared.labels.Labels.{Labels}
 use Rattle.vd_least.proofs.Decided.{system_or_not}
 use Rattle.vd_deals.specs.Validity.{AreDeals}
-use Rattle.vd_tape.specs.Text.{AreDealsOf}
+use Rattle.vd_deals.specs.declared.deal.Deal.{Deal}
+use Rattle.vd_secrets.specs.declared.secrets.Secrets.{Secrets}
+use Rattle.vd_tape.specs.Text.{AreDealsOf, IsDealOf}
 use Rattle.vd_tape.proofs.EachHost.{all_deals}
+use Rattle.vd_dealt.specs.Text.{Fit_by}
 use Rattle.vd_space.specs.declared.problem.Problem.{Problem}
 use Rattle.vd_space.specs.Reading.{problem_of}
 use Rattle.vd_space.proofs.Weighed.{is_problem}
@@ -43,6 +46,11 @@ searched : (choices : ChoiceOutcomes) (problem : Problem) (budget : ℕ) (list :
 searched choices problem budget list is enough =
     let room : nat_lt budget (needed problem (choices.choose problem)) ≡ false = enough_for (needed problem (choices.choose problem)) budget (subst (λ (o : Option (List ℕ)). needed problem o ≤ budget) (sym is) enough) in
     rw room refl
+
+-- the deal of a file of either version is one of so many hosts
+is_deal : (hosts me : ℕ) (deal : Deal) (secrets : Option Secrets) → Fit_by hosts me deal secrets → IsDealOf hosts me deal
+is_deal hosts me deal None fits = fits
+is_deal hosts me deal (Some secrets) fits = fits.0
 
 module _ (words : ReplayWords) (contents : Contents) (accepted : IsAccepted words contents) where
   abbrev source : Source
@@ -74,7 +82,7 @@ module _ (words : ReplayWords) (contents : Contents) (accepted : IsAccepted word
   are_deals =
       let all = are_asked.all in
       let limit = few in
-      let of_hosts : AreDealsOf (length program.hosts) accepted.held.asked.deals = λ number deal e. (are_asked.deals number deal e).holds.0 in
+      let of_hosts : AreDealsOf (length program.hosts) accepted.held.asked.deals = λ number deal e. let held = (are_asked.deals number deal e).holds in is_deal (length program.hosts) number deal held.0 held.1.0 in
       all_deals accepted.held.asked.deals (omega (arith, all, limit)) (subst (λ (n : ℕ). AreDealsOf n accepted.held.asked.deals) (sym all) of_hosts)
 
   pub ends_well : EndsWell words contents

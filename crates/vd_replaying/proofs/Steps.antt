@@ -15,7 +15,7 @@ use Rattle.vd_least.proofs.Decided.{system_or_not}
 use Rattle.vd_least.proofs.Once.{labelled_once}
 use Rattle.vd_least.proofs.Somehow.{labelled_somehow}
 use Rattle.vd_deals.specs.declared.deal.Deal.{Deal}
-use Rattle.vd_tape.specs.Text.{IsFileOf}
+use Rattle.vd_dealt.specs.Plain.{IsDealIn}
 use Rattle.vd_report.specs.Inputs.{inputs_read}
 use Rattle.vd_report.specs.InputsText.{GivesInputs}
 use Rattle.vd_report.specs.declared.fault.ReadFault.{ReadFault}
@@ -107,7 +107,7 @@ module _ (contents : Contents) where
       deal_ends : (number : ℕ) (name : List ℕ) (deal : Deal) (rest : Deal → Contents → Plan) → number < hosts → HoldsDeal prefix hosts number contents deal → Ends (rest deal) → Ends (deal_then outcomes prefix hosts number name rest)
       unfolding deal_then
       deal_ends number name deal rest declared held then =
-          held_ends (file_name prefix number (codes ".deal")) most_deal_bytes (deal_of outcomes hosts number name) deal rest (λ bytes. IsFileOf hosts number bytes deal) held
+          held_ends (file_name prefix number (codes ".deal")) most_deal_bytes (deal_of outcomes hosts number name) deal rest (λ bytes. IsDealIn hosts number bytes deal) held
           (λ bytes is. ap (as_deal name) (outcomes_are_single.deals hosts number bytes few declared (outcomes.deal hosts number bytes) (Ok deal) (outcomes.deal_is hosts number bytes few declared) is)) then
 
       -- the deals that are left, which are numbered from here on
