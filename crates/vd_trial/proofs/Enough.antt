@@ -7,7 +7,7 @@ use Rattle.vd_core.specs.declared.normal.NormalForm.{NormalForm}
 use Rattle.vd_core.specs.Facts.{IsWellMade, weight_sum}
 use Rattle.vd_joint.specs.Outcome.{NumbersFit}
 use Rattle.vd_deals.specs.Validity.{IsConsistent}
-use Rattle.vd_tape.specs.Made.{AreCounts}
+use Rattle.vd_tape.specs.Made.{AreCounts, number_key}
 use Rattle.vd_tape.specs.Text.{AreDealsOf}
 use Rattle.vd_execution.specs.Code.{Code}
 use Rattle.vd_execution.specs.Step.{Inputs}
@@ -101,7 +101,7 @@ module _ (program : NormalForm) (list : List ℕ) (can : CanBeSplit program list
       → Suffice program list (trial_asked coordinates program list)
   suffice coordinates are consistent =
       let asked = trial_asked coordinates program list in
-      (sizes_are_enough program list can asked.inputs asked.deals (are_files asked are consistent) (are.all ∙ count) hand_in (deals_have_their_sizes (sizes_for program list) coordinates)).suffices
+      (sizes_are_enough program list can asked.inputs asked.deals (are_files asked are consistent) (are.all ∙ count) hand_in (deals_have_their_sizes (sizes_for program list) (number_key coordinates))).suffices
 
 -- ---- where so much is asked for
 
