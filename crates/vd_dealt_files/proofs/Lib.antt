@@ -1,2 +1,4 @@
+pub mod KeyedTaken
+pub mod SecretShort
 pub mod Short
 pub mod Taken

@@ -17,10 +17,10 @@ use Rattle.vd_dealt_files.specs.Dealt.{DealTextsAreShort}
 
 -- ---- fields
 
-field_short : (n : ℕ) → n < 2 ^ 32 → length (field n) ≤ 11
+pub field_short : (n : ℕ) → n < 2 ^ 32 → length (field n) ≤ 11
 field_short n low = let few = length-decimal-le 10 n (lit< tt) (omega (arith, low)) (omega (arith, low)) in omega (arith, few)
 
-both_short : (xs ys : List ℕ) (m n : ℕ) → length xs ≤ m → length ys ≤ n → length (xs ++ ys) ≤ m + n
+pub both_short : (xs ys : List ℕ) (m n : ℕ) → length xs ≤ m → length ys ≤ n → length (xs ++ ys) ≤ m + n
 both_short xs ys m n first second = let size = length-append xs ys in omega (arith, size, first, second)
 
 triple_short : (t : Triple) → AreTripleWords t → length (triple_text t) ≤ 33
@@ -42,7 +42,7 @@ at_most : (items product most : ℕ) → items ≤ product → product ≤ most 
 at_most items product most one two = omega (arith, one, two)
 
 module _ {X : Type 0} (text : X → List ℕ) (P : X → Type 0) (size : ℕ) (each : (x : X) → P x → length (text x) ≤ size) where
-  items_short : (xs : List X) → All P xs → length (flat_map text xs) ≤ size * length xs
+  pub items_short : (xs : List X) → All P xs → length (flat_map text xs) ≤ size * length xs
   items_short [] all = subst (λ n. 0 ≤ n) (sym (mul-zero size)) (omega arith)
   items_short (x ∷ xs) all =
       next_item (length (flat_map text (x ∷ xs))) (length (text x)) (length (flat_map text xs)) size (length xs)
@@ -55,18 +55,18 @@ module _ {X : Type 0} (text : X → List ℕ) (P : X → Type 0) (size : ℕ) (e
       (both_short (flat_map text xs) (10 ∷ []) (size * 1048576) 1
       (at_most (length (flat_map text xs)) (size * length xs) (size * 1048576) (items_short xs all) (mul-le-mul_left size few)) (lit≤ tt))
 
-triples_short : (ts : List Triple) → All AreTripleWords ts → length ts ≤ most_deal_items → length (list_text triple_text ts) ≤ 34603020
+pub triples_short : (ts : List Triple) → All AreTripleWords ts → length ts ≤ most_deal_items → length (list_text triple_text ts) ≤ 34603020
 triples_short ts words few = let line = list_short triple_text AreTripleWords 33 triple_short ts words few in omega (arith, line)
 
-pairs_short : (ps : List PairItem) → All ArePairWords ps → length ps ≤ most_deal_items → length (list_text pair_text ps) ≤ 23068684
+pub pairs_short : (ps : List PairItem) → All ArePairWords ps → length ps ≤ most_deal_items → length (list_text pair_text ps) ≤ 23068684
 pairs_short ps words few = let line = list_short pair_text ArePairWords 22 pair_short ps words few in omega (arith, line)
 
-own_short : (words : List ℕ) → All IsWord words → length words ≤ most_deal_items → length (list_text field words) ≤ 11534348
+pub own_short : (words : List ℕ) → All IsWord words → length words ≤ most_deal_items → length (list_text field words) ≤ 11534348
 own_short words are few = let line = list_short field IsWord 11 field_short words are few in omega (arith, line)
 
 -- ---- the lines of a peer
 
-share_short : (peer : ℕ) (ts bs : List Triple) (ps : List PairItem) → peer < 2 ^ 32 → length (list_text triple_text ts) ≤ 34603020 → length (list_text triple_text bs) ≤ 34603020 → length (list_text pair_text ps) ≤ 23068684
+pub share_short : (peer : ℕ) (ts bs : List Triple) (ps : List PairItem) → peer < 2 ^ 32 → length (list_text triple_text ts) ≤ 34603020 → length (list_text triple_text bs) ≤ 34603020 → length (list_text pair_text ps) ≤ 23068684
     → length (share_text peer ts bs ps) ≤ 92274767
 share_short peer ts bs ps low one two three =
     let number = field_short peer low in
@@ -82,7 +82,7 @@ share_short peer ts bs ps low one two three =
     (both_short (codes "pair") pairs 4 23068695 (lit≤ tt)
     (both_short (field peer) (list_text pair_text ps) 11 23068684 number three)))))))
 
-peer_low : (me place : ℕ) → me < 4 → place < 4 → peer_at me place < 2 ^ 32
+pub peer_low : (me place : ℕ) → me < 4 → place < 4 → peer_at me place < 2 ^ 32
 peer_low me place one two = by (nat_lt place me)
   where
     by : (b : Bool) → (if b then place else place + 1) < 2 ^ 32

@@ -13,7 +13,8 @@ use Rattle.vd_deals.specs.declared.deal.Counts.{Counts}
 use Rattle.vd_deals.specs.declared.deal.Deal.{Deal}
 use Rattle.vd_deals.specs.Validity.{AreDeals, IsConsistent}
 use Rattle.vd_tape.specs.Made.{AreCounts, made_deals}
-use Rattle.vd_tape.specs.Text.{AreDealsOf, IsFileOf, deal_text}
+use Rattle.vd_tape.specs.Text.{AreDealsOf, deal_text}
+use Rattle.vd_dealt.specs.Plain.{IsDealIn}
 use Rattle.vd_tape.proofs.MadeValid.{consistent_if_made, valid_if_made}
 use Rattle.vd_plan.specs.Deliver.{stored}
 use Rattle.vd_plan.specs.Numbered.{file_name, numbered}
@@ -36,11 +37,11 @@ module _ (outcomes : ReplayOutcomes) (contents : Contents) (prefix : List ℕ) (
       → Leads contents (deal_then outcomes prefix hosts number name rest) (rest deal contents).answer
   unfolding deal_then
   deal_leads number name deal rest declared held =
-      held_leads contents (file_name prefix number (codes ".deal")) most_deal_bytes (deal_of outcomes hosts number name) deal rest (rest deal contents).answer (λ bytes. IsFileOf hosts number bytes deal) held
+      held_leads contents (file_name prefix number (codes ".deal")) most_deal_bytes (deal_of outcomes hosts number name) deal rest (rest deal contents).answer (λ bytes. IsDealIn hosts number bytes deal) held
       (λ bytes is. ap (as_deal name) (outcomes_are_single.deals hosts number bytes few declared (outcomes.deal hosts number bytes) (Ok deal) (outcomes.deal_is hosts number bytes few declared) is)) refl
 
   -- the deals that are left, which are numbered from here on
-  abbrev HoldLeft : ℕ → List Deal → Type 0
+  abbrev pub HoldLeft : ℕ → List Deal → Type 0
   HoldLeft number deals = (i : ℕ) (deal : Deal) → slice_get deals i ≡ Some deal → HoldsDeal prefix hosts (number + i) contents deal
 
   held_next : (number : ℕ) (deal : Deal) (deals : List Deal) → HoldLeft number (deal ∷ deals) → HoldLeft (number + 1) deals
@@ -63,12 +64,12 @@ module _ (outcomes : ReplayOutcomes) (contents : Contents) (prefix : List ℕ) (
 
 -- ---- what was made
 
-are_numbered : (prefix ending : List ℕ) (number : ℕ) (contents : List (List ℕ)) → numbered prefix ending number contents ≡ files_from prefix ending (λ n content. content) number contents
+pub are_numbered : (prefix ending : List ℕ) (number : ℕ) (contents : List (List ℕ)) → numbered prefix ending number contents ≡ files_from prefix ending (λ n content. content) number contents
 are_numbered prefix ending number [] = refl
 are_numbered prefix ending number (content ∷ contents) =
     ap (λ (files : List Stored). record { name = file_name prefix number ending; content = content } ∷ files) (are_numbered prefix ending (number + 1) contents)
 
-enough : (limit size : ℕ) → size ≤ limit → nat_lt limit size ≡ false
+pub enough : (limit size : ℕ) → size ≤ limit → nat_lt limit size ≡ false
 enough limit size le = grind (arith, nat_tests)
 
 module _ (counts : Counts) (key : ℕ) (prefix : List ℕ) (before : Contents) (are : AreCounts counts) where
@@ -105,7 +106,7 @@ module _ (counts : Counts) (key : ℕ) (prefix : List ℕ) (before : Contents) (
         bytes = text;
         is_fetched = subst (λ (o : Option (List ℕ)). fetched o most_deal_bytes ≡ Ok text) (sym stands)
             (cond-false (nat_lt most_deal_bytes (length text)) _ (Ok text) (enough most_deal_bytes (length text) (texts_are_short counts.hosts number deal of)));
-        holds = (of, refl);
+        holds = (None, (of, refl));
       }
 
   taken : (names : List (List ℕ)) → length names ≡ counts.hosts → AreTaken prefix names now deals
