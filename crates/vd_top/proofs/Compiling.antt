@@ -3,7 +3,7 @@ use Rattle.std.proofs.Common.{◌≡◌, ℕ, true, List, ◌++◌, Option, Some
 use Rattle.vd_outside.specs.Files.{FilesView, Contents}
 use Rattle.vd_outside.specs.Sink.{SinkView}
 use Rattle.vd_cmd.specs.declared.command.Command.{Command}
-use Rattle.vd_cmd.specs.declared.command.Command.TheVariants.{OnFiles, Host, Run}
+use Rattle.vd_cmd.specs.declared.command.Command.TheVariants.{OnFiles, KeyDeal, Host, Run}
 use Rattle.vd_cmd.specs.declared.command.FilesCommand.{FilesCommand}
 use Rattle.vd_cmd.specs.declared.command.FilesCommand.TheVariants.{Compile, Excuse}
 use Rattle.vd_cmd.specs.declared.command.ExcuseWords.{ExcuseWords}
@@ -68,6 +68,7 @@ module _ (before now : FilesView) (out_before out_now : SinkView) (status : Stat
   stores_nothing not (Some (OnFiles (Compile source prefix budget))) = λ t e. absurd (not e)
   stores_nothing not (Some (OnFiles (Excuse words))) = λ t e. absurd (not e)
   stores_nothing not (Some (OnFiles command)) = tt
+  stores_nothing not (Some (KeyDeal words)) = tt
   stores_nothing not (Some (Host words)) = tt
   stores_nothing not (Some (Run words)) = tt
 

@@ -3,7 +3,7 @@ use Rattle.std.proofs.Common.{◌≡◌, ℕ, true, IsTrue, List, ◌++◌, Opti
 use Rattle.vd_outside.specs.Files.{FilesView, Contents}
 use Rattle.vd_outside.specs.Sink.{SinkView}
 use Rattle.vd_cmd.specs.declared.command.Command.{Command}
-use Rattle.vd_cmd.specs.declared.command.Command.TheVariants.{OnFiles, Host, Run}
+use Rattle.vd_cmd.specs.declared.command.Command.TheVariants.{OnFiles, KeyDeal, Host, Run}
 use Rattle.vd_cmd.specs.declared.command.FilesCommand.{FilesCommand}
 use Rattle.vd_cmd.specs.declared.command.FilesCommand.TheVariants.{Depends, Influences, Needs, Replay, Trial}
 use Rattle.vd_cmd.specs.declared.command.NeedsWords.{NeedsWords}
@@ -141,6 +141,7 @@ module _ (before now : FilesView) (out_before out_now : SinkView) (status : Stat
   complete (Some (OnFiles command)) runs = λ outcomes.
       completes true (plan_of outcomes (search_of outcomes runs.0) command) (plan_of outcomes (sure_search outcomes.choices) command) before now out_before out_now status (runs.1 outcomes)
       (command_follows outcomes runs.0 command before.contents)
+  complete (Some (KeyDeal words)) runs = tt
   complete (Some (Host words)) runs = tt
   complete (Some (Run words)) runs = tt
 

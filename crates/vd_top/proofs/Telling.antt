@@ -1,12 +1,12 @@
 -- What holds of a command holds of the words that are its form.
 use Rattle.std.proofs.Common.{◌≡◌, ℕ, List, [], Option, Some, None, Err, true, false, refl, sym, ap, subst, ◌∙◌, arith}
 use Rattle.vd_outside.specs.Files.{FilesView}
-use Rattle.vd_outside.specs.Net.{NetView}
+use Rattle.vd_marks.specs.Marks.{MarksView}
 use Rattle.vd_outside.specs.Sink.{SinkView}
 use Rattle.vd_outside.specs.Spawner.{SpawnerView}
 use Rattle.vd_cmd.specs.Commands.{form_of}
 use Rattle.vd_cmd.specs.declared.command.Command.{Command}
-use Rattle.vd_cmd.specs.declared.command.Command.TheVariants.{OnFiles, Host, Run}
+use Rattle.vd_cmd.specs.declared.command.Command.TheVariants.{OnFiles, KeyDeal, Host, Run}
 use Rattle.vd_cmd.specs.declared.command.FilesCommand.TheVariants.{Depends, Influences, Needs, Replay, Trial}
 use Rattle.vd_plan.specs.Plans.{Executes, fetch_calls}
 use Rattle.vd_plan.specs.declared.status.Status.{Status}
@@ -15,18 +15,23 @@ use Rattle.vd_plan.proofs.Fronts.{same_within}
 use Rattle.vd_plan.proofs.InSteps.{any_memory}
 use Rattle.vd_plan.proofs.WholeRuns.{runs_err}
 use Rattle.vd_selecting.specs.Choosing.{GaveUp}
-use Rattle.vd_host_command.specs.Hosts.{NotLoaded}
+use Rattle.vd_host_command.specs.Hosts.{HostRuns, Marked, NetsView, NotLoaded, Plainly}
+use Rattle.vd_host_command.proofs.Marked.{used_once}
+use Rattle.vd_key_dealing.specs.Sources.{FromFile, NoMemory, RunsKeyDeal, file_plan}
 use Rattle.vd_host_command.specs.Loading.{OfProgram, files_of}
 use Rattle.vd_running.specs.Running.{Refused}
 use Rattle.vd_running.specs.RunsHosts.{outside}
 use Rattle.vd_cmd.specs.declared.command.HostWords.{HostWords}
+use Rattle.vd_cmd.specs.declared.command.KeyDealWords.{KeyDealWords}
+use Rattle.vd_cmd.specs.declared.command.KeySource.{KeySource}
+use Rattle.vd_cmd.specs.declared.command.KeySource.TheVariants.{Drawn, InFile}
 use Rattle.vd_cmd.specs.declared.command.RunWords.{RunWords}
 use Rattle.vd_top.specs.Commands.{RunsForm, plan_of, search_of, usage_plan}
 use Rattle.vd_top.specs.Counts.{CountedForm, KeepsCount}
 use Rattle.vd_top.specs.Headline.{KeepsTrial, KeepsDependence, KeepsHeadline, KeepsInfluence, KeepsNeeds, ShowsForm}
 use Rattle.vd_running.proofs.Holding.{complete}
-use Rattle.vd_serving.proofs.Serving.{served}
-use Rattle.vd_top.specs.Hosts.{PlaysForm, ReportsForm, ServesForm, SpawnsForm, speaks_by, spawns_by}
+use Rattle.vd_serving.proofs.Serving.{plain_served, served}
+use Rattle.vd_top.specs.Hosts.{KeysForm, MarksForm, PlaysForm, ReportsForm, ServesForm, SpawnsForm, marks_by, speaks_by, spawns_by}
 
 -- what is shown by the form is what is said of the words
 pub headline_of : (words : List (List ℕ)) (before : FilesView) (out_before out_now : SinkView) (status : Status) → ShowsForm (form_of words) before out_before out_now status → KeepsHeadline words before out_before out_now status
@@ -52,6 +57,7 @@ pub counts_nothing : (before : FilesView) (packets : Option ℕ) (status : Statu
 counts_nothing before packets status bad None = tt
 counts_nothing before packets status bad (Some (OnFiles (Replay words))) = λ t e. absurd (bad e)
 counts_nothing before packets status bad (Some (OnFiles command)) = tt
+counts_nothing before packets status bad (Some (KeyDeal words)) = tt
 counts_nothing before packets status bad (Some (Host words)) = tt
 counts_nothing before packets status bad (Some (Run words)) = tt
 
@@ -61,6 +67,7 @@ module _ (files : FilesView) (out : SinkView) where
   pub runs_nothing : (form : Option Command) → (form ≡ None → ⊥) → RunsForm form files files out out Memory
   runs_nothing None some = absurd (some refl)
   runs_nothing (Some (OnFiles command)) some = (GaveUp, λ outcomes. runs_err _ (plan_of outcomes (search_of outcomes GaveUp) command) files files out Memory (any_memory (plan_of outcomes (search_of outcomes GaveUp) command) files))
+  runs_nothing (Some (KeyDeal words)) some = tt
   runs_nothing (Some (Host words)) some = tt
   runs_nothing (Some (Run words)) some = tt
 
@@ -72,14 +79,16 @@ module _ (files : FilesView) (out : SinkView) where
   shows_nothing (Some (OnFiles (Needs words))) = λ t o e. absurd (cc e)
   shows_nothing (Some (OnFiles (Trial coordinates))) = λ t. (tt, λ o e. absurd (cc e))
   shows_nothing (Some (OnFiles command)) = tt
+  shows_nothing (Some (KeyDeal words)) = tt
   shows_nothing (Some (Host words)) = tt
   shows_nothing (Some (Run words)) = tt
 
-  pub plays_nothing : (net : NetView) (form : Option Command) → PlaysForm form files files net net out out Memory
-  plays_nothing net None = tt
-  plays_nothing net (Some (OnFiles command)) = tt
-  plays_nothing net (Some (Run words)) = tt
-  plays_nothing net (Some (Host words)) = NotLoaded Memory (record {
+  pub plays_nothing : (marks : MarksView) (nets : NetsView) (form : Option Command) → PlaysForm form files files marks marks nets nets out out Memory
+  plays_nothing marks nets None = tt
+  plays_nothing marks nets (Some (OnFiles command)) = tt
+  plays_nothing marks nets (Some (KeyDeal words)) = tt
+  plays_nothing marks nets (Some (Run words)) = tt
+  plays_nothing marks nets (Some (Host words)) = Plainly Memory (NotLoaded Memory (record {
     later = omega arith;
     ends = tt;
     fault = λ name e. absurd (cc e);
@@ -90,11 +99,24 @@ module _ (files : FilesView) (out : SinkView) where
     whole = λ t. tt;
     given = λ t. tt;
     cause = λ t. OfProgram tt;
-  }) refl refl
+  }) refl refl) refl refl
+
+  pub keys_nothing : (marks : MarksView) (form : Option Command) → KeysForm form files files marks marks out out Memory
+  keys_nothing marks None = tt
+  keys_nothing marks (Some (OnFiles command)) = tt
+  keys_nothing marks (Some (Host words)) = tt
+  keys_nothing marks (Some (Run words)) = tt
+  keys_nothing marks (Some (KeyDeal words)) = by words.key refl
+    where
+      by : (key : KeySource) → words.key ≡ key → RunsKeyDeal words files files marks marks out out Memory
+      by Drawn is = NoMemory is refl refl refl
+      by (InFile name) is =
+          FromFile name Memory is refl (runs_err true (file_plan words.counts name words.prefix) files files out Memory (any_memory (file_plan words.counts name words.prefix) files))
 
   pub spawns_nothing : (spawner : SpawnerView) (form : Option Command) → SpawnsForm form files files out out spawner spawner Memory
   spawns_nothing spawner None = tt
   spawns_nothing spawner (Some (OnFiles command)) = tt
+  spawns_nothing spawner (Some (KeyDeal words)) = tt
   spawns_nothing spawner (Some (Host words)) = tt
   spawns_nothing spawner (Some (Run words)) = record {
     compiled = files;
@@ -127,8 +149,11 @@ module _ (files : FilesView) (out : SinkView) where
   pub shows_refused : (form : Option Command) → form ≡ None → ShowsForm form files out out Usage
   shows_refused form none = subst (λ (f : Option Command). ShowsForm f files out out Usage) (sym none) tt
 
-  pub plays_refused : (net : NetView) (form : Option Command) → form ≡ None → PlaysForm form files files net net out out Usage
-  plays_refused net form none = subst (λ (f : Option Command). PlaysForm f files files net net out out Usage) (sym none) tt
+  pub plays_refused : (marks : MarksView) (nets : NetsView) (form : Option Command) → form ≡ None → PlaysForm form files files marks marks nets nets out out Usage
+  plays_refused marks nets form none = subst (λ (f : Option Command). PlaysForm f files files marks marks nets nets out out Usage) (sym none) tt
+
+  pub keys_refused : (marks : MarksView) (form : Option Command) → form ≡ None → KeysForm form files files marks marks out out Usage
+  keys_refused marks form none = subst (λ (f : Option Command). KeysForm f files files marks marks out out Usage) (sym none) tt
 
   pub spawns_refused : (spawner : SpawnerView) (form : Option Command) → form ≡ None → SpawnsForm form files files out out spawner spawner Usage
   spawns_refused spawner form none = subst (λ (f : Option Command). SpawnsForm f files files out out spawner spawner Usage) (sym none) tt
@@ -137,6 +162,12 @@ module _ (files : FilesView) (out : SinkView) where
 
 pub host_speaks : (command : Command) (words : HostWords) → command ≡ Host words → speaks_by (Some command) ≡ false → ⊥
 host_speaks command words is e = let wrong : true ≡ false = sym (ap (λ (k : Command). speaks_by (Some k)) is) ∙ e in cc
+
+pub host_marks : (command : Command) (words : HostWords) → command ≡ Host words → marks_by (Some command) ≡ false → ⊥
+host_marks command words is e = let wrong : true ≡ false = sym (ap (λ (k : Command). marks_by (Some k)) is) ∙ e in cc
+
+pub key_marks : (command : Command) (words : KeyDealWords) → command ≡ KeyDeal words → marks_by (Some command) ≡ false → ⊥
+key_marks command words is e = let wrong : true ≡ false = sym (ap (λ (k : Command). marks_by (Some k)) is) ∙ e in cc
 
 pub run_spawns : (command : Command) (words : RunWords) → command ≡ Run words → spawns_by (Some command) ≡ false → ⊥
 run_spawns command words is e = let wrong : true ≡ false = sym (ap (λ (k : Command). spawns_by (Some k)) is) ∙ e in cc
@@ -153,9 +184,20 @@ module _ (form : Option Command) (command : Command) (is : form ≡ Some command
   pub counts_by : (files : FilesView) (packets : Option ℕ) (status : Status) → CountedForm (Some command) files packets status → CountedForm form files packets status
   counts_by files packets status said = subst (λ (f : Option Command). CountedForm f files packets status) (sym is) said
 
-  pub plays_by : (files files_now : FilesView) (net net_now : NetView) (out out_now : SinkView) (status : Status) → PlaysForm (Some command) files files_now net net_now out out_now status
-      → PlaysForm form files files_now net net_now out out_now status
-  plays_by files files_now net net_now out out_now status said = subst (λ (f : Option Command). PlaysForm f files files_now net net_now out out_now status) (sym is) said
+  pub plays_by : (files files_now : FilesView) (marks marks_now : MarksView) (nets nets_now : NetsView) (out out_now : SinkView) (status : Status)
+      → PlaysForm (Some command) files files_now marks marks_now nets nets_now out out_now status → PlaysForm form files files_now marks marks_now nets nets_now out out_now status
+  plays_by files files_now marks marks_now nets nets_now out out_now status said = subst (λ (f : Option Command). PlaysForm f files files_now marks marks_now nets nets_now out out_now status) (sym is) said
+
+  pub marked_by : (files files_now : FilesView) (marks marks_now : MarksView) (nets nets_now : NetsView)
+      → MarksForm (Some command) files files_now marks marks_now nets nets_now → MarksForm form files files_now marks marks_now nets nets_now
+  marked_by files files_now marks marks_now nets nets_now said = subst (λ (f : Option Command). MarksForm f files files_now marks marks_now nets nets_now) (sym is) said
+
+  pub keys_by : (files files_now : FilesView) (marks marks_now : MarksView) (out out_now : SinkView) (status : Status)
+      → KeysForm (Some command) files files_now marks marks_now out out_now status → KeysForm form files files_now marks marks_now out out_now status
+  keys_by files files_now marks marks_now out out_now status said = subst (λ (f : Option Command). KeysForm f files files_now marks marks_now out out_now status) (sym is) said
+
+  pub unmarked_by : marks_by form ≡ false → marks_by (Some command) ≡ false
+  unmarked_by silent = subst (λ (f : Option Command). marks_by f ≡ false) is silent
 
   pub spawns_as : (files files_now : FilesView) (out out_now : SinkView) (spawner spawner_now : SpawnerView) (status : Status) → SpawnsForm (Some command) files files_now out out_now spawner spawner_now status
       → SpawnsForm form files files_now out out_now spawner spawner_now status
@@ -169,16 +211,36 @@ module _ (form : Option Command) (command : Command) (is : form ≡ Some command
 
 -- ---- what was done ends well where it can
 
-pub serves : (files files_now : FilesView) (net net_now : NetView) (out out_now : SinkView) (status : Status) (form : Option Command) → PlaysForm form files files_now net net_now out out_now status
-    → ServesForm form files files_now net net_now out out_now status
-serves files files_now net net_now out out_now status None plays = tt
-serves files files_now net net_now out out_now status (Some (OnFiles command)) plays = tt
-serves files files_now net net_now out out_now status (Some (Run words)) plays = tt
-serves files files_now net net_now out out_now status (Some (Host words)) plays = served words files files_now net net_now out out_now status plays
+-- a mark is there where something was sent, whatever the command is
+pub marked_all : (files files_now : FilesView) (marks marks_now : MarksView) (nets nets_now : NetsView) (out out_now : SinkView) (status : Status) (form : Option Command)
+    → PlaysForm form files files_now marks marks_now nets nets_now out out_now status → MarksForm form files files_now marks marks_now nets nets_now
+marked_all files files_now marks marks_now nets nets_now out out_now status None plays = tt
+marked_all files files_now marks marks_now nets nets_now out out_now status (Some (OnFiles command)) plays = tt
+marked_all files files_now marks marks_now nets nets_now out out_now status (Some (KeyDeal words)) plays = tt
+marked_all files files_now marks marks_now nets nets_now out out_now status (Some (Run words)) plays = tt
+marked_all files files_now marks marks_now nets nets_now out out_now status (Some (Host words)) plays = used_once words files files_now marks marks_now nets nets_now out out_now status plays
+
+serves_host : (words : HostWords) (files files_now : FilesView) (marks marks_now : MarksView) (nets nets_now : NetsView) (out out_now : SinkView) (status : Status)
+    → HostRuns words files files_now marks marks_now nets nets_now out out_now status → ServesForm (Some (Host words)) files files_now nets nets_now out out_now status
+serves_host words files files_now marks marks_now nets nets_now out out_now status runs = by runs
+  where
+    by : {end : Status} → HostRuns words files files_now marks marks_now nets nets_now out out_now end → ServesForm (Some (Host words)) files files_now nets nets_now out out_now end
+    by (Plainly end plain same_marks same_sent) = served words files files_now nets.plain nets_now.plain out out_now end plain
+    by (Marked loaded secrets end loads is dealt ends) =
+        λ files_told net_told room quiet is_served. absurd (plain_served words files files_now nets.plain loaded secrets files_told is_served loads dealt)
+
+pub serves : (files files_now : FilesView) (marks marks_now : MarksView) (nets nets_now : NetsView) (out out_now : SinkView) (status : Status) (form : Option Command)
+    → PlaysForm form files files_now marks marks_now nets nets_now out out_now status → ServesForm form files files_now nets nets_now out out_now status
+serves files files_now marks marks_now nets nets_now out out_now status None plays = tt
+serves files files_now marks marks_now nets nets_now out out_now status (Some (OnFiles command)) plays = tt
+serves files files_now marks marks_now nets nets_now out out_now status (Some (KeyDeal words)) plays = tt
+serves files files_now marks marks_now nets nets_now out out_now status (Some (Run words)) plays = tt
+serves files files_now marks marks_now nets nets_now out out_now status (Some (Host words)) plays = serves_host words files files_now marks marks_now nets nets_now out out_now status plays
 
 pub reports : (files files_now : FilesView) (out out_now : SinkView) (spawner spawner_now : SpawnerView) (status : Status) (form : Option Command) → SpawnsForm form files files_now out out_now spawner spawner_now status
     → ReportsForm form files files_now out out_now spawner spawner_now status
 reports files files_now out out_now spawner spawner_now status None spawned = tt
 reports files files_now out out_now spawner spawner_now status (Some (OnFiles command)) spawned = tt
+reports files files_now out out_now spawner spawner_now status (Some (KeyDeal words)) spawned = tt
 reports files files_now out out_now spawner spawner_now status (Some (Host words)) spawned = tt
 reports files files_now out out_now spawner spawner_now status (Some (Run words)) spawned = complete words (outside files out spawner) (outside files_now out_now spawner_now) status spawned

@@ -5,12 +5,14 @@ use Rattle.vd_outside.specs.Sink.{SinkView}
 use Rattle.vd_deals.specs.declared.deal.Counts.{Counts}
 use Rattle.vd_cmd.specs.Commands.{KeepsLimits, form_of}
 use Rattle.vd_cmd.specs.declared.command.Command.{Command}
-use Rattle.vd_cmd.specs.declared.command.Command.TheVariants.{OnFiles}
+use Rattle.vd_cmd.specs.declared.command.Command.TheVariants.{KeyDeal, OnFiles}
+use Rattle.vd_cmd.specs.declared.command.KeyDealWords.{KeyDealWords}
 use Rattle.vd_cmd.specs.declared.command.FilesCommand.TheVariants.{Certify, Choose, Compile, Deal, Draw, Hasten, Labels}
 use Rattle.vd_plan.specs.declared.status.Status.{Status}
 use Rattle.vd_plan.specs.declared.status.Status.TheVariants.{Ended}
 use Rattle.vd_answers.specs.Answers.{TellsChoice, TellsCompiled, TellsLabels, TellsProof}
 use Rattle.vd_dealt_files.specs.Dealt.{TellsDeal}
+use Rattle.vd_dealt_files.specs.KeyedDealt.{TellsKeyed}
 use Rattle.vd_draw_command.specs.Telling.{TellsDrawing}
 use Rattle.vd_hasten_command.specs.Telling.{TellsHastened}
 
@@ -66,6 +68,11 @@ abbrev pub KeepsDeal : (words : List (List ℕ)) → FilesView → FilesView →
 KeepsDeal words before now status =
     (counts : Counts) (key : ℕ) (prefix : List ℕ) → form_of words ≡ Some (OnFiles (Deal counts key prefix)) → IsTrue before.told → status ≡ Ended
     → TellsDeal counts prefix now.contents
+
+-- So they are where the key has 32 bytes; and each names one dealing, and has the keys of the links of its host.
+abbrev pub KeepsKeyed : (words : List (List ℕ)) → FilesView → FilesView → Status → Type 0
+KeepsKeyed words before now status =
+    (deal : KeyDealWords) → form_of words ≡ Some (KeyDeal deal) → IsTrue before.told → status ≡ Ended → (key : List ℕ) × TellsKeyed deal.counts key deal.prefix now.contents
 
 -- words that are run to their end have numbers within the limits
 abbrev pub AreWithinLimits : (words : List (List ℕ)) → Status → Type 0

@@ -1,26 +1,28 @@
 -- What is promised of the words of a command line.
 use Rattle.std.specs.Prelude.{◌≡◌, ℕ, List, Option, Some, None, false}
 use Rattle.vd_outside.specs.Files.{FilesView}
-use Rattle.vd_outside.specs.Net.{NetView}
+use Rattle.vd_marks.specs.Marks.{MarksView}
 use Rattle.vd_outside.specs.Sink.{SinkView}
 use Rattle.vd_outside.specs.Spawner.{SpawnerView}
+use Rattle.vd_host_command.specs.Hosts.{NetsView}
 use Rattle.vd_cmd.specs.Own.{own_text_of}
 use Rattle.vd_plan.specs.Lines.{Says, status_line}
 use Rattle.vd_plan.specs.Runs.{Prints}
 use Rattle.vd_plan.specs.declared.status.Status.{Status}
-use Rattle.vd_top.specs.Answers.{KeepsChoice, KeepsCompiled, KeepsDeal, KeepsDrawing, KeepsHastened, KeepsLabels, KeepsProof}
+use Rattle.vd_top.specs.Answers.{KeepsChoice, KeepsCompiled, KeepsDeal, KeepsDrawing, KeepsHastened, KeepsKeyed, KeepsLabels, KeepsProof}
 use Rattle.vd_top.specs.Compiled.{KeepsStored}
 use Rattle.vd_top.specs.Counts.{KeepsCount}
 use Rattle.vd_top.specs.Commands.{CompletesWords, RunsWords}
 use Rattle.vd_top.specs.Headline.{KeepsAccepted, KeepsDependence, KeepsExcuse, KeepsHeadline, KeepsInfluence, KeepsNeeds, KeepsTrial}
-use Rattle.vd_top.specs.Hosts.{PlaysWords, ReportsWords, ServesWords, SpawnsWords, speaks, spawns}
+use Rattle.vd_top.specs.Hosts.{KeysWords, MarksWords, PlaysWords, ReportsWords, ServesWords, SpawnsWords, may_mark, speaks, spawns}
 
 -- the objects that a run uses, each before it and after it, and how many packets it says that hosts sent in this process
 pub record Around : Type 0 where
   pub files : FilesView × FilesView
   pub out : SinkView × SinkView
   pub err : SinkView × SinkView
-  pub net : NetView × NetView
+  pub marks : MarksView × MarksView
+  pub nets : NetsView × NetsView
   pub spawner : SpawnerView × SpawnerView
   pub packets : Option ℕ
 
@@ -40,12 +42,15 @@ pub record Keeps (words : List (List ℕ)) (o : Around) (status : Status) : Type
   pub stored : KeepsStored words o.files.0 o.files.1 o.out.0 o.out.1 status
   pub hastened : KeepsHastened words o.files.0 o.files.1 status
   pub dealt : KeepsDeal words o.files.0 o.files.1 status
+  pub dealt_by_key : KeepsKeyed words o.files.0 o.files.1 status
   pub trial : KeepsTrial words o.files.0 o.out.0 o.out.1 status
   pub accepted : KeepsAccepted words o.files.0 o.files.1 o.out.0 o.out.1 status
   pub complete : CompletesWords words o.files.0 o.files.1 o.out.0 o.out.1 status
-  pub host : PlaysWords words o.files.0 o.files.1 o.net.0 o.net.1 o.out.0 o.out.1 status
+  pub host : PlaysWords words o.files.0 o.files.1 o.marks.0 o.marks.1 o.nets.0 o.nets.1 o.out.0 o.out.1 status
+  pub used_once : MarksWords words o.files.0 o.files.1 o.marks.0 o.marks.1 o.nets.0 o.nets.1
+  pub keyed : KeysWords words o.files.0 o.files.1 o.marks.0 o.marks.1 o.out.0 o.out.1 status
   pub hosts : SpawnsWords words o.files.0 o.files.1 o.out.0 o.out.1 o.spawner.0 o.spawner.1 status
-  pub served : ServesWords words o.files.0 o.files.1 o.net.0 o.net.1 o.out.0 o.out.1 status
+  pub served : ServesWords words o.files.0 o.files.1 o.nets.0 o.nets.1 o.out.0 o.out.1 status
   pub counted : KeepsCount words o.files.0 o.packets status
   pub reported : ReportsWords words o.files.0 o.files.1 o.out.0 o.out.1 o.spawner.0 o.spawner.1 status
 
@@ -55,5 +60,6 @@ pub record Starts (words : List (List ℕ)) (o : Around) (status : Status) : Typ
   pub own : (text : List ℕ) → own_text_of words ≡ Some text → Prints text o.out.0 o.out.1 status × (o.files.1 ≡ o.files.0)
   pub ran : own_text_of words ≡ None → Keeps words o status
   pub says : Says (status_line status) o.err.0 o.err.1
-  pub net_untouched : speaks words ≡ false → o.net.1 ≡ o.net.0
+  pub net_untouched : speaks words ≡ false → o.nets.1 ≡ o.nets.0
+  pub marks_untouched : may_mark words ≡ false → o.marks.1 ≡ o.marks.0
   pub spawner_untouched : spawns words ≡ false → o.spawner.1 ≡ o.spawner.0

@@ -1,4 +1,4 @@
-use Rattle.std.proofs.Common.{rules}
+use Rattle.std.proofs.Common.{refl, rules}
 use Rattle.vd_top.proofs.entry.start.Goals as goal
 
 pub returns-in-None : goal.returns-in-None
@@ -19,16 +19,20 @@ returns-in-None g c = record {
     stored = c.run.ensures.stored;
     hastened = c.run.ensures.hastened;
     dealt = c.run.ensures.dealt;
+    dealt_by_key = c.run.ensures.dealt_by_key;
     trial = c.run.ensures.trial;
     accepted = c.run.ensures.accepted;
     complete = c.run.ensures.complete;
     host = c.run.ensures.host;
+    used_once = c.run.ensures.used_once;
+    keyed = c.run.ensures.keyed;
     hosts = c.run.ensures.hosts;
     served = c.run.ensures.served;
     counted = c.run.ensures.counted;
     reported = c.run.ensures.reported;
   };
   says = c.run.ensures.says;
-  net_untouched = c.run.ensures.net_untouched;
+  net_untouched = λ e. rw (c.run.ensures.net_untouched e) refl;
+  marks_untouched = c.run.ensures.marks_untouched;
   spawner_untouched = c.run.ensures.spawner_untouched;
 }
