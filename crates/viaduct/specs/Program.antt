@@ -1,11 +1,12 @@
 -- What the program does, whatever objects it is given.
 use Rattle.std.specs.Prelude.{◌≡◌, ◌⊎◌, ℕ, List, Option, None, Some, Result}
 use Rattle.vd_outside.specs.Files.{Contents, FilesView}
-use Rattle.vd_outside.specs.Net.{NetView}
+use Rattle.vd_marks.specs.Marks.{MarksView}
 use Rattle.vd_outside.specs.Sink.{SinkView}
 use Rattle.vd_outside.specs.Spawner.{SpawnerView}
 use Rattle.vd_cmd.specs.Commands.{form_of}
 use Rattle.vd_edge.specs.KeptFiles.{IsReadAhead}
+use Rattle.vd_host_command.specs.Hosts.{NetsView}
 use Rattle.vd_plan.specs.Lines.{Says, code_of, status_line}
 use Rattle.vd_plan.specs.declared.status.Status.{Status}
 use Rattle.vd_plan.specs.declared.status.Status.TheVariants.{Host, Memory}
@@ -38,7 +39,8 @@ pub record IsRun (destination : Destination) (words : List (List ℕ)) (o : Arou
 pub record Streams : Type 0 where
   pub out : SinkView × SinkView
   pub err : SinkView × SinkView
-  pub net : NetView × NetView
+  pub marks : MarksView × MarksView
+  pub nets : NetsView × NetsView
   pub spawner : SpawnerView × SpawnerView
   pub packets : Option ℕ
 
@@ -46,7 +48,8 @@ pub record Streams : Type 0 where
 pub record WantsMemory (o : Streams) (code : ℕ) (peer : Option (List ℕ)) : Type 0 where
   pub says : Says (status_line Memory) o.err.0 o.err.1
   pub out : o.out.1 ≡ o.out.0
-  pub net : o.net.1 ≡ o.net.0
+  pub marks : o.marks.1 ≡ o.marks.0
+  pub nets : o.nets.1 ≡ o.nets.0
   pub spawner : o.spawner.1 ≡ o.spawner.0
   pub packets : o.packets ≡ None
   pub ends : code ≡ code_of Memory
@@ -58,7 +61,7 @@ pub record IsRunOver (destination : Destination) (words : List (List ℕ)) (fail
   pub last : FilesView
   pub faults : ℕ × ℕ
   pub ahead : IsReadAhead (wanted_by (form_of words)) fails_at faults holds read
-  pub run : IsRun destination words (record { files = (read, last); out = o.out; err = o.err; net = o.net; spawner = o.spawner; packets = o.packets }) code peer
+  pub run : IsRun destination words (record { files = (read, last); out = o.out; err = o.err; marks = o.marks; nets = o.nets; spawner = o.spawner; packets = o.packets }) code peer
 
 -- Either was it, or there was no memory.
 abbrev pub RunsOver : Destination → (words : List (List ℕ)) → (fails_at : List ℕ → Type 0) → (holds : Contents) → Streams → (code : ℕ) → (peer : Option (List ℕ)) → Type 0

@@ -3,7 +3,7 @@
 ghost use Rattle.std.specs.Prelude.{◌≡◌, ◌∷◌, ◌++◌, [], IfOk, IfErr, OnOk};
 ghost use Rattle.vd_cmd.specs.Commands.{form_of};
 ghost use Rattle.vd_edge.specs.KeptFiles.{IsReadAhead};
-ghost use Rattle.viaduct.specs.Ahead.{deals_of, wanted_by, wanted_of};
+ghost use Rattle.viaduct.specs.Ahead.{deals_of, key_files, wanted_by, wanted_of};
 
 use std::alloc::{AllocError, Global};
 use vd_base::limits::{
@@ -12,12 +12,15 @@ use vd_base::limits::{
 };
 use vd_base::{Text, Texts};
 use vd_cmd::{
-    Command, CommandFault, ExcuseWords, FilesCommand, HostWords, ReplayWords, read_words,
+    Command, CommandFault, ExcuseWords, FilesCommand, HostWords, KeySource, ReplayWords, read_words,
 };
 use vd_edge::{Directory, KeptFiles, RealFiles, Wanted};
 use vd_items::Items;
 use vd_outside::{FetchFault, Files};
 use vd_plan::file_name;
+
+/// As many bytes as a key has.
+const KEY_BYTES: u32 = 32;
 
 /// A file with a name of the command line.
 fn named(alloc: Global, name: &Text, most: u32) -> Result<Wanted, AllocError>
@@ -95,6 +98,16 @@ fn of_host(alloc: Global, words: &HostWords) -> Result<Items<Wanted>, AllocError
     Ok(files)
 }
 
+/// The file of a key of 32 bytes, where it is read.
+fn of_key(alloc: Global, key: &KeySource) -> Result<Items<Wanted>, AllocError>
+    ensures { IfOk result (λ files. files ≡ key_files key.now) }
+{
+    match key {
+        KeySource::InFile(name) => one(alloc, name, KEY_BYTES),
+        KeySource::Drawn => Ok(Items::new(alloc)),
+    }
+}
+
 /// The files that a command may fetch, with the most bytes of each. Of deals they are those of as many hosts as a source may
 /// have.
 fn files_of(alloc: Global, command: &Command) -> Result<Items<Wanted>, AllocError>
@@ -121,6 +134,7 @@ fn files_of(alloc: Global, command: &Command) -> Result<Items<Wanted>, AllocErro
         Command::OnFiles(FilesCommand::Excuse(words)) => excused(alloc, words),
         Command::OnFiles(FilesCommand::Deal(..) | FilesCommand::Gen(_) | FilesCommand::Trial(_)) =>
             { Ok(Items::new(alloc)) }
+        Command::KeyDeal(words) => of_key(alloc, &words.key),
         Command::Host(words) => of_host(alloc, words),
         Command::Run(words) => one(alloc, &words.source, SOURCE_BYTES),
     }

@@ -10,7 +10,9 @@ mod speaker;
 
 use first::host_numbered;
 use program::{Ending, Ran, destination_of, end, reason_of, run_over, words_of};
-use reasons::{tell_reason, text_of_first, text_of_packets, text_of_peer, text_of_sent};
+use reasons::{
+    tell_reason, text_of_first, text_of_packets, text_of_peer, text_of_seal, text_of_sent,
+};
 use speaker::speaker_of;
 use std::alloc::Global;
 use std::env::{Env, VarError};
@@ -24,7 +26,16 @@ use vd_edge::{
 };
 use vd_plan::Status;
 use vd_processes::{PARENT, REASONS, RealSpawner};
+use vd_real_marks::RealMarks;
+use vd_sealed_net::SealedNet;
 use vd_telling::Destination;
+
+/// The code of a deal that was used.
+const DEAL_USED: u8 = 33;
+
+/// What a person does then.
+const DEAL_ANEW: &str =
+    "a deal is used once, and the mark of this one stands beside it: take a new deal";
 
 /// The words of the command line after the program's own, and none where one of them is no text.
 fn words(rt: &(impl Env + AllocGlobal)) -> io::Result<Option<Texts>> {
@@ -195,7 +206,10 @@ fn run(
     let told = tells_reasons(&rt, &rt.stderr());
     let process = process::id(rt.process());
     let waits = Waits::new(rt.process(), parent(&rt));
-    let mut net = RealNet::new(SystemSockets::new(rt.clone()?, alloc, waits), alloc);
+    let sockets = SystemSockets::new(rt.clone()?, alloc, waits);
+    let mut net = SealedNet::new(alloc, RealNet::new(sockets, alloc));
+    let marked = SystemDirectory::new(rt.clone()?, process);
+    let mut marks = RealMarks::new(marked, rt.clone()?, alloc);
     let mut spawner = RealSpawner::new(rt.clone()?, alloc, process);
     let files = RealFiles::new(SystemDirectory::new(rt, process), alloc);
     let Ran { ending, mut files } = run_over(
@@ -203,6 +217,7 @@ fn run(
         destination,
         &words,
         files,
+        &mut marks,
         out,
         err,
         &mut net,
@@ -210,7 +225,10 @@ fn run(
     );
     if ending.code == ExitCode::SUCCESS {
         if matches!(destination, Destination::Terminal { .. }) {
-            tell_packets(alloc, &words, &mut files, err, net.packets());
+            // Over sealed links packets go in records, which the net below does not count.
+            if net.seal.is_none() {
+                tell_packets(alloc, &words, &mut files, err, net.net.packets());
+            }
             tell_sent(alloc, err, ending.packets);
         }
     } else if told && !readable {
@@ -220,7 +238,13 @@ fn run(
         let written = out.reason(alloc, "standard output");
         tell_text(alloc, &host, err, reason_of(&files));
         tell_text(alloc, &host, err, written.as_deref());
-        tell_peer(alloc, &host, err, ending.peer.as_ref(), net.reason());
+        tell_text(alloc, &host, err, marks.reason());
+        if ending.code == ExitCode::from(DEAL_USED) {
+            tell_text(alloc, &host, err, Some(DEAL_ANEW));
+        }
+        let sealed = text_of_seal(alloc, net.fault());
+        tell_text(alloc, &host, err, sealed.as_deref());
+        tell_peer(alloc, &host, err, ending.peer.as_ref(), net.net.reason());
         tell_children(alloc, &words, &mut files, err, &mut spawner);
     }
     Ok(ending.code)

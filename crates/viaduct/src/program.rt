@@ -2,6 +2,7 @@
 
 ghost use Rattle.std.specs.Prelude.{◌≡◌, ◌≤◌, IfOk, drop, if◌then◌else◌, map, string_bytes};
 ghost use Rattle.std.specs.Process.{exit_status};
+ghost use Rattle.vd_host_command.specs.Hosts.{nets_of};
 ghost use Rattle.vd_plan.specs.Lines.{Says, code_of, status_line};
 ghost use Rattle.vd_telling.specs.declared.telling.Destination.TheVariants.{File, Terminal};
 ghost use Rattle.viaduct.specs.Program.{IsRun, RunsOver, peer_of};
@@ -11,8 +12,10 @@ use std::alloc::{AllocError, Global};
 use std::process::ExitCode;
 use vd_base::{Name, Texts};
 use vd_edge::{Directory, KeptFiles, RealFiles};
+use vd_marks::Marks;
 use vd_outside::{Files, Net, Sink, Spawner};
 use vd_plan::{HostStatus, Status, tell};
+use vd_sealed_net::SealedNet;
 use vd_telling::{Destination, say_more};
 use vd_top::start;
 
@@ -75,29 +78,41 @@ pub struct Ending {
 
 /// Runs a command line over these objects, and says how that ended; where the error stream goes to a terminal, it then says
 /// more of a fault.
-pub fn run_program<F: Files, O: Sink, E: Sink, N: Net, S: Spawner>(
+pub fn run_program<F: Files, M: Marks, O: Sink, E: Sink, N: Net + Drop, S: Spawner>(
     alloc: Global,
     destination: Destination,
     words: &Texts,
     files: &mut F,
+    marks: &mut M,
     out: &mut O,
     err: &mut E,
-    net: &mut N,
+    net: &mut SealedNet<N>,
     spawner: &mut S,
 ) -> Ending
-    requires listeners { (N.view net.old).given ≤ 4294967000 }
+    requires listeners { (N.view net.old.net).given ≤ 4294967000 }
     requires children { (S.view spawner.old).given ≤ 4294967000 }
     ensures { IsRun destination words.now (record {
       files = (F.view files.old, F.view files.new);
       out = (O.view out.old, O.view out.new);
       err = (E.view err.old, E.view err.new);
-      net = (N.view net.old, N.view net.new);
+      marks = (M.view marks.old, M.view marks.new);
+      nets = (nets_of (N.view net.old.net) net.old.seal net.old.faults, nets_of (N.view net.new.net) net.new.seal net.new.faults);
       spawner = (S.view spawner.old, S.view spawner.new);
       packets = result.packets;
     }) (exit_status result.code) result.peer }
 {
     let mut packets = None;
-    let status = start(alloc, words, files, out, err, net, spawner, &mut packets);
+    let status = start(
+        alloc,
+        words,
+        files,
+        marks,
+        out,
+        err,
+        net,
+        spawner,
+        &mut packets,
+    );
 
     // The line stands: where there is no memory to say more of it, no more is said.
     let _ = say_more(alloc, destination, words, files, err, &status);
@@ -134,22 +149,24 @@ pub fn reason_of<D: Directory + Drop>(files: &Option<KeptFiles<D>>) -> Option<&s
 
 /// Reads the files that a command line may fetch, runs it over what they held, and says how that ended. Each file
 /// is read once, so that all of a run, and what is said of it to a person, speaks of the same bytes.
-pub fn run_over<D: Directory + Drop, O: Sink, E: Sink, N: Net, S: Spawner>(
+pub fn run_over<D: Directory + Drop, M: Marks, O: Sink, E: Sink, N: Net + Drop, S: Spawner>(
     alloc: Global,
     destination: Destination,
     words: &Texts,
     files: RealFiles<D>,
+    marks: &mut M,
     out: &mut O,
     err: &mut E,
-    net: &mut N,
+    net: &mut SealedNet<N>,
     spawner: &mut S,
 ) -> Ran<D>
-    requires listeners { (N.view net.old).given ≤ 4294967000 }
+    requires listeners { (N.view net.old.net).given ≤ 4294967000 }
     requires children { (S.view spawner.old).given ≤ 4294967000 }
     ensures { RunsOver destination words.now (D.fails_at files.directory) (D.holds files.directory) (record {
       out = (O.view out.old, O.view out.new);
       err = (E.view err.old, E.view err.new);
-      net = (N.view net.old, N.view net.new);
+      marks = (M.view marks.old, M.view marks.new);
+      nets = (nets_of (N.view net.old.net) net.old.seal net.old.faults, nets_of (N.view net.new.net) net.new.seal net.new.faults);
       spawner = (S.view spawner.old, S.view spawner.new);
       packets = result.ending.packets;
     }) (exit_status result.ending.code) result.ending.peer }
@@ -161,6 +178,7 @@ pub fn run_over<D: Directory + Drop, O: Sink, E: Sink, N: Net, S: Spawner>(
                 destination,
                 words,
                 &mut files,
+                marks,
                 out,
                 err,
                 net,

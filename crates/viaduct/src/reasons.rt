@@ -9,6 +9,7 @@ use vd_base::{Bytes, Text};
 use vd_edge::PeerReason;
 use vd_outside::Sink;
 use vd_plan::{shown_byte, write_all};
+use vd_sealed::SealFault;
 
 /// Adds a text as it is shown.
 fn push_shown(line: &mut Bytes, text: &[u8]) -> Result<(), AllocError>
@@ -151,5 +152,13 @@ fn line_of(alloc: Global, host: Option<&[u8]>, reason: &[u8]) -> Result<Bytes, A
 pub fn tell_reason<E: Sink>(alloc: Global, host: Option<&[u8]>, err: &mut E, reason: &[u8]) {
     if let Ok(line) = line_of(alloc, host, reason) {
         let _ = write_all(err, line.as_slice());
+    }
+}
+
+/// Why a peer was hung up, or a link took nothing any more, where that is known. A link below that failed or ended tells so itself.
+pub fn text_of_seal(alloc: Global, fault: Option<SealFault>) -> Option<String> {
+    match fault? {
+        SealFault::Peer | SealFault::End => None,
+        fault => format!(in alloc; "sealed link: {fault}").ok(),
     }
 }
