@@ -2,13 +2,15 @@
 
 ghost use Rattle.std.specs.Prelude.{◌≡◌, [], IfOk};
 
-use crate::outside::{Waiting, Writing, net_of, push_bytes, spawner_of};
+use crate::outside::{Waiting, Writing, drawn_of, net_of, push_bytes, spawner_of};
 use std::alloc::{AllocError, Global};
 use vd_base::{Bytes, Texts};
 use vd_items::Items;
+use vd_marks::{Mark, MemMarks};
 use vd_memory_children::MemSpawner;
 use vd_memory_net::MemNet;
-use vd_outside::{FilesCall, MemFiles, MemSink, Stored};
+use vd_outside::{MemFiles, MemSink, Stored};
+use vd_sealed_net::SealedNet;
 
 /// The room of a stream in memory.
 const ROOM: usize = 262_144;
@@ -33,13 +35,16 @@ pub struct Example {
     files: Items<Stored>,
     links: Items<Waiting>,
     children: Items<Writing>,
+    marks: Items<Mark>,
+    draws: Items<[u8; 32]>,
     failing_files: Items<u64>,
+    failing_marks: Items<u64>,
     failing_out: Items<u64>,
     failing_err: Items<u64>,
     failing_net: Items<u64>,
     failing_spawner: Items<u64>,
     most: u32,
-    /// Whether the example goes on with the files that the one before left.
+    /// Whether the example goes on with the files and marks that the one before left.
     keeps: bool,
     /// Whether the contents of stored files are left out.
     quiet: bool,
@@ -50,9 +55,10 @@ pub struct Example {
 pub struct Objects {
     pub words: Texts,
     pub files: MemFiles,
+    pub marks: MemMarks,
     pub out: MemSink,
     pub err: MemSink,
-    pub net: MemNet,
+    pub net: SealedNet<MemNet>,
     pub spawner: MemSpawner,
 }
 
@@ -73,7 +79,10 @@ impl Example {
             files: Items::new(alloc),
             links: Items::new(alloc),
             children: Items::new(alloc),
+            marks: Items::new(alloc),
+            draws: Items::new(alloc),
             failing_files: Items::new(alloc),
+            failing_marks: Items::new(alloc),
             failing_out: Items::new(alloc),
             failing_err: Items::new(alloc),
             failing_net: Items::new(alloc),
@@ -119,6 +128,11 @@ impl Example {
                 lines: Items::new(alloc),
                 status: number(rest),
             })?,
+            "mark" => self.marks.push(Mark {
+                place: Bytes::from_slice(alloc, rest.as_bytes())?,
+                bytes: Some(Bytes::new(alloc)),
+            })?,
+            "draw" => return self.add_draw(alloc, rest),
             "most" => self.most = number(rest).max(1),
             "keep" => self.keeps = true,
             "quiet" => self.quiet = true,
@@ -148,6 +162,17 @@ impl Example {
         }
         self.files.push(file)?;
         Ok(true)
+    }
+
+    /// Takes 32 bytes that will be drawn.
+    fn add_draw(&mut self, alloc: Global, rest: &str) -> Result<bool, AllocError> {
+        match drawn_of(alloc, rest)? {
+            Some(drawn) => {
+                self.draws.push(drawn)?;
+                Ok(true)
+            }
+            None => Ok(false),
+        }
     }
 
     /// Begins a link that waits at an address.
@@ -191,12 +216,13 @@ impl Example {
         Ok(true)
     }
 
-    /// Has a call fail: of the files, the output, the error stream, the net, the last link or the spawner.
+    /// Has a call fail: of the files, the marks, the output, the error stream, the net, the last link or the spawner.
     fn fail(&mut self, rest: &str) -> Result<bool, AllocError> {
         let (object, call) = parted(rest);
         let call = u64::from(number(call));
         match object {
             "files" => self.failing_files.push(call)?,
+            "marks" => self.failing_marks.push(call)?,
             "out" => self.failing_out.push(call)?,
             "err" => self.failing_err.push(call)?,
             "net" => self.failing_net.push(call)?,
@@ -209,10 +235,11 @@ impl Example {
 
     /// The words, and the objects over which they are run.
     fn objects(self, alloc: Global) -> Result<Objects, AllocError>
-        ensures listeners { IfOk result (λ objects. objects.net.listeners ≡ []) }
+        ensures listeners { IfOk result (λ objects. objects.net.net.listeners ≡ []) }
         ensures children { IfOk result (λ objects. objects.spawner.children ≡ []) }
     {
         let files = MemFiles::new(alloc, self.files, self.failing_files);
+        let marks = MemMarks::new(alloc, self.marks, self.draws, self.failing_marks);
         let out = MemSink::new(alloc, ROOM, self.most, self.failing_out)?;
         let err = MemSink::new(alloc, ROOM, self.most, self.failing_err)?;
         let failing_net = self.failing_net;
@@ -222,21 +249,29 @@ impl Example {
         Ok(Objects {
             words: self.words,
             files,
+            marks,
             out,
             err,
-            net,
+            net: SealedNet::new(alloc, net),
             spawner,
         })
     }
 
-    /// Makes the example ready to be run. One that goes on with the files of the one before gets these.
-    pub fn prepared(self, alloc: Global, before: Items<Stored>) -> Result<Prepared, AllocError>
-        ensures listeners { IfOk result (λ prepared. prepared.objects.net.listeners ≡ []) }
+    /// Makes the example ready to be run. One that goes on with the files and marks of the one before gets these; of marks with one
+    /// name the first counts, so the later ones stand before the earlier ones.
+    pub fn prepared(
+        self,
+        alloc: Global,
+        before: Items<Stored>,
+        marks: Items<Mark>,
+    ) -> Result<Prepared, AllocError>
+        ensures listeners { IfOk result (λ prepared. prepared.objects.net.net.listeners ≡ []) }
         ensures children { IfOk result (λ prepared. prepared.objects.spawner.children ≡ []) }
     {
         let mut example = self;
         if example.keeps {
             example.files.append(before)?;
+            example.marks.append(marks)?;
         }
         let name = example.name.clone()?;
         let quiet = example.quiet;

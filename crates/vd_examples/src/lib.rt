@@ -13,10 +13,12 @@
 //!     <HEX              bytes that come on the last link
 //!     child STATUS      begins a child, which ends with this status
 //!     -TEXT             a line that the last child writes
-//!     fail files CALL   the call of the files with this number fails; likewise of `out`, `err`, `net`, `spawner` and, of the
+//!     mark PLACE        the mark at this place is taken
+//!     draw HEX          32 bytes that will be drawn
+//!     fail files CALL   the call of the files with this number fails; likewise of `marks`, `out`, `err`, `net`, `spawner` and, of the
 //!                       last link, `link`
 //!     most COUNT        one write of the output takes at most so many bytes, and one call of a link passes as many
-//!     keep              goes on with the files that the example before left
+//!     keep              goes on with the files and marks that the example before left
 //!     quiet             leaves out what stands in stored files, where more than one content is right
 #![tactic(auto)]
 

@@ -110,3 +110,15 @@ pub fn push_bytes(bytes: &mut Bytes, text: &str) -> Result<(), AllocError> {
     }
     Ok(())
 }
+
+/// The 32 bytes that are written so, if they are 32.
+pub fn drawn_of(alloc: Global, text: &str) -> Result<Option<[u8; 32]>, AllocError> {
+    let mut bytes = Bytes::new(alloc);
+    push_bytes(&mut bytes, text)?;
+    let mut drawn = [0; 32];
+    if bytes.as_slice().len() != 32 {
+        return Ok(None);
+    }
+    drawn.copy_from_slice(bytes.as_slice());
+    Ok(Some(drawn))
+}

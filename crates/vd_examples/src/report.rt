@@ -3,6 +3,7 @@
 use crate::example::Objects;
 use std::io::{self, Write};
 use vd_base::Texts;
+use vd_marks::MarksCall;
 use vd_outside::{FilesCall, NetCall, SpawnerCall, Stored};
 
 /// Prints bytes line by line: a line with its end behind `|`, a piece without an end behind `>`.
@@ -68,6 +69,23 @@ fn print_call<W: Write>(
     }
 }
 
+/// Prints a call of the marks.
+fn print_marks_call<W: Write>(to: &mut W, call: &MarksCall) -> io::Result<()> {
+    match call {
+        MarksCall::Draw => to.write_all(b"draw\n"),
+        MarksCall::Claim(place) => {
+            to.write_all(b"claim ")?;
+            to.write_all(place.as_slice())?;
+            to.write_all(b"\n")
+        }
+        MarksCall::Release(place) => {
+            to.write_all(b"release ")?;
+            to.write_all(place.as_slice())?;
+            to.write_all(b"\n")
+        }
+    }
+}
+
 /// Prints a call of the net.
 fn print_net_call<W: Write>(to: &mut W, call: &NetCall) -> io::Result<()> {
     match call {
@@ -124,8 +142,8 @@ fn print_spawner_call<W: Write>(to: &mut W, call: &SpawnerCall) -> io::Result<()
     }
 }
 
-/// Prints the status of a run, what was written to its streams, the calls of its files, its net and its spawner, and what was
-/// sent on each link that came back.
+/// Prints the status of a run, what was written to its streams, the calls of its files, its marks, its net and its spawner, and what
+/// was sent on each link that came back.
 pub fn print_run<W: Write>(
     to: &mut W,
     name: &str,
@@ -141,10 +159,13 @@ pub fn print_run<W: Write>(
     for call in objects.files.asked.as_slice() {
         print_call(to, objects.files.files.as_slice(), call, quiet)?;
     }
-    for call in objects.net.asked() {
+    for call in objects.marks.asked.as_slice() {
+        print_marks_call(to, call)?;
+    }
+    for call in objects.net.net.asked() {
         print_net_call(to, call)?;
     }
-    for link in objects.net.back() {
+    for link in objects.net.net.back() {
         print_sent(to, link.bytes())?;
     }
     for call in objects.spawner.asked() {
