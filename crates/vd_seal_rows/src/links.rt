@@ -18,6 +18,12 @@ const LINK: [u8; 32] = [
     0x78, 0x61, 0x68, 0xda, 0x95, 0xb7, 0x91, 0x5c, 0xac, 0x0d, 0xe2, 0xb7, 0x29, 0xee, 0x36, 0x8e,
 ];
 
+/// The digest of a plan.
+const PLAN: [u8; 32] = [
+    0x46, 0xa0, 0xb4, 0x96, 0x65, 0x83, 0xc6, 0x1b, 0x4e, 0xb1, 0x1a, 0x84, 0xe3, 0x0c, 0x7f, 0xfb,
+    0x90, 0x7d, 0xcb, 0x7e, 0x8a, 0xfa, 0x7a, 0x4b, 0xf6, 0x7d, 0x40, 0x30, 0xdf, 0xc6, 0x50, 0xb6,
+];
+
 /// A packet of one word, as it goes out.
 const PACKET: [u8; 6] = [0x56, 1, 0, 0, 0, 0x2a];
 
@@ -29,6 +35,20 @@ fn long_packet() -> [u8; 66] {
     for place in 0..64 {
         bytes[place + 2] = place as u8;
     }
+    bytes
+}
+
+/// The greeting of a host to the other of two, as it goes out.
+fn greeting(from: u8, to: u8) -> [u8; 36] {
+    let plan = PLAN;
+    let mut bytes = [0; 36];
+    bytes[0] = 0x47;
+    bytes[1] = 1;
+    for place in 0..32 {
+        bytes[place + 2] = plan[place];
+    }
+    bytes[34] = from;
+    bytes[35] = to;
     bytes
 }
 
@@ -55,6 +75,21 @@ fn print_record<W: Write>(
 {
     frame.set_record(keys, number, bytes);
     print(to, name, frame.as_slice())
+}
+
+/// Prints the records of a proof, a greeting and packets of one host, and those of a proof and a greeting of the other.
+fn print_records<W: Write>(
+    to: &mut W,
+    frame: &mut Frame,
+    own: &Keys,
+    other: &Keys,
+) -> io::Result<()> {
+    print_record(to, frame, "record 0 of 0", own, 0, &[])?;
+    print_record(to, frame, "record 1 of 0", own, 1, &greeting(0, 1))?;
+    print_record(to, frame, "record 2 of 0", own, 2, &PACKET)?;
+    print_record(to, frame, "record 3 of 0", own, 3, &long_packet())?;
+    print_record(to, frame, "record 0 of 1", other, 0, &[])?;
+    print_record(to, frame, "record 1 of 1", other, 1, &greeting(1, 0))
 }
 
 /// Prints whether a covered packet with this code is opened at this place.
@@ -120,10 +155,7 @@ pub fn print_all<W: Write>(to: &mut W, alloc: Global) -> anyhow::Result<()> {
     print(to, "cipher key of 1", &back.cipher)?;
     print(to, "code key of 1", &back.code)?;
     print(to, "nonce", &nonce(&counted(), HostId(1), 3))?;
-    print_record(to, &mut frame, "record 0 of 0", &own, 0, &[])?;
-    print_record(to, &mut frame, "record 2 of 0", &own, 2, &PACKET)?;
-    print_record(to, &mut frame, "record 3 of 0", &own, 3, &long_packet())?;
-    print_record(to, &mut frame, "record 0 of 1", &other, 0, &[])?;
+    print_records(to, &mut frame, &own, &other)?;
     print_opening(to, &mut frame, &own, &other)?;
     Ok(())
 }

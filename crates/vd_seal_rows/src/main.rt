@@ -2,6 +2,7 @@
 //! and records. `stdout` has what is to come.
 #![tactic(auto)]
 
+mod dealings;
 mod links;
 mod standards;
 
@@ -29,5 +30,6 @@ fn counted() -> [u8; 32] {
 fn main(rt: HostRuntime) -> anyhow::Result<()> {
     let mut to = rt.stdout();
     standards::print_all(&mut to)?;
+    dealings::print_all(&mut to)?;
     links::print_all(&mut to, rt.alloc())
 }

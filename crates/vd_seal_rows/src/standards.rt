@@ -1,8 +1,9 @@
-use crate::print;
+use crate::{counted, print};
 use std::io::{self, Write};
 use vd_seal::{derive, hmac, key_stream};
 
-/// Prints the cases 1 to 3 of RFC 4231, the cases 1 and 3 of RFC 5869, and the blocks 1, 2 and 5 of RFC 8439, A.1.
+/// Prints the cases 1 to 3 of RFC 4231, the cases 1 and 3 of RFC 5869, and of RFC 8439 the blocks 1, 2 and 5 of A.1
+/// and the first of 2.4.2.
 pub fn print_all<W: Write>(to: &mut W) -> io::Result<()> {
     print_codes(to)?;
     print_keys(to)?;
@@ -36,9 +37,20 @@ fn first_block(stream: &[u8; 128]) -> [u8; 64] {
     block
 }
 
+/// The block of a stream behind the first.
+fn second_block(stream: &[u8; 128]) -> [u8; 64] {
+    let mut block = [0; 64];
+    for place in 0..64 {
+        block[place] = stream[place + 64];
+    }
+    block
+}
+
 /// The streams of RFC 8439.
 fn print_streams<W: Write>(to: &mut W) -> io::Result<()> {
     print(to, "RFC 8439, A.1, 1 and 2:", &key_stream(&[0; 32], 0))?;
     let fifth = first_block(&key_stream(&[0; 32], 2 << 56));
-    print(to, "RFC 8439, A.1, 5:", &fifth)
+    print(to, "RFC 8439, A.1, 5:", &fifth)?;
+    let behind = second_block(&key_stream(&counted(), 0x4a00_0000));
+    print(to, "RFC 8439, 2.4.2:", &behind)
 }
