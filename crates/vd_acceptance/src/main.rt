@@ -10,41 +10,57 @@ use std::io::{self, BufRead, BufReader, Write};
 use vd_base::Texts;
 use vd_examples::{Example, Objects, Prepared, print_run};
 use vd_items::Items;
+use vd_marks::{Mark, Marks};
 use vd_outside::{Files, Net, Sink, Spawner, Stored};
+use vd_sealed_net::SealedNet;
 use vd_top::start;
 
 /// The number of the status with which the words are run.
-fn code_of<F: Files, O: Sink, E: Sink, N: Net, S: Spawner>(
+fn code_of<F: Files, M: Marks, O: Sink, E: Sink, N: Net + Drop, S: Spawner>(
     alloc: Global,
     words: &Texts,
     files: &mut F,
+    marks: &mut M,
     out: &mut O,
     err: &mut E,
-    net: &mut N,
+    net: &mut SealedNet<N>,
     spawner: &mut S,
 ) -> u8
-    requires listeners { (N.view net.old).given ≤ 4294967000 }
+    requires listeners { (N.view net.old.net).given ≤ 4294967000 }
     requires children { (S.view spawner.old).given ≤ 4294967000 }
 {
     let mut packets = None;
-    start(alloc, words, files, out, err, net, spawner, &mut packets).code()
+    start(
+        alloc,
+        words,
+        files,
+        marks,
+        out,
+        err,
+        net,
+        spawner,
+        &mut packets,
+    )
+    .code()
 }
 
-/// Runs one example, and prints what it leaves; the files that it leaves stand there for the next one.
+/// Runs one example, and prints what it leaves; the files and marks that it leaves stand there for the next one.
 fn run_example<W: Write>(
     alloc: Global,
     to: &mut W,
     example: Example,
     before: Items<Stored>,
-) -> io::Result<Items<Stored>> {
+    marks: Items<Mark>,
+) -> io::Result<(Items<Stored>, Items<Mark>)> {
     let Prepared {
         name,
         quiet,
         objects,
-    } = example.prepared(alloc, before)?;
+    } = example.prepared(alloc, before, marks)?;
     let Objects {
         words,
         mut files,
+        mut marks,
         mut out,
         mut err,
         mut net,
@@ -54,6 +70,7 @@ fn run_example<W: Write>(
         alloc,
         &words,
         &mut files,
+        &mut marks,
         &mut out,
         &mut err,
         &mut net,
@@ -62,14 +79,15 @@ fn run_example<W: Write>(
     let left = Objects {
         words,
         files,
+        marks,
         out,
         err,
         net,
         spawner,
     };
     print_run(to, name.as_str(), code, &left, quiet)?;
-    let Objects { files, .. } = left;
-    Ok(files.files)
+    let Objects { files, marks, .. } = left;
+    Ok((files.files, marks.marks))
 }
 
 fn main(rt: HostRuntime) -> io::Result<()> {
@@ -77,10 +95,13 @@ fn main(rt: HostRuntime) -> io::Result<()> {
     let mut to = rt.stdout();
     let mut example = Example::new(alloc)?;
     let mut files = Items::new(alloc);
+    let mut marks = Items::new(alloc);
     for line in BufReader::new(alloc, rt.reader())?.lines(alloc) {
         let line = line?;
         if line.as_str() == "run" {
-            files = run_example(alloc, &mut to, example, files)?;
+            let left = run_example(alloc, &mut to, example, files, marks)?;
+            files = left.0;
+            marks = left.1;
             example = Example::new(alloc)?;
         } else if !example.read(alloc, line.as_str())? {
             to.write_all(b"no line of an example: ")?;
