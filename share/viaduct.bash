@@ -7,7 +7,7 @@ _viaduct() {
     mapfile -t COMPREPLY < <(compgen -W "$(sed -n 's/^  viaduct \([a-z-]*\).*/\1/p' <<< "$help")" -- "$word")
     return
   fi
-  read -r -a form < <(sed -n "s/^  viaduct ${COMP_WORDS[1]//[^a-z]/} //p" <<< "$help" | sed 's/  .*//')
+  read -r -a form < <(sed -n "s/^  viaduct ${COMP_WORDS[1]//[^a-z-]/} //p" <<< "$help" | sed 's/  .*//')
   wanted=${form[COMP_CWORD - 2]:-}
   case $wanted in
     HOST)
@@ -17,6 +17,8 @@ _viaduct() {
       mapfile -t COMPREPLY < <(compgen -W messages -- "$word") ;;
     '[each]')
       mapfile -t COMPREPLY < <(compgen -W each -- "$word") ;;
+    KEY)
+      mapfile -t COMPREPLY < <(compgen -W draw -- "$word") ;;
     SOURCE)
       compopt -o filenames 2> /dev/null
       mapfile -t COMPREPLY < <(compgen -f -X '!*.via' -- "$word"; compgen -d -- "$word") ;;
