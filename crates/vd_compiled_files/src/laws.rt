@@ -1,7 +1,7 @@
 ghost use Rattle.vd_compiled_files.specs.Compiled.{CompiledFilesAreReadBack, CompiledFilesAreShort, CompiledFilesCanBeRead};
 
 use vd_core::Program;
-use vd_host_programs::numbers_fit;
+use vd_joint::numbers_fit;
 use vd_read_back::counts_fit;
 
 /// Each file that `compile` stores is read as the program of its host: with the names of all hosts, its number and the plan, which is

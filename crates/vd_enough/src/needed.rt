@@ -7,8 +7,9 @@ ghost use Rattle.vd_enough.specs.Enough.{needs_for};
 
 use std::alloc::{AllocError, Global};
 use vd_core::Program;
-use vd_host_programs::{numbers_fit, split};
+use vd_host_programs::split;
 use vd_items::Items;
+use vd_joint::numbers_fit;
 use vd_needs::{HostNeeds, needs};
 use vd_read_back::counts_fit;
 

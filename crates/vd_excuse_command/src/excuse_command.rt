@@ -23,7 +23,7 @@ use vd_compiling::no_assignment;
 use vd_core::Program;
 use vd_depending::host_named;
 use vd_frontend::{least_labels, load_source};
-use vd_host_programs::numbers_fit;
+use vd_joint::numbers_fit;
 use vd_outside::Files;
 use vd_plan::{Answer, Status};
 use vd_resolve::Resolved;

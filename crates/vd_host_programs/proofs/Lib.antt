@@ -1,3 +1,2 @@
 pub mod HostCodes
 pub mod Places
-pub mod StatementTests

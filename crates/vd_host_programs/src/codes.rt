@@ -4,13 +4,13 @@ ghost use Rattle.vd_base.specs.Limits.{most_hosts};
 ghost use Rattle.vd_execution.specs.Text.{pick};
 ghost use Rattle.vd_host_programs.specs.Programs.{IsRunnable, host_codes, proto_at};
 
-use crate::numbers::numbers_fit;
 use std::alloc::{AllocError, Global};
 use vd_base::{HostId, Proto};
 use vd_built::Built;
 use vd_core::Program;
 use vd_execution::{Instr, Line};
 use vd_items::Items;
+use vd_joint::numbers_fit;
 use vd_protocol::protocols;
 use vd_split::{host_code, joint_code};
 

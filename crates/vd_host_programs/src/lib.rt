@@ -3,8 +3,6 @@
 
 mod codes;
 mod laws;
-mod numbers;
 
 pub use codes::split;
 pub use laws::host_codes_can_run;
-pub use numbers::numbers_fit;

@@ -12,7 +12,7 @@ use std::alloc::{AllocError, Global};
 use vd_constraints::{Labels, constraints};
 use vd_core::Program;
 use vd_elaborate::elaborate;
-use vd_host_programs::numbers_fit;
+use vd_joint::numbers_fit;
 use vd_long::lengthen_labelled;
 use vd_mux::turn_labelled;
 use vd_resolve::Resolved;

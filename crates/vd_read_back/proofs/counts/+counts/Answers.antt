@@ -1,5 +1,5 @@
 use Rattle.std.proofs.Common.{refl}
-use Rattle.vd_host_programs.proofs.StatementTests.{if_meets, for_meets}
+use Rattle.vd_joint.proofs.StatementTests.{if_meets, for_meets}
 use Rattle.vd_read_back.specs.Stored.{count_fits}
 use Rattle.vd_read_back.proofs.counts.+counts.Goals as goal
 

@@ -1,7 +1,7 @@
 use Rattle.std.proofs.Common.{refl}
 use Rattle.vd_joint.specs.Outcome.{numbers_fit}
-use Rattle.vd_host_programs.proofs.StatementTests.{if_meets, for_meets}
-use Rattle.vd_host_programs.proofs.numbers.+numbers.Goals as goal
+use Rattle.vd_joint.proofs.StatementTests.{if_meets, for_meets}
+use Rattle.vd_joint.proofs.numbers.+numbers.Goals as goal
 
 pub statement_fits-returns-in-If : goal.statement_fits-returns-in-If
 statement_fits-returns-in-If t c =
