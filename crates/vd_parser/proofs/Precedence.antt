@@ -1,13 +1,16 @@
 -- Operators as the parser tests them and as the grammar has them.
-use Rattle.std.proofs.Common.{◌≡◌, ℕ, ◌<◌, Bool, true, false, ◌||◌, inl, inr, true≢false, List, [], ◌∷◌, ◌++◌, length, Some, None, nat_eq, refl, sym, ap, ◌∙◌, subst, arith, eqb-true}
+use Rattle.std.proofs.Common.{◌≡◌, ℕ, ◌<◌, Bool, true, false, ◌||◌, if◌then◌else◌, Option, inl, inr, true≢false, List, [], ◌∷◌, ◌++◌, length, Some, None, nat_eq, refl, sym, ap, ◌∙◌, subst, arith, eqb-true}
 use Rattle.std.proofs.lemmas.Bool.{or_left, or_from, cases_Bool, or_cases}
 use Rattle.vd_grammar.specs.Grammar.{Ebnf, Tok, Sym, Eps, Seq, Alt, Star, one_of}
 use Rattle.vd_grammar.specs.Machine.{has, first}
 use Rattle.vd_grammar.specs.Trees.{Tree, Leaf, Both, First, Second, Empty}
 use Rattle.vd_grammar.specs.Reading.{head, Within, Gives, Collects}
 use Rattle.vd_core.specs.declared.source.Infix.{Infix}
+use Rattle.vd_core.specs.declared.source.Infix.TheVariants as op
 use Rattle.vd_core.specs.declared.source.Prefix.{Prefix}
+use Rattle.vd_core.specs.declared.source.Prefix.TheVariants as prefix
 use Rattle.vd_core.specs.declared.source.Direction.{Direction}
+use Rattle.vd_core.specs.declared.source.Direction.TheVariants as direction
 use Rattle.vd_core.specs.declared.source.Expr.{Expr}
 use Rattle.vd_base.specs.declared.ids.Span.{Span}
 use Rattle.vd_core.specs.declared.source.Sign.{Sign}
@@ -24,7 +27,7 @@ use Rattle.vd_parser.specs.declared.cursor.Refusal.{Refusal}
 use Rattle.vd_parser.specs.Language.{Symbol, tok, BOR, BXOR, BAND, SUM, PROD, STMT, comparison_ops, shift_ops, prefix_ops}
 use Rattle.vd_parser.specs.Syntax.{token_of, span_of, infix_of, direction_of, prefix_of, prefixes_of, chained, link_of, bor_of, bor_links_of, bxor_of, bxor_links_of, band_of, band_links_of, sum_of, sum_links_of, prod_of, prod_links_of, shift_links_of, statements_of, statement_of}
 use Rattle.vd_parser.specs.Parsing.{language, next_kind, kind_at, Refused}
-use Rattle.vd_parser.specs.Levels.{begins_statement, comparison_at, infix_at, prefix_at, direction_at, ops_of, symbol_of, operand_symbol, level_of, operand_of, links_of}
+use Rattle.vd_parser.specs.Levels.{begins_statement, is_kind, comparison_at, infix_at, prefix_at, direction_at, ops_of, symbol_of, operand_symbol, level_of, operand_of, links_of}
 use Rattle.vd_parser.proofs.Ready.{F, E, language_ll1}
 use Rattle.vd_grammar.proofs.Readings as readings
 use Rattle.vd_parser.proofs.Meanings.{statements_more, statements_none, shifts_more, shifts_none}
@@ -48,60 +51,62 @@ head_at us vs t s = head_is us ∙ ap next_kind s
 kind_of_first : (us vs : List Token) (t : Token) → us ≡ t ∷ vs → kind_at us ≡ t.kind
 kind_of_first us vs t s = ap kind_at s
 
+-- what stands nowhere
+nowhere : {A : Type 0} {a : A} → ◌≡◌ {A = Option A} None (Some a) → ⊥
+nowhere e = absurd cc
+
+-- a choice by tests that gives something, and the tests joined
+some_last : {A : Type 0} (b : Bool) (x o : A) → (if b then Some x else None) ≡ Some o → (b || false) ≡ true
+some_last true x o e = refl
+some_last false x o e = absurd (nowhere e)
+
+some_more : {A : Type 0} (b : Bool) (x o : A) (rest : Option A) (others : Bool) → (rest ≡ Some o → others ≡ true) → (if b then Some x else rest) ≡ Some o → (b || others) ≡ true
+some_more true x o rest others h e = refl
+some_more false x o rest others h e = h e
+
+-- and one that gives nothing
+none_last : {A : Type 0} (b : Bool) (x : A) → (if b then Some x else None) ≡ None → (b || false) ≡ false
+none_last true x e = absurd (nowhere (sym e))
+none_last false x e = refl
+
+none_more : {A : Type 0} (b : Bool) (x : A) (rest : Option A) (others : Bool) → (rest ≡ None → others ≡ false) → (if b then Some x else rest) ≡ None → (b || others) ≡ false
+none_more true x rest others h e = absurd (nowhere (sym e))
+none_more false x rest others h e = h e
+
 -- what a level's operator is
 infix_has : (l : Level) (k : TokenKind) (o : Infix) → infix_at l k ≡ Some o → has (code_of k) (first F (ops_of l)) ≡ true
-infix_has level.Or kind.Pipe o e = refl
-infix_has level.Or _ o e = absurd cc
-infix_has level.Xor kind.Caret o e = refl
-infix_has level.Xor _ o e = absurd cc
-infix_has level.And kind.Ampersand o e = refl
-infix_has level.And _ o e = absurd cc
-infix_has level.Sum kind.Plus o e = refl
-infix_has level.Sum kind.Minus o e = refl
-infix_has level.Sum _ o e = absurd cc
-infix_has level.Product kind.Star o e = refl
-infix_has level.Product kind.Slash o e = refl
-infix_has level.Product kind.Percent o e = refl
-infix_has level.Product _ o e = absurd cc
+infix_has level.Or k o e = some_last (is_kind k kind.Pipe) op.Or o e
+infix_has level.Xor k o e = some_last (is_kind k kind.Caret) op.Xor o e
+infix_has level.And k o e = some_last (is_kind k kind.Ampersand) op.And o e
+infix_has level.Sum k o e = some_more (is_kind k kind.Plus) op.Add o _ _ (some_last (is_kind k kind.Minus) op.Sub o) e
+infix_has level.Product k o e = some_more (is_kind k kind.Star) op.Mul o _ _ (some_more (is_kind k kind.Slash) op.Div o _ _ (some_last (is_kind k kind.Percent) op.Rem o)) e
 
 infix_is : (l : Level) (k : TokenKind) (o : Infix) → infix_at l k ≡ Some o → o ≡ infix_of k
 infix_is level.Or kind.Pipe o e = cc
-infix_is level.Or _ o e = absurd cc
+infix_is level.Or _ o e = absurd (nowhere e)
 infix_is level.Xor kind.Caret o e = cc
-infix_is level.Xor _ o e = absurd cc
+infix_is level.Xor _ o e = absurd (nowhere e)
 infix_is level.And kind.Ampersand o e = cc
-infix_is level.And _ o e = absurd cc
+infix_is level.And _ o e = absurd (nowhere e)
 infix_is level.Sum kind.Plus o e = cc
 infix_is level.Sum kind.Minus o e = cc
-infix_is level.Sum _ o e = absurd cc
+infix_is level.Sum _ o e = absurd (nowhere e)
 infix_is level.Product kind.Star o e = cc
 infix_is level.Product kind.Slash o e = cc
 infix_is level.Product kind.Percent o e = cc
-infix_is level.Product _ o e = absurd cc
+infix_is level.Product _ o e = absurd (nowhere e)
 
 infix_none : (l : Level) (k : TokenKind) → infix_at l k ≡ None → has (code_of k) (first F (ops_of l)) ≡ false
-infix_none level.Or kind.Pipe e = absurd cc
-infix_none level.Or _ e = refl
-infix_none level.Xor kind.Caret e = absurd cc
-infix_none level.Xor _ e = refl
-infix_none level.And kind.Ampersand e = absurd cc
-infix_none level.And _ e = refl
-infix_none level.Sum kind.Plus e = absurd cc
-infix_none level.Sum kind.Minus e = absurd cc
-infix_none level.Sum _ e = refl
-infix_none level.Product kind.Star e = absurd cc
-infix_none level.Product kind.Slash e = absurd cc
-infix_none level.Product kind.Percent e = absurd cc
-infix_none level.Product _ e = refl
+infix_none level.Or k e = none_last (is_kind k kind.Pipe) op.Or e
+infix_none level.Xor k e = none_last (is_kind k kind.Caret) op.Xor e
+infix_none level.And k e = none_last (is_kind k kind.Ampersand) op.And e
+infix_none level.Sum k e = none_more (is_kind k kind.Plus) op.Add _ _ (none_last (is_kind k kind.Minus) op.Sub) e
+infix_none level.Product k e = none_more (is_kind k kind.Star) op.Mul _ _ (none_more (is_kind k kind.Slash) op.Div _ _ (none_last (is_kind k kind.Percent) op.Rem)) e
 
 comparison_has : (k : TokenKind) (o : Infix) → comparison_at k ≡ Some o → has (code_of k) (first F comparison_ops) ≡ true
-comparison_has kind.EqualEqual o e = refl
-comparison_has kind.NotEqual o e = refl
-comparison_has kind.Less o e = refl
-comparison_has kind.LessEqual o e = refl
-comparison_has kind.Greater o e = refl
-comparison_has kind.GreaterEqual o e = refl
-comparison_has _ o e = absurd cc
+comparison_has k o e =
+    some_more (is_kind k kind.EqualEqual) op.Equal o _ _ (some_more (is_kind k kind.NotEqual) op.NotEqual o _ _ (some_more (is_kind k kind.Less) op.Less o _ _
+    (some_more (is_kind k kind.LessEqual) op.LessEqual o _ _ (some_more (is_kind k kind.Greater) op.Greater o _ _ (some_last (is_kind k kind.GreaterEqual) op.GreaterEqual o))))) e
 
 comparison_is : (k : TokenKind) (o : Infix) → comparison_at k ≡ Some o → o ≡ infix_of k
 comparison_is kind.EqualEqual o e = cc
@@ -110,46 +115,34 @@ comparison_is kind.Less o e = cc
 comparison_is kind.LessEqual o e = cc
 comparison_is kind.Greater o e = cc
 comparison_is kind.GreaterEqual o e = cc
-comparison_is _ o e = absurd cc
+comparison_is _ o e = absurd (nowhere e)
 
 comparison_none : (k : TokenKind) → comparison_at k ≡ None → has (code_of k) (first F comparison_ops) ≡ false
-comparison_none kind.EqualEqual e = absurd cc
-comparison_none kind.NotEqual e = absurd cc
-comparison_none kind.Less e = absurd cc
-comparison_none kind.LessEqual e = absurd cc
-comparison_none kind.Greater e = absurd cc
-comparison_none kind.GreaterEqual e = absurd cc
-comparison_none _ e = refl
+comparison_none k e =
+    none_more (is_kind k kind.EqualEqual) op.Equal _ _ (none_more (is_kind k kind.NotEqual) op.NotEqual _ _ (none_more (is_kind k kind.Less) op.Less _ _
+    (none_more (is_kind k kind.LessEqual) op.LessEqual _ _ (none_more (is_kind k kind.Greater) op.Greater _ _ (none_last (is_kind k kind.GreaterEqual) op.GreaterEqual))))) e
 
 prefix_has : (k : TokenKind) (o : Prefix) → prefix_at k ≡ Some o → has (code_of k) (first F prefix_ops) ≡ true
-prefix_has kind.Bang o e = refl
-prefix_has kind.Tilde o e = refl
-prefix_has _ o e = absurd cc
+prefix_has k o e = some_more (is_kind k kind.Bang) prefix.Flip o _ _ (some_last (is_kind k kind.Tilde) prefix.Not o) e
 
 prefix_is : (k : TokenKind) (o : Prefix) → prefix_at k ≡ Some o → o ≡ prefix_of k
 prefix_is kind.Bang o e = cc
 prefix_is kind.Tilde o e = cc
-prefix_is _ o e = absurd cc
+prefix_is _ o e = absurd (nowhere e)
 
 prefix_none : (k : TokenKind) → prefix_at k ≡ None → has (code_of k) (first F prefix_ops) ≡ false
-prefix_none kind.Bang e = absurd cc
-prefix_none kind.Tilde e = absurd cc
-prefix_none _ e = refl
+prefix_none k e = none_more (is_kind k kind.Bang) prefix.Flip _ _ (none_last (is_kind k kind.Tilde) prefix.Not) e
 
 direction_has : (k : TokenKind) (o : Direction) → direction_at k ≡ Some o → has (code_of k) (first F shift_ops) ≡ true
-direction_has kind.ShiftLeft o e = refl
-direction_has kind.ShiftRight o e = refl
-direction_has _ o e = absurd cc
+direction_has k o e = some_more (is_kind k kind.ShiftLeft) direction.Left o _ _ (some_last (is_kind k kind.ShiftRight) direction.Right o) e
 
 direction_is : (k : TokenKind) (o : Direction) → direction_at k ≡ Some o → o ≡ direction_of k
 direction_is kind.ShiftLeft o e = cc
 direction_is kind.ShiftRight o e = cc
-direction_is _ o e = absurd cc
+direction_is _ o e = absurd (nowhere e)
 
 direction_none : (k : TokenKind) → direction_at k ≡ None → has (code_of k) (first F shift_ops) ≡ false
-direction_none kind.ShiftLeft e = absurd cc
-direction_none kind.ShiftRight e = absurd cc
-direction_none _ e = refl
+direction_none k e = none_more (is_kind k kind.ShiftLeft) direction.Left _ _ (none_last (is_kind k kind.ShiftRight) direction.Right) e
 
 -- tokens that are operators
 pub infix_there : (l : Level) (us : List Token) (o : Infix) → infix_at l (kind_at us) ≡ Some o → 0 < length us
