@@ -3,3 +3,4 @@ pub mod Rules
 pub mod Limits
 pub mod Walks
 pub mod Scopes
+pub mod Simple

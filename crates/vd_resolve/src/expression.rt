@@ -9,8 +9,8 @@ ghost use Rattle.vd_resolve.specs.Scopes.{scope_of, sizes_of};
 
 use crate::declarations::Declarations;
 use crate::fault::NameFault;
-use crate::kinds::{of_infix, of_mux, of_prefix, of_shift, on_words, same_kinds};
-use crate::names::{check_form, known};
+use crate::kinds::{of_infix, of_prefix, of_shift, same_kinds};
+use crate::parts::{named, of_element, of_input, of_three, of_two, relabelled};
 use crate::size::Size;
 use crate::symbol::Symbol;
 use crate::table::NameTable;
@@ -35,7 +35,7 @@ struct Arguments {
     size: Size,
 }
 
-fn kind_at(at: Span, kind: Option<Kind>) -> Result<Kind, NameFault>
+pub(crate) fn kind_at(at: Span, kind: Option<Kind>) -> Result<Kind, NameFault>
     ensures ok { IfOk result (λ given. kind_or at kind ≡ Ok given) }
     ensures fault { IfErr result (IsFaultOf (kind_or at kind)) }
 {
@@ -58,13 +58,13 @@ fn with_signs(operand: Typed, signs: &[Sign]) -> Result<Typed, NameFault>
 }
 
 #[tactic(auto, using(crate::proofs::Lookups::variable_at))]
-fn is_variable(values: &Values<'_>, name: &[u8]) -> bool
+pub(crate) fn is_variable(values: &Values<'_>, name: &[u8]) -> bool
     ensures { result ≡ is_variable (variables values.now) name.now }
 {
     matches!(values.get(name), Some(Symbol::Variable(_)))
 }
 
-fn value(values: &Values<'_>, name: &Ident) -> Result<Kind, NameFault>
+pub(crate) fn value(values: &Values<'_>, name: &Ident) -> Result<Kind, NameFault>
     ensures ok { IfOk result (λ kind. value_kind name.now.span (at_name values.now name.now.name) ≡ Ok kind) }
     ensures fault { IfErr result (IsFaultOf (value_kind name.now.span (at_name values.now name.now.name))) }
 {
@@ -134,56 +134,26 @@ impl<'a> Declarations<'a> {
                 kind: Kind::Bool,
                 size: Size::one(),
             }),
-            Expr::Value(name) => {
-                let kind = value(values, name)?;
-                let size = if is_variable(values, name.name.as_slice()) {
-                    Size::one()
-                } else {
-                    Size::nothing()
-                };
-                Ok(Typed { kind, size })
-            }
+            Expr::Value(name) => named(values, name),
             Expr::Element(name, index) => {
                 let index = self.expr(values, index)?;
-                let kind = element(values, name, index.kind)?;
-                Ok(Typed {
-                    kind,
-                    size: index.size.also(Size::one()),
-                })
+                of_element(values, name, index)
             }
-            Expr::Input(host) => {
-                known(self.hosts, host)?;
-                Ok(Typed {
-                    kind: Kind::Word,
-                    size: Size::one(),
-                })
-            }
+            Expr::Input(host) => of_input(self.hosts, host),
             Expr::Min(at, left, right) | Expr::Max(at, left, right) => {
                 let left = self.expr(values, left)?;
                 let right = self.expr(values, right)?;
-                let kind = kind_at(*at, on_words(Kind::Word, left.kind, right.kind))?;
-                Ok(Typed {
-                    kind,
-                    size: left.size.also(right.size).also(Size::one()),
-                })
+                of_two(*at, left, right)
             }
             Expr::Mux(at, test, left, right) => {
                 let test = self.expr(values, test)?;
                 let left = self.expr(values, left)?;
                 let right = self.expr(values, right)?;
-                let kind = kind_at(*at, of_mux(test.kind, left.kind, right.kind))?;
-                Ok(Typed {
-                    kind,
-                    size: test.size.also(left.size).also(right.size).also(Size::one()),
-                })
+                of_three(*at, test, left, right)
             }
             Expr::Declassify(inner, to) | Expr::Endorse(inner, to) => {
                 let inner = self.expr(values, inner)?;
-                check_form(self.principals, to)?;
-                Ok(Typed {
-                    kind: inner.kind,
-                    size: inner.size.also(Size::one()),
-                })
+                relabelled(self.principals, inner, to)
             }
             Expr::Unary(inner, signs) => {
                 let inner = self.expr(values, inner)?;

@@ -1,20 +1,19 @@
 //! Statements: the values in sight after them, and sizes.
 
 ghost use Rattle.std.specs.Prelude.{◌≡◌, map, length, take, Ok, OnOk, IfErr, IfOk};
-ghost use Rattle.vd_resolve.specs.Rules.{checking, in_sequence, block_check, is_kind, is_stored, is_put};
-ghost use Rattle.vd_base.specs.Names.{at_name};
+ghost use Rattle.vd_resolve.specs.Rules.{checking, in_sequence, block_check, is_kind};
 ghost use Rattle.vd_resolve.specs.Sizes.{IsCapped, statement_size, statements_after, block_size, nothing};
 ghost use Rattle.vd_resolve.specs.Walks.{IsFaultOf, IsSized, variables};
 ghost use Rattle.vd_resolve.specs.Scopes.{scope_of, sizes_of};
 
 use crate::declarations::Declarations;
-use crate::expression::{Values, element, is_plain};
+use crate::expression::Values;
 use crate::fault::NameFault;
-use crate::names::{check_written_label, declare, known};
+use crate::names::declare;
 use crate::size::Size;
 use crate::symbol::Symbol;
 use vd_base::{Kind, Span};
-use vd_core::{Ident, Statement};
+use vd_core::Statement;
 
 /// Whether a value has the kind that its place wants.
 pub(crate) fn expect_kind(at: Span, wanted: Kind, kind: Kind) -> Result<(), NameFault>
@@ -25,37 +24,6 @@ pub(crate) fn expect_kind(at: Span, wanted: Kind, kind: Kind) -> Result<(), Name
         Ok(())
     } else {
         Err(NameFault::Kind(at))
-    }
-}
-
-/// Whether a value of this kind may be stored under the name.
-fn expect_variable(values: &Values<'_>, name: &Ident, kind: Kind) -> Result<(), NameFault>
-    ensures ok { OnOk result (is_stored name.now.span kind (at_name values.now name.now.name) ≡ Ok tt) }
-    ensures fault { IfErr result (IsFaultOf (is_stored name.now.span kind (at_name values.now name.now.name))) }
-{
-    match values.get(name.name.as_slice()) {
-        None => Err(NameFault::Unknown(name.span)),
-        Some(Symbol::Variable(wanted)) => {
-            if kind == *wanted {
-                Ok(())
-            } else {
-                Err(NameFault::Kind(name.span))
-            }
-        }
-        Some(Symbol::Constant(_) | Symbol::Array(_)) => Err(NameFault::Kind(name.span)),
-    }
-}
-
-/// Whether a value of this kind may be stored in the array of the name, at an index of that kind.
-fn expect_array(values: &Values<'_>, name: &Ident, index: Kind, kind: Kind) -> Result<(), NameFault>
-    ensures ok { OnOk result (is_put name.now.span index kind (at_name values.now name.now.name) ≡ Ok tt) }
-    ensures fault { IfErr result (IsFaultOf (is_put name.now.span index kind (at_name values.now name.now.name))) }
-{
-    let wanted = element(values, name, index)?;
-    if kind == wanted {
-        Ok(())
-    } else {
-        Err(NameFault::Kind(name.span))
     }
 }
 
@@ -115,57 +83,24 @@ impl<'a> Declarations<'a> {
                 name,
                 label,
                 value,
-            } => {
-                let typed = self.expr(values, value)?;
-                let plain = is_plain(values, value);
-                declare(values, name, Symbol::Constant(typed.kind))?;
-                check_written_label(self.principals, label)?;
-                Ok(if plain {
-                    typed.size.also(Size::one())
-                } else {
-                    typed.size
-                })
-            }
+            } => self.let_statement(values, name, label, value),
             Statement::Var {
                 at: _,
                 name,
                 kind,
                 label,
                 value,
-            } => {
-                let typed = self.expr(values, value)?;
-                declare(values, name, Symbol::Variable(*kind))?;
-                expect_kind(name.span, *kind, typed.kind)?;
-                check_written_label(self.principals, label)?;
-                Ok(typed.size.also(Size::one()))
-            }
+            } => self.var_statement(values, name, *kind, label, value),
             Statement::Array {
                 at: _,
                 name,
                 kind,
                 length,
                 label,
-            } => {
-                declare(values, name, Symbol::Array(*kind))?;
-                check_written_label(self.principals, label)?;
-                Ok(Size::array_of(*length))
-            }
-            Statement::Store { name, value } => {
-                let typed = self.expr(values, value)?;
-                expect_variable(values, name, typed.kind)?;
-                Ok(typed.size.also(Size::one()))
-            }
-            Statement::Put { name, index, value } => {
-                let index = self.expr(values, index)?;
-                let typed = self.expr(values, value)?;
-                expect_array(values, name, index.kind, typed.kind)?;
-                Ok(index.size.also(typed.size).also(Size::one()))
-            }
-            Statement::Output { at: _, value, host } => {
-                let typed = self.expr(values, value)?;
-                known(self.hosts, host)?;
-                Ok(typed.size.also(Size::one()))
-            }
+            } => self.array_statement(values, name, *kind, *length, label),
+            Statement::Store { name, value } => self.store_statement(values, name, value),
+            Statement::Put { name, index, value } => self.put_statement(values, name, index, value),
+            Statement::Output { at: _, value, host } => self.output_statement(values, value, host),
             Statement::If {
                 at,
                 guard,
