@@ -11,9 +11,10 @@ use Rattle.vd_execution.proofs.Puts.{same_or_not, put_same, put_twice, put_itsel
 use Rattle.vd_schedules.proofs.Confluence.{strip}
 use Rattle.vd_schedules.proofs.Diamond.{diamond, Below, answer_more, stepped, steps_to, moved_grows, front_later}
 use Rattle.vd_schedules.proofs.Reached.{ended_stuck}
-use Rattle.vd_hastening.specs.Hastening.{before, at, without_packets, Place, Here, Behind, InFirst, InOther, InBody, BehindBranch, BehindLoop, with_code, IsExchanged, Exchanges}
+use Rattle.vd_hastening.specs.Hastening.{before, at, stretch_before, without_packets, Place, Here, Behind, InFirst, InOther, InBody, BehindBranch, BehindLoop, with_code, IsExchanged, Exchanges}
 use Rattle.vd_hastening.proofs.Turned.{turned, turned_below, other_steps}
 use Rattle.vd_hastening.proofs.Exchanged.{not_finished, Pair, old_of, new_of, SomeLead, IsInside, along}
+use Rattle.vd_hastening.proofs.Stretches.{meets}
 
 -- what is had without packets is had with them
 items_below : (t : Tape) (w : World) (h : ℕ) (l : Local) → Below (without_packets (t h)) (given (endless t) w h l)
@@ -52,54 +53,62 @@ inside t n h w u v p q keeps i is e rest ended =
     (h, turned u h (f.ahead a.words), goes ∙ ap Some to, keeps lead.0 h u v (f.ahead a.words) lead.1 rest ended)
 
 -- the neighbours are first
-first : (t : Tape) (n h : ℕ) (w u v : World) (q : Pair) → (w h).state.pending ≡ old_of q
+first : (t : Tape) (n h : ℕ) (w u v : World) (q : Pair) → Keeps t n → (w h).state.pending ≡ old_of q
     → step (endless t) h w ≡ Some u → Steps (step (endless t)) n u v → AllEnded v → Steps (step (endless t)) (suc n) (turned w h (new_of q)) v
-first t n h w u v q is e rest ended =
+first t n h w u v q keeps is e rest ended =
     let s : Supply = endless t in
     let a = stepped s h w u e in
     let l : Local = w h in
     let c : Code = old_of q in
     let d : Code = new_of q in
+    let m = meets l q in
+    let left : Code = before q.second m.left in
     let same : at l c ≡ l = ap (at l) (sym is) in
     let xs = a.words in
-    let ys = q.may.words (t h) l in
+    let ys = m.words (t h) in
     let one : Local = moved_on (at l c) xs in
-    let two : Local = moved_on one ys in
     let there : u h ≡ one = ap (λ x. x h) a.made ∙ put_same w h (moved_on l xs) ∙ ap (λ m. moved_on m xs) (sym same) in
-    let late : answer (given s u h one) one.state.cursors (need one.state) ≡ Some ys =
-    answer_more _ _ one.state.cursors (need one.state) ys (items_below t u h one) (q.may.late (t h) l q.rest xs) in
-    let then_second : step s h u ≡ Some (put u h two) = steps_to s h u one ys there late in
-    let shorter = strip (step s) (diamond s) n u v (put u h two) h rest (ended_stuck s v ended) then_second in
+    let lead : SomeLead (u h).state.pending left = subst (λ (k : Local). SomeLead k.state.pending left) (sym there) (m.leads xs) in
+    let mid : World = turned u h left in
+    let mid_rest : Steps (step s) n mid v = keeps lead.0 h u v left lead.1 rest ended in
+    let waiting : Local = at one left in
+    let two : Local = moved_on waiting ys in
+    let there_mid : mid h ≡ waiting = put_same u h (at (u h) left) ∙ ap (λ k. at k left) there in
+    let late : answer (given s mid h waiting) waiting.state.cursors (need waiting.state) ≡ Some ys =
+    answer_more _ _ waiting.state.cursors (need waiting.state) ys (items_below t mid h waiting) (m.late (t h) xs) in
+    let then_second : step s h mid ≡ Some (put mid h two) = steps_to s h mid waiting ys there_mid late in
+    let shorter = strip (step s) (diamond s) n mid v (put mid h two) h mid_rest (ended_stuck s v ended) then_second in
     let world : World = turned w h d in
     let begun : Local = at l d in
     let begun_two : Local = moved_on begun ys in
     let early : answer (given s world h begun) begun.state.cursors (need begun.state) ≡ Some ys =
-    answer_more _ _ begun.state.cursors (need begun.state) ys (items_below t world h begun) (q.may.early (t h) l (before q.first q.rest)) in
+    answer_more _ _ begun.state.cursors (need begun.state) ys (items_below t world h begun) (m.early (t h)) in
     let goes : step s h world ≡ Some (put world h begun_two) = steps_to s h world begun ys (put_same w h begun) early in
     let after : World = put world h begun_two in
     let had : answer (given s w h l) l.state.cursors (need (at l c).state) ≡ Some xs = ap (λ (m : Local). answer (given s w h l) l.state.cursors (need m.state)) same ∙ a.able in
-    let still : answer (given s w h l) begun_two.state.cursors (need begun_two.state) ≡ Some xs = q.may.kept (given s w h l) l (before q.second q.rest) q.rest xs ys had in
+    let still : answer (given s w h l) begun_two.state.cursors (need begun_two.state) ≡ Some xs = m.kept (given s w h l) xs ys had in
     let wider : Below (given s w h l) (given s after h begun_two) = record {
       item = λ r i x f. f;
-      front = λ p x f. ap (λ k. slice_get ((after p).sent h) (k p)) (q.may.takes_none l (before q.first q.rest) ys)
+      front = λ p x f. ap (λ k. slice_get ((after p).sent h) (k p)) (m.takes_none l (stretch_before q.first q.rest) ys)
           ∙ front_later world h h begun_two l p x
           (subst (λ m. Grows m begun_two) (sym (put_same w h begun)) (moved_grows begun ys))
           ((turned_below s w h d h l).front p x f);
     } in
     let goes_on : step s h after ≡ Some (put after h (moved_on begun_two xs)) =
     steps_to s h after begun_two xs (put_same world h begun_two) (answer_more _ _ begun_two.state.cursors (need begun_two.state) xs wider still) in
-    let meet : put after h (moved_on begun_two xs) ≡ put u h two =
+    let meet : put after h (moved_on begun_two xs) ≡ put mid h two =
     ap (λ x. put x h (moved_on begun_two xs)) (put_twice w h begun begun_two)
     ∙ put_twice w h begun_two (moved_on begun_two xs)
-    ∙ ap (put w h) (sym (q.may.same l q.rest xs ys))
+    ∙ ap (put w h) (sym (m.same xs ys))
     ∙ sym (put_twice w h (moved_on l xs) two)
-    ∙ ap (λ x. put x h two) (sym a.made) in
-    (h, after, goes, subst (λ k. Steps (step s) k after v) (sym shorter.1) (h, put u h two, goes_on ∙ ap Some meet, shorter.2))
+    ∙ ap (λ x. put x h two) (sym a.made)
+    ∙ sym (put_twice u h (at (u h) left) two) in
+    (h, after, goes, subst (λ k. Steps (step s) k after v) (sym shorter.1) (h, put mid h two, goes_on ∙ ap Some meet, shorter.2))
 
 -- the host that has the neighbours steps
 steps_itself : (t : Tape) (n h : ℕ) (w u v : World) (p : Place) (q : Pair) → Keeps t n → (w h).state.pending ≡ with_code p (old_of q)
     → step (endless t) h w ≡ Some u → Steps (step (endless t)) n u v → AllEnded v → Steps (step (endless t)) (suc n) (turned w h (with_code p (new_of q))) v
-steps_itself t n h w u v Here q keeps is e rest ended = first t n h w u v q is e rest ended
+steps_itself t n h w u v Here q keeps is e rest ended = first t n h w u v q keeps is e rest ended
 steps_itself t n h w u v (Behind z p) q keeps is e rest ended = inside t n h w u v (Behind z p) q keeps _ is e rest ended
 steps_itself t n h w u v (InFirst g p other r) q keeps is e rest ended = inside t n h w u v (InFirst g p other r) q keeps _ is e rest ended
 steps_itself t n h w u v (InOther g x p r) q keeps is e rest ended = inside t n h w u v (InOther g x p r) q keeps _ is e rest ended

@@ -3,17 +3,23 @@ use Rattle.std.proofs.Common.{◌≡◌, ℕ, suc, List, Bool, true, false, nat_
 use Rattle.vd_execution.specs.Code.{Code, Finished, Then, Send, Recv, Choose, Repeat, followed_by}
 use Rattle.vd_execution.specs.Step.{need}
 use Rattle.vd_execution.specs.World.{Local, moved_on}
-use Rattle.vd_hastening.specs.Hastening.{Piece, Acts, Sends, Awaits, before, at, MayPass, Place, Here, Behind, InFirst, InOther, InBody, BehindBranch, BehindLoop, with_code, IsExchanged, Exchanges}
+use Rattle.vd_hastening.specs.Hastening.{Piece, Acts, Sends, Awaits, before, at, Stretch, One, Branch, Loop, stretch_before, MayPassStretch, Place, Here, Behind, InFirst, InOther, InBody, BehindBranch, BehindLoop, with_code, IsExchanged, Exchanges}
 use Rattle.vd_hastening.proofs.Turned.{piece_needs, piece_moves, piece_leaves}
 
--- a code that has neighbours has not ended
-pub not_finished : (p : Place) (x : Piece) (c : Code) → with_code p (before x c) ≡ Finished → ⊥
-not_finished Here (Acts a) c e = absurd cc
-not_finished Here (Sends q rs) c e = absurd cc
-not_finished Here (Awaits q rs) c e = absurd cc
-not_finished (Behind (Acts a) p) x c e = absurd cc
-not_finished (Behind (Sends q rs) p) x c e = absurd cc
-not_finished (Behind (Awaits q rs) p) x c e = absurd cc
+-- a code that begins with a piece, or with a stretch, has not ended
+pub piece_not_finished : (x : Piece) (c : Code) → before x c ≡ Finished → ⊥
+piece_not_finished (Acts a) c e = absurd cc
+piece_not_finished (Sends q rs) c e = absurd cc
+piece_not_finished (Awaits q rs) c e = absurd cc
+
+pub stretch_not_finished : (x : Stretch) (c : Code) → stretch_before x c ≡ Finished → ⊥
+stretch_not_finished (One x) c e = piece_not_finished x c e
+stretch_not_finished (Branch g first other) c e = absurd cc
+stretch_not_finished (Loop r t n body) c e = absurd cc
+
+pub not_finished : (p : Place) (x : Stretch) (c : Code) → with_code p (stretch_before x c) ≡ Finished → ⊥
+not_finished Here x c e = stretch_not_finished x c e
+not_finished (Behind z p) x c e = piece_not_finished z (with_code p (stretch_before x c)) e
 not_finished (InFirst g p other rest) x c e = absurd cc
 not_finished (InOther g first p rest) x c e = absurd cc
 not_finished (InBody r t n p rest) x c e = absurd cc
@@ -39,21 +45,21 @@ stands_behind (Repeat r t n body b) p c = ap (λ d. Repeat r t n body d) (stands
 
 -- two neighbours that may be exchanged
 pub record Pair : Type 0 where
-  pub first : Piece
+  pub first : Stretch
   pub second : Piece
   pub rest : Code
-  pub may : MayPass first second
+  pub may : MayPassStretch first second
 
 abbrev pub old_of : Pair → Code
-old_of q = before q.first (before q.second q.rest)
+old_of q = stretch_before q.first (before q.second q.rest)
 
 abbrev pub new_of : Pair → Code
-new_of q = before q.second (before q.first q.rest)
+new_of q = before q.second (stretch_before q.first q.rest)
 
 exchanged_at : (p : Place) (q : Pair) → IsExchanged (with_code p (old_of q)) (with_code p (new_of q))
 exchanged_at p q = record { place = p; first = q.first; second = q.second; rest = q.rest; may = q.may; old = refl; new = refl }
 
-exchanged_behind : (b : Code) (p : Place) (q : Pair) → IsExchanged (followed_by b (with_code p (old_of q))) (followed_by b (with_code p (new_of q)))
+pub exchanged_behind : (b : Code) (p : Place) (q : Pair) → IsExchanged (followed_by b (with_code p (old_of q))) (followed_by b (with_code p (new_of q)))
 exchanged_behind b p q = record {
   place = behind b p;
   first = q.first;
@@ -69,6 +75,11 @@ followed_before (Acts a) c d = refl
 followed_before (Sends q rs) c d = refl
 followed_before (Awaits q rs) c d = refl
 
+pub followed_stretch : (x : Stretch) (c d : Code) → followed_by (stretch_before x c) d ≡ stretch_before x (followed_by c d)
+followed_stretch (One x) c d = followed_before x c d
+followed_stretch (Branch g first other) c d = refl
+followed_stretch (Loop r t n body) c d = refl
+
 -- more code behind both
 exchanged_before : (p : Place) (q : Pair) (r : Code) → IsExchanged (followed_by (with_code p (old_of q)) r) (followed_by (with_code p (new_of q)) r)
 exchanged_before Here q r = record {
@@ -77,8 +88,8 @@ exchanged_before Here q r = record {
   second = q.second;
   rest = followed_by q.rest r;
   may = q.may;
-  old = followed_before q.first (before q.second q.rest) r ∙ ap (before q.first) (followed_before q.second q.rest r);
-  new = followed_before q.second (before q.first q.rest) r ∙ ap (before q.second) (followed_before q.first q.rest r);
+  old = followed_stretch q.first (before q.second q.rest) r ∙ ap (stretch_before q.first) (followed_before q.second q.rest r);
+  new = followed_before q.second (stretch_before q.first q.rest) r ∙ ap (before q.second) (followed_stretch q.first q.rest r);
 }
 exchanged_before (Behind z p) q r =
     let i = exchanged_before p q r in
@@ -124,10 +135,10 @@ exchanged_before (BehindLoop c t n body p) q r =
 abbrev pub SomeLead : Code → Code → Type 0
 SomeLead c d = (n : ℕ) × Exchanges n c d
 
-none_lead : (c : Code) → SomeLead c c
+pub none_lead : (c : Code) → SomeLead c c
 none_lead c = (0, refl)
 
-one_leads : (c d : Code) → IsExchanged c d → SomeLead c d
+pub one_leads : (c d : Code) → IsExchanged c d → SomeLead c d
 one_leads c d e = (1, (d, e, refl))
 
 two_lead : (c d e : Code) → IsExchanged c d → IsExchanged d e → SomeLead c e

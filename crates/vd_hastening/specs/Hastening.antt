@@ -2,8 +2,10 @@
 use Rattle.std.specs.Prelude.{◌≡◌, ℕ, zero, suc, ◌≤◌, List, Some, None}
 use Rattle.vd_execution.specs.declared.instructions.Reg.{Reg}
 use Rattle.vd_execution.specs.declared.instructions.Action.{Action}
-use Rattle.vd_execution.specs.Code.{Code, Then, Send, Recv, Choose, Repeat}
+use Rattle.vd_execution.specs.declared.instructions.Action.TheVariants as action
+use Rattle.vd_execution.specs.Code.{Code, Finished, Then, Send, Recv, Choose, Repeat}
 use Rattle.vd_execution.specs.Step.{Source, Given, answer, need}
+use Rattle.vd_execution.specs.Text.{register}
 use Rattle.vd_execution.specs.World.{Local, Supply, moved_on, IsShort, IsStuck, run}
 use Rattle.vd_execution.specs.Joint.{Joint, code_of, fresh, resting, at_end}
 use Rattle.vd_schedules.specs.Claims.{RunsWell, RunsToItsEnd, IsOnTheWay, last_of}
@@ -63,15 +65,41 @@ with_code (InBody r t n p rest) c = Repeat r t n (with_code p c) rest
 with_code (BehindBranch g first other p) c = Choose g first other (with_code p c)
 with_code (BehindLoop r t n body p) c = Repeat r t n body (with_code p c)
 
--- two neighbours at one place are exchanged
+-- what a piece may go before: another one, a branch, or a loop
+pub data Stretch : Type 0 where
+  One : (piece : Piece) → Stretch
+  Branch : (guard : ℕ) (first other : Code) → Stretch
+  Loop : (counter turn count : ℕ) (body : Code) → Stretch
+
+abbrev pub stretch_before : Stretch → Code → Code
+stretch_before (One x) c = before x c
+stretch_before (Branch g first other) c = Choose g first other c
+stretch_before (Loop r t n body) c = Repeat r t n body c
+
+-- A piece may go before all of a code that has no messages: before each action, before each guard as before a word that is printed, and
+-- before each turn of a loop as before the action that counts it.
+abbrev pub MayPassAll : Piece → Code → Type 0
+MayPassAll y Finished = Unit {0}
+MayPassAll y (Then a c) = MayPass (Acts a) y × MayPassAll y c
+MayPassAll y (Send p rs c) = ⊥
+MayPassAll y (Recv p rs c) = ⊥
+MayPassAll y (Choose g first other c) = (MayPass (Acts (action.Print (register g))) y × (MayPassAll y first × MayPassAll y other)) × MayPassAll y c
+MayPassAll y (Repeat r t n body c) = (((k : ℕ) → k ≤ n → MayPass (Acts (action.Const (register r) k)) y) × MayPassAll y body) × MayPassAll y c
+
+abbrev pub MayPassStretch : Stretch → Piece → Type 0
+MayPassStretch (One x) y = MayPass x y
+MayPassStretch (Branch g first other) y = MayPass (Acts (action.Print (register g))) y × (MayPassAll y first × MayPassAll y other)
+MayPassStretch (Loop r t n body) y = ((k : ℕ) → k ≤ n → MayPass (Acts (action.Const (register r) k)) y) × MayPassAll y body
+
+-- two neighbours at one place are exchanged, of which the first may be a whole block
 pub record IsExchanged (c d : Code) : Type 0 where
   pub place : Place
-  pub first : Piece
+  pub first : Stretch
   pub second : Piece
   pub rest : Code
-  pub may : MayPass first second
-  pub old : c ≡ with_code place (before first (before second rest))
-  pub new : d ≡ with_code place (before second (before first rest))
+  pub may : MayPassStretch first second
+  pub old : c ≡ with_code place (stretch_before first (before second rest))
+  pub new : d ≡ with_code place (before second (stretch_before first rest))
 
 -- so many exchanges, one after the other
 abbrev pub Exchanges : ℕ → Code → Code → Type 0

@@ -5,7 +5,7 @@ use Rattle.vd_execution.specs.declared.instructions.Reg.{Reg}
 use Rattle.vd_execution.specs.declared.instructions.Action.{Action}
 use Rattle.vd_execution.specs.declared.instructions.Action.TheVariants as action
 use Rattle.vd_execution.specs.declared.instructions.Binary.TheVariants as binary
-use Rattle.vd_execution.specs.Code.{Code, Finished, Then, Send, Recv}
+use Rattle.vd_execution.specs.Code.{Code, Finished, Then, Send, Recv, Choose, Repeat}
 use Rattle.vd_execution.specs.Step.{Inputs, OwnWords, Triples, BitTriples, Pairs, Need, Nothing, Item, Packet, Unequal, Ended, same_source}
 use Rattle.vd_execution.specs.Text.{register}
 use Rattle.vd_hastening.specs.Hastening.{Piece, Acts, Sends, Awaits, IsHastened}
@@ -204,3 +204,37 @@ digest_first =
 -- It goes out before the answer is awaited, and what hangs on the answer stays behind it.
 abbrev pub DigestsAreHastened : Type 0
 DigestsAreHastened = hastened may 1 digest_last ≡ digest_first
+
+-- An answer chooses what is done with words of the host; the operand that is sent then does not hang on it.
+abbrev pub branch_passed_last : Code
+branch_passed_last =
+    Recv 1 (register 3 ∷ [])
+    (Choose 3 (Then (action.Copy (register 4) (register 5)) Finished) (Then (action.Copy (register 4) (register 6)) Finished)
+    (Then (action.Apply binary.Xor (register 7) (register 5) (register 6))
+    (Send 1 (register 7 ∷ []) Finished)))
+
+abbrev pub branch_passed_first : Code
+branch_passed_first =
+    Then (action.Apply binary.Xor (register 7) (register 5) (register 6))
+    (Send 1 (register 7 ∷ [])
+    (Recv 1 (register 3 ∷ [])
+    (Choose 3 (Then (action.Copy (register 4) (register 5)) Finished) (Then (action.Copy (register 4) (register 6)) Finished) Finished)))
+
+-- A loop adds the answer to itself some times.
+abbrev pub loop_passed_last : Code
+loop_passed_last =
+    Recv 1 (register 3 ∷ [])
+    (Repeat 8 0 4 (Then (action.Apply binary.Add (register 3) (register 3) (register 3)) Finished)
+    (Then (action.Apply binary.Xor (register 7) (register 5) (register 6))
+    (Send 1 (register 7 ∷ []) Finished)))
+
+abbrev pub loop_passed_first : Code
+loop_passed_first =
+    Then (action.Apply binary.Xor (register 7) (register 5) (register 6))
+    (Send 1 (register 7 ∷ [])
+    (Recv 1 (register 3 ∷ [])
+    (Repeat 8 0 4 (Then (action.Apply binary.Add (register 3) (register 3) (register 3)) Finished) Finished)))
+
+-- The operand goes out before the answer is awaited, past the whole block.
+abbrev pub BlocksArePassed : Type 0
+BlocksArePassed = (hastened may 1 branch_passed_last ≡ branch_passed_first) × (hastened may 1 loop_passed_last ≡ loop_passed_first)

@@ -6,7 +6,7 @@ ghost use Rattle.vd_hastening.specs.Hastening.{HastenedHostsAreOnTheWay, Hastene
 ghost use Rattle.vd_hastening.specs.Neighbours.{SendBeforeReceive, SendBeforeSend, SendBeforeAction, SendBeforePrint};
 ghost use Rattle.vd_hastening.specs.Neighbours.{ActionBeforeReceive, ActionBeforeSend, ActionBeforePrint, ActionBeforeAction};
 ghost use Rattle.vd_hastening.specs.Passing.{PassesExchange};
-ghost use Rattle.vd_hastening.specs.Testing.{TestIsSound, EachCodeIsHastened, OpeningsAreHastened, DigestsAreHastened};
+ghost use Rattle.vd_hastening.specs.Testing.{TestIsSound, EachCodeIsHastened, OpeningsAreHastened, DigestsAreHastened, BlocksArePassed};
 ghost use Rattle.vd_hastening.specs.Careful.{CarefulPasses, OpenedWordsStay, HastenedStartsAreOnTheWay, HastenedStartsEnd};
 
 /// Hosts in whose codes neighbours were exchanged do what they did: under every schedule they are on the way to the end of the joint
@@ -35,12 +35,14 @@ pub fn passes_exchange()
     ensures { PassesExchange }
 {}
 
-/// The test by registers and lists says yes only where neighbours may be exchanged, so the pass that goes by it hastens each code.
+/// The test by registers and lists says yes only where neighbours may be exchanged, so the pass that goes by it hastens each code. Blocks
+/// without messages are passed as one.
 pub fn each_code_is_hastened()
     ensures sound { TestIsSound }
     ensures hastened { EachCodeIsHastened }
     ensures openings { OpeningsAreHastened }
     ensures digests { DigestsAreHastened }
+    ensures blocks { BlocksArePassed }
 {}
 
 /// The careful pass hastens each code, and leaves all that is to stay in its order: so a committed word is not opened before what it
