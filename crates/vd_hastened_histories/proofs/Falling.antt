@@ -7,7 +7,7 @@ use Rattle.vd_execution.specs.Code.{Code, Finished, Then, Send, Recv, Choose, Re
 use Rattle.vd_execution.specs.Step.{Ended, need, need_of, pending_after, next, deed}
 use Rattle.vd_execution.specs.World.{Local, moved_on}
 use Rattle.vd_schedules.proofs.Reached.{done_state}
-use Rattle.vd_hastening.specs.Hastening.{Piece, Acts, Sends, Awaits, before, Place, Here, Behind, InFirst, InOther, InBody, BehindBranch, BehindLoop, with_code, IsExchanged}
+use Rattle.vd_hastening.specs.Hastening.{Piece, Acts, Sends, Awaits, before, Stretch, One, Branch, Loop, stretch_before, Place, Here, Behind, InFirst, InOther, InBody, BehindBranch, BehindLoop, with_code, IsExchanged}
 
 weight_both : (c d : Code) → weight (followed_by c d) ≡ weight c + weight d
 weight_both Finished d = omega arith
@@ -57,18 +57,31 @@ place_weighs (InBody r t n p rest) c d e = ap (λ k. (n - t) * suc k + suc (weig
 place_weighs (BehindBranch g first other p) c d e = let i = place_weighs p c d e in omega arith
 place_weighs (BehindLoop r t n body p) c d e = ap (λ k. (n - t) * suc (weight body) + suc k) (place_weighs p c d e)
 
-pair_weighs : (x y : Piece) (c : Code) → weight (before x (before y c)) ≡ suc (suc (weight c))
-pair_weighs x y c = piece_weighs x (before y c) ∙ ap suc (piece_weighs y c)
+more_behind : (x w : ℕ) → x + suc (suc w) ≡ suc (x + suc w)
+more_behind x w = omega arith
+
+stretch_weighs : (x : Stretch) (c d : Code) → weight d ≡ suc (weight c) → weight (stretch_before x d) ≡ suc (weight (stretch_before x c))
+stretch_weighs (One x) c d e = piece_weighs x d ∙ ap suc e ∙ ap suc (sym (piece_weighs x c))
+stretch_weighs (Branch g first other) c d e = omega (arith, e)
+stretch_weighs (Loop r t n body) c d e = ap (λ k. (n - t) * suc (weight body) + suc k) e ∙ more_behind ((n - t) * suc (weight body)) (weight c)
+
+pair_weighs : (x : Stretch) (y : Piece) (c : Code) → weight (stretch_before x (before y c)) ≡ weight (before y (stretch_before x c))
+pair_weighs x y c = stretch_weighs x c (before y c) (piece_weighs y c) ∙ sym (piece_weighs y (stretch_before x c))
 
 pub exchanged_weighs : (c d : Code) → IsExchanged c d → weight d ≡ weight c
 exchanged_weighs c d x =
     ap weight x.new
-    ∙ place_weighs x.place (before x.second (before x.first x.rest)) (before x.first (before x.second x.rest)) (pair_weighs x.second x.first x.rest ∙ sym (pair_weighs x.first x.second x.rest))
+    ∙ place_weighs x.place (before x.second (stretch_before x.first x.rest)) (stretch_before x.first (before x.second x.rest)) (sym (pair_weighs x.first x.second x.rest))
     ∙ ap weight (sym x.old)
 
-pub weighs : (p : Place) (x : Piece) (c : Code) → weight (with_code p (before x c)) ≤ 0 → ⊥
-weighs Here x c le = let e = piece_weighs x c in omega (arith, e, le)
-weighs (Behind z p) x c le = let e = piece_weighs z (with_code p (before x c)) in omega (arith, e, le)
+stretch_weighs_some : (x : Stretch) (c : Code) → weight (stretch_before x c) ≤ 0 → ⊥
+stretch_weighs_some (One x) c le = let e = piece_weighs x c in omega (arith, e, le)
+stretch_weighs_some (Branch g first other) c le = omega (arith, le)
+stretch_weighs_some (Loop r t n body) c le = omega (arith, le)
+
+pub weighs : (p : Place) (x : Stretch) (c : Code) → weight (with_code p (stretch_before x c)) ≤ 0 → ⊥
+weighs Here x c le = stretch_weighs_some x c le
+weighs (Behind z p) x c le = let e = piece_weighs z (with_code p (stretch_before x c)) in omega (arith, e, le)
 weighs (InFirst g p other rest) x c le = omega (arith, le)
 weighs (InOther g first p rest) x c le = omega (arith, le)
 weighs (InBody r t n p rest) x c le = omega (arith, le)

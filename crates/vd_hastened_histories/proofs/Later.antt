@@ -8,9 +8,9 @@ use Rattle.vd_execution.specs.World.{Local, Tape, moved_on, endless, IsPrefixOf}
 use Rattle.vd_schedules.proofs.Diamond.{prefix_same, moved_grows}
 use Rattle.vd_histories.specs.Histories.{GetsFor, Gets, Goes, gone, TakesSent, IsLinked}
 use Rattle.vd_histories.proofs.Following.{able, sent_packet}
-use Rattle.vd_hastening.specs.Hastening.{before, at, without_packets, Place, Here, Behind, InFirst, InOther, InBody, BehindBranch, BehindLoop, with_code, IsExchanged, Exchanges, IsHastened}
-use Rattle.vd_hastening.proofs.Turned.{piece_leaves}
-use Rattle.vd_hastening.proofs.Exchanged.{not_finished, Pair, old_of, new_of, IsInside, along}
+use Rattle.vd_hastening.specs.Hastening.{before, at, stretch_before, without_packets, Place, Here, Behind, InFirst, InOther, InBody, BehindBranch, BehindLoop, with_code, IsExchanged, Exchanges, IsHastened}
+use Rattle.vd_hastening.proofs.Exchanged.{not_finished, piece_not_finished, Pair, old_of, new_of, IsInside, along}
+use Rattle.vd_hastening.proofs.Stretches.{Meets, meets}
 use Rattle.vd_hastened_histories.specs.Ahead.{IsAhead, Reaches}
 use Rattle.vd_hastened_histories.proofs.Falling.{moved_falls, exchanged_weighs, weighs}
 
@@ -86,6 +86,18 @@ abbrev HoldsOne : ℕ → Type 0
 HoldsOne n = (t : Tape) (h : ℕ) (stream : ℕ → List (List ℕ)) (l : Local) (c d : Code) (words : List (List ℕ)) → weight c ≤ n → IsExchanged c d
     → Goes (endless t) h (at l c) words → IsLinked stream (at l c) words → Reaches t h stream (at l d) (gone (at l c) words)
 
+-- one host is ahead of another one, which is ahead of a third
+joined : (t : Tape) (h : ℕ) (stream : ℕ → List (List ℕ)) (begun mid old : Local) (r : Reaches t h stream mid old) → Reaches t h stream begun (gone mid r.words) → Reaches t h stream begun old
+joined t h stream begun mid old r q = record {
+  words = q.words;
+  goes = q.goes;
+  linked = q.linked;
+  ahead = ahead_trans _ _ _ r.ahead q.ahead;
+  waits = λ p n f. q.waits p n (r.waits p n f);
+  differ = λ a b f. q.differ a b (r.differ a b f);
+  whole = λ f. let same = r.whole f in q.whole (ap (λ (m : Local). m.state.pending) same ∙ f) ∙ same;
+}
+
 many : (n : ℕ) → HoldsOne n → Holds n
 many n one t h stream zero l c d words le e goes linked =
     subst (λ x. Reaches t h stream (at l x) (gone (at l c) words)) e
@@ -93,16 +105,7 @@ many n one t h stream zero l c d words le e goes linked =
 many n one t h stream (suc k) l c d words le e goes linked =
     let r = one t h stream l c e.0 words le e.1 goes linked in
     let less : weight e.0 ≤ n = subst (λ w. w ≤ n) (sym (exchanged_weighs c e.0 e.1)) le in
-    let q = many n one t h stream k l e.0 d r.words less e.2 r.goes r.linked in
-    record {
-      words = q.words;
-      goes = q.goes;
-      linked = q.linked;
-      ahead = ahead_trans _ _ _ r.ahead q.ahead;
-      waits = λ p n f. q.waits p n (r.waits p n f);
-      differ = λ a b f. q.differ a b (r.differ a b f);
-      whole = λ f. let same = r.whole f in q.whole (ap (λ (m : Local). m.state.pending) same ∙ f) ∙ same;
-    }
+    joined t h stream (at l d) (at l e.0) (gone (at l c) words) r (many n one t h stream k l e.0 d r.words less e.2 r.goes r.linked)
 
 nothing_inside : (t : Tape) (h : ℕ) (stream : ℕ → List (List ℕ)) (l : Local) (p : Place) (q : Pair) → IsInside p
     → Reaches t h stream (at l (with_code p (new_of q))) (at l (with_code p (old_of q)))
@@ -121,17 +124,18 @@ nothing_inside t h stream l p q i =
 -- the second of the two is done, and the host stands before the first
 nothing_first : (t : Tape) (h : ℕ) (stream : ℕ → List (List ℕ)) (l : Local) (q : Pair) → Reaches t h stream (at l (new_of q)) (at l (old_of q))
 nothing_first t h stream l q =
-    let ys = q.may.words (t h) l in
-    let early = q.may.early (t h) l (before q.first q.rest) in
+    let m = meets l q in
+    let ys = m.words (t h) in
+    let early = m.early (t h) in
     let begun : Local = at l (new_of q) in
-    let needs = q.may.needs l (before q.second q.rest) q.rest ys in
+    let needs = m.needs ys in
     record {
       words = ys ∷ [];
       goes = (gets_from (without_packets (t h)) l.state.cursors (need begun.state) ys early, _);
       linked = (takes_none (t h) stream begun l.state.cursors (need begun.state) ys early, _);
       ahead = record {
         grows = record { printed = (moved_grows begun ys).printed; sent = λ k. (moved_grows begun ys).sent k };
-        taken = λ k. ap (λ f. f k) (q.may.takes_none l (before q.first q.rest) ys);
+        taken = λ k. ap (λ f. f k) (m.takes_none l (stretch_before q.first q.rest) ys);
       };
       waits = λ a b e. needs ∙ e;
       differ = λ a b e. needs ∙ e;
@@ -169,16 +173,30 @@ inside n t h stream l p q xs rest i holds le goes linked =
     }
 
 -- the neighbours are first
-first : (t : Tape) (h : ℕ) (stream : ℕ → List (List ℕ)) (l : Local) (q : Pair) (xs : List ℕ) (rest : List (List ℕ))
+first : (n : ℕ) (t : Tape) (h : ℕ) (stream : ℕ → List (List ℕ)) (l : Local) (q : Pair) (xs : List ℕ) (rest : List (List ℕ)) → Holds n
+    → weight (moved_on (at l (old_of q)) xs).state.pending ≤ n
     → Goes (endless t) h (at l (old_of q)) (xs ∷ rest) → IsLinked stream (at l (old_of q)) (xs ∷ rest)
     → Reaches t h stream (at l (new_of q)) (gone (at l (old_of q)) (xs ∷ rest))
-first t h stream l q xs rest goes linked = go rest goes.1 linked.1
+first n t h stream l q xs rest holds le goes linked = joined t h stream (at l (new_of q)) u (gone old rest) r (go r.words r.goes r.linked)
   where
-    ys : List ℕ
-    ys = q.may.words (t h) l
+    m : Meets l q
+    m = meets l q
 
+    ys : List ℕ
+    ys = m.words (t h)
+
+    left : Code
+    left = before q.second m.left
+
+    old : Local
+    old = moved_on (at l (old_of q)) xs
+
+    -- behind the first step, with the second of the two at the front
     u : Local
-    u = moved_on (at l (old_of q)) xs
+    u = at old left
+
+    r : Reaches t h stream u (gone old rest)
+    r = holds t h stream (m.leads xs).0 old old.state.pending left rest le (m.leads xs).1 goes.1 linked.1
 
     v : Local
     v = moved_on (at l (new_of q)) ys
@@ -190,16 +208,16 @@ first t h stream l q xs rest goes linked = go rest goes.1 linked.1
     had = able g l.state.cursors (need (at l (old_of q)).state) xs goes.0 (λ p n e. sent_packet stream (at l (old_of q)) (need (at l (old_of q)).state) xs p n linked.0 e)
 
     still : answer g v.state.cursors (need v.state) ≡ Some xs
-    still = q.may.kept g l (before q.second q.rest) q.rest xs ys had
+    still = m.kept g xs ys had
 
     early : answer (without_packets (t h)) l.state.cursors (need (at l (new_of q)).state) ≡ Some ys
-    early = q.may.early (t h) l (before q.first q.rest)
+    early = m.early (t h)
 
     late : answer (without_packets (t h)) u.state.cursors (need u.state) ≡ Some ys
-    late = q.may.late (t h) l q.rest xs
+    late = m.late (t h) xs
 
     meet : moved_on u ys ≡ moved_on v xs
-    meet = q.may.same l q.rest xs ys
+    meet = m.same xs ys
 
     one : Gets (endless t) h (at l (new_of q)) ys
     one = gets_from (without_packets (t h)) l.state.cursors (need (at l (new_of q)).state) ys early
@@ -211,35 +229,29 @@ first t h stream l q xs rest goes linked = go rest goes.1 linked.1
     one_linked = takes_none (t h) stream (at l (new_of q)) l.state.cursors (need (at l (new_of q)).state) ys early
 
     two_linked : TakesSent stream v (need v.state) xs
-    two_linked = takes_from g stream v v.state.cursors (need v.state) xs still (λ p. ap (λ k. slice_get (stream p) (k p)) (sym (q.may.takes_none l (before q.first q.rest) ys)))
+    two_linked = takes_from g stream v v.state.cursors (need v.state) xs still (λ p. ap (λ k. slice_get (stream p) (k p)) (sym (m.takes_none l (stretch_before q.first q.rest) ys)))
 
-    there : at u (before q.second q.rest) ≡ u
-    there = ap (at u) (sym (piece_leaves q.first l (before q.second q.rest) xs))
-
-    go : (rest : List (List ℕ)) → Goes (endless t) h u rest → IsLinked stream u rest → Reaches t h stream (at l (new_of q)) (gone u rest)
+    go : (words : List (List ℕ)) → Goes (endless t) h u words → IsLinked stream u words → Reaches t h stream (at l (new_of q)) (gone u words)
     go [] goes linked = record {
       words = ys ∷ xs ∷ [];
       goes = (one, (two, _));
       linked = (one_linked, (two_linked, _));
-      ahead = subst (λ m. IsAhead u m) meet (record {
-        grows = moved_grows u ys;
-        taken = λ p. ap (λ m. (moved_on m ys).taken p) (sym there) ∙ ap (λ k. k p) (q.may.takes_none u q.rest ys);
-      });
+      ahead = subst (λ k. IsAhead u k) meet (record { grows = moved_grows u ys; taken = λ p. ap (λ k. k p) (m.takes_none old m.left ys) });
       waits = λ a b e. absurd (never_waits (t h) u.state.cursors (need u.state) ys late a b e);
       differ = λ a b e. absurd (never_differ (t h) u.state.cursors (need u.state) ys late a b e);
-      whole = λ e. absurd (not_finished Here q.second q.rest (sym (piece_leaves q.first l (before q.second q.rest) xs) ∙ e));
+      whole = λ e. absurd (piece_not_finished q.second m.left e);
     }
-    go (zs ∷ rest) goes linked =
+    go (zs ∷ words) goes linked =
         let same : zs ≡ ys = only_words (t h) u.state.cursors (need u.state) zs ys late goes.0 in
         let to : moved_on u zs ≡ moved_on v xs = ap (moved_on u) same ∙ meet in
         record {
-          words = ys ∷ xs ∷ rest;
-          goes = (one, (two, subst (λ m. Goes (endless t) h m rest) to goes.1));
-          linked = (one_linked, (two_linked, subst (λ m. IsLinked stream m rest) to linked.1));
-          ahead = ahead_same _ _ (ap (λ m. gone m rest) (sym to));
-          waits = λ a b e. ap (λ m. need (gone m rest).state) (sym to) ∙ e;
-          differ = λ a b e. ap (λ m. need (gone m rest).state) (sym to) ∙ e;
-          whole = λ e. ap (λ m. gone m rest) (sym to);
+          words = ys ∷ xs ∷ words;
+          goes = (one, (two, subst (λ m. Goes (endless t) h m words) to goes.1));
+          linked = (one_linked, (two_linked, subst (λ m. IsLinked stream m words) to linked.1));
+          ahead = ahead_same _ _ (ap (λ m. gone m words) (sym to));
+          waits = λ a b e. ap (λ m. need (gone m words).state) (sym to) ∙ e;
+          differ = λ a b e. ap (λ m. need (gone m words).state) (sym to) ∙ e;
+          whole = λ e. ap (λ m. gone m words) (sym to);
         }
 
 not_ended : (items : Source → ℕ → Option (List ℕ)) (c : Cursors) (x : Need) (xs : List ℕ) → GetsFor items c x xs → x ≡ Ended → ⊥
@@ -249,7 +261,7 @@ at_place : (n : ℕ) (t : Tape) (h : ℕ) (stream : ℕ → List (List ℕ)) (l 
     → weight (moved_on (at l (with_code p (old_of q))) xs).state.pending ≤ n
     → Goes (endless t) h (at l (with_code p (old_of q))) (xs ∷ rest) → IsLinked stream (at l (with_code p (old_of q))) (xs ∷ rest)
     → Reaches t h stream (at l (with_code p (new_of q))) (gone (at l (with_code p (old_of q))) (xs ∷ rest))
-at_place n t h stream l Here q xs rest holds le goes linked = first t h stream l q xs rest goes linked
+at_place n t h stream l Here q xs rest holds le goes linked = first n t h stream l q xs rest holds le goes linked
 at_place n t h stream l (Behind z p) q xs rest holds le goes linked = inside n t h stream l (Behind z p) q xs rest _ holds le goes linked
 at_place n t h stream l (InFirst g p other r) q xs rest holds le goes linked = inside n t h stream l (InFirst g p other r) q xs rest _ holds le goes linked
 at_place n t h stream l (InOther g x p r) q xs rest holds le goes linked = inside n t h stream l (InOther g x p r) q xs rest _ holds le goes linked
