@@ -2,15 +2,18 @@
 use Rattle.std.proofs.Common.{◌≡◌, inl, inr, ℕ, ◌+◌, ◌≤◌, List, [], ◌∷◌, ◌++◌, length, Option, Some, None, refl, sym, ap, ◌∙◌, arith}
 use Rattle.std.specs.Prelude.{slice_get}
 use Rattle.std.proofs.lemmas.List.{length_push}
+use Rattle.vd_execution.specs.declared.instructions.Action.TheVariants as action
 use Rattle.vd_execution.specs.Registers.{put}
+use Rattle.vd_execution.specs.Text.{register}
 use Rattle.vd_execution.specs.Code.{Code}
 use Rattle.vd_execution.specs.Step.{Source, State, Cursors, Need, Nothing, Item, Packet, Unequal, Ended, Given, answer, need, next, word_printed, deed_of_print, words_in}
 use Rattle.vd_execution.specs.World.{Local, done, moved_on, IsPrefixOf}
 use Rattle.vd_execution.specs.Joint.{supplied}
 use Rattle.vd_execution.proofs.Puts.{same_or_not, put_same, put_other, get_append}
 use Rattle.vd_schedules.proofs.Diamond.{moved_grows}
-use Rattle.vd_hastening.specs.Hastening.{Piece, Acts, Sends, Awaits, before, at, without_packets, MayPass}
+use Rattle.vd_hastening.specs.Hastening.{Piece, Acts, Sends, Awaits, before, at, without_packets, MayPass, Stretch, One, Branch, Loop, MayPassStretch}
 use Rattle.vd_hastening.proofs.Turned.{piece_needs, piece_moves, piece_leaves}
+use Rattle.vd_hastening.proofs.Stretches.{leaves}
 use Rattle.vd_hastened_room.proofs.Passed.{ahead, packet, sends, AllPass}
 
 abbrev pub Items : Type 0
@@ -48,9 +51,14 @@ passing_free x y may = record {
       e ∙ ap Some (sym (answered items l.state.cursors (need (at l (before y c)).state) (may.words items l) e));
 }
 
-pub all_free : (x : Piece) (ys : List Piece) → AllPass x ys → AllFree ys
+stretch_free : (x : Stretch) (y : Piece) → MayPassStretch x y → IsFree y
+stretch_free (One x) y may = passing_free x y may
+stretch_free (Branch g first other) y may = passing_free (Acts (action.Print (register g))) y may.0
+stretch_free (Loop r t n body) y may = passing_free (Acts (action.Const (register r) n)) y (may.0 n (omega arith))
+
+pub all_free : (x : Stretch) (ys : List Piece) → AllPass x ys → AllFree ys
 all_free x [] may = tt
-all_free x (y ∷ ys) may = (passing_free x y may.0, all_free x ys may.1)
+all_free x (y ∷ ys) may = (stretch_free x y may.0, all_free x ys may.1)
 
 pub free_before : (ys zs : List Piece) → AllFree (ys ++ zs) → AllFree ys
 free_before [] zs f = tt
@@ -100,6 +108,25 @@ eagerly_leaves items (y ∷ ys) l c =
     let m : Local = eager items (at l (before y (ahead ys c))) in
     ap (λ k. (eagerly items ys k).state.pending) (sym (eager_stands items y l (ahead ys c))) ∙ eagerly_leaves items ys m c
 
+pub eagerly_moves : (items : Items) (ys : List Piece) (l : Local) (c d : Code) → eagerly items ys (at l (ahead ys d)) ≡ at (eagerly items ys (at l (ahead ys c))) d
+eagerly_moves items [] l c d = refl
+eagerly_moves items (y ∷ ys) l c d =
+    let m : Local = eager items (at l (before y (ahead ys c))) in
+    ap (eagerly items ys) (eager_moves items y l (ahead ys c) (ahead ys d))
+    ∙ eagerly_moves items ys m c d
+    ∙ ap (λ k. at (eagerly items ys k) d) (eager_stands items y l (ahead ys c))
+
+-- what goes before a branch leaves its guard
+pub guard_stays : (items : Items) (g : ℕ) (first other : Code) (ys : List Piece) → AllPass (Branch g first other) ys → (l : Local) (c : Code)
+    → (eagerly items ys (at l (ahead ys c))).state.registers g ≡ l.state.registers g
+guard_stays items g first other [] may l c = refl
+guard_stays items g first other (y ∷ ys) may l c =
+    let k : Local = at l (before y (ahead ys c)) in
+    let m : Local = eager items k in
+    ap (λ k. (eagerly items ys k).state.registers g) (sym (eager_stands items y l (ahead ys c)))
+    ∙ guard_stays items g first other ys may.1 m c
+    ∙ leaves g y may.0.0 l (ahead ys c) (supplied items l.state.cursors (need k.state))
+
 -- ---- one instruction behind the pieces, or before them
 
 swap : (items : Items) (x y : Piece) → MayPass x y → (l : Local) (c : Code) (xs : List ℕ)
@@ -112,7 +139,7 @@ swap items x y may l c xs =
     let early : supplied items l.state.cursors (need begun.state) ≡ ws = answered items l.state.cursors (need begun.state) ws (may.early items l (before x c)) in
     ap (moved_on one) late ∙ may.same l c xs ws ∙ ap (λ zs. moved_on (moved_on begun zs) xs) (sym early)
 
-pub past : (items : Items) (x : Piece) (ys : List Piece) → AllPass x ys → (l : Local) (c : Code) (xs : List ℕ)
+pub past : (items : Items) (x : Piece) (ys : List Piece) → AllPass (One x) ys → (l : Local) (c : Code) (xs : List ℕ)
     → eagerly items ys (moved_on (at l (before x (ahead ys c))) xs) ≡ moved_on (eagerly items ys (at l (ahead ys (before x c)))) xs
 past items x [] may l c xs = refl
 past items x (y ∷ ys) may l c xs =
@@ -125,7 +152,7 @@ past items x (y ∷ ys) may l c xs =
     ∙ ap (λ k. moved_on (eagerly items ys k) xs) (sym (eager_moves items y l d e))
 
 -- it gets behind them what it gets before them
-pub still_gets : (items : Items) (x : Piece) (ys : List Piece) → AllPass x ys → (g : Given) (l : Local) (c d : Code) (xs : List ℕ)
+pub still_gets : (items : Items) (x : Piece) (ys : List Piece) → AllPass (One x) ys → (g : Given) (l : Local) (c d : Code) (xs : List ℕ)
     → answer g l.state.cursors (need (at l (before x c)).state) ≡ Some xs
     → answer g (eagerly items ys (at l (ahead ys (before x d)))).state.cursors (need (eagerly items ys (at l (ahead ys (before x d)))).state) ≡ Some xs
 still_gets items x [] may g l c d xs a = ap (answer g l.state.cursors) (piece_needs x l c d) ∙ a
