@@ -5,3 +5,4 @@ pub mod Sinking
 pub mod Room
 pub mod Before
 pub mod Secrets
+pub mod Turns

@@ -7,7 +7,7 @@ use Rattle.vd_hasten.proofs.passing.sink.Given as goal
 
 abbrev pub invariant-instructions : goal.invariant-instructions
 invariant-instructions l =
-    Sinking (careful (stays_by l.opened)) (take l.start l.initial.code ++ sunk_first (careful (stays_by l.opened)) window (drop l.start l.initial.code)) (length l.initial.code) l.code l.place l.room
+    Sinking (careful (stays_by l.opened)) (take l.start l.initial.code ++ sunk_first (careful (stays_by l.opened)) window (drop l.start l.initial.code)) (length l.initial.code) l.code l.first l.behind l.room
 
 abbrev pub decreases-instructions : goal.decreases-instructions
-decreases-instructions l = length l.initial.code - l.place
+decreases-instructions l = length l.initial.code - l.behind
