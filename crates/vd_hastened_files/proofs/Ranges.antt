@@ -41,16 +41,26 @@ module _ (hosts : ℕ) (me : HostId) where
   same_open before (instr.For r n) e = absurd cc
   same_open before instr.End e = absurd cc
 
+  -- where it stands is no matter
+  piece_breaks : (i : Instr) → is_piece i ≡ true → (one other : ℕ) → breaks hosts me one i ≡ breaks hosts me other i
+  piece_breaks (instr.Do a) e one other = refl
+  piece_breaks (instr.Send p rs) e one other = refl
+  piece_breaks (instr.Recv p rs) e one other = refl
+  piece_breaks (instr.If g) e one other = absurd cc
+  piece_breaks instr.Else e one other = absurd cc
+  piece_breaks (instr.For r n) e one other = absurd cc
+  piece_breaks instr.End e one other = absurd cc
+
   pub breaks_kept : {old new : List Instr} → Reordered old new → (before : ℕ) → NoneBreaks before old → NoneBreaks before new
   breaks_kept (Same is) before k = k
   breaks_kept (Behind i is js r) before k = (k.0, breaks_kept r (open_behind before i) k.1)
-  breaks_kept (Exchanged i j is e f) before k =
-      let at_i = same_open before i e in
-      let at_j = same_open before j f in
-      let rest : NoneBreaks before is = subst (λ n. NoneBreaks n is) (ap (λ n. open_behind n j) at_i ∙ at_j) k.1.1 in (
-        subst (λ n. breaks hosts me n j ≡ false) at_i k.1.0,
-        (subst (λ n. breaks hosts me n i ≡ false) (sym at_j) k.0, subst (λ n. NoneBreaks n is) (sym (ap (λ n. open_behind n i) at_j ∙ at_i)) rest),
-      )
+  breaks_kept (Exchanged i j is e) before k = (
+    piece_breaks j e before (open_behind before i) ∙ k.1.0,
+    (
+      subst (λ n. breaks hosts me n i ≡ false) (sym (same_open before j e)) k.0,
+      subst (λ n. NoneBreaks n is) (same_open (open_behind before i) j e ∙ sym (ap (λ n. open_behind n i) (same_open before j e))) k.1.1,
+    ),
+  )
   breaks_kept (InTurn is js ks r q) before k = breaks_kept q before (breaks_kept r before k)
 
 -- within all ranges none is broken
