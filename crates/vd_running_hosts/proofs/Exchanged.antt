@@ -1,7 +1,7 @@
 -- Exchanges leave the numbers of a code.
 use Rattle.std.proofs.Common.{◌≡◌, ℕ, zero, suc, ap, sym, subst}
-use Rattle.vd_execution.specs.Code.{Code}
-use Rattle.vd_hastening.specs.Hastening.{Piece, Acts, Sends, Awaits, before, Place, Here, Behind, InFirst, InOther, InBody, BehindBranch, BehindLoop, with_code, IsExchanged, Exchanges, IsHastened}
+use Rattle.vd_execution.specs.Code.{Code, Choose, Repeat}
+use Rattle.vd_hastening.specs.Hastening.{Piece, Acts, Sends, Awaits, before, Stretch, One, Branch, Loop, stretch_before, Place, Here, Behind, InFirst, InOther, InBody, BehindBranch, BehindLoop, with_code, IsExchanged, Exchanges, IsHastened}
 use Rattle.vd_linked_hosts.specs.Linked.{NumberIsWord, NumbersAreWords}
 
 abbrev PieceIsSmall : Piece → Type 0
@@ -24,10 +24,12 @@ both_small (Acts a) c s r = (s, r)
 both_small (Sends p rs) c s r = r
 both_small (Awaits p rs) c s r = r
 
-exchanged_small : (x y : Piece) (c : Code) → NumbersAreWords (before x (before y c)) → NumbersAreWords (before y (before x c))
-exchanged_small x y c s =
+exchanged_small : (x : Stretch) (y : Piece) (c : Code) → NumbersAreWords (stretch_before x (before y c)) → NumbersAreWords (before y (stretch_before x c))
+exchanged_small (One x) y c s =
     let rest = rest_small x (before y c) s in
     both_small y (before x c) (first_small y c rest) (both_small x c (first_small x (before y c) s) (rest_small y c rest))
+exchanged_small (Branch g first other) y c s = both_small y (Choose g first other c) (first_small y c s.1.1) (s.0, (s.1.0, rest_small y c s.1.1))
+exchanged_small (Loop r t n body) y c s = both_small y (Repeat r t n body c) (first_small y c s.1.1) (s.0, (s.1.0, rest_small y c s.1.1))
 
 -- at any place
 placed_small : (p : Place) (c d : Code) → (NumbersAreWords c → NumbersAreWords d) → NumbersAreWords (with_code p c) → NumbersAreWords (with_code p d)
@@ -42,7 +44,7 @@ placed_small (BehindLoop r t n body p) c d f s = (s.0, (s.1.0, placed_small p c 
 one_small : (c d : Code) → IsExchanged c d → NumbersAreWords c → NumbersAreWords d
 one_small c d x s =
     subst NumbersAreWords (sym x.new)
-    (placed_small x.place (before x.first (before x.second x.rest)) (before x.second (before x.first x.rest)) (exchanged_small x.first x.second x.rest) (subst NumbersAreWords x.old s))
+    (placed_small x.place (stretch_before x.first (before x.second x.rest)) (before x.second (stretch_before x.first x.rest)) (exchanged_small x.first x.second x.rest) (subst NumbersAreWords x.old s))
 
 all_small : (n : ℕ) (c d : Code) → Exchanges n c d → NumbersAreWords c → NumbersAreWords d
 all_small zero c d e s = subst NumbersAreWords e s
