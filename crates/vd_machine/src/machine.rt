@@ -275,6 +275,7 @@ impl Machine {
     }
 
     /// One step, on the words that the next instruction waits for, without an answer. It takes no memory.
+    #[inline(always)]
     pub fn advance(&mut self, heard: &[u32])
         requires { CanHear self.old heard.now }
         ensures state { state_of self.new ≡ stepped self.old heard.now }
