@@ -39,14 +39,6 @@ both (suc n) l s t u p q = let r = both n l (next s (words_for l s.cursors [] (n
 pub quietly_both : (l : Lists) (s t u : State) → Quietly l s t → Quietly l t u → Quietly l s u
 quietly_both l s t u p q = both p.0 l s t u p.1 q
 
--- where quiet steps lead from what is quiet to what is not, there is one at least
-pub one_at_least : (l k : Lists) (s t : State) → k ≡ l → Quietly l s t → IsQuiet l s → (IsQuiet k t → ⊥) → (n : ℕ) × QuietSteps l (suc n) s t
-one_at_least l k s t same p quiet stops = counted p.0 p.1
-  where
-    counted : (n : ℕ) → QuietSteps l n s t → (i : ℕ) × QuietSteps l (suc i) s t
-    counted zero e = absurd (stops (subst (λ x. IsQuiet x t) (sym same) (subst (λ x. IsQuiet l x) (sym e) quiet)))
-    counted (suc n) q = (n, q)
-
 -- ---- what is quiet
 
 pub quiet_at : (l : Lists) (c : Cursors) (n m : Need) (d e : Deed) → m ≡ n → e ≡ d → IsQuietAt l c n d → IsQuietAt l c m e

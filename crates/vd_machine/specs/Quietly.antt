@@ -35,11 +35,6 @@ QuietSteps l (suc n) s t = IsQuiet l s × QuietSteps l n (next s (words_for l s.
 abbrev pub Quietly : Lists → State → State → Type 0
 Quietly l s t = (n : ℕ) × QuietSteps l n s t
 
--- at least one quiet step does, where it is said so, and else nothing was done
-abbrev pub RanOn : Lists → Bool → State → State → Type 0
-RanOn l true s t = (n : ℕ) × QuietSteps l (suc n) s t
-RanOn l false s t = t ≡ s
-
 abbrev pub is_print : Action → Bool
 is_print (action.Print r) = true
 is_print a = false

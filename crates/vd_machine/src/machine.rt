@@ -1,6 +1,6 @@
 //! A host's machine: its code, where it stands, its registers and lists.
 
-ghost use Rattle.std.specs.Prelude.{◌≡◌, ℕ, suc, true, length, IfOk, replicate};
+ghost use Rattle.std.specs.Prelude.{◌≡◌, true, length, IfOk, replicate};
 ghost use Rattle.vd_execution.specs.Code.{Code};
 ghost use Rattle.vd_execution.specs.Text.{IsCodeOf};
 ghost use Rattle.vd_machine.specs.Wants.{wanted, IsFromHost};
@@ -9,7 +9,7 @@ ghost use Rattle.vd_execution.specs.Ranges.{IsInRange};
 ghost use Rattle.vd_deals.specs.Validity.{IsDeal};
 ghost use Rattle.vd_execution.specs.Step.{next, need, advanced, deed};
 ghost use Rattle.vd_machine.specs.Machines.{held, cursors_of, IsMet, words_for, SamePeers};
-ghost use Rattle.vd_machine.specs.Quietly.{IsQuiet, QuietSteps, Quietly, RanOn};
+ghost use Rattle.vd_machine.specs.Quietly.{IsQuiet, Quietly};
 ghost use Rattle.vd_machine.specs.Kept.{state_of, at_start, stepped, CanHear, IsWithin, plain_need, plain_after};
 
 use crate::did::{Did, Outgoing, outgoing_at, packet_of};
@@ -213,17 +213,19 @@ impl Machine {
         did
     }
 
-    /// Steps on as long as it waits for nothing and nobody sees what it does. Answers whether it stepped at all.
-    pub fn run(&mut self) -> bool
-        ensures steps { RanOn self.old.lists result (state_of self.old) (state_of self.new) }
+    /// Steps on as long as it waits for nothing and nobody sees what it does.
+    pub fn run(&mut self)
+        ensures steps { Quietly self.old.lists (state_of self.old) (state_of self.new) }
         ensures stops { IsQuiet self.new.lists (state_of self.new) → ⊥ }
         ensures lists { self.new.lists ≡ self.old.lists }
     {
-        if !self.is_quiet() {
-            return false;
+        loop {
+            self.run_without_frames();
+            if !self.is_quiet() {
+                return;
+            }
+            self.advance(&[]);
         }
-        self.run_on();
-        true
     }
 
     /// Whether the next step waits for nothing and nobody sees it.
@@ -239,22 +241,6 @@ impl Machine {
                 }
                 is_quiet_at(&self.registers, &self.taken, &self.lists, &self.code[from])
             }
-        }
-    }
-
-    /// All quiet steps that follow one another, of which there is one at least.
-    fn run_on(&mut self)
-        requires { IsQuiet self.old.lists (state_of self.old) }
-        ensures steps { (n : ℕ) × QuietSteps self.old.lists (suc n) (state_of self.old) (state_of self.new) }
-        ensures stops { IsQuiet self.new.lists (state_of self.new) → ⊥ }
-        ensures lists { self.new.lists ≡ self.old.lists }
-    {
-        loop {
-            self.run_without_frames();
-            if !self.is_quiet() {
-                return;
-            }
-            self.advance(&[]);
         }
     }
 

@@ -1,10 +1,10 @@
-use Rattle.std.proofs.Common.{◌≡◌, true, false, rules, subst, sym, ◌∙◌}
+use Rattle.std.proofs.Common.{◌≡◌, true, rules, subst, ◌∙◌}
 use Rattle.vd_execution.specs.Step.{need}
 use Rattle.vd_machine.specs.Machines.{cursors_of}
 use Rattle.vd_machine.specs.Kept.{state_of}
 use Rattle.vd_machine.specs.Quietly.{Quietly}
-use Rattle.vd_machine.proofs.Running.{met_alone, one_at_least, quietly_both, then_falls, then_one}
-use Rattle.vd_machine.proofs.machine.Machine.run_on.Goals as goal
+use Rattle.vd_machine.proofs.Running.{met_alone, quietly_both, then_falls, then_one}
+use Rattle.vd_machine.proofs.machine.Machine.run.Goals as goal
 
 pub returns-then-not-is_quiet-clause-steps : goal.returns-then-not-is_quiet-clause-steps
 returns-then-not-is_quiet-clause-steps c =
@@ -12,10 +12,7 @@ returns-then-not-is_quiet-clause-steps c =
     let t = state_of c.loop-self.self in
     let u = state_of c.run_without_frames.new.self in
     let l = c.args.self.now.lists in
-    let no : c.is_quiet.result ≡ false = search rules in
-    let steps = subst (λ x. Quietly x t u) c.loop-self.invariant.lists c.run_without_frames.ensures.steps in
-    one_at_least l c.run_without_frames.new.self.lists s u (c.run_without_frames.ensures.lists ∙ c.loop-self.invariant.lists) (quietly_both l s t u c.loop-self.invariant.so_far steps) c.requires
-    (λ quiet. absurd (let z = sym (c.is_quiet.ensures.no quiet) ∙ no in cc))
+    quietly_both l s t u c.loop-self.invariant.so_far (subst (λ x. Quietly x t u) c.loop-self.invariant.lists c.run_without_frames.ensures.steps)
 
 pub advance-requires : goal.advance-requires
 advance-requires c =

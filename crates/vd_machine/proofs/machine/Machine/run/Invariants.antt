@@ -2,7 +2,7 @@ use Rattle.std.proofs.Common.{◌≡◌}
 use Rattle.vd_execution.specs.Code.{weight}
 use Rattle.vd_machine.specs.Kept.{state_of}
 use Rattle.vd_machine.specs.Quietly.{Quietly}
-use Rattle.vd_machine.proofs.machine.Machine.run_on.Given as goal
+use Rattle.vd_machine.proofs.machine.Machine.run.Given as goal
 
 abbrev pub invariant-loop-self : goal.invariant-loop-self
 invariant-loop-self l = record {
