@@ -1,6 +1,6 @@
 -- Steps of a host that nobody sees.
-use Rattle.std.proofs.Common.{◌≡◌, ℕ, zero, suc, ◌+◌, ◌<◌, ◌≤◌, Bool, true, false, List, [], ◌∷◌, length, refl, sym, ap, ◌∙◌, subst, inl, inr, arith}
-use Rattle.std.specs.Prelude.{Option, Some, None, slice_get, slice_set, if◌then◌else◌}
+use Rattle.std.proofs.Common.{◌≡◌, ℕ, zero, suc, ◌+◌, ◌<◌, ◌≤◌, true, false, List, [], ◌∷◌, length, refl, sym, ap, ◌∙◌, subst, inl, inr, arith}
+use Rattle.std.specs.Prelude.{Option, Some, None, slice_get, slice_set}
 use mathlib.Core.Path.{fun_ext}
 use Rattle.vd_execution.specs.Registers.{put}
 use Rattle.vd_execution.specs.Schedule.{after}
@@ -11,11 +11,11 @@ use Rattle.vd_schedules.proofs.Rounds.{step_falls}
 use Rattle.vd_machine.specs.declared.lists.Lists.{Lists}
 use Rattle.vd_machine.specs.Kept.{state_of}
 use Rattle.vd_machine.specs.Machines.{items_of, words_for}
-use Rattle.vd_machine.specs.Quietly.{IsQuiet, QuietSteps, RanOn}
+use Rattle.vd_machine.specs.Quietly.{IsQuiet, QuietSteps, Quietly}
 use Rattle.vd_machine.proofs.Weights.{not_ended}
 use Rattle.vd_world.specs.Hosts.{HostKept, gone_unseen, local_of, local_or_nobody, lists_of, world_of, supply_of, steps_left, Reaches, is_step, can_step, turned}
 use Rattle.vd_world.proofs.Hearing.{goes_alone}
-use Rattle.vd_world.proofs.Rounds.{ended_past, reach_on, reach_trans}
+use Rattle.vd_world.proofs.Rounds.{ended_past, reach_on, reach_refl, reach_trans}
 use Rattle.vd_world.proofs.Worlds.{world_set}
 
 -- a host in another state, of which nothing was seen
@@ -75,82 +75,59 @@ quieter (suc k) s n h w l t items ended p =
     }
 
 -- what a host's run through quiet steps makes of all hosts
-pub record Ran (b : Bool) (hosts later : List HostKept) : Type 0 where
+pub record Ran (hosts later : List HostKept) : Type 0 where
   pub reached : Reaches (supply_of hosts) (world_of hosts) (world_of later)
-  pub falls : b ≡ true → left (length hosts) (world_of later) < left (length hosts) (world_of hosts)
-  pub still : b ≡ false → world_of later ≡ world_of hosts
+  pub no_more : left (length hosts) (world_of later) ≤ left (length hosts) (world_of hosts)
 
-ran_at : (b : Bool) (s : Supply) (n h : ℕ) (w v : World) (l : Lists) (t : State) → s h ≡ items_of l → EndedFrom n w → v ≡ put w h (standing (w h) t) → RanOn l b (w h).state t
-    → Reaches s w v × (b ≡ true → left n v < left n w) × (b ≡ false → v ≡ w)
-ran_at true s n h w v l t items ended is p =
-    let r = quieter (suc p.0) s n h w l t items ended p.1 in
-    let far = r.falls in
-    let e = ap (left n) is in
-    (subst (λ x. Reaches s w x) (sym is) r.reached, λ q. omega (arith, far, e), λ q. absurd cc)
-ran_at false s n h w v l t items ended is e =
-    let same : v ≡ w = is ∙ ap (λ x. put w h (standing (w h) x)) e ∙ put_self w h in
-    (([], same), λ q. absurd cc, λ q. same)
-
-pub ran_on : (b : Bool) (hosts : List HostKept) (h : ℕ) (k new : HostKept) → slice_get hosts h ≡ Some k → new ≡ gone_unseen k new.machine → RanOn k.machine.lists b (state_of k.machine) (state_of new.machine)
-    → Ran b hosts (slice_set hosts h new)
-ran_on b hosts h k new there rest ran =
+pub ran_on : (hosts : List HostKept) (h : ℕ) (k new : HostKept) → slice_get hosts h ≡ Some k → new ≡ gone_unseen k new.machine → Quietly k.machine.lists (state_of k.machine) (state_of new.machine)
+    → Ran hosts (slice_set hosts h new)
+ran_on hosts h k new there rest ran =
     let w = world_of hosts in
+    let n = length hosts in
+    let l = k.machine.lists in
+    let t = state_of new.machine in
     let here : w h ≡ local_of k = ap local_or_nobody there in
-    let items : supply_of hosts h ≡ items_of k.machine.lists = ap lists_of there in
-    let is : world_of (slice_set hosts h new) ≡ put w h (standing (w h) (state_of new.machine)) =
-    world_set hosts h k new there ∙ ap (put w h) (ap local_of rest ∙ ap (λ l. standing l (state_of new.machine)) (sym here)) in
-    let r = ran_at b (supply_of hosts) (length hosts) h w (world_of (slice_set hosts h new)) k.machine.lists (state_of new.machine) items (ended_past hosts) is
-    (subst (λ x. RanOn k.machine.lists b x (state_of new.machine)) (sym (ap (λ (x : Local). x.state) here)) ran) in
-    record { reached = r.0; falls = r.1; still = r.2 }
+    let items : supply_of hosts h ≡ items_of l = ap lists_of there in
+    let is : world_of (slice_set hosts h new) ≡ put w h (standing (w h) t) =
+    world_set hosts h k new there ∙ ap (put w h) (ap local_of rest ∙ ap (λ x. standing x t) (sym here)) in
+    let steps = subst (λ x. QuietSteps l ran.0 x t) (sym (ap (λ (x : Local). x.state) here)) ran.1 in
+    let r = quieter ran.0 (supply_of hosts) n h w l t items (ended_past hosts) steps in
+    let far : left n (put w h (standing (w h) t)) + ran.0 ≤ left n w = r.falls in
+    let e : left n (world_of (slice_set hosts h new)) ≡ left n (put w h (standing (w h) t)) = ap (left n) is in
+    record { reached = subst (λ x. Reaches (supply_of hosts) w x) (sym is) r.reached; no_more = omega (arith, far, e) }
 
--- ---- a host that goes on, up to a step that others may see
+-- ---- a step of a host, and what nobody sees behind it
 
-pub record GoneOn (b : Bool) (at : ℕ) (hosts later : List HostKept) : Type 0 where
+pub record GoneOn (hosts later : List HostKept) : Type 0 where
   pub reached : Reaches (supply_of hosts) (world_of hosts) (world_of later)
-  pub falls : b ≡ true → steps_left later < steps_left hosts
-  pub still : b ≡ false → world_of later ≡ world_of hosts
-  pub stuck : b ≡ false → can_step hosts at ≡ false
+  pub falls : steps_left later < steps_left hosts
 
-not_more : (ran : Bool) (n : ℕ) (w v : World) → (ran ≡ true → left n v < left n w) → (ran ≡ false → v ≡ w) → left n v ≤ left n w
-not_more true n w v falls still = let h = falls refl in omega (arith, h)
-not_more false n w v falls still = let h = ap (left n) (still refl) in omega (arith, h)
+went : (o : Option World) (s : Supply) (n at : ℕ) (w u v : World) → EndedFrom n w → step s at w ≡ o → is_step o ≡ true → u ≡ after (step s at w) w → Reaches s u v → left n v ≤ left n u
+    → Reaches s w v × (left n v < left n w)
+went None s n at w u v ended e moves is reached most = absurd cc
+went (Some x) s n at w u v ended e moves is reached most =
+    let same : u ≡ x = is ∙ ap (λ o. after o w) e in
+    let fell : left n x < left n w = step_falls s n at w x ended e in
+    let lu : left n u ≡ left n x = ap (left n) same in
+    (reach_trans s w u v (reach_on s at w w u (reach_refl s w) is) reached, omega (arith, fell, most, lu))
 
-gone_at : (o : Option World) (ran stepped b : Bool) (s : Supply) (n at : ℕ) (w u v : World) → EndedFrom n u → step s at u ≡ o → Reaches s w u → (ran ≡ true → left n u < left n w) → (ran ≡ false → u ≡ w)
-    → v ≡ after (step s at u) u → stepped ≡ is_step (step s at u) → b ≡ (if stepped then true else ran)
-    → Reaches s w v × (b ≡ true → left n v < left n w) × (b ≡ false → v ≡ w) × (b ≡ false → is_step (step s at w) ≡ false)
-gone_at None ran stepped b s n at w u v ended e reached falls still is can k =
-    let same : v ≡ u = is ∙ ap (λ o. after o u) e in
-    let none : stepped ≡ false = can ∙ ap is_step e in
-    let b_is : b ≡ ran = k ∙ ap (λ (x : Bool). if x then true else ran) none in
-    let lv = ap (left n) same in (
-      subst (λ x. Reaches s w x) (sym same) reached,
-      λ q. let h = falls (sym b_is ∙ q) in omega (arith, h, lv),
-      λ q. same ∙ still (sym b_is ∙ q),
-      λ q. ap (λ x. is_step (step s at x)) (sym (still (sym b_is ∙ q))) ∙ ap is_step e,
-    )
-gone_at (Some x) ran stepped b s n at w u v ended e reached falls still is can k =
-    let same : v ≡ x = is ∙ ap (λ o. after o u) e in
-    let yes : stepped ≡ true = can ∙ ap is_step e in
-    let b_is : b ≡ true = k ∙ ap (λ (z : Bool). if z then true else ran) yes in
-    let fell : left n x < left n u = step_falls s n at u x ended e in
-    let most : left n u ≤ left n w = not_more ran n w u falls still in
-    let lv = ap (left n) same in (
-      reach_on s at w u v reached is,
-      λ q. omega (arith, fell, most, lv),
-      λ q. absurd (let z = sym b_is ∙ q in cc),
-      λ q. absurd (let z = sym b_is ∙ q in cc),
-    )
-
-pub gone_on : (ran stepped b : Bool) (at : ℕ) (hosts mid later : List HostKept) → supply_of mid ≡ supply_of hosts → length mid ≡ length hosts → length later ≡ length mid
-    → Reaches (supply_of hosts) (world_of hosts) (world_of mid) → (ran ≡ true → steps_left mid < steps_left hosts) → (ran ≡ false → world_of mid ≡ world_of hosts)
-    → world_of later ≡ turned mid at → stepped ≡ can_step mid at → b ≡ (if stepped then true else ran) → GoneOn b at hosts later
-gone_on ran stepped b at hosts mid later supply many most reached falls still is can k =
+pub gone_on : (at : ℕ) (hosts mid later : List HostKept) → supply_of mid ≡ supply_of hosts → length mid ≡ length hosts → length later ≡ length mid
+    → world_of mid ≡ turned hosts at → can_step hosts at ≡ true → Reaches (supply_of mid) (world_of mid) (world_of later) → steps_left later ≤ steps_left mid → GoneOn hosts later
+gone_on at hosts mid later supply many most is can reached no_more =
     let s = supply_of hosts in
     let n = length hosts in
-    let r = gone_at (step s at (world_of mid)) ran stepped b s n at (world_of hosts) (world_of mid) (world_of later) (subst (λ x. EndedFrom x (world_of mid)) many (ended_past mid)) refl reached
-    (λ q. subst (λ x. left x (world_of mid) < left n (world_of hosts)) many (falls q)) still
-    (subst (λ x. world_of later ≡ after (step x at (world_of mid)) (world_of mid)) supply is) (subst (λ x. stepped ≡ is_step (step x at (world_of mid))) supply can) k in
-    record { reached = r.0; falls = λ q. subst (λ x. left x (world_of later) < left n (world_of hosts)) (sym (most ∙ many)) (r.1 q); still = r.2; stuck = r.3 }
+    let a : steps_left later ≡ left n (world_of later) = ap (λ x. left x (world_of later)) (most ∙ many) in
+    let b : steps_left mid ≡ left n (world_of mid) = ap (λ x. left x (world_of mid)) many in
+    let less : left n (world_of later) ≤ left n (world_of mid) = omega (arith, a, b, no_more) in
+    let r = went (step s at (world_of hosts)) s n at (world_of hosts) (world_of mid) (world_of later) (ended_past hosts) refl can is
+    (subst (λ x. Reaches x (world_of mid) (world_of later)) supply reached) less in
+    let fell : left n (world_of later) < left n (world_of hosts) = r.1 in
+    record { reached = r.0; falls = omega (arith, a, fell) }
+
+-- a host that can not step leaves all as it was
+pub waited : (o : Option World) (w v : World) → is_step o ≡ false → v ≡ after o w → v ≡ w
+waited None w v stays e = e
+waited (Some x) w v stays e = absurd cc
 
 no_step : (o : Option World) → is_step o ≡ false → o ≡ None
 no_step None e = refl

@@ -5,7 +5,7 @@ ghost use Rattle.vd_execution.specs.Step.{State, deed};
 ghost use Rattle.vd_execution.specs.World.{done, words_of};
 ghost use Rattle.vd_machine.specs.Kept.{state_of};
 ghost use Rattle.vd_machine.specs.Wants.{wanted, IsFromHost};
-ghost use Rattle.vd_machine.specs.Quietly.{RanOn};
+ghost use Rattle.vd_machine.specs.Quietly.{Quietly};
 ghost use Rattle.vd_world.specs.Hears.{IsTaken};
 ghost use Rattle.vd_world.specs.Links.{IsPlace};
 ghost use Rattle.vd_world.specs.Hosts.{local, local_of, gone_on, gone_unseen, noted, host_at_start};
@@ -146,13 +146,13 @@ impl Host {
         &self.printed
     }
 
-    /// Steps on as long as it waits for nothing and nobody sees what it does. Answers whether it stepped at all.
-    pub fn run(&mut self) -> bool
-        ensures steps { RanOn self.old.machine.lists result (state_of self.old.machine) (state_of self.new.machine) }
+    /// Steps on as long as it waits for nothing and nobody sees what it does.
+    pub fn run(&mut self)
+        ensures steps { Quietly self.old.machine.lists (state_of self.old.machine) (state_of self.new.machine) }
         ensures lists { self.new.machine.lists ≡ self.old.machine.lists }
         ensures rest { self.new ≡ gone_unseen self.old self.new.machine }
     {
-        self.machine.run()
+        self.machine.run();
     }
 
     /// One step that waits for nothing. Out of memory changes nothing.

@@ -131,21 +131,20 @@ impl World {
         }
     }
 
-    /// The steps of a host that nobody sees, as many as follow one another. Answers whether there were any.
-    fn run_at(&mut self, at: usize) -> bool
+    /// The steps of a host that nobody sees, as many as follow one another.
+    fn run_at(&mut self, at: usize)
         ensures supply { supply_of self.new ≡ supply_of self.old }
         ensures hosts { length self.new ≡ length self.old }
         ensures reached { Reaches (supply_of self.old) (world_of self.old) (world_of self.new) }
-        ensures falls { result ≡ true → steps_left self.new < steps_left self.old }
-        ensures still { result ≡ false → world_of self.new ≡ world_of self.old }
+        ensures no_more { steps_left self.new ≤ steps_left self.old }
     {
         if self.hosts.len() <= at {
-            return false;
+            return;
         }
-        self.hosts[at].run()
+        self.hosts[at].run();
     }
 
-    /// The steps of a host up to one that others may see, and this one. Answers whether there were any.
+    /// A step of a host, and those behind it that nobody sees. Answers whether there was one.
     fn go_on_at(&mut self, at: usize) -> Result<bool, AllocError>
         ensures supply { supply_of self.new ≡ supply_of self.old }
         ensures hosts { length self.new ≡ length self.old }
@@ -154,9 +153,12 @@ impl World {
         ensures still { IfOk result (λ b. b ≡ false → world_of self.new ≡ world_of self.old) }
         ensures stuck { IfOk result (λ b. b ≡ false → can_step self.old at ≡ false) }
     {
-        let ran = self.run_at(at);
         let stepped = self.step_at(at)?;
-        Ok(either(stepped, ran))
+        if !stepped {
+            return Ok(false);
+        }
+        self.run_at(at);
+        Ok(true)
     }
 
     /// The steps of a host, until it cannot step. Answers whether there were any.

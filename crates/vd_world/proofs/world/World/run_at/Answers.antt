@@ -1,4 +1,4 @@
-use Rattle.std.proofs.Common.{◌<◌, length, refl, sym, ap, ◌∙◌, subst, arith}
+use Rattle.std.proofs.Common.{◌<◌, ◌≤◌, length, refl, sym, ap, ◌∙◌, subst, arith}
 use Rattle.std.specs.Prelude.{slice_set}
 use Rattle.std.proofs.lemmas.Option.{slice_get_read}
 use Rattle.std.proofs.lemmas.List.{length-set}
@@ -21,24 +21,16 @@ returns-clause-reached c =
     let v = c.self.inside.hosts in
     let less : c.args.at < length v.items = omega (arith, c.if-len-at.false, c.len.ensures, v.ok.0) in
     let there = slice_get_read v.items (length v.items) c.args.at c.index_mut.result.now refl less c.index_mut.ensures.value in
-    let ran = ran_on c.run.result v.items c.args.at c.index_mut.result.now c.run.new.self there c.run.ensures.rest c.run.ensures.steps in
+    let ran = ran_on v.items c.args.at c.index_mut.result.now c.run.new.self there c.run.ensures.rest c.run.ensures.steps in
     let later = slice_set v.items c.args.at c.run.new.self in
     subst (λ l. Reaches (supply_of l) (world_of l) (world_of later)) c.self.view_is ran.reached
 
-pub returns-clause-falls : goal.returns-clause-falls
-returns-clause-falls c = λ yes.
+pub returns-clause-no_more : goal.returns-clause-no_more
+returns-clause-no_more c =
     let v = c.self.inside.hosts in
     let less : c.args.at < length v.items = omega (arith, c.if-len-at.false, c.len.ensures, v.ok.0) in
     let there = slice_get_read v.items (length v.items) c.args.at c.index_mut.result.now refl less c.index_mut.ensures.value in
-    let ran = ran_on c.run.result v.items c.args.at c.index_mut.result.now c.run.new.self there c.run.ensures.rest c.run.ensures.steps in
+    let ran = ran_on v.items c.args.at c.index_mut.result.now c.run.new.self there c.run.ensures.rest c.run.ensures.steps in
     let later = slice_set v.items c.args.at c.run.new.self in
-    subst (λ l. steps_left later < steps_left l) c.self.view_is
-    (subst (λ n. left n (world_of later) < steps_left v.items) (sym (length-set v.items c.args.at c.run.new.self)) (ran.falls yes))
-
-pub returns-clause-still : goal.returns-clause-still
-returns-clause-still c = λ no.
-    let v = c.self.inside.hosts in
-    let less : c.args.at < length v.items = omega (arith, c.if-len-at.false, c.len.ensures, v.ok.0) in
-    let there = slice_get_read v.items (length v.items) c.args.at c.index_mut.result.now refl less c.index_mut.ensures.value in
-    let ran = ran_on c.run.result v.items c.args.at c.index_mut.result.now c.run.new.self there c.run.ensures.rest c.run.ensures.steps in
-    ran.still no ∙ ap world_of c.self.view_is
+    subst (λ l. steps_left later ≤ steps_left l) c.self.view_is
+    (subst (λ n. left n (world_of later) ≤ steps_left v.items) (sym (length-set v.items c.args.at c.run.new.self)) ran.no_more)
