@@ -1,14 +1,14 @@
 -- Steps that nobody sees, while a host is driven.
-use Rattle.std.proofs.Common.{arith, ◌≡◌, ◌<◌, ◌≤◌, ◌+◌, ◌++◌, ℕ, zero, suc, Bool, true, false, List, [], length, refl, sym, ap, subst, ◌∙◌}
+use Rattle.std.proofs.Common.{arith, ◌≡◌, ◌<◌, ◌≤◌, ◌+◌, ◌++◌, ℕ, zero, suc, List, [], length, refl, sym, ap, subst, ◌∙◌}
 use Rattle.vd_execution.specs.Code.{weight}
 use Rattle.vd_execution.specs.Step.{State, need, deed, next}
 use Rattle.vd_machine.specs.Dids.{seen}
 use Rattle.vd_machine.specs.Kept.{Kept, state_of}
 use Rattle.vd_machine.specs.Machines.{words_for}
-use Rattle.vd_machine.specs.Quietly.{IsQuiet, QuietSteps, RanOn}
+use Rattle.vd_machine.specs.Quietly.{IsQuiet, QuietSteps, Quietly}
 use Rattle.vd_machine.specs.declared.lists.Lists.{Lists}
 use Rattle.vd_machine.specs.declared.want.Want.{Want}
-use Rattle.vd_machine.proofs.Weights.{step_falls, some_fall}
+use Rattle.vd_machine.proofs.Weights.{step_falls}
 use Rattle.vd_outside.specs.Link.{LinkView}
 use Rattle.vd_outside.specs.Sink.{SinkView}
 use Rattle.vd_engine.specs.Drives.{AreSound, CarriesAll, Writes, sessions_of}
@@ -58,22 +58,13 @@ many_on zero view start s t first links ob om count sound e a = subst (λ (x : S
 many_on (suc n) view start s t first links ob om count sound p a =
     many_on n view start (next_with start.lists s []) t first links ob om count sound p.1 (one_on view start s first links ob om count sound p.0 a)
 
-ran_at : {L : Type 0} (b : Bool) (view : L → LinkView) (start : Kept) (s t : State) (first links : Links L) (ob om : SinkView) (count : ℕ) → AreSound view links
-    → RanOn start.lists b s t → Stands view start s first links ob om count → Stands view start t first links ob om count
-ran_at true view start s t first links ob om count sound p a = many_on (suc p.0) view start s t first links ob om count sound p.1 a
-ran_at false view start s t first links ob om count sound e a = many_on zero view start s t first links ob om count sound e a
-
 -- a host that was driven ran on by itself
-pub goes_unseen : {L : Type 0} (view : L → LinkView) (start host after : Kept) (first links : Links L) (ob om : SinkView) (count : ℕ) (b : Bool)
-    → Going view start host first links ob om count → after.lists ≡ host.lists → RanOn host.lists b (state_of host) (state_of after) → Going view start after first links ob om count
-goes_unseen view start host after first links ob om count b going same ran =
-    let a = ran_at b view start (state_of host) (state_of after) first links ob om count going.sound
-    (subst (λ (l : Lists). RanOn l b (state_of host) (state_of after)) going.lists ran) (record { driven = going.driven; packets = going.packets; fuel = going.fuel }) in
+pub goes_unseen : {L : Type 0} (view : L → LinkView) (start host after : Kept) (first links : Links L) (ob om : SinkView) (count : ℕ)
+    → Going view start host first links ob om count → after.lists ≡ host.lists → Quietly host.lists (state_of host) (state_of after) → Going view start after first links ob om count
+goes_unseen view start host after first links ob om count going same ran =
+    let a = many_on ran.0 view start (state_of host) (state_of after) first links ob om count going.sound
+    (subst (λ (l : Lists). QuietSteps l ran.0 (state_of host) (state_of after)) going.lists ran.1) (record { driven = going.driven; packets = going.packets; fuel = going.fuel }) in
     record { lists = same ∙ going.lists; driven = a.driven; packets = a.packets; sound = going.sound; fuel = a.fuel }
-
-pub unseen_falls : (b : Bool) (l : Lists) (s t : State) → RanOn l b s t → weight t.pending ≤ weight s.pending
-unseen_falls true l s t p = let h = some_fall p.0 l s t p.1 in omega (arith, h)
-unseen_falls false l s t e = let w = ap (λ (x : State). weight x.pending) e in omega (arith, w)
 
 pub falls_on : (k m n : ℕ) → k < m → m ≤ n → k < n
 falls_on k m n h g = omega (arith, h, g)
