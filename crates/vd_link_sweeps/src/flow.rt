@@ -1,7 +1,7 @@
 //! What sweeps one way carry over the links.
 
 use crate::network::{End, Network};
-use crate::numbers::{put, small_at, small_zeros};
+use crate::numbers::{nearest_small, number_at, put, small_at, small_zeros};
 use crate::shares::{Shares, share_of};
 use crate::tables::Tables;
 use std::alloc::{AllocError, Global};
@@ -183,6 +183,17 @@ impl Flow {
         match self.links.get(at) {
             Some(carried) => carried.held.as_slice(),
             None => &[],
+        }
+    }
+
+    /// Holds these amounts at the near end of a link, by the settings of its point, where those in the tables have these places.
+    pub fn hold_all(&mut self, tables: &Tables, near: End, amounts: &[i64], places: &[usize]) {
+        if near.at < self.links.len() {
+            let carried = &mut self.links[near.at];
+            for (held, place) in carried.held.iter_mut().zip(places) {
+                *held = nearest_small(number_at(amounts, *place).wrapping_shr(tables.bits));
+            }
+            carried.tell(tables, near.turned());
         }
     }
 

@@ -18,6 +18,6 @@ pub use nets::Nets;
 pub use network::{End, Network, Side};
 pub use numbers::{FAR, number_at, row_at, settings_at};
 pub use order::Order;
-pub use sweeps::State;
+pub use sweeps::{Ending, Reach, State};
 pub use tables::Tables;
 pub use witness::Witness;

@@ -11,11 +11,30 @@ use crate::tables::Tables;
 use crate::witness::Witness;
 use std::alloc::{AllocError, Global};
 
-/// A climb ends after so many sweeps in which the bound did not rise.
-const PATIENCE: u32 = 48;
-
 /// To split what a point costs at a setting takes as long as to look at so many prices.
 const SPLIT: u64 = 16;
+
+/// How far a climb goes.
+#[derive(Clone, Copy, PartialEq, Eq, Debug)]
+pub struct Reach {
+    /// So many sweeps are made at most.
+    pub sweeps: u32,
+    /// The sweeps end when so much was computed.
+    pub work: u64,
+    /// They end after so many in which the bound did not rise.
+    pub patience: u32,
+}
+
+/// Why a climb ended.
+#[derive(Clone, Copy, PartialEq, Eq, Debug)]
+pub enum Ending {
+    /// A list costs no more than the bound.
+    Shown,
+    /// The bound did not rise any more.
+    Idle,
+    /// So many sweeps were made, or so much was computed.
+    Cut,
+}
 
 /// What sweeps either way came to.
 #[derive(Drop)]
@@ -42,11 +61,37 @@ impl State {
         Ok(State {
             forward: Flow::nothing(alloc, tables, network, true)?,
             backward: Flow::nothing(alloc, tables, network, false)?,
-            is_forward: false,
+            is_forward: true,
             shares: Shares::room(alloc, most)?,
             besides: 0,
             once: work_of_all(tables, network),
         })
+    }
+
+    /// The state behind a sweep backward that came to these amounts by the setting, in parts, where each point was left these
+    /// settings, of at most so many.
+    pub fn from_nets(
+        alloc: Global,
+        tables: &Tables,
+        network: &Network,
+        most: usize,
+        settings: &[Vec<usize>],
+        nets: &Nets,
+    ) -> Result<State, AllocError> {
+        let mut state = State::of(alloc, tables, network, most)?;
+        state.is_forward = false;
+        for first in &network.firsts {
+            let near = if first.is_ahead(false) {
+                *first
+            } else {
+                first.turned()
+            };
+            let places = settings_at(settings, near.point);
+            state
+                .backward
+                .hold_all(tables, near, nets.row(near), places);
+        }
+        Ok(state)
     }
 
     /// Notes that a point has other costs.
@@ -152,9 +197,7 @@ impl State {
     /// A sweep backward over all points, in which each gives all that it has above its least to its link to the nearest point
     /// before it.
     pub fn send_home(&mut self, tables: &Tables, network: &Network) {
-        if self.is_forward {
-            self.sweep(tables, network, false);
-        }
+        self.come_back(tables, network);
         let points = network.by_point.len();
         for step in 0..points {
             let point = points - 1 - step;
@@ -213,21 +256,21 @@ impl State {
         self.shares.best()
     }
 
-    /// Sweeps at most so often, while there was not so much work, and until a list costs no more than the bound or this does not
-    /// rise any more. Answers the cheapest list that it met.
+    /// Sweeps either way by turns, until a list costs no more than the bound, this does not rise any more, or the reach ends.
+    /// Answers why it ended; the cheapest list that it met is put in the place of a dearer one.
     pub fn climb(
         &mut self,
         alloc: Global,
         tables: &Tables,
         network: &Network,
-        sweeps: u32,
-        work: u64,
-    ) -> Result<Witness, AllocError> {
+        reach: Reach,
+        witness: &mut Witness,
+    ) -> Result<Ending, AllocError> {
         let mut bound = i64::MIN;
-        let mut witness = Witness::none(alloc);
         let mut idle: u32 = 0;
-        for turn in 0..sweeps {
-            self.sweep(tables, network, turn % 2 == 1);
+        for turn in 0..reach.sweeps {
+            let forward = !self.is_forward;
+            self.sweep(tables, network, forward);
             let reached = self.bound();
             idle = if reached > bound {
                 0
@@ -235,14 +278,27 @@ impl State {
                 idle.saturating_add(1)
             };
             bound = bound.max(reached);
-            if turn % 4 == 2 {
-                witness = witness.or_cheaper(self.decoded(alloc, tables, network, &[])?);
+            if turn % 4 >= 2 && !self.is_forward {
+                witness.take_cheaper(self.decoded(alloc, tables, network, &[])?);
             }
-            if bound >= witness.cost || idle > PATIENCE || self.work() >= work {
+            if bound >= witness.cost {
+                return Ok(Ending::Shown);
+            }
+            if idle > reach.patience {
+                return Ok(Ending::Idle);
+            }
+            if self.work() >= reach.work {
                 break;
             }
         }
-        Ok(witness)
+        Ok(Ending::Cut)
+    }
+
+    /// A sweep backward, where the last one went forward.
+    pub fn come_back(&mut self, tables: &Tables, network: &Network) {
+        if self.is_forward {
+            self.sweep(tables, network, false);
+        }
     }
 }
 

@@ -32,9 +32,11 @@ impl Witness {
         self.settings.get(point) == Some(&setting)
     }
 
-    /// The one of less cost, this one of equals.
-    pub fn or_cheaper(self, other: Witness) -> Witness {
-        if other.cost < self.cost { other } else { self }
+    /// Takes the place of this one if the other costs less.
+    pub fn take_cheaper(&mut self, other: Witness) {
+        if other.cost < self.cost {
+            *self = other;
+        }
     }
 }
 
