@@ -5,17 +5,33 @@ ghost use Rattle.vd_space.specs.Labelled.{IsLabelled};
 use crate::lifting::lift;
 use std::alloc::{AllocError, Global};
 use vd_items::Items;
-use vd_link_sweeps::{Left, Nets, Network, Order, State, Tables, Witness};
+use vd_link_sweeps::{Ending, Left, Nets, Network, Order, Reach, State, Tables, Witness};
+use vd_link_thinning::Thinned;
 use vd_linked_path::{LinkTable, LinkedTables};
 use vd_links::candidates;
 use vd_protocol::protocols;
 use vd_space::Problem;
 
-/// At most so many sweeps are made.
-const SWEEPS: u32 = 4096;
+/// At first so many sweeps are made at most, over all settings.
+const FIRST: Reach = Reach {
+    sweeps: 256,
+    work: 268_435_456,
+    patience: 48,
+};
 
-/// The sweeps of an ascent end when so many prices of links were looked at, where other work counts as long as it takes.
-const CLIMB_WORK: u64 = 536_870_912;
+/// Then so many over those settings that cost less than each other one of their point for some partners.
+const THINNED: Reach = Reach {
+    sweeps: 16_384,
+    work: 268_435_456,
+    patience: 400,
+};
+
+/// At last so many over all settings again.
+const LAST: Reach = Reach {
+    sweeps: 512,
+    work: 536_870_912,
+    patience: 48,
+};
 
 /// The walk behind an ascent ends when so many were looked at in both, so that both together take a second at most.
 pub const WORK: u64 = 1_073_741_824;
@@ -38,7 +54,8 @@ pub struct Climb {
 }
 
 impl Climb {
-    /// After all sweeps over a problem, at whose end each point gave what it has above its least back to the points before it; by the tables without shifts; none where a point has no setting left.
+    /// After all sweeps over a problem, at whose end each point gave what it has above its least back to the points before it; by
+    /// the tables without shifts; none where a point has no setting left.
     pub fn of(
         alloc: Global,
         problem: &Problem,
@@ -66,10 +83,8 @@ impl Climb {
         };
         let counts = left.counts(alloc)?;
         let tables = Tables::of(alloc, linked, &network, &order, settings.as_slice())?;
-        let mut state = State::of(alloc, &tables, &network, left.most)?;
-        let witness = state.climb(alloc, &tables, &network, SWEEPS, CLIMB_WORK)?;
-        state.send_home(&tables, &network);
-        Ok(Some(Climb {
+        let state = State::of(alloc, &tables, &network, left.most)?;
+        let mut climb = Climb {
             order,
             network,
             left,
@@ -77,8 +92,68 @@ impl Climb {
             settings,
             tables,
             state,
-            witness,
-        }))
+            witness: Witness::none(alloc),
+        };
+        if climb.sweep(alloc, FIRST)? == Ending::Cut {
+            climb.go_on(alloc, linked)?;
+        }
+        climb.state.send_home(&climb.tables, &climb.network);
+        Ok(Some(climb))
+    }
+
+    /// Sweeps over all settings.
+    fn sweep(&mut self, alloc: Global, reach: Reach) -> Result<Ending, AllocError> {
+        let witness = &mut self.witness;
+        self.state
+            .climb(alloc, &self.tables, &self.network, reach, witness)
+    }
+
+    /// Goes on where the first sweeps did not do: over fewer settings, and then over all again.
+    fn go_on(&mut self, alloc: Global, linked: &LinkedTables) -> Result<(), AllocError> {
+        let settings = self.settings.as_slice();
+        let thinned = Thinned::of(alloc, &self.tables, &self.network, settings)?;
+        self.state.come_back(&self.tables, &self.network);
+        let nets = self.thinned_nets(alloc, linked, &thinned)?;
+        let work = self.state.work();
+        self.state = self.state_from(alloc, &nets)?;
+        self.state.count(work);
+        self.sweep(alloc, LAST)?;
+        Ok(())
+    }
+
+    /// The state behind a sweep backward that came to these amounts.
+    fn state_from(&self, alloc: Global, nets: &Nets) -> Result<State, AllocError> {
+        let most = self.left.most;
+        let settings = self.settings.as_slice();
+        State::from_nets(alloc, &self.tables, &self.network, most, settings, nets)
+    }
+
+    /// What the shifts come to by sweeps over fewer settings, where the others get shifts behind these.
+    fn thinned_nets(
+        &mut self,
+        alloc: Global,
+        linked: &LinkedTables,
+        thinned: &Thinned,
+    ) -> Result<Nets, AllocError> {
+        let network = &self.network;
+        let counts = self.counts.as_slice();
+        let nets = self.state.nets(
+            alloc,
+            &self.tables,
+            network,
+            self.settings.as_slice(),
+            counts,
+        )?;
+        let few = thinned.settings.as_slice();
+        let tables = Tables::of(alloc, linked, network, &self.order, few)?;
+        let mut state = State::from_nets(alloc, &tables, network, self.left.most, few, &nets)?;
+        let mut witness = Witness::none(alloc);
+        state.climb(alloc, &tables, network, THINNED, &mut witness)?;
+        state.come_back(&tables, network);
+        self.state.count(state.work());
+        let mut nets = state.nets(alloc, &tables, network, few, counts)?;
+        thinned.extend(alloc, linked.links.as_slice(), network, counts, &mut nets)?;
+        Ok(nets)
     }
 
     /// What the shifts come to by all settings, where those that are not left are lifted.
