@@ -33,8 +33,9 @@ const LAST: Reach = Reach {
     patience: 48,
 };
 
-/// The walk behind an ascent ends when so many were looked at in both, so that both together take a second at most.
-pub const WORK: u64 = 1_073_741_824;
+/// The walk behind an ascent ends when so many prices of links were looked at in both, where other work counts as long as it
+/// takes: both together take some three quarters of a second at most.
+pub const WORK: u64 = 805_306_368;
 
 /// The points and links of a problem, and what sweeps over them came to.
 #[derive(Drop)]

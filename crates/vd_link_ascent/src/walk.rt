@@ -29,7 +29,7 @@ pub(crate) enum Tested {
 }
 
 /// A walk over the slots of a problem: at each slot it passes over candidates in order, until one seems to begin a list that
-/// costs at most the aim.
+/// costs at most the aim. Where none is left it goes back to the slot before.
 #[derive(Drop)]
 pub struct Walk<'a> {
     problem: &'a Problem,
@@ -84,6 +84,9 @@ impl<'a> Walk<'a> {
         let slots = self.path.slots() as usize;
         for _ in 0..slots.saturating_mul(self.places) {
             let Some(candidate) = self.candidate() else {
+                if self.go_back() {
+                    continue;
+                }
                 return Ok(None);
             };
             if !self.enter(candidate.choice) {
@@ -110,6 +113,21 @@ impl<'a> Walk<'a> {
         } else {
             None
         }
+    }
+
+    /// Takes the last choice back, where it was left open and no candidate of the slot behind it is left. Answers whether it did.
+    fn go_back(&mut self) -> bool
+        ensures { self.new.problem.now ≡ self.old.problem.now }
+    {
+        let depth = self.path.depth();
+        if depth == 0 || depth >= self.path.slots() {
+            return false;
+        }
+        if self.walker.go_back(depth - 1) {
+            self.path.leave();
+            return true;
+        }
+        false
     }
 
     /// Makes the choice, if there are such a slot and such a choice, and the prefix stays valid and its bound within the aim.

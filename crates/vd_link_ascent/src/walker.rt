@@ -12,6 +12,10 @@ const ROUNDS: u32 = 12;
 /// What a setting costs more at which a point is not to be, in steps: at least 4,096 units.
 const PENALTY: i32 = 1_048_576;
 
+/// A walk goes back so often at most: the search behind it opens a prefix more each time, and may open so many besides those of
+/// the list.
+const BACKS: u32 = 256;
+
 /// A candidate of a slot: a setting of its point.
 #[derive(Clone, Copy, PartialEq, Eq, Debug)]
 pub struct Candidate {
@@ -43,6 +47,8 @@ pub struct Walker {
     most: i64,
     /// What it takes to show that a candidate is refuted.
     showing: u64,
+    /// How often it went back.
+    backs: u32,
 }
 
 impl Walker {
@@ -60,6 +66,7 @@ impl Walker {
             next: 0,
             most,
             showing,
+            backs: 0,
         })
     }
 
@@ -126,9 +133,45 @@ impl Walker {
     /// Takes back a test that refuted the candidate, and passes it over.
     pub fn take_back(&mut self, candidate: Candidate) {
         self.climb.state.count(self.showing);
+        self.release(candidate);
+    }
+
+    /// Takes back the candidate that is fixed for a slot, all candidates of the one behind it having been passed over, and passes
+    /// it over. Answers whether it did: not where so much was computed, or it went back so often, that the walk ends.
+    pub fn go_back(&mut self, slot: u32) -> bool {
+        if self.climb.state.work() >= WORK || self.backs >= BACKS {
+            return false;
+        }
+        let point = self.climb.order.rank(slot);
+        let number = match self.fixed.get(point) {
+            Some(Some(number)) => *number,
+            _ => return false,
+        };
+        let candidate = Candidate {
+            point,
+            number,
+            choice: 0,
+        };
+        self.backs = self.backs.saturating_add(1);
+        let behind = self.climb.order.rank(slot.saturating_add(1));
+        self.open_all(behind);
+        self.next = candidate.number;
+        self.release(candidate);
+        true
+    }
+
+    /// Takes back the candidate, and passes it over.
+    fn release(&mut self, candidate: Candidate) {
         self.raise_others(candidate, 0i32.saturating_sub(PENALTY));
         self.fix(candidate.point, None);
         self.pass_over(candidate);
+    }
+
+    /// Takes back that the candidates of a point were passed over.
+    fn open_all(&mut self, point: usize) {
+        for number in 0..settings_at(self.climb.settings.as_slice(), point).len() {
+            self.raise(point, number, 0i32.saturating_sub(PENALTY));
+        }
     }
 
     /// Passes a candidate over.
