@@ -1,8 +1,8 @@
 //! A link whose bytes go in records.
 
-ghost use Rattle.std.specs.Prelude.{◌≡◌, ◌<◌, IfOk, IsTrue, length, nat_lt};
-ghost use Rattle.vd_outside.specs.Link.{Sends};
-ghost use Rattle.vd_sealed.specs.Session.{NumberGoesOn, SendsRecord, sealed_view};
+ghost use Rattle.std.specs.Prelude.{◌≡◌, ◌<◌, IfOk, OnErr, length, nat_lt};
+ghost use Rattle.vd_outside.specs.Link.{Receives, Sends};
+ghost use Rattle.vd_sealed.specs.Session.{BeginsNone, FailsToSend, NumberGoesOn, SendsRecord, sealed_view};
 
 use crate::fault::SealFault;
 use crate::session::Session;
@@ -69,14 +69,22 @@ impl<L: Link + Drop> Link for SealedLink<L> {
         ensures sends { Sends bytes.now
             (sealed_view self.old.session (L.view self.old.before.value).coming (L.view self.old.link))
             (sealed_view self.new.session (L.view self.new.before.value).coming (L.view self.new.link)) result }
-        ensures out { IsTrue (L.view self.new.link).told → IfOk result
+        ensures out { IfOk result
             (SendsRecord bytes.now self.old.session self.new.session (L.view self.old.link) (L.view self.new.link)) }
+        ensures cut { OnErr result
+            (FailsToSend bytes.now self.old.session self.new.session (L.view self.old.link) (L.view self.new.link)) }
         ensures number { NumberGoesOn self.old.session self.new.session (L.view self.old.link) (L.view self.new.link) }
     {
         self.session.send(&mut self.link, bytes)
     }
 
-    fn receive(&mut self, into: &mut [u8]) -> Result<u32, Failed> {
+    fn receive(&mut self, into: &mut [u8]) -> Result<u32, Failed>
+        requires { 0 < length into.old }
+        ensures receives { Receives into.new
+            (sealed_view self.old.session (L.view self.old.before.value).coming (L.view self.old.link))
+            (sealed_view self.new.session (L.view self.new.before.value).coming (L.view self.new.link)) result }
+        ensures none_out { BeginsNone self.old.session self.new.session (L.view self.old.link) (L.view self.new.link) }
+    {
         self.session.receive(&mut self.link, &mut self.before, into)
     }
 }

@@ -1,9 +1,9 @@
 //! What a host knows of a link whose bytes go in records.
 
-ghost use Rattle.std.specs.Prelude.{◌≡◌, ◌≤◌, ◌<◌, ℕ, IfOk, IsTrue, List, Some, true, false, [], length, nat_lt};
+ghost use Rattle.std.specs.Prelude.{◌≡◌, ◌≤◌, ◌<◌, ℕ, IfOk, OnErr, IsTrue, List, Some, true, false, [], length, nat_lt};
 ghost use Rattle.vd_outside.specs.Causes.{Rose};
 ghost use Rattle.vd_outside.specs.Link.{Sends, Receives};
-ghost use Rattle.vd_sealed.specs.Session.{IsFresh, NumberGoesOn, SendsRecord, TakesNext, sealed_view};
+ghost use Rattle.vd_sealed.specs.Session.{BeginsNone, FailsToSend, IsFresh, NumberGoesOn, SendsRecord, TakesNext, sealed_view};
 
 use crate::fault::SealFault;
 use crate::noted::Noted;
@@ -97,8 +97,8 @@ impl Session {
         requires { 0 < length bytes.now }
         ensures sends { (rest : List ℕ) →
             Sends bytes.now (sealed_view self.old rest (L.view link.old)) (sealed_view self.new rest (L.view link.new)) result }
-        ensures out { IsTrue (L.view link.new).told →
-            IfOk result (SendsRecord bytes.now self.old self.new (L.view link.old) (L.view link.new)) }
+        ensures out { IfOk result (SendsRecord bytes.now self.old self.new (L.view link.old) (L.view link.new)) }
+        ensures cut { OnErr result (FailsToSend bytes.now self.old self.new (L.view link.old) (L.view link.new)) }
         ensures number { NumberGoesOn self.old self.new (L.view link.old) (L.view link.new) }
     {
         let most = bytes.len().min(RECORD_BYTES);
@@ -140,6 +140,7 @@ impl Session {
             (sealed_view self.new (L.view before.new.value).coming (L.view link.new)) result }
         ensures some { IfOk result (λ more. IsTrue more → 0 < length self.new.piece) }
         ensures open { IfOk result (λ more. self.new.closed ≡ false) }
+        ensures none_out { BeginsNone self.old self.new (L.view link.old) (L.view link.new) }
     {
         if self.next_in == u64::MAX {
             count(&mut self.faults);
@@ -176,9 +177,10 @@ impl Session {
         into: &mut [u8],
     ) -> Result<u32, Failed>
         requires { 0 < length into.old }
-        ensures { Receives into.new
+        ensures receives { Receives into.new
             (sealed_view self.old (L.view before.old.value).coming (L.view link.old))
             (sealed_view self.new (L.view before.new.value).coming (L.view link.new)) result }
+        ensures none_out { BeginsNone self.old self.new (L.view link.old) (L.view link.new) }
     {
         if self.ended {
             return Ok(0);
