@@ -1,2 +1,4 @@
+pub mod Ledgers
 pub mod Seals
 pub mod Views
+pub mod Waits

@@ -1,5 +1,5 @@
 -- What a host seals its links by.
-use Rattle.std.specs.Prelude.{◌≡◌, ℕ, ◌+◌, ◌-◌, min, false, List, Option, Some, None, slice_get, if◌then◌else◌, nat_lt}
+use Rattle.std.specs.Prelude.{◌≡◌, ◌≤◌, ℕ, ◌+◌, ◌-◌, min, List, Option, Some, None, slice_get, if◌then◌else◌, nat_lt}
 use Rattle.std.specs.Option.{unwrap_or}
 use Rattle.vd_base.specs.declared.ids.HostId.{HostId}
 use Rattle.vd_outside.specs.Link.{LinkView}
@@ -14,7 +14,7 @@ use Rattle.vd_sealed_net.specs.declared.seal.Seal.{Seal}
 
 -- by these, and nothing was tried so far
 abbrev pub sealed_by : HostId → Secrets → (seed : List ℕ) → Seal
-sealed_by me secrets seed = record { me = me; secrets = secrets; seed = seed; first = None; tried = 0; connected = 0; sent = false }
+sealed_by me secrets seed = record { me = me; secrets = secrets; seed = seed; first = None; tried = 0; connected = 0 }
 
 -- the later hosts are awaited at one listener each, in their order
 abbrev pub awaited_at : Seal → (listener : ℕ) → ℕ
@@ -35,13 +35,23 @@ place_of me peer = if nat_lt peer me then peer else peer - 1
 abbrev pub IsKeyFor : (me : ℕ) → Secrets → (peer : ℕ) → (key : List ℕ) → Type 0
 IsKeyFor me secrets peer key = let link : LinkKey = record { 0 = key } in slice_get secrets.links (place_of me peer) ≡ Some link
 
--- who seals by what stays as it is, and so does whether something was sent
-pub record KeepsSecrets (before now : Seal) : Type 0 where
-  pub me : now.me ≡ before.me
-  pub secrets : now.secrets ≡ before.secrets
-  pub seed : now.seed ≡ before.seed
-  pub first : now.first ≡ before.first
-  pub sent : now.sent ≡ before.sent
+-- a host without a key of a link to it is none of the dealing, or the own one
+abbrev pub IsKeyless : Seal → (peer : ℕ) → Type 0
+IsKeyless seal peer = slice_get seal.secrets.links (place_of seal.me.0 peer) ≡ None
+
+-- one link more to an earlier host is asked for
+abbrev pub next_asked : Seal → Seal
+next_asked seal = record seal { connected = min (seal.connected + 1) 255 }
+
+-- more connections were tried, and all else is as it was
+pub record Tries (before now : Seal) : Type 0 where
+  pub same : now ≡ record before { tried = now.tried }
+  pub later : before.tried ≤ now.tried
+
+-- what a net seals by, after more connections were tried
+abbrev pub StillSeals : (before now : Option Seal) → Type 0
+StillSeals None now = now ≡ None
+StillSeals (Some seal) now = (later : Seal) × (now ≡ Some later) × Tries seal later
 
 -- A session with a peer: both said hello in this dealing, the own one by a nonce of this run, and proved that they have the key of their
 -- link; the session's keys are those that the two hellos make of it, and nothing went over it so far.

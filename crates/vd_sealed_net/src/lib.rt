@@ -2,8 +2,12 @@
 //! that they have the link's key.
 #![tactic(auto)]
 
+mod laws;
+mod ledger;
 mod seal;
 mod sealed_net;
 
+pub use laws::unsent_links_greet_alone;
+pub use ledger::Ledger;
 pub use seal::Seal;
 pub use sealed_net::SealedNet;

@@ -1,9 +1,9 @@
 //! What a host seals its links by.
 
-ghost use Rattle.std.specs.Prelude.{◌≡◌, ◌+◌, ◌||◌, min, IfSome};
+ghost use Rattle.std.specs.Prelude.{◌≡◌, ◌+◌, min, IfSome, IfNone};
 ghost use Rattle.vd_seal.specs.Hellos.{nonce_of};
 ghost use Rattle.vd_meeting.specs.Meeting.{head_of};
-ghost use Rattle.vd_sealed_net.specs.Seals.{IsKeyFor, KeepsSecrets, awaited_at, first_of, sealed_by};
+ghost use Rattle.vd_sealed_net.specs.Seals.{IsKeyFor, IsKeyless, Tries, awaited_at, first_of, next_asked, sealed_by};
 
 use vd_base::HostId;
 use vd_seal::{Hello, nonce};
@@ -22,8 +22,6 @@ pub struct Seal {
     tried: u32,
     /// How many links to earlier hosts were asked for.
     connected: u8,
-    /// Whether a link came back over which a record behind the greeting was begun.
-    sent: bool,
 }
 
 /// A hello from one host to another, but for its nonce.
@@ -51,7 +49,6 @@ impl Seal {
             first: None,
             tried: 0,
             connected: 0,
-            sent: false,
         }
     }
 
@@ -77,7 +74,7 @@ impl Seal {
     /// The next earlier host, to which a link is asked for.
     pub fn next_earlier(&mut self) -> HostId
         ensures next { result.0 ≡ self.old.connected }
-        ensures kept { KeepsSecrets self.old self.new }
+        ensures counted { self.new ≡ next_asked self.old }
     {
         let peer = HostId(self.connected);
         self.connected = self.connected.saturating_add(1);
@@ -86,7 +83,8 @@ impl Seal {
 
     /// The key of the link to a host, if it is a host of the dealing.
     pub fn key_of(&self, peer: HostId) -> Option<[u8; 32]>
-        ensures { IfSome result (IsKeyFor self.now.me.0 self.now.secrets peer.0) }
+        ensures key { IfSome result (IsKeyFor self.now.me.0 self.now.secrets peer.0) }
+        ensures none { IfNone result (IsKeyless self.now peer.0) }
     {
         let place = if peer.0 < self.me.0 {
             usize::from(peer.0)
@@ -103,8 +101,8 @@ impl Seal {
         ensures from { result.from ≡ self.old.me }
         ensures to { result.to ≡ peer }
         ensures nonce { result.nonce ≡ nonce_of self.old.seed peer.0 self.old.tried }
-        ensures next { self.new.tried ≡ min (self.old.tried + 1) u32.MAX }
-        ensures kept { KeepsSecrets self.old self.new }
+        ensures counted { self.new ≡ record self.old { tried = min (self.old.tried + 1) u32.MAX } }
+        ensures tries { Tries self.old self.new }
     {
         let number = self.tried;
         self.tried = number.saturating_add(1);
@@ -123,19 +121,5 @@ impl Seal {
     {
         let id = self.secrets.id;
         head_of(&id, peer, self.me)
-    }
-
-    /// Notes whether a link that came back was sent over.
-    pub fn note(&mut self, sent: bool)
-        ensures { self.new ≡ record self.old { sent = self.old.sent || sent } }
-    {
-        self.sent |= sent;
-    }
-
-    /// Whether a link came back over which a record behind the greeting was begun.
-    pub fn has_sent(&self) -> bool
-        ensures { result ≡ self.now.sent }
-    {
-        self.sent
     }
 }

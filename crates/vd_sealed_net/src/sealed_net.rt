@@ -1,14 +1,18 @@
 //! A net whose links are sealed.
 
-ghost use Rattle.std.specs.Prelude.{◌≡◌, ◌<◌, ◌≤◌, ◌||◌, ◌&&◌, None, Some, IfOk, OnOk, OnErr, MatchOption, is_some, nat_lt};
+ghost use Rattle.std.specs.Prelude.{◌≡◌, ◌<◌, ◌≤◌, ⊤, None, Some, IfErr, IfOk, OnOk, OnErr, MatchOption};
 ghost use Rattle.std.specs.Option.{option_map};
 ghost use Rattle.std.specs.Result.{result_map_both};
 ghost use Rattle.vd_base.specs.declared.faults.CallFault.TheVariants as call_fault;
 ghost use Rattle.vd_outside.specs.Causes.{Rose};
+ghost use Rattle.vd_outside.specs.Link.{LinkView};
 ghost use Rattle.vd_outside.specs.Net.{Accepts, Connects, HangsUp, Listens};
-ghost use Rattle.vd_sealed_net.specs.Seals.{IsMet, KeepsSecrets, awaited_at, listening, sealed_by};
-ghost use Rattle.vd_sealed_net.specs.Views.{has_sent, sealing};
+ghost use Rattle.vd_sealed_net.specs.Ledgers.{has_begun, has_sent, nothing_given, with_given, with_returned};
+ghost use Rattle.vd_sealed_net.specs.Seals.{IsKeyFor, IsKeyless, IsMet, StillSeals, Tries, awaited_at, listening, next_asked, sealed_by};
+ghost use Rattle.vd_sealed_net.specs.Views.{sealing};
+ghost use Rattle.vd_sealed_net.specs.Waits.{ComesAfter, GivesUp};
 
+use crate::ledger::Ledger;
 use crate::seal::Seal;
 use std::alloc::Global;
 use vd_base::{CallFault, HostId};
@@ -26,6 +30,8 @@ pub struct SealedNet<N: Net + Drop> {
     /// The net below, whose links are as they are.
     pub net: N,
     pub seal: Option<Seal>,
+    /// The links that were given. It is kept when the net is told to seal by something else.
+    ledger: Ledger,
     pub faults: u64,
     /// Why a peer was last hung up, or a link took nothing any more.
     fault: Option<SealFault>,
@@ -54,12 +60,14 @@ impl<N: Net + Drop> SealedNet<N> {
     pub fn new(alloc: Global, net: N) -> SealedNet<N>
         ensures net { result.net ≡ net }
         ensures untold { result.seal ≡ None }
+        ensures nothing { result.ledger ≡ nothing_given }
         ensures faults { result.faults ≡ 0 }
     {
         SealedNet {
             alloc,
             net,
             seal: None,
+            ledger: Ledger::new(),
             faults: 0,
             fault: None,
         }
@@ -70,19 +78,18 @@ impl<N: Net + Drop> SealedNet<N> {
     pub fn seal(&mut self, me: HostId, secrets: Secrets, seed: [u8; 32])
         ensures net { self.new.net ≡ self.old.net }
         ensures sealed { self.new.seal ≡ Some (sealed_by me secrets seed) }
+        ensures ledger { self.new.ledger ≡ self.old.ledger }
         ensures faults { self.new.faults ≡ self.old.faults }
     {
         self.seal = Some(Seal::new(me, secrets, seed));
     }
 
-    /// Whether a link came back over which a record behind the greeting was begun.
+    /// Whether more than greetings may have gone out: a link that was given is out, or one came back over which a record behind the
+    /// greeting was begun.
     pub fn has_sent(&self) -> bool
-        ensures { result ≡ has_sent self.now.seal }
+        ensures { result ≡ has_sent self.now.ledger }
     {
-        match &self.seal {
-            None => false,
-            Some(seal) => seal.has_sent(),
-        }
+        self.ledger.has_sent()
     }
 
     /// Why a peer was last hung up, or a link took nothing any more, where that is known.
@@ -93,30 +100,31 @@ impl<N: Net + Drop> SealedNet<N> {
     }
 }
 
-/// Meets a host over a link. One over which it was not met is hung up, and the reason is noted.
+/// Meets a host over a link, by the key of theirs. One over which it was not met is hung up.
 fn meet_over<N: Net>(
-    alloc: Global,
     net: &mut N,
     seal: &mut Seal,
+    frame: Frame,
     link: N::Link,
     peer: HostId,
-) -> Result<Result<SealedLink<N::Link>, SealFault>, CallFault>
+    key: &[u8; 32],
+) -> Result<SealedLink<N::Link>, SealFault>
+    requires { IsKeyFor seal.old.me.0 seal.old.secrets peer.0 key.now }
     ensures given { (N.view net.new).given ≡ (N.view net.old).given }
-    ensures kept { KeepsSecrets seal.old seal.new }
-    ensures fresh { IfOk result (λ met. IfOk met (λ link. link.session.faults ≡ 0)) }
-    ensures met { IfOk result (λ met. IfOk met (λ link. IsMet seal.old peer.0 link.session)) }
+    ensures kept { Tries seal.old seal.new }
+    ensures fresh { IfOk result (λ link. link.session.faults ≡ 0) }
+    ensures met { IfOk result (λ link. IsMet seal.old peer.0 link.session) }
+    ensures same { IfOk result (λ link. N.view net.new ≡ N.view net.old) }
+    ensures hung_up { IfErr result (λ fault. (left : LinkView) × HangsUp left (N.view net.old) (N.view net.new)) }
 {
     let mut link = link;
-    let (Ok(mut frame), Some(key)) = (Frame::new(alloc), seal.key_of(peer)) else {
-        net.hang_up(link);
-        return Err(CallFault::Memory);
-    };
+    let mut frame = frame;
     let hello = seal.next_hello(peer);
-    match meet(&mut link, &mut frame, &hello, &key) {
-        Ok(keys) => Ok(Ok(SealedLink::over(link, Session::new(frame, keys)))),
+    match meet(&mut link, &mut frame, &hello, key) {
+        Ok(keys) => Ok(SealedLink::over(link, Session::new(frame, keys))),
         Err(fault) => {
             net.hang_up(link);
-            Ok(Err(fault))
+            Err(fault)
         }
     }
 }
@@ -131,15 +139,22 @@ fn accept_sealed<N: Net>(
 ) -> Result<SealedLink<N::Link>, CallFault>
     requires { listener < (N.view net.old).given }
     ensures given { (N.view net.new).given ≡ (N.view net.old).given }
-    ensures kept { KeepsSecrets seal.old seal.new }
+    ensures kept { Tries seal.old seal.new }
     ensures fresh { IfOk result (λ link. link.session.faults ≡ 0) }
     ensures met { IfOk result (λ link. IsMet seal.old (awaited_at seal.old listener) link.session) }
+    ensures comes { OnOk result (ComesAfter listener (N.view net.old) (N.view net.new)) }
+    ensures gives_up { IfErr result
+        (GivesUp listener (IsKeyless seal.old (awaited_at seal.old listener)) (N.view net.old) (N.view net.new)) }
 {
     let peer = seal.awaited_at(listener);
+    let Some(key) = seal.key_of(peer) else {
+        return Err(CallFault::Failed);
+    };
     let head = seal.head_from(peer);
     for _ in 0..u64::MAX {
+        let frame = Frame::new(alloc)?;
         let link = net.accept(listener, &head)?;
-        match meet_over(alloc, net, seal, link, peer)? {
+        match meet_over(net, seal, frame, link, peer, &key) {
             Ok(link) => return Ok(link),
             Err(fault) => *noted = Some(fault),
         }
@@ -156,13 +171,17 @@ fn connect_sealed<N: Net>(
     address: &str,
 ) -> Result<SealedLink<N::Link>, CallFault>
     ensures given { (N.view net.new).given ≡ (N.view net.old).given }
-    ensures kept { KeepsSecrets seal.old seal.new }
+    ensures kept { Tries (next_asked seal.old) seal.new }
     ensures fresh { IfOk result (λ link. link.session.faults ≡ 0) }
     ensures met { IfOk result (λ link. IsMet seal.old seal.old.connected link.session) }
 {
     let peer = seal.next_earlier();
+    let Some(key) = seal.key_of(peer) else {
+        return Err(CallFault::Failed);
+    };
+    let frame = Frame::new(alloc)?;
     let link = net.connect(address)?;
-    match meet_over(alloc, net, seal, link, peer)? {
+    match meet_over(net, seal, frame, link, peer, &key) {
         Ok(link) => Ok(link),
         Err(fault) => {
             *noted = Some(fault);
@@ -188,7 +207,12 @@ impl<N: Net + Drop> Net for SealedNet<N> {
         self.faults
     }
 
-    fn wait_at_most(&mut self, seconds: Option<u32>) {
+    fn wait_at_most(&mut self, seconds: Option<u32>)
+        ensures same { sealing (N.view self.new.net) self.new.faults ≡ sealing (N.view self.old.net) self.old.faults }
+        ensures limited { N.has_limit self.new.net seconds }
+        ensures seal { self.new.seal ≡ self.old.seal }
+        ensures ledger { self.new.ledger ≡ self.old.ledger }
+    {
         self.net.wait_at_most(seconds);
     }
 
@@ -199,6 +223,7 @@ impl<N: Net + Drop> Net for SealedNet<N> {
             (sealing (N.view self.new.net) self.new.faults) result }
         ensures first { IfOk result (λ listener. self.new.seal ≡ option_map (listening listener) self.old.seal) }
         ensures none { OnErr result (self.new.seal ≡ self.old.seal) }
+        ensures ledger { self.new.ledger ≡ self.old.ledger }
     {
         match self.net.listen(address) {
             Ok(listener) => {
@@ -222,14 +247,22 @@ impl<N: Net + Drop> Net for SealedNet<N> {
             (result_map_both ⟦<SealedLink<N::Link> as Link>⟧.view (λ fault. fault) result) }
         ensures met { MatchOption self.old.seal (OnOk result ⊥)
             (λ seal. IfOk result (λ link. IsMet seal (awaited_at seal listener) link.session)) }
-        ensures sent { has_sent self.new.seal ≡ has_sent self.old.seal }
+        ensures kept { StillSeals self.old.seal self.new.seal }
+        ensures comes { OnOk result (ComesAfter listener (N.view self.old.net) (N.view self.new.net)) }
+        ensures gives_up { MatchOption self.old.seal ⊤ (λ seal. IfErr result
+            (GivesUp listener (IsKeyless seal (awaited_at seal listener)) (N.view self.old.net) (N.view self.new.net))) }
+        ensures ledger { OnOk result (self.new.ledger ≡ with_given self.old.ledger) }
+        ensures none { OnErr result (self.new.ledger ≡ self.old.ledger) }
     {
         let Some(seal) = &mut self.seal else {
             count(&mut self.faults);
             return Err(CallFault::Failed);
         };
         match accept_sealed(self.alloc, &mut self.net, seal, &mut self.fault, listener) {
-            Ok(link) => Ok(link),
+            Ok(link) => {
+                self.ledger.gives();
+                Ok(link)
+            }
             Err(fault) => {
                 count_fault(&mut self.faults, fault);
                 Err(fault)
@@ -244,14 +277,19 @@ impl<N: Net + Drop> Net for SealedNet<N> {
             (result_map_both ⟦<SealedLink<N::Link> as Link>⟧.view (λ fault. fault) result) }
         ensures met { MatchOption self.old.seal (OnOk result ⊥)
             (λ seal. IfOk result (λ link. IsMet seal seal.connected link.session)) }
-        ensures sent { has_sent self.new.seal ≡ has_sent self.old.seal }
+        ensures kept { StillSeals (option_map next_asked self.old.seal) self.new.seal }
+        ensures ledger { OnOk result (self.new.ledger ≡ with_given self.old.ledger) }
+        ensures none { OnErr result (self.new.ledger ≡ self.old.ledger) }
     {
         let Some(seal) = &mut self.seal else {
             count(&mut self.faults);
             return Err(CallFault::Failed);
         };
         match connect_sealed(self.alloc, &mut self.net, seal, &mut self.fault, address) {
-            Ok(link) => Ok(link),
+            Ok(link) => {
+                self.ledger.gives();
+                Ok(link)
+            }
             Err(fault) => {
                 count_fault(&mut self.faults, fault);
                 Err(fault)
@@ -263,17 +301,15 @@ impl<N: Net + Drop> Net for SealedNet<N> {
         ensures hangs_up { HangsUp (⟦<SealedLink<N::Link> as Link>⟧.view link)
             (sealing (N.view self.old.net) self.old.faults)
             (sealing (N.view self.new.net) self.new.faults) }
-        ensures sent { has_sent self.new.seal ≡
-            (has_sent self.old.seal || (is_some self.old.seal && nat_lt 2 link.session.next_out)) }
+        ensures ledger { self.new.ledger ≡ with_returned (has_begun link.session) self.old.ledger }
+        ensures seal { self.new.seal ≡ self.old.seal }
     {
         let failed = link.faults() > 0;
         let sent = link.has_sent();
         if let Some(fault) = link.fault() {
             self.fault = Some(fault);
         }
-        if let Some(seal) = &mut self.seal {
-            seal.note(sent);
-        }
+        self.ledger.takes_back(sent);
         self.net.hang_up(link.into_link());
         if failed {
             count(&mut self.faults);
