@@ -1,16 +1,18 @@
 -- How the command ends, by what its host does.
 use Rattle.std.proofs.Common.{arith, ◌≡◌, ℕ, List, true, false, Option, Some, None, Result, Ok, Err, refl, sym, ap, subst, ◌∙◌}
-use Rattle.std.specs.Prelude.{is_some}
+use Rattle.std.specs.Prelude.{MatchOption, is_some}
 use Rattle.vd_outside.specs.Files.{FilesView}
 use Rattle.vd_outside.specs.Net.{NetView}
 use Rattle.vd_outside.specs.Sink.{SinkView}
 use Rattle.vd_marks.specs.Marks.{MarksView}
 use Rattle.vd_secrets.specs.declared.secrets.Secrets.{Secrets}
+use Rattle.vd_sealed_net.specs.Seals.{sealed_by}
+use Rattle.vd_sealed_net.specs.declared.seal.Seal.{Seal}
 use Rattle.vd_cmd.specs.declared.command.HostWords.{HostWords}
 use Rattle.vd_host_text.specs.declared.program.HostProgram.{HostProgram}
 use Rattle.vd_plan.specs.declared.status.Status.{Status}
 use Rattle.vd_plan.specs.declared.status.Status.TheVariants as status
-use Rattle.vd_host_command.specs.Hosts.{EndsMarked, HostRuns, Marked, NetsView, NotMarked, PlainRuns, Plainly, RanMarked, RunsLoaded, WentWell, WentWrong, status_after}
+use Rattle.vd_host_command.specs.Hosts.{EndsMarked, HostRuns, IsSealedFor, Marked, NetsView, NotMarked, PlainRuns, Plainly, RanMarked, RunsLoaded, WentWell, WentWrong, status_after}
 use Rattle.vd_host_command.specs.Loading.{IsLoaded, LoadsHost}
 use Rattle.vd_host_command.specs.Marking.{Claims, Leaves}
 use Rattle.vd_host_command.specs.declared.loading.Loaded.{Loaded}
@@ -29,6 +31,12 @@ pub ran_marked : (words : HostWords) (loaded : Loaded) (secrets : Secrets) (mark
     → EndsMarked words loaded secrets marks marks_now nets nets_now out out_now (status_after result)
 ran_marked words loaded secrets marks between marks_now nets nets_now out out_now result claimed claims runs leaves =
     RanMarked result (record { claimed = claimed; between = between; claims = claims; runs = runs; leaves = leaves })
+
+-- a net was told to seal by what a deal of version 2 tells
+pub is_sealed : (loaded : Loaded) (seed : List ℕ) (secrets : Secrets) (seal : Option Seal) → loaded.dealt.secrets ≡ Some secrets
+    → seal ≡ Some (sealed_by loaded.program.me secrets seed) → IsSealedFor loaded seed seal
+is_sealed loaded seed secrets seal dealt is =
+    subst (λ (known : Option Secrets). MatchOption known ⊥ (λ (told : Secrets). seal ≡ Some (sealed_by loaded.program.me told seed))) (sym dealt) is
 
 some_of : (secrets : Option Secrets) → is_some secrets ≡ true → (known : Secrets) × (secrets ≡ Some known)
 some_of (Some known) some = (known, refl)

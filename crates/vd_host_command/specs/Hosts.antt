@@ -1,11 +1,14 @@
 -- What becomes of the command.
-use Rattle.std.specs.Prelude.{◌≡◌, ℕ, Bool, Option, Some, None, Result, Ok, Err}
+use Rattle.std.specs.Prelude.{◌≡◌, ℕ, Bool, List, Option, Some, None, MatchOption, Result, Ok, Err}
 use Rattle.vd_outside.specs.Files.{FilesView}
 use Rattle.vd_outside.specs.Net.{NetView}
 use Rattle.vd_outside.specs.Sink.{SinkView}
 use Rattle.vd_marks.specs.Marks.{MarksView}
 use Rattle.vd_secrets.specs.declared.secrets.Secrets.{Secrets}
-use Rattle.vd_sealed_net.specs.Views.{has_sent, sealing}
+use Rattle.vd_sealed_net.specs.Ledgers.{has_sent}
+use Rattle.vd_sealed_net.specs.Seals.{sealed_by}
+use Rattle.vd_sealed_net.specs.Views.{sealing}
+use Rattle.vd_sealed_net.specs.declared.ledger.Ledger.{Ledger}
 use Rattle.vd_sealed_net.specs.declared.seal.Seal.{Seal}
 use Rattle.vd_cmd.specs.declared.command.HostWords.{HostWords}
 use Rattle.vd_engine.specs.declared.engine.Ended.{Ended}
@@ -38,7 +41,8 @@ pub data PlainRuns (words : HostWords) (files files_now : FilesView) (net net_no
   WentWrong : (loaded : Loaded) (refusal : Status) → LoadsHost words files files_now (Ok loaded) → IsLoaded words loaded → loaded.dealt.secrets ≡ None
       → RunsLoaded words loaded net net_now out out_now (Err refusal) → PlainRuns words files files_now net net_now out out_now refusal
 
--- A net, and the same as one that seals its links; and whether a link of it came back over which something went out behind the greeting.
+-- A net, and the same as one that seals its links; and whether more than greetings may have gone out: a link that was given is out, or one came back over
+-- which something went out behind the greeting.
 pub record NetsView : Type 0 where
   pub plain : NetView
   pub sealed : NetView
@@ -52,6 +56,10 @@ pub record RunsMarked (words : HostWords) (loaded : Loaded) (secrets : Secrets) 
   pub claims : Claims words secrets.id loaded.program marks between (Ok claimed)
   pub runs : RunsLoaded words loaded nets.sealed nets_now.sealed out out_now result
   pub leaves : Leaves words claimed.name nets_now.sent between marks_now
+
+-- The deal is of version 2, and a net seals by the number of its host, by what it tells of its dealing, and by the bytes that were drawn for this run.
+abbrev pub IsSealedFor : Loaded → (seed : List ℕ) → Option Seal → Type 0
+IsSealedFor loaded seed seal = MatchOption loaded.dealt.secrets ⊥ (λ secrets. seal ≡ Some (sealed_by loaded.program.me secrets seed))
 
 -- how a run ends is the status
 abbrev pub status_after : Result (Unit {0}) Status → Status
@@ -73,5 +81,5 @@ pub data HostRuns (words : HostWords) (files files_now : FilesView) (marks marks
       → EndsMarked words loaded secrets marks marks_now nets nets_now out out_now end → HostRuns words files files_now marks marks_now nets nets_now out out_now end
 
 -- a net, the same as one that seals, and what is known of whether something was sent
-abbrev pub nets_of : NetView → Option Seal → (faults : ℕ) → NetsView
-nets_of net seal faults = record { plain = net; sealed = sealing net faults; sent = has_sent seal }
+abbrev pub nets_of : NetView → Ledger → (faults : ℕ) → NetsView
+nets_of net ledger faults = record { plain = net; sealed = sealing net faults; sent = has_sent ledger }

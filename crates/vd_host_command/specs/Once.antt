@@ -12,7 +12,7 @@ use Rattle.vd_host_command.specs.Loading.{LoadsHost}
 use Rattle.vd_host_command.specs.Marking.{mark_of, mark_text}
 use Rattle.vd_host_command.specs.declared.loading.Loaded.{Loaded}
 
--- Where something went out over a sealed link behind the greeting, the files had a deal of version 2, whose mark was not there before and is there now.
+-- Where something may have gone out over a sealed link behind the greeting, the files had a deal of version 2, whose mark was not there before and is there now.
 pub record IsMarked (words : HostWords) (files files_now : FilesView) (marks marks_now : MarksView) : Type 0 where
   pub loaded : Loaded
   pub secrets : Secrets

@@ -1,83 +1,20 @@
 //! The command `host`.
 
-ghost use Rattle.std.specs.Prelude.{◌≡◌, ◌≤◌, true, None, Ok, IfOk, OnErr, is_some};
+ghost use Rattle.std.specs.Prelude.{◌≡◌, ◌≤◌, true, Some, Ok, IfOk, OnErr, is_some};
 ghost use Rattle.vd_outside.specs.Files.{FilesView};
-ghost use Rattle.vd_host_command.specs.Hosts.{EndsMarked, HostRuns, PlainRuns, RunsLoaded, nets_of, status_after};
+ghost use Rattle.vd_host_command.specs.Hosts.{EndsMarked, HostRuns, nets_of};
 ghost use Rattle.vd_host_command.specs.Loading.{IsLoaded, LoadsHost};
 
 use crate::loading::{Loaded, load_host};
 use crate::marking::{claim, leave};
-use crate::statuses::status_of;
+use crate::playing::{run_plain, run_sealed, status_after};
 use std::alloc::{AllocError, Global};
-use vd_base::{Name, Names, Text};
 use vd_cmd::HostWords;
-use vd_host_start::{Ready, start};
-use vd_hosting::play;
-use vd_items::Items;
 use vd_marks::Marks;
 use vd_outside::{Files, Net, Sink};
 use vd_plan::Status;
 use vd_sealed_net::SealedNet;
 use vd_secrets::Secrets;
-
-/// Copies of texts.
-fn copies(alloc: Global, texts: &[Text]) -> Result<Items<Text>, AllocError>
-    ensures { IfOk result (λ list. list ≡ texts.now) }
-{
-    let mut list = Items::new(alloc);
-    for text in texts {
-        list.push(Text::copy_of(alloc, text.as_str())?)?;
-    }
-    Ok(list)
-}
-
-/// Copies of names.
-fn names_of(alloc: Global, names: &Names) -> Result<Names, AllocError>
-    ensures { IfOk result (λ list. list ≡ names.now) }
-{
-    let mut list = Names::new(alloc);
-    for name in names.as_slice() {
-        list.push(Name::from_slice(alloc, name.as_slice())?)?;
-    }
-    Ok(list)
-}
-
-/// Runs a host whose files were read, over a net whose waits are as long as its words allow.
-fn run_loaded<N: Net, O: Sink>(
-    alloc: Global,
-    net: &mut N,
-    out: &mut O,
-    words: &HostWords,
-    loaded: Loaded,
-) -> Result<(), Status>
-    requires room { (N.view net.old).given ≤ 4294967000 }
-    requires loaded { IsLoaded words.now loaded }
-    requires limited { N.has_limit net.old words.now.limit }
-    ensures { RunsLoaded words.now loaded (N.view net.old) (N.view net.new) (O.view out.old) (O.view out.new) result }
-{
-    let Loaded {
-        program,
-        inputs,
-        dealt,
-    } = loaded;
-    let names = names_of(alloc, &program.hosts)?;
-    let addresses = copies(alloc, words.addresses.as_slice())?;
-    let Ready { task, machine } = start(alloc, program, inputs, dealt.deal, addresses)?;
-    match play(alloc, net, out, &task, machine) {
-        Ok(_) => Ok(()),
-        Err(fault) => Err(status_of(names, fault)),
-    }
-}
-
-/// The status of a host that ran.
-fn status_after(ran: Result<(), Status>) -> Status
-    ensures { result ≡ status_after ran }
-{
-    match ran {
-        Ok(()) => Status::Ended,
-        Err(status) => status,
-    }
-}
 
 /// Runs a host whose deal is of version 2, over sealed links: its mark is taken first, and taken back where nothing went out that the
 /// deal masks.
@@ -93,8 +30,9 @@ fn run_marked<M: Marks, N: Net + Drop, O: Sink>(
     requires room { (N.view net.old.net).given ≤ 4294967000 }
     requires loaded { IsLoaded words.now loaded }
     requires limited { N.has_limit net.old.net words.now.limit }
+    requires dealt { loaded.dealt.secrets ≡ Some secrets }
     ensures { EndsMarked words.now loaded secrets (M.view marks.old) (M.view marks.new)
-        (nets_of (N.view net.old.net) net.old.seal net.old.faults) (nets_of (N.view net.new.net) net.new.seal net.new.faults)
+        (nets_of (N.view net.old.net) net.old.ledger net.old.faults) (nets_of (N.view net.new.net) net.new.ledger net.new.faults)
         (O.view out.old) (O.view out.new) result }
 {
     let id = secrets.id;
@@ -103,7 +41,7 @@ fn run_marked<M: Marks, N: Net + Drop, O: Sink>(
         Err(status) => return status,
     };
     net.seal(loaded.program.me, secrets, claimed.seed);
-    let ran = run_loaded(alloc, net, out, words, loaded);
+    let ran = run_sealed(alloc, net, out, words, loaded, &claimed);
     leave(marks, words, claimed.name.as_slice(), net.has_sent());
     status_after(ran)
 }
@@ -117,26 +55,6 @@ fn secrets_of(alloc: Global, loaded: &Loaded) -> Result<Option<Secrets>, AllocEr
         None => Ok(None),
         Some(secrets) => Ok(Some(secrets.copy(alloc)?)),
     }
-}
-
-/// Runs a host whose deal is of version 1, over the net as it is.
-fn run_plain<N: Net + Drop, O: Sink>(
-    alloc: Global,
-    net: &mut SealedNet<N>,
-    out: &mut O,
-    words: &HostWords,
-    loaded: Loaded,
-) -> Status
-    requires room { (N.view net.old.net).given ≤ 4294967000 }
-    requires loaded { IsLoaded words.now loaded }
-    requires limited { N.has_limit net.old.net words.now.limit }
-    requires plain { loaded.dealt.secrets ≡ None }
-    ensures runs { (before now : FilesView) → LoadsHost words.now before now (Ok loaded) →
-        PlainRuns words.now before now (N.view net.old.net) (N.view net.new.net) (O.view out.old) (O.view out.new) result }
-    ensures same { net.new.seal ≡ net.old.seal }
-{
-    let ran = run_loaded(alloc, &mut net.net, out, words, loaded);
-    status_after(ran)
 }
 
 /// Runs a host whose files were read, by the version of its deal.
@@ -153,13 +71,13 @@ fn run_dealt<M: Marks, N: Net + Drop, O: Sink>(
     requires limited { N.has_limit net.old.net words.now.limit }
     ensures { (before now : FilesView) → LoadsHost words.now before now (Ok loaded) →
         HostRuns words.now before now (M.view marks.old) (M.view marks.new)
-        (nets_of (N.view net.old.net) net.old.seal net.old.faults) (nets_of (N.view net.new.net) net.new.seal net.new.faults)
+        (nets_of (N.view net.old.net) net.old.ledger net.old.faults) (nets_of (N.view net.new.net) net.new.ledger net.new.faults)
         (O.view out.old) (O.view out.new) result }
 {
     match secrets_of(alloc, &loaded) {
         Ok(None) => run_plain(alloc, net, out, words, loaded),
         Ok(Some(secrets)) => run_marked(alloc, marks, net, out, words, loaded, secrets),
-        Err(_error) => Status::Memory,
+        Err(error) => Status::from(error),
     }
 }
 
@@ -177,7 +95,7 @@ pub fn host<F: Files, M: Marks, N: Net + Drop, O: Sink>(
 ) -> Status
     requires room { (N.view net.old.net).given ≤ 4294967000 }
     ensures { HostRuns words.now (F.view files.old) (F.view files.new) (M.view marks.old) (M.view marks.new)
-        (nets_of (N.view net.old.net) net.old.seal net.old.faults) (nets_of (N.view net.new.net) net.new.seal net.new.faults)
+        (nets_of (N.view net.old.net) net.old.ledger net.old.faults) (nets_of (N.view net.new.net) net.new.ledger net.new.faults)
         (O.view out.old) (O.view out.new) result }
 {
     match load_host(alloc, files, words) {

@@ -20,7 +20,7 @@ pub fn links_come_back()
     ensures { LinksComeBack }
 {}
 
-/// Where something went out over a sealed link behind its greeting, the deal is of version 2, and its mark was not there before and is
+/// Where something may have gone out over a sealed link behind its greeting, the deal is of version 2, and its mark was not there before and is
 /// there now: no second run passes.
 pub fn deals_are_used_once()
     ensures { DealsAreUsedOnce }

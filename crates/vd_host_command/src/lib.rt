@@ -5,6 +5,7 @@ mod host_command;
 mod laws;
 mod loading;
 mod marking;
+mod playing;
 mod statuses;
 
 pub use host_command::host;

@@ -2,7 +2,7 @@ use Rattle.std.proofs.Common.{refl, ◌∙◌}
 use Rattle.std.proofs.lemmas.Result.{err_from_is_err_and}
 use Rattle.vd_host_command.specs.Hosts.{NotReady}
 use Rattle.vd_host_command.proofs.Running.{named, ran_well, ran_wrong}
-use Rattle.vd_host_command.proofs.host_command.run_loaded.Goals as goal
+use Rattle.vd_host_command.proofs.playing.run_loaded.Goals as goal
 
 pub returns-in_err-names : goal.returns-in_err-names
 returns-in_err-names g c =

@@ -1,5 +1,5 @@
 use Rattle.vd_host_command.proofs.Ends.{ran_plainly}
-use Rattle.vd_host_command.proofs.host_command.run_plain.Goals as goal
+use Rattle.vd_host_command.proofs.playing.run_plain.Goals as goal
 
 pub returns-clause-runs : goal.returns-clause-runs
 returns-clause-runs g c = λ before now loads.
