@@ -96,7 +96,7 @@ pub fn run_program<F: Files, M: Marks, O: Sink, E: Sink, N: Net + Drop, S: Spawn
       out = (O.view out.old, O.view out.new);
       err = (E.view err.old, E.view err.new);
       marks = (M.view marks.old, M.view marks.new);
-      nets = (nets_of (N.view net.old.net) net.old.seal net.old.faults, nets_of (N.view net.new.net) net.new.seal net.new.faults);
+      nets = (nets_of (N.view net.old.net) net.old.ledger net.old.faults, nets_of (N.view net.new.net) net.new.ledger net.new.faults);
       spawner = (S.view spawner.old, S.view spawner.new);
       packets = result.packets;
     }) (exit_status result.code) result.peer }
@@ -166,7 +166,7 @@ pub fn run_over<D: Directory + Drop, M: Marks, O: Sink, E: Sink, N: Net + Drop, 
       out = (O.view out.old, O.view out.new);
       err = (E.view err.old, E.view err.new);
       marks = (M.view marks.old, M.view marks.new);
-      nets = (nets_of (N.view net.old.net) net.old.seal net.old.faults, nets_of (N.view net.new.net) net.new.seal net.new.faults);
+      nets = (nets_of (N.view net.old.net) net.old.ledger net.old.faults, nets_of (N.view net.new.net) net.new.ledger net.new.faults);
       spawner = (S.view spawner.old, S.view spawner.new);
       packets = result.ending.packets;
     }) (exit_status result.ending.code) result.ending.peer }

@@ -29,7 +29,7 @@ returns-in-Err-Memory-clause-counts g c = counts_nothing _ _ _ (λ e. cc e) (for
 
 pub returns-in-Ok-clause-host : goal.returns-in-Ok-clause-host
 returns-in-Ok-clause-host g c =
-    plays_by (form_of c.args.words.now) c.in-Ok.command c.in-Ok.ensures.command (g.F.Files.view c.args.files.now) (g.F.Files.view c.run_command.new.files) (g.M.Marks.view c.args.marks.now) (g.M.Marks.view c.run_command.new.marks) (nets_of (g.N.Net.view c.args.net.now.net) c.args.net.now.seal c.args.net.now.faults) (nets_of (g.N.Net.view c.run_command.new.net.net) c.run_command.new.net.seal c.run_command.new.net.faults) (g.O.Sink.view c.args.out.now) (g.O.Sink.view c.run_command.new.out) c.run_command.result
+    plays_by (form_of c.args.words.now) c.in-Ok.command c.in-Ok.ensures.command (g.F.Files.view c.args.files.now) (g.F.Files.view c.run_command.new.files) (g.M.Marks.view c.args.marks.now) (g.M.Marks.view c.run_command.new.marks) (nets_of (g.N.Net.view c.args.net.now.net) c.args.net.now.ledger c.args.net.now.faults) (nets_of (g.N.Net.view c.run_command.new.net.net) c.run_command.new.net.ledger c.run_command.new.net.faults) (g.O.Sink.view c.args.out.now) (g.O.Sink.view c.run_command.new.out) c.run_command.result
     c.run_command.ensures.host
 
 pub returns-in-Ok-clause-hosts : goal.returns-in-Ok-clause-hosts
@@ -56,7 +56,7 @@ returns-in-Err-Usage-clause-shows g c =
 pub returns-in-Err-Usage-clause-host : goal.returns-in-Err-Usage-clause-host
 returns-in-Err-Usage-clause-host g c =
     let none = rw c.in-Err-Usage.field-0-is at c.in-Err-Usage.ensures.usage in
-    plays_refused (g.F.Files.view c.args.files.now) (g.O.Sink.view c.args.out.now) (g.M.Marks.view c.args.marks.now) (nets_of (g.N.Net.view c.args.net.now.net) c.args.net.now.seal c.args.net.now.faults) (form_of c.args.words.now) (none.0 refl)
+    plays_refused (g.F.Files.view c.args.files.now) (g.O.Sink.view c.args.out.now) (g.M.Marks.view c.args.marks.now) (nets_of (g.N.Net.view c.args.net.now.net) c.args.net.now.ledger c.args.net.now.faults) (form_of c.args.words.now) (none.0 refl)
 
 pub returns-in-Err-Usage-clause-hosts : goal.returns-in-Err-Usage-clause-hosts
 returns-in-Err-Usage-clause-hosts g c =
@@ -72,7 +72,7 @@ pub returns-in-Err-Memory-clause-shows : goal.returns-in-Err-Memory-clause-shows
 returns-in-Err-Memory-clause-shows g c = shows_nothing (g.F.Files.view c.args.files.now) (g.O.Sink.view c.args.out.now) (form_of c.args.words.now)
 
 pub returns-in-Err-Memory-clause-host : goal.returns-in-Err-Memory-clause-host
-returns-in-Err-Memory-clause-host g c = plays_nothing (g.F.Files.view c.args.files.now) (g.O.Sink.view c.args.out.now) (g.M.Marks.view c.args.marks.now) (nets_of (g.N.Net.view c.args.net.now.net) c.args.net.now.seal c.args.net.now.faults) (form_of c.args.words.now)
+returns-in-Err-Memory-clause-host g c = plays_nothing (g.F.Files.view c.args.files.now) (g.O.Sink.view c.args.out.now) (g.M.Marks.view c.args.marks.now) (nets_of (g.N.Net.view c.args.net.now.net) c.args.net.now.ledger c.args.net.now.faults) (form_of c.args.words.now)
 
 pub returns-in-Err-Memory-clause-hosts : goal.returns-in-Err-Memory-clause-hosts
 returns-in-Err-Memory-clause-hosts g c = spawns_nothing (g.F.Files.view c.args.files.now) (g.O.Sink.view c.args.out.now) (g.S.Spawner.view c.args.spawner.now) (form_of c.args.words.now)
@@ -98,15 +98,15 @@ pub returns-in-Err-Memory-clause-stores : goal.returns-in-Err-Memory-clause-stor
 returns-in-Err-Memory-clause-stores g c = stores_nothing _ _ _ _ _ (λ e. cc e) (form_of c.args.words.now)
 
 pub returns-in-Ok-clause-used_once : goal.returns-in-Ok-clause-used_once
-returns-in-Ok-clause-used_once g c = marked_by (form_of c.args.words.now) c.in-Ok.command c.in-Ok.ensures.command (g.F.Files.view c.args.files.now) (g.F.Files.view c.run_command.new.files) (g.M.Marks.view c.args.marks.now) (g.M.Marks.view c.run_command.new.marks) (nets_of (g.N.Net.view c.args.net.now.net) c.args.net.now.seal c.args.net.now.faults) (nets_of (g.N.Net.view c.run_command.new.net.net) c.run_command.new.net.seal c.run_command.new.net.faults) c.run_command.ensures.used_once
+returns-in-Ok-clause-used_once g c = marked_by (form_of c.args.words.now) c.in-Ok.command c.in-Ok.ensures.command (g.F.Files.view c.args.files.now) (g.F.Files.view c.run_command.new.files) (g.M.Marks.view c.args.marks.now) (g.M.Marks.view c.run_command.new.marks) (nets_of (g.N.Net.view c.args.net.now.net) c.args.net.now.ledger c.args.net.now.faults) (nets_of (g.N.Net.view c.run_command.new.net.net) c.run_command.new.net.ledger c.run_command.new.net.faults) c.run_command.ensures.used_once
 
 pub returns-in-Err-Usage-clause-used_once : goal.returns-in-Err-Usage-clause-used_once
 returns-in-Err-Usage-clause-used_once g c =
     let none = rw c.in-Err-Usage.field-0-is at c.in-Err-Usage.ensures.usage in
-    marked_all (g.F.Files.view c.args.files.now) (g.F.Files.view c.args.files.now) (g.M.Marks.view c.args.marks.now) (g.M.Marks.view c.args.marks.now) (nets_of (g.N.Net.view c.args.net.now.net) c.args.net.now.seal c.args.net.now.faults) (nets_of (g.N.Net.view c.args.net.now.net) c.args.net.now.seal c.args.net.now.faults) (g.O.Sink.view c.args.out.now) (g.O.Sink.view c.args.out.now) Usage (form_of c.args.words.now) (plays_refused (g.F.Files.view c.args.files.now) (g.O.Sink.view c.args.out.now) (g.M.Marks.view c.args.marks.now) (nets_of (g.N.Net.view c.args.net.now.net) c.args.net.now.seal c.args.net.now.faults) (form_of c.args.words.now) (none.0 refl))
+    marked_all (g.F.Files.view c.args.files.now) (g.F.Files.view c.args.files.now) (g.M.Marks.view c.args.marks.now) (g.M.Marks.view c.args.marks.now) (nets_of (g.N.Net.view c.args.net.now.net) c.args.net.now.ledger c.args.net.now.faults) (nets_of (g.N.Net.view c.args.net.now.net) c.args.net.now.ledger c.args.net.now.faults) (g.O.Sink.view c.args.out.now) (g.O.Sink.view c.args.out.now) Usage (form_of c.args.words.now) (plays_refused (g.F.Files.view c.args.files.now) (g.O.Sink.view c.args.out.now) (g.M.Marks.view c.args.marks.now) (nets_of (g.N.Net.view c.args.net.now.net) c.args.net.now.ledger c.args.net.now.faults) (form_of c.args.words.now) (none.0 refl))
 
 pub returns-in-Err-Memory-clause-used_once : goal.returns-in-Err-Memory-clause-used_once
-returns-in-Err-Memory-clause-used_once g c = marked_all (g.F.Files.view c.args.files.now) (g.F.Files.view c.args.files.now) (g.M.Marks.view c.args.marks.now) (g.M.Marks.view c.args.marks.now) (nets_of (g.N.Net.view c.args.net.now.net) c.args.net.now.seal c.args.net.now.faults) (nets_of (g.N.Net.view c.args.net.now.net) c.args.net.now.seal c.args.net.now.faults) (g.O.Sink.view c.args.out.now) (g.O.Sink.view c.args.out.now) Memory (form_of c.args.words.now) (plays_nothing (g.F.Files.view c.args.files.now) (g.O.Sink.view c.args.out.now) (g.M.Marks.view c.args.marks.now) (nets_of (g.N.Net.view c.args.net.now.net) c.args.net.now.seal c.args.net.now.faults) (form_of c.args.words.now))
+returns-in-Err-Memory-clause-used_once g c = marked_all (g.F.Files.view c.args.files.now) (g.F.Files.view c.args.files.now) (g.M.Marks.view c.args.marks.now) (g.M.Marks.view c.args.marks.now) (nets_of (g.N.Net.view c.args.net.now.net) c.args.net.now.ledger c.args.net.now.faults) (nets_of (g.N.Net.view c.args.net.now.net) c.args.net.now.ledger c.args.net.now.faults) (g.O.Sink.view c.args.out.now) (g.O.Sink.view c.args.out.now) Memory (form_of c.args.words.now) (plays_nothing (g.F.Files.view c.args.files.now) (g.O.Sink.view c.args.out.now) (g.M.Marks.view c.args.marks.now) (nets_of (g.N.Net.view c.args.net.now.net) c.args.net.now.ledger c.args.net.now.faults) (form_of c.args.words.now))
 
 pub returns-in-Ok-clause-keyed : goal.returns-in-Ok-clause-keyed
 returns-in-Ok-clause-keyed g c = keys_by (form_of c.args.words.now) c.in-Ok.command c.in-Ok.ensures.command (g.F.Files.view c.args.files.now) (g.F.Files.view c.run_command.new.files) (g.M.Marks.view c.args.marks.now) (g.M.Marks.view c.run_command.new.marks) (g.O.Sink.view c.args.out.now) (g.O.Sink.view c.run_command.new.out) c.run_command.result c.run_command.ensures.keyed
