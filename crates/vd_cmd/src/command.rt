@@ -1,8 +1,10 @@
 //! The forms of a command line.
 
-ghost use Rattle.std.specs.Prelude.{◌≡◌, [], ◌∷◌, None, IfOk, IfSome, MatchOption};
+ghost use Rattle.std.specs.Prelude.{◌≡◌, [], ◌∷◌, None, Some, IfOk, IfSome, MatchOption};
 ghost use Rattle.vd_cmd.specs.Commands.{Reads, AreWithin, IsBudget, IsPort, IsSize, IsWait, choose_of, compile_of, counts_in, deal_in, deal_of, draw_of, excuse_form_of, excuse_of, fixed_form_of, form_of, gen_of, host_form_of, key_deal_of, key_file, limited_form_of, needs_of, needs_with, other_form_of, replay_of, replay_with, run_of, trial_of, unhosted_form_of};
+ghost use Rattle.vd_cmd.specs.declared.command.Command.TheVariants.{OnFiles};
 ghost use Rattle.vd_cmd.specs.declared.command.CommandFault.TheVariants.{Memory};
+ghost use Rattle.vd_cmd.specs.declared.command.FilesCommand.TheVariants.{Clear, Certify, Hasten, Depends, Influences};
 ghost use Rattle.vd_cmd.specs.declared.command.KeySource.TheVariants.{Drawn, InFile};
 
 use crate::numbers::number_within;
@@ -328,6 +330,35 @@ fn needs_with(alloc: Global, file: &Text, other: &Text) -> Result<Command, Comma
     }
 }
 
+/// The words of `replay` with this budget.
+fn replay_words(
+    alloc: Global,
+    source: &Text,
+    inputs: &Text,
+    prefix: &Text,
+    schedule: &Text,
+    messages: bool,
+    budget: u32,
+) -> Result<ReplayWords, AllocError>
+    ensures { IfOk result (λ words. words ≡ record {
+      source = source.now;
+      inputs = inputs.now;
+      prefix = prefix.now;
+      schedule = schedule.now;
+      messages = messages;
+      budget = budget;
+    }) }
+{
+    Ok(ReplayWords {
+        source: Text::copy_of(alloc, source.as_str())?,
+        inputs: Text::copy_of(alloc, inputs.as_str())?,
+        prefix: Text::copy_of(alloc, prefix.as_str())?,
+        schedule: Text::copy_of(alloc, schedule.as_str())?,
+        messages,
+        budget,
+    })
+}
+
 /// The command `replay` with this budget, if it is given.
 fn replay_of(
     alloc: Global,
@@ -344,18 +375,16 @@ fn replay_of(
     let Some(budget) = budget else {
         return Err(CommandFault::Usage);
     };
-    let source = Text::copy_of(alloc, source.as_str())?;
-    let inputs = Text::copy_of(alloc, inputs.as_str())?;
-    let prefix = Text::copy_of(alloc, prefix.as_str())?;
-    let schedule = Text::copy_of(alloc, schedule.as_str())?;
-    Ok(Command::OnFiles(FilesCommand::Replay(ReplayWords {
+    let words = replay_words(
+        alloc,
         source,
         inputs,
         prefix,
         schedule,
         messages,
-        budget: budget as u32,
-    })))
+        budget as u32,
+    )?;
+    Ok(Command::OnFiles(FilesCommand::Replay(words)))
 }
 
 /// The command `replay` with one word more: `messages`, or a budget.
@@ -378,6 +407,38 @@ fn replay_with(
     }
 }
 
+/// The words of `excuse` with this budget.
+fn excuse_words(
+    alloc: Global,
+    source: &Text,
+    inputs: &Text,
+    second: &Text,
+    prefix: &Text,
+    host: &Text,
+    out: &Text,
+    budget: u32,
+) -> Result<ExcuseWords, AllocError>
+    ensures { IfOk result (λ words. words ≡ record {
+      source = source.now;
+      inputs = inputs.now;
+      second = second.now;
+      prefix = prefix.now;
+      host = host.now;
+      out = out.now;
+      budget = budget;
+    }) }
+{
+    Ok(ExcuseWords {
+        source: Text::copy_of(alloc, source.as_str())?,
+        inputs: Text::copy_of(alloc, inputs.as_str())?,
+        second: Text::copy_of(alloc, second.as_str())?,
+        prefix: Text::copy_of(alloc, prefix.as_str())?,
+        host: Text::copy_of(alloc, host.as_str())?,
+        out: Text::copy_of(alloc, out.as_str())?,
+        budget,
+    })
+}
+
 /// The command `excuse` with this budget, if it is given.
 fn excuse_of(
     alloc: Global,
@@ -395,21 +456,43 @@ fn excuse_of(
     let Some(budget) = budget else {
         return Err(CommandFault::Usage);
     };
-    let source = Text::copy_of(alloc, source.as_str())?;
-    let inputs = Text::copy_of(alloc, inputs.as_str())?;
-    let second = Text::copy_of(alloc, second.as_str())?;
-    let prefix = Text::copy_of(alloc, prefix.as_str())?;
-    let host = Text::copy_of(alloc, host.as_str())?;
-    let out = Text::copy_of(alloc, out.as_str())?;
-    Ok(Command::OnFiles(FilesCommand::Excuse(ExcuseWords {
+    let words = excuse_words(
+        alloc,
         source,
         inputs,
         second,
         prefix,
         host,
         out,
-        budget: budget as u32,
-    })))
+        budget as u32,
+    )?;
+    Ok(Command::OnFiles(FilesCommand::Excuse(words)))
+}
+
+/// The words of `run` with this port.
+fn run_words(
+    alloc: Global,
+    source: &Text,
+    inputs: &Text,
+    prefix: &Text,
+    program: &Text,
+    port: u32,
+) -> Result<RunWords, AllocError>
+    ensures { IfOk result (λ words. words ≡ record {
+      source = source.now;
+      inputs = inputs.now;
+      prefix = prefix.now;
+      program = program.now;
+      port = port;
+    }) }
+{
+    Ok(RunWords {
+        source: Text::copy_of(alloc, source.as_str())?,
+        inputs: Text::copy_of(alloc, inputs.as_str())?,
+        prefix: Text::copy_of(alloc, prefix.as_str())?,
+        program: Text::copy_of(alloc, program.as_str())?,
+        port,
+    })
 }
 
 /// The command `run` with this port, if it is given.
@@ -427,17 +510,8 @@ fn run_of(
     let Some(port) = port else {
         return Err(CommandFault::Usage);
     };
-    let source = Text::copy_of(alloc, source.as_str())?;
-    let inputs = Text::copy_of(alloc, inputs.as_str())?;
-    let prefix = Text::copy_of(alloc, prefix.as_str())?;
-    let program = Text::copy_of(alloc, program.as_str())?;
-    Ok(Command::Run(RunWords {
-        source,
-        inputs,
-        prefix,
-        program,
-        port: port as u32,
-    }))
+    let words = run_words(alloc, source, inputs, prefix, program, port as u32)?;
+    Ok(Command::Run(words))
 }
 
 /// The command `gen` of this size, if it is given.
@@ -483,6 +557,55 @@ fn two_words(alloc: Global, word: &Text, argument: &Text) -> Result<Command, Com
     }
 }
 
+/// Copies of two texts.
+fn both(alloc: Global, first: &Text, second: &Text) -> Result<(Text, Text), AllocError>
+    ensures { IfOk result (λ texts. texts ≡ (first.now, second.now)) }
+{
+    let first = Text::copy_of(alloc, first.as_str())?;
+    let second = Text::copy_of(alloc, second.as_str())?;
+    Ok((first, second))
+}
+
+/// The command `clear`.
+fn clear_of(alloc: Global, source: &Text, inputs: &Text) -> Result<Command, CommandFault>
+    ensures { Reads (Some (OnFiles (Clear source.now inputs.now))) result }
+{
+    let (source, inputs) = both(alloc, source, inputs)?;
+    Ok(Command::OnFiles(FilesCommand::Clear(source, inputs)))
+}
+
+/// The command `certify`.
+fn certify_of(alloc: Global, source: &Text, certificate: &Text) -> Result<Command, CommandFault>
+    ensures { Reads (Some (OnFiles (Certify source.now certificate.now))) result }
+{
+    let (source, certificate) = both(alloc, source, certificate)?;
+    Ok(Command::OnFiles(FilesCommand::Certify(source, certificate)))
+}
+
+/// The command `hasten`.
+fn hasten_of(alloc: Global, program: &Text, out: &Text) -> Result<Command, CommandFault>
+    ensures { Reads (Some (OnFiles (Hasten program.now out.now))) result }
+{
+    let (program, out) = both(alloc, program, out)?;
+    Ok(Command::OnFiles(FilesCommand::Hasten(program, out)))
+}
+
+/// The command `depends`.
+fn depends_of(alloc: Global, source: &Text, host: &Text) -> Result<Command, CommandFault>
+    ensures { Reads (Some (OnFiles (Depends source.now host.now))) result }
+{
+    let (source, host) = both(alloc, source, host)?;
+    Ok(Command::OnFiles(FilesCommand::Depends(source, host)))
+}
+
+/// The command `influences`.
+fn influences_of(alloc: Global, source: &Text, host: &Text) -> Result<Command, CommandFault>
+    ensures { Reads (Some (OnFiles (Influences source.now host.now))) result }
+{
+    let (source, host) = both(alloc, source, host)?;
+    Ok(Command::OnFiles(FilesCommand::Influences(source, host)))
+}
+
 /// The command that three words are.
 fn three_words(
     alloc: Global,
@@ -494,23 +617,15 @@ fn three_words(
 {
     let most = u64::from(SEARCH_BUDGET);
     if word.as_str() == "clear" {
-        let source = Text::copy_of(alloc, source.as_str())?;
-        Ok(Command::OnFiles(FilesCommand::Clear(source, Text::copy_of(alloc, other.as_str())?)))
+        clear_of(alloc, source, other)
     } else if word.as_str() == "certify" {
-        let source = Text::copy_of(alloc, source.as_str())?;
-        Ok(Command::OnFiles(FilesCommand::Certify(source, Text::copy_of(alloc, other.as_str())?)))
+        certify_of(alloc, source, other)
     } else if word.as_str() == "hasten" {
-        let program = Text::copy_of(alloc, source.as_str())?;
-        Ok(Command::OnFiles(FilesCommand::Hasten(program, Text::copy_of(alloc, other.as_str())?)))
+        hasten_of(alloc, source, other)
     } else if word.as_str() == "depends" {
-        let source = Text::copy_of(alloc, source.as_str())?;
-        Ok(Command::OnFiles(FilesCommand::Depends(source, Text::copy_of(alloc, other.as_str())?)))
+        depends_of(alloc, source, other)
     } else if word.as_str() == "influences" {
-        let source = Text::copy_of(alloc, source.as_str())?;
-        Ok(Command::OnFiles(FilesCommand::Influences(
-            source,
-            Text::copy_of(alloc, other.as_str())?,
-        )))
+        influences_of(alloc, source, other)
     } else if word.as_str() == "choose" {
         choose_of(alloc, source, number_within(1, most, other))
     } else if word.as_str() == "draw" {
@@ -641,32 +756,112 @@ fn read_excuse(alloc: Global, words: &[Text]) -> Result<Command, CommandFault>
     }
 }
 
+/// The command that five words are.
+fn five_words(
+    alloc: Global,
+    word: &Text,
+    source: &Text,
+    inputs: &Text,
+    prefix: &Text,
+    schedule: &Text,
+) -> Result<Command, CommandFault>
+    ensures { Reads (fixed_form_of (word.now ∷ source.now ∷ inputs.now ∷ prefix.now ∷ schedule.now ∷ [])) result }
+{
+    if word.as_str() == "replay" {
+        let most = u64::from(SEARCH_BUDGET);
+        replay_of(alloc, source, inputs, prefix, schedule, false, Some(most))
+    } else {
+        Err(CommandFault::Usage)
+    }
+}
+
+/// The command that six words are.
+fn six_words(
+    alloc: Global,
+    word: &Text,
+    source: &Text,
+    inputs: &Text,
+    prefix: &Text,
+    fourth: &Text,
+    last: &Text,
+) -> Result<Command, CommandFault>
+    ensures { Reads (fixed_form_of (word.now ∷ source.now ∷ inputs.now ∷ prefix.now ∷ fourth.now ∷ last.now ∷ [])) result }
+{
+    if word.as_str() == "replay" {
+        replay_with(alloc, source, inputs, prefix, fourth, last)
+    } else if word.as_str() == "run" {
+        let port = number_within(u64::from(FIRST_PORT), u64::from(LAST_PORT), last);
+        run_of(alloc, source, inputs, prefix, fourth, port)
+    } else {
+        Err(CommandFault::Usage)
+    }
+}
+
+/// The command that seven words are.
+fn seven_words(
+    alloc: Global,
+    word: &Text,
+    source: &Text,
+    inputs: &Text,
+    prefix: &Text,
+    schedule: &Text,
+    messages: &Text,
+    budget: &Text,
+) -> Result<Command, CommandFault>
+    ensures { Reads (fixed_form_of
+        (word.now ∷ source.now ∷ inputs.now ∷ prefix.now ∷ schedule.now ∷ messages.now ∷ budget.now ∷ [])) result }
+{
+    if word.as_str() == "replay" && messages.as_str() == "messages" {
+        let budget = number_within(1, u64::from(SEARCH_BUDGET), budget);
+        replay_of(alloc, source, inputs, prefix, schedule, true, budget)
+    } else {
+        Err(CommandFault::Usage)
+    }
+}
+
+/// The command that eight words are.
+fn eight_words(
+    alloc: Global,
+    word: &Text,
+    hosts: &Text,
+    own: &Text,
+    muls: &Text,
+    ands: &Text,
+    pairs: &Text,
+    key: &Text,
+    prefix: &Text,
+) -> Result<Command, CommandFault>
+    ensures { Reads (fixed_form_of
+        (word.now ∷ hosts.now ∷ own.now ∷ muls.now ∷ ands.now ∷ pairs.now ∷ key.now ∷ prefix.now ∷ [])) result }
+{
+    if word.as_str() == "deal" {
+        read_deal(alloc, hosts, own, muls, ands, pairs, key, prefix)
+    } else {
+        Err(CommandFault::Usage)
+    }
+}
+
 /// The command that words are, of those with a fixed number of words.
 fn read_fixed(alloc: Global, words: &[Text]) -> Result<Command, CommandFault>
     ensures { Reads (fixed_form_of words.now) result }
 {
-    let most = u64::from(SEARCH_BUDGET);
     match words {
         [word, argument] => two_words(alloc, word, argument),
         [word, source, other] => three_words(alloc, word, source, other),
         [word, source, prefix, budget] => four_words(alloc, word, source, prefix, budget),
-        [word, source, inputs, prefix, schedule] if word.as_str() == "replay" => {
-            replay_of(alloc, source, inputs, prefix, schedule, false, Some(most))
+        [word, source, inputs, prefix, schedule] => {
+            five_words(alloc, word, source, inputs, prefix, schedule)
         }
-        [word, source, inputs, prefix, schedule, other] if word.as_str() == "replay" => {
-            replay_with(alloc, source, inputs, prefix, schedule, other)
+        [word, source, inputs, prefix, fourth, last] => {
+            six_words(alloc, word, source, inputs, prefix, fourth, last)
         }
-        [word, source, inputs, prefix, program, port] if word.as_str() == "run" => {
-            let port = number_within(u64::from(FIRST_PORT), u64::from(LAST_PORT), port);
-            run_of(alloc, source, inputs, prefix, program, port)
+        [word, source, inputs, prefix, schedule, messages, budget] => {
+            seven_words(
+                alloc, word, source, inputs, prefix, schedule, messages, budget,
+            )
         }
-        [word, source, inputs, prefix, schedule, messages, budget]
-            if word.as_str() == "replay" && messages.as_str() == "messages" => {
-            let budget = number_within(1, most, budget);
-            replay_of(alloc, source, inputs, prefix, schedule, true, budget)
-        }
-        [word, hosts, own, muls, ands, pairs, key, prefix] if word.as_str() == "deal" => {
-            read_deal(alloc, hosts, own, muls, ands, pairs, key, prefix)
+        [word, hosts, own, muls, ands, pairs, key, prefix] => {
+            eight_words(alloc, word, hosts, own, muls, ands, pairs, key, prefix)
         }
         _ => Err(CommandFault::Usage),
     }
