@@ -1,1 +1,4 @@
+pub mod Drivable
+pub mod Lists
 pub mod Loads
+pub mod OneSession

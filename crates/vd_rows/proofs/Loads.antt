@@ -5,7 +5,7 @@ use Rattle.vd_execution.specs.declared.instructions.Reg.{Reg}
 use Rattle.vd_execution.specs.declared.instructions.Action.TheVariants as action
 use Rattle.vd_execution.specs.Code.{Finished, Then, Send, Recv}
 use Rattle.vd_execution.specs.Text.{register}
-use Rattle.vd_rows.specs.Codes.{listener, speaker, taker, CanLoad}
+use Rattle.vd_rows.specs.Codes.{listener, sender, taker, CanLoad}
 
 one_small : All (λ (r : Reg). r.0 < 2097152) (register 0 ∷ [])
 one_small zero d h = omega arith
@@ -22,8 +22,8 @@ listener_loads = (
   },
 )
 
-pub speaker_loads : CanLoad speaker
-speaker_loads = (
+pub sender_loads : CanLoad sender
+sender_loads = (
   Then (action.Input (register 0)) (Send 0 (register 0 ∷ []) Finished),
   refl,
   record {

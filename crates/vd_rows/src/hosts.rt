@@ -1,32 +1,23 @@
 //! Two hosts under schedules, on code made by hand.
 
-ghost use Rattle.std.specs.Prelude.{◌≡◌, ◌<◌, ◌∷◌, [], length, IfOk};
-ghost use Rattle.vd_deals.specs.Validity.{AreWithin, IsDeal};
-ghost use Rattle.vd_execution.specs.Text.{register};
+ghost use Rattle.std.specs.Prelude.{◌≡◌, ◌<◌, IfOk};
 ghost use Rattle.vd_rows.specs.Codes.{CanLoad};
 ghost use Rattle.vd_rows.specs.Codes as codes;
 
+use crate::made::{no_deal, registers};
 use std::alloc::{AllocError, Global};
 use std::test::Fail;
 use vd_base::{HostId, HostState, Words};
-use vd_deals::{Deal, PairItem, Triple};
 use vd_execution::{Action, Instr, Reg};
 use vd_items::Items;
 use vd_machine::Machine;
 use vd_world::World;
 
-fn one_register(alloc: Global) -> Result<Items<Reg>, AllocError>
-    ensures { IfOk result (λ list. list ≡ register 0 ∷ []) }
-{
-    let list = vec![in alloc; Reg(0)]?;
-    Ok(Items::from_vec(list))
-}
-
 /// Receives a word from host 1 and prints it.
 fn listener(alloc: Global) -> Result<Items<Instr>, AllocError>
     ensures { IfOk result (λ code. code ≡ codes.listener) }
 {
-    let heard = one_register(alloc)?;
+    let heard = registers(alloc, 0, 1)?;
     let code = vec![in alloc;
         Instr::Recv(HostId(1), heard),
         Instr::Do(Action::Print(Reg(0))),
@@ -35,10 +26,10 @@ fn listener(alloc: Global) -> Result<Items<Instr>, AllocError>
 }
 
 /// Sends its input to host 0.
-fn speaker(alloc: Global) -> Result<Items<Instr>, AllocError>
-    ensures { IfOk result (λ code. code ≡ codes.speaker) }
+fn sender(alloc: Global) -> Result<Items<Instr>, AllocError>
+    ensures { IfOk result (λ code. code ≡ codes.sender) }
 {
-    let sent = one_register(alloc)?;
+    let sent = registers(alloc, 0, 1)?;
     let code = vec![in alloc;
         Instr::Do(Action::Input(Reg(0))),
         Instr::Send(HostId(0), sent),
@@ -52,43 +43,6 @@ fn taker(alloc: Global) -> Result<Items<Instr>, AllocError>
 {
     let code = vec![in alloc; Instr::Do(Action::Own(Reg(0)))]?;
     Ok(Items::from_vec(code))
-}
-
-/// No products, for the one other host.
-fn no_triples(alloc: Global) -> Result<Items<Items<Triple>>, AllocError>
-    ensures one { IfOk result (λ list. length list ≡ 1) }
-    ensures within { IfOk result AreWithin }
-{
-    let list = vec![in alloc; Items::new(alloc)]?;
-    Ok(Items::from_vec(list))
-}
-
-/// No words that are sums and exclusive ors, for the one other host.
-fn no_pairs(alloc: Global) -> Result<Items<Items<PairItem>>, AllocError>
-    ensures one { IfOk result (λ list. length list ≡ 1) }
-    ensures within { IfOk result AreWithin }
-{
-    let list = vec![in alloc; Items::new(alloc)]?;
-    Ok(Items::from_vec(list))
-}
-
-/// A deal of nothing, to one of two hosts.
-fn no_deal(alloc: Global, me: u8) -> Result<Deal, AllocError>
-    requires { me < 2 }
-    ensures deal { IfOk result (λ deal. IsDeal deal) }
-    ensures hosts { IfOk result (λ deal. deal.hosts ≡ 2) }
-{
-    let triples = no_triples(alloc)?;
-    let bits = no_triples(alloc)?;
-    let pairs = no_pairs(alloc)?;
-    Ok(Deal {
-        hosts: 2,
-        me: HostId(me),
-        own: Items::new(alloc),
-        triples,
-        bits,
-        pairs,
-    })
 }
 
 /// One of two hosts with this code and these inputs, to which nothing is dealt.
@@ -109,11 +63,11 @@ fn listening(alloc: Global) -> Result<Machine, AllocError>
 }
 
 /// Host 1, which sends its input.
-fn speaking(alloc: Global, inputs: &[u32]) -> Result<Machine, AllocError>
+fn sending(alloc: Global, inputs: &[u32]) -> Result<Machine, AllocError>
     ensures { IfOk result (λ m. m.lists.deal.hosts ≡ 2) }
 {
     let inputs = Items::from_slice(alloc, inputs)?;
-    machine(alloc, 1, speaker(alloc)?, inputs)
+    machine(alloc, 1, sender(alloc)?, inputs)
 }
 
 /// Host 1, which takes a random word.
@@ -170,7 +124,7 @@ const STEPS: [(Option<bool>, HostState); 2] = [
 
 #[test]
 fn words_go_from_one_host_to_the_other(rt: HostRuntime) -> Result<(), Fail> {
-    let mut world = two(rt.alloc(), speaking(rt.alloc(), &[7])?)?;
+    let mut world = two(rt.alloc(), sending(rt.alloc(), &[7])?)?;
     assert_eq!(rt; two_steps(&mut world), STEPS);
     run(&mut world)?;
     assert_eq!(rt; states(&world), (HostState::Ended, HostState::Ended));
@@ -180,7 +134,7 @@ fn words_go_from_one_host_to_the_other(rt: HostRuntime) -> Result<(), Fail> {
 
 #[test]
 fn a_host_without_an_input_is_short(rt: HostRuntime) -> Result<(), Fail> {
-    let mut world = two(rt.alloc(), speaking(rt.alloc(), &[])?)?;
+    let mut world = two(rt.alloc(), sending(rt.alloc(), &[])?)?;
     run(&mut world)?;
     assert_eq!(rt; states(&world), (WAITING, HostState::ShortInput));
     Ok(())

@@ -1,8 +1,8 @@
 use Rattle.std.proofs.Common.{◌∙◌}
 use Rattle.vd_machine.specs.Kept.{state_of}
 use Rattle.vd_memory_net.specs.MemLink.{limited_link_view}
-use Rattle.vd_link_rows.proofs.OneSession.{one_sound, one_stands}
-use Rattle.vd_link_rows.proofs.hosts.driven.Goals as goal
+use Rattle.vd_rows.proofs.OneSession.{one_sound, one_stands}
+use Rattle.vd_rows.proofs.driven.driven.Goals as goal
 
 pub put-requires-clause-free : goal.put-requires-clause-free
 put-requires-clause-free c = c.new-links.ensures 0

@@ -1,5 +1,5 @@
-use Rattle.vd_link_rows.proofs.Lists.{more_comparisons}
-use Rattle.vd_link_rows.proofs.hosts.compare.Goals as goal
+use Rattle.vd_rows.proofs.Lists.{more_comparisons}
+use Rattle.vd_rows.proofs.driven.compare.Goals as goal
 
 pub loop-place-preserved : goal.loop-place-preserved
 loop-place-preserved c = more_comparisons c.loop-place.place c.args.code.now c.loop-place.code c.push.new.self c.loop-place.invariant c.in_ok-push.ensures.ok

@@ -5,7 +5,7 @@ use Rattle.vd_execution.specs.declared.instructions.Action.TheVariants as action
 use Rattle.vd_execution.specs.declared.instructions.Reg.{Reg}
 use Rattle.vd_execution.specs.Code.{Code, Finished, Then, Send, Recv}
 use Rattle.vd_execution.specs.Text.{register}
-use Rattle.vd_link_rows.specs.Codes.{CanDrive, opener, registers, speaker}
+use Rattle.vd_rows.specs.Codes.{CanDrive, opener, registers, speaker}
 
 one_small : All (λ (r : Reg). r.0 < 2097152) (registers 0 1)
 one_small zero d h = omega arith

@@ -1,7 +1,7 @@
 use Rattle.std.proofs.Common.{sym, subst, ℕ}
 use Rattle.vd_execution.specs.Ranges.{IsInRange}
-use Rattle.vd_link_rows.proofs.OneSession.{loaded_packets, loaded_weight}
-use Rattle.vd_link_rows.proofs.hosts.machine.Goals as goal
+use Rattle.vd_rows.proofs.OneSession.{loaded_packets, loaded_weight}
+use Rattle.vd_rows.proofs.driven.drivable.Goals as goal
 
 pub load-requires-clause-code : goal.load-requires-clause-code
 load-requires-clause-code c =

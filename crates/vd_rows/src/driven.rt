@@ -1,18 +1,18 @@
 //! Host 1 over its link to host 0, on code made by hand.
 
-ghost use Rattle.std.specs.Prelude.{◌≡◌, ◌<◌, ◌+◌, ◌++◌, ◌^◌, false, length, IfOk, IfSome, OnOk};
-ghost use Rattle.vd_deals.specs.Validity.{AreWithin, IsDeal};
+ghost use Rattle.std.specs.Prelude.{◌≡◌, ◌<◌, ◌++◌, ◌^◌, false, IfOk, OnOk};
 ghost use Rattle.vd_engine.specs.Hosts.{PacketsAreWith};
 ghost use Rattle.vd_execution.specs.Code.{weight};
 ghost use Rattle.vd_link.specs.States.{has_failed, offset_of};
-ghost use Rattle.vd_link_rows.specs.Codes.{CanDrive};
-ghost use Rattle.vd_link_rows.specs.Codes as codes;
+ghost use Rattle.vd_rows.specs.Codes.{CanDrive};
+ghost use Rattle.vd_rows.specs.Codes as codes;
 ghost use Rattle.vd_machine.specs.Kept.{state_of};
 
+use crate::made::{no_deal, registers};
+use crate::sessions::{greeted, link_of};
 use std::alloc::{AllocError, Global};
 use std::test::Fail;
-use vd_base::{Bytes, HostId, Words};
-use vd_deals::{Deal, PairItem, Triple};
+use vd_base::{HostId, Words};
 use vd_engine::{Ended, EngineFault, Links, drive};
 use vd_execution::{Action, Instr, Reg};
 use vd_items::Items;
@@ -20,18 +20,6 @@ use vd_link::{Greeted, Session};
 use vd_machine::Machine;
 use vd_memory_net::MemLink;
 use vd_outside::MemSink;
-
-/// So many registers from one on.
-fn registers(alloc: Global, first: u32, count: u32) -> Result<Items<Reg>, AllocError>
-    requires { first + count < 100 }
-    ensures { IfOk result (λ list. list ≡ codes.registers first count) }
-{
-    let mut list = Items::new(alloc);
-    for place in 0..count {
-        list.push(Reg(first + place))?;
-    }
-    Ok(list)
-}
 
 /// Compares eight registers with those from 17 on.
 fn compare(code: &mut Items<Instr>) -> Result<(), AllocError>
@@ -73,49 +61,13 @@ fn speaker(alloc: Global) -> Result<Items<Instr>, AllocError>
     Ok(Items::from_vec(code))
 }
 
-/// No products, for the one other host.
-fn no_triples(alloc: Global) -> Result<Items<Items<Triple>>, AllocError>
-    ensures one { IfOk result (λ list. length list ≡ 1) }
-    ensures within { IfOk result AreWithin }
-{
-    let list = vec![in alloc; Items::new(alloc)]?;
-    Ok(Items::from_vec(list))
-}
-
-/// No words that are sums and exclusive ors, for the one other host.
-fn no_pairs(alloc: Global) -> Result<Items<Items<PairItem>>, AllocError>
-    ensures one { IfOk result (λ list. length list ≡ 1) }
-    ensures within { IfOk result AreWithin }
-{
-    let list = vec![in alloc; Items::new(alloc)]?;
-    Ok(Items::from_vec(list))
-}
-
-/// A deal of nothing to host 1 of two.
-fn no_deal(alloc: Global) -> Result<Deal, AllocError>
-    ensures deal { IfOk result (λ deal. IsDeal deal) }
-    ensures hosts { IfOk result (λ deal. deal.hosts ≡ 2) }
-{
-    let triples = no_triples(alloc)?;
-    let bits = no_triples(alloc)?;
-    let pairs = no_pairs(alloc)?;
-    Ok(Deal {
-        hosts: 2,
-        me: HostId(1),
-        own: Items::new(alloc),
-        triples,
-        bits,
-        pairs,
-    })
-}
-
 /// A host with this code and these inputs, to which nothing is dealt.
-fn machine(alloc: Global, code: Items<Instr>, inputs: Words) -> Result<Machine, AllocError>
+fn drivable(alloc: Global, code: Items<Instr>, inputs: Words) -> Result<Machine, AllocError>
     requires { CanDrive code }
     ensures packets { IfOk result (λ m. PacketsAreWith (λ peer. peer ≡ 0) (state_of m).pending) }
     ensures short { IfOk result (λ m. weight (state_of m).pending < 2 ^ 32) }
 {
-    let deal = no_deal(alloc)?;
+    let deal = no_deal(alloc, 1)?;
     Machine::load(alloc, code, inputs, deal)
 }
 
@@ -124,7 +76,7 @@ fn opening_machine(alloc: Global) -> Result<Machine, AllocError>
     ensures packets { IfOk result (λ m. PacketsAreWith (λ peer. peer ≡ 0) (state_of m).pending) }
     ensures short { IfOk result (λ m. weight (state_of m).pending < 2 ^ 32) }
 {
-    machine(alloc, opener(alloc)?, Items::new(alloc))
+    drivable(alloc, opener(alloc)?, Items::new(alloc))
 }
 
 /// A host with this input, which it sends and prints.
@@ -133,7 +85,7 @@ fn speaking_machine(alloc: Global, inputs: &[u32]) -> Result<Machine, AllocError
     ensures short { IfOk result (λ m. weight (state_of m).pending < 2 ^ 32) }
 {
     let inputs = Items::from_slice(alloc, inputs)?;
-    machine(alloc, speaker(alloc)?, inputs)
+    drivable(alloc, speaker(alloc)?, inputs)
 }
 
 /// The host over its one session.
@@ -152,38 +104,6 @@ fn driven(
     drive(machine, &mut links, out)
 }
 
-/// What comes on the link: a greeting of host 0 to host 1, and then these pieces.
-fn incoming(alloc: Global, pieces: &[&[u8]]) -> Result<Bytes, AllocError> {
-    let mut incoming = Bytes::from_slice(alloc, &GREETING)?;
-    for piece in pieces {
-        incoming.extend_from_slice(piece)?;
-    }
-    Ok(incoming)
-}
-
-/// A link on which these pieces come behind the greeting, so many bytes a call. It fails at the calls with these numbers.
-fn link_of(
-    alloc: Global,
-    pieces: &[&[u8]],
-    most: u32,
-    failing: &[u64],
-) -> Result<MemLink, AllocError> {
-    let incoming = incoming(alloc, pieces)?;
-    let failing = Items::from_slice(alloc, failing)?;
-    MemLink::new(alloc, incoming, 200, most, failing)
-}
-
-/// A session of host 1 with host 0 over this link.
-fn greeted(alloc: Global, link: MemLink) -> Option<Session<MemLink, Greeted>>
-    ensures offset { IfSome result (λ session. offset_of session ≡ 36) }
-    ensures sound { IfSome result (λ session. has_failed session ≡ false) }
-{
-    match Session::new(alloc, link, HostId(1), HostId(0), [7u8; 32]) {
-        Ok(session) => session.greet().ok(),
-        Err(_) => None,
-    }
-}
-
 /// What becomes of the host over this link, if the greetings are exchanged.
 fn outcome(
     alloc: Global,
@@ -194,9 +114,9 @@ fn outcome(
     requires packets { PacketsAreWith (λ peer. peer ≡ 0) (state_of machine).pending }
     requires short { weight (state_of machine).pending < 2 ^ 32 }
 {
-    match greeted(alloc, link) {
-        Some(session) => Some(driven(machine, session, out)),
-        None => None,
+    match greeted(alloc, link)? {
+        Ok(session) => Some(driven(machine, session, out)),
+        Err(_) => None,
     }
 }
 
@@ -222,12 +142,14 @@ const OPENING: [u8; 37] = [
 /// What becomes of a host that waits for a digest and its opening.
 fn opened(
     alloc: Global,
-    pieces: &[&[u8]],
+    digest: &[u8],
+    opening: &[u8],
+    value: &[u8],
     most: u32,
     failing: &[u64],
     out: &mut MemSink,
 ) -> Result<Option<Result<Ended, EngineFault>>, AllocError> {
-    let link = link_of(alloc, pieces, most, failing)?;
+    let link = link_of(alloc, &[&GREETING, digest, opening, value], most, failing)?;
     let machine = opening_machine(alloc)?;
     Ok(outcome(alloc, machine, link, out))
 }
@@ -239,7 +161,7 @@ fn spoken(
     failing: &[u64],
     out: &mut MemSink,
 ) -> Result<Option<Result<Ended, EngineFault>>, AllocError> {
-    let link = link_of(alloc, &[], 100, failing)?;
+    let link = link_of(alloc, &[&GREETING], 100, failing)?;
     let machine = speaking_machine(alloc, inputs)?;
     Ok(outcome(alloc, machine, link, out))
 }
@@ -257,84 +179,93 @@ fn an_opening_is_printed(rt: HostRuntime) -> Result<(), Fail> {
     let alloc: Global = rt.alloc();
     let mut out = sink(alloc, 1, &[])?;
     for most in [1u32, 100] {
-        let end = opened(alloc, &[&DIGEST, &OPENING, &[42]], most, &[], &mut out)?;
+        let end = opened(alloc, &DIGEST, &OPENING, &[42], most, &[], &mut out)?;
         assert_eq!(rt; end, Some(Ok(Ended { printed: 1 })));
     }
     assert_eq!(rt; out.bytes(), b"42\n42\n".as_slice());
     Ok(())
 }
 
-#[test]
-fn an_opening_with_another_bit_is_not(rt: HostRuntime) -> Result<(), Fail> {
-    let alloc: Global = rt.alloc();
-    let mut out = sink(alloc, 100, &[])?;
-    let end = opened(alloc, &[&DIGEST, &OPENING, &[43]], 1, &[], &mut out)?;
-    let fault = EngineFault::Unequal(244_906_747, 787_929_849);
-    assert_eq!(rt; end, Some(Err(fault)));
-    assert_eq!(rt; out.bytes(), b"".as_slice());
-    Ok(())
-}
-
-/// What comes behind the greeting, in two pieces, the calls of the link that fail, and what the host tells.
-const BROKEN: [(&[u8], &[u8], &[u64], EngineFault); 5] = [
-    (&[], &[0x58], &[], EngineFault::BadFrame(FIRST, 36, 0x58)),
-    (&[], &[0x56, 9], &[], EngineFault::BadFrame(FIRST, 37, 9)),
-    (&DIGEST, &[], &[], EngineFault::EndOfLink(FIRST)),
+/// What comes behind the greeting, in three pieces, how many bytes come a call, the calls of the link that fail, and what the host
+/// tells: an opening with another bit is none.
+const BROKEN: [(&[u8], &[u8], &[u8], u32, &[u64], EngineFault); 6] = [
+    (
+        &DIGEST,
+        &OPENING,
+        &[43],
+        1,
+        &[],
+        EngineFault::Unequal(244_906_747, 787_929_849),
+    ),
+    (
+        &[],
+        &[0x58],
+        &[],
+        100,
+        &[],
+        EngineFault::BadFrame(FIRST, 36, 0x58),
+    ),
+    (
+        &[],
+        &[0x56, 9],
+        &[],
+        100,
+        &[],
+        EngineFault::BadFrame(FIRST, 37, 9),
+    ),
+    (&DIGEST, &[], &[], 100, &[], EngineFault::EndOfLink(FIRST)),
     (
         &DIGEST,
         &[0x56, 8],
         &[],
+        100,
+        &[],
         EngineFault::BadFrame(FIRST, 71, 8),
     ),
-    (&DIGEST, &[0x56, 8], &[2], EngineFault::Peer(FIRST)),
+    (
+        &DIGEST,
+        &[0x56, 8],
+        &[],
+        100,
+        &[2],
+        EngineFault::Peer(FIRST),
+    ),
 ];
 
 #[test]
 fn a_host_tells_what_is_wrong_with_its_link(rt: HostRuntime) -> Result<(), Fail> {
     let alloc: Global = rt.alloc();
     let mut out = sink(alloc, 100, &[])?;
-    for (first, second, failing, fault) in BROKEN {
-        let end = opened(alloc, &[first, second], 100, failing, &mut out)?;
+    for (digest, opening, value, most, failing, fault) in BROKEN {
+        let end = opened(alloc, digest, opening, value, most, failing, &mut out)?;
         assert_eq!(rt; end, Some(Err(fault)));
     }
     assert_eq!(rt; out.bytes(), b"".as_slice());
     Ok(())
 }
 
-/// Inputs, and what becomes of the host.
-const SPOKEN: [(&[u32], Result<Ended, EngineFault>); 2] = [
-    (&[7], Ok(Ended { printed: 1 })),
-    (&[], Err(EngineFault::ShortInput(0, 0))),
+/// Inputs, the calls of the link and of the sink that fail, what becomes of the host, and what it printed; nothing becomes of it where
+/// no greetings are exchanged.
+const SPOKEN: [(
+    &[u32],
+    &[u64],
+    &[u64],
+    Option<Result<Ended, EngineFault>>,
+    &[u8],
+); 5] = [
+    (&[7], &[], &[], Some(Ok(Ended { printed: 1 })), b"7\n"),
+    (&[], &[], &[], Some(Err(EngineFault::ShortInput(0, 0))), b""),
+    (&[7], &[], &[0], Some(Err(EngineFault::Write)), b""),
+    (&[7], &[2], &[0], Some(Err(EngineFault::Peer(FIRST))), b""),
+    (&[7], &[1], &[0], None, b""),
 ];
 
 #[test]
 fn a_host_sends_and_prints(rt: HostRuntime) -> Result<(), Fail> {
-    let alloc: Global = rt.alloc();
-    let mut out = sink(alloc, 100, &[])?;
-    for (inputs, wanted) in SPOKEN {
-        let end = spoken(alloc, inputs, &[], &mut out)?;
-        assert_eq!(rt; end, Some(wanted));
+    for (inputs, link_fails, sink_fails, wanted, printed) in SPOKEN {
+        let mut out = sink(rt.alloc(), 100, sink_fails)?;
+        assert_eq!(rt; spoken(rt.alloc(), inputs, link_fails, &mut out)?, wanted);
+        assert_eq!(rt; out.bytes(), printed);
     }
-    assert_eq!(rt; out.bytes(), b"7\n".as_slice());
-    Ok(())
-}
-
-/// The calls of the link that fail, and what becomes of a host whose sink fails at its first call; nothing where no greetings
-/// are exchanged.
-const FAILING: [(&[u64], Option<Result<Ended, EngineFault>>); 3] = [
-    (&[], Some(Err(EngineFault::Write))),
-    (&[2], Some(Err(EngineFault::Peer(FIRST)))),
-    (&[1], None),
-];
-
-#[test]
-fn each_call_of_a_host_fails_in_turn(rt: HostRuntime) -> Result<(), Fail> {
-    let alloc: Global = rt.alloc();
-    let mut out = sink(alloc, 100, &[0])?;
-    for (failing, wanted) in FAILING {
-        let end = spoken(alloc, &[7], failing, &mut out)?;
-        assert_eq!(rt; end, wanted);
-    }
-    assert_eq!(rt; out.bytes(), b"".as_slice());
     Ok(())
 }

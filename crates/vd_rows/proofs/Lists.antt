@@ -5,7 +5,7 @@ use Rattle.std.proofs.lemmas.List.FromFn.{map-range_with_len_more}
 use Rattle.vd_execution.specs.declared.instructions.Instr.{Instr}
 use Rattle.vd_execution.specs.declared.instructions.Reg.{Reg}
 use Rattle.vd_execution.specs.Text.{register}
-use Rattle.vd_link_rows.specs.Codes.{registers, same_word}
+use Rattle.vd_rows.specs.Codes.{registers, same_word}
 
 pub more_registers : (first place : ℕ) (old now : List Reg) → old ≡ registers first place → now ≡ old ++ register (first + place) ∷ [] → now ≡ registers first (place + 1)
 more_registers first place old now is pushed =

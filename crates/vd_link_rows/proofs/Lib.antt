@@ -1,3 +1,0 @@
-pub mod Drivable
-pub mod Lists
-pub mod OneSession

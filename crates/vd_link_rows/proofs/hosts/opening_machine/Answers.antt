@@ -1,7 +1,0 @@
-use Rattle.std.proofs.Common.{sym, subst}
-use Rattle.vd_link_rows.specs.Codes.{CanDrive}
-use Rattle.vd_link_rows.proofs.Drivable.{opener_drives}
-use Rattle.vd_link_rows.proofs.hosts.opening_machine.Goals as goal
-
-pub machine-requires : goal.machine-requires
-machine-requires c = subst CanDrive (sym c.in_ok-opener.ensures) opener_drives
