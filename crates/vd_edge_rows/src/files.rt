@@ -50,14 +50,19 @@ fn print_stored<W: Write, F: Files>(
     print_fetch(to, fetched, bytes)
 }
 
-/// Prints what becomes of files that are stored and fetched.
-pub fn print_files<W: Write, R: Disk + Drop>(to: &mut W, rt: R, alloc: Global) -> io::Result<()> {
-    let mut files = RealFiles::new(SystemDirectory::new(rt, 7), alloc);
-    print_stored(to, &mut files, "stored", b"12345", 5)?;
-    print_stored(to, &mut files, "stored", b"12345", 4)?;
-    let text = long_text(alloc, 200_000)?;
-    print_stored(to, &mut files, "long", text.as_slice(), 200_000)?;
-    print_stored(to, &mut files, "long", text.as_slice(), 199_999)?;
-    print_stored(to, &mut files, "no/such/folder", b"12345", 5)?;
+/// Prints what becomes of files that are stored and fetched, one of them with these bytes.
+fn print_all<W: Write, F: Files>(to: &mut W, files: &mut F, text: &[u8]) -> io::Result<()> {
+    print_stored(to, files, "stored", b"12345", 5)?;
+    print_stored(to, files, "stored", b"12345", 4)?;
+    print_stored(to, files, "long", text, 200_000)?;
+    print_stored(to, files, "long", text, 199_999)?;
+    print_stored(to, files, "no/such/folder", b"12345", 5)?;
     writeln!(to, "faults: {}", files.faults())
+}
+
+/// Prints what becomes of files of this runtime.
+pub fn print_files<W: Write, R: Disk + Drop>(to: &mut W, rt: R, alloc: Global) -> io::Result<()> {
+    let text = long_text(alloc, 200_000)?;
+    let mut files = RealFiles::new(SystemDirectory::new(rt, 7), alloc);
+    print_all(to, &mut files, text.as_slice())
 }

@@ -9,6 +9,16 @@ use vd_outside::Files;
 /// The names of the files that are read ahead, each with its most bytes: one twice, and one that is not there.
 const WANTED: [(&str, u32); 4] = [("kept", 5), ("kept", 9), ("longer", 4), ("no/such/file", 4)];
 
+/// What is fetched first, with its limit.
+const FETCHED: [(&str, u32); 6] = [
+    ("kept", 5),
+    ("kept", 4),
+    ("longer", 4),
+    ("longer", 9),
+    ("no/such/file", 4),
+    ("never read", 4),
+];
+
 /// These files.
 fn wanted(alloc: Global) -> Result<Items<Wanted>, AllocError> {
     let mut files = Items::new(alloc);
@@ -36,30 +46,44 @@ fn print_fetch<W: Write, F: Files>(
     }
 }
 
-/// Prints what files that were read ahead give: what they held then, until bytes are put in their place.
+/// Prints what files that were read ahead give, where others stored since: what they held then, until bytes are put in their place.
+fn print_fetches<W: Write, F: Files, G: Files>(
+    to: &mut W,
+    files: &mut F,
+    others: &mut G,
+) -> io::Result<()> {
+    let _ = others.store("kept", b"other");
+    for (name, limit) in FETCHED {
+        print_fetch(to, files, name, limit)?;
+    }
+    let stored = files.store("kept", b"new");
+    writeln!(to, "store: {stored:?}")?;
+    print_fetch(to, files, "kept", 5)?;
+    print_fetch(to, others, "kept", 5)?;
+    writeln!(to, "faults: {}", files.faults())
+}
+
+/// Files of this runtime, in which two of those that are read ahead stand.
+fn below<R: Disk + Drop>(rt: R, alloc: Global) -> RealFiles<SystemDirectory<R>> {
+    let mut below = RealFiles::new(SystemDirectory::new(rt, 7), alloc);
+    let _ = below.store("kept", b"12345");
+    let _ = below.store("longer", b"12345");
+    below
+}
+
+/// Prints what files that were read ahead give.
 pub fn print_kept<W: Write, R: Disk + Clone + Drop>(
     to: &mut W,
     rt: R,
     alloc: Global,
 ) -> io::Result<()> {
-    let mut below = RealFiles::new(SystemDirectory::new(rt.clone()?, 7), alloc);
-    let _ = below.store("kept", b"12345");
-    let _ = below.store("longer", b"12345");
     let wanted = wanted(alloc)?;
-    let read = KeptFiles::read(below, alloc, wanted.as_slice());
-    let Ok(mut files) = read else {
-        return writeln!(to, "nothing was read");
-    };
-    let mut others = RealFiles::new(SystemDirectory::new(rt, 8), alloc);
-    let _ = others.store("kept", b"other");
-    print_fetch(to, &mut files, "kept", 5)?;
-    print_fetch(to, &mut files, "kept", 4)?;
-    print_fetch(to, &mut files, "longer", 4)?;
-    print_fetch(to, &mut files, "longer", 9)?;
-    print_fetch(to, &mut files, "no/such/file", 4)?;
-    print_fetch(to, &mut files, "never read", 4)?;
-    writeln!(to, "store: {:?}", files.store("kept", b"new"))?;
-    print_fetch(to, &mut files, "kept", 5)?;
-    print_fetch(to, &mut others, "kept", 5)?;
-    writeln!(to, "faults: {}", files.faults())
+    let other = rt.clone()?;
+    match KeptFiles::read(below(rt, alloc), alloc, wanted.as_slice()) {
+        Ok(mut files) => {
+            let mut others = RealFiles::new(SystemDirectory::new(other, 8), alloc);
+            print_fetches(to, &mut files, &mut others)
+        }
+        Err(_) => writeln!(to, "nothing was read"),
+    }
 }

@@ -25,7 +25,7 @@ enum Step {
 }
 
 /// A directory with two places: a name, and a new file beside it. Some steps of a store are refused.
-#[derive(Debug, Drop)]
+#[derive(Drop)]
 struct Shelf {
     kept: Held,
     beside: Held,

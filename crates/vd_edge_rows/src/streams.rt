@@ -33,10 +33,15 @@ fn print_write<W: Write, S: Sink>(to: &mut W, sink: &mut S, piece: &[u8]) -> io:
     writeln!(to, "write: {written:?}, {} faults", sink.faults())
 }
 
+/// Prints what a stream in memory takes.
+fn print_memory<W: Write>(to: &mut W, alloc: Global) -> io::Result<()> {
+    let mut sink = RealSink::new(Vec::new(alloc));
+    print_write(to, &mut sink, b"abc")
+}
+
 /// Prints what streams take: one in memory, and one that takes a byte at a time until it has no room.
 pub fn print_streams<W: Write>(to: &mut W, alloc: Global) -> io::Result<()> {
-    let mut sink = RealSink::new(Vec::new(alloc));
-    print_write(to, &mut sink, b"abc")?;
+    print_memory(to, alloc)?;
     let mut narrow = RealSink::new(Narrow { room: 2 });
     print_write(to, &mut narrow, b"abc")?;
     print_write(to, &mut narrow, b"bc")?;
