@@ -192,30 +192,188 @@ fn tell_sent(alloc: Global, err: &mut RealSink<Stderr>, packets: Option<u64>) {
     }
 }
 
-/// Runs the command line over the real objects, and gives the code of how it ended. An error is that there was no memory.
-fn run(
-    rt: HostRuntime,
+/// What is asked of the program, and by whom.
+#[derive(Drop)]
+struct Caller {
+    /// The words of the command line, none where one of them is no text.
+    words: Texts,
+    readable: bool,
+    destination: Destination,
+    /// Whether the reasons of faults are told.
+    told: bool,
+}
+
+/// Who started this program, with which words.
+fn caller_of(rt: &HostRuntime) -> io::Result<Caller> {
+    let destination = destination(rt, &rt.stderr());
+    let told = tells_reasons(rt, &rt.stderr());
+    let arguments = words(rt)?;
+    let readable = arguments.is_some();
+    Ok(Caller {
+        words: line_of(rt.alloc(), arguments),
+        readable,
+        destination,
+        told,
+    })
+}
+
+/// The runtime, once for each object that keeps it.
+#[derive(Drop)]
+struct Runtimes {
+    net: HostRuntime,
+    marks: HostRuntime,
+    random: HostRuntime,
+    spawner: HostRuntime,
+    files: HostRuntime,
+}
+
+/// The runtime, so many times.
+fn runtimes_of(rt: HostRuntime) -> io::Result<Runtimes> {
+    Ok(Runtimes {
+        net: rt.clone()?,
+        marks: rt.clone()?,
+        random: rt.clone()?,
+        spawner: rt.clone()?,
+        files: rt,
+    })
+}
+
+/// Says how a run went that ended well to a person at a terminal: how many packets went over a host's links, or between the hosts of
+/// a replay.
+fn tell_success(
+    alloc: Global,
+    words: &Texts,
+    ending: &Ending,
+    files: &mut Option<KeptFiles<SystemDirectory<HostRuntime>>>,
+    err: &mut RealSink<Stderr>,
+    net: &SealedNet<RealNet<SystemSockets<HostRuntime>>>,
+) {
+    // Over sealed links packets go in records, which the net below does not count.
+    if net.seal.is_none() {
+        tell_packets(alloc, words, files, err, net.net.packets());
+    }
+    tell_sent(alloc, err, ending.packets);
+}
+
+/// Tells what became of a mark, and of a deal that has one.
+fn tell_marks(
+    alloc: Global,
+    host: &Option<Bytes>,
+    err: &mut RealSink<Stderr>,
+    marks: &RealMarks<SystemDirectory<HostRuntime>, HostRuntime>,
+    code: ExitCode,
+) {
+    tell_text(alloc, host, err, marks.reason());
+    if code == ExitCode::from(DEAL_USED) {
+        tell_text(alloc, host, err, Some(DEAL_ANEW));
+    }
+}
+
+/// Tells why a link failed, where that is known.
+fn tell_links(
+    alloc: Global,
+    host: &Option<Bytes>,
+    err: &mut RealSink<Stderr>,
+    net: &SealedNet<RealNet<SystemSockets<HostRuntime>>>,
+    peer: Option<&Name>,
+) {
+    let sealed = text_of_seal(alloc, net.fault());
+    tell_text(alloc, host, err, sealed.as_deref());
+    tell_peer(alloc, host, err, peer, net.net.reason());
+}
+
+/// Tells why the output took nothing more, where that is known.
+fn tell_written(
+    alloc: Global,
+    host: &Option<Bytes>,
+    err: &mut RealSink<Stderr>,
+    out: &RealSink<Stdout>,
+) {
+    let written = out.reason(alloc, "standard output");
+    tell_text(alloc, host, err, written.as_deref());
+}
+
+/// Tells why a run did not end well, as far as that is known.
+fn tell_fault(
+    alloc: Global,
+    words: &Texts,
+    ending: &Ending,
+    files: &mut Option<KeptFiles<SystemDirectory<HostRuntime>>>,
+    marks: &RealMarks<SystemDirectory<HostRuntime>, HostRuntime>,
+    out: &RealSink<Stdout>,
+    err: &mut RealSink<Stderr>,
+    net: &SealedNet<RealNet<SystemSockets<HostRuntime>>>,
+    spawner: &mut RealSpawner<HostRuntime>,
+) {
+    let host = name_of_host(alloc, words, files);
+    tell_text(alloc, &host, err, reason_of(files));
+    tell_written(alloc, &host, err, out);
+    tell_marks(alloc, &host, err, marks, ending.code);
+    tell_links(alloc, &host, err, net, ending.peer.as_ref());
+    tell_children(alloc, words, files, err, spawner);
+}
+
+/// Says what is known of how a run ended besides its code.
+fn tell_more(
+    alloc: Global,
+    caller: &Caller,
+    ending: &Ending,
+    files: &mut Option<KeptFiles<SystemDirectory<HostRuntime>>>,
+    marks: &RealMarks<SystemDirectory<HostRuntime>, HostRuntime>,
+    out: &RealSink<Stdout>,
+    err: &mut RealSink<Stderr>,
+    net: &SealedNet<RealNet<SystemSockets<HostRuntime>>>,
+    spawner: &mut RealSpawner<HostRuntime>,
+) {
+    if ending.code == ExitCode::SUCCESS {
+        if matches!(caller.destination, Destination::Terminal { .. }) {
+            tell_success(alloc, &caller.words, ending, files, err, net);
+        }
+    } else if caller.told {
+        if caller.readable {
+            tell_fault(
+                alloc,
+                &caller.words,
+                ending,
+                files,
+                marks,
+                out,
+                err,
+                net,
+                spawner,
+            );
+        } else {
+            tell_reason(alloc, None, err, b"a word is no UTF-8");
+        }
+    }
+}
+
+/// Runs a command line over the real objects, and gives the code of how it ended.
+fn run_over_system(
+    alloc: Global,
+    caller: &Caller,
+    runtimes: Runtimes,
+    process: u32,
+    waits: Waits,
     out: &mut RealSink<Stdout>,
     err: &mut RealSink<Stderr>,
-) -> io::Result<ExitCode> {
-    let alloc: Global = rt.alloc();
-    let destination = destination(&rt, &rt.stderr());
-    let arguments = words(&rt)?;
-    let readable = arguments.is_some();
-    let words = line_of(alloc, arguments);
-    let told = tells_reasons(&rt, &rt.stderr());
-    let process = process::id(rt.process());
-    let waits = Waits::new(rt.process(), parent(&rt));
-    let sockets = SystemSockets::new(rt.clone()?, alloc, waits);
+) -> ExitCode {
+    let Runtimes {
+        net,
+        marks,
+        random,
+        spawner,
+        files,
+    } = runtimes;
+    let sockets = SystemSockets::new(net, alloc, waits);
     let mut net = SealedNet::new(alloc, RealNet::new(sockets, alloc));
-    let marked = SystemDirectory::new(rt.clone()?, process);
-    let mut marks = RealMarks::new(marked, rt.clone()?, alloc);
-    let mut spawner = RealSpawner::new(rt.clone()?, alloc, process);
-    let files = RealFiles::new(SystemDirectory::new(rt, process), alloc);
+    let mut marks = RealMarks::new(SystemDirectory::new(marks, process), random, alloc);
+    let mut spawner = RealSpawner::new(spawner, alloc, process);
+    let files = RealFiles::new(SystemDirectory::new(files, process), alloc);
     let Ran { ending, mut files } = run_over(
         alloc,
-        destination,
-        &words,
+        caller.destination,
+        &caller.words,
         files,
         &mut marks,
         out,
@@ -223,31 +381,32 @@ fn run(
         &mut net,
         &mut spawner,
     );
-    if ending.code == ExitCode::SUCCESS {
-        if matches!(destination, Destination::Terminal { .. }) {
-            // Over sealed links packets go in records, which the net below does not count.
-            if net.seal.is_none() {
-                tell_packets(alloc, &words, &mut files, err, net.net.packets());
-            }
-            tell_sent(alloc, err, ending.packets);
-        }
-    } else if told && !readable {
-        tell_reason(alloc, None, err, b"a word is no UTF-8");
-    } else if told {
-        let host = name_of_host(alloc, &words, &mut files);
-        let written = out.reason(alloc, "standard output");
-        tell_text(alloc, &host, err, reason_of(&files));
-        tell_text(alloc, &host, err, written.as_deref());
-        tell_text(alloc, &host, err, marks.reason());
-        if ending.code == ExitCode::from(DEAL_USED) {
-            tell_text(alloc, &host, err, Some(DEAL_ANEW));
-        }
-        let sealed = text_of_seal(alloc, net.fault());
-        tell_text(alloc, &host, err, sealed.as_deref());
-        tell_peer(alloc, &host, err, ending.peer.as_ref(), net.net.reason());
-        tell_children(alloc, &words, &mut files, err, &mut spawner);
-    }
-    Ok(ending.code)
+    tell_more(
+        alloc,
+        caller,
+        &ending,
+        &mut files,
+        &marks,
+        out,
+        err,
+        &net,
+        &mut spawner,
+    );
+    ending.code
+}
+
+/// Runs the command line, and gives the code of how it ended. An error is that there was no memory.
+fn run(
+    rt: HostRuntime,
+    out: &mut RealSink<Stdout>,
+    err: &mut RealSink<Stderr>,
+) -> io::Result<ExitCode> {
+    let alloc: Global = rt.alloc();
+    let caller = caller_of(&rt)?;
+    let process = process::id(rt.process());
+    let waits = Waits::new(rt.process(), parent(&rt));
+    let runtimes = runtimes_of(rt)?;
+    Ok(run_over_system(alloc, &caller, runtimes, process, waits, out, err))
 }
 
 fn main(rt: HostRuntime) -> ExitCode {
