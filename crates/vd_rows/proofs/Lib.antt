@@ -1,4 +1,4 @@
 pub mod Drivable
-pub mod Lists
+pub mod Growing
 pub mod Loads
 pub mod OneSession

@@ -1,4 +1,4 @@
-use Rattle.vd_rows.proofs.Lists.{more_comparisons}
+use Rattle.vd_rows.proofs.Growing.{more_comparisons}
 use Rattle.vd_rows.proofs.driven.compare.Goals as goal
 
 pub loop-place-preserved : goal.loop-place-preserved

@@ -1,4 +1,4 @@
-use Rattle.vd_rows.proofs.Lists.{more_registers}
+use Rattle.vd_rows.proofs.Growing.{more_registers}
 use Rattle.vd_rows.proofs.made.registers.Goals as goal
 
 pub loop-place-preserved : goal.loop-place-preserved
