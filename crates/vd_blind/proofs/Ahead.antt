@@ -11,7 +11,7 @@ use Rattle.vd_execution.specs.declared.instructions.Instr.TheVariants as instr
 use Rattle.vd_hastening.specs.Hastening.{Sends}
 use Rattle.vd_hastening.specs.Testing.{has, meet}
 use Rattle.vd_hasten.specs.Packets.{is_blind, opened, opened_in, stays_in}
-use Rattle.vd_hasten.proofs.Rows.{has_append}
+use Rattle.vd_hasten.proofs.InRows.{has_append}
 use Rattle.vd_execution.specs.Registers.{Registers}
 use Rattle.vd_blind.specs.Blind.{Did, instructions, AreWords, AreMarked, AllBlind, AllHide, OnlyBlindPacketsGoAhead, PacketsThatGoAheadHide}
 use Rattle.vd_blind.proofs.Masked.{blind_hides}

@@ -16,7 +16,7 @@ use Rattle.vd_hastening.specs.Hastening.{Acts, Awaits, at, MayPass}
 use Rattle.vd_hastening.specs.Testing.{is_simple, reads, writes, has, meet, may}
 use Rattle.vd_hastening.proofs.Testing.{sound}
 use Rattle.vd_hasten.specs.Packets.{touches}
-use Rattle.vd_hasten.proofs.Rows.{meet_turned}
+use Rattle.vd_hasten.proofs.InRows.{meet_turned}
 use Rattle.vd_blind.specs.Blind.{Did, effect, behind, told_by, told, IsLeft, AllLeft}
 
 -- ---- an action

@@ -1,4 +1,4 @@
-pub mod Rows
+pub mod InRows
 pub mod Tests
 pub mod Texts
 pub mod Sinking

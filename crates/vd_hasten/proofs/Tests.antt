@@ -6,7 +6,7 @@ use Rattle.vd_hastening.specs.Hastening.{Piece, Acts, Sends, Awaits}
 use Rattle.vd_hastening.specs.Testing.{has, meet, is_simple, may}
 use Rattle.vd_hastening.specs.Careful.{careful}
 use Rattle.vd_hasten.specs.Packets.{stays_by}
-use Rattle.vd_hasten.proofs.Rows.{eq_turned}
+use Rattle.vd_hasten.proofs.InRows.{eq_turned}
 
 once : (b : Bool) → (if b then true else b) ≡ b
 once true = refl

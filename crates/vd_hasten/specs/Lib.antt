@@ -1,4 +1,4 @@
-pub mod Rows
+pub mod InRows
 pub mod Lists
 pub mod Packets
 pub mod Passing

@@ -1,7 +1,7 @@
 -- The lists that actions take items from.
 use Rattle.vd_execution.specs.Step.{Inputs, OwnWords, Triples, BitTriples, Pairs, Need, Nothing, Item}
-use Rattle.vd_hasten.specs.declared.testing.Taken.{Taken}
-use Rattle.vd_hasten.specs.declared.testing.Taken.TheVariants as taken
+use Rattle.vd_hasten.specs.declared.acts.Taken.{Taken}
+use Rattle.vd_hasten.specs.declared.acts.Taken.TheVariants as taken
 
 -- what must be there before an item is taken
 abbrev pub need_in : Taken → Need

@@ -2,7 +2,7 @@
 
 ghost use Rattle.std.specs.Prelude.{◌≡◌, ◌++◌, [], ◌∷◌};
 ghost use Rattle.vd_hastening.specs.Testing.{has, meet, reads, writes};
-ghost use Rattle.vd_hasten.specs.Rows.{in_row, in_rows};
+ghost use Rattle.vd_hasten.specs.InRows.{in_row, in_rows};
 
 use vd_execution::{Action, Reg};
 
@@ -138,7 +138,7 @@ pub fn written_by(action: &Action) -> Rows
 }
 
 /// Whether a register is in a row.
-#[tactic(auto, using(crate::proofs::Rows::has_row))]
+#[tactic(auto, using(crate::proofs::InRows::has_row))]
 pub fn holds(row: Row, register: Reg) -> bool
     ensures { result ≡ has register (in_row row) }
 {
@@ -148,7 +148,7 @@ pub fn holds(row: Row, register: Reg) -> bool
 }
 
 /// Whether two rows have a register in common.
-#[tactic(auto, using(crate::proofs::Rows::meet_rows))]
+#[tactic(auto, using(crate::proofs::InRows::meet_rows))]
 fn overlap(row: Row, other: Row) -> bool
     ensures { result ≡ meet (in_row row) (in_row other) }
 {
@@ -159,7 +159,7 @@ fn overlap(row: Row, other: Row) -> bool
 }
 
 /// Whether a register is in one of three rows.
-#[tactic(auto, using(crate::proofs::Rows::has_three))]
+#[tactic(auto, using(crate::proofs::InRows::has_three))]
 pub fn any_holds(rows: Rows, register: Reg) -> bool
     ensures { result ≡ has register (in_rows rows) }
 {
@@ -167,7 +167,7 @@ pub fn any_holds(rows: Rows, register: Reg) -> bool
 }
 
 /// Whether a row and one of three others have a register in common.
-#[tactic(auto, using(crate::proofs::Rows::meet_with_three))]
+#[tactic(auto, using(crate::proofs::InRows::meet_with_three))]
 fn overlaps_any(row: Row, others: Rows) -> bool
     ensures { result ≡ meet (in_row row) (in_rows others) }
 {
@@ -175,7 +175,7 @@ fn overlaps_any(row: Row, others: Rows) -> bool
 }
 
 /// Whether one of three rows and one of three others have a register in common.
-#[tactic(auto, using(crate::proofs::Rows::three_meet))]
+#[tactic(auto, using(crate::proofs::InRows::three_meet))]
 pub fn any_overlap(rows: Rows, others: Rows) -> bool
     ensures { result ≡ meet (in_rows rows) (in_rows others) }
 {

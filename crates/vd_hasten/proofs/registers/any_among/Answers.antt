@@ -3,8 +3,8 @@ use Rattle.std.proofs.lemmas.Iterator.{YieldsList-from_slice}
 use Rattle.std.proofs.lemmas.Iterator.Search.{any_from_yields_List}
 use Rattle.vd_execution.specs.declared.instructions.Reg.{Reg}
 use Rattle.vd_hastening.specs.Testing.{has}
-use Rattle.vd_hasten.specs.Rows.{in_rows}
-use Rattle.vd_hasten.proofs.Rows.{meet_any, meet_turned}
+use Rattle.vd_hasten.specs.InRows.{in_rows}
+use Rattle.vd_hasten.proofs.InRows.{meet_any, meet_turned}
 use Rattle.vd_hasten.proofs.registers.any_among.Goals as goal
 
 pub returns-clause-among : goal.returns-clause-among

@@ -3,7 +3,7 @@ use Rattle.std.proofs.lemmas.Iterator.{YieldsList-from_slice}
 use Rattle.std.proofs.lemmas.Iterator.Search.{any_from_yields_List}
 use Rattle.vd_execution.specs.declared.instructions.Reg.{Reg}
 use Rattle.vd_hastening.specs.Testing.{has}
-use Rattle.vd_hasten.proofs.Rows.{meet_any}
+use Rattle.vd_hasten.proofs.InRows.{meet_any}
 use Rattle.vd_hasten.proofs.registers.have_common.Goals as goal
 
 pub returns : goal.returns

@@ -2,7 +2,7 @@ use Rattle.std.proofs.Common.{nat_eq, sym, ◌∙◌, rules, tests}
 use Rattle.std.proofs.lemmas.Iterator.{YieldsList-from_slice}
 use Rattle.std.proofs.lemmas.Iterator.Search.{any_from_yields_List}
 use Rattle.vd_execution.specs.declared.instructions.Reg.{Reg}
-use Rattle.vd_hasten.proofs.Rows.{has_any}
+use Rattle.vd_hasten.proofs.InRows.{has_any}
 use Rattle.vd_hasten.proofs.registers.is_among.Goals as goal
 
 pub returns : goal.returns
