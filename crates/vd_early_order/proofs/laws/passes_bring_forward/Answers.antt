@@ -1,0 +1,8 @@
+use Rattle.vd_early_order.proofs.Brought.{brought_forward, runs_on}
+use Rattle.vd_early_order.proofs.laws.passes_bring_forward.Goals as goal
+
+pub returns-clause-forward : goal.returns-clause-forward
+returns-clause-forward c = brought_forward
+
+pub returns-clause-runs : goal.returns-clause-runs
+returns-clause-runs c = runs_on

@@ -1,0 +1,4 @@
+pub mod Testing
+pub mod Passing
+pub mod Order
+pub mod Examples
