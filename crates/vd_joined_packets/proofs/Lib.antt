@@ -1,0 +1,5 @@
+pub mod Same
+pub mod Texts
+pub mod Fitting
+pub mod Telling
+pub mod Stack
