@@ -6,7 +6,7 @@ use Rattle.vd_deals.specs.declared.deal.Counts.{Counts}
 use Rattle.vd_gen.specs.Sizes.{most_coordinates}
 use Rattle.vd_cmd.specs.Numbers.{number_within}
 use Rattle.vd_cmd.specs.declared.command.Command.{Command}
-use Rattle.vd_cmd.specs.declared.command.Command.TheVariants.{OnFiles, KeyDeal, Host, Run}
+use Rattle.vd_cmd.specs.declared.command.Command.TheVariants.{OnFiles, KeyDeal, Early, Host, Run}
 use Rattle.vd_cmd.specs.declared.command.KeySource.{KeySource}
 use Rattle.vd_cmd.specs.declared.command.KeySource.TheVariants.{Drawn, InFile}
 use Rattle.vd_cmd.specs.declared.command.FilesCommand.{FilesCommand}
@@ -70,6 +70,16 @@ draw_of source None = None
 abbrev pub compile_of : (source prefix : List ℕ) → Option ℕ → Option Command
 compile_of source prefix (Some budget) = Some (OnFiles (Compile source prefix budget))
 compile_of source prefix None = None
+
+abbrev pub early_of : (source prefix : List ℕ) → Option ℕ → Option Command
+early_of source prefix (Some budget) = Some (Early (record { source = source; prefix = prefix; budget = budget }))
+early_of source prefix None = None
+
+-- with one word more: `early`, or a budget
+abbrev pub compile_with : (source prefix other : List ℕ) → Option Command
+compile_with source prefix other =
+    if bytes_eq other (codes "early") then early_of source prefix (Some most_search_budget)
+    else compile_of source prefix (number_within 1 most_search_budget other)
 
 abbrev pub needs_of : (file : List ℕ) → (each : Bool) → Option ℕ → Option Command
 needs_of file each (Some budget) = Some (OnFiles (Needs (record { file = file; each = each; budget = budget })))
@@ -137,11 +147,13 @@ fixed_form_of (word ∷ source ∷ other ∷ []) =
     else if bytes_eq word (codes "needs") then needs_with source other
     else None
 fixed_form_of (word ∷ source ∷ prefix ∷ budget ∷ []) =
-    if bytes_eq word (codes "compile") then compile_of source prefix (number_within 1 most_search_budget budget)
+    if bytes_eq word (codes "compile") then compile_with source prefix budget
     else if bytes_eq word (codes "needs") && bytes_eq prefix (codes "each") then needs_of source true (number_within 1 most_search_budget budget)
     else None
 fixed_form_of (word ∷ source ∷ inputs ∷ prefix ∷ schedule ∷ []) =
-    if bytes_eq word (codes "replay") then replay_of source inputs prefix schedule false (Some most_search_budget) else None
+    if bytes_eq word (codes "replay") then replay_of source inputs prefix schedule false (Some most_search_budget)
+    else if bytes_eq word (codes "compile") && bytes_eq prefix (codes "early") then early_of source inputs (number_within 1 most_search_budget schedule)
+    else None
 fixed_form_of (word ∷ source ∷ inputs ∷ prefix ∷ schedule ∷ other ∷ []) =
     if bytes_eq word (codes "replay") then replay_with source inputs prefix schedule other
     else if bytes_eq word (codes "run") then run_of source inputs prefix schedule (number_within least_port most_port other)
@@ -227,6 +239,7 @@ KeepsFilesLimits command = Unit {0}
 abbrev pub KeepsLimits : Command → Type 0
 KeepsLimits (OnFiles command) = KeepsFilesLimits command
 KeepsLimits (KeyDeal words) = AreWithin words.counts
+KeepsLimits (Early words) = IsBudget words.budget
 KeepsLimits (Host words) = IfSome words.limit IsWait
 KeepsLimits (Run words) = IsPort words.port
 

@@ -1,7 +1,7 @@
 //! The forms of a command line.
 
 ghost use Rattle.std.specs.Prelude.{◌≡◌, [], ◌∷◌, None, Some, IfOk, IfSome, MatchOption};
-ghost use Rattle.vd_cmd.specs.Commands.{Reads, AreWithin, IsBudget, IsPort, IsSize, IsWait, choose_of, compile_of, counts_in, deal_in, deal_of, draw_of, excuse_form_of, excuse_of, fixed_form_of, form_of, gen_of, host_form_of, key_deal_of, key_file, limited_form_of, needs_of, needs_with, other_form_of, replay_of, replay_with, run_of, trial_of, unhosted_form_of};
+ghost use Rattle.vd_cmd.specs.Commands.{Reads, AreWithin, IsBudget, IsPort, IsSize, IsWait, choose_of, compile_of, compile_with, counts_in, deal_in, deal_of, draw_of, early_of, excuse_form_of, excuse_of, fixed_form_of, form_of, gen_of, host_form_of, key_deal_of, key_file, limited_form_of, needs_of, needs_with, other_form_of, replay_of, replay_with, run_of, trial_of, unhosted_form_of};
 ghost use Rattle.vd_cmd.specs.declared.command.Command.TheVariants.{OnFiles};
 ghost use Rattle.vd_cmd.specs.declared.command.CommandFault.TheVariants.{Memory};
 ghost use Rattle.vd_cmd.specs.declared.command.FilesCommand.TheVariants.{Clear, Certify, Hasten, Depends, Influences};
@@ -45,6 +45,15 @@ pub struct NeedsWords {
     pub file: Text,
     /// Whether the needs of each host and of each two hosts are told.
     pub each: bool,
+    /// How many prefixes the search may open.
+    pub budget: u32,
+}
+
+/// The words of `compile SOURCE PREFIX early [BUDGET]`.
+#[derive(Debug, Drop)]
+pub struct EarlyWords {
+    pub source: Text,
+    pub prefix: Text,
     /// How many prefixes the search may open.
     pub budget: u32,
 }
@@ -147,6 +156,8 @@ pub enum Command {
     OnFiles(FilesCommand),
     /// `deal HOSTS OWN MULS ANDS PAIRS draw PREFIX`, or with `@FILE` in place of `draw`.
     KeyDeal(KeyDealWords),
+    /// `compile SOURCE PREFIX early [BUDGET]`.
+    Early(EarlyWords),
     /// `host PROGRAM INPUTS DEAL ADDR*`, or `host-within SECONDS PROGRAM INPUTS DEAL ADDR*`.
     Host(HostWords),
     /// `run SOURCE INPUTS PREFIX SELF PORT`.
@@ -295,6 +306,45 @@ fn compile_of(
     let source = Text::copy_of(alloc, source.as_str())?;
     let prefix = Text::copy_of(alloc, prefix.as_str())?;
     Ok(Command::OnFiles(FilesCommand::Compile(source, prefix, budget as u32)))
+}
+
+/// The command `compile` with the word `early` and this budget, if it is given.
+fn early_of(
+    alloc: Global,
+    source: &Text,
+    prefix: &Text,
+    budget: Option<u64>,
+) -> Result<Command, CommandFault>
+    requires { IfSome budget IsBudget }
+    ensures { Reads (early_of source.now prefix.now budget) result }
+{
+    let Some(budget) = budget else {
+        return Err(CommandFault::Usage);
+    };
+    let source = Text::copy_of(alloc, source.as_str())?;
+    let prefix = Text::copy_of(alloc, prefix.as_str())?;
+    Ok(Command::Early(EarlyWords {
+        source,
+        prefix,
+        budget: budget as u32,
+    }))
+}
+
+/// The command `compile` with one word more: `early`, or a budget.
+fn compile_with(
+    alloc: Global,
+    source: &Text,
+    prefix: &Text,
+    other: &Text,
+) -> Result<Command, CommandFault>
+    ensures { Reads (compile_with source.now prefix.now other.now) result }
+{
+    let most = u64::from(SEARCH_BUDGET);
+    if other.as_str() == "early" {
+        early_of(alloc, source, prefix, Some(most))
+    } else {
+        compile_of(alloc, source, prefix, number_within(1, most, other))
+    }
 }
 
 /// The command `needs` with this budget, if it is given.
@@ -650,8 +700,7 @@ fn four_words(
     ensures { Reads (fixed_form_of (word.now ∷ source.now ∷ prefix.now ∷ budget.now ∷ [])) result }
 {
     if word.as_str() == "compile" {
-        let budget = number_within(1, u64::from(SEARCH_BUDGET), budget);
-        compile_of(alloc, source, prefix, budget)
+        compile_with(alloc, source, prefix, budget)
     } else if word.as_str() == "needs" && prefix.as_str() == "each" {
         let budget = number_within(1, u64::from(SEARCH_BUDGET), budget);
         needs_of(alloc, source, true, budget)
@@ -767,9 +816,11 @@ fn five_words(
 ) -> Result<Command, CommandFault>
     ensures { Reads (fixed_form_of (word.now ∷ source.now ∷ inputs.now ∷ prefix.now ∷ schedule.now ∷ [])) result }
 {
+    let most = u64::from(SEARCH_BUDGET);
     if word.as_str() == "replay" {
-        let most = u64::from(SEARCH_BUDGET);
         replay_of(alloc, source, inputs, prefix, schedule, false, Some(most))
+    } else if word.as_str() == "compile" && prefix.as_str() == "early" {
+        early_of(alloc, source, inputs, number_within(1, most, schedule))
     } else {
         Err(CommandFault::Usage)
     }

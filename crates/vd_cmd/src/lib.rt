@@ -6,7 +6,7 @@ mod numbers;
 mod own;
 
 pub use command::{
-    Command, CommandFault, ExcuseWords, FilesCommand, HostWords, KeyDealWords, KeySource,
-    NeedsWords, ReplayWords, RunWords, read_words,
+    Command, CommandFault, EarlyWords, ExcuseWords, FilesCommand, HostWords, KeyDealWords,
+    KeySource, NeedsWords, ReplayWords, RunWords, read_words,
 };
 pub use own::own_text;

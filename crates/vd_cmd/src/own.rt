@@ -22,9 +22,10 @@ usage:
   viaduct draw SOURCE [BUDGET]  print the choice of choose as a drawing, an SVG file: where each value is computed, what
                                 goes between hosts and how, and what it costs
   viaduct certify SOURCE CERT   print what the certificate CERT shows: the least cost, or that there is none
-  viaduct compile SOURCE PREFIX [BUDGET]
+  viaduct compile SOURCE PREFIX [early] [BUDGET]
                                 print the cheapest protocols, as choose does, and store the program of each host i
-                                as PREFIX.i.host
+                                as PREFIX.i.host; with early, in an order in which hosts wait for fewer rounds, and
+                                which all hosts of a run must have
   viaduct needs FILE [each] [BUDGET]
                                 print the five numbers with which deal makes enough for the source FILE; with each,
                                 how many inputs and items each host and each two hosts take at most; where FILE is

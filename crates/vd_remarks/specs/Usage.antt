@@ -9,7 +9,7 @@ usage_table =
     ∷ (codes "choose", codes "usage: viaduct choose SOURCE [BUDGET]\n")
     ∷ (codes "draw", codes "usage: viaduct draw SOURCE [BUDGET]\n")
     ∷ (codes "certify", codes "usage: viaduct certify SOURCE CERT\n")
-    ∷ (codes "compile", codes "usage: viaduct compile SOURCE PREFIX [BUDGET]\n")
+    ∷ (codes "compile", codes "usage: viaduct compile SOURCE PREFIX [early] [BUDGET]\n")
     ∷ (codes "needs", codes "usage: viaduct needs FILE [each] [BUDGET]\n")
     ∷ (codes "deal", codes "usage: viaduct deal HOSTS OWN MULS ANDS PAIRS KEY PREFIX\n")
     ∷ (codes "replay", codes "usage: viaduct replay SOURCE INPUTS PREFIX SCHEDULE [messages] [BUDGET]\n")

@@ -13,7 +13,7 @@ const USAGES: [(&[u8], &[u8]); 18] = [
     (b"certify", b"usage: viaduct certify SOURCE CERT\n"),
     (
         b"compile",
-        b"usage: viaduct compile SOURCE PREFIX [BUDGET]\n",
+        b"usage: viaduct compile SOURCE PREFIX [early] [BUDGET]\n",
     ),
     (b"needs", b"usage: viaduct needs FILE [each] [BUDGET]\n"),
     (
