@@ -45,7 +45,7 @@ fn file_of(
 }
 
 /// The files of the hosts' programs, in host order.
-fn files_of(
+pub fn files_of(
     alloc: Global,
     hosts: &Names,
     prefix: &str,

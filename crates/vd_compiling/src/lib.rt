@@ -5,4 +5,4 @@ mod checks;
 mod compile_command;
 
 pub use checks::no_assignment;
-pub use compile_command::{compile, compile_source};
+pub use compile_command::{compile, compile_source, files_of};
