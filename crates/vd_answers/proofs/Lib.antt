@@ -7,3 +7,4 @@ pub mod Short
 pub mod Choices
 pub mod Standing
 pub mod Compiled
+pub mod Endings
