@@ -3,7 +3,7 @@ use Rattle.std.proofs.Common.{◌≡◌, ℕ, true, List, ◌++◌, Option, Some
 use Rattle.vd_outside.specs.Files.{FilesView, Contents}
 use Rattle.vd_outside.specs.Sink.{SinkView}
 use Rattle.vd_cmd.specs.declared.command.Command.{Command}
-use Rattle.vd_cmd.specs.declared.command.Command.TheVariants.{OnFiles, KeyDeal, Host, Run}
+use Rattle.vd_cmd.specs.declared.command.Command.TheVariants.{OnFiles, KeyDeal, Early, Host, Run}
 use Rattle.vd_cmd.specs.declared.command.FilesCommand.{FilesCommand}
 use Rattle.vd_cmd.specs.declared.command.FilesCommand.TheVariants.{Compile, Excuse}
 use Rattle.vd_cmd.specs.declared.command.ExcuseWords.{ExcuseWords}
@@ -17,7 +17,7 @@ use Rattle.vd_cmd.specs.Commands.{form_of}
 use Rattle.vd_compiled_files.proofs.Holding.{programs_held}
 use Rattle.vd_top.specs.Compiled.{KeepsStored, StoresForm, StoresOf}
 use Rattle.vd_top.specs.Headline.{KeepsExcuse, TellsOf}
-use Rattle.vd_top.proofs.Ending.{answered, never}
+use Rattle.vd_answers.proofs.Endings.{answered, never}
 
 module _ (plan : Contents → Plan) (before mid now : FilesView) (out_before out_now : SinkView) where
   compiled : (source prefix : List ℕ) (budget : ℕ) (came : Result Answer Status) (status : Status) → Executes true plan before mid came → Finishes came mid now out_before out_now status
@@ -69,6 +69,7 @@ module _ (before now : FilesView) (out_before out_now : SinkView) (status : Stat
   stores_nothing not (Some (OnFiles (Excuse words))) = λ t e. absurd (not e)
   stores_nothing not (Some (OnFiles command)) = tt
   stores_nothing not (Some (KeyDeal words)) = tt
+  stores_nothing not (Some (Early words)) = tt
   stores_nothing not (Some (Host words)) = tt
   stores_nothing not (Some (Run words)) = tt
 

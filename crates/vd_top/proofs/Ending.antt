@@ -3,17 +3,16 @@ use Rattle.std.proofs.Common.{◌≡◌, ℕ, true, IsTrue, List, ◌++◌, Opti
 use Rattle.vd_outside.specs.Files.{FilesView, Contents}
 use Rattle.vd_outside.specs.Sink.{SinkView}
 use Rattle.vd_cmd.specs.declared.command.Command.{Command}
-use Rattle.vd_cmd.specs.declared.command.Command.TheVariants.{OnFiles, KeyDeal, Host, Run}
+use Rattle.vd_cmd.specs.declared.command.Command.TheVariants.{OnFiles, KeyDeal, Early, Host, Run}
 use Rattle.vd_cmd.specs.declared.command.FilesCommand.{FilesCommand}
 use Rattle.vd_cmd.specs.declared.command.FilesCommand.TheVariants.{Depends, Influences, Needs, Replay, Trial}
 use Rattle.vd_cmd.specs.declared.command.NeedsWords.{NeedsWords}
 use Rattle.vd_cmd.specs.declared.command.ReplayWords.{ReplayWords}
-use Rattle.vd_plan.specs.Deliver.{IsLeft}
-use Rattle.vd_plan.specs.Plans.{Executes, Plan, Settles, refused}
-use Rattle.vd_plan.specs.Runs.{Finishes, IsAnswered}
+use Rattle.vd_plan.specs.Plans.{Executes, Plan}
+use Rattle.vd_plan.specs.Runs.{Finishes}
 use Rattle.vd_plan.specs.declared.answer.Answer.{Answer}
 use Rattle.vd_plan.specs.declared.status.Status.{Status}
-use Rattle.vd_plan.specs.declared.status.Status.TheVariants.{Ended, Memory, NoAssignment, ReadFault}
+use Rattle.vd_plan.specs.declared.status.Status.TheVariants.{Ended}
 use Rattle.vd_plan.proofs.Following.{completes}
 use Rattle.vd_frontend.proofs.Reading.{some_texts}
 use Rattle.vd_selecting.specs.Choosing.{sure_search}
@@ -22,6 +21,7 @@ use Rattle.vd_selection.proofs.Once.{some_choices}
 use Rattle.vd_hasten_command.proofs.Existing.{some_reading}
 use Rattle.vd_needs_command.proofs.Existing.{some_programs}
 use Rattle.vd_outcomes.proofs.Picked.{some_outcomes as some_replays}
+use Rattle.vd_answers.proofs.Endings.{ended, never, printed}
 use Rattle.vd_replaying.proofs.Accepting.{ends_well}
 use Rattle.vd_depending.proofs.Existing.{some_dependences, some_influences}
 use Rattle.vd_top.specs.Commands.{CompletesForm, CompletesWords, Outcomes, RunsForm, plan_of, search_of}
@@ -31,92 +31,51 @@ use Rattle.vd_top.proofs.Trials.{run_ends}
 use Rattle.vd_top.proofs.Words.{command_follows}
 
 module _ (plan : Contents → Plan) (before mid now : FilesView) (out_before out_now : SinkView) where
-  -- the same fetches, and another answer
-  abbrev other_plan : Contents → Plan
-  other_plan files = record { fetches = (plan files).fetches; answer = refused NoAssignment }
-
-  -- where nothing settles the answer, any other is as good
-  unsettled : (status : Status) → Settles (refused NoAssignment) (Err status) → Executes true plan before mid (Err status) → Executes true other_plan before mid (Err status)
-  unsettled status any w = record {
-    later = w.later;
-    proper = w.proper;
-    fault = w.fault;
-    last = w.last;
-    still_told = w.still_told;
-    contents = w.contents;
-    front = w.front;
-    whole = λ t. tt;
-    settled = λ t. any;
-  }
-
-  pub answered : (came : Result Answer Status) (status : Status) (p : Contents → Plan) → Executes true p before mid came → Finishes came mid now out_before out_now status → IsTrue before.told → status ≡ Ended
-      → Ended ≡ (p before.contents).answer.status
-  answered came status p w finishes t e = subst (λ (s : Status). IsAnswered (p before.contents).answer.status s) e ((finishes true p before w).answered t)
-
-  -- a refusal does not end well
-  pub never : (came status : Status) → Executes true plan before mid (Err came) → Finishes (Err came) mid now out_before out_now status → IsTrue before.told → status ≡ Ended → ⊥
-  never Ended status w finishes t e = w.proper
-  never Memory status w finishes t e = let wrong = answered (Err Memory) status other_plan (unsettled Memory tt w) finishes t e in cc
-  never (ReadFault name) status w finishes t e = let wrong = answered (Err (ReadFault name)) status other_plan (unsettled (ReadFault name) tt w) finishes t e in cc
-  never other status w finishes t e = let wrong = answered (Err other) status plan w finishes t e ∙ sym (ap (λ (a : Answer). a.status) (w.settled t)) in cc
-
-  -- the answer ended well
-  ended : (answer : Answer) (status : Status) → Executes true plan before mid (Ok answer) → Finishes (Ok answer) mid now out_before out_now status → IsTrue before.told → status ≡ Ended → answer.status ≡ Ended
-  ended answer status w finishes t e = ap (λ (a : Answer). a.status) (w.settled t) ∙ sym (answered (Ok answer) status plan w finishes t e)
-
-  -- and was printed
-  printed : (answer : Answer) (status : Status) → Executes true plan before mid (Ok answer) → Finishes (Ok answer) mid now out_before out_now status → IsTrue before.told → IsTrue out_now.told → status ≡ Ended
-      → (answer.status ≡ Ended) × (out_now.taken ≡ out_before.taken ++ answer.printed)
-  printed answer status w finishes t o e =
-      let same = w.settled t in
-      let left = subst (λ (s : Status). IsLeft (plan before.contents).answer.printed out_before.taken out_now.taken s) e ((finishes true plan before w).left t o) in
-      (ended answer status w finishes t e, left ∙ ap (λ (a : Answer). out_before.taken ++ a.printed) (sym same))
-
   headline : (words : ReplayWords) (came : Result Answer Status) (status : Status) → Executes true plan before mid came → Finishes came mid now out_before out_now status → TellsOf (Replay words) before came
       → ShowsOf (Replay words) before out_before out_now status
   headline words (Ok answer) status w finishes tells = λ t o e.
-      let p = printed answer status w finishes t o e in
+      let p = printed plan before mid now out_before out_now answer status w finishes t o e in
       record { printed = answer.printed; added = p.1; headline = tells t p.0 }
-  headline words (Err came) status w finishes tells = λ t o e. absurd (never came status w finishes t e)
+  headline words (Err came) status w finishes tells = λ t o e. absurd (never plan before mid now out_before out_now came status w finishes t e)
 
   dependence : (source name : List ℕ) (came : Result Answer Status) (status : Status) → Executes true plan before mid came → Finishes came mid now out_before out_now status → TellsOf (Depends source name) before came
       → ShowsOf (Depends source name) before out_before out_now status
   dependence source name (Ok answer) status w finishes tells = λ t o e.
-      let p = printed answer status w finishes t o e in
+      let p = printed plan before mid now out_before out_now answer status w finishes t o e in
       record { printed = answer.printed; added = p.1; dependence = tells t p.0 }
-  dependence source name (Err came) status w finishes tells = λ t o e. absurd (never came status w finishes t e)
+  dependence source name (Err came) status w finishes tells = λ t o e. absurd (never plan before mid now out_before out_now came status w finishes t e)
 
   influence : (source name : List ℕ) (came : Result Answer Status) (status : Status) → Executes true plan before mid came → Finishes came mid now out_before out_now status → TellsOf (Influences source name) before came
       → ShowsOf (Influences source name) before out_before out_now status
   influence source name (Ok answer) status w finishes tells = λ t o e.
-      let p = printed answer status w finishes t o e in
+      let p = printed plan before mid now out_before out_now answer status w finishes t o e in
       record { printed = answer.printed; added = p.1; influence = tells t p.0 }
-  influence source name (Err came) status w finishes tells = λ t o e. absurd (never came status w finishes t e)
+  influence source name (Err came) status w finishes tells = λ t o e. absurd (never plan before mid now out_before out_now came status w finishes t e)
 
   needs : (words : NeedsWords) (came : Result Answer Status) (status : Status) → Executes true plan before mid came → Finishes came mid now out_before out_now status → TellsOf (Needs words) before came
       → ShowsOf (Needs words) before out_before out_now status
   needs words (Ok answer) status w finishes tells = λ t o e.
-      let p = printed answer status w finishes t o e in
+      let p = printed plan before mid now out_before out_now answer status w finishes t o e in
       record { printed = answer.printed; added = p.1; needs = tells t p.0 }
-  needs words (Err came) status w finishes tells = λ t o e. absurd (never came status w finishes t e)
+  needs words (Err came) status w finishes tells = λ t o e. absurd (never plan before mid now out_before out_now came status w finishes t e)
 
   trial : (coordinates : ℕ) (came : Result Answer Status) (status : Status) → Executes true plan before mid came → Finishes came mid now out_before out_now status → TellsOf (Trial coordinates) before came
       → ShowsOf (Trial coordinates) before out_before out_now status
   trial coordinates (Ok answer) status w finishes tells = λ t. (
     run_ends mid now out_before out_now (w.still_told t) (Ok answer) status w.proper tells.1 finishes,
     λ o e.
-        let p = printed answer status w finishes t o e in
+        let p = printed plan before mid now out_before out_now answer status w finishes t o e in
         record { printed = answer.printed; added = p.1; trial = tells.0 p.0 },
   )
   trial coordinates (Err came) status w finishes tells = λ t. (
     run_ends mid now out_before out_now (w.still_told t) (Err came) status w.proper tells.1 finishes,
-    λ o e. absurd (never came status w finishes t e),
+    λ o e. absurd (never plan before mid now out_before out_now came status w finishes t e),
   )
 
   count : (words : ReplayWords) (packets : Option ℕ) (came : Result Answer Status) (status : Status) → Executes true plan before mid came → Finishes came mid now out_before out_now status → CountsOf (Replay words) before packets came
       → CountedBy (Replay words) before packets status
-  count words packets (Ok answer) status w finishes counts = λ t e. counts t (ended answer status w finishes t e)
-  count words packets (Err came) status w finishes counts = λ t e. absurd (never came status w finishes t e)
+  count words packets (Ok answer) status w finishes counts = λ t e. counts t (ended plan before mid now out_before out_now answer status w finishes t e)
+  count words packets (Err came) status w finishes counts = λ t e. absurd (never plan before mid now out_before out_now came status w finishes t e)
 
   -- what the answer of a command counts, its run counts
   pub counted : (command : FilesCommand) (packets : Option ℕ) (came : Result Answer Status) (status : Status) → Executes true plan before mid came → Finishes came mid now out_before out_now status → CountsOf command before packets came
@@ -142,6 +101,7 @@ module _ (before now : FilesView) (out_before out_now : SinkView) (status : Stat
       completes true (plan_of outcomes (search_of outcomes runs.0) command) (plan_of outcomes (sure_search outcomes.choices) command) before now out_before out_now status (runs.1 outcomes)
       (command_follows outcomes runs.0 command before.contents)
   complete (Some (KeyDeal words)) runs = tt
+  complete (Some (Early words)) runs = tt
   complete (Some (Host words)) runs = tt
   complete (Some (Run words)) runs = tt
 

@@ -6,7 +6,7 @@ use Rattle.vd_outside.specs.Sink.{SinkView}
 use Rattle.vd_outside.specs.Spawner.{SpawnerView}
 use Rattle.vd_cmd.specs.Commands.{form_of}
 use Rattle.vd_cmd.specs.declared.command.Command.{Command}
-use Rattle.vd_cmd.specs.declared.command.Command.TheVariants.{OnFiles, KeyDeal, Host, Run}
+use Rattle.vd_cmd.specs.declared.command.Command.TheVariants.{OnFiles, KeyDeal, Early, Host, Run}
 use Rattle.vd_cmd.specs.declared.command.FilesCommand.TheVariants.{Depends, Influences, Needs, Replay, Trial}
 use Rattle.vd_plan.specs.Plans.{Executes, fetch_calls}
 use Rattle.vd_plan.specs.declared.status.Status.{Status}
@@ -14,7 +14,9 @@ use Rattle.vd_plan.specs.declared.status.Status.TheVariants.{Ended, Memory, Usag
 use Rattle.vd_plan.proofs.Fronts.{same_within}
 use Rattle.vd_plan.proofs.InSteps.{any_memory}
 use Rattle.vd_plan.proofs.WholeRuns.{runs_err}
-use Rattle.vd_selecting.specs.Choosing.{GaveUp}
+use Rattle.vd_selecting.specs.Choosing.{GaveUp, searched_by}
+use Rattle.vd_execution.specs.Joint.{Done}
+use Rattle.vd_early_command.specs.Compiling.{early_plan}
 use Rattle.vd_host_command.specs.Hosts.{HostRuns, Marked, NetsView, NotLoaded, Plainly}
 use Rattle.vd_host_command.proofs.Marked.{used_once}
 use Rattle.vd_key_dealing.specs.Sources.{FromFile, NoMemory, RunsKeyDeal, file_plan}
@@ -28,6 +30,7 @@ use Rattle.vd_cmd.specs.declared.command.KeySource.TheVariants.{Drawn, InFile}
 use Rattle.vd_cmd.specs.declared.command.RunWords.{RunWords}
 use Rattle.vd_top.specs.Commands.{RunsForm, plan_of, search_of, usage_plan}
 use Rattle.vd_top.specs.Counts.{CountedForm, KeepsCount}
+use Rattle.vd_top.specs.Early.{EarlyForm}
 use Rattle.vd_top.specs.Headline.{KeepsTrial, KeepsDependence, KeepsHeadline, KeepsInfluence, KeepsNeeds, ShowsForm}
 use Rattle.vd_running.proofs.Holding.{complete}
 use Rattle.vd_serving.proofs.Serving.{plain_served, served}
@@ -58,16 +61,37 @@ counts_nothing before packets status bad None = tt
 counts_nothing before packets status bad (Some (OnFiles (Replay words))) = λ t e. absurd (bad e)
 counts_nothing before packets status bad (Some (OnFiles command)) = tt
 counts_nothing before packets status bad (Some (KeyDeal words)) = tt
+counts_nothing before packets status bad (Some (Early words)) = tt
 counts_nothing before packets status bad (Some (Host words)) = tt
 counts_nothing before packets status bad (Some (Run words)) = tt
 
 -- ---- where there was no memory for the words, nothing was done
 
 module _ (files : FilesView) (out : SinkView) where
+  pub early_nothing : (form : Option Command) → EarlyForm form files files out out Memory
+  early_nothing None = tt
+  early_nothing (Some (OnFiles command)) = tt
+  early_nothing (Some (KeyDeal words)) = tt
+  early_nothing (Some (Early words)) = record {
+    runs = (
+      Done,
+      (
+        GaveUp,
+        λ certificates choices texts least.
+            let plan = early_plan texts least choices (searched_by certificates choices GaveUp) Done words.source words.prefix words.budget in
+            runs_err true plan files files out Memory (any_memory plan files),
+      ),
+    );
+    keeps = λ t e. absurd (cc e);
+  }
+  early_nothing (Some (Host words)) = tt
+  early_nothing (Some (Run words)) = tt
+
   pub runs_nothing : (form : Option Command) → (form ≡ None → ⊥) → RunsForm form files files out out Memory
   runs_nothing None some = absurd (some refl)
   runs_nothing (Some (OnFiles command)) some = (GaveUp, λ outcomes. runs_err _ (plan_of outcomes (search_of outcomes GaveUp) command) files files out Memory (any_memory (plan_of outcomes (search_of outcomes GaveUp) command) files))
   runs_nothing (Some (KeyDeal words)) some = tt
+  runs_nothing (Some (Early words)) some = tt
   runs_nothing (Some (Host words)) some = tt
   runs_nothing (Some (Run words)) some = tt
 
@@ -80,6 +104,7 @@ module _ (files : FilesView) (out : SinkView) where
   shows_nothing (Some (OnFiles (Trial coordinates))) = λ t. (tt, λ o e. absurd (cc e))
   shows_nothing (Some (OnFiles command)) = tt
   shows_nothing (Some (KeyDeal words)) = tt
+  shows_nothing (Some (Early words)) = tt
   shows_nothing (Some (Host words)) = tt
   shows_nothing (Some (Run words)) = tt
 
@@ -87,6 +112,7 @@ module _ (files : FilesView) (out : SinkView) where
   plays_nothing marks nets None = tt
   plays_nothing marks nets (Some (OnFiles command)) = tt
   plays_nothing marks nets (Some (KeyDeal words)) = tt
+  plays_nothing marks nets (Some (Early words)) = tt
   plays_nothing marks nets (Some (Run words)) = tt
   plays_nothing marks nets (Some (Host words)) = Plainly Memory (NotLoaded Memory (record {
     later = omega arith;
@@ -104,6 +130,7 @@ module _ (files : FilesView) (out : SinkView) where
   pub keys_nothing : (marks : MarksView) (form : Option Command) → KeysForm form files files marks marks out out Memory
   keys_nothing marks None = tt
   keys_nothing marks (Some (OnFiles command)) = tt
+  keys_nothing marks (Some (Early words)) = tt
   keys_nothing marks (Some (Host words)) = tt
   keys_nothing marks (Some (Run words)) = tt
   keys_nothing marks (Some (KeyDeal words)) = by words.key refl
@@ -117,6 +144,7 @@ module _ (files : FilesView) (out : SinkView) where
   spawns_nothing spawner None = tt
   spawns_nothing spawner (Some (OnFiles command)) = tt
   spawns_nothing spawner (Some (KeyDeal words)) = tt
+  spawns_nothing spawner (Some (Early words)) = tt
   spawns_nothing spawner (Some (Host words)) = tt
   spawns_nothing spawner (Some (Run words)) = record {
     compiled = files;
@@ -145,6 +173,9 @@ module _ (files : FilesView) (out : SinkView) where
 
   pub runs_refused : (form : Option Command) → form ≡ None → RunsForm form files files out out Usage
   runs_refused form none = subst (λ (f : Option Command). RunsForm f files files out out Usage) (sym none) (runs_err false usage_plan files files out Usage usage_executes)
+
+  pub early_refused : (form : Option Command) → form ≡ None → EarlyForm form files files out out Usage
+  early_refused form none = subst (λ (f : Option Command). EarlyForm f files files out out Usage) (sym none) tt
 
   pub shows_refused : (form : Option Command) → form ≡ None → ShowsForm form files out out Usage
   shows_refused form none = subst (λ (f : Option Command). ShowsForm f files out out Usage) (sym none) tt
@@ -192,6 +223,9 @@ module _ (form : Option Command) (command : Command) (is : form ≡ Some command
       → MarksForm (Some command) files files_now marks marks_now nets nets_now → MarksForm form files files_now marks marks_now nets nets_now
   marked_by files files_now marks marks_now nets nets_now said = subst (λ (f : Option Command). MarksForm f files files_now marks marks_now nets nets_now) (sym is) said
 
+  pub early_by : (files files_now : FilesView) (out out_now : SinkView) (status : Status) → EarlyForm (Some command) files files_now out out_now status → EarlyForm form files files_now out out_now status
+  early_by files files_now out out_now status said = subst (λ (f : Option Command). EarlyForm f files files_now out out_now status) (sym is) said
+
   pub keys_by : (files files_now : FilesView) (marks marks_now : MarksView) (out out_now : SinkView) (status : Status)
       → KeysForm (Some command) files files_now marks marks_now out out_now status → KeysForm form files files_now marks marks_now out out_now status
   keys_by files files_now marks marks_now out out_now status said = subst (λ (f : Option Command). KeysForm f files files_now marks marks_now out out_now status) (sym is) said
@@ -217,6 +251,7 @@ pub marked_all : (files files_now : FilesView) (marks marks_now : MarksView) (ne
 marked_all files files_now marks marks_now nets nets_now out out_now status None plays = tt
 marked_all files files_now marks marks_now nets nets_now out out_now status (Some (OnFiles command)) plays = tt
 marked_all files files_now marks marks_now nets nets_now out out_now status (Some (KeyDeal words)) plays = tt
+marked_all files files_now marks marks_now nets nets_now out out_now status (Some (Early words)) plays = tt
 marked_all files files_now marks marks_now nets nets_now out out_now status (Some (Run words)) plays = tt
 marked_all files files_now marks marks_now nets nets_now out out_now status (Some (Host words)) plays = used_once words files files_now marks marks_now nets nets_now out out_now status plays
 
@@ -234,6 +269,7 @@ pub serves : (files files_now : FilesView) (marks marks_now : MarksView) (nets n
 serves files files_now marks marks_now nets nets_now out out_now status None plays = tt
 serves files files_now marks marks_now nets nets_now out out_now status (Some (OnFiles command)) plays = tt
 serves files files_now marks marks_now nets nets_now out out_now status (Some (KeyDeal words)) plays = tt
+serves files files_now marks marks_now nets nets_now out out_now status (Some (Early words)) plays = tt
 serves files files_now marks marks_now nets nets_now out out_now status (Some (Run words)) plays = tt
 serves files files_now marks marks_now nets nets_now out out_now status (Some (Host words)) plays = serves_host words files files_now marks marks_now nets nets_now out out_now status plays
 
@@ -242,5 +278,6 @@ pub reports : (files files_now : FilesView) (out out_now : SinkView) (spawner sp
 reports files files_now out out_now spawner spawner_now status None spawned = tt
 reports files files_now out out_now spawner spawner_now status (Some (OnFiles command)) spawned = tt
 reports files files_now out out_now spawner spawner_now status (Some (KeyDeal words)) spawned = tt
+reports files files_now out out_now spawner spawner_now status (Some (Early words)) spawned = tt
 reports files files_now out out_now spawner spawner_now status (Some (Host words)) spawned = tt
 reports files files_now out out_now spawner spawner_now status (Some (Run words)) spawned = complete words (outside files out spawner) (outside files_now out_now spawner_now) status spawned

@@ -5,3 +5,4 @@ pub mod Headline
 pub mod Hosts
 pub mod Answers
 pub mod Promises
+pub mod Early

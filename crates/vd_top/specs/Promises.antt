@@ -11,6 +11,7 @@ use Rattle.vd_plan.specs.Runs.{Prints}
 use Rattle.vd_plan.specs.declared.status.Status.{Status}
 use Rattle.vd_top.specs.Answers.{KeepsChoice, KeepsCompiled, KeepsDeal, KeepsDrawing, KeepsHastened, KeepsKeyed, KeepsLabels, KeepsProof}
 use Rattle.vd_top.specs.Compiled.{KeepsStored}
+use Rattle.vd_top.specs.Early.{EarlyByWords}
 use Rattle.vd_top.specs.Counts.{KeepsCount}
 use Rattle.vd_top.specs.Commands.{CompletesWords, RunsWords}
 use Rattle.vd_top.specs.Headline.{KeepsAccepted, KeepsDependence, KeepsExcuse, KeepsHeadline, KeepsInfluence, KeepsNeeds, KeepsTrial}
@@ -40,6 +41,7 @@ pub record Keeps (words : List (List ℕ)) (o : Around) (status : Status) : Type
   pub drawn : KeepsDrawing words o.files.0 o.out.0 o.out.1 status
   pub compiled : KeepsCompiled words o.files.0 o.files.1 o.out.0 o.out.1 status
   pub stored : KeepsStored words o.files.0 o.files.1 o.out.0 o.out.1 status
+  pub early : EarlyByWords words o.files.0 o.files.1 o.out.0 o.out.1 status
   pub hastened : KeepsHastened words o.files.0 o.files.1 status
   pub dealt : KeepsDeal words o.files.0 o.files.1 status
   pub dealt_by_key : KeepsKeyed words o.files.0 o.files.1 status

@@ -135,6 +135,7 @@ fn files_of(alloc: Global, command: &Command) -> Result<Items<Wanted>, AllocErro
         Command::OnFiles(FilesCommand::Deal(..) | FilesCommand::Gen(_) | FilesCommand::Trial(_)) =>
             { Ok(Items::new(alloc)) }
         Command::KeyDeal(words) => of_key(alloc, &words.key),
+        Command::Early(words) => one(alloc, &words.source, SOURCE_BYTES),
         Command::Host(words) => of_host(alloc, words),
         Command::Run(words) => one(alloc, &words.source, SOURCE_BYTES),
     }

@@ -4,7 +4,7 @@ use Rattle.vd_host_command.specs.Hosts.{nets_of}
 use Rattle.vd_plan.specs.declared.status.Status.TheVariants.{Memory, Usage}
 use Rattle.vd_top.proofs.Answering.{within_limits}
 use Rattle.vd_top.proofs.Compiling.{stores_by, stores_nothing}
-use Rattle.vd_top.proofs.Telling.{childless_by, counts_by, counts_nothing, keys_by, keys_nothing, keys_refused, marked_all, marked_by, plays_by, plays_nothing, plays_refused, runs_by, runs_nothing, runs_refused, shows_by, shows_nothing, shows_refused, silent_by, spawns_as, spawns_nothing, spawns_refused, unmarked_by}
+use Rattle.vd_top.proofs.Telling.{childless_by, counts_by, counts_nothing, early_by, early_nothing, early_refused, keys_by, keys_nothing, keys_refused, marked_all, marked_by, plays_by, plays_nothing, plays_refused, runs_by, runs_nothing, runs_refused, shows_by, shows_nothing, shows_refused, silent_by, spawns_as, spawns_nothing, spawns_refused, unmarked_by}
 use Rattle.vd_top.proofs.entry.run_words.Goals as goal
 
 pub returns-in-Ok-clause-runs : goal.returns-in-Ok-clause-runs
@@ -121,3 +121,16 @@ returns-in-Err-Memory-clause-keyed g c = keys_nothing (g.F.Files.view c.args.fil
 
 pub returns-in-Ok-clause-marks_untouched : goal.returns-in-Ok-clause-marks_untouched
 returns-in-Ok-clause-marks_untouched g c = λ e. c.run_command.ensures.marks_untouched (unmarked_by (form_of c.args.words.now) c.in-Ok.command c.in-Ok.ensures.command e)
+
+pub returns-in-Ok-clause-early : goal.returns-in-Ok-clause-early
+returns-in-Ok-clause-early g c =
+    early_by (form_of c.args.words.now) c.in-Ok.command c.in-Ok.ensures.command (g.F.Files.view c.args.files.now) (g.F.Files.view c.run_command.new.files) (g.O.Sink.view c.args.out.now) (g.O.Sink.view c.run_command.new.out) c.run_command.result
+    c.run_command.ensures.early
+
+pub returns-in-Err-Usage-clause-early : goal.returns-in-Err-Usage-clause-early
+returns-in-Err-Usage-clause-early g c =
+    let none = rw c.in-Err-Usage.field-0-is at c.in-Err-Usage.ensures.usage in
+    early_refused (g.F.Files.view c.args.files.now) (g.O.Sink.view c.args.out.now) (form_of c.args.words.now) (none.0 refl)
+
+pub returns-in-Err-Memory-clause-early : goal.returns-in-Err-Memory-clause-early
+returns-in-Err-Memory-clause-early g c = early_nothing (g.F.Files.view c.args.files.now) (g.O.Sink.view c.args.out.now) (form_of c.args.words.now)

@@ -17,6 +17,7 @@ returns-in-None g c = record {
     drawn = c.run.ensures.drawn;
     compiled = c.run.ensures.compiled;
     stored = c.run.ensures.stored;
+    early = c.run.ensures.early;
     hastened = c.run.ensures.hastened;
     dealt = c.run.ensures.dealt;
     dealt_by_key = c.run.ensures.dealt_by_key;
