@@ -1,5 +1,6 @@
 """How `choose` ends on a source, by the built program, and what the certificate opens that it stores."""
 
+import os
 import resource
 import subprocess
 import sys
@@ -7,7 +8,7 @@ from pathlib import Path
 from typing import NamedTuple, Optional
 
 TOP = Path(__file__).resolve().parent.parent
-PROGRAM = TOP / "crates" / "viaduct" / "out" / "viaduct"
+PROGRAM = Path(os.environ.get("VIADUCT", TOP / "crates" / "viaduct" / "out" / "viaduct"))
 NO_ASSIGNMENT = 9
 SPENT = 10
 
