@@ -17,6 +17,8 @@ _viaduct() {
       mapfile -t COMPREPLY < <(compgen -W messages -- "$word") ;;
     '[each]')
       mapfile -t COMPREPLY < <(compgen -W each -- "$word") ;;
+    '[early]')
+      mapfile -t COMPREPLY < <(compgen -W early -- "$word") ;;
     KEY)
       mapfile -t COMPREPLY < <(compgen -W draw -- "$word") ;;
     SOURCE)
