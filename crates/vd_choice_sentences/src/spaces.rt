@@ -7,7 +7,7 @@ use std::alloc::Global;
 use vd_constraints::constraints;
 use vd_core::Program;
 use vd_remarks::TellFault;
-use vd_solver::{SolveFault, solve};
+use vd_solver::solve;
 use vd_spaces::Space;
 
 /// The space of choices for a program under its least labels; none where no labelling is allowed.
@@ -15,12 +15,12 @@ pub fn space_for(alloc: Global, program: &Program) -> Result<Option<Space>, Tell
     ensures { IfOk result (IsSpaceFor program.now) }
 {
     let system = constraints(alloc, program)?;
-    match solve(alloc, &system) {
+    let solved = solve(alloc, &system)?;
+    match solved {
         Ok(labels) => {
             let space = Space::of(alloc, program, &labels)?;
             Ok(Some(space))
         }
-        Err(SolveFault::Flow(_)) => Ok(None),
-        Err(SolveFault::Memory) => Err(TellFault::Memory),
+        Err(_check) => Ok(None),
     }
 }

@@ -6,13 +6,12 @@ ghost use Rattle.vd_constraints.specs.Rules.{system_of};
 ghost use Rattle.vd_flow_sentences.specs.Flow.{IsFlowRemark, SaysOfFlow};
 
 use crate::asking::origins;
-use crate::least::rules_solution;
 use crate::sentences::flow_sentence;
 use std::alloc::Global;
 use vd_constraints::{System, constraints};
 use vd_core::Program;
 use vd_remarks::{Remark, TellFault};
-use vd_solver::{SolveFault, solve};
+use vd_solver::{solve, solve_rules};
 
 /// The remark on the first check of a program that fails at the least solution of its rules, if one does.
 ///
@@ -22,13 +21,13 @@ pub fn flow_remark(alloc: Global, program: &Program) -> Result<Option<Remark>, T
     ensures { IfOk result (SaysOfFlow program.now) }
 {
     let system = constraints(alloc, program)?;
-    match solve(alloc, &system) {
+    let solved = solve(alloc, &system)?;
+    match solved {
         Ok(_labels) => Ok(None),
-        Err(SolveFault::Flow(number)) => {
+        Err(number) => {
             let remark = remark_on(alloc, program, &system, number)?;
             Ok(Some(remark))
         }
-        Err(SolveFault::Memory) => Err(TellFault::Memory),
     }
 }
 
@@ -43,7 +42,7 @@ fn remark_on(
     requires refused { HasNoLabelling system.now number }
     ensures { IfOk result (IsFlowRemark program.now number) }
 {
-    let least = rules_solution(alloc, system)?;
+    let least = solve_rules(alloc, system)?;
     let askers = origins(alloc, program)?;
     let failing = system.checks()[number as usize];
     let asker = askers.as_slice()[number as usize];

@@ -4,7 +4,6 @@
 mod asking;
 mod flow;
 mod laws;
-mod least;
 mod origin;
 mod phrases;
 mod sentences;

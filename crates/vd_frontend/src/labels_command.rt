@@ -18,7 +18,7 @@ use vd_outside::Files;
 use vd_plan::{Answer, Status};
 use vd_report::labels_text;
 use vd_resolve::Resolved;
-use vd_solver::{SolveFault, solve};
+use vd_solver::solve;
 
 /// The least labels of a program, or the first check that fails.
 pub fn least_labels(alloc: Global, program: &Program) -> Result<Labels, Status>
@@ -27,10 +27,10 @@ pub fn least_labels(alloc: Global, program: &Program) -> Result<Labels, Status>
 {
     let system = constraints(alloc, program)?;
     let checks = system.checks();
-    match solve(alloc, &system) {
+    let solved = solve(alloc, &system)?;
+    match solved {
         Ok(labels) => Ok(labels),
-        Err(SolveFault::Flow(check)) => Err(Status::Flow(check, offset_at(checks, check))),
-        Err(SolveFault::Memory) => Err(Status::Memory),
+        Err(check) => Err(Status::Flow(check, offset_at(checks, check))),
     }
 }
 

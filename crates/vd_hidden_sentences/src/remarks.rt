@@ -12,7 +12,7 @@ use vd_constraints::{Labels, constraints};
 use vd_core::Program;
 use vd_mux::hidden_guards;
 use vd_remarks::{Remark, TellFault};
-use vd_solver::{SolveFault, solve};
+use vd_solver::solve;
 
 /// The remark on the first branch of a program whose guard no host may read and that cannot become a selection, under these labels.
 /// None where there is no such branch.
@@ -42,12 +42,12 @@ pub fn branch_remark(alloc: Global, program: &Program) -> Result<Option<Remark>,
     ensures { IfOk result (IsBranchRemark program.now) }
 {
     let system = constraints(alloc, program)?;
-    match solve(alloc, &system) {
+    let solved = solve(alloc, &system)?;
+    match solved {
         Ok(labels) => {
             let remark = hidden_remark(alloc, program, &labels)?;
             Ok(remark)
         }
-        Err(SolveFault::Flow(_)) => Ok(None),
-        Err(SolveFault::Memory) => Err(TellFault::Memory),
+        Err(_check) => Ok(None),
     }
 }

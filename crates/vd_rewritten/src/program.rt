@@ -16,17 +16,17 @@ use vd_joint::numbers_fit;
 use vd_long::lengthen_labelled;
 use vd_mux::turn_labelled;
 use vd_resolve::Resolved;
-use vd_solver::{SolveFault, solve};
+use vd_solver::solve;
 
 /// The least labels of a program, or none where it has no labels.
 fn labels_if_any(alloc: Global, program: &Program) -> Result<Option<Labels>, AllocError>
     ensures { IfOk result (IsFound program.now) }
 {
     let system = constraints(alloc, program)?;
-    match solve(alloc, &system) {
+    let solved = solve(alloc, &system)?;
+    match solved {
         Ok(labels) => Ok(Some(labels)),
-        Err(SolveFault::Flow(_)) => Ok(None),
-        Err(SolveFault::Memory) => Err(AllocError),
+        Err(_check) => Ok(None),
     }
 }
 

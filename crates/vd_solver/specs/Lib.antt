@@ -1,4 +1,3 @@
 pub mod Raising
 pub mod Reading
 pub mod Visits
-pub mod Faults

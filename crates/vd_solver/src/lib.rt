@@ -7,4 +7,4 @@ mod readers;
 mod solving;
 mod waiting;
 
-pub use solving::{SolveFault, solve};
+pub use solving::{solve, solve_rules};

@@ -1,67 +1,36 @@
 //! The least labelling of a system.
 
-ghost use Rattle.std.specs.Prelude.{◌≡◌, IfErr, IfOk};
-ghost use Rattle.vd_constraints.specs.Satisfies.{IsLeast, IsLeastSolution};
+ghost use Rattle.std.specs.Prelude.{◌≡◌, IfOk};
+ghost use Rattle.vd_constraints.specs.Outcomes.{IsLabelled};
+ghost use Rattle.vd_constraints.specs.Satisfies.{IsLeastSolution};
 ghost use Rattle.vd_least.specs.Free.{free};
-ghost use Rattle.vd_solver.specs.Faults.{IsFaultOf};
-ghost use Rattle.vd_solver.specs.declared.solving.SolveFault.TheVariants as solve_fault;
 
 use crate::checking::first_failing;
 use crate::raising::raise;
 use crate::readers::{number, readers};
 use crate::waiting::Waiting;
 use std::alloc::{AllocError, Global};
-use std::error::Error;
-use std::fmt;
 use vd_constraints::{Labels, System};
 use vd_formula::{Formula, Label};
 use vd_items::Items;
 
-/// Why a system has no least labelling.
-#[derive(PartialEq, Eq, Debug, Drop)]
-pub enum SolveFault {
-    /// No labelling satisfies the system; at the least solution of its rules this check is the first that fails.
-    Flow(u32),
-    /// There was no memory left.
-    Memory,
-}
-
-impl fmt::Display for SolveFault {
-    fn fmt<W: fmt::Write>(&self, f: &mut fmt::Formatter<W>) -> fmt::Result {
-        match self {
-            SolveFault::Flow(check) => write!(f, "flow check {check}"),
-            SolveFault::Memory => write!(f, "out of memory"),
-        }
-    }
-}
-
-impl Error for SolveFault {}
-
-impl From<AllocError> for SolveFault {
-    ghost from_gives = { λ _ fault. fault ≡ solve_fault.Memory };
-
-    fn from(_: AllocError) -> Self {
-        SolveFault::Memory
-    }
-}
-
-/// The least labelling that satisfies the system.
-///
-/// Every part starts at the formula that is true at every set, and is raised by the rules that fail. A rule is
-/// visited again only where a part that it reads was raised.
-pub fn solve(alloc: Global, system: &System) -> Result<Labels, SolveFault>
-    ensures least { IfOk result (IsLeast system.now) }
-    ensures fault { IfErr result (IsFaultOf system.now) }
+/// The least labelling that satisfies the system, or, where none does, the first check that fails at the least solution
+/// of its rules.
+pub fn solve(alloc: Global, system: &System) -> Result<Result<Labels, u32>, AllocError>
+    ensures { IfOk result (IsLabelled system.now) }
 {
     let labels = solve_rules(alloc, system)?;
     match first_failing(system.checks(), &labels) {
-        Some(check) => Err(SolveFault::Flow(check)),
-        None => Ok(labels),
+        Some(check) => Ok(Err(check)),
+        None => Ok(Ok(labels)),
     }
 }
 
-/// The least labelling at which all rules hold.
-fn solve_rules(alloc: Global, system: &System) -> Result<Labels, AllocError>
+/// The least labelling at which all rules hold, whatever becomes of the checks.
+///
+/// Every part starts at the formula that is true at every set, and is raised by the rules that fail. A rule is
+/// visited again only where a part that it reads was raised.
+pub fn solve_rules(alloc: Global, system: &System) -> Result<Labels, AllocError>
     ensures { IfOk result (IsLeastSolution system.now) }
 {
     let rules = system.lower();

@@ -6,4 +6,5 @@ use Rattle.vd_choice_sentences.proofs.spaces.space_for.Goals as goal
 
 pub of-requires : goal.of-requires
 of-requires c =
-    has_labels c.args.program.now c.in-Ok.labels (subst (λ (s : Constraints). IsLeast s c.in-Ok.labels) (c.in_ok-system.ensures {u = tt}) (c.in-Ok.ensures {u = tt}).least)
+    let least : IsLeast c.in_ok-system.system c.in-Ok.labels = rw c.in-Ok.is at (c.in_ok-solved.ensures {u = tt}) in
+    has_labels c.args.program.now c.in-Ok.labels (subst (λ (s : Constraints). IsLeast s c.in-Ok.labels) (c.in_ok-system.ensures {u = tt}) least)

@@ -7,18 +7,21 @@ use Rattle.vd_frontend.proofs.Labelled.{labelled}
 use Rattle.vd_frontend.proofs.labels_command.least_labels.Goals as goal
 
 pub returns-in-Ok-clause-checks : goal.returns-in-Ok-clause-checks
-returns-in-Ok-clause-checks c = λ least. record {
-  ok = ap (λ (s : Constraints). as_labels s (least.label s)) (sym c.in_ok-system.ensures) ∙ labelled least c.in_ok-system.system (Ok c.in-Ok.labels) c.checks-checks.ensures.valid c.in-Ok.ensures.least;
+returns-in-Ok-clause-checks c = λ outcomes. record {
+  ok = ap (λ (s : Constraints). as_labels s (outcomes.label s)) (sym c.in_ok-system.ensures)
+      ∙ labelled outcomes c.in_ok-system.system (Ok c.in-Ok.labels) c.checks-checks.ensures.valid (rw c.in-Ok.is at c.in_ok-solved.ensures);
   err = tt;
 }
 
-pub returns-in-Err-Flow-clause-checks : goal.returns-in-Err-Flow-clause-checks
-returns-in-Err-Flow-clause-checks c = λ least. record {
+pub returns-clause-checks : goal.returns-clause-checks
+returns-clause-checks c = λ least. record {
   ok = tt;
   err = ap (λ (s : Constraints). as_labels s (least.label s)) (sym c.in_ok-system.ensures)
-      ∙ labelled least c.in_ok-system.system (Err c.in-Err-Flow.check) c.checks-checks.ensures.valid (rw c.in-Err-Flow.field-0-is at c.in-Err-Flow.ensures.fault)
-      ∙ ap (λ offset. Err (Flow c.in-Err-Flow.check offset)) (ap (λ checks. offset_at checks c.in-Err-Flow.check) (sym c.checks-checks.ensures.same) ∙ sym c.offset_at.ensures);
+      ∙ labelled least c.in_ok-system.system (Err c.in-Err.check) c.checks-checks.ensures.valid (rw c.in-Err.is at c.in_ok-solved.ensures)
+      ∙ ap (λ offset. Err (Flow c.in-Err.check offset)) (ap (λ checks. offset_at checks c.in-Err.check) (sym c.checks-checks.ensures.same) ∙ sym c.offset_at.ensures);
 }
 
 pub returns-in-Ok-clause-least : goal.returns-in-Ok-clause-least
-returns-in-Ok-clause-least c = subst (λ (s : Constraints). IsLeast s c.in-Ok.labels) c.in_ok-system.ensures c.in-Ok.ensures.least
+returns-in-Ok-clause-least c =
+    let least : IsLeast c.in_ok-system.system c.in-Ok.labels = rw c.in-Ok.is at c.in_ok-solved.ensures in
+    subst (λ (s : Constraints). IsLeast s c.in-Ok.labels) c.in_ok-system.ensures least

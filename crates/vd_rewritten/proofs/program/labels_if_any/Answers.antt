@@ -6,9 +6,11 @@ use Rattle.vd_constraints.specs.declared.labels.Labels.{Labels}
 use Rattle.vd_rewritten.proofs.program.labels_if_any.Goals as goal
 
 pub returns-in-Ok : goal.returns-in-Ok
-returns-in-Ok c = subst (λ (s : Constraints). IsLeast s c.in-Ok.labels) c.in_ok-system.ensures c.in-Ok.ensures.least
+returns-in-Ok c =
+    let least : IsLeast c.in_ok-system.system c.in-Ok.labels = rw c.in-Ok.is at c.in_ok-solved.ensures in
+    subst (λ (s : Constraints). IsLeast s c.in-Ok.labels) c.in_ok-system.ensures least
 
-pub returns-in-Err-Flow : goal.returns-in-Err-Flow
-returns-in-Err-Flow c =
-    let none : HasNoLabelling c.in_ok-system.system c.in-Err-Flow.field-0-0 = rw c.in-Err-Flow.field-0-is at c.in-Err-Flow.ensures.fault in
+pub returns : goal.returns
+returns c =
+    let none : HasNoLabelling c.in_ok-system.system c.in-Err._check = rw c.in-Err.is at c.in_ok-solved.ensures in
     subst (λ (s : Constraints). (l : Labels) → Satisfies s l → ⊥) c.in_ok-system.ensures none.none

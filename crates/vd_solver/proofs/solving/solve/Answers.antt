@@ -11,12 +11,12 @@ first_failing-requires-clause-names c =
     subst (All (λ (check : Check). check.constant.names ≡ (formula_at c.in_ok-labels.labels check.part).names)) (sym c.checks.ensures.same)
     (check_names c.args.system.now c.checks.ensures.valid c.in_ok-labels.labels c.in_ok-labels.ensures.is.labelling)
 
-pub returns-in-Some-clause-fault : goal.returns-in-Some-clause-fault
-returns-in-Some-clause-fault c =
+pub returns-in-Some : goal.returns-in-Some
+returns-in-Some c =
     no_labelling c.args.system.now c.checks.ensures.valid c.in_ok-labels.labels c.in_ok-labels.ensures c.in-Some.check
     (subst (λ checks. IsFirstWithout (HoldsCheck c.in_ok-labels.labels) checks c.in-Some.check) c.checks.ensures.same c.in-Some.ensures)
 
-pub returns-in-None-clause-least : goal.returns-in-None-clause-least
-returns-in-None-clause-least c =
+pub returns-in-None : goal.returns-in-None
+returns-in-None c =
     least_of_all c.args.system.now c.checks.ensures.valid c.in_ok-labels.labels c.in_ok-labels.ensures
     (subst (All (HoldsCheck c.in_ok-labels.labels)) c.checks.ensures.same c.in-None.ensures)
