@@ -2,11 +2,14 @@
 #![tactic(auto)]
 
 mod command;
+mod forms;
 mod numbers;
 mod own;
+mod reading;
 
 pub use command::{
     Command, CommandFault, EarlyWords, ExcuseWords, FilesCommand, HostWords, KeyDealWords,
-    KeySource, NeedsWords, ReplayWords, RunWords, read_words,
+    KeySource, NeedsWords, ReplayWords, RunWords,
 };
 pub use own::own_text;
+pub use reading::read_words;

@@ -1,8 +1,8 @@
 use Rattle.std.proofs.Common.{ℕ, List, arith, subst}
 use Rattle.vd_cmd.specs.Commands.{Reads, fixed_form_of}
 use Rattle.vd_cmd.proofs.Words.{eight_are, none_of_few, none_of_many, unformed}
-use Rattle.vd_cmd.proofs.command.read_fixed.Goals.{in_default-via-then-words-lt2, in_default-via-else-words-lt2+else-words-lt3+else-words-lt4+else-words-lt5+else-words-lt6+else-words-lt7+else-words-lt8+else-words-lt9}
-use Rattle.vd_cmd.proofs.command.read_fixed.Goals as goal
+use Rattle.vd_cmd.proofs.reading.read_fixed.Goals.{in_default-via-then-words-lt2, in_default-via-else-words-lt2+else-words-lt3+else-words-lt4+else-words-lt5+else-words-lt6+else-words-lt7+else-words-lt8+else-words-lt9}
+use Rattle.vd_cmd.proofs.reading.read_fixed.Goals as goal
 
 pub returns-in-len8 : goal.returns-in-len8
 returns-in-len8 c =

@@ -3,8 +3,8 @@ use Rattle.std.proofs.lemmas.Bool.{ltb-true}
 use Rattle.vd_cmd.specs.Commands.{Reads, other_form_of, unhosted_form_of}
 use Rattle.vd_cmd.specs.declared.command.Command.{Command}
 use Rattle.vd_cmd.proofs.Behind.{behind_a_limit, without_words}
-use Rattle.vd_cmd.proofs.command.read_other.Goals as goal
-use Rattle.vd_cmd.proofs.command.read_other.Goals.{in_default-via-then-words-lt1, in_default-via-in-len1-up+else-eq}
+use Rattle.vd_cmd.proofs.reading.read_other.Goals as goal
+use Rattle.vd_cmd.proofs.reading.read_other.Goals.{in_default-via-then-words-lt1, in_default-via-in-len1-up+else-eq}
 
 pub returns-in_default : goal.returns-in_default
 returns-in_default c =
