@@ -1,5 +1,6 @@
 //! What sweeps one way carry over the links.
 
+use crate::fours::least_after;
 use crate::network::{End, Network};
 use crate::numbers::{nearest_small, number_at, put, small_at, small_zeros};
 use crate::shares::{Shares, share_of};
@@ -13,8 +14,6 @@ struct Carried {
     held: Vec<i32>,
     /// What the link then costs at least, by the settings of the far point.
     told: Vec<i32>,
-    /// Room for what it costs next.
-    room: Vec<i32>,
 }
 
 impl Carried {
@@ -23,7 +22,6 @@ impl Carried {
         Ok(Carried {
             held: small_zeros(alloc, near)?,
             told: small_zeros(alloc, far)?,
-            room: small_zeros(alloc, far)?,
         })
     }
 
@@ -57,52 +55,15 @@ impl Carried {
         changes != 0
     }
 
-    /// Computes what is told of what is held, where the far point is at this end of the link, by rows for the settings of the
-    /// point that has fewer. Answers whether that is another amount than before at some setting.
+    /// Computes what is told of what is held, where the far point is at this end of the link. Answers whether that is another
+    /// amount than before at some setting.
     fn tell(&mut self, tables: &Tables, end: End) -> bool {
-        if self.held.len() < self.told.len() {
-            least_of_rows(
-                &mut self.room,
-                tables.rows(end.turned()),
-                self.held.as_slice(),
-            );
-        } else {
-            least_by_row(&mut self.room, tables.rows(end), self.held.as_slice());
-        }
         let mut changes = 0;
-        for (told, amount) in self.told.iter_mut().zip(self.room.as_slice()) {
-            changes |= *told ^ *amount;
-            *told = *amount;
+        for (group, prices) in tables.fours(end).iter().enumerate() {
+            let least = least_after(prices.as_slice(), self.held.as_slice());
+            changes |= least.put(&mut self.told, group);
         }
         changes != 0
-    }
-}
-
-/// The least of the prices, less what is held.
-fn least_after(prices: &[i32], held: &[i32]) -> i32 {
-    let mut least = i32::MAX;
-    for (price, amount) in prices.iter().zip(held) {
-        least = least.min(price.wrapping_sub(*amount));
-    }
-    least
-}
-
-/// The same of each row.
-fn least_by_row(leasts: &mut Vec<i32>, rows: &[Vec<i32>], held: &[i32]) {
-    for (least, prices) in leasts.iter_mut().zip(rows) {
-        *least = least_after(prices.as_slice(), held);
-    }
-}
-
-/// The same of each column, where an amount is held for each row.
-fn least_of_rows(leasts: &mut Vec<i32>, rows: &[Vec<i32>], held: &[i32]) {
-    for least in leasts.iter_mut() {
-        *least = i32::MAX;
-    }
-    for (prices, amount) in rows.iter().zip(held) {
-        for (least, price) in leasts.iter_mut().zip(prices.as_slice()) {
-            *least = (*least).min(price.wrapping_sub(*amount));
-        }
     }
 }
 

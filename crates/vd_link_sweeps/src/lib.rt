@@ -3,6 +3,7 @@
 #![tactic(auto)]
 
 mod flow;
+mod fours;
 mod left;
 mod nets;
 mod network;
@@ -14,7 +15,7 @@ mod tables;
 mod witness;
 
 pub use left::{Death, Left};
-pub use nets::Nets;
+pub use nets::{Nets, fixed_at};
 pub use network::{End, Network, Side};
 pub use numbers::{FAR, number_at, row_at, settings_at};
 pub use order::Order;

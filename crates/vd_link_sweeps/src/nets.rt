@@ -1,7 +1,7 @@
 //! What shifts come to, all together.
 
 use crate::network::{End, Side};
-use crate::numbers::{add_at, row_at, zeros};
+use crate::numbers::{add_at, put_at, row_at, settings_at, zeros};
 use std::alloc::{AllocError, Global};
 
 /// For each link, by setting, what is put on the point at either end and taken from the link.
@@ -35,12 +35,58 @@ impl Nets {
         }
     }
 
+    /// Puts that on the point at this end at a setting, in place of what was there.
+    pub fn put(&mut self, end: End, setting: usize, amount: i64) {
+        match end.side {
+            Side::First => put_at(&mut self.firsts, end.at, setting, amount),
+            Side::Second => put_at(&mut self.seconds, end.at, setting, amount),
+        }
+    }
+
+    /// Puts numbers of so many bits more on the point at this end, at the settings that are left; nothing at those at which it is
+    /// not where it is fixed.
+    pub fn put_left(
+        &mut self,
+        end: End,
+        row: &[i32],
+        settings: &[Vec<usize>],
+        fixed: &[Option<usize>],
+        bits: u32,
+    ) {
+        let at = fixed_at(fixed, end.point);
+        let left = settings_at(settings, end.point);
+        for (number, (amount, setting)) in row.iter().zip(left).enumerate() {
+            let amount = if may_be_at(at, number) {
+                i64::from(*amount).wrapping_shl(bits)
+            } else {
+                0
+            };
+            self.put(end, *setting, amount);
+        }
+    }
+
     /// Puts more on the point at this end at a setting.
     pub fn add(&mut self, end: End, setting: usize, amount: i64) {
         match end.side {
             Side::First => add_at(&mut self.firsts, end.at, setting, amount),
             Side::Second => add_at(&mut self.seconds, end.at, setting, amount),
         }
+    }
+}
+
+/// Whether a point that is fixed there, if it is, may be at the setting with that number.
+fn may_be_at(fixed: Option<usize>, number: usize) -> bool {
+    match fixed {
+        Some(at) => at == number,
+        None => true,
+    }
+}
+
+/// Where a point is fixed, among the settings that are left.
+pub fn fixed_at(fixed: &[Option<usize>], point: usize) -> Option<usize> {
+    match fixed.get(point) {
+        Some(number) => *number,
+        None => None,
     }
 }
 

@@ -77,6 +77,20 @@ pub fn add_at(rows: &mut Vec<Vec<i64>>, row: usize, place: usize, amount: i64) {
     }
 }
 
+/// Puts a number into a table at a row and a place, if there is one.
+pub fn put_at(rows: &mut Vec<Vec<i64>>, row: usize, place: usize, number: i64) {
+    if row < rows.len() {
+        put_number(&mut rows[row], place, number);
+    }
+}
+
+/// Puts a number at a place, if there is one.
+fn put_number(numbers: &mut Vec<i64>, place: usize, number: i64) {
+    if place < numbers.len() {
+        numbers[place] = number;
+    }
+}
+
 /// Puts a small number at a place, if there is one.
 pub fn put(numbers: &mut Vec<i32>, place: usize, number: i32) {
     if place < numbers.len() {

@@ -23,6 +23,8 @@ pub struct Reach {
     pub work: u64,
     /// They end after so many in which the bound did not rise.
     pub patience: u32,
+    /// A list is read off once in so many sweeps and one more; a power of two less one.
+    pub pause: u32,
 }
 
 /// Why a climb ended.
@@ -159,6 +161,28 @@ impl State {
         Ok(nets)
     }
 
+    /// Writes into nets what the shifts so far come to by the setting, in parts, where each point was left these settings; of a
+    /// point that is fixed at its setting alone.
+    pub fn write_nets(
+        &self,
+        tables: &Tables,
+        network: &Network,
+        settings: &[Vec<usize>],
+        fixed: &[Option<usize>],
+        nets: &mut Nets,
+    ) {
+        let flow = self.last();
+        for first in &network.firsts {
+            let (on_first, on_second) = if first.is_ahead(self.is_forward) {
+                (flow.held(first.at), flow.told(first.at))
+            } else {
+                (flow.told(first.at), flow.held(first.at))
+            };
+            nets.put_left(*first, on_first, settings, fixed, tables.bits);
+            nets.put_left(first.turned(), on_second, settings, fixed, tables.bits);
+        }
+    }
+
     /// One sweep, over the points that wait for it.
     pub fn sweep(&mut self, tables: &Tables, network: &Network, forward: bool) {
         self.is_forward = forward;
@@ -278,7 +302,7 @@ impl State {
                 idle.saturating_add(1)
             };
             bound = bound.max(reached);
-            if turn % 4 >= 2 && !self.is_forward {
+            if turn & reach.pause >= reach.pause.saturating_sub(1) && !self.is_forward {
                 witness.take_cheaper(self.decoded(alloc, tables, network, &[])?);
             }
             if bound >= witness.cost {
