@@ -2,7 +2,7 @@
 
 ghost use Rattle.vd_space.specs.Labelled.{IsLabelled};
 
-use crate::lifting::lift;
+use crate::lifting::Lifting;
 use std::alloc::{AllocError, Global};
 use vd_items::Items;
 use vd_link_sweeps::{Ending, Left, Nets, Network, Order, Reach, State, Tables, Witness};
@@ -17,6 +17,7 @@ const FIRST: Reach = Reach {
     sweeps: 256,
     work: 268_435_456,
     patience: 48,
+    pause: 3,
 };
 
 /// Then so many over those settings that cost less than each other one of their point for some partners.
@@ -24,6 +25,7 @@ const THINNED: Reach = Reach {
     sweeps: 16_384,
     work: 268_435_456,
     patience: 400,
+    pause: 15,
 };
 
 /// At last so many over all settings again.
@@ -31,6 +33,7 @@ const LAST: Reach = Reach {
     sweeps: 512,
     work: 536_870_912,
     patience: 48,
+    pause: 3,
 };
 
 /// The walk behind an ascent ends when so many prices of links were looked at in both, where other work counts as long as it
@@ -159,13 +162,29 @@ impl Climb {
 
     /// What the shifts come to by all settings, where those that are not left are lifted.
     pub fn lifted(&self, alloc: Global, links: &[LinkTable]) -> Result<Nets, AllocError> {
-        let settings = self.settings.as_slice();
+        let mut lifting = self.lifting(alloc)?;
+        self.lift(links, &[], &mut lifting);
+        Ok(lifting.into_nets())
+    }
+
+    /// Room for what shifts come to by all settings.
+    pub fn lifting(&self, alloc: Global) -> Result<Lifting, AllocError> {
         let counts = self.counts.as_slice();
-        let mut nets = self
-            .state
-            .nets(alloc, &self.tables, &self.network, settings, counts)?;
-        lift(alloc, links, &self.network, &self.left, counts, &mut nets)?;
-        Ok(nets)
+        let settings = self.settings.as_slice();
+        Lifting::of(alloc, &self.network, &self.left, counts, settings)
+    }
+
+    /// Writes down what the shifts come to where points are fixed so, by all settings at which these may be.
+    pub fn lift(&self, links: &[LinkTable], fixed: &[Option<usize>], lifting: &mut Lifting) {
+        let settings = self.settings.as_slice();
+        self.state.write_nets(
+            &self.tables,
+            &self.network,
+            settings,
+            fixed,
+            &mut lifting.nets,
+        );
+        lifting.lift(links, &self.network, &self.left, fixed);
     }
 
     /// What it takes to have the amounts as shifts, and the bound of a prefix under these: so many prices are looked at.

@@ -163,6 +163,7 @@ impl<'a> Walk<'a> {
                 Ok(Tested::Open)
             }
             Verdict::Refuted => {
+                self.walker.lift(self.tables.links.as_slice());
                 let refutation = self.refutation(alloc)?;
                 self.walker.take_back(candidate);
                 self.path.leave();
@@ -177,8 +178,7 @@ impl<'a> Walk<'a> {
         ensures { IfOk result (λ found. IfSome found (IsRefutation self.now.problem.now)) }
     {
         let links = self.tables.links.as_slice();
-        let nets = self.walker.lifted(alloc, links)?;
-        match shifts_of(alloc, links.len(), self.places, &nets)? {
+        match shifts_of(alloc, links.len(), self.places, self.walker.nets())? {
             Some(shifts) => {
                 if shifts.as_slice().len() == 0 {
                     return Ok(None);

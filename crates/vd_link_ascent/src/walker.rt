@@ -2,6 +2,7 @@
 //! prefix.
 
 use crate::climbing::{Climb, WORK};
+use crate::lifting::Lifting;
 use std::alloc::{AllocError, Global};
 use vd_link_sweeps::{Nets, Witness, settings_at};
 use vd_linked_path::LinkTable;
@@ -39,6 +40,8 @@ pub enum Verdict {
 #[derive(Drop)]
 pub struct Walker {
     climb: Climb,
+    /// What shifts came to at the last refutation.
+    lifting: Lifting,
     /// By point: where it stands in the prefix.
     fixed: Vec<Option<usize>>,
     /// The number of the next candidate of the slot, among the settings that are left.
@@ -60,8 +63,10 @@ impl Walker {
         }
         let fixed = vec![in alloc; None; climb.order.points.len()]?;
         let showing = climb.work_of_shifts();
+        let lifting = climb.lifting(alloc)?;
         Ok(Walker {
             climb,
+            lifting,
             fixed,
             next: 0,
             most,
@@ -84,9 +89,15 @@ impl Walker {
         })
     }
 
-    /// What the shifts come to.
-    pub fn lifted(&self, alloc: Global, links: &[LinkTable]) -> Result<Nets, AllocError> {
-        self.climb.lifted(alloc, links)
+    /// Writes down what the shifts come to by the prefix.
+    pub fn lift(&mut self, links: &[LinkTable]) {
+        self.climb
+            .lift(links, self.fixed.as_slice(), &mut self.lifting);
+    }
+
+    /// What the shifts came to when it was written down last.
+    pub fn nets(&self) -> &Nets {
+        &self.lifting.nets
     }
 
     /// Fixes the candidate, and tests whether each list that goes on so costs too much.
@@ -101,9 +112,7 @@ impl Walker {
             if self.sweep(true) > self.most || self.sweep(false) > self.most {
                 return Ok(Verdict::Refuted);
             }
-            let list = self.decoded(alloc)?;
-            if list.cost <= self.most {
-                self.climb.witness = list;
+            if reads_list(round) && self.finds_list(alloc)? {
                 return Ok(Verdict::Open);
             }
             let bound = self.climb.state.bound();
@@ -209,9 +218,23 @@ impl Walker {
         climb.state.bound()
     }
 
-    /// A list that goes by the shifts.
-    fn decoded(&mut self, alloc: Global) -> Result<Witness, AllocError> {
+    /// Reads off a list that goes by the shifts. Answers whether it costs little enough; then it is kept.
+    fn finds_list(&mut self, alloc: Global) -> Result<bool, AllocError> {
         let climb = &mut self.climb;
-        climb.state.decoded(alloc, &climb.tables, &climb.network, self.fixed.as_slice())
+        let fixed = self.fixed.as_slice();
+        let list = climb
+            .state
+            .decoded(alloc, &climb.tables, &climb.network, fixed)?;
+        if list.cost > self.most {
+            return Ok(false);
+        }
+        climb.witness = list;
+        Ok(true)
     }
+}
+
+/// Whether a list is read off behind that round of a test, which takes about as long as a round: behind the first two, and behind
+/// each second one then.
+fn reads_list(round: u32) -> bool {
+    round < 2 || round % 2 == 1
 }
