@@ -4,7 +4,7 @@ use Rattle.vd_search.specs.Answers.{IsFloor}
 use Rattle.vd_space.specs.declared.problem.Problem.{Problem}
 use Rattle.vd_space.specs.Costs.{cost}
 use Rattle.vd_space.specs.Spaces.{IsProblem, tree_of}
-use Rattle.vd_space.proofs.Bounded.{high_whole}
+use Rattle.vd_space.proofs.Bounded.{high_whole, tree_bounded}
 use Rattle.vd_path.specs.declared.tables.Tables.{Tables}
 use Rattle.vd_linked.specs.Linked.{linked_tree}
 use Rattle.vd_linked.proofs.Bounded.{linked_high_whole, linked_tree_bounded}
@@ -26,3 +26,13 @@ below_costs problem t floor holds is list whole =
 -- the bound of all lists is at most the cost of each
 pub floor_of_all : (problem p : Problem) (t : LinkedTables) (floor : ℕ) → p ≡ problem → IsProblem problem → IsRootBound (linked_tree p t.shifts) floor → CostsAtLeast problem floor
 floor_of_all problem p t floor same holds root = below_costs problem t floor holds (subst (λ (q : Problem). (linked_tree q t.shifts).bound [] ≡ pos floor) same root.bound)
+
+-- the bound of the empty prefix is at most the cost of each valid list
+below_costs_of_uses : (problem : Problem) (t : Tables) (floor : ℕ) → IsProblem problem → (tree_of problem t.shifts).bound [] ≡ pos floor → CostsAtLeast problem floor
+below_costs_of_uses problem t floor holds is list whole =
+    let low = (tree_bounded problem holds t.shifts).below [] list (record { full = whole.full; valid = whole.valid }) in
+    subst (λ b. b ≤ℤ cost problem list) is (subst (λ c. (tree_of problem t.shifts).bound [] ≤ℤ c) (high_whole problem holds t.shifts list whole.full whole.valid) low)
+
+-- and so is that of all lists under shifts of uses
+pub floor_of_uses : (problem p : Problem) (t : Tables) (floor : ℕ) → p ≡ problem → IsProblem problem → IsRootBound (tree_of p t.shifts) floor → CostsAtLeast problem floor
+floor_of_uses problem p t floor same holds root = below_costs_of_uses problem t floor holds (subst (λ (q : Problem). (tree_of q t.shifts).bound [] ≡ pos floor) same root.bound)

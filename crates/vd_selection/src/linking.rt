@@ -7,8 +7,8 @@ ghost use Rattle.vd_linked_path.specs.Tables.{AreLinkedTables};
 ghost use Rattle.vd_path.specs.Tables.{AreTables};
 ghost use Rattle.vd_selection.specs.Linking.{CanLink, Tells};
 ghost use Rattle.vd_selection.specs.Selecting.{CostsAtLeast, Selects};
-ghost use Rattle.vd_selection.specs.Spending.{GivesOnly, HasNoRootBound, IfUnended, IsOverByLinks, IsRootBound, IsSpentByLinks};
-ghost use Rattle.vd_selection.specs.Stages.{Tries};
+ghost use Rattle.vd_selection.specs.Spending.{GivesOnly, HasNoRootBound, IfUnended, IsOverBy, IsOverByLinks, IsRootBound, IsSpentByLinks, linked_part};
+ghost use Rattle.vd_selection.specs.Stages.{CanSelect, Tries};
 ghost use Rattle.vd_selection.specs.declared.selecting.SelectFault.TheVariants as select_fault;
 ghost use Rattle.vd_space.specs.Labelled.{IsLabelled};
 ghost use Rattle.vd_space.specs.Sizes.{IsWithinLimits};
@@ -16,6 +16,7 @@ ghost use Rattle.vd_space.specs.Spaces.{IsProblem};
 
 use crate::ascents::{Ascents, LinkAscent};
 use crate::selecting::{SelectFault, Selection};
+use crate::stages::{linked_budget, try_some};
 use crate::trying::Tried;
 use crate::walking::select_by_walk;
 use std::alloc::{AllocError, Global};
@@ -168,12 +169,14 @@ fn floor_by_links(
     }
 }
 
-/// The choice, or that there is none, by these tables of links, and where these leave too many ties by a walk; what each valid
-/// list costs at least by them where the budget is spent.
+/// The choice, or that there is none, by the tables of better shifts of uses, from what each valid list costs at least by these
+/// tables of links; by these with a part of the budget, and where they leave too many ties by a walk; what each valid list costs
+/// at least by them where the budget is spent.
 fn try_linked<A: Ascents>(
     alloc: Global,
     ascents: &A,
     problem: &Problem,
+    better: &Option<Tables>,
     without: &LinkedTables,
     linked: &LinkedTables,
     ascent: Ascent,
@@ -182,22 +185,28 @@ fn try_linked<A: Ascents>(
     requires holds { IsProblem problem.now }
     requires labelled { IsLabelled problem.now }
     requires limits { IsWithinLimits problem.now }
+    requires better { IfSome better.now (CanSelect problem.now) }
     requires without { AreLinkedTables problem.now without.now }
     requires linked { CanLink problem.now linked.now }
     requires budget { budget < 4294967295 }
     ensures tries { IfOk result (Tries problem.now budget) }
+    ensures over { IfOk result (IfUnended (IsOverBy problem.now better.now budget)) }
     ensures spent { IfOk result (IfUnended
-        (IsSpentByLinks problem.now budget (A.walks_give ascents.now problem.now) linked.now.shifts)) }
+        (IsSpentByLinks problem.now (linked_part problem.now budget) (A.walks_give ascents.now problem.now) linked.now.shifts)) }
     ensures unspent { result ≢ Err select_fault.Spent }
 {
     let tables = tables(alloc, problem, Items::new(alloc))?;
+    let floor = floor_by_links(alloc, problem, &tables, linked)?;
+    if let Some(selection) = try_some(alloc, problem, better, floor, budget)? {
+        return Ok(Tried::Selected(selection));
+    }
+    let part = linked_budget(problem, budget);
     let selected = select_linked(
-        alloc, ascents, problem, &tables, without, linked, ascent, budget,
+        alloc, ascents, problem, &tables, without, linked, ascent, part,
     )?;
     if let Some(selection) = selected {
         return Ok(Tried::Selected(selection));
     }
-    let floor = floor_by_links(alloc, problem, &tables, linked)?;
     Ok(Tried::Unended(floor))
 }
 
@@ -223,6 +232,7 @@ fn try_ascent<A: Ascents>(
     alloc: Global,
     ascents: &A,
     problem: &Problem,
+    better: &Option<Tables>,
     without: &LinkedTables,
     found: LinkAscent,
     budget: u32,
@@ -230,40 +240,50 @@ fn try_ascent<A: Ascents>(
     requires holds { IsProblem problem.now }
     requires labelled { IsLabelled problem.now }
     requires limits { IsWithinLimits problem.now }
+    requires better { IfSome better.now (CanSelect problem.now) }
     requires without { AreLinkedTables problem.now without.now }
     requires shifts { AreLinkShifts problem.now found.shifts }
     requires some { 1 ≤ length found.shifts }
     requires budget { budget < 4294967295 }
     ensures tries { IfOk result (Tries problem.now budget) }
+    ensures over { IfOk result (IfUnended (IsOverBy problem.now better.now budget)) }
     ensures spent { IfOk result (IfUnended
-        (IsSpentByLinks problem.now budget (A.walks_give ascents.now problem.now) found.shifts)) }
+        (IsSpentByLinks problem.now (linked_part problem.now budget) (A.walks_give ascents.now problem.now) found.shifts)) }
     ensures unspent { result ≢ Err select_fault.Spent }
 {
     let LinkAscent { ascent, shifts } = found;
     let linked = tables_of(alloc, problem, shifts)?;
-    try_linked(alloc, ascents, problem, without, &linked, ascent, budget)
+    try_linked(
+        alloc, ascents, problem, better, without, &linked, ascent, budget,
+    )
 }
 
-/// The choice, or that there is none, by the shifts of links that an ascent gives, and where these leave too many ties by a walk;
-/// else what each valid list costs at least, 0 where there are none.
+/// The choice, or that there is none, by these tables of better shifts of uses, by the shifts of links that an ascent gives, and
+/// where these leave too many ties by a walk; else what each valid list costs at least, 0 where there are none.
 pub(crate) fn try_links<A: Ascents>(
     alloc: Global,
     ascents: &A,
     problem: &Problem,
+    better: &Option<Tables>,
     budget: u32,
 ) -> Result<Tried, SelectFault>
     requires holds { IsProblem problem.now }
     requires labelled { IsLabelled problem.now }
     requires limits { IsWithinLimits problem.now }
+    requires better { IfSome better.now (CanSelect problem.now) }
     requires budget { budget < 4294967295 }
     ensures tries { IfOk result (Tries problem.now budget) }
+    ensures over { IfOk result (IfUnended (IsOverBy problem.now better.now budget)) }
     ensures links { IfOk result (IfUnended (GivesOnly (A.links_give ascents.now problem.now)
-        (IsSpentByLinks problem.now budget (A.walks_give ascents.now problem.now)))) }
+        (IsSpentByLinks problem.now (linked_part problem.now budget) (A.walks_give ascents.now problem.now)))) }
     ensures unspent { result ≢ Err select_fault.Spent }
 {
     let without = linked_tables(alloc, problem, Items::new(alloc))?;
     match ascents.over_links(alloc, problem, &without)? {
-        Some(found) => try_ascent(alloc, ascents, problem, &without, found, budget),
-        None => Ok(Tried::Unended(0)),
+        Some(found) => try_ascent(alloc, ascents, problem, better, &without, found, budget),
+        None => match try_some(alloc, problem, better, 0, budget)? {
+            Some(selection) => Ok(Tried::Selected(selection)),
+            None => Ok(Tried::Unended(0)),
+        },
     }
 }

@@ -1,6 +1,6 @@
 //! The search for the choice.
 
-ghost use Rattle.std.specs.Prelude.{◌≡◌, ◌≤◌, ◌<◌, IfOk, Err, false, length};
+ghost use Rattle.std.specs.Prelude.{◌≡◌, ◌≤◌, ◌<◌, IfOk, Err, true, false, length};
 ghost use Rattle.std.specs.List.{AllByRecursion};
 ghost use Rattle.vd_base.specs.Limits.{most_certificate_shifts};
 ghost use Rattle.vd_path.specs.Tables.{AreTables};
@@ -21,6 +21,7 @@ use vd_path::{Path, Tables};
 use vd_search::{Answer, Stop, search_above};
 use vd_space::Problem;
 use vd_tables::tables;
+use vd_tally::is_exceeded;
 use vd_usual::usual;
 
 /// What a selection came to.
@@ -60,6 +61,29 @@ impl From<AllocError> for SelectFault {
     }
 }
 
+/// Whether it is seen in few steps that the budget does not do by the tables of shifts, where each valid list costs at least the
+/// floor. With no floor nothing is seen.
+fn is_over(
+    alloc: Global,
+    problem: &Problem,
+    tables: &Tables,
+    floor: u32,
+    budget: u32,
+) -> Result<bool, AllocError>
+    requires holds { IsProblem problem.now }
+    requires labelled { IsLabelled problem.now }
+    requires tables { AreTables problem.now tables.now }
+    requires floor { CostsAtLeast problem.now floor }
+    requires budget { budget < 4294967295 }
+    ensures { IfOk result (λ over. over ≡ true → IsOver problem.now tables.now.shifts budget) }
+{
+    if floor == 0 {
+        return Ok(false);
+    }
+    let mut path = Path::new(alloc, problem, tables)?;
+    Ok(is_exceeded(&mut path, floor, budget))
+}
+
 /// The choice, or that there is none, by the tables of shifts, where it is known that each valid list costs at least the floor.
 pub fn select_by(
     alloc: Global,
@@ -78,6 +102,9 @@ pub fn select_by(
     ensures selects { IfOk result (Selects problem.now budget) }
     ensures spent { result ≡ Err select_fault.Spent → IsOver problem.now tables.now.shifts budget }
 {
+    if is_over(alloc, problem, tables, floor, budget)? {
+        return Err(SelectFault::Spent);
+    }
     let mut path = Path::new(alloc, problem, tables)?;
     match search_above(alloc, &mut path, floor, budget) {
         Ok(Answer::Found(list, cost, marks)) => {

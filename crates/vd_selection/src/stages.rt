@@ -1,14 +1,17 @@
 //! The searches that are made one after the other: with a small budget under the usual shifts, under better ones and by links,
 //! then with a part of the budget under the better and with the whole under the usual ones, from what each valid list costs at least by links.
+//! Where few prefixes do not suffice, a search goes on only once it is known by better shifts what each valid list costs at least:
+//! below that it need not find out how far it comes.
 
 ghost use Rattle.std.specs.Prelude.{◌≡◌, ◌≢◌, ◌≤◌, ◌<◌, IfNone, IfOk, IfSome, Err, option_map};
 ghost use Rattle.vd_selection.specs.Selecting.{CostsAtLeast, IsOver, Selects};
-ghost use Rattle.vd_selection.specs.Spending.{GivesOnly, IfUnended, IsOverBy, IsOverTwice, IsSpent, IsSpentByLinks, early_part, late_part, linked_part};
+ghost use Rattle.vd_path.specs.Tables.{AreTables};
+ghost use Rattle.vd_selection.specs.Spending.{GivesOnly, IfUnended, IsOverBy, IsOverTwice, IsRootBound, IsSpent, IsSpentByLinks, early_part, late_part, linked_part};
 ghost use Rattle.vd_selection.specs.Stages.{CanSelect, Tries};
 ghost use Rattle.vd_selection.specs.declared.selecting.SelectFault.TheVariants as select_fault;
 ghost use Rattle.vd_space.specs.Labelled.{IsLabelled};
 ghost use Rattle.vd_space.specs.Sizes.{IsWithinLimits};
-ghost use Rattle.vd_space.specs.Spaces.{IsProblem};
+ghost use Rattle.vd_space.specs.Spaces.{IsProblem, tree_of};
 ghost use Rattle.vd_space.specs.Usual.{usual as usual_shifts};
 
 use crate::ascents::Ascents;
@@ -16,7 +19,8 @@ use crate::linking::try_links;
 use crate::selecting::{SelectFault, Selection, select_by, usual_tables};
 use crate::trying::Tried;
 use std::alloc::{AllocError, Global};
-use vd_path::Tables;
+use vd_path::{Path, Tables};
+use vd_prefixes::Prefixes;
 use vd_space::Problem;
 use vd_tables::tables;
 
@@ -42,7 +46,7 @@ fn first_budget(problem: &Problem, budget: u32) -> u32
 }
 
 /// The budget of a search by links: enough where their shifts leave few ties, which else a walk breaks sooner.
-fn linked_budget(problem: &Problem, budget: u32) -> u32
+pub(crate) fn linked_budget(problem: &Problem, budget: u32) -> u32
     requires limits { IsWithinLimits problem.now }
     ensures within { result ≤ budget }
     ensures part { result ≡ linked_part problem.now budget }
@@ -104,7 +108,7 @@ fn better_tables<A: Ascents>(
 
 /// The choice, or that there is none, by these tables, where each valid list costs at least the floor; nothing where there are
 /// none or the budget is spent.
-fn try_some(
+pub(crate) fn try_some(
     alloc: Global,
     problem: &Problem,
     tables: &Option<Tables>,
@@ -126,9 +130,50 @@ fn try_some(
     }
 }
 
-/// The choice, or that there is none, by these tables with a small budget, or by links with that; where neither search ends,
-/// what each valid list costs at least by links.
-fn try_small<A: Ascents>(
+/// The bound of all lists, from the empty prefix, where that is valid and the bound is a number of 32 bits.
+fn bound_of_all(path: &Path) -> Option<u32>
+    requires { path.now.depth ≡ 0 }
+    ensures { IfSome result (IsRootBound (tree_of path.now.problem.now path.now.tables.now.shifts)) }
+{
+    if !path.is_valid() {
+        return None;
+    }
+    match u32::try_from(path.bound()) {
+        Ok(most) => Some(most),
+        Err(_) => None,
+    }
+}
+
+/// What each valid list costs at least, by these tables; 0 where they say nothing of it.
+fn floor_of(alloc: Global, problem: &Problem, tables: &Tables) -> Result<u32, AllocError>
+    requires holds { IsProblem problem.now }
+    requires labelled { IsLabelled problem.now }
+    requires tables { AreTables problem.now tables.now }
+    ensures { IfOk result (CostsAtLeast problem.now) }
+{
+    let path = Path::new(alloc, problem, tables)?;
+    match bound_of_all(&path) {
+        Some(floor) => Ok(floor),
+        None => Ok(0),
+    }
+}
+
+/// The same, 0 also where there are no tables.
+fn floor_by(alloc: Global, problem: &Problem, tables: &Option<Tables>) -> Result<u32, AllocError>
+    requires holds { IsProblem problem.now }
+    requires labelled { IsLabelled problem.now }
+    requires tables { IfSome tables.now (CanSelect problem.now) }
+    ensures { IfOk result (CostsAtLeast problem.now) }
+{
+    match tables {
+        Some(tables) => floor_of(alloc, problem, tables),
+        None => Ok(0),
+    }
+}
+
+/// The choice, or that there is none, by these tables with few prefixes, or by links, and by these with a small budget; where no
+/// search ends, what each valid list costs at least by links.
+fn try_few<A: Ascents>(
     alloc: Global,
     ascents: &A,
     problem: &Problem,
@@ -146,9 +191,38 @@ fn try_small<A: Ascents>(
         (IsSpentByLinks problem.now (linked_part problem.now budget) (A.walks_give ascents.now problem.now)))) }
     ensures unspent { result ≢ Err select_fault.Spent }
 {
-    match try_some(alloc, problem, tables, 0, budget)? {
+    match try_some(alloc, problem, tables, 0, linked_budget(problem, budget))? {
         Some(selection) => Ok(Tried::Selected(selection)),
-        None => try_links(alloc, ascents, problem, linked_budget(problem, budget)),
+        None => try_links(alloc, ascents, problem, tables, budget),
+    }
+}
+
+/// The choice, or that there is none, by the usual shifts from what each valid list costs at least by these better ones, by these,
+/// or by links, with a small budget; where no search ends, what each valid list costs at least by links.
+fn try_small<A: Ascents>(
+    alloc: Global,
+    ascents: &A,
+    problem: &Problem,
+    usual: &Tables,
+    tables: &Option<Tables>,
+    budget: u32,
+) -> Result<Tried, SelectFault>
+    requires holds { IsProblem problem.now }
+    requires labelled { IsLabelled problem.now }
+    requires limits { IsWithinLimits problem.now }
+    requires usual { CanSelect problem.now usual.now }
+    requires tables { IfSome tables.now (CanSelect problem.now) }
+    requires budget { budget < 4294967295 }
+    ensures tries { IfOk result (Tries problem.now budget) }
+    ensures over { IfOk result (IfUnended (IsOverBy problem.now tables.now budget)) }
+    ensures links { IfOk result (IfUnended (GivesOnly (A.links_give ascents.now problem.now)
+        (IsSpentByLinks problem.now (linked_part problem.now budget) (A.walks_give ascents.now problem.now)))) }
+    ensures unspent { result ≢ Err select_fault.Spent }
+{
+    let floor = floor_by(alloc, problem, tables)?;
+    match try_by(alloc, problem, usual, floor, budget)? {
+        Some(selection) => Ok(Tried::Selected(selection)),
+        None => try_few(alloc, ascents, problem, tables, budget),
     }
 }
 
@@ -176,17 +250,19 @@ fn try_above(
     }
 }
 
-/// The choice, or that there is none, by better shifts or by links with a small budget, or by better shifts with a greater one;
-/// where no search ends, what each valid list costs at least.
+/// The choice, or that there is none, by the usual shifts, by better ones or by links with a small budget, or by better shifts with
+/// a greater one; where no search ends, what each valid list costs at least.
 fn try_better<A: Ascents>(
     alloc: Global,
     ascents: &A,
     problem: &Problem,
+    usual: &Tables,
     budget: u32,
 ) -> Result<Tried, SelectFault>
     requires holds { IsProblem problem.now }
     requires labelled { IsLabelled problem.now }
     requires limits { IsWithinLimits problem.now }
+    requires usual { CanSelect problem.now usual.now }
     requires budget { budget < 4294967295 }
     ensures tries { IfOk result (Tries problem.now budget) }
     ensures uses { IfOk result (IfUnended (GivesOnly (A.uses_give ascents.now problem.now) (IsOverTwice problem.now budget))) }
@@ -199,6 +275,7 @@ fn try_better<A: Ascents>(
         alloc,
         ascents,
         problem,
+        usual,
         &better,
         first_budget(problem, budget),
     )? {
@@ -227,9 +304,9 @@ fn try_early<A: Ascents>(
         (IsSpentByLinks problem.now (linked_part problem.now budget) (A.walks_give ascents.now problem.now)))) }
     ensures unspent { result ≢ Err select_fault.Spent }
 {
-    match try_by(alloc, problem, usual, 0, first_budget(problem, budget))? {
+    match try_by(alloc, problem, usual, 0, linked_budget(problem, budget))? {
         Some(selection) => Ok(Tried::Selected(selection)),
-        None => try_better(alloc, ascents, problem, budget),
+        None => try_better(alloc, ascents, problem, usual, budget),
     }
 }
 
