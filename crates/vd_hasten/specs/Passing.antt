@@ -1,5 +1,5 @@
 -- The pass over the text of a code.
-use Rattle.std.specs.Prelude.{ℕ, zero, suc, Bool, true, false, ◌&&◌, if◌then◌else◌, List, [], ◌∷◌, ◌++◌, take, drop}
+use Rattle.std.specs.Prelude.{ℕ, zero, suc, ◌-◌, Bool, true, false, ◌&&◌, if◌then◌else◌, List, [], ◌∷◌, ◌++◌, take, drop, get_or}
 use Rattle.vd_execution.specs.declared.instructions.Reg.{Reg}
 use Rattle.vd_execution.specs.declared.instructions.Action.TheVariants as action
 use Rattle.vd_execution.specs.declared.instructions.Instr.{Instr}
@@ -95,6 +95,12 @@ stretch_passes test (instr.If g ∷ is) j = all_pass test (instr.If g ∷ is) j
 stretch_passes test (instr.Else ∷ is) j = false
 stretch_passes test (instr.For r n ∷ is) j = all_pass test (instr.For r n ∷ is) j
 stretch_passes test (instr.End ∷ is) j = false
+
+-- What stands from one place up to another one, an instruction or a block, goes behind the instruction there, where so many packets may still
+-- pass it.
+abbrev pub goes_behind : (Piece → Piece → Bool) → List Instr → ℕ → ℕ → ℕ → Bool
+goes_behind test code first behind room =
+    stretch_passes test (take (behind - first) (drop first code)) (get_or code behind instr.Else) && has_room room (get_or code behind instr.Else)
 
 -- ---- the pass
 

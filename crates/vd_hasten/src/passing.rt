@@ -1,7 +1,6 @@
 //! The pass over a code, from its end to its front.
 
-ghost use Rattle.std.specs.Prelude.{◌≡◌, ◌++◌, ◌+◌, ◌<◌, ◌≤◌, ◌-◌, ◌&&◌, IfOk, length, take, drop, get_or};
-ghost use Rattle.vd_execution.specs.declared.instructions.Instr.TheVariants as instr;
+ghost use Rattle.std.specs.Prelude.{◌≡◌, ◌++◌, ◌+◌, ◌<◌, ◌≤◌, IfOk, length, take, drop};
 ghost use Rattle.vd_execution.specs.Code.{Code};
 ghost use Rattle.vd_execution.specs.Text.{IsCodeOf};
 ghost use Rattle.vd_hastening.specs.Careful.{careful};
@@ -115,8 +114,7 @@ fn stretch_passes(stretch: &[Instr], second: &Instr, opened: &[Reg]) -> bool
 fn goes_behind(code: &[Instr], first: usize, behind: usize, room: u32, opened: &[Reg]) -> bool
     requires within { first ≤ behind }
     requires there { behind < length code.now }
-    ensures { result ≡ (passing.stretch_passes (careful (stays_by opened.now)) (take (behind - first) (drop first code.now)) (get_or code.now behind instr.Else)
-        && passing.has_room room (get_or code.now behind instr.Else)) }
+    ensures { result ≡ passing.goes_behind (careful (stays_by opened.now)) code.now first behind room }
 {
     stretch_passes(&code[first..behind], &code[behind], opened) && has_room(room, &code[behind])
 }
