@@ -1,6 +1,5 @@
 -- Of tidy code the pass leads to code that tells the same.
-use Rattle.std.proofs.Common.{◌≡◌, ℕ, ◌<◌, List, [], Result, Ok, Err, refl, sym, ap, ◌∙◌, subst}
-use Rattle.std.specs.Prelude.{IfOk}
+use Rattle.std.proofs.Common.{◌≡◌, ℕ, ◌<◌, List, [], refl, sym, ap, ◌∙◌, subst}
 use Rattle.vd_execution.specs.declared.instructions.Line.{Line}
 use Rattle.vd_execution.specs.World.{Tape, Supply, followed_by_zeros}
 use Rattle.vd_execution.specs.Joint.{Joint, Hosts, IsTidy, IsSmooth, joint, fresh}
@@ -41,15 +40,6 @@ brought_forward opened j new tidy x =
       tidy = f.tidy;
       same = f.same;
     }
-
--- however far each line goes
-pub arranged_by : (opened : Opened) (far : List Line → ℕ) (old new : List Line) → new ≡ arranged_lines (may_pass opened) far old → AreArranged opened old new
-arranged_by opened far old new is = record { far = far; lines = is }
-
-pub each_joint : {E : Type 0} (opened : Opened) (lines : List Line) (result : Result (List Line) E) → IfOk result (AreArranged opened lines)
-    → IfOk result (λ new. (j : Joint) → IsTidy j → lines ≡ flat j [] → IsBroughtForward opened j new)
-each_joint opened lines (Ok new) x = λ j tidy is. brought_forward opened j new tidy (subst (λ ls. AreArranged opened ls new) is x)
-each_joint opened lines (Err fault) x = tt
 
 -- ---- runs of the new code
 

@@ -5,4 +5,7 @@ pub mod Texts
 pub mod Empty
 pub mod Order
 pub mod Brought
+pub mod Tables
 pub mod Sinking
+pub mod Sorted
+pub mod Worked

@@ -1,5 +1,5 @@
--- The pass: from the end to the front, what is done goes behind its neighbours, as far as it shall and the test lets it.
-use Rattle.std.specs.Prelude.{◌≡◌, ℕ, zero, suc, ◌+◌, ◌-◌, Bool, true, false, if◌then◌else◌, List, [], ◌∷◌, length, slice_index}
+-- From the end to the front what is done goes behind its neighbours, as far as it shall and the test lets it.
+use Rattle.std.specs.Prelude.{◌≡◌, ℕ, zero, suc, Bool, true, false, if◌then◌else◌, List, [], ◌∷◌}
 use Rattle.vd_execution.specs.declared.instructions.Act.{Act}
 use Rattle.vd_execution.specs.declared.instructions.Act.TheVariants as act
 use Rattle.vd_execution.specs.declared.instructions.Line.{Line}
@@ -41,20 +41,11 @@ abbrev pub arranged_lines : (Turn → Turn → Bool) → (List Line → ℕ) →
 arranged_lines test far [] = []
 arranged_lines test far (x ∷ xs) = sunk_line test (far xs) x (arranged_lines test far xs)
 
--- the first of some lines
-abbrev pub sunk_first : (Turn → Turn → Bool) → ℕ → List Line → List Line
-sunk_first test n [] = []
-sunk_first test n (x ∷ xs) = sunk_line test n x xs
-
--- How far each shall go stands in a list, by its place among so many lines.
-abbrev pub far_by : List ℕ → ℕ → List Line → ℕ
-far_by far count behind = slice_index far (count - (length behind + 1))
-
--- the lines that the pass gives, which each go as far as something says
+-- lines of which each goes as far as something says
 pub record AreArranged (opened : Opened) (old new : List Line) : Type 0 where
   pub far : List Line → ℕ
   pub lines : new ≡ arranged_lines (may_pass opened) far old
 
--- Of tidy code the pass leads to code that tells the same, however far each line goes.
+-- Tidy code leads to code that tells the same, however far each line goes.
 abbrev pub ArrangedLinesAreBroughtForward : Type 0
 ArrangedLinesAreBroughtForward = (opened : Opened) (j : Joint) (new : List Line) → IsTidy j → AreArranged opened (flat j []) new → IsBroughtForward opened j new

@@ -1,5 +1,6 @@
 //! Joint code in an order that waits less: what hosts do together is exchanged with its neighbours before it is split, so that what does
-//! not depend on each other goes side by side. What a host compares, prints and opens keeps its order.
+//! not depend on each other goes side by side. It is sorted by depth, the longest chain of rounds that a line waits for, as far as
+//! neighbours may be exchanged. What a host compares, prints and opens keeps its order.
 #![tactic(auto)]
 
 mod depths;
@@ -7,5 +8,5 @@ mod laws;
 mod passing;
 mod testing;
 
-pub use laws::{order_is_kept, passes_bring_forward, test_is_sound, worked_lines};
+pub use laws::{order_is_kept, order_is_sorted, passes_bring_forward, test_is_sound, worked_lines};
 pub use passing::bring_forward;

@@ -118,7 +118,7 @@ fn opened_by(opened: &[Items<Reg>], host: HostId) -> &[Reg]
 }
 
 /// Whether registers of a packet of a host are opened.
-fn is_open(opened: &[Items<Reg>], host: HostId, registers: &[Reg]) -> bool
+pub fn is_open(opened: &[Items<Reg>], host: HostId, registers: &[Reg]) -> bool
     ensures { result ≡ meet registers.now (opened_at opened.now host.0) }
 {
     have_common(registers, opened_by(opened, host))

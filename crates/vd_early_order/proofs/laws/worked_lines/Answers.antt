@@ -1,8 +1,11 @@
-use Rattle.std.proofs.Common.{refl}
+use Rattle.vd_early_order.proofs.Worked.{ahead, drawn, stays}
 use Rattle.vd_early_order.proofs.laws.worked_lines.Goals as goal
 
 pub returns-clause-stays : goal.returns-clause-stays
-returns-clause-stays c = (refl, refl)
+returns-clause-stays c = stays
 
 pub returns-clause-ahead : goal.returns-clause-ahead
-returns-clause-ahead c = refl
+returns-clause-ahead c = ahead
+
+pub returns-clause-drawn : goal.returns-clause-drawn
+returns-clause-drawn c = drawn
