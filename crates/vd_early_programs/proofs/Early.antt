@@ -28,6 +28,7 @@ use Rattle.vd_hasten.specs.Packets.{opened_in}
 use Rattle.vd_early.specs.Turning.{TellsTheSame}
 use Rattle.vd_early_order.specs.Testing.{Opened, opened_at}
 use Rattle.vd_early_order.specs.Order.{IsBroughtForward, without_empty}
+use Rattle.vd_early_order.specs.Sorting.{early_order}
 use Rattle.vd_early_order.proofs.Brought.{forward_by, runs_alike as alike_runs}
 use Rattle.vd_joined_packets.specs.Joining.{joined, joined_lines}
 use Rattle.vd_joined_packets.specs.Telling.{IsJoined}
@@ -87,25 +88,31 @@ runs_alike j k tidy x =
     })
 
 come_early : (hosts : ℕ) (lines forward : List Line) (opened : List (List Reg)) → opened ≡ map (λ h. opened_in [] (pick h lines)) (range_with_len 0 hosts)
-    → ((j : Joint) → IsTidy j → lines ≡ flat j [] → IsBroughtForward (opened_at opened) j forward) → ComeEarly hosts lines (joined_lines most_packet_words forward)
-come_early hosts lines forward opened opened_is brought j tidy of lines_is =
+    → forward ≡ early_order (opened_at opened) lines → ((j : Joint) → IsTidy j → lines ≡ flat j [] → IsBroughtForward (opened_at opened) j forward)
+    → ComeEarly hosts lines (joined_lines most_packet_words forward)
+come_early hosts lines forward opened opened_is order brought j tidy of lines_is =
     let there : opened_at opened ≡ opened_of j =
     opened_there hosts j tidy of opened (opened_is ∙ ap (λ (l : List Line). map (λ h. opened_in [] (pick h l)) (range_with_len 0 hosts)) lines_is) in
     let x = subst (λ (o : Opened). IsBroughtForward o j forward) there (brought j tidy lines_is) in
     let y = shared x.code x.tidy in
     record {
       joint = joined most_packet_words (without_empty x.code);
-      early = record { between = x.code; exchanged = x.exchanged; shared = refl };
+      early = record {
+        between = x.code;
+        ordered = sym x.text ∙ order ∙ ap (λ (o : Opened). early_order o lines) there ∙ ap (early_order (opened_of j)) lines_is;
+        exchanged = x.exchanged;
+        shared = refl;
+      };
       tidy = y.tidy;
       text_is = ap (joined_lines most_packet_words) x.text ∙ y.text;
     }
 
 pub lines_come_early : {E : Type 0} (hosts : ℕ) (lines forward : List Line) (opened : List (List Reg)) → opened ≡ map (λ h. opened_in [] (pick h lines)) (range_with_len 0 hosts)
-    → ((j : Joint) → IsTidy j → lines ≡ flat j [] → IsBroughtForward (opened_at opened) j forward) → (r : Result (List Line) E)
+    → forward ≡ early_order (opened_at opened) lines → ((j : Joint) → IsTidy j → lines ≡ flat j [] → IsBroughtForward (opened_at opened) j forward) → (r : Result (List Line) E)
     → IfOk r (λ new. new ≡ joined_lines most_packet_words forward) → IfOk r (ComeEarly hosts lines)
-lines_come_early n lines forward opened opened_is brought (Ok new) is =
-    subst (ComeEarly n lines) (sym is) (come_early n lines forward opened opened_is brought)
-lines_come_early n lines forward opened opened_is brought (Err fault) is = tt
+lines_come_early n lines forward opened opened_is order brought (Ok new) is =
+    subst (ComeEarly n lines) (sym is) (come_early n lines forward opened opened_is order brought)
+lines_come_early n lines forward opened opened_is order brought (Err fault) is = tt
 
 -- ---- the code of each host
 

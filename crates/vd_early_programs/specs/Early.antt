@@ -13,16 +13,18 @@ use Rattle.vd_hasten.specs.Packets.{opened_in}
 use Rattle.vd_host_programs.specs.Programs.{joint_of}
 use Rattle.vd_early_order.specs.Testing.{Opened}
 use Rattle.vd_early_order.specs.Order.{IsCarefully, without_empty, RunsOn}
+use Rattle.vd_early_order.specs.Sorting.{early_order}
 use Rattle.vd_joined_packets.specs.Joining.{joined}
 
 -- for each host, the registers that the packets of its code open
 abbrev pub opened_of : Joint → Opened
 opened_of j h = opened_in [] (text (code_of h j) [])
 
--- From what the hosts do together careful exchanges of neighbours lead to another code. Of its packets that stand side by side and go from
--- one host to another one is made, of up to 16 words.
+-- What the hosts do together stands in the order of the pass: careful exchanges of neighbours lead to another code, whose lines are sorted.
+-- Of its packets that stand side by side and go from one host to another one is made, of up to 16 words.
 pub record IsEarly (j k : Joint) : Type 0 where
   pub between : Joint
+  pub ordered : flat between [] ≡ early_order (opened_of j) (flat j [])
   pub exchanged : IsCarefully (opened_of j) (without_empty j) between
   pub shared : k ≡ joined most_packet_words (without_empty between)
 
