@@ -1,2 +1,0 @@
-mod Deals
-mod Speakers

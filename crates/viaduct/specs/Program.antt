@@ -15,7 +15,7 @@ use Rattle.vd_remarks.specs.declared.fault.TellFault.{TellFault}
 use Rattle.vd_telling.specs.Saying.{SaysTo}
 use Rattle.vd_telling.specs.declared.telling.Destination.{Destination}
 use Rattle.vd_top.specs.Promises.{Around, Starts}
-use Rattle.viaduct.specs.Ahead.{wanted_by}
+use Rattle.vd_driver.specs.Ahead.{wanted_by}
 
 -- the peer that a status names
 abbrev pub peer_of : Status → Option (List ℕ)

@@ -2,18 +2,9 @@
 //! terminal, more is then said of a fault to the person who sits there.
 #![tactic(auto)]
 
-mod ahead;
-mod first;
 mod program;
-mod reasons;
-mod speaker;
 
-use first::host_numbered;
 use program::{Ending, Ran, destination_of, end, reason_of, run_over, words_of};
-use reasons::{
-    tell_reason, text_of_first, text_of_packets, text_of_peer, text_of_seal, text_of_sent,
-};
-use speaker::speaker_of;
 use std::alloc::Global;
 use std::env::{Env, VarError};
 use std::io::{IsTerminal, Stderr, Stdout};
@@ -21,6 +12,10 @@ use std::os::unix::process::parent_id;
 use std::process::ExitCode;
 use std::{env, fs, io, process};
 use vd_base::{Bytes, Name, Texts};
+use vd_driver::{
+    host_numbered, speaker_of, tell_reason, text_of_first, text_of_packets, text_of_peer,
+    text_of_seal, text_of_sent,
+};
 use vd_edge::{
     KeptFiles, PeerReason, RealFiles, RealNet, RealSink, SystemDirectory, SystemSockets, Waits,
 };

@@ -7,10 +7,10 @@ ghost use Rattle.vd_plan.specs.Lines.{Says, code_of, status_line};
 ghost use Rattle.vd_telling.specs.declared.telling.Destination.TheVariants.{File, Terminal};
 ghost use Rattle.viaduct.specs.Program.{IsRun, RunsOver, peer_of};
 
-use crate::ahead::read_ahead;
 use std::alloc::{AllocError, Global};
 use std::process::ExitCode;
 use vd_base::{Name, Texts};
+use vd_driver::read_ahead;
 use vd_edge::{Directory, KeptFiles, RealFiles};
 use vd_marks::Marks;
 use vd_outside::{Files, Net, Sink, Spawner};

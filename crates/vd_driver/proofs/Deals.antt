@@ -1,6 +1,6 @@
 -- The deals that were listed so far.
 use Rattle.std.proofs.Common.{◌≡◌, ℕ, zero, suc, ◌+◌, ◌<◌, List, [], ◌∷◌, ◌++◌, take, refl, arith}
-use Rattle.viaduct.specs.Ahead.{deal, deals_of}
+use Rattle.vd_driver.specs.Ahead.{deal, deals_of}
 
 -- one more
 pub one_more : (prefix : List ℕ) (number : ℕ) → number < 4 → take (number + 1) (deals_of prefix) ≡ take number (deals_of prefix) ++ deal prefix number ∷ []

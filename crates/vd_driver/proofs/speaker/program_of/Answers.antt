@@ -1,6 +1,6 @@
 use Rattle.std.proofs.Common.{Ok, refl}
-use Rattle.viaduct.proofs.Speakers.{held}
-use Rattle.viaduct.proofs.speaker.program_of.Goals as goal
+use Rattle.vd_driver.proofs.Speakers.{held}
+use Rattle.vd_driver.proofs.speaker.program_of.Goals as goal
 
 pub returns-in-Ok-read : goal.returns-in-Ok-read
 returns-in-Ok-read g c =

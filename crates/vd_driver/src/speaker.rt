@@ -3,7 +3,7 @@
 ghost use Rattle.std.specs.Prelude.{◌≡◌, IfSome, IsTrue, Some, slice_get};
 ghost use Rattle.vd_cmd.specs.Commands.{form_of};
 ghost use Rattle.vd_host_command.specs.Loading.{HoldsProgram};
-ghost use Rattle.viaduct.specs.Reasons.{IsOwnName, IsSpeaker};
+ghost use Rattle.vd_driver.specs.Reasons.{IsOwnName, IsSpeaker};
 
 use std::alloc::Global;
 use vd_base::limits::HOST_FILE_BYTES;

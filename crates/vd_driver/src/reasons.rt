@@ -2,7 +2,7 @@
 
 ghost use Rattle.std.specs.Prelude.{◌≡◌, ◌++◌, OnOk, IfOk, option_map, string_bytes};
 ghost use Rattle.vd_plan.specs.Shown.{shown};
-ghost use Rattle.viaduct.specs.Reasons.{address_part, first_text, host_part, noun_of, packets_text, peer_part, peer_text, reason_line, sent_text, speaker};
+ghost use Rattle.vd_driver.specs.Reasons.{address_part, first_text, host_part, noun_of, packets_text, peer_part, peer_text, reason_line, sent_text, speaker};
 
 use std::alloc::{AllocError, Global};
 use vd_base::{Bytes, Text};

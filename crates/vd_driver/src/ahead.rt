@@ -3,7 +3,7 @@
 ghost use Rattle.std.specs.Prelude.{◌≡◌, ◌∷◌, ◌++◌, [], IfOk, IfErr, OnOk};
 ghost use Rattle.vd_cmd.specs.Commands.{form_of};
 ghost use Rattle.vd_edge.specs.KeptFiles.{IsReadAhead};
-ghost use Rattle.viaduct.specs.Ahead.{deals_of, key_files, wanted_by, wanted_of};
+ghost use Rattle.vd_driver.specs.Ahead.{deals_of, key_files, wanted_by, wanted_of};
 
 use std::alloc::{AllocError, Global};
 use vd_base::limits::{

@@ -3,7 +3,7 @@
 ghost use Rattle.std.specs.Prelude.{◌≡◌, IfSome, IsTrue, Some, slice_get};
 ghost use Rattle.vd_cmd.specs.Commands.{form_of};
 ghost use Rattle.vd_running.specs.Compiled.{AreHostsOf};
-ghost use Rattle.viaduct.specs.Reasons.{IsHostAt, IsHostNumbered};
+ghost use Rattle.vd_driver.specs.Reasons.{IsHostAt, IsHostNumbered};
 
 use std::alloc::Global;
 use vd_base::{Bytes, Names, Texts};

@@ -1,0 +1,2 @@
+mod Deals
+mod Speakers
