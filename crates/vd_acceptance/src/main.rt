@@ -3,12 +3,12 @@
 //! and `stdout` what is to come.
 #![tactic(auto)]
 
-ghost use Rattle.std.specs.Prelude.{◌≤◌};
+ghost use Rattle.std.specs.Prelude.{◌≡◌, ◌≤◌, []};
 
 use std::alloc::Global;
 use std::io::{self, BufRead, BufReader, Write};
 use vd_base::Texts;
-use vd_examples::{Example, Objects, Prepared, print_run};
+use vd_examples::{Example, Objects, print_run};
 use vd_items::Items;
 use vd_marks::{Mark, Marks};
 use vd_outside::{Files, Net, Sink, Spawner, Stored};
@@ -44,19 +44,16 @@ fn code_of<F: Files, M: Marks, O: Sink, E: Sink, N: Net + Drop, S: Spawner>(
     .code()
 }
 
-/// Runs one example, and prints what it leaves; the files and marks that it leaves stand there for the next one.
-fn run_example<W: Write>(
+/// Runs an example over these objects, prints what it leaves, and gives the files and marks of it.
+fn run_over<W: Write>(
     alloc: Global,
     to: &mut W,
-    example: Example,
-    before: Items<Stored>,
-    marks: Items<Mark>,
-) -> io::Result<(Items<Stored>, Items<Mark>)> {
-    let Prepared {
-        name,
-        quiet,
-        objects,
-    } = example.prepared(alloc, before, marks)?;
+    example: &Example,
+    objects: Objects,
+) -> io::Result<(Items<Stored>, Items<Mark>)>
+    requires listeners { objects.net.net.listeners ≡ [] }
+    requires children { objects.spawner.children ≡ [] }
+{
     let Objects {
         words,
         mut files,
@@ -85,9 +82,23 @@ fn run_example<W: Write>(
         net,
         spawner,
     };
-    print_run(to, name.as_str(), code, &left, quiet)?;
+    print_run(to, example.name(), code, &left, example.is_quiet())?;
     let Objects { files, marks, .. } = left;
     Ok((files.files, marks.marks))
+}
+
+/// Runs one example, and prints what it leaves; the files and marks that it leaves stand there for the next one.
+fn run_example<W: Write>(
+    alloc: Global,
+    to: &mut W,
+    example: Example,
+    before: Items<Stored>,
+    marks: Items<Mark>,
+) -> io::Result<(Items<Stored>, Items<Mark>)> {
+    let mut example = example;
+    example.go_on(before, marks)?;
+    let objects = example.take_objects(alloc)?;
+    run_over(alloc, to, &example, objects)
 }
 
 fn main(rt: HostRuntime) -> io::Result<()> {

@@ -1,15 +1,12 @@
-//! Tests of lists, objects in memory, sessions and hosts, through public calls: under schedules, and of one over its link.
+//! Tests of lists, of objects in memory, of texts that are cut at each byte, and of the plans that a refused greeting tells, through
+//! public calls.
 #![tactic(auto)]
 
 #[cfg(test)]
-mod driven;
-#[cfg(test)]
-mod hosts;
+mod greetings;
 #[cfg(test)]
 mod lists;
 #[cfg(test)]
-mod made;
-#[cfg(test)]
 mod outside;
 #[cfg(test)]
-mod sessions;
+mod texts;

@@ -1,5 +1,0 @@
-//! Worked files of host programs, as tests.
-#![tactic(auto)]
-
-#[cfg(test)]
-mod files;

@@ -1,4 +1,0 @@
-pub mod Drivable
-pub mod Growing
-pub mod Loads
-pub mod OneSession

@@ -1,7 +1,0 @@
-use Rattle.std.proofs.Common.{sym, subst}
-use Rattle.vd_rows.specs.Codes.{CanDrive}
-use Rattle.vd_rows.proofs.Drivable.{speaker_drives}
-use Rattle.vd_rows.proofs.driven.speaking_machine.Goals as goal
-
-pub drivable-requires : goal.drivable-requires
-drivable-requires c = subst CanDrive (sym c.in_ok-speaker.ensures) speaker_drives
