@@ -5,7 +5,7 @@ use std::test::Fail;
 use vd_base::Bytes;
 use vd_base::limits::CERTIFICATE_BYTES;
 use vd_bound::first_bad_shift;
-use vd_certificate::{Certificate, TextFault};
+use vd_certificate::Certificate;
 use vd_prefixes::Shift;
 
 /// Of the comparison of two hosts' inputs.
@@ -19,23 +19,6 @@ const SECOND_FORM: &[u8] =
 const THIRD_FORM: &[u8] =
     b"viaduct-cert 3\ncost 222\nshifts 1\n3 1 1 - 256\nEEVEVVVVVVELBBVVBBVVVVVVVVVVV\n";
 
-/// Texts and the offset at which each is refused.
-const REFUSED: [(&[u8], u32); 13] = [
-    (b"viaduct-cert 4\n", 13),
-    (b"viaduct-cert 3\n", 15),
-    (b"viaduct-cert 3\nempty\n\n", 15),
-    (b"viaduct-cert 3\ncost 1\nshifts 0\n", 29),
-    (b"viaduct-cert 2\nempty\n\n", 15),
-    (b"viaduct-cert 1\ncost 0222\n\n", 21),
-    (b"viaduct-cert 1\ncost 4294967296\n\n", 29),
-    (b"viaduct-cert 1\nempty\nEX\n", 22),
-    (b"viaduct-cert 1\nempty\nE\nE", 23),
-    (b"viaduct-cert 2\ncost 1\nshifts 0\n", 29),
-    (b"viaduct-cert 2\ncost 1\nshifts 1\n0 2 0 + 1\n", 33),
-    (b"viaduct-cert 2\ncost 1\nshifts 1\n0 0 256 + 1\n", 37),
-    (b"viaduct-cert 2\ncost 1\nshifts 1\n0 0 0 - 0\n", 39),
-];
-
 /// The certificate of a text that is no longer than a file may be.
 fn read(alloc: Global, bytes: &[u8]) -> Result<Certificate, Fail> {
     if bytes.len() > CERTIFICATE_BYTES as usize {
@@ -44,17 +27,6 @@ fn read(alloc: Global, bytes: &[u8]) -> Result<Certificate, Fail> {
     match Certificate::read(alloc, bytes) {
         Ok(certificate) => Ok(certificate),
         Err(_) => Err("refused".into()),
-    }
-}
-
-/// Where a text is refused, which is no longer than a file may be.
-fn refused_at(alloc: Global, bytes: &[u8]) -> Option<u32> {
-    if bytes.len() > CERTIFICATE_BYTES as usize {
-        return None;
-    }
-    match Certificate::read(alloc, bytes) {
-        Err(TextFault::Text(offset)) => Some(offset),
-        _ => None,
     }
 }
 
@@ -93,15 +65,4 @@ fn shifts_name_uses_that_there_are(rt: HostRuntime) -> Result<(), Fail> {
     assert_eq!(rt; bad_shift(second.shifts.as_slice(), 3), Some(0));
     assert_eq!(rt; bad_shift(second.shifts.as_slice(), 4), None);
     Ok(())
-}
-
-#[test]
-fn texts_are_refused_where_none_goes_on(rt: HostRuntime) {
-    let alloc = rt.alloc();
-    for end in 0..FIRST_FORM.len() {
-        assert_eq!(rt; refused_at(alloc, &FIRST_FORM[..end]), Some(end as u32));
-    }
-    for (text, offset) in REFUSED {
-        assert_eq!(rt; refused_at(alloc, text), Some(offset));
-    }
 }

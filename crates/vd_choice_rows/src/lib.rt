@@ -4,8 +4,6 @@
 #[cfg(test)]
 mod certificates;
 #[cfg(test)]
-mod generated;
-#[cfg(test)]
 mod searches;
 mod tree;
 

@@ -1,34 +1,15 @@
 //! Least labels, and labels from elsewhere.
 
+use crate::sources::{least_labels, program_of, system_of};
 use std::alloc::Global;
 use std::test::Fail;
-use vd_constraints::{Labels, System, constraints};
-use vd_core::Program;
-use vd_elaborate::elaborate;
+use vd_constraints::{Labels, System};
 use vd_flow::{FlowFault, confirm, is_labelling};
 use vd_formula::{Formula, Label};
-use vd_parser::parse;
-use vd_resolve::{Resolved, resolve};
-use vd_solver::solve;
 
 /// Two hosts whose inputs are compared.
-const COMPARISON: &str =
-    "principals A, B;\nhost alice {A ; A & B};\nhost bob {B ; A & B};\nmain {\n  let a = input(alice);\n  let b = input(bob);\n  let r = declassify(a < b, {A | B});\n  output r to alice;\n  output r to bob;\n}\n";
-
-fn resolved_of(alloc: Global, text: &str) -> Result<Resolved, Fail> {
-    let source = parse(alloc, text.as_bytes())?;
-    Ok(resolve(alloc, source)?)
-}
-
-fn program_of(alloc: Global, text: &str) -> Result<Program, Fail> {
-    let resolved = resolved_of(alloc, text)?;
-    Ok(elaborate(alloc, &resolved)?)
-}
-
-fn system_of(alloc: Global, text: &str) -> Result<System, Fail> {
-    let program = program_of(alloc, text)?;
-    Ok(constraints(alloc, &program)?)
-}
+const COMPARISON: &[u8] =
+    b"principals A, B;\nhost alice {A ; A & B};\nhost bob {B ; A & B};\nmain {\n  let a = input(alice);\n  let b = input(bob);\n  let r = declassify(a < b, {A | B});\n  output r to alice;\n  output r to bob;\n}\n";
 
 /// A part of a label.
 #[derive(Clone, Copy)]
@@ -79,7 +60,7 @@ fn change(labels: &mut Labels, change: Change) -> Result<(), Fail> {
 
 /// The least labels of the system, changed in these places.
 fn changed(alloc: Global, system: &System, changes: &[Change]) -> Result<Labels, Fail> {
-    let mut labels = solve(alloc, system)?;
+    let mut labels = least_labels(alloc, system)?;
     for at in changes {
         change(&mut labels, *at)?;
     }
@@ -115,7 +96,8 @@ const CHANGES: [(&[Change], Result<(), FlowFault>); 3] = [
 
 #[test]
 fn least_labels_are_confirmed_and_others_refused(rt: HostRuntime) -> Result<(), Fail> {
-    let system = system_of(rt.alloc(), COMPARISON)?;
+    let program = program_of(rt.alloc(), COMPARISON)?;
+    let system = system_of(rt.alloc(), &program)?;
     for (changes, wanted) in CHANGES {
         let found = confirmed(rt.alloc(), &system, changes)?;
         assert_eq!(rt; found, wanted);

@@ -3,10 +3,9 @@
 use std::alloc::{AllocError, Global};
 use std::test::Fail;
 use vd_base::{HostId, Inputs, Names, Op, Outputs, SlotId};
-use vd_core::{NormalForm, Right, Source, Stmt};
+use vd_core::{NormalForm, Right, Stmt};
 use vd_items::Items;
-use vd_meaning::{clear_core, clear_source};
-use vd_parser::parse;
+use vd_meaning::clear_core;
 
 /// What the host hands in.
 fn inputs(alloc: Global, words: &[u32]) -> Result<Inputs, AllocError> {
@@ -19,23 +18,6 @@ fn inputs(alloc: Global, words: &[u32]) -> Result<Inputs, AllocError> {
 /// Whether there is one host, and it is told these words.
 fn tells(outputs: &Outputs, words: &[u32]) -> bool {
     outputs.as_slice().len() == 1 && outputs.as_slice()[0].as_slice() == words
-}
-
-/// A host that is told its words, one after the other.
-const ECHO: &str =
-    "principals A;\nhost alice {any ; any};\nmain {\n  output input(alice) to alice;\n  output input(alice) to alice;\n}\n";
-
-fn source_tells(alloc: Global, source: &Source, words: &[u32]) -> Result<Outputs, AllocError> {
-    let inputs = inputs(alloc, words)?;
-    clear_source(alloc, source, &inputs)
-}
-
-#[test]
-fn a_source_gives_each_host_its_words(rt: HostRuntime) -> Result<(), Fail> {
-    let source = parse(rt.alloc(), ECHO.as_bytes())?;
-    let outputs = source_tells(rt.alloc(), &source, &[3])?;
-    assert!(rt; tells(&outputs, &[3, 0]));
-    Ok(())
 }
 
 /// The first slot has the next word of the host, and the second one twice this word, which the host is told.

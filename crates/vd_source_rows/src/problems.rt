@@ -1,44 +1,18 @@
 //! Generated sources, and the problems of sources.
 
+use crate::sources::{least_labels, program_of, system_of};
 use std::alloc::{AllocError, Global};
 use std::test::Fail;
 use vd_base::Bytes;
-use vd_constraints::{Labels, constraints};
+use vd_constraints::Labels;
 use vd_core::Program;
-use vd_elaborate::elaborate;
 use vd_gen::generate;
-use vd_parser::parse;
-use vd_resolve::{Resolved, resolve};
-use vd_solver::solve;
 use vd_space::Problem;
-
-const SMALLEST: &str =
-    "principals A, B;\nhost alice {A ; A & B};\nhost bob {B ; A & B};\nmain {\n  let a0 = input(alice);\n  let b0 = input(bob);\n  let d0 = a0 - b0;\n  let q0 = d0 * d0;\n  let r = declassify(q0 < 1000, {A | B});\n  output r to alice;\n  output r to bob;\n}\n";
-
-/// The source of a text, with its names resolved.
-fn resolved_of(alloc: Global, text: &[u8]) -> Result<Resolved, Fail> {
-    let Ok(source) = parse(alloc, text) else {
-        return Err("no source".into());
-    };
-    match resolve(alloc, source) {
-        Ok(resolved) => Ok(resolved),
-        Err(_) => Err("not resolved".into()),
-    }
-}
-
-/// The let-normal program of a text.
-fn program_of(alloc: Global, text: &[u8]) -> Result<Program, Fail> {
-    let resolved = resolved_of(alloc, text)?;
-    Ok(elaborate(alloc, &resolved)?)
-}
 
 /// The least labels of a program.
 fn labels_of(alloc: Global, program: &Program) -> Result<Labels, Fail> {
-    let system = constraints(alloc, program)?;
-    match solve(alloc, &system) {
-        Ok(labels) => Ok(labels),
-        Err(_) => Err("no labels".into()),
-    }
+    let system = system_of(alloc, program)?;
+    least_labels(alloc, &system)
 }
 
 /// What the choice must know of a source.
@@ -68,13 +42,6 @@ fn generated_sizes(alloc: Global, coordinates: u32) -> Result<[usize; 3], Fail> 
 
 /// Coordinates, slots, uses, outputs.
 const SIZES: [(u32, [usize; 3]); 3] = [(1, [7, 7, 2]), (2, [12, 13, 2]), (15, [77, 91, 2])];
-
-#[test]
-fn the_smallest_source_is_generated(rt: HostRuntime) -> Result<(), Fail> {
-    let text = source_of(rt.alloc(), 1)?;
-    assert_eq!(rt; text.as_slice(), SMALLEST.as_bytes());
-    Ok(())
-}
 
 #[test]
 fn sources_are_generated(rt: HostRuntime) -> Result<(), Fail> {

@@ -1,4 +1,4 @@
-//! Labels.
+//! Which labels flow to others and cover them.
 
 use crate::forms::formula;
 use std::alloc::Global;
