@@ -61,8 +61,12 @@ fn print_all<W: Write, F: Files>(to: &mut W, files: &mut F, text: &[u8]) -> io::
 }
 
 /// Prints what becomes of files of this runtime.
-pub fn print_files<W: Write, R: Disk + Drop>(to: &mut W, rt: R, alloc: Global) -> io::Result<()> {
+pub fn print_files<W: Write, R: Disk + Clone + Drop>(
+    to: &mut W,
+    rt: &R,
+    alloc: Global,
+) -> io::Result<()> {
     let text = long_text(alloc, 200_000)?;
-    let mut files = RealFiles::new(SystemDirectory::new(rt, 7), alloc);
+    let mut files = RealFiles::new(SystemDirectory::new(rt.clone()?, 7), alloc);
     print_all(to, &mut files, text.as_slice())
 }

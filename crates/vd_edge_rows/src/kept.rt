@@ -71,19 +71,35 @@ fn below<R: Disk + Drop>(rt: R, alloc: Global) -> RealFiles<SystemDirectory<R>> 
     below
 }
 
+/// Files of this runtime that were read ahead; nothing where there was no memory.
+fn read_ahead<R: Disk + Clone + Drop>(
+    rt: &R,
+    alloc: Global,
+) -> io::Result<Option<KeptFiles<SystemDirectory<R>>>> {
+    let wanted = wanted(alloc)?;
+    let below = below(rt.clone()?, alloc);
+    Ok(KeptFiles::read(below, alloc, wanted.as_slice()).ok())
+}
+
+/// Prints what files that were read ahead give, where others of this runtime stored since.
+fn print_beside<W: Write, F: Files, R: Disk + Clone + Drop>(
+    to: &mut W,
+    files: &mut F,
+    rt: &R,
+    alloc: Global,
+) -> io::Result<()> {
+    let mut others = RealFiles::new(SystemDirectory::new(rt.clone()?, 8), alloc);
+    print_fetches(to, files, &mut others)
+}
+
 /// Prints what files that were read ahead give.
 pub fn print_kept<W: Write, R: Disk + Clone + Drop>(
     to: &mut W,
-    rt: R,
+    rt: &R,
     alloc: Global,
 ) -> io::Result<()> {
-    let wanted = wanted(alloc)?;
-    let other = rt.clone()?;
-    match KeptFiles::read(below(rt, alloc), alloc, wanted.as_slice()) {
-        Ok(mut files) => {
-            let mut others = RealFiles::new(SystemDirectory::new(other, 8), alloc);
-            print_fetches(to, &mut files, &mut others)
-        }
-        Err(_) => writeln!(to, "nothing was read"),
+    match read_ahead(rt, alloc)? {
+        Some(mut files) => print_beside(to, &mut files, rt, alloc),
+        None => writeln!(to, "nothing was read"),
     }
 }

@@ -135,19 +135,28 @@ fn last_listener<N: Net>(net: &mut N, first: &str, address: &str, second: bool) 
     listener_at(net, address)
 }
 
-/// A link to an address over which these bytes go, where so many were sent; none where nobody comes.
+/// Whether all these bytes are sent over a link.
+fn takes<L: Link>(link: &mut L, bytes: &[u8]) -> bool {
+    if bytes.is_empty() {
+        return true;
+    }
+    match link.send(bytes) {
+        Ok(sent) => sent as usize == bytes.len(),
+        Err(_) => false,
+    }
+}
+
+/// A link to an address over which these bytes go; none where nobody comes, or where they do not go.
 fn link_of<N: Net>(net: &mut N, address: &str, bytes: Option<&[u8]>) -> Option<N::Link>
     ensures { (N.view net.new).given ≡ (N.view net.old).given }
 {
     let bytes = bytes?;
     let mut link = net.connect(address).ok()?;
-    if !bytes.is_empty() {
-        let sent = link.send(bytes).ok()?;
-        if sent as usize != bytes.len() {
-            return None;
-        }
+    if takes(&mut link, bytes) {
+        Some(link)
+    } else {
+        None
     }
-    Some(link)
 }
 
 /// How many bytes come over a link, and the second of them.
@@ -194,19 +203,50 @@ fn waits_of(process: Process, parent: Parent) -> Waits {
     Waits::new(process, number)
 }
 
-/// What comes of a meeting, and how often the net failed.
+/// Two addresses on the loopback that were free a moment ago.
+fn two_addresses<R: Network>(alloc: Global, rt: &R) -> Option<(String, String)> {
+    let first = free_address(alloc, rt)?;
+    let second = free_address(alloc, rt)?;
+    Some((first, second))
+}
+
+/// What comes of a meeting at the second of these addresses, and how often the net failed.
+fn met_at<R: Network + Clock + Drop>(
+    alloc: Global,
+    rt: R,
+    waits: Waits,
+    first: &str,
+    address: &str,
+    meeting: &Meeting,
+) -> (Option<Met>, u64) {
+    let mut net = RealNet::new(SystemSockets::new(rt, alloc, waits), alloc);
+    net.wait_at_most(meeting.seconds);
+    let came = meet(&mut net, first, address, meeting);
+    (came, net.faults())
+}
+
+/// What comes of a meeting, and how often the net failed; nothing where no address was free.
 fn met<R: Network + Clock + Drop>(
     alloc: Global,
     rt: R,
     waits: Waits,
     meeting: &Meeting,
 ) -> Option<(Option<Met>, u64)> {
-    let first = free_address(alloc, &rt)?;
-    let address = free_address(alloc, &rt)?;
-    let mut net = RealNet::new(SystemSockets::new(rt, alloc, waits), alloc);
-    net.wait_at_most(meeting.seconds);
-    let met = meet(&mut net, first.as_str(), address.as_str(), meeting);
-    Some((met, net.faults()))
+    let (first, address) = two_addresses(alloc, &rt)?;
+    Some(met_at(alloc, rt, waits, first.as_str(), address.as_str(), meeting))
+}
+
+/// Prints what comes of a meeting.
+fn print_meeting<W: Write, R: Network + Clock + Clone + Drop>(
+    to: &mut W,
+    rt: &R,
+    alloc: Global,
+    process: Process,
+    meeting: &Meeting,
+) -> io::Result<()> {
+    let waits = waits_of(process, meeting.parent);
+    let came = met(alloc, rt.clone()?, waits, meeting);
+    writeln!(to, "{}: {came:?}", meeting.name)
 }
 
 /// How often a net failed that went to an address at which nobody listens, and whether a link was given there.
@@ -223,26 +263,32 @@ fn gone_alone<R: Network + Clock + Drop>(
     Some((link.is_ok(), net.faults()))
 }
 
+/// Prints what comes of going to an address at which nobody listens.
+fn print_gone_alone<W: Write, R: Network + Clock + Clone + Drop>(
+    to: &mut W,
+    rt: &R,
+    alloc: Global,
+    process: Process,
+    parent: Parent,
+) -> io::Result<()> {
+    let came = gone_alone(alloc, rt.clone()?, waits_of(process, parent), None);
+    writeln!(to, "nobody listens, {parent:?}: {came:?}")
+}
+
 /// Prints what passes over links of the loopback.
 pub fn print_links<W: Write, R: Network + Clock + Clone + Drop>(
     to: &mut W,
-    rt: R,
+    rt: &R,
     alloc: Global,
     process: Process,
 ) -> io::Result<()> {
     for meeting in &MEETINGS {
-        let came = met(
-            alloc,
-            rt.clone()?,
-            waits_of(process, meeting.parent),
-            meeting,
-        );
-        writeln!(to, "{}: {came:?}", meeting.name)?;
+        print_meeting(to, rt, alloc, process, meeting)?;
     }
     for parent in [Parent::Unknown, Parent::Runs, Parent::Gone] {
-        let came = gone_alone(alloc, rt.clone()?, waits_of(process, parent), None);
-        writeln!(to, "nobody listens, {parent:?}: {came:?}")?;
+        print_gone_alone(to, rt, alloc, process, parent)?;
     }
-    let came = gone_alone(alloc, rt, waits_of(process, Parent::Unknown), Some(1));
+    let waits = waits_of(process, Parent::Unknown);
+    let came = gone_alone(alloc, rt.clone()?, waits, Some(1));
     writeln!(to, "nobody listens within a second: {came:?}")
 }

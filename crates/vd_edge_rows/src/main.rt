@@ -8,15 +8,19 @@ mod links;
 mod stores;
 mod streams;
 
-use std::io;
+use std::alloc::Global;
+use std::io::{self, Write};
+
+/// Prints what all objects of this runtime do.
+fn print_all<W: Write>(to: &mut W, rt: &HostRuntime, alloc: Global) -> io::Result<()> {
+    files::print_files(to, rt, alloc)?;
+    kept::print_kept(to, rt, alloc)?;
+    stores::print_stores(to, alloc)?;
+    streams::print_streams(to, alloc)?;
+    links::print_links(to, rt, alloc, rt.process())
+}
 
 fn main(rt: HostRuntime) -> io::Result<()> {
-    let alloc = rt.alloc();
     let mut to = rt.stdout();
-    files::print_files(&mut to, rt.clone()?, alloc)?;
-    kept::print_kept(&mut to, rt.clone()?, alloc)?;
-    stores::print_stores(&mut to, alloc)?;
-    streams::print_streams(&mut to, alloc)?;
-    let process = rt.process();
-    links::print_links(&mut to, rt, alloc, process)
+    print_all(&mut to, &rt, rt.alloc())
 }

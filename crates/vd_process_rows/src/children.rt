@@ -91,24 +91,59 @@ fn print_child<W: Write, R: Processes<Started = SystemProcess> + Clock + Drop>(
     writeln!(to, "{came:?}, {} faults", spawner.faults())
 }
 
-/// Prints what becomes of two programs side by side, and which of them was the first to end with a fault.
-fn print_pair<W: Write, R: Processes<Started = SystemProcess> + Clock + Drop>(
+/// Prints what becomes of a shell that does this.
+fn print_command<W: Write, R: Processes<Started = SystemProcess> + Clock + Clone + Drop>(
+    to: &mut W,
+    rt: &R,
+    alloc: Global,
+    command: &str,
+) -> io::Result<()> {
+    write!(to, "{command}: ")?;
+    let words = shell_words(alloc, command)?;
+    print_child(to, rt.clone()?, alloc, "/bin/sh", &words)
+}
+
+/// Prints what becomes of a program that is not there.
+fn print_missing<W: Write, R: Processes<Started = SystemProcess> + Clock + Clone + Drop>(
+    to: &mut W,
+    rt: &R,
+    alloc: Global,
+) -> io::Result<()> {
+    write!(to, "no program: ")?;
+    let words = Texts::new(alloc);
+    print_child(to, rt.clone()?, alloc, "/no/such/program", &words)
+}
+
+/// Prints what becomes of shells with these words side by side, and which of them was the first to end with a fault.
+fn print_beside<W: Write, R: Processes<Started = SystemProcess> + Clock + Drop>(
     to: &mut W,
     rt: R,
     alloc: Global,
-    first: &str,
-    second: &str,
+    first: &Texts,
+    second: &Texts,
 ) -> io::Result<()> {
     let mut spawner = RealSpawner::new(rt, alloc, 7);
-    let first = shell_words(alloc, first)?;
-    let second = shell_words(alloc, second)?;
-    let came = beside(&mut spawner, &first, &second);
+    let came = beside(&mut spawner, first, second);
     let failed = spawner.first_failure();
     writeln!(
         to,
         "{came:?}, {} faults, first {failed:?}",
         spawner.faults()
     )
+}
+
+/// Prints what becomes of two shells that do this side by side.
+fn print_pair<W: Write, R: Processes<Started = SystemProcess> + Clock + Clone + Drop>(
+    to: &mut W,
+    rt: &R,
+    alloc: Global,
+    first: &str,
+    second: &str,
+) -> io::Result<()> {
+    write!(to, "{first} beside {second}: ")?;
+    let first = shell_words(alloc, first)?;
+    let second = shell_words(alloc, second)?;
+    print_beside(to, rt.clone()?, alloc, &first, &second)
 }
 
 /// The commands of a shell whose lines and statuses are read.
@@ -134,20 +169,15 @@ const PAIRS: [(&str, &str); 4] = [
 /// Prints what becomes of children that a shell plays, and of a program that is not there.
 pub fn print_children<W: Write, R: Processes<Started = SystemProcess> + Clock + Clone + Drop>(
     to: &mut W,
-    rt: R,
+    rt: &R,
     alloc: Global,
 ) -> io::Result<()> {
     for command in COMMANDS {
-        let words = shell_words(alloc, command)?;
-        write!(to, "{command}: ")?;
-        print_child(to, rt.clone()?, alloc, "/bin/sh", &words)?;
+        print_command(to, rt, alloc, command)?;
     }
-    let words = Texts::new(alloc);
-    write!(to, "no program: ")?;
-    print_child(to, rt.clone()?, alloc, "/no/such/program", &words)?;
+    print_missing(to, rt, alloc)?;
     for (first, second) in PAIRS {
-        write!(to, "{first} beside {second}: ")?;
-        print_pair(to, rt.clone()?, alloc, first, second)?;
+        print_pair(to, rt, alloc, first, second)?;
     }
     Ok(())
 }

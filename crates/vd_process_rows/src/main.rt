@@ -8,5 +8,5 @@ use std::io;
 fn main(rt: HostRuntime) -> io::Result<()> {
     let alloc = rt.alloc();
     let mut to = rt.stdout();
-    children::print_children(&mut to, rt, alloc)
+    children::print_children(&mut to, &rt, alloc)
 }
