@@ -4,6 +4,7 @@ ghost use Rattle.std.specs.Prelude.{◌≡◌, [], IfOk};
 
 use crate::outside::{Waiting, Writing, drawn_of, net_of, push_bytes, spawner_of};
 use std::alloc::{AllocError, Global};
+use std::mem;
 use vd_base::{Bytes, Texts};
 use vd_items::Items;
 use vd_marks::{Mark, MemMarks};
@@ -60,15 +61,6 @@ pub struct Objects {
     pub err: MemSink,
     pub net: SealedNet<MemNet>,
     pub spawner: MemSpawner,
-}
-
-/// An example that is ready to be run.
-#[derive(Drop)]
-pub struct Prepared {
-    pub name: String,
-    /// Whether the contents of stored files are left out.
-    pub quiet: bool,
-    pub objects: Objects,
 }
 
 impl Example {
@@ -233,53 +225,87 @@ impl Example {
         Ok(true)
     }
 
-    /// The words, and the objects over which they are run.
-    fn objects(self, alloc: Global) -> Result<Objects, AllocError>
+    /// What the example is called.
+    pub fn name(&self) -> &str {
+        self.name.as_str()
+    }
+
+    /// Whether the contents of stored files are left out.
+    pub fn is_quiet(&self) -> bool {
+        self.quiet
+    }
+
+    /// Goes on with these files and marks of the example before, if that is said. Of marks with one name the first counts, so the
+    /// later ones stand before the earlier ones.
+    pub fn go_on(&mut self, files: Items<Stored>, marks: Items<Mark>) -> Result<(), AllocError> {
+        if self.keeps {
+            self.files.append(files)?;
+            self.marks.append(marks)?;
+        }
+        Ok(())
+    }
+
+    /// Takes the files out.
+    fn take_files(&mut self, alloc: Global) -> MemFiles {
+        let files = mem::replace(&mut self.files, Items::new(alloc));
+        let failing = mem::replace(&mut self.failing_files, Items::new(alloc));
+        MemFiles::new(alloc, files, failing)
+    }
+
+    /// Takes the marks out.
+    fn take_marks(&mut self, alloc: Global) -> MemMarks {
+        let marks = mem::replace(&mut self.marks, Items::new(alloc));
+        let draws = mem::replace(&mut self.draws, Items::new(alloc));
+        let failing = mem::replace(&mut self.failing_marks, Items::new(alloc));
+        MemMarks::new(alloc, marks, draws, failing)
+    }
+
+    /// Takes the output out.
+    fn take_out(&mut self, alloc: Global) -> Result<MemSink, AllocError> {
+        let failing = mem::replace(&mut self.failing_out, Items::new(alloc));
+        MemSink::new(alloc, ROOM, self.most, failing)
+    }
+
+    /// Takes the error stream out.
+    fn take_err(&mut self, alloc: Global) -> Result<MemSink, AllocError> {
+        let failing = mem::replace(&mut self.failing_err, Items::new(alloc));
+        MemSink::new(alloc, ROOM, self.most, failing)
+    }
+
+    /// Takes the net out.
+    fn take_net(&mut self, alloc: Global) -> Result<SealedNet<MemNet>, AllocError>
+        ensures { IfOk result (λ net. net.net.listeners ≡ []) }
+    {
+        let failing = mem::replace(&mut self.failing_net, Items::new(alloc));
+        let net = net_of(alloc, self.links.as_slice(), self.most, failing)?;
+        Ok(SealedNet::new(alloc, net))
+    }
+
+    /// Takes the spawner out.
+    fn take_spawner(&mut self, alloc: Global) -> Result<MemSpawner, AllocError>
+        ensures { IfOk result (λ spawner. spawner.children ≡ []) }
+    {
+        let failing = mem::replace(&mut self.failing_spawner, Items::new(alloc));
+        spawner_of(alloc, self.children.as_slice(), failing)
+    }
+
+    /// Takes out the words and the objects over which they are run.
+    pub fn take_objects(&mut self, alloc: Global) -> Result<Objects, AllocError>
         ensures listeners { IfOk result (λ objects. objects.net.net.listeners ≡ []) }
         ensures children { IfOk result (λ objects. objects.spawner.children ≡ []) }
     {
-        let files = MemFiles::new(alloc, self.files, self.failing_files);
-        let marks = MemMarks::new(alloc, self.marks, self.draws, self.failing_marks);
-        let out = MemSink::new(alloc, ROOM, self.most, self.failing_out)?;
-        let err = MemSink::new(alloc, ROOM, self.most, self.failing_err)?;
-        let failing_net = self.failing_net;
-        let failing_spawner = self.failing_spawner;
-        let net = net_of(alloc, self.links.as_slice(), self.most, failing_net)?;
-        let spawner = spawner_of(alloc, self.children.as_slice(), failing_spawner)?;
+        let out = self.take_out(alloc)?;
+        let err = self.take_err(alloc)?;
+        let net = self.take_net(alloc)?;
+        let spawner = self.take_spawner(alloc)?;
         Ok(Objects {
-            words: self.words,
-            files,
-            marks,
+            words: mem::replace(&mut self.words, Texts::new(alloc)),
+            files: self.take_files(alloc),
+            marks: self.take_marks(alloc),
             out,
             err,
-            net: SealedNet::new(alloc, net),
+            net,
             spawner,
-        })
-    }
-
-    /// Makes the example ready to be run. One that goes on with the files and marks of the one before gets these; of marks with one
-    /// name the first counts, so the later ones stand before the earlier ones.
-    pub fn prepared(
-        self,
-        alloc: Global,
-        before: Items<Stored>,
-        marks: Items<Mark>,
-    ) -> Result<Prepared, AllocError>
-        ensures listeners { IfOk result (λ prepared. prepared.objects.net.net.listeners ≡ []) }
-        ensures children { IfOk result (λ prepared. prepared.objects.spawner.children ≡ []) }
-    {
-        let mut example = self;
-        if example.keeps {
-            example.files.append(before)?;
-            example.marks.append(marks)?;
-        }
-        let name = example.name.clone()?;
-        let quiet = example.quiet;
-        let objects = example.objects(alloc)?;
-        Ok(Prepared {
-            name,
-            quiet,
-            objects,
         })
     }
 }

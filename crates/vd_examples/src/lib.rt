@@ -26,5 +26,5 @@ mod example;
 mod outside;
 mod report;
 
-pub use example::{Example, Objects, Prepared};
+pub use example::{Example, Objects};
 pub use report::print_run;
