@@ -7,8 +7,8 @@ ghost use Rattle.vd_driver.specs.Reasons.{address_part, first_text, host_part, n
 use std::alloc::{AllocError, Global};
 use vd_base::{Bytes, Text};
 use vd_edge::PeerReason;
-use vd_outside::Sink;
-use vd_plan::{shown_byte, write_all};
+use vd_outside::{Sink, write_all};
+use vd_plan::shown_byte;
 use vd_sealed::SealFault;
 
 /// Adds a text as it is shown.

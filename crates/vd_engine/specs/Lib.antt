@@ -4,4 +4,3 @@ pub mod Events
 pub mod Hosts
 pub mod Links
 pub mod Turning
-pub mod Writing

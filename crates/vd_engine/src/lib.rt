@@ -12,4 +12,3 @@ pub use engine::{Ended, drive};
 pub use fault::EngineFault;
 pub use laws::enough_ends_well;
 pub use links::Links;
-pub use writing::write_all;

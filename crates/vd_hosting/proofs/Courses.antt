@@ -4,9 +4,8 @@ use Rattle.vd_base.specs.declared.faults.Failed.{Failed}
 use Rattle.vd_machine.specs.Kept.{Kept}
 use Rattle.vd_outside.specs.Link.{LinkView}
 use Rattle.vd_outside.specs.Net.{NetView}
-use Rattle.vd_outside.specs.Sink.{SinkView}
+use Rattle.vd_outside.specs.Sink.{SinkView, WritesAll}
 use Rattle.vd_engine.specs.Drives.{Sessions}
-use Rattle.vd_engine.specs.Writing.{WritesAll}
 use Rattle.vd_engine.specs.declared.engine.Ended.{Ended}
 use Rattle.vd_hosting.specs.Histories.{HandedBack, HungUp, listening}
 use Rattle.vd_hosting.specs.Peers.{number_at}

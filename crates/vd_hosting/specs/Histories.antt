@@ -7,13 +7,12 @@ use Rattle.vd_base.specs.HostSets.{host}
 use Rattle.vd_machine.specs.Kept.{Kept, state_of}
 use Rattle.vd_outside.specs.Link.{LinkView}
 use Rattle.vd_outside.specs.Net.{NetView, Listens, Accepts, Connects, HangsUp}
-use Rattle.vd_outside.specs.Sink.{SinkView}
+use Rattle.vd_outside.specs.Sink.{SinkView, WritesAll}
 use Rattle.vd_link.specs.Sessions.{Ends, Greets}
 use Rattle.vd_link.specs.declared.faults.GreetFault.{GreetFault}
 use Rattle.vd_link.specs.declared.faults.GreetFault.TheVariants as greet_fault
 use Rattle.vd_engine.specs.Drives.{Drives, Sessions}
 use Rattle.vd_engine.specs.Hosts.{next_with, seen_at, wants_with}
-use Rattle.vd_engine.specs.Writing.{WritesAll}
 use Rattle.vd_engine.specs.declared.engine.Ended.{Ended}
 use Rattle.vd_engine.specs.declared.fault.EngineFault.{EngineFault}
 use Rattle.vd_engine.specs.declared.fault.EngineFault.TheVariants as engine_fault

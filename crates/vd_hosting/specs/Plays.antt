@@ -5,11 +5,10 @@ use Rattle.vd_base.specs.declared.faults.Failed.{Failed}
 use Rattle.vd_machine.specs.Kept.{Kept}
 use Rattle.vd_outside.specs.Link.{LinkView}
 use Rattle.vd_outside.specs.Net.{NetView, Listens, HangsUp}
-use Rattle.vd_outside.specs.Sink.{SinkView}
+use Rattle.vd_outside.specs.Sink.{SinkView, WritesAll}
 use Rattle.vd_link.specs.Sessions.{Greets}
 use Rattle.vd_link.specs.declared.faults.GreetFault.{GreetFault}
 use Rattle.vd_engine.specs.Drives.{Sessions}
-use Rattle.vd_engine.specs.Writing.{WritesAll}
 use Rattle.vd_engine.specs.declared.engine.Ended.{Ended}
 use Rattle.vd_engine.specs.declared.fault.EngineFault.{EngineFault}
 use Rattle.vd_hosting.specs.Histories.{Announces, DrivesOver, Gets, HandedBack, Listened, call_status, ended, ends_with, engine_status, greet_status}

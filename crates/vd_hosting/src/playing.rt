@@ -13,9 +13,9 @@ use crate::meeting::{Unmet, meet_all};
 use crate::returning::{hand_back, hang_up};
 use crate::task::Task;
 use std::alloc::Global;
-use vd_engine::{Ended, EngineFault, Links, drive, write_all};
+use vd_engine::{Ended, EngineFault, Links, drive};
 use vd_machine::Machine;
-use vd_outside::{Link, Net, Sink};
+use vd_outside::{Link, Net, Sink, write_all};
 
 /// The fault of the engine as that of a host.
 fn fault_of_engine(fault: EngineFault) -> HostFault

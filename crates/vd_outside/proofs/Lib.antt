@@ -1,3 +1,4 @@
 mod Children
+pub mod Pieces
 mod Receiving
 mod Waiting

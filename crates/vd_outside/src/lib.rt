@@ -20,6 +20,7 @@ pub mod sure_link;
 pub mod sure_net;
 pub mod sure_sink;
 pub mod sure_spawner;
+mod writing;
 
 pub use child::Child;
 pub use failures::Failures;
@@ -38,3 +39,4 @@ pub use sure_link::SureLink;
 pub use sure_net::SureNet;
 pub use sure_sink::SureSink;
 pub use sure_spawner::SureSpawner;
+pub use writing::write_all;

@@ -1,10 +1,9 @@
 -- The lines of deals.
 use Rattle.std.proofs.Common.{◌≡◌, ℕ, List, ◌++◌, Result, subst, codes}
 use Rattle.std.specs.Fmt.{decimal}
-use Rattle.vd_outside.specs.Sink.{SinkView}
+use Rattle.vd_outside.specs.Sink.{SinkView, WritesAll}
 use Rattle.vd_deals.specs.declared.deal.BadItem.{BadItem}
 use Rattle.vd_deals.specs.declared.deal.DealKind.{DealKind}
-use Rattle.vd_plan.specs.Deliver.{WritesAll}
 use Rattle.vd_plan.specs.Shown.{shown}
 use Rattle.vd_plan.specs.Lines.{bad_deal_line, deal_line, kind_name, short_deal_line}
 

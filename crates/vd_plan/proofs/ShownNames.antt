@@ -2,8 +2,7 @@
 use Rattle.std.proofs.Common.{◌≡◌, ◌++◌, append_assoc, ◌+◌, ◌<◌, ℕ, List, [], ◌∷◌, get_or, length, take, drop, Ok, Err, subst, sym, ap, ◌∙◌}
 use Rattle.std.proofs.lemmas.List.{map-append, take-append-drop}
 use Rattle.std.proofs.lemmas.Grind.{take_at_read}
-use Rattle.vd_outside.specs.Sink.{SinkView}
-use Rattle.vd_plan.specs.Deliver.{WritesAll}
+use Rattle.vd_outside.specs.Sink.{SinkView, WritesAll}
 use Rattle.vd_plan.specs.Shown.{shown, shown_byte}
 use Rattle.vd_plan.proofs.Written.{writes_err}
 

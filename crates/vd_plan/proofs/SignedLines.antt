@@ -1,8 +1,7 @@
 -- Lines with a signed number.
 use Rattle.std.proofs.Common.{◌≡◌, ℕ, ℤ, List, ◌++◌, Result, subst, codes}
 use Rattle.std.specs.Fmt.{decimal, signed_decimal}
-use Rattle.vd_outside.specs.Sink.{SinkView}
-use Rattle.vd_plan.specs.Deliver.{WritesAll}
+use Rattle.vd_outside.specs.Sink.{SinkView, WritesAll}
 use Rattle.vd_plan.specs.Lines.{cost_line, bound_line}
 
 pub cost_written : {E : Type 0} (stated : ℕ) (own : ℤ) (s o : List ℕ) (before now : SinkView) (result : Result (Unit {0}) E) → s ≡ decimal stated → o ≡ signed_decimal own

@@ -3,7 +3,7 @@ use Rattle.std.proofs.Common.{◌≡◌, ◌≤◌, inl, inr, ⊎_elim, ℕ, tru
 use Rattle.std.proofs.lemmas.List.{take_all, append-nil}
 use Rattle.vd_outside.specs.Causes.{Rose}
 use Rattle.vd_outside.specs.Files.{FilesView, Contents}
-use Rattle.vd_outside.specs.Sink.{SinkView}
+use Rattle.vd_outside.specs.Sink.{SinkView, WritesAll}
 use Rattle.vd_outside.specs.declared.files.FilesCall.{FilesCall}
 use Rattle.vd_outside.specs.declared.files.FilesCall.TheVariants.{Store}
 use Rattle.vd_plan.specs.declared.status.Status.{Status}
@@ -12,7 +12,7 @@ use Rattle.vd_plan.specs.declared.answer.Answer.{Answer}
 use Rattle.vd_outside.specs.declared.stored.Stored.{Stored}
 use Rattle.vd_plan.specs.Plans.{Plan, Executes, GrowsWithin, IsPlanned, fetch_calls, IsGiven}
 use Rattle.vd_plan.proofs.Fronts.{more_within, later_within}
-use Rattle.vd_plan.specs.Deliver.{Delivers, StoresAll, WritesAll, IsEnded, IsDone, IsLeft, IsPartlyStored, IsLastStore, store_calls, stored}
+use Rattle.vd_plan.specs.Deliver.{Delivers, StoresAll, IsEnded, IsDone, IsLeft, IsPartlyStored, IsLastStore, store_calls, stored}
 use Rattle.vd_plan.specs.Runs.{Runs, IsAnswered, calls}
 
 rose_earlier : (before mid now : ℕ) → before ≤ mid → Rose mid now → Rose before now

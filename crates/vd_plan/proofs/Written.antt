@@ -1,27 +1,11 @@
 -- One piece of bytes after others.
-use Rattle.std.proofs.Common.{◌≡◌, ◌≤◌, ◌++◌, ◌+◌, ◌-◌, ◌<◌, ℕ, min, List, [], ◌∷◌, get_or, Result, Ok, Err, Bor, inl, inr, subst, length, take, drop, arith, ap, sym, ◌∙◌, append_assoc, length-drop}
-use Rattle.std.proofs.Math.Seq.{take-add, take-append-add}
+use Rattle.std.proofs.Common.{◌≡◌, ◌++◌, ◌+◌, ◌<◌, ℕ, min, List, [], ◌∷◌, get_or, Result, Ok, Err, Bor, inl, inr, subst, length, take, drop, arith, ap, sym, ◌∙◌, append_assoc}
+use Rattle.std.proofs.Math.Seq.{take-append-add}
 use Rattle.std.proofs.lemmas.List.{take_all, append-nil, take-append-le, take-append-drop, take_min}
 use Rattle.std.proofs.lemmas.Grind.{take_at_read, flat_map-append}
 use Rattle.std.specs.List.{flat_map}
-use Rattle.vd_outside.specs.Sink.{SinkView}
-use Rattle.vd_plan.specs.Deliver.{WritesAll}
+use Rattle.vd_outside.specs.Sink.{SinkView, WritesAll}
 use Rattle.vd_plan.specs.Lines.{Says}
-
-rest_is : (bytes : List ℕ) (done : ℕ) → take (length bytes - done) (drop done bytes) ≡ drop done bytes
-rest_is bytes done = take_all _ _ (omega (arith, length-drop done bytes))
-
-taken_more : (old bytes : List ℕ) (done count : ℕ) → (old ++ take done bytes) ++ take count (take (length bytes - done) (drop done bytes)) ≡ old ++ take (done + count) bytes
-taken_more old bytes done count =
-    append_assoc old (take done bytes) (take count (take (length bytes - done) (drop done bytes)))
-    ∙ ap (λ (l : List ℕ). old ++ (take done bytes ++ take count l)) (rest_is bytes done)
-    ∙ ap (λ (l : List ℕ). old ++ l) (sym (take-add done count bytes))
-
-pub within : (bytes : List ℕ) (done count : ℕ) → done ≤ length bytes → count ≤ length (take (length bytes - done) (drop done bytes)) → done + count ≤ length bytes
-within bytes done count h k = omega (arith, ap length (rest_is bytes done), length-drop done bytes)
-
-pub taken_step : (old mid new bytes : List ℕ) (done count : ℕ) → mid ≡ old ++ take done bytes → new ≡ mid ++ take count (take (length bytes - done) (drop done bytes)) → new ≡ old ++ take (done + count) bytes
-taken_step old mid new bytes done count is more = more ∙ ap (λ (l : List ℕ). l ++ take count (take (length bytes - done) (drop done bytes))) is ∙ taken_more old bytes done count
 
 pub writes_none : {E : Type 0} (now : SinkView) → WritesAll {E = E} [] now now (Ok tt)
 writes_none now = record { later = omega arith; failed = tt; was_told = λ t. t; whole = λ t. sym (append-nil now.taken); part = λ t. tt }

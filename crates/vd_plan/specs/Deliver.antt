@@ -1,5 +1,5 @@
 -- The stores of an answer, and then its bytes.
-use Rattle.std.specs.Prelude.{◌≡◌, ◌≤◌, ◌⊎◌, ℕ, false, IsTrue, List, [], ◌∷◌, ◌++◌, take, drop, Some, Result, Ok, Err, IfErr, OnOk, OnErr}
+use Rattle.std.specs.Prelude.{◌≡◌, ◌≤◌, ◌⊎◌, ℕ, false, IsTrue, List, [], ◌∷◌, ◌++◌, take, drop, Some, Result, Ok, Err, IfErr, OnOk}
 use Rattle.std.specs.Str.{bytes_eq}
 use Rattle.vd_outside.specs.Causes.{Rose}
 use Rattle.vd_outside.specs.Files.{FilesView, Contents, with_content}
@@ -11,13 +11,6 @@ use Rattle.vd_plan.specs.Plans.{GrowsWithin, IsLast}
 use Rattle.vd_plan.specs.declared.status.Status.{Status}
 use Rattle.vd_plan.specs.declared.status.Status.TheVariants.{Ended, Memory, WriteFault, NoAssignment}
 use Rattle.vd_plan.specs.declared.answer.Answer.{Answer}
-
-pub record WritesAll {E : Type 0} (bytes : List ℕ) (before now : SinkView) (result : Result (Unit {0}) E) : Type 0 where
-  pub later : before.faults ≤ now.faults
-  pub failed : OnErr result (Rose before.faults now.faults)
-  pub was_told : IsTrue now.told → IsTrue before.told
-  pub whole : IsTrue now.told → OnOk result (now.taken ≡ before.taken ++ bytes)
-  pub part : IsTrue now.told → OnErr result ((count : ℕ) × (now.taken ≡ before.taken ++ take count bytes))
 
 abbrev pub store_calls : List Stored → List FilesCall
 store_calls [] = []

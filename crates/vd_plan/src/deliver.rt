@@ -2,22 +2,12 @@
 
 ghost use Rattle.std.specs.List.{flat_map};
 ghost use Rattle.vd_plan.specs.Plans.{IsGiven};
-ghost use Rattle.vd_plan.specs.Deliver.{WritesAll, StoresOne, StoresAll, Delivers};
+ghost use Rattle.vd_outside.specs.Sink.{WritesAll};
+ghost use Rattle.vd_plan.specs.Deliver.{StoresOne, StoresAll, Delivers};
 
 use crate::{Answer, Status};
 use vd_base::{CallFault, Failed};
-use vd_outside::{Files, Sink, Stored};
-
-/// Writes all bytes.
-pub fn write_all<O: Sink>(out: &mut O, bytes: &[u8]) -> Result<(), Failed>
-    ensures { WritesAll bytes.now (O.view out.old) (O.view out.new) result }
-{
-    let mut done: usize = 0;
-    while done < bytes.len() {
-        done += out.write(&bytes[done..])? as usize;
-    }
-    Ok(())
-}
+use vd_outside::{Files, Sink, Stored, write_all};
 
 /// Writes these parts, one behind the other.
 pub fn write_parts<O: Sink>(out: &mut O, parts: &[&[u8]]) -> Result<(), Failed>

@@ -4,10 +4,10 @@ ghost use Rattle.std.specs.Prelude.{IfOk};
 ghost use Rattle.vd_plan.specs.Plans.{IsGiven};
 ghost use Rattle.vd_plan.specs.Runs.{Finishes, Prints};
 
-use crate::deliver::{deliver, write_all};
+use crate::deliver::deliver;
 use crate::{Answer, Status};
 use vd_base::Failed;
-use vd_outside::{Files, Sink};
+use vd_outside::{Files, Sink, write_all};
 
 /// Delivers what a command came to: stores its files in order, and then writes what it prints.
 pub fn finish<F: Files, O: Sink>(came: Result<Answer, Status>, files: &mut F, out: &mut O) -> Status

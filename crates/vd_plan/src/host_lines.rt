@@ -1,6 +1,6 @@
 //! The lines of hosts that did not run to their end.
 
-ghost use Rattle.vd_plan.specs.Deliver.{WritesAll};
+ghost use Rattle.vd_outside.specs.Sink.{WritesAll};
 ghost use Rattle.vd_plan.specs.Lines.{frame_line, host_line, short_deal_line, two_line};
 
 use crate::HostStatus;

@@ -12,7 +12,7 @@ mod shown;
 mod status;
 
 pub use answer::Answer;
-pub use deliver::{store_all, write_all};
+pub use deliver::store_all;
 pub use ending::{finish, print_text};
 pub use lines::tell;
 pub use loading::load;

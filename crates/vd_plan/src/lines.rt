@@ -1,12 +1,12 @@
 //! The line that says how a run ended.
 
 ghost use Rattle.std.specs.Prelude.{◌≡◌, IfSome};
-ghost use Rattle.vd_plan.specs.Deliver.{WritesAll};
+ghost use Rattle.vd_outside.specs.Sink.{WritesAll};
 ghost use Rattle.vd_plan.specs.declared.status.RuleFault.TheVariants as rule;
 ghost use Rattle.vd_plan.specs.declared.status.Status.TheVariants.{Flow};
 ghost use Rattle.vd_plan.specs.Lines.{Says, bad_deal_line, bound_line, certificate_line, child_line, cost_line, deal_line, kind_name, name_line, schedule_line, sized_line, status_line, syntax_line, rule_line, input_line, offset_line, quantity_name};
 
-use crate::deliver::{write_all, write_parts};
+use crate::deliver::write_parts;
 use crate::host_lines::write_host_status;
 use crate::shown::write_named;
 use crate::{CertificateFault, ChildCause, RuleFault, Status, SyntaxFault, TextFault};
@@ -14,7 +14,7 @@ use itoa::Buffer;
 use std::alloc::Global;
 use vd_base::Failed;
 use vd_deals::{BadItem, DealKind};
-use vd_outside::{Sink, SureSink};
+use vd_outside::{Sink, SureSink, write_all};
 use vd_resolve::Quantity;
 
 /// The most bytes of a line that is put together before it is written: as many as a pipe takes whole.

@@ -2,12 +2,12 @@
 
 ghost use Rattle.std.specs.Prelude.{◌≡◌, ◌++◌};
 ghost use Rattle.std.specs.List.{flat_map};
-ghost use Rattle.vd_plan.specs.Deliver.{WritesAll};
+ghost use Rattle.vd_outside.specs.Sink.{WritesAll};
 ghost use Rattle.vd_plan.specs.Shown.{shown, shown_byte};
 
-use crate::deliver::{write_all, write_parts};
+use crate::deliver::write_parts;
 use vd_base::Failed;
-use vd_outside::Sink;
+use vd_outside::{Sink, write_all};
 
 /// A byte as it is shown: a control character as a blank.
 pub fn shown_byte(byte: u8) -> u8

@@ -7,7 +7,8 @@ use Rattle.vd_children.specs.Runs.{RunsChildren}
 use Rattle.vd_cmd.specs.declared.command.RunWords.{RunWords}
 use Rattle.vd_outside.specs.Files.{Contents, FilesView}
 use Rattle.vd_outside.specs.declared.stored.Stored.{Stored}
-use Rattle.vd_plan.specs.Deliver.{StoresAll, WritesAll}
+use Rattle.vd_outside.specs.Sink.{WritesAll}
+use Rattle.vd_plan.specs.Deliver.{StoresAll}
 use Rattle.vd_plan.specs.Plans.{IsGiven}
 use Rattle.vd_plan.specs.declared.answer.Answer.{Answer}
 use Rattle.vd_plan.specs.declared.status.Status.{Status}

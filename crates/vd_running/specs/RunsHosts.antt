@@ -1,11 +1,11 @@
 -- What running all hosts of a compiled program comes to.
 use Rattle.std.specs.Prelude.{◌≡◌, ℕ, List, Result, Ok, Err}
 use Rattle.vd_outside.specs.Files.{FilesView}
-use Rattle.vd_outside.specs.Sink.{SinkView}
+use Rattle.vd_outside.specs.Sink.{SinkView, WritesAll}
 use Rattle.vd_outside.specs.Spawner.{SpawnerView}
 use Rattle.vd_outside.specs.declared.stored.Stored.{Stored}
 use Rattle.vd_base.specs.declared.faults.Failed.{Failed}
-use Rattle.vd_plan.specs.Deliver.{StoresAll, WritesAll}
+use Rattle.vd_plan.specs.Deliver.{StoresAll}
 use Rattle.vd_plan.specs.declared.status.Status.{Status}
 use Rattle.vd_children.specs.Runs.{RunsChildren}
 use Rattle.vd_children.specs.declared.fault.ChildrenFault.{ChildrenFault}

@@ -9,8 +9,8 @@ use crate::report::ended_text;
 use std::alloc::Global;
 use vd_base::{Names, Texts};
 use vd_children::run_children;
-use vd_outside::{Files, Sink, Spawner, Stored};
-use vd_plan::{store_all, write_all};
+use vd_outside::{Files, Sink, Spawner, Stored, write_all};
+use vd_plan::store_all;
 
 /// Stores the files of all hosts, runs the hosts as children, each by the program with its command line, and writes a line
 /// for each of what it printed. The first fault ends the run.

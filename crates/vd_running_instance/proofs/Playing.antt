@@ -7,13 +7,12 @@ use Rattle.vd_machine.specs.Kept.{state_of}
 use Rattle.vd_execution.specs.Registers.{put}
 use Rattle.vd_outside.specs.Link.{LinkView}
 use Rattle.vd_outside.specs.Net.{Accepts, Connects, HangsUp, Listens}
-use Rattle.vd_outside.specs.Sink.{SinkView}
+use Rattle.vd_outside.specs.Sink.{SinkView, WritesAll}
 use Rattle.vd_link.specs.Frames.{frames}
 use Rattle.vd_link.specs.Sessions.{Greets}
 use Rattle.vd_engine.specs.Drives.{Carries, CarriesAll, CarriesAt, SessionView, Sessions, Writes}
 use Rattle.vd_engine.specs.Events.{AtStart, Event, OneMore, Printed, Received, Sent, received_from, sent_to}
 use Rattle.vd_engine.specs.Hosts.{next_with}
-use Rattle.vd_engine.specs.Writing.{WritesAll}
 use Rattle.vd_hosting.specs.Histories.{ByAccept, ByConnect, DrivesOver, Held, NoListener, NoneBack, NoneMet, NoSession, OneBack, OneListener, OneMet, HandedBack, ended, ends_with, listening}
 use Rattle.vd_hosting.specs.Peers.{number_at, peer_at}
 use Rattle.vd_hosting.specs.Plays.{Driven, DrivesAndTells, Meets, Plays, Told}

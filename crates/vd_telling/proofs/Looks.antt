@@ -3,9 +3,8 @@ use Rattle.std.proofs.Common.{◌≡◌, ℕ, Bool, List, [], Some, None, Result
 use Rattle.std.specs.Prelude.{IfOk}
 use Rattle.std.specs.Option.{option_map_or}
 use Rattle.vd_outside.specs.Files.{FilesView, Fetches}
-use Rattle.vd_outside.specs.Sink.{SinkView}
+use Rattle.vd_outside.specs.Sink.{SinkView, WritesAll}
 use Rattle.vd_outside.specs.declared.faults.FetchFault.{FetchFault}
-use Rattle.vd_plan.specs.Deliver.{WritesAll}
 use Rattle.vd_plan.specs.declared.status.Status.{Status}
 use Rattle.vd_plan.proofs.Written.{says}
 use Rattle.vd_remarks.specs.declared.fault.TellFault.{TellFault}

@@ -11,8 +11,8 @@ use crate::remarks::remark_on;
 use crate::words::word_at;
 use std::alloc::Global;
 use vd_base::{Bytes, Texts};
-use vd_outside::{FetchFault, Files, Sink};
-use vd_plan::{Status, write_all};
+use vd_outside::{FetchFault, Files, Sink, write_all};
+use vd_plan::Status;
 use vd_remarks::{TellFault, tell};
 
 /// Where standard error goes.

@@ -1,6 +1,6 @@
 use Rattle.std.proofs.Common.{take, Ok}
 use Rattle.std.specs.List.{flat_map}
-use Rattle.vd_plan.specs.Deliver.{WritesAll}
+use Rattle.vd_outside.specs.Sink.{WritesAll}
 use Rattle.vd_base.specs.declared.faults.Failed.{Failed}
 use Rattle.vd_plan.proofs.deliver.write_parts.Given as goal
 

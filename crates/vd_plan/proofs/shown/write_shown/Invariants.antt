@@ -1,6 +1,6 @@
 use Rattle.std.proofs.Common.{take, Ok}
 use Rattle.vd_base.specs.declared.faults.Failed.{Failed}
-use Rattle.vd_plan.specs.Deliver.{WritesAll}
+use Rattle.vd_outside.specs.Sink.{WritesAll}
 use Rattle.vd_plan.specs.Shown.{shown}
 use Rattle.vd_plan.proofs.shown.write_shown.Given as goal
 

@@ -1,6 +1,6 @@
 use Rattle.std.proofs.Common.{arith}
-use Rattle.vd_link.proofs.Pieces.{taken_step, within}
-use Rattle.vd_engine.proofs.writing.write_all.Goals as goal
+use Rattle.vd_outside.proofs.Pieces.{taken_step, within}
+use Rattle.vd_outside.proofs.writing.write_all.Goals as goal
 
 pub loop-done-preserved : goal.loop-done-preserved
 loop-done-preserved g c =
