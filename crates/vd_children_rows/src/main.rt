@@ -6,8 +6,8 @@ use std::alloc::{AllocError, Global};
 use std::io::{self, Write};
 use vd_base::{Bytes, Texts, Words};
 use vd_children::{ChildrenFault, run_children};
+use vd_fakes::MemSpawner;
 use vd_items::Items;
-use vd_memory_children::MemSpawner;
 use vd_outside::{Child, Line};
 
 /// A line with these bytes, which are at most 64 and no LF.

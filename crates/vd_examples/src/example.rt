@@ -6,11 +6,9 @@ use crate::outside::{Waiting, Writing, drawn_of, net_of, push_bytes, spawner_of}
 use std::alloc::{AllocError, Global};
 use std::mem;
 use vd_base::{Bytes, Texts};
+use vd_fakes::{Mark, MemFiles, MemMarks, MemNet, MemSink, MemSpawner};
 use vd_items::Items;
-use vd_marks::{Mark, MemMarks};
-use vd_memory_children::MemSpawner;
-use vd_memory_net::MemNet;
-use vd_outside::{MemFiles, MemSink, Stored};
+use vd_outside::Stored;
 use vd_sealed_net::SealedNet;
 
 /// The room of a stream in memory.

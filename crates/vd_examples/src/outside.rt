@@ -4,9 +4,8 @@ ghost use Rattle.std.specs.Prelude.{◌≡◌, [], IfOk};
 
 use std::alloc::{AllocError, Global};
 use vd_base::Bytes;
+use vd_fakes::{MemLink, MemNet, MemSpawner};
 use vd_items::Items;
-use vd_memory_children::MemSpawner;
-use vd_memory_net::{MemLink, MemNet};
 use vd_outside::{Child, Line};
 
 /// The room of a link in memory.

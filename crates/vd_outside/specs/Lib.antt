@@ -2,14 +2,7 @@ pub mod Causes
 pub mod Files
 pub mod Line
 pub mod Link
-pub mod MemFiles
-pub mod MemSink
-pub mod Memory
 pub mod Net
 pub mod Recorded
 pub mod Sink
 pub mod Spawner
-pub mod Stored
-pub mod SureLink
-pub mod SureNet
-pub mod SureSpawner

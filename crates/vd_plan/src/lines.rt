@@ -14,7 +14,7 @@ use itoa::Buffer;
 use std::alloc::Global;
 use vd_base::Failed;
 use vd_deals::{BadItem, DealKind};
-use vd_outside::{Sink, SureSink, write_all};
+use vd_outside::{Recorder, Sink, write_all};
 use vd_resolve::Quantity;
 
 /// The most bytes of a line that is put together before it is written: as many as a pipe takes whole.
@@ -32,10 +32,10 @@ pub fn tell<E: Sink>(alloc: Global, err: &mut E, status: &Status)
 }
 
 /// The line of a status, put together. There is none where it is longer than a pipe takes whole, or there is no memory for it.
-fn line_of(alloc: Global, status: &Status) -> Option<SureSink>
+fn line_of(alloc: Global, status: &Status) -> Option<Recorder>
     ensures { IfSome result (λ line. line.bytes ≡ status_line status.now) }
 {
-    let mut line = SureSink::new(alloc, LINE_BYTES).ok()?;
+    let mut line = Recorder::new(alloc, LINE_BYTES).ok()?;
     write_status(&mut line, status).ok()?;
     if line.tells() { Some(line) } else { None }
 }

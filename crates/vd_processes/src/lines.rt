@@ -8,8 +8,7 @@ use std::alloc::Global;
 use std::io::{ErrorKind, Read};
 use vd_base::{Bytes, CallFault};
 use vd_causes::fault_of;
-use vd_outside::Line;
-use vd_outside::line::LINE_BYTES;
+use vd_outside::{LINE_BYTES, Line};
 
 /// The most bytes that a host writes: 65,538 lines, each with its line feed.
 const MOST_BYTES: usize = 65_538 * (LINE_BYTES + 1);

@@ -3,8 +3,8 @@
 use std::alloc::{AllocError, Global};
 use std::test::Fail;
 use vd_base::{Bytes, HostId};
+use vd_fakes::SureLink;
 use vd_link::{Digest, GreetFault, Session};
-use vd_outside::SureLink;
 
 /// The plan of this host, and that of the other.
 const PLAN: Digest = [7u8; 32];

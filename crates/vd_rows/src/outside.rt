@@ -5,11 +5,9 @@ ghost use Rattle.std.specs.Prelude.{◌<◌, ◌≡◌, length};
 use std::alloc::{AllocError, Global};
 use std::test::Fail;
 use vd_base::{Bytes, CallFault, Failed, Text, Texts};
+use vd_fakes::{MemFiles, MemSink, SureFiles, SureLink, SureNet, SureSink, SureSpawner};
 use vd_items::Items;
-use vd_outside::{
-    Child, FetchFault, Files, Line, Link, MemFiles, MemSink, Net, Sink, Spawner, Stored, SureFiles,
-    SureLink, SureNet, SureSink, SureSpawner,
-};
+use vd_outside::{Child, FetchFault, Files, Line, Link, Net, Sink, Spawner, Stored};
 
 /// Writes a piece twice.
 fn write_twice<S: Sink>(sink: &mut S, bytes: &[u8]) -> Result<(u32, u32), Failed>

@@ -1,0 +1,6 @@
+mod Children
+mod Fresh
+mod Pieces
+mod Places
+mod Receiving
+mod Waiting

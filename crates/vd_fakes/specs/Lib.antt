@@ -1,0 +1,11 @@
+pub mod Failing
+pub mod Found
+pub mod MemFiles
+pub mod MemLink
+pub mod MemMarks
+pub mod MemNet
+pub mod MemSink
+pub mod MemSpawner
+pub mod SureLink
+pub mod SureNet
+pub mod SureSpawner

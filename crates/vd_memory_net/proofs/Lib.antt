@@ -1,3 +1,0 @@
-mod Fresh
-mod Pieces
-mod Places

@@ -1,2 +1,0 @@
-pub mod MemLink
-pub mod MemNet
