@@ -5,7 +5,7 @@ use Rattle.std.specs.Int.Bits.{and_lt}
 use Rattle.std.proofs.lemmas.Nat.{or_lt, xor_lt, shr_le}
 use Rattle.vd_base.specs.declared.operations.Op.{Op}
 use Rattle.vd_base.specs.declared.operations.Op.TheVariants as op
-use Rattle.vd_deals.specs.Validity.{IsWord}
+use Rattle.vd_base.specs.Words.{IsWord}
 use Rattle.vd_algebra.specs.Circuits.{shl, shr, not_of, flip_of, or_of, add_of, sub_of, lt_of, le_of, eq_of, ne_of, mux_of, min_of, max_of}
 use Rattle.vd_algebra.specs.Computing.{IsResult, circuit, HasCircuit, AreWords}
 use Rattle.vd_algebra.proofs.Bits.{not_word, not_is, or_is}

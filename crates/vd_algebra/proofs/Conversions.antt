@@ -3,7 +3,8 @@ use Rattle.std.proofs.Common.{◌≡◌, ℕ, ◌+◌, ◌-◌, ◌%◌, ◌^◌
 use Rattle.std.proofs.lemmas.Nat.{xor_lt}
 use Rattle.vd_deals.specs.declared.items.PairItem.{PairItem}
 use Rattle.vd_deals.specs.Identities.{MeetsPair}
-use Rattle.vd_deals.specs.Validity.{IsWord, ArePairWords}
+use Rattle.vd_base.specs.Words.{IsWord}
+use Rattle.vd_deals.specs.Validity.{ArePairWords}
 use Rattle.vd_algebra.specs.Circuits.{add_of, sub_of}
 use Rattle.vd_algebra.specs.Sharing.{plus}
 use Rattle.vd_algebra.specs.Conversions.{bits_of_sum}

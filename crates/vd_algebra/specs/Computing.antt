@@ -4,7 +4,7 @@ use Rattle.vd_base.specs.declared.operations.Op.{Op}
 use Rattle.vd_base.specs.declared.operations.Op.TheVariants as op
 use Rattle.vd_base.specs.Costs.{xored_cost}
 use Rattle.vd_base.specs.Operations.{result_of}
-use Rattle.vd_deals.specs.Validity.{IsWord}
+use Rattle.vd_base.specs.Words.{IsWord}
 use Rattle.vd_algebra.specs.Circuits.{shl, shr, not_of, flip_of, or_of, add_of, sub_of, lt_of, le_of, eq_of, ne_of, mux_of, min_of, max_of}
 
 -- the word that the operation gives of these words

@@ -1,6 +1,6 @@
 -- Words that two hosts share: each has a part, and the parts together are the word, by exclusive or or by their sum.
 use Rattle.std.specs.Prelude.{◌≡◌, ℕ, ◌+◌, ◌-◌, ◌*◌, ◌%◌, ◌^◌, bit_xor}
-use Rattle.vd_deals.specs.Validity.{IsWord}
+use Rattle.vd_base.specs.Words.{IsWord}
 
 -- the second host has the two in the other order
 abbrev pub IsOpenedAlike : (ℕ → ℕ → ℕ) → Type 0

@@ -17,7 +17,7 @@ use Rattle.vd_outcomes.proofs.Picked.{some_outcomes}
 use Rattle.vd_asking.specs.declared.asked.Asked.{Asked}
 use Rattle.vd_asking.specs.Asking.{AreAsked, HoldAsked, asked_of, asked_then}
 use Rattle.vd_asking.specs.Deals.{HoldDeals, deals_then}
-use Rattle.vd_asking.specs.Words.{AreWords}
+use Rattle.vd_base.specs.Words.{InputsAreWords}
 use Rattle.vd_asking.specs.Schedules.{HoldsSchedule, schedule_then}
 
 module _ (texts : TextOutcomes) (outcomes : ReplayOutcomes) (words : ReplayWords) (names : List (List ℕ)) where
@@ -48,7 +48,7 @@ module _ (texts : TextOutcomes) (outcomes : ReplayOutcomes) (words : ReplayWords
         all_read now schedule third = λ rest last result then.
             first (after_inputs rest) last result (second (after_deals rest inputs) last result (third (λ s. rest (asked_of words inputs deals s)) last result then))
 
-pub are_asked : (names seen : List (List ℕ)) (asked : Asked) → length names ≤ most_hosts → seen ≡ names → length asked.inputs ≡ length names → AreWords asked.inputs → length asked.deals ≡ length seen → AreDealsOf (length seen) asked.deals
+pub are_asked : (names seen : List (List ℕ)) (asked : Asked) → length names ≤ most_hosts → seen ≡ names → length asked.inputs ≡ length names → InputsAreWords asked.inputs → length asked.deals ≡ length seen → AreDealsOf (length seen) asked.deals
     → AreAsked (length names) asked
 are_asked names seen asked few same inputs are_words all deals = record {
   few = few;

@@ -1,4 +1,3 @@
 pub mod Reading
 pub mod Loops
 pub mod AskedSteps
-pub mod WordLists

@@ -14,13 +14,13 @@ use Rattle.vd_outcomes.specs.Outcomes.{ReplayOutcomes}
 use Rattle.vd_asking.specs.declared.asked.Asked.{Asked}
 use Rattle.vd_asking.specs.Deals.{deals_then, HoldDeals}
 use Rattle.vd_asking.specs.Schedules.{schedule_then, HoldsSchedule}
-use Rattle.vd_asking.specs.Words.{AreWords}
+use Rattle.vd_base.specs.Words.{InputsAreWords}
 
 -- the inputs are words, and they and the deals are those of so many hosts
 pub record AreAsked (hosts : ℕ) (asked : Asked) : Type 0 where
   pub few : hosts ≤ most_hosts
   pub inputs : length asked.inputs ≡ hosts
-  pub words : AreWords asked.inputs
+  pub words : InputsAreWords asked.inputs
   pub all : length asked.deals ≡ hosts
   pub deals : AreDealsOf hosts asked.deals
 

@@ -1,4 +1,3 @@
 pub mod Deals
 pub mod Schedules
-pub mod Words
 pub mod Asking

@@ -6,10 +6,8 @@ mod checks;
 mod deals;
 mod loading;
 mod schedules;
-mod words;
 
 pub use asked::Asked;
 pub use checks::expect_consistent;
 pub use deals::load_deals;
 pub use loading::load_asked;
-pub use words::inputs_fit;

@@ -9,3 +9,4 @@ pub mod Arity
 pub mod Limits
 pub mod Packets
 pub mod Identities
+pub mod Words

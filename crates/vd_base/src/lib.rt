@@ -15,6 +15,7 @@ mod packet;
 mod protocols;
 mod rows;
 mod text;
+mod words;
 
 pub use arithmetic::combine;
 pub use faults::{CallFault, Failed};
@@ -31,3 +32,4 @@ pub use packet::Packet;
 pub use protocols::{HostSet, Proto};
 pub use rows::Row;
 pub use text::{Text, Texts};
+pub use words::{inputs_fit, word_fits, words_fit};

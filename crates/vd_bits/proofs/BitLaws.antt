@@ -8,7 +8,7 @@ use Rattle.vd_base.specs.declared.operations.Op.{Op}
 use Rattle.vd_base.specs.declared.operations.Op.TheVariants as op
 use Rattle.vd_base.specs.Arity.{arity}
 use Rattle.vd_base.specs.Operations.{result_of}
-use Rattle.vd_execution.specs.Deals.{IsWord}
+use Rattle.vd_base.specs.Words.{IsWord}
 use Rattle.vd_execution.specs.Joint.{Hosts}
 use Rattle.vd_execution.specs.World.{Tape}
 use Rattle.vd_execution.specs.Gadgets.{ByXors, IsSound}

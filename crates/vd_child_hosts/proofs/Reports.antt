@@ -13,7 +13,7 @@ use Rattle.vd_deals.specs.declared.deal.Deal.{Deal}
 use Rattle.vd_host_text.specs.declared.program.Digest.{Digest}
 use Rattle.vd_outside.specs.Sink.{SinkView}
 use Rattle.vd_outside.specs.declared.child.Child.{Child}
-use Rattle.vd_link.specs.Laws.{AreWords}
+use Rattle.vd_base.specs.Words.{AreWords}
 use Rattle.vd_engine.specs.Drives.{lines}
 use Rattle.vd_engine.specs.declared.engine.Ended.{Ended as Done}
 use Rattle.vd_hosting.specs.Histories.{ended as ended_text, listening as listening_text}

@@ -6,7 +6,7 @@ use Rattle.std.proofs.lemmas.Bool.{and_from, and_parts, eq-eqb, eqb-true, le-leb
 use Rattle.std.proofs.lemmas.Fmt.{decimal-digits_value, decimal_injective, digits_decimal}
 use Rattle.std.proofs.lemmas.Str.Parse.{FoldsDigits, IsDigitsTest, IsNumeralModel, numerals_by_fold}
 use Rattle.vd_base.specs.Lexical.{decimal_value, is_digit, is_numeral, number_of}
-use Rattle.vd_link.specs.Laws.{AreWords}
+use Rattle.vd_base.specs.Words.{AreWords}
 use Rattle.vd_engine.specs.Drives.{lines}
 use Rattle.vd_child_hosts.specs.Children.{text_of_lines}
 

@@ -15,7 +15,8 @@ use Rattle.vd_execution.specs.Gadgets.{Gadget}
 use Rattle.vd_execution.specs.Plans.{Plan, joint_of}
 use Rattle.vd_machine.specs.Machines.{word_item, triple_item, pair_item, list_of}
 use Rattle.vd_suite.specs.Whole.{inputs_of}
-use Rattle.vd_play.specs.Supplies.{AreFiles, AreWords, items_for}
+use Rattle.vd_base.specs.Words.{InputsAreWords}
+use Rattle.vd_play.specs.Supplies.{AreFiles, items_for}
 use Rattle.vd_play.proofs.Supplies.{files_are_valid}
 use Rattle.vd_told.specs.Told.{IsDealt}
 use Rattle.vd_views.specs.Views.{LooksAlike}
@@ -113,7 +114,7 @@ module _ (p : NormalForm) (l : Labels) (list : List ℕ) (of_two : IsOfTwo p l l
 
   -- ---- from a deal to files
 
-  module _ (given : List (List ℕ)) (few : length given ≤ 2) (words : AreWords given) (z : Tape) (deal : IsDealWith (input_words given) z) (long : IsLongEnough (counts_of (file 0 x ∷ file 1 w ∷ [])) plan z) where
+  module _ (given : List (List ℕ)) (few : length given ≤ 2) (words : InputsAreWords given) (z : Tape) (deal : IsDealWith (input_words given) z) (long : IsLongEnough (counts_of (file 0 x ∷ file 1 w ∷ [])) plan z) where
     pub again : tape_of given (read_files x w z) ≡ z
     again = tape_again x w z deal.deal given deal.inputs few (λ g s i not le. long.ends g s i not le)
 
@@ -148,7 +149,7 @@ module _ (p : NormalForm) (l : Labels) (list : List ℕ) (of_two : IsOfTwo p l l
 
   -- ---- counted
 
-  module _ (given : List (List ℕ)) (few : length given ≤ 2) (words : AreWords given) (own : (i : ℕ) → input_words given h.0 i ≡ input_words first h.0 i) where
+  module _ (given : List (List ℕ)) (few : length given ≤ 2) (words : InputsAreWords given) (own : (i : ℕ) → input_words given h.0 i ≡ input_words first h.0 i) where
     abbrev InFiles : List Deal → Type 0
     InFiles stored = ShowsTheSame h.0 plan first (file 0 x ∷ file 1 w ∷ []) given stored
 
@@ -195,7 +196,7 @@ module _ (p : NormalForm) (l : Labels) (list : List ℕ) (of_two : IsOfTwo p l l
       → (all : List (List Deal)) → AreAll (ShowsTheSame h.0 plan first (file 0 x ∷ file 1 w ∷ []) first) all
       → (others : List (List Deal)) × (length others ≡ length all) × AreAll (ShowsTheSame h.0 plan first (file 0 x ∷ file 1 w ∷ []) second) others
   files_counted second few more there here all all_first =
-      let words : AreWords first = enough.files.words in
+      let words : InputsAreWords first = enough.files.words in
       let same : (i : ℕ) → input_words first h.0 i ≡ input_words first h.0 i = λ i. refl in
       let tapes = all_there (ShowsTheSame h.0 plan first deals first) (Shows h.0 plan n t (input_words first)) (tape_of first) (read_files x w)
       (to_deal first few words same) (to_files first few words same) (files_again first few words same) (deal_again first few words same) all all_first in

@@ -17,7 +17,8 @@ use Rattle.vd_execution.specs.World.{Tape, or_zeros, zeros_of}
 use Rattle.vd_execution.specs.Deals.{IsValidDeal}
 use Rattle.vd_machine.specs.Machines.{item_or_none, word_item, triple_item, pair_item, list_of}
 use Rattle.vd_suite.specs.Whole.{inputs_of}
-use Rattle.vd_play.specs.Supplies.{AreFiles, AreWords}
+use Rattle.vd_base.specs.Words.{InputsAreWords}
+use Rattle.vd_play.specs.Supplies.{AreFiles}
 use Rattle.vd_program_views.specs.Explained.{input_words}
 use Rattle.vd_views.specs.Contract.{HasInputs}
 use Rattle.vd_deal_views.specs.Files.{tape_of, counts_of}
@@ -306,7 +307,7 @@ module _ (x y : Part) (z : Tape) (valid : IsValidDeal z) (given : List (List ℕ
   consistent (suc zero) (suc (suc s)) p q lt e f kind i = cc
   consistent (suc (suc r)) s p q lt e f kind i = cc
 
-  pub are_files : AreWords given → IsDealOf 2 0 (file 0 x) → IsDealOf 2 1 (file 1 y) → AreFiles given (read_files x y z)
+  pub are_files : InputsAreWords given → IsDealOf 2 0 (file 0 x) → IsDealOf 2 1 (file 1 y) → AreFiles given (read_files x y z)
   are_files words one two = record { words = words; few = few; dealt = dealt; consistent = consistent }
     where
       dealt : (host : ℕ) (deal : Deal) → slice_get (read_files x y z) host ≡ Some deal → IsDealOf 2 host deal

@@ -1,6 +1,7 @@
 -- When the deals of all hosts keep the identities, and which item is the first that breaks one.
-use Rattle.std.specs.Prelude.{◌≡◌, ◌≢◌, ◌⊎◌, ℕ, ◌+◌, ◌-◌, ◌^◌, ◌<◌, ◌≤◌, List, [], Some, length, slice_get, unwrap_or, All, nat_lt, if◌then◌else◌}
+use Rattle.std.specs.Prelude.{◌≡◌, ◌≢◌, ◌⊎◌, ℕ, ◌+◌, ◌-◌, ◌<◌, ◌≤◌, List, [], Some, length, slice_get, unwrap_or, All, nat_lt, if◌then◌else◌}
 use Rattle.vd_base.specs.Limits.{most_hosts, most_deal_items}
+use Rattle.vd_base.specs.Words.{IsWord}
 use Rattle.vd_deals.specs.declared.items.Triple.{Triple}
 use Rattle.vd_deals.specs.declared.items.PairItem.{PairItem}
 use Rattle.vd_deals.specs.declared.deal.Deal.{Deal}
@@ -33,10 +34,6 @@ abbrev pub Meets : Deal → Deal → DealKind → ℕ → Type 0
 Meets p q kind i = AreEqual (sides p q kind i)
 
 -- ---- which deals there are
-
--- a word of 32 bits
-abbrev pub IsWord : ℕ → Type 0
-IsWord x = x < 2 ^ 32
 
 abbrev pub AreTripleWords : Triple → Type 0
 AreTripleWords t = IsWord t.a × IsWord t.b × IsWord t.c

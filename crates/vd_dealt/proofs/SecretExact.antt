@@ -6,7 +6,7 @@ use Rattle.vd_base.specs.Limits.{most_hosts}
 use Rattle.vd_bytes.specs.Reading.{◌>>=◌, literal_at, field}
 use Rattle.vd_bytes.specs.Exact.{IsAnything, IsExact}
 use Rattle.vd_bytes.proofs.Parts.{done_exact, literal_exact, Picks, then_exact, AreEach, exact_as, exact_for}
-use Rattle.vd_deals.specs.Validity.{IsWord}
+use Rattle.vd_base.specs.Words.{IsWord}
 use Rattle.vd_digits.specs.Digits.{IsKey, key_at, key_text}
 use Rattle.vd_digits.proofs.Exact.{some_key, key_exact}
 use Rattle.vd_tape.specs.Text.{list_text, IsDealOf}

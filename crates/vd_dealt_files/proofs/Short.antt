@@ -11,7 +11,8 @@ use Rattle.vd_bytes.specs.Reading.{field}
 use Rattle.vd_deals.specs.declared.deal.Deal.{Deal}
 use Rattle.vd_deals.specs.declared.items.PairItem.{PairItem}
 use Rattle.vd_deals.specs.declared.items.Triple.{Triple}
-use Rattle.vd_deals.specs.Validity.{ArePairWords, AreTripleWords, AreWithin, IsWord, peer_at}
+use Rattle.vd_base.specs.Words.{IsWord}
+use Rattle.vd_deals.specs.Validity.{ArePairWords, AreTripleWords, AreWithin, peer_at}
 use Rattle.vd_tape.specs.Text.{deal_text, list_text, pair_text, share_text, shares_text, triple_text}
 use Rattle.vd_dealt_files.specs.Dealt.{DealTextsAreShort}
 

@@ -5,5 +5,4 @@ pub mod Enough
 pub mod Going
 pub mod Turns
 pub mod WordLines
-pub mod WordLists
 pub mod Running

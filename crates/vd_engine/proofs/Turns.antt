@@ -9,7 +9,7 @@ use Rattle.vd_base.specs.declared.packet.Packet.{Packet}
 use Rattle.vd_base.specs.declared.faults.Failed.{Failed}
 use Rattle.vd_outside.specs.Sink.{SinkView, WritesAll}
 use Rattle.vd_link.specs.Frames.{frame, frames}
-use Rattle.vd_link.specs.Laws.{AreWords}
+use Rattle.vd_base.specs.Words.{AreWords}
 use Rattle.vd_link.specs.Sessions.{IsLinkFault, Takes, offset_after}
 use Rattle.vd_link.specs.declared.faults.LinkFault.{LinkFault}
 use Rattle.vd_link.specs.declared.faults.LinkFault.TheVariants as link_fault

@@ -3,7 +3,7 @@ use Rattle.std.specs.Prelude.{◌≡◌, ℕ, ◌+◌, List, [], ◌∷◌, ◌+
 use Rattle.vd_execution.specs.Step.{Deed, Quiet, Said, Heard, Printed as Shows}
 use Rattle.vd_machine.specs.declared.want.Want.{Want}
 use Rattle.vd_machine.specs.declared.want.Want.TheVariants as want
-use Rattle.vd_link.specs.Laws.{AreWords}
+use Rattle.vd_base.specs.Words.{AreWords}
 
 -- these words, numbers of 32 bits, are what is wanted
 abbrev pub IsHeard : Want → List ℕ → Type 0

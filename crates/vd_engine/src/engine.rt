@@ -8,10 +8,9 @@ ghost use Rattle.vd_engine.specs.Turning.{Hears, IsDoneOf, IsTurnOf, Says, engin
 ghost use Rattle.vd_execution.specs.Code.{weight};
 ghost use Rattle.vd_machine.specs.Kept.{state_of};
 
-use crate::words::words_fit;
 use crate::writing::write_line;
 use crate::{EngineFault, Links};
-use vd_base::{Failed, HostId, Packet};
+use vd_base::{Failed, HostId, Packet, words_fit};
 use vd_link::{LinkFault, words_of};
 use vd_machine::{Did, Machine, Want};
 use vd_outside::{Link, Sink};

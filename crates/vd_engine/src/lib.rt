@@ -5,7 +5,6 @@ mod engine;
 mod fault;
 mod laws;
 mod links;
-mod words;
 mod writing;
 
 pub use engine::{Ended, drive};

@@ -13,7 +13,7 @@ use Rattle.vd_execution.specs.Gadgets.{Gadget}
 use Rattle.vd_execution.specs.Plans.{Plan}
 use Rattle.vd_excusing.specs.declared.step.Step.{Step}
 use Rattle.vd_hearing.specs.Difference.{view_difference}
-use Rattle.vd_play.specs.Supplies.{AreWords}
+use Rattle.vd_base.specs.Words.{InputsAreWords}
 use Rattle.vd_program_views.specs.Explained.{IsOfTwo, plan_of, AgreeFor}
 use Rattle.vd_deal_views.specs.Files.{IsExcuse}
 use Rattle.vd_deal_excuses.specs.Short.{short_kind}
@@ -38,8 +38,8 @@ fault_at p l list h first second deals = fault_of (short_kind (plan_of p l list)
 pub record AreAsked (first second : List (List ℕ)) (deals : List Deal) : Type 0 where
   pub all_first : length first ≡ 2
   pub all_second : length second ≡ 2
-  pub first_words : AreWords first
-  pub second_words : AreWords second
+  pub first_words : InputsAreWords first
+  pub second_words : InputsAreWords second
   pub all_deals : length deals ≡ 2
   pub dealt : AreDealsOf 2 deals
   pub consistent : IsConsistent deals

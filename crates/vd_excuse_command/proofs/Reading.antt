@@ -13,7 +13,7 @@ use Rattle.vd_frontend.proofs.Reading.{some_texts}
 use Rattle.vd_frontend.specs.Inputs.{inputs_then, HoldsInputs}
 use Rattle.vd_outcomes.specs.Outcomes.{ReplayOutcomes}
 use Rattle.vd_asking.specs.Deals.{HoldDeals, deals_then}
-use Rattle.vd_asking.specs.Words.{AreWords}
+use Rattle.vd_base.specs.Words.{InputsAreWords}
 use Rattle.vd_excuse_command.specs.declared.runs.Runs.{Runs}
 use Rattle.vd_excuse_command.specs.Runs.{AreRead, HoldRuns, runs_of, runs_then}
 
@@ -45,7 +45,7 @@ module _ (texts : TextOutcomes) (outcomes : ReplayOutcomes) (words : ExcuseWords
         all_read now deals three = λ rest last result then.
             one (after_first rest) last result (two (after_second rest first) last result (three (λ d. rest (runs_of first second d)) last result then))
 
-pub are_read : (names seen : List (List ℕ)) (runs : Runs) → length names ≤ most_hosts → seen ≡ names → length runs.first ≡ length names → AreWords runs.first → length runs.second ≡ length names → AreWords runs.second
+pub are_read : (names seen : List (List ℕ)) (runs : Runs) → length names ≤ most_hosts → seen ≡ names → length runs.first ≡ length names → InputsAreWords runs.first → length runs.second ≡ length names → InputsAreWords runs.second
     → length runs.deals ≡ length seen → AreDealsOf (length seen) runs.deals → AreRead (length names) runs
 are_read names seen runs few same first first_words second second_words all deals = record {
   few = few;

@@ -11,7 +11,7 @@ use Rattle.vd_frontend.specs.Outcomes.{TextOutcomes}
 use Rattle.vd_frontend.specs.Inputs.{inputs_then, HoldsInputs}
 use Rattle.vd_outcomes.specs.Outcomes.{ReplayOutcomes}
 use Rattle.vd_asking.specs.Deals.{deals_then, HoldDeals}
-use Rattle.vd_asking.specs.Words.{AreWords}
+use Rattle.vd_base.specs.Words.{InputsAreWords}
 use Rattle.vd_excuse_command.specs.declared.runs.Runs.{Runs}
 
 -- the inputs are words, and they and the deals are those of so many hosts
@@ -19,8 +19,8 @@ pub record AreRead (hosts : ℕ) (runs : Runs) : Type 0 where
   pub few : hosts ≤ most_hosts
   pub first : length runs.first ≡ hosts
   pub second : length runs.second ≡ hosts
-  pub first_words : AreWords runs.first
-  pub second_words : AreWords runs.second
+  pub first_words : InputsAreWords runs.first
+  pub second_words : InputsAreWords runs.second
   pub all : length runs.deals ≡ hosts
   pub deals : AreDealsOf hosts runs.deals
 

@@ -6,8 +6,8 @@ ghost use Rattle.vd_plan.specs.Held.{Finds};
 ghost use Rattle.vd_excuse_command.specs.Runs.{AreRead, HoldRuns, LoadsRuns};
 
 use std::alloc::Global;
-use vd_asking::{inputs_fit, load_deals};
-use vd_base::{Inputs, Names};
+use vd_asking::load_deals;
+use vd_base::{Inputs, Names, inputs_fit};
 use vd_cmd::ExcuseWords;
 use vd_deals::Deals;
 use vd_frontend::load_inputs;

@@ -1,13 +1,10 @@
 -- Valid deals: what the two hosts that share an item can rely on.
-use Rattle.std.specs.Prelude.{◌≡◌, ◌≢◌, ℕ, ◌^◌, ◌<◌, length}
+use Rattle.std.specs.Prelude.{◌≡◌, ◌≢◌, ℕ, length}
 use Rattle.vd_base.specs.Identities.{mul_left, mul_right, and_left, and_right, pair_left, pair_right}
+use Rattle.vd_base.specs.Words.{IsWord}
 use Rattle.vd_execution.specs.Registers.{nth}
 use Rattle.vd_execution.specs.Step.{Source, Triples, BitTriples, Pairs}
 use Rattle.vd_execution.specs.World.{Tape, zeros_of}
-
--- the words of an item's part
-abbrev pub IsWord : ℕ → Type 0
-IsWord x = x < 2 ^ 32
 
 -- each item has the words of its kind, and the items of each pair of hosts, at each place, meet their identities
 pub record IsValidDeal (t : Tape) : Type 0 where

@@ -27,7 +27,8 @@ use Rattle.vd_suite.proofs.Whole.{code_tells_the_same, code_runs_well}
 use Rattle.vd_whole.specs.Lists.{IsChosen, protos_of}
 use Rattle.vd_whole.proofs.Chosen.{can_run}
 use Rattle.vd_ranges.proofs.Programs.{code_is_in_range}
-use Rattle.vd_host_programs.specs.Programs.{IsRunnable, proto_at, protos_at, joint_of, host_codes, CodesCanBeLoaded, AreWords, CodesRunAsTold, CodesRunWell}
+use Rattle.vd_base.specs.Words.{InputsAreWords}
+use Rattle.vd_host_programs.specs.Programs.{IsRunnable, proto_at, protos_at, joint_of, host_codes, CodesCanBeLoaded, CodesRunAsTold, CodesRunWell}
 
 or_default : {X : Type 0} (P : X → Type 0) (xs : List X) (d : X) → All P xs → P d → (k : ℕ) → P (slice_index_or xs k d)
 or_default P [] d a z k = z
@@ -56,7 +57,7 @@ module _ (program : NormalForm) (places : List ℕ) (made : IsWellMade program) 
   chosen : IsChosen program runnable.labels places
   chosen = record { made = made; numbers = numbers; whole = runnable.whole; valid = runnable.valid }
 
-  pub program_can_run : (inputs : List (List ℕ)) → AreWords inputs → (t : Tape) → IsValidDeal t → AreGiven (inputs_of inputs) t → CanRun program (protos_at program places) inputs t
+  pub program_can_run : (inputs : List (List ℕ)) → InputsAreWords inputs → (t : Tape) → IsValidDeal t → AreGiven (inputs_of inputs) t → CanRun program (protos_at program places) inputs t
   program_can_run inputs words t deal given =
       subst (λ (f : ℕ → Proto). CanRun program f inputs t) (sym (problem_protos program runnable.labels places made))
       (can_run program runnable.labels places chosen inputs words t deal given)

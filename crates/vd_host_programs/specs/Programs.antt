@@ -1,10 +1,11 @@
 -- The code of each host of a program whose slots stand at a valid list of protocols.
-use Rattle.std.specs.Prelude.{◌≡◌, ℕ, ◌^◌, ◌<◌, IsTrue, List, [], length, map, slice_index, slice_index_or}
+use Rattle.std.specs.Prelude.{◌≡◌, ℕ, IsTrue, List, [], length, map, slice_index, slice_index_or}
 use Rattle.std.specs.List.{range_with_len}
 use Rattle.vd_base.specs.declared.protocols.Proto.{Proto}
 use Rattle.vd_base.specs.declared.protocols.Proto.TheVariants.{Local}
 use Rattle.vd_base.specs.HostSets.{host}
 use Rattle.vd_base.specs.Protocols.{protocols_of}
+use Rattle.vd_base.specs.Words.{InputsAreWords}
 use Rattle.vd_core.specs.declared.normal.NormalForm.{NormalForm}
 use Rattle.vd_core.specs.Facts.{IsWellMade}
 use Rattle.vd_constraints.specs.declared.labels.Labels.{Labels}
@@ -52,17 +53,13 @@ pub record CanBeLoaded (program : NormalForm) (places : List ℕ) (h : ℕ) : Ty
 abbrev pub CodesCanBeLoaded : Type 0
 CodesCanBeLoaded = (program : NormalForm) (places : List ℕ) → IsWellMade program → (h : ℕ) → CanBeLoaded program places h
 
--- all inputs are words
-abbrev pub AreWords : List (List ℕ) → Type 0
-AreWords inputs = (h i : ℕ) → slice_index (inputs_of inputs h) i < 2 ^ 32
-
 abbrev pub CodesRunAsTold : Type 0
 CodesRunAsTold = (program : NormalForm) (places : List ℕ) → IsWellMade program → NumbersFit program → IsRunnable program places
-    → (inputs : List (List ℕ)) → AreWords inputs → (t : Tape) → IsValidDeal t → AreGiven (inputs_of inputs) t
+    → (inputs : List (List ℕ)) → InputsAreWords inputs → (t : Tape) → IsValidDeal t → AreGiven (inputs_of inputs) t
     → RunsAsToldBy program (protos_at program places) inputs t
 
 -- on lists that are read as followed by zeros
 abbrev pub CodesRunWell : Type 0
 CodesRunWell = (program : NormalForm) (places : List ℕ) → IsWellMade program → NumbersFit program → IsRunnable program places
-    → (inputs : List (List ℕ)) → AreWords inputs → (s : Supply) → IsValidDeal (followed_by_zeros s) → AreGiven (inputs_of inputs) (followed_by_zeros s)
+    → (inputs : List (List ℕ)) → InputsAreWords inputs → (s : Supply) → IsValidDeal (followed_by_zeros s) → AreGiven (inputs_of inputs) (followed_by_zeros s)
     → RunsWell s (joint_of program places)

@@ -4,7 +4,8 @@ use Rattle.std.proofs.lemmas.Nat.{from_be_bytes-to_be_bytes_4}
 use Rattle.std.specs.List.{flat_map}
 use Rattle.std.specs.Int.{w32, to_be_bytes, from_be_bytes}
 use Rattle.vd_link.specs.Frames.{frame, frames}
-use Rattle.vd_link.specs.Laws.{AreWords, StreamsHaveOneReading, FaultsExcludePackets}
+use Rattle.vd_base.specs.Words.{AreWords}
+use Rattle.vd_link.specs.Laws.{StreamsHaveOneReading, FaultsExcludePackets}
 use Rattle.vd_link.specs.declared.faults.LinkFault.TheVariants as link_fault
 
 -- fronts of one length of the same list are the same

@@ -1,16 +1,12 @@
 -- What holds of every stream of packets.
-use Rattle.std.specs.Prelude.{◌≡◌, ◌≢◌, ◌<◌, ◌^◌, ℕ, List, [], ◌∷◌, ◌++◌, length}
+use Rattle.std.specs.Prelude.{◌≡◌, ◌≢◌, ℕ, List, [], ◌∷◌, ◌++◌, length}
+use Rattle.vd_base.specs.Words.{AreWords}
 use Rattle.vd_link.specs.Frames.{frame, frames}
 use Rattle.vd_link.specs.Sessions.{Ends, IsGreetFault, IsLinkFault, wanted_greeting}
 use Rattle.vd_link.specs.declared.faults.GreetFault.{GreetFault}
 use Rattle.vd_link.specs.declared.faults.GreetFault.TheVariants as greet_fault
 use Rattle.vd_link.specs.declared.faults.LinkFault.{LinkFault}
 use Rattle.vd_link.specs.declared.faults.LinkFault.TheVariants as link_fault
-
--- each is a number of 32 bits
-abbrev pub AreWords : List ℕ → Type 0
-AreWords [] = Unit {0}
-AreWords (word ∷ words) = (word < 2 ^ 32) × AreWords words
 
 -- each packet has words alone
 abbrev pub ArePackets : List (List ℕ) → Type 0

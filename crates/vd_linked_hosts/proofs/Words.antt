@@ -14,7 +14,8 @@ use Rattle.vd_machine.specs.declared.want.Want.TheVariants as want
 use Rattle.vd_machine.specs.Dids.{seen}
 use Rattle.vd_machine.specs.Machines.{items_of, or_empty, words_for}
 use Rattle.vd_machine.specs.Wants.{want_of}
-use Rattle.vd_link.specs.Laws.{AreWords, ArePackets}
+use Rattle.vd_base.specs.Words.{AreWords}
+use Rattle.vd_link.specs.Laws.{ArePackets}
 use Rattle.vd_engine.specs.Events.{Event, Reached, AtStart, OneMore, IsHeard, received_in, shown, packet_from, packet_to, received_from, sent_to}
 use Rattle.vd_engine.specs.Hosts.{wants_with, next_with, seen_at}
 use Rattle.vd_linked_hosts.specs.Linked.{NumberIsWord, NumbersAreWords}

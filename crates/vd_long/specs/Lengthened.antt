@@ -1,5 +1,5 @@
 -- A program in which divisions that stand at no protocol are loops of 32 turns.
-use Rattle.std.specs.Prelude.{◌≡◌, ℕ, ◌^◌, ◌<◌, slice_index, slice_index_or, nat_le, nat_lt, Bool, true, false, ◌&&◌, if◌then◌else◌, List, [], ◌∷◌, map, Option, Some, None}
+use Rattle.std.specs.Prelude.{◌≡◌, ℕ, ◌^◌, nat_le, nat_lt, Bool, true, false, ◌&&◌, if◌then◌else◌, List, [], ◌∷◌, map, Option, Some, None}
 use Rattle.std.specs.Option.{MatchOption}
 use Rattle.vd_base.specs.declared.ids.SlotId.{SlotId}
 use Rattle.vd_base.specs.declared.operations.Kind.{Kind}
@@ -43,10 +43,6 @@ numbers_fit (Stmt-F.For count body) = nat_le count (2 ^ 32)
 
 abbrev pub NumbersFit : NormalForm → Type 0
 NumbersFit program = all_meet numbers_fit program.body ≡ true
-
--- so are the inputs
-abbrev pub InputsAreWords : List (List ℕ) → Type 0
-InputsAreWords inputs = (h i : ℕ) → slice_index (slice_index_or inputs h []) i < 2 ^ 32
 
 -- the kind of a new slot: a comparison gives a truth value
 abbrev pub kind_of_op : Op → Kind

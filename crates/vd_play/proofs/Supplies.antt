@@ -8,7 +8,8 @@ use Rattle.vd_deals.specs.declared.items.PairItem.{PairItem}
 use Rattle.vd_deals.specs.declared.deal.Deal.{Deal}
 use Rattle.vd_deals.specs.declared.deal.DealKind.TheVariants.{Mul, And, Pair}
 use Rattle.vd_deals.specs.Identities.{MeetsMul, MeetsAnd, MeetsPair, zero_triple, zero_pair}
-use Rattle.vd_deals.specs.Validity.{AreTripleWords, ArePairWords, HasWords, IsWord, peer_place, shared_with}
+use Rattle.vd_base.specs.Words.{IsWord, InputsAreWords}
+use Rattle.vd_deals.specs.Validity.{AreTripleWords, ArePairWords, HasWords, peer_place, shared_with}
 use Rattle.vd_execution.specs.Registers.{nth}
 use Rattle.vd_execution.specs.Step.{Source, Inputs, OwnWords, Triples, BitTriples, Pairs}
 use Rattle.vd_execution.specs.World.{or_zeros, zeros_of, followed_by_zeros}
@@ -16,7 +17,7 @@ use Rattle.vd_execution.specs.Deals.{IsValidDeal}
 use Rattle.vd_machine.specs.Machines.{item_or_none, list_of, pair_item, triple_item, word_item}
 use Rattle.vd_suite.specs.Suite.{AreGiven}
 use Rattle.vd_suite.specs.Whole.{inputs_of}
-use Rattle.vd_play.specs.Supplies.{AreFiles, AreWords, FilesAreValid, items_for, supply_of_files}
+use Rattle.vd_play.specs.Supplies.{AreFiles, FilesAreValid, items_for, supply_of_files}
 use Rattle.vd_play.proofs.Shared.{all_meet, none_past, part}
 
 -- ---- items and zeros
@@ -99,7 +100,7 @@ module _ (inputs : List (List ℕ)) where
   lengths_at (Some d) h (BitTriples p) i = long_as (BitTriples p) triple_item (λ x. refl) (slice_get (list_of d.bits d.me.0 p) i)
   lengths_at (Some d) h (Pairs p) i = long_as (Pairs p) pair_item (λ x. refl) (slice_get (list_of d.pairs d.me.0 p) i)
 
-  words_at : AreWords inputs → (d : Deal) → HasWords d → (h : ℕ) (source : Source) (i place : ℕ) → IsWord (nth (or_zeros source (items_for inputs h (Some d) source i)) place)
+  words_at : InputsAreWords inputs → (d : Deal) → HasWords d → (h : ℕ) (source : Source) (i place : ℕ) → IsWord (nth (or_zeros source (items_for inputs h (Some d) source i)) place)
   words_at words d has h Inputs i place = words_in Inputs word_item IsWord one_word (zero_words Inputs) (inputs_of inputs h) (input_words (inputs_of inputs h) (words h)) i place
   words_at words d has h OwnWords i place = words_in OwnWords word_item IsWord one_word (zero_words OwnWords) d.own has.own i place
   words_at words d has h (Triples p) i place =
@@ -109,7 +110,7 @@ module _ (inputs : List (List ℕ)) where
   words_at words d has h (Pairs p) i place =
       words_in (Pairs p) pair_item ArePairWords two_words (zero_words (Pairs p)) (list_of d.pairs d.me.0 p) (shared_all ArePairWords d.pairs has.pairs d.me.0 p) i place
 
-  any_words : AreWords inputs → (o : Option Deal) → ((d : Deal) → o ≡ Some d → HasWords d) → (h : ℕ) (source : Source) (i place : ℕ)
+  any_words : InputsAreWords inputs → (o : Option Deal) → ((d : Deal) → o ≡ Some d → HasWords d) → (h : ℕ) (source : Source) (i place : ℕ)
       → IsWord (nth (or_zeros source (items_for inputs h o source i)) place)
   any_words words None has h source i place = zero_words source place
   any_words words (Some d) has h source i place = words_at words d (has d refl) h source i place

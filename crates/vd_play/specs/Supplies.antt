@@ -1,5 +1,6 @@
 -- What hosts take items from: the inputs and the deal of each.
-use Rattle.std.specs.Prelude.{ℕ, ◌^◌, ◌<◌, ◌≤◌, List, Option, Some, None, length, slice_get, slice_index}
+use Rattle.std.specs.Prelude.{ℕ, ◌≤◌, List, Option, Some, None, length, slice_get}
+use Rattle.vd_base.specs.Words.{InputsAreWords}
 use Rattle.vd_deals.specs.declared.deal.Deal.{Deal}
 use Rattle.vd_deals.specs.Validity.{IsConsistent}
 use Rattle.vd_tape.specs.Text.{AreDealsOf}
@@ -24,13 +25,9 @@ items_for inputs h (Some deal) source i = items_of (lists_for inputs h deal) sou
 abbrev pub supply_of_files : List (List ℕ) → List Deal → Supply
 supply_of_files inputs deals h = items_for inputs h (slice_get deals h)
 
--- all inputs are words
-abbrev pub AreWords : List (List ℕ) → Type 0
-AreWords inputs = (h i : ℕ) → slice_index (inputs_of inputs h) i < 2 ^ 32
-
 -- the inputs of at most as many hosts as there are, and a consistent deal of all of them
 pub record AreFiles (inputs : List (List ℕ)) (deals : List Deal) : Type 0 where
-  pub words : AreWords inputs
+  pub words : InputsAreWords inputs
   pub few : length inputs ≤ length deals
   pub dealt : AreDealsOf (length deals) deals
   pub consistent : IsConsistent deals

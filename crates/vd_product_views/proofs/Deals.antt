@@ -3,7 +3,8 @@ use Rattle.std.proofs.Common.{◌≡◌, ℕ, zero, suc, ◌+◌, ◌*◌, ◌%�
 use Rattle.vd_execution.specs.Registers.{nth}
 use Rattle.vd_execution.specs.Step.{Source, Inputs, OwnWords, Triples, BitTriples, Pairs}
 use Rattle.vd_execution.specs.World.{zeros_of}
-use Rattle.vd_execution.specs.Deals.{IsValidDeal, IsWord}
+use Rattle.vd_base.specs.Words.{IsWord}
+use Rattle.vd_execution.specs.Deals.{IsValidDeal}
 use Rattle.vd_views.proofs.Changed.{IsTriple, AreWords}
 use Rattle.vd_views.proofs.Excuse.{three_words, flip_triple}
 use Rattle.vd_product_views.specs.Example.{inputs_with, own_word, triple, deal_with, first_deal, second_deal}

@@ -14,14 +14,14 @@ use Rattle.vd_plan.proofs.Finding.{step_keeps, step_tells}
 use Rattle.vd_frontend.specs.Outcomes.{TextOutcomes}
 use Rattle.vd_frontend.specs.Sources.{HoldsSource, source_then}
 use Rattle.vd_frontend.proofs.Reading.{some_texts}
-use Rattle.vd_play.specs.Supplies.{AreWords}
+use Rattle.vd_base.specs.Words.{InputsAreWords}
 use Rattle.vd_asking.specs.declared.asked.Asked.{Asked}
 use Rattle.vd_asking.specs.Asking.{HoldAsked}
 use Rattle.vd_replaying.specs.Telling.{IsReplay, IsReplayOf, IsReport, IsReportOf, TellsHeadline, TellsOf, TellsProgram, TellsSource}
 
 module _ (words : ReplayWords) (before : FilesView) where
   pub program_told : (program form : NormalForm) (asked : Asked) (result : Result Answer Status) → form ≡ program → (IsTrue before.told → HoldAsked words form.hosts before.contents asked)
-      → AreWords asked.inputs → TellsOf program asked result → TellsProgram words program before result
+      → InputsAreWords asked.inputs → TellsOf program asked result → TellsProgram words program before result
   program_told program form asked (Ok answer) same held all_words tells = λ t e. record {
     asked = asked;
     held = subst (λ (f : NormalForm). HoldAsked words f.hosts before.contents asked) same (held t);

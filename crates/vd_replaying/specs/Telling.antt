@@ -16,7 +16,8 @@ use Rattle.vd_host_programs.specs.Programs.{joint_of}
 use Rattle.vd_play.specs.Loading.{AreCodesOf}
 use Rattle.vd_play.specs.Reports.{report_of}
 use Rattle.vd_play.specs.Schedules.{replayed}
-use Rattle.vd_play.specs.Supplies.{AreWords, supply_of_files}
+use Rattle.vd_base.specs.Words.{InputsAreWords}
+use Rattle.vd_play.specs.Supplies.{supply_of_files}
 use Rattle.vd_play.specs.Told.{TellsUnder}
 use Rattle.vd_plan.specs.Held.{Finds}
 use Rattle.vd_plan.specs.declared.answer.Answer.{Answer}
@@ -66,7 +67,7 @@ pub record IsReport (program : NormalForm) (outputs : List (List ℕ)) (asked : 
 pub record IsReplay (words : ReplayWords) (program : NormalForm) (outputs : List (List ℕ) → List (List ℕ)) (contents : Contents) (printed : List ℕ) : Type 0 where
   pub asked : Asked
   pub held : HoldAsked words program.hosts contents asked
-  pub are_words : AreWords asked.inputs
+  pub are_words : InputsAreWords asked.inputs
   pub report : IsReport program (outputs asked.inputs) asked printed
 
 -- The report of the program that is run for a source.

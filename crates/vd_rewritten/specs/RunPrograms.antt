@@ -11,7 +11,7 @@ use Rattle.vd_constraints.specs.Satisfies.{IsLeast, Satisfies}
 use Rattle.vd_constraints.specs.declared.labels.Labels.{Labels}
 use Rattle.vd_mux.specs.Hidden.{turn_of}
 use Rattle.vd_long.specs.Marks.{lengthen_of}
-use Rattle.vd_long.specs.Lengthened.{InputsAreWords}
+use Rattle.vd_base.specs.Words.{InputsAreWords}
 use Rattle.vd_plan.specs.declared.status.Status.{Status}
 use Rattle.vd_frontend.specs.Outcomes.{LabelOutcomes}
 use Rattle.vd_frontend.specs.Labelling.{labels_of}

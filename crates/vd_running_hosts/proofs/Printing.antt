@@ -12,7 +12,7 @@ use Rattle.vd_machine.specs.declared.want.Want.{Want}
 use Rattle.vd_machine.specs.declared.want.Want.TheVariants as want
 use Rattle.vd_machine.specs.Dids.{seen}
 use Rattle.vd_machine.specs.Machines.{or_empty}
-use Rattle.vd_link.specs.Laws.{AreWords}
+use Rattle.vd_base.specs.Words.{AreWords}
 use Rattle.vd_engine.specs.Events.{Event, Reached, AtStart, OneMore, received_in, shown, word_of, printed}
 use Rattle.vd_engine.specs.Hosts.{wants_with, next_with, seen_at}
 use Rattle.vd_linked_hosts.specs.Linked.{NumbersAreWords}

@@ -35,7 +35,7 @@ use Rattle.vd_host_text.specs.declared.program.Digest.{Digest}
 use Rattle.vd_read_back.specs.Stored.{CanBeStored, stored_program}
 use Rattle.vd_read_back.proofs.Files.{stored_programs_stand_in_files}
 use Rattle.vd_link.specs.Frames.{frames, greeting}
-use Rattle.vd_link.specs.Laws.{AreWords}
+use Rattle.vd_base.specs.Words.{AreWords}
 use Rattle.vd_link.specs.Receiving.{IsBadByte}
 use Rattle.vd_link.specs.Sessions.{Greeting, IsGreetFault, IsLinkFault}
 use Rattle.vd_link.specs.declared.faults.GreetFault.{GreetFault}

@@ -6,10 +6,11 @@ use Rattle.vd_base.specs.Limits.{most_deal_items}
 use Rattle.vd_deals.specs.declared.deal.Deal.{Deal}
 use Rattle.vd_deals.specs.declared.deal.DealKind.{DealKind}
 use Rattle.vd_deals.specs.declared.deal.DealKind.TheVariants.{Own, Mul, And, Pair}
-use Rattle.vd_deals.specs.Validity.{ArePairWords, AreTripleWords, IsWord, Meets}
+use Rattle.vd_base.specs.Words.{IsWord, InputsAreWords}
+use Rattle.vd_deals.specs.Validity.{ArePairWords, AreTripleWords, Meets}
 use Rattle.vd_tape.specs.Text.{AreDealsOf, IsDealOf}
 use Rattle.vd_suite.specs.Whole.{inputs_of}
-use Rattle.vd_play.specs.Supplies.{AreFiles, AreWords}
+use Rattle.vd_play.specs.Supplies.{AreFiles}
 use Rattle.vd_read_back.specs.Stored.{IsDigest}
 use Rattle.vd_running_instance.specs.Instance.{deal_of, deals, inputs, plan}
 

@@ -20,7 +20,8 @@ use Rattle.vd_machine.specs.Dids.{seen}
 use Rattle.vd_machine.specs.Kept.{at_start}
 use Rattle.vd_machine.specs.Machines.{item_or_none, items_of, or_empty, words_for}
 use Rattle.vd_machine.specs.Wants.{count_of, short, want_of}
-use Rattle.vd_link.specs.Laws.{ArePackets, AreWords}
+use Rattle.vd_base.specs.Words.{AreWords}
+use Rattle.vd_link.specs.Laws.{ArePackets}
 use Rattle.vd_engine.specs.Events.{Event, Reached, AtStart, OneMore, IsHeard, received_in, shown, packet_to, sent_to}
 use Rattle.vd_engine.specs.Hosts.{wants_with, next_with, seen_at}
 use Rattle.vd_linked_hosts.specs.Linked.{AreOwnHosts}

@@ -8,7 +8,7 @@ use Rattle.vd_base.specs.Protocols.{protocols_of}
 use Rattle.vd_execution.specs.Registers.{nth}
 use Rattle.vd_execution.specs.Step.{Source, Inputs, OwnWords, Triples, BitTriples, Pairs}
 use Rattle.vd_execution.specs.World.{zeros_of}
-use Rattle.vd_execution.specs.Deals.{IsWord}
+use Rattle.vd_base.specs.Words.{IsWord}
 use Rattle.vd_duet.specs.Calls.{holders}
 use Rattle.vd_duet.specs.Laws.{Each, IsHost}
 use Rattle.vd_joint.proofs.Lists.{and_left, and_right}

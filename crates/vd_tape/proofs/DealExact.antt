@@ -10,7 +10,8 @@ use Rattle.vd_bytes.specs.Exact.{IsAnything, IsExact, IsExactWhole, StopsAt}
 use Rattle.vd_bytes.proofs.Parts.{done_exact, literal_exact, Picks, then_exact, AreEach, exact_as, exact_for}
 use Rattle.vd_bytes.proofs.Whole.{whole_exact, stops_single}
 use Rattle.vd_deals.specs.declared.deal.Deal.{Deal}
-use Rattle.vd_deals.specs.Validity.{IsWord, AreTripleWords, ArePairWords, AreWithin}
+use Rattle.vd_base.specs.Words.{IsWord}
+use Rattle.vd_deals.specs.Validity.{AreTripleWords, ArePairWords, AreWithin}
 use Rattle.vd_tape.specs.declared.reading.Shares.{Shares}
 use Rattle.vd_tape.specs.Text.{list_text, shares_text, deal_text, IsDealOf, IsFileOf, IsDealText}
 use Rattle.vd_tape.specs.Outcome.{DealsFollowGrammar}

@@ -9,7 +9,8 @@ use Rattle.vd_bytes.proofs.Parts.{done_exact, byte_exact, Picks, then_exact, Are
 use Rattle.vd_bytes.proofs.Numbers.{AtMost, field_exact}
 use Rattle.vd_deals.specs.declared.items.Triple.{Triple}
 use Rattle.vd_deals.specs.declared.items.PairItem.{PairItem}
-use Rattle.vd_deals.specs.Validity.{IsWord, AreTripleWords, ArePairWords}
+use Rattle.vd_base.specs.Words.{IsWord}
+use Rattle.vd_deals.specs.Validity.{AreTripleWords, ArePairWords}
 use Rattle.vd_tape.specs.Text.{triple_text, pair_text, list_text}
 use Rattle.vd_tape.specs.Reading.{word_at, triple_at, pair_at, list_at}
 

@@ -8,7 +8,8 @@ use Rattle.vd_bytes.proofs.Parts.{bind_assoc, done_exact, literal_exact, Picks, 
 use Rattle.vd_deals.specs.declared.items.Triple.{Triple}
 use Rattle.vd_deals.specs.declared.items.PairItem.{PairItem}
 use Rattle.vd_deals.specs.Identities.{zero_triple, zero_pair}
-use Rattle.vd_deals.specs.Validity.{IsWord, AreTripleWords, ArePairWords, peer_at}
+use Rattle.vd_base.specs.Words.{IsWord}
+use Rattle.vd_deals.specs.Validity.{AreTripleWords, ArePairWords, peer_at}
 use Rattle.vd_tape.specs.declared.reading.Share.{Share}
 use Rattle.vd_tape.specs.declared.reading.Shares.{Shares}
 use Rattle.vd_tape.specs.Text.{triple_text, pair_text, list_text, share_text, shares_text}

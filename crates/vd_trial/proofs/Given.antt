@@ -14,7 +14,7 @@ use Rattle.vd_needs.specs.Sizes.{sizes_of}
 use Rattle.vd_base.specs.Limits.{most_hosts}
 use Rattle.vd_asking.specs.declared.asked.Asked.{Asked}
 use Rattle.vd_asking.specs.Asking.{AreAsked}
-use Rattle.vd_asking.specs.Words.{AreWords}
+use Rattle.vd_base.specs.Words.{InputsAreWords}
 use Rattle.vd_trial.specs.Trial.{asked_by, most_inputs, trial_input, trial_inputs, trial_words}
 
 -- ---- inputs
@@ -30,7 +30,7 @@ input_below : (many host number : ℕ) → many ≤ 2 ^ 32 → number < many →
 input_below many zero number most below = omega (arith, most, below)
 input_below many (suc host) number most below = omega arith
 
-pub inputs_are_words : (hosts many : ℕ) → many ≤ 2 ^ 32 → AreWords (trial_inputs hosts many)
+pub inputs_are_words : (hosts many : ℕ) → many ≤ 2 ^ 32 → InputsAreWords (trial_inputs hosts many)
 inputs_are_words hosts many most =
     at_each (λ (words : List ℕ). (i : ℕ) → slice_index words i < 2 ^ 32) hosts (trial_words many) []
     (λ host declared. at_each (λ (x : ℕ). x < 2 ^ 32) many (trial_input host) 0 (λ number below. input_below many host number most below) (omega arith)) (λ i. omega arith)

@@ -6,7 +6,8 @@ use mathlib.Core.Path.{fun_ext}
 use Rattle.vd_execution.specs.Registers.{nth}
 use Rattle.vd_execution.specs.Step.{Source, Inputs, OwnWords, Triples, BitTriples, Pairs, same_source}
 use Rattle.vd_execution.specs.World.{Tape, zeros_of}
-use Rattle.vd_execution.specs.Deals.{IsValidDeal, IsWord}
+use Rattle.vd_base.specs.Words.{IsWord}
+use Rattle.vd_execution.specs.Deals.{IsValidDeal}
 use Rattle.vd_execution.proofs.Puts.{same_or_not}
 use Rattle.vd_views.specs.Excused.{with_item}
 use Rattle.vd_views.proofs.Frames.{itself}

@@ -4,7 +4,8 @@ use mathlib.Core.Path.{fun_ext}
 use Rattle.vd_execution.specs.Registers.{nth}
 use Rattle.vd_execution.specs.Step.{Source, Inputs, OwnWords, Triples, BitTriples, Pairs}
 use Rattle.vd_execution.specs.World.{Tape, zeros_of}
-use Rattle.vd_execution.specs.Deals.{IsValidDeal, IsWord}
+use Rattle.vd_base.specs.Words.{IsWord}
+use Rattle.vd_execution.specs.Deals.{IsValidDeal}
 use Rattle.vd_execution.specs.Joint.{fresh}
 use Rattle.vd_execution.specs.Gadgets.{Gadget, IsSound}
 use Rattle.vd_execution.specs.Plans.{Plan}

@@ -10,7 +10,8 @@ use Rattle.vd_execution.specs.declared.instructions.Act.{Act}
 use Rattle.vd_execution.specs.Registers.{applied, nth}
 use Rattle.vd_execution.specs.Step.{Source, Inputs, OwnWords, Triples, BitTriples, Pairs, same_source}
 use Rattle.vd_execution.specs.World.{Tape}
-use Rattle.vd_execution.specs.Deals.{IsValidDeal, IsWord}
+use Rattle.vd_base.specs.Words.{IsWord}
+use Rattle.vd_execution.specs.Deals.{IsValidDeal}
 use Rattle.vd_execution.specs.Joint.{Host, Hosts, acted}
 use Rattle.vd_execution.specs.Acts.{run_acts}
 use Rattle.vd_execution.proofs.Puts.{put_same, put_other}

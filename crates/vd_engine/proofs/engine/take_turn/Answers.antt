@@ -1,7 +1,7 @@
 use Rattle.std.proofs.Common.{ℕ, List, ap, subst, sym, ◌∙◌}
 use Rattle.vd_execution.specs.Step.{Deed, need}
 use Rattle.vd_machine.specs.Kept.{state_of}
-use Rattle.vd_link.specs.Laws.{AreWords}
+use Rattle.vd_base.specs.Words.{AreWords}
 use Rattle.vd_engine.specs.Drives.{sessions_of}
 use Rattle.vd_engine.specs.Hosts.{next_with, seen_at, stands_in, wants_with}
 use Rattle.vd_engine.specs.Turning.{IsDone}
@@ -33,7 +33,7 @@ returns-in-Ok-clause-turn g c =
     (awaits (stands_in c.args.links.now) m.lists (state_of m).cursors (state_of m).registers (state_of m).pending c.in-Words.host c.in-Words.count c.requires.packets is).quiet
     c.requires.sound (c.in-Ok.ensures {u = tt})
     (c.step-in-Ok.ensures.state ∙ ap (λ (words : List ℕ). next_with m.lists (state_of m) words) c.words_of-words.ensures.same)
-    (subst AreWords c.words_of-words.ensures.same c.words_fit.ensures)
+    (subst AreWords c.words_of-words.ensures.same c.words_fit.ensures.each)
 
 pub returns-in-Err-clause-turn : goal.returns-in-Err-clause-turn
 returns-in-Err-clause-turn g c =

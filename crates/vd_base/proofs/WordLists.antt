@@ -1,6 +1,11 @@
 -- What stands at each place of a list of words, and past its end.
 use Rattle.std.proofs.Common.{ℕ, zero, suc, ◌<◌, ◌^◌, List, [], ◌∷◌, length, arith}
 use Rattle.std.specs.Prelude.{slice_index, slice_index_or}
+use Rattle.vd_base.specs.Words.{AreWords}
+
+pub all_words : (words : List ℕ) → ((place : ℕ) → place < length words → slice_index words place < 2 ^ 32) → AreWords words
+all_words [] each = tt
+all_words (word ∷ words) each = (each 0 (omega arith), all_words words (λ place less. each (suc place) (omega (arith, less))))
 
 pub each_word : (xs : List ℕ) → ((i : ℕ) → i < length xs → slice_index xs i < 2 ^ 32) → (i : ℕ) → slice_index xs i < 2 ^ 32
 each_word [] all i = omega arith
