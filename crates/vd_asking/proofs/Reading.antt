@@ -4,8 +4,8 @@ use Rattle.vd_base.specs.Limits.{most_deal_bytes, most_hosts, most_schedule_byte
 use Rattle.vd_outside.specs.Files.{FilesView}
 use Rattle.vd_bytes.specs.Reading.{capped}
 use Rattle.vd_deals.specs.declared.deal.Deal.{Deal}
-use Rattle.vd_tape.specs.declared.fault.TapeFault.{TapeFault}
-use Rattle.vd_tape.specs.declared.fault.TapeFault.TheVariants as tape_fault
+use Rattle.vd_base.specs.declared.faults.FileFault.{FileFault}
+use Rattle.vd_base.specs.declared.faults.FileFault.TheVariants as file_fault
 use Rattle.vd_dealt.specs.Plain.{Accepts, Refuses}
 use Rattle.vd_report.specs.Outcome.{FirstWrong, Accepts as TextAccepts, Refuses as TextRefuses}
 use Rattle.vd_report.specs.declared.fault.ReadFault.{ReadFault}
@@ -34,15 +34,15 @@ found name file limit before now bytes seen (Err status) Is named loads same is 
 -- ---- one deal
 
 -- a deal, or a fault, as the reader answers it
-abbrev pub as_read : Result Deal ℕ → Result Deal TapeFault
+abbrev pub as_read : Result Deal ℕ → Result Deal FileFault
 as_read (Ok deal) = Ok deal
-as_read (Err offset) = Err (tape_fault.Text (capped offset))
+as_read (Err offset) = Err (file_fault.Text (capped offset))
 
 -- the one outcome of a deal file is the one that was answered
-pub deal_answered : (hosts me : ℕ) (bytes : List ℕ) (result : Result Deal TapeFault) → (result ≡ Err tape_fault.Memory → ⊥) → Accepts hosts me bytes result → Refuses hosts me bytes result
+pub deal_answered : (hosts me : ℕ) (bytes : List ℕ) (result : Result Deal FileFault) → (result ≡ Err file_fault.Memory → ⊥) → Accepts hosts me bytes result → Refuses hosts me bytes result
     → (said : Result Deal ℕ) → IsDealRead hosts me bytes said → result ≡ as_read said
 deal_answered hosts me bytes result other accepts refuses (Ok deal) is = (accepts other deal).1 is
-deal_answered hosts me bytes result other accepts refuses (Err offset) is = (refuses other (tape_fault.Text (capped offset))).1 (offset, is, refl)
+deal_answered hosts me bytes result other accepts refuses (Err offset) is = (refuses other (file_fault.Text (capped offset))).1 (offset, is, refl)
 
 pub deal_given : (outcomes : ReplayOutcomes) (hosts me : ℕ) (name bytes : List ℕ) (deal : Deal) → hosts ≤ most_hosts → me < hosts → Accepts hosts me bytes (Ok deal) → Refuses hosts me bytes (Ok deal)
     → deal_of outcomes hosts me name bytes ≡ Ok deal
@@ -54,12 +54,12 @@ deal_given outcomes hosts me name bytes deal few declared accepts refuses =
     at (Err offset) e = absurd (cc e)
 
 pub deal_refused : (outcomes : ReplayOutcomes) (hosts me : ℕ) (name bytes : List ℕ) (offset : ℕ) → hosts ≤ most_hosts → me < hosts
-    → Accepts hosts me bytes (Err (tape_fault.Text offset)) → Refuses hosts me bytes (Err (tape_fault.Text offset)) → deal_of outcomes hosts me name bytes ≡ Err (DealText name offset)
+    → Accepts hosts me bytes (Err (file_fault.Text offset)) → Refuses hosts me bytes (Err (file_fault.Text offset)) → deal_of outcomes hosts me name bytes ≡ Err (DealText name offset)
 deal_refused outcomes hosts me name bytes offset few declared accepts refuses =
     at (outcomes.deal hosts me bytes)
-    (deal_answered hosts me bytes (Err (tape_fault.Text offset)) (λ e. cc e) accepts refuses (outcomes.deal hosts me bytes) (outcomes.deal_is hosts me bytes few declared))
+    (deal_answered hosts me bytes (Err (file_fault.Text offset)) (λ e. cc e) accepts refuses (outcomes.deal hosts me bytes) (outcomes.deal_is hosts me bytes few declared))
   where
-    at : (said : Result Deal ℕ) → Err (tape_fault.Text offset) ≡ as_read said → as_deal name said ≡ Err (DealText name offset)
+    at : (said : Result Deal ℕ) → Err (file_fault.Text offset) ≡ as_read said → as_deal name said ≡ Err (DealText name offset)
     at (Ok other) e = absurd (cc e)
     at (Err other) e = let same : capped other ≡ offset = cc e in ap (λ (n : ℕ). Err (DealText name n)) same
 

@@ -11,13 +11,12 @@ ghost use Rattle.vd_outcomes.specs.Outcomes.{ReplayOutcomes};
 
 use std::alloc::Global;
 use vd_base::limits::DEAL_BYTES;
-use vd_base::{HostId, Name};
+use vd_base::{FileFault, HostId, Name};
 use vd_deals::{Deal, Deals};
 use vd_dealt::read_plain_deal;
 use vd_items::Items;
 use vd_outside::Files;
 use vd_plan::{Status, file_name, load};
-use vd_tape::TapeFault;
 
 /// The deal of a host among so many, or why there is none.
 fn deal_in(alloc: Global, bytes: &[u8], hosts: u8, number: u8, name: &Name) -> Result<Deal, Status>
@@ -29,11 +28,11 @@ fn deal_in(alloc: Global, bytes: &[u8], hosts: u8, number: u8, name: &Name) -> R
 {
     match read_plain_deal(alloc, bytes, hosts, HostId(number)) {
         Ok(deal) => Ok(deal),
-        Err(TapeFault::Text(offset)) => {
+        Err(FileFault::Text(offset)) => {
             let name = Name::from_slice(alloc, name.as_slice())?;
             Err(Status::DealText(name, offset))
         }
-        Err(TapeFault::Memory) => Err(Status::Memory),
+        Err(FileFault::Memory) => Err(Status::Memory),
     }
 }
 

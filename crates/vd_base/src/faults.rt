@@ -1,5 +1,6 @@
 ghost use Rattle.std.specs.Prelude.{◌≡◌};
 ghost use Rattle.vd_base.specs.declared.faults.CallFault.TheVariants as call_fault;
+ghost use Rattle.vd_base.specs.declared.faults.FileFault.TheVariants as file_fault;
 
 use std::alloc::AllocError;
 use std::error::Error;
@@ -42,5 +43,33 @@ impl From<AllocError> for CallFault {
 
     fn from(_: AllocError) -> Self {
         CallFault::Memory
+    }
+}
+
+/// Why bytes were refused as a file that machines write. An offset counts bytes, and is `u32::MAX` where it would be larger.
+#[derive(Clone, Copy, Debug, PartialEq, Eq)]
+pub enum FileFault {
+    /// The byte at this offset cannot stand there. The end of the file stands at its length.
+    Text(u32),
+    /// There was no memory left.
+    Memory,
+}
+
+impl fmt::Display for FileFault {
+    fn fmt<W: fmt::Write>(&self, f: &mut fmt::Formatter<W>) -> fmt::Result {
+        match self {
+            FileFault::Text(offset) => write!(f, "unexpected text at {offset}"),
+            FileFault::Memory => write!(f, "out of memory"),
+        }
+    }
+}
+
+impl Error for FileFault {}
+
+impl From<AllocError> for FileFault {
+    ghost from_gives = { λ _ fault. fault ≡ file_fault.Memory };
+
+    fn from(_: AllocError) -> Self {
+        FileFault::Memory
     }
 }

@@ -18,7 +18,7 @@ mod text;
 mod words;
 
 pub use arithmetic::combine;
-pub use faults::{CallFault, Failed};
+pub use faults::{CallFault, Failed, FileFault};
 pub use form::Form;
 pub use host_state::HostState;
 pub use ids::{HostId, SlotId, Span};

@@ -5,8 +5,8 @@ use Rattle.std.specs.Option.{option_map_or}
 use Rattle.std.proofs.lemmas.Bool.{eq-eqb, ne_eqb}
 use Rattle.vd_prefixes.specs.declared.shift.Shift.{Shift}
 use Rattle.vd_certificate.specs.declared.certificate.Mark.{Mark}
-use Rattle.vd_certificate.specs.declared.fault.TextFault.{TextFault}
-use Rattle.vd_certificate.specs.declared.fault.TextFault.TheVariants.{Text, Memory}
+use Rattle.vd_base.specs.declared.faults.FileFault.{FileFault}
+use Rattle.vd_base.specs.declared.faults.FileFault.TheVariants.{Text, Memory}
 use Rattle.vd_certificate.specs.Steps.{Said, ShiftMoves}
 use Rattle.vd_certificate.specs.Texts.{newline}
 use Rattle.vd_certificate.specs.Scan.{Scanner, word, number, digits_after, read_to, stops_at, first_digit, with_digit, scan_marks, certificate, at_end, mark_of, scan_shift, scan_shifts}
@@ -117,7 +117,7 @@ shift_taken count taken shifts shift next bytes at end more is =
     let one : count - taken ≡ suc (count - (taken + 1)) = omega arith in
     ap (λ n. scan_shifts n shifts next (drop at bytes)) one ∙ is
 
-pub shift_refused : (count taken : ℕ) (shifts : List Shift) (next : List Shift → Scanner) (bytes : List ℕ) (at : ℕ) (fault : TextFault) → taken < count → ShiftMoves bytes at (Err fault)
+pub shift_refused : (count taken : ℕ) (shifts : List Shift) (next : List Shift → Scanner) (bytes : List ℕ) (at : ℕ) (fault : FileFault) → taken < count → ShiftMoves bytes at (Err fault)
     → Said bytes (scan_shifts (count - taken) shifts next (drop at bytes)) (Err fault)
 shift_refused count taken shifts next bytes at (Text stop) more is =
     let one : count - taken ≡ suc (count - (taken + 1)) = omega arith in

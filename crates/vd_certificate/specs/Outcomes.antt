@@ -1,8 +1,8 @@
 -- What a file is, read as a certificate: the certificate whose text it is, or the first offset at which no text goes on.
 use Rattle.std.specs.Prelude.{◌≡◌, ℕ, List, [], ◌∷◌, ◌++◌, length, Result, Ok, Err}
 use Rattle.vd_certificate.specs.declared.certificate.Certificate.{Certificate}
-use Rattle.vd_certificate.specs.declared.fault.TextFault.{TextFault}
-use Rattle.vd_certificate.specs.declared.fault.TextFault.TheVariants.{Text, Memory}
+use Rattle.vd_base.specs.declared.faults.FileFault.{FileFault}
+use Rattle.vd_base.specs.declared.faults.FileFault.TheVariants.{Text, Memory}
 use Rattle.vd_certificate.specs.Texts.{IsTextOf}
 
 -- some text begins so
@@ -35,13 +35,13 @@ pub record HasOneOutcome (bytes : List ℕ) : Type 0 where
   pub single : (other : Result Certificate ℕ) → HasOutcome bytes other → other ≡ outcome
 
 -- The answer of a reader: whatever outcome the file has, it is that one, unless memory is wanting.
-abbrev pub Answers : List ℕ → Result Certificate TextFault → Type 0
+abbrev pub Answers : List ℕ → Result Certificate FileFault → Type 0
 Answers bytes (Ok c) = (outcome : Result Certificate ℕ) → HasOutcome bytes outcome → outcome ≡ Ok c
 Answers bytes (Err (Text offset)) = (outcome : Result Certificate ℕ) → HasOutcome bytes outcome → outcome ≡ Err offset
 Answers bytes (Err Memory) = Unit {0}
 
 -- what is refused has a first offset at which no text goes on, unless memory is wanting
-abbrev pub Refuses : List ℕ → Result Certificate TextFault → Type 0
+abbrev pub Refuses : List ℕ → Result Certificate FileFault → Type 0
 Refuses bytes (Ok c) = Unit {0}
 Refuses bytes (Err (Text offset)) = IsFirstWrong bytes offset
 Refuses bytes (Err Memory) = Unit {0}

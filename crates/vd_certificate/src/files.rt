@@ -7,15 +7,14 @@ ghost use Rattle.vd_certificate.specs.Texts.{IsCertificate, IsTextOf, text_of};
 ghost use Rattle.vd_certificate.specs.declared.certificate.Certificate.{Certificate as Certificates};
 
 use crate::certificate::Certificate;
-use crate::fault::TextFault;
 use crate::reader::read_certificate;
 use crate::writer::write_certificate;
 use std::alloc::{AllocError, Global};
-use vd_base::Bytes;
+use vd_base::{Bytes, FileFault};
 
 impl Certificate {
     /// The certificate whose text the bytes are. They are refused at the first offset at which no certificate goes on.
-    pub fn read(alloc: Global, bytes: &[u8]) -> Result<Certificate, TextFault>
+    pub fn read(alloc: Global, bytes: &[u8]) -> Result<Certificate, FileFault>
         requires few { length bytes.now ≤ most_certificate_bytes }
         ensures given { IfOk result (λ c. IsTextOf c bytes.now) }
         ensures refused { Refuses bytes.now result }

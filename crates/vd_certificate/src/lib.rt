@@ -2,11 +2,9 @@
 #![tactic(auto)]
 
 mod certificate;
-mod fault;
 mod files;
 mod reader;
 mod writer;
 
 pub use certificate::{Certificate, Mark};
-pub use fault::TextFault;
 pub use files::{files_have_one_outcome, texts_are_read_back};

@@ -6,15 +6,14 @@ ghost use Rattle.vd_certificate.specs.Scan.{choice, first_digit, mark_of, number
 ghost use Rattle.vd_certificate.specs.Steps.{AddMoves, Moves, Numbers, Said, ShiftMoves};
 
 use crate::certificate::{Certificate, Mark};
-use crate::fault::TextFault;
 use std::alloc::Global;
-use vd_base::is_digit;
 use vd_base::limits::CERTIFICATE_SHIFTS;
+use vd_base::{FileFault, is_digit};
 use vd_items::Items;
 use vd_prefixes::Shift;
 
 /// A certificate, byte by byte.
-pub(crate) fn read_certificate(alloc: Global, bytes: &[u8]) -> Result<Certificate, TextFault>
+pub(crate) fn read_certificate(alloc: Global, bytes: &[u8]) -> Result<Certificate, FileFault>
     requires few { length bytes.now ≤ most_certificate_bytes }
     ensures { Said bytes.now (scan bytes.now) result }
 {
@@ -23,12 +22,12 @@ pub(crate) fn read_certificate(alloc: Global, bytes: &[u8]) -> Result<Certificat
         Some(b'1') => read_first(alloc, bytes, at + 1),
         Some(b'2') => read_further(alloc, bytes, at + 1, false),
         Some(b'3') => read_further(alloc, bytes, at + 1, true),
-        _ => Err(TextFault::Text(at as u32)),
+        _ => Err(FileFault::Text(at as u32)),
     }
 }
 
 /// Behind the number of the first form.
-fn read_first(alloc: Global, bytes: &[u8], start: usize) -> Result<Certificate, TextFault>
+fn read_first(alloc: Global, bytes: &[u8], start: usize) -> Result<Certificate, FileFault>
     requires few { length bytes.now ≤ most_certificate_bytes }
     requires start { start ≤ length bytes.now }
     ensures { Said bytes.now (scan_first (drop start bytes.now)) result }
@@ -37,12 +36,12 @@ fn read_first(alloc: Global, bytes: &[u8], start: usize) -> Result<Certificate, 
     match bytes.get(at) {
         Some(b'c') => read_least(alloc, bytes, at + 1),
         Some(b'e') => read_empty(alloc, bytes, at + 1),
-        _ => Err(TextFault::Text(at as u32)),
+        _ => Err(FileFault::Text(at as u32)),
     }
 }
 
 /// Behind the first letter of a cost.
-fn read_least(alloc: Global, bytes: &[u8], start: usize) -> Result<Certificate, TextFault>
+fn read_least(alloc: Global, bytes: &[u8], start: usize) -> Result<Certificate, FileFault>
     requires few { length bytes.now ≤ most_certificate_bytes }
     requires start { start ≤ length bytes.now }
     ensures { Said bytes.now (scan_least (drop start bytes.now)) result }
@@ -60,7 +59,7 @@ fn read_least(alloc: Global, bytes: &[u8], start: usize) -> Result<Certificate, 
 }
 
 /// Behind the first letter of the claim that there is no list.
-fn read_empty(alloc: Global, bytes: &[u8], start: usize) -> Result<Certificate, TextFault>
+fn read_empty(alloc: Global, bytes: &[u8], start: usize) -> Result<Certificate, FileFault>
     requires few { length bytes.now ≤ most_certificate_bytes }
     requires start { start ≤ length bytes.now }
     ensures { Said bytes.now (scan_empty (drop start bytes.now)) result }
@@ -75,7 +74,7 @@ fn read_further(
     bytes: &[u8],
     start: usize,
     linked: bool,
-) -> Result<Certificate, TextFault>
+) -> Result<Certificate, FileFault>
     requires few { length bytes.now ≤ most_certificate_bytes }
     requires start { start ≤ length bytes.now }
     ensures { Said bytes.now (scan_further linked (drop start bytes.now)) result }
@@ -92,7 +91,7 @@ fn read_listed(
     start: usize,
     linked: bool,
     cost: u32,
-) -> Result<Certificate, TextFault>
+) -> Result<Certificate, FileFault>
     requires few { length bytes.now ≤ most_certificate_bytes }
     requires start { start ≤ length bytes.now }
     ensures { Said bytes.now (scan_listed linked cost (drop start bytes.now)) result }
@@ -110,7 +109,7 @@ fn read_counted(
     linked: bool,
     cost: u32,
     count: u32,
-) -> Result<Certificate, TextFault>
+) -> Result<Certificate, FileFault>
     requires few { length bytes.now ≤ most_certificate_bytes }
     requires start { start ≤ length bytes.now }
     ensures { Said bytes.now (scan_counted linked cost count (drop start bytes.now)) result }
@@ -130,7 +129,7 @@ fn read_counted(
 }
 
 /// The line of a shift.
-fn read_shift(bytes: &[u8], start: usize) -> Result<(Shift, usize), TextFault>
+fn read_shift(bytes: &[u8], start: usize) -> Result<(Shift, usize), FileFault>
     requires few { length bytes.now ≤ most_certificate_bytes }
     requires start { start ≤ length bytes.now }
     ensures { ShiftMoves bytes.now start result }
@@ -152,7 +151,7 @@ fn read_shift(bytes: &[u8], start: usize) -> Result<(Shift, usize), TextFault>
 }
 
 /// Whether an amount is added.
-fn read_sign(bytes: &[u8], at: usize) -> Result<(bool, usize), TextFault>
+fn read_sign(bytes: &[u8], at: usize) -> Result<(bool, usize), FileFault>
     requires few { length bytes.now ≤ most_certificate_bytes }
     requires at { at ≤ length bytes.now }
     ensures { AddMoves bytes.now at result }
@@ -160,7 +159,7 @@ fn read_sign(bytes: &[u8], at: usize) -> Result<(bool, usize), TextFault>
     match bytes.get(at) {
         Some(b'+') => Ok((true, at + 1)),
         Some(b'-') => Ok((false, at + 1)),
-        _ => Err(TextFault::Text(at as u32)),
+        _ => Err(FileFault::Text(at as u32)),
     }
 }
 
@@ -172,7 +171,7 @@ fn read_marks(
     linked: bool,
     shifts: Items<Shift>,
     marks: Items<Mark>,
-) -> Result<Certificate, TextFault>
+) -> Result<Certificate, FileFault>
     requires few { length bytes.now ≤ most_certificate_bytes }
     requires start { start ≤ length bytes.now }
     ensures { Said bytes.now (scan_marks cost linked shifts marks (drop start bytes.now)) result }
@@ -182,7 +181,7 @@ fn read_marks(
         let byte = bytes[at];
         if byte == b'\n' {
             if at + 1 < bytes.len() {
-                return Err(TextFault::Text((at + 1) as u32));
+                return Err(FileFault::Text((at + 1) as u32));
             }
             return Ok(Certificate {
                 cost,
@@ -192,11 +191,11 @@ fn read_marks(
             });
         }
         let Some(mark) = mark_at(byte) else {
-            return Err(TextFault::Text(at as u32));
+            return Err(FileFault::Text(at as u32));
         };
         marks.push(mark)?;
     }
-    Err(TextFault::Text(bytes.len() as u32))
+    Err(FileFault::Text(bytes.len() as u32))
 }
 
 /// The mark that has this letter.
@@ -213,7 +212,7 @@ fn mark_at(letter: u8) -> Option<Mark>
 }
 
 /// A word that must stand there: the offset behind it.
-fn read_word(bytes: &[u8], start: usize, expected: &[u8]) -> Result<usize, TextFault>
+fn read_word(bytes: &[u8], start: usize, expected: &[u8]) -> Result<usize, FileFault>
     requires few { length bytes.now ≤ most_certificate_bytes }
     requires start { start ≤ length bytes.now }
     ensures { Moves bytes.now (word expected.now (drop start bytes.now)) result }
@@ -221,10 +220,10 @@ fn read_word(bytes: &[u8], start: usize, expected: &[u8]) -> Result<usize, TextF
     let mut at = start;
     for byte in expected {
         if at == bytes.len() {
-            return Err(TextFault::Text(at as u32));
+            return Err(FileFault::Text(at as u32));
         }
         if bytes[at] != *byte {
-            return Err(TextFault::Text(at as u32));
+            return Err(FileFault::Text(at as u32));
         }
         at += 1;
     }
@@ -238,16 +237,16 @@ fn read_number(
     least: u32,
     most: u32,
     end: u8,
-) -> Result<(u32, usize), TextFault>
+) -> Result<(u32, usize), FileFault>
     requires few { length bytes.now ≤ most_certificate_bytes }
     requires start { start ≤ length bytes.now }
     ensures { Numbers bytes.now least most (number least most end (drop start bytes.now)) result }
 {
     if start == bytes.len() {
-        return Err(TextFault::Text(start as u32));
+        return Err(FileFault::Text(start as u32));
     }
     let Some(first) = first_digit_of(bytes[start], least, most) else {
-        return Err(TextFault::Text(start as u32));
+        return Err(FileFault::Text(start as u32));
     };
     let mut number = first;
     for at in start + 1..bytes.len() {
@@ -256,11 +255,11 @@ fn read_number(
             return Ok((number, at + 1));
         }
         let Some(next) = with_further_digit(number, byte, most) else {
-            return Err(TextFault::Text(at as u32));
+            return Err(FileFault::Text(at as u32));
         };
         number = next;
     }
-    Err(TextFault::Text(bytes.len() as u32))
+    Err(FileFault::Text(bytes.len() as u32))
 }
 
 /// The number of one digit, where it is in the range.

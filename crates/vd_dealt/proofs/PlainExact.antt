@@ -4,8 +4,8 @@ use Rattle.vd_base.specs.Limits.{most_hosts}
 use Rattle.vd_deals.specs.declared.deal.Deal.{Deal}
 use Rattle.vd_secrets.specs.declared.secrets.Secrets.{Secrets}
 use Rattle.vd_tape.specs.Text.{IsDealOf}
-use Rattle.vd_tape.specs.declared.fault.TapeFault.{TapeFault}
-use Rattle.vd_tape.specs.declared.fault.TapeFault.TheVariants.{Memory}
+use Rattle.vd_base.specs.declared.faults.FileFault.{FileFault}
+use Rattle.vd_base.specs.declared.faults.FileFault.TheVariants.{Memory}
 use Rattle.vd_dealt.specs.declared.dealt.Dealt.{Dealt}
 use Rattle.vd_dealt.specs.Outcome.{DealtFilesFollowGrammar}
 use Rattle.vd_dealt.specs.Outcome as dealt
@@ -39,9 +39,9 @@ module _ (hosts me : ℕ) (bytes : List ℕ) where
 
   -- ---- what a reader of both answers, and what is answered of the deal alone
 
-  no_memory : (fault : TapeFault) → (◌≡◌ {A = Result Deal TapeFault} (Err fault) (Err Memory) → ⊥)
-      → ◌≡◌ {A = Result Dealt TapeFault} (Err fault) (Err Memory) → ⊥
-  no_memory fault other e = let same : fault ≡ Memory = cc e in other (ap (λ (f : TapeFault). Err f) same)
+  no_memory : (fault : FileFault) → (◌≡◌ {A = Result Deal FileFault} (Err fault) (Err Memory) → ⊥)
+      → ◌≡◌ {A = Result Dealt FileFault} (Err fault) (Err Memory) → ⊥
+  no_memory fault other e = let same : fault ≡ Memory = cc e in other (ap (λ (f : FileFault). Err f) same)
 
   pub accepts_deal : (read : Dealt) → dealt.Accepts hosts me bytes (Ok read) → Accepts hosts me bytes (Ok read.deal)
   accepts_deal read accepts other deal = (
@@ -51,7 +51,7 @@ module _ (hosts me : ℕ) (bytes : List ℕ) where
         let same : read ≡ dealt_with deal is.0 = cc whole in ap (λ (d : Dealt). Ok d.deal) same,
   )
 
-  pub accepts_fault : (fault : TapeFault) → dealt.Accepts hosts me bytes (Err fault) → Accepts hosts me bytes (Err fault)
+  pub accepts_fault : (fault : FileFault) → dealt.Accepts hosts me bytes (Err fault) → Accepts hosts me bytes (Err fault)
   accepts_fault fault accepts other deal = (
     λ e. absurd (cc e),
     λ is. let whole = (accepts (no_memory fault other) (dealt_with deal is.0)).1 is.1 in absurd (cc whole),
@@ -63,10 +63,10 @@ module _ (hosts me : ℕ) (bytes : List ℕ) where
     λ wrong. let whole = (refuses (λ e. cc e) fault).1 wrong in absurd (cc whole),
   )
 
-  pub refuses_fault : (fault : TapeFault) → dealt.Refuses hosts me bytes (Err fault) → Refuses hosts me bytes (Err fault)
+  pub refuses_fault : (fault : FileFault) → dealt.Refuses hosts me bytes (Err fault) → Refuses hosts me bytes (Err fault)
   refuses_fault fault refuses other said = (
-    λ e. let same : fault ≡ said = cc e in (refuses (no_memory fault other) said).0 (ap (λ (f : TapeFault). Err f) same),
-    λ wrong. let whole = (refuses (no_memory fault other) said).1 wrong in let same : fault ≡ said = cc whole in ap (λ (f : TapeFault). Err f) same,
+    λ e. let same : fault ≡ said = cc e in (refuses (no_memory fault other) said).0 (ap (λ (f : FileFault). Err f) same),
+    λ wrong. let whole = (refuses (no_memory fault other) said).1 wrong in let same : fault ≡ said = cc whole in ap (λ (f : FileFault). Err f) same,
   )
 
 -- a deal of either version is a deal

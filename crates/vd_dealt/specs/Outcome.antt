@@ -3,8 +3,8 @@ use Rattle.std.specs.Prelude.{◌≡◌, ◌≢◌, ◌↔◌, ℕ, List, Result
 use Rattle.vd_bytes.specs.Reading.{capped}
 use Rattle.vd_bytes.specs.Exact.{StopsAt}
 use Rattle.vd_dealt.specs.declared.dealt.Dealt.{Dealt}
-use Rattle.vd_tape.specs.declared.fault.TapeFault.{TapeFault}
-use Rattle.vd_tape.specs.declared.fault.TapeFault.TheVariants.{Text, Memory}
+use Rattle.vd_base.specs.declared.faults.FileFault.{FileFault}
+use Rattle.vd_base.specs.declared.faults.FileFault.TheVariants.{Text, Memory}
 use Rattle.vd_dealt.specs.Text.{IsDealtFile, IsDealtText}
 use Rattle.vd_dealt.specs.Reading.{dealt_read}
 
@@ -14,19 +14,19 @@ pub record DealtFilesFollowGrammar (hosts me : ℕ) (bytes : List ℕ) : Type 0 
   pub refused : (at : ℕ) → (dealt_read hosts me bytes ≡ Err at) ↔ StopsAt (IsDealtText hosts me) bytes at
 
 -- The answer is what is read, unless memory is wanting.
-abbrev pub IsFaultOf : Result Dealt ℕ → TapeFault → Type 0
+abbrev pub IsFaultOf : Result Dealt ℕ → FileFault → Type 0
 IsFaultOf outcome (Text at) = (offset : ℕ) × (outcome ≡ Err offset) × (at ≡ capped offset)
 IsFaultOf outcome Memory = Unit {0}
 
 -- The fault tells the first offset at which the bytes go on as no deal file does.
-abbrev pub IsFirstWrong : (hosts me : ℕ) → List ℕ → TapeFault → Type 0
+abbrev pub IsFirstWrong : (hosts me : ℕ) → List ℕ → FileFault → Type 0
 IsFirstWrong hosts me bytes (Text at) = (offset : ℕ) × StopsAt (IsDealtText hosts me) bytes offset × (at ≡ capped offset)
 IsFirstWrong hosts me bytes Memory = ⊥
 
 -- Unless memory is wanting, a deal is answered exactly where the bytes are its text.
-abbrev pub Accepts : (hosts me : ℕ) → List ℕ → Result Dealt TapeFault → Type 0
+abbrev pub Accepts : (hosts me : ℕ) → List ℕ → Result Dealt FileFault → Type 0
 Accepts hosts me bytes result = result ≢ Err Memory → (dealt : Dealt) → (result ≡ Ok dealt) ↔ IsDealtFile hosts me bytes dealt
 
 -- Unless memory is wanting, a fault is answered exactly where the bytes have it.
-abbrev pub Refuses : (hosts me : ℕ) → List ℕ → Result Dealt TapeFault → Type 0
-Refuses hosts me bytes result = result ≢ Err Memory → (fault : TapeFault) → (result ≡ Err fault) ↔ IsFirstWrong hosts me bytes fault
+abbrev pub Refuses : (hosts me : ℕ) → List ℕ → Result Dealt FileFault → Type 0
+Refuses hosts me bytes result = result ≢ Err Memory → (fault : FileFault) → (result ≡ Err fault) ↔ IsFirstWrong hosts me bytes fault

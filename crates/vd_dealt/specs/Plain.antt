@@ -4,8 +4,8 @@ use Rattle.vd_bytes.specs.Reading.{capped}
 use Rattle.vd_bytes.specs.Exact.{StopsAt}
 use Rattle.vd_deals.specs.declared.deal.Deal.{Deal}
 use Rattle.vd_secrets.specs.declared.secrets.Secrets.{Secrets}
-use Rattle.vd_tape.specs.declared.fault.TapeFault.{TapeFault}
-use Rattle.vd_tape.specs.declared.fault.TapeFault.TheVariants.{Memory}
+use Rattle.vd_base.specs.declared.faults.FileFault.{FileFault}
+use Rattle.vd_base.specs.declared.faults.FileFault.TheVariants.{Memory}
 use Rattle.vd_dealt.specs.declared.dealt.Dealt.{Dealt}
 use Rattle.vd_dealt.specs.Outcome.{IsFirstWrong}
 use Rattle.vd_dealt.specs.Reading.{dealt_read}
@@ -32,8 +32,8 @@ pub record DealsFollowGrammar (hosts me : ℕ) (bytes : List ℕ) : Type 0 where
   pub refused : (at : ℕ) → (plain_read hosts me bytes ≡ Err at) ↔ StopsAt (IsDealtText hosts me) bytes at
 
 -- Unless memory is wanting, a deal is answered exactly where the bytes are its text, and a fault exactly where they have it.
-abbrev pub Accepts : (hosts me : ℕ) → List ℕ → Result Deal TapeFault → Type 0
+abbrev pub Accepts : (hosts me : ℕ) → List ℕ → Result Deal FileFault → Type 0
 Accepts hosts me bytes result = result ≢ Err Memory → (deal : Deal) → (result ≡ Ok deal) ↔ IsDealIn hosts me bytes deal
 
-abbrev pub Refuses : (hosts me : ℕ) → List ℕ → Result Deal TapeFault → Type 0
-Refuses hosts me bytes result = result ≢ Err Memory → (fault : TapeFault) → (result ≡ Err fault) ↔ IsFirstWrong hosts me bytes fault
+abbrev pub Refuses : (hosts me : ℕ) → List ℕ → Result Deal FileFault → Type 0
+Refuses hosts me bytes result = result ≢ Err Memory → (fault : FileFault) → (result ≡ Err fault) ↔ IsFirstWrong hosts me bytes fault

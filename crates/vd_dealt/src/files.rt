@@ -9,14 +9,13 @@ ghost use Rattle.vd_dealt.specs.Outcome.{Accepts, Refuses, IsFaultOf};
 use crate::dealt::Dealt;
 use crate::reading::read_file;
 use std::alloc::Global;
-use vd_base::HostId;
+use vd_base::{FileFault, HostId};
 use vd_bytes::{Cursor, ReadFault, offset};
-use vd_tape::TapeFault;
 
 /// The deal of one host among so many, from its file of either version.
 ///
 /// Refuses bytes that are no such file, with the first offset at which they go on as none does, and answers want of memory.
-pub fn read_dealt(alloc: Global, bytes: &[u8], hosts: u8, me: HostId) -> Result<Dealt, TapeFault>
+pub fn read_dealt(alloc: Global, bytes: &[u8], hosts: u8, me: HostId) -> Result<Dealt, FileFault>
     requires few { hosts ≤ most_hosts }
     requires declared { me.0 < hosts }
     ensures dealt { IfOk result (IsDealtOf hosts me.0) }
@@ -29,7 +28,7 @@ pub fn read_dealt(alloc: Global, bytes: &[u8], hosts: u8, me: HostId) -> Result<
 }
 
 /// The deal that is read from left to right.
-fn read_bytes(alloc: Global, bytes: &[u8], hosts: u8, me: HostId) -> Result<Dealt, TapeFault>
+fn read_bytes(alloc: Global, bytes: &[u8], hosts: u8, me: HostId) -> Result<Dealt, FileFault>
     requires few { hosts ≤ most_hosts }
     requires declared { me.0 < hosts }
     ensures ok { IfOk result (λ dealt. dealt_read hosts me.0 bytes.now ≡ Ok dealt) }
@@ -38,7 +37,7 @@ fn read_bytes(alloc: Global, bytes: &[u8], hosts: u8, me: HostId) -> Result<Deal
     let mut cursor = Cursor::new(bytes);
     match read_file(alloc, &mut cursor, hosts, me) {
         Ok(dealt) => Ok(dealt),
-        Err(ReadFault::Stopped) => Err(TapeFault::Text(offset(bytes.len() - cursor.len()))),
-        Err(ReadFault::Memory) => Err(TapeFault::Memory),
+        Err(ReadFault::Stopped) => Err(FileFault::Text(offset(bytes.len() - cursor.len()))),
+        Err(ReadFault::Memory) => Err(FileFault::Memory),
     }
 }

@@ -7,9 +7,8 @@ ghost use Rattle.vd_dealt.specs.Plain.{Accepts, Refuses};
 
 use crate::files::read_dealt;
 use std::alloc::Global;
-use vd_base::HostId;
+use vd_base::{FileFault, HostId};
 use vd_deals::Deal;
-use vd_tape::TapeFault;
 
 /// The deal of one host among so many, from its file of either version, without what the host knows of the dealing besides.
 ///
@@ -19,7 +18,7 @@ pub fn read_plain_deal(
     bytes: &[u8],
     hosts: u8,
     me: HostId,
-) -> Result<Deal, TapeFault>
+) -> Result<Deal, FileFault>
     requires few { hosts ≤ most_hosts }
     requires declared { me.0 < hosts }
     ensures deal { IfOk result (IsDealOf hosts me.0) }

@@ -22,7 +22,7 @@ use Rattle.vd_report.specs.declared.fault.ReadFault.TheVariants as read_fault
 use Rattle.vd_dealt.specs.Outcome.{IsFirstWrong}
 use Rattle.vd_dealt.specs.Text.{IsDealtFile, IsDealtOf}
 use Rattle.vd_tape.specs.Text.{IsDealOf}
-use Rattle.vd_tape.specs.declared.fault.TapeFault.TheVariants as tape_fault
+use Rattle.vd_base.specs.declared.faults.FileFault.TheVariants as file_fault
 use Rattle.vd_host_command.specs.declared.loading.Loaded.{Loaded}
 
 -- ---- what bytes hold, and why they do not
@@ -48,7 +48,7 @@ IsInputsEnd hosts bytes other = ⊥
 
 abbrev pub IsDealEnd : (hosts : List (List ℕ)) → (me : ℕ) → List ℕ → Status → Type 0
 IsDealEnd hosts me bytes status.Memory = Unit {0}
-IsDealEnd hosts me bytes (status.DealText name offset) = (slice_get hosts me ≡ Some name) × IsFirstWrong (length hosts) me bytes (tape_fault.Text offset)
+IsDealEnd hosts me bytes (status.DealText name offset) = (slice_get hosts me ≡ Some name) × IsFirstWrong (length hosts) me bytes (file_fault.Text offset)
 IsDealEnd hosts me bytes other = ⊥
 
 -- ---- one file

@@ -10,7 +10,7 @@ ghost use Rattle.vd_dealt.specs.Text.{IsDealtFile, IsDealtOf};
 
 use std::alloc::{AllocError, Global};
 use vd_base::limits::{DEAL_BYTES, HOST_FILE_BYTES, INPUTS_BYTES};
-use vd_base::{HostId, Inputs, Name, Names, Words};
+use vd_base::{FileFault, HostId, Inputs, Name, Names, Words};
 use vd_cmd::HostWords;
 use vd_dealt::{Dealt, read_dealt};
 use vd_host_text::HostProgram;
@@ -18,7 +18,6 @@ use vd_hostcode::{CodeFault, read};
 use vd_outside::Files;
 use vd_plan::{HostStatus, Status, TextFault, load};
 use vd_report::{ReadFault, read_inputs};
-use vd_tape::TapeFault;
 
 /// What a host's files hold: its program, its inputs and its deal.
 #[derive(Drop)]
@@ -86,11 +85,11 @@ fn deal_in(alloc: Global, bytes: &[u8], hosts: &Names, me: HostId) -> Result<Dea
 {
     match read_dealt(alloc, bytes, hosts.as_slice().len() as u8, me) {
         Ok(dealt) => Ok(dealt),
-        Err(TapeFault::Text(offset)) => {
+        Err(FileFault::Text(offset)) => {
             let name = own_name(alloc, hosts, me)?;
             Err(Status::DealText(name, offset))
         }
-        Err(TapeFault::Memory) => Err(Status::Memory),
+        Err(FileFault::Memory) => Err(Status::Memory),
     }
 }
 

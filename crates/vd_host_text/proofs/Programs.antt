@@ -13,8 +13,8 @@ use Rattle.vd_execution.specs.declared.instructions.Instr.TheVariants as instr
 use Rattle.vd_execution.specs.Text.{register}
 use Rattle.vd_host_text.specs.declared.blocks.Arrays.{Arrays}
 use Rattle.vd_host_text.specs.declared.program.HostProgram.{HostProgram}
-use Rattle.vd_host_text.specs.declared.fault.TextFault.{TextFault}
-use Rattle.vd_host_text.specs.declared.fault.TextFault.TheVariants.{Text, Memory}
+use Rattle.vd_base.specs.declared.faults.FileFault.{FileFault}
+use Rattle.vd_base.specs.declared.faults.FileFault.TheVariants.{Text, Memory}
 use Rattle.vd_host_text.specs.Words.{is_array}
 use Rattle.vd_host_text.specs.Text.{line, version, version_line, names_line, number_line, plan_line, head, program_text}
 use Rattle.vd_host_text.specs.Lines.{Line, line_text, line_of, start}
@@ -158,15 +158,15 @@ stops_there : (bytes : List ℕ) (at : ℕ) (r : Result File ℕ) → file_read 
 stops_there bytes at (Ok f) e m = absurd cc
 stops_there bytes at (Err there) e m = let same : there ≡ at = cc in ((follow_grammar bytes).refused at).0 (e ∙ ap (λ x. Err x) same)
 
-pub given_of : (bytes : List ℕ) (r : Result HostProgram TextFault) → IfOk r (λ p. program_read bytes ≡ Ok p) → IfOk r (λ p. IsFileOf bytes p)
+pub given_of : (bytes : List ℕ) (r : Result HostProgram FileFault) → IfOk r (λ p. program_read bytes ≡ Ok p) → IfOk r (λ p. IsFileOf bytes p)
 given_of bytes (Ok p) e = file_there bytes p (file_read bytes) refl (sym (program_read_is bytes) ∙ e)
 given_of bytes (Err fault) e = tt
 
-fault_of : (bytes : List ℕ) (fault : TextFault) → IsFaultOf (program_read bytes) fault → IsRefused bytes fault
+fault_of : (bytes : List ℕ) (fault : FileFault) → IsFaultOf (program_read bytes) fault → IsRefused bytes fault
 fault_of bytes (Text at) h = (h.0, stops_there bytes h.0 (file_read bytes) refl (sym (program_read_is bytes) ∙ h.1), h.2)
 fault_of bytes Memory h = tt
 
-pub refused_of : (bytes : List ℕ) (r : Result HostProgram TextFault) → IfErr r (λ f. IsFaultOf (program_read bytes) f) → IfErr r (λ f. IsRefused bytes f)
+pub refused_of : (bytes : List ℕ) (r : Result HostProgram FileFault) → IfErr r (λ f. IsFaultOf (program_read bytes) f) → IfErr r (λ f. IsRefused bytes f)
 refused_of bytes (Ok p) h = tt
 refused_of bytes (Err fault) h = fault_of bytes fault h
 

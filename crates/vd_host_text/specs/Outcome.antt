@@ -10,8 +10,8 @@ use Rattle.vd_execution.specs.declared.instructions.Instr.TheVariants as instr
 use Rattle.vd_host_text.specs.declared.blocks.Arrays.{Arrays}
 use Rattle.vd_host_text.specs.declared.program.Digest.{Digest}
 use Rattle.vd_host_text.specs.declared.program.HostProgram.{HostProgram}
-use Rattle.vd_host_text.specs.declared.fault.TextFault.{TextFault}
-use Rattle.vd_host_text.specs.declared.fault.TextFault.TheVariants.{Text, Memory}
+use Rattle.vd_base.specs.declared.faults.FileFault.{FileFault}
+use Rattle.vd_base.specs.declared.faults.FileFault.TheVariants.{Text, Memory}
 use Rattle.vd_host_text.specs.Lines.{line_of, start}
 use Rattle.vd_host_text.specs.Reading.{code_of, code_at}
 use Rattle.vd_host_text.specs.File.{File, file_text, IsFile}
@@ -41,7 +41,7 @@ abbrev pub IsFileOf : List ℕ → HostProgram → Type 0
 IsFileOf bytes p = (file : File) × IsFile file × (file_text file ≡ bytes) × (p ≡ program_of file)
 
 -- The fault tells the first offset at which the bytes go on as no file does, unless memory is wanting.
-abbrev pub IsRefused : List ℕ → TextFault → Type 0
+abbrev pub IsRefused : List ℕ → FileFault → Type 0
 IsRefused bytes (Text at) = (offset : ℕ) × StopsAt IsHostFile bytes offset × (at ≡ capped offset)
 IsRefused bytes Memory = Unit {0}
 
@@ -91,6 +91,6 @@ abbrev pub program_read : List ℕ → Result HostProgram ℕ
 program_read bytes = whole bytes (program_at bytes)
 
 -- The answer is what is read, unless memory is wanting.
-abbrev pub IsFaultOf : Result HostProgram ℕ → TextFault → Type 0
+abbrev pub IsFaultOf : Result HostProgram ℕ → FileFault → Type 0
 IsFaultOf outcome (Text at) = (offset : ℕ) × (outcome ≡ Err offset) × (at ≡ capped offset)
 IsFaultOf outcome Memory = Unit {0}

@@ -4,16 +4,16 @@ ghost use Rattle.std.specs.Prelude.{◌≡◌, Ok, IfOk, IfErr};
 ghost use Rattle.vd_bytes.specs.Reading.{GivesOrMemory, to_the_end};
 ghost use Rattle.vd_host_text.specs.Outcome.{IsFileOf, IsRefused, IsFaultOf, program_at, program_read};
 
-use crate::fault::TextFault;
 use crate::heading::read_program;
 use crate::program::HostProgram;
 use std::alloc::Global;
+use vd_base::FileFault;
 use vd_bytes::{Cursor, ReadFault, offset};
 
 /// The program of one host, from its file. The ranges of its instructions are not looked at.
 ///
 /// Refuses bytes that are no such file, with the first offset at which they go on as none does, and answers want of memory.
-pub fn parse(alloc: Global, bytes: &[u8]) -> Result<HostProgram, TextFault>
+pub fn parse(alloc: Global, bytes: &[u8]) -> Result<HostProgram, FileFault>
     ensures given { IfOk result (λ program. IsFileOf bytes.now program) }
     ensures refused { IfErr result (λ fault. IsRefused bytes.now fault) }
 {
@@ -21,15 +21,15 @@ pub fn parse(alloc: Global, bytes: &[u8]) -> Result<HostProgram, TextFault>
 }
 
 /// The program that is read from left to right.
-fn read_bytes(alloc: Global, bytes: &[u8]) -> Result<HostProgram, TextFault>
+fn read_bytes(alloc: Global, bytes: &[u8]) -> Result<HostProgram, FileFault>
     ensures ok { IfOk result (λ program. program_read bytes.now ≡ Ok program) }
     ensures err { IfErr result (λ fault. IsFaultOf (program_read bytes.now) fault) }
 {
     let mut cursor = Cursor::new(bytes);
     match read_file(alloc, &mut cursor) {
         Ok(program) => Ok(program),
-        Err(ReadFault::Stopped) => Err(TextFault::Text(offset(bytes.len() - cursor.len()))),
-        Err(ReadFault::Memory) => Err(TextFault::Memory),
+        Err(ReadFault::Stopped) => Err(FileFault::Text(offset(bytes.len() - cursor.len()))),
+        Err(ReadFault::Memory) => Err(FileFault::Memory),
     }
 }
 

@@ -2,7 +2,6 @@
 #![tactic(auto)]
 
 mod blocks;
-mod fault;
 mod files;
 mod heading;
 mod laws;
@@ -12,7 +11,6 @@ mod reading;
 mod words;
 mod writing;
 
-pub use fault::TextFault;
 pub use files::parse;
 pub use laws::{files_follow_the_grammar, texts_are_files};
 pub use plan::{host_file, plan_of};

@@ -11,10 +11,10 @@ use crate::fault::CodeFault;
 use crate::ranges::{first_broken, numbered};
 use crate::steps::count_steps;
 use std::alloc::Global;
-use vd_base::HostId;
+use vd_base::{FileFault, HostId};
 use vd_bytes::offset;
 use vd_execution::Instr;
-use vd_host_text::{HostProgram, TextFault, parse};
+use vd_host_text::{HostProgram, parse};
 
 /// The most static steps of a program.
 const STEPS: u64 = 4_294_967_295;
@@ -53,8 +53,8 @@ fn read_text(alloc: Global, bytes: &[u8]) -> Result<HostProgram, CodeFault>
 {
     match parse(alloc, bytes) {
         Ok(program) => Ok(program),
-        Err(TextFault::Text(at)) => Err(CodeFault::Text(at)),
-        Err(TextFault::Memory) => Err(CodeFault::Memory),
+        Err(FileFault::Text(at)) => Err(CodeFault::Text(at)),
+        Err(FileFault::Memory) => Err(CodeFault::Memory),
     }
 }
 

@@ -2,11 +2,11 @@
 
 use std::alloc::{AllocError, Global};
 use std::test::Fail;
-use vd_base::{Bytes, HostId, Names};
+use vd_base::{Bytes, FileFault, HostId, Names};
 use vd_hostcode::{CodeFault, read};
 use vd_items::Items;
 use vd_report::{Schedule, read_schedule};
-use vd_tape::{TapeFault, read_deal};
+use vd_tape::read_deal;
 
 /// The host of two that sends its input.
 const ALICE: &[u8] = b"viaduct-host 1
@@ -81,7 +81,7 @@ const DEAL: &[u8] = b"viaduct-deal 1 1 0\nown 4 2917185654 2419978656 3848953152
 /// The offset at which a deal to one host is refused.
 fn deal_fault(alloc: Global, bytes: &[u8]) -> Option<u32> {
     match read_deal(alloc, bytes, 1, HostId(0)) {
-        Err(TapeFault::Text(at)) => Some(at),
+        Err(FileFault::Text(at)) => Some(at),
         _ => None,
     }
 }

@@ -4,8 +4,8 @@ use Rattle.std.proofs.lemmas.List.{length-map}
 use Rattle.vd_base.specs.Limits.{most_certificate_bytes}
 use Rattle.vd_outside.specs.Files.{FilesView}
 use Rattle.vd_certificate.specs.declared.certificate.Certificate.{Certificate}
-use Rattle.vd_certificate.specs.declared.fault.TextFault.{TextFault}
-use Rattle.vd_certificate.specs.declared.fault.TextFault.TheVariants as text_fault
+use Rattle.vd_base.specs.declared.faults.FileFault.{FileFault}
+use Rattle.vd_base.specs.declared.faults.FileFault.TheVariants as file_fault
 use Rattle.vd_certificate.specs.Outcomes.{Answers, HasOneOutcome}
 use Rattle.vd_certificate.specs.Texts.{IsTextOf, claim_text, letter, marks_text}
 use Rattle.vd_certificate.proofs.Outcomes.{one_outcome}

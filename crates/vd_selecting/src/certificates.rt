@@ -7,8 +7,9 @@ ghost use Rattle.vd_selecting.specs.Certifying.{IsFromFile, LoadsCertificate, ce
 ghost use Rattle.vd_selecting.specs.Outcomes.{CertificateOutcomes};
 
 use std::alloc::Global;
+use vd_base::FileFault;
 use vd_base::limits::CERTIFICATE_BYTES;
-use vd_certificate::{Certificate, TextFault};
+use vd_certificate::Certificate;
 use vd_outside::Files;
 use vd_plan::{Status, load};
 
@@ -20,8 +21,8 @@ fn read_certificate(alloc: Global, bytes: &[u8]) -> Result<Certificate, Status>
 {
     match Certificate::read(alloc, bytes) {
         Ok(certificate) => Ok(certificate),
-        Err(TextFault::Text(offset)) => Err(Status::CertificateText(offset)),
-        Err(TextFault::Memory) => Err(Status::Memory),
+        Err(FileFault::Text(offset)) => Err(Status::CertificateText(offset)),
+        Err(FileFault::Memory) => Err(Status::Memory),
     }
 }
 

@@ -3,8 +3,8 @@ use Rattle.std.specs.Prelude.{◌≡◌, ◌≢◌, ◌↔◌, ℕ, List, Result
 use Rattle.vd_bytes.specs.Reading.{capped}
 use Rattle.vd_bytes.specs.Exact.{StopsAt}
 use Rattle.vd_deals.specs.declared.deal.Deal.{Deal}
-use Rattle.vd_tape.specs.declared.fault.TapeFault.{TapeFault}
-use Rattle.vd_tape.specs.declared.fault.TapeFault.TheVariants.{Text, Memory}
+use Rattle.vd_base.specs.declared.faults.FileFault.{FileFault}
+use Rattle.vd_base.specs.declared.faults.FileFault.TheVariants.{Text, Memory}
 use Rattle.vd_tape.specs.Text.{IsFileOf, IsDealText}
 use Rattle.vd_tape.specs.Reading.{deal_read}
 
@@ -14,19 +14,19 @@ pub record DealsFollowGrammar (hosts me : ℕ) (bytes : List ℕ) : Type 0 where
   pub refused : (at : ℕ) → (deal_read hosts me bytes ≡ Err at) ↔ StopsAt (IsDealText hosts me) bytes at
 
 -- The answer is what is read, unless memory is wanting.
-abbrev pub IsFaultOf : Result Deal ℕ → TapeFault → Type 0
+abbrev pub IsFaultOf : Result Deal ℕ → FileFault → Type 0
 IsFaultOf outcome (Text at) = (offset : ℕ) × (outcome ≡ Err offset) × (at ≡ capped offset)
 IsFaultOf outcome Memory = Unit {0}
 
 -- The fault tells the first offset at which the bytes go on as no deal file does.
-abbrev pub IsFirstWrong : (hosts me : ℕ) → List ℕ → TapeFault → Type 0
+abbrev pub IsFirstWrong : (hosts me : ℕ) → List ℕ → FileFault → Type 0
 IsFirstWrong hosts me bytes (Text at) = (offset : ℕ) × StopsAt (IsDealText hosts me) bytes offset × (at ≡ capped offset)
 IsFirstWrong hosts me bytes Memory = ⊥
 
 -- Unless memory is wanting, a deal is answered exactly where the bytes are its text.
-abbrev pub Accepts : (hosts me : ℕ) → List ℕ → Result Deal TapeFault → Type 0
+abbrev pub Accepts : (hosts me : ℕ) → List ℕ → Result Deal FileFault → Type 0
 Accepts hosts me bytes result = result ≢ Err Memory → (deal : Deal) → (result ≡ Ok deal) ↔ IsFileOf hosts me bytes deal
 
 -- Unless memory is wanting, a fault is answered exactly where the bytes have it.
-abbrev pub Refuses : (hosts me : ℕ) → List ℕ → Result Deal TapeFault → Type 0
-Refuses hosts me bytes result = result ≢ Err Memory → (fault : TapeFault) → (result ≡ Err fault) ↔ IsFirstWrong hosts me bytes fault
+abbrev pub Refuses : (hosts me : ℕ) → List ℕ → Result Deal FileFault → Type 0
+Refuses hosts me bytes result = result ≢ Err Memory → (fault : FileFault) → (result ≡ Err fault) ↔ IsFirstWrong hosts me bytes fault

@@ -6,17 +6,16 @@ ghost use Rattle.vd_tape.specs.Text.{IsDealOf};
 ghost use Rattle.vd_tape.specs.Reading.{deal_read};
 ghost use Rattle.vd_tape.specs.Outcome.{Accepts, Refuses, IsFaultOf};
 
-use crate::fault::TapeFault;
 use crate::reading::read_file;
 use std::alloc::Global;
-use vd_base::HostId;
+use vd_base::{FileFault, HostId};
 use vd_bytes::{Cursor, ReadFault, offset};
 use vd_deals::Deal;
 
 /// The deal of one host among so many, from its file.
 ///
 /// Refuses bytes that are no such file, with the first offset at which they go on as none does, and answers want of memory.
-pub fn read_deal(alloc: Global, bytes: &[u8], hosts: u8, me: HostId) -> Result<Deal, TapeFault>
+pub fn read_deal(alloc: Global, bytes: &[u8], hosts: u8, me: HostId) -> Result<Deal, FileFault>
     requires few { hosts ≤ most_hosts }
     requires declared { me.0 < hosts }
     ensures deal { IfOk result (IsDealOf hosts me.0) }
@@ -29,7 +28,7 @@ pub fn read_deal(alloc: Global, bytes: &[u8], hosts: u8, me: HostId) -> Result<D
 }
 
 /// The deal that is read from left to right.
-fn read_bytes(alloc: Global, bytes: &[u8], hosts: u8, me: HostId) -> Result<Deal, TapeFault>
+fn read_bytes(alloc: Global, bytes: &[u8], hosts: u8, me: HostId) -> Result<Deal, FileFault>
     requires { 0 < hosts }
     ensures ok { IfOk result (λ deal. deal_read hosts me.0 bytes.now ≡ Ok deal) }
     ensures err { IfErr result (λ fault. IsFaultOf (deal_read hosts me.0 bytes.now) fault) }
@@ -37,7 +36,7 @@ fn read_bytes(alloc: Global, bytes: &[u8], hosts: u8, me: HostId) -> Result<Deal
     let mut cursor = Cursor::new(bytes);
     match read_file(alloc, &mut cursor, hosts, me) {
         Ok(deal) => Ok(deal),
-        Err(ReadFault::Stopped) => Err(TapeFault::Text(offset(bytes.len() - cursor.len()))),
-        Err(ReadFault::Memory) => Err(TapeFault::Memory),
+        Err(ReadFault::Stopped) => Err(FileFault::Text(offset(bytes.len() - cursor.len()))),
+        Err(ReadFault::Memory) => Err(FileFault::Memory),
     }
 }

@@ -2,7 +2,6 @@
 #![tactic(auto)]
 
 mod consistency;
-mod fault;
 mod files;
 mod item;
 mod laws;
@@ -11,7 +10,6 @@ mod reading;
 mod writing;
 
 pub use consistency::consistent;
-pub use fault::TapeFault;
 pub use files::read_deal;
 pub use item::Item;
 pub use laws::{
