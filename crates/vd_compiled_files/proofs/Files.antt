@@ -50,7 +50,7 @@ module _ (program : NormalForm) (list : List ℕ) (plan : Digest) (digest : IsDi
       none h = omega arith
 
   stored : (h : ℕ) → h < hosts → CanBeStored program list plan h
-  stored h lt = record { made = can.made; numbers = can.numbers; counts = can.counts; runnable = can.runnable; digest = digest; declared = lt }
+  stored h lt = record { made = can.made; numbers = can.numbers; runnable = can.runnable; digest = digest; declared = lt }
 
   -- the text that is stored is that of the host's program
   pub text_is : (h : ℕ) → h < hosts → program_text (stored_program program list plan h) ≡ program_text (program_at h (code h))

@@ -96,7 +96,7 @@ few_hosts : (program : NormalForm) (list : List ℕ) → IsWellMade program → 
 few_hosts program list made = let n = code_count program list in let limit = made.limits.hosts in omega (arith, n, limit)
 
 compilable : (program : NormalForm) (list : List ℕ) (plan : Digest) (h : ℕ) → CanBeStored program list plan h → CanBeCompiled program list
-compilable program list plan h can = record { made = can.made; numbers = can.numbers; counts = can.counts; runnable = can.runnable }
+compilable program list plan h can = record { made = can.made; numbers = can.numbers; runnable = can.runnable }
 
 module _ (text prefix : List ℕ) (answer : Answer) (before now : Contents) (is : CompilesText text prefix answer) (same : now ≡ stored answer.stores before) where
   abbrev program : NormalForm

@@ -12,13 +12,12 @@ use Rattle.vd_core.specs.Facts.{IsWellMade}
 use Rattle.vd_parser.specs.Outcomes.{IsParse}
 use Rattle.vd_meaning.specs.SourceMeaning.{host_names}
 use Rattle.vd_normal.specs.Normal.{normal_form}
-use Rattle.vd_joint.specs.Outcome.{NumbersFit}
+use Rattle.vd_core.specs.Numbers.{NumbersFit}
 use Rattle.vd_host_text.specs.declared.program.Digest.{Digest}
 use Rattle.vd_host_text.specs.Text.{name_field}
 use Rattle.vd_plan.specs.Numbered.{file_name}
 use Rattle.vd_name_sizes.specs.Sizes.{name_bytes}
 use Rattle.vd_name_sizes.proofs.Names.{host_names_fit}
-use Rattle.vd_read_back.specs.Stored.{CountsFit}
 use Rattle.vd_compiling.proofs.Runnable.{runnable_of}
 use Rattle.vd_compiled_files.specs.Compiled.{CanBeCompiled, EachFrom, IsFileOf, IsReadBack, IsShort, CompiledFilesAreShort, CompiledFilesCanBeRead, plan_at}
 use Rattle.vd_compiled_files.proofs.Files.{compiled_files_are_read_back, counted_files, named_files, short_files}
@@ -57,9 +56,9 @@ both : (program : NormalForm) (list : List ℕ) (plan : Digest) (prefix : List �
 both program list plan prefix h [] names a b = tt
 both program list plan prefix h (f ∷ fs) names a b = (record { name = names.0; short = a.0; read = b.0 }, both program list plan prefix (h + 1) fs names.1 a.1 b.1)
 
-pub compiled_files_can_be_read : (program : NormalForm) → IsWellMade program → NumbersFit program → CountsFit program → CompiledFilesCanBeRead program
-compiled_files_can_be_read program made numbers counts problem list least text prefix is =
-    let can : CanBeCompiled program list = record { made = made; numbers = numbers; counts = counts; runnable = runnable_of program list made is.selected } in
+pub compiled_files_can_be_read : (program : NormalForm) → IsWellMade program → NumbersFit program → CompiledFilesCanBeRead program
+compiled_files_can_be_read program made numbers problem list least text prefix is =
+    let can : CanBeCompiled program list = record { made = made; numbers = numbers; runnable = runnable_of program list made is.selected } in
     let names = names_short text is.source program is.parsed is.is_run.hosts in
     record {
       counted = counted_files program problem list least text prefix can;

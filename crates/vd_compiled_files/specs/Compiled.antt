@@ -12,12 +12,12 @@ use Rattle.vd_rewritten.specs.RunPrograms.{IsRunProgram}
 use Rattle.vd_space.specs.declared.problem.Problem.{Problem}
 use Rattle.vd_execution.specs.Joint.{code_of}
 use Rattle.vd_execution.specs.Text.{IsCodeOf}
-use Rattle.vd_joint.specs.Outcome.{NumbersFit}
+use Rattle.vd_core.specs.Numbers.{NumbersFit}
 use Rattle.vd_host_text.specs.declared.program.Digest.{Digest}
 use Rattle.vd_plan.specs.Numbered.{file_name}
 use Rattle.vd_hostcode.specs.Outcome.{IsOutcome}
 use Rattle.vd_host_programs.specs.Programs.{IsRunnable, joint_of}
-use Rattle.vd_read_back.specs.Stored.{CountsFit, stored_program}
+use Rattle.vd_read_back.specs.Stored.{stored_program}
 use Rattle.vd_compiling.specs.Selected.{IsSelected}
 use Rattle.vd_compiling.specs.Compiling.{compiled_at, plan_for, printed_at}
 
@@ -25,7 +25,6 @@ use Rattle.vd_compiling.specs.Compiling.{compiled_at, plan_for, printed_at}
 pub record CanBeCompiled (program : NormalForm) (list : List ℕ) : Type 0 where
   pub made : IsWellMade program
   pub numbers : NumbersFit program
-  pub counts : CountsFit program
   pub runnable : IsRunnable program list
 
 -- Reading these bytes gives the program of the host with this number: with the names of all hosts, this number and this plan; and its

@@ -1,8 +1,6 @@
 ghost use Rattle.vd_compiled_files.specs.Compiled.{CompiledFilesAreReadBack, CompiledFilesAreShort, CompiledFilesCanBeRead};
 
 use vd_core::Program;
-use vd_joint::numbers_fit;
-use vd_read_back::counts_fit;
 
 /// Each file that `compile` stores is read as the program of its host: with the names of all hosts, its number and the plan, which is
 /// the same in all files, and with the host's part of the joint code of the program at the chosen protocols. It is not longer than a
@@ -18,6 +16,5 @@ pub fn compiled_files_are_read_back()
 pub fn compiled_files_can_be_read(program: &Program)
     ensures { CompiledFilesCanBeRead program.now }
 {
-    numbers_fit(program);
-    counts_fit(program);
+    program.numbers_fit();
 }

@@ -11,10 +11,9 @@ use Rattle.vd_parser.specs.Outcomes.{IsParse}
 use Rattle.vd_resolve.specs.Limits.{resolution}
 use Rattle.vd_resolve.specs.declared.fault.NameFault.{NameFault}
 use Rattle.vd_execution.specs.declared.instructions.Instr.{Instr}
-use Rattle.vd_joint.specs.Outcome.{NumbersFit}
+use Rattle.vd_core.specs.Numbers.{NumbersFit}
 use Rattle.vd_host_text.specs.declared.program.Digest.{Digest}
 use Rattle.vd_host_programs.specs.Programs.{host_codes}
-use Rattle.vd_read_back.specs.Stored.{CountsFit}
 use Rattle.vd_read_back.proofs.Digests.{is_digest}
 use Rattle.vd_plan.specs.Loads.{Loads}
 use Rattle.vd_plan.specs.Plans.{Checks}
@@ -34,14 +33,14 @@ made stores printed = record { status = Ended; stores = stores; printed = printe
 module _ (program : NormalForm) (text prefix : List ℕ) where
   -- the plan that was made is that of what is printed
   pub programs_stored : (list printed shown : List ℕ) (all : List (List Instr)) (plan : Digest) (form : NormalForm) (stores : List Stored)
-      → IsSelected program list → IsWellMade program → NumbersFit program → CountsFit program → shown ≡ printed → plan.bytes ≡ sha256 (text ++ shown)
+      → IsSelected program list → IsWellMade program → NumbersFit program → shown ≡ printed → plan.bytes ≡ sha256 (text ++ shown)
       → form ≡ program → all ≡ host_codes program list → stores ≡ host_files prefix form.hosts plan 0 all → TellsPrograms program text prefix (Ok (made stores printed))
-  programs_stored list printed shown all plan form stores selected well numbers counts s b f a is e =
+  programs_stored list printed shown all plan form stores selected well numbers s b f a is e =
       let digest : plan ≡ plan_for text printed = λ i. record { bytes = (b ∙ ap (λ (t : List ℕ). sha256 (text ++ t)) s) i } in
       record {
         list = list;
         selected = selected;
-        can_be_stored = λ h lt. record { made = well; numbers = numbers; counts = counts; runnable = runnable_of program list well selected; digest = is_digest (text ++ printed); declared = lt };
+        can_be_stored = λ h lt. record { made = well; numbers = numbers; runnable = runnable_of program list well selected; digest = is_digest (text ++ printed); declared = lt };
         stores = is ∙ (λ i. host_files prefix (f i).hosts (digest i) 0 (a i));
       }
 

@@ -18,10 +18,8 @@ use vd_frontend::{read_source, resolve_source};
 use vd_host_programs::split;
 use vd_host_text::{Digest, host_file, plan_of};
 use vd_items::Items;
-use vd_joint::numbers_fit;
 use vd_outside::{Files, Stored};
 use vd_plan::{Answer, Status, file_name, load};
-use vd_read_back::counts_fit;
 use vd_resolve::Resolved;
 use vd_rewritten::run_program;
 use vd_selecting::{least_space, selection_text};
@@ -79,8 +77,7 @@ fn compile_at(
     ensures computes { Computes (compiled_at program.now space.now places.now cost text.now prefix.now) result }
     ensures tells { TellsPrograms program.now text.now prefix.now result }
 {
-    numbers_fit(program);
-    counts_fit(program);
+    program.numbers_fit();
     let printed = selection_text(alloc, program, space, places, cost)?;
     let codes = split(alloc, program, places)?;
     let plan = plan_of(text, printed.as_slice());

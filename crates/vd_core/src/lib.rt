@@ -3,6 +3,7 @@
 
 mod named;
 mod normal;
+mod numbers;
 mod program;
 mod source;
 

@@ -2,12 +2,14 @@
 
 ghost use Rattle.std.specs.Prelude.{◌≡◌};
 ghost use Rattle.vd_core.specs.Facts.{IsWellMade};
+ghost use Rattle.vd_core.specs.Numbers.{NumbersFit};
 
 use crate::normal::NormalForm;
+use crate::numbers::numbers_are_words;
 use std::marker::Model;
 
 /// A let-normal program that is well made: each slot is made once, in program order, before it is named and as what it is
-/// used for; operands, shift amounts and limits fit; and all hosts and principals that are named are declared.
+/// used for; operands, shift amounts and limits fit; all hosts and principals that are named are declared; and its numbers are words.
 #[derive(Debug, Drop)]
 pub struct Program {
     form: NormalForm,
@@ -17,6 +19,7 @@ impl Model for Program {
     ghost use Rattle.vd_core.specs.declared.normal.NormalForm.{NormalForm as Form};
     ghost use Rattle.vd_core.specs.contracts.normal.NormalForm as form_contract;
     ghost use Rattle.vd_core.specs.Facts.{IsWellMade as Holds};
+    ghost use Rattle.vd_core.specs.Numbers.{NumbersFit as Fit};
 
     ghost Value = { Form };
 
@@ -24,7 +27,7 @@ impl Model for Program {
 
     ghost view = { λ program. program.form };
 
-    ghost invariant = { λ program. Holds program.form };
+    ghost invariant = { λ program. Holds program.form × Fit program.form };
 }
 
 impl Program {
@@ -33,6 +36,7 @@ impl Program {
         requires { IsWellMade form }
         ensures { result ≡ form }
     {
+        numbers_are_words(&form);
         Program { form }
     }
 
@@ -42,5 +46,13 @@ impl Program {
         ensures well_made { IsWellMade self.now }
     {
         &self.form
+    }
+
+    /// Its numbers are words, and it is well made. Nothing is computed here.
+    pub fn numbers_fit(&self)
+        ensures fit { NumbersFit self.now }
+        ensures well_made { IsWellMade self.now }
+    {
+        let _form = &self.form;
     }
 }

@@ -11,9 +11,8 @@ use Rattle.vd_parser.specs.Outcomes.{IsParse}
 use Rattle.vd_resolve.specs.Limits.{resolution}
 use Rattle.vd_resolve.specs.declared.fault.NameFault.{NameFault}
 use Rattle.vd_execution.specs.declared.instructions.Instr.{Instr}
-use Rattle.vd_joint.specs.Outcome.{NumbersFit}
+use Rattle.vd_core.specs.Numbers.{NumbersFit}
 use Rattle.vd_host_text.specs.declared.program.Digest.{Digest}
-use Rattle.vd_read_back.specs.Stored.{CountsFit}
 use Rattle.vd_read_back.proofs.Digests.{is_digest}
 use Rattle.vd_plan.specs.Loads.{Loads}
 use Rattle.vd_plan.specs.Plans.{Checks}
@@ -35,9 +34,9 @@ made stores printed = record { status = Ended; stores = stores; printed = printe
 module _ (program : NormalForm) (text prefix : List ℕ) where
   -- the plan that was made is that of what is printed
   pub programs_stored : (list printed seen marked shown : List ℕ) (all : List (List Instr)) (plan : Digest) (form : NormalForm) (stores : List Stored)
-      → IsSelected program list → IsWellMade program → NumbersFit program → CountsFit program → seen ≡ printed → marked ≡ seen ++ codes "early\n" → shown ≡ marked
+      → IsSelected program list → IsWellMade program → NumbersFit program → seen ≡ printed → marked ≡ seen ++ codes "early\n" → shown ≡ marked
       → plan.bytes ≡ sha256 (text ++ shown) → form ≡ program → AreEarlyCodes program list all → stores ≡ host_files prefix form.hosts plan 0 all → TellsPrograms program text prefix (Ok (made stores printed))
-  programs_stored list printed seen marked shown all plan form stores selected well numbers counts q m s b f a is e =
+  programs_stored list printed seen marked shown all plan form stores selected well numbers q m s b f a is e =
       let behind : shown ≡ printed ++ codes "early\n" = s ∙ m ∙ ap (λ (t : List ℕ). t ++ codes "early\n") q in
       let digest : plan ≡ early_plan_for text printed = λ i. record { bytes = (b ∙ ap (λ (t : List ℕ). sha256 (text ++ t)) behind) i } in
       record {
@@ -49,7 +48,6 @@ module _ (program : NormalForm) (text prefix : List ℕ) where
             record {
               made = well;
               numbers = numbers;
-              counts = counts;
               runnable = runnable_of program list well selected;
               digest = is_digest (text ++ (printed ++ codes "early\n"));
               declared = lt;

@@ -19,10 +19,8 @@ use vd_core::Program;
 use vd_early_programs::split_early;
 use vd_frontend::{read_source, resolve_source};
 use vd_host_text::plan_of;
-use vd_joint::numbers_fit;
 use vd_outside::{Files, Sink};
 use vd_plan::{Answer, Status, finish, load};
-use vd_read_back::counts_fit;
 use vd_resolve::Resolved;
 use vd_rewritten::run_program;
 use vd_selecting::{least_space, selection_text};
@@ -52,8 +50,7 @@ fn compile_at(
     ensures computes { SomeOrder (λ joint. Computes (early_at program.now space.now joint places.now cost text.now prefix.now) result) }
     ensures tells { TellsPrograms program.now text.now prefix.now result }
 {
-    numbers_fit(program);
-    counts_fit(program);
+    program.numbers_fit();
     let printed = selection_text(alloc, program, space, places, cost)?;
     let codes = split_early(alloc, program, places)?;
     let told = marked(alloc, printed.as_slice())?;

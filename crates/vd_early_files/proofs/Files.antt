@@ -27,7 +27,8 @@ use Rattle.vd_host_text.specs.Text.{name_field, program_text}
 use Rattle.vd_hostcode.proofs.Outcomes.{all_within, written_is_read}
 use Rattle.vd_host_programs.specs.Programs.{protos_at, joint_of}
 use Rattle.vd_host_programs.proofs.HostCodes.{places_over, no_words, codes_can_be_loaded, codes_run_as_told, ended_past, joint_is_tidy}
-use Rattle.vd_read_back.specs.Stored.{count_fits, CanBeStored, StandsInAFile, stored_program}
+use Rattle.vd_core.specs.Numbers.{numbers_fit}
+use Rattle.vd_read_back.specs.Stored.{CanBeStored, StandsInAFile, stored_program}
 use Rattle.vd_read_back.proofs.Files.{stands_in_a_file}
 use Rattle.vd_read_back.proofs.Registers.{all_hold, plan_below}
 use Rattle.vd_read_back.proofs.FewBlocks.{BlockIsSmall, counted, weight_of, cells_in, emission_of, block_small}
@@ -63,7 +64,7 @@ module _ (program : NormalForm) (places : List ℕ) (plan : Digest) (h : ℕ) (c
       let few = can.made.limits.hosts in
       let sizes : cells_in b ≡ cell_count program.body = sym (ap sum (fold_each cells_step program.body)) in
       let fits = block_small hosts proto few b (all_hold (of_rights operands_fit) program.body can.made.operands) (all_hold (of_rights shift_fits) program.body can.made.shifts)
-      (all_hold count_fits program.body can.counts) (few_cells _ _ sizes can.made.limits.cells) (emitting_at_start s proto) tt in
+      (all_hold numbers_fit program.body can.numbers) (few_cells _ _ sizes can.made.limits.cells) (emitting_at_start s proto) tt in
       let same : block_emission s proto program.body ≡ emission_of hosts proto few b = ap (in_turn s proto) (fold_each (stmt_emission s proto) program.body) in
       subst (λ (f : Emission s proto). BlockIsSmall hosts proto few b (f.emit (emitting_at_start s proto))) (sym same) fits
     where

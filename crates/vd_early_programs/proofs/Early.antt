@@ -20,7 +20,7 @@ use Rattle.vd_split.specs.Offer.{proto_in}
 use Rattle.vd_split.specs.Places.{program_lines}
 use Rattle.vd_suite.specs.Parts.{suite_calls}
 use Rattle.vd_suite.specs.Whole.{code_at}
-use Rattle.vd_joint.specs.Outcome.{NumbersFit}
+use Rattle.vd_core.specs.Numbers.{NumbersFit}
 use Rattle.vd_core.specs.Facts.{IsWellMade}
 use Rattle.vd_host_programs.specs.Programs.{IsRunnable, proto_at, joint_of}
 use Rattle.vd_host_programs.proofs.HostCodes.{ended_past, joint_is_tidy}

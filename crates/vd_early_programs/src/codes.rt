@@ -15,7 +15,6 @@ use vd_execution::{Instr, Line, Reg};
 use vd_hasten::opened_in;
 use vd_items::Items;
 use vd_joined_packets::join_packets;
-use vd_joint::numbers_fit;
 use vd_protocol::protocols;
 use vd_split::{host_code, joint_code};
 
@@ -52,7 +51,7 @@ fn joint_lines(alloc: Global, program: &Program, places: &[u32]) -> Result<Items
     requires { IsRunnable program.now places.now }
     ensures { IfOk result (λ lines. lines ≡ flat (joint_of program.now places.now) []) }
 {
-    numbers_fit(program);
+    program.numbers_fit();
     let hosts = host_count(program);
     let list = protocols(alloc, hosts)?;
     let protos = protocols_of(alloc, list.as_slice(), places)?;
@@ -111,7 +110,7 @@ pub fn split_early(
     requires { IsRunnable program.now places.now }
     ensures { IfOk result (AreEarlyCodes program.now places.now) }
 {
-    numbers_fit(program);
+    program.numbers_fit();
     let hosts = host_count(program);
     let lines = joint_lines(alloc, program, places)?;
     let lines = early_lines(alloc, hosts, lines)?;

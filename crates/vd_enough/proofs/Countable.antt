@@ -56,7 +56,7 @@ module _ (program : NormalForm) (list : List ℕ) (can : CanBeSplit program list
   plan = digest (sha256 [])
 
   stored : (h : ℕ) → h < hosts → CanBeStored program list plan h
-  stored h lt = record { made = can.made; numbers = can.numbers; counts = can.counts; runnable = can.runnable; digest = is_digest []; declared = lt }
+  stored h lt = record { made = can.made; numbers = can.numbers; runnable = can.runnable; digest = is_digest []; declared = lt }
 
   -- no instruction of a host's code breaks a range
   pub within : (h : ℕ) → h < hosts → IsWithin (stored_program program list plan h)

@@ -2,7 +2,7 @@
 use Rattle.std.specs.Prelude.{◌≡◌, ◌≢◌, ◌≤◌, ◌<◌, ℕ, List, length, Some, slice_get}
 use Rattle.vd_core.specs.declared.normal.NormalForm.{NormalForm}
 use Rattle.vd_core.specs.Facts.{IsWellMade}
-use Rattle.vd_joint.specs.Outcome.{NumbersFit}
+use Rattle.vd_core.specs.Numbers.{NumbersFit}
 use Rattle.vd_deals.specs.declared.deal.Counts.{Counts}
 use Rattle.vd_deals.specs.declared.deal.Deal.{Deal}
 use Rattle.vd_deals.specs.Validity.{shared_with}
@@ -18,7 +18,6 @@ use Rattle.vd_needs.specs.Sizes.{sizes_of}
 use Rattle.vd_suite.specs.Whole.{inputs_of}
 use Rattle.vd_play.specs.Supplies.{AreFiles, supply_of_files}
 use Rattle.vd_host_programs.specs.Programs.{IsRunnable, host_codes, joint_of}
-use Rattle.vd_read_back.specs.Stored.{CountsFit}
 
 -- ---- what is taken, and how much to deal
 
@@ -89,7 +88,6 @@ AreLeast program list =
 pub record CanBeSplit (program : NormalForm) (list : List ℕ) : Type 0 where
   pub made : IsWellMade program
   pub numbers : NumbersFit program
-  pub counts : CountsFit program
   pub runnable : IsRunnable program list
 
 abbrev pub SizesAreEnough : Type 0

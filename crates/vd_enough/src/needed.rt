@@ -9,9 +9,7 @@ use std::alloc::{AllocError, Global};
 use vd_core::Program;
 use vd_host_programs::split;
 use vd_items::Items;
-use vd_joint::numbers_fit;
 use vd_needs::{HostNeeds, needs};
-use vd_read_back::counts_fit;
 
 /// What each host of a program takes at most from each of its lists, in host order. `places` has for each slot the place of its
 /// protocol in the list of all: a valid list of protocols.
@@ -24,8 +22,7 @@ pub fn needs_of_program(
     ensures needs { IfOk result (λ needs. needs ≡ needs_for program.now places.now) }
     ensures few { IfOk result (λ needs. length needs ≤ most_hosts) }
 {
-    numbers_fit(program);
-    counts_fit(program);
+    program.numbers_fit();
     let codes = split(alloc, program, places)?;
     needs(alloc, codes.as_slice())
 }

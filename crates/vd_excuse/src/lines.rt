@@ -14,7 +14,6 @@ use vd_core::Program;
 use vd_excusing::Step;
 use vd_execution::Line;
 use vd_items::Items;
-use vd_joint::numbers_fit;
 use vd_pair_words::pairs_are_read_off;
 use vd_protocol::protocols;
 use vd_space::protocol_at;
@@ -31,7 +30,7 @@ pub(crate) fn steps_at(
     requires { IsRunnable program.now places.now }
     ensures { IfOk result (λ steps. (l : Labels) → IsOfTwo program.now l places.now → LeadTo steps (plan_of program.now l places.now)) }
 {
-    numbers_fit(program);
+    program.numbers_fit();
     pairs_are_read_off();
     let lines = lines_at(alloc, program, places)?;
     steps_of(alloc, &lines)
@@ -42,7 +41,7 @@ fn lines_at(alloc: Global, program: &Program, places: &[u32]) -> Result<Items<Li
     requires { IsRunnable program.now places.now }
     ensures { IfOk result (λ lines. lines ≡ flat (joint_of program.now places.now) []) }
 {
-    numbers_fit(program);
+    program.numbers_fit();
     let hosts = host_count(program);
     let list = protocols(alloc, hosts)?;
     let protos = protocols_at(alloc, list.as_slice(), places)?;

@@ -23,7 +23,6 @@ use vd_compiling::no_assignment;
 use vd_core::Program;
 use vd_depending::host_named;
 use vd_frontend::{least_labels, load_source};
-use vd_joint::numbers_fit;
 use vd_outside::Files;
 use vd_plan::{Answer, Status};
 use vd_resolve::Resolved;
@@ -51,7 +50,7 @@ fn excuse_free(
         ExecutesExcused program.now l host runs out.now places.now result }
     ensures tells { TellsAt host program.now out.now runs result }
 {
-    numbers_fit(program);
+    program.numbers_fit();
     let stored = excused(alloc, program, space, places, host, &runs)?;
     let Runs {
         first,

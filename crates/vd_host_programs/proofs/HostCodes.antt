@@ -18,7 +18,7 @@ use Rattle.vd_execution.specs.Text.{text, flat, pick}
 use Rattle.vd_execution.specs.World.{Tape, followed_by_zeros}
 use Rattle.vd_schedules.proofs.Picks.{picks}
 use Rattle.vd_schedules.proofs.Reading.{read_back, unbegun}
-use Rattle.vd_joint.specs.Outcome.{NumbersFit}
+use Rattle.vd_core.specs.Numbers.{NumbersFit}
 use Rattle.vd_suite.specs.Suite.{IsOver, AreGiven}
 use Rattle.vd_suite.specs.Given.{zero_deal}
 use Rattle.vd_suite.specs.Whole.{inputs_of, CanRun}

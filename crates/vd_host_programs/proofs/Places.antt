@@ -12,7 +12,8 @@ use Rattle.vd_core.specs.Facts.{IsWellMade, all_meet}
 use Rattle.vd_execution.specs.declared.instructions.Instr.{Instr}
 use Rattle.vd_execution.specs.declared.instructions.Line.{Line}
 use Rattle.vd_execution.specs.Text.{flat, pick}
-use Rattle.vd_joint.specs.Outcome.{NumbersFit, ValidAt}
+use Rattle.vd_core.specs.Numbers.{NumbersFit}
+use Rattle.vd_joint.specs.Outcome.{ValidAt}
 use Rattle.vd_split.specs.Offer.{proto_in, AreServed, stmt_stands}
 use Rattle.vd_split.specs.Places.{program_lines}
 use Rattle.vd_suite.specs.Given.{zero_deal}

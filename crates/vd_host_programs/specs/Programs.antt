@@ -18,7 +18,7 @@ use Rattle.vd_execution.specs.Ranges.{IsInRange}
 use Rattle.vd_execution.specs.Text.{IsCodeOf, text}
 use Rattle.vd_execution.specs.World.{Supply, Tape, followed_by_zeros}
 use Rattle.vd_schedules.specs.Claims.{RunsWell}
-use Rattle.vd_joint.specs.Outcome.{NumbersFit}
+use Rattle.vd_core.specs.Numbers.{NumbersFit}
 use Rattle.vd_suite.specs.Suite.{AreGiven}
 use Rattle.vd_suite.specs.Whole.{code_at, inputs_of, RunsAsToldBy}
 

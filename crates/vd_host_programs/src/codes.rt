@@ -10,7 +10,6 @@ use vd_built::Built;
 use vd_core::Program;
 use vd_execution::{Instr, Line};
 use vd_items::Items;
-use vd_joint::numbers_fit;
 use vd_protocol::protocols;
 use vd_split::{host_code, joint_code};
 
@@ -64,7 +63,7 @@ pub fn split(
     requires { IsRunnable program.now places.now }
     ensures { IfOk result (λ codes. codes ≡ host_codes program.now places.now) }
 {
-    numbers_fit(program);
+    program.numbers_fit();
     let hosts = host_count(program);
     let list = protocols(alloc, hosts)?;
     let protos = protocols_of(alloc, list.as_slice(), places)?;

@@ -21,7 +21,8 @@ use Rattle.vd_base.specs.declared.operations.Op.TheVariants as op
 use Rattle.vd_duet.specs.Laws.{NumberFits}
 use Rattle.vd_joint.specs.Emission.{Emission, in_turn, stmt_emission, emitting_at_start}
 use Rattle.vd_joint.specs.Validity.{RightFits, Fits, emission_of, turns_at}
-use Rattle.vd_joint.specs.Outcome.{factor_fits, number_fits, numbers_fit, NumbersFit, Starts, printed_by, plan_of, ValidAt, TellsTheSame}
+use Rattle.vd_core.specs.Numbers.{NumbersFit, numbers_fit, number_fits, factor_fits}
+use Rattle.vd_joint.specs.Outcome.{Starts, printed_by, plan_of, ValidAt, TellsTheSame}
 use Rattle.vd_joint.proofs.Lists.{and_left, and_right, or_cases, row_of, InRow}
 use Rattle.vd_joint.proofs.Sight.{Use, Binding, Variable, Array, Sees}
 use Rattle.vd_joint.proofs.Tied.{Tied}
@@ -43,6 +44,9 @@ all_hold test body h = sym (list_all_map (meets test) body ∙ ap (list_all (λ 
 
 lt_of : (a b : ℕ) → nat_lt a b ≡ true → a < b
 lt_of a b h = grind (arith, nat_tests)
+
+at_most : (a b : ℕ) → a < b → a ≤ b
+at_most a b h = omega (arith, h)
 
 le_of : (a b : ℕ) → nat_le a b ≡ true → a ≤ b
 le_of a b h = grind (arith, nat_tests)
@@ -112,7 +116,7 @@ fits hosts (If x t e offset rest) p q r z =
     let z' = and_left _ _ z in
     (fits hosts t (and_left _ _ p') (and_left _ _ q') (and_left _ _ r') (and_left _ _ z'), fits hosts e (and_right _ _ p') (and_right _ _ q') (and_right _ _ r') (and_right _ _ z'), fits hosts rest (and_right _ _ p) (and_right _ _ q) (and_right _ _ r) (and_right _ _ z))
 fits hosts (For count body rest) p q r z =
-    (le_of count (2 ^ 32) (and_left _ _ (and_left _ _ r)), fits hosts body (and_left _ _ p) (and_left _ _ q) (and_right _ _ (and_left _ _ r)) (and_left _ _ z), fits hosts rest (and_right _ _ p) (and_right _ _ q) (and_right _ _ r) (and_right _ _ z))
+    (at_most count (2 ^ 32) (lt_of count (2 ^ 32) (and_left _ _ (and_left _ _ r))), fits hosts body (and_left _ _ p) (and_left _ _ q) (and_right _ _ (and_left _ _ r)) (and_left _ _ z), fits hosts rest (and_right _ _ p) (and_right _ _ q) (and_right _ _ r) (and_right _ _ z))
 
 module _ (m : Hosts) (s : Suite m) (proto : ℕ → Proto) where
   not_turn : (x : _) (right : Right) (rest : Block) (h : ℕ) → not (is_turn right) ≡ true → turns_at m s proto (Let x right rest) h ≡ true → turns_at m s proto rest h ≡ true

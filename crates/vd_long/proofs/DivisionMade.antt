@@ -1,6 +1,6 @@
 -- What a division becomes gives its word, and changes nothing else that was made before.
 use Rattle.std.proofs.Common.{◌≡◌, ◌⊎◌, inl, inr, ℕ, zero, suc, ◌+◌, ◌^◌, ◌<◌, nat_le, Bool, true, false, true≢false, ◌&&◌, if◌then◌else◌, List, [], ◌∷◌, ◌++◌, length, map, slice_index, Option, Some, None, refl, sym, ap, ap₂, ◌∙◌, subst, arith}
-use Rattle.std.proofs.lemmas.Bool.{and_parts, leb-true}
+use Rattle.std.proofs.lemmas.Bool.{and_parts, ltb-true}
 use Rattle.vd_base.specs.declared.ids.SlotId.{SlotId}
 use Rattle.vd_base.specs.declared.operations.Op.{Op}
 use Rattle.vd_base.specs.declared.operations.Op.TheVariants.{Add, Sub, Mul, Scale, Div, Rem, And, Or, Xor, Not, Flip, Shl, Shr, Eq, Ne, Lt, Le, Min, Max, Mux}
@@ -17,7 +17,8 @@ use Rattle.vd_meaning.specs.Turns.{turns}
 use Rattle.vd_meaning.specs.ProgramMeaning.{SlotState, right_word, after_right, Effect, stmt_effect, effect, block_effect, program_outputs}
 use Rattle.vd_rewriting.specs.Rewriting.{Made, slot, entry_of, moved, emptied, is_within, kept_let}
 use Rattle.vd_long.specs.Template.{place_at, placed, placed_slot, placed_right}
-use Rattle.vd_long.specs.Lengthened.{step_made, steps_made, looped, Template, quotient_template, remainder_template, template_made, Parts, parts_of, parts_made, long_let, nothing_hidden, numbers_fit, NumbersFit, with_long_divisions, some_lengthened, lengthened}
+use Rattle.vd_core.specs.Numbers.{NumbersFit, numbers_fit}
+use Rattle.vd_long.specs.Lengthened.{step_made, steps_made, looped, Template, quotient_template, remainder_template, template_made, Parts, parts_of, parts_made, long_let, nothing_hidden, with_long_divisions, some_lengthened, lengthened}
 use Rattle.vd_rewriting.proofs.Stores.{item_old, item_last, length_push, pushed}
 use Rattle.vd_rewriting.proofs.Tables.{Placed, placed_push, placed_later, Grown, Known}
 use Rattle.vd_rewriting.proofs.Chain.{word, state, Adds, effect_let}
@@ -234,7 +235,7 @@ long_laws lengthens old =
       gives = λ x r block m seen turn s0 s p known sees holds agree.
           long_cases lengthens old (λ (m' : Made). LetState m m' turn s0 r s) x r block m (let_gives old x r block m seen turn s0 s sees agree) (λ d. divided x r block m seen turn s0 s p known sees holds agree d);
       keeps = λ x met turn s fine holds. meant x met turn s fine holds;
-      fine = λ count body met n lt. let le = leb-true count (2 ^ 32) met in omega arith;
+      fine = λ count body met n lt. let few = ltb-true count (2 ^ 32) met in omega (arith, few, lt);
       hidden = λ g h. absurd (true≢false (sym h));
       guard = λ none g a b offset met s holds. absurd none;
     }

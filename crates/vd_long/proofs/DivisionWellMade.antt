@@ -18,7 +18,8 @@ use Rattle.vd_core.specs.declared.normal.Stmt.TheOpen.{Stmt-F}
 use Rattle.vd_core.specs.Facts.{Sight, Seen, is_binding, is_variable, with_binding, with_variable, right_sees, seeing, seeing_step, slots_of, slots_made, cells_of, nesting_of, nesting, statement_count, weight_sum, of_rights, operands_fit, shift_fits, right_is_declared, host_is_declared, blocks_meet, turns_step, IsWellMade}
 use Rattle.vd_rewriting.specs.Rewriting.{Made, slot, entry_of, in_block, unnamed, fresh, moved, emptied, kept_let}
 use Rattle.vd_long.specs.Template.{place_at, placed_slot, placed_right}
-use Rattle.vd_long.specs.Lengthened.{kind_of_right, step_made, steps_made, looped, Template, quotient_template, remainder_template, template_made, long_let, nothing_hidden, with_long_divisions, some_lengthened, lengthened, numbers_fit}
+use Rattle.vd_core.specs.Numbers.{numbers_fit}
+use Rattle.vd_long.specs.Lengthened.{kind_of_right, step_made, steps_made, looped, Template, quotient_template, remainder_template, template_made, long_let, nothing_hidden, with_long_divisions, some_lengthened, lengthened}
 use Rattle.vd_rewriting.specs.Rewriting.{with_new}
 use Rattle.vd_rewriting.proofs.Stores.{length_push}
 use Rattle.vd_rewriting.proofs.Tables.{Known, either_of, or_later}

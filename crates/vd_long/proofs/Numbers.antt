@@ -1,7 +1,7 @@
 -- All words of all states are words, where the numbers of a program and the inputs are.
-use Rattle.std.proofs.Common.{◌≡◌, ◌⊎◌, inl, inr, ℕ, zero, suc, ◌+◌, ◌-◌, ◌*◌, ◌/◌, ◌%◌, ◌^◌, ◌<◌, ◌≤◌, nat_eq, nat_lt, nat_le, Bool, true, false, ◌&&◌, not, if◌then◌else◌, List, [], ◌∷◌, map, slice_index, slice_index_or, slice_set, replicate, sym, subst, subst₂, arith}
+use Rattle.std.proofs.Common.{◌≡◌, ◌⊎◌, inl, inr, ℕ, zero, suc, ◌+◌, ◌-◌, ◌*◌, ◌/◌, ◌%◌, ◌^◌, ◌<◌, ◌≤◌, nat_eq, nat_lt, Bool, true, false, ◌&&◌, not, if◌then◌else◌, List, [], ◌∷◌, map, slice_index, slice_index_or, slice_set, replicate, sym, subst, subst₂, arith}
 use Rattle.std.specs.List.{list_all}
-use Rattle.std.proofs.lemmas.Bool.{cases_eq, and_parts, leb-true}
+use Rattle.std.proofs.lemmas.Bool.{cases_eq, and_parts, ltb-true}
 use Rattle.std.proofs.lemmas.Bool.Decides.{nat_tests}
 use Rattle.std.proofs.lemmas.Nat.{and_le_l, or_lt, xor_lt}
 use Rattle.std.proofs.Math.Nat.{mod-lt, mod-le, div-le_self}
@@ -19,7 +19,7 @@ use Rattle.vd_meaning.specs.Stores.{put}
 use Rattle.vd_meaning.specs.Turns.{turns}
 use Rattle.vd_meaning.specs.World.{World, world_at_start, first_word, later_words}
 use Rattle.vd_meaning.specs.ProgramMeaning.{SlotState, word_at, array_at, with_word, with_array, right_word, after_right, Effect, in_order, stmt_effect, effect, state_at_start}
-use Rattle.vd_long.specs.Lengthened.{number_fits, numbers_fit}
+use Rattle.vd_core.specs.Numbers.{numbers_fit, number_fits}
 use Rattle.vd_rewriting.proofs.Stores.{item_put, item_put_other}
 
 abbrev pub IsWord : ℕ → Type 0
@@ -190,8 +190,8 @@ step (Stmt-F.If guard a b offset) h turn s t w =
     branch ha hb true = order_keeps b hb turn s t w
     branch ha hb false = order_keeps a ha turn s t w
 step (Stmt-F.For count body) h turn s t w =
-    let p = and_parts (nat_le count (2 ^ 32)) (list_all (λ b. b) (tests body)) h in
-    turns_keep (in_order (olds body)) (order_keeps body p.1) count s (leb-true count (2 ^ 32) p.0) w
+    let p = and_parts (nat_lt count (2 ^ 32)) (list_all (λ b. b) (tests body)) h in
+    turns_keep (in_order (olds body)) (order_keeps body p.1) count s (let few = ltb-true count (2 ^ 32) p.0 in omega (arith, few)) w
 
 at_roll : (y : Stmt-F M) → Meant (roll-Stmt (layer y))
 at_roll y = subst₂ (λ (b : Bool) (f : Effect). b ≡ true → Keeps f) (sym (fold-roll-Stmt Bool test (layer y))) (sym (fold-roll-Stmt Effect stmt_effect (layer y))) (step y)

@@ -1,5 +1,5 @@
 -- A program in which divisions that stand at no protocol are loops of 32 turns.
-use Rattle.std.specs.Prelude.{◌≡◌, ℕ, ◌^◌, nat_le, nat_lt, Bool, true, false, ◌&&◌, if◌then◌else◌, List, [], ◌∷◌, map, Option, Some, None}
+use Rattle.std.specs.Prelude.{◌≡◌, ℕ, nat_le, Bool, true, false, ◌&&◌, if◌then◌else◌, List, [], ◌∷◌, map, Option, Some, None}
 use Rattle.std.specs.Option.{MatchOption}
 use Rattle.vd_base.specs.declared.ids.SlotId.{SlotId}
 use Rattle.vd_base.specs.declared.operations.Kind.{Kind}
@@ -15,34 +15,9 @@ use Rattle.vd_core.specs.declared.normal.Stmt.{Stmt}
 use Rattle.vd_core.specs.declared.normal.Stmt as stmt
 use Rattle.vd_core.specs.declared.normal.Stmt.TheOpen.{Stmt-F}
 use Rattle.vd_core.specs.declared.normal.Stmt.TheFolds.{fold-Stmt}
-use Rattle.vd_core.specs.Facts.{all_meet, nesting}
+use Rattle.vd_core.specs.Facts.{nesting}
 use Rattle.vd_rewriting.specs.Rewriting.{Made, slot, entry_of, in_block, fresh, moved, with_stmt, with_new, with_kept, emptied, closed, Lets, kept_let, rewritten, is_within}
 use Rattle.vd_long.specs.Template.{place_at, placed_slot, placed_right, division_start, division_turn, division_choice, division_last, remainder_start, remainder_turn, remainder_last}
-
--- numbers are words
-abbrev pub number_fits : Right → Bool
-number_fits (right.Lit n) = nat_lt n (2 ^ 32)
-number_fits right.Turn = true
-number_fits (right.Copy x) = true
-number_fits (right.Apply op xs) = true
-number_fits (right.Input host) = true
-number_fits (right.Declassify x to) = true
-number_fits (right.Endorse x to) = true
-number_fits (right.Load v) = true
-number_fits (right.Get v i) = true
-
-abbrev pub numbers_fit : Stmt-F Bool → Bool
-numbers_fit (Stmt-F.Let x right) = number_fits right
-numbers_fit (Stmt-F.NewVar v x) = true
-numbers_fit (Stmt-F.NewArray v cells) = true
-numbers_fit (Stmt-F.Store v x) = true
-numbers_fit (Stmt-F.Put v i x) = true
-numbers_fit (Stmt-F.Output x host offset) = true
-numbers_fit (Stmt-F.If guard a b offset) = true
-numbers_fit (Stmt-F.For count body) = nat_le count (2 ^ 32)
-
-abbrev pub NumbersFit : NormalForm → Type 0
-NumbersFit program = all_meet numbers_fit program.body ≡ true
 
 -- the kind of a new slot: a comparison gives a truth value
 abbrev pub kind_of_op : Op → Kind

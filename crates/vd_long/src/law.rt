@@ -6,7 +6,8 @@ ghost use Rattle.vd_core.specs.declared.normal.NormalForm.{NormalForm};
 ghost use Rattle.vd_core.specs.Facts.{IsWellMade};
 ghost use Rattle.vd_meaning.specs.ProgramMeaning.{program_outputs};
 ghost use Rattle.vd_base.specs.Words.{InputsAreWords};
-ghost use Rattle.vd_long.specs.Lengthened.{lengthened, NumbersFit};
+ghost use Rattle.vd_core.specs.Numbers.{NumbersFit};
+ghost use Rattle.vd_long.specs.Lengthened.{lengthened};
 ghost use Rattle.vd_long.specs.LongDivision.{divided, IsDividedSoFar};
 
 /// Whichever divisions become loops, each host is told the same, in every program that is well made and whose numbers are words,

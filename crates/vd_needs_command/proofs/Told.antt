@@ -5,7 +5,7 @@ use Rattle.vd_outside.specs.Files.{FilesView}
 use Rattle.vd_core.specs.declared.normal.NormalForm.{NormalForm}
 use Rattle.vd_core.specs.declared.source.Source.{Source}
 use Rattle.vd_core.specs.Facts.{IsWellMade}
-use Rattle.vd_joint.specs.Outcome.{NumbersFit}
+use Rattle.vd_core.specs.Numbers.{NumbersFit}
 use Rattle.vd_parser.specs.Outcomes.{IsParse}
 use Rattle.vd_execution.specs.Code.{Code}
 use Rattle.vd_execution.specs.Joint.{Joint, IsTidy, code_of}
@@ -16,7 +16,6 @@ use Rattle.vd_needing.proofs.ReadOff.{read_off}
 use Rattle.vd_needs.specs.Counted.{code_in}
 use Rattle.vd_host_text.specs.declared.program.HostProgram.{HostProgram}
 use Rattle.vd_hostcode.specs.Outcome.{CanRun, IsOutcome}
-use Rattle.vd_read_back.specs.Stored.{CountsFit}
 use Rattle.vd_enough.specs.Enough.{CanBeSplit, sizes_for}
 use Rattle.vd_enough.proofs.Countable.{code_is, of_can_run}
 use Rattle.vd_enough.proofs.Enough.{sizes_are_enough, sizes_are_least}
@@ -38,9 +37,9 @@ use Rattle.vd_needs_command.proofs.Reading.{meets}
 
 -- ---- with a list of protocols
 
-module _ (each : Bool) (program : NormalForm) (list : List ℕ) (made : IsWellMade program) (numbers : NumbersFit program) (fit : CountsFit program) (selected : IsSelected program list) where
+module _ (each : Bool) (program : NormalForm) (list : List ℕ) (made : IsWellMade program) (numbers : NumbersFit program) (selected : IsSelected program list) where
   can : CanBeSplit program list
-  can = record { made = made; numbers = numbers; counts = fit; runnable = runnable_of program list made selected }
+  can = record { made = made; numbers = numbers; runnable = runnable_of program list made selected }
 
   pub is_needs : (printed : List ℕ) → printed ≡ needs_text each program list → IsNeedsOf each program printed
   is_needs printed line = record {

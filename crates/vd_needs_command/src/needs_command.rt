@@ -24,11 +24,9 @@ use vd_core::{Program, Source};
 use vd_enough::needs_of_program;
 use vd_frontend::{read_source, resolve_source};
 use vd_items::Items;
-use vd_joint::numbers_fit;
 use vd_needs::sizes;
 use vd_outside::Files;
 use vd_plan::{Answer, Status, load};
-use vd_read_back::counts_fit;
 use vd_resolve::Resolved;
 use vd_rewritten::run_program;
 use vd_selecting::least_space;
@@ -71,8 +69,7 @@ fn needs_at(alloc: Global, program: &Program, places: &[u32], each: bool) -> Res
     ensures computes { Computes (ended [] (needs_text each program.now places.now)) result }
     ensures tells { IfOk result (λ answer. IsNeedsOf each program.now answer.printed) }
 {
-    numbers_fit(program);
-    counts_fit(program);
+    program.numbers_fit();
     let printed = needs_text(alloc, program, places, each)?;
     Ok(printing(alloc, printed))
 }

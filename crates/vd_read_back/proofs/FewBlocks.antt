@@ -25,7 +25,7 @@ use Rattle.vd_joint.proofs.Lists.{and_left, and_right}
 use Rattle.vd_split.proofs.Picked.{picked_few}
 use Rattle.vd_suite.specs.Parts.{Parts, suite_calls}
 use Rattle.vd_ranges.proofs.Blocks.{holds}
-use Rattle.vd_read_back.specs.Stored.{count_fits}
+use Rattle.vd_core.specs.Numbers.{number_fits, numbers_fit}
 use Rattle.vd_read_back.proofs.Numbers.{below}
 use Rattle.vd_read_back.proofs.Few.{GadgetIsSmall, AreFew, few_none, few_more, few_both, bulk}
 use Rattle.vd_read_back.proofs.FewCalls.{SlotIsSmall, CallIsFew, literal_few, apply_few, keep_few, renew_few, move_few, turn_few, input_few, output_few, cells_few, get_few, put_few}
@@ -197,7 +197,7 @@ module _ (hosts : ℕ) (proto : ℕ → Proto) (few_hosts : hosts ≤ 4) where
 
   abbrev Goes : Block → Type 0
   Goes b =
-      holds (of_rights operands_fit) b ≡ true → holds (of_rights shift_fits) b ≡ true → holds count_fits b ≡ true → cells_in b ≤ most_cells
+      holds (of_rights operands_fit) b ≡ true → holds (of_rights shift_fits) b ≡ true → holds numbers_fit b ≡ true → cells_in b ≤ most_cells
       → (e : State) → SlotsAreSmall e → BlockIsSmall b ((emission_of b).emit e)
 
   -- a statement that is no block, and those behind it
@@ -260,7 +260,7 @@ module _ (hosts : ℕ) (proto : ℕ → Proto) (few_hosts : hosts ≤ 4) where
       (and_left (shift_fits right) true (and_left (shift_fits right && true) (holds (of_rights shift_fits) rest) q)) e f in
       let after = with_parts s proto made e in
       simple (Let x right rest) rest after made.acts refl one.acts (λ n. weigh_next (λ k. k) (each weigh_step rest) n) (λ n. refl) (cells_next 1 (each count_step rest)) ((emission_of rest).emit after.state)
-      (block_small rest (and_right (operands_fit right && true) (holds (of_rights operands_fit) rest) p) (and_right (shift_fits right && true) (holds (of_rights shift_fits) rest) q) r
+      (block_small rest (and_right (operands_fit right && true) (holds (of_rights operands_fit) rest) p) (and_right (shift_fits right && true) (holds (of_rights shift_fits) rest) q) (and_right (number_fits right && true) (holds numbers_fit rest) r)
       (no_cells 0 (Let x right rest) rest (cells_next 0 (each cells_step rest)) le) after.state (held_one e.held made.given f one.given))
   block_small (NewVar v x rest) p q r le e f =
       let moved = s.move (proto x.0) (proto v.0) (parts_at s proto e x) e.next in
@@ -361,7 +361,7 @@ module _ (hosts : ℕ) (proto : ℕ → Proto) (few_hosts : hosts ≤ 4) where
       let has = (emission_of body).acts_at in
       let inner : State = record { next = after_loop_registers has 0 e.next; held = e.held; loop = e.next } in
       let all : cells_in (For count body rest) ≡ cells_in body + cells_in rest = cells_next (cells_in body) (each cells_step rest) in
-      let r' = and_left (nat_lt count (2 ^ 32) && holds count_fits body) (holds count_fits rest) r in
+      let r' = and_left (nat_lt count (2 ^ 32) && holds numbers_fit body) (holds numbers_fit rest) r in
       let one = block_small body (and_left _ _ p) (and_left _ _ q) (and_right _ _ r') (fitting_body _ _ _ all le) inner f in
       let body_made = (emission_of body).emit inner in
       let made = for_made s proto count (emission_of body) e in

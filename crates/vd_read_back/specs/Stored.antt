@@ -1,12 +1,11 @@
 -- The programs of hosts as they are stored, and what holds of them.
-use Rattle.std.specs.Prelude.{◌≡◌, ℕ, ◌^◌, ◌<◌, ◌≤◌, nat_lt, Bool, true, List, [], length, slice_index_or, flat_map, Ok}
+use Rattle.std.specs.Prelude.{◌≡◌, ℕ, ◌<◌, ◌≤◌, List, [], length, slice_index_or, flat_map, Ok}
 use Rattle.std.specs.List.{AllByRecursion}
 use Rattle.vd_base.specs.HostSets.{host}
 use Rattle.vd_base.specs.Limits.{most_source_bytes, most_host_file_bytes}
 use Rattle.vd_core.specs.declared.normal.NormalForm.{NormalForm}
-use Rattle.vd_core.specs.declared.normal.Stmt.TheOpen.{Stmt-F}
-use Rattle.vd_core.specs.Facts.{IsWellMade, all_meet}
-use Rattle.vd_joint.specs.Outcome.{NumbersFit}
+use Rattle.vd_core.specs.Facts.{IsWellMade}
+use Rattle.vd_core.specs.Numbers.{NumbersFit}
 use Rattle.vd_host_text.specs.declared.program.Digest.{Digest}
 use Rattle.vd_host_text.specs.declared.program.HostProgram.{HostProgram}
 use Rattle.vd_host_text.specs.Text.{name_field, program_text}
@@ -24,14 +23,6 @@ stored_program program places plan h = record {
   code = slice_index_or (host_codes program places) h [];
 }
 
--- the count of a loop is a word
-abbrev pub count_fits : Stmt-F Bool → Bool
-count_fits (Stmt-F.For count body) = nat_lt count (2 ^ 32)
-count_fits other = true
-
-abbrev pub CountsFit : NormalForm → Type 0
-CountsFit program = all_meet count_fits program.body ≡ true
-
 -- 32 bytes
 abbrev pub IsDigest : Digest → Type 0
 IsDigest plan = (length plan.bytes ≡ 32) × AllByRecursion (λ b. b < 256) plan.bytes
@@ -40,7 +31,6 @@ IsDigest plan = (length plan.bytes ≡ 32) × AllByRecursion (λ b. b < 256) pla
 pub record CanBeStored (program : NormalForm) (places : List ℕ) (plan : Digest) (h : ℕ) : Type 0 where
   pub made : IsWellMade program
   pub numbers : NumbersFit program
-  pub counts : CountsFit program
   pub runnable : IsRunnable program places
   pub digest : IsDigest plan
   pub declared : h < length program.hosts

@@ -1,8 +1,6 @@
 //! What is stored of the program of each host can be read: its text is a file of a host's program, within all ranges.
 #![tactic(auto)]
 
-mod counts;
 mod laws;
 
-pub use counts::counts_fit;
 pub use laws::{digests_are_bytes, stored_programs_are_read_back};

@@ -11,7 +11,7 @@ use Rattle.vd_core.specs.declared.normal.NormalForm.{NormalForm}
 use Rattle.vd_core.specs.Facts.{IsWellMade}
 use Rattle.vd_constraints.specs.Rules.{label}
 use Rattle.vd_meaning.specs.ProgramMeaning.{program_outputs}
-use Rattle.vd_joint.specs.Outcome.{NumbersFit}
+use Rattle.vd_core.specs.Numbers.{NumbersFit}
 use Rattle.vd_deals.specs.Validity.{AreDeals, IsConsistent}
 use Rattle.vd_tape.specs.Text.{AreDealsOf}
 use Rattle.vd_tape.proofs.EachHost.{all_deals}

@@ -23,7 +23,6 @@ use vd_core::Program;
 use vd_frontend::load_source;
 use vd_host_programs::split;
 use vd_items::Items;
-use vd_joint::numbers_fit;
 use vd_outside::Files;
 use vd_plan::{Answer, Status};
 use vd_play::{play, report};
@@ -59,7 +58,7 @@ fn replay_counted(
     ensures tells { IfOk result (λ answer. IsReport program.now (program_outputs program.now asked.inputs) asked answer.printed) }
     ensures counts { OnOk result (packets.new ≡ Some (packets_for program.now places.now asked)) }
 {
-    numbers_fit(program);
+    program.numbers_fit();
     let Asked {
         inputs,
         deals,

@@ -13,12 +13,11 @@ use Rattle.vd_mux.specs.BooleanGuards.{has_boolean_guards}
 use Rattle.vd_mux.specs.Hidden.{hidden_marks, turn_of}
 use Rattle.vd_mux.specs.Selections.{turned}
 use Rattle.vd_mux.proofs.SelectionsWellMade.{turned_well_made}
-use Rattle.vd_joint.specs.Outcome.{NumbersFit}
+use Rattle.vd_core.specs.Numbers.{NumbersFit}
 use Rattle.vd_long.specs.Marks.{long_marks, lengthen_of}
 use Rattle.vd_long.proofs.DivisionWellMade.{lengthened_well_made}
 use Rattle.vd_frontend.specs.Outcomes.{LabelOutcomes}
 use Rattle.vd_rewritten.specs.RunPrograms.{Rewriting, IsLabelledOr, New, Old, Rewrites, Under, Without, Plain, IsRunForm, IsRunProgram, TellsAs, rewritten_by, run_form}
-use Rattle.vd_rewritten.proofs.Numbers.{numbers_are_words}
 use Rattle.vd_rewritten.proofs.Once.{rewritten_once, rewritten_is}
 use Rattle.vd_rewritten.proofs.Told.{run_hosts, run_tells}
 
@@ -57,7 +56,7 @@ module _ (source : Source) (p0 p1 : NormalForm) (is : p0 ≡ normal_form source)
   run_is_program (Err fault) divisions = tt
 
   pub run_tells_as : {E : Type 0} (result : Result NormalForm E) → IfOk result (Rewrites lengthen_of p1) → IfOk result (TellsAs source)
-  run_tells_as (Ok p2) divisions = run_tells source p1 p2 (subst IsWellMade is well) well' (numbers_are_words p1 numbers) (subst (λ (p : NormalForm). Rewrites turn_of p p1) is branches) divisions
+  run_tells_as (Ok p2) divisions = run_tells source p1 p2 (subst IsWellMade is well) well' numbers (subst (λ (p : NormalForm). Rewrites turn_of p p1) is branches) divisions
   run_tells_as (Err fault) divisions = tt
 
 -- what a function that picks labels makes of a source is its program

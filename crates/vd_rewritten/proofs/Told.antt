@@ -16,7 +16,8 @@ use Rattle.vd_mux.specs.Hidden.{hidden_marks, turn_of}
 use Rattle.vd_mux.specs.Selections.{some_hidden, with_selections, turned}
 use Rattle.vd_mux.proofs.SelectionsKept.{turning_keeps}
 use Rattle.vd_base.specs.Words.{InputsAreWords}
-use Rattle.vd_long.specs.Lengthened.{NumbersFit, some_lengthened, with_long_divisions, is_nested}
+use Rattle.vd_core.specs.Numbers.{NumbersFit}
+use Rattle.vd_long.specs.Lengthened.{some_lengthened, with_long_divisions, is_nested}
 use Rattle.vd_long.specs.Marks.{long_marks, lengthen_of}
 use Rattle.vd_long.proofs.DivisionMade.{lengthened_keeps}
 use Rattle.vd_rewritten.specs.RunPrograms.{Rewriting, IsLabelledOr, New, Old, Rewrites, Under, Without, Plain}

@@ -12,7 +12,6 @@ use std::alloc::{AllocError, Global};
 use vd_constraints::{Labels, constraints};
 use vd_core::Program;
 use vd_elaborate::elaborate;
-use vd_joint::numbers_fit;
 use vd_long::lengthen_labelled;
 use vd_mux::turn_labelled;
 use vd_resolve::Resolved;
@@ -100,8 +99,8 @@ pub fn run_program(alloc: Global, source: &Resolved) -> Result<Program, AllocErr
     ensures tells { IfOk result (TellsAs source.now) }
 {
     let program = elaborate(alloc, source)?;
-    numbers_fit(&program);
+    program.numbers_fit();
     let turned = with_selections(alloc, program)?;
-    numbers_fit(&turned);
+    turned.numbers_fit();
     with_loops(alloc, turned)
 }

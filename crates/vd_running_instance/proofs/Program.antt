@@ -27,7 +27,7 @@ use Rattle.vd_core.specs.declared.source.Expr.TheFolds as exprs
 use Rattle.vd_core.specs.declared.source.Statement.TheFolds as statements
 use Rattle.vd_core.specs.declared.source.WrittenForm.TheFolds as writtens
 use Rattle.vd_core.specs.Facts.{IsWellMade, SlotsInOrder, SlotsMadeBefore, OperandsFit, ShiftsFit, TurnsInLoops, AreNames, HostsDeclared, PrincipalsDeclared, WithinLimits, cell_count, form_is_declared, label_is_declared, nesting, statement_count, weight_sum, written_is_declared}
-use Rattle.vd_joint.specs.Outcome.{NumbersFit}
+use Rattle.vd_core.specs.Numbers.{NumbersFit}
 use Rattle.vd_execution.specs.Joint.{Joint, Do, Msg, Done}
 use Rattle.vd_execution.specs.Registers.{put}
 use Rattle.vd_execution.specs.declared.instructions.Action.TheVariants as action
@@ -36,7 +36,6 @@ use Rattle.vd_constraints.specs.declared.labels.Labels.{Labels}
 use Rattle.vd_host_programs.specs.Programs.{IsRunnable, joint_of}
 use Rattle.vd_meaning.specs.SourceMeaning.{source_outputs}
 use Rattle.vd_normal.specs.Normal.{normal_form}
-use Rattle.vd_read_back.specs.Stored.{CountsFit}
 use Rattle.vd_running_instance.specs.Instance.{source, list, inputs, register}
 
 abbrev pub slot : SlotId
@@ -164,8 +163,6 @@ well_made = record {
 pub numbers : NumbersFit program
 numbers = search (rules, stmts.the_lemmas)
 
-pub counts : CountsFit program
-counts = search (rules, stmts.the_lemmas)
 
 -- whom A acts for
 abbrev mine : Label

@@ -17,11 +17,11 @@ use Rattle.vd_running_instance.specs.Instance.{TwoHostsRun, deals, greeted_a, in
 use Rattle.vd_running_instance.proofs.Enough.{enough_of_joint}
 use Rattle.vd_running_instance.proofs.Files.{digest, files}
 use Rattle.vd_running_instance.proofs.Playing.{plays_a, plays_b, session_with, seven}
-use Rattle.vd_running_instance.proofs.Program.{counts, joint_is, numbers, program, runnable, same, told, well_made}
+use Rattle.vd_running_instance.proofs.Program.{joint_is, numbers, program, runnable, same, told, well_made}
 use Rattle.vd_running_instance.proofs.Starting.{starts}
 
 stored : (h : ℕ) → h < 2 → CanBeStored program list plan h
-stored h lt = record { made = well_made; numbers = numbers; counts = counts; runnable = runnable; digest = digest; declared = lt }
+stored h lt = record { made = well_made; numbers = numbers; runnable = runnable; digest = digest; declared = lt }
 
 abbrev plays : (h : ℕ) → h < 2 → IsPlayed (run h)
 plays zero lt = plays_a

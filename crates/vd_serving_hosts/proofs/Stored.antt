@@ -60,7 +60,7 @@ module _ (program : NormalForm) (list : List ℕ) (plan : Digest) (inputs : List
   -- ---- the code of each host
 
   can_be : (g : ℕ) → g < n → CanBeStored program list plan g
-  can_be g lt = record { made = can.made; numbers = can.numbers; counts = can.counts; runnable = can.runnable; digest = can.digest; declared = lt }
+  can_be g lt = record { made = can.made; numbers = can.numbers; runnable = can.runnable; digest = can.digest; declared = lt }
 
   code_is : (g : ℕ) → g < n → (stored_program program list plan g).code ≡ text (code_of g j) []
   code_is g lt = get_or-map-range_with_len (λ k. text (code_of k j) []) 0 n g g [] lt (omega arith)

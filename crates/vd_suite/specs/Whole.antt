@@ -12,7 +12,8 @@ use Rattle.vd_execution.specs.Gadgets.{Gadget, IsSound}
 use Rattle.vd_execution.specs.Plans.{Plan, joint_of, PlanIsTidy}
 use Rattle.vd_schedules.specs.Claims.{RunsWell, IsOf}
 use Rattle.vd_joint.specs.Emission.{block_emission, emitting_at_start}
-use Rattle.vd_joint.specs.Outcome.{NumbersFit, ValidAt}
+use Rattle.vd_core.specs.Numbers.{NumbersFit}
+use Rattle.vd_joint.specs.Outcome.{ValidAt}
 use Rattle.vd_joint.specs.Places.{NeedsItsLoops}
 use Rattle.vd_suite.specs.Machine.{machine}
 use Rattle.vd_suite.specs.Parts.{suite_calls}

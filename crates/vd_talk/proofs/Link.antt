@@ -13,7 +13,7 @@ use Rattle.vd_core.specs.declared.normal.NormalForm.{NormalForm}
 use Rattle.vd_core.specs.Facts.{IsWellMade}
 use Rattle.vd_constraints.specs.Rules.{label}
 use Rattle.vd_meaning.specs.ProgramMeaning.{program_outputs}
-use Rattle.vd_joint.specs.Outcome.{NumbersFit}
+use Rattle.vd_core.specs.Numbers.{NumbersFit}
 use Rattle.vd_deals.specs.declared.deal.Deal.{Deal}
 use Rattle.vd_deals.specs.Validity.{AreDeals}
 use Rattle.vd_tape.proofs.EachHost.{all_deals}
@@ -36,7 +36,6 @@ use Rattle.vd_needs.specs.declared.taking.HostNeeds.{HostNeeds}
 use Rattle.vd_machine.specs.Machines.{word_item}
 use Rattle.vd_host_programs.specs.Programs.{IsRunnable, host_codes, joint_of, proto_at, protos_at}
 use Rattle.vd_host_programs.proofs.HostCodes.{codes_can_be_loaded, codes_run_as_told, ended_past, no_words}
-use Rattle.vd_read_back.specs.Stored.{CountsFit}
 use Rattle.vd_enough.specs.Enough.{CanBeSplit, needs_for}
 use Rattle.vd_enough.proofs.Countable.{count_codes}
 use Rattle.vd_enough.proofs.Sizes.{any_there, count_needs, counted, needs_at, taken}
@@ -50,9 +49,9 @@ use Rattle.vd_talk.specs.Filling.{filled, inputs_taken}
 use Rattle.vd_talk.specs.Talk.{talk, IsPlayable}
 use Rattle.vd_talk.proofs.Filled.{filled_count, long_enough, same_dealt, same_tape, same_words}
 
-module _ (program : NormalForm) (places : List ℕ) (made : IsWellMade program) (numbers : NumbersFit program) (fit : CountsFit program) (runnable : IsRunnable program places) where
+module _ (program : NormalForm) (places : List ℕ) (made : IsWellMade program) (numbers : NumbersFit program) (runnable : IsRunnable program places) where
   can : CanBeSplit program places
-  can = record { made = made; numbers = numbers; counts = fit; runnable = runnable }
+  can = record { made = made; numbers = numbers; runnable = runnable }
 
   abbrev j : Joint
   j = joint_of program places

@@ -12,9 +12,7 @@ use vd_deals::Deals;
 use vd_enough::needs_of_program;
 use vd_host_programs::split;
 use vd_items::Items;
-use vd_joint::numbers_fit;
 use vd_play::play;
-use vd_read_back::counts_fit;
 use vd_report::Schedule;
 
 /// The words of all packets that one host of a program sends another in the joint run on these inputs, those of each host followed by
@@ -33,8 +31,7 @@ pub fn talk(
     requires playable { IsPlayable program.now places.now inputs.now deals }
     ensures { IfOk result (λ words. words ≡ talk program.now places.now inputs.now deals from.0 to.0) }
 {
-    numbers_fit(program);
-    counts_fit(program);
+    program.numbers_fit();
     let needs = needs_of_program(alloc, program, places)?;
     let inputs = filled(alloc, inputs, needs.as_slice())?;
     let codes = split(alloc, program, places)?;

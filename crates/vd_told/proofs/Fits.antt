@@ -19,7 +19,8 @@ use Rattle.vd_joint.specs.Block.{Block, End, Let, NewVar, NewArray, Store, Put, 
 use Rattle.vd_joint.specs.Joint.{Hosts}
 use Rattle.vd_joint.specs.Suite.{Suite}
 use Rattle.vd_joint.specs.Validity.{RightFits, Fits, turns_at}
-use Rattle.vd_joint.specs.Outcome.{factor_fits, number_fits, numbers_fit, NumbersFit, Starts}
+use Rattle.vd_core.specs.Numbers.{NumbersFit, numbers_fit, number_fits, factor_fits}
+use Rattle.vd_joint.specs.Outcome.{Starts}
 use Rattle.vd_joint.proofs.Lists.{and_left, and_right, or_cases}
 use Rattle.vd_joint.proofs.Sight.{Use, Binding, Variable, Array, Sees}
 use Rattle.vd_joint.proofs.Tied.{Tied}
@@ -37,6 +38,9 @@ all_hold test body h = sym (list_all_map (meets test) body ∙ ap (list_all (λ 
 
 lt_of : (a b : ℕ) → nat_lt a b ≡ true → a < b
 lt_of a b h = grind (arith, nat_tests)
+
+at_most : (a b : ℕ) → a < b → a ≤ b
+at_most a b h = omega (arith, h)
 
 le_of : (a b : ℕ) → nat_le a b ≡ true → a ≤ b
 le_of a b h = grind (arith, nat_tests)
@@ -106,7 +110,7 @@ fits hosts (If x t e offset rest) p q r z =
     let z' = and_left _ _ z in
     (fits hosts t (and_left _ _ p') (and_left _ _ q') (and_left _ _ r') (and_left _ _ z'), fits hosts e (and_right _ _ p') (and_right _ _ q') (and_right _ _ r') (and_right _ _ z'), fits hosts rest (and_right _ _ p) (and_right _ _ q) (and_right _ _ r) (and_right _ _ z))
 fits hosts (For count body rest) p q r z =
-    (le_of count (2 ^ 32) (and_left _ _ (and_left _ _ r)), fits hosts body (and_left _ _ p) (and_left _ _ q) (and_right _ _ (and_left _ _ r)) (and_left _ _ z), fits hosts rest (and_right _ _ p) (and_right _ _ q) (and_right _ _ r) (and_right _ _ z))
+    (at_most count (2 ^ 32) (lt_of count (2 ^ 32) (and_left _ _ (and_left _ _ r))), fits hosts body (and_left _ _ p) (and_left _ _ q) (and_right _ _ (and_left _ _ r)) (and_left _ _ z), fits hosts rest (and_right _ _ p) (and_right _ _ q) (and_right _ _ r) (and_right _ _ z))
 
 -- the numbers of a well-made program are words, its operations have their operands, and its hosts are declared
 pub all_fit : (program : NormalForm) → IsWellMade program → NumbersFit program → Fits (length program.hosts) (block_of program.body)

@@ -9,7 +9,7 @@ use Rattle.vd_execution.specs.Deals.{IsValidDeal}
 use Rattle.vd_execution.specs.Joint.{fresh, joint}
 use Rattle.vd_joint.specs.Block.{block_of}
 use Rattle.vd_joint.specs.Emission.{emitting_at_start}
-use Rattle.vd_joint.specs.Outcome.{NumbersFit}
+use Rattle.vd_core.specs.Numbers.{NumbersFit}
 use Rattle.vd_suite.specs.Machine.{machine}
 use Rattle.vd_suite.specs.Parts.{suite_calls}
 use Rattle.vd_suite.specs.Suite.{AreGiven}

@@ -5,7 +5,7 @@ use Rattle.std.proofs.lemmas.List.FromFn.{get_or-map-range_with_len, length-map-
 use Rattle.vd_base.specs.Limits.{most_deal_items}
 use Rattle.vd_core.specs.declared.normal.NormalForm.{NormalForm}
 use Rattle.vd_core.specs.Facts.{IsWellMade, weight_sum}
-use Rattle.vd_joint.specs.Outcome.{NumbersFit}
+use Rattle.vd_core.specs.Numbers.{NumbersFit}
 use Rattle.vd_deals.specs.Validity.{IsConsistent}
 use Rattle.vd_tape.specs.Made.{AreCounts, number_key}
 use Rattle.vd_tape.specs.Text.{AreDealsOf}
@@ -18,7 +18,6 @@ use Rattle.vd_needs.proofs.Greatest.{above, below}
 use Rattle.vd_host_programs.specs.Programs.{joint_of}
 use Rattle.vd_host_programs.proofs.HostCodes.{ended_past}
 use Rattle.vd_play.specs.Supplies.{AreFiles}
-use Rattle.vd_read_back.specs.Stored.{CountsFit}
 use Rattle.vd_enough.specs.Enough.{CanBeSplit, HandInEnough, needs_for, sizes_for}
 use Rattle.vd_enough.proofs.Enough.{sizes_are_enough}
 use Rattle.vd_enough.proofs.Made.{deals_have_their_sizes}
@@ -31,8 +30,8 @@ use Rattle.vd_asking.specs.declared.asked.Asked.{Asked}
 use Rattle.vd_asking.specs.Asking.{AreAsked}
 use Rattle.vd_trial.specs.Trial.{Suffice, asked_by, most_inputs, trial_asked, trial_input, trial_inputs, trial_words}
 
-pub splits : (program : NormalForm) (list : List ℕ) → IsWellMade program → NumbersFit program → CountsFit program → IsSelected program list → CanBeSplit program list
-splits program list made numbers fit selected = record { made = made; numbers = numbers; counts = fit; runnable = runnable_of program list made selected }
+pub splits : (program : NormalForm) (list : List ℕ) → IsWellMade program → NumbersFit program → IsSelected program list → CanBeSplit program list
+splits program list made numbers selected = record { made = made; numbers = numbers; runnable = runnable_of program list made selected }
 
 module _ (program : NormalForm) (list : List ℕ) (can : CanBeSplit program list) where
   pub can_be_dealt : weight_sum program.body ≤ most_executed → AreCounts (sizes_for program list)

@@ -17,9 +17,7 @@ use vd_base::{Inputs, Words};
 use vd_core::Program;
 use vd_enough::needs_of_program;
 use vd_items::Items;
-use vd_joint::numbers_fit;
 use vd_needs::{HostNeeds, sizes};
-use vd_read_back::counts_fit;
 use vd_report::Schedule;
 use vd_tape::make;
 
@@ -102,8 +100,7 @@ pub(crate) fn asked_at(
     ensures consistent { IfOk result (λ asked. IsConsistent asked.deals) }
     ensures suffice { IfOk result (Suffice program.now places.now) }
 {
-    numbers_fit(program);
-    counts_fit(program);
+    program.numbers_fit();
     let needs = needs_of_program(alloc, program, places)?;
     asked_by(alloc, needs.as_slice(), coordinates)
 }

@@ -25,7 +25,8 @@ use Rattle.vd_execution.specs.World.{Tape}
 use Rattle.vd_joint.specs.Block.{block_of, each}
 use Rattle.vd_joint.specs.Emission.{Emission, Emitting, emitting_at_start, in_turn, parts_at, stmt_emission}
 use Rattle.vd_joint.specs.Validity.{emission_of}
-use Rattle.vd_joint.specs.Outcome.{NumbersFit, Starts}
+use Rattle.vd_core.specs.Numbers.{NumbersFit}
+use Rattle.vd_joint.specs.Outcome.{Starts}
 use Rattle.vd_joint.proofs.Folds.{fold_each}
 use Rattle.vd_joint.proofs.Lists.{InRow, row_of}
 use Rattle.vd_joint.proofs.Sight.{Use, Binding, Variable, Array, Sees}

@@ -11,7 +11,7 @@ use Rattle.vd_execution.specs.Joint.{Hosts, fresh}
 use Rattle.vd_execution.specs.World.{Tape}
 use Rattle.vd_joint.specs.Block.{block_of}
 use Rattle.vd_joint.specs.Emission.{block_emission, emitting_at_start, parts_at}
-use Rattle.vd_joint.specs.Outcome.{NumbersFit}
+use Rattle.vd_core.specs.Numbers.{NumbersFit}
 use Rattle.vd_suite.specs.Parts.{Parts, suite_calls}
 use Rattle.vd_whole.specs.Lists.{protos_of}
 use Rattle.vd_trust.specs.Trust.{against, becomes_trusted, in_trust, trusts_host}

@@ -9,7 +9,7 @@ use Rattle.vd_space.specs.Reading.{problem_of}
 use Rattle.vd_space.specs.Validity.{protocol, is_valid}
 use Rattle.vd_execution.specs.World.{Tape}
 use Rattle.vd_execution.specs.Deals.{IsValidDeal}
-use Rattle.vd_joint.specs.Outcome.{NumbersFit}
+use Rattle.vd_core.specs.Numbers.{NumbersFit}
 use Rattle.vd_suite.specs.Suite.{AreGiven}
 use Rattle.vd_suite.specs.Whole.{inputs_of, CanRun, RunsAsToldBy}
 

@@ -24,7 +24,7 @@ returns-clause-computes c =
 pub returns-clause-tells : goal.returns-clause-tells
 returns-clause-tells c =
     programs_stored c.args.program.now c.args.text.now c.args.prefix.now c.args.places.now c.in_ok-printed.printed c.as_slice.result.now c.in_ok-told.told c.as_slice-2.result.now c.in_ok-codes.codes
-    c.plan_of-plan.result c.form.result.now c.in_ok-stores.stores c.requires c.numbers_fit.ensures.well_made c.numbers_fit.ensures.fit c.counts_fit.ensures c.as_slice.ensures
+    c.plan_of-plan.result c.form.result.now c.in_ok-stores.stores c.requires c.numbers_fit.ensures.well_made c.numbers_fit.ensures.fit c.as_slice.ensures
     (c.in_ok-told.ensures {u = tt}) c.as_slice-2.ensures c.plan_of-plan.ensures c.form.ensures.same (c.in_ok-codes.ensures {u = tt}) (c.in_ok-stores.ensures {u = tt})
 
 pub returns-in_err-codes-clause-computes : goal.returns-in_err-codes-clause-computes

@@ -11,7 +11,7 @@ needs-requires-clause-few c =
 
 pub needs-requires-clause-countable : goal.needs-requires-clause-countable
 needs-requires-clause-countable c =
-    split_codes c.args.program.now c.args.places.now (record { made = c.numbers_fit.ensures.well_made; numbers = c.numbers_fit.ensures.fit; counts = c.counts_fit.ensures; runnable = c.requires })
+    split_codes c.args.program.now c.args.places.now (record { made = c.numbers_fit.ensures.well_made; numbers = c.numbers_fit.ensures.fit; runnable = c.requires })
     (c.as_slice.result.now) (c.as_slice.ensures ∙ c.in_ok-codes.ensures {u = tt})
 
 pub returns-clause-needs : goal.returns-clause-needs

@@ -10,5 +10,5 @@ returns-clause-computes c = prints c.printing.result c.in_ok-printed.printed _ c
 
 pub returns-clause-tells : goal.returns-clause-tells
 returns-clause-tells c =
-    needs_told c.args.each c.args.program.now c.args.places.now c.numbers_fit.ensures.well_made c.numbers_fit.ensures.fit c.counts_fit.ensures c.requires c.printing.result c.in_ok-printed.printed
+    needs_told c.args.each c.args.program.now c.args.places.now c.numbers_fit.ensures.well_made c.numbers_fit.ensures.fit c.requires c.printing.result c.in_ok-printed.printed
     c.printing.ensures (c.in_ok-printed.ensures {u = tt})

@@ -16,12 +16,12 @@ asked_by-requires-clause-few c = subst (λ (needs : List HostNeeds). length need
 
 pub asked_by-requires-clause-inputs : goal.asked_by-requires-clause-inputs
 asked_by-requires-clause-inputs c =
-    let can = splits c.args.program.now c.args.places.now c.numbers_fit.ensures.well_made c.numbers_fit.ensures.fit c.counts_fit.ensures c.requires.selected in
+    let can = splits c.args.program.now c.args.places.now c.numbers_fit.ensures.well_made c.numbers_fit.ensures.fit c.requires.selected in
     subst (λ (needs : List HostNeeds). most_inputs needs ≤ most_deal_items) (sym (c.as_slice.ensures ∙ (c.in_ok-needs.ensures {u = tt}).needs)) (inputs_few c.args.program.now c.args.places.now can c.requires.few)
 
 pub asked_by-requires-clause-counts : goal.asked_by-requires-clause-counts
 asked_by-requires-clause-counts c =
-    let can = splits c.args.program.now c.args.places.now c.numbers_fit.ensures.well_made c.numbers_fit.ensures.fit c.counts_fit.ensures c.requires.selected in
+    let can = splits c.args.program.now c.args.places.now c.numbers_fit.ensures.well_made c.numbers_fit.ensures.fit c.requires.selected in
     subst (λ (needs : List HostNeeds). AreCounts (sizes_of needs)) (sym (c.as_slice.ensures ∙ (c.in_ok-needs.ensures {u = tt}).needs)) (can_be_dealt c.args.program.now c.args.places.now can c.requires.few)
 
 pub returns-clause-made : goal.returns-clause-made
@@ -29,11 +29,11 @@ returns-clause-made c = made_there c.args.coordinates c.args.program.now c.args.
 
 pub returns-clause-asked : goal.returns-clause-asked
 returns-clause-asked c =
-    let can = splits c.args.program.now c.args.places.now c.numbers_fit.ensures.well_made c.numbers_fit.ensures.fit c.counts_fit.ensures c.requires.selected in
+    let can = splits c.args.program.now c.args.places.now c.numbers_fit.ensures.well_made c.numbers_fit.ensures.fit c.requires.selected in
     asked_there c.args.program.now c.args.places.now can c.as_slice.result.now c.asked_by.result (c.as_slice.ensures ∙ (c.in_ok-needs.ensures {u = tt}).needs) c.asked_by.ensures.asked
 
 pub returns-clause-suffice : goal.returns-clause-suffice
 returns-clause-suffice c =
-    let can = splits c.args.program.now c.args.places.now c.numbers_fit.ensures.well_made c.numbers_fit.ensures.fit c.counts_fit.ensures c.requires.selected in
+    let can = splits c.args.program.now c.args.places.now c.numbers_fit.ensures.well_made c.numbers_fit.ensures.fit c.requires.selected in
     suffice_there c.args.coordinates c.args.program.now c.args.places.now can c.as_slice.result.now c.asked_by.result (c.as_slice.ensures ∙ (c.in_ok-needs.ensures {u = tt}).needs) c.asked_by.ensures.made c.asked_by.ensures.asked
     c.asked_by.ensures.consistent

@@ -1,7 +1,7 @@
 use Rattle.std.proofs.Common.{refl}
-use Rattle.vd_joint.specs.Outcome.{numbers_fit}
-use Rattle.vd_joint.proofs.StatementTests.{if_meets, for_meets}
-use Rattle.vd_joint.proofs.numbers.+numbers.Goals as goal
+use Rattle.vd_core.specs.Numbers.{numbers_fit}
+use Rattle.vd_core.proofs.StatementTests.{if_meets, for_meets}
+use Rattle.vd_core.proofs.numbers.+numbers.Goals as goal
 
 pub statement_fits-returns-in-If : goal.statement_fits-returns-in-If
 statement_fits-returns-in-If t c =
@@ -10,4 +10,4 @@ statement_fits-returns-in-If t c =
 
 pub statement_fits-returns-in-For : goal.statement_fits-returns-in-For
 statement_fits-returns-in-For t c =
-    rw c.in-For.is (for_meets numbers_fit c.in-For.count c.in-For.body c.word_fits.ensures.at_most (rw c.as_slice-in-For.ensures at c.block_fits-in-For.ensures))
+    rw c.in-For.is (for_meets numbers_fit c.in-For.count c.in-For.body c.word_fits.ensures.test (rw c.as_slice-in-For.ensures at c.block_fits-in-For.ensures))

@@ -1,18 +1,11 @@
-//! The numbers of a program are words: a fact of their types, which the clauses hand out. Nothing is computed here.
+//! The numbers of a program are words: a fact of their types, which the clause hands out. Nothing is computed here.
 
-ghost use Rattle.std.specs.Prelude.{◌≡◌, ◌^◌, nat_lt, nat_le, true};
-ghost use Rattle.vd_core.specs.Facts.{IsWellMade, all_meet, meets};
-ghost use Rattle.vd_joint.specs.Outcome.{NumbersFit, factor_fits, number_fits, numbers_fit as fit};
+ghost use Rattle.std.specs.Prelude.{◌≡◌, true};
+ghost use Rattle.vd_core.specs.Facts.{all_meet, meets};
+ghost use Rattle.vd_core.specs.Numbers.{NumbersFit, factor_fits, number_fits, numbers_fit as fit};
 
-use vd_base::Op;
-use vd_core::{Program, Right, Stmt};
-
-fn word_fits(word: u32)
-    ensures below { nat_lt word (2 ^ 32) ≡ true }
-    ensures at_most { nat_le word (2 ^ 32) ≡ true }
-{
-    let _ = word;
-}
+use crate::normal::{NormalForm, Right, Stmt};
+use vd_base::{Op, word_fits};
 
 fn factor_fits(op: Op)
     ensures { factor_fits op ≡ true }
@@ -60,10 +53,9 @@ fn block_fits(body: &[Stmt])
     }
 }
 
-/// The numbers of a program are words, and it is well made.
-pub fn numbers_fit(program: &Program)
-    ensures fit { NumbersFit program.now }
-    ensures well_made { IsWellMade program.now }
+/// The numbers of a let-normal form are words.
+pub(crate) fn numbers_are_words(form: &NormalForm)
+    ensures { NumbersFit form.now }
 {
-    block_fits(program.form().body.as_slice())
+    block_fits(form.body.as_slice())
 }
