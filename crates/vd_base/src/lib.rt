@@ -14,6 +14,7 @@ mod operations;
 mod packet;
 mod protocols;
 mod rows;
+mod sight;
 mod text;
 mod words;
 
@@ -31,5 +32,6 @@ pub use operations::{Kind, Op};
 pub use packet::Packet;
 pub use protocols::{HostSet, Proto};
 pub use rows::Row;
+pub use sight::{add_name, find_name};
 pub use text::{Text, Texts};
 pub use words::{inputs_fit, word_fits, words_fit};

@@ -5,18 +5,11 @@ use Rattle.vd_core.specs.declared.source.Statement.TheOpen.{Statement-F}
 use Rattle.vd_core.specs.declared.source.Statement.TheFolds.{fold-roll-Statement}
 use Rattle.vd_base.specs.Names.{Named}
 use Rattle.vd_normal.specs.declared.spot.Spot.{Spot}
-use Rattle.vd_elaborate.specs.declared.visible.Visible.{Visible}
 use Rattle.vd_normal.specs.Normal.{Inlining, Made, Place, StatementLowering, statement_lowering, lowering_of, statements_made}
-use Rattle.vd_elaborate.specs.Seen.{seen}
 
-take_seen : (n : ℕ) (es : List Visible) → take n (seen es) ≡ seen (take n es)
-take_seen zero es = refl
-take_seen (suc n) [] = refl
-take_seen (suc n) (e ∷ es) = ap (λ z. (e.name, e.spot) ∷ z) (take_seen n es)
-
-take_front : (xs : List Visible) (ys : Named Spot) → take (length xs) (seen xs ++ ys) ≡ seen xs
+take_front : (xs ys : Named Spot) → take (length xs) (xs ++ ys) ≡ xs
 take_front [] ys = refl
-take_front (x ∷ xs) ys = ap (λ z. (x.name, x.spot) ∷ z) (take_front xs ys)
+take_front (x ∷ xs) ys = ap (λ z. x ∷ z) (take_front xs ys)
 
 -- a statement adds names at the end
 abbrev Grows : StatementLowering → Type 0
@@ -49,10 +42,10 @@ module _ (hosts : List (List ℕ)) where
       (one.0 ++ rest.0, rest.1 ∙ ap (λ z. z ++ rest.0) one.1 ∙ append_assoc p.names one.0 rest.0)
 
   -- the names of a block go
-  pub block_left : (ss : List Statement) (is : Named Inlining) (block : ℕ) (p : Place) (made : Made) (before after now : List Visible) (n : ℕ) → n ≡ length before → now ≡ take n after
-      → ◌≡◌ {A = Place} (record { names = seen after; made = made }) (statements_made (map (lowering_of hosts) ss) is block p) → (back : Named Spot) → p.names ≡ seen before ++ back → seen now ≡ seen before
+  pub block_left : (ss : List Statement) (is : Named Inlining) (block : ℕ) (p : Place) (made : Made) (before after now : Named Spot) (n : ℕ) → n ≡ length before → now ≡ take n after
+      → ◌≡◌ {A = Place} (record { names = after; made = made }) (statements_made (map (lowering_of hosts) ss) is block p) → (back : Named Spot) → p.names ≡ before ++ back → now ≡ before
   block_left ss is block p made before after now n len cut walked back start =
       let g = statements_grow ss is block p in
-      let names : seen after ≡ (statements_made (map (lowering_of hosts) ss) is block p).names = ap (λ (z : Place). z.names) walked in
-      let all : seen after ≡ seen before ++ (back ++ g.0) = names ∙ g.1 ∙ ap (λ z. z ++ g.0) start ∙ append_assoc (seen before) back g.0 in
-      ap seen cut ∙ sym (take_seen n after) ∙ ap (λ k. take k (seen after)) len ∙ ap (take (length before)) all ∙ take_front before (back ++ g.0)
+      let names : after ≡ (statements_made (map (lowering_of hosts) ss) is block p).names = ap (λ (z : Place). z.names) walked in
+      let all : after ≡ before ++ (back ++ g.0) = names ∙ g.1 ∙ ap (λ z. z ++ g.0) start ∙ append_assoc before back g.0 in
+      cut ∙ ap (λ k. take k after) len ∙ ap (take (length before)) all ∙ take_front before (back ++ g.0)

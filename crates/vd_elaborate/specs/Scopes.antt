@@ -9,10 +9,9 @@ use Rattle.vd_core.specs.declared.source.Statement.{Statement}
 use Rattle.vd_core.specs.declared.source.Function.{Function}
 use Rattle.vd_meaning.specs.SourceMeaning.{host_names}
 use Rattle.vd_normal.specs.declared.here.Here.{Here}
+use Rattle.vd_normal.specs.declared.spot.Spot.{Spot}
 use Rattle.vd_normal.specs.Normal.{Made, Place, Inlining, lowering, lowering_of_link, chain_made, all_made, call_made, lowering_of, statements_made, with_body, inner_made, loop_made, inlining_of, inlinings_of}
-use Rattle.vd_elaborate.specs.declared.visible.Visible.{Visible}
 use Rattle.vd_elaborate.specs.declared.scope.Scope.{Scope}
-use Rattle.vd_elaborate.specs.Seen.{seen}
 
 -- 16 bits number all slots, and all blocks
 abbrev pub Fits : Made → Type 0
@@ -29,18 +28,18 @@ hosts_of s = host_names s.hosts.now
 abbrev pub calls_of : Scope → Named Inlining
 calls_of s = inlinings_of (hosts_of s) s.functions.now
 
-abbrev pub lowered : Scope → List Visible → Here → Expr → Made → ℕ × Made
-lowered s names here e = (lowering (hosts_of s) e).run (calls_of s) (seen names) here
+abbrev pub lowered : Scope → Named Spot → Here → Expr → Made → ℕ × Made
+lowered s names here e = (lowering (hosts_of s) e).run (calls_of s) names here
 
-abbrev pub all_lowered : Scope → List Visible → Here → List Expr → Made → List ℕ × Made
-all_lowered s names here es = all_made (map (lowering (hosts_of s)) es) (calls_of s) (seen names) here
+abbrev pub all_lowered : Scope → Named Spot → Here → List Expr → Made → List ℕ × Made
+all_lowered s names here es = all_made (map (lowering (hosts_of s)) es) (calls_of s) names here
 
 -- one step of a chain, and all its steps, from the slot so far
-abbrev pub linked : Scope → List Visible → Here → Link → ℕ → Made → ℕ × Made
-linked s names here l = lowering_of_link (hosts_of s) l (calls_of s) (seen names) here
+abbrev pub linked : Scope → Named Spot → Here → Link → ℕ → Made → ℕ × Made
+linked s names here l = lowering_of_link (hosts_of s) l (calls_of s) names here
 
-abbrev pub chained : Scope → List Visible → Here → List Link → ℕ → Made → ℕ × Made
-chained s names here ls = chain_made (map (lowering_of_link (hosts_of s)) ls) (calls_of s) (seen names) here
+abbrev pub chained : Scope → Named Spot → Here → List Link → ℕ → Made → ℕ × Made
+chained s names here ls = chain_made (map (lowering_of_link (hosts_of s)) ls) (calls_of s) names here
 
 -- a call of a name, and what a function makes at a call, from the slots of the arguments
 abbrev pub called : Scope → Here → List ℕ → List ℕ → Made → ℕ × Made
@@ -50,8 +49,8 @@ abbrev pub entered : Scope → Here → Function → List ℕ → Made → ℕ �
 entered s here f = inlining_of (hosts_of s) f (calls_of s) here
 
 -- where a walk over statements stands
-abbrev pub place : List Visible → Made → Place
-place names made = record { names = seen names; made = made }
+abbrev pub place : Named Spot → Made → Place
+place names made = record { names = names; made = made }
 
 abbrev pub stated : Scope → ℕ → Statement → Place → Place
 stated s block x = lowering_of (hosts_of s) x (calls_of s) block
@@ -60,19 +59,19 @@ abbrev pub sequenced : Scope → ℕ → List Statement → Place → Place
 sequenced s block xs = statements_made (map (lowering_of (hosts_of s)) xs) (calls_of s) block
 
 -- the statements of an inner block, and of a loop's body
-abbrev pub inside : Scope → ℕ → List Visible → List Statement → Made → Made
-inside s block names body = inner_made (map (lowering_of (hosts_of s)) body) (calls_of s) block (seen names)
+abbrev pub inside : Scope → ℕ → Named Spot → List Statement → Made → Made
+inside s block names body = inner_made (map (lowering_of (hosts_of s)) body) (calls_of s) block names
 
-abbrev pub in_turn : Scope → Here → Ident → List Visible → List Statement → Made → Made
-in_turn s here x names body = loop_made x (map (lowering_of (hosts_of s)) body) (calls_of s) here (seen names)
+abbrev pub in_turn : Scope → Here → Ident → Named Spot → List Statement → Made → Made
+in_turn s here x names body = loop_made x (map (lowering_of (hosts_of s)) body) (calls_of s) here names
 
 -- the statements of both branches of an If, one after the other
-abbrev pub both : Scope → ℕ → List Visible → List Statement → List Statement → Made → Made
+abbrev pub both : Scope → ℕ → Named Spot → List Statement → List Statement → Made → Made
 both s block names a b m = inside s block names b (inside s block names a m)
 
 -- with the statements again that were set aside
 abbrev pub around : Made → Made → Made
 around outer m = with_body outer.body m
 
-abbrev pub branched : Scope → ℕ → List Visible → List Statement → List Statement → Made → Made
+abbrev pub branched : Scope → ℕ → Named Spot → List Statement → List Statement → Made → Made
 branched s block names a b m = around m (both s block names a b m)

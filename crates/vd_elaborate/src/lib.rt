@@ -6,7 +6,6 @@ mod made;
 mod names;
 mod scope;
 mod steps;
-mod visible;
 mod walk;
 
 pub use walk::elaborate;

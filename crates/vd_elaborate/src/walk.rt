@@ -5,20 +5,18 @@ ghost use Rattle.vd_base.specs.Limits.{most_hosts};
 ghost use Rattle.vd_meaning.specs.SourceMeaning.{host_names};
 ghost use Rattle.vd_normal.specs.Normal.{main_made, host_id, normal_form, written};
 ghost use Rattle.vd_elaborate.specs.Outputs.{KeepsOutputs};
-ghost use Rattle.vd_elaborate.specs.Seen.{seen};
 ghost use Rattle.vd_elaborate.specs.Scopes.{Fits, Gives, lowered, all_lowered, linked, chained, called, entered, place as at, stated, sequenced, inside, both, branched, in_turn, around};
 
 use crate::forms::{copy_form, copy_label, copy_name};
 use crate::made::{Made, slot_of_name};
-use crate::names::{add, bind, find};
+use crate::names::bind;
 use crate::scope::Scope;
 use crate::steps::{
     choose, copy, factor, infix, infix_gives, is_plain, of_element, of_name, operation, prefixes,
     put, shift_operation, store,
 };
-use crate::visible::Visible;
 use std::alloc::{AllocError, Global};
-use vd_base::{HostId, Kind, Names, Op, SlotId};
+use vd_base::{HostId, Kind, Name, Names, Op, SlotId, add_name, find_name};
 use vd_core::{
     Expr, Function, Host, Ident, Link, NormalForm, Program, Right, Source, Statement, Stmt, Written,
 };
@@ -40,7 +38,7 @@ impl<'a> Scope<'a> {
     #[cycle(walk)]
     fn lower(
         &self,
-        names: &[Visible],
+        names: &[(Name, Spot)],
         made: &mut Made,
         here: Here,
         expr: &Expr,
@@ -56,14 +54,19 @@ impl<'a> Scope<'a> {
                 Kind::Bool,
                 Right::Lit(u32::from(*truth)),
             ),
-            Expr::Value(name) => of_name(self.alloc, made, here, find(names, name.name.as_slice())),
+            Expr::Value(name) => of_name(
+                self.alloc,
+                made,
+                here,
+                find_name(names, name.name.as_slice()),
+            ),
             Expr::Element(name, index) => {
                 let index = self.lower(names, made, here, index)?;
                 of_element(
                     self.alloc,
                     made,
                     here,
-                    find(names, name.name.as_slice()),
+                    find_name(names, name.name.as_slice()),
                     index,
                 )
             }
@@ -133,7 +136,7 @@ impl<'a> Scope<'a> {
     #[cycle(walk)]
     fn chain(
         &self,
-        names: &[Visible],
+        names: &[(Name, Spot)],
         made: &mut Made,
         here: Here,
         first: u16,
@@ -153,7 +156,7 @@ impl<'a> Scope<'a> {
     #[cycle(walk)]
     fn link(
         &self,
-        names: &[Visible],
+        names: &[(Name, Spot)],
         made: &mut Made,
         here: Here,
         x: u16,
@@ -198,7 +201,7 @@ impl<'a> Scope<'a> {
     #[cycle(walk)]
     fn lower_all(
         &self,
-        names: &[Visible],
+        names: &[(Name, Spot)],
         made: &mut Made,
         here: Here,
         exprs: &[Expr],
@@ -261,7 +264,7 @@ impl<'a> Scope<'a> {
     #[cycle(walk)]
     fn sequence(
         &self,
-        names: &mut Vec<Visible>,
+        names: &mut Vec<(Name, Spot)>,
         made: &mut Made,
         block: u32,
         statements: &[Statement],
@@ -279,7 +282,7 @@ impl<'a> Scope<'a> {
     #[cycle(walk)]
     fn statement(
         &self,
-        names: &mut Vec<Visible>,
+        names: &mut Vec<(Name, Spot)>,
         made: &mut Made,
         block: u32,
         statement: &Statement,
@@ -302,7 +305,7 @@ impl<'a> Scope<'a> {
                 let x = self.lower(names.as_slice(), made, here, value)?;
                 let x = copy(self.alloc, made, here, plain, x)?;
                 made.rename(self.alloc, x, name, label)?;
-                add(self.alloc, names, &name.name, Spot::Binding(x))
+                add_name(self.alloc, names, name.name.as_slice(), Spot::Binding(x))
             }
             Statement::Var {
                 at,
@@ -319,7 +322,12 @@ impl<'a> Scope<'a> {
                 let slot = slot_of_name(self.alloc, here, name, *kind, label)?;
                 let next = made.next();
                 let variable = made.add(slot, Stmt::NewVar(SlotId(next), SlotId(x)))?;
-                add(self.alloc, names, &name.name, Spot::Variable(variable))
+                add_name(
+                    self.alloc,
+                    names,
+                    name.name.as_slice(),
+                    Spot::Variable(variable),
+                )
             }
             Statement::Array {
                 at,
@@ -335,7 +343,7 @@ impl<'a> Scope<'a> {
                 let slot = slot_of_name(self.alloc, here, name, *kind, label)?;
                 let next = made.next();
                 let array = made.add(slot, Stmt::NewArray(SlotId(next), *length))?;
-                add(self.alloc, names, &name.name, Spot::Array(array))
+                add_name(self.alloc, names, name.name.as_slice(), Spot::Array(array))
             }
             Statement::Store { name, value } => {
                 let here = Here {
@@ -343,7 +351,7 @@ impl<'a> Scope<'a> {
                     block,
                 };
                 let x = self.lower(names.as_slice(), made, here, value)?;
-                store(made, find(names.as_slice(), name.name.as_slice()), x)
+                store(made, find_name(names.as_slice(), name.name.as_slice()), x)
             }
             Statement::Put { name, index, value } => {
                 let here = Here {
@@ -352,7 +360,12 @@ impl<'a> Scope<'a> {
                 };
                 let index = self.lower(names.as_slice(), made, here, index)?;
                 let x = self.lower(names.as_slice(), made, here, value)?;
-                put(made, find(names.as_slice(), name.name.as_slice()), index, x)
+                put(
+                    made,
+                    find_name(names.as_slice(), name.name.as_slice()),
+                    index,
+                    x,
+                )
             }
             Statement::Output { at, value, host } => {
                 let here = Here {
@@ -405,7 +418,7 @@ impl<'a> Scope<'a> {
     #[cycle(walk)]
     fn branches(
         &self,
-        names: &mut Vec<Visible>,
+        names: &mut Vec<(Name, Spot)>,
         made: &mut Made,
         block: u32,
         then_block: &[Statement],
@@ -415,7 +428,7 @@ impl<'a> Scope<'a> {
         ensures then_body { IfOk result (λ b. b.0 ≡ (inside self.now block names.old.items then_block.now made.old).body) }
         ensures else_body { IfOk result (λ b. b.1 ≡ (both self.now block names.old.items then_block.now else_block.now made.old).body) }
         ensures made { OnOk result (made.new ≡ branched self.now block names.old.items then_block.now else_block.now made.old) }
-        ensures names { OnOk result (seen names.new.items ≡ seen names.old.items) }
+        ensures names { OnOk result (names.new.items ≡ names.old.items) }
     {
         let then_body = self.inner(names, made, block, then_block)?;
         let else_body = self.inner(names, made, block, else_block)?;
@@ -426,7 +439,7 @@ impl<'a> Scope<'a> {
     #[cycle(walk)]
     fn inner(
         &self,
-        names: &mut Vec<Visible>,
+        names: &mut Vec<(Name, Spot)>,
         made: &mut Made,
         block: u32,
         body: &[Statement],
@@ -434,7 +447,7 @@ impl<'a> Scope<'a> {
         requires { Fits (inside self.now block names.old.items body.now made.old) }
         ensures body { IfOk result (λ stmts. stmts ≡ (inside self.now block names.old.items body.now made.old).body) }
         ensures made { OnOk result (made.new ≡ around made.old (inside self.now block names.old.items body.now made.old)) }
-        ensures names { OnOk result (seen names.new.items ≡ seen names.old.items) }
+        ensures names { OnOk result (names.new.items ≡ names.old.items) }
     {
         let outer = made.set_aside(self.alloc);
         let count = names.len();
@@ -447,7 +460,7 @@ impl<'a> Scope<'a> {
     #[cycle(walk)]
     fn turn(
         &self,
-        names: &mut Vec<Visible>,
+        names: &mut Vec<(Name, Spot)>,
         made: &mut Made,
         here: Here,
         name: &Ident,
@@ -456,14 +469,14 @@ impl<'a> Scope<'a> {
         requires { Fits (in_turn self.now here name.now names.old.items body.now made.old) }
         ensures body { IfOk result (λ stmts. stmts ≡ (in_turn self.now here name.now names.old.items body.now made.old).body) }
         ensures made { OnOk result (made.new ≡ around made.old (in_turn self.now here name.now names.old.items body.now made.old)) }
-        ensures names { OnOk result (seen names.new.items ≡ seen names.old.items) }
+        ensures names { OnOk result (names.new.items ≡ names.old.items) }
     {
         let outer = made.set_aside(self.alloc);
         let count = names.len();
         let slot = slot_of_name(self.alloc, here, name, Kind::Word, &None)?;
         let next = made.next();
         let turn = made.add(slot, Stmt::Let(SlotId(next), Right::Turn))?;
-        add(self.alloc, names, &name.name, Spot::Binding(turn))?;
+        add_name(self.alloc, names, name.name.as_slice(), Spot::Binding(turn))?;
         self.sequence(names, made, here.block, body)?;
         names.truncate(count);
         Ok(made.take_back(outer))

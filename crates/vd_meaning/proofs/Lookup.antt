@@ -2,33 +2,31 @@
 use Rattle.std.proofs.Common.{◌≡◌, ℕ, zero, suc, ◌+◌, ◌<◌, ◌≤◌, true, false, List, [], ◌∷◌, ◌++◌, length, get_or, take, set, Some, None, refl, sym, ap, ◌∙◌, append-nil, append_assoc, suc-add, take_all, arith, if◌then◌else◌, bytes_eq}
 use Rattle.vd_core.specs.declared.source.Function.{Function}
 use Rattle.vd_meaning.specs.declared.held.Held.{Held}
-use Rattle.vd_meaning.specs.declared.entry.Entry.{Entry}
 use Rattle.vd_meaning.specs.World.{World}
 use Rattle.vd_base.specs.Names.{Named, at_name}
 use Rattle.vd_meaning.specs.Functions.{in_text_order}
 use Rattle.vd_meaning.specs.SourceMeaning.{State, left_block, changed}
-use Rattle.vd_meaning.specs.Entries.{named}
 
 some_none : {A : Type 0} (a : A) → Some a ≡ None → ⊥
 some_none a e = cc
 
 -- the first entry with the name is at k
-changed_at : (es : List Entry) (k : ℕ) (d e : Entry) (f : Held → Held) (x : List ℕ) → k < length es → at_name (named (take k es)) x ≡ None → bytes_eq (get_or es k d).name x ≡ true
-    → e.name ≡ (get_or es k d).name → e.held ≡ f (get_or es k d).held → named (set es k e) ≡ changed f x (named es)
-changed_at [] k d e f x lt none is n h = absurd (omega arith)
-changed_at (g ∷ es) zero d e f x lt none is n h = rw (is, n, h) refl
-changed_at (g ∷ es) (suc k) d e f x lt none is n h =
-    (elim (bytes_eq g.name x) as (λ b. (if b then Some g.held else at_name (named (take k es)) x) ≡ None → (g.name, g.held) ∷ named (set es k e) ≡ (if b then (g.name, f g.held) ∷ named es else (g.name, g.held) ∷ changed f x (named es))) [
-      | true ↦ λ none. absurd (some_none g.held none)
-      | false ↦ λ none. rw (changed_at es k d e f x (omega arith) none is n h) refl
+changed_at : (es : Named Held) (k : ℕ) (d : List ℕ × Held) (name : List ℕ) (held : Held) (f : Held → Held) (x : List ℕ) → k < length es → at_name (take k es) x ≡ None → bytes_eq (get_or es k d).0 x ≡ true
+    → name ≡ (get_or es k d).0 → held ≡ f (get_or es k d).1 → set es k (name, held) ≡ changed f x es
+changed_at [] k d name held f x lt none is n h = absurd (omega arith)
+changed_at (g ∷ es) zero d name held f x lt none is n h = rw (is, n, h) refl
+changed_at (g ∷ es) (suc k) d name held f x lt none is n h =
+    (elim (bytes_eq g.0 x) as (λ b. (if b then Some g.1 else at_name (take k es) x) ≡ None → g ∷ set es k (name, held) ≡ (if b then (g.0, f g.1) ∷ es else g ∷ changed f x es)) [
+      | true ↦ λ none. absurd (some_none g.1 none)
+      | false ↦ λ none. rw (changed_at es k d name held f x (omega arith) none is n h) refl
     ]) none
 
 -- no entry has the name
-changed_none : (es : List Entry) (f : Held → Held) (x : List ℕ) → at_name (named es) x ≡ None → changed f x (named es) ≡ named es
+changed_none : (es : Named Held) (f : Held → Held) (x : List ℕ) → at_name es x ≡ None → changed f x es ≡ es
 changed_none [] f x none = refl
 changed_none (g ∷ es) f x none =
-    (elim (bytes_eq g.name x) as (λ b. (if b then Some g.held else at_name (named es) x) ≡ None → (if b then (g.name, f g.held) ∷ named es else (g.name, g.held) ∷ changed f x (named es)) ≡ (g.name, g.held) ∷ named es) [
-      | true ↦ λ none. absurd (some_none g.held none)
+    (elim (bytes_eq g.0 x) as (λ b. (if b then Some g.1 else at_name es x) ≡ None → (if b then (g.0, f g.1) ∷ es else g ∷ changed f x es) ≡ g ∷ es) [
+      | true ↦ λ none. absurd (some_none g.1 none)
       | false ↦ λ none. rw (changed_none es f x none) refl
     ]) none
 
@@ -75,45 +73,35 @@ module _ {A : Type 0} (make : Function → Named A → A) where
   function_not_here fs k d x lt none is =
       ap (λ (z : Named A). at_name z x) (take_more [] fs k d lt) ∙ at_append (in_text_order make [] (take k fs)) (((get_or fs k d).name.name, make (get_or fs k d) (in_text_order make [] (take k fs))) ∷ []) x none ∙ rw is refl
 
-take_named : (n : ℕ) (es : List Entry) → take n (named es) ≡ named (take n es)
-take_named zero es = refl
-take_named (suc n) [] = refl
-take_named (suc n) (e ∷ es) = ap (λ z. (e.name, e.held) ∷ z) (take_named n es)
-
-length_named : (es : List Entry) → length (named es) ≡ length es
-length_named [] = refl
-length_named (e ∷ es) = ap suc (length_named es)
-
 get_same : {X : Type 0} (xs : List X) (k : ℕ) (d d' : X) → k < length xs → get_or xs k d ≡ get_or xs k d'
 get_same [] k d d' lt = absurd (omega arith)
 get_same (x ∷ xs) zero d d' lt = refl
 get_same (x ∷ xs) (suc k) d d' lt = get_same xs k d d' (omega arith)
 
--- g is the entry that was looked at, and h the one that is changed to e
-pub changed_here : (es : List Entry) (k : ℕ) (g h e : Entry) (f : Held → Held) (x : List ℕ) → k < length es → at_name (named (take k es)) x ≡ None → g ≡ get_or es k g → h ≡ get_or es k h → bytes_eq g.name x ≡ true
-    → e.name ≡ h.name → e.held ≡ f h.held → named (set es k e) ≡ changed f x (named es)
-changed_here es k g h e f x lt none is is' eq n m =
+-- g is the entry that was looked at, and h the one whose word is changed
+pub changed_here : (es : Named Held) (k : ℕ) (g h : List ℕ × Held) (held : Held) (f : Held → Held) (x : List ℕ) → k < length es → at_name (take k es) x ≡ None → g ≡ get_or es k g → h ≡ get_or es k h → bytes_eq g.0 x ≡ true
+    → held ≡ f h.1 → set es k (h.0, held) ≡ changed f x es
+changed_here es k g h held f x lt none is is' eq m =
     let same : h ≡ get_or es k g = is' ∙ get_same es k h g lt in
-    changed_at es k g e f x lt none (ap (λ (z : Entry). bytes_eq z.name x) (sym is) ∙ eq) (n ∙ ap (λ (z : Entry). z.name) same) (m ∙ ap (λ (z : Entry). f z.held) same)
+    changed_at es k g h.0 held f x lt none (ap (λ (z : List ℕ × Held). bytes_eq z.0 x) (sym is) ∙ eq) (ap (λ (z : List ℕ × Held). z.0) same) (m ∙ ap (λ (z : List ℕ × Held). f z.1) same)
 
-take_entry : (es : List Entry) (k : ℕ) (d : Entry) → k < length es → named (take (k + 1) es) ≡ named (take k es) ++ ((get_or es k d).name, (get_or es k d).held) ∷ []
+take_entry : (es : Named Held) (k : ℕ) (d : List ℕ × Held) → k < length es → take (k + 1) es ≡ take k es ++ get_or es k d ∷ []
 take_entry [] k d lt = absurd (omega arith)
 take_entry (e ∷ es) zero d lt = refl
-take_entry (e ∷ es) (suc k) d lt = rw suc-add (ap (λ z. (e.name, e.held) ∷ z) (take_entry es k d (omega arith)))
+take_entry (e ∷ es) (suc k) d lt = rw suc-add (ap (λ z. e ∷ z) (take_entry es k d (omega arith)))
 
 -- one entry more without the name
-pub not_here : (es : List Entry) (k : ℕ) (g : Entry) (x : List ℕ) → k < length es → at_name (named (take k es)) x ≡ None → g ≡ get_or es k g → bytes_eq g.name x ≡ false → at_name (named (take (k + 1) es)) x ≡ None
+pub not_here : (es : Named Held) (k : ℕ) (g : List ℕ × Held) (x : List ℕ) → k < length es → at_name (take k es) x ≡ None → g ≡ get_or es k g → bytes_eq g.0 x ≡ false → at_name (take (k + 1) es) x ≡ None
 not_here es k g x lt none is eq =
-    ap (λ (z : Named Held). at_name z x) (take_entry es k g lt) ∙ at_append (named (take k es)) (((get_or es k g).name, (get_or es k g).held) ∷ []) x none ∙ rw (ap (λ (z : Entry). bytes_eq z.name x) (sym is) ∙ eq) refl
+    ap (λ (z : Named Held). at_name z x) (take_entry es k g lt) ∙ at_append (take k es) (get_or es k g ∷ []) x none ∙ rw (ap (λ (z : List ℕ × Held). bytes_eq z.0 x) (sym is) ∙ eq) refl
 
 -- no entry is left
-pub nowhere : (es : List Entry) (k : ℕ) (f : Held → Held) (x : List ℕ) → length es ≤ k → at_name (named (take k es)) x ≡ None → named es ≡ changed f x (named es)
+pub nowhere : (es : Named Held) (k : ℕ) (f : Held → Held) (x : List ℕ) → length es ≤ k → at_name (take k es) x ≡ None → es ≡ changed f x es
 nowhere es k f x le none = sym (changed_none es f x (rw (← take_all k es le) none))
 
 -- the names of a block go
-pub block_left : (before after now : List Entry) (n : ℕ) (u w : World) (t : State) → n ≡ length before → now ≡ take n after → ◌≡◌ {A = State} (record { env = named after; world = w }) t
-    → ◌≡◌ {A = State} (record { env = named now; world = w }) (left_block (record { env = named before; world = u }) t)
+pub block_left : (before after now : Named Held) (n : ℕ) (u w : World) (t : State) → n ≡ length before → now ≡ take n after → ◌≡◌ {A = State} (record { env = after; world = w }) t
+    → ◌≡◌ {A = State} (record { env = now; world = w }) (left_block (record { env = before; world = u }) t)
 block_left before after now n u w t len cut is =
-    ap (λ (z : List Entry). let s : State = record { env = named z; world = w } in s) (cut ∙ ap (λ k. take k after) (len ∙ sym (length_named before)))
-    ∙ ap (λ z. let s : State = record { env = z; world = w } in s) (sym (take_named (length (named before)) after))
-    ∙ ap (left_block (record { env = named before; world = u })) is
+    ap (λ (z : Named Held). let s : State = record { env = z; world = w } in s) (cut ∙ ap (λ k. take k after) len)
+    ∙ ap (left_block (record { env = before; world = u })) is

@@ -4,4 +4,3 @@ pub mod Turns
 pub mod Functions
 pub mod SourceMeaning
 pub mod ProgramMeaning
-pub mod Entries

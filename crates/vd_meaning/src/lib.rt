@@ -1,7 +1,6 @@
 //! What a source and a let-normal program mean in clear: what each host is told, from what the hosts hand in.
 #![tactic(auto)]
 
-mod entry;
 pub mod held;
 pub mod hosts;
 mod names;

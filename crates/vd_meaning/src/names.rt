@@ -1,25 +1,23 @@
 //! The names in sight, with what each of them holds.
 
-ghost use Rattle.std.specs.Prelude.{◌≡◌, [], ◌∷◌, ◌++◌, OnOk, IfOk};
+ghost use Rattle.std.specs.Prelude.{◌≡◌, IfOk};
 ghost use Rattle.vd_base.specs.Names.{at_name, bound};
 ghost use Rattle.vd_meaning.specs.declared.held.Held.TheVariants.{Bound};
 ghost use Rattle.vd_meaning.specs.SourceMeaning.{held_word, held_element, store_word, store_element, changed, parameter_names};
-ghost use Rattle.vd_meaning.specs.Entries.{named};
 
-use crate::entry::Entry;
 use crate::held::Held;
 use crate::stores::set_element;
 use std::alloc::{AllocError, Global};
+use vd_base::{Name, add_name};
 use vd_core::Parameter;
-use vd_items::Items;
 
 /// The word that a name holds, or 0.
-pub(crate) fn word(env: &[Entry], name: &[u8]) -> u32
-    ensures { result ≡ held_word (at_name (named env.now) name.now) }
+pub(crate) fn word(env: &[(Name, Held)], name: &[u8]) -> u32
+    ensures { result ≡ held_word (at_name env.now name.now) }
 {
     for entry in env {
-        if entry.name.as_slice() == name {
-            return match &entry.held {
+        if entry.0.as_slice() == name {
+            return match &entry.1 {
                 Held::Bound(word) => *word,
                 Held::Cell(word) => *word,
                 Held::Elements(_) => 0,
@@ -30,12 +28,12 @@ pub(crate) fn word(env: &[Entry], name: &[u8]) -> u32
 }
 
 /// The element of an array that a name holds, or 0.
-pub(crate) fn element(env: &[Entry], name: &[u8], index: u32) -> u32
-    ensures { result ≡ held_element (at_name (named env.now) name.now) index }
+pub(crate) fn element(env: &[(Name, Held)], name: &[u8], index: u32) -> u32
+    ensures { result ≡ held_element (at_name env.now name.now) index }
 {
     for entry in env {
-        if entry.name.as_slice() == name {
-            return match &entry.held {
+        if entry.0.as_slice() == name {
+            return match &entry.1 {
                 Held::Bound(_) => 0,
                 Held::Cell(_) => 0,
                 Held::Elements(words) => words.as_slice().get(index as usize).copied().unwrap_or(0),
@@ -50,8 +48,8 @@ pub(crate) fn bind(
     alloc: Global,
     parameters: &[Parameter],
     words: &[u32],
-) -> Result<Vec<Entry>, AllocError>
-    ensures { IfOk result (λ env. named env.items ≡ bound Bound (parameter_names parameters.now) words.now) }
+) -> Result<Vec<(Name, Held)>, AllocError>
+    ensures { IfOk result (λ env. env.items ≡ bound Bound (parameter_names parameters.now) words.now) }
 {
     let mut env = Vec::new(alloc);
     let mut left = words;
@@ -59,10 +57,12 @@ pub(crate) fn bind(
         match left.split_first() {
             None => return Ok(env),
             Some((word, rest)) => {
-                env.push(Entry {
-                    name: Items::from_slice(alloc, parameter.name.name.as_slice())?,
-                    held: Held::Bound(*word),
-                })?;
+                add_name(
+                    alloc,
+                    &mut env,
+                    parameter.name.name.as_slice(),
+                    Held::Bound(*word),
+                )?;
                 left = rest;
             }
         }
@@ -70,39 +70,25 @@ pub(crate) fn bind(
     Ok(env)
 }
 
-/// Brings one more name into sight.
-pub(crate) fn add(
-    alloc: Global,
-    env: &mut Vec<Entry>,
-    name: &[u8],
-    held: Held,
-) -> Result<(), AllocError>
-    ensures { OnOk result (named env.new.items ≡ named env.old.items ++ (name.now, held) ∷ []) }
-{
-    let name = Items::from_slice(alloc, name)?;
-    env.push(Entry { name, held })?;
-    Ok(())
-}
-
 /// Stores a word in a variable.
-pub(crate) fn store(env: &mut Vec<Entry>, name: &[u8], word: u32)
-    ensures { named env.new.items ≡ changed (store_word word) name.now (named env.old.items) }
+pub(crate) fn store(env: &mut Vec<(Name, Held)>, name: &[u8], word: u32)
+    ensures { env.new.items ≡ changed (store_word word) name.now env.old.items }
 {
     for i in 0..env.len() {
-        if env[i].name.as_slice() == name {
-            hold_word(&mut env[i].held, word);
+        if env[i].0.as_slice() == name {
+            hold_word(&mut env[i].1, word);
             return;
         }
     }
 }
 
 /// Writes one word of an array.
-pub(crate) fn write(env: &mut Vec<Entry>, name: &[u8], index: u32, word: u32)
-    ensures { named env.new.items ≡ changed (store_element index word) name.now (named env.old.items) }
+pub(crate) fn write(env: &mut Vec<(Name, Held)>, name: &[u8], index: u32, word: u32)
+    ensures { env.new.items ≡ changed (store_element index word) name.now env.old.items }
 {
     for i in 0..env.len() {
-        if env[i].name.as_slice() == name {
-            hold_element(&mut env[i].held, index, word);
+        if env[i].0.as_slice() == name {
+            hold_element(&mut env[i].1, index, word);
             return;
         }
     }

@@ -3,17 +3,15 @@
 ghost use Rattle.std.specs.Prelude.{◌≡◌, [], ◌∷◌, ◌++◌, OnOk, IfOk, map, ℕ, List};
 ghost use Rattle.vd_meaning.specs.World.{World as Outside};
 ghost use Rattle.vd_base.specs.Names.{at_name};
-ghost use Rattle.vd_meaning.specs.Entries.{named};
 ghost use Rattle.vd_meaning.specs.SourceMeaning.{State, prefix_word, prefixes_word, infix_word, shift_word, called, chain_evaluation, evaluations, evaluation, evaluation_of_link, in_sequence, block_execution, turn_execution, execution, callee_of, callees_of, host_names, source_outputs};
 
-use crate::entry::Entry;
 use crate::held::Held;
 use crate::hosts::place;
-use crate::names::{add, bind, element, store, word, write};
+use crate::names::{bind, element, store, word, write};
 use crate::stores::zeros;
 use crate::world::World;
 use std::alloc::{AllocError, Global};
-use vd_base::{Inputs, Op, Outputs, Words, combine};
+use vd_base::{Inputs, Name, Op, Outputs, Words, add_name, combine};
 use vd_core::{Direction, Expr, Function, Host, Infix, Link, Prefix, Sign, Source, Statement};
 use vd_items::Items;
 
@@ -96,10 +94,15 @@ struct Scope<'a> {
 impl<'a> Scope<'a> {
     /// The value of an expression.
     #[cycle(run)]
-    fn evaluate(&self, env: &[Entry], world: &mut World, expr: &Expr) -> Result<u32, AllocError>
+    fn evaluate(
+        &self,
+        env: &[(Name, Held)],
+        world: &mut World,
+        expr: &Expr,
+    ) -> Result<u32, AllocError>
         ensures { IfOk result (λ x. ◌≡◌ {A = ℕ × Outside} (x, world.new)
             (evaluation (host_names self.now.hosts.now) expr.now (callees_of (host_names self.now.hosts.now) self.now.functions.now)
-            (named env.now) world.old)) }
+            env.now world.old)) }
     {
         match expr {
             Expr::Number(number) => Ok(*number),
@@ -148,14 +151,14 @@ impl<'a> Scope<'a> {
     #[cycle(run)]
     fn chain(
         &self,
-        env: &[Entry],
+        env: &[(Name, Held)],
         world: &mut World,
         first: u32,
         links: &[Link],
     ) -> Result<u32, AllocError>
         ensures { IfOk result (λ x. ◌≡◌ {A = ℕ × Outside} (x, world.new)
             (chain_evaluation (map (evaluation_of_link (host_names self.now.hosts.now)) links.now)
-            (callees_of (host_names self.now.hosts.now) self.now.functions.now) (named env.now) first world.old)) }
+            (callees_of (host_names self.now.hosts.now) self.now.functions.now) env.now first world.old)) }
     {
         let mut x = first;
         for link in links {
@@ -176,13 +179,13 @@ impl<'a> Scope<'a> {
     #[cycle(run)]
     fn evaluate_all(
         &self,
-        env: &[Entry],
+        env: &[(Name, Held)],
         world: &mut World,
         exprs: &[Expr],
     ) -> Result<Words, AllocError>
         ensures { IfOk result (λ xs. ◌≡◌ {A = List ℕ × Outside} (xs, world.new)
             (evaluations (map (evaluation (host_names self.now.hosts.now)) exprs.now)
-            (callees_of (host_names self.now.hosts.now) self.now.functions.now) (named env.now) world.old)) }
+            (callees_of (host_names self.now.hosts.now) self.now.functions.now) env.now world.old)) }
     {
         let mut words = Items::new(self.alloc);
         for expr in exprs {
@@ -233,13 +236,13 @@ impl<'a> Scope<'a> {
     #[cycle(run)]
     fn sequence(
         &self,
-        env: &mut Vec<Entry>,
+        env: &mut Vec<(Name, Held)>,
         world: &mut World,
         statements: &[Statement],
     ) -> Result<(), AllocError>
-        ensures { OnOk result (◌≡◌ {A = State} (record { env = named env.new.items; world = world.new })
+        ensures { OnOk result (◌≡◌ {A = State} (record { env = env.new.items; world = world.new })
             (in_sequence (map (execution (host_names self.now.hosts.now)) statements.now)
-            (callees_of (host_names self.now.hosts.now) self.now.functions.now) (record { env = named env.old.items; world = world.old }))) }
+            (callees_of (host_names self.now.hosts.now) self.now.functions.now) (record { env = env.old.items; world = world.old }))) }
     {
         for statement in statements {
             self.execute(env, world, statement)?;
@@ -251,26 +254,26 @@ impl<'a> Scope<'a> {
     #[cycle(run)]
     fn execute(
         &self,
-        env: &mut Vec<Entry>,
+        env: &mut Vec<(Name, Held)>,
         world: &mut World,
         statement: &Statement,
     ) -> Result<(), AllocError>
-        ensures { OnOk result (◌≡◌ {A = State} (record { env = named env.new.items; world = world.new })
+        ensures { OnOk result (◌≡◌ {A = State} (record { env = env.new.items; world = world.new })
             (execution (host_names self.now.hosts.now) statement.now (callees_of (host_names self.now.hosts.now) self.now.functions.now)
-            (record { env = named env.old.items; world = world.old }))) }
+            (record { env = env.old.items; world = world.old }))) }
     {
         match statement {
             Statement::Let { name, value, .. } => {
                 let word = self.evaluate(env.as_slice(), world, value)?;
-                add(self.alloc, env, name.name.as_slice(), Held::Bound(word))
+                add_name(self.alloc, env, name.name.as_slice(), Held::Bound(word))
             }
             Statement::Var { name, value, .. } => {
                 let word = self.evaluate(env.as_slice(), world, value)?;
-                add(self.alloc, env, name.name.as_slice(), Held::Cell(word))
+                add_name(self.alloc, env, name.name.as_slice(), Held::Cell(word))
             }
             Statement::Array { name, length, .. } => {
                 let words = zeros(self.alloc, *length)?;
-                add(self.alloc, env, name.name.as_slice(), Held::Elements(words))
+                add_name(self.alloc, env, name.name.as_slice(), Held::Elements(words))
             }
             Statement::Store { name, value } => {
                 let word = self.evaluate(env.as_slice(), world, value)?;
@@ -318,13 +321,13 @@ impl<'a> Scope<'a> {
     #[cycle(run)]
     fn block(
         &self,
-        env: &mut Vec<Entry>,
+        env: &mut Vec<(Name, Held)>,
         world: &mut World,
         body: &[Statement],
     ) -> Result<(), AllocError>
-        ensures { OnOk result (◌≡◌ {A = State} (record { env = named env.new.items; world = world.new })
+        ensures { OnOk result (◌≡◌ {A = State} (record { env = env.new.items; world = world.new })
             (block_execution (map (execution (host_names self.now.hosts.now)) body.now)
-            (callees_of (host_names self.now.hosts.now) self.now.functions.now) (record { env = named env.old.items; world = world.old }))) }
+            (callees_of (host_names self.now.hosts.now) self.now.functions.now) (record { env = env.old.items; world = world.old }))) }
     {
         let outer = env.len();
         self.sequence(env, world, body)?;
@@ -336,18 +339,18 @@ impl<'a> Scope<'a> {
     #[cycle(run)]
     fn turn(
         &self,
-        env: &mut Vec<Entry>,
+        env: &mut Vec<(Name, Held)>,
         world: &mut World,
         name: &[u8],
         number: u32,
         body: &[Statement],
     ) -> Result<(), AllocError>
-        ensures { OnOk result (◌≡◌ {A = State} (record { env = named env.new.items; world = world.new })
+        ensures { OnOk result (◌≡◌ {A = State} (record { env = env.new.items; world = world.new })
             (turn_execution name.now (map (execution (host_names self.now.hosts.now)) body.now)
-            (callees_of (host_names self.now.hosts.now) self.now.functions.now) number (record { env = named env.old.items; world = world.old }))) }
+            (callees_of (host_names self.now.hosts.now) self.now.functions.now) number (record { env = env.old.items; world = world.old }))) }
     {
         let outer = env.len();
-        add(self.alloc, env, name, Held::Bound(number))?;
+        add_name(self.alloc, env, name, Held::Bound(number))?;
         self.sequence(env, world, body)?;
         env.truncate(outer);
         Ok(())

@@ -7,7 +7,6 @@ use Rattle.vd_meaning.proofs.Sizes.{function_fits, statement_fits}
 use Rattle.vd_meaning.proofs.Lookup.{function_here, function_not_here}
 use Rattle.vd_normal.specs.declared.spot.Spot.TheVariants.{Binding}
 use Rattle.vd_normal.specs.Normal.{Made, Place, call_made, inlining_of, inlinings_of}
-use Rattle.vd_elaborate.specs.Seen.{seen}
 use Rattle.vd_kept.proofs.Growth.{size}
 use Rattle.vd_elaborate.specs.Scopes.{Fits, lowered, all_lowered, place, inside}
 use Rattle.vd_elaborate.proofs.Growth.{statement_within, expr_within, link_within, chain_step, exprs_step, min_first, max_first, mux_first, unary_operand, chain_operand, call_arguments, part_fits, second_fits, inside_more, turn_more, body_within, put_index, guard_fits, block_fits}
@@ -52,46 +51,46 @@ sequence-statement-requires t c =
 pub inner-returns-clause-names : goal.inner-returns-clause-names
 inner-returns-clause-names t c =
     let hosts = host_names c.args.self.now.hosts.now in
-    let start : Place = record { names = seen c.args.names.now.items; made = c.set_aside-outer.new.self } in
+    let start : Place = record { names = c.args.names.now.items; made = c.set_aside-outer.new.self } in
     block_left hosts c.args.body.now (inlinings_of hosts c.args.self.now.functions.now) c.args.block start c.sequence.new.made c.args.names.now.items c.sequence.new.names.items c.truncate.new.self.items c.len-count.result
-    (search (rules, c.len-count.ensures)) c.truncate.ensures.items c.in_ok-sequence.ensures [] (sym (append-nil (seen c.args.names.now.items)))
+    (search (rules, c.len-count.ensures)) c.truncate.ensures.items c.in_ok-sequence.ensures [] (sym (append-nil c.args.names.now.items))
 
 pub turn-returns-clause-names : goal.turn-returns-clause-names
 turn-returns-clause-names t c =
     let hosts = host_names c.args.self.now.hosts.now in
-    let start : Place = record { names = seen c.add-2.new.names.items; made = c.add.new.self } in
+    let start : Place = record { names = c.add_name.new.names.items; made = c.add.new.self } in
     block_left hosts c.args.body.now (inlinings_of hosts c.args.self.now.functions.now) c.args.here.block start c.sequence.new.made c.args.names.now.items c.sequence.new.names.items c.truncate.new.self.items c.len-count.result
-    (search (rules, c.len-count.ensures)) c.truncate.ensures.items c.in_ok-sequence.ensures ((c.args.name.now.name, Binding c.in_ok-turn.turn) ∷ []) c.in_ok-add.ensures
+    (search (rules, c.len-count.ensures)) c.truncate.ensures.items c.in_ok-sequence.ensures ((c.args.name.now.name, Binding c.in_ok-turn.turn) ∷ []) c.in_ok-add_name.ensures
 
 pub lower-lower-requires-in-Min : goal.lower-lower-requires-in-Min
 lower-lower-requires-in-Min t c =
-    let part = min_first (host_names c.args.self.now.hosts.now) c.args.self.now.functions.now (seen c.args.names.now) c.args.here c.in-Min.field-0 c.in-Min.x c.in-Min.y c.args.made.now in
-    (search (rules, the_lemmas, the_statements), part_fits (host_names c.args.self.now.hosts.now) c.args.self.now.functions.now (seen c.args.names.now) c.args.here c.in-Min.x c.deref-in-Min.result.now c.args.expr.now _ c.args.made.now c.in-Min.is c.deref-in-Min.ensures part c.requires)
+    let part = min_first (host_names c.args.self.now.hosts.now) c.args.self.now.functions.now c.args.names.now c.args.here c.in-Min.field-0 c.in-Min.x c.in-Min.y c.args.made.now in
+    (search (rules, the_lemmas, the_statements), part_fits (host_names c.args.self.now.hosts.now) c.args.self.now.functions.now c.args.names.now c.args.here c.in-Min.x c.deref-in-Min.result.now c.args.expr.now _ c.args.made.now c.in-Min.is c.deref-in-Min.ensures part c.requires)
 
 pub lower-lower-requires-in-Max : goal.lower-lower-requires-in-Max
 lower-lower-requires-in-Max t c =
-    let part = max_first (host_names c.args.self.now.hosts.now) c.args.self.now.functions.now (seen c.args.names.now) c.args.here c.in-Max.field-0 c.in-Max.x c.in-Max.y c.args.made.now in
-    (search (rules, the_lemmas, the_statements), part_fits (host_names c.args.self.now.hosts.now) c.args.self.now.functions.now (seen c.args.names.now) c.args.here c.in-Max.x c.deref-in-Max.result.now c.args.expr.now _ c.args.made.now c.in-Max.is c.deref-in-Max.ensures part c.requires)
+    let part = max_first (host_names c.args.self.now.hosts.now) c.args.self.now.functions.now c.args.names.now c.args.here c.in-Max.field-0 c.in-Max.x c.in-Max.y c.args.made.now in
+    (search (rules, the_lemmas, the_statements), part_fits (host_names c.args.self.now.hosts.now) c.args.self.now.functions.now c.args.names.now c.args.here c.in-Max.x c.deref-in-Max.result.now c.args.expr.now _ c.args.made.now c.in-Max.is c.deref-in-Max.ensures part c.requires)
 
 pub lower-lower-requires-in-Mux : goal.lower-lower-requires-in-Mux
 lower-lower-requires-in-Mux t c =
-    let part = mux_first (host_names c.args.self.now.hosts.now) c.args.self.now.functions.now (seen c.args.names.now) c.args.here c.in-Mux.field-0 c.in-Mux.x c.in-Mux.y c.in-Mux.z c.args.made.now in
-    (search (rules, the_lemmas, the_statements), part_fits (host_names c.args.self.now.hosts.now) c.args.self.now.functions.now (seen c.args.names.now) c.args.here c.in-Mux.x c.deref-in-Mux.result.now c.args.expr.now _ c.args.made.now c.in-Mux.is c.deref-in-Mux.ensures part c.requires)
+    let part = mux_first (host_names c.args.self.now.hosts.now) c.args.self.now.functions.now c.args.names.now c.args.here c.in-Mux.field-0 c.in-Mux.x c.in-Mux.y c.in-Mux.z c.args.made.now in
+    (search (rules, the_lemmas, the_statements), part_fits (host_names c.args.self.now.hosts.now) c.args.self.now.functions.now c.args.names.now c.args.here c.in-Mux.x c.deref-in-Mux.result.now c.args.expr.now _ c.args.made.now c.in-Mux.is c.deref-in-Mux.ensures part c.requires)
 
 pub lower-lower-requires-in-Unary : goal.lower-lower-requires-in-Unary
 lower-lower-requires-in-Unary t c =
-    let part = unary_operand (host_names c.args.self.now.hosts.now) c.args.self.now.functions.now (seen c.args.names.now) c.args.here c.in-Unary.x c.in-Unary.signs c.args.made.now in
-    (search (rules, the_lemmas, the_statements), part_fits (host_names c.args.self.now.hosts.now) c.args.self.now.functions.now (seen c.args.names.now) c.args.here c.in-Unary.x c.deref-in-Unary.result.now c.args.expr.now _ c.args.made.now c.in-Unary.is c.deref-in-Unary.ensures part c.requires)
+    let part = unary_operand (host_names c.args.self.now.hosts.now) c.args.self.now.functions.now c.args.names.now c.args.here c.in-Unary.x c.in-Unary.signs c.args.made.now in
+    (search (rules, the_lemmas, the_statements), part_fits (host_names c.args.self.now.hosts.now) c.args.self.now.functions.now c.args.names.now c.args.here c.in-Unary.x c.deref-in-Unary.result.now c.args.expr.now _ c.args.made.now c.in-Unary.is c.deref-in-Unary.ensures part c.requires)
 
 pub lower-lower-requires-in-Chain : goal.lower-lower-requires-in-Chain
 lower-lower-requires-in-Chain t c =
-    let part = chain_operand (host_names c.args.self.now.hosts.now) c.args.self.now.functions.now (seen c.args.names.now) c.args.here c.in-Chain.first c.in-Chain.links c.args.made.now in
-    (search (rules, the_lemmas, the_statements), part_fits (host_names c.args.self.now.hosts.now) c.args.self.now.functions.now (seen c.args.names.now) c.args.here c.in-Chain.first c.deref-in-Chain.result.now c.args.expr.now _ c.args.made.now c.in-Chain.is c.deref-in-Chain.ensures part c.requires)
+    let part = chain_operand (host_names c.args.self.now.hosts.now) c.args.self.now.functions.now c.args.names.now c.args.here c.in-Chain.first c.in-Chain.links c.args.made.now in
+    (search (rules, the_lemmas, the_statements), part_fits (host_names c.args.self.now.hosts.now) c.args.self.now.functions.now c.args.names.now c.args.here c.in-Chain.first c.deref-in-Chain.result.now c.args.expr.now _ c.args.made.now c.in-Chain.is c.deref-in-Chain.ensures part c.requires)
 
 pub lower-lower-requires-in-Mux-2 : goal.lower-lower-requires-in-Mux-2
 lower-lower-requires-in-Mux-2 t c = (
   search (rules, the_lemmas, the_statements),
-  second_fits (host_names c.args.self.now.hosts.now) c.args.self.now.functions.now (seen c.args.names.now) c.args.here c.in-Mux.field-0 c.in-Mux.x c.in-Mux.y c.in-Mux.z c.deref-in-Mux.result.now c.deref-in-Mux-2.result.now c.args.expr.now c.args.made.now
+  second_fits (host_names c.args.self.now.hosts.now) c.args.self.now.functions.now c.args.names.now c.args.here c.in-Mux.field-0 c.in-Mux.x c.in-Mux.y c.in-Mux.z c.deref-in-Mux.result.now c.deref-in-Mux-2.result.now c.args.expr.now c.args.made.now
       (c.in_ok-x-in-Mux.x, c.lower-in-Mux.new.made) c.in-Mux.is c.deref-in-Mux.ensures c.deref-in-Mux-2.ensures c.in_ok-x-in-Mux.ensures c.requires,
 )
 
@@ -100,67 +99,67 @@ lower-lower_all-requires t c =
     let fits = c.requires in
     let whole = ap (λ e. size (lowered c.args.self.now c.args.names.now c.args.here e c.args.made.now).1) c.in-Call.is in
     let read = ap (λ es. size (all_lowered c.args.self.now c.args.names.now c.args.here es c.args.made.now).1) c.as_slice-in-Call.ensures in
-    let part = call_arguments (host_names c.args.self.now.hosts.now) c.args.self.now.functions.now (seen c.args.names.now) c.args.here c.in-Call.name c.in-Call.arguments c.args.made.now in
+    let part = call_arguments (host_names c.args.self.now.hosts.now) c.args.self.now.functions.now c.args.names.now c.args.here c.in-Call.name c.in-Call.arguments c.args.made.now in
     (search (rules, the_lemmas, the_statements), omega arith)
 
 pub lower_all-lower-requires : goal.lower_all-lower-requires
 lower_all-lower-requires t c =
     let fits = c.requires in
     let same = ap (λ (q : List ℕ × Made). size q.1) c.loop-expr.invariant in
-    let within = expr_within (host_names c.args.self.now.hosts.now) c.args.self.now.functions.now c.args.exprs.now c.loop-expr.expr-index c.expr-item.result (seen c.args.names.now) c.args.here c.loop-expr.made c.loop-expr-test.true c.expr-item.is in
+    let within = expr_within (host_names c.args.self.now.hosts.now) c.args.self.now.functions.now c.args.exprs.now c.loop-expr.expr-index c.expr-item.result c.args.names.now c.args.here c.loop-expr.made c.loop-expr-test.true c.expr-item.is in
     (search (rules, the_lemmas, the_statements), omega arith)
 
 pub chain-link-requires : goal.chain-link-requires
 chain-link-requires t c =
     let fits = c.requires in
     let same = ap (λ (q : ℕ × Made). size q.1) c.loop-link.invariant in
-    let within = link_within (host_names c.args.self.now.hosts.now) c.args.self.now.functions.now c.args.links.now c.loop-link.link-index c.link-item.result (seen c.args.names.now) c.args.here c.loop-link.x c.loop-link.made c.loop-link-test.true c.link-item.is in
+    let within = link_within (host_names c.args.self.now.hosts.now) c.args.self.now.functions.now c.args.links.now c.loop-link.link-index c.link-item.result c.args.names.now c.args.here c.loop-link.x c.loop-link.made c.loop-link-test.true c.link-item.is in
     (search (rules, the_lemmas, the_statements), omega arith)
 
 pub chain-loop-link-preserved : goal.chain-loop-link-preserved
 chain-loop-link-preserved t c =
-    chain_step (host_names c.args.self.now.hosts.now) c.args.self.now.functions.now (seen c.args.names.now) c.args.here c.args.links.now c.loop-link.link-index c.link-item.result c.loop-link.x c.loop-link.made (c.in_ok-x.x, c.link.new.made)
+    chain_step (host_names c.args.self.now.hosts.now) c.args.self.now.functions.now c.args.names.now c.args.here c.args.links.now c.loop-link.link-index c.link-item.result c.loop-link.x c.loop-link.made (c.in_ok-x.x, c.link.new.made)
     c.loop-link-test.true c.link-item.is c.in_ok-x.ensures ∙ c.loop-link.invariant
 
 pub enter-sequence-requires : goal.enter-sequence-requires
 enter-sequence-requires t c =
     let bind = c.in_ok-names.ensures ∙ ap (λ parameters. bound Binding (parameter_names parameters) c.args.slots.now) c.as_slice.ensures in
-    (search (rules, the_lemmas, the_statements), body_within (host_names c.args.self.now.hosts.now) c.args.self.now.functions.now c.args.function.now c.args.here c.args.slots.now (seen c.in_ok-names.names.items) c.args.made.now c.as_slice-2.result.now bind c.as_slice-2.ensures c.requires)
+    (search (rules, the_lemmas, the_statements), body_within (host_names c.args.self.now.hosts.now) c.args.self.now.functions.now c.args.function.now c.args.here c.args.slots.now c.in_ok-names.names.items c.args.made.now c.as_slice-2.result.now bind c.as_slice-2.ensures c.requires)
 
 pub branches-inner-requires : goal.branches-inner-requires
 branches-inner-requires t c =
     let fits = c.requires in
-    let more = inside_more (host_names c.args.self.now.hosts.now) c.args.self.now.functions.now c.args.else_block.now c.args.block (seen c.args.names.now.items) (inside c.args.self.now c.args.block c.args.names.now.items c.args.then_block.now c.args.made.now) in
+    let more = inside_more (host_names c.args.self.now.hosts.now) c.args.self.now.functions.now c.args.else_block.now c.args.block c.args.names.now.items (inside c.args.self.now c.args.block c.args.names.now.items c.args.then_block.now c.args.made.now) in
     (search (rules, the_lemmas, the_statements), omega arith)
 
 pub statement-lower-requires-in-Put : goal.statement-lower-requires-in-Put
 statement-lower-requires-in-Put t c = (
   search (rules, the_lemmas, the_statements),
-  put_index (host_names c.args.self.now.hosts.now) c.args.self.now.functions.now c.args.statement.now c.in-Put.name c.in-Put.index c.in-Put.value c.args.block (seen c.args.names.now.items) (seen c.as_slice-in-Put.result.now) c.args.made.now
-      c.in-Put.is (ap seen c.as_slice-in-Put.ensures.value) c.requires,
+  put_index (host_names c.args.self.now.hosts.now) c.args.self.now.functions.now c.args.statement.now c.in-Put.name c.in-Put.index c.in-Put.value c.args.block c.args.names.now.items c.as_slice-in-Put.result.now c.args.made.now
+      c.in-Put.is c.as_slice-in-Put.ensures.value c.requires,
 )
 
 pub statement-lower-requires-in-If : goal.statement-lower-requires-in-If
 statement-lower-requires-in-If t c = (
   search (rules, the_lemmas, the_statements),
-  guard_fits (host_names c.args.self.now.hosts.now) c.args.self.now.functions.now c.args.statement.now c.in-If.at c.in-If.guard c.in-If.then_block c.in-If.else_block c.args.block (seen c.args.names.now.items) (seen c.as_slice-in-If.result.now) c.args.made.now
-      c.in-If.is (ap seen c.as_slice-in-If.ensures.value) c.requires,
+  guard_fits (host_names c.args.self.now.hosts.now) c.args.self.now.functions.now c.args.statement.now c.in-If.at c.in-If.guard c.in-If.then_block c.in-If.else_block c.args.block c.args.names.now.items c.as_slice-in-If.result.now c.args.made.now
+      c.in-If.is c.as_slice-in-If.ensures.value c.requires,
 )
 
 pub statement-begin_block-inner-requires : goal.statement-begin_block-inner-requires
 statement-begin_block-inner-requires t c =
-    block_fits (host_names c.args.self.now.hosts.now) c.args.self.now.functions.now c.args.statement.now c.in-If.at c.in-If.guard c.in-If.then_block c.in-If.else_block c.args.block (seen c.args.names.now.items) (seen c.as_slice-in-If.result.now) c.args.made.now
-    (c.in_ok-x-in-If.x, c.lower-in-If.new.made) c.in-If.is (ap seen c.as_slice-in-If.ensures.value) c.in_ok-x-in-If.ensures c.requires
+    block_fits (host_names c.args.self.now.hosts.now) c.args.self.now.functions.now c.args.statement.now c.in-If.at c.in-If.guard c.in-If.then_block c.in-If.else_block c.args.block c.args.names.now.items c.as_slice-in-If.result.now c.args.made.now
+    (c.in_ok-x-in-If.x, c.lower-in-If.new.made) c.in-If.is c.as_slice-in-If.ensures.value c.in_ok-x-in-If.ensures c.requires
 
 pub turn-add-requires : goal.turn-add-requires
 turn-add-requires t c =
     let fits = c.requires in
-    let more = turn_more (host_names c.args.self.now.hosts.now) c.args.self.now.functions.now c.args.name.now c.args.body.now c.args.here (seen c.args.names.now.items) c.args.made.now in
+    let more = turn_more (host_names c.args.self.now.hosts.now) c.args.self.now.functions.now c.args.name.now c.args.body.now c.args.here c.args.names.now.items c.args.made.now in
     let same = ap size c.set_aside-outer.ensures.rest in
     omega arith
 
 pub lower_all-loop-expr-preserved : goal.lower_all-loop-expr-preserved
 lower_all-loop-expr-preserved t c =
-    let step = exprs_step (host_names c.args.self.now.hosts.now) c.args.self.now.functions.now (seen c.args.names.now) c.args.here c.args.exprs.now c.loop-expr.expr-index c.expr-item.result
+    let step = exprs_step (host_names c.args.self.now.hosts.now) c.args.self.now.functions.now c.args.names.now c.args.here c.args.exprs.now c.loop-expr.expr-index c.expr-item.result
     c.loop-expr.made (c.in_ok-slot.slot, c.lower.new.made) c.loop-expr.slots c.loop-expr-test.true c.expr-item.is c.in_ok-slot.ensures in
     rw (c.in_ok-push.ensures {u = tt}).ok (step ∙ c.loop-expr.invariant)

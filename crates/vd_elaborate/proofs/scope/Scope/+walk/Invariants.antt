@@ -3,7 +3,6 @@ use Rattle.vd_base.specs.Names.{at_name}
 use Rattle.vd_meaning.specs.SourceMeaning.{host_names}
 use Rattle.vd_meaning.proofs.Sizes.{code_size, size_of, sizes, function_size}
 use Rattle.vd_normal.specs.Normal.{Made, lowering, lowering_of_link, chain_made, all_made, lowering_of, statements_made, inlinings_of}
-use Rattle.vd_elaborate.specs.Seen.{seen}
 use Rattle.vd_elaborate.proofs.scope.Scope.+walk.Given as goal
 
 abbrev pub decreases-lower : goal.decreases-lower
@@ -47,19 +46,19 @@ abbrev pub invariant-chain-loop-link : goal.invariant-chain-loop-link
 invariant-chain-loop-link l =
     let hosts = host_names l.self.hosts.now in
     let is = inlinings_of hosts l.self.functions.now in
-    chain_made (map (lowering_of_link hosts) (drop l.link-index l.links)) is (seen l.names) l.here l.x l.made
-    ≡ chain_made (map (lowering_of_link hosts) l.links) is (seen l.names) l.here l.first l.initial.made
+    chain_made (map (lowering_of_link hosts) (drop l.link-index l.links)) is l.names l.here l.x l.made
+    ≡ chain_made (map (lowering_of_link hosts) l.links) is l.names l.here l.first l.initial.made
 
 abbrev pub invariant-lower_all-loop-expr : goal.invariant-lower_all-loop-expr
 invariant-lower_all-loop-expr l =
     let hosts = host_names l.self.hosts.now in
     let is = inlinings_of hosts l.self.functions.now in
-    let rest = all_made (map (lowering hosts) (drop l.expr-index l.exprs)) is (seen l.names) l.here l.made in
-    ◌≡◌ {A = List ℕ × Made} (l.slots ++ rest.0, rest.1) (all_made (map (lowering hosts) l.exprs) is (seen l.names) l.here l.initial.made)
+    let rest = all_made (map (lowering hosts) (drop l.expr-index l.exprs)) is l.names l.here l.made in
+    ◌≡◌ {A = List ℕ × Made} (l.slots ++ rest.0, rest.1) (all_made (map (lowering hosts) l.exprs) is l.names l.here l.initial.made)
 
 abbrev pub invariant-sequence-loop-statement : goal.invariant-sequence-loop-statement
 invariant-sequence-loop-statement l =
     let hosts = host_names l.self.hosts.now in
     let is = inlinings_of hosts l.self.functions.now in
-    statements_made (map (lowering_of hosts) (drop l.statement-index l.statements)) is l.block (record { names = seen l.names.items; made = l.made })
-    ≡ statements_made (map (lowering_of hosts) l.statements) is l.block (record { names = seen l.initial.names.items; made = l.initial.made })
+    statements_made (map (lowering_of hosts) (drop l.statement-index l.statements)) is l.block (record { names = l.names.items; made = l.made })
+    ≡ statements_made (map (lowering_of hosts) l.statements) is l.block (record { names = l.initial.names.items; made = l.initial.made })

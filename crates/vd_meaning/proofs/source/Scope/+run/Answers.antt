@@ -1,7 +1,6 @@
 use Rattle.std.proofs.Common.{◌≡◌, ℕ, ◌∷◌, ◌++◌, [], map, true, false, bytes_eq, get_or, IfOk, sym, ap, ◌∙◌, subst, arith, rules}
 use Rattle.vd_meaning.specs.World.{World}
 use Rattle.vd_meaning.specs.declared.held.Held.TheVariants.{Bound}
-use Rattle.vd_meaning.specs.Entries.{named}
 use Rattle.vd_meaning.specs.SourceMeaning.{called, in_sequence, execution, callee_of, callees_of, host_names}
 use Rattle.vd_meaning.proofs.Sizes.{function_fits, statement_fits}
 use Rattle.vd_meaning.proofs.Lookup.{function_here, function_not_here, block_left}
@@ -11,7 +10,7 @@ pub block-returns : goal.block-returns
 block-returns t c =
     let hosts = host_names c.args.self.now.hosts.now in
     block_left c.args.env.now.items c.sequence.new.env.items c.truncate.new.self.items c.len-outer.result c.args.world.now c.sequence.new.world
-    (in_sequence (map (execution hosts) c.args.body.now) (callees_of hosts c.args.self.now.functions.now) (record { env = named c.args.env.now.items; world = c.args.world.now }))
+    (in_sequence (map (execution hosts) c.args.body.now) (callees_of hosts c.args.self.now.functions.now) (record { env = c.args.env.now.items; world = c.args.world.now }))
     (search (rules, c.len-outer.ensures)) c.truncate.ensures.items c.in_ok-sequence.ensures
 
 pub turn-returns : goal.turn-returns
@@ -19,9 +18,9 @@ turn-returns t c =
     let hosts = host_names c.args.self.now.hosts.now in
     let callees = callees_of hosts c.args.self.now.functions.now in
     block_left c.args.env.now.items c.sequence.new.env.items c.truncate.new.self.items c.len-outer.result c.args.world.now c.sequence.new.world
-    (in_sequence (map (execution hosts) c.args.body.now) callees (record { env = named c.args.env.now.items ++ (c.args.name.now, Bound c.args.number) ∷ []; world = c.args.world.now }))
+    (in_sequence (map (execution hosts) c.args.body.now) callees (record { env = c.args.env.now.items ++ (c.args.name.now, Bound c.args.number) ∷ []; world = c.args.world.now }))
     (search (rules, c.len-outer.ensures)) c.truncate.ensures.items
-    (c.in_ok-sequence.ensures ∙ ap (λ z. in_sequence (map (execution hosts) c.args.body.now) callees (record { env = z; world = c.args.world.now })) c.in_ok-add.ensures)
+    (c.in_ok-sequence.ensures ∙ ap (λ z. in_sequence (map (execution hosts) c.args.body.now) callees (record { env = z; world = c.args.world.now })) c.in_ok-add_name.ensures)
 
 pub call-enter-requires : goal.call-enter-requires
 call-enter-requires t c = (omega (arith, function_fits c.args.self.now.functions.now c.loop-k.k c.index-self-k.result c.loop-k-test.true), tt)

@@ -2,7 +2,6 @@ use Rattle.std.proofs.Common.{◌≡◌, ℕ, ◌+◌, ◌*◌, ◌++◌, map, t
 use Rattle.vd_meaning.specs.World.{World}
 use Rattle.vd_base.specs.Names.{at_name}
 use Rattle.vd_meaning.specs.Turns.{turns}
-use Rattle.vd_meaning.specs.Entries.{named}
 use Rattle.vd_meaning.specs.SourceMeaning.{State, chain_evaluation, evaluations, evaluation, evaluation_of_link, in_sequence, turn_execution, execution, callees_of, host_names}
 use Rattle.vd_meaning.proofs.Sizes.{code_size, size_of, sizes, function_size}
 use Rattle.vd_meaning.proofs.source.Scope.+run.Given as goal
@@ -42,25 +41,25 @@ abbrev pub invariant-chain-loop-link : goal.invariant-chain-loop-link
 invariant-chain-loop-link l =
     let hosts = host_names l.self.hosts.now in
     let callees = callees_of hosts l.self.functions.now in
-    chain_evaluation (map (evaluation_of_link hosts) (drop l.link-index l.links)) callees (named l.env) l.x l.world
-    ≡ chain_evaluation (map (evaluation_of_link hosts) l.links) callees (named l.env) l.first l.initial.world
+    chain_evaluation (map (evaluation_of_link hosts) (drop l.link-index l.links)) callees l.env l.x l.world
+    ≡ chain_evaluation (map (evaluation_of_link hosts) l.links) callees l.env l.first l.initial.world
 
 abbrev pub invariant-evaluate_all-loop-expr : goal.invariant-evaluate_all-loop-expr
 invariant-evaluate_all-loop-expr l =
     let hosts = host_names l.self.hosts.now in
     let callees = callees_of hosts l.self.functions.now in
-    let rest = evaluations (map (evaluation hosts) (drop l.expr-index l.exprs)) callees (named l.env) l.world in
-    ◌≡◌ {A = List ℕ × World} (l.words ++ rest.0, rest.1) (evaluations (map (evaluation hosts) l.exprs) callees (named l.env) l.initial.world)
+    let rest = evaluations (map (evaluation hosts) (drop l.expr-index l.exprs)) callees l.env l.world in
+    ◌≡◌ {A = List ℕ × World} (l.words ++ rest.0, rest.1) (evaluations (map (evaluation hosts) l.exprs) callees l.env l.initial.world)
 
 abbrev pub invariant-execute-loop-number : goal.invariant-execute-loop-number
 invariant-execute-loop-number l =
     let hosts = host_names l.self.hosts.now in
-    ◌≡◌ {A = State} (record { env = named l.env.items; world = l.world })
-    (turns l.number (turn_execution l.name.name (map (execution hosts) l.body) (callees_of hosts l.self.functions.now)) (record { env = named l.initial.env.items; world = l.initial.world }))
+    ◌≡◌ {A = State} (record { env = l.env.items; world = l.world })
+    (turns l.number (turn_execution l.name.name (map (execution hosts) l.body) (callees_of hosts l.self.functions.now)) (record { env = l.initial.env.items; world = l.initial.world }))
 
 abbrev pub invariant-sequence-loop-statement : goal.invariant-sequence-loop-statement
 invariant-sequence-loop-statement l =
     let hosts = host_names l.self.hosts.now in
     let callees = callees_of hosts l.self.functions.now in
-    in_sequence (map (execution hosts) (drop l.statement-index l.statements)) callees (record { env = named l.env.items; world = l.world })
-    ≡ in_sequence (map (execution hosts) l.statements) callees (record { env = named l.initial.env.items; world = l.initial.world })
+    in_sequence (map (execution hosts) (drop l.statement-index l.statements)) callees (record { env = l.env.items; world = l.world })
+    ≡ in_sequence (map (execution hosts) l.statements) callees (record { env = l.initial.env.items; world = l.initial.world })
