@@ -18,8 +18,8 @@ use Rattle.vd_parser.specs.Outcomes.{IsParse}
 use Rattle.vd_parser.specs.declared.fault.ParseFault.{ParseFault}
 use Rattle.vd_parser.specs.declared.fault.ParseFault.TheVariants as parse_fault
 use Rattle.vd_resolve.specs.Limits.{resolution}
-use Rattle.vd_resolve.specs.declared.fault.NameFault.{NameFault}
-use Rattle.vd_resolve.specs.declared.fault.NameFault.TheVariants as name_fault
+use Rattle.vd_resolve.specs.Faults.{Fault}
+use Rattle.vd_resolve.specs.Faults as name_fault
 use Rattle.vd_space.specs.declared.problem.Problem.{Problem}
 use Rattle.vd_space.specs.Reading.{problem_of}
 use Rattle.vd_systems.proofs.Systems.{program_system}
@@ -58,7 +58,7 @@ parsed_as name tree (Err (parse_fault.TooDeep offset)) is = absurd (cc is)
 parsed_as name tree (Err (parse_fault.TooLong length)) is = absurd (cc is)
 parsed_as name tree (Err parse_fault.Memory) is = absurd (cc is)
 
-rule_ends : (fault : NameFault) → rule_status fault ≡ Ended → ⊥
+rule_ends : (fault : Fault) → rule_status fault ≡ Ended → ⊥
 rule_ends (name_fault.Unknown span) is = cc is
 rule_ends (name_fault.Twice span) is = cc is
 rule_ends (name_fault.Recursive span) is = cc is
@@ -67,11 +67,11 @@ rule_ends (name_fault.Kind span) is = cc is
 rule_ends (name_fault.Limit which count) is = cc is
 rule_ends name_fault.Memory is = cc is
 
-resolved_never : (tree : Source) (said : Result (Unit {0}) NameFault) → NeverEnds (as_resolved tree said)
+resolved_never : (tree : Source) (said : Result (Unit {0}) Fault) → NeverEnds (as_resolved tree said)
 resolved_never tree (Ok done) status is ended = absurd (cc is)
 resolved_never tree (Err fault) status is ended = rule_ends fault (same_status _ _ is ∙ ended)
 
-resolved_as : (tree source : Source) (said : Result (Unit {0}) NameFault) → resolution tree ≡ said → as_resolved tree said ≡ Ok source → (resolution tree ≡ Ok tt) × (tree ≡ source)
+resolved_as : (tree source : Source) (said : Result (Unit {0}) Fault) → resolution tree ≡ said → as_resolved tree said ≡ Ok source → (resolution tree ≡ Ok tt) × (tree ≡ source)
 resolved_as tree source (Ok done) is same = (is, cc same)
 resolved_as tree source (Err fault) is same = absurd (cc same)
 

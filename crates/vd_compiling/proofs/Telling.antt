@@ -9,7 +9,7 @@ use Rattle.vd_core.specs.declared.source.Source.{Source}
 use Rattle.vd_core.specs.Facts.{IsWellMade}
 use Rattle.vd_parser.specs.Outcomes.{IsParse}
 use Rattle.vd_resolve.specs.Limits.{resolution}
-use Rattle.vd_resolve.specs.declared.fault.NameFault.{NameFault}
+use Rattle.vd_resolve.specs.Faults.{Fault}
 use Rattle.vd_execution.specs.declared.instructions.Instr.{Instr}
 use Rattle.vd_core.specs.Numbers.{NumbersFit}
 use Rattle.vd_host_text.specs.declared.program.Digest.{Digest}
@@ -49,7 +49,7 @@ module _ (program : NormalForm) (text prefix : List ℕ) where
   none_stored answer none e = let status = ap (λ (a : Answer). a.status) none in absurd (cc status)
 
 -- a tree that is resolved meets every rule
-meets : (tree source : Source) (said : Result (Unit {0}) NameFault) → resolution tree ≡ said → as_resolved tree said ≡ Ok source → (tree ≡ source) × (resolution tree ≡ Ok tt)
+meets : (tree source : Source) (said : Result (Unit {0}) Fault) → resolution tree ≡ said → as_resolved tree said ≡ Ok source → (tree ≡ source) × (resolution tree ≡ Ok tt)
 meets tree source (Ok done) is e = (cc e, is)
 meets tree source (Err fault) is e = absurd (cc e)
 

@@ -1,4 +1,4 @@
-//! Prints what a person is told of flows that are refused, of choices that fail and of names that stand twice: the whole texts.
+//! Prints what a person is told of flows that are refused and of choices that fail: the whole texts.
 //!
 //! Sources are read from standard input: each line of a source behind `|`, and then a line that says what is asked of it and what
 //! is wrong with it. `stdout` has what is to be seen.
@@ -6,7 +6,6 @@
 
 mod choices;
 mod flows;
-mod names;
 mod programs;
 mod rows;
 

@@ -1,13 +1,13 @@
 //! What is asked of a source.
 
-use crate::{choices, flows, names};
+use crate::{choices, flows};
 use anyhow::anyhow;
 use std::alloc::Global;
 use std::io::Write;
 use vd_base::Bytes;
 
-/// What a person sees of a source: `flow` asks for its flow, `choice` for a choice of protocols, `search 3` for a search that
-/// opened three prefixes, and `name 73` for the name at an offset. A colon stands behind what is asked.
+/// What a person sees of a source: `flow` asks for its flow, `choice` for a choice of protocols, and `search 3` for a search that
+/// opened three prefixes. A colon stands behind what is asked.
 fn seen(alloc: Global, row: &str, source: &str) -> anyhow::Result<Bytes> {
     if row.starts_with("flow:") {
         return flows::seen(alloc, source);
@@ -15,11 +15,8 @@ fn seen(alloc: Global, row: &str, source: &str) -> anyhow::Result<Bytes> {
     if row.starts_with("choice:") {
         return choices::seen(alloc, source);
     }
-    if let Some(rest) = row.strip_prefix("search ") {
-        return choices::sentence(alloc, source, number(rest));
-    }
-    match row.strip_prefix("name ") {
-        Some(rest) => names::seen(alloc, source, number(rest)),
+    match row.strip_prefix("search ") {
+        Some(rest) => choices::sentence(alloc, source, number(rest)),
         None => Err(anyhow!("nothing is asked")),
     }
 }

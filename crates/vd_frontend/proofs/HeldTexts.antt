@@ -8,7 +8,7 @@ use Rattle.vd_parser.specs.declared.fault.ParseFault.{ParseFault}
 use Rattle.vd_parser.specs.declared.fault.ParseFault.TheVariants as parse_fault
 use Rattle.vd_report.specs.InputsText.{GivesInputs}
 use Rattle.vd_resolve.specs.Limits.{resolution}
-use Rattle.vd_resolve.specs.declared.fault.NameFault.{NameFault}
+use Rattle.vd_resolve.specs.Faults.{Fault}
 use Rattle.vd_plan.specs.Held.{Finds, IsHeld}
 use Rattle.vd_plan.specs.Loads.{Loads}
 use Rattle.vd_plan.specs.Plans.{Checks}
@@ -28,7 +28,7 @@ tree_found name bytes seen before now (Ok tree) loads same is t = loaded_is name
 tree_found name bytes seen before now (Err status) loads same is t = tt
 
 -- a tree that is resolved meets every rule
-meets : (tree source : Source) (said : Result (Unit {0}) NameFault) → resolution tree ≡ said → as_resolved tree said ≡ Ok source → (tree ≡ source) × (resolution tree ≡ Ok tt)
+meets : (tree source : Source) (said : Result (Unit {0}) Fault) → resolution tree ≡ said → as_resolved tree said ≡ Ok source → (tree ≡ source) × (resolution tree ≡ Ok tt)
 meets tree source (Ok done) is e = (cc e, is)
 meets tree source (Err fault) is e = absurd (cc e)
 

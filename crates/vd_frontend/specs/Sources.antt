@@ -7,8 +7,8 @@ use Rattle.vd_parser.specs.Outcomes.{IsParse}
 use Rattle.vd_parser.specs.declared.fault.ParseFault.{ParseFault}
 use Rattle.vd_parser.specs.declared.fault.ParseFault.TheVariants as parse_fault
 use Rattle.vd_resolve.specs.Limits.{resolution}
-use Rattle.vd_resolve.specs.declared.fault.NameFault.{NameFault}
-use Rattle.vd_resolve.specs.declared.fault.NameFault.TheVariants as name_fault
+use Rattle.vd_resolve.specs.Faults.{Fault}
+use Rattle.vd_resolve.specs.Faults as name_fault
 use Rattle.vd_plan.specs.Held.{IsHeld}
 use Rattle.vd_plan.specs.Plans.{Plan, file_then, check_then}
 use Rattle.vd_plan.specs.declared.status.Status.{Status}
@@ -29,7 +29,7 @@ as_source name (Err parse_fault.Memory) = Err Memory
 abbrev pub source_of : TextOutcomes → List ℕ → List ℕ → Result Source Status
 source_of texts name bytes = as_source name (texts.parse bytes)
 
-abbrev pub rule_status : NameFault → Status
+abbrev pub rule_status : Fault → Status
 rule_status (name_fault.Unknown span) = Names (Unknown span.start)
 rule_status (name_fault.Twice span) = Names (Twice span.start)
 rule_status (name_fault.Recursive span) = Names (Recursive span.start)
@@ -39,7 +39,7 @@ rule_status (name_fault.Limit which count) = Names (Limit which count)
 rule_status name_fault.Memory = Memory
 
 -- the tree, where it meets every rule on names, kinds and limits, or the status of its refusal
-abbrev pub as_resolved : Source → Result (Unit {0}) NameFault → Result Source Status
+abbrev pub as_resolved : Source → Result (Unit {0}) Fault → Result Source Status
 as_resolved source (Ok done) = Ok source
 as_resolved source (Err fault) = Err (rule_status fault)
 

@@ -5,6 +5,7 @@ ghost use Rattle.vd_base.specs.Limits.{most_source_bytes};
 ghost use Rattle.vd_core.specs.Named.{HasNames};
 ghost use Rattle.vd_meaning.specs.SourceMeaning.{host_names};
 ghost use Rattle.vd_parser.specs.Outcomes.{IsParse};
+ghost use Rattle.vd_resolve.specs.Faults.{bare};
 ghost use Rattle.vd_plan.specs.Held.{Finds};
 ghost use Rattle.vd_plan.specs.Plans.{Checks, ExecutesStep};
 ghost use Rattle.vd_frontend.specs.Outcomes.{TextOutcomes};
@@ -50,14 +51,14 @@ fn load_tree<F: Files>(alloc: Global, files: &mut F, name: &str) -> Result<Sourc
 
 /// The status of a refusal.
 fn rule_status(fault: NameFault) -> Status
-    ensures { result ≡ rule_status fault }
+    ensures { result ≡ rule_status (bare fault) }
 {
     match fault {
         NameFault::Unknown(span) => Status::Names(RuleFault::Unknown(span.start)),
-        NameFault::Twice(span) => Status::Names(RuleFault::Twice(span.start)),
+        NameFault::Twice(span, _) => Status::Names(RuleFault::Twice(span.start)),
         NameFault::Recursive(span) => Status::Names(RuleFault::Recursive(span.start)),
         NameFault::Arity(span) => Status::Names(RuleFault::Arity(span.start)),
-        NameFault::Kind(span) => Status::Names(RuleFault::Kind(span.start)),
+        NameFault::Kind(span, _) => Status::Names(RuleFault::Kind(span.start)),
         NameFault::Limit(which, count) => Status::Names(RuleFault::Limit(which, count)),
         NameFault::Memory => Status::Memory,
     }

@@ -15,7 +15,7 @@ use Rattle.vd_parser.specs.Language.{STMT}
 use Rattle.vd_parser.specs.Syntax.{word_at, statement_of, statements_of}
 use Rattle.vd_resolve.specs.declared.symbol.Symbol.{Symbol as Value}
 use Rattle.vd_resolve.specs.declared.symbol.Symbol.TheVariants.{Constant}
-use Rattle.vd_resolve.specs.declared.fault.NameFault.{NameFault}
+use Rattle.vd_resolve.specs.Faults.{Fault}
 use Rattle.vd_resolve.specs.Rules.{and_then, checking, in_sequence}
 use Rattle.vd_resolve.specs.Sizes.{also, Variables, is_variable, is_true, statement_size, statements_after}
 use Rattle.vd_generated.proofs.Trees.{named, two, IsKind, Reads, name, number, input, star, plus, minus, less, declassify, form_either, expr_of_atom, binding, output, statements_end, statements_more}
@@ -158,7 +158,7 @@ no_more {close = close} {end = end} P is_close is_end = record {
 }
 
 first_checks : (s : Statement) (ss : List Statement) (env next : Named Value) → checking s scope env ≡ Ok next → in_sequence (map checking (s ∷ ss)) scope env ≡ in_sequence (map checking ss) scope next
-first_checks s ss env next h = ap (λ (r : Result (Named Value) NameFault). and_then r (λ after. in_sequence (map checking ss) scope after)) h
+first_checks s ss env next h = ap (λ (r : Result (Named Value) Fault). and_then r (λ after. in_sequence (map checking ss) scope after)) h
 
 first_size : (s : Statement) (ss : List Statement) (before n : ℕ) (vars next : Variables) → statement_size s [] vars ≡ (count n, next) →
     (statements_after (count before) (map statement_size (s ∷ ss)) [] vars).0 ≡ (statements_after (count (before + n)) (map statement_size ss) [] next).0

@@ -20,7 +20,7 @@ use Rattle.vd_normal.specs.declared.here.Here.{Here}
 use Rattle.vd_normal.specs.declared.spot.Spot.{Spot}
 use Rattle.vd_normal.specs.declared.spot.Spot.TheVariants as spot
 use Rattle.vd_normal.specs.Normal.{Made, Place, slot, host_id, named_slot, with_slot, with_stmt, with_name_at, emitted, kind_at, emptied, Inlining, StatementLowering, statements_made, inner_made, loop_made, copied, stored, put_made, if_made, for_made, lowering, statement_lowering, lowering_of, inlining_of}
-use Rattle.vd_resolve.specs.declared.fault.NameFault.TheVariants as fault
+use Rattle.vd_resolve.specs.Faults as fault
 use Rattle.vd_resolve.specs.declared.symbol.Symbol.{Symbol}
 use Rattle.vd_resolve.specs.declared.symbol.Symbol.TheVariants as symbol
 use Rattle.vd_resolve.specs.declared.symbol.Signature.{Signature}

@@ -20,7 +20,7 @@ use Rattle.vd_normal.specs.declared.here.Here.{Here}
 use Rattle.vd_normal.specs.declared.spot.Spot.{Spot}
 use Rattle.vd_normal.specs.declared.spot.Spot.TheVariants as spot
 use Rattle.vd_normal.specs.Normal.{Made, slot, emitted, kind_at, Inlining, Lowering, LinkLowering, chain_made, all_made, infix_right, infix_kind as made_kind, scale_of, shift_op, prefix_op, prefix_kind, prefixes_made, prefixes_plain, link_made, name_made, name_plain, get_made, call_made, chain_plain, truth_right, form_of, host_id, expr_lowering, link_lowering, lowering, lowering_of_link}
-use Rattle.vd_resolve.specs.declared.fault.NameFault.TheVariants as fault
+use Rattle.vd_resolve.specs.Faults as fault
 use Rattle.vd_resolve.specs.declared.symbol.Symbol.{Symbol}
 use Rattle.vd_resolve.specs.declared.symbol.Symbol.TheVariants as symbol
 use Rattle.vd_resolve.specs.declared.symbol.Signature.{Signature}

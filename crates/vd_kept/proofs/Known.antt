@@ -18,7 +18,7 @@ use Rattle.vd_core.specs.declared.source.Statement.TheFolds.{fold-roll-Statement
 use Rattle.vd_core.specs.declared.source.Function.{Function}
 use Rattle.vd_core.specs.Facts.{form_is_declared}
 use Rattle.vd_normal.specs.Normal.{form_of}
-use Rattle.vd_resolve.specs.declared.fault.NameFault.TheVariants as fault
+use Rattle.vd_resolve.specs.Faults as fault
 use Rattle.vd_resolve.specs.declared.symbol.Symbol.{Symbol}
 use Rattle.vd_resolve.specs.declared.symbol.Symbol.TheVariants.{Constant, Variable, Array}
 use Rattle.vd_resolve.specs.declared.symbol.Signature.{Signature}

@@ -9,7 +9,7 @@ use Rattle.vd_core.specs.declared.normal.Written.{Written}
 use Rattle.vd_core.specs.Facts.{label_is_declared}
 use Rattle.vd_meaning.specs.SourceMeaning.{host_names}
 use Rattle.vd_normal.specs.Normal.{written}
-use Rattle.vd_resolve.specs.declared.fault.NameFault.TheVariants as fault
+use Rattle.vd_resolve.specs.Faults as fault
 use Rattle.vd_resolve.specs.declared.fault.Quantity.{Quantity}
 use Rattle.vd_resolve.specs.declared.fault.Quantity.TheVariants as quantity
 use Rattle.vd_resolve.specs.Rules.{Names, and_then, declared, distinct, hosts_check, label_check, bodies_check, source_check}

@@ -2,34 +2,34 @@
 use Rattle.std.proofs.Common.{◌≡◌, Bool, true, false, [], ◌∷◌, ◌++◌, is_some, Result, Ok, Err, refl, sym, ap, if◌then◌else◌}
 use Rattle.vd_base.specs.Names.{Named, at_name}
 use Rattle.vd_core.specs.declared.source.Ident.{Ident}
-use Rattle.vd_resolve.specs.declared.fault.NameFault.{NameFault}
-use Rattle.vd_resolve.specs.declared.fault.NameFault.TheVariants as fault
+use Rattle.vd_resolve.specs.Faults.{Fault}
+use Rattle.vd_resolve.specs.Faults as fault
 use Rattle.vd_resolve.specs.Rules.{Names, and_then, declared, is_new, known}
 
-pub err_is : {A : Type 0} (e : NameFault) (a : A) → ◌≡◌ {A = Result A NameFault} (Err e) (Ok a) → ⊥
+pub err_is : {A : Type 0} (e : Fault) (a : A) → ◌≡◌ {A = Result A Fault} (Err e) (Ok a) → ⊥
 err_is e a p = cc
 
-abbrev from_ok : {A : Type 0} → A → Result A NameFault → A
+abbrev from_ok : {A : Type 0} → A → Result A Fault → A
 from_ok d (Ok a) = a
 from_ok d (Err e) = d
 
-pub ok_is : {A : Type 0} (a b : A) → ◌≡◌ {A = Result A NameFault} (Ok a) (Ok b) → a ≡ b
+pub ok_is : {A : Type 0} (a b : A) → ◌≡◌ {A = Result A Fault} (Ok a) (Ok b) → a ≡ b
 ok_is a b p = ap (from_ok b) p
 
 -- the first step had no fault, and gave this
-abbrev pub Passed : {A B : Type 0} → Result A NameFault → (A → Result B NameFault) → B → Type 0
+abbrev pub Passed : {A B : Type 0} → Result A Fault → (A → Result B Fault) → B → Type 0
 Passed {A} {B} r next b = (a : A) × (r ≡ Ok a) × (next a ≡ Ok b)
 
-pub passed : {A B : Type 0} (r : Result A NameFault) (next : A → Result B NameFault) (b : B) → and_then r next ≡ Ok b → Passed r next b
+pub passed : {A B : Type 0} (r : Result A Fault) (next : A → Result B Fault) (b : B) → and_then r next ≡ Ok b → Passed r next b
 passed (Ok a) next b p = (a, refl, p)
 passed (Err e) next b p = absurd (err_is e b p)
 
 -- a test that is not to hold, or is to hold
-pub refused : {A : Type 0} (t : Bool) (e : NameFault) (r : Result A NameFault) (a : A) → (if t then Err e else r) ≡ Ok a → (t ≡ false) × (r ≡ Ok a)
+pub refused : {A : Type 0} (t : Bool) (e : Fault) (r : Result A Fault) (a : A) → (if t then Err e else r) ≡ Ok a → (t ≡ false) × (r ≡ Ok a)
 refused true e r a p = absurd (err_is e a p)
 refused false e r a p = (refl, p)
 
-pub accepted : {A : Type 0} (t : Bool) (e : NameFault) (r : Result A NameFault) (a : A) → (if t then r else Err e) ≡ Ok a → (t ≡ true) × (r ≡ Ok a)
+pub accepted : {A : Type 0} (t : Bool) (e : Fault) (r : Result A Fault) (a : A) → (if t then r else Err e) ≡ Ok a → (t ≡ true) × (r ≡ Ok a)
 accepted true e r a p = (refl, p)
 accepted false e r a p = absurd (err_is e a p)
 

@@ -4,7 +4,7 @@ use Rattle.vd_base.specs.Limits.{most_source_bytes}
 use Rattle.vd_core.specs.declared.source.Source.{Source}
 use Rattle.vd_parser.specs.declared.fault.ParseFault.TheVariants as parse_fault
 use Rattle.vd_resolve.specs.Limits.{resolution}
-use Rattle.vd_resolve.specs.declared.fault.NameFault.{NameFault}
+use Rattle.vd_resolve.specs.Faults.{Fault}
 use Rattle.vd_host_text.specs.declared.program.HostProgram.{HostProgram}
 use Rattle.vd_hostcode.specs.Outcome.{Answers}
 use Rattle.vd_hostcode.specs.declared.fault.CodeFault.{CodeFault}
@@ -27,7 +27,7 @@ too_long texts name bytes copy long same =
     record { ok = tt; err = parsed texts name bytes (Err (parse_fault.TooLong (length bytes))) (inr (long, refl)) (λ e. cc e) ∙ ap (λ (n : List ℕ). Err (TooLong n most_source_bytes)) (sym same) }
 
 -- a tree that is resolved meets every rule
-meets_by : (tree source : Source) (said : Result (Unit {0}) NameFault) → resolution tree ≡ said → as_resolved tree said ≡ Ok source → (tree ≡ source) × (resolution tree ≡ Ok tt)
+meets_by : (tree source : Source) (said : Result (Unit {0}) Fault) → resolution tree ≡ said → as_resolved tree said ≡ Ok source → (tree ≡ source) × (resolution tree ≡ Ok tt)
 meets_by tree source (Ok done) is e = (cc e, is)
 meets_by tree source (Err fault) is e = absurd (cc e)
 

@@ -1,6 +1,7 @@
 pub mod Capped
 pub mod Tables
 pub mod Lookups
-pub mod SameKinds
 pub mod Sequences
+pub mod Told
+pub mod KindLists
 pub mod Limiting

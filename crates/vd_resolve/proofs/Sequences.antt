@@ -3,6 +3,7 @@ use Rattle.std.proofs.Common.{◌≡◌, ℕ, zero, suc, ◌+◌, ◌<◌, List,
 use Rattle.std.proofs.lemmas.Grind.{common_steps}
 use Rattle.vd_core.specs.declared.source.Function.{Function}
 use Rattle.vd_core.specs.declared.source.Statement.{Statement}
+use Rattle.vd_resolve.specs.Faults.{bare}
 use Rattle.vd_resolve.specs.declared.fault.NameFault.{NameFault}
 use Rattle.vd_resolve.specs.declared.size.Size.{Size}
 use Rattle.vd_resolve.specs.declared.symbol.Callee.{Callee}
@@ -18,7 +19,7 @@ sizes_next before [] k d lt = absurd (omega arith)
 sizes_next before (f ∷ fs) zero d lt = refl
 sizes_next before (f ∷ fs) (suc k) d lt = rw suc-add (sizes_next (before ++ (f.name.name, function_size before f) ∷ []) fs k d (omega arith))
 
-map_last : {A B : Type 0} (f : A → B) (xs : List A) (x : A) → map f (xs ++ x ∷ []) ≡ map f xs ++ f x ∷ []
+pub map_last : {A B : Type 0} (f : A → B) (xs : List A) (x : A) → map f (xs ++ x ∷ []) ≡ map f xs ++ f x ∷ []
 map_last f [] x = refl
 map_last f (y ∷ ys) x = ap (λ z. f y ∷ z) (map_last f ys x)
 
@@ -55,7 +56,7 @@ check_more principals hosts callees fs k f c lt at new checked same =
     ∙ sym step
     ∙ ap (functions_check principals hosts (signatures callees)) (sym e)
 
-at_drop : (fs : List Function) (k : ℕ) (f : Function) → k < length fs → f ≡ get_or fs k f → drop k fs ≡ f ∷ drop (k + 1) fs
+pub at_drop : (fs : List Function) (k : ℕ) (f : Function) → k < length fs → f ≡ get_or fs k f → drop k fs ≡ f ∷ drop (k + 1) fs
 at_drop fs k f lt at = rw add-one (drop-cons fs k f lt ∙ ap (λ (g : Function). g ∷ drop (suc k) fs) (sym at))
 
 -- the name of the function at k is not new
@@ -63,8 +64,8 @@ pub name_fault : (principals hosts : Names) (callees : Named Callee) (fs : List 
     → functions_check principals hosts (signatures callees) (drop k fs) ≡ functions_check principals hosts [] fs
     → IsFaultOf (is_new f.name (signatures callees)) e → IsFaultOf (bodies_check principals hosts fs main) e
 name_fault principals hosts callees fs main k f e lt at done is other =
-    let step : functions_check principals hosts (signatures callees) (f ∷ drop (k + 1) fs) ≡ Err e = (let h = is other in rw h refl) in
-    let all : functions_check principals hosts [] fs ≡ Err e = sym done ∙ ap (functions_check principals hosts (signatures callees)) (at_drop fs k f lt at) ∙ step in
+    let step : functions_check principals hosts (signatures callees) (f ∷ drop (k + 1) fs) ≡ Err (bare e) = (let h = is other in rw h refl) in
+    let all : functions_check principals hosts [] fs ≡ Err (bare e) = sym done ∙ ap (functions_check principals hosts (signatures callees)) (at_drop fs k f lt at) ∙ step in
     rw all refl
 
 -- the function at k has a fault
@@ -73,10 +74,10 @@ pub body_fault : (principals hosts : Names) (callees : Named Callee) (fs : List 
     → is_new f.name (signatures callees) ≡ Ok tt
     → IsFaultOf (function_check (record { principals = principals; hosts = hosts; functions = signatures callees; later = later }) f) e → later ≡ function_names (drop k fs) → IsFaultOf (bodies_check principals hosts fs main) e
 body_fault principals hosts callees fs main later k f e lt at done new is same other =
-    let found : function_check (record { principals = principals; hosts = hosts; functions = signatures callees; later = function_names (f ∷ drop (k + 1) fs) }) f ≡ Err e =
-    subst (λ (z : List (List ℕ)). function_check (record { principals = principals; hosts = hosts; functions = signatures callees; later = z }) f ≡ Err e) (same ∙ ap function_names (at_drop fs k f lt at)) (is other) in
-    let step : functions_check principals hosts (signatures callees) (f ∷ drop (k + 1) fs) ≡ Err e = rw (new, found) refl in
-    let all : functions_check principals hosts [] fs ≡ Err e = sym done ∙ ap (functions_check principals hosts (signatures callees)) (at_drop fs k f lt at) ∙ step in
+    let found : function_check (record { principals = principals; hosts = hosts; functions = signatures callees; later = function_names (f ∷ drop (k + 1) fs) }) f ≡ Err (bare e) =
+    subst (λ (z : List (List ℕ)). function_check (record { principals = principals; hosts = hosts; functions = signatures callees; later = z }) f ≡ Err (bare e)) (same ∙ ap function_names (at_drop fs k f lt at)) (is other) in
+    let step : functions_check principals hosts (signatures callees) (f ∷ drop (k + 1) fs) ≡ Err (bare e) = rw (new, found) refl in
+    let all : functions_check principals hosts [] fs ≡ Err (bare e) = sym done ∙ ap (functions_check principals hosts (signatures callees)) (at_drop fs k f lt at) ∙ step in
     rw all refl
 
 -- all functions are done, and then main
@@ -94,6 +95,6 @@ main_ok principals hosts callees fs main later all is none =
 pub main_fault : (principals hosts : Names) (callees : Named Callee) (fs : List Function) (main : List Statement) (later : List (List ℕ)) (e : NameFault) → functions_check principals hosts [] fs ≡ Ok (signatures callees)
     → IsFaultOf (block_check (map checking main) (record { principals = principals; hosts = hosts; functions = signatures callees; later = later }) []) e → later ≡ [] → IsFaultOf (bodies_check principals hosts fs main) e
 main_fault principals hosts callees fs main later e all is none other =
-    let is' : block_check (map checking main) (record { principals = principals; hosts = hosts; functions = signatures callees; later = [] }) [] ≡ Err e =
-    subst (λ (z : List (List ℕ)). block_check (map checking main) (record { principals = principals; hosts = hosts; functions = signatures callees; later = z }) [] ≡ Err e) none (is other) in
+    let is' : block_check (map checking main) (record { principals = principals; hosts = hosts; functions = signatures callees; later = [] }) [] ≡ Err (bare e) =
+    subst (λ (z : List (List ℕ)). block_check (map checking main) (record { principals = principals; hosts = hosts; functions = signatures callees; later = z }) [] ≡ Err (bare e)) none (is other) in
     rw (all, is') refl

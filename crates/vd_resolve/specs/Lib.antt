@@ -1,6 +1,9 @@
+pub mod Faults
+pub mod Tables
 pub mod Sizes
 pub mod Rules
 pub mod Limits
+pub mod Causes
 pub mod Walks
 pub mod Scopes
 pub mod Simple

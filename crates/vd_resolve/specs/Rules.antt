@@ -27,8 +27,8 @@ use Rattle.vd_core.specs.declared.source.Source.{Source}
 use Rattle.vd_resolve.specs.declared.symbol.Symbol.{Symbol}
 use Rattle.vd_resolve.specs.declared.symbol.Symbol.TheVariants.{Constant, Variable, Array}
 use Rattle.vd_resolve.specs.declared.symbol.Signature.{Signature}
-use Rattle.vd_resolve.specs.declared.fault.NameFault.{NameFault}
-use Rattle.vd_resolve.specs.declared.fault.NameFault.TheVariants as fault
+use Rattle.vd_resolve.specs.Faults.{Fault}
+use Rattle.vd_resolve.specs.Faults as fault
 use Rattle.vd_base.specs.Names.{Named, at_name, is_among}
 
 -- names that stand for nothing but themselves
@@ -44,7 +44,7 @@ pub record Scope : Type 0 where
   pub later : List (List ℕ)
 
 -- the next step, where this one has no fault
-abbrev pub and_then : {A B : Type 0} → Result A NameFault → (A → Result B NameFault) → Result B NameFault
+abbrev pub and_then : {A B : Type 0} → Result A Fault → (A → Result B Fault) → Result B Fault
 and_then (Ok a) next = next a
 and_then (Err e) next = Err e
 
@@ -100,19 +100,19 @@ abbrev pub mux_kind : Kind → Kind → Kind → Option Kind
 mux_kind Truth left right = of_one_kind left right
 mux_kind Word left right = None
 
-abbrev pub kind_or : Span → Option Kind → Result Kind NameFault
+abbrev pub kind_or : Span → Option Kind → Result Kind Fault
 kind_or at (Some kind) = Ok kind
 kind_or at None = Err (fault.Kind at)
 
 -- A name in an expression.
 
-abbrev pub value_kind : Span → Option Symbol → Result Kind NameFault
+abbrev pub value_kind : Span → Option Symbol → Result Kind Fault
 value_kind at None = Err (fault.Unknown at)
 value_kind at (Some (Constant kind)) = Ok kind
 value_kind at (Some (Variable kind)) = Ok kind
 value_kind at (Some (Array kind)) = Err (fault.Kind at)
 
-abbrev pub element_kind : Span → Kind → Option Symbol → Result Kind NameFault
+abbrev pub element_kind : Span → Kind → Option Symbol → Result Kind Fault
 element_kind at index None = Err (fault.Unknown at)
 element_kind at index (Some (Constant kind)) = Err (fault.Kind at)
 element_kind at index (Some (Variable kind)) = Err (fault.Kind at)
@@ -120,7 +120,7 @@ element_kind at Word (Some (Array kind)) = Ok kind
 element_kind at Truth (Some (Array kind)) = Err (fault.Kind at)
 
 -- A call of one of the functions before this place; of the others none may be called.
-abbrev pub call_kind : Span → List Kind → Bool → Option Signature → Result Kind NameFault
+abbrev pub call_kind : Span → List Kind → Bool → Option Signature → Result Kind Fault
 call_kind at kinds is_later (Some signature) =
     if nat_eq (length kinds) (length signature.parameters)
     then (if kinds_eq kinds signature.parameters then Ok signature.result else Err (fault.Kind at))
@@ -128,19 +128,19 @@ call_kind at kinds is_later (Some signature) =
 call_kind at kinds is_later None = if is_later then Err (fault.Recursive at) else Err (fault.Unknown at)
 
 -- a name that is to be declared
-abbrev pub is_new : {A : Type 0} → Ident → Named A → Result (Unit {0}) NameFault
+abbrev pub is_new : {A : Type 0} → Ident → Named A → Result (Unit {0}) Fault
 is_new x env = if is_some (at_name env x.name) then Err (fault.Twice x.span) else Ok tt
 
-abbrev pub declared : {A : Type 0} → Ident → A → Named A → Result (Named A) NameFault
+abbrev pub declared : {A : Type 0} → Ident → A → Named A → Result (Named A) Fault
 declared x a env = and_then (is_new x env) (λ fresh. Ok (env ++ (x.name, a) ∷ []))
 
-abbrev pub known : Names → Ident → Result (Unit {0}) NameFault
+abbrev pub known : Names → Ident → Result (Unit {0}) Fault
 known names x = if is_some (at_name names x.name) then Ok tt else Err (fault.Unknown x.span)
 
 -- The principals that a form names, in text order.
 
 abbrev pub FormCheck : Type 0
-FormCheck = Names → Result (Unit {0}) NameFault
+FormCheck = Names → Result (Unit {0}) Fault
 
 abbrev pub all_known : List FormCheck → FormCheck
 all_known [] names = Ok tt
@@ -166,14 +166,14 @@ written_label_check (Some label) names = label_check label names
 -- Expressions: the kind, or the first fault.
 
 abbrev pub Typing : Type 0
-Typing = Scope → Named Symbol → Result Kind NameFault
+Typing = Scope → Named Symbol → Result Kind Fault
 
 -- of one step of a chain, by the kind so far
 abbrev pub LinkTyping : Type 0
-LinkTyping = Scope → Named Symbol → Kind → Result Kind NameFault
+LinkTyping = Scope → Named Symbol → Kind → Result Kind Fault
 
 -- after operands of these kinds, further ones
-abbrev pub typings : List Kind → List Typing → Scope → Named Symbol → Result (List Kind) NameFault
+abbrev pub typings : List Kind → List Typing → Scope → Named Symbol → Result (List Kind) Fault
 typings kinds [] scope env = Ok kinds
 typings kinds (t ∷ ts) scope env = and_then (t scope env) (λ kind. typings (kinds ++ kind ∷ []) ts scope env)
 
@@ -182,7 +182,7 @@ chain_typing [] scope env kind = Ok kind
 chain_typing (l ∷ ls) scope env kind = and_then (l scope env kind) (λ next. chain_typing ls scope env next)
 
 -- the operators before an operand, the nearest first
-abbrev pub signs_typing : List Sign → Kind → Result Kind NameFault
+abbrev pub signs_typing : List Sign → Kind → Result Kind Fault
 signs_typing [] kind = Ok kind
 signs_typing (s ∷ ss) kind = and_then (kind_or s.span (prefix_kind s.prefix kind)) (λ next. signs_typing ss next)
 
@@ -215,15 +215,15 @@ typing_of_link = fold-Link Typing LinkTyping expr_typing link_typing
 -- Statements: the values in sight after it, or the first fault.
 
 abbrev pub Checking : Type 0
-Checking = Scope → Named Symbol → Result (Named Symbol) NameFault
+Checking = Scope → Named Symbol → Result (Named Symbol) Fault
 
-abbrev pub is_stored : Span → Kind → Option Symbol → Result (Unit {0}) NameFault
+abbrev pub is_stored : Span → Kind → Option Symbol → Result (Unit {0}) Fault
 is_stored at value None = Err (fault.Unknown at)
 is_stored at value (Some (Constant kind)) = Err (fault.Kind at)
 is_stored at value (Some (Variable kind)) = if kind_eq value kind then Ok tt else Err (fault.Kind at)
 is_stored at value (Some (Array kind)) = Err (fault.Kind at)
 
-abbrev pub is_put : Span → Kind → Kind → Option Symbol → Result (Unit {0}) NameFault
+abbrev pub is_put : Span → Kind → Kind → Option Symbol → Result (Unit {0}) Fault
 is_put at index value symbol = and_then (element_kind at index symbol) (λ kind. if kind_eq value kind then Ok tt else Err (fault.Kind at))
 
 abbrev pub in_sequence : List Checking → Checking
@@ -234,7 +234,7 @@ in_sequence (c ∷ cs) scope env = and_then (c scope env) (λ next. in_sequence 
 abbrev pub block_check : List Checking → Checking
 block_check cs scope env = and_then (in_sequence cs scope env) (λ inner. Ok env)
 
-abbrev pub is_kind : Span → Kind → Kind → Result (Unit {0}) NameFault
+abbrev pub is_kind : Span → Kind → Kind → Result (Unit {0}) Fault
 is_kind at wanted kind = if kind_eq wanted kind then Ok tt else Err (fault.Kind at)
 
 abbrev pub statement_check : Statement-F Checking → Checking
@@ -262,16 +262,16 @@ checking = fold-Statement Checking statement_check
 -- Declarations, each with those before it.
 
 -- names that are declared one after another
-abbrev pub distinct : Names → List Ident → Result Names NameFault
+abbrev pub distinct : Names → List Ident → Result Names Fault
 distinct before [] = Ok before
 distinct before (x ∷ xs) = and_then (declared x tt before) (λ next. distinct next xs)
 
-abbrev pub hosts_check : Names → Names → List Host → Result Names NameFault
+abbrev pub hosts_check : Names → Names → List Host → Result Names Fault
 hosts_check principals before [] = Ok before
 hosts_check principals before (h ∷ hs) =
     and_then (declared h.name tt before) (λ next. and_then (label_check h.label principals) (λ done. hosts_check principals next hs))
 
-abbrev pub parameters_check : Named Symbol → List Parameter → Result (Named Symbol) NameFault
+abbrev pub parameters_check : Named Symbol → List Parameter → Result (Named Symbol) Fault
 parameters_check env [] = Ok env
 parameters_check env (p ∷ ps) = and_then (declared p.name (Constant p.kind) env) (λ next. parameters_check next ps)
 
@@ -281,13 +281,13 @@ signature_of f = record { parameters = map (λ p. p.kind) f.parameters; result =
 abbrev pub function_names : List Function → List (List ℕ)
 function_names fs = map (λ f. f.name.name) fs
 
-abbrev pub function_check : Scope → Function → Result (Unit {0}) NameFault
+abbrev pub function_check : Scope → Function → Result (Unit {0}) Fault
 function_check scope f =
     and_then (parameters_check [] f.parameters) (λ env. and_then (in_sequence (map checking f.body) scope env) (λ inner.
     and_then (typing f.gives scope inner) (λ kind. is_kind f.at_return f.kind kind)))
 
 -- the functions in order; it gives all of them
-abbrev pub functions_check : Names → Names → Named Signature → List Function → Result (Named Signature) NameFault
+abbrev pub functions_check : Names → Names → Named Signature → List Function → Result (Named Signature) Fault
 functions_check principals hosts before [] = Ok before
 functions_check principals hosts before (f ∷ fs) =
     and_then (is_new f.name before) (λ fresh.
@@ -295,13 +295,13 @@ functions_check principals hosts before (f ∷ fs) =
     functions_check principals hosts (before ++ (f.name.name, signature_of f) ∷ []) fs))
 
 -- the functions and then main
-abbrev pub bodies_check : Names → Names → List Function → List Statement → Result (Unit {0}) NameFault
+abbrev pub bodies_check : Names → Names → List Function → List Statement → Result (Unit {0}) Fault
 bodies_check principals hosts fs main =
     and_then (functions_check principals hosts [] fs) (λ functions.
     and_then (block_check (map checking main) (record { principals = principals; hosts = hosts; functions = functions; later = [] }) []) (λ left. Ok tt))
 
 -- the first fault of a source on names and kinds
-abbrev pub source_check : Source → Result (Unit {0}) NameFault
+abbrev pub source_check : Source → Result (Unit {0}) Fault
 source_check source =
     and_then (distinct [] source.principals) (λ principals.
     and_then (hosts_check principals [] source.hosts) (λ hosts. bodies_check principals hosts source.functions source.main))

@@ -1,5 +1,6 @@
 -- What the steps of the walk over a source promise.
 use Rattle.std.specs.Prelude.{◌≡◌, ◌≢◌, ℕ, Bool, true, false, List, [], ◌∷◌, map, Result, Ok, Err}
+use Rattle.vd_resolve.specs.Faults.{Fault, bare, Cause, carried}
 use Rattle.vd_resolve.specs.declared.fault.NameFault.{NameFault}
 use Rattle.vd_resolve.specs.declared.fault.NameFault.TheVariants.{Memory}
 use Rattle.vd_resolve.specs.declared.size.Size.{Size}
@@ -11,8 +12,12 @@ use Rattle.vd_base.specs.Names.{Named}
 use Rattle.vd_resolve.specs.Sizes.{Variables, capped_size, IsCapped}
 
 -- want of memory may come at any step; every other fault is the one that the rules give
-abbrev pub IsFaultOf : {A : Type 0} → Result A NameFault → NameFault → Type 0
-IsFaultOf check fault = fault ≢ Memory → check ≡ Err fault
+abbrev pub IsFaultOf : {A : Type 0} → Result A Fault → NameFault → Type 0
+IsFaultOf check fault = fault ≢ Memory → check ≡ Err (bare fault)
+
+-- and it carries what the walk over causes tells
+abbrev pub IsCauseOf : {A : Type 0} → Result A Cause → NameFault → Type 0
+IsCauseOf told fault = fault ≢ Memory → told ≡ Err (carried fault)
 
 abbrev pub is_variable_symbol : Symbol → Bool
 is_variable_symbol (Constant kind) = false

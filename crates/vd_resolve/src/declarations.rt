@@ -2,6 +2,7 @@
 
 ghost use Rattle.std.specs.Prelude.{[]};
 ghost use Rattle.vd_resolve.specs.Sizes.{function_sizes};
+ghost use Rattle.vd_resolve.specs.Tables.{names};
 ghost use Rattle.vd_resolve.specs.Walks.{HaveSizes};
 
 use crate::symbol::Callee;
@@ -18,5 +19,5 @@ pub(crate) struct Declarations<'a> {
     pub callees: &'a NameTable<'a, Callee>,
     pub earlier: &'a [Function],
     pub later: &'a [Function],
-    ghost sized: { HaveSizes callees.now (function_sizes [] earlier.now) },
+    ghost sized: { HaveSizes (names callees.now) (function_sizes [] earlier.now) },
 }

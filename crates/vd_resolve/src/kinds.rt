@@ -1,16 +1,10 @@
 //! The kinds of operations. None: the operands are of wrong kinds.
 
 ghost use Rattle.std.specs.Prelude.{◌≡◌};
-ghost use Rattle.vd_resolve.specs.Rules.{kind_eq, kinds_eq, prefix_kind, of_words, of_one_kind, infix_kind, shift_kind, mux_kind};
+ghost use Rattle.vd_resolve.specs.Rules.{prefix_kind, of_words, of_one_kind, infix_kind, shift_kind, mux_kind};
 
 use vd_base::Kind;
 use vd_core::{Infix, Prefix};
-
-pub(crate) fn same_kinds(left: &[Kind], right: &[Kind]) -> bool
-    ensures { result ≡ kinds_eq left.now right.now }
-{
-    left == right
-}
 
 pub(crate) fn of_prefix(operator: Prefix, kind: Kind) -> Option<Kind>
     ensures { result ≡ prefix_kind operator kind }

@@ -1,12 +1,14 @@
 //! Names, kinds and limits of a source: the first fault, or a source that has none.
 #![tactic(auto)]
 
+mod arguments;
 mod declarations;
 mod expression;
 mod fault;
 mod function;
 mod kinds;
 mod limits;
+mod met;
 mod names;
 mod parts;
 mod resolved;
@@ -18,5 +20,6 @@ mod table;
 mod whole;
 
 pub use fault::{NameFault, Quantity};
+pub use met::Met;
 pub use resolved::Resolved;
 pub use whole::resolve;

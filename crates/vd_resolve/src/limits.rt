@@ -1,6 +1,7 @@
 //! The limits of a source.
 
 ghost use Rattle.std.specs.Prelude.{◌≡◌, length, Ok, OnOk, IfErr};
+ghost use Rattle.vd_resolve.specs.Faults.{Nothing, carried};
 ghost use Rattle.vd_resolve.specs.Limits.{within, limits_check};
 ghost use Rattle.vd_resolve.specs.Sizes.{capped};
 ghost use Rattle.vd_resolve.specs.Walks.{IsFaultOf};
@@ -12,6 +13,7 @@ use vd_base::limits;
 fn check_limit(which: Quantity, limit: u32, count: u32) -> Result<(), NameFault>
     ensures ok { OnOk result (within which limit count ≡ Ok tt) }
     ensures fault { IfErr result (IsFaultOf (within which limit count)) }
+    ensures plain { IfErr result (λ fault. carried fault ≡ Nothing) }
 {
     if count > limit {
         Err(NameFault::Limit(which, count))
@@ -30,6 +32,7 @@ fn count(length: usize) -> u32
 pub(crate) fn check_limits(principals: usize, hosts: usize, size: Size) -> Result<(), NameFault>
     ensures ok { OnOk result (limits_check (capped principals) (capped hosts) size ≡ Ok tt) }
     ensures fault { IfErr result (IsFaultOf (limits_check (capped principals) (capped hosts) size)) }
+    ensures plain { IfErr result (λ fault. carried fault ≡ Nothing) }
 {
     check_limit(Quantity::Principals, limits::PRINCIPALS, count(principals))?;
     check_limit(Quantity::Hosts, limits::HOSTS, count(hosts))?;

@@ -1,5 +1,5 @@
 -- The refused token and those before it.
-use Rattle.std.proofs.Common.{◌≡◌, ℕ, suc, ◌+◌, ◌<◌, ◌≤◌, List, [], ◌∷◌, ◌++◌, inl, inr, ◌⊎◌, Option, Some, None, Result, length, take, get_or, Err, refl, sym, ap, ◌∙◌, subst, arith, length-append}
+use Rattle.std.proofs.Common.{◌≡◌, ◌≢◌, ℕ, suc, ◌+◌, ◌<◌, ◌≤◌, List, [], ◌∷◌, ◌++◌, inl, inr, ◌⊎◌, Option, Some, None, Result, length, take, get_or, Err, refl, sym, ap, ◌∙◌, subst, arith, length-append}
 use Rattle.vd_lexer.specs.Tokens.{Lexes, EndsOnce, BadFits, FirstBad, kinds}
 use Rattle.vd_lexer.specs.declared.token.Token.{Token}
 use Rattle.vd_lexer.proofs.TokenLaws.{lexes_once}
@@ -14,20 +14,17 @@ use Rattle.vd_lexer.specs.declared.token.LexFault.{LexFault}
 use Rattle.vd_lexer.specs.declared.token.LexFault.TheVariants.{BadByte}
 use Rattle.vd_lexer.specs.declared.token.TokenKind.{TokenKind}
 use Rattle.vd_parser.specs.declared.fault.ParseFault.{ParseFault}
+use Rattle.vd_resolve.specs.Causes.{resolution_told}
+use Rattle.vd_resolve.specs.Faults.{bare}
 use Rattle.vd_resolve.specs.Limits.{resolution}
+use Rattle.vd_resolve.specs.Walks.{IsCauseOf}
 use Rattle.vd_resolve.specs.declared.fault.NameFault.{NameFault}
 use Rattle.vd_resolve.specs.declared.fault.NameFault.TheVariants.{Memory as want_of_memory}
 use Rattle.vd_remarks.specs.declared.remark.Remark.{Remark}
 use Rattle.vd_sentences.specs.Following.{following, IsTooLong}
 use Rattle.vd_sentences.specs.Rules.{IsRuleRemark}
 use Rattle.vd_sentences.specs.Syntax.{unexpected_sentence, refused_sentence}
-use Rattle.vd_resolve.specs.declared.fault.NameFault.TheVariants as name_fault
-use Rattle.vd_kinds.specs.Follows.{Follows}
-use Rattle.vd_kinds.specs.Meeting.{source_met}
-use Rattle.vd_kinds.specs.declared.met.Met.{Met}
-use Rattle.vd_kinds.proofs.Following.{is_followed}
-use Rattle.vd_sentences.specs.MetKinds.{IsMetIn}
-use Rattle.vd_sentences.specs.SourceRemarks.{MetAt, HasRuleFault, SaysOf, IsSourceRemark}
+use Rattle.vd_sentences.specs.SourceRemarks.{HasRuleFault, SaysOf, IsSourceRemark}
 use Rattle.vd_sentences.specs.SyntaxRemarks.{Tells, TellsNumber}
 
 pub number_within : (ts : List Token) (k o : ℕ) → IsUnexpected ts k o → k < length ts
@@ -79,26 +76,12 @@ answered bytes f (inr p) = inr p
 
 -- ---- what is said of a source
 
--- what met is what the walk over kinds tells, since it follows the rules
-meets_at : (source : Source) (f : NameFault) (met : Option Met) → IsMetIn source met → Follows {A = Unit {0}} (Err f) (source_met source) → MetAt source f met
-meets_at source (name_fault.Kind span) None known is = known span is.0 is.1
-meets_at source (name_fault.Kind span) (Some m) known is = cc (known.1, is.1)
-meets_at source (name_fault.Unknown span) met known is = tt
-meets_at source (name_fault.Twice span) met known is = tt
-meets_at source (name_fault.Recursive span) met known is = tt
-meets_at source (name_fault.Arity span) met known is = tt
-meets_at source (name_fault.Limit quantity count) met known is = tt
-meets_at source name_fault.Memory met known is = tt
-
-pub rule_fault : (bytes : List ℕ) (source : Source) (f : NameFault) (met : Option Met) (remark : Remark) → IsMetIn source met → (f ≡ want_of_memory) ⊎ (resolution source ≡ Err f) → IsRuleRemark bytes met f remark → HasRuleFault bytes source remark
-rule_fault bytes source f met remark known (inl m) says = absurd (subst (λ g. IsRuleRemark bytes met g remark) m says)
-rule_fault bytes source f met remark known (inr e) says = record {
-  fault = f;
-  met = met;
-  first = e;
-  meets = meets_at source f met known (subst (λ (r : Result (Unit {0}) NameFault). Follows r (source_met source)) e (is_followed source));
-  says = says;
-}
+pub rule_fault : (bytes : List ℕ) (source : Source) (f : NameFault) (remark : Remark) → (f ≡ want_of_memory) ⊎ (resolution source ≡ Err (bare f)) → IsCauseOf (resolution_told source) f → IsRuleRemark bytes f remark
+    → HasRuleFault bytes source remark
+rule_fault bytes source f remark (inl m) carries says = absurd (subst (λ g. IsRuleRemark bytes g remark) m says)
+rule_fault bytes source f remark (inr e) carries says =
+    let other : f ≢ want_of_memory = λ m. subst (λ g. IsRuleRemark bytes g remark) m says in
+    record { fault = f; first = e; carries = carries other; says = says }
 
 nothing_said : (bytes : List ℕ) (remark : Option Remark) → SaysOf bytes (Err fault.Memory) remark → ⊥
 nothing_said bytes None says = says

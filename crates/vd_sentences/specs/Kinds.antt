@@ -1,10 +1,10 @@
 -- Sentences on kinds that do not fit, by what met there. `word` is what stands at the fault.
-use Rattle.std.specs.Prelude.{ℕ, List, [], ◌∷◌, Option, Some, None, codes, decimal}
+use Rattle.std.specs.Prelude.{ℕ, List, [], ◌∷◌, codes, decimal}
 use Rattle.vd_base.specs.declared.operations.Kind.{Kind}
 use Rattle.vd_base.specs.declared.operations.Kind.TheVariants.{Word, Bool as Truth}
-use Rattle.vd_kinds.specs.declared.met.Met.{Met}
-use Rattle.vd_kinds.specs.declared.met.Met.TheVariants as met
 use Rattle.vd_remarks.specs.Parts.{three, in_table}
+use Rattle.vd_resolve.specs.declared.met.Met.{Met}
+use Rattle.vd_resolve.specs.declared.met.Met.TheVariants as met
 
 abbrev pub kind_phrase : Kind → List ℕ
 kind_phrase Word = codes "a word"
@@ -93,25 +93,17 @@ guard_sentence kind = three (codes "the guard of an `if` is a bool, and ") (kind
 abbrev pub returned_sentence : Kind → List ℕ
 returned_sentence kind = three (three (codes "the function gives ") (other_phrase kind) (codes ", and ")) (kind_phrase kind) (codes " is returned")
 
-abbrev pub met_sentence : List ℕ → Met → List ℕ
-met_sentence word met.WholeArray = whole_array_sentence word
-met_sentence word met.NoArray = no_array_sentence word
-met_sentence word met.BoolIndex = bool_index_sentence word
-met_sentence word (met.Argument number kind) = argument_sentence word number kind
-met_sentence word (met.Behind kind) = behind_sentence word kind
-met_sentence word (met.Sides left right) = sides_sentence word left right
-met_sentence word (met.Shifted kind bits) = shifted_sentence word kind bits
-met_sentence word (met.Given left right) = given_sentence word left right
-met_sentence word (met.Chosen test left right) = chosen_sentence word test left right
-met_sentence word met.NoVariable = no_variable_sentence word
-met_sentence word (met.Value kind) = value_sentence word kind
-met_sentence word (met.Guard kind) = guard_sentence kind
-met_sentence word (met.Returned kind) = returned_sentence kind
-
--- where it is not known what met
-unfoldable pub unknown_kinds : List ℕ
-unknown_kinds = codes "values of these kinds do not go together"
-
-abbrev pub kind_sentence : List ℕ → Option Met → List ℕ
-kind_sentence word None = unknown_kinds
-kind_sentence word (Some m) = met_sentence word m
+abbrev pub kind_sentence : List ℕ → Met → List ℕ
+kind_sentence word met.WholeArray = whole_array_sentence word
+kind_sentence word met.NoArray = no_array_sentence word
+kind_sentence word met.BoolIndex = bool_index_sentence word
+kind_sentence word (met.Argument number kind) = argument_sentence word number kind
+kind_sentence word (met.Behind kind) = behind_sentence word kind
+kind_sentence word (met.Sides left right) = sides_sentence word left right
+kind_sentence word (met.Shifted kind bits) = shifted_sentence word kind bits
+kind_sentence word (met.Given left right) = given_sentence word left right
+kind_sentence word (met.Chosen test left right) = chosen_sentence word test left right
+kind_sentence word met.NoVariable = no_variable_sentence word
+kind_sentence word (met.Value kind) = value_sentence word kind
+kind_sentence word (met.Guard kind) = guard_sentence kind
+kind_sentence word (met.Returned kind) = returned_sentence kind

@@ -1,7 +1,6 @@
 pub mod Phrases
 pub mod Syntax
 pub mod Kinds
-pub mod MetKinds
 pub mod Rules
 pub mod Following
 pub mod Judging

@@ -1,21 +1,22 @@
 -- Sentences on faults of names, kinds and sizes.
-use Rattle.std.specs.Prelude.{◌≡◌, ℕ, List, Option, Some, None, codes, decimal}
+use Rattle.std.specs.Prelude.{◌≡◌, ℕ, List, Some, None, codes, decimal}
 use Rattle.vd_base.specs.Limits.{most_principals, most_hosts, most_nesting, most_statements, most_weights, most_cells}
 use Rattle.vd_base.specs.declared.ids.Span.{Span}
 use Rattle.vd_resolve.specs.declared.fault.Quantity.{Quantity}
 use Rattle.vd_resolve.specs.declared.fault.Quantity.TheVariants as quantity
 use Rattle.vd_resolve.specs.declared.fault.NameFault.{NameFault}
 use Rattle.vd_resolve.specs.declared.fault.NameFault.TheVariants as fault
+use Rattle.vd_place.specs.Lines.{line_number}
 use Rattle.vd_remarks.specs.declared.remark.Remark.{Remark}
 use Rattle.vd_remarks.specs.Parts.{three, word_at}
-use Rattle.vd_kinds.specs.declared.met.Met.{Met}
 use Rattle.vd_sentences.specs.Kinds.{kind_sentence}
 
 abbrev pub unknown_sentence : List ℕ → List ℕ
 unknown_sentence word = three (codes "the name `") word (codes "` is unknown here")
 
-abbrev pub twice_sentence : List ℕ → List ℕ
-twice_sentence word = three (codes "the name `") word (codes "` stands for something already")
+-- of a name that is declared already in this line
+abbrev pub twice_sentence : List ℕ → ℕ → List ℕ
+twice_sentence word line = three (three (codes "the name `") word (codes "` stands for something already")) (codes ": it is declared in line ") (decimal line)
 
 abbrev pub recursive_sentence : List ℕ → List ℕ
 recursive_sentence word = three (codes "`") word (codes "` is called here, and a function calls only functions that stand before it")
@@ -51,12 +52,12 @@ at_span span sentence = record { offset = Some span.start; sentence = sentence }
 abbrev pub of_file : List ℕ → Remark
 of_file sentence = record { offset = None; sentence = sentence }
 
--- what is said of a fault in these bytes, by what met where it is one of kinds; want of memory is no fault of theirs
-abbrev pub IsRuleRemark : List ℕ → Option Met → NameFault → Remark → Type 0
-IsRuleRemark bytes met (fault.Unknown span) remark = remark ≡ at_span span (unknown_sentence (word_at bytes span))
-IsRuleRemark bytes met (fault.Twice span) remark = remark ≡ at_span span (twice_sentence (word_at bytes span))
-IsRuleRemark bytes met (fault.Recursive span) remark = remark ≡ at_span span (recursive_sentence (word_at bytes span))
-IsRuleRemark bytes met (fault.Arity span) remark = remark ≡ at_span span (arity_sentence (word_at bytes span))
-IsRuleRemark bytes met (fault.Kind span) remark = remark ≡ at_span span (kind_sentence (word_at bytes span) met)
-IsRuleRemark bytes met (fault.Limit q count) remark = remark ≡ of_file (limit_sentence q count)
-IsRuleRemark bytes met fault.Memory remark = ⊥
+-- what is said of a fault in these bytes; want of memory is no fault of theirs
+abbrev pub IsRuleRemark : List ℕ → NameFault → Remark → Type 0
+IsRuleRemark bytes (fault.Unknown span) remark = remark ≡ at_span span (unknown_sentence (word_at bytes span))
+IsRuleRemark bytes (fault.Twice span first) remark = remark ≡ at_span span (twice_sentence (word_at bytes span) (line_number bytes first.start))
+IsRuleRemark bytes (fault.Recursive span) remark = remark ≡ at_span span (recursive_sentence (word_at bytes span))
+IsRuleRemark bytes (fault.Arity span) remark = remark ≡ at_span span (arity_sentence (word_at bytes span))
+IsRuleRemark bytes (fault.Kind span met) remark = remark ≡ at_span span (kind_sentence (word_at bytes span) met)
+IsRuleRemark bytes (fault.Limit q count) remark = remark ≡ of_file (limit_sentence q count)
+IsRuleRemark bytes fault.Memory remark = ⊥

@@ -3,34 +3,20 @@ use Rattle.std.specs.Prelude.{◌≡◌, ℕ, List, Option, Some, None, Result, 
 use Rattle.vd_core.specs.declared.source.Source.{Source}
 use Rattle.vd_parser.specs.Outcomes.{IsParse}
 use Rattle.vd_parser.specs.declared.fault.ParseFault.{ParseFault}
+use Rattle.vd_resolve.specs.Causes.{resolution_told}
+use Rattle.vd_resolve.specs.Faults.{bare, carried}
 use Rattle.vd_resolve.specs.Limits.{resolution, IsResolved}
 use Rattle.vd_resolve.specs.declared.fault.NameFault.{NameFault}
-use Rattle.vd_resolve.specs.declared.fault.NameFault.TheVariants as name_fault
-use Rattle.vd_kinds.specs.Meeting.{source_met}
-use Rattle.vd_kinds.specs.declared.met.Met.{Met}
-use Rattle.vd_kinds.specs.declared.met.Stop.TheVariants.{Kinds}
 use Rattle.vd_remarks.specs.declared.remark.Remark.{Remark}
 use Rattle.vd_sentences.specs.Rules.{IsRuleRemark}
 use Rattle.vd_sentences.specs.SyntaxRemarks.{IsSyntaxRemark}
 
--- what met at a fault, where it is one of kinds
-abbrev pub MetAt : Source → NameFault → Option Met → Type 0
-MetAt source (name_fault.Kind span) None = ⊥
-MetAt source (name_fault.Kind span) (Some met) = source_met source ≡ Err (Kinds span met)
-MetAt source (name_fault.Unknown span) met = Unit {0}
-MetAt source (name_fault.Twice span) met = Unit {0}
-MetAt source (name_fault.Recursive span) met = Unit {0}
-MetAt source (name_fault.Arity span) met = Unit {0}
-MetAt source (name_fault.Limit quantity count) met = Unit {0}
-MetAt source name_fault.Memory met = Unit {0}
-
--- the first fault of names, kinds or sizes, and what is said of it
+-- the first fault of names, kinds or sizes with what it carries, and what is said of it
 pub record HasRuleFault (bytes : List ℕ) (source : Source) (remark : Remark) : Type 0 where
   pub fault : NameFault
-  pub met : Option Met
-  pub first : resolution source ≡ Err fault
-  pub meets : MetAt source fault met
-  pub says : IsRuleRemark bytes met fault remark
+  pub first : resolution source ≡ Err (bare fault)
+  pub carries : resolution_told source ≡ Err (carried fault)
+  pub says : IsRuleRemark bytes fault remark
 
 abbrev pub SaysOfTree : List ℕ → Source → Option Remark → Type 0
 SaysOfTree bytes source None = IsResolved source

@@ -6,8 +6,8 @@ ghost use Rattle.vd_sentences.specs.Kinds as kinds;
 use itoa::Buffer;
 use std::alloc::{AllocError, Global};
 use vd_base::{Bytes, Kind};
-use vd_kinds::Met;
 use vd_remarks::{in_table, three};
+use vd_resolve::Met;
 
 /// What an operator, `min`, `max` or `mux` takes.
 const OPERAND_TABLE: [(&[u8], &[u8]); 21] = [
@@ -245,8 +245,8 @@ fn returned_sentence(alloc: Global, kind: Kind) -> Result<Bytes, AllocError>
 }
 
 /// What is said of what met at this word.
-fn met_sentence(alloc: Global, word: &[u8], met: Met) -> Result<Bytes, AllocError>
-    ensures { IfOk result (λ text. text ≡ kinds.met_sentence word.now met) }
+pub(crate) fn kind_sentence(alloc: Global, word: &[u8], met: Met) -> Result<Bytes, AllocError>
+    ensures { IfOk result (λ text. text ≡ kinds.kind_sentence word.now met) }
 {
     match met {
         Met::WholeArray => whole_array_sentence(alloc, word),
@@ -262,20 +262,5 @@ fn met_sentence(alloc: Global, word: &[u8], met: Met) -> Result<Bytes, AllocErro
         Met::Value(kind) => value_sentence(alloc, word, kind),
         Met::Guard(kind) => guard_sentence(alloc, kind),
         Met::Returned(kind) => returned_sentence(alloc, kind),
-    }
-}
-
-/// What is said where kinds do not fit, by what met, if that is known.
-#[tactic(auto, unfolding(crate::specs::Kinds::unknown_kinds))]
-pub(crate) fn kind_sentence(
-    alloc: Global,
-    word: &[u8],
-    met: Option<Met>,
-) -> Result<Bytes, AllocError>
-    ensures { IfOk result (λ text. text ≡ kinds.kind_sentence word.now met) }
-{
-    match met {
-        Some(met) => met_sentence(alloc, word, met),
-        None => Bytes::from_slice(alloc, b"values of these kinds do not go together"),
     }
 }

@@ -8,7 +8,7 @@ use itoa::Buffer;
 use std::alloc::{AllocError, Global};
 use vd_base::limits::{CELLS, HOSTS, NESTING, PRINCIPALS, STATEMENTS, WEIGHTS};
 use vd_base::{Bytes, Span};
-use vd_kinds::Met;
+use vd_place::line_number;
 use vd_remarks::{Remark, TellFault, three, word_at};
 use vd_resolve::{NameFault, Quantity};
 
@@ -64,23 +64,19 @@ fn at_span(span: Span, sentence: Bytes) -> Remark
     }
 }
 
-/// What is said of a fault of names, kinds or sizes in these bytes. Of a fault of kinds it is said what met there, if that is
-/// known.
-pub fn rule_remark(
-    alloc: Global,
-    bytes: &[u8],
-    fault: NameFault,
-    met: Option<Met>,
-) -> Result<Remark, TellFault>
-    ensures { IfOk result (rules.IsRuleRemark bytes.now met fault) }
+/// What is said of a fault of names, kinds or sizes in these bytes. Of a fault of kinds it is said what met there, and of a name
+/// that is twice where it is declared.
+pub fn rule_remark(alloc: Global, bytes: &[u8], fault: NameFault) -> Result<Remark, TellFault>
+    ensures { IfOk result (rules.IsRuleRemark bytes.now fault) }
 {
     match fault {
         NameFault::Unknown(span) => {
             let sentence = unknown_sentence(alloc, word_at(bytes, span))?;
             Ok(at_span(span, sentence))
         }
-        NameFault::Twice(span) => {
-            let sentence = twice_sentence(alloc, word_at(bytes, span))?;
+        NameFault::Twice(span, first) => {
+            let line = line_number(bytes, first.start as usize);
+            let sentence = twice_sentence(alloc, word_at(bytes, span), line)?;
             Ok(at_span(span, sentence))
         }
         NameFault::Recursive(span) => {
@@ -91,7 +87,7 @@ pub fn rule_remark(
             let sentence = arity_sentence(alloc, word_at(bytes, span))?;
             Ok(at_span(span, sentence))
         }
-        NameFault::Kind(span) => {
+        NameFault::Kind(span, met) => {
             let sentence = kind_sentence(alloc, word_at(bytes, span), met)?;
             Ok(at_span(span, sentence))
         }
@@ -112,15 +108,19 @@ fn unknown_sentence(alloc: Global, word: &[u8]) -> Result<Bytes, AllocError>
     three(alloc, b"the name `", word, b"` is unknown here")
 }
 
-fn twice_sentence(alloc: Global, word: &[u8]) -> Result<Bytes, AllocError>
-    ensures { IfOk result (λ text. text ≡ rules.twice_sentence word.now) }
+/// Of a name that is declared already in this line.
+fn twice_sentence(alloc: Global, word: &[u8], line: usize) -> Result<Bytes, AllocError>
+    ensures { IfOk result (λ text. text ≡ rules.twice_sentence word.now line) }
 {
-    three(
+    let mut buffer = Buffer::new();
+    let line = buffer.format(line as u64).as_bytes();
+    let name = three(
         alloc,
         b"the name `",
         word,
         b"` stands for something already",
-    )
+    )?;
+    three(alloc, name.as_slice(), b": it is declared in line ", line)
 }
 
 fn recursive_sentence(alloc: Global, word: &[u8]) -> Result<Bytes, AllocError>

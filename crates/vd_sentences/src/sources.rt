@@ -2,40 +2,25 @@
 
 ghost use Rattle.std.specs.Prelude.{◌≡◌, IfOk};
 ghost use Rattle.vd_core.specs.Named.{HasNames};
-ghost use Rattle.vd_sentences.specs.MetKinds.{IsMetIn};
 ghost use Rattle.vd_sentences.specs.SourceRemarks.{IsSourceRemark, SaysOfTree};
 
 use crate::refusals::syntax_remark;
 use crate::rules::rule_remark;
 use std::alloc::Global;
 use vd_core::Source;
-use vd_kinds::{Met, Stop, kinds_met};
 use vd_parser::parse;
 use vd_remarks::{Remark, TellFault};
 use vd_resolve::resolve;
-
-/// What met at the first fault of kinds of a tree, if it has one before any other fault.
-fn met_in(alloc: Global, source: &Source) -> Result<Option<Met>, TellFault>
-    ensures { IfOk result (IsMetIn source.now) }
-{
-    match kinds_met(alloc, source) {
-        Ok(()) => Ok(None),
-        Err(Stop::Kinds(_, met)) => Ok(Some(met)),
-        Err(Stop::Other) => Ok(None),
-        Err(Stop::Memory) => Err(TellFault::Memory),
-    }
-}
 
 /// The remark on the first fault of names, kinds or sizes of a tree, if it has one.
 fn tree_remark(alloc: Global, bytes: &[u8], source: Source) -> Result<Option<Remark>, TellFault>
     requires { HasNames source }
     ensures { IfOk result (SaysOfTree bytes.now source) }
 {
-    let met = met_in(alloc, &source)?;
     match resolve(alloc, source) {
         Ok(_resolved) => Ok(None),
         Err(fault) => {
-            let remark = rule_remark(alloc, bytes, fault, met)?;
+            let remark = rule_remark(alloc, bytes, fault)?;
             Ok(Some(remark))
         }
     }

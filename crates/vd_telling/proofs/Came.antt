@@ -5,6 +5,7 @@ use Rattle.vd_core.specs.declared.source.Source.{Source}
 use Rattle.vd_parser.specs.Outcomes.{IsParse}
 use Rattle.vd_parser.specs.declared.fault.ParseFault.{ParseFault}
 use Rattle.vd_parser.specs.declared.fault.ParseFault.TheVariants as parse_fault
+use Rattle.vd_resolve.specs.Faults.{bare}
 use Rattle.vd_resolve.specs.Limits.{resolution}
 use Rattle.vd_resolve.specs.declared.fault.NameFault.{NameFault}
 use Rattle.vd_resolve.specs.declared.fault.NameFault.TheVariants as name_fault
@@ -29,9 +30,9 @@ program_is bytes source form p is = (Ok source, parsed bytes source p, is)
 pub no_program : (bytes : List ℕ) (f : ParseFault) → Parses bytes (Err f) → f ≢ parse_fault.Memory → IsProgramOf bytes None
 no_program bytes f p other = (Err f, refused bytes f p other, refl)
 
-pub breaks_rule : (source : Source) (f : NameFault) → (f ≡ name_fault.Memory) ⊎ (resolution source ≡ Err f) → f ≢ name_fault.Memory → IsProgramOfTree source None
+pub breaks_rule : (source : Source) (f : NameFault) → (f ≡ name_fault.Memory) ⊎ (resolution source ≡ Err (bare f)) → f ≢ name_fault.Memory → IsProgramOfTree source None
 breaks_rule source f (inl e) other = absurd (other e)
-breaks_rule source f (inr e) other = (f, e)
+breaks_rule source f (inr e) other = (bare f, e)
 
 pub number_is : (bytes host : List ℕ) (source : Source) (number : Option ℕ) → Parses bytes (Ok source) → number ≡ host_number (Ok source) host → IsHostNumber bytes host number
 number_is bytes host source number p e = (Ok source, parsed bytes source p, e)

@@ -3,16 +3,14 @@ use Rattle.std.proofs.Common.{◌≡◌, ◌≢◌, ℕ, Bool, List, [], Option,
 use Rattle.vd_plan.specs.declared.status.HostStatus.{HostStatus}
 use Rattle.vd_plan.specs.declared.status.HostStatus.TheVariants as host_status
 use Rattle.vd_plan.specs.declared.status.RuleFault.{RuleFault}
-use Rattle.vd_plan.specs.declared.status.RuleFault.TheVariants as rule
 use Rattle.vd_plan.specs.declared.status.Status.{Status}
 use Rattle.vd_plan.specs.declared.status.Status.TheVariants as status
 use Rattle.vd_plan.specs.declared.status.SyntaxFault.{SyntaxFault}
 use Rattle.vd_plan.specs.declared.status.TextFault.{TextFault}
 use Rattle.vd_remarks.specs.declared.remark.Remark.{Remark}
-use Rattle.vd_sentences.specs.SourceRemarks.{IsSourceRemark}
 use Rattle.vd_telling.specs.Alone.{alone, of_host}
 use Rattle.vd_telling.specs.Files.{reading_of}
-use Rattle.vd_telling.specs.Remarks.{IsRemarkOn, IsRuleRemark}
+use Rattle.vd_telling.specs.Remarks.{IsRemarkOn}
 use Rattle.vd_telling.specs.Said.{IsRemarkTold, IsTold}
 
 -- a status of which no file is read
@@ -53,11 +51,6 @@ unremarked bytes (status.Spent budget) a b c d e g h = absurd (e budget refl)
 unremarked bytes (status.InputText f) a b c d e g h = absurd (g f refl)
 unremarked bytes (status.ScheduleText f) a b c d e g h = absurd (h f refl)
 unremarked bytes s a b c d e g h = refl
-
--- a fault that is no name twice
-pub of_source : (bytes : List ℕ) (f : RuleFault) (remark : Option Remark) → ((offset : ℕ) → f ≢ rule.Twice offset) → IsSourceRemark bytes remark → IsRuleRemark bytes f remark
-of_source bytes (rule.Twice offset) remark other is = absurd (other offset refl)
-of_source bytes f remark other is = is
 
 -- a status that is no fault of a deal's text
 pub of_bytes : (coloured : Bool) (words : List (List ℕ)) (s : Status) (name bytes text : List ℕ) → ((host : List ℕ) (offset : ℕ) → s ≢ status.DealText host offset)

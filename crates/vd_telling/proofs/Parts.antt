@@ -8,10 +8,9 @@ use Rattle.vd_hidden_sentences.specs.Phrases.{IsBranchRemark}
 use Rattle.vd_plan.specs.declared.status.Status.{Status}
 use Rattle.vd_remarks.specs.Remarks.{told}
 use Rattle.vd_remarks.specs.declared.remark.Remark.{Remark}
-use Rattle.vd_sentences.specs.SourceRemarks.{IsSourceRemark}
 use Rattle.vd_telling.specs.Deals.{IsHostNumber, deal_text, IsDealTold}
 use Rattle.vd_telling.specs.Programs.{IsAssignmentRemark, IsProgramOf, IsOfProgram, IsOfSpace, IsSearchRemark, IsSlotRemark}
-use Rattle.vd_telling.specs.Remarks.{IsDeclaredBefore, IsTwiceOr, IsRemarkOn}
+use Rattle.vd_telling.specs.Remarks.{IsRemarkOn}
 use Rattle.vd_telling.specs.Said.{IsRemarkTold}
 
 -- ---- of a program, and of its space
@@ -40,15 +39,6 @@ module _ (form : NormalForm) (hidden : Option Remark) where
 pub of_search : (budget : ℕ) (form : NormalForm) (space : Option Problem) (q : Problem) (sentence : List ℕ) → space ≡ Some q → IsSpaceFor form space → TellsSearch q budget sentence
     → IsSearchRemark budget form (Some (record { offset = None; sentence = sentence }))
 of_search budget form space q sentence same is tells = record { space = Some q; is = subst (IsSpaceFor form) same is; says = record { place = refl; tells = tells } }
-
--- ---- of a name twice
-
-module _ (bytes : List ℕ) (offset : ℕ) (declared : Option Remark) where
-  pub of_declared : (remark : Remark) → declared ≡ Some remark → IsDeclaredBefore bytes offset declared → IsTwiceOr bytes offset (Some remark)
-  of_declared remark same is = record { declared = Some remark; is = subst (IsDeclaredBefore bytes offset) same is; says = refl }
-
-  pub of_undeclared : (remark : Option Remark) → declared ≡ None → IsDeclaredBefore bytes offset declared → IsSourceRemark bytes remark → IsTwiceOr bytes offset remark
-  of_undeclared remark same is says = record { declared = None; is = subst (IsDeclaredBefore bytes offset) same is; says = says }
 
 -- ---- of a remark as it is printed
 

@@ -5,7 +5,7 @@ use Rattle.vd_core.specs.declared.normal.NormalForm.{NormalForm}
 use Rattle.vd_parser.specs.Outcomes.{IsParse}
 use Rattle.vd_parser.specs.declared.fault.ParseFault.{ParseFault}
 use Rattle.vd_resolve.specs.Limits.{resolution, IsResolved}
-use Rattle.vd_resolve.specs.declared.fault.NameFault.{NameFault}
+use Rattle.vd_resolve.specs.Faults.{Fault}
 use Rattle.vd_rewritten.specs.RunPrograms.{IsRunProgram}
 use Rattle.vd_space.specs.declared.problem.Problem.{Problem}
 use Rattle.vd_hidden_sentences.specs.Phrases.{IsBranchRemark}
@@ -16,7 +16,7 @@ use Rattle.vd_choice_sentences.specs.Spent.{TellsSearch}
 
 -- the program that is run of a source that meets every rule
 abbrev pub IsProgramOfTree : Source → Option NormalForm → Type 0
-IsProgramOfTree source None = (fault : NameFault) × (resolution source ≡ Err fault)
+IsProgramOfTree source None = (fault : Fault) × (resolution source ≡ Err fault)
 IsProgramOfTree source (Some form) = IsResolved source × IsRunProgram source form
 
 -- the same of bytes; none where they are no source

@@ -8,48 +8,9 @@ ghost use Rattle.vd_telling.specs.Remarks as remarks;
 use crate::programs::{remark_on_assignment, remark_on_budget, remark_on_flow};
 use std::alloc::{AllocError, Global};
 use vd_base::Bytes;
-use vd_base::limits::SOURCE_BYTES;
-use vd_name_sentences::twice_remark;
-use vd_plan::{RuleFault, Status, TextFault};
+use vd_plan::{Status, TextFault};
 use vd_remarks::{Remark, TellFault, host_sentence, inputs_sentence, schedule_sentence};
 use vd_sentences::source_remark;
-
-/// Where the name at this offset was declared before, if that is found.
-fn declared_before(alloc: Global, bytes: &[u8], offset: u32) -> Result<Option<Remark>, TellFault>
-    ensures { IfOk result (remarks.IsDeclaredBefore bytes.now offset) }
-{
-    let long = bytes.len() > SOURCE_BYTES as usize;
-    if long {
-        Ok(None)
-    } else {
-        twice_remark(alloc, bytes, offset)
-    }
-}
-
-/// The remark on a name of a source that stands for something already, at this offset.
-fn remark_on_twice(alloc: Global, bytes: &[u8], offset: u32) -> Result<Option<Remark>, TellFault>
-    ensures { IfOk result (remarks.IsTwiceOr bytes.now offset) }
-{
-    let declared = declared_before(alloc, bytes, offset)?;
-    match declared {
-        Some(remark) => Ok(Some(remark)),
-        None => source_remark(alloc, bytes),
-    }
-}
-
-/// The remark on a source that breaks a rule on names, kinds or sizes.
-fn remark_on_rule(
-    alloc: Global,
-    bytes: &[u8],
-    fault: RuleFault,
-) -> Result<Option<Remark>, TellFault>
-    ensures { IfOk result (remarks.IsRuleRemark bytes.now fault) }
-{
-    match fault {
-        RuleFault::Twice(offset) => remark_on_twice(alloc, bytes, offset),
-        _ => source_remark(alloc, bytes),
-    }
-}
 
 /// A sentence on what stands at this offset.
 fn at(offset: u32, sentence: Bytes) -> Remark
@@ -116,7 +77,7 @@ pub(crate) fn remark_on(
 {
     match status {
         Status::Syntax(_) => source_remark(alloc, bytes),
-        Status::Names(fault) => remark_on_rule(alloc, bytes, *fault),
+        Status::Names(_) => source_remark(alloc, bytes),
         Status::Flow(_, _) => remark_on_flow(alloc, bytes),
         Status::NoAssignment => remark_on_assignment(alloc, bytes),
         Status::Spent(budget) => remark_on_budget(alloc, bytes, *budget),

@@ -14,7 +14,7 @@ use Rattle.vd_normal.specs.Normal.{normal_form}
 use Rattle.vd_normal.proofs.Kept.{outputs_kept}
 use Rattle.vd_parser.specs.Outcomes.{IsParse}
 use Rattle.vd_resolve.specs.Limits.{resolution}
-use Rattle.vd_resolve.specs.declared.fault.NameFault.{NameFault}
+use Rattle.vd_resolve.specs.Faults.{Fault}
 use Rattle.vd_gen.specs.Sizes.{most_coordinates}
 use Rattle.vd_gen.specs.Source.{generated}
 use Rattle.vd_generated.proofs.Read.{executed_of}
@@ -129,7 +129,7 @@ source_told coordinates source program (Ok answer) same tells = λ e.
     subst (λ (outputs : List (List ℕ) → List (List ℕ)). IsRun coordinates (normal_form source) outputs answer.printed) alike run
 source_told coordinates source program (Err status) same tells = tt
 
-resolved_as : (tree source : Source) (found : Result (Unit {0}) NameFault) → resolution tree ≡ found → as_resolved tree found ≡ Ok source → (resolution tree ≡ Ok tt) × (tree ≡ source)
+resolved_as : (tree source : Source) (found : Result (Unit {0}) Fault) → resolution tree ≡ found → as_resolved tree found ≡ Ok source → (resolution tree ≡ Ok tt) × (tree ≡ source)
 resolved_as tree source (Ok done) is same = (is, cc same)
 resolved_as tree source (Err fault) is same = absurd (cc same)
 

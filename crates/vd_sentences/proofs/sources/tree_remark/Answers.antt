@@ -3,4 +3,4 @@ use Rattle.vd_sentences.proofs.sources.tree_remark.Goals as goal
 
 pub returns-in_ok-remark-in-Err : goal.returns-in_ok-remark-in-Err
 returns-in_ok-remark-in-Err c =
-    rule_fault c.args.bytes.now c.args.source c.in-Err.fault c.in_ok-met.met c.in_ok-remark-in-Err.remark (c.in_ok-met.ensures {u = tt}) (c.in-Err.ensures {u = tt}).fault (c.in_ok-remark-in-Err.ensures {u = tt})
+    rule_fault c.args.bytes.now c.args.source c.in-Err.fault c.in_ok-remark-in-Err.remark (c.in-Err.ensures {u = tt}).fault (c.in-Err.ensures {u = tt}).cause (c.in_ok-remark-in-Err.ensures {u = tt})

@@ -5,7 +5,7 @@ pub returns-in-Syntax : goal.returns-in-Syntax
 returns-in-Syntax c = rw c.in-Syntax.is c.source_remark.ensures
 
 pub returns-in-Names : goal.returns-in-Names
-returns-in-Names c = rw c.in-Names.is c.remark_on_rule.ensures
+returns-in-Names c = rw c.in-Names.is c.source_remark-in-Names.ensures
 
 pub returns-in-Flow : goal.returns-in-Flow
 returns-in-Flow c = rw c.in-Flow.is c.remark_on_flow.ensures

@@ -1,4 +1,0 @@
-pub mod Steps
-pub mod Forms
-pub mod Following
-pub mod Arguments

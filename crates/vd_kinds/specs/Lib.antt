@@ -1,4 +1,0 @@
-pub mod Symbols
-pub mod Meeting
-pub mod Follows
-pub mod Walks

@@ -1,3 +1,0 @@
-pub mod Sorts
-pub mod Earlier
-pub mod Twice
