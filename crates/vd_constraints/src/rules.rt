@@ -94,8 +94,8 @@ fn add_stmt(
         Stmt::Store(variable, value) => add_stored(system, pc, *variable, *value),
         Stmt::Put(array, index, value) => add_put(system, pc, *array, *index, *value),
         Stmt::Output(slot, host, offset) => {
-            let host = host_label(program, *host);
-            system.add_output(host, pc, Place::Slot(*slot), *offset)
+            let label = host_label(program, *host);
+            system.add_output(label, pc, Place::Slot(*slot), *offset, *host)
         }
         Stmt::If(guard, then_block, else_block, _) => {
             let branch = system.add_branch(Place::Slot(*guard), pc)?;
@@ -134,8 +134,8 @@ fn add_right(
             system.add_flow(Place::Slot(*index), x)
         }
         Right::Input(host) => {
-            let host = host_label(program, *host);
-            system.add_input(host, pc, x, offset(program, slot))
+            let label = host_label(program, *host);
+            system.add_input(label, pc, x, offset(program, slot), *host)
         }
         Right::Declassify(value, form) => {
             let to = Formula::over(form, &program.principals);

@@ -1,4 +1,2 @@
-pub mod Walks
-pub mod Asked
 pub mod Solutions
 pub mod Refused

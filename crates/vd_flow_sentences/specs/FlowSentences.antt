@@ -6,8 +6,8 @@ use Rattle.vd_core.specs.declared.normal.NormalForm.{NormalForm}
 use Rattle.vd_formula.specs.TruthTable.{TruthTable}
 use Rattle.vd_report.specs.LabelLines.{formula_text}
 use Rattle.vd_remarks.specs.Parts.{three}
-use Rattle.vd_flow_sentences.specs.declared.origin.Origin.{Origin}
-use Rattle.vd_flow_sentences.specs.declared.origin.Origin.TheVariants as origin
+use Rattle.vd_constraints.specs.declared.origin.Origin.{Origin}
+use Rattle.vd_constraints.specs.declared.origin.Origin.TheVariants as origin
 use Rattle.vd_flow_sentences.specs.Phrases.{guarded, vouched}
 
 -- ---- what would mend it

@@ -1,4 +1,3 @@
-pub mod Origins
 pub mod Phrases
 pub mod FlowSentences
 pub mod Flow

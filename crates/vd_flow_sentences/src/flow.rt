@@ -5,7 +5,6 @@ ghost use Rattle.vd_constraints.specs.Outcomes.{HasNoLabelling};
 ghost use Rattle.vd_constraints.specs.Rules.{system_of};
 ghost use Rattle.vd_flow_sentences.specs.Flow.{IsFlowRemark, SaysOfFlow};
 
-use crate::asking::origins;
 use crate::sentences::flow_sentence;
 use std::alloc::Global;
 use vd_constraints::{System, constraints};
@@ -43,11 +42,10 @@ fn remark_on(
     ensures { IfOk result (IsFlowRemark program.now number) }
 {
     let least = solve_rules(alloc, system)?;
-    let askers = origins(alloc, program)?;
     let failing = system.checks()[number as usize];
-    let asker = askers.as_slice()[number as usize];
     let asked = least.part(failing.part);
-    let sentence = flow_sentence(alloc, program.form(), asker, &failing.constant, &asked)?;
+    let form = program.form();
+    let sentence = flow_sentence(alloc, form, failing.origin, &failing.constant, &asked)?;
     Ok(Remark {
         offset: Some(failing.offset),
         sentence,

@@ -4,10 +4,10 @@
 ghost use Rattle.std.specs.Prelude.{◌≡◌, IfOk};
 ghost use Rattle.vd_flow_sentences.specs.FlowSentences as sentences;
 
-use crate::origin::Origin;
 use crate::phrases::{guarded, host_name, vouched};
 use std::alloc::{AllocError, Global};
 use vd_base::Bytes;
+use vd_constraints::Origin;
 use vd_core::NormalForm;
 use vd_formula::Formula;
 use vd_remarks::three;
