@@ -1,2 +1,2 @@
 pub mod HostCodes
-pub mod Places
+pub mod Lines

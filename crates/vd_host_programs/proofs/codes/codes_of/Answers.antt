@@ -1,5 +1,5 @@
 use Rattle.vd_execution.specs.Text.{pick}
-use Rattle.vd_host_programs.proofs.Places.{code_more}
+use Rattle.vd_host_programs.proofs.Lines.{code_more}
 use Rattle.vd_host_programs.proofs.codes.codes_of.Goals as goal
 
 pub loop-number-preserved : goal.loop-number-preserved

@@ -1,29 +1,7 @@
-use Rattle.std.proofs.Common.{ℕ, List, map, ap, ap₂, ◌∙◌}
-use Rattle.vd_base.specs.declared.protocols.Proto.{Proto}
-use Rattle.vd_split.specs.Places.{program_lines}
-use Rattle.vd_suite.specs.Parts.{suite_calls}
-use Rattle.vd_host_programs.specs.Programs.{proto_at}
-use Rattle.vd_host_programs.proofs.Places.{served, codes_are}
+use Rattle.vd_host_programs.proofs.Lines.{codes_are}
 use Rattle.vd_host_programs.proofs.codes.split.Goals as goal
-
-pub joint_code-requires-clause-served : goal.joint_code-requires-clause-served
-joint_code-requires-clause-served c =
-    (served c.args.program.now c.args.places.now c.numbers_fit.ensures.well_made c.numbers_fit.ensures.fit c.requires c.new-built.result c.as_slice-2.result.now
-    (c.new-built.ensures ∙ c.host_count-hosts.ensures)
-    c.host_count-hosts.result c.host_count-hosts.ensures
-    (c.as_slice-2.ensures ∙ c.in_ok-protos.ensures {u = tt} ∙ ap (λ (l : List Proto). map (proto_at l) c.args.places.now) (c.as_slice.ensures ∙ c.in_ok-list.ensures {u = tt}))).slots
-
-pub joint_code-requires-clause-stands : goal.joint_code-requires-clause-stands
-joint_code-requires-clause-stands c =
-    (served c.args.program.now c.args.places.now c.numbers_fit.ensures.well_made c.numbers_fit.ensures.fit c.requires c.new-built.result c.as_slice-2.result.now
-    (c.new-built.ensures ∙ c.host_count-hosts.ensures)
-    c.host_count-hosts.result c.host_count-hosts.ensures
-    (c.as_slice-2.ensures ∙ c.in_ok-protos.ensures {u = tt} ∙ ap (λ (l : List Proto). map (proto_at l) c.args.places.now) (c.as_slice.ensures ∙ c.in_ok-list.ensures {u = tt}))).stands
 
 pub returns : goal.returns
 returns c =
-    codes_are c.args.program.now c.args.places.now c.numbers_fit.ensures.well_made c.numbers_fit.ensures.fit c.requires c.host_count-hosts.result c.in_ok-protos.protos c.in_ok-lines.lines c.in_ok-codes.codes
-    c.host_count-hosts.ensures
-    (c.in_ok-protos.ensures {u = tt} ∙ ap (λ (l : List Proto). map (proto_at l) c.args.places.now) (c.as_slice.ensures ∙ c.in_ok-list.ensures {u = tt}))
-    (c.in_ok-lines.ensures {u = tt} ∙ ap₂ (λ (n : ℕ) (l : List Proto). program_lines (suite_calls n) l c.args.program.now) c.new-built.ensures c.as_slice-2.ensures)
-    (rw c.as_slice-3.ensures at (c.in_ok-codes.ensures {u = tt}))
+    codes_are c.args.program.now c.args.protocols.now c.numbers_fit.ensures.well_made c.numbers_fit.ensures.fit c.requires c.host_count-hosts.result c.in_ok-lines.lines c.as_slice.result.now c.in_ok-codes.codes
+    c.host_count-hosts.ensures (c.in_ok-lines.ensures {u = tt}) c.as_slice.ensures (c.in_ok-codes.ensures {u = tt})
