@@ -1,12 +1,12 @@
 -- The file of a host's program in an order that waits less is one that the grammar has, and its program is within the ranges.
-use Rattle.std.proofs.Common.{◌≡◌, ℕ, ◌+◌, ◌*◌, ◌<◌, ◌≤◌, Bool, true, ◌⊎◌, inl, inr, List, [], length, refl, sym, ap, ◌∙◌, subst, arith}
+use Rattle.std.proofs.Common.{◌≡◌, ℕ, ◌+◌, ◌*◌, ◌<◌, ◌≤◌, ◌⊎◌, inl, inr, List, [], length, sym, ap, subst, arith}
 use Rattle.std.proofs.lemmas.Bool.{cases_lt}
 use Rattle.std.specs.Prelude.{flat_map}
 use Rattle.std.specs.List.{sum}
+use Rattle.vd_base.specs.declared.protocols.Proto.{Proto}
 use Rattle.vd_base.specs.HostSets.{host}
 use Rattle.vd_core.specs.declared.normal.NormalForm.{NormalForm}
 use Rattle.vd_core.specs.Facts.{of_rights, operands_fit, shift_fits, count_step, statement_count, cells_step, cell_count, weigh_step, weigh_all, weight_sum}
-use Rattle.vd_execution.specs.declared.instructions.Instr.{Instr}
 use Rattle.vd_execution.specs.Code.{Code, Finished, weight}
 use Rattle.vd_execution.specs.Joint.{Joint, code_of, TakesPart, Within}
 use Rattle.vd_execution.specs.Plans.{Plan, PlanIsTidy}
@@ -18,6 +18,7 @@ use Rattle.vd_schedules.proofs.Taking.{within}
 use Rattle.vd_joint.specs.Block.{block_of}
 use Rattle.vd_joint.specs.Emission.{Emission, block_emission, emitting_at_start, in_turn, stmt_emission}
 use Rattle.vd_joint.proofs.Folds.{fold_each}
+use Rattle.vd_split.specs.Offer.{proto_in}
 use Rattle.vd_suite.specs.Given.{zero_deal}
 use Rattle.vd_suite.specs.Parts.{suite_calls}
 use Rattle.vd_suite.specs.Whole.{plan_at, inputs_of}
@@ -25,10 +26,9 @@ use Rattle.vd_suite.proofs.Given.{zero_deals_are_valid}
 use Rattle.vd_host_text.specs.declared.program.Digest.{Digest}
 use Rattle.vd_host_text.specs.Text.{name_field, program_text}
 use Rattle.vd_hostcode.proofs.Outcomes.{all_within, written_is_read}
-use Rattle.vd_host_programs.specs.Programs.{protos_at, joint_of}
-use Rattle.vd_host_programs.proofs.HostCodes.{places_over, no_words, codes_can_be_loaded, codes_run_as_told, ended_past, joint_is_tidy}
-use Rattle.vd_core.specs.Numbers.{numbers_fit}
-use Rattle.vd_read_back.specs.Stored.{CanBeStored, StandsInAFile, stored_program}
+use Rattle.vd_host_programs.specs.Programs.{joint_of}
+use Rattle.vd_host_programs.proofs.HostCodes.{proto_over, runnable_over, no_words, codes_can_be_loaded, codes_run_as_told, ended_past, joint_is_tidy}
+use Rattle.vd_read_back.specs.Stored.{count_fits, CanBeStored, StandsInAFile}
 use Rattle.vd_read_back.proofs.Files.{stands_in_a_file}
 use Rattle.vd_read_back.proofs.Registers.{all_hold, plan_below}
 use Rattle.vd_read_back.proofs.FewBlocks.{BlockIsSmall, counted, weight_of, cells_in, emission_of, block_small}
@@ -45,21 +45,21 @@ use Rattle.vd_early_files.proofs.Shorter.{early_is_no_more}
 
 -- ---- the code of a host in program order
 
-module _ (program : NormalForm) (places : List ℕ) (plan : Digest) (h : ℕ) (can : CanBeStored program places plan h) where
+module _ (program : NormalForm) (protocols : List Proto) (plan : Digest) (h : ℕ) (can : CanBeStored program protocols plan h) where
   abbrev hosts : ℕ
   hosts = length program.hosts
 
   abbrev gadgets : Plan Gadget
-  gadgets = plan_at (protos_at program places) program
+  gadgets = plan_at (proto_in protocols) program
 
   abbrev old : Code
-  old = code_of h (joint_of program places)
+  old = code_of h (joint_of program protocols)
 
   -- the emission of the program is that of its block
-  small : BlockIsSmall hosts (protos_at program places) can.made.limits.hosts (block_of program.body) ((block_emission (suite_calls hosts) (protos_at program places) program.body).emit (emitting_at_start (suite_calls hosts) (protos_at program places)))
+  small : BlockIsSmall hosts (proto_in protocols) can.made.limits.hosts (block_of program.body) ((block_emission (suite_calls hosts) (proto_in protocols) program.body).emit (emitting_at_start (suite_calls hosts) (proto_in protocols)))
   small =
       let s = suite_calls hosts in
-      let proto = protos_at program places in
+      let proto = proto_in protocols in
       let b = block_of program.body in
       let few = can.made.limits.hosts in
       let sizes : cells_in b ≡ cell_count program.body = sym (ap sum (fold_each cells_step program.body)) in
@@ -74,18 +74,18 @@ module _ (program : NormalForm) (places : List ℕ) (plan : Digest) (h : ℕ) (c
   tidy : PlanIsTidy gadgets
   tidy =
       let zeros = zero_deals_are_valid (inputs_of []) no_words in
-      (codes_run_as_told program places can.made can.numbers can.runnable [] no_words (zero_deal (inputs_of [])) zeros.0 zeros.1).plan_tidy
+      (codes_run_as_told program protocols can.made can.numbers can.runnable [] no_words (zero_deal (inputs_of [])) zeros.0 zeros.1).plan_tidy
 
-  all_declared : Within (parts_below hosts) (joint_of program places)
-  all_declared = within (parts_below hosts) (joint_of program places) (λ k has. at k has (cases_lt k hosts))
+  all_declared : Within (parts_below hosts) (joint_of program protocols)
+  all_declared = within (parts_below hosts) (joint_of program protocols) (λ k has. at k has (cases_lt k hosts))
     where
-      at : (k : ℕ) → (code_of k (joint_of program places) ≡ Finished → ⊥) → (k < hosts) ⊎ (hosts ≤ k) → TakesPart (parts_below hosts) k
+      at : (k : ℕ) → (code_of k (joint_of program protocols) ≡ Finished → ⊥) → (k < hosts) ⊎ (hosts ≤ k) → TakesPart (parts_below hosts) k
       at k has (inl lt) = takes_below hosts k lt
-      at k has (inr le) = absurd (has (ended_past program places can.made can.numbers can.runnable k le))
+      at k has (inr le) = absurd (has (ended_past program protocols can.made can.numbers can.runnable k le))
 
   stands : AllCanStand hosts h old
   stands =
-      let below = plan_below program (protos_at program places) can.made (places_over program places can.made) in
+      let below = plan_below program (proto_in protocols) can.made (proto_over program protocols can.made (runnable_over program protocols can.made can.runnable)) in
       plan_stands hosts can.made.limits.hosts h below.0 (parts_below hosts) (λ k t. below_takes hosts k t) gadgets below.1 tidy small.plan (plan_within (parts_below hosts) gadgets all_declared)
 
   few_steps : weight old ≤ 4294967295
@@ -109,12 +109,12 @@ module _ (program : NormalForm) (places : List ℕ) (plan : Digest) (h : ℕ) (c
 
   -- ---- in an order that waits less
 
-  module _ (joint : Joint) (early : IsEarly (joint_of program places) joint) where
+  module _ (joint : Joint) (early : IsEarly (joint_of program protocols) joint) where
     abbrev code : Code
     code = code_of h joint
 
     no_more : IsNoMore hosts h old code
-    no_more = early_is_no_more hosts h (joint_of program places) joint (joint_is_tidy program places can.made can.numbers can.runnable) early
+    no_more = early_is_no_more hosts h (joint_of program protocols) joint (joint_is_tidy program protocols can.made can.numbers can.runnable) early
 
     early_stands : AllCanStand hosts h code
     early_stands = no_more.stands stands
@@ -123,7 +123,7 @@ module _ (program : NormalForm) (places : List ℕ) (plan : Digest) (h : ℕ) (c
     is_part = read_back code (unbegun h joint)
 
     few_blocks : depth code ≤ 512
-    few_blocks = let le = no_more.blocks in let few = (codes_can_be_loaded program places can.made h).in_range.blocks in bounded _ _ le few
+    few_blocks = let le = no_more.blocks in let few = (codes_can_be_loaded program protocols can.made (runnable_over program protocols can.made can.runnable) h).in_range.blocks in bounded _ _ le few
       where
         bounded : (n m : ℕ) → n ≤ m → m ≤ 512 → n ≤ 512
         bounded n m le few = omega (arith, le, few)
@@ -136,7 +136,7 @@ module _ (program : NormalForm) (places : List ℕ) (plan : Digest) (h : ℕ) (c
 
     pub program_stands : StandsInAFile (program_at program joint plan h)
     program_stands =
-        let before = stands_in_a_file program places plan h can in
+        let before = stands_in_a_file program protocols plan h can in
         record {
           file = record {
             names = before.file.names;
@@ -166,12 +166,12 @@ module _ (program : NormalForm) (places : List ℕ) (plan : Digest) (h : ℕ) (c
         within_file n le = omega (arith, le)
 
 pub programs_stand : EarlyProgramsStandInFiles
-programs_stand program places plan h joint can early = program_stands program places plan h can joint early
+programs_stand program protocols plan h joint can early = program_stands program protocols plan h can joint early
 
 pub programs_are_read : EarlyProgramsAreReadBack
-programs_are_read program places plan h joint can early =
-    let stands = program_stands program places plan h can joint early in
-    record { read = written_is_read (program_at program joint plan h) stands.file stands.within; part = is_part program places plan h can joint early }
+programs_are_read program protocols plan h joint can early =
+    let stands = program_stands program protocols plan h can joint early in
+    record { read = written_is_read (program_at program joint plan h) stands.file stands.within; part = is_part program protocols plan h can joint early }
 
 pub texts_are_short : EarlyTextsAreShort
-texts_are_short program places plan h joint can early names = text_is_short program places plan h can joint early names
+texts_are_short program protocols plan h joint can early names = text_is_short program protocols plan h can joint early names

@@ -1,13 +1,9 @@
 -- The code of hosts in an order that waits less.
-use Rattle.std.proofs.Common.{◌≡◌, ℕ, zero, suc, ◌≤◌, List, [], ◌∷◌, length, map, slice_index, Result, Ok, Err, refl, sym, ap, ap₂, ◌∙◌, subst}
-use mathlib.Core.Path.{fun_ext}
+use Rattle.std.proofs.Common.{◌≡◌, ℕ, ◌≤◌, List, [], ◌∷◌, length, map, Result, Ok, Err, refl, sym, ap, ap₂, ◌∙◌, subst}
 use Rattle.std.specs.Prelude.{IfOk}
 use Rattle.std.specs.List.{range_with_len}
 use Rattle.vd_base.specs.declared.protocols.Proto.{Proto}
-use Rattle.vd_base.specs.declared.protocols.Proto.TheVariants.{Local}
-use Rattle.vd_base.specs.HostSets.{host}
 use Rattle.vd_base.specs.Limits.{most_packet_words}
-use Rattle.vd_base.specs.Protocols.{protocols_of}
 use Rattle.vd_core.specs.declared.normal.NormalForm.{NormalForm}
 use Rattle.vd_execution.specs.declared.instructions.Instr.{Instr}
 use Rattle.vd_execution.specs.declared.instructions.Line.{Line}
@@ -16,13 +12,9 @@ use Rattle.vd_execution.specs.Joint.{Joint, Hosts, IsTidy, code_of}
 use Rattle.vd_execution.specs.Text.{flat, pick, text}
 use Rattle.vd_execution.specs.World.{Tape}
 use Rattle.vd_schedules.proofs.Picks.{picks}
-use Rattle.vd_split.specs.Offer.{proto_in}
-use Rattle.vd_split.specs.Places.{program_lines}
-use Rattle.vd_suite.specs.Parts.{suite_calls}
-use Rattle.vd_suite.specs.Whole.{code_at}
 use Rattle.vd_core.specs.Numbers.{NumbersFit}
 use Rattle.vd_core.specs.Facts.{IsWellMade}
-use Rattle.vd_host_programs.specs.Programs.{IsRunnable, proto_at, joint_of}
+use Rattle.vd_host_programs.specs.Programs.{IsRunnable, joint_of}
 use Rattle.vd_host_programs.proofs.HostCodes.{ended_past, joint_is_tidy}
 use Rattle.vd_hasten.specs.Packets.{opened_in}
 use Rattle.vd_early.specs.Turning.{TellsTheSame}
@@ -33,41 +25,8 @@ use Rattle.vd_early_order.proofs.Brought.{forward_by, runs_alike as alike_runs}
 use Rattle.vd_joined_packets.specs.Joining.{joined, joined_lines}
 use Rattle.vd_joined_packets.specs.Telling.{IsJoined}
 use Rattle.vd_joined_packets.proofs.Telling.{joined_tells}
-use Rattle.vd_early_programs.specs.Early.{opened_of, IsEarly, AreEarlyCodes, each_code, RunsAlike, EarlyCodeRunsAlike, AreEarly, ComeEarly, IsOfHosts}
+use Rattle.vd_early_programs.specs.Early.{opened_of, AreEarlyCodes, each_code, RunsAlike, EarlyCodeRunsAlike, AreEarly, ComeEarly, IsOfHosts}
 use Rattle.vd_early_programs.proofs.Opened.{opened_there}
-
--- ---- what hosts do in program order
-
-first_proto : (n : ℕ) → Local (host 0) ≡ proto_at (protocols_of n) 0
-unfolding lib.Count.ones
-first_proto zero = refl
-first_proto (suc n) = refl
-
-placed_at : (n : ℕ) (places : List ℕ) (x : ℕ) → proto_in (map (proto_at (protocols_of n)) places) x ≡ proto_at (protocols_of n) (slice_index places x)
-placed_at n [] x = first_proto n
-placed_at n (p ∷ places) zero = refl
-placed_at n (p ∷ places) (suc x) = placed_at n places x
-
-if_same : {X E : Type 0} (x y : X) → x ≡ y → (r : Result X E) → IfOk r (λ z. z ≡ x) → IfOk r (λ z. z ≡ y)
-if_same x y e (Ok z) is = is ∙ e
-if_same x y e (Err fault) is = tt
-
-module _ (program : NormalForm) (places : List ℕ) where
-  abbrev hosts : ℕ
-  hosts = length program.hosts
-
-  lines_are : program_lines (suite_calls hosts) (map (proto_at (protocols_of hosts)) places) program ≡ flat (joint_of program places) []
-  lines_are = ap (λ (f : ℕ → Proto). flat (code_at f program) []) (fun_ext (λ x. placed_at hosts places x))
-
-pub lines_of_joint : {E : Type 0} (program : NormalForm) (places : List ℕ) (n : ℕ) (ps : List Proto) → n ≡ length program.hosts → ps ≡ map (proto_at (protocols_of n)) places
-    → (lines : List Line) → lines ≡ program_lines (suite_calls n) ps program → (r : Result (List Line) E) → IfOk r (λ z. z ≡ lines) → IfOk r (λ z. z ≡ flat (joint_of program places) [])
-lines_of_joint program places n ps e f lines g r is =
-    if_same lines (flat (joint_of program places) [])
-    (g
-    ∙ ap (λ (l : List Proto). program_lines (suite_calls n) l program) f
-    ∙ ap (λ (m : ℕ). program_lines (suite_calls m) (map (proto_at (protocols_of m)) places) program) e
-    ∙ lines_are program places)
-    r is
 
 -- ---- code that comes early
 
@@ -120,9 +79,9 @@ each_picked : (j : Joint) → IsTidy j → (hs : List ℕ) → map (λ h. pick h
 each_picked j tidy [] = refl
 each_picked j tidy (h ∷ hs) = ap₂ (λ (c : List Instr) (cs : List (List Instr)). c ∷ cs) (picks h j tidy []) (each_picked j tidy hs)
 
-early_at : (program : NormalForm) (places : List ℕ) (n : ℕ) → n ≡ length program.hosts → (lines : List Line) → AreEarly (joint_of program places) lines
-    → AreEarlyCodes program places (map (λ h. pick h lines) (range_with_len 0 n))
-early_at program places n e lines x = record {
+early_at : (program : NormalForm) (protocols : List Proto) (n : ℕ) → n ≡ length program.hosts → (lines : List Line) → AreEarly (joint_of program protocols) lines
+    → AreEarlyCodes program protocols (map (λ h. pick h lines) (range_with_len 0 n))
+early_at program protocols n e lines x = record {
   joint = x.joint;
   early = x.early;
   codes_are =
@@ -132,13 +91,13 @@ early_at program places n e lines x = record {
 }
 
 -- a host that is not declared has no code
-joint_of_hosts : (program : NormalForm) (places : List ℕ) → IsWellMade program → NumbersFit program → IsRunnable program places → (n : ℕ) → n ≡ length program.hosts → IsOfHosts n (joint_of program places)
-joint_of_hosts program places made numbers runnable n e h le = ended_past program places made numbers runnable h (subst (λ (m : ℕ). m ≤ h) e le)
+joint_of_hosts : (program : NormalForm) (protocols : List Proto) → IsWellMade program → NumbersFit program → IsRunnable program protocols → (n : ℕ) → n ≡ length program.hosts → IsOfHosts n (joint_of program protocols)
+joint_of_hosts program protocols made numbers runnable n e h le = ended_past program protocols made numbers runnable h (subst (λ (m : ℕ). m ≤ h) e le)
 
-pub codes_come_early : {E : Type 0} (program : NormalForm) (places : List ℕ) → IsWellMade program → NumbersFit program → IsRunnable program places → (n : ℕ) → n ≡ length program.hosts
-    → (old new seen : List Line) → old ≡ flat (joint_of program places) [] → ComeEarly n old new → seen ≡ new → (r : Result (List (List Instr)) E)
-    → IfOk r (λ codes. codes ≡ map (λ h. pick h seen) (range_with_len 0 n)) → IfOk r (AreEarlyCodes program places)
-codes_come_early program places made numbers runnable n e old new seen old_is come same (Ok codes) is =
-    let early = come (joint_of program places) (joint_is_tidy program places made numbers runnable) (joint_of_hosts program places made numbers runnable n e) old_is in
-    subst (AreEarlyCodes program places) (sym (is ∙ ap (λ (l : List Line). map (λ h. pick h l) (range_with_len 0 n)) same)) (early_at program places n e new early)
-codes_come_early program places made numbers runnable n e old new seen old_is come same (Err fault) is = tt
+pub codes_come_early : {E : Type 0} (program : NormalForm) (protocols : List Proto) → IsWellMade program → NumbersFit program → IsRunnable program protocols → (n : ℕ) → n ≡ length program.hosts
+    → (old new seen : List Line) → old ≡ flat (joint_of program protocols) [] → ComeEarly n old new → seen ≡ new → (r : Result (List (List Instr)) E)
+    → IfOk r (λ codes. codes ≡ map (λ h. pick h seen) (range_with_len 0 n)) → IfOk r (AreEarlyCodes program protocols)
+codes_come_early program protocols made numbers runnable n e old new seen old_is come same (Ok codes) is =
+    let early = come (joint_of program protocols) (joint_is_tidy program protocols made numbers runnable) (joint_of_hosts program protocols made numbers runnable n e) old_is in
+    subst (AreEarlyCodes program protocols) (sym (is ∙ ap (λ (l : List Line). map (λ h. pick h l) (range_with_len 0 n)) same)) (early_at program protocols n e new early)
+codes_come_early program protocols made numbers runnable n e old new seen old_is come same (Err fault) is = tt

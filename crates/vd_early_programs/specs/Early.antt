@@ -1,6 +1,7 @@
 -- The code of hosts in an order that waits less.
 use Rattle.std.specs.Prelude.{◌≡◌, ℕ, ◌≤◌, List, [], length, map}
 use Rattle.std.specs.List.{range_with_len}
+use Rattle.vd_base.specs.declared.protocols.Proto.{Proto}
 use Rattle.vd_base.specs.Limits.{most_packet_words}
 use Rattle.vd_core.specs.declared.normal.NormalForm.{NormalForm}
 use Rattle.vd_execution.specs.declared.instructions.Instr.{Instr}
@@ -33,9 +34,9 @@ abbrev pub each_code : ℕ → Joint → List (List Instr)
 each_code hosts j = map (λ h. text (code_of h j) []) (range_with_len 0 hosts)
 
 -- These are the codes of the hosts of a program in an order that waits less.
-pub record AreEarlyCodes (program : NormalForm) (places : List ℕ) (codes : List (List Instr)) : Type 0 where
+pub record AreEarlyCodes (program : NormalForm) (protocols : List Proto) (codes : List (List Instr)) : Type 0 where
   pub joint : Joint
-  pub early : IsEarly (joint_of program places) joint
+  pub early : IsEarly (joint_of program protocols) joint
   pub codes_are : codes ≡ each_code (length program.hosts) joint
 
 -- ---- what holds of it

@@ -1,75 +1,20 @@
-ghost use Rattle.std.specs.Prelude.{◌≡◌, ◌≤◌, [], IfOk, length, map};
+ghost use Rattle.std.specs.Prelude.{◌≡◌, [], IfOk, map};
 ghost use Rattle.std.specs.List.{range_with_len};
-ghost use Rattle.vd_base.specs.Limits.{most_hosts};
-ghost use Rattle.vd_execution.specs.Text.{flat, pick};
+ghost use Rattle.vd_execution.specs.Text.{pick};
 ghost use Rattle.vd_hasten.specs.Packets as packets;
-ghost use Rattle.vd_host_programs.specs.Programs.{IsRunnable, joint_of, proto_at};
+ghost use Rattle.vd_host_programs.specs.Programs.{IsRunnable};
 ghost use Rattle.vd_early_programs.specs.Early.{AreEarlyCodes, ComeEarly};
 
 use std::alloc::{AllocError, Global};
 use vd_base::{HostId, Proto};
-use vd_built::Built;
 use vd_core::Program;
 use vd_early_order::bring_forward;
 use vd_execution::{Instr, Line, Reg};
 use vd_hasten::opened_in;
+use vd_host_programs::{codes_of, host_count, joint_lines};
 use vd_items::Items;
 use vd_joined_packets::join_packets;
-use vd_protocol::protocols;
-use vd_split::{host_code, joint_code};
-
-/// A protocol by its place in the list of all.
-fn protocol_at(list: &[Proto], place: u32) -> Proto
-    ensures { result ≡ proto_at list.now place }
-{
-    match list.get(place as usize) {
-        Some(proto) => *proto,
-        None => Proto::Local(HostId(0)),
-    }
-}
-
-/// The protocols of the slots, by their places in the list of all.
-fn protocols_of(alloc: Global, list: &[Proto], places: &[u32]) -> Result<Items<Proto>, AllocError>
-    ensures { IfOk result (λ protos. protos ≡ map (proto_at list.now) places.now) }
-{
-    let mut protos = Items::new(alloc);
-    for place in places {
-        protos.push(protocol_at(list, *place))?;
-    }
-    Ok(protos)
-}
-
-/// The number of hosts of a program.
-fn host_count(program: &Program) -> u8
-    ensures { result ≡ length program.now.hosts }
-{
-    program.form().hosts.as_slice().len() as u8
-}
-
-/// What all hosts of a program do together, in program order.
-fn joint_lines(alloc: Global, program: &Program, places: &[u32]) -> Result<Items<Line>, AllocError>
-    requires { IsRunnable program.now places.now }
-    ensures { IfOk result (λ lines. lines ≡ flat (joint_of program.now places.now) []) }
-{
-    program.numbers_fit();
-    let hosts = host_count(program);
-    let list = protocols(alloc, hosts)?;
-    let protos = protocols_of(alloc, list.as_slice(), places)?;
-    let built = Built::new(alloc, hosts);
-    joint_code(alloc, &built, protos.as_slice(), program)
-}
-
-/// The code of each of so many hosts, in order.
-fn codes_of(alloc: Global, hosts: u8, lines: &[Line]) -> Result<Items<Items<Instr>>, AllocError>
-    ensures { IfOk result (λ codes. codes ≡ map (λ h. pick h lines.now) (range_with_len 0 hosts)) }
-{
-    let mut codes = Items::new(alloc);
-    for number in 0..hosts {
-        let code = host_code(alloc, lines, HostId(number))?;
-        codes.push(code)?;
-    }
-    Ok(codes)
-}
+use vd_split::host_code;
 
 /// The registers that the packets of a host open.
 fn opened_at(alloc: Global, lines: &[Line], host: HostId) -> Result<Items<Reg>, AllocError>
@@ -100,19 +45,18 @@ fn early_lines(alloc: Global, hosts: u8, lines: Items<Line>) -> Result<Items<Lin
     join_packets(alloc, forward)
 }
 
-/// The code of each host of a program in an order that waits less, by host. `places` has for each slot the place of its protocol in the
-/// list of all: a valid list of protocols.
+/// The code of each host of a program in an order that waits less, by host, at a valid assignment of protocols to its slots.
 pub fn split_early(
     alloc: Global,
     program: &Program,
-    places: &[u32],
+    protocols: &[Proto],
 ) -> Result<Items<Items<Instr>>, AllocError>
-    requires { IsRunnable program.now places.now }
-    ensures { IfOk result (AreEarlyCodes program.now places.now) }
+    requires { IsRunnable program.now protocols.now }
+    ensures { IfOk result (AreEarlyCodes program.now protocols.now) }
 {
     program.numbers_fit();
     let hosts = host_count(program);
-    let lines = joint_lines(alloc, program, places)?;
+    let lines = joint_lines(alloc, program, protocols)?;
     let lines = early_lines(alloc, hosts, lines)?;
     codes_of(alloc, hosts, lines.as_slice())
 }

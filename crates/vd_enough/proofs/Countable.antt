@@ -4,6 +4,7 @@ use Rattle.std.specs.Prelude.{All, IfOk}
 use Rattle.std.proofs.lemmas.List.{length-map}
 use Rattle.std.proofs.lemmas.List.FromFn.{get_or-map-range_with_len, length-map-range_with_len}
 use Rattle.sha2.specs.Sha256.{sha256}
+use Rattle.vd_base.specs.declared.protocols.Proto.{Proto}
 use Rattle.vd_base.specs.Limits.{most_hosts}
 use Rattle.vd_core.specs.declared.normal.NormalForm.{NormalForm}
 use Rattle.vd_core.specs.Facts.{IsWellMade}
@@ -17,7 +18,7 @@ use Rattle.vd_host_text.specs.Outcome.{digest}
 use Rattle.vd_hostcode.specs.Outcome.{CanRun, IsWithin}
 use Rattle.vd_hostcode.proofs.Outcomes.{can_run}
 use Rattle.vd_host_programs.specs.Programs.{host_codes, joint_of}
-use Rattle.vd_host_programs.proofs.HostCodes.{codes_can_be_loaded}
+use Rattle.vd_host_programs.proofs.HostCodes.{runnable_over, codes_can_be_loaded}
 use Rattle.vd_read_back.specs.Stored.{CanBeStored, stored_program}
 use Rattle.vd_read_back.proofs.Digests.{is_digest}
 use Rattle.vd_read_back.proofs.Files.{stored_programs_are_read_back}
@@ -39,7 +40,7 @@ of_can_run p runs =
     let few = runs.steps in
     record { nested = subst (IsCodeOf p.code) (sym same) runs.is_code; few = omega (arith, steps, few) }
 
-module _ (program : NormalForm) (list : List ℕ) (can : CanBeSplit program list) where
+module _ (program : NormalForm) (list : List Proto) (can : CanBeSplit program list) where
   abbrev pub hosts : ℕ
   hosts = length program.hosts
 
@@ -75,14 +76,14 @@ module _ (program : NormalForm) (list : List ℕ) (can : CanBeSplit program list
 
   -- the code of a host, as it is counted
   pub counted_code : (h : ℕ) → code_in (code h) ≡ code_of h (joint_of program list)
-  counted_code h = code_is (code h) (code_of h (joint_of program list)) (codes_can_be_loaded program list can.made h).nested
+  counted_code h = code_is (code h) (code_of h (joint_of program list)) (codes_can_be_loaded program list can.made (runnable_over program list can.made can.runnable) h).nested
 
 -- ---- the codes that were split off
 
-pub split_codes : (program : NormalForm) (list : List ℕ) → CanBeSplit program list → (codes : List (List Instr)) → codes ≡ host_codes program list → All IsCountable codes
+pub split_codes : (program : NormalForm) (list : List Proto) → CanBeSplit program list → (codes : List (List Instr)) → codes ≡ host_codes program list → All IsCountable codes
 split_codes program list can codes same = subst (λ (cs : List (List Instr)). All IsCountable cs) (sym same) (all_countable program list can)
 
-pub few_codes : (program : NormalForm) (list : List ℕ) → IsWellMade program → (codes : List (List Instr)) → codes ≡ host_codes program list → length codes ≤ most_hosts
+pub few_codes : (program : NormalForm) (list : List Proto) → IsWellMade program → (codes : List (List Instr)) → codes ≡ host_codes program list → length codes ≤ most_hosts
 few_codes program list made codes same =
     let n : length codes ≡ length program.hosts = ap (λ (cs : List (List Instr)). length cs) same ∙ length-map-range_with_len (λ h. text (code_of h (joint_of program list)) []) 0 (length program.hosts) in
     let limit = made.limits.hosts in

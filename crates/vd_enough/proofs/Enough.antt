@@ -4,6 +4,7 @@ use Rattle.std.specs.Prelude.{slice_get}
 use Rattle.std.proofs.lemmas.Bool.{cases_lt}
 use Rattle.std.proofs.lemmas.Bool.Decides.{eqb_tells}
 use Rattle.std.proofs.lemmas.Option.{slice_get_cases}
+use Rattle.vd_base.specs.declared.protocols.Proto.{Proto}
 use Rattle.vd_base.specs.HostSets.{host}
 use Rattle.vd_core.specs.declared.normal.NormalForm.{NormalForm}
 use Rattle.vd_deals.specs.declared.deal.Counts.{Counts}
@@ -46,7 +47,7 @@ none_least m = omega arith
 no_more : (n m i : ℕ) → n ≡ m → m ≡ 0 → i < n → ⊥
 no_more n m i e z lt = omega (arith, e, z, lt)
 
-module _ (program : NormalForm) (list : List ℕ) (can : CanBeSplit program list) where
+module _ (program : NormalForm) (list : List Proto) (can : CanBeSplit program list) where
   none_past : (h : ℕ) (r : Source) → hosts program list can ≤ h → counted program list can h r ≡ 0
   none_past h r le = ap (λ (c : Code). counts c r) (ended_past program list can.made can.numbers can.runnable h le)
 

@@ -5,6 +5,7 @@ use Rattle.std.proofs.lemmas.Bool.{cases_lt}
 use Rattle.std.proofs.lemmas.List.{get_or-map, length-map}
 use Rattle.std.proofs.lemmas.List.FromFn.{get_or-map-range_with_len, length-map-range_with_len}
 use Rattle.std.proofs.lemmas.Option.{slice_get_cases, slice_get_past}
+use Rattle.vd_base.specs.declared.protocols.Proto.{Proto}
 use Rattle.vd_core.specs.declared.normal.NormalForm.{NormalForm}
 use Rattle.vd_execution.specs.declared.instructions.Instr.{Instr}
 use Rattle.vd_execution.specs.Joint.{Joint, IsTidy, code_of}
@@ -41,7 +42,7 @@ module _ {X : Type 0} (f : X → List ℕ) (xs : List X) where
 
 -- ---- what hosts take
 
-module _ (program : NormalForm) (list : List ℕ) (can : CanBeSplit program list) where
+module _ (program : NormalForm) (list : List Proto) (can : CanBeSplit program list) where
   abbrev pub joint_code : Joint
   joint_code = joint_of program list
 

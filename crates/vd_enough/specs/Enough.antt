@@ -1,5 +1,6 @@
 -- Deals of given sizes, and what holds of those that have what the hosts of a program take.
 use Rattle.std.specs.Prelude.{◌≡◌, ◌≢◌, ◌≤◌, ◌<◌, ℕ, List, length, Some, slice_get}
+use Rattle.vd_base.specs.declared.protocols.Proto.{Proto}
 use Rattle.vd_core.specs.declared.normal.NormalForm.{NormalForm}
 use Rattle.vd_core.specs.Facts.{IsWellMade}
 use Rattle.vd_core.specs.Numbers.{NumbersFit}
@@ -22,11 +23,11 @@ use Rattle.vd_host_programs.specs.Programs.{IsRunnable, host_codes, joint_of}
 -- ---- what is taken, and how much to deal
 
 -- what the hosts of a program take at a list of protocols
-abbrev pub needs_for : NormalForm → List ℕ → List HostNeeds
+abbrev pub needs_for : NormalForm → List Proto → List HostNeeds
 needs_for program list = needs_of (host_codes program list)
 
 -- and how much to deal for them
-abbrev pub sizes_for : NormalForm → List ℕ → Counts
+abbrev pub sizes_for : NormalForm → List Proto → Counts
 sizes_for program list = sizes_of (needs_for program list)
 
 -- ---- deals of given sizes
@@ -69,14 +70,14 @@ pub record SuffersNoWant (s : Supply) (j : Joint) : Type 0 where
   pub all_end : (turns : List ℕ) → IsStuck s (reached s j turns) → reached s j turns ≡ at_end (last_of s j)
 
 -- With all inputs that are enough, each consistent deal of all hosts that has these sizes is.
-abbrev pub AreEnough : NormalForm → List ℕ → Type 0
+abbrev pub AreEnough : NormalForm → List Proto → Type 0
 AreEnough program list =
     (inputs : List (List ℕ)) (deals : List Deal) → AreFiles inputs deals → length deals ≡ length program.hosts
     → HandInEnough (joint_of program list) inputs → HasSizes (sizes_for program list) deals
     → SuffersNoWant (supply_of_files inputs deals) (joint_of program list)
 
 -- Where no branch takes differently, each deal that suffices has these sizes.
-abbrev pub AreLeast : NormalForm → List ℕ → Type 0
+abbrev pub AreLeast : NormalForm → List Proto → Type 0
 AreLeast program list =
     IsEven (joint_of program list) → (inputs : List (List ℕ)) (deals : List Deal) (others : Counts) → AreFiles inputs deals → length deals ≡ length program.hosts
     → IsWithinSizes others deals → Suffices (supply_of_files inputs deals) (last_of (supply_of_files inputs deals) (joint_of program list))
@@ -85,16 +86,16 @@ AreLeast program list =
 -- ---- as laws
 
 -- a well-made program whose numbers are words, and a valid list of protocols
-pub record CanBeSplit (program : NormalForm) (list : List ℕ) : Type 0 where
+pub record CanBeSplit (program : NormalForm) (list : List Proto) : Type 0 where
   pub made : IsWellMade program
   pub numbers : NumbersFit program
   pub runnable : IsRunnable program list
 
 abbrev pub SizesAreEnough : Type 0
-SizesAreEnough = (program : NormalForm) (list : List ℕ) → CanBeSplit program list → AreEnough program list
+SizesAreEnough = (program : NormalForm) (list : List Proto) → CanBeSplit program list → AreEnough program list
 
 abbrev pub SizesAreLeast : Type 0
-SizesAreLeast = (program : NormalForm) (list : List ℕ) → CanBeSplit program list → AreLeast program list
+SizesAreLeast = (program : NormalForm) (list : List Proto) → CanBeSplit program list → AreLeast program list
 
 abbrev pub DealsHaveTheirSizes : Type 0
 DealsHaveTheirSizes = (sizes : Counts) → AreMade sizes

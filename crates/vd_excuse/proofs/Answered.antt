@@ -1,8 +1,12 @@
 -- What the call comes to.
-use Rattle.std.proofs.Common.{◌≡◌, ℕ, ◌-◌, ◌<◌, List, Option, Some, None, Result, Ok, Err, IfOk, refl, sym, ap, ap₂, subst, ◌∙◌, arith}
+use Rattle.std.proofs.Common.{◌≡◌, ℕ, ◌-◌, ◌<◌, List, Option, Some, None, map, Result, Ok, Err, IfOk, refl, sym, ap, ap₂, subst, ◌∙◌, arith}
 use Rattle.vd_base.specs.declared.ids.HostId.{HostId}
+use Rattle.vd_base.specs.declared.protocols.Proto.{Proto}
 use Rattle.vd_core.specs.declared.normal.NormalForm.{NormalForm}
 use Rattle.vd_constraints.specs.declared.labels.Labels.{Labels}
+use Rattle.vd_space.specs.declared.problem.Problem.{Problem}
+use Rattle.vd_space.specs.Reading.{problem_of}
+use Rattle.vd_space.specs.Validity.{protocol}
 use Rattle.vd_deals.specs.declared.deal.Deal.{Deal}
 use Rattle.vd_deals.specs.declared.deal.DealKind.{DealKind}
 use Rattle.vd_tape.specs.Text.{AreDealsOf}
@@ -20,7 +24,7 @@ use Rattle.vd_walking.specs.declared.explaining.Walked.{Walked}
 use Rattle.vd_walking.specs.Claims.{EndsWithin, HaveSameShape, end_of}
 use Rattle.vd_walking.specs.Files.{file_tape, first_short}
 use Rattle.vd_excuse.specs.declared.fault.ViewFault.TheVariants.{Short, Differ}
-use Rattle.vd_excuse.specs.Excuse.{AreAsked, HasWalked, IsExcused, fault_at, fault_of}
+use Rattle.vd_excuse.specs.Excuse.{AreAsked, HasWalked, IsExcused, IsOfTwoAt, fault_at, fault_of}
 use Rattle.vd_excuse.proofs.Stored.{are_excused}
 
 module _ (p : NormalForm) (l : Labels) (list : List ℕ) (of_two : IsOfTwo p l list) (h : HostId) (low : h.0 < 2) (first second : List (List ℕ)) (deals : List Deal) (asked : AreAsked first second deals)
@@ -67,13 +71,18 @@ module _ (p : NormalForm) (l : Labels) (list : List ℕ) (of_two : IsOfTwo p l l
         excuse = excused_files_explain p l list of_two h low first second (let two = asked.all_second in omega (arith, two)) agree deals walked.deals enough has.steps has.lead are;
       }
 
+-- the protocols have these places in the list of a program's problem
+pub stands : (p : NormalForm) (l : Labels) (problem : Problem) (places : List ℕ) (protocols : List Proto) → IsOfTwo p l places → protocols ≡ map (protocol problem) places → problem ≡ problem_of p l
+    → IsOfTwoAt p l places protocols
+stands p l problem places protocols two named same = record { two = two; named = named ∙ ap (λ (q : Problem). map (protocol q) places) same }
+
 -- both runs were gone along
-pub has_walked : {E : Type 0} (p : NormalForm) (list : List ℕ) (h : HostId) (first second : List (List ℕ)) (deals : List Deal) (steps : List Step) (r : Result Walked E)
-    → ((l : Labels) → IsOfTwo p l list → LeadTo steps (plan_of p l list)) → IfOk r (λ out. out.short ≡ first_short deals (end_of h steps first second deals).first)
+pub has_walked : {E : Type 0} (p : NormalForm) (protocols : List Proto) (h : HostId) (first second : List (List ℕ)) (deals : List Deal) (steps : List Step) (r : Result Walked E)
+    → ((l : Labels) (places : List ℕ) → IsOfTwoAt p l places protocols → LeadTo steps (plan_of p l places)) → IfOk r (λ out. out.short ≡ first_short deals (end_of h steps first second deals).first)
     → IfOk r (λ out. HaveSameShape deals out.deals) → IfOk r (λ out. EndsWithin deals (end_of h steps first second deals) → file_tape second out.deals ≡ (end_of h steps first second deals).deal)
-    → IfOk r (λ out. (l : Labels) → IsOfTwo p l list → HasWalked h (plan_of p l list) first second deals out)
-has_walked p list h first second deals steps (Ok out) lead short same deal = λ l of. record { steps = steps; lead = lead l of; short = short; same = same; deal = deal }
-has_walked p list h first second deals steps (Err e) lead short same deal = tt
+    → IfOk r (λ out. (l : Labels) (places : List ℕ) → IsOfTwoAt p l places protocols → HasWalked h (plan_of p l places) first second deals out)
+has_walked p protocols h first second deals steps (Ok out) lead short same deal = λ l places at. record { steps = steps; lead = lead l places at; short = short; same = same; deal = deal }
+has_walked p protocols h first second deals steps (Err e) lead short same deal = tt
 
 pub none_left : {T : Type 0} (o : Option T) → ((x : T) → o ≡ Some x → ⊥) → o ≡ None
 none_left None f = refl

@@ -1,10 +1,12 @@
 -- The deal that explains other inputs to a host, or why there is none.
-use Rattle.std.specs.Prelude.{◌≡◌, ◌≢◌, ℕ, List, Option, Some, None, length, Result, IfOk, IfErr}
+use Rattle.std.specs.Prelude.{◌≡◌, ◌≢◌, ℕ, List, Option, Some, None, length, map, Result, IfOk, IfErr}
 use Rattle.vd_base.specs.declared.ids.HostId.{HostId}
+use Rattle.vd_base.specs.declared.protocols.Proto.{Proto}
 use Rattle.vd_core.specs.declared.normal.NormalForm.{NormalForm}
 use Rattle.vd_constraints.specs.declared.labels.Labels.{Labels}
 use Rattle.vd_space.specs.declared.problem.Problem.{Problem}
 use Rattle.vd_space.specs.Reading.{problem_of}
+use Rattle.vd_space.specs.Validity.{protocol}
 use Rattle.vd_deals.specs.declared.deal.Deal.{Deal}
 use Rattle.vd_deals.specs.declared.deal.DealKind.{DealKind}
 use Rattle.vd_deals.specs.Validity.{IsConsistent}
@@ -23,6 +25,11 @@ use Rattle.vd_walking.specs.Claims.{EndsWithin, HaveSameShape, end_of}
 use Rattle.vd_walking.specs.Files.{file_tape, first_short}
 use Rattle.vd_excuse.specs.declared.fault.ViewFault.{ViewFault}
 use Rattle.vd_excuse.specs.declared.fault.ViewFault.TheVariants.{Short, Differ, Memory}
+
+-- a program of two hosts at protocols, none of them a commitment, which have these places in the list of all
+pub record IsOfTwoAt (p : NormalForm) (l : Labels) (places : List ℕ) (protocols : List Proto) : Type 0 where
+  pub two : IsOfTwo p l places
+  pub named : protocols ≡ map (protocol (problem_of p l)) places
 
 -- a kind that is short, or else a place at which what is known differs
 abbrev pub fault_of : Option DealKind → Option ℕ → Option ViewFault

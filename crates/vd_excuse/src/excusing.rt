@@ -1,17 +1,18 @@
 //! Both runs of a program, and what explains the second one.
 
-ghost use Rattle.std.specs.Prelude.{◌≡◌, ◌<◌, IfOk};
+ghost use Rattle.std.specs.Prelude.{◌≡◌, ◌<◌, IfOk, List, map, ℕ};
 ghost use Rattle.vd_constraints.specs.declared.labels.Labels.{Labels};
 ghost use Rattle.vd_space.specs.Reading.{problem_of};
+ghost use Rattle.vd_space.specs.Validity.{protocol};
 ghost use Rattle.vd_hearing.specs.Difference.{view_difference as difference};
 ghost use Rattle.vd_host_programs.specs.Programs.{IsRunnable};
-ghost use Rattle.vd_program_views.specs.Explained.{IsOfTwo, plan_of};
-ghost use Rattle.vd_excuse.specs.Excuse.{AreAsked, Excuses, HasWalked, Refuses};
+ghost use Rattle.vd_program_views.specs.Explained.{plan_of};
+ghost use Rattle.vd_excuse.specs.Excuse.{AreAsked, Excuses, HasWalked, IsOfTwoAt, Refuses};
 
 use crate::fault::ViewFault;
 use crate::lines::steps_at;
 use std::alloc::{AllocError, Global};
-use vd_base::{HostId, Inputs};
+use vd_base::{HostId, Inputs, Proto};
 use vd_core::Program;
 use vd_deals::Deals;
 use vd_hearing::{Listener, view_difference};
@@ -19,8 +20,8 @@ use vd_spaces::Space;
 use vd_walking::{Walked, walk};
 
 /// Deals that explain other inputs to a host: they are consistent, as long as the deals of the first inputs, and the host's own is the
-/// same; and by them it sees of the second inputs what it sees of the first. `places` has for each slot the place of its protocol in
-/// the list of all: a valid list of protocols, none of them a commitment. The first run takes inputs and items past the end of a list
+/// same; and by them it sees of the second inputs what it sees of the first. The protocols are a valid assignment, none of them a
+/// commitment, and `places` has the place of each in the list of the space. The first run takes inputs and items past the end of a list
 /// as zeros.
 ///
 /// It is refused where the first run takes more items of a kind than a host was dealt, the kinds being looked at in their order; and then
@@ -29,6 +30,7 @@ pub fn excuse(
     alloc: Global,
     program: &Program,
     space: &Space,
+    protocols: &[Proto],
     places: &[u32],
     host: HostId,
     first: &Inputs,
@@ -36,12 +38,13 @@ pub fn excuse(
     deals: &Deals,
 ) -> Result<Deals, ViewFault>
     requires host { host.0 < 2 }
-    requires runnable { IsRunnable program.now places.now }
+    requires runnable { IsRunnable program.now protocols.now }
+    requires named { protocols.now ≡ map (protocol space.now) places.now }
     requires asked { AreAsked first.now second.now deals.now }
     ensures ok { Excuses program.now space.now places.now host first.now second.now deals.now result }
     ensures err { Refuses program.now space.now places.now host first.now second.now deals.now result }
 {
-    let walked = walk_both(alloc, program, places, host, first, second, deals)?;
+    let walked = walk_both(alloc, program, protocols, host, first, second, deals)?;
     if let Some(kind) = walked.short {
         return Err(ViewFault::Short(kind));
     }
@@ -55,19 +58,19 @@ pub fn excuse(
 fn walk_both(
     alloc: Global,
     program: &Program,
-    places: &[u32],
+    protocols: &[Proto],
     host: HostId,
     first: &Inputs,
     second: &Inputs,
     deals: &Deals,
 ) -> Result<Walked, AllocError>
     requires host { host.0 < 2 }
-    requires runnable { IsRunnable program.now places.now }
+    requires runnable { IsRunnable program.now protocols.now }
     requires asked { AreAsked first.now second.now deals.now }
-    ensures { IfOk result (λ walked. (l : Labels) → IsOfTwo program.now l places.now →
-        HasWalked host (plan_of program.now l places.now) first.now second.now deals.now walked) }
+    ensures { IfOk result (λ walked. (l : Labels) (places : List ℕ) → IsOfTwoAt program.now l places protocols.now →
+        HasWalked host (plan_of program.now l places) first.now second.now deals.now walked) }
 {
-    let steps = steps_at(alloc, program, places)?;
+    let steps = steps_at(alloc, program, protocols)?;
     walk(alloc, host, &steps, first, second, deals)
 }
 

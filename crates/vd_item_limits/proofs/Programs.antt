@@ -1,5 +1,6 @@
 -- How many items the hosts of a program take.
 use Rattle.std.proofs.Common.{◌≡◌, ℕ, ◌*◌, ◌≤◌, List, length, refl, sym, ap, subst, arith}
+use Rattle.vd_base.specs.declared.protocols.Proto.{Proto}
 use Rattle.vd_base.specs.Limits.{most_deal_items}
 use Rattle.vd_core.specs.declared.normal.NormalForm.{NormalForm}
 use Rattle.vd_core.specs.Facts.{weigh_all, weigh_step, weight_sum}
@@ -9,9 +10,9 @@ use Rattle.vd_joint.specs.Block.{block_of}
 use Rattle.vd_joint.specs.Emission.{Emission, block_emission, emitting_at_start, in_turn, stmt_emission}
 use Rattle.vd_joint.proofs.Folds.{fold_each}
 use Rattle.vd_needing.specs.Needs.{takes}
+use Rattle.vd_split.specs.Offer.{proto_in}
 use Rattle.vd_suite.specs.Parts.{suite_calls}
-use Rattle.vd_host_programs.specs.Programs.{protos_at}
-use Rattle.vd_host_programs.proofs.HostCodes.{places_over}
+use Rattle.vd_host_programs.proofs.HostCodes.{proto_over, runnable_over}
 use Rattle.vd_statement_limits.specs.Statements.{all_of}
 use Rattle.vd_statement_limits.proofs.Programs.{statements_make_few}
 use Rattle.vd_enough.specs.Enough.{CanBeSplit}
@@ -34,12 +35,12 @@ items_are_few program proto made over h r =
     few : (t a b : ℕ) → 1 * t ≤ 1024 * a → a ≡ b → t ≤ 1024 * b
     few t a b p e = omega (arith, p, e)
 
-module _ (program : NormalForm) (list : List ℕ) (can : CanBeSplit program list) where
+module _ (program : NormalForm) (list : List Proto) (can : CanBeSplit program list) where
   -- at the list's protocols
   pub few_at : (h : ℕ) (r : Source) → counted program list can h r ≤ most_items * weight_sum program.body
   few_at h r =
       let all = taken program list can h r in
-      at _ _ _ all (items_are_few program (protos_at program list) can.made (places_over program list can.made) h r)
+      at _ _ _ all (items_are_few program (proto_in list) can.made (proto_over program list can.made (runnable_over program list can.made can.runnable)) h r)
     where
       at : (t c n : ℕ) → t ≡ c → t ≤ n → c ≤ n
       at t c n e p = omega (arith, e, p)

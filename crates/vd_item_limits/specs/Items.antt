@@ -25,4 +25,4 @@ most_executed = 1024
 
 abbrev pub SmallProgramsCanBeDealt : Type 0
 SmallProgramsCanBeDealt =
-    (program : NormalForm) (list : List ℕ) → CanBeSplit program list → weight_sum program.body ≤ most_executed → AreCounts (sizes_for program list)
+    (program : NormalForm) (list : List Proto) → CanBeSplit program list → weight_sum program.body ≤ most_executed → AreCounts (sizes_for program list)

@@ -6,6 +6,7 @@ use Rattle.std.proofs.lemmas.Map.Keys.{IsDistinct-head, IsDistinct-tail}
 use Rattle.std.specs.Prelude.{flat_map}
 use Rattle.std.specs.List.{AllByRecursion, IsDistinct, list_all, range_with_len, sum}
 use Rattle.std.specs.Str.{bytes_eq}
+use Rattle.vd_base.specs.declared.protocols.Proto.{Proto}
 use Rattle.vd_base.specs.HostSets.{host}
 use Rattle.vd_base.specs.Lexical.{is_name}
 use Rattle.vd_base.specs.Names.{is_among}
@@ -21,6 +22,7 @@ use Rattle.vd_schedules.proofs.Taking.{within}
 use Rattle.vd_joint.specs.Block.{block_of}
 use Rattle.vd_joint.specs.Emission.{Emission, block_emission, emitting_at_start, in_turn, stmt_emission}
 use Rattle.vd_joint.proofs.Folds.{fold_each}
+use Rattle.vd_split.specs.Offer.{proto_in}
 use Rattle.vd_suite.specs.Given.{zero_deal}
 use Rattle.vd_suite.specs.Parts.{suite_calls}
 use Rattle.vd_suite.specs.Whole.{plan_at, inputs_of}
@@ -30,10 +32,9 @@ use Rattle.vd_host_text.specs.declared.program.HostProgram.{HostProgram}
 use Rattle.vd_host_text.specs.Text.{name_field, program_text}
 use Rattle.vd_host_text.specs.File.{AreNew}
 use Rattle.vd_hostcode.proofs.Outcomes.{all_within, written_is_read}
-use Rattle.vd_host_programs.specs.Programs.{protos_at, joint_of, host_codes}
-use Rattle.vd_host_programs.proofs.HostCodes.{places_over, no_words, codes_can_be_loaded, codes_run_as_told, ended_past}
-use Rattle.vd_core.specs.Numbers.{numbers_fit}
-use Rattle.vd_read_back.specs.Stored.{stored_program, CanBeStored, StandsInAFile, StoredProgramsStandInFiles, StoredProgramsAreReadBack, StoredTextsAreShort}
+use Rattle.vd_host_programs.specs.Programs.{joint_of, host_codes}
+use Rattle.vd_host_programs.proofs.HostCodes.{proto_over, runnable_over, no_words, codes_can_be_loaded, codes_run_as_told, ended_past}
+use Rattle.vd_read_back.specs.Stored.{stored_program, count_fits, CanBeStored, StandsInAFile, StoredProgramsStandInFiles, StoredProgramsAreReadBack, StoredTextsAreShort}
 use Rattle.vd_read_back.proofs.Numbers.{both}
 use Rattle.vd_read_back.proofs.Registers.{all_hold, plan_below}
 use Rattle.vd_read_back.proofs.FewBlocks.{BlockIsSmall, counted, weight_of, cells_in, emission_of, block_small}
@@ -98,21 +99,21 @@ code_at f k (suc n) (suc h) lt = code_at f (k + 1) n h (omega (arith, lt)) ∙ a
     same : (k h : ℕ) → k + 1 + h ≡ k + suc h
     same k h = omega arith
 
-module _ (program : NormalForm) (places : List ℕ) (plan : Digest) (h : ℕ) (can : CanBeStored program places plan h) where
+module _ (program : NormalForm) (protocols : List Proto) (plan : Digest) (h : ℕ) (can : CanBeStored program protocols plan h) where
   abbrev hosts : ℕ
   hosts = length program.hosts
 
   abbrev gadgets : Plan Gadget
-  gadgets = plan_at (protos_at program places) program
+  gadgets = plan_at (proto_in protocols) program
 
   abbrev code : Code
-  code = code_of h (joint_of program places)
+  code = code_of h (joint_of program protocols)
 
   -- the emission of the program is that of its block
-  small : BlockIsSmall hosts (protos_at program places) can.made.limits.hosts (block_of program.body) ((block_emission (suite_calls hosts) (protos_at program places) program.body).emit (emitting_at_start (suite_calls hosts) (protos_at program places)))
+  small : BlockIsSmall hosts (proto_in protocols) can.made.limits.hosts (block_of program.body) ((block_emission (suite_calls hosts) (proto_in protocols) program.body).emit (emitting_at_start (suite_calls hosts) (proto_in protocols)))
   small =
       let s = suite_calls hosts in
-      let proto = protos_at program places in
+      let proto = proto_in protocols in
       let b = block_of program.body in
       let few = can.made.limits.hosts in
       let sizes : cells_in b ≡ cell_count program.body = sym (ap sum (fold_each cells_step program.body)) in
@@ -127,18 +128,18 @@ module _ (program : NormalForm) (places : List ℕ) (plan : Digest) (h : ℕ) (c
   tidy : PlanIsTidy gadgets
   tidy =
       let zeros = zero_deals_are_valid (inputs_of []) no_words in
-      (codes_run_as_told program places can.made can.numbers can.runnable [] no_words (zero_deal (inputs_of [])) zeros.0 zeros.1).plan_tidy
+      (codes_run_as_told program protocols can.made can.numbers can.runnable [] no_words (zero_deal (inputs_of [])) zeros.0 zeros.1).plan_tidy
 
-  all_declared : Within (parts_below hosts) (joint_of program places)
-  all_declared = within (parts_below hosts) (joint_of program places) (λ k has. at k has (cases_lt k hosts))
+  all_declared : Within (parts_below hosts) (joint_of program protocols)
+  all_declared = within (parts_below hosts) (joint_of program protocols) (λ k has. at k has (cases_lt k hosts))
     where
-      at : (k : ℕ) → (code_of k (joint_of program places) ≡ Finished → ⊥) → (k < hosts) ⊎ (hosts ≤ k) → TakesPart (parts_below hosts) k
+      at : (k : ℕ) → (code_of k (joint_of program protocols) ≡ Finished → ⊥) → (k < hosts) ⊎ (hosts ≤ k) → TakesPart (parts_below hosts) k
       at k has (inl lt) = takes_below hosts k lt
-      at k has (inr le) = absurd (has (ended_past program places can.made can.numbers can.runnable k le))
+      at k has (inr le) = absurd (has (ended_past program protocols can.made can.numbers can.runnable k le))
 
   stands : AllCanStand hosts h code
   stands =
-      let below = plan_below program (protos_at program places) can.made (places_over program places can.made) in
+      let below = plan_below program (proto_in protocols) can.made (proto_over program protocols can.made (runnable_over program protocols can.made can.runnable)) in
       plan_stands hosts can.made.limits.hosts h below.0 (parts_below hosts) (λ k t. below_takes hosts k t) gadgets below.1 tidy small.plan (plan_within (parts_below hosts) gadgets all_declared)
 
   few_steps : weight code ≤ 4294967295
@@ -157,7 +158,7 @@ module _ (program : NormalForm) (places : List ℕ) (plan : Digest) (h : ℕ) (c
 
   text_stands : StandsInAFile (with_code (text code []))
   text_stands =
-      let loaded = codes_can_be_loaded program places can.made h in
+      let loaded = codes_can_be_loaded program protocols can.made (runnable_over program protocols can.made can.runnable) h in
       record {
         file = record {
           names = names_new program.hosts can.made.hosts;
@@ -194,27 +195,27 @@ module _ (program : NormalForm) (places : List ℕ) (plan : Digest) (h : ℕ) (c
       within_file n le = omega (arith, le)
 
   -- the host's part of what the splitter makes
-  is_part : slice_index_or (host_codes program places) h [] ≡ text code []
+  is_part : slice_index_or (host_codes program protocols) h [] ≡ text code []
   is_part =
-      let each : ℕ → List Instr = λ k. text (code_of k (joint_of program places)) [] in
+      let each : ℕ → List Instr = λ k. text (code_of k (joint_of program protocols)) [] in
       code_at each 0 hosts h can.declared ∙ ap each (none h)
     where
       none : (h : ℕ) → 0 + h ≡ h
       none h = omega arith
 
-  pub stands_in_a_file : StandsInAFile (stored_program program places plan h)
+  pub stands_in_a_file : StandsInAFile (stored_program program protocols plan h)
   stands_in_a_file = subst (λ (is : List Instr). StandsInAFile (with_code is)) (sym is_part) text_stands
 
-  pub is_short : length (flat_map name_field program.hosts) ≤ 65536 → length (program_text (stored_program program places plan h)) ≤ 67108864
+  pub is_short : length (flat_map name_field program.hosts) ≤ 65536 → length (program_text (stored_program program protocols plan h)) ≤ 67108864
   is_short names = subst (λ (is : List Instr). length (program_text (with_code is)) ≤ 67108864) (sym is_part) (text_is_short names)
 
 pub stored_programs_stand_in_files : StoredProgramsStandInFiles
-stored_programs_stand_in_files program places plan h can = stands_in_a_file program places plan h can
+stored_programs_stand_in_files program protocols plan h can = stands_in_a_file program protocols plan h can
 
 pub stored_programs_are_read_back : StoredProgramsAreReadBack
-stored_programs_are_read_back program places plan h can =
-    let stands = stands_in_a_file program places plan h can in
-    written_is_read (stored_program program places plan h) stands.file stands.within
+stored_programs_are_read_back program protocols plan h can =
+    let stands = stands_in_a_file program protocols plan h can in
+    written_is_read (stored_program program protocols plan h) stands.file stands.within
 
 pub stored_texts_are_short : StoredTextsAreShort
-stored_texts_are_short program places plan h can names = is_short program places plan h can names
+stored_texts_are_short program protocols plan h can names = is_short program protocols plan h can names

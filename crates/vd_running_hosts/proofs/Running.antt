@@ -5,6 +5,7 @@ use Rattle.std.proofs.lemmas.List.{append-nil}
 use Rattle.std.proofs.lemmas.List.FromFn.{get_or-map-range_with_len, length-map-range_with_len}
 use Rattle.std.specs.List.{range_with_len}
 use Rattle.std.specs.Prelude.{drop, slice_get, slice_index_or}
+use Rattle.vd_base.specs.declared.protocols.Proto.{Proto}
 use Rattle.vd_base.specs.HostSets.{host}
 use Rattle.vd_base.specs.declared.ids.HostId.{HostId}
 use Rattle.vd_core.specs.declared.normal.NormalForm.{NormalForm}
@@ -23,14 +24,15 @@ use Rattle.vd_execution.specs.World.{Local, Supply, IsPrefixOf, IsShortAt, Tape,
 use Rattle.vd_schedules.specs.Claims.{RunsWell, Suffices, last_of}
 use Rattle.vd_execution.proofs.Puts.{same_or_not}
 use Rattle.vd_execution.proofs.Sound.{AreItem}
+use Rattle.vd_split.specs.Offer.{proto_in}
 use Rattle.vd_suite.specs.Whole.{RunsAsToldBy, inputs_of}
 use Rattle.vd_machine.specs.Kept.{Kept, at_start, state_of}
 use Rattle.vd_machine.specs.Machines.{item_or_none, items_of}
 use Rattle.vd_machine.specs.declared.lists.Lists.{Lists}
 use Rattle.vd_play.specs.Supplies.{items_for, lists_for, supply_of_files}
 use Rattle.vd_play.proofs.Supplies.{files_are_valid}
-use Rattle.vd_host_programs.specs.Programs.{joint_of, protos_at}
-use Rattle.vd_host_programs.proofs.HostCodes.{codes_can_be_loaded, codes_run_as_told, codes_run_well, ended_past}
+use Rattle.vd_host_programs.specs.Programs.{joint_of}
+use Rattle.vd_host_programs.proofs.HostCodes.{runnable_over, codes_can_be_loaded, codes_run_as_told, codes_run_well, ended_past}
 use Rattle.vd_host_text.specs.declared.program.Digest.{Digest}
 use Rattle.vd_read_back.specs.Stored.{CanBeStored, stored_program}
 use Rattle.vd_read_back.proofs.Files.{stored_programs_stand_in_files}
@@ -276,7 +278,7 @@ ended_well l events m come (Err (engine_fault.EndOfLink peer)) result w e well =
 
 -- ---- all hosts
 
-module _ (program : NormalForm) (list : List ℕ) (plan : Digest) (inputs : List (List ℕ)) (deals : List Deal) (run : ℕ → Run) (outputs : List (List ℕ)) (same : program_outputs program inputs ≡ outputs)
+module _ (program : NormalForm) (list : List Proto) (plan : Digest) (inputs : List (List ℕ)) (deals : List Deal) (run : ℕ → Run) (outputs : List (List ℕ)) (same : program_outputs program inputs ≡ outputs)
     (are : AreRunOverLinks program list plan inputs deals run) (one : ℕ) (base : CanBeStored program list plan one) where
   abbrev n : ℕ
   n = length program.hosts
@@ -308,7 +310,7 @@ module _ (program : NormalForm) (list : List ℕ) (plan : Digest) (inputs : List
   code_is h lt = get_or-map-range_with_len (λ k. text (code_of k j) []) 0 n h h [] lt (omega arith)
 
   is_code : (h : ℕ) → h < n → IsCodeOf (stored_program program list plan h).code (code_of h j)
-  is_code h lt = subst (λ (l : List Instr). IsCodeOf l (code_of h j)) (sym (code_is h lt)) (codes_can_be_loaded program list base.made h).nested
+  is_code h lt = subst (λ (l : List Instr). IsCodeOf l (code_of h j)) (sym (code_is h lt)) (codes_can_be_loaded program list base.made (runnable_over program list base.made base.runnable) h).nested
 
   abbrev code_at : (h : ℕ) → Place h → Code
   code_at h (inl lt) = (are.starts h lt).hastened.new_code
@@ -354,7 +356,7 @@ module _ (program : NormalForm) (list : List ℕ) (plan : Digest) (inputs : List
   prints h lt =
       let t : Tape = followed_by_zeros s in
       let valid = files_are_valid inputs deals are.files in
-      let told : RunsAsToldBy program (protos_at program list) inputs t = codes_run_as_told program list base.made base.numbers base.runnable inputs are.files.words t valid.0 valid.1 in
+      let told : RunsAsToldBy program (proto_in list) inputs t = codes_run_as_told program list base.made base.numbers base.runnable inputs are.files.words t valid.0 valid.1 in
       sym (get_or-map-range_with_len (λ (k : ℕ). (last_of s j k).printed) 0 n h h [] lt (omega arith)) ∙ ap (λ (o : List (List ℕ)). slice_index_or o h []) (told.prints ∙ same)
 
   -- ---- its links
@@ -511,7 +513,7 @@ module _ (program : NormalForm) (list : List ℕ) (plan : Digest) (inputs : List
   outputs_count =
       let t : Tape = followed_by_zeros s in
       let valid = files_are_valid inputs deals are.files in
-      let as_told : RunsAsToldBy program (protos_at program list) inputs t = codes_run_as_told program list base.made base.numbers base.runnable inputs are.files.words t valid.0 valid.1 in
+      let as_told : RunsAsToldBy program (proto_in list) inputs t = codes_run_as_told program list base.made base.numbers base.runnable inputs are.files.words t valid.0 valid.1 in
       ap (λ (o : List (List ℕ)). length o) (sym (as_told.prints ∙ same)) ∙ length-map-range_with_len (λ (k : ℕ). (last_of s j k).printed) 0 n
 
   -- ---- where all goes through, all end

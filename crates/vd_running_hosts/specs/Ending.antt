@@ -1,5 +1,6 @@
 -- When all hosts that are run end.
 use Rattle.std.specs.Prelude.{◌≡◌, ◌≢◌, ◌<◌, ℕ, List, length, Result, Ok, Err}
+use Rattle.vd_base.specs.declared.protocols.Proto.{Proto}
 use Rattle.vd_core.specs.declared.normal.NormalForm.{NormalForm}
 use Rattle.vd_deals.specs.declared.deal.Deal.{Deal}
 use Rattle.vd_schedules.specs.Claims.{Suffices, last_of}
@@ -21,7 +22,7 @@ IsUndisturbed other = Unit {0}
 
 -- Nothing outside failed, all that one host sent to another came there, and inputs and items suffice. So a host that found the end of a
 -- link has gone on as far as what was sent to it lets it.
-pub record GoesThrough (program : NormalForm) (list : List ℕ) (plan : Digest) (inputs : List (List ℕ)) (deals : List Deal) (run : ℕ → Run)
+pub record GoesThrough (program : NormalForm) (list : List Proto) (plan : Digest) (inputs : List (List ℕ)) (deals : List Deal) (run : ℕ → Run)
     (are : AreRunOverLinks program list plan inputs deals run) : Type 0 where
   pub undisturbed : (h : ℕ) → h < length program.hosts → IsUndisturbed (run h).result
   pub came : (a b : ℕ) (is_a : a < length program.hosts) (is_b : b < length program.hosts) → a ≢ b
@@ -30,6 +31,6 @@ pub record GoesThrough (program : NormalForm) (list : List ℕ) (plan : Digest) 
 
 -- Then all hosts of the program end well: they are never all waiting for bytes that nobody will send.
 abbrev pub RunningHostsEnd : Type 0
-RunningHostsEnd = (program : NormalForm) (list : List ℕ) (plan : Digest) (inputs : List (List ℕ)) (deals : List Deal) (run : ℕ → Run)
+RunningHostsEnd = (program : NormalForm) (list : List Proto) (plan : Digest) (inputs : List (List ℕ)) (deals : List Deal) (run : ℕ → Run)
     → (are : AreRunOverLinks program list plan inputs deals run) → GoesThrough program list plan inputs deals run are
     → (h : ℕ) → h < length program.hosts → (done : Ended) × ((run h).result ≡ Ok done)

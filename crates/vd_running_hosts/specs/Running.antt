@@ -1,5 +1,6 @@
 -- Programs that run over links: each host by itself, from its own files. Any of the programs may be hastened.
 use Rattle.std.specs.Prelude.{◌≡◌, ◌≢◌, ◌<◌, ◌+◌, ◌++◌, ℕ, IsTrue, List, [], Some, Result, Ok, Err, length, slice_get, slice_index_or}
+use Rattle.vd_base.specs.declared.protocols.Proto.{Proto}
 use Rattle.vd_core.specs.declared.normal.NormalForm.{NormalForm}
 use Rattle.vd_core.specs.declared.source.Source.{Source}
 use Rattle.vd_meaning.specs.ProgramMeaning.{program_outputs}
@@ -52,7 +53,7 @@ pub record IsHastenedProgram (own now : HostProgram) : Type 0 where
 
 -- it starts as the host with this number: from the program that `compile` stores for it or from a hastened one, its inputs and its deal,
 -- with an address for each other host
-pub record StartsAs (program : NormalForm) (list : List ℕ) (plan : Digest) (inputs : List (List ℕ)) (deals : List Deal) (h : ℕ)
+pub record StartsAs (program : NormalForm) (list : List Proto) (plan : Digest) (inputs : List (List ℕ)) (deals : List Deal) (h : ℕ)
     (run : Run) : Type 0 where
   pub addresses : List (List ℕ)
   pub deal : Deal
@@ -64,7 +65,7 @@ pub record StartsAs (program : NormalForm) (list : List ℕ) (plan : Digest) (in
 
 -- All hosts of a program at a valid list of protocols are run, each from its own files, on inputs and a consistent deal. All links tell
 -- their bytes, and what came to one host on its link to another is a prefix of what that one sent there. Nothing is said of when.
-pub record AreRunOverLinks (program : NormalForm) (list : List ℕ) (plan : Digest) (inputs : List (List ℕ)) (deals : List Deal)
+pub record AreRunOverLinks (program : NormalForm) (list : List Proto) (plan : Digest) (inputs : List (List ℕ)) (deals : List Deal)
     (run : ℕ → Run) : Type 0 where
   pub stored : (h : ℕ) → h < length program.hosts → CanBeStored program list plan h
   pub files : AreFiles inputs deals
@@ -100,6 +101,6 @@ pub record WritesWhatItIsTold (words : List ℕ) (run : Run) : Type 0 where
 
 -- So do all hosts of a program that tells them what a source tells them.
 abbrev pub RunningHostsTellTheSource : Type 0
-RunningHostsTellTheSource = (source : Source) (program : NormalForm) (list : List ℕ) (plan : Digest) (inputs : List (List ℕ)) (deals : List Deal) (run : ℕ → Run)
+RunningHostsTellTheSource = (source : Source) (program : NormalForm) (list : List Proto) (plan : Digest) (inputs : List (List ℕ)) (deals : List Deal) (run : ℕ → Run)
     → program_outputs program inputs ≡ source_outputs source inputs → AreRunOverLinks program list plan inputs deals run
     → (h : ℕ) → h < length program.hosts → WritesWhatItIsTold (slice_index_or (source_outputs source inputs) h []) (run h)

@@ -1,5 +1,5 @@
 -- The let-normal form of the source, and what it keeps.
-use Rattle.std.proofs.Common.{◌≡◌, ◌<◌, ◌≤◌, ℕ, zero, suc, Bool, ◌&&◌, true, List, [], ◌∷◌, map, codes, None, length, slice_index_or, refl, sym, ap, ◌∙◌, subst, rules, arith}
+use Rattle.std.proofs.Common.{◌≡◌, ◌<◌, ◌≤◌, ℕ, zero, suc, Bool, ◌&&◌, true, List, [], ◌∷◌, map, codes, None, slice_index_or, refl, sym, ap, subst, rules, arith}
 use Rattle.std.specs.List.{IsDistinct}
 use Rattle.std.specs.Str.{bytes_eq}
 use Rattle.vd_base.specs.Lexical.{is_name, keywords}
@@ -12,7 +12,8 @@ use Rattle.vd_formula.specs.TruthTable.{TruthTable, formula_where}
 use Rattle.vd_constraints.specs.Rules.{label as host_label_of}
 use Rattle.vd_space.specs.declared.problem.Problem.{Problem}
 use Rattle.vd_space.specs.Reading.{Read, all_parts, problem_of, read_step, read_stmt}
-use Rattle.vd_space.specs.Validity.{is_valid}
+use Rattle.vd_space.specs.Validity.{is_valid, protocol}
+use Rattle.vd_cheapest.specs.Cheapest.{IsAssignment}
 use Rattle.vd_base.specs.declared.ids.SlotId.{SlotId}
 use Rattle.vd_base.specs.HostSets.{host}
 use Rattle.vd_base.specs.declared.form.Form as form
@@ -163,7 +164,6 @@ well_made = record {
 pub numbers : NumbersFit program
 numbers = search (rules, stmts.the_lemmas)
 
-
 -- whom A acts for
 abbrev mine : Label
 mine = record { conf = record { names = 1; truths = 2 }; integ = record { names = 1; truths = 2 } }
@@ -195,12 +195,19 @@ problem = problem_with (mine ∷ mine ∷ []) (read_step labels (Stmt-F.Let slot
 problem_is : problem_of program labels ≡ problem
 problem_is = λ i. problem_with (host_labels_are i) (read_is i)
 
-valid : is_valid problem list ≡ true
+valid : is_valid problem (0 ∷ []) ≡ true
 unfolding lib.Count.ones
 valid = refl
 
+named : list ≡ map (protocol problem) (0 ∷ [])
+unfolding lib.Count.ones
+named = refl
+
+assignment : IsAssignment problem list
+assignment = record { places = 0 ∷ []; is_valid = record { whole = refl; valid = valid }; named = named }
+
 pub runnable : IsRunnable program list
-runnable = record { labels = labels; whole = refl; valid = ap (λ (p : Problem). is_valid p list) problem_is ∙ valid }
+runnable = record { labels = labels; assignment = subst (λ (p : Problem). IsAssignment p list) (sym problem_is) assignment }
 
 -- host a takes its input and sends it, host b prints it
 abbrev pub joint : Joint

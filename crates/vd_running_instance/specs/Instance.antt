@@ -1,11 +1,12 @@
 -- Two hosts that run over links: one sends the other its input.
-use Rattle.std.specs.Prelude.{◌≡◌, ℕ, zero, suc, ◌+◌, true, false, List, [], ◌∷◌, ◌++◌, codes, Some, None, Result, Ok, slice_index_or, replicate}
+use Rattle.std.specs.Prelude.{◌≡◌, ℕ, zero, suc, ◌+◌, true, false, List, [], ◌∷◌, ◌++◌, codes, None, Result, Ok, slice_index_or, replicate}
 use Rattle.vd_base.specs.declared.ids.Span.{Span}
+use Rattle.vd_base.specs.declared.protocols.Proto.{Proto}
+use Rattle.vd_base.specs.declared.protocols.Proto.TheVariants.{Local}
 use Rattle.vd_base.specs.HostSets.{host}
 use Rattle.vd_core.specs.declared.source.Ident.{Ident}
 use Rattle.vd_core.specs.declared.source.WrittenForm as written
 use Rattle.vd_core.specs.declared.source.WrittenLabel.{WrittenLabel}
-use Rattle.vd_core.specs.declared.source.Host.{Host}
 use Rattle.vd_core.specs.declared.source.Expr as expr
 use Rattle.vd_core.specs.declared.source.Statement as statement
 use Rattle.vd_core.specs.declared.source.Source.{Source}
@@ -56,8 +57,8 @@ source = record {
 -- ---- what the hosts are given
 
 -- the word stands at host a
-abbrev pub list : List ℕ
-list = 0 ∷ []
+abbrev pub list : List Proto
+list = Local (host 0) ∷ []
 
 abbrev pub plan : Digest
 plan = record { bytes = replicate 32 5 }

@@ -3,6 +3,7 @@ use Rattle.std.proofs.Common.{◌≡◌, ◌⊎◌, inl, inr, ℕ, ◌<◌, ◌�
 use Rattle.std.proofs.lemmas.Bool.{cases_lt}
 use Rattle.std.proofs.lemmas.List.FromFn.{get_or-map-range_with_len}
 use Rattle.std.specs.Prelude.{slice_get}
+use Rattle.vd_base.specs.declared.protocols.Proto.{Proto}
 use Rattle.vd_core.specs.declared.normal.NormalForm.{NormalForm}
 use Rattle.vd_deals.specs.declared.deal.Deal.{Deal}
 use Rattle.vd_execution.specs.declared.instructions.Instr.{Instr}
@@ -17,7 +18,7 @@ use Rattle.vd_machine.specs.Machines.{items_of}
 use Rattle.vd_engine.specs.Drives.{Sessions}
 use Rattle.vd_engine.specs.Enough.{IsEnough}
 use Rattle.vd_host_programs.specs.Programs.{joint_of}
-use Rattle.vd_host_programs.proofs.HostCodes.{codes_can_be_loaded, codes_run_well, ended_past}
+use Rattle.vd_host_programs.proofs.HostCodes.{runnable_over, codes_can_be_loaded, codes_run_well, ended_past}
 use Rattle.vd_host_text.specs.declared.program.Digest.{Digest}
 use Rattle.vd_play.specs.Supplies.{AreFiles, items_for, lists_for, supply_of_files}
 use Rattle.vd_play.proofs.Supplies.{files_are_valid}
@@ -37,7 +38,7 @@ same_reading a b e = cc e
 one_code : (list : List Instr) (a b : Code) → IsCodeOf list a → IsCodeOf list b → a ≡ b
 one_code list a b is are = ap (λ (r : Reading). r.code) (same_reading _ _ (sym is ∙ are))
 
-module _ (program : NormalForm) (list : List ℕ) (plan : Digest) (inputs : List (List ℕ)) (deals : List Deal) (h : ℕ) (can : CanBeStored program list plan h) (files : AreFiles inputs deals) where
+module _ (program : NormalForm) (list : List Proto) (plan : Digest) (inputs : List (List ℕ)) (deals : List Deal) (h : ℕ) (can : CanBeStored program list plan h) (files : AreFiles inputs deals) where
   abbrev n : ℕ
   n = length program.hosts
 
@@ -66,7 +67,7 @@ module _ (program : NormalForm) (list : List ℕ) (plan : Digest) (inputs : List
   code_is g lt = get_or-map-range_with_len (λ k. text (code_of k j) []) 0 n g g [] lt (omega arith)
 
   is_code : (g : ℕ) → g < n → IsCodeOf (stored_program program list plan g).code (code_of g j)
-  is_code g lt = subst (λ (l : List Instr). IsCodeOf l (code_of g j)) (sym (code_is g lt)) (codes_can_be_loaded program list can.made g).nested
+  is_code g lt = subst (λ (l : List Instr). IsCodeOf l (code_of g j)) (sym (code_is g lt)) (codes_can_be_loaded program list can.made (runnable_over program list can.made can.runnable) g).nested
 
   numbers : (g : ℕ) → (g < n) ⊎ (n ≤ g) → NumbersAreWords (code_of g j)
   numbers g (inl lt) = numbers_small (stored_program program list plan g).code (code_of g j) _ (stored_programs_stand_in_files program list plan g (can_be g lt)).file.lines (is_code g lt)

@@ -1,5 +1,6 @@
 -- What the hosts of a joint code send a host is all that it wants.
 use Rattle.std.specs.Prelude.{◌≡◌, ℕ, List, [], Option, Some, None, slice_get}
+use Rattle.vd_base.specs.declared.protocols.Proto.{Proto}
 use Rattle.vd_core.specs.declared.normal.NormalForm.{NormalForm}
 use Rattle.vd_deals.specs.declared.deal.Deal.{Deal}
 use Rattle.vd_execution.specs.Code.{Code}
@@ -38,7 +39,7 @@ OthersSendEnough = (s : Supply) (j : Joint) (lists : ℕ → Lists) (h : ℕ) (s
 
 -- So it is with each host of a program that is stored at a list of protocols, from its own code on its own inputs and deal.
 abbrev pub StoredHostsAreServed : Type 0
-StoredHostsAreServed = (program : NormalForm) (list : List ℕ) (plan : Digest) (inputs : List (List ℕ)) (deals : List Deal) (h : ℕ)
+StoredHostsAreServed = (program : NormalForm) (list : List Proto) (plan : Digest) (inputs : List (List ℕ)) (deals : List Deal) (h : ℕ)
     → CanBeStored program list plan h → AreFiles inputs deals
     → Suffices (supply_of_files inputs deals) (last_of (supply_of_files inputs deals) (joint_of program list))
     → (deal : Deal) → slice_get deals h ≡ Some deal → (code : Code) → IsCodeOf (stored_program program list plan h).code code

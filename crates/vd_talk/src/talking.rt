@@ -6,7 +6,7 @@ ghost use Rattle.vd_talk.specs.Talk.{IsPlayable, talk};
 
 use crate::filling::filled;
 use std::alloc::{AllocError, Global};
-use vd_base::{HostId, Inputs, Words};
+use vd_base::{HostId, Inputs, Proto, Words};
 use vd_core::Program;
 use vd_deals::Deals;
 use vd_enough::needs_of_program;
@@ -16,25 +16,24 @@ use vd_play::play;
 use vd_report::Schedule;
 
 /// The words of all packets that one host of a program sends another in the joint run on these inputs, those of each host followed by
-/// zeros, and on a deal that reaches for that run. `places` has for each slot the place of its protocol in the list of all: a valid
-/// list of protocols.
+/// zeros, and on a deal that reaches for that run, at a valid assignment of protocols to the slots.
 pub fn talk(
     alloc: Global,
     program: &Program,
-    places: &[u32],
+    protocols: &[Proto],
     inputs: &Inputs,
     deals: Deals,
     from: HostId,
     to: HostId,
 ) -> Result<Words, AllocError>
-    requires runnable { IsRunnable program.now places.now }
-    requires playable { IsPlayable program.now places.now inputs.now deals }
-    ensures { IfOk result (λ words. words ≡ talk program.now places.now inputs.now deals from.0 to.0) }
+    requires runnable { IsRunnable program.now protocols.now }
+    requires playable { IsPlayable program.now protocols.now inputs.now deals }
+    ensures { IfOk result (λ words. words ≡ talk program.now protocols.now inputs.now deals from.0 to.0) }
 {
     program.numbers_fit();
-    let needs = needs_of_program(alloc, program, places)?;
+    let needs = needs_of_program(alloc, program, protocols)?;
     let inputs = filled(alloc, inputs, needs.as_slice())?;
-    let codes = split(alloc, program, places)?;
+    let codes = split(alloc, program, protocols)?;
     let schedule = Schedule {
         entries: Items::new(alloc),
         all: true,

@@ -1,7 +1,7 @@
 use Rattle.std.proofs.Common.{[]}
 use Rattle.vd_execution.specs.Text.{pick}
 use Rattle.vd_hasten.specs.Packets.{opened_in}
-use Rattle.vd_host_programs.proofs.Places.{code_more}
+use Rattle.vd_host_programs.proofs.Lines.{code_more}
 use Rattle.vd_early_programs.proofs.codes.opened_by.Goals as goal
 
 pub loop-number-preserved : goal.loop-number-preserved

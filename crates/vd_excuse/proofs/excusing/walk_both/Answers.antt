@@ -11,5 +11,5 @@ walk-requires-clause-few c = let two = c.requires.asked.all_second in omega (ari
 
 pub returns : goal.returns
 returns c =
-    has_walked c.args.program.now c.args.places.now c.args.host c.args.first.now c.args.second.now c.args.deals.now c.in_ok-steps.steps c.walk.result (c.in_ok-steps.ensures {u = tt}) c.walk.ensures.short c.walk.ensures.same
+    has_walked c.args.program.now c.args.protocols.now c.args.host c.args.first.now c.args.second.now c.args.deals.now c.in_ok-steps.steps c.walk.result (c.in_ok-steps.ensures {u = tt}) c.walk.ensures.short c.walk.ensures.same
     c.walk.ensures.deal
