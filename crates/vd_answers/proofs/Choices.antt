@@ -1,6 +1,6 @@
 -- What `choose` prints, and what `certify` says of the certificate that it stores.
-use Rattle.std.proofs.Common.{◌≡◌, ◌≢◌, ℕ, ◌+◌, ◌≤◌, Bool, true, false, true≢false, ◌&&◌, if◌then◌else◌, Option, Some, None, List, [], ◌∷◌, ◌++◌, map, length, Result, Ok, Err, refl, sym, ap, ◌∙◌, subst, arith, ℤ, pos, negsuc, ◌≤ℤ◌, length-append}
-use Rattle.std.specs.Prelude.{codes, is_ok, nat_le, nat_lt}
+use Rattle.std.proofs.Common.{◌≡◌, ◌≢◌, ℕ, ◌+◌, ◌≤◌, Bool, true, false, true≢false, if◌then◌else◌, Option, Some, None, List, [], ◌++◌, length, Result, Ok, Err, refl, sym, ap, ◌∙◌, subst, arith, ℤ, pos, negsuc, ◌≤ℤ◌, length-append}
+use Rattle.std.specs.Prelude.{codes, is_ok, nat_le, nat_lt, option_map}
 use Rattle.std.specs.Str.{bytes_eq}
 use Rattle.std.proofs.lemmas.Bool.{and_parts, cond-false, cond-true, false_from_ne_true, leb-true}
 use Rattle.std.proofs.lemmas.Bool.Decides.{nat_tests}
@@ -15,9 +15,7 @@ use Rattle.vd_constraints.specs.Rules.{system_of}
 use Rattle.vd_constraints.specs.Satisfies.{IsLeast}
 use Rattle.vd_constraints.specs.declared.labels.Labels.{Labels}
 use Rattle.vd_normal.specs.Normal.{normal_form}
-use Rattle.vd_report.specs.ChoiceLines.{choice_lines}
 use Rattle.vd_bound.specs.Marks.{count_of, is_expanded}
-use Rattle.vd_bound.specs.declared.checking.CheckFault.{CheckFault}
 use Rattle.vd_bound.specs.declared.checking.Proved.{Proved}
 use Rattle.vd_bound.specs.declared.checking.Proved.TheVariants.{Empty, Least}
 use Rattle.vd_certificate.specs.declared.certificate.Certificate.{Certificate}
@@ -26,7 +24,7 @@ use Rattle.vd_certificate.specs.Texts.{IsTextOf}
 use Rattle.vd_certificate.proofs.Outcomes.{outcome_once}
 use Rattle.vd_rewritten.specs.RunPrograms.{IsRunProgram, run_form}
 use Rattle.vd_rewritten.proofs.Made.{run_form_is, run_once, run_well_made}
-use Rattle.vd_cheapest.specs.Cheapest.{IsCheapest, IsValid}
+use Rattle.vd_cheapest.specs.Cheapest.{IsCheapest}
 use Rattle.vd_cheapest.proofs.Cheapest.{cheapest}
 use Rattle.vd_search.specs.Answers.{nat_or_zero}
 use Rattle.vd_selection.specs.Choices.{ChoiceOutcomes, IsChosen, needed}
@@ -35,29 +33,31 @@ use Rattle.vd_space.specs.declared.problem.Problem.{Problem}
 use Rattle.vd_space.specs.Costs.{cost}
 use Rattle.vd_space.specs.Reading.{problem_of}
 use Rattle.vd_space.specs.Spaces.{IsProblem}
-use Rattle.vd_space.specs.Validity.{protocol, protocols}
+use Rattle.vd_space.specs.Validity.{protocols}
 use Rattle.vd_space.proofs.Few.{few_in}
 use Rattle.vd_space.proofs.Programs.{is_labelled}
 use Rattle.vd_space.proofs.Weighed.{is_problem}
 use Rattle.vd_plan.specs.Deliver.{stored}
-use Rattle.vd_plan.specs.Held.{IsHeld}
 use Rattle.vd_plan.specs.Plans.{Plan, answer_then, check_then, ended}
 use Rattle.vd_plan.specs.declared.answer.Answer.{Answer}
 use Rattle.vd_plan.specs.declared.status.Status.{Status}
 use Rattle.vd_plan.specs.declared.status.Status.TheVariants.{Ended, Memory, NoAssignment, Spent}
-use Rattle.vd_frontend.specs.Outcomes.{LabelOutcomes, TextOutcomes}
-use Rattle.vd_frontend.specs.Sources.{HoldsSource, IsSourceText}
-use Rattle.vd_selecting.specs.Certifying.{as_certificate, as_proved, certificate_of, certificate_plan, certificate_then, certified_plan, certify_plan, confirmed_plan, proved_of, proved_text}
-use Rattle.vd_selecting.specs.Choosing.{Certified, GaveUp, Searched, certificate_file, choice_answer, choose_plan, chosen_plan, is_accepted, problem_plan, searched_by, selected_plan}
+use Rattle.vd_frontend.specs.Outcomes.{LabelOutcomes}
+use Rattle.vd_frontend.specs.Labelling.{labels_of}
+use Rattle.vd_frontend.specs.Sources.{HoldsSource}
+use Rattle.vd_selecting.specs.Certifying.{as_certificate, as_proved, certificate_of, certificate_plan, certificate_then, certified_plan, confirmed_plan, proved_of, proved_text}
+use Rattle.vd_selecting.specs.Choice.{Chosen, assigned, assignment_of, choice_then, chosen_by, printed_at, search_then}
+use Rattle.vd_selecting.specs.Choosing.{certificate_file, choice_answer, choose_plan, chosen_answer, selected_plan}
+use Rattle.vd_selecting.specs.Searching.{Certified, GaveUp, Searched, is_accepted, searched_by}
 use Rattle.vd_selecting.specs.Outcomes.{CertificateOutcomes}
 use Rattle.vd_selecting.specs.Problems.{problem_for}
 use Rattle.vd_selecting.proofs.Labelled.{has_labels}
 use Rattle.vd_answers.specs.Answers.{IsCertified, TellsAssignment, TellsChoice, least_line}
 use Rattle.vd_answers.specs.Laws.{ChoicesTell}
-use Rattle.vd_answers.proofs.Plans.{Leads, NeverEnds, answered, check_came, check_leads, ends_as, file_leads}
+use Rattle.vd_answers.proofs.Plans.{Ends, Leads, NeverEnds, answered, check_came, check_leads, ends_as, file_leads}
 use Rattle.vd_answers.proofs.Proved.{Shown, confirmed_shows}
 use Rattle.vd_answers.proofs.Short.{marks_few, text_short}
-use Rattle.vd_answers.proofs.Sources.{made_of, problem_found, problem_is, problem_never, same_status, source_came, source_leads}
+use Rattle.vd_answers.proofs.Sources.{labels_are, labels_never, made_of, problem_found, same_status, source_came, source_leads}
 
 -- ---- what a search answered
 
@@ -203,26 +203,49 @@ module _ (name : List ℕ) (contents : Contents) (source : Source) (held : Holds
       source_leads after texts name source (certificate_plan labelling certificates (beside name bytes contents)) answer (still_held name bytes contents source held) read
 
   -- what is printed of the choice
-  abbrev pub assigned : (list : List ℕ) → IsCheapest problem list → TellsAssignment name contents (choice_lines program (map (protocol problem) list) (nat_or_zero (cost problem list)))
-  assigned list best = record {
+  abbrev pub tells : (list : List ℕ) → IsCheapest problem list → TellsAssignment name contents (printed_at program (assigned problem list))
+  tells list best = record {
     source = source;
     held = held;
     program = program;
     is_run = is_run;
-    list = list;
-    selected = record { labels = labels; least = least; cheapest = best };
-    number = nat_or_zero (cost problem list);
+    assignment = assigned problem list;
+    selected = record { labels = labels; least = least; places = list; cheapest = best; is = refl };
     costs = number_is list best;
     lines = refl;
   }
 
   -- the answer to a choice
-  told : (choice : Option (List ℕ)) → IsChosen problem choice → (bytes : List ℕ) → IsAnswer problem budget bytes → (answer : Answer) → answer ≡ choice_answer program problem choice (certificate_file name bytes)
+  told : (choice : Option (List ℕ)) → IsChosen problem choice → (bytes : List ℕ) → IsAnswer problem budget bytes → (answer : Answer) → answer ≡ choice_answer program (option_map (assigned problem) choice) (certificate_file name bytes)
       → answer.status ≡ Ended → TellsChoice name contents (stored answer.stores contents) answer.printed
   told None chosen bytes a answer is ends = let wrong : NoAssignment ≡ Ended = sym (ap (λ (x : Answer). x.status) is) ∙ ends in absurd (cc wrong)
   told (Some list) chosen bytes a answer is ends =
       let best = cheapest problem list holds chosen in
-      subst (λ (x : Answer). TellsChoice name contents (stored x.stores contents) x.printed) (sym is) (record { choice = assigned list best; certified = certified list bytes best a })
+      subst (λ (x : Answer). TellsChoice name contents (stored x.stores contents) x.printed) (sym is) (record { choice = tells list best; certified = certified list bytes best a })
+
+-- ---- the step that finds a choice
+
+module _ (contents : Contents) (certificates : CertificateOutcomes) (choices : ChoiceOutcomes) (searched : Searched) (least : LabelOutcomes) (budget : ℕ) (program : NormalForm) (rest : Chosen → Contents → Plan) where
+  abbrev step : Contents → Plan
+  step = choice_then least choices (searched_by certificates choices searched) budget program rest
+
+  -- the program has labels, the search found a certificate, and this is done with them
+  pub record Came : Type 0 where
+    pub labels : Labels
+    pub is_least : IsLeast (system_of program) labels
+    pub bytes : List ℕ
+    pub gives : searched_by certificates choices searched (problem_of program labels) budget ≡ Ok bytes
+    pub leads : Leads contents step (rest (chosen_by choices program labels bytes) contents).answer
+
+  pub choice_came : IsWellMade program → Ends contents step → Came
+  choice_came made ends =
+      let search = searched_by certificates choices searched in
+      let searching : Labels → Contents → Plan = λ l. search_then choices search budget program l rest in
+      let of = check_came contents (labels_of least program) searching (labels_never least program made) ends in
+      let labels : Labels = of.0 in
+      let after : List ℕ → Contents → Plan = λ bytes. rest (chosen_by choices program labels bytes) in
+      let found = check_came contents (search (problem_of program labels) budget) after (search_never certificates choices (problem_of program labels) budget searched) (ends_as contents step (searching labels) ends of.2) in
+      record { labels = labels; is_least = labels_are least program made labels of.1; bytes = found.0; gives = found.1; leads = of.2 ∙ found.2 }
 
 pub choices_tell : ChoicesTell
 choices_tell texts least certificates choices searched name budget contents low ends =
@@ -232,16 +255,10 @@ choices_tell texts least certificates choices searched name budget contents low 
     let program : NormalForm = run_form least (normal_form file.0) in
     let is_run = run_form_is least file.0 (made_of name contents file.0 file.1) in
     let made = run_well_made file.0 program (made_of name contents file.0 file.1) is_run in
-    let searching = problem_plan choices search name budget program in
-    let begun = ends_as contents whole (chosen_plan least choices search name budget program) ends file.2 in
-    let space = check_came contents (problem_for least program) searching (problem_never least program made) begun in
-    let of = problem_is least program made space.0 space.1 in
-    let problem : Problem = problem_of program of.labels in
-    let leads = check_leads contents (problem_for least program) problem searching (searching problem contents).answer (problem_found least program made of.labels of.least) refl in
-    let upto = file.2 ∙ leads in
-    let rest : List ℕ → Contents → Plan = λ bytes. answer_then (choice_answer program problem (choices.choose problem) (certificate_file name bytes)) in
-    let found = check_came contents (search problem budget) rest (search_never certificates choices problem budget searched) (ends_as contents whole (searching problem) ends upto) in
-    let bytes : List ℕ = found.0 in
-    let a = is_answer problem budget bytes (certificates.read bytes) (certificates.read_is bytes) (search_gave certificates choices problem budget searched bytes found.1) in
-    told name contents file.0 file.1 program is_run of.labels of.least budget low (choices.choose problem) (choices.choose_is problem) bytes a (whole contents).answer
-    (upto ∙ found.2 ∙ answered contents (choice_answer program problem (choices.choose problem) (certificate_file name bytes))) ends
+    let rest : Chosen → Contents → Plan = λ c. answer_then (chosen_answer name c) in
+    let begun = ends_as contents whole (choice_then least choices search budget program rest) ends file.2 in
+    let came = choice_came contents certificates choices searched least budget program rest made begun in
+    let problem : Problem = problem_of program came.labels in
+    let a = is_answer problem budget came.bytes (certificates.read came.bytes) (certificates.read_is came.bytes) (search_gave certificates choices problem budget searched came.bytes came.gives) in
+    told name contents file.0 file.1 program is_run came.labels came.is_least budget low (choices.choose problem) (choices.choose_is problem) came.bytes a (whole contents).answer
+    (file.2 ∙ came.leads ∙ answered contents (choice_answer program (assignment_of choices problem) (certificate_file name came.bytes))) ends

@@ -23,8 +23,9 @@ use Rattle.vd_frontend.specs.Outcomes.{LabelOutcomes, TextOutcomes}
 use Rattle.vd_frontend.specs.Sources.{HoldsSource}
 use Rattle.vd_selecting.specs.Certifying.{certify_plan}
 use Rattle.vd_selecting.specs.Outcomes.{CertificateOutcomes}
-use Rattle.vd_compiling.specs.Compiling.{host_file, plan_for, printed_at}
-use Rattle.vd_compiling.specs.Selected.{IsSelected}
+use Rattle.vd_compiling.specs.Compiling.{host_file, plan_for}
+use Rattle.vd_selecting.specs.Choice.{IsSelected, printed_at}
+use Rattle.vd_selecting.specs.declared.choice.Assignment.{Assignment}
 
 -- ---- labels
 
@@ -76,11 +77,10 @@ pub record TellsAssignment (name : List ℕ) (contents : Contents) (printed : Li
   pub held : HoldsSource name contents source
   pub program : NormalForm
   pub is_run : IsRunProgram source program
-  pub list : List ℕ
-  pub selected : IsSelected program list
-  pub number : ℕ
-  pub costs : cost (problem_of program selected.labels) list ≡ pos number
-  pub lines : printed ≡ printed_at program (problem_of program selected.labels) list number
+  pub assignment : Assignment
+  pub selected : IsSelected program assignment
+  pub costs : cost (problem_of program selected.labels) selected.places ≡ pos assignment.cost
+  pub lines : printed ≡ printed_at program assignment
 
 -- `certify` on these two files ends well and prints this cost, whatever functions pick outcomes
 abbrev pub IsCertified : (name certificate : List ℕ) → Contents → ℕ → Type 0
@@ -90,7 +90,7 @@ IsCertified name certificate contents number = (texts : TextOutcomes) (least : L
 -- The choice is printed, and of the certificate that then stands beside the source `certify` prints the same cost.
 pub record TellsChoice (name : List ℕ) (contents now : Contents) (printed : List ℕ) : Type 0 where
   pub choice : TellsAssignment name contents printed
-  pub certified : IsCertified name (name ++ codes ".cert") now choice.number
+  pub certified : IsCertified name (name ++ codes ".cert") now choice.assignment.cost
 
 -- a file stands as it was to be stored
 abbrev pub Stands : Contents → Stored → Type 0
@@ -101,4 +101,4 @@ Stands contents file = contents file.name ≡ Some file.content
 pub record TellsCompiled (name prefix : List ℕ) (contents now : Contents) (printed : List ℕ) : Type 0 where
   pub choice : TellsAssignment name contents printed
   pub files : let program = choice.program in (h : ℕ) → h < length program.hosts
-      → Stands now (host_file prefix program.hosts (plan_for choice.held.bytes printed) h (text (code_of h (joint_of program choice.list)) []))
+      → Stands now (host_file prefix program.hosts (plan_for choice.held.bytes printed) h (text (code_of h (joint_of program choice.assignment.protocols)) []))

@@ -9,7 +9,8 @@ use Rattle.vd_plan.specs.declared.status.Status.TheVariants.{Ended}
 use Rattle.vd_frontend.specs.Labelling.{labels_plan}
 use Rattle.vd_frontend.specs.Outcomes.{LabelOutcomes, TextOutcomes}
 use Rattle.vd_selecting.specs.Certifying.{certify_plan}
-use Rattle.vd_selecting.specs.Choosing.{Searched, choose_plan, searched_by}
+use Rattle.vd_selecting.specs.Choosing.{choose_plan}
+use Rattle.vd_selecting.specs.Searching.{Searched, searched_by}
 use Rattle.vd_selecting.specs.Outcomes.{CertificateOutcomes}
 use Rattle.vd_compiling.specs.Compiling.{compile_plan}
 use Rattle.vd_answers.specs.Answers.{TellsChoice, TellsCompiled, TellsLabels, TellsProof}

@@ -2,10 +2,10 @@
 use Rattle.std.proofs.Common.{◌≡◌, ℕ, zero, suc, ◌+◌, ◌<◌, ◌≤◌, List, [], ◌++◌, length, map, slice_index_or, refl, sym, ap, subst, ◌∙◌, arith}
 use Rattle.std.specs.Prelude.{codes, flat_map}
 use Rattle.std.specs.List.{AllByRecursion, range_with_len}
+use Rattle.vd_base.specs.declared.protocols.Proto.{Proto}
 use Rattle.vd_base.specs.HostSets.{host}
 use Rattle.vd_outside.specs.declared.stored.Stored.{Stored}
 use Rattle.vd_core.specs.declared.normal.NormalForm.{NormalForm}
-use Rattle.vd_space.specs.declared.problem.Problem.{Problem}
 use Rattle.vd_execution.specs.declared.instructions.Instr.{Instr}
 use Rattle.vd_execution.specs.Joint.{code_of}
 use Rattle.vd_execution.specs.Text.{IsCodeOf, text}
@@ -13,12 +13,14 @@ use Rattle.vd_host_text.specs.declared.program.Digest.{Digest}
 use Rattle.vd_host_text.specs.declared.program.HostProgram.{HostProgram}
 use Rattle.vd_host_text.specs.Text.{name_field, program_text}
 use Rattle.vd_host_programs.specs.Programs.{joint_of, host_codes}
-use Rattle.vd_host_programs.proofs.HostCodes.{codes_can_be_loaded}
+use Rattle.vd_host_programs.proofs.HostCodes.{codes_can_be_loaded, runnable_over}
 use Rattle.vd_plan.specs.Numbered.{file_name}
 use Rattle.vd_read_back.specs.Stored.{IsDigest, CanBeStored, stored_program}
 use Rattle.vd_read_back.proofs.Digests.{is_digest}
 use Rattle.vd_read_back.proofs.Files.{stored_programs_are_read_back, stored_texts_are_short}
-use Rattle.vd_compiling.specs.Compiling.{host_files, printed_at, plan_for, compiled_at}
+use Rattle.vd_selecting.specs.Choice.{printed_at}
+use Rattle.vd_selecting.specs.declared.choice.Assignment.{Assignment}
+use Rattle.vd_compiling.specs.Compiling.{host_files, plan_for, compiled_at}
 use Rattle.vd_compiled_files.specs.Compiled.{CanBeCompiled, EachFrom, IsReadBack, IsShort, CompiledFilesAreReadBack}
 
 code_at : (f : ℕ → List Instr) (k n h : ℕ) → h < n → slice_index_or (map f (range_with_len k n)) h [] ≡ f (k + h)
@@ -32,7 +34,7 @@ code_at f k (suc n) (suc h) lt = code_at f (k + 1) n h (omega (arith, lt)) ∙ a
     same : (k h : ℕ) → k + 1 + h ≡ k + suc h
     same k h = omega arith
 
-module _ (program : NormalForm) (list : List ℕ) (plan : Digest) (digest : IsDigest plan) (can : CanBeCompiled program list) (prefix : List ℕ) where
+module _ (program : NormalForm) (list : List Proto) (plan : Digest) (digest : IsDigest plan) (can : CanBeCompiled program list) (prefix : List ℕ) where
   abbrev hosts : ℕ
   hosts = length program.hosts
 
@@ -59,7 +61,7 @@ module _ (program : NormalForm) (list : List ℕ) (plan : Digest) (digest : IsDi
   pub is_read : (h : ℕ) → h < hosts → IsReadBack program list plan h (program_text (stored_program program list plan h))
   is_read h lt = record {
     read = stored_programs_are_read_back program list plan h (stored h lt);
-    part = subst (λ (is : List Instr). IsCodeOf is (code_of h (joint_of program list))) (sym (part h lt)) (codes_can_be_loaded program list can.made h).nested;
+    part = subst (λ (is : List Instr). IsCodeOf is (code_of h (joint_of program list))) (sym (part h lt)) (codes_can_be_loaded program list can.made (runnable_over program list can.made can.runnable) h).nested;
   }
 
   pub files_read : (n k : ℕ) → k + n ≤ hosts → EachFrom (λ h file. IsReadBack program list plan h file.content) k (host_files prefix program.hosts plan k (map code (range_with_len k n)))
@@ -92,24 +94,24 @@ all_of_them : (n : ℕ) → 0 + n ≤ n
 all_of_them n = omega arith
 
 pub compiled_files_are_read_back : CompiledFilesAreReadBack
-compiled_files_are_read_back program problem list least text prefix can =
-    let printed = printed_at program problem list least in
-    files_read program list (plan_for text printed) (is_digest (text ++ printed)) can prefix (length program.hosts) 0 (all_of_them (length program.hosts))
+compiled_files_are_read_back program a text prefix can =
+    let printed = printed_at program a in
+    files_read program a.protocols (plan_for text printed) (is_digest (text ++ printed)) can prefix (length program.hosts) 0 (all_of_them (length program.hosts))
 
-pub short_files : (program : NormalForm) (problem : Problem) (list : List ℕ) (least : ℕ) (text prefix : List ℕ) → CanBeCompiled program list
-    → length (flat_map name_field program.hosts) ≤ 65536 → AllByRecursion IsShort (compiled_at program problem list least text prefix).stores
-short_files program problem list least text prefix can names =
-    let printed = printed_at program problem list least in
-    files_short program list (plan_for text printed) (is_digest (text ++ printed)) can prefix names (length program.hosts) 0 (all_of_them (length program.hosts))
+pub short_files : (program : NormalForm) (a : Assignment) (text prefix : List ℕ) → CanBeCompiled program a.protocols
+    → length (flat_map name_field program.hosts) ≤ 65536 → AllByRecursion IsShort (compiled_at program a text prefix).stores
+short_files program a text prefix can names =
+    let printed = printed_at program a in
+    files_short program a.protocols (plan_for text printed) (is_digest (text ++ printed)) can prefix names (length program.hosts) 0 (all_of_them (length program.hosts))
 
-pub named_files : (program : NormalForm) (problem : Problem) (list : List ℕ) (least : ℕ) (text prefix : List ℕ) → CanBeCompiled program list
-    → EachFrom (λ h file. file.name ≡ file_name prefix h (codes ".host")) 0 (compiled_at program problem list least text prefix).stores
-named_files program problem list least text prefix can =
-    let printed = printed_at program problem list least in
-    files_named program list (plan_for text printed) (is_digest (text ++ printed)) can prefix (length program.hosts) 0
+pub named_files : (program : NormalForm) (a : Assignment) (text prefix : List ℕ) → CanBeCompiled program a.protocols
+    → EachFrom (λ h file. file.name ≡ file_name prefix h (codes ".host")) 0 (compiled_at program a text prefix).stores
+named_files program a text prefix can =
+    let printed = printed_at program a in
+    files_named program a.protocols (plan_for text printed) (is_digest (text ++ printed)) can prefix (length program.hosts) 0
 
-pub counted_files : (program : NormalForm) (problem : Problem) (list : List ℕ) (least : ℕ) (text prefix : List ℕ) → CanBeCompiled program list
-    → length (compiled_at program problem list least text prefix).stores ≡ length program.hosts
-counted_files program problem list least text prefix can =
-    let printed = printed_at program problem list least in
-    files_counted program list (plan_for text printed) (is_digest (text ++ printed)) can prefix (length program.hosts) 0
+pub counted_files : (program : NormalForm) (a : Assignment) (text prefix : List ℕ) → CanBeCompiled program a.protocols
+    → length (compiled_at program a text prefix).stores ≡ length program.hosts
+counted_files program a text prefix can =
+    let printed = printed_at program a in
+    files_counted program a.protocols (plan_for text printed) (is_digest (text ++ printed)) can prefix (length program.hosts) 0

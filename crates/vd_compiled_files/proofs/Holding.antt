@@ -6,6 +6,7 @@ use Rattle.std.proofs.lemmas.Bool.{false_from_ne_true, ltb-true}
 use Rattle.std.proofs.lemmas.Fmt.{decimal_injective}
 use Rattle.std.proofs.lemmas.List.{append_cancel_left, append_cancel_right}
 use Rattle.std.proofs.lemmas.Slice.Eq.{bytes_eq-Decides}
+use Rattle.vd_base.specs.declared.protocols.Proto.{Proto}
 use Rattle.vd_base.specs.HostSets.{host}
 use Rattle.vd_base.specs.Limits.{most_host_file_bytes}
 use Rattle.vd_core.specs.declared.normal.NormalForm.{NormalForm}
@@ -92,18 +93,18 @@ is_fetched found limit bytes is le =
 
 -- ---- all programs
 
-few_hosts : (program : NormalForm) (list : List ℕ) → IsWellMade program → 0 + length (host_codes program list) ≤ 100
+few_hosts : (program : NormalForm) (list : List Proto) → IsWellMade program → 0 + length (host_codes program list) ≤ 100
 few_hosts program list made = let n = code_count program list in let limit = made.limits.hosts in omega (arith, n, limit)
 
-compilable : (program : NormalForm) (list : List ℕ) (plan : Digest) (h : ℕ) → CanBeStored program list plan h → CanBeCompiled program list
+compilable : (program : NormalForm) (list : List Proto) (plan : Digest) (h : ℕ) → CanBeStored program list plan h → CanBeCompiled program list
 compilable program list plan h can = record { made = can.made; numbers = can.numbers; runnable = can.runnable }
 
 module _ (text prefix : List ℕ) (answer : Answer) (before now : Contents) (is : CompilesText text prefix answer) (same : now ≡ stored answer.stores before) where
   abbrev program : NormalForm
   program = is.program
 
-  abbrev list : List ℕ
-  list = is.programs.list
+  abbrev list : List Proto
+  list = is.programs.assignment.protocols
 
   abbrev plan : Digest
   plan = plan_for text answer.printed
@@ -122,4 +123,4 @@ module _ (text prefix : List ℕ) (answer : Answer) (before now : Contents) (is 
       }
 
   pub programs_held : IsCompilation text prefix answer.printed now
-  programs_held = record { source = is.source; read = is.read; program = program; is_run = is.is_run; tells = is.tells; list = list; selected = is.programs.selected; programs = held; can_be_stored = is.programs.can_be_stored }
+  programs_held = record { source = is.source; read = is.read; program = program; is_run = is.is_run; tells = is.tells; assignment = is.programs.assignment; selected = is.programs.selected; programs = held; can_be_stored = is.programs.can_be_stored }

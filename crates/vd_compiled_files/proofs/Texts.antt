@@ -4,6 +4,7 @@ use Rattle.std.specs.Prelude.{codes, flat_map}
 use Rattle.std.specs.List.{AllByRecursion, sum_by}
 use Rattle.std.proofs.lemmas.List.Concat.{flat_map-cons}
 use Rattle.std.proofs.lemmas.List.Sums.{sum_by-cons}
+use Rattle.vd_base.specs.declared.protocols.Proto.{Proto}
 use Rattle.vd_outside.specs.declared.stored.Stored.{Stored}
 use Rattle.vd_core.specs.declared.normal.NormalForm.{NormalForm}
 use Rattle.vd_core.specs.declared.source.Host.{Host}
@@ -47,21 +48,20 @@ names_short text source program parsed same =
     within n m k p q r = omega (arith, p, q, r)
 
 pub compiled_files_are_short : CompiledFilesAreShort
-compiled_files_are_short text source program problem list least prefix parsed same can = short_files program problem list least text prefix can (names_short text source program parsed same)
+compiled_files_are_short text source program a prefix parsed same can = short_files program a text prefix can (names_short text source program parsed same)
 
 -- ---- both
 
-both : (program : NormalForm) (list : List ℕ) (plan : Digest) (prefix : List ℕ) (h : ℕ) (files : List Stored) → EachFrom (λ h file. file.name ≡ file_name prefix h (codes ".host")) h files
+both : (program : NormalForm) (list : List Proto) (plan : Digest) (prefix : List ℕ) (h : ℕ) (files : List Stored) → EachFrom (λ h file. file.name ≡ file_name prefix h (codes ".host")) h files
     → AllByRecursion IsShort files → EachFrom (λ h file. IsReadBack program list plan h file.content) h files → EachFrom (IsFileOf program list plan prefix) h files
 both program list plan prefix h [] names a b = tt
 both program list plan prefix h (f ∷ fs) names a b = (record { name = names.0; short = a.0; read = b.0 }, both program list plan prefix (h + 1) fs names.1 a.1 b.1)
 
 pub compiled_files_can_be_read : (program : NormalForm) → IsWellMade program → NumbersFit program → CompiledFilesCanBeRead program
-compiled_files_can_be_read program made numbers problem list least text prefix is =
-    let can : CanBeCompiled program list = record { made = made; numbers = numbers; runnable = runnable_of program list made is.selected } in
+compiled_files_can_be_read program made numbers a text prefix is =
+    let can : CanBeCompiled program a.protocols = record { made = made; numbers = numbers; runnable = runnable_of program a is.selected a.protocols refl } in
     let names = names_short text is.source program is.parsed is.is_run.hosts in
     record {
-      counted = counted_files program problem list least text prefix can;
-      each = both program list (plan_at program problem list least text) prefix 0 _ (named_files program problem list least text prefix can)
-          (short_files program problem list least text prefix can names) (compiled_files_are_read_back program problem list least text prefix can);
+      counted = counted_files program a text prefix can;
+      each = both program a.protocols (plan_at program a text) prefix 0 _ (named_files program a text prefix can) (short_files program a text prefix can names) (compiled_files_are_read_back program a text prefix can);
     }

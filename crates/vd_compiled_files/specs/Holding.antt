@@ -1,5 +1,6 @@
 -- Files that hold the programs of all hosts of a source.
 use Rattle.std.specs.Prelude.{◌<◌, ℕ, List, codes, length}
+use Rattle.vd_base.specs.declared.protocols.Proto.{Proto}
 use Rattle.vd_base.specs.Limits.{most_host_file_bytes}
 use Rattle.vd_core.specs.declared.normal.NormalForm.{NormalForm}
 use Rattle.vd_core.specs.declared.source.Source.{Source}
@@ -11,11 +12,12 @@ use Rattle.vd_plan.specs.Numbered.{file_name}
 use Rattle.vd_frontend.specs.Sources.{IsSourceText}
 use Rattle.vd_read_back.specs.Stored.{CanBeStored}
 use Rattle.vd_compiling.specs.Compiling.{plan_for}
-use Rattle.vd_compiling.specs.Selected.{IsSelected}
+use Rattle.vd_selecting.specs.Choice.{IsSelected}
+use Rattle.vd_selecting.specs.declared.choice.Assignment.{Assignment}
 use Rattle.vd_compiled_files.specs.Compiled.{IsReadBack}
 
 -- The file of the host with this number, by its name, is read as the program of that host.
-abbrev pub HoldsProgram : NormalForm → List ℕ → Digest → (prefix : List ℕ) → Contents → ℕ → Type 0
+abbrev pub HoldsProgram : NormalForm → List Proto → Digest → (prefix : List ℕ) → Contents → ℕ → Type 0
 HoldsProgram program list plan prefix contents h =
     IsHeld (file_name prefix h (codes ".host")) most_host_file_bytes contents (IsReadBack program list plan h)
 
@@ -28,8 +30,8 @@ pub record IsCompilation (text prefix printed : List ℕ) (contents : Contents) 
   pub program : NormalForm
   pub is_run : IsRunProgram source program
   pub tells : TellsAs source program
-  pub list : List ℕ
-  pub selected : IsSelected program list
-  pub programs : (h : ℕ) → h < length program.hosts → HoldsProgram program list (plan_for text printed) prefix contents h
+  pub assignment : Assignment
+  pub selected : IsSelected program assignment
+  pub programs : (h : ℕ) → h < length program.hosts → HoldsProgram program assignment.protocols (plan_for text printed) prefix contents h
   -- what the laws on hosts that run these programs ask of them
-  pub can_be_stored : (h : ℕ) → h < length program.hosts → CanBeStored program list (plan_for text printed) h
+  pub can_be_stored : (h : ℕ) → h < length program.hosts → CanBeStored program assignment.protocols (plan_for text printed) h

@@ -1,5 +1,5 @@
 -- What a choice of protocols comes to, whatever functions pick the outcomes.
-use Rattle.std.proofs.Common.{◌≡◌, ℕ, true, Some, None, List, ◌++◌, Result, Ok, Err, refl, sym, ap, ◌∙◌, subst}
+use Rattle.std.proofs.Common.{◌≡◌, ℕ, true, List, ◌++◌, Result, Ok, Err, refl, sym, ap, ◌∙◌, subst}
 use Rattle.sha2.specs.Sha256.{sha256}
 use Rattle.vd_base.specs.Limits.{most_source_bytes}
 use Rattle.vd_outside.specs.Files.{FilesView, Contents}
@@ -7,30 +7,22 @@ use Rattle.vd_outside.specs.declared.stored.Stored.{Stored}
 use Rattle.vd_core.specs.declared.normal.NormalForm.{NormalForm}
 use Rattle.vd_core.specs.declared.source.Source.{Source}
 use Rattle.vd_execution.specs.declared.instructions.Instr.{Instr}
-use Rattle.vd_certificate.specs.declared.certificate.Certificate.{Certificate}
-use Rattle.vd_certificate.specs.Texts.{text_of}
 use Rattle.vd_host_text.specs.declared.program.Digest.{Digest}
 use Rattle.vd_host_programs.specs.Programs.{host_codes}
-use Rattle.vd_search.specs.Answers.{nat_or_zero}
-use Rattle.vd_space.specs.declared.problem.Problem.{Problem}
-use Rattle.vd_space.specs.Costs.{cost}
-use Rattle.vd_space.specs.Spaces.{IsProblem}
-use Rattle.vd_space.specs.Usual.{usual}
 use Rattle.vd_selection.specs.Choices.{ChoiceOutcomes}
-use Rattle.vd_selection.specs.Selecting.{IsOver, Selects}
-use Rattle.vd_selection.specs.declared.selecting.Selection.TheVariants.{Found, NoAssignment as NoList}
 use Rattle.vd_plan.specs.Loads.{Loads}
 use Rattle.vd_plan.specs.Plans.{Plan, Checks, Computes, Executes, check_then}
 use Rattle.vd_plan.specs.declared.answer.Answer.{Answer}
 use Rattle.vd_plan.specs.declared.status.Status.{Status}
-use Rattle.vd_plan.specs.declared.status.Status.TheVariants.{Ended, Memory, Spent}
-use Rattle.vd_plan.proofs.InSteps.{answers, any_memory, check_step, load_step}
+use Rattle.vd_plan.specs.declared.status.Status.TheVariants.{Ended}
+use Rattle.vd_plan.proofs.InSteps.{check_step, load_step}
 use Rattle.vd_frontend.specs.Outcomes.{TextOutcomes, LabelOutcomes}
 use Rattle.vd_frontend.specs.Sources.{source_of, resolved_of}
-use Rattle.vd_selecting.specs.Choosing.{Search, GaveUp, Certified}
-use Rattle.vd_selecting.proofs.Selected.{selected_then, spent_then}
+use Rattle.vd_selecting.specs.Searching.{Search}
 use Rattle.vd_compiling.specs.Selected.{no_list}
-use Rattle.vd_compiling.specs.Compiling.{ExecutesList, ExecutesProblem, choice_plan, compile_plan, compiled_at, host_files, list_plan, plan_for, printed_at, source_plan, text_plan}
+use Rattle.vd_selecting.specs.Choice.{printed_at}
+use Rattle.vd_selecting.specs.declared.choice.Assignment.{Assignment}
+use Rattle.vd_compiling.specs.Compiling.{compile_plan, compiled_at, host_files, plan_for, source_plan, text_plan}
 
 -- ---- answers
 
@@ -41,48 +33,14 @@ abbrev made : List Stored → List ℕ → Answer
 made stores printed = record { status = Ended; stores = stores; printed = printed }
 
 -- what is stored and printed is what is wanted
-pub answered : (program : NormalForm) (problem : Problem) (list : List ℕ) (least : ℕ) (text prefix printed shown : List ℕ) (all : List (List Instr)) (plan : Digest) (form : NormalForm) (stores : List Stored)
-    → printed ≡ printed_at program problem list least → shown ≡ printed → plan.bytes ≡ sha256 (text ++ shown) → form ≡ program → all ≡ host_codes program list
-    → stores ≡ host_files prefix form.hosts plan 0 all → Computes (compiled_at program problem list least text prefix) (Ok (made stores printed))
-answered program problem list least text prefix printed shown all plan form stores p s b f a is =
-    let digest : plan ≡ plan_for text (printed_at program problem list least) = λ i. record { bytes = (b ∙ ap (λ (t : List ℕ). sha256 (text ++ t)) (s ∙ p)) i } in
-    let files : stores ≡ host_files prefix program.hosts (plan_for text (printed_at program problem list least)) 0 (host_codes program list) =
-    is ∙ (λ i. host_files prefix (f i).hosts (digest i) 0 (a i)) in
+pub answered : (program : NormalForm) (a : Assignment) (text prefix printed shown : List ℕ) (all : List (List Instr)) (plan : Digest) (form : NormalForm) (stores : List Stored)
+    → printed ≡ printed_at program a → shown ≡ printed → plan.bytes ≡ sha256 (text ++ shown) → form ≡ program → all ≡ host_codes program a.protocols
+    → stores ≡ host_files prefix form.hosts plan 0 all → Computes (compiled_at program a text prefix) (Ok (made stores printed))
+answered program a text prefix printed shown all plan form stores p s b f codes is =
+    let digest : plan ≡ plan_for text (printed_at program a) = λ i. record { bytes = (b ∙ ap (λ (t : List ℕ). sha256 (text ++ t)) (s ∙ p)) i } in
+    let files : stores ≡ host_files prefix program.hosts (plan_for text (printed_at program a)) 0 (host_codes program a.protocols) =
+    is ∙ (λ i. host_files prefix (f i).hosts (digest i) 0 (codes i)) in
     record { proper = (tt, refl); no_fault = λ file x. cc x; settled = λ i. made (files i) (p i) }
-
--- ---- with a list of protocols
-
-module _ (program : NormalForm) (problem : Problem) (text prefix : List ℕ) where
-  pub list_answered : (list : List ℕ) (least : ℕ) (result : Result Answer Status) → Computes (compiled_at program problem list least text prefix) result
-      → ExecutesList program problem text prefix list least result
-  list_answered list least result computes files = answers (compiled_at program problem list least text prefix) files result computes
-
-  -- ---- with a selection
-
-  pub found : (budget : ℕ) (list seen : List ℕ) (least : ℕ) (c : Certificate) (result : Result Answer Status) → Selects problem budget (Found list least c) → seen ≡ list
-      → ExecutesList program problem text prefix seen least result → ExecutesProblem program problem text prefix budget result
-  found budget list seen least c result is same then = (
-    Certified (text_of c),
-    λ certificates choices files.
-        let number : nat_or_zero (cost problem list) ≡ least = ap nat_or_zero is.1 in
-        selected_then problem budget certificates choices (choice_plan program problem text prefix) c (Some list) files files result is.2 is.0
-        (subst (λ (l : List ℕ). Executes true (list_plan program problem text prefix l (nat_or_zero (cost problem list))) files files result) same
-        (subst (λ (n : ℕ). Executes true (list_plan program problem text prefix seen n) files files result) (sym number) (then files))),
-  )
-
-  pub none_found : (budget : ℕ) (c : Certificate) (answer : Answer) → Selects problem budget (NoList c) → answer ≡ no_list → ExecutesProblem program problem text prefix budget (Ok answer)
-  none_found budget c answer is none = (
-    Certified (text_of c),
-    λ certificates choices files.
-        selected_then problem budget certificates choices (choice_plan program problem text prefix) c None files files (Ok answer) is.1 is.0
-        (answers no_list files (Ok answer) (none_computes answer none)),
-  )
-
-  pub gave_up : (budget : ℕ) → IsProblem problem → IsOver problem (usual problem) budget → ExecutesProblem program problem text prefix budget (Err (Spent budget))
-  gave_up budget holds over = (GaveUp, λ certificates choices files. spent_then problem budget certificates choices (choice_plan program problem text prefix) files holds over)
-
-  pub no_memory : (budget : ℕ) → ExecutesProblem program problem text prefix budget (Err Memory)
-  no_memory budget = (GaveUp, λ certificates choices files. any_memory _ files)
 
 -- ---- with the bytes of a source
 

@@ -1,5 +1,5 @@
 -- A search that gives up wherever it may, beside any other.
-use Rattle.std.proofs.Common.{ℕ, List}
+use Rattle.std.proofs.Common.{ℕ, List, refl}
 use Rattle.vd_base.specs.Limits.{most_source_bytes}
 use Rattle.vd_outside.specs.Files.{Contents}
 use Rattle.vd_normal.specs.Normal.{normal_form}
@@ -10,10 +10,9 @@ use Rattle.vd_plan.proofs.Following.{Follows, file_follows, check_follows}
 use Rattle.vd_frontend.specs.Outcomes.{TextOutcomes, LabelOutcomes}
 use Rattle.vd_frontend.specs.Sources.{source_of, resolved_of}
 use Rattle.vd_selecting.specs.Outcomes.{CertificateOutcomes}
-use Rattle.vd_selecting.specs.Problems.{problem_for}
-use Rattle.vd_selecting.specs.Choosing.{Searched, searched_by, sure_search}
-use Rattle.vd_selecting.proofs.Selected.{choice_follows}
-use Rattle.vd_compiling.specs.Compiling.{choice_plan, compile_plan, problem_plan, source_plan, text_plan}
+use Rattle.vd_selecting.specs.Searching.{Searched, searched_by, sure_search}
+use Rattle.vd_selecting.proofs.Steps.{choice_follows}
+use Rattle.vd_compiling.specs.Compiling.{choice_plan, compile_plan, source_plan, text_plan}
 
 pub compile_follows : (texts : TextOutcomes) (least : LabelOutcomes) (certificates : CertificateOutcomes) (choices : ChoiceOutcomes) (searched : Searched) (source prefix : List ℕ) (budget : ℕ) (files : Contents)
     → Follows (compile_plan texts least choices (sure_search choices) source prefix budget files) (compile_plan texts least choices (searched_by certificates choices searched) source prefix budget files)
@@ -22,6 +21,4 @@ compile_follows texts least certificates choices searched source prefix budget f
     (λ text. check_follows (source_of texts source text) (λ tree. check_then (resolved_of tree) (source_plan least choices (sure_search choices) text prefix budget))
     (λ tree. check_then (resolved_of tree) (source_plan least choices (searched_by certificates choices searched) text prefix budget)) files
     (λ tree. check_follows (resolved_of tree) (source_plan least choices (sure_search choices) text prefix budget) (source_plan least choices (searched_by certificates choices searched) text prefix budget) files
-    (λ resolved. check_follows (problem_for least (run_form least (normal_form resolved))) (problem_plan choices (sure_search choices) text prefix budget (run_form least (normal_form resolved)))
-    (problem_plan choices (searched_by certificates choices searched) text prefix budget (run_form least (normal_form resolved))) files
-    (λ problem. choice_follows problem budget certificates choices (choice_plan (run_form least (normal_form resolved)) problem text prefix) searched files))))
+    (λ resolved. choice_follows (run_form least (normal_form resolved)) budget certificates choices (λ c. choice_plan text prefix c.program c.assignment) files (λ l one other. refl) least searched)))

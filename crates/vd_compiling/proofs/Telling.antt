@@ -1,5 +1,5 @@
 -- What is stored, of a program and of the text of a source.
-use Rattle.std.proofs.Common.{◌≡◌, ℕ, List, ◌++◌, Result, Ok, Err, IfOk, IsTrue, refl, ap, ◌∙◌, subst}
+use Rattle.std.proofs.Common.{◌≡◌, ℕ, List, ◌++◌, Result, Ok, Err, refl, ap, ◌∙◌, subst}
 use Rattle.sha2.specs.Sha256.{sha256}
 use Rattle.vd_base.specs.Limits.{most_source_bytes}
 use Rattle.vd_outside.specs.Files.{FilesView}
@@ -11,6 +11,7 @@ use Rattle.vd_parser.specs.Outcomes.{IsParse}
 use Rattle.vd_resolve.specs.Limits.{resolution}
 use Rattle.vd_resolve.specs.Faults.{Fault}
 use Rattle.vd_execution.specs.declared.instructions.Instr.{Instr}
+use Rattle.vd_rewritten.specs.RunPrograms.{IsRunProgram, TellsAs}
 use Rattle.vd_core.specs.Numbers.{NumbersFit}
 use Rattle.vd_host_text.specs.declared.program.Digest.{Digest}
 use Rattle.vd_host_programs.specs.Programs.{host_codes}
@@ -22,7 +23,9 @@ use Rattle.vd_plan.specs.declared.status.Status.{Status}
 use Rattle.vd_plan.specs.declared.status.Status.TheVariants.{Ended}
 use Rattle.vd_plan.proofs.Finding.{loaded_is}
 use Rattle.vd_frontend.specs.Sources.{IsSourceText, as_resolved, resolved_of}
-use Rattle.vd_compiling.specs.Selected.{IsSelected, no_list}
+use Rattle.vd_selecting.specs.Choice.{IsSelected}
+use Rattle.vd_selecting.specs.declared.choice.Assignment.{Assignment}
+use Rattle.vd_compiling.specs.Selected.{no_list}
 use Rattle.vd_compiling.specs.Compiling.{host_files, plan_for}
 use Rattle.vd_compiling.specs.Telling.{CompilesText, StoresPrograms, TellsPrograms, TellsSource, TellsTree}
 use Rattle.vd_compiling.proofs.Runnable.{runnable_of}
@@ -32,21 +35,30 @@ made stores printed = record { status = Ended; stores = stores; printed = printe
 
 module _ (program : NormalForm) (text prefix : List ℕ) where
   -- the plan that was made is that of what is printed
-  pub programs_stored : (list printed shown : List ℕ) (all : List (List Instr)) (plan : Digest) (form : NormalForm) (stores : List Stored)
-      → IsSelected program list → IsWellMade program → NumbersFit program → shown ≡ printed → plan.bytes ≡ sha256 (text ++ shown)
-      → form ≡ program → all ≡ host_codes program list → stores ≡ host_files prefix form.hosts plan 0 all → TellsPrograms program text prefix (Ok (made stores printed))
-  programs_stored list printed shown all plan form stores selected well numbers s b f a is e =
+  pub programs_stored : (a : Assignment) (printed shown : List ℕ) (all : List (List Instr)) (plan : Digest) (form : NormalForm) (stores : List Stored)
+      → IsSelected program a → IsWellMade program → NumbersFit program → shown ≡ printed → plan.bytes ≡ sha256 (text ++ shown)
+      → form ≡ program → all ≡ host_codes program a.protocols → stores ≡ host_files prefix form.hosts plan 0 all → TellsPrograms program text prefix (Ok (made stores printed))
+  programs_stored a printed shown all plan form stores selected well numbers s b f codes is e =
       let digest : plan ≡ plan_for text printed = λ i. record { bytes = (b ∙ ap (λ (t : List ℕ). sha256 (text ++ t)) s) i } in
       record {
-        list = list;
+        assignment = a;
         selected = selected;
-        can_be_stored = λ h lt. record { made = well; numbers = numbers; runnable = runnable_of program list well selected; digest = is_digest (text ++ printed); declared = lt };
-        stores = is ∙ (λ i. host_files prefix (f i).hosts (digest i) 0 (a i));
+        can_be_stored = λ h lt. record { made = well; numbers = numbers; runnable = runnable_of program a selected a.protocols refl; digest = is_digest (text ++ printed); declared = lt };
+        stores = is ∙ (λ i. host_files prefix (f i).hosts (digest i) 0 (codes i));
       }
 
   -- where no list of protocols is valid, nothing ended
   pub none_stored : (answer : Answer) → answer ≡ no_list → TellsPrograms program text prefix (Ok answer)
   none_stored answer none e = let status = ap (λ (a : Answer). a.status) none in absurd (cc status)
+
+-- nor of a source
+pub none_told : (source : Source) (text prefix : List ℕ) (answer : Answer) → answer ≡ no_list → TellsTree source text prefix (Ok answer)
+none_told source text prefix answer none e = let status = ap (λ (a : Answer). a.status) none in absurd (cc status)
+
+-- what is stored of the program that is run is stored of the source
+pub run_told : (source : Source) (program : NormalForm) (text prefix : List ℕ) (result : Result Answer Status) → IsRunProgram source program → TellsAs source program → TellsPrograms program text prefix result → TellsTree source text prefix result
+run_told source program text prefix (Ok answer) is same tells = λ e. (program, is, same, tells e)
+run_told source program text prefix (Err status) is same tells = tt
 
 -- a tree that is resolved meets every rule
 meets : (tree source : Source) (said : Result (Unit {0}) Fault) → resolution tree ≡ said → as_resolved tree said ≡ Ok source → (tree ≡ source) × (resolution tree ≡ Ok tt)

@@ -12,16 +12,17 @@ use Rattle.vd_plan.specs.declared.answer.Answer.{Answer}
 use Rattle.vd_plan.specs.declared.status.Status.{Status}
 use Rattle.vd_plan.specs.declared.status.Status.TheVariants.{Ended}
 use Rattle.vd_frontend.specs.Sources.{IsSourceText}
-use Rattle.vd_compiling.specs.Selected.{IsSelected}
+use Rattle.vd_selecting.specs.Choice.{IsSelected}
+use Rattle.vd_selecting.specs.declared.choice.Assignment.{Assignment}
 use Rattle.vd_compiling.specs.Compiling.{host_files, plan_for}
 
 -- The answer stores a file for each host, of the host's code at the choice of protocols. The plan is the digest of the source's bytes
 -- and of what is printed. Each of these programs is one that can be read back from its file.
 pub record StoresPrograms (program : NormalForm) (text prefix : List ℕ) (answer : Answer) : Type 0 where
-  pub list : List ℕ
-  pub selected : IsSelected program list
-  pub can_be_stored : (h : ℕ) → h < length program.hosts → CanBeStored program list (plan_for text answer.printed) h
-  pub stores : answer.stores ≡ host_files prefix program.hosts (plan_for text answer.printed) 0 (host_codes program list)
+  pub assignment : Assignment
+  pub selected : IsSelected program assignment
+  pub can_be_stored : (h : ℕ) → h < length program.hosts → CanBeStored program assignment.protocols (plan_for text answer.printed) h
+  pub stores : answer.stores ≡ host_files prefix program.hosts (plan_for text answer.printed) 0 (host_codes program assignment.protocols)
 
 -- So does an answer of a program that ended.
 abbrev pub TellsPrograms : NormalForm → (text prefix : List ℕ) → Result Answer Status → Type 0

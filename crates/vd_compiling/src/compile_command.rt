@@ -3,9 +3,8 @@
 ghost use Rattle.std.specs.Prelude.{◌≡◌, ◌≤◌, length, IfOk};
 ghost use Rattle.vd_base.specs.Limits.{most_hosts, most_search_budget};
 ghost use Rattle.vd_plan.specs.Plans.{Computes};
-ghost use Rattle.vd_selecting.specs.Problems.{IsProblemOf};
-ghost use Rattle.vd_compiling.specs.Selected.{IsSelected};
-ghost use Rattle.vd_compiling.specs.Compiling.{ExecutesCompile, ExecutesProblem, ExecutesProgram, ExecutesSource, compiled_at, host_file, host_files};
+ghost use Rattle.vd_selecting.specs.Choice.{IsSelected};
+ghost use Rattle.vd_compiling.specs.Compiling.{ExecutesCompile, ExecutesSource, compiled_at, host_file, host_files};
 ghost use Rattle.vd_compiling.specs.Telling.{TellsPrograms, TellsSource, TellsTree};
 
 use crate::checks::no_assignment;
@@ -21,10 +20,7 @@ use vd_items::Items;
 use vd_outside::{Files, Stored};
 use vd_plan::{Answer, Status, file_name, load};
 use vd_resolve::Resolved;
-use vd_rewritten::run_program;
-use vd_selecting::{least_space, selection_text};
-use vd_selection::{SelectFault, Selection, Sweeps, select};
-use vd_spaces::Space;
+use vd_selecting::{Assignment, assignment_text, choice_of};
 
 /// The file of a host's program, `PREFIX.i.host` for host i, where these are the names of all hosts.
 fn file_of(
@@ -67,19 +63,18 @@ pub fn files_of(
 fn compile_at(
     alloc: Global,
     program: &Program,
-    space: &Space,
-    places: &[u32],
-    cost: u32,
+    assignment: &Assignment,
     text: &[u8],
     prefix: &str,
 ) -> Result<Answer, Status>
-    requires { IsSelected program.now places.now }
-    ensures computes { Computes (compiled_at program.now space.now places.now cost text.now prefix.now) result }
+    requires { IsSelected program.now assignment.now }
+    ensures computes { Computes (compiled_at program.now assignment.now text.now prefix.now) result }
     ensures tells { TellsPrograms program.now text.now prefix.now result }
 {
     program.numbers_fit();
-    let printed = selection_text(alloc, program, space, places, cost)?;
-    let codes = split(alloc, program, places)?;
+    let printed = assignment_text(alloc, program, assignment)?;
+    let protocols = assignment.protocols.as_slice();
+    let codes = split(alloc, program, protocols)?;
     let plan = plan_of(text, printed.as_slice());
     let hosts = &program.form().hosts;
     let stores = files_of(alloc, hosts, prefix, plan, codes)?;
@@ -88,46 +83,6 @@ fn compile_at(
         stores,
         printed,
     })
-}
-
-/// What `compile` does with the space of a program.
-fn compile_space(
-    alloc: Global,
-    program: &Program,
-    space: &Space,
-    text: &[u8],
-    prefix: &str,
-    budget: u32,
-) -> Result<Answer, Status>
-    requires budget { budget ≤ most_search_budget }
-    requires problem { IsProblemOf program.now space.now }
-    ensures executes { ExecutesProblem program.now space.now text.now prefix.now budget result }
-    ensures tells { TellsPrograms program.now text.now prefix.now result }
-{
-    match select(alloc, &Sweeps, space.problem(), budget) {
-        Ok(Selection::Found(places, cost, _)) => {
-            compile_at(alloc, program, space, places.as_slice(), cost, text, prefix)
-        }
-        Ok(Selection::NoAssignment(_)) => Ok(no_assignment(alloc)),
-        Err(SelectFault::Spent) => Err(Status::Spent(budget)),
-        Err(SelectFault::Memory) => Err(Status::Memory),
-    }
-}
-
-/// What `compile` does with a program.
-fn compile_program(
-    alloc: Global,
-    program: &Program,
-    text: &[u8],
-    prefix: &str,
-    budget: u32,
-) -> Result<Answer, Status>
-    requires { budget ≤ most_search_budget }
-    ensures executes { ExecutesProgram program.now text.now prefix.now budget result }
-    ensures tells { TellsPrograms program.now text.now prefix.now result }
-{
-    let space = least_space(alloc, program)?;
-    compile_space(alloc, program, &space, text, prefix, budget)
 }
 
 /// What `compile` does with a source that meets every rule, whose text this is.
@@ -142,8 +97,11 @@ pub fn compile_source(
     ensures executes { ExecutesSource source.now text.now prefix.now budget result }
     ensures tells { TellsTree source.now text.now prefix.now result }
 {
-    let program = run_program(alloc, source)?;
-    compile_program(alloc, &program, text, prefix, budget)
+    let choice = choice_of(alloc, source, budget)?;
+    match &choice.assignment {
+        Some(assignment) => compile_at(alloc, &choice.program, assignment, text, prefix),
+        None => Ok(no_assignment(alloc)),
+    }
 }
 
 /// The command `compile`: the programs of all hosts of a source, at its choice of protocols, which is found with a search of

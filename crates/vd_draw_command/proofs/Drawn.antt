@@ -1,62 +1,21 @@
 -- What a choice of protocols comes to, whatever functions pick the outcomes.
-use Rattle.std.proofs.Common.{◌≡◌, ℕ, true, Some, None, List, Result, Ok, Err, refl, sym, subst}
+use Rattle.std.proofs.Common.{◌≡◌, ℕ, true, List, Result, Ok, Err, refl, sym, subst}
 use Rattle.vd_base.specs.Limits.{most_source_bytes}
 use Rattle.vd_outside.specs.Files.{FilesView, Contents}
-use Rattle.vd_core.specs.declared.normal.NormalForm.{NormalForm}
 use Rattle.vd_core.specs.declared.source.Source.{Source}
-use Rattle.vd_constraints.specs.declared.labels.Labels.{Labels}
-use Rattle.vd_certificate.specs.declared.certificate.Certificate.{Certificate}
-use Rattle.vd_certificate.specs.Texts.{text_of}
-use Rattle.vd_space.specs.declared.problem.Problem.{Problem}
-use Rattle.vd_space.specs.Reading.{problem_of}
-use Rattle.vd_space.specs.Spaces.{IsProblem}
-use Rattle.vd_space.specs.Usual.{usual}
 use Rattle.vd_selection.specs.Choices.{ChoiceOutcomes}
-use Rattle.vd_selection.specs.Selecting.{IsOver, Selects}
-use Rattle.vd_selection.specs.declared.selecting.Selection.TheVariants.{Found, NoAssignment as NoList}
 use Rattle.vd_plan.specs.Loads.{Loads}
 use Rattle.vd_plan.specs.Plans.{Plan, Checks, Computes, Executes, check_then}
 use Rattle.vd_plan.specs.declared.answer.Answer.{Answer}
 use Rattle.vd_plan.specs.declared.status.Status.{Status}
-use Rattle.vd_plan.specs.declared.status.Status.TheVariants.{Memory, Spent}
-use Rattle.vd_plan.proofs.InSteps.{answers, any_memory, check_step, load_step}
+use Rattle.vd_plan.proofs.InSteps.{check_step, load_step}
 use Rattle.vd_frontend.specs.Outcomes.{TextOutcomes, LabelOutcomes}
 use Rattle.vd_frontend.specs.Sources.{source_of, resolved_of}
-use Rattle.vd_selecting.specs.Choosing.{Search, GaveUp, Certified}
-use Rattle.vd_selecting.proofs.Selected.{selected_then, spent_then}
-use Rattle.vd_draw_command.specs.Drawing.{ExecutesLabels, choice_plan, draw_plan, drawn_answer, no_drawing, source_plan, text_plan}
+use Rattle.vd_selecting.specs.Searching.{Search}
+use Rattle.vd_draw_command.specs.Drawing.{draw_plan, no_drawing, source_plan, text_plan}
 
-none_computes : (answer : Answer) → answer ≡ no_drawing → Computes no_drawing (Ok answer)
+pub none_computes : (answer : Answer) → answer ≡ no_drawing → Computes no_drawing (Ok answer)
 none_computes answer is = subst (λ (a : Answer). Computes no_drawing (Ok a)) (sym is) (record { proper = (refl, refl); no_fault = λ file e. cc e; settled = refl })
-
--- ---- with a selection
-
-module _ (program : NormalForm) (l : Labels) (name text : List ℕ) (budget : ℕ) where
-  abbrev problem : Problem
-  problem = problem_of program l
-
-  pub found : (list seen : List ℕ) (least : ℕ) (c : Certificate) (result : Result Answer Status) → Selects problem budget (Found list least c) → seen ≡ list
-      → Computes (drawn_answer name text program l seen) result → ExecutesLabels program l name text budget result
-  found list seen least c result is same computes = (
-    Certified (text_of c),
-    λ certificates choices files.
-        selected_then problem budget certificates choices (choice_plan name text program l) c (Some list) files files result is.2 is.0
-        (subst (λ (s : List ℕ). Executes true (choice_plan name text program l (Some s)) files files result) same (answers (drawn_answer name text program l seen) files result computes)),
-  )
-
-  pub none_found : (c : Certificate) (answer : Answer) → Selects problem budget (NoList c) → answer ≡ no_drawing → ExecutesLabels program l name text budget (Ok answer)
-  none_found c answer is none = (
-    Certified (text_of c),
-    λ certificates choices files.
-        selected_then problem budget certificates choices (choice_plan name text program l) c None files files (Ok answer) is.1 is.0
-        (answers no_drawing files (Ok answer) (none_computes answer none)),
-  )
-
-  pub gave_up : IsProblem problem → IsOver problem (usual problem) budget → ExecutesLabels program l name text budget (Err (Spent budget))
-  gave_up holds over = (GaveUp, λ certificates choices files. spent_then problem budget certificates choices (choice_plan name text program l) files holds over)
-
-  pub no_memory : ExecutesLabels program l name text budget (Err Memory)
-  no_memory = (GaveUp, λ certificates choices files. any_memory _ files)
 
 -- ---- with the bytes of a source
 

@@ -1,20 +1,18 @@
 -- A search that gives up wherever it may, beside any other.
-use Rattle.std.proofs.Common.{ℕ, List}
+use Rattle.std.proofs.Common.{ℕ, List, refl}
 use Rattle.vd_base.specs.Limits.{most_source_bytes}
 use Rattle.vd_outside.specs.Files.{Contents}
 use Rattle.vd_normal.specs.Normal.{normal_form}
 use Rattle.vd_rewritten.specs.RunPrograms.{run_form}
-use Rattle.vd_space.specs.Reading.{problem_of}
 use Rattle.vd_selection.specs.Choices.{ChoiceOutcomes}
 use Rattle.vd_plan.specs.Plans.{check_then}
 use Rattle.vd_plan.proofs.Following.{Follows, file_follows, check_follows}
 use Rattle.vd_frontend.specs.Outcomes.{TextOutcomes, LabelOutcomes}
 use Rattle.vd_frontend.specs.Sources.{source_of, resolved_of}
-use Rattle.vd_frontend.specs.Labelling.{labels_of}
 use Rattle.vd_selecting.specs.Outcomes.{CertificateOutcomes}
-use Rattle.vd_selecting.specs.Choosing.{Searched, searched_by, sure_search}
-use Rattle.vd_selecting.proofs.Selected.{choice_follows}
-use Rattle.vd_draw_command.specs.Drawing.{choice_plan, draw_plan, labels_plan, source_plan, text_plan}
+use Rattle.vd_selecting.specs.Searching.{Searched, searched_by, sure_search}
+use Rattle.vd_selecting.proofs.Steps.{choice_follows}
+use Rattle.vd_draw_command.specs.Drawing.{choice_plan, draw_plan, source_plan, text_plan}
 
 pub draw_follows : (texts : TextOutcomes) (least : LabelOutcomes) (certificates : CertificateOutcomes) (choices : ChoiceOutcomes) (searched : Searched) (name : List ℕ) (budget : ℕ) (files : Contents)
     → Follows (draw_plan texts least choices (sure_search choices) name budget files) (draw_plan texts least choices (searched_by certificates choices searched) name budget files)
@@ -23,6 +21,4 @@ draw_follows texts least certificates choices searched name budget files =
     (λ text. check_follows (source_of texts name text) (λ tree. check_then (resolved_of tree) (source_plan least choices (sure_search choices) name text budget))
     (λ tree. check_then (resolved_of tree) (source_plan least choices (searched_by certificates choices searched) name text budget)) files
     (λ tree. check_follows (resolved_of tree) (source_plan least choices (sure_search choices) name text budget) (source_plan least choices (searched_by certificates choices searched) name text budget) files
-    (λ resolved. check_follows (labels_of least (run_form least (normal_form resolved))) (labels_plan choices (sure_search choices) name text budget (run_form least (normal_form resolved)))
-    (labels_plan choices (searched_by certificates choices searched) name text budget (run_form least (normal_form resolved))) files
-    (λ labels. choice_follows (problem_of (run_form least (normal_form resolved)) labels) budget certificates choices (choice_plan name text (run_form least (normal_form resolved)) labels) searched files))))
+    (λ resolved. choice_follows (run_form least (normal_form resolved)) budget certificates choices (λ c. choice_plan name text c.program c.labels c.assignment) files (λ l one other. refl) least searched)))

@@ -1,20 +1,19 @@
 -- What `draw` says where it ends well.
-use Rattle.std.specs.Prelude.{◌≡◌, ℕ, List, map}
+use Rattle.std.specs.Prelude.{◌≡◌, ℕ, List}
 use Rattle.vd_outside.specs.Files.{Contents}
 use Rattle.vd_core.specs.declared.source.Source.{Source}
 use Rattle.vd_core.specs.declared.normal.NormalForm.{NormalForm}
 use Rattle.vd_rewritten.specs.RunPrograms.{IsRunProgram}
 use Rattle.vd_drawing.specs.Costs.{AddUp}
 use Rattle.vd_picture.specs.Picture.{drawn}
-use Rattle.vd_space.specs.Reading.{problem_of}
-use Rattle.vd_space.specs.Validity.{protocol}
 use Rattle.vd_selection.specs.Choices.{ChoiceOutcomes}
 use Rattle.vd_plan.specs.declared.status.Status.TheVariants.{Ended}
 use Rattle.vd_frontend.specs.Outcomes.{LabelOutcomes, TextOutcomes}
 use Rattle.vd_frontend.specs.Sources.{HoldsSource}
-use Rattle.vd_selecting.specs.Choosing.{Searched, searched_by}
+use Rattle.vd_selecting.specs.Searching.{Searched, searched_by}
 use Rattle.vd_selecting.specs.Outcomes.{CertificateOutcomes}
-use Rattle.vd_compiling.specs.Selected.{IsSelected}
+use Rattle.vd_selecting.specs.Choice.{IsSelected}
+use Rattle.vd_selecting.specs.declared.choice.Assignment.{Assignment}
 use Rattle.vd_draw_command.specs.Drawing.{draw_plan}
 
 -- The file is the text of a source that meets every rule, and what is printed is the drawing of its choice of protocols: of the valid
@@ -24,10 +23,10 @@ pub record TellsDrawing (name : List ℕ) (contents : Contents) (printed : List 
   pub held : HoldsSource name contents source
   pub program : NormalForm
   pub is_run : IsRunProgram source program
-  pub list : List ℕ
-  pub selected : IsSelected program list
-  pub picture : printed ≡ drawn name held.bytes program selected.labels (map (protocol (problem_of program selected.labels)) list)
-  pub costs : AddUp held.bytes program selected.labels list
+  pub assignment : Assignment
+  pub selected : IsSelected program assignment
+  pub picture : printed ≡ drawn name held.bytes program selected.labels assignment.protocols
+  pub costs : AddUp held.bytes program selected.labels selected.places
 
 -- so does its plan, whatever functions pick outcomes and whatever a search answers
 abbrev pub DrawingsTell : Type 0

@@ -1,42 +1,33 @@
 -- What a choice of protocols comes to in an order that waits less, whatever functions pick the outcomes.
-use Rattle.std.proofs.Common.{◌≡◌, ℕ, ◌≤◌, true, Some, None, List, [], ◌++◌, length, codes, Result, Ok, Err, refl, sym, ap, ◌∙◌, subst, arith}
+use Rattle.std.proofs.Common.{◌≡◌, ℕ, ◌≤◌, true, List, [], ◌++◌, length, codes, Result, Ok, Err, refl, ap, ◌∙◌, subst, arith}
 use Rattle.sha2.specs.Sha256.{sha256}
+use Rattle.vd_base.specs.declared.protocols.Proto.{Proto}
 use Rattle.vd_base.specs.Limits.{most_source_bytes, most_hosts}
 use Rattle.vd_outside.specs.Files.{FilesView, Contents}
 use Rattle.vd_outside.specs.declared.stored.Stored.{Stored}
 use Rattle.vd_core.specs.declared.normal.NormalForm.{NormalForm}
 use Rattle.vd_core.specs.declared.source.Source.{Source}
 use Rattle.vd_execution.specs.declared.instructions.Instr.{Instr}
-use Rattle.vd_certificate.specs.declared.certificate.Certificate.{Certificate}
-use Rattle.vd_certificate.specs.Texts.{text_of}
 use Rattle.vd_host_text.specs.declared.program.Digest.{Digest}
-use Rattle.vd_execution.specs.Joint.{Joint, Done, code_of}
+use Rattle.vd_execution.specs.Joint.{Joint, code_of}
 use Rattle.vd_execution.specs.Text.{text}
 use Rattle.vd_core.specs.Facts.{IsWellMade}
 use Rattle.std.proofs.lemmas.List.FromFn.{length-map-range_with_len}
-use Rattle.vd_search.specs.Answers.{nat_or_zero}
-use Rattle.vd_space.specs.declared.problem.Problem.{Problem}
-use Rattle.vd_space.specs.Costs.{cost}
-use Rattle.vd_space.specs.Spaces.{IsProblem}
-use Rattle.vd_space.specs.Usual.{usual}
 use Rattle.vd_selection.specs.Choices.{ChoiceOutcomes}
-use Rattle.vd_selection.specs.Selecting.{IsOver, Selects}
-use Rattle.vd_selection.specs.declared.selecting.Selection.TheVariants.{Found, NoAssignment as NoList}
 use Rattle.vd_plan.specs.Loads.{Loads}
-use Rattle.vd_plan.specs.Plans.{Plan, Checks, Computes, Executes, answer_then, check_then}
+use Rattle.vd_plan.specs.Plans.{Plan, Checks, Computes, Executes, check_then}
 use Rattle.vd_plan.specs.declared.answer.Answer.{Answer}
 use Rattle.vd_plan.specs.declared.status.Status.{Status}
-use Rattle.vd_plan.specs.declared.status.Status.TheVariants.{Ended, Memory, Spent}
-use Rattle.vd_plan.proofs.InSteps.{answers, any_memory, check_step, load_step}
+use Rattle.vd_plan.specs.declared.status.Status.TheVariants.{Ended}
+use Rattle.vd_plan.proofs.InSteps.{check_step, load_step}
 use Rattle.vd_frontend.specs.Outcomes.{TextOutcomes, LabelOutcomes}
 use Rattle.vd_frontend.specs.Sources.{source_of, resolved_of}
-use Rattle.vd_selecting.specs.Choosing.{Search, GaveUp, Certified}
-use Rattle.vd_selecting.proofs.Selected.{selected_then, spent_then}
-use Rattle.vd_compiling.specs.Selected.{no_list}
-use Rattle.vd_compiling.specs.Compiling.{host_files, printed_at}
-use Rattle.vd_compiling.proofs.Compiled.{none_computes}
+use Rattle.vd_selecting.specs.Searching.{Search}
+use Rattle.vd_selecting.specs.Choice.{printed_at}
+use Rattle.vd_selecting.specs.declared.choice.Assignment.{Assignment}
+use Rattle.vd_compiling.specs.Compiling.{host_files}
 use Rattle.vd_early_programs.specs.Early.{AreEarlyCodes, each_code}
-use Rattle.vd_early_command.specs.Compiling.{ExecutesList, ExecutesProblem, SomeOrder, choice_plan, early_at, early_plan, early_plan_for, source_plan, text_plan}
+use Rattle.vd_early_command.specs.Compiling.{early_at, early_plan, early_plan_for, source_plan, text_plan}
 
 -- ---- answers
 
@@ -44,69 +35,23 @@ abbrev made : List Stored → List ℕ → Answer
 made stores printed = record { status = Ended; stores = stores; printed = printed }
 
 -- what is stored and printed is what is wanted
-pub answered : (program : NormalForm) (problem : Problem) (joint : Joint) (list : List ℕ) (least : ℕ) (text prefix printed seen marked shown : List ℕ) (all : List (List Instr)) (plan : Digest)
-    (form : NormalForm) (stores : List Stored) → printed ≡ printed_at program problem list least → seen ≡ printed → marked ≡ seen ++ codes "early\n" → shown ≡ marked
-    → plan.bytes ≡ sha256 (text ++ shown) → form ≡ program → all ≡ each_code (length program.hosts) joint → stores ≡ host_files prefix form.hosts plan 0 all
-    → Computes (early_at program problem joint list least text prefix) (Ok (made stores printed))
-answered program problem joint list least text prefix printed seen marked shown all plan form stores p q m s b f a is =
-    let behind : shown ≡ printed_at program problem list least ++ codes "early\n" = s ∙ m ∙ ap (λ (t : List ℕ). t ++ codes "early\n") (q ∙ p) in
-    let digest : plan ≡ early_plan_for text (printed_at program problem list least) = λ i. record { bytes = (b ∙ ap (λ (t : List ℕ). sha256 (text ++ t)) behind) i } in
-    let files : stores ≡ host_files prefix program.hosts (early_plan_for text (printed_at program problem list least)) 0 (each_code (length program.hosts) joint) =
-    is ∙ (λ i. host_files prefix (f i).hosts (digest i) 0 (a i)) in
+pub answered : (program : NormalForm) (joint : Joint) (a : Assignment) (text prefix printed seen marked shown : List ℕ) (all : List (List Instr)) (plan : Digest) (form : NormalForm) (stores : List Stored)
+    → printed ≡ printed_at program a → seen ≡ printed → marked ≡ seen ++ codes "early\n" → shown ≡ marked → plan.bytes ≡ sha256 (text ++ shown) → form ≡ program
+    → all ≡ each_code (length program.hosts) joint → stores ≡ host_files prefix form.hosts plan 0 all → Computes (early_at program joint a text prefix) (Ok (made stores printed))
+answered program joint a text prefix printed seen marked shown all plan form stores p q m s b f codes_are is =
+    let behind : shown ≡ printed_at program a ++ codes "early\n" = s ∙ m ∙ ap (λ (t : List ℕ). t ++ codes "early\n") (q ∙ p) in
+    let digest : plan ≡ early_plan_for text (printed_at program a) = λ i. record { bytes = (b ∙ ap (λ (t : List ℕ). sha256 (text ++ t)) behind) i } in
+    let files : stores ≡ host_files prefix program.hosts (early_plan_for text (printed_at program a)) 0 (each_code (length program.hosts) joint) =
+    is ∙ (λ i. host_files prefix (f i).hosts (digest i) 0 (codes_are i)) in
     record { proper = (tt, refl); no_fault = λ file x. cc x; settled = λ i. made (files i) (p i) }
 
 -- there is a code for each host
-pub few_codes : (program : NormalForm) (list : List ℕ) (codes : List (List Instr)) → IsWellMade program → AreEarlyCodes program list codes → length codes ≤ most_hosts
+pub few_codes : (program : NormalForm) (list : List Proto) (codes : List (List Instr)) → IsWellMade program → AreEarlyCodes program list codes → length codes ≤ most_hosts
 few_codes program list codes made are =
     let count : length codes ≡ length program.hosts =
     ap (λ (cs : List (List Instr)). length cs) are.codes_are ∙ length-map-range_with_len (λ h. text (code_of h are.joint) []) 0 (length program.hosts) in
     let limit = made.limits.hosts in
     omega (arith, count, limit)
-
--- ---- with a list of protocols
-
-module _ (program : NormalForm) (problem : Problem) (text prefix : List ℕ) where
-  pub list_answered : (joint : Joint) (list : List ℕ) (least : ℕ) (result : Result Answer Status) → Computes (early_at program problem joint list least text prefix) result
-      → ExecutesList program problem text prefix list least joint result
-  list_answered joint list least result computes files = answers (early_at program problem joint list least text prefix) files result computes
-
-  -- ---- with a selection
-
-  found : (budget : ℕ) (joint : Joint) (list seen : List ℕ) (least : ℕ) (c : Certificate) (result : Result Answer Status) → Selects problem budget (Found list least c) → seen ≡ list
-      → ExecutesList program problem text prefix seen least joint result → ExecutesProblem program problem text prefix budget result
-  found budget joint list seen least c result is same then = (
-    joint,
-    (
-      Certified (text_of c),
-      λ certificates choices files.
-          let number : nat_or_zero (cost problem list) ≡ least = ap nat_or_zero is.1 in
-          selected_then problem budget certificates choices (choice_plan joint program problem text prefix) c (Some list) files files result is.2 is.0
-          (subst (λ (l : List ℕ). Executes true (answer_then (early_at program problem joint l (nat_or_zero (cost problem list)) text prefix)) files files result) same
-          (subst (λ (n : ℕ). Executes true (answer_then (early_at program problem joint seen n text prefix)) files files result) (sym number) (then files))),
-    ),
-  )
-
-  pub some_found : (budget : ℕ) (list seen : List ℕ) (least : ℕ) (c : Certificate) (result : Result Answer Status) → Selects problem budget (Found list least c) → seen ≡ list
-      → SomeOrder (λ joint. Computes (early_at program problem joint seen least text prefix) result) → ExecutesProblem program problem text prefix budget result
-  some_found budget list seen least c result is same computes =
-      found budget computes.0 list seen least c result is same (list_answered computes.0 seen least result computes.1)
-
-  pub none_found : (budget : ℕ) (c : Certificate) (answer : Answer) → Selects problem budget (NoList c) → answer ≡ no_list → ExecutesProblem program problem text prefix budget (Ok answer)
-  none_found budget c answer is none = (
-    Done,
-    (
-      Certified (text_of c),
-      λ certificates choices files.
-          selected_then problem budget certificates choices (choice_plan Done program problem text prefix) c None files files (Ok answer) is.1 is.0
-          (answers no_list files (Ok answer) (none_computes answer none)),
-    ),
-  )
-
-  pub gave_up : (budget : ℕ) → IsProblem problem → IsOver problem (usual problem) budget → ExecutesProblem program problem text prefix budget (Err (Spent budget))
-  gave_up budget holds over = (Done, (GaveUp, λ certificates choices files. spent_then problem budget certificates choices (choice_plan Done program problem text prefix) files holds over))
-
-  pub no_memory : (budget : ℕ) → ExecutesProblem program problem text prefix budget (Err Memory)
-  no_memory budget = (Done, (GaveUp, λ certificates choices files. any_memory _ files))
 
 -- ---- with the bytes of a source
 

@@ -4,16 +4,13 @@ use Rattle.vd_outside.specs.Files.{FilesView, Contents}
 use Rattle.vd_outside.specs.Sink.{SinkView}
 use Rattle.vd_cmd.specs.declared.command.EarlyWords.{EarlyWords}
 use Rattle.vd_frontend.proofs.Reading.{some_labels, some_texts}
-use Rattle.vd_selecting.specs.Choosing.{GaveUp, searched_by}
+use Rattle.vd_selecting.specs.Searching.{searched_by}
 use Rattle.vd_selecting.proofs.Reading.{some_certificates}
 use Rattle.vd_selection.proofs.Once.{some_choices}
 use Rattle.vd_plan.specs.Plans.{Executes, IsGiven, IsProper, Plan}
 use Rattle.vd_plan.specs.Runs.{Finishes}
 use Rattle.vd_plan.specs.declared.answer.Answer.{Answer}
 use Rattle.vd_plan.specs.declared.status.Status.{Status}
-use Rattle.vd_plan.specs.declared.status.Status.TheVariants.{Memory}
-use Rattle.vd_plan.proofs.InSteps.{any_memory}
-use Rattle.vd_execution.specs.Joint.{Done}
 use Rattle.vd_answers.proofs.Endings.{ended, never, printed, stand}
 use Rattle.vd_early_command.specs.Compiling.{ExecutesEarly, early_plan}
 use Rattle.vd_early_command.specs.Telling.{TellsSource}

@@ -4,24 +4,19 @@ use Rattle.vd_base.specs.Limits.{most_source_bytes}
 use Rattle.vd_outside.specs.Files.{FilesView, Contents}
 use Rattle.vd_core.specs.declared.normal.NormalForm.{NormalForm}
 use Rattle.vd_core.specs.declared.source.Source.{Source}
-use Rattle.vd_normal.specs.Normal.{normal_form}
-use Rattle.vd_rewritten.specs.RunPrograms.{run_form}
 use Rattle.vd_execution.specs.Joint.{Joint}
 use Rattle.vd_host_text.specs.declared.program.Digest.{Digest}
-use Rattle.vd_search.specs.Answers.{nat_or_zero}
-use Rattle.vd_space.specs.declared.problem.Problem.{Problem}
-use Rattle.vd_space.specs.Costs.{cost}
 use Rattle.vd_selection.specs.Choices.{ChoiceOutcomes}
 use Rattle.vd_plan.specs.Plans.{Plan, Executes, answer_then, check_then, ended, file_then}
 use Rattle.vd_plan.specs.declared.answer.Answer.{Answer}
 use Rattle.vd_plan.specs.declared.status.Status.{Status}
 use Rattle.vd_frontend.specs.Outcomes.{TextOutcomes, LabelOutcomes}
 use Rattle.vd_frontend.specs.Sources.{source_of, resolved_of}
-use Rattle.vd_selecting.specs.Choosing.{Search, SomeSearch}
-use Rattle.vd_selecting.specs.Problems.{problem_for}
-use Rattle.vd_selecting.specs.Selected.{choice_then}
+use Rattle.vd_selecting.specs.Searching.{Search, SomeSearch}
+use Rattle.vd_selecting.specs.Choice.{printed_at, run_choice_then}
+use Rattle.vd_selecting.specs.declared.choice.Assignment.{Assignment}
 use Rattle.vd_compiling.specs.Selected.{no_list}
-use Rattle.vd_compiling.specs.Compiling.{host_files, plan_for, printed_at}
+use Rattle.vd_compiling.specs.Compiling.{host_files, plan_for}
 use Rattle.vd_early_programs.specs.Early.{each_code}
 
 -- ---- what it comes to
@@ -32,27 +27,21 @@ abbrev pub early_plan_for : (text printed : List ℕ) → Digest
 early_plan_for text printed = plan_for text (printed ++ codes "early\n")
 
 -- The code of each host is stored in its file, where this is what all hosts do together; and the choice is printed with its cost.
-abbrev pub early_at : NormalForm → Problem → Joint → List ℕ → (least : ℕ) → (text prefix : List ℕ) → Answer
-early_at program problem joint list least text prefix =
-    let printed = printed_at program problem list least in
+abbrev pub early_at : NormalForm → Joint → Assignment → (text prefix : List ℕ) → Answer
+early_at program joint a text prefix =
+    let printed = printed_at program a in
     ended (host_files prefix program.hosts (early_plan_for text printed) 0 (each_code (length program.hosts) joint)) printed
 
 -- ---- the plan, where the search has found this order
 
--- with the choice, if there is one
-abbrev pub choice_plan : Joint → NormalForm → Problem → (text prefix : List ℕ) → Option (List ℕ) → Contents → Plan
-choice_plan joint program problem text prefix None = answer_then no_list
-choice_plan joint program problem text prefix (Some list) = answer_then (early_at program problem joint list (nat_or_zero (cost problem list)) text prefix)
+-- with the choice for a program, if there is one
+abbrev pub choice_plan : Joint → (text prefix : List ℕ) → NormalForm → Option Assignment → Contents → Plan
+choice_plan joint text prefix program None = answer_then no_list
+choice_plan joint text prefix program (Some a) = answer_then (early_at program joint a text prefix)
 
-abbrev pub problem_plan : ChoiceOutcomes → Search → Joint → (text prefix : List ℕ) → (budget : ℕ) → NormalForm → Problem → Contents → Plan
-problem_plan choices search joint text prefix budget program problem = choice_then choices search budget problem (choice_plan joint program problem text prefix)
-
--- with a program, and with a source that meets every rule
-abbrev pub program_plan : LabelOutcomes → ChoiceOutcomes → Search → Joint → (text prefix : List ℕ) → (budget : ℕ) → NormalForm → Contents → Plan
-program_plan least choices search joint text prefix budget program = check_then (problem_for least program) (problem_plan choices search joint text prefix budget program)
-
+-- with a source that meets every rule
 abbrev pub source_plan : LabelOutcomes → ChoiceOutcomes → Search → Joint → (text prefix : List ℕ) → (budget : ℕ) → Source → Contents → Plan
-source_plan least choices search joint text prefix budget source = program_plan least choices search joint text prefix budget (run_form least (normal_form source))
+source_plan least choices search joint text prefix budget source = run_choice_then least choices search budget source (λ c. choice_plan joint text prefix c.program c.assignment)
 
 -- with the bytes of a source
 abbrev pub text_plan : TextOutcomes → LabelOutcomes → ChoiceOutcomes → Search → Joint → (source prefix : List ℕ) → (budget : ℕ) → List ℕ → Contents → Plan
@@ -66,18 +55,6 @@ early_plan texts least choices search joint source prefix budget = file_then sou
 
 abbrev pub SomeOrder : (Joint → Type 0) → Type 0
 SomeOrder P = (joint : Joint) × P joint
-
-abbrev pub ExecutesList : NormalForm → Problem → (text prefix : List ℕ) → List ℕ → (least : ℕ) → Joint → Result Answer Status → Type 0
-ExecutesList program problem text prefix list least joint result =
-    (files : FilesView) → Executes true (answer_then (early_at program problem joint list least text prefix)) files files result
-
-abbrev pub ExecutesProblem : NormalForm → Problem → (text prefix : List ℕ) → (budget : ℕ) → Result Answer Status → Type 0
-ExecutesProblem program problem text prefix budget result =
-    SomeOrder (λ joint. SomeSearch (λ choices search. (files : FilesView) → Executes true (problem_plan choices search joint text prefix budget program problem) files files result))
-
-abbrev pub ExecutesProgram : NormalForm → (text prefix : List ℕ) → (budget : ℕ) → Result Answer Status → Type 0
-ExecutesProgram program text prefix budget result =
-    SomeOrder (λ joint. SomeSearch (λ choices search. (least : LabelOutcomes) (files : FilesView) → Executes true (program_plan least choices search joint text prefix budget program) files files result))
 
 abbrev pub ExecutesSource : Source → (text prefix : List ℕ) → (budget : ℕ) → Result Answer Status → Type 0
 ExecutesSource source text prefix budget result =

@@ -13,7 +13,8 @@ use Rattle.vd_plan.specs.declared.answer.Answer.{Answer}
 use Rattle.vd_plan.specs.declared.status.Status.{Status}
 use Rattle.vd_plan.specs.declared.status.Status.TheVariants.{Ended}
 use Rattle.vd_frontend.specs.Sources.{IsSourceText}
-use Rattle.vd_compiling.specs.Selected.{IsSelected}
+use Rattle.vd_selecting.specs.Choice.{IsSelected}
+use Rattle.vd_selecting.specs.declared.choice.Assignment.{Assignment}
 use Rattle.vd_compiling.specs.Compiling.{host_files}
 use Rattle.vd_early_programs.specs.Early.{IsEarly, each_code}
 use Rattle.vd_early_command.specs.Compiling.{early_plan_for}
@@ -22,11 +23,11 @@ use Rattle.vd_early_command.specs.Compiling.{early_plan_for}
 -- that waits less. The plan is the digest of the source's bytes, of what is printed, and of the word for this order. Each of these programs
 -- is one that can be read back from its file.
 pub record StoresEarly (program : NormalForm) (text prefix : List ℕ) (answer : Answer) : Type 0 where
-  pub list : List ℕ
-  pub selected : IsSelected program list
+  pub assignment : Assignment
+  pub selected : IsSelected program assignment
   pub joint : Joint
-  pub early : IsEarly (joint_of program list) joint
-  pub can_be_stored : (h : ℕ) → h < length program.hosts → CanBeStored program list (early_plan_for text answer.printed) h
+  pub early : IsEarly (joint_of program assignment.protocols) joint
+  pub can_be_stored : (h : ℕ) → h < length program.hosts → CanBeStored program assignment.protocols (early_plan_for text answer.printed) h
   pub stores : answer.stores ≡ host_files prefix program.hosts (early_plan_for text answer.printed) 0 (each_code (length program.hosts) joint)
 
 -- So does an answer of a program that ended.

@@ -3,9 +3,8 @@
 ghost use Rattle.std.specs.Prelude.{◌≡◌, ◌≤◌, ◌++◌, codes, IfOk};
 ghost use Rattle.vd_base.specs.Limits.{most_search_budget};
 ghost use Rattle.vd_plan.specs.Plans.{Computes};
-ghost use Rattle.vd_selecting.specs.Problems.{IsProblemOf};
-ghost use Rattle.vd_compiling.specs.Selected.{IsSelected};
-ghost use Rattle.vd_early_command.specs.Compiling.{ExecutesEarly, ExecutesProblem, ExecutesProgram, ExecutesSource, SomeOrder, early_at};
+ghost use Rattle.vd_selecting.specs.Choice.{IsSelected};
+ghost use Rattle.vd_early_command.specs.Compiling.{ExecutesEarly, ExecutesSource, SomeOrder, early_at};
 ghost use Rattle.vd_cmd.specs.Commands.{IsBudget};
 ghost use Rattle.vd_early_command.specs.Running.{KeepsOrder, RunsEarly};
 ghost use Rattle.vd_early_command.specs.Telling.{TellsPrograms, TellsSource, TellsTree};
@@ -22,10 +21,7 @@ use vd_host_text::plan_of;
 use vd_outside::{Files, Sink};
 use vd_plan::{Answer, Status, finish, load};
 use vd_resolve::Resolved;
-use vd_rewritten::run_program;
-use vd_selecting::{least_space, selection_text};
-use vd_selection::{SelectFault, Selection, Sweeps, select};
-use vd_spaces::Space;
+use vd_selecting::{Assignment, assignment_text, choice_of};
 
 /// What is printed, with the word for this order behind it.
 fn marked(alloc: Global, printed: &[u8]) -> Result<Bytes, AllocError>
@@ -40,19 +36,18 @@ fn marked(alloc: Global, printed: &[u8]) -> Result<Bytes, AllocError>
 fn compile_at(
     alloc: Global,
     program: &Program,
-    space: &Space,
-    places: &[u32],
-    cost: u32,
+    assignment: &Assignment,
     text: &[u8],
     prefix: &str,
 ) -> Result<Answer, Status>
-    requires { IsSelected program.now places.now }
-    ensures computes { SomeOrder (λ joint. Computes (early_at program.now space.now joint places.now cost text.now prefix.now) result) }
+    requires { IsSelected program.now assignment.now }
+    ensures computes { SomeOrder (λ joint. Computes (early_at program.now joint assignment.now text.now prefix.now) result) }
     ensures tells { TellsPrograms program.now text.now prefix.now result }
 {
     program.numbers_fit();
-    let printed = selection_text(alloc, program, space, places, cost)?;
-    let codes = split_early(alloc, program, places)?;
+    let printed = assignment_text(alloc, program, assignment)?;
+    let protocols = assignment.protocols.as_slice();
+    let codes = split_early(alloc, program, protocols)?;
     let told = marked(alloc, printed.as_slice())?;
     let plan = plan_of(text, told.as_slice());
     let hosts = &program.form().hosts;
@@ -62,46 +57,6 @@ fn compile_at(
         stores,
         printed,
     })
-}
-
-/// What `compile early` does with the space of a program.
-fn compile_space(
-    alloc: Global,
-    program: &Program,
-    space: &Space,
-    text: &[u8],
-    prefix: &str,
-    budget: u32,
-) -> Result<Answer, Status>
-    requires budget { budget ≤ most_search_budget }
-    requires problem { IsProblemOf program.now space.now }
-    ensures executes { ExecutesProblem program.now space.now text.now prefix.now budget result }
-    ensures tells { TellsPrograms program.now text.now prefix.now result }
-{
-    match select(alloc, &Sweeps, space.problem(), budget) {
-        Ok(Selection::Found(places, cost, _)) => {
-            compile_at(alloc, program, space, places.as_slice(), cost, text, prefix)
-        }
-        Ok(Selection::NoAssignment(_)) => Ok(no_assignment(alloc)),
-        Err(SelectFault::Spent) => Err(Status::Spent(budget)),
-        Err(SelectFault::Memory) => Err(Status::Memory),
-    }
-}
-
-/// What `compile early` does with a program.
-fn compile_program(
-    alloc: Global,
-    program: &Program,
-    text: &[u8],
-    prefix: &str,
-    budget: u32,
-) -> Result<Answer, Status>
-    requires { budget ≤ most_search_budget }
-    ensures executes { ExecutesProgram program.now text.now prefix.now budget result }
-    ensures tells { TellsPrograms program.now text.now prefix.now result }
-{
-    let space = least_space(alloc, program)?;
-    compile_space(alloc, program, &space, text, prefix, budget)
 }
 
 /// What `compile early` does with a source that meets every rule, whose text this is.
@@ -116,8 +71,11 @@ fn compile_source(
     ensures executes { ExecutesSource source.now text.now prefix.now budget result }
     ensures tells { TellsTree source.now text.now prefix.now result }
 {
-    let program = run_program(alloc, source)?;
-    compile_program(alloc, &program, text, prefix, budget)
+    let choice = choice_of(alloc, source, budget)?;
+    match &choice.assignment {
+        Some(assignment) => compile_at(alloc, &choice.program, assignment, text, prefix),
+        None => Ok(no_assignment(alloc)),
+    }
 }
 
 /// The command `compile` with the word `early`: the programs of all hosts of a source in an order that waits less, at its choice of

@@ -10,7 +10,7 @@ use Rattle.vd_plan.specs.declared.answer.Answer.{Answer}
 use Rattle.vd_plan.specs.declared.status.Status.{Status}
 use Rattle.vd_plan.proofs.InSteps.{check_step}
 use Rattle.vd_frontend.specs.Outcomes.{LabelOutcomes}
-use Rattle.vd_selecting.specs.Choosing.{Search}
+use Rattle.vd_selecting.specs.Searching.{Search}
 use Rattle.vd_outcomes.specs.Outcomes.{ReplayOutcomes}
 use Rattle.vd_depending.specs.Depending.{as_host}
 use Rattle.vd_depending.proofs.Naming.{named, within}

@@ -20,8 +20,8 @@ use Rattle.vd_frontend.specs.Inputs.{inputs_then, words_of}
 use Rattle.vd_selecting.proofs.Sure.{source_follows}
 use Rattle.vd_depending.specs.Depending.{as_host}
 use Rattle.vd_selecting.specs.Outcomes.{CertificateOutcomes}
-use Rattle.vd_selecting.specs.Choosing.{Searched, searched_by, sure_search}
-use Rattle.vd_selecting.proofs.Selected.{choice_follows}
+use Rattle.vd_selecting.specs.Searching.{Searched, searched_by, sure_search}
+use Rattle.vd_selecting.proofs.Selected.{places_follow}
 use Rattle.vd_outcomes.specs.Outcomes.{ReplayOutcomes}
 use Rattle.vd_asking.specs.Deals.{deal_of, deal_then, deals_from}
 use Rattle.vd_excuse_command.specs.declared.runs.Runs.{Runs}
@@ -57,7 +57,7 @@ module _ (texts : TextOutcomes) (outcomes : ReplayOutcomes) (least : LabelOutcom
       → Follows (host_plan outcomes least choices (sure_search choices) words p h runs files) (host_plan outcomes least choices (searched_by certificates choices searched) words p h runs files)
   host_follows p h runs =
       check_follows (labels_of least p) (labels_plan outcomes choices (sure_search choices) words.budget p h runs words.out) (labels_plan outcomes choices (searched_by certificates choices searched) words.budget p h runs words.out) files
-      (λ l. choice_follows (problem_of p l) words.budget certificates choices (choice_plan outcomes p l h runs words.out) searched files)
+      (λ l. places_follow (problem_of p l) words.budget certificates choices (choice_plan outcomes p l h runs words.out) searched files)
 
   runs_follow : (p : NormalForm) (runs : Runs)
       → Follows (runs_plan outcomes least choices (sure_search choices) words p runs files) (runs_plan outcomes least choices (searched_by certificates choices searched) words p runs files)

@@ -1,5 +1,5 @@
 -- The command `excuse`.
-use Rattle.std.specs.Prelude.{ℕ, ◌-◌, nat_eq, true, not, if◌then◌else◌, Option, Some, None, List, [], ◌++◌, length, slice_index_or, Result, Ok, Err, codes}
+use Rattle.std.specs.Prelude.{ℕ, ◌-◌, nat_eq, true, not, if◌then◌else◌, Option, Some, None, List, [], ◌++◌, length, map, slice_index_or, Result, Ok, Err, codes}
 use Rattle.std.specs.List.{position}
 use Rattle.vd_base.specs.declared.ids.HostId.{HostId}
 use Rattle.vd_base.specs.HostSets.{host}
@@ -14,7 +14,7 @@ use Rattle.vd_constraints.specs.declared.labels.Labels.{Labels}
 use Rattle.vd_space.specs.declared.problem.Problem.{Problem}
 use Rattle.vd_space.specs.Reading.{problem_of}
 use Rattle.vd_space.specs.Spaces.{IsProblem}
-use Rattle.vd_space.specs.Validity.{protocols}
+use Rattle.vd_space.specs.Validity.{protocol, protocols}
 use Rattle.vd_suite.specs.Parts.{has_back_end}
 use Rattle.vd_cmd.specs.declared.command.ExcuseWords.{ExcuseWords}
 use Rattle.vd_deals.specs.declared.deal.Deal.{Deal}
@@ -29,9 +29,9 @@ use Rattle.vd_frontend.specs.Outcomes.{TextOutcomes, LabelOutcomes}
 use Rattle.vd_frontend.specs.Labelling.{labels_of}
 use Rattle.vd_frontend.specs.Sources.{source_then}
 use Rattle.vd_depending.specs.Depending.{as_host}
-use Rattle.vd_selecting.specs.Choosing.{Search, SomeSearch}
+use Rattle.vd_selecting.specs.Searching.{Search, SomeSearch}
 use Rattle.vd_selecting.specs.Problems.{IsProblemOf}
-use Rattle.vd_selecting.specs.Selected.{choice_then}
+use Rattle.vd_selecting.specs.Selected.{places_then}
 use Rattle.vd_compiling.specs.Selected.{no_list}
 use Rattle.vd_outcomes.specs.Outcomes.{ReplayOutcomes}
 use Rattle.vd_asking.specs.Deals.{as_consistent}
@@ -85,14 +85,18 @@ abbrev pub talk_line : (names : List (List ℕ)) → HostId → List ℕ → Lis
 talk_line names h words = words_line (slice_index_or names (1 - h.0) [] ++ codes ">" ++ slice_index_or names h.0 []) words
 
 -- a file for each host, and the words that the other host sends
-abbrev pub excuse_answer : NormalForm → List ℕ → HostId → Runs → (out : List ℕ) → List Deal → Answer
-excuse_answer p list h runs out stored = ended (deal_files out stored) (talk_line p.hosts h (talk p list runs.first runs.deals (1 - h.0) h.0))
+abbrev pub excuse_answer : NormalForm → List Proto → HostId → Runs → (out : List ℕ) → List Deal → Answer
+excuse_answer p protocols h runs out stored = ended (deal_files out stored) (talk_line p.hosts h (talk p protocols runs.first runs.deals (1 - h.0) h.0))
+
+-- the protocols at these places of the list of all
+abbrev pub protocols_in : NormalForm → Labels → List ℕ → List Proto
+protocols_in p l list = map (protocol (problem_of p l)) list
 
 -- ---- the plan
 
 -- with a list of protocols that has no commitment, and a consistent deal
 abbrev pub excused_plan : NormalForm → Labels → HostId → Runs → (out : List ℕ) → List ℕ → Contents → Plan
-excused_plan p l h runs out list = check_then (excused_for p l list h runs) (λ stored. answer_then (excuse_answer p list h runs out stored))
+excused_plan p l h runs out list = check_then (excused_for p l list h runs) (λ stored. answer_then (excuse_answer p (protocols_in p l list) h runs out stored))
 
 -- with a list of protocols
 abbrev pub list_plan : ReplayOutcomes → NormalForm → Labels → HostId → Runs → (out : List ℕ) → List ℕ → Contents → Plan
@@ -107,7 +111,7 @@ choice_plan outcomes p l h runs out (Some list) = list_plan outcomes p l h runs 
 
 -- with the least labels
 abbrev pub labels_plan : ReplayOutcomes → ChoiceOutcomes → Search → (budget : ℕ) → NormalForm → HostId → Runs → (out : List ℕ) → Labels → Contents → Plan
-labels_plan outcomes choices search budget p h runs out l = choice_then choices search budget (problem_of p l) (choice_plan outcomes p l h runs out)
+labels_plan outcomes choices search budget p h runs out l = places_then choices search budget (problem_of p l) (choice_plan outcomes p l h runs out)
 
 -- with a program, one of its two hosts, and both runs
 abbrev pub host_plan : ReplayOutcomes → LabelOutcomes → ChoiceOutcomes → Search → ExcuseWords → NormalForm → HostId → Runs → Contents → Plan

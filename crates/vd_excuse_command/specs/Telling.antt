@@ -15,7 +15,8 @@ use Rattle.vd_plan.specs.declared.status.Status.{Status}
 use Rattle.vd_plan.specs.declared.status.Status.TheVariants.{Ended}
 use Rattle.vd_dealing.specs.Dealing.{deal_files}
 use Rattle.vd_frontend.specs.Sources.{HoldsSource}
-use Rattle.vd_compiling.specs.Selected.{IsSelected}
+use Rattle.vd_selecting.specs.Choice.{IsSelected}
+use Rattle.vd_selecting.specs.declared.choice.Assignment.{Assignment}
 use Rattle.vd_program_views.specs.Explained.{IsOfTwo, plan_of, AgreeFor}
 use Rattle.vd_deal_views.specs.Files.{IsExcuse}
 use Rattle.vd_talk.specs.Talk.{talk}
@@ -27,18 +28,18 @@ use Rattle.vd_excuse_command.specs.Excusing.{talk_line}
 -- both inputs. The files that are stored are those of deals which explain the second inputs to it, and what is printed is what the
 -- other host sends it: the same in both runs.
 pub record IsExcuseOf (name : List ℕ) (p : NormalForm) (runs : Runs) (out : List ℕ) (stored : List Stored) (printed : List ℕ) : Type 0 where
-  pub list : List ℕ
-  pub selected : IsSelected p list
-  pub two : IsOfTwo p selected.labels list
+  pub assignment : Assignment
+  pub selected : IsSelected p assignment
+  pub two : IsOfTwo p selected.labels selected.places
   pub host : HostId
   pub low : host.0 < 2
   pub named : host_of p.hosts name ≡ Some host.0
-  pub agree : AgreeFor p selected.labels list host runs.first runs.second
+  pub agree : AgreeFor p selected.labels selected.places host runs.first runs.second
   pub deals : List Deal
-  pub explain : IsExcuse host.0 (plan_of p selected.labels list) runs.first runs.second runs.deals deals
+  pub explain : IsExcuse host.0 (plan_of p selected.labels selected.places) runs.first runs.second runs.deals deals
   pub files : stored ≡ deal_files out deals
-  pub line : printed ≡ talk_line p.hosts host (talk p list runs.first runs.deals (1 - host.0) host.0)
-  pub line_too : printed ≡ talk_line p.hosts host (talk p list runs.second deals (1 - host.0) host.0)
+  pub line : printed ≡ talk_line p.hosts host (talk p assignment.protocols runs.first runs.deals (1 - host.0) host.0)
+  pub line_too : printed ≡ talk_line p.hosts host (talk p assignment.protocols runs.second deals (1 - host.0) host.0)
 
 -- of a program, on what the files say that the words name
 pub record IsExcuseIn (words : ExcuseWords) (p : NormalForm) (contents : Contents) (stored : List Stored) (printed : List ℕ) : Type 0 where

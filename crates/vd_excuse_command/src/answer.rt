@@ -8,7 +8,7 @@ ghost use Rattle.vd_talk.specs.Talk.{IsPlayable, talk};
 ghost use Rattle.vd_excuse_command.specs.Excusing.{talk_line};
 
 use std::alloc::{AllocError, Global};
-use vd_base::{Bytes, HostId, Inputs, Names};
+use vd_base::{Bytes, HostId, Inputs, Names, Proto};
 use vd_core::Program;
 use vd_dealing::files_of;
 use vd_deals::{Deal, Deals};
@@ -33,21 +33,21 @@ fn line_text(alloc: Global, names: &Names, host: HostId, words: &[u32]) -> Resul
 fn said_text(
     alloc: Global,
     program: &Program,
-    places: &[u32],
+    protocols: &[Proto],
     host: HostId,
     inputs: &Inputs,
     deals: Deals,
 ) -> Result<Bytes, AllocError>
     requires host { host.0 < 2 }
-    requires runnable { IsRunnable program.now places.now }
-    requires playable { IsPlayable program.now places.now inputs.now deals }
+    requires runnable { IsRunnable program.now protocols.now }
+    requires playable { IsPlayable program.now protocols.now inputs.now deals }
     ensures { IfOk result (λ text. text ≡
-        talk_line program.now.hosts host (talk program.now places.now inputs.now deals (1 - host.0) host.0)) }
+        talk_line program.now.hosts host (talk program.now protocols.now inputs.now deals (1 - host.0) host.0)) }
 {
     let words = talk(
         alloc,
         program,
-        places,
+        protocols,
         inputs,
         deals,
         HostId(1 - host.0),
@@ -60,7 +60,7 @@ fn said_text(
 pub(crate) fn answer(
     alloc: Global,
     program: &Program,
-    places: &[u32],
+    protocols: &[Proto],
     host: HostId,
     inputs: &Inputs,
     deals: Deals,
@@ -68,12 +68,12 @@ pub(crate) fn answer(
     out: &str,
 ) -> Result<Answer, AllocError>
     requires host { host.0 < 2 }
-    requires runnable { IsRunnable program.now places.now }
-    requires playable { IsPlayable program.now places.now inputs.now deals }
+    requires runnable { IsRunnable program.now protocols.now }
+    requires playable { IsPlayable program.now protocols.now inputs.now deals }
     ensures { IfOk result (λ answer. answer ≡ ended (deal_files out.now stored.now)
-        (talk_line program.now.hosts host (talk program.now places.now inputs.now deals (1 - host.0) host.0))) }
+        (talk_line program.now.hosts host (talk program.now protocols.now inputs.now deals (1 - host.0) host.0))) }
 {
-    let printed = said_text(alloc, program, places, host, inputs, deals)?;
+    let printed = said_text(alloc, program, protocols, host, inputs, deals)?;
     let stores = files_of(alloc, out, stored)?;
     Ok(Answer {
         status: Status::Ended,

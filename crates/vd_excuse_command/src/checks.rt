@@ -1,8 +1,9 @@
 //! What is looked at before anything is explained.
 
-ghost use Rattle.std.specs.Prelude.{◌≡◌, OnOk, IfOk, ◌<◌, length, true, ℕ};
+ghost use Rattle.std.specs.Prelude.{◌≡◌, OnOk, IfOk, ◌<◌, length, map, true, ℕ};
 ghost use Rattle.vd_constraints.specs.declared.labels.Labels.{Labels};
 ghost use Rattle.vd_space.specs.Reading.{problem_of};
+ghost use Rattle.vd_space.specs.Validity.{protocol};
 ghost use Rattle.vd_host_programs.specs.Programs.{IsRunnable};
 ghost use Rattle.vd_program_views.specs.Explained.{IsOfTwo};
 ghost use Rattle.vd_suite.specs.Parts.{has_back_end};
@@ -66,12 +67,14 @@ pub(crate) fn excused(
     alloc: Global,
     program: &Program,
     space: &Space,
+    protocols: &[Proto],
     places: &[u32],
     host: HostId,
     runs: &Runs,
 ) -> Result<Deals, Status>
     requires host { host.0 < 2 }
-    requires runnable { IsRunnable program.now places.now }
+    requires runnable { IsRunnable program.now protocols.now }
+    requires named { protocols.now ≡ map (protocol space.now) places.now }
     requires asked { AreAsked runs.now.first runs.now.second runs.now.deals }
     ensures checks { (l : Labels) → space.now ≡ problem_of program.now l → IsOfTwo program.now l places.now →
         Checks (excused_for program.now l places.now host runs.now) result }
@@ -82,6 +85,7 @@ pub(crate) fn excused(
         alloc,
         program,
         space,
+        protocols,
         places,
         host,
         &runs.first,

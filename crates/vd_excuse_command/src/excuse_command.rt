@@ -27,6 +27,7 @@ use vd_outside::Files;
 use vd_plan::{Answer, Status};
 use vd_resolve::Resolved;
 use vd_rewritten::run_program;
+use vd_selecting::protocols_at;
 use vd_selection::{SelectFault, Selection, Sweeps, select};
 use vd_spaces::Space;
 
@@ -51,7 +52,9 @@ fn excuse_free(
     ensures tells { TellsAt host program.now out.now runs result }
 {
     program.numbers_fit();
-    let stored = excused(alloc, program, space, places, host, &runs)?;
+    let protocols = protocols_at(alloc, space, places)?;
+    let list = protocols.as_slice();
+    let stored = excused(alloc, program, space, list, places, host, &runs)?;
     let Runs {
         first,
         second: _,
@@ -60,7 +63,7 @@ fn excuse_free(
     let answer = answer(
         alloc,
         program,
-        places,
+        list,
         host,
         &first,
         deals,

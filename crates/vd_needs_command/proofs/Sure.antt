@@ -1,5 +1,5 @@
 -- A search that gives up wherever it may, beside any other.
-use Rattle.std.proofs.Common.{inl, ℕ, Bool, true, false, if◌then◌else◌, List}
+use Rattle.std.proofs.Common.{inl, ℕ, Bool, true, false, if◌then◌else◌, List, refl}
 use Rattle.vd_base.specs.Limits.{most_host_file_bytes}
 use Rattle.vd_outside.specs.Files.{Contents}
 use Rattle.vd_normal.specs.Normal.{normal_form}
@@ -11,10 +11,9 @@ use Rattle.vd_plan.proofs.Following.{Follows, file_follows, check_follows}
 use Rattle.vd_frontend.specs.Outcomes.{TextOutcomes, LabelOutcomes}
 use Rattle.vd_frontend.specs.Sources.{source_of, resolved_of}
 use Rattle.vd_selecting.specs.Outcomes.{CertificateOutcomes}
-use Rattle.vd_selecting.specs.Problems.{problem_for}
-use Rattle.vd_selecting.specs.Choosing.{Searched, searched_by, sure_search}
-use Rattle.vd_selecting.proofs.Selected.{choice_follows}
-use Rattle.vd_needs_command.specs.Needing.{bytes_plan, choice_plan, host_plan, is_program_text, needs_plan, problem_plan, source_plan, text_plan, tree_plan}
+use Rattle.vd_selecting.specs.Searching.{Searched, searched_by, sure_search}
+use Rattle.vd_selecting.proofs.Steps.{choice_follows}
+use Rattle.vd_needs_command.specs.Needing.{bytes_plan, choice_plan, host_plan, is_program_text, needs_plan, source_plan, text_plan, tree_plan}
 use Rattle.vd_needs_command.specs.Outcomes.{ProgramOutcomes}
 
 either_follows : (b : Bool) (host sure plan : Contents → Plan) (files : Contents) → Follows (sure files) (plan files) → Follows ((if b then host else sure) files) ((if b then host else plan) files)
@@ -26,9 +25,7 @@ module _ (texts : TextOutcomes) (programs : ProgramOutcomes) (least : LabelOutco
   text_follows bytes =
       check_follows (source_of texts words.file bytes) (tree_plan least choices (sure_search choices) words) (tree_plan least choices (searched_by certificates choices searched) words) files
       (λ tree. check_follows (resolved_of tree) (source_plan least choices (sure_search choices) words) (source_plan least choices (searched_by certificates choices searched) words) files
-      (λ resolved. check_follows (problem_for least (run_form least (normal_form resolved))) (problem_plan choices (sure_search choices) words (run_form least (normal_form resolved)))
-      (problem_plan choices (searched_by certificates choices searched) words (run_form least (normal_form resolved))) files
-      (λ problem. choice_follows problem words.budget certificates choices (choice_plan words.each (run_form least (normal_form resolved))) searched files)))
+      (λ resolved. choice_follows (run_form least (normal_form resolved)) words.budget certificates choices (λ c. choice_plan words.each c.program c.assignment) files (λ l one other. refl) least searched))
 
   pub needs_follows : Follows (needs_plan texts programs least choices (sure_search choices) words files) (needs_plan texts programs least choices (searched_by certificates choices searched) words files)
   needs_follows =

@@ -1,10 +1,12 @@
 -- What is told of needs.
 use Rattle.std.proofs.Common.{◌≡◌, ℕ, Bool, List, [], Result, Ok, Err, IfOk, refl, sym, ap, ◌∙◌, subst}
+use Rattle.vd_base.specs.declared.protocols.Proto.{Proto}
 use Rattle.vd_base.specs.Limits.{most_host_file_bytes}
 use Rattle.vd_outside.specs.Files.{FilesView}
 use Rattle.vd_core.specs.declared.normal.NormalForm.{NormalForm}
 use Rattle.vd_core.specs.declared.source.Source.{Source}
 use Rattle.vd_core.specs.Facts.{IsWellMade}
+use Rattle.vd_rewritten.specs.RunPrograms.{IsRunProgram}
 use Rattle.vd_core.specs.Numbers.{NumbersFit}
 use Rattle.vd_parser.specs.Outcomes.{IsParse}
 use Rattle.vd_execution.specs.Code.{Code}
@@ -28,45 +30,49 @@ use Rattle.vd_plan.specs.declared.status.Status.{Status}
 use Rattle.vd_plan.specs.declared.status.Status.TheVariants.{Ended, NoAssignment}
 use Rattle.vd_plan.proofs.Finding.{loaded_is}
 use Rattle.vd_frontend.specs.Sources.{IsSourceText, resolved_of}
-use Rattle.vd_compiling.specs.Selected.{IsSelected, no_list}
+use Rattle.vd_selecting.specs.Choice.{IsSelected}
+use Rattle.vd_selecting.specs.declared.choice.Assignment.{Assignment}
+use Rattle.vd_compiling.specs.Selected.{no_list}
 use Rattle.vd_compiling.proofs.Runnable.{runnable_of}
 use Rattle.vd_needs_command.specs.Lines.{program_lines}
 use Rattle.vd_needs_command.specs.Needing.{needs_text}
-use Rattle.vd_needs_command.specs.Telling.{IsNeedsOf, IsNeedsOfBytes, IsNeedsOfHost, OfHost, OfSource, TellsBytes, TellsHost, TellsNeeds, TellsProgram, TellsSource, TellsText}
+use Rattle.vd_needs_command.specs.Telling.{IsNeedsOf, IsNeedsOfBytes, IsNeedsOfHost, OfHost, OfSource, TellsBytes, TellsHost, TellsNeeds, TellsSource, TellsText}
 use Rattle.vd_needs_command.proofs.Reading.{meets}
 
 -- ---- with a list of protocols
 
-module _ (each : Bool) (program : NormalForm) (list : List ℕ) (made : IsWellMade program) (numbers : NumbersFit program) (selected : IsSelected program list) where
-  can : CanBeSplit program list
-  can = record { made = made; numbers = numbers; runnable = runnable_of program list made selected }
+module _ (each : Bool) (program : NormalForm) (a : Assignment) (made : IsWellMade program) (numbers : NumbersFit program) (selected : IsSelected program a) where
+  can : CanBeSplit program a.protocols
+  can = record { made = made; numbers = numbers; runnable = runnable_of program a selected a.protocols refl }
 
-  pub is_needs : (printed : List ℕ) → printed ≡ needs_text each program list → IsNeedsOf each program printed
+  is_needs : (printed : List ℕ) → printed ≡ needs_text each program a.protocols → IsNeedsOf each program printed
   is_needs printed line = record {
-    list = list;
+    assignment = a;
     selected = selected;
     line = line;
-    enough = sizes_are_enough program list can;
-    made = deals_have_their_sizes (sizes_for program list);
-    least = sizes_are_least program list can;
+    enough = sizes_are_enough program a.protocols can;
+    made = deals_have_their_sizes (sizes_for program a.protocols);
+    least = sizes_are_least program a.protocols can;
   }
 
-  pub needs_told : (answer : Answer) (printed : List ℕ) → answer ≡ ended [] printed → printed ≡ needs_text each program list → IsNeedsOf each program answer.printed
-  needs_told answer printed is line = is_needs answer.printed (ap (λ (a : Answer). a.printed) is ∙ line)
+  pub needs_told : (answer : Answer) (printed : List ℕ) (protocols : List Proto) → answer ≡ ended [] printed → printed ≡ needs_text each program protocols → protocols ≡ a.protocols → IsNeedsOf each program answer.printed
+  needs_told answer printed protocols is line same =
+      is_needs answer.printed (ap (λ (x : Answer). x.printed) is ∙ line ∙ ap (λ (l : List Proto). needs_text each program l) same)
 
 -- the answer that prints a text
 pub prints : (answer : Answer) (printed wanted : List ℕ) → answer ≡ ended [] printed → printed ≡ wanted → Computes (ended [] wanted) (Ok answer)
 prints answer printed wanted is same =
     subst (λ (a : Answer). Computes (ended [] wanted) (Ok a)) (sym (is ∙ ap (λ (t : List ℕ). ended [] t) same)) (record { proper = (tt, refl); no_fault = λ file e. cc e; settled = refl })
 
--- it is told of, whatever the status
-pub told_then : (words : NeedsWords) (program : NormalForm) (result : Result Answer Status) → IfOk result (λ answer. IsNeedsOf words.each program answer.printed) → TellsProgram words program result
-told_then words program (Ok answer) is = λ e. is
-told_then words program (Err status) is = tt
+-- it is told of the source, whatever the status
+pub told_then : (words : NeedsWords) (source : Source) (program : NormalForm) (result : Result Answer Status) → IsRunProgram source program → IfOk result (λ answer. IsNeedsOf words.each program answer.printed)
+    → TellsSource words source result
+told_then words source program (Ok answer) is_run is = λ e. (program, is_run, is)
+told_then words source program (Err status) is_run is = tt
 
 -- where no list is valid, nothing is told
-pub none_told : (words : NeedsWords) (program : NormalForm) (answer : Answer) → answer ≡ no_list → TellsProgram words program (Ok answer)
-none_told words program answer is = λ e. let wrong : NoAssignment ≡ Ended = sym (ap (λ (a : Answer). a.status) is) ∙ e in absurd (cc wrong)
+pub none_told : (words : NeedsWords) (source : Source) (answer : Answer) → answer ≡ no_list → TellsSource words source (Ok answer)
+none_told words source answer is = λ e. let wrong : NoAssignment ≡ Ended = sym (ap (λ (a : Answer). a.status) is) ∙ e in absurd (cc wrong)
 
 -- ---- with the text of a source
 

@@ -1,17 +1,15 @@
 -- The command `needs`.
 use Rattle.std.specs.Prelude.{ℕ, nat_eq, Bool, true, if◌then◌else◌, Option, Some, None, List, [], Result, Ok, Err, codes}
 use Rattle.std.specs.List.{starts_with}
+use Rattle.vd_base.specs.declared.protocols.Proto.{Proto}
 use Rattle.vd_base.specs.Limits.{most_host_file_bytes}
 use Rattle.vd_outside.specs.Files.{FilesView, Contents}
 use Rattle.vd_core.specs.declared.normal.NormalForm.{NormalForm}
 use Rattle.vd_core.specs.declared.source.Source.{Source}
-use Rattle.vd_normal.specs.Normal.{normal_form}
-use Rattle.vd_rewritten.specs.RunPrograms.{run_form}
 use Rattle.vd_needs.specs.Sizes.{sizes_of}
 use Rattle.vd_host_text.specs.declared.program.HostProgram.{HostProgram}
 use Rattle.vd_hostcode.specs.declared.fault.CodeFault.{CodeFault}
 use Rattle.vd_hostcode.specs.declared.fault.CodeFault.TheVariants.{Text, Range, Memory}
-use Rattle.vd_space.specs.declared.problem.Problem.{Problem}
 use Rattle.vd_selection.specs.Choices.{ChoiceOutcomes}
 use Rattle.vd_cmd.specs.declared.command.NeedsWords.{NeedsWords}
 use Rattle.vd_plan.specs.Plans.{Plan, Executes, answer_then, check_then, ended, file_then}
@@ -21,9 +19,9 @@ use Rattle.vd_plan.specs.declared.status.Status.TheVariants.{Host, Memory as Out
 use Rattle.vd_plan.specs.declared.status.HostStatus.TheVariants.{ProgramText, ProgramRange}
 use Rattle.vd_frontend.specs.Outcomes.{TextOutcomes, LabelOutcomes}
 use Rattle.vd_frontend.specs.Sources.{source_of, resolved_of}
-use Rattle.vd_selecting.specs.Choosing.{Search, SomeSearch}
-use Rattle.vd_selecting.specs.Problems.{problem_for}
-use Rattle.vd_selecting.specs.Selected.{choice_then}
+use Rattle.vd_selecting.specs.Searching.{Search, SomeSearch}
+use Rattle.vd_selecting.specs.Choice.{run_choice_then}
+use Rattle.vd_selecting.specs.declared.choice.Assignment.{Assignment}
 use Rattle.vd_compiling.specs.Selected.{no_list}
 use Rattle.vd_needs_command.specs.Lines.{each_lines, program_lines, sizes_line}
 use Rattle.vd_enough.specs.Enough.{needs_for}
@@ -31,27 +29,18 @@ use Rattle.vd_needs_command.specs.Outcomes.{ProgramOutcomes}
 
 -- ---- a source
 
--- what is printed of a program at a list of protocols
-abbrev pub needs_text : (each : Bool) → NormalForm → List ℕ → List ℕ
-needs_text each program list = if each then each_lines program.hosts (needs_for program list) else sizes_line (sizes_of (needs_for program list))
+-- what is printed of a program at an assignment of protocols
+abbrev pub needs_text : (each : Bool) → NormalForm → List Proto → List ℕ
+needs_text each program protocols = if each then each_lines program.hosts (needs_for program protocols) else sizes_line (sizes_of (needs_for program protocols))
 
-abbrev pub list_plan : (each : Bool) → NormalForm → List ℕ → Contents → Plan
-list_plan each program list = answer_then (ended [] (needs_text each program list))
-
--- with the choice, if there is one
-abbrev pub choice_plan : (each : Bool) → NormalForm → Option (List ℕ) → Contents → Plan
+-- with the choice for a program, if there is one
+abbrev pub choice_plan : (each : Bool) → NormalForm → Option Assignment → Contents → Plan
 choice_plan each program None = answer_then no_list
-choice_plan each program (Some list) = list_plan each program list
+choice_plan each program (Some a) = answer_then (ended [] (needs_text each program a.protocols))
 
-abbrev pub problem_plan : ChoiceOutcomes → Search → NeedsWords → NormalForm → Problem → Contents → Plan
-problem_plan choices search words program problem = choice_then choices search words.budget problem (choice_plan words.each program)
-
--- with a program, and with a source that meets every rule
-abbrev pub program_plan : LabelOutcomes → ChoiceOutcomes → Search → NeedsWords → NormalForm → Contents → Plan
-program_plan least choices search words program = check_then (problem_for least program) (problem_plan choices search words program)
-
+-- with a source that meets every rule
 abbrev pub source_plan : LabelOutcomes → ChoiceOutcomes → Search → NeedsWords → Source → Contents → Plan
-source_plan least choices search words source = program_plan least choices search words (run_form least (normal_form source))
+source_plan least choices search words source = run_choice_then least choices search words.budget source (λ c. choice_plan words.each c.program c.assignment)
 
 abbrev pub ExecutesSource : NeedsWords → Source → Result Answer Status → Type 0
 ExecutesSource words source result =
@@ -94,17 +83,6 @@ needs_plan texts programs least choices search words =
     file_then words.file most_host_file_bytes (bytes_plan texts programs least choices search words)
 
 -- ---- what the parts of the command do, whatever functions pick outcomes
-
-abbrev pub ExecutesList : (each : Bool) → NormalForm → List ℕ → Result Answer Status → Type 0
-ExecutesList each program list result = (files : FilesView) → Executes true (list_plan each program list) files files result
-
-abbrev pub ExecutesProblem : NeedsWords → NormalForm → Problem → Result Answer Status → Type 0
-ExecutesProblem words program problem result =
-    SomeSearch (λ choices search. (files : FilesView) → Executes true (problem_plan choices search words program problem) files files result)
-
-abbrev pub ExecutesProgram : NeedsWords → NormalForm → Result Answer Status → Type 0
-ExecutesProgram words program result =
-    SomeSearch (λ choices search. (least : LabelOutcomes) (files : FilesView) → Executes true (program_plan least choices search words program) files files result)
 
 abbrev pub ExecutesText : NeedsWords → List ℕ → Result Answer Status → Type 0
 ExecutesText words bytes result =

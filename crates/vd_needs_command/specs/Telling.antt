@@ -18,7 +18,8 @@ use Rattle.vd_plan.specs.declared.answer.Answer.{Answer}
 use Rattle.vd_plan.specs.declared.status.Status.{Status}
 use Rattle.vd_plan.specs.declared.status.Status.TheVariants.{Ended}
 use Rattle.vd_frontend.specs.Sources.{IsSourceText}
-use Rattle.vd_compiling.specs.Selected.{IsSelected}
+use Rattle.vd_selecting.specs.Choice.{IsSelected}
+use Rattle.vd_selecting.specs.declared.choice.Assignment.{Assignment}
 use Rattle.vd_enough.specs.Enough.{AreEnough, AreLeast, AreMade, sizes_for}
 use Rattle.vd_needs_command.specs.Lines.{program_lines}
 use Rattle.vd_needs_command.specs.Needing.{needs_text}
@@ -26,12 +27,12 @@ use Rattle.vd_needs_command.specs.Needing.{needs_text}
 -- What is printed of a program is what its hosts take at its choice of protocols. A deal of the sizes that are printed suffices for
 -- all inputs under every schedule, and where no branch takes differently no smaller one does.
 pub record IsNeedsOf (each : Bool) (program : NormalForm) (printed : List ℕ) : Type 0 where
-  pub list : List ℕ
-  pub selected : IsSelected program list
-  pub line : printed ≡ needs_text each program list
-  pub enough : AreEnough program list
-  pub made : AreMade (sizes_for program list)
-  pub least : AreLeast program list
+  pub assignment : Assignment
+  pub selected : IsSelected program assignment
+  pub line : printed ≡ needs_text each program assignment.protocols
+  pub enough : AreEnough program assignment.protocols
+  pub made : AreMade (sizes_for program assignment.protocols)
+  pub least : AreLeast program assignment.protocols
 
 -- of a source that meets every rule, whose text the bytes are
 pub record IsNeedsOfSource (each : Bool) (bytes printed : List ℕ) : Type 0 where
@@ -58,9 +59,6 @@ abbrev pub IsNeeds : NeedsWords → Contents → (printed : List ℕ) → Type 0
 IsNeeds words contents printed = IsHeld words.file most_host_file_bytes contents (λ bytes. IsNeedsOfBytes words.each bytes printed)
 
 -- ---- where the command ended well, what is printed is that
-
-abbrev pub TellsProgram : NeedsWords → NormalForm → Result Answer Status → Type 0
-TellsProgram words program result = IfOk result (λ answer. answer.status ≡ Ended → IsNeedsOf words.each program answer.printed)
 
 abbrev pub TellsSource : NeedsWords → Source → Result Answer Status → Type 0
 TellsSource words source result = IfOk result (λ answer. answer.status ≡ Ended → (program : NormalForm) × IsRunProgram source program × IsNeedsOf words.each program answer.printed)

@@ -8,16 +8,15 @@ ghost use Rattle.vd_plan.specs.Plans.{Checks, Computes, ended};
 ghost use Rattle.vd_frontend.specs.Outcomes.{TextOutcomes};
 ghost use Rattle.vd_frontend.specs.Sources.{source_of};
 ghost use Rattle.vd_host_programs.specs.Programs.{IsRunnable};
-ghost use Rattle.vd_selecting.specs.Problems.{IsProblemOf};
-ghost use Rattle.vd_compiling.specs.Selected.{IsSelected};
-ghost use Rattle.vd_needs_command.specs.Needing.{ExecutesBytes, ExecutesNeeds, ExecutesProblem, ExecutesProgram, ExecutesSource, ExecutesText, needs_text};
-ghost use Rattle.vd_needs_command.specs.Telling.{IsNeedsOf, TellsBytes, TellsNeeds, TellsProgram, TellsSource, TellsText};
+ghost use Rattle.vd_selecting.specs.Choice.{IsSelected};
+ghost use Rattle.vd_needs_command.specs.Needing.{ExecutesBytes, ExecutesNeeds, ExecutesSource, ExecutesText, needs_text};
+ghost use Rattle.vd_needs_command.specs.Telling.{IsNeedsOf, TellsBytes, TellsNeeds, TellsSource, TellsText};
 
 use crate::lines::{each_text, sizes_text};
 use crate::program::{is_program, needs_in_host};
 use std::alloc::{AllocError, Global};
 use vd_base::limits::{HOST_FILE_BYTES, SOURCE_BYTES};
-use vd_base::{Bytes, Text};
+use vd_base::{Bytes, Proto, Text};
 use vd_cmd::NeedsWords;
 use vd_compiling::no_assignment;
 use vd_core::{Program, Source};
@@ -28,10 +27,7 @@ use vd_needs::sizes;
 use vd_outside::Files;
 use vd_plan::{Answer, Status, load};
 use vd_resolve::Resolved;
-use vd_rewritten::run_program;
-use vd_selecting::least_space;
-use vd_selection::{SelectFault, Selection, Sweeps, select};
-use vd_spaces::Space;
+use vd_selecting::{Assignment, choice_of};
 
 /// The answer that prints this and stores nothing.
 pub(crate) fn printing(alloc: Global, printed: Bytes) -> Answer
@@ -44,17 +40,17 @@ pub(crate) fn printing(alloc: Global, printed: Bytes) -> Answer
     }
 }
 
-/// The text of what the hosts of a program take at a list of protocols.
+/// The text of what the hosts of a program take at an assignment of protocols.
 fn needs_text(
     alloc: Global,
     program: &Program,
-    places: &[u32],
+    protocols: &[Proto],
     each: bool,
 ) -> Result<Bytes, AllocError>
-    requires { IsRunnable program.now places.now }
-    ensures { IfOk result (λ text. text ≡ needs_text each program.now places.now) }
+    requires { IsRunnable program.now protocols.now }
+    ensures { IfOk result (λ text. text ≡ needs_text each program.now protocols.now) }
 {
-    let needs = needs_of_program(alloc, program, places)?;
+    let needs = needs_of_program(alloc, program, protocols)?;
     let list = needs.as_slice();
     if each {
         each_text(alloc, &program.form().hosts, list)
@@ -63,47 +59,21 @@ fn needs_text(
     }
 }
 
-/// Prints what the hosts of a program take at a list of protocols.
-fn needs_at(alloc: Global, program: &Program, places: &[u32], each: bool) -> Result<Answer, Status>
-    requires { IsSelected program.now places.now }
-    ensures computes { Computes (ended [] (needs_text each program.now places.now)) result }
+/// Prints what the hosts of a program take at its choice of protocols.
+fn needs_at(
+    alloc: Global,
+    program: &Program,
+    assignment: &Assignment,
+    each: bool,
+) -> Result<Answer, Status>
+    requires { IsSelected program.now assignment.now }
+    ensures computes { Computes (ended [] (needs_text each program.now assignment.now.protocols)) result }
     ensures tells { IfOk result (λ answer. IsNeedsOf each program.now answer.printed) }
 {
     program.numbers_fit();
-    let printed = needs_text(alloc, program, places, each)?;
+    let protocols = assignment.protocols.as_slice();
+    let printed = needs_text(alloc, program, protocols, each)?;
     Ok(printing(alloc, printed))
-}
-
-/// What `needs` does with the space of a program.
-fn needs_in_space(
-    alloc: Global,
-    words: &NeedsWords,
-    program: &Program,
-    space: &Space,
-) -> Result<Answer, Status>
-    requires budget { words.now.budget ≤ most_search_budget }
-    requires problem { IsProblemOf program.now space.now }
-    ensures executes { ExecutesProblem words.now program.now space.now result }
-    ensures tells { TellsProgram words.now program.now result }
-{
-    match select(alloc, &Sweeps, space.problem(), words.budget) {
-        Ok(Selection::Found(places, _, _)) => {
-            needs_at(alloc, program, places.as_slice(), words.each)
-        }
-        Ok(Selection::NoAssignment(_)) => Ok(no_assignment(alloc)),
-        Err(SelectFault::Spent) => Err(Status::Spent(words.budget)),
-        Err(SelectFault::Memory) => Err(Status::Memory),
-    }
-}
-
-/// What `needs` does with a program.
-fn needs_in_program(alloc: Global, words: &NeedsWords, program: &Program) -> Result<Answer, Status>
-    requires { words.now.budget ≤ most_search_budget }
-    ensures executes { ExecutesProgram words.now program.now result }
-    ensures tells { TellsProgram words.now program.now result }
-{
-    let space = least_space(alloc, program)?;
-    needs_in_space(alloc, words, program, &space)
 }
 
 /// What `needs` does with a source that meets every rule.
@@ -112,8 +82,11 @@ fn needs_in_source(alloc: Global, words: &NeedsWords, source: &Resolved) -> Resu
     ensures executes { ExecutesSource words.now source.now result }
     ensures tells { TellsSource words.now source.now result }
 {
-    let program = run_program(alloc, source)?;
-    needs_in_program(alloc, words, &program)
+    let choice = choice_of(alloc, source, words.budget)?;
+    match &choice.assignment {
+        Some(assignment) => needs_at(alloc, &choice.program, assignment, words.each),
+        None => Ok(no_assignment(alloc)),
+    }
 }
 
 /// The tree of a text. A host's program may be longer than a source, so it is seen here whether the text is too long for one.

@@ -1,6 +1,6 @@
 -- The plan of accepted files ends well.
 use Rattle.std.proofs.Common.{◌≡◌, ℕ, ◌≤◌, false, Option, Some, None, List, [], length, Result, Ok, refl, sym, ap, subst, arith}
-use Rattle.std.specs.Prelude.{nat_lt}
+use Rattle.std.specs.Prelude.{nat_lt, option_map}
 use Rattle.std.proofs.lemmas.Bool.Decides.{nat_tests}
 use Rattle.vd_base.specs.Limits.{most_hosts}
 use Rattle.vd_outside.specs.Files.{Contents}
@@ -27,14 +27,16 @@ use Rattle.vd_space.proofs.Weighed.{is_problem}
 use Rattle.vd_cheapest.proofs.Cheapest.{back}
 use Rattle.vd_selection.specs.Choices.{ChoiceOutcomes, IsChosen, needed}
 use Rattle.vd_selection.proofs.Once.{chosen_once}
-use Rattle.vd_frontend.specs.Labelling.{as_labels}
-use Rattle.vd_selecting.specs.Choosing.{sure_search}
-use Rattle.vd_selecting.specs.Problems.{as_problem, problem_for}
+use Rattle.vd_frontend.specs.Labelling.{as_labels, labels_of}
+use Rattle.vd_selecting.specs.Choice.{Chosen, assigned, assignment_of, chosen_by, search_then}
+use Rattle.vd_selecting.specs.Searching.{sure_search}
+use Rattle.vd_selecting.specs.declared.choice.Assignment.{Assignment}
+use Rattle.vd_plan.specs.Plans.{Plan}
 use Rattle.vd_outcomes.proofs.Judged.{judged_once}
 use Rattle.vd_replaying.specs.Accepting.{EndsWell, IsAccepted}
 use Rattle.vd_asking.specs.Asking.{HoldAsked}
 use Rattle.vd_asking.specs.Deals.{as_consistent}
-use Rattle.vd_replaying.specs.Replaying.{asked_plan, choice_plan, list_plan, problem_plan, program_plan, report_for, source_plan}
+use Rattle.vd_replaying.specs.Replaying.{asked_plan, assignment_plan, choice_plan, program_plan, report_for, source_plan}
 use Rattle.vd_replaying.proofs.Steps.{Ends, answer_ends, asked_ends, check_ends, labels_for, labels_with_these, source_ends}
 
 -- ---- the choice
@@ -75,8 +77,8 @@ module _ (words : ReplayWords) (contents : Contents) (accepted : IsAccepted word
   few = made.limits.hosts
 
   -- the list is the choice of the problem's tree
-  chosen : IsChosen problem (Some accepted.list)
-  chosen = back problem accepted.list (is_problem program accepted.selected.labels made) accepted.selected.cheapest
+  chosen : IsChosen problem (Some accepted.selected.places)
+  chosen = back problem accepted.selected.places (is_problem program accepted.selected.labels made) accepted.selected.cheapest
 
   are_deals : AreDeals accepted.held.asked.deals
   are_deals =
@@ -91,15 +93,18 @@ module _ (words : ReplayWords) (contents : Contents) (accepted : IsAccepted word
     λ texts outcomes choices.
         let least = labels_for accepted.selected.labels in
         let labelled = labels_with_these accepted.selected.labels (system_of program) (system_or_not (system_of program)) accepted.selected.least in
-        let choice : choices.choose problem ≡ Some accepted.list = chosen_once problem (choices.choose problem) (Some accepted.list) (choices.choose_is problem) chosen in
+        let places = accepted.selected.places in
+        let choice : choices.choose problem ≡ Some places = chosen_once problem (choices.choose problem) (Some places) (choices.choose_is problem) chosen in
         let judged = judged_once accepted.held.asked.deals (outcomes.judge accepted.held.asked.deals) None (outcomes.judge_is accepted.held.asked.deals are_deals) accepted.consistent in
-        let listed : Ends contents (list_plan outcomes program problem accepted.held.asked accepted.list) =
-        check_ends contents (as_consistent (outcomes.judge accepted.held.asked.deals)) tt _ (ap as_consistent judged) (answer_ends contents (report_for program accepted.list accepted.held.asked)) in
-        let ends : Ends contents (choice_plan outcomes program problem accepted.held.asked (choices.choose problem)) =
-        subst (λ (o : Option (List ℕ)). Ends contents (choice_plan outcomes program problem accepted.held.asked o)) (sym choice) listed in
+        let rest : Chosen → Contents → Plan = λ c. choice_plan outcomes accepted.held.asked c.program c.assignment in
+        let a : Assignment = assigned problem places in
+        let listed : Ends contents (assignment_plan outcomes accepted.held.asked program a) =
+        check_ends contents (as_consistent (outcomes.judge accepted.held.asked.deals)) tt _ (ap as_consistent judged) (answer_ends contents (report_for program a.protocols accepted.held.asked)) in
+        let ends : Ends contents (choice_plan outcomes accepted.held.asked program (assignment_of choices problem)) =
+        subst (λ (o : Option (List ℕ)). Ends contents (choice_plan outcomes accepted.held.asked program (option_map (assigned problem) o))) (sym choice) listed in
         source_ends contents texts words.source source (source_plan texts outcomes least choices (sure_search choices) words) accepted.held.is_source
         (subst (λ (p : NormalForm). Ends contents (program_plan texts outcomes least choices (sure_search choices) words p)) (run_once source program source_made accepted.is_run least)
         (asked_ends contents outcomes texts words program.hosts accepted.held.asked (asked_plan outcomes least choices (sure_search choices) words.budget program) few are_asked
-        (check_ends contents (problem_for least program) problem (problem_plan outcomes choices (sure_search choices) words.budget program accepted.held.asked) (ap (λ (r : Result Labels ℕ). as_problem program (as_labels (system_of program) r)) labelled)
-        (check_ends contents (sure_search choices problem words.budget) [] (λ (bytes : List ℕ). choice_plan outcomes program problem accepted.held.asked (choices.choose problem)) (searched choices problem words.budget accepted.list choice accepted.enough) ends)))),
+        (check_ends contents (labels_of least program) accepted.selected.labels (λ l. search_then choices (sure_search choices) words.budget program l rest) (ap (λ (r : Result Labels ℕ). as_labels (system_of program) r) labelled)
+        (check_ends contents (sure_search choices problem words.budget) [] (λ (bytes : List ℕ). rest (chosen_by choices program accepted.selected.labels bytes)) (searched choices problem words.budget places choice accepted.enough) ends)))),
   )

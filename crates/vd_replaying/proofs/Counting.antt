@@ -1,5 +1,5 @@
 -- What is counted of a program's hosts, of a source's, and of the files.
-use Rattle.std.proofs.Common.{◌≡◌, ℕ, IsTrue, List, Option, Some, Result, Ok, Err, OnOk, sym, ap, ◌∙◌, subst}
+use Rattle.std.proofs.Common.{◌≡◌, ℕ, IsTrue, Option, Some, Result, Ok, Err, OnOk, sym, ap, ◌∙◌, subst}
 use Rattle.vd_outside.specs.Files.{FilesView, Contents}
 use Rattle.vd_core.specs.declared.normal.NormalForm.{NormalForm}
 use Rattle.vd_core.specs.declared.source.Source.{Source}
@@ -13,16 +13,18 @@ use Rattle.vd_plan.proofs.Finding.{step_keeps, step_tells}
 use Rattle.vd_frontend.specs.Outcomes.{TextOutcomes}
 use Rattle.vd_frontend.specs.Sources.{HoldsSource, source_then}
 use Rattle.vd_frontend.proofs.Reading.{some_texts}
-use Rattle.vd_compiling.specs.Selected.{IsSelected, no_list}
+use Rattle.vd_selecting.specs.Choice.{IsSelected}
+use Rattle.vd_selecting.specs.declared.choice.Assignment.{Assignment}
+use Rattle.vd_compiling.specs.Selected.{no_list}
 use Rattle.vd_asking.specs.declared.asked.Asked.{Asked}
 use Rattle.vd_asking.specs.Asking.{HoldAsked}
 use Rattle.vd_replaying.specs.Counting.{CountsOf, CountsProgram, CountsReplay, CountsSource, IsCountFor, packets_for}
 
 -- at the choice of protocols
-pub list_counted : (program : NormalForm) (list : List ℕ) (asked : Asked) (packets : Option ℕ) (result : Result Answer Status) → IsSelected program list → OnOk result (packets ≡ Some (packets_for program list asked))
-    → CountsOf program asked packets result
-list_counted program list asked packets (Ok answer) selected is = λ e. record { list = list; selected = selected; packets_are = is }
-list_counted program list asked packets (Err status) selected is = tt
+pub choice_counted : (program : NormalForm) (a : Assignment) (asked : Asked) (packets : Option ℕ) (result : Result Answer Status) → IsSelected program a
+    → OnOk result (packets ≡ Some (packets_for program a.protocols asked)) → CountsOf program asked packets result
+choice_counted program a asked packets (Ok answer) selected is = λ e. record { assignment = a; selected = selected; packets_are = is }
+choice_counted program a asked packets (Err status) selected is = tt
 
 -- where no list is valid, nothing is counted
 pub none_counted : (program : NormalForm) (asked : Asked) (packets : Option ℕ) (answer : Answer) → answer ≡ no_list → CountsOf program asked packets (Ok answer)

@@ -1,15 +1,12 @@
 -- The codes of a selected list of protocols can be played, and the world that is then played is reported.
 use Rattle.std.proofs.Common.{◌≡◌, ℕ, ◌≤◌, Some, List, [], length, refl, sym, ap, ap₂, ◌∙◌, subst, arith, Result, Ok, Err, IfOk}
-use Rattle.std.specs.Prelude.{slice_get, slice_index}
-use Rattle.std.proofs.lemmas.List.{length-map}
+use Rattle.std.specs.Prelude.{slice_get}
 use Rattle.std.proofs.lemmas.List.FromFn.{get_or-map-range_with_len}
 use Rattle.std.proofs.lemmas.Option.{get_or_from_slice_get, slice_get_within}
 use Rattle.vd_base.specs.Limits.{most_hosts}
-use Rattle.vd_base.specs.Protocols.{protocols_of}
 use Rattle.vd_base.specs.declared.protocols.Proto.{Proto}
 use Rattle.vd_core.specs.declared.normal.NormalForm.{NormalForm}
 use Rattle.vd_core.specs.Facts.{IsWellMade}
-use Rattle.vd_constraints.specs.Rules.{label}
 use Rattle.vd_meaning.specs.ProgramMeaning.{program_outputs}
 use Rattle.vd_core.specs.Numbers.{NumbersFit}
 use Rattle.vd_deals.specs.Validity.{AreDeals, IsConsistent}
@@ -25,9 +22,8 @@ use Rattle.vd_space.specs.Reading.{problem_of}
 use Rattle.vd_suite.specs.Given.{zero_deal}
 use Rattle.vd_suite.specs.Whole.{code_at, inputs_of}
 use Rattle.vd_suite.proofs.Given.{zero_deals_are_valid}
-use Rattle.vd_whole.specs.Lists.{IsChosen, protos_of}
-use Rattle.vd_host_programs.specs.Programs.{IsRunnable, host_codes, joint_of, proto_at, protos_at}
-use Rattle.vd_host_programs.proofs.HostCodes.{codes_can_be_loaded, codes_run_as_told, no_words}
+use Rattle.vd_host_programs.specs.Programs.{IsRunnable, host_codes, joint_of}
+use Rattle.vd_host_programs.proofs.HostCodes.{chosen_of, codes_can_be_loaded, codes_run_as_told, no_words, problem_protos, runnable_over}
 use Rattle.vd_plan.specs.Plans.{Computes, ended}
 use Rattle.vd_plan.specs.declared.answer.Answer.{Answer}
 use Rattle.vd_plan.specs.declared.status.Status.{Status}
@@ -38,7 +34,8 @@ use Rattle.vd_play.specs.Schedules.{replayed}
 use Rattle.vd_play.specs.Supplies.{AreFiles, supply_of_files}
 use Rattle.vd_play.specs.Told.{TellsUnder}
 use Rattle.vd_play.proofs.Told.{programs_tell}
-use Rattle.vd_compiling.specs.Selected.{IsSelected}
+use Rattle.vd_selecting.specs.Choice.{IsSelected}
+use Rattle.vd_selecting.specs.declared.choice.Assignment.{Assignment}
 use Rattle.vd_compiling.proofs.Runnable.{code_count, runnable_of}
 use Rattle.vd_compiling.proofs.Aloud.{covered, stored_for}
 use Rattle.vd_asking.specs.declared.asked.Asked.{Asked}
@@ -66,9 +63,12 @@ pub prints : (answer : Answer) (printed wanted : List ℕ) → answer ≡ ended 
 prints answer printed wanted is same =
     subst (λ (a : Answer). Computes (ended [] wanted) (Ok a)) (sym (is ∙ ap (λ (t : List ℕ). ended [] t) same)) (record { proper = (tt, refl); no_fault = λ file e. cc e; settled = refl })
 
-module _ (program : NormalForm) (list : List ℕ) (made : IsWellMade program) (numbers : NumbersFit program) (selected : IsSelected program list) where
+module _ (program : NormalForm) (a : Assignment) (made : IsWellMade program) (numbers : NumbersFit program) (selected : IsSelected program a) where
+  abbrev list : List Proto
+  list = a.protocols
+
   abbrev runnable : IsRunnable program list
-  runnable = runnable_of program list made selected
+  runnable = runnable_of program a selected a.protocols refl
 
   code_at_host : (h : ℕ) (code : List Instr) → slice_get (host_codes program list) h ≡ Some code → code ≡ text (code_of h (joint_of program list)) []
   code_at_host h code is =
@@ -79,8 +79,8 @@ module _ (program : NormalForm) (list : List ℕ) (made : IsWellMade program) (n
 
   are_codes : AreCodesOf (host_codes program list) (joint_of program list)
   are_codes = record {
-    each = λ h code is. subst (λ (c : List Instr). IsCodeOf c (code_of h (joint_of program list))) (sym (code_at_host h code is)) (codes_can_be_loaded program list made h).nested;
-    in_range = λ h lt. subst (λ (hosts : ℕ). IsInRange hosts (code_of h (joint_of program list))) (sym (code_count program list)) (codes_can_be_loaded program list made h).in_range;
+    each = λ h code is. subst (λ (c : List Instr). IsCodeOf c (code_of h (joint_of program list))) (sym (code_at_host h code is)) (codes_can_be_loaded program list made (runnable_over program list made runnable) h).nested;
+    in_range = λ h lt. subst (λ (hosts : ℕ). IsInRange hosts (code_of h (joint_of program list))) (sym (code_count program list)) (codes_can_be_loaded program list made (runnable_over program list made runnable) h).in_range;
     all =
         let zeros = zero_deals_are_valid (inputs_of []) no_words in
         let told = codes_run_as_told program list made numbers runnable [] no_words (zero_deal (inputs_of [])) zeros.0 zeros.1 in
@@ -121,13 +121,6 @@ module _ (program : NormalForm) (list : List ℕ) (made : IsWellMade program) (n
 
   -- ---- what is told
 
-  same_protos : protos_at program list ≡ protos_of (problem_of program selected.labels) list
-  same_protos =
-      ap (λ (n : ℕ). let f : ℕ → Proto = λ x. proto_at (protocols_of n) (slice_index list x) in f) (sym made.labels ∙ sym (length-map program.labels (label program)))
-
-  chosen : IsChosen program selected.labels list
-  chosen = record { made = made; numbers = numbers; whole = runnable.whole; valid = selected.cheapest.is_valid.valid }
-
   told : (asked : Asked) → AreAsked (length program.hosts) asked → IsConsistent asked.deals
       → TellsUnder (length program.hosts) (program_outputs program asked.inputs) (supply_of_files asked.inputs asked.deals) (joint_of program list) asked.schedule
   told asked are consistent =
@@ -137,8 +130,8 @@ module _ (program : NormalForm) (list : List ℕ) (made : IsWellMade program) (n
         dealt = subst (λ (hosts : ℕ). AreDealsOf hosts asked.deals) (sym are.all) are.deals;
         consistent = consistent;
       } in
-      subst (λ (f : ℕ → Proto). TellsUnder (length program.hosts) (program_outputs program asked.inputs) (supply_of_files asked.inputs asked.deals) (code_at f program) asked.schedule) (sym same_protos)
-      (programs_tell program selected.labels list chosen asked.inputs asked.deals files are.all asked.schedule)
+      subst (λ (f : ℕ → Proto). TellsUnder (length program.hosts) (program_outputs program asked.inputs) (supply_of_files asked.inputs asked.deals) (code_at f program) asked.schedule) (sym (problem_protos (problem_of program selected.labels) list selected.places runnable.assignment.named))
+      (programs_tell program selected.labels selected.places (chosen_of program list made numbers runnable) asked.inputs asked.deals files are.all asked.schedule)
 
   pub is_report : (asked : Asked) (answer : Answer) (printed : List ℕ) → AreAsked (length program.hosts) asked → IsConsistent asked.deals
       → answer ≡ ended [] printed → printed ≡ report_for program list asked → IsReport program (program_outputs program asked.inputs) asked answer.printed
@@ -154,10 +147,10 @@ module _ (program : NormalForm) (list : List ℕ) (made : IsWellMade program) (n
           told = told asked are consistent;
         };
         code = record {
-          list = list;
+          assignment = a;
           selected = selected;
-          covered = covered program list made selected;
+          covered = covered program a made selected;
           compiled = refl;
-          stored = λ h low. stored_for program (problem_of program selected.labels) list h low;
+          stored = λ h low. stored_for program a h low;
         };
       }

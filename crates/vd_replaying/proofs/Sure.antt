@@ -1,5 +1,5 @@
 -- A search that gives up wherever it may, beside any other.
-use Rattle.std.proofs.Common.{ℕ, ◌+◌, List, [], ◌∷◌, ◌++◌, length, codes}
+use Rattle.std.proofs.Common.{ℕ, ◌+◌, List, [], ◌∷◌, ◌++◌, length, codes, refl}
 use Rattle.vd_base.specs.Limits.{most_deal_bytes, most_inputs_bytes, most_schedule_bytes}
 use Rattle.vd_outside.specs.Files.{Contents}
 use Rattle.vd_core.specs.declared.normal.NormalForm.{NormalForm}
@@ -16,15 +16,14 @@ use Rattle.vd_plan.proofs.Following.{Follows, file_follows, check_follows}
 use Rattle.vd_frontend.specs.Outcomes.{TextOutcomes, LabelOutcomes}
 use Rattle.vd_frontend.specs.Inputs.{words_of, inputs_then}
 use Rattle.vd_selecting.specs.Outcomes.{CertificateOutcomes}
-use Rattle.vd_selecting.specs.Problems.{problem_for}
-use Rattle.vd_selecting.specs.Choosing.{Searched, searched_by, sure_search}
-use Rattle.vd_selecting.proofs.Selected.{choice_follows}
+use Rattle.vd_selecting.specs.Searching.{Searched, searched_by, sure_search}
+use Rattle.vd_selecting.proofs.Steps.{choice_follows}
 use Rattle.vd_selecting.proofs.Sure.{source_follows}
 use Rattle.vd_outcomes.specs.Outcomes.{ReplayOutcomes}
 use Rattle.vd_asking.specs.declared.asked.Asked.{Asked}
 use Rattle.vd_asking.specs.Asking.{asked_of}
 use Rattle.vd_asking.specs.Deals.{deal_of, deal_then, deals_from}
-use Rattle.vd_replaying.specs.Replaying.{asked_plan, choice_plan, problem_plan, replay_plan, source_plan}
+use Rattle.vd_replaying.specs.Replaying.{asked_plan, choice_plan, replay_plan, source_plan}
 use Rattle.vd_asking.specs.Schedules.{schedule_of, schedule_then}
 
 module _ (files : Contents) where
@@ -59,9 +58,7 @@ module _ (files : Contents) where
 module _ (texts : TextOutcomes) (outcomes : ReplayOutcomes) (least : LabelOutcomes) (certificates : CertificateOutcomes) (choices : ChoiceOutcomes) (searched : Searched) (words : ReplayWords) (files : Contents) where
   asked_follows : (program : NormalForm) (asked : Asked)
       → Follows (asked_plan outcomes least choices (sure_search choices) words.budget program asked files) (asked_plan outcomes least choices (searched_by certificates choices searched) words.budget program asked files)
-  asked_follows program asked =
-      check_follows (problem_for least program) (problem_plan outcomes choices (sure_search choices) words.budget program asked) (problem_plan outcomes choices (searched_by certificates choices searched) words.budget program asked) files
-      (λ problem. choice_follows problem words.budget certificates choices (choice_plan outcomes program problem asked) searched files)
+  asked_follows program asked = choice_follows program words.budget certificates choices (λ c. choice_plan outcomes asked c.program c.assignment) files (λ l one other. refl) least searched
 
   tree_goes : (tree : Source) → Follows (source_plan texts outcomes least choices (sure_search choices) words tree files) (source_plan texts outcomes least choices (searched_by certificates choices searched) words tree files)
   tree_goes tree =

@@ -1,5 +1,5 @@
 -- Which files `replay` accepts.
-use Rattle.std.specs.Prelude.{◌≡◌, ◌≤◌, ℕ, List, Some}
+use Rattle.std.specs.Prelude.{◌≡◌, ◌≤◌, Some}
 use Rattle.vd_outside.specs.Files.{Contents}
 use Rattle.vd_core.specs.declared.normal.NormalForm.{NormalForm}
 use Rattle.vd_rewritten.specs.RunPrograms.{IsRunProgram}
@@ -8,9 +8,10 @@ use Rattle.vd_deals.specs.Validity.{IsConsistent}
 use Rattle.vd_space.specs.Reading.{problem_of}
 use Rattle.vd_selection.specs.Choices.{ChoiceOutcomes, needed}
 use Rattle.vd_frontend.specs.Outcomes.{TextOutcomes, LabelOutcomes}
-use Rattle.vd_selecting.specs.Choosing.{sure_search}
+use Rattle.vd_selecting.specs.Searching.{sure_search}
 use Rattle.vd_plan.specs.declared.status.Status.TheVariants.{Ended}
-use Rattle.vd_compiling.specs.Selected.{IsSelected}
+use Rattle.vd_selecting.specs.Choice.{IsSelected}
+use Rattle.vd_selecting.specs.declared.choice.Assignment.{Assignment}
 use Rattle.vd_outcomes.specs.Outcomes.{ReplayOutcomes}
 use Rattle.vd_replaying.specs.Replaying.{replay_plan}
 use Rattle.vd_replaying.specs.Telling.{HoldReplay}
@@ -22,9 +23,9 @@ pub record IsAccepted (words : ReplayWords) (contents : Contents) : Type 0 where
   pub consistent : IsConsistent held.asked.deals
   pub program : NormalForm
   pub is_run : IsRunProgram held.source program
-  pub list : List ℕ
-  pub selected : IsSelected program list
-  pub enough : needed (problem_of program selected.labels) (Some list) ≤ words.budget
+  pub assignment : Assignment
+  pub selected : IsSelected program assignment
+  pub enough : needed (problem_of program selected.labels) (Some selected.places) ≤ words.budget
 
 -- With some function that gives least labellings, and whatever other functions pick outcomes, the plan of the command ends well.
 abbrev pub EndsWell : ReplayWords → Contents → Type 0

@@ -1,5 +1,6 @@
 -- How many packets the hosts of a replay sent to one another.
 use Rattle.std.specs.Prelude.{◌≡◌, ℕ, Option, Some, List, length, Result, IfOk}
+use Rattle.vd_base.specs.declared.protocols.Proto.{Proto}
 use Rattle.vd_outside.specs.Files.{FilesView, Contents}
 use Rattle.vd_core.specs.declared.normal.NormalForm.{NormalForm}
 use Rattle.vd_core.specs.declared.source.Source.{Source}
@@ -11,20 +12,21 @@ use Rattle.vd_plan.specs.declared.answer.Answer.{Answer}
 use Rattle.vd_plan.specs.declared.status.Status.{Status}
 use Rattle.vd_plan.specs.declared.status.Status.TheVariants.{Ended}
 use Rattle.vd_frontend.specs.Sources.{HoldsSource}
-use Rattle.vd_compiling.specs.Selected.{IsSelected}
+use Rattle.vd_selecting.specs.Choice.{IsSelected}
+use Rattle.vd_selecting.specs.declared.choice.Assignment.{Assignment}
 use Rattle.vd_asking.specs.declared.asked.Asked.{Asked}
 use Rattle.vd_asking.specs.Asking.{HoldAsked}
 use Rattle.vd_replaying.specs.Replaying.{world_for}
 
 -- those of the world to which the schedule leads, as far as 64 bits tell it
-abbrev pub packets_for : NormalForm → List ℕ → Asked → ℕ
-packets_for program list asked = counted (packets_of (world_for program list asked) (length program.hosts))
+abbrev pub packets_for : NormalForm → List Proto → Asked → ℕ
+packets_for program protocols asked = counted (packets_of (world_for program protocols asked) (length program.hosts))
 
 -- the count is that of the hosts of a program at its choice of protocols
 pub record IsCount (program : NormalForm) (asked : Asked) (packets : Option ℕ) : Type 0 where
-  pub list : List ℕ
-  pub selected : IsSelected program list
-  pub packets_are : packets ≡ Some (packets_for program list asked)
+  pub assignment : Assignment
+  pub selected : IsSelected program assignment
+  pub packets_are : packets ≡ Some (packets_for program assignment.protocols asked)
 
 -- on what the files say that the words name
 pub record IsCountOf (words : ReplayWords) (program : NormalForm) (contents : Contents) (packets : Option ℕ) : Type 0 where

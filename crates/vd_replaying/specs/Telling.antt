@@ -11,7 +11,6 @@ use Rattle.vd_deals.specs.Validity.{IsConsistent}
 use Rattle.vd_execution.specs.declared.instructions.Instr.{Instr}
 use Rattle.vd_execution.specs.Joint.{Joint, code_of, started}
 use Rattle.vd_execution.specs.Text.{text}
-use Rattle.vd_space.specs.Reading.{problem_of}
 use Rattle.vd_host_programs.specs.Programs.{joint_of}
 use Rattle.vd_play.specs.Loading.{AreCodesOf}
 use Rattle.vd_play.specs.Reports.{report_of}
@@ -25,7 +24,9 @@ use Rattle.vd_plan.specs.declared.status.Status.{Status}
 use Rattle.vd_plan.specs.declared.status.Status.TheVariants.{Ended}
 use Rattle.vd_frontend.specs.Sources.{HoldsSource}
 use Rattle.vd_compiling.specs.Compiling.{IsStoredFor}
-use Rattle.vd_compiling.specs.Selected.{AreCovered, IsSelected}
+use Rattle.vd_selecting.specs.Choice.{IsSelected}
+use Rattle.vd_selecting.specs.declared.choice.Assignment.{Assignment}
+use Rattle.vd_compiling.specs.Selected.{AreCovered}
 use Rattle.vd_asking.specs.declared.asked.Asked.{Asked}
 use Rattle.vd_asking.specs.Asking.{HoldAsked}
 
@@ -48,14 +49,14 @@ pub record IsReportOf (names outputs : List (List ℕ)) (asked : Asked) (joint :
 -- Which code it is: that of a program at its choice of protocols.
 pub record IsCodeAtChoice (program : NormalForm) (joint : Joint) : Type 0 where
   -- the choice: valid under the least labels, of least cost, and the first of these in order
-  pub list : List ℕ
-  pub selected : IsSelected program list
+  pub assignment : Assignment
+  pub selected : IsSelected program assignment
   -- the protocol of each slot covers its least label, in confidentiality and in integrity
-  pub covered : AreCovered program selected.labels list
+  pub covered : AreCovered program selected.labels assignment.protocols
   -- the joint code is that of the program at this choice
-  pub compiled : joint ≡ joint_of program list
+  pub compiled : joint ≡ joint_of program assignment.protocols
   -- and each host's part of it is what `compile` stores for that host
-  pub stored : (h : ℕ) → h < length program.hosts → IsStoredFor program (problem_of program selected.labels) list h (text (code_of h joint) [])
+  pub stored : (h : ℕ) → h < length program.hosts → IsStoredFor program assignment h (text (code_of h joint) [])
 
 -- The report of a program whose hosts are told these outputs.
 pub record IsReport (program : NormalForm) (outputs : List (List ℕ)) (asked : Asked) (printed : List ℕ) : Type 0 where

@@ -5,13 +5,10 @@ ghost use Rattle.vd_base.specs.Limits.{most_search_budget};
 ghost use Rattle.vd_deals.specs.Validity.{IsConsistent};
 ghost use Rattle.vd_meaning.specs.ProgramMeaning.{program_outputs};
 ghost use Rattle.vd_plan.specs.Plans.{Computes, ended};
-ghost use Rattle.vd_selection.specs.Choices.{IsChosen};
-ghost use Rattle.vd_selecting.specs.Problems.{IsProblemOf};
-ghost use Rattle.vd_space.specs.Spaces.{IsProblem};
-ghost use Rattle.vd_compiling.specs.Selected.{IsSelected};
+ghost use Rattle.vd_selecting.specs.Choice.{IsSelected};
 ghost use Rattle.vd_asking.specs.Asking.{AreAsked};
 ghost use Rattle.vd_replaying.specs.Counting.{CountsOf, CountsProgram, CountsReplay, CountsSource, packets_for};
-ghost use Rattle.vd_replaying.specs.Replaying.{ExecutesAsked, ExecutesList, ExecutesProblem, ExecutesProgram, ExecutesReplay, ExecutesSource, report_for};
+ghost use Rattle.vd_replaying.specs.Replaying.{ExecutesAsked, ExecutesChoice, ExecutesProgram, ExecutesReplay, ExecutesSource, report_for};
 ghost use Rattle.vd_replaying.specs.Telling.{IsReport, TellsHeadline, TellsOf, TellsProgram, TellsSource};
 
 use std::alloc::Global;
@@ -28,9 +25,7 @@ use vd_plan::{Answer, Status};
 use vd_play::{play, report};
 use vd_resolve::Resolved;
 use vd_rewritten::run_program;
-use vd_selecting::least_space;
-use vd_selection::{SelectFault, Selection, Sweeps, select};
-use vd_spaces::Space;
+use vd_selecting::{Assignment, choice_for};
 
 /// The answer that prints this and stores nothing.
 fn printing(alloc: Global, printed: Bytes) -> Answer
@@ -43,20 +38,20 @@ fn printing(alloc: Global, printed: Bytes) -> Answer
     }
 }
 
-/// Runs a program at a list of protocols, keeps how many packets its hosts sent, and prints the report.
+/// Runs a program at its choice of protocols, keeps how many packets its hosts sent, and prints the report.
 fn replay_counted(
     alloc: Global,
     program: &Program,
-    places: &[u32],
+    assignment: &Assignment,
     asked: Asked,
     packets: &mut Option<u64>,
 ) -> Result<Answer, Status>
-    requires selected { IsSelected program.now places.now }
+    requires selected { IsSelected program.now assignment.now }
     requires asked { AreAsked (length program.now.hosts) asked }
     requires consistent { IsConsistent asked.deals }
-    ensures computes { Computes (ended [] (report_for program.now places.now asked)) result }
+    ensures computes { Computes (ended [] (report_for program.now assignment.now.protocols asked)) result }
     ensures tells { IfOk result (λ answer. IsReport program.now (program_outputs program.now asked.inputs) asked answer.printed) }
-    ensures counts { OnOk result (packets.new ≡ Some (packets_for program.now places.now asked)) }
+    ensures counts { OnOk result (packets.new ≡ Some (packets_for program.now assignment.now.protocols asked)) }
 {
     program.numbers_fit();
     let Asked {
@@ -65,93 +60,68 @@ fn replay_counted(
         schedule,
         messages,
     } = asked;
-    let codes = split(alloc, program, places)?;
+    let protocols = assignment.protocols.as_slice();
+    let codes = split(alloc, program, protocols)?;
     let world = play(alloc, codes, inputs, deals, &schedule)?;
     *packets = Some(world.packets_sent());
     let printed = report(alloc, &program.form().hosts, &world, messages)?;
     Ok(printing(alloc, printed))
 }
 
-/// Runs a program at a list of protocols, and prints the report.
+/// Runs a program at its choice of protocols, and prints the report.
 pub fn replay_at(
     alloc: Global,
     program: &Program,
-    places: &[u32],
+    assignment: &Assignment,
     asked: Asked,
 ) -> Result<Answer, Status>
-    requires selected { IsSelected program.now places.now }
+    requires selected { IsSelected program.now assignment.now }
     requires asked { AreAsked (length program.now.hosts) asked }
     requires consistent { IsConsistent asked.deals }
-    ensures computes { Computes (ended [] (report_for program.now places.now asked)) result }
+    ensures computes { Computes (ended [] (report_for program.now assignment.now.protocols asked)) result }
     ensures tells { IfOk result (λ answer. IsReport program.now (program_outputs program.now asked.inputs) asked answer.printed) }
 {
     let mut packets = None;
-    replay_counted(alloc, program, places, asked, &mut packets)
+    replay_counted(alloc, program, assignment, asked, &mut packets)
 }
 
-/// What `replay` does with a list of protocols.
-fn replay_list(
+/// What `replay` does with the choice for a program.
+fn replay_choice(
     alloc: Global,
     program: &Program,
-    space: &Space,
-    places: &[u32],
+    assignment: &Assignment,
     asked: Asked,
     packets: &mut Option<u64>,
 ) -> Result<Answer, Status>
-    requires problem { IsProblemOf program.now space.now }
-    requires holds { IsProblem space.now }
-    requires chosen { IsChosen space.now (Some places.now) }
+    requires selected { IsSelected program.now assignment.now }
     requires asked { AreAsked (length program.now.hosts) asked }
-    ensures executes { ExecutesList program.now space.now asked places.now result }
+    ensures executes { ExecutesChoice program.now asked assignment.now result }
     ensures tells { TellsOf program.now asked result }
     ensures counts { CountsOf program.now asked packets.new result }
 {
     expect_consistent(&asked.deals)?;
-    replay_counted(alloc, program, places, asked, packets)
-}
-
-/// What `replay` does with the space of a program.
-fn replay_space(
-    alloc: Global,
-    program: &Program,
-    space: &Space,
-    asked: Asked,
-    budget: u32,
-    packets: &mut Option<u64>,
-) -> Result<Answer, Status>
-    requires budget { budget ≤ most_search_budget }
-    requires problem { IsProblemOf program.now space.now }
-    requires asked { AreAsked (length program.now.hosts) asked }
-    ensures executes { ExecutesProblem program.now space.now asked budget result }
-    ensures tells { TellsOf program.now asked result }
-    ensures counts { CountsOf program.now asked packets.new result }
-{
-    match select(alloc, &Sweeps, space.problem(), budget) {
-        Ok(Selection::Found(places, _, _)) => {
-            replay_list(alloc, program, space, places.as_slice(), asked, packets)
-        }
-        Ok(Selection::NoAssignment(_)) => Ok(no_assignment(alloc)),
-        Err(SelectFault::Spent) => Err(Status::Spent(budget)),
-        Err(SelectFault::Memory) => Err(Status::Memory),
-    }
+    replay_counted(alloc, program, assignment, asked, packets)
 }
 
 /// What `replay` does with a program, and all that it is to run on.
 fn replay_asked(
     alloc: Global,
-    program: &Program,
+    program: Program,
     asked: Asked,
     budget: u32,
     packets: &mut Option<u64>,
 ) -> Result<Answer, Status>
     requires budget { budget ≤ most_search_budget }
-    requires asked { AreAsked (length program.now.hosts) asked }
-    ensures executes { ExecutesAsked program.now asked budget result }
-    ensures tells { TellsOf program.now asked result }
-    ensures counts { CountsOf program.now asked packets.new result }
+    requires asked { AreAsked (length program.hosts) asked }
+    ensures executes { ExecutesAsked program asked budget result }
+    ensures tells { TellsOf program asked result }
+    ensures counts { CountsOf program asked packets.new result }
 {
-    let space = least_space(alloc, program)?;
-    replay_space(alloc, program, &space, asked, budget, packets)
+    let choice = choice_for(alloc, program, budget)?;
+    match &choice.assignment {
+        Some(assignment) => replay_choice(alloc, &choice.program, assignment, asked, packets),
+        None => Ok(no_assignment(alloc)),
+    }
 }
 
 /// What `replay` does with a program.
@@ -159,13 +129,13 @@ fn replay_program<F: Files>(
     alloc: Global,
     files: &mut F,
     words: &ReplayWords,
-    program: &Program,
+    program: Program,
     packets: &mut Option<u64>,
 ) -> Result<Answer, Status>
     requires { words.now.budget ≤ most_search_budget }
-    ensures executes { ExecutesProgram words.now program.now (F.view files.old) (F.view files.new) result }
-    ensures tells { TellsProgram words.now program.now (F.view files.old) result }
-    ensures counts { CountsProgram words.now program.now (F.view files.old) packets.new result }
+    ensures executes { ExecutesProgram words.now program (F.view files.old) (F.view files.new) result }
+    ensures tells { TellsProgram words.now program (F.view files.old) result }
+    ensures counts { CountsProgram words.now program (F.view files.old) packets.new result }
 {
     let asked = load_asked(alloc, files, words, &program.form().hosts)?;
     replay_asked(alloc, program, asked, words.budget, packets)
@@ -185,7 +155,7 @@ fn replay_source<F: Files>(
     ensures counts { CountsSource words.now source.now (F.view files.old) packets.new result }
 {
     let program = run_program(alloc, source)?;
-    replay_program(alloc, files, words, &program, packets)
+    replay_program(alloc, files, words, program, packets)
 }
 
 /// The command `replay`: all hosts of a source run over a schedule, and how each stands then. Where they ran, it is kept how many

@@ -16,7 +16,7 @@ use Rattle.vd_frontend.proofs.Reading.{some_labels, some_texts}
 use Rattle.vd_frontend.specs.Sources.{HoldsSource}
 use Rattle.vd_selection.proofs.Once.{some_choices}
 use Rattle.vd_selecting.proofs.Reading.{some_certificates}
-use Rattle.vd_selecting.specs.Choosing.{searched_by}
+use Rattle.vd_selecting.specs.Searching.{searched_by}
 use Rattle.vd_compiling.proofs.Sure.{compile_follows}
 use Rattle.vd_compiling.specs.Compiling.{compile_plan}
 use Rattle.vd_running.specs.Asking.{EndedRunsReport, RunsAskInOrder}

@@ -14,7 +14,7 @@ use Rattle.vd_plan.specs.declared.status.ChildCause.TheVariants as cause
 use Rattle.vd_plan.specs.declared.status.Status.{Status}
 use Rattle.vd_plan.specs.declared.status.Status.TheVariants.{Ended, Memory}
 use Rattle.vd_plan.specs.declared.status.Status.TheVariants as status
-use Rattle.vd_selecting.specs.Choosing.{sure_search}
+use Rattle.vd_selecting.specs.Searching.{sure_search}
 use Rattle.vd_selection.specs.Choices.{ChoiceOutcomes}
 use Rattle.vd_running.specs.Running.{Runs}
 use Rattle.vd_running.specs.RunsHosts.{Outside}

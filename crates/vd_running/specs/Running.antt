@@ -9,7 +9,7 @@ use Rattle.vd_plan.specs.Plans.{Executes}
 use Rattle.vd_plan.specs.declared.answer.Answer.{Answer}
 use Rattle.vd_plan.specs.declared.status.Status.{Status}
 use Rattle.vd_plan.specs.declared.status.Status.TheVariants.{Ended, Memory, NoAssignment}
-use Rattle.vd_selecting.specs.Choosing.{SomeSearch}
+use Rattle.vd_selecting.specs.Searching.{SomeSearch}
 use Rattle.vd_running.specs.CommandLines.{command_lines}
 use Rattle.vd_running.specs.Compiled.{AreHostsOf}
 use Rattle.vd_running.specs.RunsHosts.{Outside, RunsHosts}

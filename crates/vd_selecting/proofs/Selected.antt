@@ -1,5 +1,5 @@
 -- What follows a search, whatever functions pick the outcomes.
-use Rattle.std.proofs.Common.{◌≡◌, ◌⊎◌, inl, inr, ℕ, ◌<◌, Bool, true, false, if◌then◌else◌, Option, Some, None, List, [], Result, Ok, Err, refl, sym, ap, ◌∙◌, subst}
+use Rattle.std.proofs.Common.{◌≡◌, inl, inr, ℕ, Bool, true, false, if◌then◌else◌, Option, List, [], Result, Ok, Err, refl, sym, ap, ◌∙◌, subst}
 use Rattle.std.specs.Prelude.{nat_lt}
 use Rattle.std.proofs.lemmas.Bool.{lt-ltb, cond-true}
 use Rattle.vd_outside.specs.Files.{FilesView, Contents}
@@ -19,14 +19,14 @@ use Rattle.vd_plan.specs.declared.status.Status.TheVariants.{Ended, Memory, Spen
 use Rattle.vd_plan.proofs.Following.{Follows}
 use Rattle.vd_plan.proofs.InSteps.{check_step}
 use Rattle.vd_selecting.specs.Outcomes.{CertificateOutcomes}
-use Rattle.vd_selecting.specs.Choosing.{Searched, GaveUp, Certified, is_accepted, searched_by, sure_search}
-use Rattle.vd_selecting.specs.Selected.{choice_then}
+use Rattle.vd_selecting.specs.Searching.{Searched, GaveUp, Certified, is_accepted, searched_by, sure_search}
+use Rattle.vd_selecting.specs.Selected.{places_then}
 use Rattle.vd_selecting.proofs.Chosen.{accepted}
 
 module _ (problem : Problem) (budget : ℕ) (certificates : CertificateOutcomes) (choices : ChoiceOutcomes) (rest : Option (List ℕ) → Contents → Plan) where
   -- a search that found a certificate goes on with the choice
   pub selected_then : (c : Certificate) (choice : Option (List ℕ)) (files last : FilesView) (result : Result Answer Status) → IsAccepted problem budget c → IsChosen problem choice
-      → Executes true (rest choice) files last result → Executes true (choice_then choices (searched_by certificates choices (Certified (text_of c))) budget problem rest) files last result
+      → Executes true (rest choice) files last result → Executes true (places_then choices (searched_by certificates choices (Certified (text_of c))) budget problem rest) files last result
   selected_then c choice files last result is chosen rest_runs =
       let same : choices.choose problem ≡ choice = chosen_once problem (choices.choose problem) choice (choices.choose_is problem) chosen in
       check_step (searched_by certificates choices (Certified (text_of c)) problem budget) files (Ok (text_of c)) (record { ok = accepted certificates choices problem budget c is; err = tt })
@@ -34,7 +34,7 @@ module _ (problem : Problem) (budget : ℕ) (certificates : CertificateOutcomes)
 
   -- a search that gave up does so where its budget may not do
   pub spent_then : (files : FilesView) → IsProblem problem → IsOver problem (usual problem) budget
-      → Executes true (choice_then choices (searched_by certificates choices GaveUp) budget problem rest) files files (Err (Spent budget))
+      → Executes true (places_then choices (searched_by certificates choices GaveUp) budget problem rest) files files (Err (Spent budget))
   spent_then files holds over =
       check_step (searched_by certificates choices GaveUp problem budget) files (Err (Spent budget))
       (record { ok = tt; err = cond-true (nat_lt budget (needed problem (choices.choose problem))) (Err (Spent budget)) (Err Memory) (lt-ltb _ _ (spent_needs problem holds budget (choices.choose problem) over (choices.choose_is problem))) })
@@ -69,7 +69,7 @@ module _ (problem : Problem) (budget : ℕ) (certificates : CertificateOutcomes)
   accepted_follows files false true bytes e = found_follows files [] bytes e
   accepted_follows files false false bytes e = memory_follows files (after files (Ok [])) e
 
-  pub choice_follows : (searched : Searched) (files : Contents)
-      → Follows (choice_then choices (sure_search choices) budget problem rest files) (choice_then choices (searched_by certificates choices searched) budget problem rest files)
-  choice_follows GaveUp files = spent_follows files (nat_lt budget (needed problem (choices.choose problem)))
-  choice_follows (Certified bytes) files = accepted_follows files (nat_lt budget (needed problem (choices.choose problem))) (is_accepted problem budget (certificates.read bytes)) bytes
+  pub places_follow : (searched : Searched) (files : Contents)
+      → Follows (places_then choices (sure_search choices) budget problem rest files) (places_then choices (searched_by certificates choices searched) budget problem rest files)
+  places_follow GaveUp files = spent_follows files (nat_lt budget (needed problem (choices.choose problem)))
+  places_follow (Certified bytes) files = accepted_follows files (nat_lt budget (needed problem (choices.choose problem))) (is_accepted problem budget (certificates.read bytes)) bytes

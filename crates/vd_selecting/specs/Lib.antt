@@ -2,5 +2,7 @@ pub mod Generating
 pub mod Outcomes
 pub mod Problems
 pub mod Certifying
+pub mod Searching
+pub mod Choice
 pub mod Choosing
 pub mod Selected

@@ -1,18 +1,15 @@
 //! The command `choose`.
 
-ghost use Rattle.std.specs.Prelude.{◌≡◌, ◌≤◌, [], ◌∷◌, map, IfOk, slice_index_or};
-ghost use Rattle.vd_base.specs.HostSets.{host};
+ghost use Rattle.std.specs.Prelude.{◌≡◌, ◌≤◌, [], ◌∷◌, IfOk};
 ghost use Rattle.vd_base.specs.Limits.{most_search_budget};
-ghost use Rattle.vd_base.specs.declared.protocols.Proto.TheVariants.{Local as local};
 ghost use Rattle.vd_certificate.specs.Texts.{text_of};
 ghost use Rattle.vd_plan.specs.Plans.{Computes};
-ghost use Rattle.vd_report.specs.ChoiceLines.{choice_lines};
-ghost use Rattle.vd_space.specs.Validity.{protocol};
-ghost use Rattle.vd_selecting.specs.Choosing.{ExecutesChoose, ExecutesProblem, ExecutesProgram, ExecutesTree, certificate_file, selection_answer};
+ghost use Rattle.vd_selecting.specs.Choice.{chosen_of, printed_at};
+ghost use Rattle.vd_selecting.specs.Choosing.{ExecutesChoose, ExecutesTree, certificate_file, chosen_answer};
 
-use crate::spaces::least_space;
+use crate::choice::{Assignment, Choice, choice_of};
 use std::alloc::{AllocError, Global};
-use vd_base::{Bytes, HostId, Proto, Text};
+use vd_base::{Bytes, Text};
 use vd_certificate::Certificate;
 use vd_core::Program;
 use vd_frontend::load_source;
@@ -21,44 +18,17 @@ use vd_outside::{Files, Stored};
 use vd_plan::{Answer, Status};
 use vd_report::choice_text;
 use vd_resolve::Resolved;
-use vd_rewritten::run_program;
-use vd_selection::{SelectFault, Selection, Sweeps, select};
-use vd_spaces::Space;
 
-/// The protocol at a place of the list.
-fn protocol_at(list: &[Proto], place: u32) -> Proto
-    ensures { result ≡ slice_index_or list.now place (local (host 0)) }
-{
-    match list.get(place as usize) {
-        Some(protocol) => *protocol,
-        None => Proto::Local(HostId(0)),
-    }
-}
-
-/// The protocols at these places of a space's list.
-fn protocols_at(alloc: Global, space: &Space, places: &[u32]) -> Result<Items<Proto>, AllocError>
-    ensures { IfOk result (λ assignment. assignment ≡ map (protocol space.now) places.now) }
-{
-    let list = space.list();
-    let mut assignment = Items::new(alloc);
-    for place in places {
-        assignment.push(protocol_at(list, *place))?;
-    }
-    Ok(assignment)
-}
-
-/// The lines that tell a choice, given by the places of its protocols in a space's list, and its cost.
-pub fn selection_text(
+/// The lines that tell an assignment and its cost.
+pub fn assignment_text(
     alloc: Global,
     program: &Program,
-    space: &Space,
-    places: &[u32],
-    cost: u32,
+    assignment: &Assignment,
 ) -> Result<Bytes, AllocError>
-    ensures { IfOk result (λ text. text ≡ choice_lines program.now (map (protocol space.now) places.now) cost) }
+    ensures { IfOk result (λ text. text ≡ printed_at program.now assignment.now) }
 {
-    let assignment = protocols_at(alloc, space, places)?;
-    choice_text(alloc, program, assignment.as_slice(), u64::from(cost))
+    let protocols = assignment.protocols.as_slice();
+    choice_text(alloc, program, protocols, u64::from(assignment.cost))
 }
 
 /// The file in which a certificate is stored.
@@ -77,63 +47,25 @@ fn certificate_files(
     Ok(files)
 }
 
-/// Stores the certificate of a selection, and prints the choice, if there is one.
-fn answer_selection(
-    alloc: Global,
-    program: &Program,
-    space: &Space,
-    source: &str,
-    selection: &Selection,
-) -> Result<Answer, Status>
-    ensures { Computes (selection_answer program.now space.now source.now selection.now) result }
+/// Stores the certificate, and prints the choice, if there is one.
+fn answer_choice(alloc: Global, source: &str, choice: &Choice) -> Result<Answer, Status>
+    ensures { Computes (chosen_answer source.now (chosen_of choice.now)) result }
 {
-    match selection {
-        Selection::Found(places, cost, certificate) => {
-            let printed = selection_text(alloc, program, space, places.as_slice(), *cost)?;
+    match &choice.assignment {
+        Some(assignment) => {
+            let printed = assignment_text(alloc, &choice.program, assignment)?;
             Ok(Answer {
                 status: Status::Ended,
-                stores: certificate_files(alloc, source, certificate)?,
+                stores: certificate_files(alloc, source, &choice.certificate)?,
                 printed,
             })
         }
-        Selection::NoAssignment(certificate) => Ok(Answer {
+        None => Ok(Answer {
             status: Status::NoAssignment,
-            stores: certificate_files(alloc, source, certificate)?,
+            stores: certificate_files(alloc, source, &choice.certificate)?,
             printed: Bytes::new(alloc),
         }),
     }
-}
-
-/// What `choose` does with the space of a program.
-fn choose_for_space(
-    alloc: Global,
-    program: &Program,
-    space: &Space,
-    source: &str,
-    budget: u32,
-) -> Result<Answer, Status>
-    requires { budget ≤ most_search_budget }
-    ensures { ExecutesProblem program.now space.now source.now budget result }
-{
-    match select(alloc, &Sweeps, space.problem(), budget) {
-        Ok(selection) => answer_selection(alloc, program, space, source, &selection),
-        Err(SelectFault::Spent) => Err(Status::Spent(budget)),
-        Err(SelectFault::Memory) => Err(Status::Memory),
-    }
-}
-
-/// What `choose` does with a program.
-fn choose_for_program(
-    alloc: Global,
-    program: &Program,
-    source: &str,
-    budget: u32,
-) -> Result<Answer, Status>
-    requires { budget ≤ most_search_budget }
-    ensures { ExecutesProgram program.now source.now budget result }
-{
-    let space = least_space(alloc, program)?;
-    choose_for_space(alloc, program, &space, source, budget)
 }
 
 /// What `choose` does with a source that meets every rule.
@@ -146,8 +78,8 @@ fn choose_for_source(
     requires { budget ≤ most_search_budget }
     ensures { ExecutesTree source.now name.now budget result }
 {
-    let program = run_program(alloc, source)?;
-    choose_for_program(alloc, &program, name, budget)
+    let choice = choice_of(alloc, source, budget)?;
+    answer_choice(alloc, name, &choice)
 }
 
 /// The command `choose`: the choice of protocols for a source, found with a search of at most so many prefixes.

@@ -5,12 +5,14 @@ ghost use Rattle.vd_selecting.specs.Outcomes.{CertificateOutcomes};
 
 mod certificates;
 mod certify_command;
+mod choice;
 mod choose_command;
 mod gen_command;
 mod spaces;
 
 pub use certify_command::certify;
-pub use choose_command::{choose, selection_text};
+pub use choice::{Assignment, Choice, choice_for, choice_of, protocols_at};
+pub use choose_command::{assignment_text, choose};
 pub use gen_command::generate_source;
 pub use spaces::least_space;
 

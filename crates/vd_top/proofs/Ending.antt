@@ -1,5 +1,5 @@
 -- A run that ended has printed the answer, and so what the answer shows.
-use Rattle.std.proofs.Common.{◌≡◌, ℕ, true, IsTrue, List, ◌++◌, Option, Some, None, Result, Ok, Err, sym, ap, ◌∙◌, subst}
+use Rattle.std.proofs.Common.{ℕ, true, List, Option, Some, None, Result, Ok, Err, subst}
 use Rattle.vd_outside.specs.Files.{FilesView, Contents}
 use Rattle.vd_outside.specs.Sink.{SinkView}
 use Rattle.vd_cmd.specs.declared.command.Command.{Command}
@@ -12,10 +12,9 @@ use Rattle.vd_plan.specs.Plans.{Executes, Plan}
 use Rattle.vd_plan.specs.Runs.{Finishes}
 use Rattle.vd_plan.specs.declared.answer.Answer.{Answer}
 use Rattle.vd_plan.specs.declared.status.Status.{Status}
-use Rattle.vd_plan.specs.declared.status.Status.TheVariants.{Ended}
 use Rattle.vd_plan.proofs.Following.{completes}
 use Rattle.vd_frontend.proofs.Reading.{some_texts}
-use Rattle.vd_selecting.specs.Choosing.{sure_search}
+use Rattle.vd_selecting.specs.Searching.{sure_search}
 use Rattle.vd_selecting.proofs.Reading.{some_certificates}
 use Rattle.vd_selection.proofs.Once.{some_choices}
 use Rattle.vd_hasten_command.proofs.Existing.{some_reading}

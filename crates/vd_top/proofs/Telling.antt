@@ -14,7 +14,7 @@ use Rattle.vd_plan.specs.declared.status.Status.TheVariants.{Ended, Memory, Usag
 use Rattle.vd_plan.proofs.Fronts.{same_within}
 use Rattle.vd_plan.proofs.InSteps.{any_memory}
 use Rattle.vd_plan.proofs.WholeRuns.{runs_err}
-use Rattle.vd_selecting.specs.Choosing.{GaveUp, searched_by}
+use Rattle.vd_selecting.specs.Searching.{GaveUp, searched_by}
 use Rattle.vd_execution.specs.Joint.{Done}
 use Rattle.vd_early_command.specs.Compiling.{early_plan}
 use Rattle.vd_host_command.specs.Hosts.{HostRuns, Marked, NetsView, NotLoaded, Plainly}

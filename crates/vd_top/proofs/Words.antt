@@ -12,7 +12,7 @@ use Rattle.vd_plan.specs.declared.answer.Answer.{Answer}
 use Rattle.vd_plan.proofs.Following.{Follows}
 use Rattle.vd_frontend.proofs.Reading.{some_texts, some_labels}
 use Rattle.vd_selection.proofs.Once.{some_choices}
-use Rattle.vd_selecting.specs.Choosing.{Searched, sure_search}
+use Rattle.vd_selecting.specs.Searching.{Searched, sure_search}
 use Rattle.vd_selecting.proofs.Reading.{some_certificates}
 use Rattle.vd_selecting.proofs.Sure.{choose_follows}
 use Rattle.vd_compiling.proofs.Sure.{compile_follows}

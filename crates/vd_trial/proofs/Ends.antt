@@ -10,23 +10,25 @@ use Rattle.vd_constraints.specs.declared.labels.Labels.{Labels}
 use Rattle.vd_gen.specs.Sizes.{most_coordinates}
 use Rattle.vd_gen.specs.Source.{generated}
 use Rattle.vd_space.specs.declared.problem.Problem.{Problem}
+use Rattle.vd_space.specs.Reading.{problem_of}
 use Rattle.vd_selection.specs.Choices.{ChoiceOutcomes, needed}
 use Rattle.vd_selection.proofs.Once.{some_choices}
 use Rattle.vd_plan.specs.Plans.{Plan, Executes, check_then, answer_then}
 use Rattle.vd_plan.specs.declared.answer.Answer.{Answer}
 use Rattle.vd_plan.specs.declared.status.Status.{Status}
 use Rattle.vd_plan.specs.declared.status.Status.TheVariants.{Memory, ReadFault, Spent}
-use Rattle.vd_frontend.specs.Labelling.{as_labels}
+use Rattle.vd_frontend.specs.Labelling.{as_labels, labels_of}
 use Rattle.vd_frontend.specs.Outcomes.{TextOutcomes, LabelOutcomes}
 use Rattle.vd_frontend.specs.Sources.{source_of, resolved_of}
 use Rattle.vd_frontend.proofs.Reading.{some_labels, some_texts}
 use Rattle.vd_generated.proofs.Read.{is_read}
-use Rattle.vd_selecting.specs.Choosing.{Searched, GaveUp, Certified, is_accepted, searched_by}
+use Rattle.vd_selecting.specs.Choice.{Chosen, assignment_of, chosen_by, search_then}
+use Rattle.vd_selecting.specs.declared.choice.Assignment.{Assignment}
+use Rattle.vd_selecting.specs.Searching.{Searched, GaveUp, Certified, is_accepted, searched_by}
 use Rattle.vd_selecting.specs.Outcomes.{CertificateOutcomes}
-use Rattle.vd_selecting.specs.Problems.{as_problem, problem_for}
 use Rattle.vd_selecting.proofs.Reading.{some_certificates}
 use Rattle.vd_trial.specs.Telling.{AnswersTrial, EndsTrial}
-use Rattle.vd_trial.specs.Trial.{ExecutesTrial, choice_plan, problem_plan, program_plan, source_plan, trial_plan}
+use Rattle.vd_trial.specs.Trial.{ExecutesTrial, choice_plan, program_plan, source_plan, trial_plan}
 
 -- ---- plans
 
@@ -47,7 +49,7 @@ passed_ends {T = T} wanted value rest files is ends = subst (λ (r : Result T St
 -- ---- the choice of protocols for a program
 
 -- its labels, or the flow check that fails
-labels_end : (program : NormalForm) (found : Result Labels ℕ) → IfErr (as_problem program (as_labels (system_of program) found)) EndsTrial
+labels_end : (program : NormalForm) (found : Result Labels ℕ) → IfErr (as_labels (system_of program) found) EndsTrial
 labels_end program (Ok labels) = tt
 labels_end program (Err check) = tt
 
@@ -63,17 +65,19 @@ search_ends : (certificates : CertificateOutcomes) (choices : ChoiceOutcomes) (s
 search_ends certificates choices GaveUp problem budget = spent_ends budget (nat_lt budget (needed problem (choices.choose problem)))
 search_ends certificates choices (Certified bytes) problem budget = accepted_ends bytes (is_accepted problem budget (certificates.read bytes))
 
-choice_ends : (coordinates : ℕ) (program : NormalForm) (problem : Problem) (choice : Option (List ℕ)) (files : Contents) → Ends (choice_plan coordinates program problem choice files)
+choice_ends : (coordinates : ℕ) (program : NormalForm) (choice : Option Assignment) (files : Contents) → Ends (choice_plan coordinates program choice files)
 unfolding answer_then
-choice_ends coordinates program problem None files = record { stores = refl; status = tt }
-choice_ends coordinates program problem (Some list) files = record { stores = refl; status = tt }
+choice_ends coordinates program None files = record { stores = refl; status = tt }
+choice_ends coordinates program (Some a) files = record { stores = refl; status = tt }
 
 module _ (texts : TextOutcomes) (least : LabelOutcomes) (certificates : CertificateOutcomes) (choices : ChoiceOutcomes) (searched : Searched) (coordinates : ℕ) (files : Contents) where
   program_ends : (program : NormalForm) → Ends (program_plan least choices (searched_by certificates choices searched) coordinates program files)
   program_ends program =
-      check_ends (problem_for least program) (problem_plan choices (searched_by certificates choices searched) coordinates program) files (labels_end program (least.label (system_of program)))
-      (λ problem. check_ends (searched_by certificates choices searched problem most_search_budget) (λ bytes. choice_plan coordinates program problem (choices.choose problem)) files
-      (search_ends certificates choices searched problem most_search_budget) (λ bytes. choice_ends coordinates program problem (choices.choose problem) files))
+      let search = searched_by certificates choices searched in
+      let rest : Chosen → Contents → Plan = λ c. choice_plan coordinates c.program c.assignment in
+      check_ends (labels_of least program) (λ l. search_then choices search most_search_budget program l rest) files (labels_end program (least.label (system_of program)))
+      (λ l. check_ends (search (problem_of program l) most_search_budget) (λ bytes. rest (chosen_by choices program l bytes)) files
+      (search_ends certificates choices searched (problem_of program l) most_search_budget) (λ bytes. choice_ends coordinates program (assignment_of choices (problem_of program l)) files))
 
   -- ---- the generated source, which is read and meets every rule
 

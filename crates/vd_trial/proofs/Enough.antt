@@ -1,7 +1,8 @@
 -- A program whose statements are executed few times can be dealt for, and what a trial gives its hosts suffices.
-use Rattle.std.proofs.Common.{◌≡◌, ℕ, ◌<◌, ◌≤◌, inl, inr, List, [], length, get_or, Result, Ok, Err, IfOk, sym, ap, ◌∙◌, subst, arith}
+use Rattle.std.proofs.Common.{◌≡◌, ℕ, ◌<◌, ◌≤◌, inl, inr, List, [], length, get_or, Result, Ok, Err, IfOk, refl, sym, ap, ◌∙◌, subst, arith}
 use Rattle.std.proofs.lemmas.Bool.{cases_lt}
 use Rattle.std.proofs.lemmas.List.FromFn.{get_or-map-range_with_len, length-map-range_with_len}
+use Rattle.vd_base.specs.declared.protocols.Proto.{Proto}
 use Rattle.vd_base.specs.Limits.{most_deal_items}
 use Rattle.vd_core.specs.declared.normal.NormalForm.{NormalForm}
 use Rattle.vd_core.specs.Facts.{IsWellMade, weight_sum}
@@ -24,16 +25,17 @@ use Rattle.vd_enough.proofs.Made.{deals_have_their_sizes}
 use Rattle.vd_enough.proofs.Sizes.{count_needs, counted, needs_at, taken}
 use Rattle.vd_item_limits.specs.Items.{most_executed}
 use Rattle.vd_item_limits.proofs.Programs.{small_programs_can_be_dealt, within}
-use Rattle.vd_compiling.specs.Selected.{IsSelected}
+use Rattle.vd_selecting.specs.Choice.{IsSelected}
+use Rattle.vd_selecting.specs.declared.choice.Assignment.{Assignment}
 use Rattle.vd_compiling.proofs.Runnable.{runnable_of}
 use Rattle.vd_asking.specs.declared.asked.Asked.{Asked}
 use Rattle.vd_asking.specs.Asking.{AreAsked}
 use Rattle.vd_trial.specs.Trial.{Suffice, asked_by, most_inputs, trial_asked, trial_input, trial_inputs, trial_words}
 
-pub splits : (program : NormalForm) (list : List ℕ) → IsWellMade program → NumbersFit program → IsSelected program list → CanBeSplit program list
-splits program list made numbers selected = record { made = made; numbers = numbers; runnable = runnable_of program list made selected }
+pub splits : (program : NormalForm) (a : Assignment) → IsWellMade program → NumbersFit program → IsSelected program a → CanBeSplit program a.protocols
+splits program a made numbers selected = record { made = made; numbers = numbers; runnable = runnable_of program a selected a.protocols refl }
 
-module _ (program : NormalForm) (list : List ℕ) (can : CanBeSplit program list) where
+module _ (program : NormalForm) (list : List Proto) (can : CanBeSplit program list) where
   pub can_be_dealt : weight_sum program.body ≤ most_executed → AreCounts (sizes_for program list)
   can_be_dealt few = small_programs_can_be_dealt program list can few
 
@@ -104,17 +106,17 @@ module _ (program : NormalForm) (list : List ℕ) (can : CanBeSplit program list
 
 -- ---- where so much is asked for
 
-pub made_there : {E : Type 0} (coordinates : ℕ) (program : NormalForm) (list : List ℕ) (needs : List HostNeeds) (result : Result Asked E) → needs ≡ needs_for program list → IfOk result (λ asked. asked ≡ asked_by needs coordinates)
+pub made_there : {E : Type 0} (coordinates : ℕ) (program : NormalForm) (list : List Proto) (needs : List HostNeeds) (result : Result Asked E) → needs ≡ needs_for program list → IfOk result (λ asked. asked ≡ asked_by needs coordinates)
     → IfOk result (λ asked. asked ≡ trial_asked coordinates program list)
 made_there coordinates program list needs (Ok asked) same made = made ∙ ap (λ (n : List HostNeeds). asked_by n coordinates) same
 made_there coordinates program list needs (Err e) same made = tt
 
-pub asked_there : {E : Type 0} (program : NormalForm) (list : List ℕ) → CanBeSplit program list → (needs : List HostNeeds) (result : Result Asked E) → needs ≡ needs_for program list → IfOk result (AreAsked (length needs))
+pub asked_there : {E : Type 0} (program : NormalForm) (list : List Proto) → CanBeSplit program list → (needs : List HostNeeds) (result : Result Asked E) → needs ≡ needs_for program list → IfOk result (AreAsked (length needs))
     → IfOk result (AreAsked (length program.hosts))
 asked_there program list can needs (Ok asked) same are = subst (λ (n : ℕ). AreAsked n asked) (ap (λ (l : List HostNeeds). length l) same ∙ count program list can) are
 asked_there program list can needs (Err e) same are = tt
 
-pub suffice_there : {E : Type 0} (coordinates : ℕ) (program : NormalForm) (list : List ℕ) → CanBeSplit program list → (needs : List HostNeeds) (result : Result Asked E) → needs ≡ needs_for program list
+pub suffice_there : {E : Type 0} (coordinates : ℕ) (program : NormalForm) (list : List Proto) → CanBeSplit program list → (needs : List HostNeeds) (result : Result Asked E) → needs ≡ needs_for program list
     → IfOk result (λ asked. asked ≡ asked_by needs coordinates) → IfOk result (AreAsked (length needs)) → IfOk result (λ asked. IsConsistent asked.deals) → IfOk result (Suffice program list)
 suffice_there coordinates program list can needs (Ok asked) same made are consistent =
     let there : asked ≡ trial_asked coordinates program list = made ∙ ap (λ (n : List HostNeeds). asked_by n coordinates) same in

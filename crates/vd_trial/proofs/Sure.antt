@@ -1,5 +1,5 @@
 -- A search that gives up wherever it may, beside any other.
-use Rattle.std.proofs.Common.{ℕ, []}
+use Rattle.std.proofs.Common.{ℕ, [], refl}
 use Rattle.vd_base.specs.Limits.{most_search_budget}
 use Rattle.vd_outside.specs.Files.{Contents}
 use Rattle.vd_core.specs.declared.normal.NormalForm.{NormalForm}
@@ -11,17 +11,14 @@ use Rattle.vd_plan.proofs.Following.{Follows, check_follows}
 use Rattle.vd_frontend.specs.Outcomes.{TextOutcomes, LabelOutcomes}
 use Rattle.vd_frontend.specs.Sources.{source_of, resolved_of}
 use Rattle.vd_selecting.specs.Outcomes.{CertificateOutcomes}
-use Rattle.vd_selecting.specs.Problems.{problem_for}
-use Rattle.vd_selecting.specs.Choosing.{Searched, searched_by, sure_search}
-use Rattle.vd_selecting.proofs.Selected.{choice_follows}
-use Rattle.vd_trial.specs.Trial.{choice_plan, problem_plan, program_plan, source_plan, trial_plan}
+use Rattle.vd_selecting.specs.Searching.{Searched, searched_by, sure_search}
+use Rattle.vd_selecting.proofs.Steps.{choice_follows}
+use Rattle.vd_trial.specs.Trial.{choice_plan, program_plan, source_plan, trial_plan}
 
 module _ (least : LabelOutcomes) (certificates : CertificateOutcomes) (choices : ChoiceOutcomes) (searched : Searched) (coordinates : ℕ) (files : Contents) where
   program_follows : (program : NormalForm)
       → Follows (program_plan least choices (sure_search choices) coordinates program files) (program_plan least choices (searched_by certificates choices searched) coordinates program files)
-  program_follows program =
-      check_follows (problem_for least program) (problem_plan choices (sure_search choices) coordinates program) (problem_plan choices (searched_by certificates choices searched) coordinates program) files
-      (λ problem. choice_follows problem most_search_budget certificates choices (choice_plan coordinates program problem) searched files)
+  program_follows program = choice_follows program most_search_budget certificates choices (λ c. choice_plan coordinates c.program c.assignment) files (λ l one other. refl) least searched
 
   pub trial_follows : (texts : TextOutcomes)
       → Follows (trial_plan texts least choices (sure_search choices) coordinates files) (trial_plan texts least choices (searched_by certificates choices searched) coordinates files)

@@ -5,8 +5,9 @@ use Rattle.std.specs.Prelude.{slice_index_or}
 use Rattle.std.specs.List.{range_with_len}
 use Rattle.vd_core.specs.declared.normal.NormalForm.{NormalForm}
 use Rattle.vd_core.specs.declared.source.Source.{Source}
-use Rattle.vd_core.specs.Facts.{weight_sum}
+use Rattle.vd_core.specs.Facts.{IsWellMade, weight_sum}
 use Rattle.vd_constraints.specs.Rules.{system_of}
+use Rattle.vd_constraints.specs.declared.labels.Labels.{Labels}
 use Rattle.vd_least.proofs.Once.{labelled_once}
 use Rattle.vd_meaning.specs.ProgramMeaning.{program_outputs}
 use Rattle.vd_meaning.specs.SourceMeaning.{source_outputs}
@@ -26,15 +27,10 @@ use Rattle.vd_play.specs.Reports.{line_of, lines_of, report_of}
 use Rattle.vd_play.specs.Schedules.{replayed}
 use Rattle.vd_play.specs.Supplies.{supply_of_files}
 use Rattle.vd_play.specs.Told.{HaveEnded}
-use Rattle.vd_report.specs.ChoiceLines.{cost_line}
 use Rattle.vd_report.specs.ReportLines.{host_lines}
-use Rattle.vd_search.specs.Answers.{nat_or_zero}
-use Rattle.vd_space.specs.declared.problem.Problem.{Problem}
-use Rattle.vd_space.specs.Costs.{cost}
 use Rattle.vd_space.specs.Reading.{problem_of}
-use Rattle.vd_space.specs.Spaces.{IsProblem}
-use Rattle.vd_cheapest.specs.Cheapest.{IsCheapest}
-use Rattle.vd_cheapest.proofs.Cheapest.{back, cheapest}
+use Rattle.vd_space.proofs.Weighed.{is_problem}
+use Rattle.vd_cheapest.proofs.Cheapest.{back}
 use Rattle.vd_selection.specs.Choices.{IsChosen}
 use Rattle.vd_selection.proofs.Once.{chosen_once}
 use Rattle.vd_plan.specs.Plans.{Checks}
@@ -42,10 +38,11 @@ use Rattle.vd_plan.specs.declared.answer.Answer.{Answer}
 use Rattle.vd_plan.specs.declared.status.Status.{Status}
 use Rattle.vd_plan.specs.declared.status.Status.TheVariants.{Ended, NoAssignment}
 use Rattle.vd_frontend.specs.Sources.{as_resolved, resolved_of}
-use Rattle.vd_selecting.specs.Problems.{IsProblemOf}
+use Rattle.vd_selecting.specs.Choice.{IsSelected, assigned}
+use Rattle.vd_selecting.specs.declared.choice.Assignment.{Assignment}
 use Rattle.vd_compiling.specs.Selected.{no_list}
 use Rattle.vd_asking.specs.declared.asked.Asked.{Asked}
-use Rattle.vd_replaying.specs.Telling.{IsCodeAtChoice, IsReport}
+use Rattle.vd_replaying.specs.Telling.{IsReport}
 use Rattle.vd_trial.specs.Trial.{Suffice, headed_by, trial_asked}
 use Rattle.vd_trial.specs.Telling.{IsRun, TellsProgram, TellsSource, TellsTrial, ended_line, ended_lines}
 
@@ -71,7 +68,7 @@ module _ (program : NormalForm) (outputs : List (List ℕ)) (asked : Asked) (lin
   abbrev world : World
   world = replayed supply (length program.hosts) asked.schedule (started is.joint)
 
-  pub all_ended : asked.schedule.all ≡ true → asked.messages ≡ false → Suffice program is.code.list asked → lines ≡ ended_lines program.hosts outputs
+  pub all_ended : asked.schedule.all ≡ true → asked.messages ≡ false → Suffice program is.code.assignment.protocols asked → lines ≡ ended_lines program.hosts outputs
   all_ended all quiet suffice =
       let there : Suffices supply (last_of supply is.joint) = subst (λ (j : Joint). Suffices supply (last_of supply j)) (sym is.code.compiled) suffice in
       let ended : HaveEnded supply (length program.hosts) world = is.told.told.ends all there in
@@ -81,37 +78,35 @@ module _ (program : NormalForm) (outputs : List (List ℕ)) (asked : Asked) (lin
       report ∙ append-nil (host_lines program.hosts program.hosts (lines_of supply world (length program.hosts)))
       ∙ ap (host_lines program.hosts program.hosts) (ended_alike outputs supply world (length program.hosts) ended printed)
 
--- ---- a list of protocols
+-- ---- the choice
 
 -- there is one choice of protocols for a program
-list_once : (program : NormalForm) (problem : Problem) (list : List ℕ) → IsProblemOf program problem → IsProblem problem → IsChosen problem (Some list)
-    → (joint : Joint) (code : IsCodeAtChoice program joint) → list ≡ code.list
-list_once program problem list of holds chosen joint code =
-    let labels : Ok of.labels ≡ Ok code.selected.labels = labelled_once (system_of program) (Ok of.labels) (Ok code.selected.labels) of.least code.selected.least in
-    let same : of.labels ≡ code.selected.labels = cc labels in
-    let there : problem ≡ problem_of program code.selected.labels = of.same ∙ ap (problem_of program) same in
-    let other = back (problem_of program code.selected.labels) code.list (subst IsProblem there holds) code.selected.cheapest in
-    let lists : Some list ≡ Some code.list =
-    chosen_once (problem_of program code.selected.labels) (Some list) (Some code.list) (subst (λ (p : Problem). IsChosen p (Some list)) there chosen) other in
-    cc lists
+selected_once : (program : NormalForm) → IsWellMade program → (a b : Assignment) → IsSelected program a → IsSelected program b → a ≡ b
+selected_once program made a b one other =
+    let labels : Ok one.labels ≡ Ok other.labels = labelled_once (system_of program) (Ok one.labels) (Ok other.labels) one.least other.least in
+    let same : one.labels ≡ other.labels = cc labels in
+    let first : IsChosen (problem_of program one.labels) (Some one.places) = back (problem_of program one.labels) one.places (is_problem program one.labels made) one.cheapest in
+    let second : IsChosen (problem_of program other.labels) (Some other.places) = back (problem_of program other.labels) other.places (is_problem program other.labels made) other.cheapest in
+    let lists : Some one.places ≡ Some other.places =
+    chosen_once (problem_of program other.labels) (Some one.places) (Some other.places) (subst (λ (l : Labels). IsChosen (problem_of program l) (Some one.places)) same first) second in
+    let places : one.places ≡ other.places = cc lists in
+    one.is ∙ (λ i. assigned (problem_of program (same i)) (places i)) ∙ sym other.is
 
 module _ (coordinates : ℕ) (program : NormalForm) where
-  pub run_told : (problem : Problem) (list : List ℕ) (least : ℕ) (asked : Asked) (report headed : Answer) → IsProblemOf program problem → IsProblem problem → IsChosen problem (Some list)
-      → nat_or_zero (cost problem list) ≡ least → asked ≡ trial_asked coordinates program list → Suffice program list asked → IsReport program (program_outputs program asked.inputs) asked report.printed
-      → headed ≡ headed_by least report → TellsProgram coordinates program (Ok headed)
-  run_told problem list least asked report headed of holds chosen number made suffice is same = λ e.
-      let own = trial_asked coordinates program list in
-      let there : IsReport program (program_outputs program own.inputs) own report.printed = subst (λ (a : Asked). IsReport program (program_outputs program a.inputs) a report.printed) made is in
-      let one = list_once program problem list of holds chosen there.joint there.code in
-      let enough : Suffice program there.code.list own = subst (λ (l : List ℕ). Suffice program l own) one (subst (Suffice program list) made suffice) in
-      let stated : least ≡ nat_or_zero (cost (problem_of program of.labels) list) = sym number ∙ ap (λ (p : Problem). nat_or_zero (cost p list)) of.same in
+  pub run_told : (a : Assignment) (asked : Asked) (report headed : Answer) → IsWellMade program → IsSelected program a → asked ≡ trial_asked coordinates program a.protocols → Suffice program a.protocols asked
+      → IsReport program (program_outputs program asked.inputs) asked report.printed → headed ≡ headed_by a.cost report → TellsProgram coordinates program (Ok headed)
+  run_told a asked report headed well selected made suffice is same = λ e.
+      let own = trial_asked coordinates program a.protocols in
+      let there : IsReport program (program_outputs program own.inputs) own report.printed = subst (λ (x : Asked). IsReport program (program_outputs program x.inputs) x report.printed) made is in
+      let one = selected_once program well a there.code.assignment selected there.code.selected in
+      let enough : Suffice program there.code.assignment.protocols own = subst (λ (b : Assignment). Suffice program b.protocols own) one (subst (Suffice program a.protocols) made suffice) in
       record {
-        list = list;
-        selected = record { labels = of.labels; least = of.least; cheapest = subst (λ (p : Problem). IsCheapest p list) of.same (cheapest problem list holds chosen) };
+        assignment = a;
+        selected = selected;
         lines = report.printed;
         report = there;
         ends = all_ended program (program_outputs program own.inputs) own report.printed there refl refl enough;
-        printed_is = ap (λ (a : Answer). a.printed) same ∙ ap (λ (n : ℕ). cost_line n ++ report.printed) stated;
+        printed_is = ap (λ (x : Answer). x.printed) same;
       }
 
   -- where no list is valid, nothing is told

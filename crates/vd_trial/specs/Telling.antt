@@ -12,14 +12,12 @@ use Rattle.vd_gen.specs.Source.{generated}
 use Rattle.vd_report.specs.declared.reports.HostLine.{HostLine}
 use Rattle.vd_report.specs.ChoiceLines.{cost_line}
 use Rattle.vd_report.specs.ReportLines.{host_lines}
-use Rattle.vd_search.specs.Answers.{nat_or_zero}
-use Rattle.vd_space.specs.Costs.{cost}
-use Rattle.vd_space.specs.Reading.{problem_of}
 use Rattle.vd_plan.specs.declared.answer.Answer.{Answer}
 use Rattle.vd_plan.specs.declared.status.Status.{Status}
 use Rattle.vd_plan.specs.declared.status.Status.TheVariants.{Ended, Memory, WriteFault, Flow, NoAssignment, Spent}
 use Rattle.vd_frontend.specs.Sources.{IsSourceText}
-use Rattle.vd_compiling.specs.Selected.{IsSelected}
+use Rattle.vd_selecting.specs.Choice.{IsSelected}
+use Rattle.vd_selecting.specs.declared.choice.Assignment.{Assignment}
 use Rattle.vd_replaying.specs.Telling.{IsReport}
 use Rattle.vd_trial.specs.Trial.{trial_asked}
 
@@ -34,12 +32,12 @@ ended_lines hosts outputs = host_lines hosts hosts (map (ended_line outputs) (ra
 -- A run of a program at its choice of protocols, on as many inputs and items as its hosts take there. All hosts have ended, each
 -- with all words that it is told; what is printed are the cost of the choice and the report that says so.
 pub record IsRun (coordinates : ℕ) (program : NormalForm) (outputs : List (List ℕ) → List (List ℕ)) (printed : List ℕ) : Type 0 where
-  pub list : List ℕ
-  pub selected : IsSelected program list
+  pub assignment : Assignment
+  pub selected : IsSelected program assignment
   pub lines : List ℕ
-  pub report : let asked = trial_asked coordinates program list in IsReport program (outputs asked.inputs) asked lines
-  pub ends : lines ≡ ended_lines program.hosts (outputs (trial_asked coordinates program list).inputs)
-  pub printed_is : printed ≡ cost_line (nat_or_zero (cost (problem_of program selected.labels) list)) ++ lines
+  pub report : let asked = trial_asked coordinates program assignment.protocols in IsReport program (outputs asked.inputs) asked lines
+  pub ends : lines ≡ ended_lines program.hosts (outputs (trial_asked coordinates program assignment.protocols).inputs)
+  pub printed_is : printed ≡ cost_line assignment.cost ++ lines
 
 -- The generated text is that of a source that meets every rule, and what is printed is the cost of its choice of protocols and
 -- the report of a run of it on the inputs, the deal and the schedule of a trial, in which all hosts end.

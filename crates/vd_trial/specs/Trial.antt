@@ -1,6 +1,7 @@
 -- The command `trial`.
 use Rattle.std.specs.Prelude.{ℕ, zero, suc, max, true, false, Option, Some, None, List, [], ◌++◌, length, map, Result}
 use Rattle.std.specs.List.{fold, range_with_len}
+use Rattle.vd_base.specs.declared.protocols.Proto.{Proto}
 use Rattle.vd_base.specs.Limits.{most_search_budget}
 use Rattle.vd_outside.specs.Files.{FilesView, Contents}
 use Rattle.vd_core.specs.declared.normal.NormalForm.{NormalForm}
@@ -15,18 +16,15 @@ use Rattle.vd_host_programs.specs.Programs.{joint_of}
 use Rattle.vd_play.specs.Supplies.{supply_of_files}
 use Rattle.vd_gen.specs.Source.{generated}
 use Rattle.vd_report.specs.ChoiceLines.{cost_line}
-use Rattle.vd_search.specs.Answers.{nat_or_zero}
-use Rattle.vd_space.specs.declared.problem.Problem.{Problem}
-use Rattle.vd_space.specs.Costs.{cost}
 use Rattle.vd_selection.specs.Choices.{ChoiceOutcomes}
 use Rattle.vd_plan.specs.Plans.{Plan, Executes, check_then, answer_then, ended}
 use Rattle.vd_plan.specs.declared.answer.Answer.{Answer}
 use Rattle.vd_plan.specs.declared.status.Status.{Status}
 use Rattle.vd_frontend.specs.Outcomes.{TextOutcomes, LabelOutcomes}
 use Rattle.vd_frontend.specs.Sources.{source_of, resolved_of}
-use Rattle.vd_selecting.specs.Choosing.{Search, SomeSearch}
-use Rattle.vd_selecting.specs.Problems.{problem_for}
-use Rattle.vd_selecting.specs.Selected.{choice_then}
+use Rattle.vd_selecting.specs.Searching.{Search, SomeSearch}
+use Rattle.vd_selecting.specs.Choice.{choice_then}
+use Rattle.vd_selecting.specs.declared.choice.Assignment.{Assignment}
 use Rattle.vd_compiling.specs.Selected.{no_list}
 use Rattle.vd_asking.specs.declared.asked.Asked.{Asked}
 use Rattle.vd_replaying.specs.Replaying.{report_for}
@@ -58,15 +56,15 @@ asked_by needs key = record {
   messages = false;
 }
 
--- what the hosts of a program run on at a list of protocols: the key is the number of coordinates
-abbrev pub trial_asked : (coordinates : ℕ) → NormalForm → List ℕ → Asked
-trial_asked coordinates program list = asked_by (needs_for program list) coordinates
+-- what the hosts of a program run on at an assignment of protocols: the key is the number of coordinates
+abbrev pub trial_asked : (coordinates : ℕ) → NormalForm → List Proto → Asked
+trial_asked coordinates program protocols = asked_by (needs_for program protocols) coordinates
 
 -- each list has as many inputs and items as are taken of it
-abbrev pub Suffice : NormalForm → List ℕ → Asked → Type 0
-Suffice program list asked =
+abbrev pub Suffice : NormalForm → List Proto → Asked → Type 0
+Suffice program protocols asked =
     let supply = supply_of_files asked.inputs asked.deals in
-    Suffices supply (last_of supply (joint_of program list))
+    Suffices supply (last_of supply (joint_of program protocols))
 
 -- ---- what is printed
 
@@ -74,27 +72,20 @@ Suffice program list asked =
 abbrev pub headed_by : ℕ → Answer → Answer
 headed_by least answer = record { status = answer.status; stores = answer.stores; printed = cost_line least ++ answer.printed }
 
--- the cost of a list of protocols, and the report of the run
-abbrev pub trial_text : (coordinates : ℕ) → NormalForm → List ℕ → (least : ℕ) → List ℕ
-trial_text coordinates program list least = cost_line least ++ report_for program list (trial_asked coordinates program list)
+-- the cost of the choice, and the report of the run
+abbrev pub trial_text : (coordinates : ℕ) → NormalForm → Assignment → List ℕ
+trial_text coordinates program a = cost_line a.cost ++ report_for program a.protocols (trial_asked coordinates program a.protocols)
 
 -- ---- the plan
 
--- with a list of protocols of this cost
-abbrev pub list_plan : (coordinates : ℕ) → NormalForm → List ℕ → (least : ℕ) → Contents → Plan
-list_plan coordinates program list least = answer_then (ended [] (trial_text coordinates program list least))
-
--- with the choice, if there is one
-abbrev pub choice_plan : (coordinates : ℕ) → NormalForm → Problem → Option (List ℕ) → Contents → Plan
-choice_plan coordinates program problem None = answer_then no_list
-choice_plan coordinates program problem (Some list) = list_plan coordinates program list (nat_or_zero (cost problem list))
-
-abbrev pub problem_plan : ChoiceOutcomes → Search → (coordinates : ℕ) → NormalForm → Problem → Contents → Plan
-problem_plan choices search coordinates program problem = choice_then choices search most_search_budget problem (choice_plan coordinates program problem)
+-- with the choice for a program, if there is one
+abbrev pub choice_plan : (coordinates : ℕ) → NormalForm → Option Assignment → Contents → Plan
+choice_plan coordinates program None = answer_then no_list
+choice_plan coordinates program (Some a) = answer_then (ended [] (trial_text coordinates program a))
 
 -- with a program, and with a source that meets every rule
 abbrev pub program_plan : LabelOutcomes → ChoiceOutcomes → Search → (coordinates : ℕ) → NormalForm → Contents → Plan
-program_plan least choices search coordinates program = check_then (problem_for least program) (problem_plan choices search coordinates program)
+program_plan least choices search coordinates program = choice_then least choices search most_search_budget program (λ c. choice_plan coordinates c.program c.assignment)
 
 abbrev pub source_plan : LabelOutcomes → ChoiceOutcomes → Search → (coordinates : ℕ) → Source → Contents → Plan
 source_plan least choices search coordinates source = program_plan least choices search coordinates (normal_form source)
@@ -105,10 +96,6 @@ trial_plan texts least choices search coordinates =
     check_then (source_of texts [] (generated coordinates)) (λ tree. check_then (resolved_of tree) (source_plan least choices search coordinates))
 
 -- ---- what the parts of the command do, whatever functions pick outcomes
-
-abbrev pub ExecutesProblem : (coordinates : ℕ) → NormalForm → Problem → Result Answer Status → Type 0
-ExecutesProblem coordinates program problem result =
-    SomeSearch (λ choices search. (files : FilesView) → Executes true (problem_plan choices search coordinates program problem) files files result)
 
 abbrev pub ExecutesProgram : (coordinates : ℕ) → NormalForm → Result Answer Status → Type 0
 ExecutesProgram coordinates program result =

@@ -6,7 +6,7 @@ ghost use Rattle.vd_core.specs.Facts.{weight_sum};
 ghost use Rattle.vd_deals.specs.Validity.{IsConsistent};
 ghost use Rattle.vd_tape.specs.Made.{AreCounts};
 ghost use Rattle.vd_needs.specs.Sizes.{sizes_of};
-ghost use Rattle.vd_compiling.specs.Selected.{IsSelected};
+ghost use Rattle.vd_selecting.specs.Choice.{IsSelected};
 ghost use Rattle.vd_item_limits.specs.Items.{most_executed};
 ghost use Rattle.vd_asking.specs.Asking.{AreAsked};
 ghost use Rattle.vd_trial.specs.Trial.{Suffice, asked_by, most_inputs, trial_asked, trial_input, trial_inputs, trial_words};
@@ -19,6 +19,7 @@ use vd_enough::needs_of_program;
 use vd_items::Items;
 use vd_needs::{HostNeeds, sizes};
 use vd_report::Schedule;
+use vd_selecting::Assignment;
 use vd_tape::make;
 
 /// The input with this number, from 0 on, of a host: the first host's inputs are their numbers, all others are 0.
@@ -85,22 +86,23 @@ fn asked_by(alloc: Global, needs: &[HostNeeds], key: u32) -> Result<Asked, Alloc
     })
 }
 
-/// What the hosts of a program run on at a list of protocols: as many inputs and items as they take there, so that none is ever
+/// What the hosts of a program run on at its choice of protocols: as many inputs and items as they take there, so that none is ever
 /// short, with a deal whose key is the number of coordinates.
 pub(crate) fn asked_at(
     alloc: Global,
     program: &Program,
-    places: &[u32],
+    assignment: &Assignment,
     coordinates: u32,
 ) -> Result<Asked, AllocError>
     requires few { weight_sum program.now.body ≤ most_executed }
-    requires selected { IsSelected program.now places.now }
-    ensures made { IfOk result (λ asked. asked ≡ trial_asked coordinates program.now places.now) }
+    requires selected { IsSelected program.now assignment.now }
+    ensures made { IfOk result (λ asked. asked ≡ trial_asked coordinates program.now assignment.now.protocols) }
     ensures asked { IfOk result (AreAsked (length program.now.hosts)) }
     ensures consistent { IfOk result (λ asked. IsConsistent asked.deals) }
-    ensures suffice { IfOk result (Suffice program.now places.now) }
+    ensures suffice { IfOk result (Suffice program.now assignment.now.protocols) }
 {
     program.numbers_fit();
-    let needs = needs_of_program(alloc, program, places)?;
+    let protocols = assignment.protocols.as_slice();
+    let needs = needs_of_program(alloc, program, protocols)?;
     asked_by(alloc, needs.as_slice(), coordinates)
 }

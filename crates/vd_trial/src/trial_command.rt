@@ -1,19 +1,15 @@
 //! The command `trial`.
 
-ghost use Rattle.std.specs.Prelude.{◌≡◌, ◌++◌, ◌≤◌, [], Some, length, IfOk};
+ghost use Rattle.std.specs.Prelude.{◌≡◌, ◌++◌, ◌≤◌, [], IfOk};
 ghost use Rattle.vd_core.specs.Facts.{weight_sum};
 ghost use Rattle.vd_normal.specs.Normal.{normal_form};
 ghost use Rattle.vd_gen.specs.Sizes.{most_coordinates};
 ghost use Rattle.vd_plan.specs.Plans.{Computes, ended};
 ghost use Rattle.vd_report.specs.ChoiceLines.{cost_line};
-ghost use Rattle.vd_search.specs.Answers.{nat_or_zero};
-ghost use Rattle.vd_space.specs.Costs.{cost};
-ghost use Rattle.vd_selection.specs.Choices.{IsChosen};
-ghost use Rattle.vd_selecting.specs.Problems.{IsProblemOf};
-ghost use Rattle.vd_space.specs.Spaces.{IsProblem};
+ghost use Rattle.vd_selecting.specs.Choice.{IsSelected};
 ghost use Rattle.vd_item_limits.specs.Items.{most_executed};
 ghost use Rattle.vd_trial.specs.Telling.{AnswersTrial, TellsProgram, TellsSource, TellsTrial};
-ghost use Rattle.vd_trial.specs.Trial.{ExecutesProblem, ExecutesProgram, ExecutesSource, ExecutesTrial, headed_by, trial_text};
+ghost use Rattle.vd_trial.specs.Trial.{ExecutesProgram, ExecutesSource, ExecutesTrial, headed_by, trial_text};
 
 use crate::asking::asked_at;
 use itoa::Buffer;
@@ -28,9 +24,7 @@ use vd_gen::generate;
 use vd_plan::{Answer, Status};
 use vd_replaying::replay_at;
 use vd_resolve::Resolved;
-use vd_selecting::least_space;
-use vd_selection::{SelectFault, Selection, Sweeps, select};
-use vd_spaces::Space;
+use vd_selecting::{Assignment, choice_for};
 
 /// The line of a cost.
 fn cost_line(alloc: Global, cost: u32) -> Result<Bytes, AllocError>
@@ -61,59 +55,36 @@ fn headed_by(alloc: Global, cost: u32, answer: Answer) -> Result<Answer, AllocEr
     })
 }
 
-/// Runs a program at a list of protocols of this cost, on as many inputs and items as its hosts take there, and prints the cost and
-/// the report.
+/// Runs a program at its choice of protocols, on as many inputs and items as its hosts take there, and prints the cost and the
+/// report.
 fn trial_at(
     alloc: Global,
     program: &Program,
-    space: &Space,
-    places: &[u32],
-    least: u32,
+    assignment: &Assignment,
     coordinates: u32,
 ) -> Result<Answer, Status>
     requires few { weight_sum program.now.body ≤ most_executed }
-    requires problem { IsProblemOf program.now space.now }
-    requires holds { IsProblem space.now }
-    requires chosen { IsChosen space.now (Some places.now) }
-    requires least { nat_or_zero (cost space.now places.now) ≡ least }
-    ensures computes { Computes (ended [] (trial_text coordinates program.now places.now least)) result }
+    requires selected { IsSelected program.now assignment.now }
+    ensures computes { Computes (ended [] (trial_text coordinates program.now assignment.now)) result }
     ensures tells { TellsProgram coordinates program.now result }
 {
-    let asked = asked_at(alloc, program, places, coordinates)?;
-    let report = replay_at(alloc, program, places, asked)?;
-    Ok(headed_by(alloc, least, report)?)
-}
-
-/// What `trial` does with the space of a program.
-fn trial_space(
-    alloc: Global,
-    program: &Program,
-    space: &Space,
-    coordinates: u32,
-) -> Result<Answer, Status>
-    requires few { weight_sum program.now.body ≤ most_executed }
-    requires problem { IsProblemOf program.now space.now }
-    ensures executes { ExecutesProblem coordinates program.now space.now result }
-    ensures tells { TellsProgram coordinates program.now result }
-{
-    match select(alloc, &Sweeps, space.problem(), SEARCH_BUDGET) {
-        Ok(Selection::Found(places, cost, _)) => {
-            trial_at(alloc, program, space, places.as_slice(), cost, coordinates)
-        }
-        Ok(Selection::NoAssignment(_)) => Ok(no_assignment(alloc)),
-        Err(SelectFault::Spent) => Err(Status::Spent(SEARCH_BUDGET)),
-        Err(SelectFault::Memory) => Err(Status::Memory),
-    }
+    program.form();
+    let asked = asked_at(alloc, program, assignment, coordinates)?;
+    let report = replay_at(alloc, program, assignment, asked)?;
+    Ok(headed_by(alloc, assignment.cost, report)?)
 }
 
 /// What `trial` does with a program.
-fn trial_program(alloc: Global, program: &Program, coordinates: u32) -> Result<Answer, Status>
-    requires { weight_sum program.now.body ≤ most_executed }
-    ensures executes { ExecutesProgram coordinates program.now result }
-    ensures tells { TellsProgram coordinates program.now result }
+fn trial_program(alloc: Global, program: Program, coordinates: u32) -> Result<Answer, Status>
+    requires { weight_sum program.body ≤ most_executed }
+    ensures executes { ExecutesProgram coordinates program result }
+    ensures tells { TellsProgram coordinates program result }
 {
-    let space = least_space(alloc, program)?;
-    trial_space(alloc, program, &space, coordinates)
+    let choice = choice_for(alloc, program, SEARCH_BUDGET)?;
+    match &choice.assignment {
+        Some(assignment) => trial_at(alloc, &choice.program, assignment, coordinates),
+        None => Ok(no_assignment(alloc)),
+    }
 }
 
 /// What `trial` does with a source that meets every rule.
@@ -123,7 +94,7 @@ fn trial_source(alloc: Global, source: &Resolved, coordinates: u32) -> Result<An
     ensures tells { TellsSource coordinates source.now result }
 {
     let program = elaborate(alloc, source)?;
-    trial_program(alloc, &program, coordinates)
+    trial_program(alloc, program, coordinates)
 }
 
 /// The command `trial`: the generated source for points with so many coordinates is run by all its hosts in one process, each

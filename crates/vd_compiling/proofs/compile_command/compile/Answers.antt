@@ -1,5 +1,5 @@
 use Rattle.std.proofs.lemmas.Result.{err_from_is_err_and}
-use Rattle.vd_selecting.specs.Choosing.{GaveUp, searched_by}
+use Rattle.vd_selecting.specs.Searching.{GaveUp, searched_by}
 use Rattle.vd_compiling.proofs.Compiled.{fetch_refused, fetched_then, rules_refused, rules_then, tree_refused, tree_then}
 use Rattle.vd_compiling.proofs.Telling.{source_stored}
 use Rattle.vd_compiling.proofs.compile_command.compile.Goals as goal

@@ -1,6 +1,6 @@
 use Rattle.std.proofs.lemmas.Result.{err_from_is_err_and}
 use Rattle.vd_execution.specs.Joint.{Done}
-use Rattle.vd_selecting.specs.Choosing.{GaveUp, searched_by}
+use Rattle.vd_selecting.specs.Searching.{GaveUp, searched_by}
 use Rattle.vd_early_command.proofs.Compiled.{fetch_refused, fetched_then, rules_refused, rules_then, tree_refused, tree_then}
 use Rattle.vd_early_command.proofs.Telling.{source_stored}
 use Rattle.vd_early_command.proofs.early_command.compile_early.Goals as goal

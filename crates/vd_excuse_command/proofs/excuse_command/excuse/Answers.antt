@@ -1,5 +1,5 @@
 use Rattle.std.proofs.lemmas.Result.{err_from_is_err_and}
-use Rattle.vd_selecting.specs.Choosing.{GaveUp, searched_by}
+use Rattle.vd_selecting.specs.Searching.{GaveUp, searched_by}
 use Rattle.vd_excuse_command.specs.Excusing.{source_plan}
 use Rattle.vd_excuse_command.proofs.Held.{excuse_told}
 use Rattle.vd_excuse_command.proofs.excuse_command.excuse.Goals as goal

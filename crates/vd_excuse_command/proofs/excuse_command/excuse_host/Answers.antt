@@ -2,7 +2,7 @@ use Rattle.std.proofs.Common.{Ok, Err}
 use Rattle.std.proofs.lemmas.Result.{err_from_is_err_and}
 use Rattle.vd_frontend.specs.Labelling.{labels_of}
 use Rattle.vd_plan.proofs.InSteps.{any_memory, check_step}
-use Rattle.vd_selecting.specs.Choosing.{GaveUp, searched_by}
+use Rattle.vd_selecting.specs.Searching.{GaveUp, searched_by}
 use Rattle.vd_selecting.proofs.Labelled.{has_labels}
 use Rattle.vd_excuse_command.specs.Excusing.{labels_plan}
 use Rattle.vd_excuse_command.proofs.excuse_command.excuse_host.Goals as goal

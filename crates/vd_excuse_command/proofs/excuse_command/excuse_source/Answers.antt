@@ -3,7 +3,7 @@ use Rattle.std.proofs.lemmas.Result.{err_from_is_err_and}
 use Rattle.vd_core.specs.declared.normal.NormalForm.{NormalForm}
 use Rattle.vd_plan.specs.Plans.{Executes}
 use Rattle.vd_plan.proofs.InSteps.{any_memory}
-use Rattle.vd_selecting.specs.Choosing.{GaveUp, searched_by}
+use Rattle.vd_selecting.specs.Searching.{GaveUp, searched_by}
 use Rattle.vd_excuse_command.specs.Excusing.{program_plan}
 use Rattle.vd_excuse_command.proofs.Held.{source_told}
 use Rattle.vd_excuse_command.proofs.excuse_command.excuse_source.Goals as goal

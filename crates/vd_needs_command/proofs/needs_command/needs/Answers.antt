@@ -1,6 +1,5 @@
-use Rattle.std.proofs.Common.{sym, ◌∙◌}
 use Rattle.std.proofs.lemmas.Result.{err_from_is_err_and}
-use Rattle.vd_selecting.specs.Choosing.{GaveUp, searched_by}
+use Rattle.vd_selecting.specs.Searching.{GaveUp, searched_by}
 use Rattle.vd_needs_command.proofs.Answered.{fetch_refused, fetched_then}
 use Rattle.vd_needs_command.proofs.Told.{file_told}
 use Rattle.vd_needs_command.proofs.needs_command.needs.Goals as goal

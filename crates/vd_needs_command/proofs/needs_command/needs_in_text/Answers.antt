@@ -2,7 +2,7 @@ use Rattle.std.proofs.Common.{Ok, Err}
 use Rattle.std.proofs.lemmas.Result.{err_from_is_err_and}
 use Rattle.vd_plan.proofs.InSteps.{check_step}
 use Rattle.vd_frontend.specs.Sources.{resolved_of, source_of}
-use Rattle.vd_selecting.specs.Choosing.{GaveUp, searched_by}
+use Rattle.vd_selecting.specs.Searching.{GaveUp, searched_by}
 use Rattle.vd_needs_command.specs.Needing.{source_plan, tree_plan}
 use Rattle.vd_needs_command.proofs.Told.{text_told}
 use Rattle.vd_needs_command.proofs.needs_command.needs_in_text.Goals as goal

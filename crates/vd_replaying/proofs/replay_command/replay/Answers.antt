@@ -1,5 +1,5 @@
 use Rattle.std.proofs.lemmas.Result.{err_from_is_err_and}
-use Rattle.vd_selecting.specs.Choosing.{GaveUp, searched_by}
+use Rattle.vd_selecting.specs.Searching.{GaveUp, searched_by}
 use Rattle.vd_replaying.specs.Replaying.{source_plan}
 use Rattle.vd_replaying.proofs.Counting.{replay_counted}
 use Rattle.vd_replaying.proofs.Held.{headline_told}

@@ -3,7 +3,7 @@ use Rattle.std.proofs.lemmas.Result.{err_from_is_err_and}
 use Rattle.vd_core.specs.declared.normal.NormalForm.{NormalForm}
 use Rattle.vd_plan.specs.Plans.{Executes}
 use Rattle.vd_plan.proofs.InSteps.{any_memory}
-use Rattle.vd_selecting.specs.Choosing.{GaveUp, searched_by}
+use Rattle.vd_selecting.specs.Searching.{GaveUp, searched_by}
 use Rattle.vd_replaying.specs.Replaying.{program_plan}
 use Rattle.vd_replaying.proofs.Counting.{source_counted}
 use Rattle.vd_replaying.proofs.Held.{source_told}

@@ -9,7 +9,7 @@ use Rattle.vd_frontend.proofs.Reading.{some_labels}
 use Rattle.vd_plan.proofs.InSteps.{any_memory}
 use Rattle.vd_selection.proofs.Once.{some_choices}
 use Rattle.vd_selecting.proofs.Reading.{some_certificates}
-use Rattle.vd_selecting.specs.Choosing.{GaveUp, searched_by}
+use Rattle.vd_selecting.specs.Searching.{GaveUp, searched_by}
 use Rattle.vd_compiling.proofs.Compiled.{fetch_refused, fetched_then, rules_refused, rules_then, tree_refused, tree_then}
 use Rattle.vd_running.proofs.compiling.compile_for.Goals as goal
 

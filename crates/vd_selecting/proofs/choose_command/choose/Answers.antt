@@ -1,5 +1,6 @@
 use Rattle.std.proofs.lemmas.Result.{err_from_is_err_and}
-use Rattle.vd_selecting.specs.Choosing.{GaveUp, searched_by, selected_plan}
+use Rattle.vd_selecting.specs.Choosing.{selected_plan}
+use Rattle.vd_selecting.specs.Searching.{GaveUp, searched_by}
 use Rattle.vd_selecting.proofs.choose_command.choose.Goals as goal
 
 pub returns-in_err-resolved : goal.returns-in_err-resolved

@@ -2,7 +2,7 @@ use Rattle.std.proofs.Common.{ℕ, ◌≤◌, List, [], length, sym, ◌∙◌, 
 use Rattle.std.proofs.lemmas.Result.{err_from_is_err_and}
 use Rattle.vd_base.specs.Limits.{most_source_bytes}
 use Rattle.vd_plan.proofs.InSteps.{any_memory}
-use Rattle.vd_selecting.specs.Choosing.{GaveUp, searched_by}
+use Rattle.vd_selecting.specs.Searching.{GaveUp, searched_by}
 use Rattle.vd_generated.proofs.Sizes.{short_source}
 use Rattle.vd_trial.proofs.Ends.{ends}
 use Rattle.vd_trial.proofs.Texts.{rules_refused, source_runs, tree_refused}

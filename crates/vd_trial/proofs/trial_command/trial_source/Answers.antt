@@ -3,7 +3,7 @@ use Rattle.std.proofs.lemmas.Result.{err_from_is_err_and}
 use Rattle.vd_core.specs.declared.normal.NormalForm.{NormalForm}
 use Rattle.vd_core.specs.Facts.{weight_sum}
 use Rattle.vd_plan.proofs.InSteps.{any_memory}
-use Rattle.vd_selecting.specs.Choosing.{GaveUp}
+use Rattle.vd_selecting.specs.Searching.{GaveUp}
 use Rattle.vd_item_limits.specs.Items.{most_executed}
 use Rattle.vd_trial.specs.Trial.{ExecutesProgram}
 use Rattle.vd_trial.proofs.Told.{source_told}
