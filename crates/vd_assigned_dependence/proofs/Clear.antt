@@ -8,11 +8,11 @@ use Rattle.vd_base.specs.declared.protocols.HostSet.{HostSet}
 use Rattle.vd_base.specs.declared.protocols.Proto.{Proto}
 use Rattle.vd_base.specs.declared.protocols.Proto.TheVariants.{Local, Rep, Commit, Add, Xor}
 use Rattle.vd_base.specs.HostSets.{host, has_host, same_host, members}
+use Rattle.vd_base.specs.Holders.{is_holder}
 use Rattle.vd_formula.specs.TruthTable.{TruthTable, at, never_of}
 use Rattle.vd_formula.specs.declared.label.Label.{Label}
 use Rattle.vd_formula.proofs.Tables.{at-formula_where}
 use Rattle.vd_protocol.specs.Authority.{label, label_of, names_of, AreOverSameNames, copies_of, authority_of}
-use Rattle.vd_space.specs.Validity.{holder}
 use Rattle.vd_dependence.specs.Reading.{acts}
 use Rattle.vd_dependence.proofs.Formulas.{acts_for, for_acts}
 use Rattle.vd_assigned_dependence.specs.Hearing.{has_clear}
@@ -70,7 +70,7 @@ module _ (hosts : List Label) (over : AreOverSameNames hosts) (h : HostId) (decl
   clear_acts (Xor a b) f is all = absurd (true≢false (sym is))
 
 -- where a host has a word in clear, the word is kept at it
-pub clear_holds : (h : HostId) (q : Proto) → has_clear h q ≡ true → holder q h ≡ true
+pub clear_holds : (h : HostId) (q : Proto) → has_clear h q ≡ true → is_holder q h ≡ true
 clear_holds h (Local k) is = is
 clear_holds h (Rep set) is = is
 clear_holds h (Commit p v) is = or_left (same_host p h) (same_host v h) is

@@ -8,6 +8,7 @@ use Rattle.std.proofs.lemmas.List.Folds.{list_all-append}
 use Rattle.vd_base.specs.declared.ids.SlotId.{SlotId}
 use Rattle.vd_base.specs.declared.ids.HostId.{HostId}
 use Rattle.vd_base.specs.HostSets.{same_host}
+use Rattle.vd_base.specs.Holders.{is_holder}
 use Rattle.vd_core.specs.declared.normal.Right.{Right}
 use Rattle.vd_core.specs.declared.normal.Right.TheVariants.{Lit, Turn, Copy, Apply, Input, Declassify, Endorse, Load, Get}
 use Rattle.vd_core.specs.declared.normal.Stmt.{Stmt, roll-Stmt, map-Stmt, ind-Stmt}
@@ -20,7 +21,7 @@ use Rattle.vd_formula.proofs.Implies.{if_so}
 use Rattle.vd_space.specs.declared.problem.Problem.{Problem}
 use Rattle.vd_space.specs.declared.problem.Guard.{Guard}
 use Rattle.vd_space.specs.Reading.{Read, all_parts, all_named, all_told, named_by, indexes_of, index_of, guard_of, read_step}
-use Rattle.vd_space.specs.Validity.{protocol, holder, holds_at, all_hosts, may_read, move_to_host, if_decided, is_told, takes_part, guard_told, index_test, index_told}
+use Rattle.vd_space.specs.Validity.{protocol, holds_at, all_hosts, may_read, move_to_host, if_decided, is_told, takes_part, guard_told, index_test, index_told}
 use Rattle.vd_dependence.specs.Flowing.{Knowledge, only_with, right_flows, Flow, all_flow, all_hide, flow_step, flow}
 use Rattle.vd_dependence.specs.Agreement.{Agree}
 use Rattle.vd_dependence.specs.Watching.{Watched, Words, run_of as watched_run, given_by, words_in_order, taken, right_downgraded, stmt_downgraded, Showing, watched_step, watched}
@@ -96,7 +97,7 @@ module _ (problem : Problem) (list : List ℕ) (h : HostId) (l : Labels) (reads 
   guards_read = list_all (λ g. reads g.0)
 
   abbrev holds : SlotId → Bool
-  holds = stands problem list h (λ p. holder p h)
+  holds = stands problem list h (λ p. is_holder p h)
 
   abbrev coming : SlotId → SlotId → Bool
   coming = comes problem list h
@@ -130,7 +131,7 @@ module _ (problem : Problem) (list : List ℕ) (h : HostId) (l : Labels) (reads 
   index_read v i weight told is = by (slice_get list v.0) told (and_parts (holds v) (comes_alone problem list h i) is).0
     where
       by : (o : Option ℕ) → option_map_or (λ q. list_all (index_test problem list (index_of weight v i) q) (all_hosts problem)) o true ≡ true
-          → option_map_or (λ q. holder (protocol problem q) h) o false ≡ true → reads i.0 ≡ true
+          → option_map_or (λ q. is_holder (protocol problem q) h) o false ≡ true → reads i.0 ≡ true
       by None told here = absurd (true≢false (sym here))
       by (Some q) told here = read_if_told i (if_so (holds_at problem h q) (is_told problem list h i) (told_all (index_test problem list (index_of weight v i) q) told) here)
 
@@ -466,7 +467,7 @@ module _ (problem : Problem) (list : List ℕ) (h : HostId) (l : Labels) (reads 
   not_clear : (x : SlotId) → holds x ≡ false → stands problem list h (has_clear h) x ≡ false
   not_clear x none = by (slice_get list x.0) none
     where
-      by : (o : Option ℕ) → option_map_or (λ q. holder (protocol problem q) h) o false ≡ false → option_map_or (λ q. has_clear h (protocol problem q)) o false ≡ false
+      by : (o : Option ℕ) → option_map_or (λ q. is_holder (protocol problem q) h) o false ≡ false → option_map_or (λ q. has_clear h (protocol problem q)) o false ≡ false
       by None off = refl
       by (Some q) off = false_if (has_clear h (protocol problem q)) (λ is. true≢false (sym (clear_holds h (protocol problem q) is) ∙ off))
 

@@ -6,6 +6,7 @@ use Rattle.vd_base.specs.declared.ids.HostId.{HostId}
 use Rattle.vd_base.specs.declared.protocols.Proto.{Proto}
 use Rattle.vd_base.specs.declared.protocols.Proto.TheVariants.{Local, Rep, Commit, Add, Xor}
 use Rattle.vd_base.specs.HostSets.{has_host, same_host}
+use Rattle.vd_base.specs.Holders.{is_holder}
 use Rattle.vd_core.specs.declared.normal.Right.{Right}
 use Rattle.vd_core.specs.declared.normal.Right.TheVariants.{Lit, Turn, Copy, Apply, Input, Declassify, Endorse, Load, Get}
 use Rattle.vd_core.specs.declared.normal.Stmt.{Stmt, map-Stmt}
@@ -16,7 +17,7 @@ use Rattle.vd_meaning.specs.ProgramMeaning.{SlotState, Effect, word_at, array_at
 use Rattle.vd_meaning.specs.Turns.{turns}
 use Rattle.vd_space.specs.declared.problem.Problem.{Problem}
 use Rattle.vd_space.specs.Reading.{Read, guard_of, read_step}
-use Rattle.vd_space.specs.Validity.{protocol, holder, takes_part}
+use Rattle.vd_space.specs.Validity.{protocol, takes_part}
 use Rattle.vd_dependence.specs.Watching.{Words, taken}
 
 -- the host has in clear what stands there: alone, as a copy, or as the one that is bound to it
@@ -71,7 +72,7 @@ module _ (problem : Problem) (list : List ℕ) (h : HostId) where
 
   -- an index is moved to each host at which the array is kept
   abbrev pub index_comes : SlotId → SlotId → Bool
-  index_comes v i = stands (λ p. holder p h) v && comes_alone i
+  index_comes v i = stands (λ p. is_holder p h) v && comes_alone i
 
   -- the words that come to the host where a right side is bound to x
   abbrev pub right_heard : SlotId → Right → SlotState → List ℕ

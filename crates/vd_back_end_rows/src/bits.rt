@@ -2,8 +2,8 @@
 
 ghost use Rattle.std.specs.Prelude.{◌≡◌, ◌<◌, IsTrue, IfOk, OnOk, length};
 ghost use Rattle.vd_base.specs.Arity.{arity};
+ghost use Rattle.vd_base.specs.Holders.{holders};
 ghost use Rattle.vd_duet.specs.Builder.{HasRoom, TakesAtMost};
-ghost use Rattle.vd_duet.specs.Calls.{holders};
 ghost use Rattle.vd_duet.specs.Laws.{AreKnown};
 ghost use Rattle.vd_circuit.specs.CircuitCalls.{circuit_calls};
 

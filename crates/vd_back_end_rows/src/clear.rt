@@ -2,7 +2,8 @@
 
 ghost use Rattle.std.specs.Prelude.{◌≡◌, ◌<◌, IfOk, OnOk, length, replicate};
 ghost use Rattle.vd_duet.specs.Builder.{HasRoom, TakesAtMost};
-ghost use Rattle.vd_duet.specs.Calls.{holders, hosts_of, placed};
+ghost use Rattle.vd_duet.specs.Calls.{hosts_of, placed};
+ghost use Rattle.vd_base.specs.Holders.{holders};
 ghost use Rattle.vd_duet.specs.Laws.{AreKnown};
 
 use crate::code::print_code;

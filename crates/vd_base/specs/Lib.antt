@@ -5,6 +5,7 @@ pub mod HostSets
 pub mod Protocols
 pub mod Costs
 pub mod Moves
+pub mod Holders
 pub mod Arity
 pub mod Limits
 pub mod Packets

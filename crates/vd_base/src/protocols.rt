@@ -1,4 +1,7 @@
-use crate::HostId;
+ghost use Rattle.std.specs.Prelude.{◌≡◌};
+ghost use Rattle.vd_base.specs.Holders.{is_holder, proto_in, same_protocol};
+
+use crate::{HostId, SlotId};
 
 /// A set of hosts, by the number whose bit h stands for host h.
 #[derive(Clone, Copy, PartialEq, Eq, Debug)]
@@ -19,4 +22,41 @@ pub enum Proto {
     Add(HostId, HostId),
     /// Shared by exclusive or between two hosts, the earlier one first.
     Xor(HostId, HostId),
+}
+
+/// Whether the host has a part of what is held at the protocol.
+pub fn is_holder(protocol: Proto, host: HostId) -> bool
+    ensures { result ≡ is_holder protocol host }
+{
+    match protocol {
+        Proto::Local(at) => at == host,
+        Proto::Rep(set) => set.has(host),
+        Proto::Commit(first, second) | Proto::Add(first, second) | Proto::Xor(first, second) => {
+            first == host || second == host
+        }
+    }
+}
+
+/// Whether two protocols are the same.
+pub fn is_same(first: Proto, second: Proto) -> bool
+    ensures { result ≡ same_protocol first second }
+{
+    match (first, second) {
+        (Proto::Local(host), Proto::Local(other)) => host == other,
+        (Proto::Rep(set), Proto::Rep(other)) => set.bits == other.bits,
+        (Proto::Commit(a, b), Proto::Commit(c, d)) => a == c && b == d,
+        (Proto::Add(a, b), Proto::Add(c, d)) => a == c && b == d,
+        (Proto::Xor(a, b), Proto::Xor(c, d)) => a == c && b == d,
+        _ => false,
+    }
+}
+
+/// The protocol of a slot.
+pub fn proto_of(protocols: &[Proto], slot: SlotId) -> Proto
+    ensures { result ≡ proto_in protocols.now slot.0 }
+{
+    match protocols.get(usize::from(slot.0)) {
+        Some(protocol) => *protocol,
+        None => Proto::Local(HostId(0)),
+    }
 }

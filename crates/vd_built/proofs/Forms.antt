@@ -3,9 +3,10 @@ use Rattle.std.proofs.Common.{◌≡◌, ℕ, ◌+◌, ◌≤◌, true, List, []
 use Rattle.vd_base.specs.declared.ids.HostId.{HostId}
 use Rattle.vd_base.specs.declared.protocols.Proto.{Proto}
 use Rattle.vd_base.specs.declared.protocols.Proto.TheVariants.{Local, Rep, Commit, Add, Xor}
+use Rattle.vd_base.specs.Holders.{holders}
 use Rattle.vd_execution.specs.declared.instructions.Reg.{Reg}
 use Rattle.vd_duet.specs.Builder.{Builder, HasRoom, next_at, taken}
-use Rattle.vd_duet.specs.Calls.{Places, Made, called, holders, hosts_of}
+use Rattle.vd_duet.specs.Calls.{Places, Made, called, hosts_of}
 use Rattle.vd_duet.specs.Laws.{AreKnown}
 use Rattle.vd_clear.specs.Copies.{each_made}
 use Rattle.vd_moves.specs.Formed.{is_named, AreFormed}

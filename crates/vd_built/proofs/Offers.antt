@@ -4,7 +4,7 @@ use Rattle.std.specs.List.{list_all}
 use Rattle.std.proofs.lemmas.Bool.Decides.{nat_tests}
 use Rattle.vd_base.specs.declared.ids.HostId.{HostId}
 use Rattle.vd_base.specs.declared.protocols.Proto.{Proto}
-use Rattle.vd_duet.specs.Calls.{holders}
+use Rattle.vd_base.specs.Holders.{holders}
 use Rattle.vd_duet.specs.Laws.{Each, AreKnown}
 use Rattle.vd_joint.proofs.Lists.{and_left, and_right, AreApart as Apart}
 use Rattle.vd_suite.specs.Suite.{is_in_order}

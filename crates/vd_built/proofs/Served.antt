@@ -8,18 +8,18 @@ use Rattle.vd_base.specs.declared.operations.Op.{Op}
 use Rattle.vd_base.specs.declared.protocols.Proto.{Proto}
 use Rattle.vd_base.specs.declared.protocols.Proto.TheVariants.{Local, Rep, Commit, Add, Xor}
 use Rattle.vd_base.specs.declared.rows.Row.TheVariants.{Input as InputRow, Apply as ApplyRow}
+use Rattle.vd_base.specs.Holders.{holders, proto_in}
 use Rattle.vd_core.specs.declared.normal.Right.{Right}
 use Rattle.vd_core.specs.declared.normal.Right.TheVariants.{Lit, Turn, Copy, Apply, Input, Declassify, Endorse, Load, Get}
 use Rattle.vd_core.specs.declared.normal.Stmt.{Stmt}
 use Rattle.vd_core.specs.declared.normal.Stmt.TheOpen.{Stmt-F}
 use Rattle.vd_core.specs.Facts.{meets, blocks_meet}
 use Rattle.vd_execution.specs.World.{Tape}
-use Rattle.vd_duet.specs.Calls.{holders}
 use Rattle.vd_duet.specs.Laws.{Each}
 use Rattle.vd_joint.specs.Block.{Block, End, Let, NewVar, NewArray, Store, Put, Output, If, For, block_of, each}
 use Rattle.vd_joint.specs.Validity.{Placed, RightPlaced}
 use Rattle.vd_joint.proofs.Folds.{fold_each}
-use Rattle.vd_split.specs.Offer.{proto_in, is_at_host, right_stands, stmt_stands}
+use Rattle.vd_split.specs.Offer.{is_at_host, right_stands, stmt_stands}
 use Rattle.vd_suite.specs.Machine.{machine}
 use Rattle.vd_suite.specs.Parts.{back_end}
 use Rattle.vd_suite.specs.Suite.{holds, suite}

@@ -3,13 +3,13 @@ use Rattle.std.specs.Prelude.{ℕ, nat_lt, Bool, ◌&&◌, IsTrue, List, [], ◌
 use Rattle.std.specs.List.{list_all}
 use Rattle.vd_base.specs.declared.ids.HostId.{HostId}
 use Rattle.vd_base.specs.declared.protocols.Proto.{Proto}
+use Rattle.vd_base.specs.Holders.{holders, proto_in}
 use Rattle.vd_core.specs.declared.normal.NormalForm.{NormalForm}
 use Rattle.vd_core.specs.Facts.{all_meet, IsWellMade}
 use Rattle.vd_execution.specs.World.{Tape}
-use Rattle.vd_duet.specs.Calls.{holders}
 use Rattle.vd_duet.specs.Laws.{IsHost}
 use Rattle.vd_joint.specs.Outcome.{ValidAt}
-use Rattle.vd_split.specs.Offer.{Offer, proto_in, AreServed, stmt_stands}
+use Rattle.vd_split.specs.Offer.{Offer, AreServed, stmt_stands}
 use Rattle.vd_suite.specs.Machine.{machine}
 use Rattle.vd_suite.specs.Parts.{Parts, back_end, suite_calls}
 use Rattle.vd_suite.specs.Suite.{is_in_order, IsOver, suite}

@@ -5,8 +5,8 @@ ghost use Rattle.std.specs.List.{list_any};
 ghost use Rattle.vd_base.specs.HostSets.{members as members_of};
 ghost use Rattle.vd_base.specs.declared.ids.HostId.{HostId as Host};
 ghost use Rattle.vd_base.specs.declared.protocols.Proto.TheVariants as proto;
+ghost use Rattle.vd_base.specs.Holders.{holders};
 ghost use Rattle.vd_duet.specs.Acting as duet;
-ghost use Rattle.vd_duet.specs.Calls.{holders};
 ghost use Rattle.vd_suite.specs.Moves.{moved_at};
 ghost use Rattle.vd_suite.specs.Parts.{route};
 

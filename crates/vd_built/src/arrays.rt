@@ -4,7 +4,8 @@ ghost use Rattle.std.specs.Prelude.{◌≡◌, ◌+◌, ◌≤◌, IfOk, OnOk, l
 ghost use Rattle.vd_execution.specs.Gadgets.{Alone};
 ghost use Rattle.vd_execution.specs.declared.instructions.Action.TheVariants as action;
 ghost use Rattle.vd_duet.specs.Builder.{HasRoom, TakesAtMost, TakesFew, most_taken};
-ghost use Rattle.vd_duet.specs.Calls.{Makes, appended, holders as holders_of, hosts_of, in_clear, register_of};
+ghost use Rattle.vd_duet.specs.Calls.{Makes, appended, hosts_of, in_clear, register_of};
+ghost use Rattle.vd_base.specs.Holders.{holders as holders_of};
 ghost use Rattle.vd_duet.specs.Laws.{AreKnown};
 ghost use Rattle.vd_clear.specs.Copies.{each_made, written_by};
 ghost use Rattle.vd_joint.specs.Suite.{Made as AnyMade};

@@ -3,7 +3,8 @@
 ghost use Rattle.std.specs.Prelude.{◌≡◌, ◌<◌, ◌≤◌, ◌+◌, ◌^◌, IfOk, OnOk, length, slice_index};
 ghost use Rattle.vd_execution.specs.declared.instructions.Action.TheVariants as action;
 ghost use Rattle.vd_duet.specs.Builder.{HasRoom, TakesAtMost, TakesFew, next_at};
-ghost use Rattle.vd_duet.specs.Calls.{Makes, holders as holders_of, in_clear};
+ghost use Rattle.vd_duet.specs.Calls.{Makes, in_clear};
+ghost use Rattle.vd_base.specs.Holders.{holders as holders_of};
 ghost use Rattle.vd_duet.specs.Laws.{AreKnown};
 ghost use Rattle.vd_clear.specs.Copies.{written_by};
 ghost use Rattle.vd_suite.specs.Parts.{turned};

@@ -8,6 +8,7 @@ use Rattle.vd_base.specs.declared.protocols.Proto.{Proto}
 use Rattle.vd_base.specs.declared.protocols.Proto.TheVariants.{Local, Rep, Commit, Add, Xor}
 use Rattle.vd_base.specs.Arity.{arity}
 use Rattle.vd_base.specs.Operations.{result_of}
+use Rattle.vd_base.specs.Holders.{holders}
 use Rattle.vd_execution.specs.declared.instructions.Reg.{Reg}
 use Rattle.vd_execution.specs.declared.instructions.Action.TheVariants as action
 use Rattle.vd_execution.specs.Registers.{put}
@@ -16,7 +17,7 @@ use Rattle.vd_execution.specs.Deals.{IsValidDeal}
 use Rattle.vd_execution.specs.Joint.{Hosts}
 use Rattle.vd_execution.specs.Gadgets.{Alone, GadgetsAreTidy, IsSound}
 use Rattle.vd_duet.specs.Builder.{next_at, most_taken}
-use Rattle.vd_duet.specs.Calls.{Places, hosts_of, holders, Made, AllAre, register_of}
+use Rattle.vd_duet.specs.Calls.{Places, hosts_of, Made, AllAre, register_of}
 use Rattle.vd_duet.specs.Laws.{Each, IsIn, IsInOne, IsHost, nowhere, words_at, AreKnown, AreBelow, Leads, GivesThere, GivesWord, Copies, StandFor, Operand, Operands, IsReady, Reaches, Renews, NumberFits, BackendLaws}
 use Rattle.vd_duet.proofs.Writes.{Writes, wrote, writes_own}
 use Rattle.vd_duet.proofs.Leads.{leads_nothing, leads_writing, leads_on, orderly_still, orderly_wider, below_later, Since, since_start}

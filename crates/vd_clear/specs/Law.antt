@@ -4,9 +4,10 @@ use Rattle.std.specs.List.{list_any}
 use Rattle.vd_base.specs.declared.ids.HostId.{HostId}
 use Rattle.vd_base.specs.declared.protocols.HostSet.{HostSet}
 use Rattle.vd_base.specs.declared.protocols.Proto.TheVariants.{Local, Rep}
+use Rattle.vd_base.specs.Holders.{holders}
 use Rattle.vd_execution.specs.World.{Tape}
 use Rattle.vd_execution.specs.Joint.{Hosts}
-use Rattle.vd_duet.specs.Calls.{Places, hosts_of, holders}
+use Rattle.vd_duet.specs.Calls.{Places, hosts_of}
 use Rattle.vd_duet.specs.Acting.{acts_at, told_at, ActsWhereItSays}
 use Rattle.vd_duet.specs.Laws.{IsIn, IsHost, AreKnown, IsReady, Operand, GivesWord, BackendLaws}
 use Rattle.vd_clear.specs.Copies.{clear_calls, spread_to}

@@ -1,8 +1,9 @@
 ghost use Rattle.std.specs.Prelude.{◌≡◌, ◌≤◌, IfOk, OnOk, length};
 ghost use Rattle.vd_base.specs.HostSets.{members as members_of};
 ghost use Rattle.vd_base.specs.declared.protocols.Proto.TheVariants as proto;
+ghost use Rattle.vd_base.specs.Holders.{holders};
 ghost use Rattle.vd_duet.specs.Builder.{HasRoom, TakesFew};
-ghost use Rattle.vd_duet.specs.Calls.{Makes, appended, in_clear, holders, hosts_of};
+ghost use Rattle.vd_duet.specs.Calls.{Makes, appended, in_clear, hosts_of};
 ghost use Rattle.vd_duet.specs.Laws.{AreKnown};
 ghost use Rattle.vd_clear.specs.Copies.{clear_calls, renewed, spread_to};
 

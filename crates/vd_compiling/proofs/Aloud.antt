@@ -7,6 +7,7 @@ use Rattle.std.proofs.lemmas.List.FromFn.{get_or-map-range_with_len}
 use Rattle.std.proofs.lemmas.Option.{slice_get-get_or}
 use Rattle.vd_base.specs.declared.protocols.Proto.{Proto}
 use Rattle.vd_base.specs.Costs.{cost_at}
+use Rattle.vd_base.specs.Holders.{proto_in}
 use Rattle.vd_core.specs.declared.normal.NormalForm.{NormalForm}
 use Rattle.vd_core.specs.Facts.{IsWellMade}
 use Rattle.vd_formula.specs.declared.label.Label.{Label}
@@ -22,7 +23,6 @@ use Rattle.vd_execution.specs.declared.instructions.Instr.{Instr}
 use Rattle.vd_execution.specs.Joint.{code_of}
 use Rattle.vd_execution.specs.Text.{text}
 use Rattle.vd_host_text.specs.declared.program.Digest.{Digest}
-use Rattle.vd_split.specs.Offer.{proto_in}
 use Rattle.vd_host_programs.specs.Programs.{host_codes, joint_of}
 use Rattle.vd_host_programs.proofs.HostCodes.{problem_protos}
 use Rattle.vd_compiling.specs.Compiling.{IsStoredFor, host_file, host_files, plan_for}

@@ -2,6 +2,7 @@
 use Rattle.std.specs.Prelude.{◌<◌, List, [], length, map}
 use Rattle.vd_base.specs.declared.ids.SlotId.{SlotId}
 use Rattle.vd_base.specs.declared.protocols.Proto.{Proto}
+use Rattle.vd_base.specs.Holders.{proto_in}
 use Rattle.vd_core.specs.declared.normal.NormalForm.{NormalForm}
 use Rattle.vd_formula.specs.TruthTable.{ActsFor}
 use Rattle.vd_formula.specs.declared.label.Label.{Label}
@@ -10,7 +11,6 @@ use Rattle.vd_constraints.specs.Rules.{label}
 use Rattle.vd_constraints.specs.Satisfies.{label_at}
 use Rattle.vd_constraints.specs.declared.labels.Labels.{Labels}
 use Rattle.vd_constraints.specs.declared.system.Place.TheVariants.{Slot}
-use Rattle.vd_split.specs.Offer.{proto_in}
 use Rattle.vd_plan.specs.declared.answer.Answer.{Answer}
 use Rattle.vd_plan.specs.declared.status.Status.TheVariants.{NoAssignment}
 

@@ -5,9 +5,10 @@ use Rattle.vd_base.specs.declared.operations.Op.{Op}
 use Rattle.vd_base.specs.declared.protocols.HostSet.{HostSet}
 use Rattle.vd_base.specs.declared.protocols.Proto.{Proto}
 use Rattle.vd_base.specs.declared.protocols.Proto.TheVariants.{Local, Rep, Commit, Add, Xor}
+use Rattle.vd_base.specs.Holders.{holders}
 use Rattle.vd_execution.specs.declared.instructions.Reg.{Reg}
 use Rattle.vd_execution.specs.declared.instructions.Action.TheVariants as action
-use Rattle.vd_duet.specs.Calls.{Places, holders, Made, register_of}
+use Rattle.vd_duet.specs.Calls.{Places, Made, register_of}
 use Rattle.vd_duet.specs.Laws.{Each}
 use Rattle.vd_clear.specs.Copies.{literal_at, passed, adopted, kept_by, applied_at, shown, each_made, clear_calls, spread_to}
 use Rattle.vd_clear.proofs.Members.{few_members}

@@ -4,8 +4,8 @@ use Rattle.vd_base.specs.declared.ids.HostId.{HostId}
 use Rattle.vd_base.specs.declared.protocols.HostSet.{HostSet}
 use Rattle.vd_base.specs.declared.protocols.Proto.{Proto}
 use Rattle.vd_base.specs.declared.protocols.Proto.TheVariants.{Rep}
+use Rattle.vd_base.specs.Holders.{holders}
 use Rattle.vd_execution.specs.declared.instructions.Reg.{Reg}
-use Rattle.vd_duet.specs.Calls.{holders}
 use Rattle.vd_clear.specs.Copies.{clear_calls, spread_to}
 use Rattle.vd_words.specs.AddCalls.{add_calls}
 use Rattle.vd_circuit.specs.CircuitCalls.{circuit_calls}

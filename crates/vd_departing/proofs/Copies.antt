@@ -8,12 +8,13 @@ use Rattle.vd_base.specs.declared.protocols.Proto.{Proto}
 use Rattle.vd_base.specs.declared.protocols.Proto.TheVariants.{Rep}
 use Rattle.vd_base.specs.Arity.{arity}
 use Rattle.vd_base.specs.Operations.{result_of}
+use Rattle.vd_base.specs.Holders.{holders}
 use Rattle.vd_execution.specs.declared.instructions.Action.TheVariants as action
 use Rattle.vd_execution.specs.declared.instructions.Reg.{Reg}
 use Rattle.vd_execution.specs.Joint.{Hosts}
 use Rattle.vd_execution.specs.Registers.{put}
 use Rattle.vd_execution.specs.World.{Tape}
-use Rattle.vd_duet.specs.Calls.{Made, Places, holders, hosts_of, register_of}
+use Rattle.vd_duet.specs.Calls.{Made, Places, hosts_of, register_of}
 use Rattle.vd_duet.specs.Laws.{AreBelow, AreKnown, Each, IsHost, IsIn, at_host}
 use Rattle.vd_duet.proofs.Writes.{wrote}
 use Rattle.vd_clear.specs.Copies.{adopted, after_first, applied_at, clear_calls, each_made, first_of, kept_by, literal_at, passed, renewed, shown, spread_to}

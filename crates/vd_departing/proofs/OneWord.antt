@@ -1,12 +1,13 @@
 -- One word that a host that departs hands to copies.
 use Rattle.std.proofs.Common.{◌≡◌, ◌≢◌, ℕ, ◌<◌, ◌≤◌, nat_eq, Bool, true, false, true≢false, if◌then◌else◌, List, [], ◌∷◌, ◌++◌, slice_index, refl, sym, ap, subst, ◌∙◌, arith}
 use Rattle.vd_base.specs.declared.ids.HostId.{HostId}
+use Rattle.vd_base.specs.Holders.{holders}
 use Rattle.vd_execution.specs.declared.instructions.Reg.{Reg}
 use Rattle.vd_execution.specs.Gadgets.{Tells, acts_of_gadgets}
 use Rattle.vd_execution.specs.Joint.{Hosts}
 use Rattle.vd_execution.specs.World.{Tape}
 use Rattle.vd_duet.specs.Builder.{next_at, taken}
-use Rattle.vd_duet.specs.Calls.{Made, Places, holders}
+use Rattle.vd_duet.specs.Calls.{Made, Places}
 use Rattle.vd_duet.specs.Laws.{AreKnown, Each}
 use Rattle.vd_duet.proofs.Leads.{taken_bounds, taken_known, taken_there}
 use Rattle.vd_clear.specs.Copies.{each_made, passed}

@@ -7,11 +7,12 @@ use Rattle.vd_base.specs.declared.protocols.Proto.{Proto}
 use Rattle.vd_base.specs.declared.protocols.Proto.TheVariants.{Local, Rep}
 use Rattle.vd_base.specs.Arity.{arity}
 use Rattle.vd_base.specs.Operations.{result_of}
+use Rattle.vd_base.specs.Holders.{holders}
 use Rattle.vd_execution.specs.declared.instructions.Reg.{Reg}
 use Rattle.vd_execution.specs.Gadgets.{acts_of_gadgets}
 use Rattle.vd_execution.specs.Joint.{Hosts}
 use Rattle.vd_execution.specs.World.{Tape}
-use Rattle.vd_duet.specs.Calls.{Places, holders, hosts_of}
+use Rattle.vd_duet.specs.Calls.{Places, hosts_of}
 use Rattle.vd_duet.specs.Laws.{AreBelow, AreKnown, IsHost, IsIn, NumberFits, at_host}
 use Rattle.vd_clear.specs.Copies.{clear_calls, spread_to}
 use Rattle.vd_departing.specs.Departing.{AreRight, GivesRight, IsRightThen, RunsGadgets, SaysOne}

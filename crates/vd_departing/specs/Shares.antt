@@ -2,9 +2,10 @@
 use Rattle.std.specs.Prelude.{◌≡◌, ℕ, Bool, true, IsTrue, List}
 use Rattle.vd_base.specs.declared.ids.HostId.{HostId}
 use Rattle.vd_base.specs.declared.operations.Op.{Op}
+use Rattle.vd_base.specs.Holders.{holders}
 use Rattle.vd_execution.specs.declared.instructions.Reg.{Reg}
 use Rattle.vd_execution.specs.Gadgets.{Gadget, acts_of_gadgets}
-use Rattle.vd_duet.specs.Calls.{Calls, Places, holders, hosts_of}
+use Rattle.vd_duet.specs.Calls.{Calls, Places, hosts_of}
 use Rattle.vd_words.specs.AddCalls.{add_calls}
 use Rattle.vd_circuit.specs.CircuitCalls.{circuit_calls}
 use Rattle.vd_convert.specs.Convert.{to_add_made, to_xor_made}

@@ -14,6 +14,7 @@ use Rattle.vd_base.specs.declared.protocols.Proto.TheVariants.{Local}
 use Rattle.vd_base.specs.HostSets.{host, hosts, same_host}
 use Rattle.vd_base.specs.Costs.{cost_at}
 use Rattle.vd_base.specs.Moves.{move_at}
+use Rattle.vd_base.specs.Holders.{is_holder}
 use Rattle.vd_core.specs.declared.normal.NormalForm.{NormalForm}
 use Rattle.vd_core.specs.Facts.{IsWellMade, slots_made}
 use Rattle.vd_constraints.specs.declared.labels.Labels.{Labels}
@@ -27,7 +28,7 @@ use Rattle.vd_space.specs.declared.problem.Index.{Index}
 use Rattle.vd_space.specs.Reading.{all_parts, read_stmt, problem_of}
 use Rattle.vd_space.specs.Sizes.{heft}
 use Rattle.vd_space.specs.Spaces.{IsUse, IsIndex, IsProblem}
-use Rattle.vd_space.specs.Validity.{protocol, move, move_to_host, all_hosts, holder, holds_at, takes_part, is_valid}
+use Rattle.vd_space.specs.Validity.{protocol, move, move_to_host, all_hosts, holds_at, takes_part, is_valid}
 use Rattle.vd_space.specs.Costs.{weigh, operation_value, operation_term, output_term, use_term, index_term, guard_term, plus, moves_to, hosts_at, total, slots_of, guards_total, one_at, pair_at, cost}
 use Rattle.vd_space.proofs.Totals.{total_append, total_map}
 use Rattle.vd_space.proofs.Tests.{item_within, each_both}
@@ -170,8 +171,8 @@ module _ (problem : Problem) (list : List ℕ) (full : length list ≡ length pr
           let sum : m ≡ heft (λ h. unwrap_or (move_to_host problem h second_.0) 0) (hosts_at problem first_.0) = moves_are second_.0 (hosts_at problem first_.0) m is in
           ap (λ o. unwrap_or (weigh i.weight o) (pos 0)) is
           ∙ ap (λ k. pos (i.weight * k)) sum
-          ∙ (λ k. pos (i.weight * heft (λ h. unwrap_or (move_at (sym (placed i.index second_.0 second_.1) k) (Local h)) 0) (filter (holder (sym (placed i.array first_.0 first_.1) k)) (hosts count))))
-          ∙ ap (λ k. pos (i.weight * k)) (filtered i.index (holder (place protos i.array)) count)
+          ∙ (λ k. pos (i.weight * heft (λ h. unwrap_or (move_at (sym (placed i.index second_.0 second_.1) k) (Local h)) 0) (filter (is_holder (sym (placed i.array first_.0 first_.1) k)) (hosts count))))
+          ∙ ap (λ k. pos (i.weight * k)) (filtered i.index (is_holder (place protos i.array)) count)
 
   -- ---- guards
 
@@ -179,12 +180,12 @@ module _ (problem : Problem) (list : List ℕ) (full : length list ≡ length pr
   kept_same h [] = refl
   kept_same h (s ∷ slots) = λ i. one s i || kept_same h slots i
     where
-      by_slot : (o : Option ℕ) → option_map_or (holds_at problem h) o false ≡ option_map_or (λ p. holder p h) (option_map (protocol problem) o) false
+      by_slot : (o : Option ℕ) → option_map_or (holds_at problem h) o false ≡ option_map_or (λ p. is_holder p h) (option_map (protocol problem) o) false
       by_slot None = refl
       by_slot (Some q) = refl
 
       one : (s : SlotId) → option_map_or (holds_at problem h) (slice_get list s.0) false ≡ kept_at protos h s
-      one s = by_slot (slice_get list s.0) ∙ ap (λ o. option_map_or (λ p. holder p h) o false) (sym (slice_get-map (protocol problem) list s.0))
+      one s = by_slot (slice_get list s.0) ∙ ap (λ o. option_map_or (λ p. is_holder p h) o false) (sym (slice_get-map (protocol problem) list s.0))
 
   part_same : (guard : Guard) (h : HostId) → takes_part problem list guard h ≡ is_part protos guard.slots guard.hosts h
   part_same guard h = ap (λ b. list_any (same_host h) guard.hosts || b) (kept_same h guard.slots)

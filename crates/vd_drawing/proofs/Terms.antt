@@ -11,6 +11,7 @@ use Rattle.vd_base.specs.declared.protocols.Proto.TheVariants.{Local, Rep, Commi
 use Rattle.vd_base.specs.HostSets.{host, same_host}
 use Rattle.vd_base.specs.Costs.{cost_at, made_at, input_at}
 use Rattle.vd_base.specs.Moves.{move_at}
+use Rattle.vd_base.specs.Holders.{is_holder}
 use Rattle.vd_core.specs.declared.normal.Right.{Right}
 use Rattle.vd_core.specs.declared.normal.Right.TheVariants.{Lit, Turn, Copy, Apply, Input, Declassify, Endorse, Load, Get}
 use Rattle.vd_core.specs.declared.normal.Stmt.{Stmt, roll-Stmt, map-Stmt, ind-Stmt}
@@ -27,7 +28,6 @@ use Rattle.vd_space.specs.declared.problem.Index.{Index}
 use Rattle.vd_space.specs.Reading.{Parts, Read, no_parts, joined, all_parts, row_of, operands_of, use_of, guard_of, binding_parts, read_step, read_stmt}
 use Rattle.vd_space.specs.Reading as reading
 use Rattle.vd_space.specs.Sizes.{heft}
-use Rattle.vd_space.specs.Validity.{holder}
 use Rattle.vd_space.proofs.Priced.{heft_append}
 use Rattle.vd_drawing.specs.Moves.{place, move_of, told_if, told_to, index_moves, operation_of, is_part, kept_at}
 use Rattle.vd_drawing.specs.Rows.{Drawn, all_rows, all_named, all_told, deeper, binding_row, otherwise_rows, drawn_step, drawn}
@@ -53,7 +53,7 @@ module _ (list : List Proto) (hosts : ℕ) where
   guard_cost g = g.weight * told_cost g.slot (is_part list g.slots g.hosts) hosts
 
   abbrev pub index_cost : Index → ℕ
-  index_cost i = i.weight * told_cost i.index (holder (place list i.array)) hosts
+  index_cost i = i.weight * told_cost i.index (is_holder (place list i.array)) hosts
 
   abbrev pub making_cost : ℕ → Making → ℕ
   making_cost x m = m.weight * unwrap_or (cost_at m.row (place list (record { 0 = x }))) 0
@@ -106,9 +106,9 @@ module _ (list : List Proto) (hosts : ℕ) where
   index_costs : (weight : ℕ) (v i : SlotId) (x : SlotId)
       → weight * heft move_cost (index_moves list hosts v i ++ move_of list v (place list x) ∷ []) ≡ heft use_cost (use_of weight x v ∷ []) + heft index_cost (reading.index_of weight v i ∷ [])
   index_costs weight v i x =
-      let told = told_costs i (holder (place list v)) hosts in
+      let told = told_costs i (is_holder (place list v)) hosts in
       let both = heft_append move_cost (index_moves list hosts v i) (move_of list v (place list x) ∷ []) in
-      ap (λ k. weight * k) both ∙ ap (λ k. weight * (k + heft move_cost (move_of list v (place list x) ∷ []))) told ∙ spread weight (told_cost i (holder (place list v)) hosts) (unwrap_or (move_at (place list v) (place list x)) 0)
+      ap (λ k. weight * k) both ∙ ap (λ k. weight * (k + heft move_cost (move_of list v (place list x) ∷ []))) told ∙ spread weight (told_cost i (is_holder (place list v)) hosts) (unwrap_or (move_at (place list v) (place list x)) 0)
     where
       spread : (w a b : ℕ) → w * (a + (b + 0)) ≡ w * b + 0 + (w * a + 0)
       spread w a b = omega arith
@@ -318,11 +318,11 @@ module _ (source : List ℕ) (p : NormalForm) (list : List Proto) (l : Labels) w
       spread w a b = omega arith
 
       put_costs : (w : ℕ) → w * (0 + heft move_cost (index_moves list n v i ++ move_of list y (place list v) ∷ [])) + 0
-          ≡ 0 + (w * unwrap_or (move_at (place list y) (place list v)) 0 + 0) + 0 + 0 + (w * told_cost list n i (holder (place list v)) n + 0)
+          ≡ 0 + (w * unwrap_or (move_at (place list y) (place list v)) 0 + 0) + 0 + 0 + (w * told_cost list n i (is_holder (place list v)) n + 0)
       put_costs w =
-          let told = told_costs list n i (holder (place list v)) n in
+          let told = told_costs list n i (is_holder (place list v)) n in
           let both = heft_append move_cost (index_moves list n v i) (move_of list y (place list v) ∷ []) in
-          ap (λ k. w * (0 + k) + 0) both ∙ ap (λ k. w * (0 + (k + heft move_cost (move_of list y (place list v) ∷ []))) + 0) told ∙ spread w (told_cost list n i (holder (place list v)) n) (unwrap_or (move_at (place list y) (place list v)) 0)
+          ap (λ k. w * (0 + k) + 0) both ∙ ap (λ k. w * (0 + (k + heft move_cost (move_of list y (place list v) ∷ []))) + 0) told ∙ spread w (told_cost list n i (is_holder (place list v)) n) (unwrap_or (move_at (place list y) (place list v)) 0)
 
   output_tells : (y : SlotId) (h : HostId) (offset : ℕ) → Tells (drawn_step source p list (Stmt-F.Output y h offset)) [] (read_step l (Stmt-F.Output y h offset))
   output_tells y h offset = record { costs = λ weight depth. omega arith; named = refl; told = refl; many = λ weight. refl }

@@ -10,9 +10,9 @@ use Rattle.vd_base.specs.declared.protocols.Proto.TheVariants.{Local, Rep, Commi
 use Rattle.vd_base.specs.HostSets.{host, same_host, has_host, outside, size}
 use Rattle.vd_base.specs.Moves.{move_at}
 use Rattle.vd_base.specs.Costs.{op_cost_at}
+use Rattle.vd_base.specs.Holders.{is_holder}
 use Rattle.vd_core.specs.declared.normal.Right.{Right}
 use Rattle.vd_core.specs.declared.normal.Right.TheVariants.{Lit, Turn, Copy, Apply, Input, Declassify, Endorse, Load, Get}
-use Rattle.vd_space.specs.Validity.{holder}
 use Rattle.vd_drawing.specs.declared.row.Arrow.{Arrow}
 use Rattle.vd_drawing.specs.declared.row.Arrow.TheVariants.{Clear, Checked, Opened, Revealed, Shared, Committed, Converted, Stays}
 use Rattle.vd_drawing.specs.declared.row.Move.{Move}
@@ -99,7 +99,7 @@ told_to list s test (suc n) = told_to list s test n ++ told_if (test (host n)) (
 
 -- an index, to each host at which the array is kept
 abbrev pub index_moves : List Proto → ℕ → SlotId → SlotId → List Move
-index_moves list n v i = told_to list i (holder (place list v)) n
+index_moves list n v i = told_to list i (is_holder (place list v)) n
 
 -- the index of an element, and then the word
 abbrev pub element_moves : List Proto → ℕ → SlotId → SlotId → Move → List Move
@@ -129,7 +129,7 @@ operation_of other p = 0
 -- ---- who takes part in branches: who is told something there, and where a slot is kept that is named there
 
 abbrev pub kept_at : List Proto → HostId → SlotId → Bool
-kept_at list h s = option_map_or (λ p. holder p h) (slice_get list s.0) false
+kept_at list h s = option_map_or (λ p. is_holder p h) (slice_get list s.0) false
 
 abbrev pub is_part : List Proto → List SlotId → List HostId → HostId → Bool
 is_part list named told h = list_any (same_host h) told || list_any (kept_at list h) named

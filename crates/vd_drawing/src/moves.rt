@@ -3,16 +3,15 @@
 ghost use Rattle.std.specs.Prelude.{◌≡◌, ◌++◌, map, unwrap_or, if◌then◌else◌, IfOk, OnOk};
 ghost use Rattle.vd_base.specs.HostSets.{host as host_number};
 ghost use Rattle.vd_base.specs.declared.protocols.Proto.TheVariants.{Local as local};
+ghost use Rattle.vd_base.specs.Holders.{is_holder};
 ghost use Rattle.vd_drawing.specs.Moves as moves_spec;
-ghost use Rattle.vd_space.specs.Validity.{holder};
 
 use crate::row::{Arrow, Move};
 use std::alloc::{AllocError, Global};
-use vd_base::{HostId, HostSet, Proto, SlotId};
+use vd_base::{HostId, HostSet, Proto, SlotId, is_holder};
 use vd_core::Right;
 use vd_cost::{move_cost, op_cost};
 use vd_items::Items;
-use vd_space::is_holder;
 
 /// What leaves a host where a word goes from one protocol to another.
 pub fn arrow_of(from: Proto, to: Proto) -> Arrow

@@ -9,9 +9,8 @@ ghost use Rattle.vd_drawing.specs.Rows.{drawn};
 ghost use Rattle.vd_drawing.specs.Parts.{part_of, part_of_all};
 ghost use Rattle.vd_space.specs.Reading.{named_by};
 
-use vd_base::{HostId, Proto, SlotId};
+use vd_base::{HostId, Proto, SlotId, is_holder};
 use vd_core::{Right, Stmt};
-use vd_space::is_holder;
 
 /// Whether a slot is kept at a host.
 fn is_kept(list: &[Proto], host: HostId, slot: SlotId) -> bool

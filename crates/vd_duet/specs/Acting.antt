@@ -6,9 +6,10 @@ use Rattle.vd_base.specs.declared.operations.Op.{Op}
 use Rattle.vd_base.specs.declared.operations.Op.TheVariants.{Not, Flip}
 use Rattle.vd_base.specs.declared.protocols.Proto.{Proto}
 use Rattle.vd_base.specs.declared.protocols.Proto.TheVariants.{Local, Rep, Commit, Add, Xor}
+use Rattle.vd_base.specs.Holders.{holders}
 use Rattle.vd_execution.specs.declared.instructions.Reg.{Reg}
 use Rattle.vd_execution.specs.Gadgets.{Gadget, Alone, Tells, Shares, BothShare, Opens, Masked, Paired}
-use Rattle.vd_duet.specs.Calls.{Places, hosts_of, holders, Calls}
+use Rattle.vd_duet.specs.Calls.{Places, hosts_of, Calls}
 
 abbrev pub is_either : ℕ → HostId → HostId → Bool
 is_either h a b = nat_eq h a.0 || nat_eq h b.0
@@ -29,9 +30,6 @@ acts_at gadgets h = list_any (acts_in h) gadgets
 -- it is one of these hosts
 abbrev pub is_among : List HostId → ℕ → Bool
 is_among hosts h = list_any (λ k. nat_eq h k.0) hosts
-
-abbrev pub is_holder : Proto → ℕ → Bool
-is_holder p h = is_among (holders p) h
 
 -- a word goes from a to b, or stays
 abbrev pub pass_at : HostId → HostId → ℕ → Bool
@@ -80,19 +78,19 @@ is_negation o = false
 
 -- an operation. Of words shared by exclusive or, a negation is the first host's alone
 abbrev pub apply_at : Op → Proto → ℕ → Bool
-apply_at o (Local k) h = is_holder (Local k) h
-apply_at o (Rep set) h = is_holder (Rep set) h
+apply_at o (Local k) h = is_among (holders (Local k)) h
+apply_at o (Rep set) h = is_among (holders (Rep set)) h
 apply_at o (Commit p v) h = is_either h p v
 apply_at o (Add a b) h = is_either h a b
 apply_at o (Xor a b) h = if is_negation o then nat_eq h a.0 else is_either h a b
 
 -- The calls of a back end act exactly there.
 pub record ActsWhereItSays (c : Calls) : Type 0 where
-  pub literal : (v : ℕ) (next : List ℕ) (h : ℕ) → acts_at (c.literal v next).gadgets h ≡ is_holder c.proto h
+  pub literal : (v : ℕ) (next : List ℕ) (h : ℕ) → acts_at (c.literal v next).gadgets h ≡ is_among (holders c.proto) h
   pub share : (from : HostId) (x : Reg) (next : List ℕ) (h : ℕ) → acts_at (c.share from x next).gadgets h ≡ share_at from c.proto h
   pub adopt : (x : Places) (next : List ℕ) (h : ℕ) → acts_at (c.adopt x next).gadgets h ≡ adopt_at c.proto h
   pub show : (x : Places) → hosts_of x ≡ holders c.proto → (to : HostId) (next : List ℕ) (h : ℕ) → acts_at (c.show x to next).gadgets h ≡ show_at c.proto to h
   pub show_all : (x : Places) → hosts_of x ≡ holders c.proto → (next : List ℕ) (h : ℕ) → acts_at (c.show_all x next).gadgets h ≡ show_all_at c.proto h
-  pub keep : (x : Places) (next : List ℕ) (h : ℕ) → acts_at (c.keep x next).gadgets h ≡ is_holder c.proto h
-  pub renew : (kept x : Places) → hosts_of kept ≡ holders c.proto → (h : ℕ) → acts_at (c.renew kept x) h ≡ is_holder c.proto h
+  pub keep : (x : Places) (next : List ℕ) (h : ℕ) → acts_at (c.keep x next).gadgets h ≡ is_among (holders c.proto) h
+  pub renew : (kept x : Places) → hosts_of kept ≡ holders c.proto → (h : ℕ) → acts_at (c.renew kept x) h ≡ is_among (holders c.proto) h
   pub apply : (o : Op) → IsTrue (c.serves o) → (xs : List Places) (next : List ℕ) (h : ℕ) → acts_at (c.apply o xs next).gadgets h ≡ apply_at o c.proto h

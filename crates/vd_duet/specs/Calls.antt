@@ -4,7 +4,6 @@ use Rattle.vd_base.specs.declared.ids.HostId.{HostId}
 use Rattle.vd_base.specs.declared.operations.Op.{Op}
 use Rattle.vd_base.specs.declared.protocols.Proto.{Proto}
 use Rattle.vd_base.specs.declared.protocols.Proto.TheVariants.{Local, Rep, Commit, Add, Xor}
-use Rattle.vd_base.specs.HostSets.{members}
 use Rattle.vd_execution.specs.declared.instructions.Reg.{Reg}
 use Rattle.vd_execution.specs.declared.instructions.Line.{Line}
 use Rattle.vd_execution.specs.Acts.{lines_of}
@@ -34,14 +33,6 @@ hosts_of x = map (λ q. q.0) x
 abbrev pub register_of : Places → ℕ → Reg
 register_of [] h = register 0
 register_of (q ∷ x) h = if nat_eq h q.0.0 then q.1 else register_of x h
-
--- the hosts of a protocol, in the order of its parts
-abbrev pub holders : Proto → List HostId
-holders (Local h) = h ∷ []
-holders (Rep set) = members 8 set
-holders (Commit p v) = p ∷ v ∷ []
-holders (Add a b) = a ∷ b ∷ []
-holders (Xor a b) = a ∷ b ∷ []
 
 -- ---- what parts stand for
 

@@ -8,6 +8,7 @@ use Rattle.vd_base.specs.declared.protocols.Proto.TheVariants.{Local}
 use Rattle.vd_base.specs.Arity.{arity}
 use Rattle.vd_base.specs.Moves.{move_at}
 use Rattle.vd_base.specs.Operations.{result_of}
+use Rattle.vd_base.specs.Holders.{holders}
 use Rattle.vd_execution.specs.declared.instructions.Reg.{Reg}
 use Rattle.vd_execution.specs.Step.{Inputs}
 use Rattle.vd_execution.specs.World.{Tape}
@@ -16,7 +17,7 @@ use Rattle.vd_execution.specs.Acts.{run_acts, ActsAgree}
 use Rattle.vd_execution.specs.Deals.{IsValidDeal}
 use Rattle.vd_execution.specs.Gadgets.{Gadget, acts_of_gadgets, GadgetsAreTidy, IsSound}
 use Rattle.vd_duet.specs.Builder.{most_taken, TakesAtMost}
-use Rattle.vd_duet.specs.Calls.{Places, hosts_of, holders, Made, Calls, Stand}
+use Rattle.vd_duet.specs.Calls.{Places, hosts_of, Made, Calls, Stand}
 
 abbrev pub Each : {X : Type 0} → (X → Type 0) → List X → Type 0
 Each P [] = Unit {0}

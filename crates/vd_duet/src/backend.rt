@@ -1,8 +1,9 @@
 ghost use Rattle.std.specs.Prelude.{◌≡◌, ◌<◌, IsTrue, IfOk, OnOk, length};
 ghost use Rattle.vd_base.specs.Arity.{arity};
+ghost use Rattle.vd_base.specs.Holders.{holders};
 ghost use Rattle.vd_execution.specs.declared.instructions.Reg.{Reg as Register};
 ghost use Rattle.vd_duet.specs.Builder.{HasRoom, TakesFew};
-ghost use Rattle.vd_duet.specs.Calls.{Calls, holders, hosts_of, placed, all_placed, in_clear, Makes, appended};
+ghost use Rattle.vd_duet.specs.Calls.{Calls, hosts_of, placed, all_placed, in_clear, Makes, appended};
 ghost use Rattle.vd_duet.specs.Laws.{AreKnown};
 
 use crate::duet::Duet;

@@ -5,6 +5,7 @@ use Rattle.std.specs.Prelude.{flat_map}
 use Rattle.std.specs.List.{sum}
 use Rattle.vd_base.specs.declared.protocols.Proto.{Proto}
 use Rattle.vd_base.specs.HostSets.{host}
+use Rattle.vd_base.specs.Holders.{proto_in}
 use Rattle.vd_core.specs.declared.normal.NormalForm.{NormalForm}
 use Rattle.vd_core.specs.Facts.{of_rights, operands_fit, shift_fits, count_step, statement_count, cells_step, cell_count, weigh_step, weigh_all, weight_sum}
 use Rattle.vd_execution.specs.Code.{Code, Finished, weight}
@@ -18,7 +19,6 @@ use Rattle.vd_schedules.proofs.Taking.{within}
 use Rattle.vd_joint.specs.Block.{block_of}
 use Rattle.vd_joint.specs.Emission.{Emission, block_emission, emitting_at_start, in_turn, stmt_emission}
 use Rattle.vd_joint.proofs.Folds.{fold_each}
-use Rattle.vd_split.specs.Offer.{proto_in}
 use Rattle.vd_suite.specs.Given.{zero_deal}
 use Rattle.vd_suite.specs.Parts.{suite_calls}
 use Rattle.vd_suite.specs.Whole.{plan_at, inputs_of}
@@ -28,7 +28,8 @@ use Rattle.vd_host_text.specs.Text.{name_field, program_text}
 use Rattle.vd_hostcode.proofs.Outcomes.{all_within, written_is_read}
 use Rattle.vd_host_programs.specs.Programs.{joint_of}
 use Rattle.vd_host_programs.proofs.HostCodes.{proto_over, runnable_over, no_words, codes_can_be_loaded, codes_run_as_told, ended_past, joint_is_tidy}
-use Rattle.vd_read_back.specs.Stored.{count_fits, CanBeStored, StandsInAFile}
+use Rattle.vd_read_back.specs.Stored.{CanBeStored, StandsInAFile}
+use Rattle.vd_core.specs.Numbers.{numbers_fit}
 use Rattle.vd_read_back.proofs.Files.{stands_in_a_file}
 use Rattle.vd_read_back.proofs.Registers.{all_hold, plan_below}
 use Rattle.vd_read_back.proofs.FewBlocks.{BlockIsSmall, counted, weight_of, cells_in, emission_of, block_small}

@@ -1,6 +1,7 @@
 -- The lines of a program's joint code, and that they can be read as steps.
 use Rattle.std.proofs.Common.{◌≡◌, ℕ, List, [], map, Result, Ok, Err, IfOk, sym, ap, subst, ◌∙◌}
 use Rattle.vd_base.specs.declared.protocols.Proto.{Proto}
+use Rattle.vd_base.specs.Holders.{proto_in}
 use Rattle.vd_core.specs.declared.normal.NormalForm.{NormalForm}
 use Rattle.vd_constraints.specs.declared.labels.Labels.{Labels}
 use Rattle.vd_space.specs.Reading.{problem_of}
@@ -9,7 +10,6 @@ use Rattle.vd_execution.specs.declared.instructions.Line.{Line}
 use Rattle.vd_execution.specs.Gadgets.{Gadget}
 use Rattle.vd_execution.specs.Plans.{Plan, joint_of as code}
 use Rattle.vd_execution.specs.Text.{flat}
-use Rattle.vd_split.specs.Offer.{proto_in}
 use Rattle.vd_suite.specs.Whole.{plan_at}
 use Rattle.vd_whole.specs.Lists.{protos_of}
 use Rattle.vd_host_programs.specs.Programs.{joint_of}

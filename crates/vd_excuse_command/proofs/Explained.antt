@@ -19,6 +19,7 @@ use Rattle.vd_whole.specs.Lists.{protos_of}
 use Rattle.vd_deals.specs.declared.deal.Deal.{Deal}
 use Rattle.vd_deals.specs.declared.deal.DealKind.{DealKind}
 use Rattle.vd_base.specs.Limits.{most_hosts}
+use Rattle.vd_base.specs.Holders.{proto_in}
 use Rattle.vd_deals.specs.Validity.{AreDeals, IsConsistent}
 use Rattle.vd_tape.proofs.EachHost.{all_deals}
 use Rattle.vd_tape.specs.Text.{AreDealsOf}
@@ -29,7 +30,6 @@ use Rattle.vd_execution.specs.Gadgets.{Gadget}
 use Rattle.vd_execution.specs.Plans.{Plan, joint_of as code}
 use Rattle.vd_machine.specs.Machines.{list_of, pair_item, triple_item, word_item}
 use Rattle.vd_enough.proofs.Sizes.{any_there}
-use Rattle.vd_split.specs.Offer.{proto_in}
 use Rattle.vd_host_programs.specs.Programs.{IsRunnable, joint_of}
 use Rattle.vd_host_programs.proofs.HostCodes.{problem_protos}
 use Rattle.vd_play.specs.Supplies.{items_for}

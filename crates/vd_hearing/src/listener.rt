@@ -4,15 +4,16 @@ ghost use Rattle.std.specs.Prelude.{◌≡◌, ◌∷◌, [], slice_index};
 ghost use Rattle.std.specs.List.{list_any};
 ghost use Rattle.vd_assigned_dependence.specs.Hearing.{has_clear as is_clear_at, is_alone as is_alone_at, stands, comes, comes_alone, index_comes, is_part};
 ghost use Rattle.vd_base.specs.HostSets.{same_host};
+ghost use Rattle.vd_base.specs.Holders.{is_holder};
 ghost use Rattle.vd_hearing.specs.Parts.{told_there, held_there, slot_held};
 ghost use Rattle.vd_hearing.specs.Runs.{all_heard, heard_by};
 ghost use Rattle.vd_space.specs.Reading.{named_by};
-ghost use Rattle.vd_space.specs.Validity.{protocols as all_protocols, holder};
+ghost use Rattle.vd_space.specs.Validity.{protocols as all_protocols};
 
 use std::marker::Model;
-use vd_base::{HostId, Proto, SlotId};
+use vd_base::{HostId, Proto, SlotId, is_holder};
 use vd_core::{Right, Stmt};
-use vd_space::{Problem, is_holder, protocol_at};
+use vd_space::{Problem, protocol_at};
 
 /// A host, and where the slots of a program stand.
 #[derive(Drop)]

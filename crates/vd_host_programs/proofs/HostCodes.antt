@@ -7,6 +7,7 @@ use Rattle.vd_base.specs.declared.protocols.Proto.{Proto}
 use Rattle.vd_base.specs.declared.protocols.Proto.TheVariants.{Local}
 use Rattle.vd_base.specs.HostSets.{host}
 use Rattle.vd_base.specs.Protocols.{protocols_of}
+use Rattle.vd_base.specs.Holders.{proto_in}
 use Rattle.vd_core.specs.declared.normal.NormalForm.{NormalForm}
 use Rattle.vd_core.specs.Facts.{IsWellMade}
 use Rattle.vd_constraints.specs.declared.labels.Labels.{Labels}
@@ -24,7 +25,6 @@ use Rattle.vd_execution.specs.World.{Tape, followed_by_zeros}
 use Rattle.vd_schedules.proofs.Picks.{picks}
 use Rattle.vd_schedules.proofs.Reading.{read_back, unbegun}
 use Rattle.vd_core.specs.Numbers.{NumbersFit}
-use Rattle.vd_split.specs.Offer.{proto_in}
 use Rattle.vd_suite.specs.Suite.{IsOver, AreGiven}
 use Rattle.vd_suite.specs.Given.{zero_deal}
 use Rattle.vd_suite.specs.Whole.{inputs_of, CanRun}

@@ -1,9 +1,12 @@
 -- The code of each host of a program at a valid assignment of protocols to its slots.
-use Rattle.std.specs.Prelude.{ℕ, ◌^◌, ◌<◌, List, [], length, map, slice_index}
+use Rattle.std.specs.Prelude.{ℕ, List, [], length, map}
 use Rattle.std.specs.List.{All, range_with_len}
 use Rattle.vd_base.specs.declared.protocols.Proto.{Proto}
+use Rattle.vd_base.specs.Holders.{proto_in}
+use Rattle.vd_base.specs.Words.{InputsAreWords}
 use Rattle.vd_core.specs.declared.normal.NormalForm.{NormalForm}
 use Rattle.vd_core.specs.Facts.{IsWellMade}
+use Rattle.vd_core.specs.Numbers.{NumbersFit}
 use Rattle.vd_constraints.specs.declared.labels.Labels.{Labels}
 use Rattle.vd_space.specs.Reading.{problem_of}
 use Rattle.vd_cheapest.specs.Cheapest.{IsAssignment}
@@ -14,8 +17,6 @@ use Rattle.vd_execution.specs.Ranges.{IsInRange}
 use Rattle.vd_execution.specs.Text.{IsCodeOf, text}
 use Rattle.vd_execution.specs.World.{Supply, Tape, followed_by_zeros}
 use Rattle.vd_schedules.specs.Claims.{RunsWell}
-use Rattle.vd_core.specs.Numbers.{NumbersFit}
-use Rattle.vd_split.specs.Offer.{proto_in}
 use Rattle.vd_suite.specs.Suite.{AreGiven, IsOver}
 use Rattle.vd_suite.specs.Whole.{code_at, inputs_of, RunsAsToldBy}
 
@@ -47,11 +48,11 @@ CodesCanBeLoaded = (program : NormalForm) (protocols : List Proto) → IsWellMad
 
 abbrev pub CodesRunAsTold : Type 0
 CodesRunAsTold = (program : NormalForm) (protocols : List Proto) → IsWellMade program → NumbersFit program → IsRunnable program protocols
-    → (inputs : List (List ℕ)) → AreWords inputs → (t : Tape) → IsValidDeal t → AreGiven (inputs_of inputs) t
+    → (inputs : List (List ℕ)) → InputsAreWords inputs → (t : Tape) → IsValidDeal t → AreGiven (inputs_of inputs) t
     → RunsAsToldBy program (proto_in protocols) inputs t
 
 -- on lists that are read as followed by zeros
 abbrev pub CodesRunWell : Type 0
 CodesRunWell = (program : NormalForm) (protocols : List Proto) → IsWellMade program → NumbersFit program → IsRunnable program protocols
-    → (inputs : List (List ℕ)) → AreWords inputs → (s : Supply) → IsValidDeal (followed_by_zeros s) → AreGiven (inputs_of inputs) (followed_by_zeros s)
+    → (inputs : List (List ℕ)) → InputsAreWords inputs → (s : Supply) → IsValidDeal (followed_by_zeros s) → AreGiven (inputs_of inputs) (followed_by_zeros s)
     → RunsWell s (joint_of program protocols)

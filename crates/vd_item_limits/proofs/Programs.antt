@@ -2,6 +2,7 @@
 use Rattle.std.proofs.Common.{◌≡◌, ℕ, ◌*◌, ◌≤◌, List, length, refl, sym, ap, subst, arith}
 use Rattle.vd_base.specs.declared.protocols.Proto.{Proto}
 use Rattle.vd_base.specs.Limits.{most_deal_items}
+use Rattle.vd_base.specs.Holders.{proto_in}
 use Rattle.vd_core.specs.declared.normal.NormalForm.{NormalForm}
 use Rattle.vd_core.specs.Facts.{weigh_all, weigh_step, weight_sum}
 use Rattle.vd_execution.specs.Plans.{joint_of}
@@ -10,7 +11,6 @@ use Rattle.vd_joint.specs.Block.{block_of}
 use Rattle.vd_joint.specs.Emission.{Emission, block_emission, emitting_at_start, in_turn, stmt_emission}
 use Rattle.vd_joint.proofs.Folds.{fold_each}
 use Rattle.vd_needing.specs.Needs.{takes}
-use Rattle.vd_split.specs.Offer.{proto_in}
 use Rattle.vd_suite.specs.Parts.{suite_calls}
 use Rattle.vd_host_programs.proofs.HostCodes.{proto_over, runnable_over}
 use Rattle.vd_statement_limits.specs.Statements.{all_of}

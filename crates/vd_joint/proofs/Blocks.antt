@@ -4,6 +4,7 @@ use Rattle.std.specs.List.{concat}
 use Rattle.vd_base.specs.declared.ids.SlotId.{SlotId}
 use Rattle.vd_base.specs.declared.protocols.Proto.{Proto}
 use Rattle.vd_base.specs.HostSets.{host}
+use Rattle.vd_base.specs.Holders.{is_holder}
 use Rattle.vd_core.specs.declared.normal.Right.{Right}
 use Rattle.vd_core.specs.declared.normal.Right.TheVariants.{Lit, Turn, Copy, Apply, Input, Declassify, Endorse, Load, Get}
 use Rattle.vd_core.specs.Facts.{Sight, Seen, slots_step, seeing_step, seeing_all}
@@ -11,7 +12,7 @@ use Rattle.vd_meaning.specs.Turns.{turns}
 use Rattle.vd_meaning.specs.ProgramMeaning.{SlotState, Effect, in_order, stmt_effect}
 use Rattle.vd_joint.specs.Block.{Block, End, Let, NewVar, NewArray, Store, Put, Output, If, For, each}
 use Rattle.vd_joint.specs.Joint.{Hosts, and_then}
-use Rattle.vd_joint.specs.Suite.{is_at, Suite, Laws}
+use Rattle.vd_joint.specs.Suite.{Suite, Laws}
 use Rattle.vd_joint.specs.Emission.{Emission, Emitted}
 use Rattle.vd_joint.specs.Validity.{Fits, emission_of, turns_at, Placed}
 use Rattle.vd_joint.proofs.Lists.{and_left, and_right, or_left, or_right, or_cases, or_none_left, or_none_right, InRow, row_front, row_back}
@@ -30,7 +31,7 @@ effect_of b = in_order (each stmt_effect b)
 
 module _ (m : Hosts) (s : Suite m) (proto : ℕ → Proto) (laws : Laws m s) (declared : (x : ℕ) → s.Declared (proto x)) where
   abbrev at : ℕ → ℕ → Bool
-  at x h = is_at (proto x) (host h)
+  at x h = is_holder (proto x) (host h)
 
   abbrev pub emits : Block → Emission s.calls proto
   emits = emission_of m s proto

@@ -8,6 +8,7 @@ use Rattle.vd_base.specs.declared.ids.SlotId.{SlotId}
 use Rattle.vd_base.specs.declared.protocols.Proto.{Proto}
 use Rattle.vd_base.specs.declared.protocols.Proto.TheVariants.{Local}
 use Rattle.vd_base.specs.HostSets.{host}
+use Rattle.vd_base.specs.Holders.{is_holder}
 use Rattle.vd_core.specs.Facts.{Sight}
 use Rattle.vd_meaning.specs.ProgramMeaning.{SlotState, stmt_effect}
 use Rattle.vd_execution.specs.Joint.{Apart, TakesPart}
@@ -15,7 +16,7 @@ use Rattle.vd_execution.specs.Plans.{Plan, Ends, Then, Branch, Loop}
 use Rattle.vd_duet.specs.Laws.{IsHost}
 use Rattle.vd_joint.specs.Block.{Block, End, Let, NewVar, NewArray, Store, Put, Output, If as IfB, For as ForB, each}
 use Rattle.vd_joint.specs.Joint.{Hosts, Each, IsIn, acts_then, and_then}
-use Rattle.vd_joint.specs.Suite.{is_at, picked, Made, Suite, Laws, hosts_of}
+use Rattle.vd_joint.specs.Suite.{picked, Made, Suite, Laws, hosts_of}
 use Rattle.vd_joint.specs.Emission.{Emission, Emitted, delivered, delivered_at, right_acts_at, loop_registers, after_loop_registers}
 use Rattle.vd_joint.specs.Validity.{Fits, emission_of, turns_at, Placed}
 use Rattle.vd_joint.specs.Places.{is_part, acting, active, Tidy, NeedsItsLoops, Where, Places}
@@ -387,25 +388,25 @@ module _ (m : Hosts) (s : Suite m) (proto : ℕ → Proto) (laws : Laws m s) (pl
       (rest_does rest (orderly rest) o (with_use Binding x.0 o) e _ 1 k w c _ turn has is row.1 (and_right _ _ all) fits.1 placed.1 (λ h p. needs h (turn_later m s proto laws declared x right rest h p)) small t ts a)
   orderly (NewVar v x rest) o k row all fits placed e w c turn has is needs small t ts =
       let a = var_after m s proto laws declared o e w c v x t (row.0 ∙ sym is) (and_left _ _ all) placed.0 placed.1 in
-      and_next m n _ _ (λ h. s.calls.moves_at (proto x.0) (proto v.0) h || is_at (proto v.0) (host h)) (emits rest).acts_at
-      (of_acts m n _ (λ h. s.calls.moves_at (proto x.0) (proto v.0) h || is_at (proto v.0) (host h)) (variable_where m s proto laws places declared o e w c t v x (and_left _ _ all) placed.0 placed.1))
+      and_next m n _ _ (λ h. s.calls.moves_at (proto x.0) (proto v.0) h || is_holder (proto v.0) (host h)) (emits rest).acts_at
+      (of_acts m n _ (λ h. s.calls.moves_at (proto x.0) (proto v.0) h || is_holder (proto v.0) (host h)) (variable_where m s proto laws places declared o e w c t v x (and_left _ _ all) placed.0 placed.1))
       (rest_does rest (orderly rest) o (with_use Variable v.0 o) e _ 1 k w c _ turn has is row.1 (and_right _ _ all) fits placed.2 needs small t ts a)
   orderly (NewArray v cells rest) o k row all fits placed e w c turn has is needs small t ts =
       let a = array_after m s proto laws declared o e w c v cells t (row.0 ∙ sym is) placed.0 in
-      and_next m n _ _ (λ h. is_at (proto v.0) (host h)) (emits rest).acts_at
-      (of_acts m n _ (λ h. is_at (proto v.0) (host h)) (places.cells_at (proto v.0) (declared v.0) placed.0 cells e.next))
+      and_next m n _ _ (λ h. is_holder (proto v.0) (host h)) (emits rest).acts_at
+      (of_acts m n _ (λ h. is_holder (proto v.0) (host h)) (places.cells_at (proto v.0) (declared v.0) placed.0 cells e.next))
       (rest_does rest (orderly rest) o (with_use Array v.0 o) e _ 1 k w c _ turn has is row.1 all fits placed.1 needs small t ts a)
   orderly (Store v x rest) o k row all fits placed e w c turn has is needs small t ts =
       let here = and_left _ _ all in
       let a = store_after m s proto laws declared o e w c v x t (and_left _ _ here) (and_right _ _ here) placed.0 placed.1 in
-      and_next m n _ _ (λ h. s.calls.moves_at (proto x.0) (proto v.0) h || is_at (proto v.0) (host h)) (emits rest).acts_at
-      (of_acts m n _ (λ h. s.calls.moves_at (proto x.0) (proto v.0) h || is_at (proto v.0) (host h)) (store_where m s proto laws places declared o e w c t v x (and_left _ _ here) (and_right _ _ here) placed.0 placed.1))
+      and_next m n _ _ (λ h. s.calls.moves_at (proto x.0) (proto v.0) h || is_holder (proto v.0) (host h)) (emits rest).acts_at
+      (of_acts m n _ (λ h. s.calls.moves_at (proto x.0) (proto v.0) h || is_holder (proto v.0) (host h)) (store_where m s proto laws places declared o e w c t v x (and_left _ _ here) (and_right _ _ here) placed.0 placed.1))
       (rest_does rest (orderly rest) o o e _ 0 k w c _ turn has is (no_slots m s proto laws declared k _ row) (and_right _ _ all) fits placed.2 needs small t ts a)
   orderly (Put v i x rest) o k row all fits placed e w c turn has is needs small t ts =
       let here = and_left _ _ all in
       let a = put_after m s proto laws declared o e w c v i x t (and_left _ _ (and_left _ _ here)) (and_right _ _ (and_left _ _ here)) (and_right _ _ here) placed.0 placed.1 placed.2 in
-      and_next m n _ _ (λ h. delivered_at s.calls proto (proto i.0) (hosts_of s.calls (proto v.0)) h || s.calls.moves_at (proto x.0) (proto v.0) h || is_at (proto v.0) (host h)) (emits rest).acts_at
-      (of_acts m n _ (λ h. delivered_at s.calls proto (proto i.0) (hosts_of s.calls (proto v.0)) h || s.calls.moves_at (proto x.0) (proto v.0) h || is_at (proto v.0) (host h))
+      and_next m n _ _ (λ h. delivered_at s.calls proto (proto i.0) (hosts_of s.calls (proto v.0)) h || s.calls.moves_at (proto x.0) (proto v.0) h || is_holder (proto v.0) (host h)) (emits rest).acts_at
+      (of_acts m n _ (λ h. delivered_at s.calls proto (proto i.0) (hosts_of s.calls (proto v.0)) h || s.calls.moves_at (proto x.0) (proto v.0) h || is_holder (proto v.0) (host h))
       (put_where m s proto laws places declared o e w c t v i x (and_right _ _ (and_left _ _ here)) (and_right _ _ here) placed.0 placed.1 placed.2))
       (rest_does rest (orderly rest) o o e _ 0 k w c _ turn has is (no_slots m s proto laws declared k _ row) (and_right _ _ all) fits placed.3 needs small t ts a)
   orderly (Output x h offset rest) o k row all fits placed e w c turn has is needs small t ts =

@@ -9,13 +9,14 @@ use Rattle.vd_base.specs.declared.protocols.Proto.{Proto}
 use Rattle.vd_base.specs.declared.protocols.Proto.TheVariants.{Local}
 use Rattle.vd_base.specs.HostSets.{host}
 use Rattle.vd_base.specs.Operations.{result_of}
+use Rattle.vd_base.specs.Holders.{is_holder}
 use Rattle.vd_core.specs.declared.normal.Right.{Right}
 use Rattle.vd_core.specs.declared.normal.Right.TheVariants.{Lit, Turn, Copy, Apply, Input, Declassify, Endorse, Load, Get}
 use Rattle.vd_core.specs.Facts.{Sight, is_binding, right_sees}
 use Rattle.vd_meaning.specs.World.{World, first_word, later_words}
 use Rattle.vd_meaning.specs.ProgramMeaning.{SlotState, word_at, array_at, right_word, after_right}
 use Rattle.vd_joint.specs.Joint.{Hosts, Each}
-use Rattle.vd_joint.specs.Suite.{is_at, Word, Cells, Made, Suite, nothing, Leads, Below, Fresh, Gives, Operand, NamedBy, Laws, hosts_of}
+use Rattle.vd_joint.specs.Suite.{Word, Cells, Made, Suite, nothing, Leads, Below, Fresh, Gives, Operand, NamedBy, Laws, hosts_of}
 use Rattle.vd_joint.specs.Emission.{Emitting, delivered, all_moved, and_on, right_made}
 use Rattle.vd_joint.specs.Validity.{RightFits, RightPlaced, Reaches}
 use Rattle.vd_joint.proofs.Lists.{and_left, and_right}
@@ -102,11 +103,11 @@ module _ (m : Hosts) (s : Suite m) (proto : ℕ → Proto) (laws : Laws m s) (de
     length_map f [] = refl
     length_map f (y ∷ ys) = ap suc (length_map f ys)
 
-    pub index_reached : (v i : SlotId) → Sees o Binding i.0 → Reaches m s proto i (λ h. is_at (proto v.0) (host h))
+    pub index_reached : (v i : SlotId) → Sees o Binding i.0 → Reaches m s proto i (λ h. is_holder (proto v.0) (host h))
         → Reached m s laws next w (hosts_of s.calls (proto v.0)) (delivered s.calls proto (proto i.0) (held_at held i.0) (hosts_of s.calls (proto v.0)) next) (word_at c i)
     index_reached v i sees reaches =
         deliver m s laws proto (proto i.0) (declared i.0) (held_at held i.0) (word_at c i) (hosts_of s.calls (proto v.0))
-        (picked_join m s laws proto (proto i.0) (λ h. is_at (proto v.0) (host h)) 0 s.calls.hosts (λ h lt is. reaches h (at lt) is) (omega arith)) next w t.ready (operand_of i.0 sees)
+        (picked_join m s laws proto (proto i.0) (λ h. is_holder (proto v.0) (host h)) 0 s.calls.hosts (λ h lt is. reaches h (at lt) is) (omega arith)) next w t.ready (operand_of i.0 sees)
       where
         at : {h : ℕ} → h < 0 + s.calls.hosts → h < s.calls.hosts
         at lt = omega arith
@@ -139,7 +140,7 @@ module _ (m : Hosts) (s : Suite m) (proto : ℕ → Proto) (laws : Laws m s) (de
             subst P (sym i) (is ∙ sym (taken_at c.world.inputs h.0))
 
     pub right_done : (x : ℕ) (right : Right) → right_sees right o ≡ true → RightFits s.calls.hosts right → RightPlaced m s proto (proto x) right → turn < 2 ^ 32
-        → (right ≡ Turn → (h : ℕ) → is_at (proto x) (host h) ≡ true → has h ≡ true) → Turning has o e.next e.held e.loop w turn
+        → (right ≡ Turn → (h : ℕ) → is_holder (proto x) (host h) ≡ true → has h ≡ true) → Turning has o e.next e.held e.loop w turn
         → Done o e.next e.held w (proto x) (right_made s.calls proto (proto x) right e) (right_word right turn c) (after_right right c.world)
     right_done x (Lit n) sees fits placed small reach turning =
         done_of o e.next e.held w c t (proto x) (s.calls.literal (proto x) n e.next) n

@@ -8,6 +8,7 @@ use Rattle.vd_base.specs.declared.protocols.Proto.{Proto}
 use Rattle.vd_base.specs.declared.protocols.Proto.TheVariants.{Local}
 use Rattle.vd_base.specs.declared.rows.Row.TheVariants.{Variable as VariableRow}
 use Rattle.vd_base.specs.HostSets.{host}
+use Rattle.vd_base.specs.Holders.{is_holder}
 use Rattle.vd_core.specs.declared.normal.Right.{Right}
 use Rattle.vd_core.specs.declared.normal.Right.TheVariants.{Turn}
 use Rattle.vd_core.specs.Facts.{Sight, right_sees}
@@ -15,7 +16,7 @@ use Rattle.vd_meaning.specs.World.{after_output}
 use Rattle.vd_meaning.specs.ProgramMeaning.{SlotState, word_at, array_at, with_word, with_array, in_world, right_word, after_right}
 use Rattle.vd_execution.specs.Plans.{Ends}
 use Rattle.vd_joint.specs.Joint.{Hosts, acts_then, and_then, run_acts, joint, Goes}
-use Rattle.vd_joint.specs.Suite.{is_at, Content, Word, Cells, Made, Suite, nothing, Leads, Fresh, Renews, Laws, hosts_of}
+use Rattle.vd_joint.specs.Suite.{Content, Word, Cells, Made, Suite, nothing, Leads, Fresh, Renews, Laws, hosts_of}
 use Rattle.vd_joint.specs.Emission.{Emitting, Emitted, delivered, and_on, right_made, with_parts, with_acts, store_made, put_made, output_made}
 use Rattle.vd_joint.specs.Validity.{RightFits, RightPlaced, Reaches}
 use Rattle.vd_joint.proofs.Lists.{front_kept}
@@ -185,7 +186,7 @@ module _ (m : Hosts) (s : Suite m) (proto : ℕ → Proto) where
 
     pub let_after : (o : Sight) (e : E) (w : m.World) (c : SlotState) (turn : ℕ) (has : ℕ → Bool) (x : SlotId) (right : Right) → Ties o e w c → x.0 ≡ length e.held
         → right_sees right o ≡ true → RightFits s.calls.hosts right → RightPlaced m s proto (proto x.0) right → turn < 2 ^ 32
-        → (right ≡ Turn → (h : ℕ) → is_at (proto x.0) (host h) ≡ true → has h ≡ true) → TurnsIn has o e w turn
+        → (right ≡ Turn → (h : ℕ) → is_holder (proto x.0) (host h) ≡ true → has h ≡ true) → TurnsIn has o e w turn
         → After o (with_use Binding x.0 o) e (with_parts s.calls proto (right_made s.calls proto (proto x.0) right e) e) 1 w (with_word x (right_word right turn c) (in_world (after_right right c.world) c))
     let_after o e w c turn has x right t is sees fits placed small reach turns =
         let d = right_done m s proto laws declared o e w c t turn has x.0 right sees fits placed small reach turns in
@@ -263,7 +264,7 @@ module _ (m : Hosts) (s : Suite m) (proto : ℕ → Proto) where
         renewed {next1} {kept} {acts} {w1} {p} a b i r = subst (Renews m s next1 kept acts w1 p) i r
 
     pub put_after : (o : Sight) (e : E) (w : m.World) (c : SlotState) (v i x : SlotId) → Ties o e w c → Sees o Array v.0 → Sees o Binding i.0 → Sees o Binding x.0 → s.holds VariableRow (proto v.0) ≡ true
-        → s.joins (proto x.0) (proto v.0) ≡ true → Reaches m s proto i (λ h. is_at (proto v.0) (host h)) → After o o e (put_made s.calls proto v i x e) 0 w (with_array v (slice_set (array_at c v) (word_at c i) (word_at c x)) c)
+        → s.joins (proto x.0) (proto v.0) ≡ true → Reaches m s proto i (λ h. is_holder (proto v.0) (host h)) → After o o e (put_made s.calls proto v i x e) 0 w (with_array v (slice_set (array_at c v) (word_at c i) (word_at c x)) c)
     put_after o e w c v i x t sees_v sees_i sees_x holds joins reaches =
         let index = delivered s.calls proto (proto i.0) (part m s proto e.held i.0) (hosts_of s.calls (proto v.0)) e.next in
         let all = index_reached m s proto laws declared o e.next e.held w c t v i sees_i reaches in

@@ -7,11 +7,12 @@ use Rattle.vd_base.specs.declared.ids.SlotId.{SlotId}
 use Rattle.vd_base.specs.declared.protocols.Proto.{Proto}
 use Rattle.vd_base.specs.declared.protocols.Proto.TheVariants.{Local}
 use Rattle.vd_base.specs.HostSets.{host}
+use Rattle.vd_base.specs.Holders.{is_holder}
 use Rattle.vd_core.specs.declared.normal.Right.{Right}
 use Rattle.vd_core.specs.declared.normal.Right.TheVariants.{Lit, Turn, Copy, Apply, Input, Declassify, Endorse, Load, Get}
 use Rattle.vd_joint.specs.Block.{Block, End, Let, NewVar, NewArray, Store, Put, Output, If as IfB, For as ForB}
 use Rattle.vd_joint.specs.Joint.{Hosts}
-use Rattle.vd_joint.specs.Suite.{is_at, picked, Suite, hosts_of}
+use Rattle.vd_joint.specs.Suite.{picked, Suite, hosts_of}
 use Rattle.vd_joint.specs.Emission.{Emission, delivered_at, right_acts_at, right_takes_part}
 use Rattle.vd_joint.specs.Validity.{emission_of, RightPlaced, Placed}
 use Rattle.vd_joint.specs.Places.{Places}
@@ -46,30 +47,30 @@ module _ (m : Hosts) (s : Suite m) (proto : ℕ → Proto) (laws : Places m s) w
       at ih false t e = ih e
 
   -- where a word is moved to hosts that pass a test, a host that acts is at the word's protocol or passes
-  told_inside : (p : Proto) (test : ℕ → Bool) (h : ℕ) → delivered_at s.calls proto p (picked 0 n test) h ≡ true → (is_at p (host h) ≡ true) ⊎ (test h ≡ true)
+  told_inside : (p : Proto) (test : ℕ → Bool) (h : ℕ) → delivered_at s.calls proto p (picked 0 n test) h ≡ true → (is_holder p (host h) ≡ true) ⊎ (test h ≡ true)
   told_inside p test h e =
       let q = any_picked (λ k. s.calls.moves_at p (Local k) h) test 0 n e in
-      split q.0 q.1 (or_cases (is_at p (host h)) (is_at (Local (host q.0)) (host h)) (laws.moves_inside p (Local (host q.0)) h q.2))
+      split q.0 q.1 (or_cases (is_holder p (host h)) (is_holder (Local (host q.0)) (host h)) (laws.moves_inside p (Local (host q.0)) h q.2))
     where
-      split : (k : ℕ) → test k ≡ true → (is_at p (host h) ≡ true) ⊎ (nat_eq h k ≡ true) → (is_at p (host h) ≡ true) ⊎ (test h ≡ true)
+      split : (k : ℕ) → test k ≡ true → (is_holder p (host h) ≡ true) ⊎ (nat_eq k h ≡ true) → (is_holder p (host h) ≡ true) ⊎ (test h ≡ true)
       split k t (inl i) = inl i
-      split k t (inr i) = inr (ap test (eqb-true h k i) ∙ t)
+      split k t (inr i) = inr (ap test (sym (eqb-true k h i)) ∙ t)
 
-  operands_inside : (q : Proto) (xs : List SlotId) (h : ℕ) → list_any (λ y. s.calls.moves_at (proto y.0) q h) xs ≡ true → (is_at q (host h) ≡ true) ⊎ (list_any (λ y. is_at (proto y.0) (host h)) xs ≡ true)
+  operands_inside : (q : Proto) (xs : List SlotId) (h : ℕ) → list_any (λ y. s.calls.moves_at (proto y.0) q h) xs ≡ true → (is_holder q (host h) ≡ true) ⊎ (list_any (λ y. is_holder (proto y.0) (host h)) xs ≡ true)
   operands_inside q [] h e = inr e
   operands_inside q (x ∷ xs) h e = split (operands_inside q xs h) (or_cases (s.calls.moves_at (proto x.0) q h) (list_any (λ y. s.calls.moves_at (proto y.0) q h) xs) e)
     where
-      here : (is_at (proto x.0) (host h) ≡ true) ⊎ (is_at q (host h) ≡ true) → (is_at q (host h) ≡ true) ⊎ ((is_at (proto x.0) (host h) || list_any (λ y. is_at (proto y.0) (host h)) xs) ≡ true)
-      here (inl i) = inr (or_left (is_at (proto x.0) (host h)) (list_any (λ y. is_at (proto y.0) (host h)) xs) i)
+      here : (is_holder (proto x.0) (host h) ≡ true) ⊎ (is_holder q (host h) ≡ true) → (is_holder q (host h) ≡ true) ⊎ ((is_holder (proto x.0) (host h) || list_any (λ y. is_holder (proto y.0) (host h)) xs) ≡ true)
+      here (inl i) = inr (or_left (is_holder (proto x.0) (host h)) (list_any (λ y. is_holder (proto y.0) (host h)) xs) i)
       here (inr i) = inl i
 
-      later : (is_at q (host h) ≡ true) ⊎ (list_any (λ y. is_at (proto y.0) (host h)) xs ≡ true) → (is_at q (host h) ≡ true) ⊎ ((is_at (proto x.0) (host h) || list_any (λ y. is_at (proto y.0) (host h)) xs) ≡ true)
+      later : (is_holder q (host h) ≡ true) ⊎ (list_any (λ y. is_holder (proto y.0) (host h)) xs ≡ true) → (is_holder q (host h) ≡ true) ⊎ ((is_holder (proto x.0) (host h) || list_any (λ y. is_holder (proto y.0) (host h)) xs) ≡ true)
       later (inl i) = inl i
-      later (inr i) = inr (or_right (is_at (proto x.0) (host h)) (list_any (λ y. is_at (proto y.0) (host h)) xs) i)
+      later (inr i) = inr (or_right (is_holder (proto x.0) (host h)) (list_any (λ y. is_holder (proto y.0) (host h)) xs) i)
 
-      split : (list_any (λ y. s.calls.moves_at (proto y.0) q h) xs ≡ true → (is_at q (host h) ≡ true) ⊎ (list_any (λ y. is_at (proto y.0) (host h)) xs ≡ true)) → (s.calls.moves_at (proto x.0) q h ≡ true) ⊎ (list_any (λ y. s.calls.moves_at (proto y.0) q h) xs ≡ true)
-          → (is_at q (host h) ≡ true) ⊎ ((is_at (proto x.0) (host h) || list_any (λ y. is_at (proto y.0) (host h)) xs) ≡ true)
-      split ih (inl i) = here (or_cases (is_at (proto x.0) (host h)) (is_at q (host h)) (laws.moves_inside (proto x.0) q h i))
+      split : (list_any (λ y. s.calls.moves_at (proto y.0) q h) xs ≡ true → (is_holder q (host h) ≡ true) ⊎ (list_any (λ y. is_holder (proto y.0) (host h)) xs ≡ true)) → (s.calls.moves_at (proto x.0) q h ≡ true) ⊎ (list_any (λ y. s.calls.moves_at (proto y.0) q h) xs ≡ true)
+          → (is_holder q (host h) ≡ true) ⊎ ((is_holder (proto x.0) (host h) || list_any (λ y. is_holder (proto y.0) (host h)) xs) ≡ true)
+      split ih (inl i) = here (or_cases (is_holder (proto x.0) (host h)) (is_holder q (host h)) (laws.moves_inside (proto x.0) q h i))
       split ih (inr i) = later (ih i)
 
   or_map : (a b c d : Bool) → (a ≡ true → c ≡ true) → (b ≡ true → d ≡ true) → (a || b) ≡ true → (c || d) ≡ true
@@ -84,39 +85,39 @@ module _ (m : Hosts) (s : Suite m) (proto : ℕ → Proto) (laws : Places m s) w
   either a b c (inr i) f g = g i
 
   abbrev here : ℕ → ℕ → Bool
-  here x h = is_at (proto x) (host h)
+  here x h = is_holder (proto x) (host h)
 
   abbrev takes_right : Right → ℕ → Bool
   takes_right r h = right_takes_part s.calls proto r h
 
-  moved_in : (p q : Proto) (h : ℕ) → s.calls.moves_at p q h ≡ true → (is_at q (host h) || is_at p (host h)) ≡ true
+  moved_in : (p q : Proto) (h : ℕ) → s.calls.moves_at p q h ≡ true → (is_holder q (host h) || is_holder p (host h)) ≡ true
   moved_in p q h e =
-      or_both (is_at p (host h)) (is_at q (host h)) (is_at q (host h) || is_at p (host h)) (or_right (is_at q (host h)) (is_at p (host h))) (or_left (is_at q (host h)) (is_at p (host h))) (laws.moves_inside p q h e)
+      or_both (is_holder p (host h)) (is_holder q (host h)) (is_holder q (host h) || is_holder p (host h)) (or_right (is_holder q (host h)) (is_holder p (host h))) (or_left (is_holder q (host h)) (is_holder p (host h))) (laws.moves_inside p q h e)
 
-  right_inside : (q : Proto) (right : Right) (h : ℕ) → RightPlaced m s proto q right → right_acts_at s.calls proto q right h ≡ true → (is_at q (host h) || takes_right right h) ≡ true
-  right_inside q (Lit v) h placed e = or_left (is_at q (host h)) false e
-  right_inside q Turn h placed e = or_left (is_at q (host h)) false e
+  right_inside : (q : Proto) (right : Right) (h : ℕ) → RightPlaced m s proto q right → right_acts_at s.calls proto q right h ≡ true → (is_holder q (host h) || takes_right right h) ≡ true
+  right_inside q (Lit v) h placed e = or_left (is_holder q (host h)) false e
+  right_inside q Turn h placed e = or_left (is_holder q (host h)) false e
   right_inside q (Copy y) h placed e = moved_in (proto y.0) q h e
   right_inside q (Apply o ys) h placed e =
-      or_both (list_any (λ y. s.calls.moves_at (proto y.0) q h) ys) (s.calls.applies_at o q h) (is_at q (host h) || takes_right (Apply o ys) h)
-      (λ i. either (is_at q (host h)) (takes_right (Apply o ys) h) (is_at q (host h) || takes_right (Apply o ys) h) (operands_inside q ys h i) (or_left (is_at q (host h)) (takes_right (Apply o ys) h)) (or_right (is_at q (host h)) (takes_right (Apply o ys) h)))
-      (λ i. or_left (is_at q (host h)) (takes_right (Apply o ys) h) (laws.applies_inside o q h i)) e
-  right_inside q (Input k) h placed e = or_left (is_at q (host h)) false (laws.input_inside k q h placed e)
+      or_both (list_any (λ y. s.calls.moves_at (proto y.0) q h) ys) (s.calls.applies_at o q h) (is_holder q (host h) || takes_right (Apply o ys) h)
+      (λ i. either (is_holder q (host h)) (takes_right (Apply o ys) h) (is_holder q (host h) || takes_right (Apply o ys) h) (operands_inside q ys h i) (or_left (is_holder q (host h)) (takes_right (Apply o ys) h)) (or_right (is_holder q (host h)) (takes_right (Apply o ys) h)))
+      (λ i. or_left (is_holder q (host h)) (takes_right (Apply o ys) h) (laws.applies_inside o q h i)) e
+  right_inside q (Input k) h placed e = or_left (is_holder q (host h)) false (laws.input_inside k q h placed e)
   right_inside q (Declassify y to) h placed e = moved_in (proto y.0) q h e
   right_inside q (Endorse y to) h placed e = moved_in (proto y.0) q h e
   right_inside q (Load v) h placed e =
-      or_both (here v.0 h) (s.calls.moves_at (proto v.0) q h) (is_at q (host h) || here v.0 h) (or_right (is_at q (host h)) (here v.0 h)) (moved_in (proto v.0) q h) e
+      or_both (here v.0 h) (s.calls.moves_at (proto v.0) q h) (is_holder q (host h) || here v.0 h) (or_right (is_holder q (host h)) (here v.0 h)) (moved_in (proto v.0) q h) e
   right_inside q (Get v i) h placed e =
-      or_both (delivered_at s.calls proto (proto i.0) (hosts_of s.calls (proto v.0)) h || here v.0 h) (s.calls.moves_at (proto v.0) q h) (is_at q (host h) || (here v.0 h || here i.0 h))
-      (or_both (delivered_at s.calls proto (proto i.0) (hosts_of s.calls (proto v.0)) h) (here v.0 h) (is_at q (host h) || (here v.0 h || here i.0 h))
-      (λ d. either (here i.0 h) (here v.0 h) (is_at q (host h) || (here v.0 h || here i.0 h)) (told_inside (proto i.0) (λ k. here v.0 k) h d) index array) array)
-      (λ d. or_both (is_at q (host h)) (here v.0 h) (is_at q (host h) || (here v.0 h || here i.0 h)) (or_left (is_at q (host h)) (here v.0 h || here i.0 h)) array (moved_in (proto v.0) q h d)) e
+      or_both (delivered_at s.calls proto (proto i.0) (hosts_of s.calls (proto v.0)) h || here v.0 h) (s.calls.moves_at (proto v.0) q h) (is_holder q (host h) || (here v.0 h || here i.0 h))
+      (or_both (delivered_at s.calls proto (proto i.0) (hosts_of s.calls (proto v.0)) h) (here v.0 h) (is_holder q (host h) || (here v.0 h || here i.0 h))
+      (λ d. either (here i.0 h) (here v.0 h) (is_holder q (host h) || (here v.0 h || here i.0 h)) (told_inside (proto i.0) (λ k. here v.0 k) h d) index array) array)
+      (λ d. or_both (is_holder q (host h)) (here v.0 h) (is_holder q (host h) || (here v.0 h || here i.0 h)) (or_left (is_holder q (host h)) (here v.0 h || here i.0 h)) array (moved_in (proto v.0) q h d)) e
     where
-      array : here v.0 h ≡ true → (is_at q (host h) || (here v.0 h || here i.0 h)) ≡ true
-      array t = or_right (is_at q (host h)) (here v.0 h || here i.0 h) (or_left (here v.0 h) (here i.0 h) t)
+      array : here v.0 h ≡ true → (is_holder q (host h) || (here v.0 h || here i.0 h)) ≡ true
+      array t = or_right (is_holder q (host h)) (here v.0 h || here i.0 h) (or_left (here v.0 h) (here i.0 h) t)
 
-      index : here i.0 h ≡ true → (is_at q (host h) || (here v.0 h || here i.0 h)) ≡ true
-      index t = or_right (is_at q (host h)) (here v.0 h || here i.0 h) (or_right (here v.0 h) (here i.0 h) t)
+      index : here i.0 h ≡ true → (is_holder q (host h) || (here v.0 h || here i.0 h)) ≡ true
+      index t = or_right (is_holder q (host h)) (here v.0 h || here i.0 h) (or_right (here v.0 h) (here i.0 h) t)
 
   abbrev emits : Block → Emission s.calls proto
   emits = emission_of m s proto

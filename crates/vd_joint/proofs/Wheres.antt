@@ -8,12 +8,13 @@ use Rattle.vd_base.specs.declared.protocols.Proto.{Proto}
 use Rattle.vd_base.specs.declared.protocols.Proto.TheVariants.{Local}
 use Rattle.vd_base.specs.declared.rows.Row.TheVariants.{Variable as VariableRow}
 use Rattle.vd_base.specs.HostSets.{host}
+use Rattle.vd_base.specs.Holders.{is_holder}
 use Rattle.vd_core.specs.declared.normal.Right.{Right}
 use Rattle.vd_core.specs.declared.normal.Right.TheVariants.{Lit, Turn, Copy, Apply, Input, Declassify, Endorse, Load, Get}
 use Rattle.vd_core.specs.Facts.{Sight, right_sees}
 use Rattle.vd_meaning.specs.ProgramMeaning.{SlotState, word_at, array_at}
 use Rattle.vd_joint.specs.Joint.{Hosts, Each}
-use Rattle.vd_joint.specs.Suite.{is_at, Word, Cells, Suite, nothing, Below, Ready, Operand, Laws, hosts_of}
+use Rattle.vd_joint.specs.Suite.{Word, Cells, Suite, nothing, Below, Ready, Operand, Laws, hosts_of}
 use Rattle.vd_joint.specs.Emission.{Emitting, delivered, delivered_at, all_moved, right_made, right_acts_at}
 use Rattle.vd_joint.specs.Validity.{RightFits, RightPlaced, Reaches}
 use Rattle.vd_joint.specs.Places.{acting, Where, Places}
@@ -88,11 +89,11 @@ module _ (m : Hosts) (s : Suite m) (proto : ℕ → Proto) (laws : Laws m s) (pl
     moved_where x i q dq j =
         places.move_at (proto x) q (declared x) dq j (part m s proto held x) (slice_index c.words x) next w t.ready (operand_of m s proto laws declared o next held w c t x i)
 
-    pub index_where : (v i : SlotId) → Sees o Binding i.0 → Reaches m s proto i (λ h. is_at (proto v.0) (host h))
+    pub index_where : (v i : SlotId) → Sees o Binding i.0 → Reaches m s proto i (λ h. is_holder (proto v.0) (host h))
         → Where m n (delivered s.calls proto (proto i.0) (part m s proto held i.0) (hosts_of s.calls (proto v.0)) next).acts (delivered_at s.calls proto (proto i.0) (hosts_of s.calls (proto v.0)))
     index_where v i sees reaches =
         delivered_where (proto i.0) (declared i.0) (part m s proto held i.0) (word_at c i) (hosts_of s.calls (proto v.0))
-        (picked_join m s laws proto (proto i.0) (λ h. is_at (proto v.0) (host h)) 0 s.calls.hosts (λ h lt is. reaches h (at lt) is) (omega arith)) next w t.ready
+        (picked_join m s laws proto (proto i.0) (λ h. is_holder (proto v.0) (host h)) 0 s.calls.hosts (λ h lt is. reaches h (at lt) is) (omega arith)) next w t.ready
         (operand_of m s proto laws declared o next held w c t i.0 sees)
       where
         at : {h : ℕ} → h < 0 + s.calls.hosts → h < s.calls.hosts
@@ -121,7 +122,7 @@ module _ (m : Hosts) (s : Suite m) (proto : ℕ → Proto) (laws : Laws m s) (pl
         let operand = operand_of_variable m s proto laws declared o e.next e.held w c t v.0 sees in
         let g = laws.keep_law (proto v.0) (declared v.0) placed.0 (part m s proto e.held v.0) (slice_index c.words v.0) e.next w t.ready operand in
         let a : Between m s e.next w kept.acts kept.next = between_of m s e.next nothing kept w (proto v.0) (Word (slice_index c.words v.0)) g in
-        where_on m n kept.acts (s.calls.move (proto v.0) (proto x) kept.given kept.next).acts (λ h. is_at (proto v.0) (host h)) (s.calls.moves_at (proto v.0) (proto x))
+        where_on m n kept.acts (s.calls.move (proto v.0) (proto x) kept.given kept.next).acts (λ h. is_holder (proto v.0) (host h)) (s.calls.moves_at (proto v.0) (proto x))
         (places.keep_at (proto v.0) (declared v.0) placed.0 (part m s proto e.held v.0) (slice_index c.words v.0) e.next w t.ready operand)
         (places.move_at (proto v.0) (proto x) (declared v.0) (declared x) placed.1 kept.given (slice_index c.words v.0) kept.next a.reached (ready_past m s e.next w kept.acts kept.next t.ready a)
         (record { below = g.fresh.below; stands = g.stands }))
@@ -137,42 +138,42 @@ module _ (m : Hosts) (s : Suite m) (proto : ℕ → Proto) (laws : Laws m s) (pl
         let g = laws.get_law (proto v.0) (declared v.0) placed.0 (part m s proto e.held v.0) words index.given (word_at c i) index.next b.reached (ready_past m s e.next w index.acts index.next t.ready b)
         below (laws.still w b.reached (proto v.0) (part m s proto e.held v.0) (Cells words) (t.stands Array v.0 sees_array) (λ h r z. b.leads.kept h r (t.below Array v.0 sees_array h r z) (λ y. y))) all.there in
         let a : Between m s index.next b.reached got.acts got.next = between_of m s index.next nothing got b.reached (proto v.0) (Word (slice_index words (word_at c i))) g in
-        where_on m n (index.acts ++ got.acts) (s.calls.move (proto v.0) (proto x) got.given got.next).acts (λ h. delivered_at s.calls proto (proto i.0) (hosts_of s.calls (proto v.0)) h || is_at (proto v.0) (host h)) (s.calls.moves_at (proto v.0) (proto x))
-        (where_on m n index.acts got.acts (delivered_at s.calls proto (proto i.0) (hosts_of s.calls (proto v.0))) (λ h. is_at (proto v.0) (host h))
+        where_on m n (index.acts ++ got.acts) (s.calls.move (proto v.0) (proto x) got.given got.next).acts (λ h. delivered_at s.calls proto (proto i.0) (hosts_of s.calls (proto v.0)) h || is_holder (proto v.0) (host h)) (s.calls.moves_at (proto v.0) (proto x))
+        (where_on m n index.acts got.acts (delivered_at s.calls proto (proto i.0) (hosts_of s.calls (proto v.0))) (λ h. is_holder (proto v.0) (host h))
         (index_where o e.next e.held w c t v i sees_index placed.2) (places.get_at (proto v.0) (declared v.0) placed.0 (part m s proto e.held v.0) index.given index.next))
         (places.move_at (proto v.0) (proto x) (declared v.0) (declared x) placed.1 got.given (slice_index words (word_at c i)) got.next a.reached
         (ready_past m s index.next b.reached got.acts got.next (ready_past m s e.next w index.acts index.next t.ready b) a) (record { below = g.fresh.below; stands = g.stands }))
 
     pub variable_where : (v x : SlotId) → Sees o Binding x.0 → s.holds VariableRow (proto v.0) ≡ true → s.joins (proto x.0) (proto v.0) ≡ true
         → let one = s.calls.move (proto x.0) (proto v.0) (part m s proto e.held x.0) e.next in
-        Where m n (one.acts ++ (s.calls.keep (proto v.0) one.given one.next).acts) (λ h. s.calls.moves_at (proto x.0) (proto v.0) h || is_at (proto v.0) (host h))
+        Where m n (one.acts ++ (s.calls.keep (proto v.0) one.given one.next).acts) (λ h. s.calls.moves_at (proto x.0) (proto v.0) h || is_holder (proto v.0) (host h))
     variable_where v x sees holds joins =
         let one = s.calls.move (proto x.0) (proto v.0) (part m s proto e.held x.0) e.next in
         let g = moved m s proto laws declared o e.next e.held w c t x.0 sees (proto v.0) (declared v.0) joins in
         let b : Between m s e.next w one.acts one.next = between_of m s e.next (Unchanging m s proto o e.held) one w (proto v.0) (Word (word_at c x)) g in
-        where_on m n one.acts (s.calls.keep (proto v.0) one.given one.next).acts (s.calls.moves_at (proto x.0) (proto v.0)) (λ h. is_at (proto v.0) (host h))
+        where_on m n one.acts (s.calls.keep (proto v.0) one.given one.next).acts (s.calls.moves_at (proto x.0) (proto v.0)) (λ h. is_holder (proto v.0) (host h))
         (moved_where o e.next e.held w c t x.0 sees (proto v.0) (declared v.0) joins)
         (places.keep_at (proto v.0) (declared v.0) holds one.given (word_at c x) one.next b.reached (ready_past m s e.next w one.acts one.next t.ready b) (record { below = g.fresh.below; stands = g.stands }))
 
     pub store_where : (v x : SlotId) → Sees o Variable v.0 → Sees o Binding x.0 → s.holds VariableRow (proto v.0) ≡ true → s.joins (proto x.0) (proto v.0) ≡ true
         → let one = s.calls.move (proto x.0) (proto v.0) (part m s proto e.held x.0) e.next in
-        Where m n (one.acts ++ s.calls.renew (proto v.0) (part m s proto e.held v.0) one.given) (λ h. s.calls.moves_at (proto x.0) (proto v.0) h || is_at (proto v.0) (host h))
+        Where m n (one.acts ++ s.calls.renew (proto v.0) (part m s proto e.held v.0) one.given) (λ h. s.calls.moves_at (proto x.0) (proto v.0) h || is_holder (proto v.0) (host h))
     store_where v x sees_v sees holds joins =
         let one = s.calls.move (proto x.0) (proto v.0) (part m s proto e.held x.0) e.next in
         let g = moved m s proto laws declared o e.next e.held w c t x.0 sees (proto v.0) (declared v.0) joins in
         let b : Between m s e.next w one.acts one.next = between_of m s e.next (Unchanging m s proto o e.held) one w (proto v.0) (Word (word_at c x)) g in
-        where_on m n one.acts (s.calls.renew (proto v.0) (part m s proto e.held v.0) one.given) (s.calls.moves_at (proto x.0) (proto v.0)) (λ h. is_at (proto v.0) (host h))
+        where_on m n one.acts (s.calls.renew (proto v.0) (part m s proto e.held v.0) one.given) (s.calls.moves_at (proto x.0) (proto v.0)) (λ h. is_holder (proto v.0) (host h))
         (moved_where o e.next e.held w c t x.0 sees (proto v.0) (declared v.0) joins)
         (places.renew_at (proto v.0) (declared v.0) holds (part m s proto e.held v.0) one.given (word_at c v) (word_at c x) one.next b.reached (ready_past m s e.next w one.acts one.next t.ready b)
         (operand_past m s laws e.next w one.acts one.next (proto v.0) (part m s proto e.held v.0) (word_at c v) b (operand_of_variable m s proto laws declared o e.next e.held w c t v.0 sees_v))
         (record { below = g.fresh.below; stands = g.stands }))
 
     pub put_where : (v i x : SlotId) → Sees o Binding i.0 → Sees o Binding x.0 → s.holds VariableRow (proto v.0) ≡ true → s.joins (proto x.0) (proto v.0) ≡ true
-        → Reaches m s proto i (λ h. is_at (proto v.0) (host h))
+        → Reaches m s proto i (λ h. is_holder (proto v.0) (host h))
         → let index = delivered s.calls proto (proto i.0) (part m s proto e.held i.0) (hosts_of s.calls (proto v.0)) e.next in
         let one = s.calls.move (proto x.0) (proto v.0) (part m s proto e.held x.0) index.next in
         Where m n ((index.acts ++ one.acts) ++ s.calls.put (proto v.0) (part m s proto e.held v.0) index.given one.given)
-        (λ h. delivered_at s.calls proto (proto i.0) (hosts_of s.calls (proto v.0)) h || s.calls.moves_at (proto x.0) (proto v.0) h || is_at (proto v.0) (host h))
+        (λ h. delivered_at s.calls proto (proto i.0) (hosts_of s.calls (proto v.0)) h || s.calls.moves_at (proto x.0) (proto v.0) h || is_holder (proto v.0) (host h))
     put_where v i x sees_i sees_x holds joins reaches =
         let index = delivered s.calls proto (proto i.0) (part m s proto e.held i.0) (hosts_of s.calls (proto v.0)) e.next in
         let one = s.calls.move (proto x.0) (proto v.0) (part m s proto e.held x.0) index.next in
@@ -180,7 +181,7 @@ module _ (m : Hosts) (s : Suite m) (proto : ℕ → Proto) (laws : Laws m s) (pl
         let a = all.between in
         let t1 = tied_past m s proto laws o e.next index.next e.held w a.reached c index.acts t a.leads a.quiet a.known a.longer in
         where_on m n (index.acts ++ one.acts) (s.calls.put (proto v.0) (part m s proto e.held v.0) index.given one.given)
-        (λ h. delivered_at s.calls proto (proto i.0) (hosts_of s.calls (proto v.0)) h || s.calls.moves_at (proto x.0) (proto v.0) h) (λ h. is_at (proto v.0) (host h))
+        (λ h. delivered_at s.calls proto (proto i.0) (hosts_of s.calls (proto v.0)) h || s.calls.moves_at (proto x.0) (proto v.0) h) (λ h. is_holder (proto v.0) (host h))
         (where_on m n index.acts one.acts (delivered_at s.calls proto (proto i.0) (hosts_of s.calls (proto v.0))) (s.calls.moves_at (proto x.0) (proto v.0))
         (index_where o e.next e.held w c t v i sees_i reaches) (moved_where o index.next e.held a.reached c t1 x.0 sees_x (proto v.0) (declared v.0) joins))
         (places.put_at (proto v.0) (declared v.0) holds (part m s proto e.held v.0) index.given one.given)

@@ -6,6 +6,7 @@ use Rattle.vd_base.specs.declared.ids.SlotId.{SlotId}
 use Rattle.vd_base.specs.declared.protocols.Proto.{Proto}
 use Rattle.vd_base.specs.declared.protocols.Proto.TheVariants.{Local}
 use Rattle.vd_base.specs.HostSets.{host}
+use Rattle.vd_base.specs.Holders.{is_holder}
 use Rattle.vd_core.specs.declared.normal.Right.{Right}
 use Rattle.vd_core.specs.declared.normal.Right.TheVariants.{Lit, Turn, Copy, Apply, Input, Declassify, Endorse, Load, Get}
 use Rattle.vd_core.specs.declared.normal.Stmt.{Stmt}
@@ -13,7 +14,7 @@ use Rattle.vd_core.specs.declared.normal.Stmt.TheOpen.{Stmt-F}
 use Rattle.vd_core.specs.declared.normal.Stmt.TheFolds.{fold-Stmt}
 use Rattle.vd_execution.specs.Plans.{Plan, Ends, Branch, Loop}
 use Rattle.vd_joint.specs.Joint.{acts_then, and_then}
-use Rattle.vd_joint.specs.Suite.{is_at, picked, Made, Calls, hosts_of}
+use Rattle.vd_joint.specs.Suite.{picked, Made, Calls, hosts_of}
 
 -- the hosts that have a loop get a register for it
 abbrev pub loop_registers : (ℕ → Bool) → ℕ → List ℕ → List (ℕ × ℕ)
@@ -45,7 +46,7 @@ module _ {A P : Type 0} (s : Calls A P) (proto : ℕ → Proto) where
   parts_at e x = slice_index_or e.held x.0 s.nowhere
 
   abbrev pub at_slot : SlotId → ℕ → Bool
-  at_slot x h = is_at (proto x.0) (host h)
+  at_slot x h = is_holder (proto x.0) (host h)
 
   -- a word is moved to each of these hosts in clear
   abbrev pub delivered : Proto → P → List HostId → List ℕ → Made A (List (ℕ × ℕ))
@@ -95,8 +96,8 @@ module _ {A P : Type 0} (s : Calls A P) (proto : ℕ → Proto) where
   right_takes_part (Get v i) h = at_slot v h || at_slot i h
 
   abbrev pub right_acts_at : Proto → Right → ℕ → Bool
-  right_acts_at q (Lit n) h = is_at q (host h)
-  right_acts_at q Turn h = is_at q (host h)
+  right_acts_at q (Lit n) h = is_holder q (host h)
+  right_acts_at q Turn h = is_holder q (host h)
   right_acts_at q (Copy y) h = s.moves_at (proto y.0) q h
   right_acts_at q (Apply o ys) h = list_any (λ y. s.moves_at (proto y.0) q h) ys || s.applies_at o q h
   right_acts_at q (Input k) h = nat_eq k.0 h

@@ -7,11 +7,12 @@ use Rattle.vd_base.specs.declared.protocols.Proto.{Proto}
 use Rattle.vd_base.specs.declared.rows.Row.TheVariants.{Constant, Input, Variable, Apply}
 use Rattle.vd_base.specs.HostSets.{host}
 use Rattle.vd_base.specs.Arity.{arity}
+use Rattle.vd_base.specs.Holders.{is_holder}
 use Rattle.vd_execution.specs.Joint.{Apart}
 use Rattle.vd_execution.specs.Plans.{Plan, Ends, Then, Branch, Loop}
 use Rattle.vd_duet.specs.Laws.{NumberFits}
 use Rattle.vd_joint.specs.Joint.{Hosts, Each}
-use Rattle.vd_joint.specs.Suite.{is_at, Suite, Ready, Operand, Operands}
+use Rattle.vd_joint.specs.Suite.{Suite, Ready, Operand, Operands}
 
 -- a host takes part in a branch or a loop
 abbrev pub is_part : List (ℕ × ℕ) → ℕ → Bool
@@ -51,13 +52,13 @@ module _ (m : Hosts) where
   -- Where the calls of a suite have instructions. Each call is made as its law asks.
   pub record Places (s : Suite m) : Type 0 where
     -- moves and operations have none but at hosts of their protocols
-    pub moves_inside : (p q : Proto) (h : ℕ) → s.calls.moves_at p q h ≡ true → (is_at p (host h) || is_at q (host h)) ≡ true
-    pub applies_inside : (o : Op) (p : Proto) (h : ℕ) → s.calls.applies_at o p h ≡ true → is_at p (host h) ≡ true
-    pub input_inside : (k : HostId) (p : Proto) (h : ℕ) → s.holds (Input k) p ≡ true → nat_eq k.0 h ≡ true → is_at p (host h) ≡ true
+    pub moves_inside : (p q : Proto) (h : ℕ) → s.calls.moves_at p q h ≡ true → (is_holder p (host h) || is_holder q (host h)) ≡ true
+    pub applies_inside : (o : Op) (p : Proto) (h : ℕ) → s.calls.applies_at o p h ≡ true → is_holder p (host h) ≡ true
+    pub input_inside : (k : HostId) (p : Proto) (h : ℕ) → s.holds (Input k) p ≡ true → nat_eq k.0 h ≡ true → is_holder p (host h) ≡ true
     pub literal_at : (p : Proto) → s.Declared p → IsTrue (s.holds Constant p) → (v : ℕ) → v < 2 ^ 32 → (next : List ℕ) (w : m.World) → Ready m s next w
-        → Where s.calls.hosts (s.calls.literal p v next).acts (λ h. is_at p (host h))
+        → Where s.calls.hosts (s.calls.literal p v next).acts (λ h. is_holder p (host h))
     pub turn_at : (p : Proto) → s.Declared p → IsTrue (s.holds Constant p) → (loop next : List ℕ) (w : m.World) → Ready m s next w
-        → Where s.calls.hosts (s.calls.turn p loop next).acts (λ h. is_at p (host h))
+        → Where s.calls.hosts (s.calls.turn p loop next).acts (λ h. is_holder p (host h))
     pub move_at : (p q : Proto) → s.Declared p → s.Declared q → IsTrue (s.joins p q) → (x : s.Parts) (v : ℕ) (next : List ℕ) (w : m.World) → Ready m s next w
         → Operand m s next w p x v → Where s.calls.hosts (s.calls.move p q x next).acts (s.calls.moves_at p q)
     pub apply_at : (o : Op) (p : Proto) → s.Declared p → IsTrue (s.holds (Apply o) p) → NumberFits o → (xs : List s.Parts) (vs : List ℕ) → length xs ≡ arity o
@@ -65,11 +66,11 @@ module _ (m : Hosts) where
     pub input_at : (k : HostId) → k.0 < s.calls.hosts → (next : List ℕ) → Where s.calls.hosts (s.calls.input k next).acts (λ h. nat_eq k.0 h)
     pub output_at : (k : HostId) → k.0 < s.calls.hosts → (x : s.Parts) → Where s.calls.hosts (s.calls.output k x) (λ h. nat_eq k.0 h)
     pub keep_at : (p : Proto) → s.Declared p → IsTrue (s.holds Variable p) → (x : s.Parts) (v : ℕ) (next : List ℕ) (w : m.World) → Ready m s next w
-        → Operand m s next w p x v → Where s.calls.hosts (s.calls.keep p x next).acts (λ h. is_at p (host h))
+        → Operand m s next w p x v → Where s.calls.hosts (s.calls.keep p x next).acts (λ h. is_holder p (host h))
     pub renew_at : (p : Proto) → s.Declared p → IsTrue (s.holds Variable p) → (kept x : s.Parts) (u v : ℕ) (next : List ℕ) (w : m.World) → Ready m s next w
-        → Operand m s next w p kept u → Operand m s next w p x v → Where s.calls.hosts (s.calls.renew p kept x) (λ h. is_at p (host h))
-    pub cells_at : (p : Proto) → s.Declared p → IsTrue (s.holds Variable p) → (n : ℕ) (next : List ℕ) → Where s.calls.hosts (s.calls.cells p n next).acts (λ h. is_at p (host h))
+        → Operand m s next w p kept u → Operand m s next w p x v → Where s.calls.hosts (s.calls.renew p kept x) (λ h. is_holder p (host h))
+    pub cells_at : (p : Proto) → s.Declared p → IsTrue (s.holds Variable p) → (n : ℕ) (next : List ℕ) → Where s.calls.hosts (s.calls.cells p n next).acts (λ h. is_holder p (host h))
     pub get_at : (p : Proto) → s.Declared p → IsTrue (s.holds Variable p) → (x : s.Parts) (index : List (ℕ × ℕ)) (next : List ℕ)
-        → Where s.calls.hosts (s.calls.get p x index next).acts (λ h. is_at p (host h))
+        → Where s.calls.hosts (s.calls.get p x index next).acts (λ h. is_holder p (host h))
     pub put_at : (p : Proto) → s.Declared p → IsTrue (s.holds Variable p) → (kept : s.Parts) (index : List (ℕ × ℕ)) (x : s.Parts)
-        → Where s.calls.hosts (s.calls.put p kept index x) (λ h. is_at p (host h))
+        → Where s.calls.hosts (s.calls.put p kept index x) (λ h. is_holder p (host h))

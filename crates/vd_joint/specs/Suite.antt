@@ -1,25 +1,18 @@
 -- The calls of the protocols, and their laws.
-use Rattle.std.specs.Prelude.{◌≡◌, ℕ, zero, suc, ◌+◌, ◌^◌, ◌<◌, ◌≤◌, Bool, true, IsTrue, if◌then◌else◌, List, [], ◌∷◌, ◌++◌, length, map, replicate, slice_index, slice_set, ◌⊎◌}
+use Rattle.std.specs.Prelude.{◌≡◌, ℕ, zero, suc, ◌+◌, ◌^◌, ◌<◌, ◌≤◌, Bool, IsTrue, if◌then◌else◌, List, [], ◌∷◌, ◌++◌, length, map, replicate, slice_index, slice_set, ◌⊎◌}
 use Rattle.vd_base.specs.declared.ids.HostId.{HostId}
 use Rattle.vd_base.specs.declared.operations.Op.{Op}
 use Rattle.vd_base.specs.declared.protocols.Proto.{Proto}
-use Rattle.vd_base.specs.declared.protocols.Proto.TheVariants.{Local, Rep, Commit, Add, Xor}
+use Rattle.vd_base.specs.declared.protocols.Proto.TheVariants.{Local}
 use Rattle.vd_base.specs.declared.rows.Row.{Row}
 use Rattle.vd_base.specs.declared.rows.Row.TheVariants.{Constant, Input, Variable, Apply}
-use Rattle.vd_base.specs.HostSets.{host, same_host, has_host}
+use Rattle.vd_base.specs.HostSets.{host}
+use Rattle.vd_base.specs.Holders.{is_holder}
 use Rattle.vd_base.specs.Arity.{arity}
 use Rattle.vd_base.specs.Operations.{result_of}
 use Rattle.vd_meaning.specs.World.{first_word, later_words}
 use Rattle.vd_duet.specs.Laws.{NumberFits}
 use Rattle.vd_joint.specs.Joint.{Hosts, run_acts, AllFine, Each, IsIn}
-
--- a host holds a part at a protocol
-abbrev pub is_at : Proto → HostId → Bool
-is_at (Local k) h = same_host h k
-is_at (Rep set) h = has_host set h
-is_at (Commit p v) h = if same_host h p then true else same_host h v
-is_at (Add a b) h = if same_host h a then true else same_host h b
-is_at (Xor a b) h = if same_host h a then true else same_host h b
 
 -- those of the first n hosts that pass a test, in order
 abbrev pub picked : ℕ → ℕ → (ℕ → Bool) → List HostId
@@ -63,7 +56,7 @@ pub record Calls (A P : Type 0) : Type 0 where
 
 -- the hosts of a protocol, in order
 abbrev pub hosts_of : {A P : Type 0} → Calls A P → Proto → List HostId
-hosts_of s p = picked 0 s.hosts (λ h. is_at p (host h))
+hosts_of s p = picked 0 s.hosts (λ h. is_holder p (host h))
 
 -- The calls of all protocols, and what the parts that they make stand for.
 pub record Suite (m : Hosts) : Type 1 where
@@ -173,7 +166,7 @@ module _ (m : Hosts) (s : Suite m) where
     -- parts go on standing where the registers that they name are kept
     pub still : (w w' : m.World) (p : Proto) (x : s.Parts) (c : Content) → s.Stands w p x c → ((h r : ℕ) → s.Names x h r → m.word w' h r ≡ m.word w h r) → s.Stands w' p x c
     -- a protocol is somewhere
-    pub somewhere : (p : Proto) → s.Declared p → (h : ℕ) × (h < s.calls.hosts) × IsTrue (is_at p (host h))
+    pub somewhere : (p : Proto) → s.Declared p → (h : ℕ) × (h < s.calls.hosts) × IsTrue (is_holder p (host h))
     pub local_is_declared : (h : HostId) → h.0 < s.calls.hosts → s.Declared (Local h)
     -- where a word in clear stands
     pub in_clear : (w : m.World) (h : HostId) (x : s.Parts) (v : ℕ) → s.Stands w (Local h) x (Word v) → (m.word w h.0 (s.calls.register x h.0) ≡ v) × s.Names x h.0 (s.calls.register x h.0)
@@ -182,7 +175,7 @@ module _ (m : Hosts) (s : Suite m) where
     pub literal_law : (p : Proto) → s.Declared p → IsTrue (s.holds Constant p) → (v : ℕ) → v < 2 ^ 32 → (next : List ℕ) (w : m.World) → Ready next w
         → Gives next nothing (s.calls.literal p v next) w p (Word v)
     pub turn_law : (p : Proto) → s.Declared p → IsTrue (s.holds Constant p) → (t : ℕ) → t < 2 ^ 32 → (loop next : List ℕ) (w : m.World) → Ready next w
-        → ((h : ℕ) → h < s.calls.hosts → IsTrue (is_at p (host h)) → (m.word w h (slice_index loop h) ≡ t) × (slice_index loop h < slice_index next h))
+        → ((h : ℕ) → h < s.calls.hosts → IsTrue (is_holder p (host h)) → (m.word w h (slice_index loop h) ≡ t) × (slice_index loop h < slice_index next h))
         → Gives next nothing (s.calls.turn p loop next) w p (Word t)
     pub move_law : (p q : Proto) → s.Declared p → s.Declared q → IsTrue (s.joins p q) → (x : s.Parts) (v : ℕ) (next : List ℕ) (w : m.World) → Ready next w
         → Operand next w p x v → Gives next (s.Names x) (s.calls.move p q x next) w q (Word v)

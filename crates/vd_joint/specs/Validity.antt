@@ -6,12 +6,13 @@ use Rattle.vd_base.specs.declared.protocols.Proto.TheVariants.{Local}
 use Rattle.vd_base.specs.declared.rows.Row.TheVariants.{Constant, Input as InputRow, Variable, Apply as ApplyRow}
 use Rattle.vd_base.specs.HostSets.{host}
 use Rattle.vd_base.specs.Arity.{arity}
+use Rattle.vd_base.specs.Holders.{is_holder}
 use Rattle.vd_core.specs.declared.normal.Right.{Right}
 use Rattle.vd_core.specs.declared.normal.Right.TheVariants.{Lit, Turn, Copy, Apply, Input, Declassify, Endorse, Load, Get}
 use Rattle.vd_duet.specs.Laws.{NumberFits}
 use Rattle.vd_joint.specs.Block.{Block, End, Let, NewVar, NewArray, Store, Put, Output, If, For, each}
 use Rattle.vd_joint.specs.Joint.{Hosts, Each}
-use Rattle.vd_joint.specs.Suite.{is_at, Suite}
+use Rattle.vd_joint.specs.Suite.{Suite}
 use Rattle.vd_joint.specs.Emission.{Emission, in_turn, stmt_emission}
 
 -- Numbers are words, operations have as many operands as they take, and hosts are declared.
@@ -45,7 +46,7 @@ module _ (m : Hosts) (s : Suite m) (proto : ℕ → Proto) where
   -- a host needs the loop's register
   abbrev pub turns_at : Block → ℕ → Bool
   turns_at End h = false
-  turns_at (Let x Turn rest) h = is_at (proto x.0) (host h) || turns_at rest h
+  turns_at (Let x Turn rest) h = is_holder (proto x.0) (host h) || turns_at rest h
   turns_at (Let x right rest) h = turns_at rest h
   turns_at (NewVar v x rest) h = turns_at rest h
   turns_at (NewArray v cells rest) h = turns_at rest h
@@ -72,7 +73,7 @@ module _ (m : Hosts) (s : Suite m) (proto : ℕ → Proto) where
   RightPlaced q (Declassify y to) = Joins y q
   RightPlaced q (Endorse y to) = Joins y q
   RightPlaced q (Load v) = IsTrue (s.holds Variable (proto v.0)) × Joins v q
-  RightPlaced q (Get v i) = IsTrue (s.holds Variable (proto v.0)) × Joins v q × Reaches i (λ h. is_at (proto v.0) (host h))
+  RightPlaced q (Get v i) = IsTrue (s.holds Variable (proto v.0)) × Joins v q × Reaches i (λ h. is_holder (proto v.0) (host h))
 
   abbrev pub Placed : Block → Type 0
   Placed End = Unit {0}
@@ -80,7 +81,7 @@ module _ (m : Hosts) (s : Suite m) (proto : ℕ → Proto) where
   Placed (NewVar v x rest) = IsTrue (s.holds Variable (proto v.0)) × Joins x (proto v.0) × Placed rest
   Placed (NewArray v cells rest) = IsTrue (s.holds Variable (proto v.0)) × Placed rest
   Placed (Store v x rest) = IsTrue (s.holds Variable (proto v.0)) × Joins x (proto v.0) × Placed rest
-  Placed (Put v i x rest) = IsTrue (s.holds Variable (proto v.0)) × Joins x (proto v.0) × Reaches i (λ h. is_at (proto v.0) (host h)) × Placed rest
+  Placed (Put v i x rest) = IsTrue (s.holds Variable (proto v.0)) × Joins x (proto v.0) × Reaches i (λ h. is_holder (proto v.0) (host h)) × Placed rest
   Placed (Output x h offset rest) = Joins x (Local h) × Placed rest
   Placed (If x t e offset rest) = Reaches x (λ h. (emission_of t).takes_part h || (emission_of e).takes_part h) × Placed t × Placed e × Placed rest
   Placed (For count body rest) = Placed body × Placed rest

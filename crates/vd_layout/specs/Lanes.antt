@@ -6,20 +6,12 @@ use Rattle.vd_base.specs.declared.ids.HostId.{HostId}
 use Rattle.vd_base.specs.declared.protocols.Proto.{Proto}
 use Rattle.vd_base.specs.declared.protocols.Proto.TheVariants.{Local, Rep, Commit, Add, Xor}
 use Rattle.vd_base.specs.HostSets.{host, same_host}
-use Rattle.vd_base.specs.Moves.{same_hosts}
+use Rattle.vd_base.specs.Holders.{same_protocol}
 use Rattle.vd_base.specs.Protocols.{protocols_of}
 use Rattle.vd_drawing.specs.declared.row.Move.{Move}
 use Rattle.vd_drawing.specs.declared.row.Row.{Row}
 use Rattle.vd_layout.specs.declared.lanes.Lane.{Lane}
 use Rattle.vd_layout.specs.Numbers.{plus}
-
-abbrev pub same_protocol : Proto → Proto → Bool
-same_protocol (Local h) (Local k) = same_host h k
-same_protocol (Rep set) (Rep other) = set.bits == other.bits
-same_protocol (Commit p v) (Commit q w) = same_hosts p v q w
-same_protocol (Add a b) (Add c d) = same_hosts a b c d
-same_protocol (Xor a b) (Xor c d) = same_hosts a b c d
-same_protocol p q = false
 
 -- ---- which lanes there are
 

@@ -2,13 +2,13 @@
 use Rattle.std.specs.Prelude.{ℕ, zero, suc, nat_eq, Bool, true, false, ◌&&◌, ◌==◌, if◌then◌else◌, Option, Some, List, [], ◌∷◌, ◌++◌, codes}
 use Rattle.std.specs.List.{count_by}
 use Rattle.vd_base.specs.declared.protocols.Proto.{Proto}
+use Rattle.vd_base.specs.Holders.{same_protocol}
 use Rattle.vd_drawing.specs.declared.row.Kind.{Kind}
 use Rattle.vd_drawing.specs.declared.row.Kind.TheVariants as kind
 use Rattle.vd_drawing.specs.declared.row.Move.{Move}
 use Rattle.vd_drawing.specs.declared.row.Row.{Row}
 use Rattle.vd_drawing.specs.Moves.{is_seen}
 use Rattle.vd_layout.specs.declared.runs.Drawn.{Drawn}
-use Rattle.vd_layout.specs.Lanes.{same_protocol}
 use Rattle.vd_layout.specs.Numbers.{plus, cost_of}
 use Rattle.vd_layout.specs.Words.{number_text}
 

@@ -8,7 +8,7 @@ ghost use Rattle.vd_base.specs.Limits.{most_hosts};
 ghost use Rattle.vd_layout.specs.Lanes as lanes_spec;
 
 use std::alloc::{AllocError, Global};
-use vd_base::{HostId, HostSet, Proto};
+use vd_base::{HostId, HostSet, Proto, is_same};
 use vd_drawing::{Move, Row};
 use vd_items::Items;
 use vd_protocol::protocols;
@@ -18,20 +18,6 @@ use vd_protocol::protocols;
 pub struct Lane {
     pub at: Proto,
     pub x: u64,
-}
-
-/// Whether two protocols are the same.
-pub fn is_same(first: Proto, second: Proto) -> bool
-    ensures { result ≡ lanes_spec.same_protocol first second }
-{
-    match (first, second) {
-        (Proto::Local(host), Proto::Local(other)) => host == other,
-        (Proto::Rep(set), Proto::Rep(other)) => set.bits == other.bits,
-        (Proto::Commit(a, b), Proto::Commit(c, d)) => a == c && b == d,
-        (Proto::Add(a, b), Proto::Add(c, d)) => a == c && b == d,
-        (Proto::Xor(a, b), Proto::Xor(c, d)) => a == c && b == d,
-        _ => false,
-    }
 }
 
 /// Whether a word is moved from or to a protocol.

@@ -11,7 +11,7 @@ mod titles;
 mod words;
 
 pub use dearest::dear_place;
-pub use lanes::{Lane, is_same, lane_x, push_x, set_x};
+pub use lanes::{Lane, lane_x, push_x, set_x};
 pub use layout::{Layout, indent, label_texts, layout_of, name_length};
 pub use numbers::cost_of;
 pub use runs::{Drawn, arrows_of, drawn_text, goes_on};

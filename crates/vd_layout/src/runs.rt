@@ -3,11 +3,10 @@
 ghost use Rattle.std.specs.Prelude.{◌≡◌, IfOk};
 ghost use Rattle.vd_layout.specs.Runs as runs;
 
-use crate::lanes::is_same;
 use crate::numbers::cost_of;
 use crate::words::push_number;
 use std::alloc::{AllocError, Global};
-use vd_base::{Bytes, Proto};
+use vd_base::{Bytes, Proto, is_same};
 use vd_drawing::{Kind, Row, is_seen};
 use vd_items::Items;
 

@@ -9,11 +9,12 @@ use Rattle.vd_base.specs.declared.protocols.Proto.{Proto}
 use Rattle.vd_base.specs.declared.protocols.Proto.TheVariants.{Local}
 use Rattle.vd_base.specs.HostSets.{host}
 use Rattle.vd_base.specs.Moves.{move_at}
+use Rattle.vd_base.specs.Holders.{is_holder}
 use Rattle.vd_space.specs.declared.problem.Problem.{Problem}
 use Rattle.vd_space.specs.declared.problem.Use.{Use}
 use Rattle.vd_space.specs.declared.problem.Index.{Index}
 use Rattle.vd_space.specs.Spaces.{IsUse, IsIndex}
-use Rattle.vd_space.specs.Validity.{protocols, holder, move}
+use Rattle.vd_space.specs.Validity.{protocols, move}
 use Rattle.vd_space.specs.Costs.{weigh, use_term, index_term, moves_to, hosts_at}
 use Rattle.vd_path.specs.Transfers.{by_place}
 use Rattle.vd_links.specs.Prices.{moves_of, tells_of}
@@ -76,5 +77,5 @@ module _ (problem : Problem) where
 
     pub member_cells_are : (slot : SlotId) → slot.0 < length problem.slots → member_cells (protocols problem) w.host ≡ cells_of problem (member_link problem point w.host slot)
     member_cells_are slot low =
-        mapped_by_place (λ p. (if holder p w.host then None else Some (pos 0)) ∷ Some (pos 0) ∷ []) (protocols problem) d
+        mapped_by_place (λ p. (if is_holder p w.host then None else Some (pos 0)) ∷ Some (pos 0) ∷ []) (protocols problem) d
         ∙ ap₂ (λ n m. by_place n (λ p. by_place m ((member_link problem point w.host slot).value p))) (sym (settings_at_slot slot.0 low)) (sym (settings_at_switch k w at))

@@ -6,11 +6,11 @@ use Rattle.vd_base.specs.declared.ids.SlotId.{SlotId}
 use Rattle.vd_base.specs.declared.protocols.Proto.{Proto}
 use Rattle.vd_base.specs.declared.protocols.Proto.TheVariants.{Local}
 use Rattle.vd_base.specs.Moves.{move_at}
+use Rattle.vd_base.specs.Holders.{is_holder}
 use Rattle.vd_space.specs.declared.problem.Problem.{Problem}
 use Rattle.vd_space.specs.declared.problem.Use.{Use}
 use Rattle.vd_space.specs.declared.problem.Index.{Index}
 use Rattle.vd_space.specs.declared.problem.Guard.{Guard}
-use Rattle.vd_space.specs.Validity.{holder}
 use Rattle.vd_space.specs.Costs.{weigh}
 use Rattle.vd_linked.specs.Links.{parts}
 use Rattle.vd_linked_path.specs.declared.made.SwitchTable.{SwitchTable}
@@ -31,7 +31,7 @@ abbrev pub guard_cells : List Proto → ℕ → HostId → List (List (Option �
 guard_cells list weight h = map (λ p. Some (pos 0) ∷ parts (weigh weight (move_at p (Local h))) ∷ []) list
 
 abbrev pub member_cells : List Proto → HostId → List (List (Option ℤ))
-member_cells list h = map (λ p. (if holder p h then None else Some (pos 0)) ∷ Some (pos 0) ∷ []) list
+member_cells list h = map (λ p. (if is_holder p h then None else Some (pos 0)) ∷ Some (pos 0) ∷ []) list
 
 abbrev pub guard_raw : List Proto → ℕ → HostId → Guard → RawLink
 guard_raw list point h guard = record { first = guard.slot.0; second = point; cells = guard_cells list guard.weight h }

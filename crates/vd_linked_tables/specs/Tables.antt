@@ -5,10 +5,11 @@ use Rattle.vd_base.specs.declared.ids.HostId.{HostId}
 use Rattle.vd_base.specs.declared.protocols.Proto.{Proto}
 use Rattle.vd_base.specs.declared.protocols.Proto.TheVariants.{Local}
 use Rattle.vd_base.specs.HostSets.{host}
+use Rattle.vd_base.specs.Holders.{is_holder}
 use Rattle.vd_prefixes.specs.declared.shift.Shift.{Shift}
 use Rattle.vd_space.specs.declared.problem.Problem.{Problem}
 use Rattle.vd_space.specs.declared.problem.Guard.{Guard}
-use Rattle.vd_space.specs.Validity.{protocols, all_hosts, holder, is_candidate}
+use Rattle.vd_space.specs.Validity.{protocols, all_hosts, is_candidate}
 use Rattle.vd_space.specs.Costs.{One, Pair}
 use Rattle.vd_space.specs.Bounds.{only_if}
 use Rattle.vd_path.specs.Tables.{gain_at}
@@ -26,7 +27,7 @@ use Rattle.vd_linked_tables.specs.declared.raw.RawLink.{RawLink}
 
 -- the place of a list passes, and is kept at the host
 abbrev pub is_kept : List Proto → List Bool → HostId → ℕ → Bool
-is_kept list tests h p = slice_index_or tests p false && holder (slice_index_or list p (Local (host 0))) h
+is_kept list tests h p = slice_index_or tests p false && is_holder (slice_index_or list p (Local (host 0))) h
 
 -- by the number of its guard
 abbrev pub switch_table : Problem → ℕ → Guard → HostId → SwitchTable

@@ -18,12 +18,12 @@ ghost use Rattle.vd_space.specs.declared.problem.Index.{Index as Indexes};
 
 use crate::raw::RawLink;
 use std::alloc::{AllocError, Global};
-use vd_base::{HostId, Proto, SlotId};
+use vd_base::{HostId, Proto, SlotId, is_holder};
 use vd_cost::move_cost;
 use vd_items::Items;
 use vd_linked_path::SwitchTable;
 use vd_protocol::joins;
-use vd_space::{Guard, Index, Problem, Use, is_holder};
+use vd_space::{Guard, Index, Problem, Use};
 
 /// A unit of cost, in parts.
 const UNIT: i64 = 256;

@@ -19,13 +19,13 @@ use crate::cells::{point_table, value_at};
 use crate::raw::RawLink;
 use crate::sums::{Rows, shift_sums};
 use std::alloc::{AllocError, Global};
-use vd_base::{HostId, Proto, SlotId};
+use vd_base::{HostId, Proto, SlotId, is_holder};
 use vd_formula::Formula;
 use vd_items::Items;
 use vd_linked_path::{PointTable, SwitchTable};
 use vd_path::amount_at;
 use vd_prefixes::Shift;
-use vd_space::{Guard, Index, Problem, is_holder, protocol_at};
+use vd_space::{Guard, Index, Problem, protocol_at};
 use vd_tables::merged_values;
 
 /// A unit of cost, in parts.

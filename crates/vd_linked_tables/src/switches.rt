@@ -9,10 +9,10 @@ ghost use Rattle.vd_space.specs.Labelled.{IsLabelled};
 ghost use Rattle.vd_space.specs.Validity.{protocols};
 
 use std::alloc::{AllocError, Global};
-use vd_base::{HostId, Proto, SlotId};
+use vd_base::{HostId, Proto, SlotId, is_holder};
 use vd_items::Items;
 use vd_linked_path::SwitchTable;
-use vd_space::{Guard, Problem, is_holder, protocol_at};
+use vd_space::{Guard, Problem, protocol_at};
 
 /// Whether the place passes, and is kept at the host.
 fn is_kept(list: &[Proto], tests: &[bool], host: HostId, place: usize) -> bool

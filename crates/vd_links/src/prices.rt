@@ -10,11 +10,11 @@ ghost use Rattle.vd_space.specs.Validity.{holds_at, move_to_host, protocols};
 ghost use Rattle.vd_space.specs.declared.problem.Problem.{Problem as Problems};
 
 use std::alloc::{AllocError, Global};
-use vd_base::{HostId, Proto};
+use vd_base::{HostId, Proto, is_holder};
 use vd_cost::move_cost;
 use vd_items::Items;
 use vd_protocol::joins;
-use vd_space::{Problem, is_holder, protocol_at};
+use vd_space::{Problem, protocol_at};
 
 /// What it costs to move a value from each protocol of the list to each, where that can be done.
 pub fn move_prices(alloc: Global, list: &[Proto]) -> Result<Items<Items<Option<u32>>>, AllocError>

@@ -4,9 +4,10 @@ use Rattle.std.proofs.lemmas.Bool.{and_from}
 use Rattle.std.proofs.lemmas.Bool.Decides.{nat_tests}
 use Rattle.vd_base.specs.declared.ids.HostId.{HostId}
 use Rattle.vd_base.specs.declared.protocols.Proto.TheVariants.{Commit}
+use Rattle.vd_base.specs.Holders.{holders}
 use Rattle.vd_execution.specs.declared.instructions.Reg.{Reg}
 use Rattle.vd_duet.specs.Builder.{HasRoom, taken}
-use Rattle.vd_duet.specs.Calls.{Places, holders}
+use Rattle.vd_duet.specs.Calls.{Places}
 use Rattle.vd_duet.specs.Laws.{AreKnown}
 use Rattle.vd_duet.proofs.Leads.{taken_bounds}
 use Rattle.vd_suite.specs.Commits.{held_of, seen_of}

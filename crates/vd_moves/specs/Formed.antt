@@ -3,7 +3,8 @@ use Rattle.std.specs.Prelude.{◌≡◌, nat_lt, Bool, ◌&&◌, if◌then◌els
 use Rattle.vd_base.specs.declared.ids.HostId.{HostId}
 use Rattle.vd_base.specs.declared.protocols.Proto.{Proto}
 use Rattle.vd_base.specs.declared.protocols.Proto.TheVariants.{Local, Rep, Commit, Add, Xor}
-use Rattle.vd_duet.specs.Calls.{Places, holders, hosts_of}
+use Rattle.vd_base.specs.Holders.{holders}
+use Rattle.vd_duet.specs.Calls.{Places, hosts_of}
 use Rattle.vd_suite.specs.Commits.{held_of, seen_of}
 
 -- the eight registers from the nonce on, and those from the digest on, have numbers

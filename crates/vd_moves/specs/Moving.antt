@@ -3,8 +3,9 @@ use Rattle.vd_base.specs.declared.ids.HostId.{HostId}
 use Rattle.vd_base.specs.declared.protocols.HostSet.{HostSet}
 use Rattle.vd_base.specs.declared.protocols.Proto.{Proto}
 use Rattle.vd_base.specs.declared.protocols.Proto.TheVariants.{Rep}
+use Rattle.vd_base.specs.Holders.{holders}
 use Rattle.vd_duet.specs.Builder.{Builder}
-use Rattle.vd_duet.specs.Calls.{Calls, Makes, Places, holders}
+use Rattle.vd_duet.specs.Calls.{Calls, Makes, Places}
 use Rattle.vd_duet.specs.Laws.{at_host}
 use Rattle.vd_suite.specs.Moves.{moved, shown_each}
 use Rattle.vd_suite.specs.Parts.{back_end, route}

@@ -2,8 +2,9 @@
 
 ghost use Rattle.std.specs.Prelude.{◌≡◌, ◌<◌, IsTrue, IfOk, OnOk, length};
 ghost use Rattle.vd_base.specs.Arity.{arity};
+ghost use Rattle.vd_base.specs.Holders.{holders};
 ghost use Rattle.vd_duet.specs.Builder.{HasRoom, TakesFew};
-ghost use Rattle.vd_duet.specs.Calls.{Makes, all_placed, appended, holders, in_clear};
+ghost use Rattle.vd_duet.specs.Calls.{Makes, all_placed, appended, in_clear};
 ghost use Rattle.vd_duet.specs.Laws.{AreKnown};
 ghost use Rattle.vd_suite.specs.Parts.{back_end};
 ghost use Rattle.vd_moves.specs.Formed.{AreFormed};

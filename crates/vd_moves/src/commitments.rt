@@ -2,8 +2,9 @@
 
 ghost use Rattle.std.specs.Prelude.{◌≡◌, ◌<◌, ◌∷◌, [], IsTrue, IfOk, OnOk};
 ghost use Rattle.vd_base.specs.declared.protocols.Proto.TheVariants as proto;
+ghost use Rattle.vd_base.specs.Holders.{holders};
 ghost use Rattle.vd_duet.specs.Builder.{HasRoom, TakesFew};
-ghost use Rattle.vd_duet.specs.Calls.{Makes, holders, hosts_of, in_clear};
+ghost use Rattle.vd_duet.specs.Calls.{Makes, hosts_of, in_clear};
 ghost use Rattle.vd_duet.specs.Laws.{AreKnown};
 ghost use Rattle.vd_suite.specs.Commits.{bound as bound_at, commit_calls, committed_at as places_of, held_of, place as place_of};
 ghost use Rattle.vd_suite.specs.Commits.{seen_of, shown_to_all};

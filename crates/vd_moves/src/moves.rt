@@ -2,8 +2,9 @@
 
 ghost use Rattle.std.specs.Prelude.{◌≡◌, ◌<◌, ◌∷◌, [], IsTrue, IfOk, OnOk, length};
 ghost use Rattle.vd_base.specs.declared.protocols.Proto.TheVariants as proto;
+ghost use Rattle.vd_base.specs.Holders.{holders};
 ghost use Rattle.vd_duet.specs.Builder.{HasRoom, TakesFew};
-ghost use Rattle.vd_duet.specs.Calls.{Makes, holders, hosts_of, in_clear};
+ghost use Rattle.vd_duet.specs.Calls.{Makes, hosts_of, in_clear};
 ghost use Rattle.vd_duet.specs.Laws.{AreKnown};
 ghost use Rattle.vd_clear.specs.Copies.{clear_calls};
 ghost use Rattle.vd_pairs.specs.PairCalls.{places_at, shares_of};

@@ -6,7 +6,8 @@ use Rattle.vd_execution.specs.declared.instructions.Reg.{Reg}
 use Rattle.vd_base.specs.declared.protocols.HostSet.{HostSet}
 use Rattle.vd_base.specs.declared.protocols.Proto.{Proto}
 use Rattle.vd_base.specs.declared.protocols.Proto.TheVariants.{Rep}
-use Rattle.vd_duet.specs.Calls.{Places, holders}
+use Rattle.vd_base.specs.Holders.{holders}
+use Rattle.vd_duet.specs.Calls.{Places}
 use Rattle.vd_clear.specs.Copies.{spread_to}
 use Rattle.vd_pairs.specs.PairCalls.{shares_of, places_at}
 use Rattle.vd_words.specs.AddCalls.{add_calls}

@@ -6,12 +6,13 @@ use Rattle.vd_base.specs.declared.operations.Op.{Op}
 use Rattle.vd_base.specs.declared.operations.Op.TheVariants as op
 use Rattle.vd_base.specs.declared.protocols.Proto.{Proto}
 use Rattle.vd_base.specs.declared.protocols.Proto.TheVariants.{Local, Rep, Commit, Add, Xor}
+use Rattle.vd_base.specs.Holders.{holders}
 use Rattle.vd_execution.specs.declared.instructions.Reg.{Reg}
 use Rattle.vd_execution.specs.declared.instructions.Action.TheVariants as action
 use Rattle.vd_execution.specs.Joint.{Part}
 use Rattle.vd_execution.specs.Gadgets.{Sharing, BySums, ByXors, Gadget, Alone}
 use Rattle.vd_duet.specs.Builder.{next_at}
-use Rattle.vd_duet.specs.Calls.{Places, holders, Made, register_of}
+use Rattle.vd_duet.specs.Calls.{Places, Made, register_of}
 use Rattle.vd_clear.specs.Copies.{written_by, literal_at, kept_by, operated, applied_at, first_of, after_first, each_made, renewed}
 use Rattle.vd_algebra.specs.Gates.{Gate, And, Xor as XorGate, Shl, Shr, Not, Flip, Lowest, Mask, gates_of}
 use Rattle.vd_pairs.specs.declared.shares.Shares.{Shares}

@@ -5,8 +5,9 @@ use Rattle.vd_base.specs.declared.operations.Op.{Op}
 use Rattle.vd_execution.specs.declared.instructions.Binary.{Binary}
 use Rattle.vd_execution.specs.declared.instructions.Reg.{Reg}
 use Rattle.vd_execution.specs.Gadgets.{Sharing, BySums, ByXors}
+use Rattle.vd_base.specs.Holders.{holders}
 use Rattle.vd_duet.specs.Calls.{Places, Made}
-use Rattle.vd_duet.specs.Acting.{is_either, acts_at, is_holder, share_at, adopt_at, show_at, show_all_at, apply_at, ActsWhereItSays}
+use Rattle.vd_duet.specs.Acting.{is_either, acts_at, is_among, share_at, adopt_at, show_at, show_all_at, apply_at, ActsWhereItSays}
 use Rattle.vd_pairs.specs.declared.shares.Shares.{Shares}
 use Rattle.vd_pairs.specs.Sharings.{shared_by}
 use Rattle.vd_pairs.specs.PairCalls.{split_off, exchanged, shared_from, opened_by, shown_at, applied_shares, numbered_shares, product_shares, shares_of, pair_calls}
@@ -62,7 +63,7 @@ module _ (a b : HostId) (h : ℕ) where
       at true = opened_first (nat_eq h a.0) (nat_eq h b.0)
       at false = opened_second (nat_eq h a.0) (nat_eq h b.0)
 
-  holders_are : (s : Sharing) → (nat_eq h a.0 || (nat_eq h b.0 || false)) ≡ is_holder (shared_by s a b) h
+  holders_are : (s : Sharing) → (nat_eq h a.0 || (nat_eq h b.0 || false)) ≡ is_among (holders (shared_by s a b)) h
   holders_are BySums = refl
   holders_are ByXors = refl
 

@@ -7,6 +7,7 @@ use Rattle.vd_base.specs.declared.protocols.Proto.TheVariants.{Local}
 use Rattle.vd_base.specs.Arity.{arity}
 use Rattle.vd_base.specs.Moves.{move_if}
 use Rattle.vd_base.specs.Operations.{result_of}
+use Rattle.vd_base.specs.Holders.{holders}
 use Rattle.vd_execution.specs.declared.instructions.Reg.{Reg}
 use Rattle.vd_execution.specs.declared.instructions.Action.TheVariants as action
 use Rattle.vd_execution.specs.Registers.{put}
@@ -16,7 +17,7 @@ use Rattle.vd_execution.specs.World.{Tape}
 use Rattle.vd_execution.specs.Gadgets.{Sharing, BySums, ByXors, hide, Alone, Shares as SharesWith, Opens}
 use Rattle.vd_execution.specs.Text.{register}
 use Rattle.vd_duet.specs.Builder.{next_at, most_taken}
-use Rattle.vd_duet.specs.Calls.{Places, hosts_of, holders, Made, register_of}
+use Rattle.vd_duet.specs.Calls.{Places, hosts_of, Made, register_of}
 use Rattle.vd_duet.specs.Laws.{IsIn, IsInOne, nowhere, Joins, Leads, Gives, GivesThere, GivesWord, Copies, StandFor, Operand, Operands, IsReady, Reaches, Renews, NumberFits, BackendLaws}
 use Rattle.vd_duet.proofs.Writes.{Writes, wrote, writes_own}
 use Rattle.vd_duet.proofs.Leads.{leads_writing, leads_on}

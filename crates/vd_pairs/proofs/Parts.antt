@@ -3,10 +3,11 @@ use Rattle.std.proofs.Common.{◌≡◌, ℕ, ◌<◌, List, [], ◌∷◌, inl,
 use Rattle.std.specs.Prelude.{Bool, slice_index}
 use Rattle.vd_base.specs.declared.ids.HostId.{HostId}
 use Rattle.vd_base.specs.declared.operations.Op.{Op}
+use Rattle.vd_base.specs.Holders.{holders}
 use Rattle.vd_execution.specs.declared.instructions.Reg.{Reg}
 use Rattle.vd_execution.specs.Joint.{Hosts}
 use Rattle.vd_execution.specs.Gadgets.{Sharing, BySums, ByXors}
-use Rattle.vd_duet.specs.Calls.{Places, hosts_of, holders, Made, Join}
+use Rattle.vd_duet.specs.Calls.{Places, hosts_of, Made, Join}
 use Rattle.vd_duet.specs.Laws.{IsIn, IsHost, words_at, AreKnown, AreBelow, StandFor, Operand, Operands}
 use Rattle.vd_pairs.specs.declared.shares.Shares.{Shares}
 use Rattle.vd_pairs.specs.Sharings.{shared_by, joined}

@@ -12,9 +12,9 @@ ghost use Rattle.vd_space.specs.Validity.{protocols};
 
 use crate::steps::decided;
 use crate::transfers::amount_at;
-use vd_base::{HostId, Proto};
+use vd_base::{HostId, Proto, is_holder};
 use vd_items::Items;
-use vd_space::{Guard, Problem, is_holder, is_part, protocol_at};
+use vd_space::{Guard, Problem, is_part, protocol_at};
 
 /// What it costs to tell a guard: to each host, at least, where its slot is not decided; and to each host from each place.
 #[derive(PartialEq, Eq, Debug, Drop)]

@@ -2,6 +2,7 @@
 use Rattle.std.proofs.Common.{◌≡◌, ℕ, ◌*◌, ◌%◌, ◌^◌, List, [], ◌∷◌, ◌++◌, refl, sym, ap, ap₂, subst, ◌∙◌, lit<}
 use Rattle.vd_base.specs.declared.operations.Op.TheVariants as op
 use Rattle.vd_base.specs.Operations.{result_of}
+use Rattle.vd_base.specs.Holders.{holders}
 use Rattle.vd_execution.specs.declared.instructions.Act.{Act}
 use Rattle.vd_execution.specs.Registers.{put}
 use Rattle.vd_execution.specs.Text.{register}
@@ -11,7 +12,7 @@ use Rattle.vd_execution.specs.Joint.{Hosts, fresh}
 use Rattle.vd_execution.specs.Acts.{run_acts, ActsAgree}
 use Rattle.vd_execution.specs.Gadgets.{Gadget, acts_of_gadgets, GadgetsAreTidy, IsSound}
 use Rattle.vd_execution.proofs.Gadgets.{gadgets_sound}
-use Rattle.vd_duet.specs.Calls.{Places, hosts_of, holders, Calls, Stand}
+use Rattle.vd_duet.specs.Calls.{Places, hosts_of, Calls, Stand}
 use Rattle.vd_duet.specs.Builder.{most_taken}
 use Rattle.vd_duet.specs.Laws.{IsIn, IsInOne, nowhere, AreBelow, words_at, Leads, Gives, StandFor, Copies, Operand, GivesWord, BackendLaws}
 use Rattle.vd_duet.proofs.Leads.{gadgets_append, agree_append, tidy_append, below_later, leads_on, Since, since_start, since_on}

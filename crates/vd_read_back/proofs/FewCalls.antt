@@ -5,13 +5,14 @@ use Rattle.vd_base.specs.declared.ids.HostId.{HostId}
 use Rattle.vd_base.specs.declared.operations.Op.{Op}
 use Rattle.vd_base.specs.declared.protocols.Proto.{Proto}
 use Rattle.vd_base.specs.declared.protocols.Proto.TheVariants.{Local, Rep, Commit, Add, Xor}
+use Rattle.vd_base.specs.Holders.{holders}
 use Rattle.vd_core.specs.Facts.{amount_fits}
 use Rattle.vd_execution.specs.declared.instructions.Reg.{Reg}
 use Rattle.vd_execution.specs.declared.instructions.Action.TheVariants as action
 use Rattle.vd_execution.specs.Gadgets.{Gadget, Alone}
 use Rattle.vd_execution.specs.Joint.{Part}
 use Rattle.vd_duet.specs.Builder.{next_at}
-use Rattle.vd_duet.specs.Calls.{Places, holders, Made, Calls, register_of}
+use Rattle.vd_duet.specs.Calls.{Places, Made, Calls, register_of}
 use Rattle.vd_clear.specs.Copies.{written_by, shown}
 use Rattle.vd_joint.specs.Suite.{Made as AnyMade}
 use Rattle.vd_commit.specs.Commit.{revealed}

@@ -10,6 +10,7 @@ use Rattle.vd_base.specs.declared.protocols.Proto.{Proto}
 use Rattle.vd_base.specs.HostSets.{host}
 use Rattle.vd_base.specs.Lexical.{is_name}
 use Rattle.vd_base.specs.Names.{is_among}
+use Rattle.vd_base.specs.Holders.{proto_in}
 use Rattle.vd_core.specs.declared.normal.NormalForm.{NormalForm}
 use Rattle.vd_core.specs.Facts.{AreNames, of_rights, operands_fit, shift_fits, count_step, statement_count, cells_step, cell_count, weigh_step, weigh_all, weight_sum}
 use Rattle.vd_execution.specs.declared.instructions.Instr.{Instr}
@@ -22,7 +23,6 @@ use Rattle.vd_schedules.proofs.Taking.{within}
 use Rattle.vd_joint.specs.Block.{block_of}
 use Rattle.vd_joint.specs.Emission.{Emission, block_emission, emitting_at_start, in_turn, stmt_emission}
 use Rattle.vd_joint.proofs.Folds.{fold_each}
-use Rattle.vd_split.specs.Offer.{proto_in}
 use Rattle.vd_suite.specs.Given.{zero_deal}
 use Rattle.vd_suite.specs.Parts.{suite_calls}
 use Rattle.vd_suite.specs.Whole.{plan_at, inputs_of}
@@ -34,7 +34,8 @@ use Rattle.vd_host_text.specs.File.{AreNew}
 use Rattle.vd_hostcode.proofs.Outcomes.{all_within, written_is_read}
 use Rattle.vd_host_programs.specs.Programs.{joint_of, host_codes}
 use Rattle.vd_host_programs.proofs.HostCodes.{proto_over, runnable_over, no_words, codes_can_be_loaded, codes_run_as_told, ended_past}
-use Rattle.vd_read_back.specs.Stored.{stored_program, count_fits, CanBeStored, StandsInAFile, StoredProgramsStandInFiles, StoredProgramsAreReadBack, StoredTextsAreShort}
+use Rattle.vd_read_back.specs.Stored.{stored_program, CanBeStored, StandsInAFile, StoredProgramsStandInFiles, StoredProgramsAreReadBack, StoredTextsAreShort}
+use Rattle.vd_core.specs.Numbers.{numbers_fit}
 use Rattle.vd_read_back.proofs.Numbers.{both}
 use Rattle.vd_read_back.proofs.Registers.{all_hold, plan_below}
 use Rattle.vd_read_back.proofs.FewBlocks.{BlockIsSmall, counted, weight_of, cells_in, emission_of, block_small}

@@ -8,6 +8,7 @@ use Rattle.std.specs.Prelude.{drop, slice_get, slice_index_or}
 use Rattle.vd_base.specs.declared.protocols.Proto.{Proto}
 use Rattle.vd_base.specs.HostSets.{host}
 use Rattle.vd_base.specs.declared.ids.HostId.{HostId}
+use Rattle.vd_base.specs.Holders.{proto_in}
 use Rattle.vd_core.specs.declared.normal.NormalForm.{NormalForm}
 use Rattle.vd_meaning.specs.ProgramMeaning.{program_outputs}
 use Rattle.vd_meaning.specs.SourceMeaning.{source_outputs}
@@ -24,7 +25,6 @@ use Rattle.vd_execution.specs.World.{Local, Supply, IsPrefixOf, IsShortAt, Tape,
 use Rattle.vd_schedules.specs.Claims.{RunsWell, Suffices, last_of}
 use Rattle.vd_execution.proofs.Puts.{same_or_not}
 use Rattle.vd_execution.proofs.Sound.{AreItem}
-use Rattle.vd_split.specs.Offer.{proto_in}
 use Rattle.vd_suite.specs.Whole.{RunsAsToldBy, inputs_of}
 use Rattle.vd_machine.specs.Kept.{Kept, at_start, state_of}
 use Rattle.vd_machine.specs.Machines.{item_or_none, items_of}

@@ -8,22 +8,23 @@ use Rattle.std.proofs.lemmas.List.Sums.{position_or_len_is}
 use Rattle.vd_base.specs.declared.protocols.Proto.{Proto}
 use Rattle.vd_base.specs.declared.protocols.Proto.TheVariants.{Local}
 use Rattle.vd_base.specs.HostSets.{host}
+use Rattle.vd_base.specs.Holders.{same_protocol}
 use Rattle.vd_space.specs.declared.problem.Problem.{Problem}
 use Rattle.vd_space.specs.Validity.{use_joins, output_joins, guard_told, index_told, is_valid}
 use Rattle.vd_space.specs.Sizes.{IsWithinLimits}
 use Rattle.vd_space.proofs.Loops.{too_many}
 use Rattle.vd_space.proofs.Priced.{listed_or_not}
-use Rattle.vd_spaces.specs.Places.{same_proto, place_of, places_of}
+use Rattle.vd_spaces.specs.Places.{place_of, places_of}
 
 abbrev pub no_proto : Proto
 no_proto = Local (host 0)
 
 module _ (list : List Proto) (p : Proto) where
-  pub found : (i : ℕ) (d : Proto) → i < length list → ((k : ℕ) (e : Proto) → k < i → same_proto p (get_or list k e) ≡ false) → same_proto p (get_or list i d) ≡ true → i ≡ place_of list p
-  found i d low before here = sym (position_or_len_is (same_proto p) list i d (omega (arith, low)) (λ k less. before k d less) (λ less. here))
+  pub found : (i : ℕ) (d : Proto) → i < length list → ((k : ℕ) (e : Proto) → k < i → same_protocol p (get_or list k e) ≡ false) → same_protocol p (get_or list i d) ≡ true → i ≡ place_of list p
+  found i d low before here = sym (position_or_len_is (same_protocol p) list i d (omega (arith, low)) (λ k less. before k d less) (λ less. here))
 
-  pub missing : (i : ℕ) → length list ≤ i → i ≤ length list → ((k : ℕ) (e : Proto) → k < i → same_proto p (get_or list k e) ≡ false) → length list ≡ place_of list p
-  missing i past within before = sym (position_or_len_is (same_proto p) list (length list) no_proto (omega arith) (λ k less. before k no_proto (omega (arith, less, past))) (λ less. absurd (omega (arith, less))))
+  pub missing : (i : ℕ) → length list ≤ i → i ≤ length list → ((k : ℕ) (e : Proto) → k < i → same_protocol p (get_or list k e) ≡ false) → length list ≡ place_of list p
+  missing i past within before = sym (position_or_len_is (same_protocol p) list (length list) no_proto (omega arith) (λ k less. before k no_proto (omega (arith, less, past))) (λ less. absurd (omega (arith, less))))
 
 pub filled : (list prefix : List Proto) (room : List ℕ) (i place : ℕ) (d : Proto) → i < length prefix → length prefix ≤ length room → take i room ≡ places_of list (take i prefix) → place ≡ place_of list (get_or prefix i d) → take (i + 1) (set room i place) ≡ places_of list (take (i + 1) prefix)
 filled list prefix room i place d low within so_far is =

@@ -5,16 +5,17 @@ use Rattle.vd_base.specs.Costs.{cost_at}
 use Rattle.vd_base.specs.Moves.{move_at}
 use Rattle.vd_base.specs.declared.protocols.Proto.{Proto}
 use Rattle.vd_base.specs.declared.protocols.Proto.TheVariants.{Local}
+use Rattle.vd_base.specs.Holders.{is_holder, proto_in}
 use Rattle.vd_space.specs.declared.problem.Problem.{Problem}
 use Rattle.vd_space.specs.declared.problem.Use.{Use}
 use Rattle.vd_space.specs.declared.problem.Output.{Output}
 use Rattle.vd_space.specs.declared.problem.Guard.{Guard}
 use Rattle.vd_space.specs.declared.problem.Index.{Index}
-use Rattle.vd_space.specs.Validity.{protocols, protocol, move, move_to_host, all_hosts, holder, takes_part}
+use Rattle.vd_space.specs.Validity.{protocols, protocol, move, move_to_host, all_hosts, takes_part}
 use Rattle.vd_space.specs.Costs.{moves_to, hosts_at, plus, slots_of}
 use Rattle.vd_space.specs.Bounds.{may_stand}
 use Rattle.vd_space.specs.Sizes.{heft}
-use Rattle.vd_usual.specs.Rows.{if_passes, weighed, least_number, proto_at}
+use Rattle.vd_usual.specs.Rows.{if_passes, weighed, least_number}
 
 abbrev pub least_place : Problem → List ℕ → ℕ → (ℕ → Option ℕ) → Option ℕ
 least_place problem prefix slot value = least_number (length (protocols problem)) (λ p. if_passes (may_stand problem prefix slot p) (value p))
@@ -39,7 +40,7 @@ index_number problem i p q = weighed i.weight (moves_to problem q (hosts_at prob
 
 -- a price, with what it costs to tell a host of an array an index besides
 abbrev pub with_price : List Proto → ℕ → ℕ → HostId → Option ℕ → Option ℕ
-with_price list array index h sum = if holder (proto_at list array) h then plus (move_at (proto_at list index) (Local h)) sum else sum
+with_price list array index h sum = if is_holder (proto_in list array) h then plus (move_at (proto_in list index) (Local h)) sum else sum
 
 -- ---- the least of each
 

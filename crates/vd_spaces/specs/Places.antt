@@ -1,26 +1,17 @@
 -- Lists of protocols, by the places of their protocols in the list of all.
-use Rattle.std.specs.Prelude.{◌≡◌, ℕ, ◌==◌, Bool, false, ◌&&◌, List, map, length}
+use Rattle.std.specs.Prelude.{◌≡◌, ℕ, ◌==◌, Bool, ◌&&◌, List, map, length}
 use Rattle.std.specs.List.{position_or_len}
 use Rattle.vd_base.specs.declared.protocols.Proto.{Proto}
-use Rattle.vd_base.specs.declared.protocols.Proto.TheVariants.{Local, Rep, Commit, Add, Xor}
-use Rattle.vd_base.specs.HostSets.{same_host}
+use Rattle.vd_base.specs.Holders.{same_protocol}
 use Rattle.vd_space.specs.declared.problem.Problem.{Problem}
 use Rattle.vd_space.specs.Validity.{protocols, is_valid}
 use Rattle.vd_space.specs.Spaces.{IsProblem}
 use Rattle.vd_space.specs.Labelled.{IsLabelled}
 use Rattle.vd_space.specs.Sizes.{IsWithinLimits}
 
-abbrev pub same_proto : Proto → Proto → Bool
-same_proto (Local h) (Local k) = same_host h k
-same_proto (Rep set) (Rep other) = set.bits == other.bits
-same_proto (Commit p v) (Commit q w) = same_host p q && same_host v w
-same_proto (Add a b) (Add c d) = same_host a c && same_host b d
-same_proto (Xor a b) (Xor c d) = same_host a c && same_host b d
-same_proto p q = false
-
 -- the place of a protocol, and the length of the list where it is not there
 abbrev pub place_of : List Proto → Proto → ℕ
-place_of list p = position_or_len (same_proto p) list
+place_of list p = position_or_len (same_protocol p) list
 
 abbrev pub places_of : List Proto → List Proto → List ℕ
 places_of list prefix = map (place_of list) prefix

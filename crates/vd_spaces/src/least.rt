@@ -9,10 +9,10 @@ ghost use Rattle.vd_space.specs.Validity.{is_candidate, protocols};
 ghost use Rattle.vd_spaces.specs.Low.{with_price, index_number, least_index, least_operation, least_place, least_told, least_use, number_left, operation_number, told_number, use_number};
 ghost use Rattle.vd_usual.specs.Rows.{if_passes};
 
-use vd_base::{HostId, Proto};
+use vd_base::{HostId, Proto, is_holder};
 use vd_cost::move_cost;
 use vd_protocol::joins;
-use vd_space::{Index, Problem, Use, is_candidate_at, is_holder};
+use vd_space::{Index, Problem, Use, is_candidate_at};
 use vd_usual::{lesser_number, price, weighed_cost};
 
 /// What a term with nothing left counts.

@@ -6,32 +6,16 @@ ghost use Rattle.vd_space.specs.Bounds.{high, low};
 ghost use Rattle.vd_space.specs.Labelled.{IsLabelled};
 ghost use Rattle.vd_space.specs.Sizes.{IsWithinLimits};
 ghost use Rattle.vd_space.specs.Validity.{is_valid, protocols};
-ghost use Rattle.vd_spaces.specs.Places.{place_of, places_of, same_proto};
+ghost use Rattle.vd_spaces.specs.Places.{place_of, places_of};
 
 use crate::bound::lower_bound;
 use crate::high::high_bound;
-use vd_base::Proto;
+use vd_base::{Proto, is_same};
 use vd_path::Tables;
 use vd_space::Problem;
 
 /// No problem within the limits has more slots.
 const MOST_SLOTS: usize = 2048;
-
-/// Whether the protocols are one.
-fn is_same(first: Proto, second: Proto) -> bool
-    ensures { result ≡ same_proto first second }
-{
-    match (first, second) {
-        (Proto::Local(host), Proto::Local(other)) => host == other,
-        (Proto::Rep(hosts), Proto::Rep(others)) => hosts.bits == others.bits,
-        (Proto::Commit(prover, verifier), Proto::Commit(other, another)) => {
-            prover == other && verifier == another
-        }
-        (Proto::Add(a, b), Proto::Add(other, another)) => a == other && b == another,
-        (Proto::Xor(a, b), Proto::Xor(other, another)) => a == other && b == another,
-        _ => false,
-    }
-}
 
 /// The place of a protocol in the list, and the length of the list where it is not there.
 fn place_of(list: &[Proto], protocol: Proto) -> u32

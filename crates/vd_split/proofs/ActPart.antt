@@ -4,12 +4,12 @@ use Rattle.vd_base.specs.declared.ids.HostId.{HostId}
 use Rattle.vd_base.specs.declared.ids.SlotId.{SlotId}
 use Rattle.vd_base.specs.declared.protocols.Proto.{Proto}
 use Rattle.vd_base.specs.declared.protocols.Proto.TheVariants.{Local}
+use Rattle.vd_base.specs.Holders.{proto_in}
 use Rattle.vd_core.specs.declared.normal.Right.{Right}
 use Rattle.vd_core.specs.declared.normal.Stmt.{Stmt, Let, NewVar, Store, NewArray, Put, Output, For}
 use Rattle.vd_execution.specs.Gadgets.{Gadget}
 use Rattle.vd_joint.specs.Suite.{Calls, hosts_of}
 use Rattle.vd_joint.specs.Emission.{Emission, at_slot, delivered_at, right_acts_at, emission}
-use Rattle.vd_split.specs.Offer.{proto_in}
 use Rattle.vd_split.specs.Places.{acting}
 use Rattle.vd_split.proofs.Variants.{let_e, variable_e, array_e, store_e, put_e, output_e, for_e}
 

@@ -4,6 +4,7 @@ use Rattle.vd_base.specs.declared.ids.HostId.{HostId}
 use Rattle.vd_base.specs.declared.ids.SlotId.{SlotId}
 use Rattle.vd_base.specs.declared.protocols.Proto.{Proto}
 use Rattle.vd_base.specs.declared.protocols.Proto.TheVariants.{Local}
+use Rattle.vd_base.specs.Holders.{proto_in}
 use Rattle.vd_core.specs.declared.normal.Stmt.{Stmt}
 use Rattle.vd_execution.specs.declared.instructions.Act.{Act}
 use Rattle.vd_execution.specs.declared.instructions.Line.{Line}
@@ -18,7 +19,6 @@ use Rattle.vd_joint.specs.Joint.{acts_then, and_then}
 use Rattle.vd_joint.specs.Suite.{picked, Made, Calls, hosts_of}
 use Rattle.vd_joint.proofs.Keeps.{loop_kept, loop_kept_by}
 use Rattle.vd_joint.specs.Emission.{Emitting, Emitted, delivered, all_moved, and_on, with_parts, with_acts, emission, block_emission, if_made, for_made, loop_registers, after_loop_registers}
-use Rattle.vd_split.specs.Offer.{proto_in}
 use Rattle.vd_split.specs.Lines.{called, with_more, plan_lines, if_lines, else_lines, end_lines, for_lines, emitted_onto}
 use Rattle.vd_split.specs.Places.{joined, state, stmt_onto, block_onto, put_onto, takers, acting, opened_loop}
 

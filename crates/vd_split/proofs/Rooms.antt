@@ -2,10 +2,10 @@
 use native.Mathlib.Decide.{ℕ_discrete}
 use Rattle.std.proofs.Common.{◌≡◌, ℕ, ◌+◌, ◌<◌, ◌≤◌, List, [], ◌∷◌, ◌++◌, length, slice_index_or, refl, sym, ap, ◌∙◌, subst, arith, length-append}
 use Rattle.vd_base.specs.declared.protocols.Proto.{Proto}
+use Rattle.vd_base.specs.Holders.{holders, proto_in}
 use Rattle.vd_duet.specs.Builder.{HasRoom, TakesAtMost}
-use Rattle.vd_duet.specs.Calls.{holders}
 use Rattle.vd_joint.proofs.Lists.{front_kept, at_end}
-use Rattle.vd_split.specs.Offer.{Offer, CanCall, Fitting, proto_in, AreHeld, IsReady, Emits}
+use Rattle.vd_split.specs.Offer.{Offer, CanCall, Fitting, AreHeld, IsReady, Emits}
 
 pub takes_none : (next : List ℕ) → TakesAtMost 0 next next
 takes_none next = (refl, λ h. omega arith)

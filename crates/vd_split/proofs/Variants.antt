@@ -3,6 +3,7 @@ use Rattle.std.proofs.Common.{◌≡◌, ℕ, Bool, List, map, slice_index_or, s
 use Rattle.vd_base.specs.declared.ids.HostId.{HostId}
 use Rattle.vd_base.specs.declared.ids.SlotId.{SlotId}
 use Rattle.vd_base.specs.declared.protocols.Proto.{Proto}
+use Rattle.vd_base.specs.Holders.{proto_in}
 use Rattle.vd_core.specs.declared.normal.Right.{Right}
 use Rattle.vd_core.specs.declared.normal.Stmt.{Stmt, Let, NewVar, Store, NewArray, Put, Output, If, For}
 use Rattle.vd_core.specs.declared.normal.Stmt.TheFolds.{the_lemmas}
@@ -11,7 +12,6 @@ use Rattle.vd_execution.specs.Gadgets.{Gadget}
 use Rattle.vd_duet.specs.Builder.{Builder}
 use Rattle.vd_joint.specs.Suite.{Calls, picked}
 use Rattle.vd_joint.specs.Emission.{Emission, delivered, emission, stmt_emission}
-use Rattle.vd_split.specs.Offer.{proto_in}
 use Rattle.vd_split.specs.Lines.{called, with_more, emitted_onto, if_lines, else_lines, end_lines}
 use Rattle.vd_split.specs.Places.{state, let_onto, variable_onto, array_onto, store_onto, put_onto, output_onto, stmt_onto, block_onto, branch_onto, loop_onto, guarded, takers, acting, branch_acts, opened_loop}
 use Rattle.vd_split.proofs.Onto.{branch_is, loop_is}

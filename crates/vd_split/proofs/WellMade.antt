@@ -6,6 +6,7 @@ use Rattle.std.proofs.lemmas.List.Sums.{sum_by-cons}
 use Rattle.std.specs.List.{concat, list_all, list_any, sum}
 use Rattle.vd_base.specs.declared.ids.SlotId.{SlotId}
 use Rattle.vd_base.specs.declared.protocols.Proto.{Proto}
+use Rattle.vd_base.specs.Holders.{proto_in}
 use Rattle.vd_core.specs.declared.normal.Right.{Right}
 use Rattle.vd_core.specs.declared.normal.Right.TheVariants.{Lit, Turn, Copy, Apply, Input, Declassify, Endorse, Load, Get}
 use Rattle.vd_core.specs.declared.normal.Stmt.{Stmt}
@@ -16,7 +17,7 @@ use Rattle.vd_duet.specs.Builder.{HasRoom, register_bound}
 use Rattle.vd_joint.specs.Block.{Block, End, Let, NewVar, NewArray, Store, Put, Output, If, For, block_of, each}
 use Rattle.vd_joint.proofs.Lists.{and_left, and_right, InRow, row_of, row_front, row_back}
 use Rattle.vd_joint.proofs.Folds.{fold_each}
-use Rattle.vd_split.specs.Offer.{Offer, proto_in, has_parts, right_stands, stmt_stands, right_fits, Fitting, fits_all, fit_step, block_fit, AreServed, AreHeld, CanEmit}
+use Rattle.vd_split.specs.Offer.{Offer, has_parts, right_stands, stmt_stands, right_fits, Fitting, fits_all, fit_step, block_fit, AreServed, AreHeld, CanEmit}
 use Rattle.vd_split.proofs.Rooms.{room_less}
 
 abbrev holds : (Stmt-F Bool → Bool) → Block → Bool

@@ -9,6 +9,7 @@ use Rattle.vd_base.specs.declared.protocols.Proto.TheVariants.{Local}
 use Rattle.vd_base.specs.Arity.{arity}
 use Rattle.vd_base.specs.HostSets.{host}
 use Rattle.vd_base.specs.Limits.{most_hosts}
+use Rattle.vd_base.specs.Holders.{holders, proto_in}
 use Rattle.vd_core.specs.declared.normal.Right.{Right}
 use Rattle.vd_core.specs.declared.normal.Right.TheVariants as right
 use Rattle.vd_core.specs.declared.normal.Stmt.{Stmt}
@@ -16,7 +17,6 @@ use Rattle.vd_core.specs.declared.normal.Stmt.TheOpen.{Stmt-F}
 use Rattle.vd_core.specs.declared.normal.Stmt.TheFolds.{fold-Stmt}
 use Rattle.vd_execution.specs.Gadgets.{Gadget}
 use Rattle.vd_duet.specs.Builder.{Builder, HasRoom, TakesAtMost}
-use Rattle.vd_duet.specs.Calls.{holders}
 use Rattle.vd_joint.specs.Suite.{Calls}
 
 pub record Offer (P : Type 0) : Type 0 where
@@ -32,10 +32,6 @@ pub record Offer (P : Type 0) : Type 0 where
 pub record CanCall (hosts : ℕ) (next : List ℕ) : Type 0 where
   pub known : length next ≡ hosts
   pub room : HasRoom 0 next
-
--- the protocol of a slot
-abbrev pub proto_in : List Proto → ℕ → Proto
-proto_in protos x = slice_index_or protos x (Local (host 0))
 
 -- ---- what a program asks for
 

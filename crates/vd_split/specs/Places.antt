@@ -5,6 +5,7 @@ use Rattle.vd_base.specs.declared.ids.HostId.{HostId}
 use Rattle.vd_base.specs.declared.ids.SlotId.{SlotId}
 use Rattle.vd_base.specs.declared.protocols.Proto.{Proto}
 use Rattle.vd_base.specs.declared.protocols.Proto.TheVariants.{Local}
+use Rattle.vd_base.specs.Holders.{proto_in}
 use Rattle.vd_core.specs.declared.normal.Right.{Right}
 use Rattle.vd_core.specs.declared.normal.Stmt.{Stmt}
 use Rattle.vd_core.specs.declared.normal.NormalForm.{NormalForm}
@@ -17,7 +18,6 @@ use Rattle.vd_execution.specs.Plans.{Plan, joint_of}
 use Rattle.vd_execution.specs.Text.{flat}
 use Rattle.vd_duet.specs.Builder.{Builder}
 use Rattle.vd_duet.specs.Calls.{emitted}
-use Rattle.vd_split.specs.Offer.{proto_in}
 use Rattle.vd_split.specs.Lines.{called, with_more, emitted_onto, if_lines, for_lines}
 
 -- what is given goes behind what is there

@@ -1,15 +1,14 @@
 ghost use Rattle.std.specs.Prelude.{◌≡◌, ◌||◌, nat_eq};
 ghost use Rattle.std.specs.List.{list_any};
 ghost use Rattle.vd_base.specs.declared.protocols.Proto.TheVariants.{Local as AtHost};
-ghost use Rattle.vd_joint.specs.Suite.{is_at, picked, hosts_of};
+ghost use Rattle.vd_base.specs.Holders.{is_holder, proto_in};
+ghost use Rattle.vd_joint.specs.Suite.{picked, hosts_of};
 ghost use Rattle.vd_joint.specs.Emission.{right_acts_at, emission};
-ghost use Rattle.vd_split.specs.Offer.{proto_in};
 ghost use Rattle.vd_split.specs.Places.{takers, acting, guard_acts, branch_acts};
 
 use crate::protocols::Protocols;
-use crate::slots::{proto_of, stands_at};
 use crate::taking::takes_either;
-use vd_base::{HostId, Op, Proto, SlotId};
+use vd_base::{HostId, Op, Proto, SlotId, is_holder, proto_of};
 use vd_core::{Right, Stmt};
 
 /// Whether a host has an instruction where a word is moved to each host of a protocol.
@@ -19,7 +18,7 @@ fn acts_in_index<P: Protocols>(protocols: &P, from: Proto, proto: Proto, host: H
         (hosts_of (P.offer protocols.now).calls proto) }
 {
     for number in 0..protocols.hosts() {
-        if stands_at(proto, HostId(number)) {
+        if is_holder(proto, HostId(number)) {
             if protocols.moves_at(from, Proto::Local(HostId(number)), host) {
                 return true;
             }
@@ -91,9 +90,9 @@ fn acts_in_store<P: Protocols>(
     onto: Proto,
     host: HostId,
 ) -> bool
-    ensures { result ≡ (P.offer protocols.now).calls.moves_at (proto_in protos.now slot.0) onto host.0 || is_at onto host }
+    ensures { result ≡ (P.offer protocols.now).calls.moves_at (proto_in protos.now slot.0) onto host.0 || is_holder onto host }
 {
-    protocols.moves_at(proto_of(protos, slot), onto, host) || stands_at(onto, host)
+    protocols.moves_at(proto_of(protos, slot), onto, host) || is_holder(onto, host)
 }
 
 /// Whether a host has an instruction where a word is put into an array.
@@ -107,7 +106,7 @@ fn acts_in_put<P: Protocols>(
 ) -> bool
     ensures { let s = (P.offer protocols.now).calls in let onto = proto_in protos.now array.0 in
         result ≡ list_any (λ k. s.moves_at (proto_in protos.now index.0) (AtHost k) host.0) (hosts_of s onto)
-        || s.moves_at (proto_in protos.now slot.0) onto host.0 || is_at onto host }
+        || s.moves_at (proto_in protos.now slot.0) onto host.0 || is_holder onto host }
 {
     let proto = proto_of(protos, array);
     acts_in_index(protocols, proto_of(protos, index), proto, host)
@@ -130,9 +129,9 @@ fn acts_in_output<P: Protocols>(
 
 /// Whether a host has an instruction where a word that stands at a protocol is copied and then moved.
 fn acts_in_load<P: Protocols>(protocols: &P, proto: Proto, at: Proto, host: HostId) -> bool
-    ensures { result ≡ is_at proto host || (P.offer protocols.now).calls.moves_at proto at host.0 }
+    ensures { result ≡ is_holder proto host || (P.offer protocols.now).calls.moves_at proto at host.0 }
 {
-    stands_at(proto, host) || protocols.moves_at(proto, at, host)
+    is_holder(proto, host) || protocols.moves_at(proto, at, host)
 }
 
 /// Whether a host has an instruction of an operation.
@@ -161,7 +160,7 @@ fn acts_in_element<P: Protocols>(
 ) -> bool
     ensures { let s = (P.offer protocols.now).calls in let from = proto_in protos.now array.0 in
         result ≡ list_any (λ k. s.moves_at (proto_in protos.now index.0) (AtHost k) host.0) (hosts_of s from)
-        || is_at from host || s.moves_at from at host.0 }
+        || is_holder from host || s.moves_at from at host.0 }
 {
     let proto = proto_of(protos, array);
     acts_in_index(protocols, proto_of(protos, index), proto, host)
@@ -179,8 +178,8 @@ fn right_acts<P: Protocols>(
     ensures { result ≡ right_acts_at (P.offer protocols.now).calls (proto_in protos.now) at right.now host.0 }
 {
     match right {
-        Right::Lit(_) => stands_at(at, host),
-        Right::Turn => stands_at(at, host),
+        Right::Lit(_) => is_holder(at, host),
+        Right::Turn => is_holder(at, host),
         Right::Copy(slot) => protocols.moves_at(proto_of(protos, *slot), at, host),
         Right::Apply(op, slots) => {
             acts_in_apply(protocols, protos, at, *op, slots.as_slice(), host)
@@ -209,7 +208,7 @@ fn acts<P: Protocols>(protocols: &P, protos: &[Proto], stmt: &Stmt, host: HostId
         Stmt::NewVar(variable, slot) => {
             acts_in_store(protocols, protos, *slot, proto_of(protos, *variable), host)
         }
-        Stmt::NewArray(array, _) => stands_at(proto_of(protos, *array), host),
+        Stmt::NewArray(array, _) => is_holder(proto_of(protos, *array), host),
         Stmt::Store(variable, slot) => {
             acts_in_store(protocols, protos, *slot, proto_of(protos, *variable), host)
         }

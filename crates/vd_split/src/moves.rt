@@ -1,17 +1,17 @@
 ghost use Rattle.std.specs.Prelude.{◌≡◌, ◌<◌, ◌≤◌, IsTrue, IfOk, OnOk, length};
 ghost use Rattle.std.specs.List.{list_all};
 ghost use Rattle.vd_base.specs.Limits.{most_hosts};
+ghost use Rattle.vd_base.specs.Holders.{holders};
 ghost use Rattle.vd_duet.specs.Builder.{TakesAtMost, TakesFew};
-ghost use Rattle.vd_duet.specs.Calls.{holders};
 ghost use Rattle.vd_duet.specs.Laws.{Each};
 ghost use Rattle.vd_split.specs.Lines.{Makes};
 ghost use Rattle.vd_split.specs.Offer.{IsReady, has_parts};
 ghost use Rattle.vd_split.specs.Places.{slot_moved, slot_delivered_onto, moved_onto};
 
 use crate::protocols::Protocols;
-use crate::slots::{parts_of, proto_of};
+use crate::slots::parts_of;
 use std::alloc::AllocError;
-use vd_base::{HostId, Proto, SlotId};
+use vd_base::{HostId, Proto, SlotId, proto_of};
 use vd_duet::Duet;
 use vd_items::Items;
 

@@ -1,8 +1,9 @@
 ghost use Rattle.std.specs.Prelude.{◌≡◌, ◌+◌, ◌<◌, IsTrue, IfOk, OnOk, length};
 ghost use Rattle.vd_base.specs.Arity.{arity};
 ghost use Rattle.vd_base.specs.declared.protocols.Proto.TheVariants.{Local as AtHost};
+ghost use Rattle.vd_base.specs.Holders.{holders};
 ghost use Rattle.vd_duet.specs.Builder.{HasRoom, TakesAtMost, TakesFew, most_taken};
-ghost use Rattle.vd_duet.specs.Calls.{holders, appended};
+ghost use Rattle.vd_duet.specs.Calls.{appended};
 ghost use Rattle.vd_split.specs.Offer.{Offer, CanCall};
 ghost use Rattle.vd_split.specs.Lines.{Makes};
 

@@ -1,16 +1,16 @@
 ghost use Rattle.std.specs.Prelude.{◌≡◌, ◌<◌, [], IsTrue, IfOk, OnOk, length};
 ghost use Rattle.vd_base.specs.declared.operations.Op.{Op as Operation};
+ghost use Rattle.vd_base.specs.Holders.{holders};
 ghost use Rattle.vd_core.specs.declared.normal.Right.TheVariants as right;
 ghost use Rattle.vd_duet.specs.Builder.{TakesAtMost, TakesFew};
-ghost use Rattle.vd_duet.specs.Calls.{holders};
 ghost use Rattle.vd_split.specs.Offer.{IsReady, right_fits, most_of_statement};
 ghost use Rattle.vd_split.specs.Places.{right_onto};
 
 use crate::moves::{deliver, move_all, move_slot};
 use crate::protocols::Protocols;
-use crate::slots::{hosts_at, parts_of, proto_of};
+use crate::slots::{hosts_at, parts_of};
 use std::alloc::AllocError;
-use vd_base::{Op, Proto, SlotId};
+use vd_base::{Op, Proto, SlotId, proto_of};
 use vd_core::Right;
 use vd_duet::Duet;
 use vd_items::Items;

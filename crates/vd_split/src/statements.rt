@@ -6,9 +6,9 @@ ghost use Rattle.vd_split.specs.Places.{let_onto, variable_onto, array_onto, sto
 use crate::moves::{deliver, move_slot};
 use crate::protocols::Protocols;
 use crate::rights::right_side;
-use crate::slots::{hosts_at, parts_of, proto_of};
+use crate::slots::{hosts_at, parts_of};
 use std::alloc::AllocError;
-use vd_base::{HostId, Proto, SlotId};
+use vd_base::{HostId, Proto, SlotId, proto_of};
 use vd_core::Right;
 use vd_duet::Duet;
 use vd_items::Items;

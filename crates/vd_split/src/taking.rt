@@ -1,24 +1,22 @@
 ghost use Rattle.std.specs.Prelude.{◌≡◌, ◌||◌, nat_eq, IfOk};
 ghost use Rattle.std.specs.List.{list_any};
-ghost use Rattle.vd_joint.specs.Suite.{is_at};
+ghost use Rattle.vd_base.specs.Holders.{is_holder, proto_in};
 ghost use Rattle.vd_joint.specs.Emission.{right_takes_part, emission, block_emission};
-ghost use Rattle.vd_split.specs.Offer.{proto_in};
 ghost use Rattle.vd_split.specs.Places.{all_takers, takers};
 
 use crate::protocols::Protocols;
-use crate::slots::{proto_of, stands_at};
 use std::alloc::AllocError;
-use vd_base::{HostId, Proto, SlotId};
+use vd_base::{HostId, Proto, SlotId, is_holder, proto_of};
 use vd_core::{Right, Stmt};
 use vd_duet::Duet;
 use vd_items::Items;
 
 /// Whether some slot stands at a host.
 fn any_stands_at(protos: &[Proto], slots: &[SlotId], host: HostId) -> bool
-    ensures { result ≡ list_any (λ slot. is_at (proto_in protos.now slot.0) host) slots.now }
+    ensures { result ≡ list_any (λ slot. is_holder (proto_in protos.now slot.0) host) slots.now }
 {
     for slot in slots {
-        if stands_at(proto_of(protos, *slot), host) {
+        if is_holder(proto_of(protos, *slot), host) {
             return true;
         }
     }
@@ -27,29 +25,29 @@ fn any_stands_at(protos: &[Proto], slots: &[SlotId], host: HostId) -> bool
 
 /// Whether a slot stands at a host.
 fn slot_stands_at(protos: &[Proto], slot: SlotId, host: HostId) -> bool
-    ensures { result ≡ is_at (proto_in protos.now slot.0) host }
+    ensures { result ≡ is_holder (proto_in protos.now slot.0) host }
 {
-    stands_at(proto_of(protos, slot), host)
+    is_holder(proto_of(protos, slot), host)
 }
 
 /// Whether either of two slots stands at a host.
 fn either_stands_at(protos: &[Proto], first: SlotId, second: SlotId, host: HostId) -> bool
-    ensures { result ≡ is_at (proto_in protos.now first.0) host || is_at (proto_in protos.now second.0) host }
+    ensures { result ≡ is_holder (proto_in protos.now first.0) host || is_holder (proto_in protos.now second.0) host }
 {
     slot_stands_at(protos, first, host) || slot_stands_at(protos, second, host)
 }
 
 /// Whether an array, an index of it or a word that is put into it stands at a host.
 fn put_stands_at(protos: &[Proto], array: SlotId, index: SlotId, slot: SlotId, host: HostId) -> bool
-    ensures { result ≡ is_at (proto_in protos.now array.0) host || is_at (proto_in protos.now index.0) host
-        || is_at (proto_in protos.now slot.0) host }
+    ensures { result ≡ is_holder (proto_in protos.now array.0) host || is_holder (proto_in protos.now index.0) host
+        || is_holder (proto_in protos.now slot.0) host }
 {
     either_stands_at(protos, array, index, host) || slot_stands_at(protos, slot, host)
 }
 
 /// Whether a host takes part in an output at a host.
 fn takes_output(protos: &[Proto], slot: SlotId, at: HostId, host: HostId) -> bool
-    ensures { result ≡ nat_eq at.0 host.0 || is_at (proto_in protos.now slot.0) host }
+    ensures { result ≡ nat_eq at.0 host.0 || is_holder (proto_in protos.now slot.0) host }
 {
     at.0 == host.0 || slot_stands_at(protos, slot, host)
 }
@@ -79,7 +77,7 @@ fn takes_binding<P: Protocols>(
     right: &Right,
     host: HostId,
 ) -> bool
-    ensures { result ≡ is_at (proto_in protos.now slot.0) host
+    ensures { result ≡ is_holder (proto_in protos.now slot.0) host
         || right_takes_part (P.offer protocols.now).calls (proto_in protos.now) right.now host.0 }
 {
     slot_stands_at(protos, slot, host) || right_takes(protocols, protos, right, host)

@@ -3,8 +3,8 @@ use Rattle.std.proofs.Common.{◌≡◌, ℕ, zero, suc, ◌+◌, ◌≤◌, nat
 use Rattle.std.proofs.lemmas.Bool.{eqb-true, eq-eqb}
 use Rattle.vd_base.specs.declared.ids.HostId.{HostId}
 use Rattle.vd_base.specs.declared.protocols.Proto.{Proto}
+use Rattle.vd_base.specs.Holders.{holders}
 use Rattle.vd_duet.specs.Builder.{taken}
-use Rattle.vd_duet.specs.Calls.{holders}
 use Rattle.vd_duet.specs.Laws.{IsHost}
 use Rattle.vd_clear.specs.Copies.{each_made}
 use Rattle.vd_joint.proofs.Lists.{AreApart}

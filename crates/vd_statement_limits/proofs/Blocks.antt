@@ -11,6 +11,7 @@ use Rattle.vd_base.specs.declared.operations.Op.{Op}
 use Rattle.vd_base.specs.declared.operations.Op.TheVariants as op
 use Rattle.vd_base.specs.declared.protocols.Proto.{Proto}
 use Rattle.vd_base.specs.declared.protocols.Proto.TheVariants.{Local}
+use Rattle.vd_base.specs.Holders.{is_holder}
 use Rattle.vd_core.specs.declared.normal.Right.{Right}
 use Rattle.vd_core.specs.declared.normal.Right.TheVariants.{Lit, Turn, Copy, Apply, Input, Declassify, Endorse, Load, Get}
 use Rattle.vd_core.specs.declared.normal.Stmt.TheOpen.{Stmt-F}
@@ -20,7 +21,7 @@ use Rattle.vd_execution.specs.Plans.{Ends, Branch}
 use Rattle.vd_duet.specs.Laws.{Each}
 use Rattle.vd_joint.specs.Block.{Block, End, Let, NewVar, NewArray, Store, Put, Output, If, For, each}
 use Rattle.vd_joint.specs.Joint.{acts_then, and_then}
-use Rattle.vd_joint.specs.Suite.{is_at, picked, Made, Calls, hosts_of}
+use Rattle.vd_joint.specs.Suite.{picked, Made, Calls, hosts_of}
 use Rattle.vd_joint.specs.Emission.{Emitted, parts_at, delivered, all_moved, and_on, right_made, with_parts, in_turn, store_made, put_made, output_made, if_made, for_made, after_loop_registers}
 use Rattle.vd_joint.proofs.Lists.{and_left, and_right}
 use Rattle.vd_split.proofs.Picked.{picked_few}
@@ -160,7 +161,7 @@ module _ (hosts : ℕ) (proto : ℕ → Proto) (few_hosts : hosts ≤ 4) (over :
   right_takes q (Get v i) operands e f =
       let p = proto v.0 in
       let index = delivered s proto (proto i.0) (parts_at s proto e i) (hosts_of s p) e.next in
-      let told = some_told (λ h. is_at p (host h)) (proto i.0) (parts_at s proto e i) (slot_of e i f) e.next in
+      let told = some_told (λ h. is_holder p (host h)) (proto i.0) (parts_at s proto e i) (slot_of e i f) e.next in
       let read = s.get p (parts_at s proto e v) index.given index.next in
       let one = get_takes p (parts_at s proto e v) index.given index.next in
       let moved = s.move p q read.given read.next in
@@ -345,7 +346,7 @@ module _ (hosts : ℕ) (proto : ℕ → Proto) (few_hosts : hosts ≤ 4) (over :
   block_short (Put v i x rest) p e f =
       let t = proto v.0 in
       let index = delivered s proto (proto i.0) (parts_at s proto e i) (hosts_of s t) e.next in
-      let told = some_told (λ h. is_at t (host h)) (proto i.0) (parts_at s proto e i) (slot_of e i f) e.next in
+      let told = some_told (λ h. is_holder t (host h)) (proto i.0) (parts_at s proto e i) (slot_of e i f) e.next in
       let moved = s.move (proto x.0) t (parts_at s proto e x) index.next in
       let one = move_takes (proto x.0) t (parts_at s proto e x) (slot_of e x f) index.next in
       let written = s.put t (parts_at s proto e v) index.given moved.given in

@@ -4,12 +4,13 @@ use Rattle.vd_base.specs.declared.ids.HostId.{HostId}
 use Rattle.vd_base.specs.declared.operations.Op.{Op}
 use Rattle.vd_base.specs.declared.operations.Op.TheVariants as op
 use Rattle.vd_base.specs.declared.protocols.Proto.{Proto}
+use Rattle.vd_base.specs.Holders.{holders}
 use Rattle.vd_execution.specs.declared.instructions.Reg.{Reg}
 use Rattle.vd_execution.specs.declared.instructions.Action.{Action}
 use Rattle.vd_execution.specs.declared.instructions.Action.TheVariants as action
 use Rattle.vd_execution.specs.Gadgets.{Alone, Tells}
 use Rattle.vd_duet.specs.Builder.{next_at, taken}
-use Rattle.vd_duet.specs.Calls.{Places, hosts_of, holders, Made, register_of}
+use Rattle.vd_duet.specs.Calls.{Places, hosts_of, Made, register_of}
 use Rattle.vd_duet.specs.Acting.{is_among}
 use Rattle.vd_clear.specs.Copies.{written_by, literal_at, passed, adopted, kept_by, first_of, after_first, operated, applied_at, told, compared, first_register, shown, each_made, renewed, clear_calls}
 use Rattle.vd_counts.proofs.ClearCalls.{few_holders, each_length}

@@ -8,6 +8,7 @@ use Rattle.vd_base.specs.declared.ids.HostId.{HostId}
 use Rattle.vd_base.specs.declared.protocols.Proto.{Proto}
 use Rattle.vd_base.specs.declared.rows.Row.TheVariants.{Variable}
 use Rattle.vd_base.specs.HostSets.{host}
+use Rattle.vd_base.specs.Holders.{holders, is_holder}
 use Rattle.vd_execution.specs.declared.instructions.Action.TheVariants as action
 use Rattle.vd_execution.specs.Registers.{Registers, put, zeroed}
 use Rattle.vd_execution.specs.World.{Tape}
@@ -17,14 +18,14 @@ use Rattle.vd_execution.specs.Text.{register}
 use Rattle.vd_execution.specs.Gadgets.{Alone, GadgetsAreTidy, IsSound}
 use Rattle.vd_execution.proofs.Puts.{put_same}
 use Rattle.vd_duet.specs.Builder.{next_at, taken}
-use Rattle.vd_duet.specs.Calls.{holders, hosts_of, Stand, register_of}
+use Rattle.vd_duet.specs.Calls.{hosts_of, Stand, register_of}
 use Rattle.vd_duet.specs.Laws.{Each, IsHost, IsIn, nowhere, words_at, Copies, Leads as DuetLeads}
 use Rattle.vd_duet.proofs.Writes.{wrote}
 use Rattle.vd_duet.proofs.Leads.{leads_nothing, leads_on, taken_known, taken_there, taken_bounds, Since}
 use Rattle.vd_clear.specs.Copies.{written_by, each_made}
 use Rattle.vd_clear.proofs.HostLaws.{written_there}
 use Rattle.vd_joint.specs.Joint.{Each as EachPart}
-use Rattle.vd_joint.specs.Suite.{is_at, Cells, Word, Gives, Ready, Below, Delivered, nothing, hosts_of as hosts_at}
+use Rattle.vd_joint.specs.Suite.{Cells, Word, Gives, Ready, Below, Delivered, nothing, hosts_of as hosts_at}
 use Rattle.vd_joint.proofs.Lists.{AreApart}
 use Rattle.vd_suite.specs.Parts.{Parts, has_back_end, zeros_at, new_cells, index_of}
 use Rattle.vd_suite.specs.Suite.{cell, StandForCells, stands, IsOver, holds}
@@ -176,7 +177,7 @@ module _ (t : Tape) (deal : IsValidDeal t) (inputs : ℕ → List ℕ) (hosts : 
   pub index_at : (p : Proto) → IsOver hosts p → (next : List ℕ) (w : Hosts) (at : List Part) (i : ℕ) → Delivered (M t inputs hosts) (S t inputs hosts) next w (hosts_at (S t inputs hosts).calls p) at i
       → (h : ℕ) → IsHost (holders p) h → ((w h).registers (index_of at h).0 ≡ i) × ((index_of at h).0 < slice_index next h)
   index_at p d next w at i index h j =
-      index_found next w at i h (subst (In h) (sym index.placed) (picked_in (λ k. is_at p (host k)) 0 hosts h (omega arith) (let lt = host_known hosts (holders p) h d.known j in omega (arith, lt)) (holder_at p h j))) index.words
+      index_found next w at i h (subst (In h) (sym index.placed) (picked_in (λ k. is_holder p (host k)) 0 hosts h (omega arith) (let lt = host_known hosts (holders p) h d.known j in omega (arith, lt)) (holder_at p h j))) index.words
 
   -- the words of a cell, host by host
   pub cell_row : (p : Proto) → IsOver hosts p → (w : Hosts) (x : Parts) → hosts_of x.at ≡ holders p → (i : ℕ)

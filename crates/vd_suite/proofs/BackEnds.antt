@@ -11,10 +11,11 @@ use Rattle.vd_base.specs.declared.rows.Row.TheVariants.{Constant, Variable, Appl
 use Rattle.vd_base.specs.Arity.{arity}
 use Rattle.vd_base.specs.Moves.{move_if, same_hosts}
 use Rattle.vd_base.specs.Operations.{result_of}
+use Rattle.vd_base.specs.Holders.{holders}
 use Rattle.vd_execution.specs.World.{Tape}
 use Rattle.vd_execution.specs.Deals.{IsValidDeal}
 use Rattle.vd_execution.specs.Joint.{Hosts}
-use Rattle.vd_duet.specs.Calls.{Places, holders, Made}
+use Rattle.vd_duet.specs.Calls.{Places, Made}
 use Rattle.vd_duet.specs.Laws.{NumberFits, IsHost, IsIn, IsInOne, nowhere, at_host, GivesWord}
 use Rattle.vd_duet.proofs.Leads.{leads_nothing}
 use Rattle.vd_commit.specs.Commit.{revealed}

@@ -4,6 +4,7 @@ use Rattle.vd_base.specs.declared.ids.HostId.{HostId}
 use Rattle.vd_base.specs.declared.protocols.HostSet.{HostSet}
 use Rattle.vd_base.specs.declared.protocols.Proto.TheVariants.{Local, Rep, Commit}
 use Rattle.vd_base.specs.HostSets.{host}
+use Rattle.vd_base.specs.Holders.{holders}
 use Rattle.vd_execution.specs.declared.instructions.Reg.{Reg}
 use Rattle.vd_execution.specs.Registers.{words_from, digest_of}
 use Rattle.vd_execution.specs.World.{Tape}
@@ -11,7 +12,7 @@ use Rattle.vd_execution.specs.Deals.{IsValidDeal}
 use Rattle.vd_execution.specs.Joint.{Hosts}
 use Rattle.vd_execution.specs.Text.{register}
 use Rattle.vd_duet.specs.Builder.{most_taken, taken}
-use Rattle.vd_duet.specs.Calls.{Places, holders, hosts_of, Made}
+use Rattle.vd_duet.specs.Calls.{Places, hosts_of, Made}
 use Rattle.vd_duet.specs.Laws.{IsIn, IsHost, Copies, nowhere, at_host, Gives as DuetGives, GivesWord, GivesThere, Operand as DuetOperand}
 use Rattle.vd_duet.proofs.Leads.{leads_nothing, orderly_still, orderly_fresh, taken_known, taken_there, taken_bounds}
 use Rattle.vd_clear.specs.Copies.{clear_calls}

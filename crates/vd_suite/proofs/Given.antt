@@ -5,11 +5,11 @@ use Rattle.std.proofs.lemmas.Bool.Decides.{nat_tests}
 use Rattle.vd_base.specs.declared.ids.HostId.{HostId}
 use Rattle.vd_base.specs.declared.protocols.Proto.{Proto}
 use Rattle.vd_base.specs.Protocols.{protocols_of}
+use Rattle.vd_base.specs.Holders.{holders}
 use Rattle.vd_execution.specs.Registers.{nth}
 use Rattle.vd_execution.specs.Step.{Source, Inputs, OwnWords, Triples, BitTriples, Pairs}
 use Rattle.vd_execution.specs.World.{zeros_of}
 use Rattle.vd_base.specs.Words.{IsWord}
-use Rattle.vd_duet.specs.Calls.{holders}
 use Rattle.vd_duet.specs.Laws.{Each, IsHost}
 use Rattle.vd_joint.proofs.Lists.{and_left, and_right}
 use Rattle.vd_suite.specs.Suite.{is_in_order, IsOver}

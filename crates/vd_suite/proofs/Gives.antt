@@ -4,13 +4,14 @@ use Rattle.vd_base.specs.declared.operations.Op.{Op}
 use Rattle.vd_base.specs.declared.protocols.Proto.{Proto}
 use Rattle.vd_base.specs.declared.protocols.Proto.TheVariants.{Local, Rep, Commit, Add, Xor}
 use Rattle.vd_base.specs.declared.rows.Row.TheVariants.{Constant, Variable, Apply}
+use Rattle.vd_base.specs.Holders.{holders}
 use Rattle.vd_execution.specs.declared.instructions.Act.{Act}
 use Rattle.vd_execution.specs.World.{Tape}
 use Rattle.vd_execution.specs.Deals.{IsValidDeal}
 use Rattle.vd_execution.specs.Joint.{Hosts}
 use Rattle.vd_execution.specs.Acts.{run_acts, ActsAgree, run_act}
 use Rattle.vd_execution.specs.Gadgets.{Gadget, acts_of_gadget, acts_of_gadgets, GadgetsAreTidy}
-use Rattle.vd_duet.specs.Calls.{Places, holders, Made, Calls}
+use Rattle.vd_duet.specs.Calls.{Places, Made, Calls}
 use Rattle.vd_duet.specs.Laws.{Each, IsIn, IsInOne, AreKnown, IsReady, GivesWord, BackendLaws, Leads as DuetLeads, Operand as DuetOperand, Operands as DuetOperands, Renews as DuetRenews}
 use Rattle.vd_duet.proofs.Leads.{run_append}
 use Rattle.vd_clear.proofs.ClearLaws.{clear_laws}

@@ -5,10 +5,11 @@ use Rattle.vd_base.specs.declared.protocols.HostSet.{HostSet}
 use Rattle.vd_base.specs.declared.protocols.Proto.{Proto}
 use Rattle.vd_base.specs.declared.protocols.Proto.TheVariants.{Local, Rep}
 use Rattle.vd_base.specs.HostSets.{host}
+use Rattle.vd_base.specs.Holders.{holders}
 use Rattle.vd_execution.specs.World.{Tape}
 use Rattle.vd_execution.specs.Joint.{Hosts}
 use Rattle.vd_duet.specs.Builder.{most_taken}
-use Rattle.vd_duet.specs.Calls.{Places, holders, hosts_of, Made, Calls, Stand, AllAre}
+use Rattle.vd_duet.specs.Calls.{Places, hosts_of, Made, Calls, Stand, AllAre}
 use Rattle.vd_duet.specs.Laws.{IsIn, IsHost, IsReady, AreKnown, AreBelow, Operand, StandFor, Gives, GivesWord, at_host, Copies, words_at, nowhere}
 use Rattle.vd_duet.proofs.Leads.{leads_nothing, orderly_still, orderly_wider}
 use Rattle.vd_clear.specs.Copies.{spread_to}

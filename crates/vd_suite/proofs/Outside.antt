@@ -8,6 +8,7 @@ use Rattle.vd_base.specs.declared.protocols.Proto.{Proto}
 use Rattle.vd_base.specs.declared.protocols.Proto.TheVariants.{Local, Rep, Commit, Add, Xor}
 use Rattle.vd_base.specs.declared.rows.Row.TheVariants.{Constant}
 use Rattle.vd_base.specs.HostSets.{host}
+use Rattle.vd_base.specs.Holders.{holders, is_holder}
 use Rattle.vd_meaning.specs.World.{first_word, later_words}
 use Rattle.vd_execution.specs.declared.instructions.Reg.{Reg}
 use Rattle.vd_execution.specs.declared.instructions.Action.TheVariants as action
@@ -19,14 +20,14 @@ use Rattle.vd_execution.specs.Joint.{Host, Hosts, acted}
 use Rattle.vd_execution.specs.Text.{register}
 use Rattle.vd_execution.proofs.Puts.{put_same, put_other}
 use Rattle.vd_duet.specs.Builder.{next_at, taken}
-use Rattle.vd_duet.specs.Calls.{Places, holders, hosts_of, Stand, register_of}
+use Rattle.vd_duet.specs.Calls.{Places, hosts_of, Stand, register_of}
 use Rattle.vd_duet.specs.Laws.{IsIn, nowhere, Copies, StandFor, GivesThere}
 use Rattle.vd_duet.proofs.Writes.{wrote}
 use Rattle.vd_duet.proofs.Leads.{taken_known, taken_there, taken_bounds, Since}
 use Rattle.vd_clear.specs.Copies.{written_by, clear_calls}
 use Rattle.vd_clear.proofs.HostLaws.{written_there}
 use Rattle.vd_clear.proofs.ClearLaws.{copies_of}
-use Rattle.vd_joint.specs.Suite.{is_at, Word, Gives, Ready, Operand, Takes, Tells, nothing}
+use Rattle.vd_joint.specs.Suite.{Word, Gives, Ready, Operand, Takes, Tells, nothing}
 use Rattle.vd_suite.specs.Parts.{Parts, word_in, has_back_end, turn_part, printed}
 use Rattle.vd_suite.specs.Suite.{Names, StandForCells, is_in_order, IsOver, holds, AreGiven}
 use Rattle.vd_suite.proofs.Standing.{no_back_end, word_of, stand_of, names_in, in_names}
@@ -72,7 +73,7 @@ later_dropped (x ∷ xs) (suc i) = later_dropped xs i
 
 module _ (t : Tape) (deal : IsValidDeal t) (inputs : ℕ → List ℕ) (given : AreGiven inputs t) (hosts : ℕ) where
   pub turn_law : (p : Proto) → IsOver hosts p → IsTrue (holds Constant p) → (turn : ℕ) → turn < 2 ^ 32 → (loop next : List ℕ) (w : Hosts) → Ready (M t inputs hosts) (S t inputs hosts) next w
-      → ((h : ℕ) → h < hosts → IsTrue (is_at p (host h)) → ((w h).registers (slice_index loop h) ≡ turn) × (slice_index loop h < slice_index next h))
+      → ((h : ℕ) → h < hosts → IsTrue (is_holder p (host h)) → ((w h).registers (slice_index loop h) ≡ turn) × (slice_index loop h < slice_index next h))
       → Gives (M t inputs hosts) (S t inputs hosts) next nothing ((S t inputs hosts).calls.turn p loop next) w p (Word turn)
   turn_law p d row turn small loop next w r there =
       each_stands t inputs hosts p (for_constant p row) d next w r (turn_part p loop) (turn_value p turn) turn (turn_stands p (for_constant p row) d.ordered turn small)

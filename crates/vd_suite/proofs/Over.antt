@@ -10,13 +10,13 @@ use Rattle.vd_base.specs.declared.protocols.HostSet.{HostSet}
 use Rattle.vd_base.specs.declared.protocols.Proto.{Proto}
 use Rattle.vd_base.specs.declared.protocols.Proto.TheVariants.{Local, Rep, Commit, Add, Xor}
 use Rattle.vd_base.specs.HostSets.{host, hosts, has_host, members}
-use Rattle.vd_duet.specs.Calls.{holders}
+use Rattle.vd_base.specs.Holders.{holders, is_holder}
 use Rattle.vd_duet.specs.Laws.{Each, IsHost}
 use Rattle.vd_duet.specs.Acting.{is_among}
-use Rattle.vd_joint.specs.Suite.{is_at, picked}
+use Rattle.vd_joint.specs.Suite.{picked}
 use Rattle.vd_clear.proofs.Members.{few_members}
 use Rattle.vd_suite.specs.Suite.{is_in_order}
-use Rattle.vd_joint.proofs.Lists.{AreApart, and_left, and_right}
+use Rattle.vd_joint.proofs.Lists.{AreApart, and_left, and_right, or_left, or_right}
 
 pub host_known : (n : ℕ) (hs : List HostId) (h : ℕ) → Each (λ k. k.0 < n) hs → IsHost hs h → h < n
 host_known n [] h e i = absurd i
@@ -32,18 +32,14 @@ passes test (x ∷ xs) h i = at (passes test xs h) (test x) refl i
     at again true e (inr j) = again j
     at again false e j = again j
 
-one_of_two : (a b h : ℕ) → (h ≡ a) ⊎ ((h ≡ b) ⊎ ⊥) → (if nat_eq h a then true else nat_eq h b) ≡ true
-one_of_two a b h (inl e) = ap (λ (z : Bool). if z then true else nat_eq h b) (eq-eqb h a e)
-one_of_two a b h (inr (inl e)) = either (nat_eq h a)
-  where
-    either : (z : Bool) → (if z then true else nat_eq h b) ≡ true
-    either true = refl
-    either false = eq-eqb h b e
+one_of_two : (a b h : ℕ) → (h ≡ a) ⊎ ((h ≡ b) ⊎ ⊥) → (nat_eq a h || nat_eq b h) ≡ true
+one_of_two a b h (inl e) = or_left (nat_eq a h) (nat_eq b h) (eq-eqb a h (sym e))
+one_of_two a b h (inr (inl e)) = or_right (nat_eq a h) (nat_eq b h) (eq-eqb b h (sym e))
 one_of_two a b h (inr (inr e)) = absurd e
 
 -- a host that has a part is at the protocol
-pub holder_at : (p : Proto) (h : ℕ) → IsHost (holders p) h → is_at p (host h) ≡ true
-holder_at (Local k) h (inl e) = eq-eqb h k.0 e
+pub holder_at : (p : Proto) (h : ℕ) → IsHost (holders p) h → is_holder p (host h) ≡ true
+holder_at (Local k) h (inl e) = eq-eqb k.0 h (sym e)
 holder_at (Local k) h (inr e) = absurd e
 holder_at (Rep set) h i = passes (has_host set) (hosts 8) h i
 holder_at (Commit a b) h i = one_of_two a.0 b.0 h i

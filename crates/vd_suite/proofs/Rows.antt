@@ -6,11 +6,12 @@ use native.Mathlib.Decide.{ℕ_discrete}
 use Rattle.vd_base.specs.declared.ids.HostId.{HostId}
 use Rattle.vd_base.specs.declared.protocols.Proto.{Proto}
 use Rattle.vd_base.specs.declared.protocols.Proto.TheVariants.{Local, Rep, Commit, Add, Xor}
+use Rattle.vd_base.specs.Holders.{holders}
 use Rattle.vd_execution.specs.declared.instructions.Reg.{Reg}
 use Rattle.vd_execution.specs.World.{Tape}
 use Rattle.vd_execution.specs.Joint.{Hosts}
 use Rattle.vd_duet.specs.Builder.{most_taken}
-use Rattle.vd_duet.specs.Calls.{Places, hosts_of, holders, Made, Stand, AllAre, register_of}
+use Rattle.vd_duet.specs.Calls.{Places, hosts_of, Made, Stand, AllAre, register_of}
 use Rattle.vd_duet.specs.Laws.{Each, IsIn, IsHost, nowhere, words_at, Copies, Gives as DuetGives, GivesThere, at_host}
 use Rattle.vd_duet.proofs.Leads.{leads_nothing, leads_on, orderly_still, orderly_on, orderly_wider, Since, since_on, since_start}
 use Rattle.vd_clear.specs.Copies.{each_made}

@@ -3,10 +3,11 @@ use Rattle.std.proofs.Common.{◌≡◌, ◌≢◌, ℕ, zero, suc, ◌+◌, ◌
 use Rattle.vd_base.specs.declared.ids.HostId.{HostId}
 use Rattle.vd_base.specs.declared.protocols.Proto.{Proto}
 use Rattle.vd_base.specs.declared.protocols.Proto.TheVariants.{Local, Rep, Commit, Add, Xor}
+use Rattle.vd_base.specs.Holders.{holders}
 use Rattle.vd_execution.specs.Registers.{digest_of}
 use Rattle.vd_execution.specs.Joint.{Hosts}
 use Rattle.vd_execution.specs.Text.{register}
-use Rattle.vd_duet.specs.Calls.{Places, hosts_of, holders, Calls, Stand, register_of}
+use Rattle.vd_duet.specs.Calls.{Places, hosts_of, Calls, Stand, register_of}
 use Rattle.vd_duet.specs.Laws.{IsIn, IsHost, words_at, AreBelow, StandFor}
 use Rattle.vd_commit.proofs.Rows.{words_alike}
 use Rattle.vd_joint.specs.Suite.{Content, Word, Cells}

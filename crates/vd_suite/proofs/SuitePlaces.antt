@@ -8,6 +8,7 @@ use Rattle.vd_base.specs.declared.protocols.Proto.{Proto}
 use Rattle.vd_base.specs.declared.protocols.Proto.TheVariants.{Local, Rep, Commit, Add, Xor}
 use Rattle.vd_base.specs.declared.rows.Row.TheVariants.{Constant, Input}
 use Rattle.vd_base.specs.HostSets.{host}
+use Rattle.vd_base.specs.Holders.{holders, is_holder}
 use Rattle.vd_execution.specs.declared.instructions.Reg.{Reg}
 use Rattle.vd_execution.specs.declared.instructions.Action.TheVariants as action
 use Rattle.vd_execution.specs.World.{Tape}
@@ -15,9 +16,9 @@ use Rattle.vd_execution.specs.Deals.{IsValidDeal}
 use Rattle.vd_execution.specs.Joint.{Part, Hosts}
 use Rattle.vd_execution.specs.Acts.{run_acts}
 use Rattle.vd_execution.specs.Gadgets.{Gadget, Alone, acts_of_gadget, GadgetIsTidy, GadgetsAreTidy}
-use Rattle.vd_duet.specs.Calls.{Places as RegisterPlaces, holders, hosts_of, Made, register_of}
+use Rattle.vd_duet.specs.Calls.{Places as RegisterPlaces, hosts_of, Made, register_of}
 use Rattle.vd_duet.specs.Laws.{IsHost}
-use Rattle.vd_duet.specs.Acting.{is_either, acts_at, is_among, is_holder, pass_at, told_at, apply_at, is_negation, ActsWhereItSays}
+use Rattle.vd_duet.specs.Acting.{is_either, acts_at, is_among, pass_at, told_at, apply_at, is_negation, ActsWhereItSays}
 use Rattle.vd_duet.proofs.Leads.{tidy_append}
 use Rattle.vd_duet.specs.Builder.{next_at}
 use Rattle.vd_clear.specs.Copies.{written_by, each_made}
@@ -29,7 +30,7 @@ use Rattle.vd_convert.proofs.ConvertActs.{conversions_act}
 use Rattle.vd_commit.specs.Commit.{revealed}
 use Rattle.vd_commit.proofs.CommitActs.{commitments_act}
 use Rattle.vd_joint.specs.Joint.{Each, AllFine}
-use Rattle.vd_joint.specs.Suite.{is_at, Word, Ready, Operand}
+use Rattle.vd_joint.specs.Suite.{Word, Ready, Operand}
 use Rattle.vd_joint.specs.Places.{Where, Places}
 use Rattle.vd_joint.proofs.Lists.{or_left, or_right, or_cases}
 use Rattle.vd_suite.specs.Machine.{machine}
@@ -151,15 +152,15 @@ applying o (Xor a b) h e = at (is_negation o) e
     at true e = inl (eqb-true h a.0 e)
     at false e = two_hosts h a b e
 
-moves_inside : (p q : Proto) (h : ℕ) → moved_at (route p q) p q h ≡ true → (is_at p (host h) || is_at q (host h)) ≡ true
+moves_inside : (p q : Proto) (h : ℕ) → moved_at (route p q) p q h ≡ true → (is_holder p (host h) || is_holder q (host h)) ≡ true
 moves_inside p q h e = at (moving p q h e)
   where
-    at : IsHost (holders p) h ⊎ IsHost (holders q) h → (is_at p (host h) || is_at q (host h)) ≡ true
-    at (inl i) = or_left (is_at p (host h)) (is_at q (host h)) (holder_at p h i)
-    at (inr i) = or_right (is_at p (host h)) (is_at q (host h)) (holder_at q h i)
+    at : IsHost (holders p) h ⊎ IsHost (holders q) h → (is_holder p (host h) || is_holder q (host h)) ≡ true
+    at (inl i) = or_left (is_holder p (host h)) (is_holder q (host h)) (holder_at p h i)
+    at (inr i) = or_right (is_holder p (host h)) (is_holder q (host h)) (holder_at q h i)
 
-input_inside : (k : HostId) (p : Proto) (h : ℕ) → holds (Input k) p ≡ true → nat_eq k.0 h ≡ true → is_at p (host h) ≡ true
-input_inside k p h e i = subst (λ (z : Proto). is_at z (host h) ≡ true) (sym (input_stands k p e)) (eq-eqb h k.0 (sym (eqb-true k.0 h i)))
+input_inside : (k : HostId) (p : Proto) (h : ℕ) → holds (Input k) p ≡ true → nat_eq k.0 h ≡ true → is_holder p (host h) ≡ true
+input_inside k p h e i = subst (λ (z : Proto). is_holder z (host h) ≡ true) (sym (input_stands k p e)) i
 
 -- ---- gadgets
 
@@ -252,21 +253,24 @@ host_among [] h i = absurd i
 host_among (k ∷ hs) h (inl e) = or_left (nat_eq h k.0) (is_among hs h) (eq-eqb h k.0 e)
 host_among (k ∷ hs) h (inr i) = or_right (nat_eq h k.0) (is_among hs h) (host_among hs h i)
 
-two_among : (first second : Bool) → (if first then true else second) ≡ true → (first || (second || false)) ≡ true
-two_among true second e = refl
-two_among false second e = or_left second false e
+two_among : (a b : HostId) (h : ℕ) → (nat_eq a.0 h || nat_eq b.0 h) ≡ true → is_among (a ∷ b ∷ []) h ≡ true
+two_among a b h e = at (or_cases (nat_eq a.0 h) (nat_eq b.0 h) e)
+  where
+    at : (nat_eq a.0 h ≡ true) ⊎ (nat_eq b.0 h ≡ true) → is_among (a ∷ b ∷ []) h ≡ true
+    at (inl i) = host_among (a ∷ b ∷ []) h (inl (sym (eqb-true a.0 h i)))
+    at (inr i) = host_among (a ∷ b ∷ []) h (inr (inl (sym (eqb-true b.0 h i))))
 
-at_holder : (p : Proto) (h : ℕ) → h < 8 → is_at p (host h) ≡ true → is_holder p h ≡ true
-at_holder (Local k) h lt e = or_left (nat_eq h k.0) false e
+at_holder : (p : Proto) (h : ℕ) → h < 8 → is_holder p (host h) ≡ true → is_among (holders p) h ≡ true
+at_holder (Local k) h lt e = host_among (k ∷ []) h (inl (sym (eqb-true k.0 h e)))
 at_holder (Rep set) h lt e = host_among (holders (Rep set)) h (has_member set (host h) lt e)
-at_holder (Commit a b) h lt e = two_among (nat_eq h a.0) (nat_eq h b.0) e
-at_holder (Add a b) h lt e = two_among (nat_eq h a.0) (nat_eq h b.0) e
-at_holder (Xor a b) h lt e = two_among (nat_eq h a.0) (nat_eq h b.0) e
+at_holder (Commit a b) h lt e = two_among a b h e
+at_holder (Add a b) h lt e = two_among a b h e
+at_holder (Xor a b) h lt e = two_among a b h e
 
 module _ (t : Tape) (deal : IsValidDeal t) (inputs : ℕ → List ℕ) (hosts : ℕ) (few : hosts ≤ 8) where
   -- gadgets at hosts of the protocol
-  where_held : (p : Proto) → IsOver hosts p → (gadgets : List Gadget) → GadgetsAreTidy gadgets → ((h : ℕ) → acts_at gadgets h ≡ is_holder p h)
-      → Where (machine t inputs) hosts gadgets (λ h. is_at p (host h))
+  where_held : (p : Proto) → IsOver hosts p → (gadgets : List Gadget) → GadgetsAreTidy gadgets → ((h : ℕ) → acts_at gadgets h ≡ is_among (holders p) h)
+      → Where (machine t inputs) hosts gadgets (λ h. is_holder p (host h))
   where_held p d gadgets tidy acts = record {
     tidy = all_tidy gadgets tidy;
     at = λ h e. let i = among_host (holders p) h (sym (acts h) ∙ e) in (host_known hosts (holders p) h d.known i, holder_at p h i);
@@ -276,18 +280,18 @@ module _ (t : Tape) (deal : IsValidDeal t) (inputs : ℕ → List ℕ) (hosts : 
   -- each host of the protocol acts once
   where_each : (p : Proto) → IsOver hosts p → (f : HostId → List ℕ → Made Reg) → ((h : HostId) (next : List ℕ) → GadgetsAreTidy (f h next).gadgets)
       → ((h : ℕ) (k : HostId) (next : List ℕ) → acts_at (f k next).gadgets h ≡ nat_eq h k.0) → (next : List ℕ)
-      → Where (machine t inputs) hosts (each_made f (holders p) next).gadgets (λ h. is_at p (host h))
+      → Where (machine t inputs) hosts (each_made f (holders p) next).gadgets (λ h. is_holder p (host h))
   where_each p d f tidy acts next = where_held p d (each_made f (holders p) next).gadgets (each_tidy f tidy (holders p) next) (λ h. each_acts h f (λ k. nat_eq h k.0) (acts h) (holders p) next)
 
   literal_at : (p : Proto) → IsOver hosts p → IsTrue (holds Constant p) → (v : ℕ) → v < 2 ^ 32 → (next : List ℕ) (w : Hosts) → Ready (M t inputs hosts) (S t inputs hosts) next w
-      → Where (machine t inputs) hosts ((back_end p).literal v next).gadgets (λ h. is_at p (host h))
+      → Where (machine t inputs) hosts ((back_end p).literal v next).gadgets (λ h. is_holder p (host h))
   literal_at p d row v small next w r =
       let e = for_constant p row in
       where_held p d ((back_end p).literal v next).gadgets
       ((laws_of p e hosts d).literal t next w (ready_at t inputs hosts deal (back_end p) next w p (proto_is p) d r) v small).orderly.tidy
-      (λ h. (acts_of p e).literal v next h ∙ ap (λ (z : Proto). is_holder z h) (proto_is p))
+      (λ h. (acts_of p e).literal v next h ∙ ap (λ (z : Proto). is_among (holders z) h) (proto_is p))
 
-  turn_at : (p : Proto) → IsOver hosts p → IsTrue (holds Constant p) → (loop next : List ℕ) → Where (machine t inputs) hosts (turned p loop next).gadgets (λ h. is_at p (host h))
+  turn_at : (p : Proto) → IsOver hosts p → IsTrue (holds Constant p) → (loop next : List ℕ) → Where (machine t inputs) hosts (turned p loop next).gadgets (λ h. is_holder p (host h))
   turn_at p d row loop next = where_each p d (turn_part p loop) (turn_tidy p loop) (turn_acts p loop) next
 
   move_where : (p q : Proto) → IsOver hosts p → IsOver hosts q → IsTrue (joins p q) → (x : Parts) (v : ℕ) (next : List ℕ) (w : Hosts) → Ready (M t inputs hosts) (S t inputs hosts) next w
@@ -321,7 +325,7 @@ module _ (t : Tape) (deal : IsValidDeal t) (inputs : ℕ → List ℕ) (hosts : 
     all = λ h low e. acts h ∙ eq-eqb h k.0 (sym (eqb-true k.0 h e));
   }
 
-  written_where : (p : Proto) → IsOver hosts p → (kept : Parts) (at : List Part) (x : RegisterPlaces) → Where (machine t inputs) hosts (cell_written p kept at x) (λ h. is_at p (host h))
+  written_where : (p : Proto) → IsOver hosts p → (kept : Parts) (at : List Part) (x : RegisterPlaces) → Where (machine t inputs) hosts (cell_written p kept at x) (λ h. is_holder p (host h))
   written_where p d kept at x = where_held p d (cell_written p kept at x) (tidy (holders p)) (λ h. acts h (holders p))
     where
       puts : List HostId → List Gadget
@@ -355,13 +359,13 @@ module _ (t : Tape) (deal : IsValidDeal t) (inputs : ℕ → List ℕ) (hosts : 
         let e = for_variable p row in
         where_held p d ((back_end p).keep x.at next).gadgets
         ((laws_of p e hosts d).keep t next w (ready_at t inputs hosts deal (back_end p) next w p (proto_is p) d r) x.at v (operand_at t inputs hosts (back_end p) next w p x v e (proto_is p) o)).orderly.tidy
-        (λ h. (acts_of p e).keep x.at next h ∙ ap (λ (z : Proto). is_holder z h) (proto_is p));
+        (λ h. (acts_of p e).keep x.at next h ∙ ap (λ (z : Proto). is_among (holders z) h) (proto_is p));
     renew_at = λ p d row kept x u v next w r k o.
         let e = for_variable p row in
         where_held p d ((back_end p).renew kept.at x.at)
         ((laws_of p e hosts d).renew t next w (ready_at t inputs hosts deal (back_end p) next w p (proto_is p) d r) kept.at x.at u v
         (operand_at t inputs hosts (back_end p) next w p kept u e (proto_is p) k) (operand_at t inputs hosts (back_end p) next w p x v e (proto_is p) o)).tidy
-        (λ h. (acts_of p e).renew kept.at x.at ((cells_of p e w kept (Word u) k.stands).at ∙ ap holders (sym (proto_is p))) h ∙ ap (λ (z : Proto). is_holder z h) (proto_is p));
+        (λ h. (acts_of p e).renew kept.at x.at ((cells_of p e w kept (Word u) k.stands).at ∙ ap holders (sym (proto_is p))) h ∙ ap (λ (z : Proto). is_among (holders z) h) (proto_is p));
     cells_at = λ p d row size next. where_each p d (zeros_at size) (λ h n. (tt, tt)) (λ h k n. or_false (nat_eq h k.0)) next;
     get_at = λ p d row x at next. where_each p d (λ h. written_by h (λ r. action.Get r (register_of x.at h.0) x.size (index_of at h.0))) (λ h n. (tt, tt)) (λ h k n. or_false (nat_eq h k.0)) next;
     put_at = λ p d row kept at x. written_where p d kept at x.at;

@@ -6,6 +6,7 @@ use native.Mathlib.Decide.{ℕ_discrete}
 use Rattle.vd_base.specs.declared.ids.HostId.{HostId}
 use Rattle.vd_base.specs.declared.protocols.Proto.{Proto}
 use Rattle.vd_base.specs.declared.rows.Row.TheVariants.{Variable}
+use Rattle.vd_base.specs.Holders.{holders}
 use Rattle.vd_execution.specs.declared.instructions.Action.{Action}
 use Rattle.vd_execution.specs.declared.instructions.Action.TheVariants as action
 use Rattle.vd_execution.specs.Registers.{Registers, put}
@@ -14,7 +15,7 @@ use Rattle.vd_execution.specs.Deals.{IsValidDeal}
 use Rattle.vd_execution.specs.Joint.{Part, Host, Hosts, acted}
 use Rattle.vd_execution.specs.Gadgets.{Gadget, Alone, GadgetsAreTidy, IsSound}
 use Rattle.vd_execution.proofs.Puts.{put_same, put_other}
-use Rattle.vd_duet.specs.Calls.{Places, holders, hosts_of, Stand, register_of}
+use Rattle.vd_duet.specs.Calls.{Places, hosts_of, Stand, register_of}
 use Rattle.vd_duet.specs.Laws.{IsHost, IsIn, words_at, Leads as DuetLeads}
 use Rattle.vd_duet.proofs.Leads.{leads_nothing, leads_on}
 use Rattle.vd_joint.specs.Suite.{Word, Cells, Ready, Below, Operand, Delivered, Renews, hosts_of as hosts_at}

@@ -3,13 +3,14 @@ use Rattle.std.specs.Prelude.{ℕ, nat_eq, Bool, true, false, if◌then◌else�
 use Rattle.vd_base.specs.declared.ids.HostId.{HostId}
 use Rattle.vd_base.specs.declared.protocols.Proto.{Proto}
 use Rattle.vd_base.specs.declared.protocols.Proto.TheVariants.{Local, Rep, Commit, Add, Xor}
+use Rattle.vd_base.specs.Holders.{holders}
 use Rattle.vd_execution.specs.declared.instructions.Reg.{Reg}
 use Rattle.vd_execution.specs.declared.instructions.Action.TheVariants as action
 use Rattle.vd_execution.specs.Joint.{Part}
 use Rattle.vd_execution.specs.Gadgets.{Gadget, Alone}
 use Rattle.vd_execution.specs.Text.{register}
 use Rattle.vd_duet.specs.Builder.{next_at, taken}
-use Rattle.vd_duet.specs.Calls.{Places, holders, Made, Calls, register_of}
+use Rattle.vd_duet.specs.Calls.{Places, Made, Calls, register_of}
 use Rattle.vd_duet.specs.Acting.{apply_at}
 use Rattle.vd_duet.specs.Laws.{at_host}
 use Rattle.vd_clear.specs.Copies.{written_by, each_made, clear_calls}

@@ -6,12 +6,13 @@ use Rattle.vd_base.specs.declared.protocols.Proto.TheVariants.{Local, Rep, Commi
 use Rattle.vd_base.specs.declared.rows.Row.{Row}
 use Rattle.vd_base.specs.Costs.{cost_at}
 use Rattle.vd_base.specs.Moves.{move_at}
+use Rattle.vd_base.specs.Holders.{holders}
 use Rattle.vd_execution.specs.Registers.{nth, words_from, digest_of}
 use Rattle.vd_execution.specs.Step.{Inputs}
 use Rattle.vd_execution.specs.World.{Tape}
 use Rattle.vd_execution.specs.Joint.{Hosts}
 use Rattle.vd_execution.specs.Text.{register}
-use Rattle.vd_duet.specs.Calls.{Places, hosts_of, holders, Stand}
+use Rattle.vd_duet.specs.Calls.{Places, hosts_of, Stand}
 use Rattle.vd_duet.specs.Laws.{Each, IsIn, IsHost, words_at}
 use Rattle.vd_joint.specs.Suite.{Suite, Content, Word, Cells}
 use Rattle.vd_suite.specs.Machine.{machine}

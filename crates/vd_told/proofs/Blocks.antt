@@ -5,6 +5,7 @@ use Rattle.vd_base.specs.declared.ids.HostId.{HostId}
 use Rattle.vd_base.specs.declared.ids.SlotId.{SlotId}
 use Rattle.vd_base.specs.declared.protocols.Proto.{Proto}
 use Rattle.vd_base.specs.HostSets.{host, same_host}
+use Rattle.vd_base.specs.Holders.{is_holder}
 use Rattle.vd_core.specs.declared.normal.Right.TheVariants.{Turn}
 use Rattle.vd_core.specs.Facts.{Sight}
 use Rattle.vd_constraints.specs.declared.labels.Labels.{Labels}
@@ -14,7 +15,7 @@ use Rattle.vd_meaning.specs.ProgramMeaning.{SlotState, Effect, word_at, in_order
 use Rattle.vd_space.specs.declared.problem.Problem.{Problem}
 use Rattle.vd_joint.specs.Block.{Block, End, Let, NewVar, NewArray, Store, Put, Output, If, For, each}
 use Rattle.vd_joint.specs.Joint.{Hosts, run_acts, Each, branch, choice, joint}
-use Rattle.vd_joint.specs.Suite.{is_at, picked, Made, Suite, Laws, hosts_of}
+use Rattle.vd_joint.specs.Suite.{picked, Made, Suite, Laws, hosts_of}
 use Rattle.vd_joint.specs.Emission.{Emitted, Emission, delivered, if_made, for_made, loop_registers, after_loop_registers}
 use Rattle.vd_joint.specs.Validity.{Fits, emission_of, turns_at, Placed, Reaches}
 use Rattle.vd_joint.proofs.Lists.{and_left, and_right, or_left, or_right, or_none_left, or_none_right, InRow, row_front, row_back}
@@ -46,10 +47,10 @@ module _ (m : Hosts) (s : Suite m) (problem : Problem) (list : List ℕ) (h : Ho
   abbrev Nobody : Block → Type 0
   Nobody b = (k : ℕ) → k < s.calls.hosts → (emits m s proto laws declared b).takes_part k ≡ false
 
-  somebody : (x : ℕ) → ((k : ℕ) → k < s.calls.hosts → is_at (proto x) (host k) ≡ false) → ⊥
+  somebody : (x : ℕ) → ((k : ℕ) → k < s.calls.hosts → is_holder (proto x) (host k) ≡ false) → ⊥
   somebody x none =
       let p = laws.somewhere (proto x) (declared x) in
-      opposite (is_at (proto x) (host p.0)) p.2 (none p.0 p.1)
+      opposite (is_holder (proto x) (host p.0)) p.2 (none p.0 p.1)
     where
       opposite : (b : Bool) → b ≡ true → b ≡ false → ⊥
       opposite true e f = cc
@@ -224,7 +225,7 @@ module _ (m : Hosts) (s : Suite m) (problem : Problem) (list : List ℕ) (h : Ho
   all_told End o k row all fits placed low e w c turn has is needs small t ts = refl
   all_told (Let x right rest) o k row all fits placed low e w c turn has is needs small t ts =
       let here = and_left _ _ low in
-      let reach = λ (i : right ≡ Turn) (g : ℕ) (p : is_at (proto x.0) (host g) ≡ true). needs g (turn_here m s proto laws declared x right rest g i p) in
+      let reach = λ (i : right ≡ Turn) (g : ℕ) (p : is_holder (proto x.0) (host g) ≡ true). needs g (turn_here m s proto laws declared x right rest g i p) in
       let a = let_after m s proto laws declared o e w c turn has x right t (row.0 ∙ sym is) (and_left _ _ all) fits.0 placed.0 small reach ts in
       ap₂ (λ (p q : List ℕ). p ++ q)
       (right_is m s problem list h laws declared clear known o e w c t turn has x right (and_left _ _ all) fits.0 placed.0 (and_right _ _ here) small reach ts)

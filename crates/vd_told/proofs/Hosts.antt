@@ -1,5 +1,5 @@
 -- Which moves come to a host, by what stands where.
-use Rattle.std.proofs.Common.{◌≡◌, ◌≢◌, ℕ, zero, suc, ◌+◌, ◌<◌, ◌≤◌, nat_eq, ◌&&◌, ◌||◌, not, Bool, true, false, true≢false, if◌then◌else◌, List, [], ◌∷◌, ◌++◌, length, slice_get, slice_index, refl, sym, ap, ap₂, ◌∙◌, arith, append-nil}
+use Rattle.std.proofs.Common.{◌≡◌, ◌≢◌, ℕ, zero, suc, ◌+◌, ◌<◌, ◌≤◌, nat_eq, ◌&&◌, not, Bool, true, false, true≢false, if◌then◌else◌, List, [], ◌∷◌, ◌++◌, length, slice_get, slice_index, refl, sym, ap, ◌∙◌, arith, append-nil}
 use Rattle.std.specs.Option.{option_map_or}
 use Rattle.std.proofs.lemmas.Bool.{and_parts, eq-eqb, eqb-true}
 use native.Mathlib.Decide.{ℕ_discrete}
@@ -8,9 +8,10 @@ use Rattle.vd_base.specs.declared.ids.SlotId.{SlotId}
 use Rattle.vd_base.specs.declared.protocols.Proto.{Proto}
 use Rattle.vd_base.specs.declared.protocols.Proto.TheVariants.{Local, Rep, Commit, Add, Xor}
 use Rattle.vd_base.specs.HostSets.{host, same_host}
+use Rattle.vd_base.specs.Holders.{is_holder}
 use Rattle.vd_space.specs.declared.problem.Problem.{Problem}
-use Rattle.vd_space.specs.Validity.{protocol, holder}
-use Rattle.vd_joint.specs.Suite.{is_at, picked}
+use Rattle.vd_space.specs.Validity.{protocol}
+use Rattle.vd_joint.specs.Suite.{picked}
 use Rattle.vd_assigned_dependence.specs.Hearing.{has_clear, word_if, stands, comes}
 use Rattle.vd_told.specs.Telling.{placed_by}
 
@@ -37,19 +38,12 @@ same_turned a b = both (nat_eq a b) (nat_eq b a) refl refl
     both false true e f = absurd (true≢false (sym (eq-eqb a b (sym (eqb-true b a f))) ∙ e))
     both false false e f = refl
 
-either_turned : (a b h : ℕ) → (nat_eq a h || nat_eq b h) ≡ (if nat_eq h a then true else nat_eq h b)
-either_turned a b h = ap₂ (λ (x y : Bool). x || y) (same_turned a h) (same_turned b h) ∙ at (nat_eq h a) (nat_eq h b)
-  where
-    at : (x y : Bool) → (x || y) ≡ (if x then true else y)
-    at true y = refl
-    at false y = refl
-
-pub holder_is : (q : Proto) (h : HostId) → holder q h ≡ is_at q (host h.0)
-holder_is (Local k) h = same_turned k.0 h.0
+pub holder_is : (q : Proto) (h : HostId) → is_holder q h ≡ is_holder q (host h.0)
+holder_is (Local k) h = refl
 holder_is (Rep set) h = refl
-holder_is (Commit p v) h = either_turned p.0 v.0 h.0
-holder_is (Add a b) h = either_turned a.0 b.0 h.0
-holder_is (Xor a b) h = either_turned a.0 b.0 h.0
+holder_is (Commit p v) h = refl
+holder_is (Add a b) h = refl
+holder_is (Xor a b) h = refl
 
 module _ (problem : Problem) (list : List ℕ) (h : HostId) where
   -- what comes is in clear where it comes to
@@ -59,8 +53,8 @@ module _ (problem : Problem) (list : List ℕ) (h : HostId) where
       (and_parts (stands problem list h (has_clear h) x) (not (nat_eq (slice_index list y.0) (slice_index list x.0))) e).0
 
   -- a slot of the program is kept at the hosts of its protocol
-  pub kept_at : (x : SlotId) → x.0 < length list → stands problem list h (λ p. holder p h) x ≡ is_at (placed_by problem list x.0) (host h.0)
-  kept_at x low = item_at (λ p. holder (protocol problem p) h) list x.0 low ∙ holder_is (protocol problem (slice_index list x.0)) h
+  pub kept_at : (x : SlotId) → x.0 < length list → stands problem list h (λ p. is_holder p h) x ≡ is_holder (placed_by problem list x.0) (host h.0)
+  kept_at x low = item_at (λ p. is_holder (protocol problem p) h) list x.0 low ∙ holder_is (protocol problem (slice_index list x.0)) h
 
 -- ---- a word for each host
 

@@ -6,6 +6,7 @@ use Rattle.vd_base.specs.declared.ids.SlotId.{SlotId}
 use Rattle.vd_base.specs.declared.protocols.Proto.{Proto}
 use Rattle.vd_base.specs.declared.protocols.Proto.TheVariants.{Local}
 use Rattle.vd_base.specs.HostSets.{host, same_host}
+use Rattle.vd_base.specs.Holders.{is_holder}
 use Rattle.vd_core.specs.declared.normal.Right.{Right}
 use Rattle.vd_core.specs.declared.normal.Right.TheVariants.{Lit, Turn, Copy, Apply, Input, Declassify, Endorse, Load, Get}
 use Rattle.vd_core.specs.Facts.{Sight, right_sees}
@@ -13,7 +14,7 @@ use Rattle.vd_constraints.specs.Scoped.{is_below, right_below}
 use Rattle.vd_meaning.specs.ProgramMeaning.{SlotState, word_at, right_word, after_right}
 use Rattle.vd_space.specs.declared.problem.Problem.{Problem}
 use Rattle.vd_joint.specs.Joint.{Hosts, run_acts, Each}
-use Rattle.vd_joint.specs.Suite.{is_at, Word, Made, Suite, Operand, Ready, Laws, hosts_of}
+use Rattle.vd_joint.specs.Suite.{Word, Made, Suite, Operand, Ready, Laws, hosts_of}
 use Rattle.vd_joint.specs.Emission.{Emitting, right_made}
 use Rattle.vd_joint.specs.Validity.{RightFits, RightPlaced, Reaches}
 use Rattle.vd_joint.proofs.Lists.{and_left, and_right}
@@ -85,13 +86,13 @@ module _ (m : Hosts) (s : Suite m) (problem : Problem) (list : List ℕ) (h : Ho
 
   module _ (known : h.0 < s.calls.hosts) (o : Sight) (e : Emitting s.calls proto) (w : m.World) (c : SlotState) (t : Tied m s proto o e.next e.held w c) where
     -- an index comes to each host at which the array is kept
-    pub index_is : (v i : SlotId) → is_below (length list) v ≡ true → Sees o Binding i.0 → Reaches m s proto i (λ k. is_at (proto v.0) (host k))
+    pub index_is : (v i : SlotId) → is_below (length list) v ≡ true → Sees o Binding i.0 → Reaches m s proto i (λ k. is_holder (proto v.0) (host k))
         → delivered_told m s.calls problem list h i e (hosts_of s.calls (proto v.0)) e.next w ≡ word_if (index_comes problem list h v i) (word_at c i)
     index_is v i low sees reaches =
         delivered_is i e (word_at c i) (hosts_of s.calls (proto v.0))
-        (picked_join m s laws proto (proto i.0) (λ k. is_at (proto v.0) (host k)) 0 s.calls.hosts (λ k lt is. reaches k (within lt) is) (omega arith))
+        (picked_join m s laws proto (proto i.0) (λ k. is_holder (proto v.0) (host k)) 0 s.calls.hosts (λ k lt is. reaches k (within lt) is) (omega arith))
         e.next w t.ready (operand_of m s proto laws declared o e.next e.held w c t i.0 sees)
-        ∙ picked_once h (comes_alone problem list h i) (word_at c i) (λ k. is_at (proto v.0) (host k)) s.calls.hosts known
+        ∙ picked_once h (comes_alone problem list h i) (word_at c i) (λ k. is_holder (proto v.0) (host k)) s.calls.hosts known
         ∙ ap (λ (b : Bool). word_if (b && comes_alone problem list h i) (word_at c i)) (sym (kept_at problem list h v (below (length list) v low)))
       where
         within : {k : ℕ} → k < 0 + s.calls.hosts → k < s.calls.hosts
@@ -104,7 +105,7 @@ module _ (m : Hosts) (s : Suite m) (problem : Problem) (list : List ℕ) (h : Ho
         given_is (comes problem list h y x) (proto x.0) (right_made s.calls proto (proto x.0) right e) w d.reached (right_word right turn c) (comes_clear problem list h y x) d.leads.runs d.stands
 
     pub right_is : (turn : ℕ) (has : ℕ → Bool) (x : SlotId) (right : Right) → right_sees right o ≡ true → RightFits s.calls.hosts right → RightPlaced m s proto (proto x.0) right → right_below (length list) right ≡ true
-        → turn < 2 ^ 32 → (right ≡ Turn → (k : ℕ) → is_at (proto x.0) (host k) ≡ true → has k ≡ true) → Turning m s proto laws declared has o e.next e.held e.loop w turn
+        → turn < 2 ^ 32 → (right ≡ Turn → (k : ℕ) → is_holder (proto x.0) (host k) ≡ true → has k ≡ true) → Turning m s proto laws declared has o e.next e.held e.loop w turn
         → right_told m s.calls problem list h x right e w ≡ right_heard problem list h x right c
     right_is turn has x (Lit n) sees fits placed low small reach turning = refl
     right_is turn has x Turn sees fits placed low small reach turning = refl

@@ -7,6 +7,7 @@ use Rattle.std.proofs.lemmas.List.Folds.{list_any-append}
 use Rattle.vd_base.specs.declared.ids.HostId.{HostId}
 use Rattle.vd_base.specs.declared.ids.SlotId.{SlotId}
 use Rattle.vd_base.specs.HostSets.{host, same_host}
+use Rattle.vd_base.specs.Holders.{is_holder}
 use Rattle.vd_core.specs.declared.normal.Right.{Right}
 use Rattle.vd_core.specs.declared.normal.Right.TheVariants.{Lit, Turn, Copy, Apply, Input, Declassify, Endorse, Load, Get}
 use Rattle.vd_core.specs.declared.normal.Stmt.TheOpen.{Stmt-F}
@@ -17,7 +18,7 @@ use Rattle.vd_space.specs.declared.problem.Problem.{Problem}
 use Rattle.vd_space.specs.Reading.{Read, all_named, all_told, named_by, read_step}
 use Rattle.vd_space.specs.Validity.{holds_at}
 use Rattle.vd_joint.specs.Block.{Block, End, Let, NewVar, NewArray, Store, Put, Output, If, For, each}
-use Rattle.vd_joint.specs.Suite.{is_at, Calls}
+use Rattle.vd_joint.specs.Suite.{Calls}
 use Rattle.vd_joint.specs.Emission.{Emission, right_takes_part, in_turn, stmt_emission}
 use Rattle.vd_joint.proofs.Lists.{and_left, and_right}
 use Rattle.vd_assigned_dependence.specs.Hearing.{run_of, read_of, heard_step, is_part}
@@ -89,7 +90,7 @@ module _ (problem : Problem) (list : List ℕ) (h : HostId) (l : Labels) where
     kept x = option_map_or (holds_at problem h) (slice_get list x.0) false
 
     abbrev at : SlotId → Bool
-    at x = is_at (placed_by problem list x.0) (host h.0)
+    at x = is_holder (placed_by problem list x.0) (host h.0)
 
     abbrev one_takes : Read → Bool
     one_takes r = list_any (same_host h) r.told || list_any kept r.named

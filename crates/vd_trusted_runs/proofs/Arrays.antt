@@ -6,6 +6,7 @@ use Rattle.std.proofs.lemmas.List.{get_or_past, get_or-set_other, get_or-set_sam
 use native.Mathlib.Decide.{ℕ_discrete}
 use Rattle.vd_base.specs.declared.ids.HostId.{HostId}
 use Rattle.vd_base.specs.declared.protocols.Proto.{Proto}
+use Rattle.vd_base.specs.Holders.{holders}
 use Rattle.vd_execution.specs.declared.instructions.Action.{Action}
 use Rattle.vd_execution.specs.declared.instructions.Action.TheVariants as action
 use Rattle.vd_execution.specs.declared.instructions.Reg.{Reg}
@@ -16,7 +17,7 @@ use Rattle.vd_execution.specs.Text.{register}
 use Rattle.vd_execution.specs.World.{Tape}
 use Rattle.vd_execution.proofs.Puts.{put_other, put_same}
 use Rattle.vd_duet.specs.Builder.{next_at, taken}
-use Rattle.vd_duet.specs.Calls.{Places, holders, hosts_of, register_of}
+use Rattle.vd_duet.specs.Calls.{Places, hosts_of, register_of}
 use Rattle.vd_duet.specs.Laws.{AreKnown, IsHost, IsIn}
 use Rattle.vd_duet.proofs.Leads.{taken_known, taken_there}
 use Rattle.vd_clear.specs.Copies.{each_made, written_by}

@@ -7,6 +7,7 @@ use Rattle.vd_base.specs.declared.ids.SlotId.{SlotId}
 use Rattle.vd_base.specs.declared.protocols.Proto.{Proto}
 use Rattle.vd_base.specs.declared.protocols.Proto.TheVariants.{Local}
 use Rattle.vd_base.specs.HostSets.{host}
+use Rattle.vd_base.specs.Holders.{is_holder}
 use Rattle.vd_core.specs.declared.normal.Right.{Right}
 use Rattle.vd_core.specs.declared.normal.Right.TheVariants.{Lit, Turn, Copy, Apply, Input, Declassify, Endorse, Load, Get}
 use Rattle.vd_core.specs.declared.normal.Stmt.TheOpen.{Stmt-F}
@@ -21,7 +22,7 @@ use Rattle.vd_execution.specs.Deals.{IsValidDeal}
 use Rattle.vd_duet.specs.Laws.{IsHost}
 use Rattle.vd_joint.specs.Block.{Block, End, Let, NewVar, NewArray, Store, Put, Output, If, For, each}
 use Rattle.vd_joint.specs.Joint.{Hosts as AnyHosts, Each as EachOf, IsIn, choice}
-use Rattle.vd_joint.specs.Suite.{Word, Cells, Made, Suite, Laws, is_at, picked, hosts_of as hosts_at}
+use Rattle.vd_joint.specs.Suite.{Word, Cells, Made, Suite, Laws, picked, hosts_of as hosts_at}
 use Rattle.vd_joint.specs.Emission.{Emitting, Emitted, Emission, delivered, right_made, if_made, for_made, loop_registers, after_loop_registers}
 use Rattle.vd_joint.specs.Validity.{Fits, Placed, RightFits, RightPlaced, Reaches, emission_of, turns_at}
 use Rattle.vd_joint.proofs.Lists.{InRow, front_kept, row_front, row_back, and_left, and_right, or_left, or_right}
@@ -135,7 +136,7 @@ module _ (hosts : ℕ) (t : Tape) (deal : IsValidDeal t) (inputs : ℕ → List 
 
   -- ---- bindings
   pub let_step : (o : Sight) (e : Em) (w0 : Hosts) (c0 : SlotState) (turn : ℕ) (has : ℕ → Bool) (x : SlotId) (right : Right) → Tie o e w0 c0 → x.0 ≡ length e.held
-      → right_sees right o ≡ true → RightFits hosts right → RightPlaced (machine t inputs) (suite t inputs hosts) proto (proto x.0) right → turn < 2 ^ 32 → (right ≡ Turn → (h : ℕ) → is_at (proto x.0) (host h) ≡ true → has h ≡ true)
+      → right_sees right o ≡ true → RightFits hosts right → RightPlaced (machine t inputs) (suite t inputs hosts) proto (proto x.0) right → turn < 2 ^ 32 → (right ≡ Turn → (h : ℕ) → is_holder (proto x.0) (host h) ≡ true → has h ≡ true)
       → right_flows k x right ≡ true → (w u : Hosts) (c : SlotState) → Right' o e.held w c → Loop has e w turn
       → RunsGadgets k.known t (right_made (suite_calls hosts) proto (proto x.0) right e).acts w u → (is_given k.given.endorsed x right ≡ true → IsOneWord k.known (right_made (suite_calls hosts) proto (proto x.0) right e).given.at u)
       → Goes o (with_use Binding x.0 o) e.next e.held (e.held ++ (right_made (suite_calls hosts) proto (proto x.0) right e).given ∷ []) (bound k.given.endorsed x right) turn w u c
@@ -528,7 +529,7 @@ module _ (hosts : ℕ) (t : Tape) (deal : IsValidDeal t) (inputs : ℕ → List 
   block_leads (Let x right rest) o count row all fits placed low flow e w0 c0 turn has is needs small ties ts w w' c trust loop run =
       let lows = and_parts (is_below n x && right_below n right) _ low in
       let flow' = and_parts (right_flows k x right) (flows k rest) flow in
-      let reach = λ (i : right ≡ Turn) (g : ℕ) (p : is_at (proto x.0) (host g) ≡ true). needs g (turn_here (machine t inputs) (suite t inputs hosts) proto theory declared x right rest g i p) in
+      let reach = λ (i : right ≡ Turn) (g : ℕ) (p : is_holder (proto x.0) (host g) ≡ true). needs g (turn_here (machine t inputs) (suite t inputs hosts) proto theory declared x right rest g i p) in
       let a0 = let_after (machine t inputs) (suite t inputs hosts) proto theory declared o e w0 c0 turn has x right ties (row.0 ∙ sym is) (and_left _ _ all) fits.0 placed.0 small reach ts in
       let step = let_step o e w0 c0 turn has x right ties (row.0 ∙ sym is) (and_left _ _ all) fits.0 placed.0 small reach flow'.0 w run.0 c trust loop run.1.0 run.1.1.0 in
       and_rest rest (block_leads rest) o (with_use Binding x.0 o) e _ 1 count w0 c0 _ turn has is row.1 (and_right _ _ all) fits.1 placed.1 lows.1 flow'.1

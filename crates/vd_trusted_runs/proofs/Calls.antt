@@ -7,11 +7,12 @@ use Rattle.vd_base.specs.declared.protocols.Proto.TheVariants.{Local, Rep, Commi
 use Rattle.vd_base.specs.Arity.{arity}
 use Rattle.vd_base.specs.HostSets.{host}
 use Rattle.vd_base.specs.Operations.{result_of}
+use Rattle.vd_base.specs.Holders.{holders}
 use Rattle.vd_execution.specs.declared.instructions.Action.TheVariants as action
 use Rattle.vd_execution.specs.Joint.{Hosts}
 use Rattle.vd_execution.specs.World.{Tape}
 use Rattle.vd_duet.specs.Builder.{next_at}
-use Rattle.vd_duet.specs.Calls.{Calls, Made, Places, holders, hosts_of, register_of}
+use Rattle.vd_duet.specs.Calls.{Calls, Made, Places, hosts_of, register_of}
 use Rattle.vd_duet.specs.Laws.{AreBelow, AreKnown, IsHost, NumberFits}
 use Rattle.vd_clear.specs.Copies.{clear_calls, each_made, written_by}
 use Rattle.vd_departing.specs.Departing.{AreRight, AreStill, GivesRight, RunsGadgets}

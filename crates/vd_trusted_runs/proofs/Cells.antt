@@ -7,6 +7,7 @@ use Rattle.vd_base.specs.declared.protocols.Proto.{Proto}
 use Rattle.vd_base.specs.declared.protocols.Proto.TheVariants.{Local}
 use Rattle.vd_base.specs.declared.rows.Row.TheVariants.{Variable as VariableRow}
 use Rattle.vd_base.specs.HostSets.{host}
+use Rattle.vd_base.specs.Holders.{holders, is_holder}
 use Rattle.vd_core.specs.declared.normal.Right.TheVariants.{Get}
 use Rattle.vd_core.specs.declared.normal.Stmt.TheOpen.{Stmt-F}
 use Rattle.vd_core.specs.Facts.{Sight}
@@ -15,10 +16,9 @@ use Rattle.vd_execution.specs.Gadgets.{Gadget}
 use Rattle.vd_execution.specs.Joint.{Hosts, Part}
 use Rattle.vd_execution.specs.World.{Tape}
 use Rattle.vd_execution.specs.Deals.{IsValidDeal}
-use Rattle.vd_duet.specs.Calls.{holders}
 use Rattle.vd_duet.specs.Laws.{AreKnown, IsHost}
 use Rattle.vd_joint.specs.Joint.{Each as EachOf}
-use Rattle.vd_joint.specs.Suite.{Cells, Made, Below, Laws, is_at, hosts_of as hosts_at}
+use Rattle.vd_joint.specs.Suite.{Cells, Made, Below, Laws, hosts_of as hosts_at}
 use Rattle.vd_joint.specs.Emission.{Emitting, delivered}
 use Rattle.vd_joint.specs.Validity.{Reaches}
 use Rattle.vd_joint.proofs.Sight.{Binding, Array, Sees, with_use, item_put}
@@ -80,7 +80,7 @@ module _ (hosts : ℕ) (t : Tape) (deal : IsValidDeal t) (inputs : ℕ → List 
         }
 
     -- ---- an index is told to the hosts of an array
-    module _ (v i : SlotId) (sees_i : Sees o Binding i.0) (sees_v : Sees o Array v.0) (reaches : Reaches _ (suite t inputs hosts) proto i (λ h. is_at (proto v.0) (host h))) (m : Hosts)
+    module _ (v i : SlotId) (sees_i : Sees o Binding i.0) (sees_v : Sees o Array v.0) (reaches : Reaches _ (suite t inputs hosts) proto i (λ h. is_holder (proto v.0) (host h))) (m : Hosts)
         (run : RunsGadgets k.known t (delivered (suite_calls hosts) proto (proto i.0) (part_of hosts t inputs proto clear e.held i.0) (hosts_at (suite_calls hosts) (proto v.0)) e.next).acts w m) where
       abbrev index : Made Gadget (List Part)
       index = delivered (suite_calls hosts) proto (proto i.0) (part_of hosts t inputs proto clear e.held i.0) (hosts_at (suite_calls hosts) (proto v.0)) e.next
@@ -89,7 +89,7 @@ module _ (hosts : ℕ) (t : Tape) (deal : IsValidDeal t) (inputs : ℕ → List 
       within lt = omega arith
 
       joins : EachOf (λ g. (g.0 < hosts) × ((suite t inputs hosts).joins (proto i.0) (Local g) ≡ true)) (hosts_at (suite_calls hosts) (proto v.0))
-      joins = picked_join _ (suite t inputs hosts) theory proto (proto i.0) (λ h. is_at (proto v.0) (host h)) 0 hosts (λ g lt is. reaches g (within lt) is) (omega arith)
+      joins = picked_join _ (suite t inputs hosts) theory proto (proto i.0) (λ h. is_holder (proto v.0) (host h)) 0 hosts (λ g lt is. reaches g (within lt) is) (omega arith)
 
       pub index_fresh : IsFresh e.next index.acts index.next
       index_fresh = delivered_fresh hosts t deal inputs dealt proto clear declared (proto i.0) (clear i.0) (part_of hosts t inputs proto clear e.held i.0) (hosts_at (suite_calls hosts) (proto v.0)) joins e.next ties.ready.known
@@ -107,7 +107,7 @@ module _ (hosts : ℕ) (t : Tape) (deal : IsValidDeal t) (inputs : ℕ → List 
       index_there is h j keep =
           index_right k.known m (word_at c i) index.given h
           (subst (In h) (sym (given_hosts hosts t deal inputs dealt proto clear declared (proto i.0) (part_of hosts t inputs proto clear e.held i.0) (hosts_at (suite_calls hosts) (proto v.0)) e.next))
-          (picked_in (λ g. is_at (proto v.0) (host g)) 0 hosts h (omega arith) (let lt = host_known hosts (holders (proto v.0)) h (declared v.0).known j in omega (arith, lt)) (holder_at (proto v.0) h j)))
+          (picked_in (λ g. is_holder (proto v.0) (host g)) 0 hosts h (omega arith) (let lt = host_known hosts (holders (proto v.0)) h (declared v.0).known j in omega (arith, lt)) (holder_at (proto v.0) h j)))
           (delivered_right hosts t deal inputs dealt proto clear declared k declassified stays (proto i.0) (clear i.0) (declared i.0) (stays i.0 is) (part_of hosts t inputs proto clear e.held i.0) (word_at c0 i) (word_at c i) (hosts_at (suite_calls hosts) (proto v.0)) joins e.next w0 ties.ready
           (operand_of _ (suite t inputs hosts) proto theory declared o e.next e.held w0 c0 ties i.0 sees_i) w m
           (operand hosts t inputs proto clear k.known k.kept o e.next e.held w0 c0 ties w c trust i.0 sees_i is) run) keep

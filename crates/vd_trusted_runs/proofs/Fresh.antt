@@ -5,6 +5,7 @@ use Rattle.vd_base.specs.declared.operations.Op.{Op}
 use Rattle.vd_base.specs.declared.operations.Op.TheVariants as op
 use Rattle.vd_base.specs.declared.protocols.Proto.{Proto}
 use Rattle.vd_base.specs.declared.protocols.Proto.TheVariants.{Local, Rep, Commit, Add, Xor}
+use Rattle.vd_base.specs.Holders.{holders}
 use Rattle.vd_execution.specs.declared.instructions.Action.{Action}
 use Rattle.vd_execution.specs.declared.instructions.Action.TheVariants as action
 use Rattle.vd_execution.specs.declared.instructions.Binary.{Binary}
@@ -14,7 +15,7 @@ use Rattle.vd_execution.specs.Gadgets.{Gadget, Alone, Tells}
 use Rattle.vd_execution.specs.Joint.{Part}
 use Rattle.vd_duet.specs.Acting.{is_among}
 use Rattle.vd_duet.specs.Builder.{next_at, taken}
-use Rattle.vd_duet.specs.Calls.{Made, Places, holders, hosts_of, register_of}
+use Rattle.vd_duet.specs.Calls.{Made, Places, hosts_of, register_of}
 use Rattle.vd_duet.specs.Laws.{AreKnown, Each}
 use Rattle.vd_duet.proofs.Leads.{taken_bounds, taken_known}
 use Rattle.vd_clear.specs.Copies.{adopted, applied_at, compared, each_made, first_register, kept_by, literal_at, operated, passed, shown, told, with_number, written_by}

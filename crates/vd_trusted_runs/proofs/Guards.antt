@@ -7,17 +7,17 @@ use Rattle.vd_base.specs.declared.ids.SlotId.{SlotId}
 use Rattle.vd_base.specs.declared.protocols.Proto.{Proto}
 use Rattle.vd_base.specs.declared.protocols.Proto.TheVariants.{Local}
 use Rattle.vd_base.specs.HostSets.{host}
+use Rattle.vd_base.specs.Holders.{holders, is_holder}
 use Rattle.vd_core.specs.declared.normal.Right.{Right}
 use Rattle.vd_core.specs.declared.normal.Right.TheVariants.{Lit, Turn, Copy, Apply, Input, Declassify, Endorse, Load, Get}
 use Rattle.vd_constraints.specs.Scoped.{is_below, right_below, stmt_below}
 use Rattle.vd_execution.specs.Joint.{Hosts, Part}
 use Rattle.vd_execution.specs.World.{Tape}
 use Rattle.vd_execution.specs.Deals.{IsValidDeal}
-use Rattle.vd_duet.specs.Calls.{holders}
 use Rattle.vd_duet.specs.Laws.{AreKnown, Each, IsHost}
 use Rattle.vd_joint.specs.Block.{Block, End, Let, NewVar, NewArray, Store, Put, Output, If, For, each}
 use Rattle.vd_joint.specs.Joint.{Each as EachOf}
-use Rattle.vd_joint.specs.Suite.{Word, Ready, Operand, is_at}
+use Rattle.vd_joint.specs.Suite.{Word, Ready, Operand}
 use Rattle.vd_joint.specs.Emission.{Emission, delivered}
 use Rattle.vd_joint.specs.Validity.{Fits, Placed, RightFits, RightPlaced, emission_of}
 use Rattle.vd_joint.proofs.Lists.{or_left, or_right}
@@ -138,10 +138,10 @@ module _ (hosts : ℕ) (t : Tape) (deal : IsValidDeal t) (inputs : ℕ → List 
       NoneKeeps test = (h : ℕ) → h < hosts → test h ≡ true → k.known h ≡ true → ⊥
 
       -- a slot that is kept stands at a host that keeps
-      nowhere_kept : (x : ℕ) (test : ℕ → Bool) → NoneKeeps test → ((h : ℕ) → is_at (proto x) (host h) ≡ true → test h ≡ true) → IsKeptAt k.known (proto x) → ⊥
+      nowhere_kept : (x : ℕ) (test : ℕ → Bool) → NoneKeeps test → ((h : ℕ) → is_holder (proto x) (host h) ≡ true → test h ≡ true) → IsKeptAt k.known (proto x) → ⊥
       nowhere_kept x test none at some = none some.0 (host_known hosts (holders (proto x)) some.0 (declared x).known some.1.0) (at some.0 (holder_at (proto x) some.0 some.1.0)) some.1.1
 
-      not_kept : (x : ℕ) (test : ℕ → Bool) → NoneKeeps test → ((h : ℕ) → is_at (proto x) (host h) ≡ true → test h ≡ true) → not (k.kept x) ≡ true
+      not_kept : (x : ℕ) (test : ℕ → Bool) → NoneKeeps test → ((h : ℕ) → is_holder (proto x) (host h) ≡ true → test h ≡ true) → not (k.kept x) ≡ true
       not_kept x test none at = not_if (k.kept x) (λ is. nowhere_kept x test none at (stays x is))
 
       not_false : (b : Bool) → b ≡ false → not b ≡ true
@@ -151,7 +151,7 @@ module _ (hosts : ℕ) (t : Tape) (deal : IsValidDeal t) (inputs : ℕ → List 
       low_of : (x : SlotId) → is_below n x ≡ true → x.0 < n
       low_of x e = below n x e
 
-      right_hidden : (x : SlotId) (right : Right) (test : ℕ → Bool) → NoneKeeps test → ((h : ℕ) → is_at (proto x.0) (host h) ≡ true → test h ≡ true) → is_below n x ≡ true → RightFits hosts right
+      right_hidden : (x : SlotId) (right : Right) (test : ℕ → Bool) → NoneKeeps test → ((h : ℕ) → is_holder (proto x.0) (host h) ≡ true → test h ≡ true) → is_below n x ≡ true → RightFits hosts right
           → RightPlaced _ (suite t inputs hosts) proto (proto x.0) right → right_hides k x right ≡ true
       right_hidden x (Lit v) test none at low fits placed = refl
       right_hidden x Turn test none at low fits placed = refl
@@ -159,7 +159,7 @@ module _ (hosts : ℕ) (t : Tape) (deal : IsValidDeal t) (inputs : ℕ → List 
       right_hidden x (Apply op ys) test none at low fits placed = refl
       right_hidden x (Input h) test none at low fits placed =
           let same : proto x.0 ≡ Local h = input_stands h (proto x.0) placed in
-          not_if (k.known h.0) (λ keep. none h.0 fits (at h.0 (subst (λ p. is_at p (host h.0) ≡ true) (sym same) (holder_at (Local h) h.0 (inl refl)))) keep)
+          not_if (k.known h.0) (λ keep. none h.0 fits (at h.0 (subst (λ p. is_holder p (host h.0) ≡ true) (sym same) (holder_at (Local h) h.0 (inl refl)))) keep)
       right_hidden x (Declassify y to) test none at low fits placed =
           and_of (not (k.given.declassified x.0 y.0)) (not (k.freed.declassified x.0 y.0)) (not_false (k.given.declassified x.0 y.0) (declassified x.0 y.0)) (not_false (k.freed.declassified x.0 y.0) (closed x.0 y.0).0)
       right_hidden x (Endorse y to) test none at low fits placed =

@@ -2,13 +2,14 @@
 use Rattle.std.proofs.Common.{◌≡◌, ℕ, ◌+◌, ◌^◌, ◌<◌, Bool, true, List, [], ◌∷◌, ◌++◌, inl, inr, length, slice_index, slice_index_or, refl, sym, ap, subst, ◌∙◌, arith}
 use Rattle.vd_base.specs.declared.protocols.Proto.{Proto}
 use Rattle.vd_base.specs.declared.protocols.Proto.TheVariants.{Local, Rep, Commit, Add, Xor}
+use Rattle.vd_base.specs.Holders.{holders}
 use Rattle.vd_core.specs.Facts.{Sight}
 use Rattle.vd_meaning.specs.World.{World}
 use Rattle.vd_meaning.specs.ProgramMeaning.{SlotState}
 use Rattle.vd_execution.specs.Joint.{Hosts}
 use Rattle.vd_execution.specs.Step.{Inputs}
 use Rattle.vd_execution.specs.World.{Tape}
-use Rattle.vd_duet.specs.Calls.{Places, hosts_of, holders}
+use Rattle.vd_duet.specs.Calls.{Places, hosts_of}
 use Rattle.vd_duet.specs.Laws.{AreBelow, IsIn}
 use Rattle.vd_joint.specs.Joint.{Hosts as AnyHosts}
 use Rattle.vd_joint.specs.Suite.{Content, Word, Cells, Suite}

@@ -6,6 +6,7 @@ use Rattle.vd_base.specs.declared.ids.HostId.{HostId}
 use Rattle.vd_base.specs.declared.ids.SlotId.{SlotId}
 use Rattle.vd_base.specs.declared.protocols.Proto.{Proto}
 use Rattle.vd_base.specs.HostSets.{host}
+use Rattle.vd_base.specs.Holders.{holders, is_holder}
 use Rattle.vd_core.specs.declared.normal.Right.{Right}
 use Rattle.vd_core.specs.declared.normal.Right.TheVariants.{Lit, Turn, Copy, Apply, Input, Declassify, Endorse, Load, Get}
 use Rattle.vd_core.specs.Facts.{Sight, is_binding, right_sees}
@@ -15,10 +16,9 @@ use Rattle.vd_execution.specs.Joint.{Hosts}
 use Rattle.vd_execution.specs.World.{Tape}
 use Rattle.vd_execution.specs.Deals.{IsValidDeal}
 use Rattle.vd_execution.proofs.Words.{operation_word}
-use Rattle.vd_duet.specs.Calls.{holders}
 use Rattle.vd_duet.specs.Laws.{AreKnown, Each}
 use Rattle.vd_joint.specs.Joint.{Each as EachOf}
-use Rattle.vd_joint.specs.Suite.{Word, Made, Gives, Ready, Laws, is_at}
+use Rattle.vd_joint.specs.Suite.{Word, Made, Gives, Ready, Laws}
 use Rattle.vd_joint.specs.Emission.{Emitting, all_moved, right_made}
 use Rattle.vd_joint.specs.Validity.{RightFits, RightPlaced}
 use Rattle.vd_joint.proofs.Sight.{Binding, Variable, Sees}
@@ -185,7 +185,7 @@ module _ (hosts : ℕ) (t : Tape) (deal : IsValidDeal t) (inputs : ℕ → List 
           ap (λ b. b || k.kept y.0) (sym off) ∙ either
 
       pub right_right : (x : SlotId) (right : Right) → IsCalm right → right_sees right o ≡ true → RightFits hosts right → RightPlaced _ (suite t inputs hosts) proto (proto x.0) right
-          → (right ≡ Turn → (h : ℕ) → is_at (proto x.0) (host h) ≡ true → has h ≡ true) → LoopIsRight
+          → (right ≡ Turn → (h : ℕ) → is_holder (proto x.0) (host h) ≡ true → has h ≡ true) → LoopIsRight
           → k.kept x.0 ≡ true → right_flows k x right ≡ true → is_given k.given.endorsed x right ≡ false
           → (u : Hosts) → RunsGadgets k.known t (right_made (suite_calls hosts) proto (proto x.0) right e).acts w u
           → AreRight k.known u (right_made (suite_calls hosts) proto (proto x.0) right e).given.at (right_word right turn c)

@@ -7,6 +7,7 @@ use Rattle.vd_base.specs.declared.ids.SlotId.{SlotId}
 use Rattle.vd_base.specs.declared.protocols.Proto.{Proto}
 use Rattle.vd_base.specs.declared.protocols.Proto.TheVariants.{Local}
 use Rattle.vd_base.specs.HostSets.{host}
+use Rattle.vd_base.specs.Holders.{holders, is_holder}
 use Rattle.vd_core.specs.declared.normal.Right.{Right}
 use Rattle.vd_core.specs.declared.normal.Right.TheVariants.{Lit, Turn, Copy, Apply, Input, Declassify, Endorse, Load, Get}
 use Rattle.vd_core.specs.declared.normal.Stmt.TheOpen.{Stmt-F}
@@ -23,10 +24,10 @@ use Rattle.vd_execution.specs.World.{Tape}
 use Rattle.vd_execution.specs.Deals.{IsValidDeal}
 use Rattle.vd_execution.proofs.Puts.{put_other, put_same}
 use Rattle.vd_duet.specs.Builder.{next_at}
-use Rattle.vd_duet.specs.Calls.{Calls, Places, holders, hosts_of, register_of}
+use Rattle.vd_duet.specs.Calls.{Calls, Places, hosts_of, register_of}
 use Rattle.vd_duet.specs.Laws.{AreKnown, IsHost, IsIn}
 use Rattle.vd_clear.specs.Copies.{renewed}
-use Rattle.vd_joint.specs.Suite.{Made, is_at}
+use Rattle.vd_joint.specs.Suite.{Made}
 use Rattle.vd_joint.specs.Emission.{Emitting, and_on, right_made}
 use Rattle.vd_joint.specs.Validity.{RightFits, RightPlaced}
 use Rattle.vd_joint.proofs.Sight.{Use, Binding, Variable, Array, Sees, content, with_use, item_put}
@@ -120,7 +121,7 @@ module _ (hosts : ℕ) (t : Tape) (deal : IsValidDeal t) (inputs : ℕ → List 
         ∙ ap (λ (l : List ℕ). given (with_word x word c) l) (later more)
 
     module _ (x : SlotId) (right : Right) (calm : IsCalm right) (is : x.0 ≡ length e.held) (sees : right_sees right o ≡ true) (fits : RightFits hosts right) (placed : RightPlaced _ (suite t inputs hosts) proto (proto x.0) right) (small : turn < 2 ^ 32)
-        (reach : right ≡ Turn → (h : ℕ) → is_at (proto x.0) (host h) ≡ true → has h ≡ true) (loop : Loop) (flows : right_flows k x right ≡ true) (u : Hosts)
+        (reach : right ≡ Turn → (h : ℕ) → is_holder (proto x.0) (host h) ≡ true → has h ≡ true) (loop : Loop) (flows : right_flows k x right ≡ true) (u : Hosts)
         (run : RunsGadgets k.known t (right_made (suite_calls hosts) proto (proto x.0) right e).acts w u)
         (one : is_given k.given.endorsed x right ≡ true → IsOneWord k.known (right_made (suite_calls hosts) proto (proto x.0) right e).given.at u) where
       abbrev made : Made Gadget Parts

@@ -6,6 +6,7 @@ use native.Mathlib.Decide.{ℕ_discrete}
 use Rattle.vd_base.specs.declared.ids.SlotId.{SlotId}
 use Rattle.vd_base.specs.declared.protocols.Proto.{Proto}
 use Rattle.vd_base.specs.HostSets.{host}
+use Rattle.vd_base.specs.Holders.{is_holder}
 use Rattle.vd_core.specs.declared.normal.Right.{Right}
 use Rattle.vd_core.specs.declared.normal.Right.TheVariants.{Lit, Turn, Copy, Apply, Input, Declassify, Endorse, Load, Get}
 use Rattle.vd_core.specs.declared.normal.Stmt.TheOpen.{Stmt-F}
@@ -18,7 +19,7 @@ use Rattle.vd_execution.specs.World.{Tape}
 use Rattle.vd_execution.specs.Deals.{IsValidDeal}
 use Rattle.vd_joint.specs.Block.{Block, End, Let, NewVar, NewArray, Store, Put, Output, If, For, each}
 use Rattle.vd_joint.specs.Joint.{choice}
-use Rattle.vd_joint.specs.Suite.{Laws, is_at, hosts_of as hosts_at}
+use Rattle.vd_joint.specs.Suite.{Laws, hosts_of as hosts_at}
 use Rattle.vd_joint.specs.Emission.{Emission, Emitted, delivered}
 use Rattle.vd_joint.specs.Validity.{Fits, Placed, Reaches, turns_at}
 use Rattle.vd_joint.proofs.Lists.{InRow, row_front, row_back, and_left, and_right, or_left, or_right}
@@ -313,7 +314,7 @@ module _ (hosts : ℕ) (t : Tape) (deal : IsValidDeal t) (inputs : ℕ → List 
   block_stops (Let x right rest) o count row all fits placed low flow e w0 c0 turn has is needs small ties ts w w' c trust loop (inr run) =
       let lows = and_parts (is_below n x && right_below n right) _ low in
       let flow' = and_parts (right_flows k x right) (flows k rest) flow in
-      let reach = λ (i : right ≡ Turn) (g : ℕ) (p : is_at (proto x.0) (host g) ≡ true). needs g (turn_here (machine t inputs) (suite t inputs hosts) proto theory declared x right rest g i p) in
+      let reach = λ (i : right ≡ Turn) (g : ℕ) (p : is_holder (proto x.0) (host g) ≡ true). needs g (turn_here (machine t inputs) (suite t inputs hosts) proto theory declared x right rest g i p) in
       let a0 = let_after (machine t inputs) (suite t inputs hosts) proto theory declared o e w0 c0 turn has x right ties (row.0 ∙ sym is) (and_left _ _ all) fits.0 placed.0 small reach ts in
       let step = blocks.let_step hosts t deal inputs dealt proto clear declared k declassified stays heard n endorses closed alike o e w0 c0 turn has x right ties (row.0 ∙ sym is) (and_left _ _ all) fits.0 placed.0 small reach flow'.0 w run.0 c trust loop run.1.0 run.1.1.0 in
       rest_stops rest (block_stops rest) o (with_use Binding x.0 o) e _ 1 count w0 c0 _ turn has is row.1 (and_right _ _ all) fits.1 placed.1 lows.1 flow'.1

@@ -6,10 +6,10 @@ use Rattle.vd_base.specs.declared.ids.HostId.{HostId}
 use Rattle.vd_base.specs.declared.protocols.Proto.{Proto}
 use Rattle.vd_base.specs.HostSets.{host, hosts}
 use Rattle.vd_base.specs.Protocols.{protocols_of}
-use Rattle.vd_space.specs.Validity.{holder}
+use Rattle.vd_base.specs.Holders.{is_holder}
 
 abbrev is_held : ℕ → Proto → Bool
-is_held n p = list_any (holder p) (hosts n)
+is_held n p = list_any (is_holder p) (hosts n)
 
 all_held : (n : ℕ) → n ≤ 4 → list_all (is_held n) (protocols_of n) ≡ true
 unfolding lib.Count.ones
@@ -23,14 +23,14 @@ all_held (suc (suc (suc (suc (suc n))))) le = absurd (omega arith)
 pub record Holder (n : ℕ) (p : Proto) : Type 0 where
   pub host : HostId
   pub low : host.0 < n
-  pub holds : holder p host ≡ true
+  pub holds : is_holder p host ≡ true
 
-one_of : (p : Proto) (a n : ℕ) → list_any (holder p) (map host (range_with_len a n)) ≡ true → (k : ℕ) × ((k < a + n) × (holder p (host k) ≡ true))
+one_of : (p : Proto) (a n : ℕ) → list_any (is_holder p) (map host (range_with_len a n)) ≡ true → (k : ℕ) × ((k < a + n) × (is_holder p (host k) ≡ true))
 one_of p a zero h = absurd (true≢false (sym h))
-one_of p a (suc n) h = by (holder p (host a)) refl h (one_of p (a + 1) n)
+one_of p a (suc n) h = by (is_holder p (host a)) refl h (one_of p (a + 1) n)
   where
-    by : (b : Bool) → holder p (host a) ≡ b → (b || list_any (holder p) (map host (range_with_len (a + 1) n))) ≡ true
-        → (list_any (holder p) (map host (range_with_len (a + 1) n)) ≡ true → (k : ℕ) × ((k < a + 1 + n) × (holder p (host k) ≡ true))) → (k : ℕ) × ((k < a + suc n) × (holder p (host k) ≡ true))
+    by : (b : Bool) → is_holder p (host a) ≡ b → (b || list_any (is_holder p) (map host (range_with_len (a + 1) n))) ≡ true
+        → (list_any (is_holder p) (map host (range_with_len (a + 1) n)) ≡ true → (k : ℕ) × ((k < a + 1 + n) × (is_holder p (host k) ≡ true))) → (k : ℕ) × ((k < a + suc n) × (is_holder p (host k) ≡ true))
     by true e h' later = (a, (omega arith, e))
     by false e h' later = let r = later h' in let lt = r.1.0 in (r.0, (omega arith, r.1.1))
 

@@ -10,6 +10,7 @@ use Rattle.vd_base.specs.declared.protocols.Proto.{Proto}
 use Rattle.vd_base.specs.declared.protocols.Proto.TheVariants.{Local}
 use Rattle.vd_base.specs.Costs.{cost_at}
 use Rattle.vd_base.specs.Moves.{move_at}
+use Rattle.vd_base.specs.Holders.{proto_in}
 use Rattle.vd_space.specs.declared.problem.Problem.{Problem}
 use Rattle.vd_space.specs.declared.problem.Making.{Making}
 use Rattle.vd_space.specs.declared.problem.Output.{Output}
@@ -21,7 +22,7 @@ use Rattle.vd_space.specs.Labelled.{IsLabelled}
 use Rattle.vd_space.specs.Spaces.{IsProblem}
 use Rattle.vd_space.proofs.Prices.{row_price}
 use Rattle.vd_space.proofs.Priced.{small, told_price}
-use Rattle.vd_usual.specs.Rows.{weighed, proto_at}
+use Rattle.vd_usual.specs.Rows.{weighed}
 use Rattle.vd_usual.specs.Terms.{row_at, operation_at, operations_of, sum_of, with_output, IsTable, costs_with, greatest, AreCosts}
 use Rattle.vd_usual.proofs.Numbers.{if_pos, weigh_pos, sum_pos, passes_low, weighed_low, sum_low}
 use Rattle.vd_usual.specs.Ledger.{AreSmallTerms}
@@ -92,7 +93,7 @@ module _ (problem : Problem) where
       row = row_at terms o.slot.0
 
       abbrev told : ℕ → Option ℕ
-      told p = move_at (proto_at (protocols problem) p) (Local o.host)
+      told p = move_at (proto_in (protocols problem) p) (Local o.host)
 
       output_table : IsTable problem (costs_with problem (o ∷ rest)) (set terms o.slot.0 (with_output (protocols problem) o row))
       output_table = set_table problem (costs_with problem rest) (costs_with problem (o ∷ rest)) terms o.slot.0 (with_output (protocols problem) o row) are.table low

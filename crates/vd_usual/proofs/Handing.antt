@@ -4,10 +4,11 @@ use Rattle.std.specs.Prelude.{option_map, unwrap_or}
 use Rattle.std.proofs.lemmas.Bool.{cases_eq}
 use Rattle.std.proofs.lemmas.List.{get_or_default, get_or-set_same, get_or-set_other, set_past}
 use Rattle.vd_base.specs.declared.protocols.Proto.{Proto}
+use Rattle.vd_base.specs.Holders.{proto_in}
 use Rattle.vd_space.specs.declared.problem.Use.{Use}
 use Rattle.vd_space.proofs.Priced.{listed_or_not}
 use Rattle.vd_usual.specs.declared.ledger.Ledger.{Ledger}
-use Rattle.vd_usual.specs.Rows.{amounts_of, emptied_of, if_passes, given_from, givens_of, proto_at}
+use Rattle.vd_usual.specs.Rows.{amounts_of, emptied_of, if_passes, given_from, givens_of}
 use Rattle.vd_usual.specs.Terms.{row_at}
 use Rattle.vd_usual.specs.Ledger.{AreSmall, AreSmallTerms, places_at, given_by, with_taken, with_given, handed_on}
 use Rattle.vd_usual.proofs.Burden.{amount_at_is, emptied_at, size_by}
@@ -53,5 +54,5 @@ handed_is list candidates at u ledger between after source target given source_i
 
 pub givens_few : (list : List Proto) (weight : ℕ) (sources targets : List Bool) (taken given : List ℕ) → given ≡ givens_of list weight sources targets taken → length list < 256 → length given < 256
 givens_few list weight sources targets taken given is few =
-    let size = ap length is ∙ size_by (length list) (λ p. unwrap_or (if_passes (get_or sources p false) (given_from list weight targets taken (proto_at list p))) 0) in
+    let size = ap length is ∙ size_by (length list) (λ p. unwrap_or (if_passes (get_or sources p false) (given_from list weight targets taken (proto_in list p))) 0) in
     omega (arith, size, few)

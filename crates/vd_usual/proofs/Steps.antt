@@ -12,7 +12,8 @@ use Rattle.vd_space.specs.Costs.{total, weigh}
 use Rattle.vd_space.specs.Bounds.{only_if, least_at, shifted_use, slot_shift, use_shift}
 use Rattle.vd_space.specs.Usual.{with_amount, shift_to, from_target, to_source, in_list_order}
 use Rattle.vd_space.proofs.Totals.{total_append}
-use Rattle.vd_usual.specs.Rows.{if_passes, weighed, amounts_of, given_at, given_from, givens_of, proto_at}
+use Rattle.vd_usual.specs.Rows.{if_passes, weighed, amounts_of, given_at, given_from, givens_of}
+use Rattle.vd_base.specs.Holders.{proto_in}
 use Rattle.vd_usual.specs.Terms.{row_at, candidates_of, IsTable, terms_after}
 use Rattle.vd_usual.specs.Ledger.{one_shift, made}
 use Rattle.vd_usual.proofs.Numbers.{if_pos, least_pos}
@@ -87,12 +88,12 @@ module _ (problem : Problem) where
       given = givens_of (protocols problem) u.weight sources_ targets_ taken
 
       abbrev least : ℕ → Option ℕ
-      least p = given_from (protocols problem) u.weight targets_ taken (proto_at (protocols problem) p)
+      least p = given_from (protocols problem) u.weight targets_ taken (proto_in (protocols problem) p)
 
       least_is : (k : ℕ) → least_at problem [] u.target.0 ((shifted_use problem (shifts ++ made at 0 true given k) at u).value k) ≡ option_map pos (least k)
       least_is k =
           least_pos many (λ q. only_if (is_candidate problem u.target.0 q) ((shifted_use problem (shifts ++ made at 0 true given k) at u).value k q))
-          (given_at (protocols problem) u.weight targets_ taken (proto_at (protocols problem) k))
+          (given_at (protocols problem) u.weight targets_ taken (proto_in (protocols problem) k))
           (λ q low.
           let split = total_append (use_shift at k q) shifts (made at 0 true given k) in
           let past = source_past at at k q true given k (omega arith) in

@@ -5,6 +5,7 @@ use Rattle.std.proofs.lemmas.Int.{ints}
 use Rattle.std.proofs.lemmas.Option.{slice_get_within, get_or_from_slice_get}
 use Rattle.std.proofs.lemmas.List.{length-map, get_or_past, drop_more, take_more}
 use Rattle.vd_base.specs.Moves.{move_at}
+use Rattle.vd_base.specs.Holders.{proto_in}
 use Rattle.vd_space.specs.declared.problem.Problem.{Problem}
 use Rattle.vd_space.specs.declared.problem.Use.{Use}
 use Rattle.vd_space.specs.Validity.{protocols, protocol}
@@ -16,7 +17,7 @@ use Rattle.vd_space.proofs.Totals.{total_append}
 use Rattle.vd_space.proofs.Priced.{heft_append, listed_or_not, small}
 use Rattle.vd_space.proofs.Prices.{move_price}
 use Rattle.vd_usual.specs.declared.ledger.Ledger.{Ledger}
-use Rattle.vd_usual.specs.Rows.{if_passes, weighed, amounts_of, emptied_of, raised_of, given_at, given_from, proto_at}
+use Rattle.vd_usual.specs.Rows.{if_passes, weighed, amounts_of, emptied_of, raised_of, given_at, given_from}
 use Rattle.vd_usual.specs.Terms.{row_at, candidates_of, IsTable, terms_after, greatest}
 use Rattle.vd_usual.specs.Ledger.{made, with_taken, places_at, given_by, handed_on, IsHandedOn, AreSmall, AreSmallTerms}
 use Rattle.vd_usual.proofs.Numbers.{least_low, passes_low, weighed_low, more_low}
@@ -56,7 +57,7 @@ module _ (problem : Problem) (few : length problem.hosts ≤ 4) (candidates : Li
     taken_size = length-map (row_at ledger.terms u.target.0) (λ o. unwrap_or o 0) ∙ row_size
 
     given_size : length given ≡ many
-    given_size = size_by many (λ p. unwrap_or (if_passes (get_or (places_at candidates u.source.0) p false) (given_from (protocols problem) u.weight (places_at candidates u.target.0) taken (proto_at (protocols problem) p))) 0)
+    given_size = size_by many (λ p. unwrap_or (if_passes (get_or (places_at candidates u.source.0) p false) (given_from (protocols problem) u.weight (places_at candidates u.target.0) taken (proto_in (protocols problem) p))) 0)
 
     within_taken : (p : ℕ) → p < many → p < length taken
     within_taken p low = omega (arith, taken_size)
@@ -119,21 +120,21 @@ module _ (problem : Problem) (few : length problem.hosts ≤ 4) (candidates : Li
 
     -- ---- how much there is to hand on
 
-    priced : (p q : ℕ) → unwrap_or (move_at (proto_at (protocols problem) p) (proto_at (protocols problem) q)) 0 ≤ 212
+    priced : (p q : ℕ) → unwrap_or (move_at (proto_in (protocols problem) p) (proto_in (protocols problem) q)) 0 ≤ 212
     priced p q = move_price (protocol problem p) (protocol problem q) (small problem few p) (small problem few q)
 
     given_low : (most p : ℕ) → ((q : ℕ) → 212 * u.weight + get_or taken q 0 ≤ most) → get_or given p 0 ≤ most
     given_low most p each = elim (listed_or_not many p) [
       | inl low ↦
-          let from = proto_at (protocols problem) p in
+          let from = proto_in (protocols problem) p in
           let targets_ = places_at candidates u.target.0 in
           let least : unwrap_or (given_from (protocols problem) u.weight targets_ taken from) 0 ≤ most =
           least_low many (given_at (protocols problem) u.weight targets_ taken from) most (λ q.
-          let cost = weighed_low u.weight 212 (move_at from (proto_at (protocols problem) q)) (priced p q) in
-          let sum = more_low (weighed u.weight (move_at from (proto_at (protocols problem) q))) (get_or taken q 0) (212 * u.weight) cost in
+          let cost = weighed_low u.weight 212 (move_at from (proto_in (protocols problem) q)) (priced p q) in
+          let sum = more_low (weighed u.weight (move_at from (proto_in (protocols problem) q))) (get_or taken q 0) (212 * u.weight) cost in
           let room = each q in
-          passes_low (get_or targets_ q false) (option_map (λ v. v + get_or taken q 0) (weighed u.weight (move_at from (proto_at (protocols problem) q)))) most (omega (arith, sum, room))) in
-          subst (λ n. n ≤ most) (sym (at_by many (λ r. unwrap_or (if_passes (get_or (places_at candidates u.source.0) r false) (given_from (protocols problem) u.weight targets_ taken (proto_at (protocols problem) r))) 0) p 0 low))
+          passes_low (get_or targets_ q false) (option_map (λ v. v + get_or taken q 0) (weighed u.weight (move_at from (proto_in (protocols problem) q)))) most (omega (arith, sum, room))) in
+          subst (λ n. n ≤ most) (sym (at_by many (λ r. unwrap_or (if_passes (get_or (places_at candidates u.source.0) r false) (given_from (protocols problem) u.weight targets_ taken (proto_in (protocols problem) r))) 0) p 0 low))
           (passes_low (get_or (places_at candidates u.source.0) p false) (given_from (protocols problem) u.weight targets_ taken from) most least)
       | inr past ↦
           let none = get_or_past given p 0 (omega (arith, given_size, past)) in

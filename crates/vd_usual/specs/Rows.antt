@@ -2,8 +2,6 @@
 use Rattle.std.specs.Prelude.{ℕ, zero, suc, ◌+◌, ◌*◌, min, Bool, false, if◌then◌else◌, Option, Some, None, option_map, unwrap_or, List, map, length, slice_index_or}
 use Rattle.std.specs.List.{range_with_len}
 use Rattle.vd_base.specs.declared.protocols.Proto.{Proto}
-use Rattle.vd_base.specs.declared.protocols.Proto.TheVariants.{Local}
-use Rattle.vd_base.specs.HostSets.{host}
 use Rattle.vd_base.specs.Moves.{move_at}
 
 abbrev pub if_passes : Bool → Option ℕ → Option ℕ
@@ -11,9 +9,6 @@ if_passes test value = if test then value else None
 
 abbrev pub weighed : ℕ → Option ℕ → Option ℕ
 weighed weight price = option_map (λ c. weight * c) price
-
-abbrev pub proto_at : List Proto → ℕ → Proto
-proto_at list p = slice_index_or list p (Local (host 0))
 
 abbrev pub by_place : {X : Type 0} → ℕ → (ℕ → X) → List X
 by_place n f = map f (range_with_len 0 n)

@@ -4,6 +4,7 @@ use Rattle.vd_base.specs.declared.protocols.Proto.{Proto}
 use Rattle.vd_base.specs.declared.protocols.Proto.TheVariants.{Local}
 use Rattle.vd_base.specs.Costs.{cost_at}
 use Rattle.vd_base.specs.Moves.{move_at}
+use Rattle.vd_base.specs.Holders.{proto_in}
 use Rattle.vd_prefixes.specs.declared.shift.Shift.{Shift}
 use Rattle.vd_space.specs.declared.problem.Problem.{Problem}
 use Rattle.vd_space.specs.declared.problem.Making.{Making}
@@ -12,7 +13,7 @@ use Rattle.vd_space.specs.Validity.{protocols, protocol, can_stand, is_candidate
 use Rattle.vd_space.specs.Costs.{operation_value}
 use Rattle.vd_space.specs.Bounds.{only_if, add, outputs_value, shifted_one}
 use Rattle.vd_space.specs.Sizes.{heft}
-use Rattle.vd_usual.specs.Rows.{if_passes, weighed, by_place, proto_at}
+use Rattle.vd_usual.specs.Rows.{if_passes, weighed, by_place}
 
 abbrev pub row_at : List (List (Option ℕ)) → ℕ → List (Option ℕ)
 row_at terms slot = slice_index_or terms slot []
@@ -36,7 +37,7 @@ sum_of (Some a) None = None
 sum_of (Some a) (Some b) = Some (a + b)
 
 abbrev pub with_output : List Proto → Output → List (Option ℕ) → List (Option ℕ)
-with_output list o row = by_place (length list) (λ p. sum_of (weighed o.weight (move_at (proto_at list p) (Local o.host))) (slice_index_or row p None))
+with_output list o row = by_place (length list) (λ p. sum_of (weighed o.weight (move_at (proto_in list p) (Local o.host))) (slice_index_or row p None))
 
 -- with the output added to what its slot costs
 abbrev pub terms_with : List Proto → Output → List (List (Option ℕ)) → List (List (Option ℕ))

@@ -4,12 +4,13 @@ ghost use Rattle.std.specs.Prelude.{◌≡◌, ℕ, ◌<◌, ◌≤◌, None, le
 ghost use Rattle.vd_base.specs.Costs.{cost_at};
 ghost use Rattle.vd_base.specs.Moves.{move_at};
 ghost use Rattle.vd_base.specs.declared.protocols.Proto.TheVariants.{Local as local};
+ghost use Rattle.vd_base.specs.Holders.{proto_in};
 ghost use Rattle.vd_protocol.specs.Authority.{IsOver, names_of};
 ghost use Rattle.vd_space.specs.Labelled.{IsLabelled};
 ghost use Rattle.vd_space.specs.Sizes.{IsWithinLimits};
 ghost use Rattle.vd_space.specs.Spaces.{IsProblem};
 ghost use Rattle.vd_space.specs.Validity.{can_stand, protocols};
-ghost use Rattle.vd_usual.specs.Rows.{proto_at, weighed};
+ghost use Rattle.vd_usual.specs.Rows.{weighed};
 ghost use Rattle.vd_usual.specs.Terms.{AreCosts, candidates_of, operation_at, operations_of, row_at, sum_of, terms_with, with_output};
 
 use crate::rows::{price, product};
@@ -148,7 +149,7 @@ fn sum_of(first: Option<u64>, second: Option<u64>) -> Option<u64>
 /// What it costs to tell a host a value that stands at a place, if they join.
 fn told_at(list: &[Proto], output: &Output, place: usize) -> Option<u64>
     requires { place < length list.now }
-    ensures value { result ≡ weighed output.now.weight (move_at (proto_at list.now place) (local output.now.host)) }
+    ensures value { result ≡ weighed output.now.weight (move_at (proto_in list.now place) (local output.now.host)) }
     ensures fits { unwrap_or result 0 ≤ 18446744065119617025 }
 {
     price(output.weight, list[place], Proto::Local(output.host))

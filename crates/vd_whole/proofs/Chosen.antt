@@ -1,5 +1,5 @@
 -- A program at a valid list of protocols can run.
-use Rattle.std.proofs.Common.{◌≡◌, ℕ, zero, suc, ◌+◌, ◌^◌, ◌<◌, ◌≤◌, nat_eq, nat_lt, ◌&&◌, ◌||◌, not, Bool, true, false, if◌then◌else◌, is_some, List, [], ◌∷◌, ◌⊎◌, inl, inr, length, map, slice_get, slice_index, slice_index_or, refl, sym, ap, subst, ◌∙◌, arith}
+use Rattle.std.proofs.Common.{◌≡◌, ℕ, zero, suc, ◌+◌, ◌^◌, ◌<◌, ◌≤◌, nat_eq, nat_lt, ◌&&◌, ◌||◌, not, Bool, true, false, is_some, List, [], ◌∷◌, ◌⊎◌, inl, inr, length, map, slice_get, slice_index, slice_index_or, refl, sym, ap, subst, ◌∙◌, arith}
 use Rattle.std.specs.List.{All, AllByRecursion, concat, list_all, list_any, range_with_len}
 use Rattle.std.specs.Option.{option_map_or}
 use Rattle.std.proofs.lemmas.Bool.{eq-eqb, eqb-true}
@@ -7,11 +7,12 @@ use Rattle.std.proofs.lemmas.Bool.Decides.{nat_tests}
 use Rattle.vd_base.specs.declared.ids.HostId.{HostId}
 use Rattle.vd_base.specs.declared.ids.SlotId.{SlotId}
 use Rattle.vd_base.specs.declared.protocols.Proto.{Proto}
-use Rattle.vd_base.specs.declared.protocols.Proto.TheVariants.{Local, Rep, Commit, Add, Xor}
+use Rattle.vd_base.specs.declared.protocols.Proto.TheVariants.{Local}
 use Rattle.vd_base.specs.Costs.{cost_at}
 use Rattle.vd_base.specs.HostSets.{host, same_host}
 use Rattle.vd_base.specs.Moves.{move_at}
 use Rattle.vd_base.specs.Protocols.{protocols_of}
+use Rattle.vd_base.specs.Holders.{is_holder}
 use Rattle.vd_core.specs.declared.normal.NormalForm.{NormalForm}
 use Rattle.vd_core.specs.Facts.{slots_step, nothing_seen, Seeing, seeing_step, seeing_all}
 use Rattle.vd_constraints.specs.declared.labels.Labels.{Labels}
@@ -26,13 +27,12 @@ use Rattle.vd_space.specs.declared.problem.Guard.{Guard}
 use Rattle.vd_space.specs.declared.problem.Index.{Index}
 use Rattle.vd_space.specs.Reading.{Parts, Read, all_parts, read_step, read_stmt, problem_of}
 use Rattle.vd_space.specs.Spaces.{IsUse, IsIndex}
-use Rattle.vd_space.specs.Validity.{protocols, protocol, move_to_host, move, holder, holds_at, all_hosts, may_read, can_stand, stand, if_decided, use_joins, output_joins, is_told, takes_part, guard_told, index_test, index_told}
+use Rattle.vd_space.specs.Validity.{protocols, protocol, move_to_host, move, holds_at, all_hosts, may_read, can_stand, stand, if_decided, use_joins, output_joins, is_told, takes_part, guard_told, index_test, index_told}
 use Rattle.vd_space.proofs.Programs.{names_below}
 use Rattle.vd_execution.specs.World.{Tape}
 use Rattle.vd_execution.specs.Deals.{IsValidDeal}
 use Rattle.vd_joint.specs.Block.{Block, block_of, each}
 use Rattle.vd_joint.specs.Joint.{Each}
-use Rattle.vd_joint.specs.Suite.{is_at}
 use Rattle.vd_joint.proofs.Folds.{fold_each}
 use Rattle.vd_joint.proofs.Lists.{and_left, and_right, or_left, or_right, or_cases, InRow, row_of}
 use Rattle.vd_joint.proofs.Blocks.{slots}
@@ -80,25 +80,6 @@ length_map f (x ∷ xs) = ap suc (length_map f xs)
 
 turned_eq : (a b : ℕ) → nat_eq a b ≡ true → nat_eq b a ≡ true
 turned_eq a b e = eq-eqb b a (sym (eqb-true a b e))
-
-is_holder : (p : Proto) (h : ℕ) → is_at p (host h) ≡ true → holder p (host h) ≡ true
-is_holder (Local k) h e = turned_eq h k.0 e
-is_holder (Rep set) h e = e
-is_holder (Commit a b) h e = two a.0 b.0 (nat_eq h a.0) refl e
-  where
-    two : (a b : ℕ) (z : Bool) → nat_eq h a ≡ z → (if z then true else nat_eq h b) ≡ true → (nat_eq a h || nat_eq b h) ≡ true
-    two a b true i e = or_left (nat_eq a h) (nat_eq b h) (turned_eq h a i)
-    two a b false i e = or_right (nat_eq a h) (nat_eq b h) (turned_eq h b e)
-is_holder (Add a b) h e = two a.0 b.0 (nat_eq h a.0) refl e
-  where
-    two : (a b : ℕ) (z : Bool) → nat_eq h a ≡ z → (if z then true else nat_eq h b) ≡ true → (nat_eq a h || nat_eq b h) ≡ true
-    two a b true i e = or_left (nat_eq a h) (nat_eq b h) (turned_eq h a i)
-    two a b false i e = or_right (nat_eq a h) (nat_eq b h) (turned_eq h b e)
-is_holder (Xor a b) h e = two a.0 b.0 (nat_eq h a.0) refl e
-  where
-    two : (a b : ℕ) (z : Bool) → nat_eq h a ≡ z → (if z then true else nat_eq h b) ≡ true → (nat_eq a h || nat_eq b h) ≡ true
-    two a b true i e = or_left (nat_eq a h) (nat_eq b h) (turned_eq h a i)
-    two a b false i e = or_right (nat_eq a h) (nat_eq b h) (turned_eq h b e)
 
 implied : (a b : Bool) → (not a || b) ≡ true → a ≡ true → b ≡ true
 implied true b e f = e
@@ -154,15 +135,15 @@ module _ (problem : Problem) (list : List ℕ) where
 
   standing : (xs : List SlotId) (h : ℕ) → stands_at many proto h xs ≡ true → list_any (held h) xs ≡ true
   standing [] h e = e
-  standing (x ∷ xs) h e = split (standing xs h) (or_cases (is_below many x && is_at (proto x.0) (host h)) (stands_at many proto h xs) e)
+  standing (x ∷ xs) h e = split (standing xs h) (or_cases (is_below many x && is_holder (proto x.0) (host h)) (stands_at many proto h xs) e)
     where
       lt_of : (a b : ℕ) → nat_lt a b ≡ true → a < b
       lt_of a b h = grind (arith, nat_tests)
 
-      split : (stands_at many proto h xs ≡ true → list_any (held h) xs ≡ true) → ((is_below many x && is_at (proto x.0) (host h)) ≡ true) ⊎ (stands_at many proto h xs ≡ true) → (held h x || list_any (held h) xs) ≡ true
+      split : (stands_at many proto h xs ≡ true → list_any (held h) xs ≡ true) → ((is_below many x && is_holder (proto x.0) (host h)) ≡ true) ⊎ (stands_at many proto h xs ≡ true) → (held h x || list_any (held h) xs) ≡ true
       split ih (inl i) =
           or_left (held h x) (list_any (held h) xs)
-          (item_at list x.0 (holds_at problem (host h)) false (lt_of x.0 many (and_left (is_below many x) (is_at (proto x.0) (host h)) i)) ∙ is_holder (proto x.0) h (and_right (is_below many x) (is_at (proto x.0) (host h)) i))
+          (item_at list x.0 (holds_at problem (host h)) false (lt_of x.0 many (and_left (is_below many x) (is_holder (proto x.0) (host h)) i)) ∙ and_right (is_below many x) (is_holder (proto x.0) (host h)) i)
       split ih (inr i) = or_right (held h x) (list_any (held h) xs) (ih i)
 
   guard_tells : (n hosts' : ℕ) → n ≡ length list → hosts' ≡ length problem.hosts → (g : Guard) → guard_told problem list g ≡ true → g.slot.0 < n
@@ -178,13 +159,13 @@ module _ (problem : Problem) (list : List ℕ) where
       split (inr i) = or_right (list_any (same_host (host h)) g.hosts) (list_any (held h) g.slots) (standing g.slots h i)
 
   index_tells : (n hosts' : ℕ) → n ≡ length list → hosts' ≡ length problem.hosts → (i : Index) → index_told problem list i ≡ true → IsIndex n i
-      → (h : ℕ) → h < hosts' → is_at (proto i.array.0) (host h) ≡ true → is_some (move_at (proto i.index.0) (Local (host h))) ≡ true
+      → (h : ℕ) → h < hosts' → is_holder (proto i.array.0) (host h) ≡ true → is_some (move_at (proto i.index.0) (Local (host h))) ≡ true
   index_tells n hosts' is are i e low h lt z =
       told_host i.index h (subst (λ k. i.index.0 < k) is low.index)
       (implied (holds_at problem (host h) (slice_index list i.array.0)) (is_told problem list (host h) i.index)
       (host_passes (index_test problem list i (slice_index list i.array.0)) 0 (length problem.hosts) h
       (sym (item_at list i.array.0 (λ p. list_all (index_test problem list i p) (all_hosts problem)) true (subst (λ k. i.array.0 < k) is low.array)) ∙ e) (omega arith) (omega (arith, lt, are)))
-      (is_holder (proto i.array.0) h z))
+      z)
 
 module _ (program : NormalForm) (labels : Labels) (list : List ℕ) (chosen : IsChosen program labels list) where
   abbrev problem : Problem

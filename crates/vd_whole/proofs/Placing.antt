@@ -12,6 +12,7 @@ use Rattle.vd_base.specs.declared.rows.Row.TheVariants as row
 use Rattle.vd_base.specs.Costs.{cost_at}
 use Rattle.vd_base.specs.Moves.{move_at}
 use Rattle.vd_base.specs.HostSets.{host}
+use Rattle.vd_base.specs.Holders.{is_holder}
 use Rattle.vd_core.specs.declared.normal.Right.{Right}
 use Rattle.vd_core.specs.declared.normal.Right.TheVariants.{Lit, Turn, Copy, Apply, Input, Declassify, Endorse, Load, Get}
 use Rattle.vd_core.specs.declared.normal.Stmt.TheOpen.{Stmt-F}
@@ -27,7 +28,6 @@ use Rattle.vd_space.specs.Reading.{Parts, Read, no_parts, joined, all_parts, all
 use Rattle.vd_execution.specs.World.{Tape}
 use Rattle.vd_joint.specs.Block.{Block, End, Let, NewVar, NewArray, Store, Put, Output as Tell, If, For, each}
 use Rattle.vd_joint.specs.Joint.{Each}
-use Rattle.vd_joint.specs.Suite.{is_at}
 use Rattle.vd_joint.specs.Emission.{Emission, right_takes_part}
 use Rattle.vd_joint.specs.Validity.{emission_of, RightPlaced, Placed}
 use Rattle.vd_joint.proofs.Lists.{and_left, and_right, or_left, or_right, or_cases, InRow, row_front, row_back}
@@ -62,7 +62,7 @@ among h hs = list_any (λ k. nat_eq k.0 h) hs
 module _ (many : ℕ) (proto : ℕ → Proto) where
   -- a host has a part of one of these slots
   abbrev pub stands_at : ℕ → List SlotId → Bool
-  stands_at h xs = list_any (λ x. is_below many x && is_at (proto x.0) (host h)) xs
+  stands_at h xs = list_any (λ x. is_below many x && is_holder (proto x.0) (host h)) xs
 
   abbrev pub Stand : ℕ → List Making → Type 0
   Stand k [] = Unit {0}
@@ -74,7 +74,7 @@ module _ (many : ℕ) (proto : ℕ → Proto) where
     pub uses : Each (λ (u : Use). is_some (move_at (proto u.source.0) (proto u.target.0)) ≡ true) parts.uses
     pub outputs : Each (λ (o : Output). is_some (move_at (proto o.slot.0) (Local o.host)) ≡ true) parts.outputs
     pub guards : Each (λ (g : Guard). (h : ℕ) → h < hosts → (among h g.hosts || stands_at h g.slots) ≡ true → is_some (move_at (proto g.slot.0) (Local (host h))) ≡ true) parts.guards
-    pub indexes : Each (λ (i : Index). (h : ℕ) → h < hosts → is_at (proto i.array.0) (host h) ≡ true → is_some (move_at (proto i.index.0) (Local (host h))) ≡ true) parts.indexes
+    pub indexes : Each (λ (i : Index). (h : ℕ) → h < hosts → is_holder (proto i.array.0) (host h) ≡ true → is_some (move_at (proto i.index.0) (Local (host h))) ≡ true) parts.indexes
 
   stand_front : (k : ℕ) (xs ys : List Making) → Stand k (xs ++ ys) → Stand k xs
   stand_front k [] ys e = tt
@@ -151,10 +151,10 @@ module _ (l : Labels) where
     named_append : (xs ys : List Read) (h : ℕ) → stands_at many proto h (all_named (xs ++ ys)) ≡ (stands_at many proto h (all_named xs) || stands_at many proto h (all_named ys))
     named_append [] ys h = refl
     named_append (x ∷ xs) ys h =
-        list_any-append (λ (z : SlotId). is_below many z && is_at (proto z.0) (host h)) x.named (all_named (xs ++ ys))
+        list_any-append (λ (z : SlotId). is_below many z && is_holder (proto z.0) (host h)) x.named (all_named (xs ++ ys))
         ∙ ap (λ (b : Bool). stands_at many proto h x.named || b) (named_append xs ys h)
         ∙ regroup (stands_at many proto h x.named) (stands_at many proto h (all_named xs)) (stands_at many proto h (all_named ys))
-        ∙ ap (λ (b : Bool). b || stands_at many proto h (all_named ys)) (sym (list_any-append (λ (z : SlotId). is_below many z && is_at (proto z.0) (host h)) x.named (all_named xs)))
+        ∙ ap (λ (b : Bool). b || stands_at many proto h (all_named ys)) (sym (list_any-append (λ (z : SlotId). is_below many z && is_holder (proto z.0) (host h)) x.named (all_named xs)))
       where
         regroup : (a b c : Bool) → (a || (b || c)) ≡ ((a || b) || c)
         regroup true b c = refl
@@ -174,7 +174,7 @@ module _ (l : Labels) (many : ℕ) (proto : ℕ → Proto) (t : Tape) (inputs : 
   emits = emission_of (machine t inputs) (suite t inputs hosts) proto
 
   abbrev at : SlotId → ℕ → Bool
-  at x h = is_at (proto x.0) (host h)
+  at x h = is_holder (proto x.0) (host h)
 
   abbrev low_block : Block → Bool
   low_block b = list_all (λ x. x) (each (stmt_below many) b)
@@ -219,7 +219,7 @@ module _ (l : Labels) (many : ℕ) (proto : ℕ → Proto) (t : Tape) (inputs : 
   first_or : (h : ℕ) (r : Read) (rs : List Read) → ((among h r.told || stands_at many proto h r.named) ≡ true) ⊎ (takes h rs ≡ true) → takes h (r ∷ rs) ≡ true
   first_or h r rs e =
       ap (λ (b : Bool). b || stands_at many proto h (r.named ++ all_named rs)) (list_any-append (λ (k : HostId). nat_eq k.0 h) r.told (all_told rs))
-      ∙ ap (λ (b : Bool). (among h r.told || among h (all_told rs)) || b) (list_any-append (λ (z : SlotId). is_below many z && is_at (proto z.0) (host h)) r.named (all_named rs))
+      ∙ ap (λ (b : Bool). (among h r.told || among h (all_told rs)) || b) (list_any-append (λ (z : SlotId). is_below many z && is_holder (proto z.0) (host h)) r.named (all_named rs))
       ∙ in_joined (among h r.told) (stands_at many proto h r.named) (among h (all_told rs)) (stands_at many proto h (all_named rs)) e
 
   either : (p q : Bool) (A B : Type 0) → (p ≡ true → A) → (q ≡ true → B) → (p || q) ≡ true → A ⊎ B
@@ -292,9 +292,9 @@ module _ (l : Labels) (many : ℕ) (proto : ℕ → Proto) (t : Tape) (inputs : 
           → ((among h (all_told (each (read_step l) tb) ++ all_told (each (read_step l) eb))) || stands_at many proto h (x ∷ (all_named (each (read_step l) tb) ++ all_named (each (read_step l) eb)))) ≡ true
       both_told a =
           let told = list_any-append (λ (k : HostId). nat_eq k.0 h) (all_told (each (read_step l) tb)) (all_told (each (read_step l) eb)) in
-          let named = list_any-append (λ (z : SlotId). is_below many z && is_at (proto z.0) (host h)) (all_named (each (read_step l) tb)) (all_named (each (read_step l) eb)) in
+          let named = list_any-append (λ (z : SlotId). is_below many z && is_holder (proto z.0) (host h)) (all_named (each (read_step l) tb)) (all_named (each (read_step l) eb)) in
           let w = in_joined (among h (all_told (each (read_step l) tb))) (stands_at many proto h (all_named (each (read_step l) tb))) (among h (all_told (each (read_step l) eb))) (stands_at many proto h (all_named (each (read_step l) eb))) a in
-          wider (among h (all_told (each (read_step l) tb) ++ all_told (each (read_step l) eb))) (is_below many x && is_at (proto x.0) (host h))
+          wider (among h (all_told (each (read_step l) tb) ++ all_told (each (read_step l) eb))) (is_below many x && is_holder (proto x.0) (host h))
           (stands_at many proto h (all_named (each (read_step l) tb) ++ all_named (each (read_step l) eb)))
           (ap (λ (b : Bool). b || stands_at many proto h (all_named (each (read_step l) tb) ++ all_named (each (read_step l) eb))) told
           ∙ ap (λ (b : Bool). (among h (all_told (each (read_step l) tb)) || among h (all_told (each (read_step l) eb))) || b) named ∙ w)

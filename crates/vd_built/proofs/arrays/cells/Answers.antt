@@ -1,5 +1,6 @@
 use Rattle.std.proofs.Common.{◌≡◌, refl, ◌∙◌, arith}
-use Rattle.vd_duet.specs.Calls.{called, holders, hosts_of, in_clear}
+use Rattle.vd_duet.specs.Calls.{called, hosts_of, in_clear}
+use Rattle.vd_base.specs.Holders.{holders}
 use Rattle.vd_clear.specs.Copies.{each_made}
 use Rattle.vd_suite.specs.Parts.{zeros_at}
 use Rattle.vd_moves.specs.Formed.{AreFormed}

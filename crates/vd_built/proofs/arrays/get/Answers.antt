@@ -1,8 +1,9 @@
 use Rattle.std.proofs.Common.{◌≡◌, refl, ◌∙◌, arith}
 use Rattle.vd_base.specs.declared.ids.HostId.{HostId}
+use Rattle.vd_base.specs.Holders.{holders}
 use Rattle.vd_execution.specs.declared.instructions.Action.TheVariants as action
 use Rattle.vd_execution.specs.declared.instructions.Reg.{Reg}
-use Rattle.vd_duet.specs.Calls.{called, holders, hosts_of, in_clear, register_of}
+use Rattle.vd_duet.specs.Calls.{called, hosts_of, in_clear, register_of}
 use Rattle.vd_clear.specs.Copies.{each_made, written_by}
 use Rattle.vd_suite.specs.Parts.{index_of}
 use Rattle.vd_moves.specs.Formed.{AreFormed}

@@ -2,10 +2,11 @@ use Rattle.std.proofs.Common.{◌≡◌, refl, subst, arith}
 use Rattle.vd_base.specs.declared.ids.HostId.{HostId}
 use Rattle.vd_base.specs.declared.protocols.Proto.{Proto}
 use Rattle.vd_base.specs.declared.protocols.Proto.TheVariants.{Commit}
+use Rattle.vd_base.specs.Holders.{holders}
 use Rattle.vd_execution.specs.declared.instructions.Action.TheVariants as action
 use Rattle.vd_execution.specs.declared.instructions.Reg.{Reg}
 use Rattle.vd_duet.specs.Builder.{next_at}
-use Rattle.vd_duet.specs.Calls.{called, holders, hosts_of, in_clear}
+use Rattle.vd_duet.specs.Calls.{called, hosts_of, in_clear}
 use Rattle.vd_duet.specs.Laws.{AreKnown}
 use Rattle.vd_clear.specs.Copies.{each_made, written_by}
 use Rattle.vd_moves.specs.Formed.{AreFormed}

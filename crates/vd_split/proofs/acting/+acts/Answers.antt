@@ -18,7 +18,7 @@ acts-returns-in-NewVar g t c =
 pub acts-returns-in-NewArray : goal.acts-returns-in-NewArray
 acts-returns-in-NewArray g t c =
     rw c.in-NewArray.is
-    (acts_array (g.P.Protocols.offer c.args.protocols.now).calls c.args.protos.now c.in-NewArray.array c.in-NewArray.field-1 c.args.host.0 c.stands_at.result (rw c.proto_of-in-NewArray.ensures at c.stands_at.ensures))
+    (acts_array (g.P.Protocols.offer c.args.protocols.now).calls c.args.protos.now c.in-NewArray.array c.in-NewArray.field-1 c.args.host.0 c.is_holder.result (rw c.proto_of-in-NewArray.ensures at c.is_holder.ensures))
 
 pub acts-returns-in-Store : goal.acts-returns-in-Store
 acts-returns-in-Store g t c =

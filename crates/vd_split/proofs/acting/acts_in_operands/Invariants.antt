@@ -1,6 +1,6 @@
 use Rattle.std.proofs.Common.{◌≡◌, drop}
 use Rattle.std.specs.List.{list_any}
-use Rattle.vd_split.specs.Offer.{proto_in}
+use Rattle.vd_base.specs.Holders.{proto_in}
 use Rattle.vd_split.proofs.acting.acts_in_operands.Given as goal
 
 abbrev pub invariant-loop-slot : goal.invariant-loop-slot

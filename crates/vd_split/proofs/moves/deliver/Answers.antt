@@ -1,7 +1,7 @@
 use Rattle.std.proofs.Common.{◌*◌, ◌<◌, ◌+◌, arith}
 use Rattle.vd_base.specs.declared.ids.HostId.{HostId}
 use Rattle.vd_base.specs.HostSets.{host}
-use Rattle.vd_split.specs.Offer.{proto_in}
+use Rattle.vd_base.specs.Holders.{proto_in}
 use Rattle.vd_split.proofs.Rooms.{takes_on}
 use Rattle.vd_split.proofs.Turns.{deliver_turn, each_left}
 use Rattle.vd_split.proofs.moves.deliver.Goals as goal

@@ -1,5 +1,6 @@
 use Rattle.std.proofs.Common.{◌*◌, ◌+◌, length, arith, []}
-use Rattle.vd_split.specs.Offer.{proto_in, has_parts}
+use Rattle.vd_split.specs.Offer.{has_parts}
+use Rattle.vd_base.specs.Holders.{proto_in}
 use Rattle.vd_split.specs.Places.{state}
 use Rattle.vd_split.proofs.Rooms.{takes_on}
 use Rattle.vd_split.proofs.Turns.{move_turn, all_left, one_more}

@@ -2,7 +2,8 @@ use Rattle.std.proofs.Common.{◌≡◌, ◌*◌, IsTrue, drop, length, []}
 use Rattle.std.specs.List.{list_all}
 use Rattle.vd_duet.specs.Builder.{TakesAtMost}
 use Rattle.vd_joint.specs.Emission.{all_moved}
-use Rattle.vd_split.specs.Offer.{proto_in, has_parts}
+use Rattle.vd_split.specs.Offer.{has_parts}
+use Rattle.vd_base.specs.Holders.{proto_in}
 use Rattle.vd_split.specs.Places.{joined, moved_onto, state}
 use Rattle.vd_split.proofs.moves.move_all.Given as goal
 

@@ -1,5 +1,5 @@
 use Rattle.std.proofs.Common.{slice_index_or}
-use Rattle.vd_split.specs.Offer.{proto_in}
+use Rattle.vd_base.specs.Holders.{proto_in}
 use Rattle.vd_split.proofs.Onto.{called_on}
 use Rattle.vd_split.proofs.rights.load.Goals as goal
 

@@ -1,6 +1,6 @@
 use Rattle.std.proofs.Common.{◌≡◌, drop}
 use Rattle.vd_joint.specs.Emission.{block_emission}
-use Rattle.vd_split.specs.Offer.{proto_in}
+use Rattle.vd_base.specs.Holders.{proto_in}
 use Rattle.vd_split.proofs.taking.+takes.Given as goal
 
 abbrev pub invariant-any_takes-loop-stmt : goal.invariant-any_takes-loop-stmt

@@ -1,7 +1,8 @@
 use Rattle.std.proofs.Common.{None, get_or, ap, ◌∙◌}
 use Rattle.vd_base.specs.declared.protocols.Proto.TheVariants.{Local}
 use Rattle.vd_base.specs.Moves.{move_at}
-use Rattle.vd_usual.specs.Rows.{proto_at, weighed}
+use Rattle.vd_base.specs.Holders.{proto_in}
+use Rattle.vd_usual.specs.Rows.{weighed}
 use Rattle.vd_usual.specs.Terms.{sum_of}
 use Rattle.vd_usual.proofs.Loops.{grows}
 use Rattle.vd_usual.proofs.terms.with_output.Goals as goal
@@ -10,5 +11,5 @@ pub loop-place-preserved : goal.loop-place-preserved
 loop-place-preserved c =
     let row = c.args.row.now in
     let o = c.args.output.now in
-    grows (λ p. sum_of (weighed o.weight (move_at (proto_at c.args.list.now p) (Local o.host))) (get_or row p None)) c.loop-place.place c.loop-place.sums c.push.new.self c.sum_of.result
+    grows (λ p. sum_of (weighed o.weight (move_at (proto_in c.args.list.now p) (Local o.host))) (get_or row p None)) c.loop-place.place c.loop-place.sums c.push.new.self c.sum_of.result
     c.loop-place.invariant (c.sum_of.ensures ∙ ap (λ told. sum_of told (get_or row c.loop-place.place None)) c.told_at-told.ensures.value) c.in_ok-push.ensures.ok

@@ -1,0 +1,35 @@
+-- The hosts of a protocol, and the protocols of slots.
+use Rattle.std.specs.Prelude.{ℕ, ◌==◌, Bool, false, ◌||◌, List, [], ◌∷◌, slice_index_or}
+use Rattle.vd_base.specs.declared.ids.HostId.{HostId}
+use Rattle.vd_base.specs.declared.protocols.Proto.{Proto}
+use Rattle.vd_base.specs.declared.protocols.Proto.TheVariants.{Local, Rep, Commit, Add, Xor}
+use Rattle.vd_base.specs.HostSets.{host, has_host, members, same_host}
+use Rattle.vd_base.specs.Moves.{same_hosts}
+
+-- the hosts of a protocol, in the order of their parts
+abbrev pub holders : Proto → List HostId
+holders (Local h) = h ∷ []
+holders (Rep set) = members 8 set
+holders (Commit p v) = p ∷ v ∷ []
+holders (Add a b) = a ∷ b ∷ []
+holders (Xor a b) = a ∷ b ∷ []
+
+-- a host is one of them
+abbrev pub is_holder : Proto → HostId → Bool
+is_holder (Local k) h = same_host k h
+is_holder (Rep set) h = has_host set h
+is_holder (Commit p v) h = same_host p h || same_host v h
+is_holder (Add a b) h = same_host a h || same_host b h
+is_holder (Xor a b) h = same_host a h || same_host b h
+
+abbrev pub same_protocol : Proto → Proto → Bool
+same_protocol (Local h) (Local k) = same_host h k
+same_protocol (Rep set) (Rep other) = set.bits == other.bits
+same_protocol (Commit p v) (Commit q w) = same_hosts p v q w
+same_protocol (Add a b) (Add c d) = same_hosts a b c d
+same_protocol (Xor a b) (Xor c d) = same_hosts a b c d
+same_protocol p q = false
+
+-- the protocol of a slot, where a list has one for each
+abbrev pub proto_in : List Proto → ℕ → Proto
+proto_in protocols x = slice_index_or protocols x (Local (host 0))
