@@ -1,5 +1,6 @@
 pub mod Clear
 pub mod Slots
+pub mod Places
 pub mod Words
 pub mod Theorem
 pub mod Examples

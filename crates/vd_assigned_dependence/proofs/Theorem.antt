@@ -7,6 +7,7 @@ use Rattle.std.proofs.lemmas.Bool.{and_parts}
 use Rattle.std.proofs.lemmas.List.{length-map}
 use Rattle.vd_base.specs.declared.ids.HostId.{HostId}
 use Rattle.vd_base.specs.declared.ids.SlotId.{SlotId}
+use Rattle.vd_base.specs.declared.protocols.Proto.{Proto}
 use Rattle.vd_base.specs.Costs.{cost_at}
 use Rattle.vd_core.specs.declared.normal.NormalForm.{NormalForm}
 use Rattle.vd_core.specs.declared.normal.Stmt.{Stmt, roll-Stmt, map-Stmt, ind-Stmt}
@@ -27,6 +28,7 @@ use Rattle.vd_space.specs.Validity.{protocols, protocol, all_hosts, acts_for, co
 use Rattle.vd_space.specs.Labelled.{IsLabelled, HasLabels}
 use Rattle.vd_space.proofs.Kept.{IsValid, parts_of}
 use Rattle.vd_space.proofs.Programs.{is_labelled}
+use Rattle.vd_cheapest.specs.Cheapest.{IsAssignment}
 use Rattle.vd_dependence.specs.Flowing.{all_flow, flow}
 use Rattle.vd_dependence.specs.Agreement.{Agree}
 use Rattle.vd_dependence.specs.Watching.{Taps}
@@ -42,15 +44,16 @@ use Rattle.vd_dependence.proofs.Whole.{hearing, given_is}
 use Rattle.vd_noninter.proofs.Answered.{labels_over}
 use Rattle.vd_noninter.proofs.Declared.{body_closed, eight_hosts}
 use Rattle.vd_assigned_dependence.specs.Hearing.{has_clear, Heard, read_of, stands, heard_step, heard}
-use Rattle.vd_assigned_dependence.specs.Assigned.{IsAssignment, HearsOnly, HearsOnlyAssigned}
+use Rattle.vd_assigned_dependence.specs.Assigned.{HearsOnly, HearsOnlyAssigned}
 use Rattle.vd_assigned_dependence.proofs.Clear.{clear_acts}
 use Rattle.vd_assigned_dependence.proofs.Slots.{label_of_slot, stand_at, of_host}
+use Rattle.vd_assigned_dependence.proofs.Places.{stands_is}
 use Rattle.vd_assigned_dependence.proofs.Words.{same_words}
 
 -- ---- what is heard of is what the problem is read off
-module _ (problem : Problem) (list : List ℕ) (h : HostId) (l : Labels) where
+module _ (protocols : List Proto) (h : HostId) (l : Labels) where
   abbrev M : Type 0
-  M = (s : Stmt) × ((heard problem list h l s).read ≡ read_stmt l s)
+  M = (s : Stmt) × ((heard protocols h l s).read ≡ read_stmt l s)
 
   abbrev statements : List M → List Stmt
   statements = map {B = Stmt} (λ (m : M). m.0)
@@ -58,11 +61,11 @@ module _ (problem : Problem) (list : List ℕ) (h : HostId) (l : Labels) where
   abbrev layer : Stmt-F M → Stmt-F Stmt
   layer = map-Stmt M Stmt (λ m. m.0)
 
-  reads_are : (ms : List M) → map read_of (map (heard problem list h l) (statements ms)) ≡ map (read_stmt l) (statements ms)
+  reads_are : (ms : List M) → map read_of (map (heard protocols h l) (statements ms)) ≡ map (read_stmt l) (statements ms)
   reads_are [] = refl
   reads_are (m ∷ ms) = rw (m.1, reads_are ms) refl
 
-  step : (y : Stmt-F M) → (heard_step problem list h l (map-Stmt Stmt Heard (heard problem list h l) (layer y))).read ≡ read_step l (map-Stmt Stmt Read (read_stmt l) (layer y))
+  step : (y : Stmt-F M) → (heard_step protocols h l (map-Stmt Stmt Heard (heard protocols h l) (layer y))).read ≡ read_step l (map-Stmt Stmt Read (read_stmt l) (layer y))
   step (Stmt-F.Let x r) = refl
   step (Stmt-F.NewVar v y) = refl
   step (Stmt-F.NewArray v size) = refl
@@ -72,13 +75,13 @@ module _ (problem : Problem) (list : List ℕ) (h : HostId) (l : Labels) where
   step (Stmt-F.If g a b offset) = rw (reads_are a, reads_are b) refl
   step (Stmt-F.For count body) = rw (reads_are body) refl
 
-  stmt_reads : (s : Stmt) → (heard problem list h l s).read ≡ read_stmt l s
-  stmt_reads = ind-Stmt (λ s. (heard problem list h l s).read ≡ read_stmt l s) (λ x y is. subst (λ z. (heard problem list h l (roll-Stmt z)).read ≡ read_stmt l (roll-Stmt z)) is (at_roll y))
+  stmt_reads : (s : Stmt) → (heard protocols h l s).read ≡ read_stmt l s
+  stmt_reads = ind-Stmt (λ s. (heard protocols h l s).read ≡ read_stmt l s) (λ x y is. subst (λ z. (heard protocols h l (roll-Stmt z)).read ≡ read_stmt l (roll-Stmt z)) is (at_roll y))
     where
-      at_roll : (y : Stmt-F M) → (heard problem list h l (roll-Stmt (layer y))).read ≡ read_stmt l (roll-Stmt (layer y))
-      at_roll y = ap read_of (fold-roll-Stmt Heard (heard_step problem list h l) (layer y)) ∙ step y ∙ sym (fold-roll-Stmt Read (read_step l) (layer y))
+      at_roll : (y : Stmt-F M) → (heard protocols h l (roll-Stmt (layer y))).read ≡ read_stmt l (roll-Stmt (layer y))
+      at_roll y = ap read_of (fold-roll-Stmt Heard (heard_step protocols h l) (layer y)) ∙ step y ∙ sym (fold-roll-Stmt Read (read_step l) (layer y))
 
-  body_reads : (body : List Stmt) → map read_of (map (heard problem list h l) body) ≡ map (read_stmt l) body
+  body_reads : (body : List Stmt) → map read_of (map (heard protocols h l) body) ≡ map (read_stmt l) body
   body_reads [] = refl
   body_reads (s ∷ body) = rw (stmt_reads s, body_reads body) refl
 
@@ -87,7 +90,7 @@ own_label p [] i d e low = absurd (omega arith)
 own_label p (one ∷ more) zero d e low = refl
 own_label p (one ∷ more) (suc i) d e low = own_label p more i d e (omega arith)
 
-module _ (p : NormalForm) (l : Labels) (h : HostId) (well : IsWellMade p) (satisfies : Satisfies (system_of p) l) (declared : h.0 < length p.hosts) (list : List ℕ) (assigned : IsAssignment p l list) where
+module _ (p : NormalForm) (l : Labels) (h : HostId) (well : IsWellMade p) (satisfies : Satisfies (system_of p) l) (declared : h.0 < length p.hosts) (protos : List Proto) (assigned : IsAssignment (problem_of p l) protos) where
   abbrev problem : Problem
   problem = problem_of p l
 
@@ -97,8 +100,11 @@ module _ (p : NormalForm) (l : Labels) (h : HostId) (well : IsWellMade p) (satis
   abbrev view : ℕ → Bool
   view x = list_any (nat_eq x) (visible_slots reads p.body)
 
+  abbrev list : List ℕ
+  list = assigned.places
+
   valid : IsValid problem list
-  valid = parts_of problem list assigned.valid
+  valid = parts_of problem list assigned.is_valid.valid
 
   has_labels : HasLabels p l
   has_labels = record { slots = satisfies.solves.labelling.slots ∙ same_slots p.body p (Block 0) (at_start p); over = labels_over p l h well satisfies }
@@ -117,8 +123,8 @@ module _ (p : NormalForm) (l : Labels) (h : HostId) (well : IsWellMade p) (satis
       subst (λ (z : Label). acts z.conf (label_at l (Slot x)).conf ≡ true) own_is
       (subst (λ (z : Label). acts (label_of problem.hosts h).conf z.conf ≡ true) (label_of_slot l p well x.0 making is) all)
 
-  clear_read : (x : SlotId) → stands problem list h (has_clear h) x ≡ true → reads x.0 ≡ true
-  clear_read x is = by (slice_get list x.0) refl is
+  clear_read : (x : SlotId) → stands protos h (has_clear h) x ≡ true → reads x.0 ≡ true
+  clear_read x is = by (slice_get list x.0) refl (sym (stands_is problem list protos assigned.named h (has_clear h) x) ∙ is)
     where
       by : (o : Option ℕ) → slice_get list x.0 ≡ o → option_map_or (λ q. has_clear h (protocol problem q)) o false ≡ true → reads x.0 ≡ true
       by None at clear = absurd (true≢false (sym clear))
@@ -142,13 +148,13 @@ module _ (p : NormalForm) (l : Labels) (h : HostId) (well : IsWellMade p) (satis
 
   -- of a closed reach in which a declassified word is given, or its operand is reached
   reach_hears : (test : ℕ → ℕ → Bool) → Tells p l h test view → (r : Reach) → IsClosed p l h r → ((x y : ℕ) → in_view p l h x ≡ true → (test x y || r.slots y) ≡ true)
-      → HearsOnly p l list h test (λ k. reads_host p h k && r.hosts k)
+      → HearsOnly p l protos h test (λ k. reads_host p h k && r.hosts k)
   reach_hears test tells r closed goes_on first second same told =
       let taps : Taps = taps_of (narrowed (in_view p l h) test (reads_host p h) h.0 r) (λ s. []) in
-      same_words problem list h l reads view (reads_host p h) test r clear_read told_read told_all p.body 1 (start p first) (start p second)
+      same_words problem list protos assigned.named h l reads view (reads_host p h) test r clear_read told_read told_all p.body 1 (start p first) (start p second)
       (named_are_visible p reads well.made_before) flows (narrowed_flows (in_view p l h) test (reads_host p h) h.0 r reads (kept_read p l h well satisfies) goes_on p.body closed flows) closed
-      (subst (λ rs. list_all (guard_told problem list) (all_parts rs 1).guards ≡ true) (sym (body_reads problem list h l p.body)) valid.guards)
-      (subst (λ rs. list_all (index_told problem list) (all_parts rs 1).indexes ≡ true) (sym (body_reads problem list h l p.body)) valid.indexes)
+      (subst (λ rs. list_all (guard_told problem list) (all_parts rs 1).guards ≡ true) (sym (body_reads protos h l p.body)) valid.guards)
+      (subst (λ rs. list_all (index_told problem list) (all_parts rs 1).indexes ≡ true) (sym (body_reads protos h l p.body)) valid.indexes)
       agree (given_is p taps first ∙ told ∙ sym (given_is p taps second))
     where
       flows : all_flow (map (flow (hearing (in_view p l h) test (reads_host p h) h.0)) p.body) ≡ true
@@ -157,10 +163,10 @@ module _ (p : NormalForm) (l : Labels) (h : HostId) (well : IsWellMade p) (satis
       agree : Agree (narrowed (in_view p l h) test (reads_host p h) h.0 r) (start p first) (start p second)
       agree = record { words = λ x is. refl; arrays = λ x is. refl; inputs = same; hosts = refl; outputs = λ host is. refl }
 
-  weaker : (test : ℕ → ℕ → Bool) (known known' : ℕ → Bool) → ((k : ℕ) → known k ≡ true → known' k ≡ true) → HearsOnly p l list h test known → HearsOnly p l list h test known'
+  weaker : (test : ℕ → ℕ → Bool) (known known' : ℕ → Bool) → ((k : ℕ) → known k ≡ true → known' k ≡ true) → HearsOnly p l protos h test known → HearsOnly p l protos h test known'
   weaker test known known' more hears first second same told = hears first second (λ k is. same k (more k is)) told
 
-  reached_hear : (hosts : ℕ → Bool) → AreReached p l h hosts → HearsOnly p l list h (reads_result p l h) hosts
+  reached_hear : (hosts : ℕ → Bool) → AreReached p l h hosts → HearsOnly p l protos h (reads_result p l h) hosts
   reached_hear hosts are =
       weaker (reads_result p l h) (λ k. reads_host p h k && are.reach.hosts k) hosts (λ k both. are.same k ∙ (and_parts (reads_host p h k) (are.reach.hosts k) both).1)
       (reach_hears (reads_result p l h) (results p l h well satisfies) are.reach are.dependence.closed (λ x y is. rw (kept_read p l h well satisfies x is) refl))
@@ -169,7 +175,7 @@ module _ (p : NormalForm) (l : Labels) (h : HostId) (well : IsWellMade p) (satis
   either_true true = refl
   either_true false = refl
 
-  readable_hear : HearsOnly p l list h (becomes_readable_to p l h) (reads_host p h)
+  readable_hear : HearsOnly p l protos h (becomes_readable_to p l h) (reads_host p h)
   readable_hear =
       let few = well.limits.hosts in
       let few_hosts : length p.hosts ≤ 8 = omega arith in
@@ -178,7 +184,7 @@ module _ (p : NormalForm) (l : Labels) (h : HostId) (well : IsWellMade p) (satis
       (reach_hears (becomes_readable_to p l h) (becoming p l h well satisfies) eight_hosts closed (λ x y is. either_true (becomes_readable_to p l h x y)))
 
 pub all_hear_readable : OfEachHost (λ p l h. HearsOnlyAssigned p l h (becomes_readable_to p l h) (reads_host p h))
-all_hear_readable p l h well satisfies declared list assigned = readable_hear p l h well satisfies declared list assigned
+all_hear_readable p l h well satisfies declared protos assigned = readable_hear p l h well satisfies declared protos assigned
 
 pub all_hear_reached : OfEachHost (λ p l h. (hosts : ℕ → Bool) → AreReached p l h hosts → HearsOnlyAssigned p l h (reads_result p l h) hosts)
-all_hear_reached p l h well satisfies hosts are declared list assigned = reached_hear p l h well satisfies declared list assigned hosts are
+all_hear_reached p l h well satisfies hosts are declared protos assigned = reached_hear p l h well satisfies declared protos assigned hosts are

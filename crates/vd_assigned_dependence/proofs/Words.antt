@@ -8,7 +8,8 @@ use Rattle.std.proofs.lemmas.List.Folds.{list_all-append}
 use Rattle.vd_base.specs.declared.ids.SlotId.{SlotId}
 use Rattle.vd_base.specs.declared.ids.HostId.{HostId}
 use Rattle.vd_base.specs.HostSets.{same_host}
-use Rattle.vd_base.specs.Holders.{is_holder}
+use Rattle.vd_base.specs.declared.protocols.Proto.{Proto}
+use Rattle.vd_base.specs.Holders.{is_holder, proto_in, same_protocol}
 use Rattle.vd_core.specs.declared.normal.Right.{Right}
 use Rattle.vd_core.specs.declared.normal.Right.TheVariants.{Lit, Turn, Copy, Apply, Input, Declassify, Endorse, Load, Get}
 use Rattle.vd_core.specs.declared.normal.Stmt.{Stmt, roll-Stmt, map-Stmt, ind-Stmt}
@@ -34,6 +35,7 @@ use Rattle.vd_dependence.proofs.Whole.{hearing}
 use Rattle.vd_dependence.proofs.Narrow.{narrowed}
 use Rattle.vd_dependence.proofs.Lawful.{and_of, false_if}
 use Rattle.vd_assigned_dependence.proofs.Clear.{clear_holds}
+use Rattle.vd_assigned_dependence.proofs.Places.{part_is, stands_is}
 use Rattle.vd_assigned_dependence.specs.Hearing.{has_clear, Heard, run_of, read_of, heard_in_order, heard_in_turns, word_if, stands, comes, comes_alone, index_comes, right_heard, is_part, heard_step, heard}
 
 both_words : (a a' b b' : List ℕ) → a ≡ a' → b ≡ b' → a ++ b ≡ a' ++ b'
@@ -47,9 +49,9 @@ no_word : (test : Bool) (word : ℕ) → test ≡ false → word_if test word �
 no_word test word is = rw is refl
 
 -- ---- what is heard is done
-module _ (problem : Problem) (list : List ℕ) (h : HostId) (l : Labels) where
+module _ (protocols : List Proto) (h : HostId) (l : Labels) where
   abbrev R : Type 0
-  R = (s : Stmt) × ((heard problem list h l s).run ≡ effect s)
+  R = (s : Stmt) × ((heard protocols h l s).run ≡ effect s)
 
   abbrev named : List R → List Stmt
   named = map {B = Stmt} (λ (m : R). m.0)
@@ -57,11 +59,11 @@ module _ (problem : Problem) (list : List ℕ) (h : HostId) (l : Labels) where
   abbrev run_layer : Stmt-F R → Stmt-F Stmt
   run_layer = map-Stmt R Stmt (λ m. m.0)
 
-  runs_are : (ms : List R) → map run_of (map (heard problem list h l) (named ms)) ≡ map effect (named ms)
+  runs_are : (ms : List R) → map run_of (map (heard protocols h l) (named ms)) ≡ map effect (named ms)
   runs_are [] = refl
   runs_are (m ∷ ms) = rw (m.1, runs_are ms) refl
 
-  run_step : (y : Stmt-F R) → (heard_step problem list h l (map-Stmt Stmt Heard (heard problem list h l) (run_layer y))).run ≡ stmt_effect (map-Stmt Stmt Effect effect (run_layer y))
+  run_step : (y : Stmt-F R) → (heard_step protocols h l (map-Stmt Stmt Heard (heard protocols h l) (run_layer y))).run ≡ stmt_effect (map-Stmt Stmt Effect effect (run_layer y))
   run_step (Stmt-F.Let x r) = refl
   run_step (Stmt-F.NewVar v y) = refl
   run_step (Stmt-F.NewArray v size) = refl
@@ -71,13 +73,13 @@ module _ (problem : Problem) (list : List ℕ) (h : HostId) (l : Labels) where
   run_step (Stmt-F.If g a b offset) = rw (runs_are a, runs_are b) refl
   run_step (Stmt-F.For count body) = rw (runs_are body) refl
 
-  pub heard_runs : (s : Stmt) → (heard problem list h l s).run ≡ effect s
-  heard_runs = ind-Stmt (λ s. (heard problem list h l s).run ≡ effect s) (λ x y is. subst (λ z. (heard problem list h l (roll-Stmt z)).run ≡ effect (roll-Stmt z)) is (at_roll y))
+  pub heard_runs : (s : Stmt) → (heard protocols h l s).run ≡ effect s
+  heard_runs = ind-Stmt (λ s. (heard protocols h l s).run ≡ effect s) (λ x y is. subst (λ z. (heard protocols h l (roll-Stmt z)).run ≡ effect (roll-Stmt z)) is (at_roll y))
     where
-      at_roll : (y : Stmt-F R) → (heard problem list h l (roll-Stmt (run_layer y))).run ≡ effect (roll-Stmt (run_layer y))
-      at_roll y = ap run_of (fold-roll-Stmt Heard (heard_step problem list h l) (run_layer y)) ∙ run_step y ∙ sym (fold-roll-Stmt Effect stmt_effect (run_layer y))
+      at_roll : (y : Stmt-F R) → (heard protocols h l (roll-Stmt (run_layer y))).run ≡ effect (roll-Stmt (run_layer y))
+      at_roll y = ap run_of (fold-roll-Stmt Heard (heard_step protocols h l) (run_layer y)) ∙ run_step y ∙ sym (fold-roll-Stmt Effect stmt_effect (run_layer y))
 
-module _ (problem : Problem) (list : List ℕ) (h : HostId) (l : Labels) (reads V known : ℕ → Bool) (test : ℕ → ℕ → Bool) (r : Reach) (clear_read : (x : SlotId) → stands problem list h (has_clear h) x ≡ true → reads x.0 ≡ true) (told_read : (x : SlotId) → may_read problem h x.0 ≡ true → reads x.0 ≡ true) (told_all : (test : HostId → Bool) → list_all test (all_hosts problem) ≡ true → test h ≡ true) where
+module _ (problem : Problem) (list : List ℕ) (protocols : List Proto) (placed : protocols ≡ map (protocol problem) list) (h : HostId) (l : Labels) (reads V known : ℕ → Bool) (test : ℕ → ℕ → Bool) (r : Reach) (clear_read : (x : SlotId) → stands protocols h (has_clear h) x ≡ true → reads x.0 ≡ true) (told_read : (x : SlotId) → may_read problem h x.0 ≡ true → reads x.0 ≡ true) (told_all : (test : HostId → Bool) → list_all test (all_hosts problem) ≡ true → test h ≡ true) where
   abbrev k : Knowledge
   k = hearing (λ x. reads x && V x) test known h.0
 
@@ -91,16 +93,16 @@ module _ (problem : Problem) (list : List ℕ) (h : HostId) (l : Labels) (reads 
   w = watched (taps_of K silent)
 
   abbrev hs : Stmt → Heard
-  hs = heard problem list h l
+  hs = heard protocols h l
 
   abbrev guards_read : List SlotId → Bool
   guards_read = list_all (λ g. reads g.0)
 
   abbrev holds : SlotId → Bool
-  holds = stands problem list h (λ p. is_holder p h)
+  holds = stands protocols h (λ p. is_holder p h)
 
   abbrev coming : SlotId → SlotId → Bool
-  coming = comes problem list h
+  coming = comes protocols h
 
   -- runs that agree, and tell the same, bring the same
   abbrev Alike : Words → Words → Type 0
@@ -121,14 +123,14 @@ module _ (problem : Problem) (list : List ℕ) (h : HostId) (l : Labels) (reads 
       kept_of y p.0 p.1 (asked told x y closed is read)
 
   comes_read : (y x : SlotId) → coming y x ≡ true → reads x.0 ≡ true
-  comes_read y x is = clear_read x (and_parts (stands problem list h (has_clear h) x) (not (nat_eq (slice_index list y.0) (slice_index list x.0))) is).0
+  comes_read y x is = clear_read x (and_parts (stands protocols h (has_clear h) x) (not (same_protocol (proto_in protocols y.0) (proto_in protocols x.0))) is).0
 
   read_if_told : (x : SlotId) → is_told problem list h x ≡ true → reads x.0 ≡ true
   read_if_told x is = told_read x (and_parts (may_read problem h x.0) (if_decided list x (λ q. is_some (move_to_host problem h q))) is).0
 
   -- an index of an array that is kept at the host
-  index_read : (v i : SlotId) (weight : ℕ) → index_told problem list (index_of weight v i) ≡ true → index_comes problem list h v i ≡ true → reads i.0 ≡ true
-  index_read v i weight told is = by (slice_get list v.0) told (and_parts (holds v) (comes_alone problem list h i) is).0
+  index_read : (v i : SlotId) (weight : ℕ) → index_told problem list (index_of weight v i) ≡ true → index_comes protocols h v i ≡ true → reads i.0 ≡ true
+  index_read v i weight told is = by (slice_get list v.0) told (sym (stands_is problem list protocols placed h (λ p. is_holder p h) v) ∙ (and_parts (holds v) (comes_alone protocols h i) is).0)
     where
       by : (o : Option ℕ) → option_map_or (λ q. list_all (index_test problem list (index_of weight v i) q) (all_hosts problem)) o true ≡ true
           → option_map_or (λ q. is_holder (protocol problem q) h) o false ≡ true → reads i.0 ≡ true
@@ -136,10 +138,10 @@ module _ (problem : Problem) (list : List ℕ) (h : HostId) (l : Labels) (reads 
       by (Some q) told here = read_if_told i (if_so (holds_at problem h q) (is_told problem list h i) (told_all (index_test problem list (index_of weight v i) q) told) here)
 
   -- a guard of branches in which the host takes part
-  guard_read : (g : SlotId) (a b : List Heard) (weight : ℕ) → guard_told problem list (guard_of g weight (map read_of a ++ map read_of b)) ≡ true → is_part problem list h g a b ≡ true → reads g.0 ≡ true
+  guard_read : (g : SlotId) (a b : List Heard) (weight : ℕ) → guard_told problem list (guard_of g weight (map read_of a ++ map read_of b)) ≡ true → is_part protocols h g a b ≡ true → reads g.0 ≡ true
   guard_read g a b weight told is =
       let guard = guard_of g weight (map read_of a ++ map read_of b) in
-      read_if_told g (if_so (takes_part problem list guard h) (is_told problem list h g) (told_all (λ j. not (takes_part problem list guard j) || is_told problem list j g) told) is)
+      read_if_told g (if_so (takes_part problem list guard h) (is_told problem list h g) (told_all (λ j. not (takes_part problem list guard j) || is_told problem list j g) told) (sym (part_is problem list protocols placed h g a b weight) ∙ is))
 
   -- ---- right sides
   filtered_same : (s t : SlotState) (c : Bool) (test : SlotId → Bool) (ys : List SlotId) → Agree K s t → (c ≡ true → list_all (λ y. K.kept y.0) ys ≡ true)
@@ -179,7 +181,7 @@ module _ (problem : Problem) (list : List ℕ) (h : HostId) (l : Labels) (reads 
     indexes : list_all (index_told problem list) (indexes_of weight right) ≡ true
 
   right_alike : (x : SlotId) (right : Right) (around told : Bool) (weight : ℕ) → RightAsked x right around told weight
-      → Alike (λ turn s. right_downgraded K.given x right s) (λ turn s. right_heard problem list h x right s)
+      → Alike (λ turn s. right_downgraded K.given x right s) (λ turn s. right_heard protocols h x right s)
   right_alike x (Lit n) around told weight is turn s t rest rest' a e = refl
   right_alike x Turn around told weight is turn s t rest rest' a e = refl
   right_alike x (Copy y) around told weight is turn s t rest rest' a e =
@@ -188,7 +190,7 @@ module _ (problem : Problem) (list : List ℕ) (h : HostId) (l : Labels) (reads 
   right_alike x (Apply op ys) around told weight is turn s t rest rest' a e =
       let all = list_all (λ y. r.slots y.0) ys in
       let parts = and_parts (only_with (r.slots x.0) (around && all)) (only_with (told && reads x.0) all) is.closed in
-      filtered_same s t (stands problem list h (has_clear h) x) (λ y. not (nat_eq (slice_index list y.0) (slice_index list x.0))) ys a
+      filtered_same s t (stands protocols h (has_clear h) x) (λ y. not (same_protocol (proto_in protocols y.0) (proto_in protocols x.0))) ys a
       (λ clear. all_made_of told x.0 ys is.flows parts.1 is.guarded is.seen (clear_read x clear))
   right_alike x (Input host) around told weight is turn s t rest rest' a e = refl
   right_alike x (Declassify y to) around told weight is turn s t rest rest' a e =
@@ -209,14 +211,14 @@ module _ (problem : Problem) (list : List ℕ) (h : HostId) (l : Labels) (reads 
       let parts = and_parts (only_with (r.slots x.0) (around && (r.slots v.0 && r.slots i.0))) (only_with (told && reads x.0) (r.slots x.0) && only_with (told && reads i.0) (r.slots i.0)) is.closed in
       let firsts = and_parts (only_with (told && reads x.0) (r.slots x.0)) (only_with (told && reads i.0) (r.slots i.0)) parts.1 in
       let step = right_in_step K x (Get v i) turn s t rest rest' a is.narrow e in
-      let index = index_comes problem list h v i in
+      let index = index_comes protocols h v i in
       both_words (word_if index (word_at s i)) (word_if index (word_at t i))
       (word_if (coming v x) (slice_index (array_at s v) (word_at s i))) (word_if (coming v x) (slice_index (array_at t v) (word_at t i)))
       (word_if_same index (word_at s i) (word_at t i) (index_same is.indexes firsts.1 is.sees))
       (word_if_same (coming v x) (slice_index (array_at s v) (word_at s i)) (slice_index (array_at t v) (word_at t i))
       (λ comes_here. let read = comes_read v x comes_here in step.same (kept_of x.0 read is.seen (asked told x.0 x.0 firsts.0 is.guarded read))))
     where
-      index_same : (index_told problem list (index_of weight v i) && true) ≡ true → only_with (told && reads i.0) (r.slots i.0) ≡ true → (V v.0 && V i.0) ≡ true → index_comes problem list h v i ≡ true → word_at s i ≡ word_at t i
+      index_same : (index_told problem list (index_of weight v i) && true) ≡ true → only_with (told && reads i.0) (r.slots i.0) ≡ true → (V v.0 && V i.0) ≡ true → index_comes protocols h v i ≡ true → word_at s i ≡ word_at t i
       index_same tells first seen comes_here =
           let read = index_read v i weight (and_parts (index_told problem list (index_of weight v i)) true tells).0 comes_here in
           a.words i.0 (kept_of i.0 read (and_parts (V v.0) (V i.0) seen).1 (asked told i.0 i.0 first is.guarded read))
@@ -330,7 +332,7 @@ module _ (problem : Problem) (list : List ℕ) (h : HostId) (l : Labels) (reads 
 
   module _ (g : SlotId) (offset : ℕ) (as' bs : List Bool) (f f' n n' : List Flow) (c c' : List Closing) (does does' : List Watched) (hears hears' : List Heard) (first : Hears (all_true as') (block_flow f) (block_flow n) (all_close c) (block K does) (block_heard hears)) (second : Hears (all_true bs) (block_flow f') (block_flow n') (all_close c') (block K does') (block_heard hears')) where
     abbrev part : Bool
-    part = is_part problem list h g hears hears'
+    part = is_part protocols h g hears hears'
 
     -- where the host takes no part, both branches bring it nothing
     no_part : part ≡ false → IsApart (block_read hears) × IsApart (block_read hears')
@@ -348,12 +350,12 @@ module _ (problem : Problem) (list : List ℕ) (h : HostId) (l : Labels) (reads 
         by false = first.quiet one turn s
 
     abbrev if_words : Words
-    if_words turn s = word_if (part && comes_alone problem list h g) (word_at s g) ++ heard_in_order (taken g hears hears' s) turn s
+    if_words turn s = word_if (part && comes_alone protocols h g) (word_at s g) ++ heard_in_order (taken g hears hears' s) turn s
 
     silent_words : part ≡ false → (turn : ℕ) (s : SlotState) → if_words turn s ≡ []
     silent_words is turn s =
         let apart = no_part is in
-        both_words (word_if (part && comes_alone problem list h g) (word_at s g)) [] (heard_in_order (taken g hears hears' s) turn s) [] (no_word (part && comes_alone problem list h g) (word_at s g) (and_left part (comes_alone problem list h g) is)) (taken_quiet apart.0 apart.1 turn s)
+        both_words (word_if (part && comes_alone protocols h g) (word_at s g)) [] (heard_in_order (taken g hears hears' s) turn s) [] (no_word (part && comes_alone protocols h g) (word_at s g) (and_left part (comes_alone protocols h g) is)) (taken_quiet apart.0 apart.1 turn s)
 
     if_quiet : IsApart (read_step l (Stmt-F.If g (map read_of hears) (map read_of hears') offset)) → (turn : ℕ) (s : SlotState) → if_words turn s ≡ []
     if_quiet apart turn s = silent_words none turn s
@@ -427,7 +429,7 @@ module _ (problem : Problem) (list : List ℕ) (h : HostId) (l : Labels) (reads 
             let one = first.alike (g ∷ guards) weight (record { sees = names_.0; flows = flows_.0; narrow_flows = narrow_.0; closed = closed_.0; guards_are_read = read_; guards_told = guards_.0; indexes_told = indexes_.0 }) in
             let two = second.alike (g ∷ guards) weight (record { sees = names_.1; flows = flows_.1; narrow_flows = narrow_.1; closed = closed_.1; guards_are_read = read_; guards_told = guards_.1; indexes_told = indexes_.1 }) in
             let same = a.words g.0 kept in
-            let test = part && comes_alone problem list h g in
+            let test = part && comes_alone protocols h g in
             both_words (word_if test (word_at s g)) (word_if test (word_at t g)) (heard_in_order (taken g hears hears' s) turn s) (heard_in_order (taken g hears hears' t) turn t)
             (word_if_same test (word_at s g) (word_at t g) (λ is. same)) (same_branch turn s t rest rest' a same one two e)
 
@@ -448,7 +450,7 @@ module _ (problem : Problem) (list : List ℕ) (h : HostId) (l : Labels) (reads 
   BlockHears body = Hears (all_true (map (names reads V) body)) (block_flow (map (flow k) body)) (block_flow (map (flow K) body)) (all_close (map (closes reads h.0 r) body)) (block K (map w body)) (block_heard (map hs body))
 
   runs_same : (s : Stmt) → (hs s).run ≡ (w s).run
-  runs_same s = heard_runs problem list h l s ∙ sym (run_is (taps_of K silent) s)
+  runs_same s = heard_runs protocols h l s ∙ sym (run_is (taps_of K silent) s)
 
   block_runs : (body : List Stmt) → map run_of (map hs body) ≡ map watched_run (map w body)
   block_runs [] = refl
@@ -464,17 +466,17 @@ module _ (problem : Problem) (list : List ℕ) (h : HostId) (l : Labels) (reads 
   all_hear (m ∷ ms) = stmt_more m.0 (statements ms) m.1 (all_hear ms)
 
   -- a slot that is not kept at the host
-  not_clear : (x : SlotId) → holds x ≡ false → stands problem list h (has_clear h) x ≡ false
-  not_clear x none = by (slice_get list x.0) none
+  not_clear : (x : SlotId) → holds x ≡ false → stands protocols h (has_clear h) x ≡ false
+  not_clear x none = by (slice_get protocols x.0) none
     where
-      by : (o : Option ℕ) → option_map_or (λ q. is_holder (protocol problem q) h) o false ≡ false → option_map_or (λ q. has_clear h (protocol problem q)) o false ≡ false
+      by : (o : Option Proto) → option_map_or (λ q. is_holder q h) o false ≡ false → option_map_or (has_clear h) o false ≡ false
       by None off = refl
-      by (Some q) off = false_if (has_clear h (protocol problem q)) (λ is. true≢false (sym (clear_holds h (protocol problem q) is) ∙ off))
+      by (Some q) off = false_if (has_clear h q) (λ is. true≢false (sym (clear_holds h q is) ∙ off))
 
   not_coming : (y x : SlotId) → holds x ≡ false → coming y x ≡ false
-  not_coming y x none = and_left (stands problem list h (has_clear h) x) (not (nat_eq (slice_index list y.0) (slice_index list x.0))) (not_clear x none)
+  not_coming y x none = and_left (stands protocols h (has_clear h) x) (not (same_protocol (proto_in protocols y.0) (proto_in protocols x.0))) (not_clear x none)
 
-  right_quiet : (x : SlotId) (right : Right) → list_any holds (x ∷ named_by right) ≡ false → (s : SlotState) → right_heard problem list h x right s ≡ []
+  right_quiet : (x : SlotId) (right : Right) → list_any holds (x ∷ named_by right) ≡ false → (s : SlotState) → right_heard protocols h x right s ≡ []
   right_quiet x (Lit n) none s = refl
   right_quiet x Turn none s = refl
   right_quiet x (Copy y) none s = no_word (coming y x) (word_at s y) (not_coming y x (or_parts (holds x) (list_any holds (y ∷ [])) none).0)
@@ -493,8 +495,8 @@ module _ (problem : Problem) (list : List ℕ) (h : HostId) (l : Labels) (reads 
   right_quiet x (Get v i) none s =
       let parts = or_parts (holds x) (list_any holds (v ∷ i ∷ [])) none in
       let array = or_parts (holds v) (list_any holds (i ∷ [])) parts.1 in
-      both_words (word_if (index_comes problem list h v i) (word_at s i)) [] (word_if (coming v x) (slice_index (array_at s v) (word_at s i))) []
-      (no_word (index_comes problem list h v i) (word_at s i) (and_left (holds v) (comes_alone problem list h i) array.0)) (no_word (coming v x) (slice_index (array_at s v) (word_at s i)) (not_coming v x parts.0))
+      both_words (word_if (index_comes protocols h v i) (word_at s i)) [] (word_if (coming v x) (slice_index (array_at s v) (word_at s i))) []
+      (no_word (index_comes protocols h v i) (word_at s i) (and_left (holds v) (comes_alone protocols h i) array.0)) (no_word (coming v x) (slice_index (array_at s v) (word_at s i)) (not_coming v x parts.0))
 
   -- a value is stored
   store_alike : (v y : SlotId) (around told : Bool) (s t : SlotState) → V v.0 ≡ true → only_with (k.kept v.0) (k.kept y.0) ≡ true → (only_with (r.slots v.0) (around && r.slots y.0) && only_with (told && reads v.0) (r.slots y.0)) ≡ true → told ≡ true → Agree K s t
@@ -507,7 +509,7 @@ module _ (problem : Problem) (list : List ℕ) (h : HostId) (l : Labels) (reads 
   around = list_all (λ g. r.slots g.0)
 
   step : (y : Stmt-F M) → Hears (stmt_names reads V (map-Stmt Stmt Bool (names reads V) (layer y))) (flow_step k (map-Stmt Stmt Flow (flow k) (layer y))) (flow_step K (map-Stmt Stmt Flow (flow K) (layer y)))
-      (stmt_closes reads h.0 r (map-Stmt Stmt Closing (closes reads h.0 r) (layer y))) (watched_step (taps_of K silent) (map-Stmt Stmt Watched w (layer y))) (heard_step problem list h l (map-Stmt Stmt Heard hs (layer y)))
+      (stmt_closes reads h.0 r (map-Stmt Stmt Closing (closes reads h.0 r) (layer y))) (watched_step (taps_of K silent) (map-Stmt Stmt Watched w (layer y))) (heard_step protocols h l (map-Stmt Stmt Heard hs (layer y)))
   step (Stmt-F.Let x right) = record {
     quiet = λ apart turn s. right_quiet x right apart.named s;
     alike = λ guards weight is.
@@ -527,15 +529,15 @@ module _ (problem : Problem) (list : List ℕ) (h : HostId) (l : Labels) (reads 
   step (Stmt-F.Put v i y) = record {
     quiet = λ apart turn s.
         let parts = or_parts (holds v) (list_any holds (i ∷ y ∷ [])) apart.named in
-        both_words (word_if (index_comes problem list h v i) (word_at s i)) [] (word_if (coming y v) (word_at s y)) []
-        (no_word (index_comes problem list h v i) (word_at s i) (and_left (holds v) (comes_alone problem list h i) parts.0)) (no_word (coming y v) (word_at s y) (not_coming y v parts.0));
+        both_words (word_if (index_comes protocols h v i) (word_at s i)) [] (word_if (coming y v) (word_at s y)) []
+        (no_word (index_comes protocols h v i) (word_at s i) (and_left (holds v) (comes_alone protocols h i) parts.0)) (no_word (coming y v) (word_at s y) (not_coming y v parts.0));
     alike = λ guards weight is turn s t rest rest' a e.
         let named = and_parts (V v.0 && V i.0) (V y.0) is.sees in
         let seen = and_parts (V v.0) (V i.0) named.0 in
         let told = guards_read guards in
         let closed = and_parts (only_with (r.slots v.0) (around guards && (r.slots i.0 && r.slots y.0))) (only_with (told && reads v.0) (r.slots y.0) && only_with (told && reads i.0) (r.slots i.0)) is.closed in
         let firsts = and_parts (only_with (told && reads v.0) (r.slots y.0)) (only_with (told && reads i.0) (r.slots i.0)) closed.1 in
-        let index = index_comes problem list h v i in
+        let index = index_comes protocols h v i in
         let tells = (and_parts (index_told problem list (index_of weight v i)) true is.indexes_told).0 in
         both_words (word_if index (word_at s i)) (word_if index (word_at t i)) (word_if (coming y v) (word_at s y)) (word_if (coming y v) (word_at t y))
         (word_if_same index (word_at s i) (word_at t i)
@@ -547,11 +549,11 @@ module _ (problem : Problem) (list : List ℕ) (h : HostId) (l : Labels) (reads 
         a.words y.0 (and_of (k.kept y.0) (r.slots y.0) both.1 (asked told v.0 y.0 firsts.0 is.guards_are_read read))));
   }
   step (Stmt-F.Output y other offset) = record {
-    quiet = λ apart turn s. no_word (same_host h other && comes_alone problem list h y) (word_at s y) (and_left (same_host h other) (comes_alone problem list h y) (or_parts (same_host h other) false apart.told).0);
+    quiet = λ apart turn s. no_word (same_host h other && comes_alone protocols h y) (word_at s y) (and_left (same_host h other) (comes_alone protocols h y) (or_parts (same_host h other) false apart.told).0);
     alike = λ guards weight is turn s t rest rest' a e.
-        word_if_same (same_host h other && comes_alone problem list h y) (word_at s y) (word_at t y)
+        word_if_same (same_host h other && comes_alone protocols h y) (word_at s y) (word_at t y)
         (λ comes_here.
-        let same = (and_parts (same_host h other) (comes_alone problem list h y) comes_here).0 in
+        let same = (and_parts (same_host h other) (comes_alone protocols h y) comes_here).0 in
         let here : nat_eq other.0 h.0 ≡ true = eq-eqb other.0 h.0 (sym (eqb-true h.0 other.0 same)) in
         let kept = only (nat_eq other.0 h.0) (k.kept y.0) is.flows here in
         a.words y.0 (and_of (k.kept y.0) (r.slots y.0) kept (only (guards_read guards && nat_eq other.0 h.0) (r.slots y.0) is.closed (and_of (guards_read guards) (nat_eq other.0 h.0) is.guards_are_read here))));
@@ -587,7 +589,7 @@ module _ (problem : Problem) (list : List ℕ) (h : HostId) (l : Labels) (reads 
             fold-roll-Stmt Flow (flow_step K) (layer y),
             fold-roll-Stmt Closing (stmt_closes reads h.0 r) (layer y),
             fold-roll-Stmt Watched (watched_step (taps_of K silent)) (layer y),
-            fold-roll-Stmt Heard (heard_step problem list h l) (layer y),
+            fold-roll-Stmt Heard (heard_step protocols h l) (layer y),
           ) (step y)
 
   body_hears : (body : List Stmt) → BlockHears body

@@ -1,29 +1,26 @@
 -- What comes to a host in clear at a valid assignment, and on which inputs that depends.
-use Rattle.std.specs.Prelude.{◌≡◌, ℕ, ◌<◌, Bool, IsTrue, List, length, map}
+use Rattle.std.specs.Prelude.{◌≡◌, ℕ, ◌<◌, Bool, List, length, map}
 use Rattle.vd_base.specs.declared.ids.HostId.{HostId}
+use Rattle.vd_base.specs.declared.protocols.Proto.{Proto}
 use Rattle.vd_core.specs.declared.normal.NormalForm.{NormalForm}
 use Rattle.vd_constraints.specs.declared.labels.Labels.{Labels}
 use Rattle.vd_space.specs.Reading.{problem_of}
-use Rattle.vd_space.specs.Validity.{is_valid}
+use Rattle.vd_cheapest.specs.Cheapest.{IsAssignment}
 use Rattle.vd_dependence.specs.Reading.{start, declassified_words, SameInputs}
 use Rattle.vd_assigned_dependence.specs.Hearing.{heard, heard_in_order}
 
--- a protocol for each slot of the program, valid under these labels
-pub record IsAssignment (p : NormalForm) (l : Labels) (list : List ℕ) : Type 0 where
-  pub whole : length list ≡ length p.slots
-  pub valid : IsTrue (is_valid (problem_of p l) list)
-
 -- the clear words that come to a host of the program, in order
-abbrev pub heard_words : NormalForm → Labels → List ℕ → HostId → List (List ℕ) → List ℕ
-heard_words p l list h inputs = heard_in_order (map (heard (problem_of p l) list h l) p.body) 0 (start p inputs)
+abbrev pub heard_words : NormalForm → Labels → List Proto → HostId → List (List ℕ) → List ℕ
+heard_words p l protocols h inputs = heard_in_order (map (heard protocols h l) p.body) 0 (start p inputs)
 
 -- inputs that agree on known hosts, and on the words of these declassifications, bring the host the same clear words
-abbrev pub HearsOnly : NormalForm → Labels → List ℕ → HostId → (ℕ → ℕ → Bool) → (ℕ → Bool) → Type 0
-HearsOnly p l list h released known =
+abbrev pub HearsOnly : NormalForm → Labels → List Proto → HostId → (ℕ → ℕ → Bool) → (ℕ → Bool) → Type 0
+HearsOnly p l protocols h released known =
     (first second : List (List ℕ)) → SameInputs known first second
     → declassified_words p released first ≡ declassified_words p released second
-    → heard_words p l list h first ≡ heard_words p l list h second
+    → heard_words p l protocols h first ≡ heard_words p l protocols h second
 
 -- so at every valid assignment
 abbrev pub HearsOnlyAssigned : NormalForm → Labels → HostId → (ℕ → ℕ → Bool) → (ℕ → Bool) → Type 0
-HearsOnlyAssigned p l h released known = h.0 < length p.hosts → (list : List ℕ) → IsAssignment p l list → HearsOnly p l list h released known
+HearsOnlyAssigned p l h released known =
+    h.0 < length p.hosts → (protocols : List Proto) → IsAssignment (problem_of p l) protocols → HearsOnly p l protocols h released known

@@ -4,14 +4,14 @@ use Rattle.vd_base.specs.declared.ids.SlotId.{SlotId}
 use Rattle.vd_base.specs.declared.ids.HostId.{HostId}
 use Rattle.vd_base.specs.declared.form.Form as form
 use Rattle.vd_base.specs.declared.operations.Op.TheVariants as op
-use Rattle.vd_base.specs.HostSets.{host}
+use Rattle.vd_base.specs.declared.protocols.Proto.{Proto}
+use Rattle.vd_base.specs.declared.protocols.Proto.TheVariants.{Local, Rep, Add, Xor}
+use Rattle.vd_base.specs.HostSets.{host, host_set}
 use Rattle.vd_core.specs.declared.normal.Right.TheVariants.{Lit, Apply, Input, Declassify, Load}
 use Rattle.vd_core.specs.declared.normal.Stmt.{Stmt, Let, NewVar, Store, Output, If}
-use Rattle.vd_formula.specs.declared.label.Label.{Label}
 use Rattle.vd_constraints.specs.declared.labels.Labels.{Labels}
 use Rattle.vd_meaning.specs.World.{world_at_start}
 use Rattle.vd_meaning.specs.ProgramMeaning.{state_at_start}
-use Rattle.vd_space.specs.declared.problem.Problem.{Problem}
 use Rattle.vd_assigned_dependence.specs.Hearing.{heard, heard_in_order}
 
 abbrev pub alice : HostId
@@ -23,19 +23,29 @@ bob = host 1
 abbrev pub slot : ℕ → SlotId
 slot k = record { 0 = k }
 
-abbrev pub any_label : Label
-any_label = record { conf = record { names = 0; truths = 1 }; integ = record { names = 0; truths = 1 } }
+-- the protocols of two hosts
+abbrev pub at_alice : Proto
+at_alice = Local alice
 
--- of two hosts; the labels do not matter to what comes
-abbrev pub two_hosts : Problem
-two_hosts = record { hosts = any_label ∷ any_label ∷ []; slots = []; uses = []; outputs = []; guards = []; indexes = [] }
+abbrev pub at_bob : Proto
+at_bob = Local bob
 
+abbrev pub at_both : Proto
+at_both = Rep (host_set 3)
+
+abbrev pub sums_at_both : Proto
+sums_at_both = Add alice bob
+
+abbrev pub bits_at_both : Proto
+bits_at_both = Xor alice bob
+
+-- they do not matter to what comes
 abbrev pub no_labels : Labels
 no_labels = record { slots = []; blocks = [] }
 
 -- the words that come to a host of a program with these protocols, where alice and bob have these inputs
-abbrev pub come : List Stmt → List ℕ → HostId → ℕ → ℕ → List ℕ
-come body list h a b = heard_in_order (map (heard two_hosts list h no_labels) body) 0 (state_at_start (world_at_start 2 ((a ∷ []) ∷ (b ∷ []) ∷ [])))
+abbrev pub come : List Stmt → List Proto → HostId → ℕ → ℕ → List ℕ
+come body protocols h a b = heard_in_order (map (heard protocols h no_labels) body) 0 (state_at_start (world_at_start 2 ((a ∷ []) ∷ (b ∷ []) ∷ [])))
 
 -- which of two inputs is greater, declassified and told to both
 abbrev pub comparison : List Stmt
@@ -49,8 +59,8 @@ comparison =
     ∷ []
 
 -- alice alone, bob alone, shares of both by exclusive or, copies at both
-abbrev pub shared : List ℕ
-shared = 0 ∷ 1 ∷ 6 ∷ 2 ∷ []
+abbrev pub shared : List Proto
+shared = at_alice ∷ at_bob ∷ bits_at_both ∷ at_both ∷ []
 
 -- a variable that is set under a guard on alice's input, and told to bob
 abbrev pub guarded : List Stmt
@@ -66,8 +76,8 @@ guarded =
     ∷ []
 
 -- the guard at alice alone, the variable and what is stored in it as copies at both
-abbrev pub copied : List ℕ
-copied = 0 ∷ 0 ∷ 0 ∷ 2 ∷ 2 ∷ 2 ∷ 2 ∷ []
+abbrev pub copied : List Proto
+copied = at_alice ∷ at_alice ∷ at_alice ∷ at_both ∷ at_both ∷ at_both ∷ at_both ∷ []
 
 pub record WorkedWords : Type 0 where
   -- alice is told the comparison twice: where it is opened to copies, and where it is output

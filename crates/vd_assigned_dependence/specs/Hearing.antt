@@ -1,12 +1,13 @@
--- The clear words that come to a host in a run, where each slot stands at the protocol that a list gives it.
-use Rattle.std.specs.Prelude.{ℕ, zero, suc, nat_eq, Bool, false, ◌&&◌, not, if◌then◌else◌, List, [], ◌∷◌, ◌++◌, map, filter, slice_get, slice_index}
+-- The clear words that come to a host in a run, where each slot stands at the protocol that a list has for it.
+use Rattle.std.specs.Prelude.{ℕ, zero, suc, Bool, false, ◌&&◌, ◌||◌, not, if◌then◌else◌, List, [], ◌∷◌, ◌++◌, map, filter, slice_get, slice_index}
+use Rattle.std.specs.List.{list_any}
 use Rattle.std.specs.Option.{option_map_or}
 use Rattle.vd_base.specs.declared.ids.SlotId.{SlotId}
 use Rattle.vd_base.specs.declared.ids.HostId.{HostId}
 use Rattle.vd_base.specs.declared.protocols.Proto.{Proto}
 use Rattle.vd_base.specs.declared.protocols.Proto.TheVariants.{Local, Rep, Commit, Add, Xor}
 use Rattle.vd_base.specs.HostSets.{has_host, same_host}
-use Rattle.vd_base.specs.Holders.{is_holder}
+use Rattle.vd_base.specs.Holders.{is_holder, proto_in, same_protocol}
 use Rattle.vd_core.specs.declared.normal.Right.{Right}
 use Rattle.vd_core.specs.declared.normal.Right.TheVariants.{Lit, Turn, Copy, Apply, Input, Declassify, Endorse, Load, Get}
 use Rattle.vd_core.specs.declared.normal.Stmt.{Stmt, map-Stmt}
@@ -15,9 +16,8 @@ use Rattle.vd_core.specs.declared.normal.Stmt.TheFolds.{fold-Stmt}
 use Rattle.vd_constraints.specs.declared.labels.Labels.{Labels}
 use Rattle.vd_meaning.specs.ProgramMeaning.{SlotState, Effect, word_at, array_at, in_order, stmt_effect}
 use Rattle.vd_meaning.specs.Turns.{turns}
-use Rattle.vd_space.specs.declared.problem.Problem.{Problem}
+use Rattle.vd_space.specs.declared.problem.Guard.{Guard}
 use Rattle.vd_space.specs.Reading.{Read, guard_of, read_step}
-use Rattle.vd_space.specs.Validity.{protocol, takes_part}
 use Rattle.vd_dependence.specs.Watching.{Words, taken}
 
 -- the host has in clear what stands there: alone, as a copy, or as the one that is bound to it
@@ -57,14 +57,14 @@ heard_in_turns (suc n) body s = heard_in_turns n body s ++ heard_in_order body n
 abbrev pub word_if : Bool → ℕ → List ℕ
 word_if test word = if test then word ∷ [] else []
 
-module _ (problem : Problem) (list : List ℕ) (h : HostId) where
+module _ (protocols : List Proto) (h : HostId) where
   -- the slot stands at a protocol that passes the test
   abbrev pub stands : (Proto → Bool) → SlotId → Bool
-  stands test x = option_map_or (λ p. test (protocol problem p)) (slice_get list x.0) false
+  stands test x = option_map_or test (slice_get protocols x.0) false
 
   -- moved from the one slot to the other, a word comes to the host: from another protocol, to where the host has it in clear
   abbrev pub comes : SlotId → SlotId → Bool
-  comes from onto = stands (has_clear h) onto && not (nat_eq (slice_index list from.0) (slice_index list onto.0))
+  comes from onto = stands (has_clear h) onto && not (same_protocol (proto_in protocols from.0) (proto_in protocols onto.0))
 
   -- so does a word that is moved to the host itself
   abbrev pub comes_alone : SlotId → Bool
@@ -86,9 +86,12 @@ module _ (problem : Problem) (list : List ℕ) (h : HostId) where
   right_heard x (Load v) s = word_if (comes v x) (word_at s v)
   right_heard x (Get v i) s = word_if (index_comes v i) (word_at s i) ++ word_if (comes v x) (slice_index (array_at s v) (word_at s i))
 
-  -- the host takes part in the branches
+  -- the host takes part in branches: it is told something there, or keeps a slot that they name
+  abbrev pub takes_part : Guard → Bool
+  takes_part guard = list_any (same_host h) guard.hosts || list_any (stands (λ p. is_holder p h)) guard.slots
+
   abbrev pub is_part : SlotId → List Heard → List Heard → Bool
-  is_part g then_block else_block = takes_part problem list (guard_of g 1 (map read_of then_block ++ map read_of else_block)) h
+  is_part g then_block else_block = takes_part (guard_of g 1 (map read_of then_block ++ map read_of else_block))
 
   abbrev pub stmt_heard : Stmt-F Heard → Words
   stmt_heard (Stmt-F.Let x right) turn s = right_heard x right s

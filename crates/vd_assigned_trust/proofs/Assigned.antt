@@ -1,7 +1,8 @@
 -- At a valid assignment words stand where they are kept, and where they are not seen.
-use Rattle.std.proofs.Common.{◌≡◌, ℕ, zero, suc, ◌+◌, ◌^◌, ◌<◌, ◌≤◌, Bool, true, false, true≢false, ◌&&◌, ◌||◌, not, List, [], ◌∷◌, map, length, Some, None, refl, sym, ap, ap₂, ◌∙◌, subst, arith, slice_get, slice_index, if◌then◌else◌}
+use Rattle.std.proofs.Common.{◌≡◌, ℕ, zero, suc, ◌+◌, ◌^◌, ◌<◌, ◌≤◌, Bool, true, false, true≢false, ◌&&◌, ◌||◌, not, List, [], ◌∷◌, map, length, Option, Some, None, refl, sym, ap, ap₂, ◌∙◌, subst, arith, slice_get, slice_index, if◌then◌else◌}
 use Rattle.std.specs.Prelude.{All, filter, is_some, nat_lt}
 use Rattle.std.specs.List.{AllByRecursion, list_all, list_any, range_with_len}
+use Rattle.std.specs.Option.{option_map_or}
 use Rattle.std.proofs.lemmas.Bool.{and_parts}
 use Rattle.std.proofs.lemmas.List.{length-map}
 use Rattle.std.proofs.lemmas.List.Elements.{All-nil, All-cons}
@@ -12,6 +13,8 @@ use Rattle.vd_base.specs.declared.protocols.Proto.TheVariants.{Local, Rep, Commi
 use Rattle.vd_base.specs.declared.protocols.HostSet.{HostSet}
 use Rattle.vd_base.specs.HostSets.{has_host, host}
 use Rattle.vd_base.specs.Costs.{cost_at}
+use Rattle.vd_base.specs.Moves.{move_at}
+use Rattle.vd_base.specs.Holders.{proto_in}
 use Rattle.vd_core.specs.Facts.{IsWellMade}
 use Rattle.vd_core.specs.declared.normal.NormalForm.{NormalForm}
 use Rattle.vd_core.specs.declared.normal.Written.{Written}
@@ -29,22 +32,25 @@ use Rattle.vd_space.specs.declared.problem.Guard.{Guard}
 use Rattle.vd_space.specs.declared.problem.Problem.{Problem}
 use Rattle.vd_space.specs.Labelled.{HasLabels, IsLabelled}
 use Rattle.vd_space.specs.Reading.{problem_of}
-use Rattle.vd_space.specs.Validity.{acts_for, covers, guard_told, is_told, protocol, protocols, takes_part}
+use Rattle.vd_space.specs.Validity.{acts_for, covers, guard_told, if_decided, is_told, may_read, move_to_host, protocol, protocols, takes_part}
 use Rattle.vd_space.proofs.Counted.{as_many as as_many_slots}
 use Rattle.vd_space.proofs.Candidates.{listed_at}
 use Rattle.vd_space.proofs.Kept.{IsValid, parts_of}
 use Rattle.vd_space.proofs.Listed.{has_hosts_at}
 use Rattle.vd_space.proofs.Programs.{is_labelled, names_below}
+use Rattle.vd_cheapest.specs.Cheapest.{IsAssignment}
+use Rattle.vd_cheapest.proofs.Places.{proto_is}
 use Rattle.vd_dependence.proofs.Formulas.{acts_for as acts_at}
 use Rattle.vd_dependence.proofs.Lawful.{false_if}
 use Rattle.vd_dependence.proofs.Same.{same_slots}
 use Rattle.vd_trust.specs.Trust.{OfEachProgram, against, trusts_host}
 use Rattle.vd_noninter.proofs.Answered.{labels_over}
-use Rattle.vd_assigned_dependence.specs.Assigned.{IsAssignment}
+use Rattle.vd_assigned_dependence.specs.Hearing.{takes_part as takes_part_at}
+use Rattle.vd_assigned_dependence.proofs.Places.{takes_is}
 use Rattle.vd_assigned_dependence.proofs.Slots.{label_of_slot, of_host, stand_at}
 use Rattle.vd_assigned_dependence.proofs.Theorem.{own_label}
 use Rattle.vd_assigned_trust.specs.Keeping.{is_kept, is_seen, keeps_from, looks_for}
-use Rattle.vd_assigned_trust.specs.Assigned.{GuardsAreTold, IsGuarded, IsToldInTrust, WordsAreGuarded}
+use Rattle.vd_assigned_trust.specs.Assigned.{CanBeTold, GuardsAreTold, IsGuarded, IsToldInTrust, WordsAreGuarded}
 use Rattle.vd_assigned_trust.proofs.Keeping.{authorities_exact}
 
 -- ---- two tests that are the same of each of the hosts
@@ -95,12 +101,18 @@ unfolding formula_of
 first_names p [] some = absurd (omega arith)
 first_names p (written ∷ labels) some = refl
 
-module _ (p : NormalForm) (l : Labels) (well : IsWellMade p) (satisfies : Satisfies (system_of p) l) (list : List ℕ) (assigned : IsAssignment p l list) (set : ℕ) (low : set < 2 ^ length p.principals) where
+module _ (p : NormalForm) (l : Labels) (well : IsWellMade p) (satisfies : Satisfies (system_of p) l) (protos : List Proto) (assigned : IsAssignment (problem_of p l) protos) (set : ℕ) (low : set < 2 ^ length p.principals) where
   abbrev problem : Problem
   problem = problem_of p l
 
+  abbrev list : List ℕ
+  list = assigned.places
+
   valid : IsValid problem list
-  valid = parts_of problem list assigned.valid
+  valid = parts_of problem list assigned.is_valid.valid
+
+  at_proto : (x : ℕ) → proto_in protos x ≡ protocol problem (slice_index list x)
+  at_proto x = proto_is problem protos list assigned.named x
 
   has_labels : HasLabels p l
   has_labels = record { slots = satisfies.solves.labelling.slots ∙ same_slots p.body p (Block 0) (at_start p); over = labels_over p l (host 0) well satisfies }
@@ -126,10 +138,10 @@ module _ (p : NormalForm) (l : Labels) (well : IsWellMade p) (satisfies : Satisf
   looks_same : (k : ℕ) → k < length p.hosts → looks_for problem.hosts set (host k) ≡ at (host_label p (host k)).conf set
   looks_same k declared = ap (λ (l : Label). at l.conf set) (own_is (host k) declared)
 
-  guarded : (x : SlotId) → x.0 < length p.slots → IsGuarded p l list set x.0
+  guarded : (x : SlotId) → x.0 < length p.slots → IsGuarded p l protos set x.0
   guarded x known =
       let q = slice_index list x.0 in
-      let found = stand_at problem problem.slots list x.0 q valid.stands (get_below list x.0 (let whole = assigned.whole in omega (arith, whole, known))) in
+      let found = stand_at problem problem.slots list x.0 q valid.stands (get_below list x.0 (let whole = assigned.is_valid.whole in let many = as_many_slots p l well in omega (arith, whole, many, known))) in
       let making = found.0 in
       let proto = protocol problem q in
       let authority = authority_of proto problem.hosts in
@@ -145,12 +157,12 @@ module _ (p : NormalForm) (l : Labels) (well : IsWellMade p) (satisfies : Satisf
       let seen = subst (λ n. is_seen (looks_for problem.hosts set) n proto ≡ is_seen (looks_for problem.hosts set) (length p.hosts) proto) (sym as_many) refl in
       record {
         kept = λ trusted.
-            sym (kept_same (length p.hosts) (keeps_from problem.hosts set) (λ h. trusts_host p (against set) h.0) keeps_same proto has') ∙ sym kept
+            ap (is_kept (λ h. trusts_host p (against set) h.0) (length p.hosts)) (at_proto x.0) ∙ sym (kept_same (length p.hosts) (keeps_from problem.hosts set) (λ h. trusts_host p (against set) h.0) keeps_same proto has') ∙ sym kept
             ∙ turned (at authority.integ set) (at making.label.integ set) (is_kept (keeps_from problem.hosts set) (length problem.hosts) proto)
             (acts_at authority.integ making.label.integ covered.1 set (subst (λ n. set < 2 ^ n) (sym over.integ) fits)) exact.integrity
             (subst (λ (l : Label). not (at l.integ set) ≡ true) (sym is) trusted);
         unseen = λ secret.
-            sym (seen_same (length p.hosts) (looks_for problem.hosts set) (λ h. at (host_label p h).conf set) looks_same proto has') ∙ sym seen ∙ sym exact.secrecy
+            ap (is_seen (λ h. at (host_label p h).conf set) (length p.hosts)) (at_proto x.0) ∙ sym (seen_same (length p.hosts) (looks_for problem.hosts set) (λ h. at (host_label p h).conf set) looks_same proto has') ∙ sym seen ∙ sym exact.secrecy
             ∙ false_if (at authority.conf set)
             (λ here.
             true≢false
@@ -162,17 +174,28 @@ module _ (p : NormalForm) (l : Labels) (well : IsWellMade p) (satisfies : Satisf
       if_so (takes_part problem list guard h) (is_told problem list h guard.slot)
       (of_host (λ k. not (takes_part problem list guard k) || is_told problem list k guard.slot) 0 (length problem.hosts) h.0 all (omega arith) (let many = as_many in omega (arith, many, declared))) part
 
-  guards_told : (guards : List Guard) → AllByRecursion (λ (guard : Guard). guard.slot.0 < length problem.slots) guards → list_all (guard_told problem list) guards ≡ true → All (IsToldInTrust p l list set) guards
-  guards_told [] below all = All-nil (IsToldInTrust p l list set)
+  -- so it can be told the guard
+  can_be_told : (guard : Guard) → guard.slot.0 < length problem.slots → guard_told problem list guard ≡ true → (h : HostId) → h.0 < length p.hosts → takes_part_at protos h guard ≡ true → CanBeTold problem protos h guard.slot
+  can_be_told guard low all h declared part =
+      let test : ℕ → Bool = λ q. is_some (move_to_host problem h q) in
+      let parts = and_parts (may_read problem h guard.slot.0) (if_decided list guard.slot test) (told_to guard all h declared (sym (takes_is problem list protos assigned.named h guard) ∙ part)) in
+      record {
+        may = parts.0;
+        moves = ap (λ (q : Proto). is_some (move_at q (Local h))) (at_proto guard.slot.0)
+            ∙ sym (ap (λ (o : Option ℕ). option_map_or test o true) (get_below list guard.slot.0 (let whole = assigned.is_valid.whole in omega (arith, whole, low)))) ∙ parts.1;
+      }
+
+  guards_told : (guards : List Guard) → AllByRecursion (λ (guard : Guard). guard.slot.0 < length problem.slots) guards → list_all (guard_told problem list) guards ≡ true → All (IsToldInTrust p l protos set) guards
+  guards_told [] below all = All-nil (IsToldInTrust p l protos set)
   guards_told (guard ∷ guards) below all =
       let parts = and_parts (guard_told problem list guard) (list_all (guard_told problem list) guards) all in
-      All-cons (IsToldInTrust p l list set) guard guards
-      (record { kept = (guarded guard.slot (subst (λ n. guard.slot.0 < n) (as_many_slots p l well) below.0)).kept; told = told_to guard parts.0 })
+      All-cons (IsToldInTrust p l protos set) guard guards
+      (record { kept = (guarded guard.slot (subst (λ n. guard.slot.0 < n) (as_many_slots p l well) below.0)).kept; told = can_be_told guard below.0 parts.0 })
       (guards_told guards below.1 parts.1)
 
 pub words_guarded : OfEachProgram (λ p l. WordsAreGuarded p l)
-words_guarded p l well satisfies list assigned set low x known = guarded p l well satisfies list assigned set low x known
+words_guarded p l well satisfies protos assigned set low x known = guarded p l well satisfies protos assigned set low x known
 
 pub guards_told_in_trust : OfEachProgram (λ p l. GuardsAreTold p l)
-guards_told_in_trust p l well satisfies list assigned set low =
-    guards_told p l well satisfies list assigned set low (problem_of p l).guards (names_below p l well).guards (parts_of (problem_of p l) list assigned.valid).guards
+guards_told_in_trust p l well satisfies protos assigned set low =
+    guards_told p l well satisfies protos assigned set low (problem_of p l).guards (names_below p l well).guards (parts_of (problem_of p l) assigned.places assigned.is_valid.valid).guards

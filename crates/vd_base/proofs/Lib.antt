@@ -1,3 +1,3 @@
 pub mod Shifts
 pub mod LexicalLemmas
-pub mod WordLists
+pub mod Protocols

@@ -18,13 +18,13 @@ use Rattle.vd_space.specs.Reading.{problem_of}
 use Rattle.vd_space.specs.Validity.{acts_for as acts, covers, protocol, protocols}
 use Rattle.vd_space.proofs.Counted.{as_many}
 use Rattle.vd_space.proofs.Kept.{parts_of}
+use Rattle.vd_cheapest.proofs.Places.{proto_is}
 use Rattle.vd_assigned_dependence.proofs.Slots.{label_of_slot, stand_at}
 use Rattle.vd_execution.specs.declared.instructions.Instr.{Instr}
 use Rattle.vd_execution.specs.Joint.{code_of}
 use Rattle.vd_execution.specs.Text.{text}
 use Rattle.vd_host_text.specs.declared.program.Digest.{Digest}
 use Rattle.vd_host_programs.specs.Programs.{host_codes, joint_of}
-use Rattle.vd_host_programs.proofs.HostCodes.{problem_protos}
 use Rattle.vd_compiling.specs.Compiling.{IsStoredFor, host_file, host_files, plan_for}
 use Rattle.vd_selecting.specs.Choice.{IsSelected, printed_at}
 use Rattle.vd_selecting.specs.declared.choice.Assignment.{Assignment}
@@ -47,7 +47,7 @@ module _ (program : NormalForm) (a : Assignment) (made : IsWellMade program) (se
 
   -- the protocol of a slot is that at its place
   same_protocol : (x : ℕ) → protocol problem (slice_index places x) ≡ proto_in a.protocols x
-  same_protocol x = ap (λ (f : ℕ → Proto). f x) (sym (problem_protos problem a.protocols places (ap (λ (b : Assignment). b.protocols) selected.is)))
+  same_protocol x = sym (proto_is problem a.protocols places (ap (λ (b : Assignment). b.protocols) selected.is) x)
 
   pub covered : AreCovered program selected.labels a.protocols
   covered x low =

@@ -11,6 +11,12 @@ use Rattle.vd_execution.specs.Text.{text}
 use Rattle.vd_host_programs.specs.Programs.{IsRunnable, host_codes, joint_of}
 use Rattle.vd_selecting.specs.Choice.{IsSelected}
 use Rattle.vd_selecting.specs.declared.choice.Assignment.{Assignment}
+use Rattle.vd_space.specs.Reading.{problem_of}
+use Rattle.vd_cheapest.specs.Cheapest.{IsAssignment}
+
+-- the choice is valid under the labels that it is chosen under
+pub assignment_of : (program : NormalForm) (a : Assignment) → (is : IsSelected program a) → IsAssignment (problem_of program is.labels) a.protocols
+assignment_of program a is = record { places = is.places; is_valid = is.cheapest.is_valid; named = ap (λ (b : Assignment). b.protocols) is.is }
 
 pub runnable_of : (program : NormalForm) (a : Assignment) → IsSelected program a → (protocols : List Proto) → protocols ≡ a.protocols → IsRunnable program protocols
 runnable_of program a is protocols same = record {

@@ -2,6 +2,7 @@
 use Rattle.std.proofs.Common.{◌≡◌, ◌≢◌, ℕ, zero, suc, ◌<◌, ◌≤◌, List, [], ◌∷◌, Option, Some, None, length, refl, sym, ap, ap₂, subst, ◌∙◌, arith}
 use Rattle.std.specs.Prelude.{slice_get}
 use Rattle.vd_base.specs.declared.ids.HostId.{HostId}
+use Rattle.vd_base.specs.declared.protocols.Proto.{Proto}
 use Rattle.vd_deals.specs.declared.items.Triple.{Triple}
 use Rattle.vd_deals.specs.declared.items.PairItem.{PairItem}
 use Rattle.vd_core.specs.declared.normal.NormalForm.{NormalForm}
@@ -98,24 +99,24 @@ module _ (x w v u : Part) (long : AreAsLong (file 0 x ∷ file 1 w ∷ []) (file
 
 -- ---- the second deal
 
-module _ (p : NormalForm) (l : Labels) (list : List ℕ) (of_two : IsOfTwo p l list) (h : HostId) (low : h.0 < 2) (first second : List (List ℕ)) (agree : AgreeFor p l list h first second) (steps : List Step)
-    (lead : LeadTo steps (plan_of p l list)) where
-  module _ (x w v u : Part) (enough : AreEnough (plan_of p l list) first (file 0 x ∷ file 1 w ∷ [])) (stored : AreExcused h.0 steps first second (file 0 x ∷ file 1 w ∷ []) (file 0 v ∷ file 1 u ∷ [])) where
+module _ (p : NormalForm) (l : Labels) (protocols : List Proto) (of_two : IsOfTwo p l protocols) (h : HostId) (low : h.0 < 2) (first second : List (List ℕ)) (agree : AgreeFor p l protocols h first second) (steps : List Step)
+    (lead : LeadTo steps (plan_of p protocols)) where
+  module _ (x w v u : Part) (enough : AreEnough (plan_of p protocols) first (file 0 x ∷ file 1 w ∷ [])) (stored : AreExcused h.0 steps first second (file 0 x ∷ file 1 w ∷ []) (file 0 v ∷ file 1 u ∷ [])) where
     abbrev t : Tape
     t = tape_of first (file 0 x ∷ file 1 w ∷ [])
 
     abbrev y : Tape
-    y = excused h.0 t (plan_of p l list) (with_inputs t (input_words second)) fresh fresh
+    y = excused h.0 t (plan_of p protocols) (with_inputs t (input_words second)) fresh fresh
 
-    explained : Explains h.0 (plan_of p l list) t (input_words second) y
-    explained = others_are_explained p l list of_two h low first second t (is_dealt first (file 0 x ∷ file 1 w ∷ []) enough.files) agree
+    explained : Explains h.0 (plan_of p protocols) t (input_words second) y
+    explained = others_are_explained p l protocols of_two h low first second t (is_dealt first (file 0 x ∷ file 1 w ∷ []) enough.files) agree
 
-    long : IsLongEnough (counts_of (file 0 x ∷ file 1 w ∷ [])) (plan_of p l list) y
+    long : IsLongEnough (counts_of (file 0 x ∷ file 1 w ∷ [])) (plan_of p protocols) y
     long =
-        excuses_are_as_long p l list of_two h low (input_words second) t y explained (counts_of (file 0 x ∷ file 1 w ∷ []))
+        excuses_are_as_long p l protocols of_two h low (input_words second) t y explained (counts_of (file 0 x ∷ file 1 w ∷ []))
         (record { ends = λ g s i not le. items_past first g (slice_get (file 0 x ∷ file 1 w ∷ []) g) s i not le; takes = enough.takes })
 
-    walked : both_after h.0 steps first second (file 0 x ∷ file 1 w ∷ []) ≡ explained_end h.0 t (plan_of p l list) (both_at_start t second)
+    walked : both_after h.0 steps first second (file 0 x ∷ file 1 w ∷ []) ≡ explained_end h.0 t (plan_of p protocols) (both_at_start t second)
     walked = lead h.0 t (both_at_start t second)
 
     same : tape_of second (file 0 v ∷ file 1 u ∷ []) ≡ y
@@ -123,32 +124,32 @@ module _ (p : NormalForm) (l : Labels) (list : List ℕ) (of_two : IsOfTwo p l l
         stored.same (subst (λ (b : Both). ReachesToo (file 0 x ∷ file 1 w ∷ []) b) (sym walked) long.takes)
         (subst (λ (b : Both). EndsToo (file 0 x ∷ file 1 w ∷ []) b) (sym walked) long.ends) ∙ ap (λ (b : Both). b.deal) walked
 
-    explains : Explains h.0 (plan_of p l list) t (input_words second) (tape_of second (file 0 v ∷ file 1 u ∷ []))
-    explains = subst (λ (d : Tape). Explains h.0 (plan_of p l list) t (input_words second) d) (sym same) explained
+    explains : Explains h.0 (plan_of p protocols) t (input_words second) (tape_of second (file 0 v ∷ file 1 u ∷ []))
+    explains = subst (λ (d : Tape). Explains h.0 (plan_of p protocols) t (input_words second) d) (sym same) explained
 
     files : length second ≤ 2 → AreFiles second (file 0 v ∷ file 1 u ∷ [])
     files few =
         subst (λ (d : List Deal). AreFiles second d) (ap (λ (z : Tape). read_files x w z) (sym same) ∙ files_back x w v u stored.as_long second)
         (are_files x w y explained.deal second explained.inputs few (λ g s i not le. long.ends g s i not le) agree.words (enough.files.dealt 0 (file 0 x) refl) (enough.files.dealt 1 (file 1 w) refl))
 
-    pub two_explain : length second ≤ 2 → IsExcuse h.0 (plan_of p l list) first second (file 0 x ∷ file 1 w ∷ []) (file 0 v ∷ file 1 u ∷ [])
+    pub two_explain : length second ≤ 2 → IsExcuse h.0 (plan_of p protocols) first second (file 0 x ∷ file 1 w ∷ []) (file 0 v ∷ file 1 u ∷ [])
     two_explain few = record {
       enough = record {
         files = files few;
         two = refl;
-        takes = λ g s not. subst (λ (n : ℕ). (joint (tape_of second (file 0 v ∷ file 1 u ∷ [])) (joint_of (plan_of p l list)) fresh g).cursors s ≤ n) (sym (stored.as_long g s))
-            (subst (λ (d : Tape). (joint d (joint_of (plan_of p l list)) fresh g).cursors s ≤ counts_of (file 0 x ∷ file 1 w ∷ []) g s) (sym same) (long.takes g s not));
+        takes = λ g s not. subst (λ (n : ℕ). (joint (tape_of second (file 0 v ∷ file 1 u ∷ [])) (joint_of (plan_of p protocols)) fresh g).cursors s ≤ n) (sym (stored.as_long g s))
+            (subst (λ (d : Tape). (joint d (joint_of (plan_of p protocols)) fresh g).cursors s ≤ counts_of (file 0 x ∷ file 1 w ∷ []) g s) (sym same) (long.takes g s not));
       };
       kept = same_file x w v u stored.as_long first second h.0 low explains.part;
       as_long = stored.as_long;
       explains = explains;
     }
 
-    pub two_are_these : file 0 v ∷ file 1 u ∷ [] ≡ excuse_files h.0 (plan_of p l list) first second (file 0 x ∷ file 1 w ∷ [])
+    pub two_are_these : file 0 v ∷ file 1 u ∷ [] ≡ excuse_files h.0 (plan_of p protocols) first second (file 0 x ∷ file 1 w ∷ [])
     two_are_these = sym (files_back x w v u stored.as_long second) ∙ ap (λ (z : Tape). read_files x w z) same
 
   abbrev Gives : (List Deal → List Deal → Type 0) → List Deal → List Deal → Type 0
-  Gives P deals stored = AreEnough (plan_of p l list) first deals → AreExcused h.0 steps first second deals stored → P deals stored
+  Gives P deals stored = AreEnough (plan_of p protocols) first deals → AreExcused h.0 steps first second deals stored → P deals stored
 
   -- so of all files
   pub of_files : (P : List Deal → List Deal → Type 0) → ((x w v u : Part) → Gives P (file 0 x ∷ file 1 w ∷ []) (file 0 v ∷ file 1 u ∷ [])) → (deals stored : List Deal) → Gives P deals stored
@@ -161,11 +162,11 @@ module _ (p : NormalForm) (l : Labels) (list : List ℕ) (of_two : IsOfTwo p l l
       all enough walked
 
 pub excused_files_explain : ExcusedFilesExplain
-excused_files_explain p l list of_two h low first second few agree deals stored enough steps lead walked =
-    of_files p l list of_two h low first second agree steps lead (λ (c d : List Deal). IsExcuse h.0 (plan_of p l list) first second c d)
-    (λ x w v u e s. two_explain p l list of_two h low first second agree steps lead x w v u e s few) deals stored enough walked
+excused_files_explain p l protocols of_two h low first second few agree deals stored enough steps lead walked =
+    of_files p l protocols of_two h low first second agree steps lead (λ (c d : List Deal). IsExcuse h.0 (plan_of p protocols) first second c d)
+    (λ x w v u e s. two_explain p l protocols of_two h low first second agree steps lead x w v u e s few) deals stored enough walked
 
 pub excused_files_are_these : ExcusedFilesAreThese
-excused_files_are_these p l list of_two h low first second agree deals stored enough steps lead walked =
-    of_files p l list of_two h low first second agree steps lead (λ (c d : List Deal). d ≡ excuse_files h.0 (plan_of p l list) first second c)
-    (λ x w v u e s. two_are_these p l list of_two h low first second agree steps lead x w v u e s) deals stored enough walked
+excused_files_are_these p l protocols of_two h low first second agree deals stored enough steps lead walked =
+    of_files p l protocols of_two h low first second agree steps lead (λ (c d : List Deal). d ≡ excuse_files h.0 (plan_of p protocols) first second c)
+    (λ x w v u e s. two_are_these p l protocols of_two h low first second agree steps lead x w v u e s) deals stored enough walked

@@ -15,6 +15,7 @@ use Rattle.vd_program_views.proofs.Theorem.{plan_is, static, dealt_zeros}
 use Rattle.vd_deal_views.specs.Files.{tape_of, counts_of}
 use Rattle.vd_deal_excuses.specs.Short.{list_of_kind, list_at, end_of, takes_more, is_short, short_kind, TakesNoMore, ShortKindsAreExact}
 use Rattle.vd_deal_excuses.proofs.Strangers.{IsStranger, none_taken, third_takes_none, stranger_takes_none}
+use Rattle.vd_base.specs.declared.protocols.Proto.{Proto}
 
 neither : (a b : Bool) → a || b ≡ false → (a ≡ false) × (b ≡ false)
 neither true b e = cc
@@ -40,24 +41,24 @@ no_more count taken e = grind (arith, nat_tests)
 not_more : (count taken : ℕ) → taken ≤ count → nat_lt count taken ≡ false
 not_more count taken le = grind (arith, nat_tests)
 
-module _ (p : NormalForm) (l : Labels) (list : List ℕ) (of_two : IsOfTwo p l list) (inputs : List (List ℕ)) (deals : List Deal) where
+module _ (p : NormalForm) (l : Labels) (protocols : List Proto) (of_two : IsOfTwo p l protocols) (inputs : List (List ℕ)) (deals : List Deal) where
   abbrev plan : Plan Gadget
-  plan = plan_of p l list
+  plan = plan_of p protocols
 
-  fixed : Static (plan_of p l list)
-  fixed = subst Static (sym (plan_is p l list of_two)) (static p l list of_two [] _ dealt_zeros)
+  fixed : Static (plan_of p protocols)
+  fixed = subst Static (sym (plan_is p l protocols of_two)) (static p l protocols of_two [] _ dealt_zeros)
 
   abbrev Reaches : ℕ → Source → Type 0
-  Reaches g s = (end_of (plan_of p l list) inputs deals g).cursors s ≤ counts_of deals g s
+  Reaches g s = (end_of (plan_of p protocols) inputs deals g).cursors s ≤ counts_of deals g s
 
-  none_reach : (g : ℕ) (s : Source) → (end_of (plan_of p l list) inputs deals g).cursors s ≤ 0 → Reaches g s
+  none_reach : (g : ℕ) (s : Source) → (end_of (plan_of p protocols) inputs deals g).cursors s ≤ 0 → Reaches g s
   none_reach g s low = omega (arith, low)
 
   third : (g : ℕ) (s : Source) → 2 ≤ g → Reaches g s
-  third g s high = none_reach g s (none_taken g s (third_takes_none g s high) fixed.parts fixed.two (plan_of p l list) fixed.tidy fixed.within (tape_of inputs deals))
+  third g s high = none_reach g s (none_taken g s (third_takes_none g s high) fixed.parts fixed.two (plan_of p protocols) fixed.tidy fixed.within (tape_of inputs deals))
 
   stranger : (g : ℕ) (s : Source) → IsStranger g s → Reaches g s
-  stranger g s strange = none_reach g s (none_taken g s (stranger_takes_none g s strange) fixed.parts fixed.two (plan_of p l list) fixed.tidy fixed.within (tape_of inputs deals))
+  stranger g s strange = none_reach g s (none_taken g s (stranger_takes_none g s strange) fixed.parts fixed.two (plan_of p protocols) fixed.tidy fixed.within (tape_of inputs deals))
 
   -- what a host shares, by its fellow
   with_fellow : (g : ℕ) (make : ℕ → Source) → ((q : ℕ) → q ≢ 1 - g → IsStranger g (make q)) → Reaches g (make (1 - g)) → (q : ℕ) → Reaches g (make q)
@@ -69,13 +70,13 @@ module _ (p : NormalForm) (l : Labels) (list : List ℕ) (of_two : IsOfTwo p l l
   abbrev ReachesOf : DealKind → Type 0
   ReachesOf kind = (g : ℕ) → g < 2 → Reaches g (list_at kind g)
 
-  of_kind : (kind : DealKind) → is_short deals (end_of (plan_of p l list) inputs deals) kind ≡ false → ReachesOf kind
+  of_kind : (kind : DealKind) → is_short deals (end_of (plan_of p protocols) inputs deals) kind ≡ false → ReachesOf kind
   of_kind kind e zero low =
-      no_more (counts_of deals 0 (list_at kind 0)) ((end_of (plan_of p l list) inputs deals 0).cursors (list_at kind 0))
-      (neither (takes_more deals (end_of (plan_of p l list) inputs deals) kind 0) (takes_more deals (end_of (plan_of p l list) inputs deals) kind 1) e).0
+      no_more (counts_of deals 0 (list_at kind 0)) ((end_of (plan_of p protocols) inputs deals 0).cursors (list_at kind 0))
+      (neither (takes_more deals (end_of (plan_of p protocols) inputs deals) kind 0) (takes_more deals (end_of (plan_of p protocols) inputs deals) kind 1) e).0
   of_kind kind e (suc zero) low =
-      no_more (counts_of deals 1 (list_at kind 1)) ((end_of (plan_of p l list) inputs deals 1).cursors (list_at kind 1))
-      (neither (takes_more deals (end_of (plan_of p l list) inputs deals) kind 0) (takes_more deals (end_of (plan_of p l list) inputs deals) kind 1) e).1
+      no_more (counts_of deals 1 (list_at kind 1)) ((end_of (plan_of p protocols) inputs deals 1).cursors (list_at kind 1))
+      (neither (takes_more deals (end_of (plan_of p protocols) inputs deals) kind 0) (takes_more deals (end_of (plan_of p protocols) inputs deals) kind 1) e).1
   of_kind kind e (suc (suc g)) low = absurd (omega (arith, low))
 
   of_four : ReachesOf Own → ReachesOf Mul → ReachesOf And → ReachesOf Pair → (g : ℕ) → g < 2 → (s : Source) → s ≢ Inputs → Reaches g s
@@ -85,9 +86,9 @@ module _ (p : NormalForm) (l : Labels) (list : List ℕ) (of_two : IsOfTwo p l l
   of_four own mul and pair g low (BitTriples q) not = with_fellow g (λ r. BitTriples r) (λ r n. n) (and g low) q
   of_four own mul and pair g low (Pairs q) not = with_fellow g (λ r. Pairs r) (λ r n. n) (pair g low) q
 
-  forth : short_kind (plan_of p l list) inputs deals ≡ None → TakesNoMore (plan_of p l list) inputs deals
+  forth : short_kind (plan_of p protocols) inputs deals ≡ None → TakesNoMore (plan_of p protocols) inputs deals
   forth e g s not =
-      let last = end_of (plan_of p l list) inputs deals in
+      let last = end_of (plan_of p protocols) inputs deals in
       let four = none_of_four (is_short deals last Own) (is_short deals last Mul) (is_short deals last And) (is_short deals last Pair) e in
       elim (below_two g) [
         | inl low ↦ of_four (of_kind Own four.0) (of_kind Mul four.1) (of_kind And four.2) (of_kind Pair four.3) g low s not
@@ -99,17 +100,17 @@ module _ (p : NormalForm) (l : Labels) (list : List ℕ) (of_two : IsOfTwo p l l
       below_two (suc zero) = inl (omega arith)
       below_two (suc (suc g)) = inr (omega arith)
 
-  not_short : (kind : DealKind) → ((peer : ℕ) → list_of_kind kind peer ≢ Inputs) → TakesNoMore (plan_of p l list) inputs deals → is_short deals (end_of (plan_of p l list) inputs deals) kind ≡ false
+  not_short : (kind : DealKind) → ((peer : ℕ) → list_of_kind kind peer ≢ Inputs) → TakesNoMore (plan_of p protocols) inputs deals → is_short deals (end_of (plan_of p protocols) inputs deals) kind ≡ false
   not_short kind no_input reach =
-      let one = not_more (counts_of deals 0 (list_at kind 0)) ((end_of (plan_of p l list) inputs deals 0).cursors (list_at kind 0)) (reach 0 (list_at kind 0) (no_input 1)) in
-      let other = not_more (counts_of deals 1 (list_at kind 1)) ((end_of (plan_of p l list) inputs deals 1).cursors (list_at kind 1)) (reach 1 (list_at kind 1) (no_input 0)) in
-      ap (λ (b : Bool). b || takes_more deals (end_of (plan_of p l list) inputs deals) kind 1) one ∙ other
+      let one = not_more (counts_of deals 0 (list_at kind 0)) ((end_of (plan_of p protocols) inputs deals 0).cursors (list_at kind 0)) (reach 0 (list_at kind 0) (no_input 1)) in
+      let other = not_more (counts_of deals 1 (list_at kind 1)) ((end_of (plan_of p protocols) inputs deals 1).cursors (list_at kind 1)) (reach 1 (list_at kind 1) (no_input 0)) in
+      ap (λ (b : Bool). b || takes_more deals (end_of (plan_of p protocols) inputs deals) kind 1) one ∙ other
 
-  back : TakesNoMore (plan_of p l list) inputs deals → short_kind (plan_of p l list) inputs deals ≡ None
+  back : TakesNoMore (plan_of p protocols) inputs deals → short_kind (plan_of p protocols) inputs deals ≡ None
   back reach =
-      let last = end_of (plan_of p l list) inputs deals in
+      let last = end_of (plan_of p protocols) inputs deals in
       four_of_none (is_short deals last Own) (is_short deals last Mul) (is_short deals last And) (is_short deals last Pair)
       (not_short Own (λ q e. cc) reach) (not_short Mul (λ q e. cc) reach) (not_short And (λ q e. cc) reach) (not_short Pair (λ q e. cc) reach)
 
 pub short_kinds_are_exact : ShortKindsAreExact
-short_kinds_are_exact p l list of_two inputs deals = (forth p l list of_two inputs deals, back p l list of_two inputs deals)
+short_kinds_are_exact p l protocols of_two inputs deals = (forth p l protocols of_two inputs deals, back p l protocols of_two inputs deals)

@@ -3,6 +3,7 @@ use Rattle.std.specs.Prelude.{◌≡◌, ◌≢◌, ℕ, ◌+◌, ◌-◌, ◌<�
 use Rattle.std.specs.List.{range_with_len}
 use Rattle.vd_base.specs.HostSets.{host}
 use Rattle.vd_base.specs.declared.ids.HostId.{HostId}
+use Rattle.vd_base.specs.declared.protocols.Proto.{Proto}
 use Rattle.vd_core.specs.declared.normal.NormalForm.{NormalForm}
 use Rattle.vd_constraints.specs.declared.labels.Labels.{Labels}
 use Rattle.vd_deals.specs.declared.deal.Deal.{Deal}
@@ -61,10 +62,10 @@ pub record AreExcused (h : ℕ) (steps : List Step) (first second : List (List �
 -- they are files that explain the second inputs
 abbrev pub ExcusedFilesExplain : Type 0
 ExcusedFilesExplain =
-    (p : NormalForm) (l : Labels) (list : List ℕ) → IsOfTwo p l list → (h : HostId) → h.0 < 2 → (first second : List (List ℕ)) → length second ≤ 2
-    → AgreeFor p l list h first second → (deals stored : List Deal) → AreEnough (plan_of p l list) first deals
-    → (steps : List Step) → LeadTo steps (plan_of p l list) → AreExcused h.0 steps first second deals stored
-    → IsExcuse h.0 (plan_of p l list) first second deals stored
+    (p : NormalForm) (l : Labels) (protocols : List Proto) → IsOfTwo p l protocols → (h : HostId) → h.0 < 2 → (first second : List (List ℕ)) → length second ≤ 2
+    → AgreeFor p l protocols h first second → (deals stored : List Deal) → AreEnough (plan_of p protocols) first deals
+    → (steps : List Step) → LeadTo steps (plan_of p protocols) → AreExcused h.0 steps first second deals stored
+    → IsExcuse h.0 (plan_of p protocols) first second deals stored
 
 -- ---- which files they are
 
@@ -102,7 +103,7 @@ excuse_files h plan first second deals =
 -- there are no others
 abbrev pub ExcusedFilesAreThese : Type 0
 ExcusedFilesAreThese =
-    (p : NormalForm) (l : Labels) (list : List ℕ) → IsOfTwo p l list → (h : HostId) → h.0 < 2 → (first second : List (List ℕ))
-    → AgreeFor p l list h first second → (deals stored : List Deal) → AreEnough (plan_of p l list) first deals
-    → (steps : List Step) → LeadTo steps (plan_of p l list) → AreExcused h.0 steps first second deals stored
-    → stored ≡ excuse_files h.0 (plan_of p l list) first second deals
+    (p : NormalForm) (l : Labels) (protocols : List Proto) → IsOfTwo p l protocols → (h : HostId) → h.0 < 2 → (first second : List (List ℕ))
+    → AgreeFor p l protocols h first second → (deals stored : List Deal) → AreEnough (plan_of p protocols) first deals
+    → (steps : List Step) → LeadTo steps (plan_of p protocols) → AreExcused h.0 steps first second deals stored
+    → stored ≡ excuse_files h.0 (plan_of p protocols) first second deals

@@ -11,6 +11,7 @@ use Rattle.vd_execution.specs.Gadgets.{Gadget}
 use Rattle.vd_execution.specs.Plans.{Plan, joint_of}
 use Rattle.vd_program_views.specs.Explained.{IsOfTwo, plan_of}
 use Rattle.vd_deal_views.specs.Files.{tape_of, counts_of}
+use Rattle.vd_base.specs.declared.protocols.Proto.{Proto}
 
 -- the list of a kind that a host shares with a peer; its own words are shared with nobody
 abbrev pub list_of_kind : DealKind → ℕ → Source
@@ -49,5 +50,5 @@ TakesNoMore plan inputs deals = (g : ℕ) (s : Source) → s ≢ Inputs → (end
 -- no kind is short exactly where no item is taken past the end of any list
 abbrev pub ShortKindsAreExact : Type 0
 ShortKindsAreExact =
-    (p : NormalForm) (l : Labels) (list : List ℕ) → IsOfTwo p l list → (inputs : List (List ℕ)) (deals : List Deal)
-    → (short_kind (plan_of p l list) inputs deals ≡ None) ↔ TakesNoMore (plan_of p l list) inputs deals
+    (p : NormalForm) (l : Labels) (protocols : List Proto) → IsOfTwo p l protocols → (inputs : List (List ℕ)) (deals : List Deal)
+    → (short_kind (plan_of p protocols) inputs deals ≡ None) ↔ TakesNoMore (plan_of p protocols) inputs deals

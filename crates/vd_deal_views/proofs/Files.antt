@@ -3,6 +3,7 @@ use Rattle.std.proofs.Common.{◌≡◌, ◌≢◌, ℕ, zero, suc, ◌<◌, ◌
 use Rattle.std.specs.Prelude.{slice_get}
 use mathlib.Core.Path.{fun_ext}
 use Rattle.vd_base.specs.declared.ids.HostId.{HostId}
+use Rattle.vd_base.specs.declared.protocols.Proto.{Proto}
 use Rattle.vd_core.specs.declared.normal.NormalForm.{NormalForm}
 use Rattle.vd_constraints.specs.declared.labels.Labels.{Labels}
 use Rattle.vd_deals.specs.declared.deal.Deal.{Deal}
@@ -71,10 +72,10 @@ long_enough plan deals inputs stored enough long = record {
   takes = λ g s not. subst (λ n. (joint (tape_of inputs stored) (joint_of plan) fresh g).cursors s ≤ n) (long g s) (enough.takes g s not);
 }
 
-module _ (p : NormalForm) (l : Labels) (list : List ℕ) (of_two : IsOfTwo p l list) (h : HostId) (low : h.0 < 2) (first : List (List ℕ)) (x w : Part)
-    (enough : AreEnough (plan_of p l list) first (file 0 x ∷ file 1 w ∷ [])) where
+module _ (p : NormalForm) (l : Labels) (protocols : List Proto) (of_two : IsOfTwo p l protocols) (h : HostId) (low : h.0 < 2) (first : List (List ℕ)) (x w : Part)
+    (enough : AreEnough (plan_of p protocols) first (file 0 x ∷ file 1 w ∷ [])) where
   abbrev plan : Plan Gadget
-  plan = plan_of p l list
+  plan = plan_of p protocols
 
   abbrev deals : List Deal
   deals = file 0 x ∷ file 1 w ∷ []
@@ -132,11 +133,11 @@ module _ (p : NormalForm) (l : Labels) (list : List ℕ) (of_two : IsOfTwo p l l
   t_long : IsLongEnough (counts_of (file 0 x ∷ file 1 w ∷ [])) plan (tape_of first (file 0 x ∷ file 1 w ∷ []))
   t_long = long_enough plan deals first deals enough (λ g s. refl)
 
-  pub files_explained : (second : List (List ℕ)) → length second ≤ 2 → AgreeFor p l list h first second → (stored : List Deal) × IsExcuse h.0 plan first second (file 0 x ∷ file 1 w ∷ []) stored
+  pub files_explained : (second : List (List ℕ)) → length second ≤ 2 → AgreeFor p l protocols h first second → (stored : List Deal) × IsExcuse h.0 plan first second (file 0 x ∷ file 1 w ∷ []) stored
   files_explained second few agree =
       let y : Tape = excused h.0 t plan (with_inputs t (input_words second)) fresh fresh in
-      let e : Explains h.0 plan t (input_words second) y = others_are_explained p l list of_two h low first second t (is_dealt first deals enough.files) agree in
-      let long : IsLongEnough n plan y = excuses_are_as_long p l list of_two h low (input_words second) t y e n t_long in
+      let e : Explains h.0 plan t (input_words second) y = others_are_explained p l protocols of_two h low first second t (is_dealt first deals enough.files) agree in
+      let long : IsLongEnough n plan y = excuses_are_as_long p l protocols of_two h low (input_words second) t y e n t_long in
       let deal : IsDealWith (input_words second) y = record { deal = e.deal; inputs = e.inputs } in (
         read_files x w y,
         record {
@@ -192,7 +193,7 @@ module _ (p : NormalForm) (l : Labels) (list : List ℕ) (of_two : IsOfTwo p l l
     pub deal_again : (z : Tape) → Shows h.0 plan (counts_of (file 0 x ∷ file 1 w ∷ [])) (tape_of first (file 0 x ∷ file 1 w ∷ [])) (input_words given) z → tape_of given (read_files x w z) ≡ z
     deal_again z s = again given few words z s.deal s.long
 
-  pub files_counted : (second : List (List ℕ)) → length first ≤ 2 → length second ≤ 2 → AgreeFor p l list h first second → AgreeFor p l list h second first
+  pub files_counted : (second : List (List ℕ)) → length first ≤ 2 → length second ≤ 2 → AgreeFor p l protocols h first second → AgreeFor p l protocols h second first
       → (all : List (List Deal)) → AreAll (ShowsTheSame h.0 plan first (file 0 x ∷ file 1 w ∷ []) first) all
       → (others : List (List Deal)) × (length others ≡ length all) × AreAll (ShowsTheSame h.0 plan first (file 0 x ∷ file 1 w ∷ []) second) others
   files_counted second few more there here all all_first =
@@ -200,7 +201,7 @@ module _ (p : NormalForm) (l : Labels) (list : List ℕ) (of_two : IsOfTwo p l l
       let same : (i : ℕ) → input_words first h.0 i ≡ input_words first h.0 i = λ i. refl in
       let tapes = all_there (ShowsTheSame h.0 plan first deals first) (Shows h.0 plan n t (input_words first)) (tape_of first) (read_files x w)
       (to_deal first few words same) (to_files first few words same) (files_again first few words same) (deal_again first few words same) all all_first in
-      let many = show_equally_many p l list of_two h low first second there here n t (map (tape_of first) all) tapes in
+      let many = show_equally_many p l protocols of_two h low first second there here n t (map (tape_of first) all) tapes in
       let back : (i : ℕ) → input_words second h.0 i ≡ input_words first h.0 i = λ i. sym (there.own i) in (
         map (read_files x w) many.0,
         mapped_count (read_files x w) many.0 ∙ many.1 ∙ mapped_count (tape_of first) all,
@@ -209,14 +210,14 @@ module _ (p : NormalForm) (l : Labels) (list : List ℕ) (of_two : IsOfTwo p l l
       )
 
 pub files_are_explained : FilesAreExplained
-files_are_explained p l list of_two h low first second few agree deals enough =
+files_are_explained p l protocols of_two h low first second few agree deals enough =
     let parts = are_two_files deals enough.two enough.files.dealt in
-    let P : List Deal → Type 0 = λ d. AreEnough (plan_of p l list) first d → (stored : List Deal) × IsExcuse h.0 (plan_of p l list) first second d stored in
-    subst P (sym parts.2) (λ e. files_explained p l list of_two h low first parts.0 parts.1 e second few agree) enough
+    let P : List Deal → Type 0 = λ d. AreEnough (plan_of p protocols) first d → (stored : List Deal) × IsExcuse h.0 (plan_of p protocols) first second d stored in
+    subst P (sym parts.2) (λ e. files_explained p l protocols of_two h low first parts.0 parts.1 e second few agree) enough
 
 pub files_show_equally_many : FilesShowEquallyMany
-files_show_equally_many p l list of_two h low first second few more there here deals enough all all_first =
+files_show_equally_many p l protocols of_two h low first second few more there here deals enough all all_first =
     let parts = are_two_files deals enough.two enough.files.dealt in
-    let P : List Deal → Type 0 = λ d. AreEnough (plan_of p l list) first d → AreAll (ShowsTheSame h.0 (plan_of p l list) first d first) all
-    → (others : List (List Deal)) × (length others ≡ length all) × AreAll (ShowsTheSame h.0 (plan_of p l list) first d second) others in
-    subst P (sym parts.2) (λ e a. files_counted p l list of_two h low first parts.0 parts.1 e second few more there here all a) enough all_first
+    let P : List Deal → Type 0 = λ d. AreEnough (plan_of p protocols) first d → AreAll (ShowsTheSame h.0 (plan_of p protocols) first d first) all
+    → (others : List (List Deal)) × (length others ≡ length all) × AreAll (ShowsTheSame h.0 (plan_of p protocols) first d second) others in
+    subst P (sym parts.2) (λ e a. files_counted p l protocols of_two h low first parts.0 parts.1 e second few more there here all a) enough all_first

@@ -1,6 +1,7 @@
 -- Deals in files: which explain other inputs, and how many show a host the same.
 use Rattle.std.specs.Prelude.{◌≡◌, ◌≢◌, ℕ, ◌≤◌, ◌<◌, List, Option, Some, None, length, slice_get}
 use Rattle.vd_base.specs.declared.ids.HostId.{HostId}
+use Rattle.vd_base.specs.declared.protocols.Proto.{Proto}
 use Rattle.vd_core.specs.declared.normal.NormalForm.{NormalForm}
 use Rattle.vd_constraints.specs.declared.labels.Labels.{Labels}
 use Rattle.vd_deals.specs.declared.deal.Deal.{Deal}
@@ -51,9 +52,9 @@ pub record IsExcuse (h : ℕ) (plan : Plan Gadget) (first second : List (List �
 
 abbrev pub FilesAreExplained : Type 0
 FilesAreExplained =
-    (p : NormalForm) (l : Labels) (list : List ℕ) → IsOfTwo p l list → (h : HostId) → h.0 < 2 → (first second : List (List ℕ)) → length second ≤ 2
-    → AgreeFor p l list h first second → (deals : List Deal) → AreEnough (plan_of p l list) first deals
-    → (stored : List Deal) × IsExcuse h.0 (plan_of p l list) first second deals stored
+    (p : NormalForm) (l : Labels) (protocols : List Proto) → IsOfTwo p l protocols → (h : HostId) → h.0 < 2 → (first second : List (List ℕ)) → length second ≤ 2
+    → AgreeFor p l protocols h first second → (deals : List Deal) → AreEnough (plan_of p protocols) first deals
+    → (stored : List Deal) × IsExcuse h.0 (plan_of p protocols) first second deals stored
 
 -- files of these lengths by which h sees of these inputs what it sees of the first by these deals
 pub record ShowsTheSame (h : ℕ) (plan : Plan Gadget) (first : List (List ℕ)) (deals : List Deal) (given : List (List ℕ)) (stored : List Deal) : Type 0 where
@@ -65,7 +66,7 @@ pub record ShowsTheSame (h : ℕ) (plan : Plan Gadget) (first : List (List ℕ))
 -- where these are all such files of the first inputs, each once, there are as many of the second
 abbrev pub FilesShowEquallyMany : Type 0
 FilesShowEquallyMany =
-    (p : NormalForm) (l : Labels) (list : List ℕ) → IsOfTwo p l list → (h : HostId) → h.0 < 2 → (first second : List (List ℕ)) → length first ≤ 2 → length second ≤ 2
-    → AgreeFor p l list h first second → AgreeFor p l list h second first → (deals : List Deal) → AreEnough (plan_of p l list) first deals
-    → (all : List (List Deal)) → AreAll (ShowsTheSame h.0 (plan_of p l list) first deals first) all
-    → (others : List (List Deal)) × (length others ≡ length all) × AreAll (ShowsTheSame h.0 (plan_of p l list) first deals second) others
+    (p : NormalForm) (l : Labels) (protocols : List Proto) → IsOfTwo p l protocols → (h : HostId) → h.0 < 2 → (first second : List (List ℕ)) → length first ≤ 2 → length second ≤ 2
+    → AgreeFor p l protocols h first second → AgreeFor p l protocols h second first → (deals : List Deal) → AreEnough (plan_of p protocols) first deals
+    → (all : List (List Deal)) → AreAll (ShowsTheSame h.0 (plan_of p protocols) first deals first) all
+    → (others : List (List Deal)) × (length others ≡ length all) × AreAll (ShowsTheSame h.0 (plan_of p protocols) first deals second) others

@@ -5,6 +5,7 @@ use Rattle.std.specs.List.{filter}
 use Rattle.vd_base.specs.HostSets.{has_host, hosts}
 use Rattle.vd_base.specs.declared.ids.HostId.{HostId}
 use Rattle.vd_base.specs.declared.protocols.HostSet.{HostSet}
+use Rattle.vd_base.specs.declared.protocols.Proto.{Proto}
 use Rattle.vd_core.specs.Facts.{IsWellMade}
 use Rattle.vd_core.specs.declared.source.Source.{Source}
 use Rattle.vd_core.specs.declared.normal.NormalForm.{NormalForm}
@@ -16,7 +17,7 @@ use Rattle.vd_dependence.specs.Dependence.{AreEnough, AreReached, AreReadable}
 use Rattle.vd_dependence.specs.Reading.{reads_result}
 use Rattle.vd_noninter.specs.Hosts.{members}
 use Rattle.vd_assigned_dependence.proofs.Theorem.{all_hear_reached}
-use Rattle.vd_assigned_dependence.specs.Assigned.{HearsOnly, IsAssignment}
+use Rattle.vd_assigned_dependence.specs.Assigned.{HearsOnly}
 use Rattle.vd_outside.specs.Files.{FilesView}
 use Rattle.vd_report.specs.Hosts.{host_of}
 use Rattle.vd_report.specs.Lines.{number_field}
@@ -32,6 +33,8 @@ use Rattle.vd_depending.specs.Depending.{as_host, hosts_line, name_field, progra
 use Rattle.vd_depending.specs.Outcomes.{DependenceOutcomes}
 use Rattle.vd_depending.specs.Telling.{TellsDependence, TellsProgram, TellsSource}
 use Rattle.vd_depending.proofs.Naming.{named, within}
+use Rattle.vd_cheapest.specs.Cheapest.{IsAssignment}
+use Rattle.vd_space.specs.Reading.{problem_of}
 
 -- ---- two sets with the same members have one line
 
@@ -79,8 +82,8 @@ module _ (name : List ℕ) (p : NormalForm) where
 
   -- at a valid assignment, for the host of this name
   assigned : (h : HostId) (labels : Labels) (set : HostSet) → IsWellMade p → host_of p.hosts name ≡ Some h.0 → IsLeast (system_of p) labels → AreReached p labels h (members set)
-      → (list : List ℕ) → IsAssignment p labels list → HearsOnly p labels list h (reads_result p labels h) (members set)
-  assigned h labels set well is is_least reached list valid = all_hear_reached p labels h well is_least.is (members set) reached (within p.hosts name h.0 (sym is)) list valid
+      → (protocols : List Proto) → IsAssignment (problem_of p labels) protocols → HearsOnly p labels protocols h (reads_result p labels h) (members set)
+  assigned h labels set well is is_least reached protocols valid = all_hear_reached p labels h well is_least.is (members set) reached (within p.hosts name h.0 (sym is)) protocols valid
 
   pub told : (names : List (List ℕ)) (h : HostId) (labels : Labels) (set : HostSet) (result : Result Answer Status) → IsWellMade p → names ≡ p.hosts → Checks (as_host names name) (Ok h) → IsLeast (system_of p) labels
       → AreReached p labels h (members set) → AreReadable p h (members set) → AreEnough p labels h (members set) → Computes (ended [] (hosts_line names h set)) result → TellsProgram name p result

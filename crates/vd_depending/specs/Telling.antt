@@ -2,6 +2,7 @@
 use Rattle.std.specs.Prelude.{◌≡◌, ℕ, List, Some, Result, IfOk}
 use Rattle.vd_base.specs.declared.ids.HostId.{HostId}
 use Rattle.vd_base.specs.declared.protocols.HostSet.{HostSet}
+use Rattle.vd_base.specs.declared.protocols.Proto.{Proto}
 use Rattle.vd_core.specs.declared.source.Source.{Source}
 use Rattle.vd_core.specs.declared.normal.NormalForm.{NormalForm}
 use Rattle.vd_constraints.specs.Rules.{system_of}
@@ -10,7 +11,7 @@ use Rattle.vd_constraints.specs.declared.labels.Labels.{Labels}
 use Rattle.vd_dependence.specs.Dependence.{AreEnough, AreReached, AreReadable}
 use Rattle.vd_dependence.specs.Reading.{reads_result}
 use Rattle.vd_noninter.specs.Hosts.{members}
-use Rattle.vd_assigned_dependence.specs.Assigned.{HearsOnly, IsAssignment}
+use Rattle.vd_assigned_dependence.specs.Assigned.{HearsOnly}
 use Rattle.vd_rewritten.specs.RunPrograms.{IsRunProgram}
 use Rattle.vd_outside.specs.Files.{FilesView, Contents}
 use Rattle.vd_report.specs.Hosts.{host_of}
@@ -20,6 +21,8 @@ use Rattle.vd_plan.specs.declared.status.Status.{Status}
 use Rattle.vd_plan.specs.declared.status.Status.TheVariants.{Ended}
 use Rattle.vd_frontend.specs.Sources.{HoldsSource}
 use Rattle.vd_depending.specs.Depending.{hosts_line}
+use Rattle.vd_cheapest.specs.Cheapest.{IsAssignment}
+use Rattle.vd_space.specs.Reading.{problem_of}
 
 -- This line names the hosts on which the host of this name depends.
 pub record IsDependenceLine (name : List ℕ) (p : NormalForm) (printed : List ℕ) : Type 0 where
@@ -37,7 +40,7 @@ pub record IsDependenceLine (name : List ℕ) (p : NormalForm) (printed : List �
   -- it the same outputs, and the same words at every slot that is reached and in its view.
   pub enough : AreEnough p labels host (members set)
   -- Whatever valid assignment of protocols is taken, two such families bring it the same clear words, in order.
-  pub enough_assigned : (list : List ℕ) → IsAssignment p labels list → HearsOnly p labels list host (reads_result p labels host) (members set)
+  pub enough_assigned : (protocols : List Proto) → IsAssignment (problem_of p labels) protocols → HearsOnly p labels protocols host (reads_result p labels host) (members set)
 
 -- The file is the text of a source that meets every rule, and the line is that of the program that is run for it.
 pub record IsDependenceOf (source name : List ℕ) (contents : Contents) (printed : List ℕ) : Type 0 where

@@ -1,6 +1,5 @@
 -- What rows cost, and that the drawn costs add up.
 use Rattle.std.specs.Prelude.{◌≡◌, ℕ, ◌+◌, ◌*◌, List, map, length, pos, IsTrue}
-use Rattle.vd_base.specs.declared.protocols.Proto.{Proto}
 use Rattle.vd_core.specs.declared.normal.NormalForm.{NormalForm}
 use Rattle.vd_constraints.specs.declared.labels.Labels.{Labels}
 use Rattle.vd_space.specs.Reading.{problem_of}
@@ -23,13 +22,9 @@ row_cost row = row.weight * (row.operation + heft move_cost row.moves)
 abbrev pub rows_cost : List Row → ℕ
 rows_cost rows = heft row_cost rows
 
--- the protocols of a list by their places
-abbrev pub protocols_at : NormalForm → Labels → List ℕ → List Proto
-protocols_at p l list = map (protocol (problem_of p l)) list
-
 -- the costs of the rows of a program at a valid list add up to what the list costs
 abbrev pub AddUp : List ℕ → NormalForm → Labels → List ℕ → Type 0
-AddUp source p l list = pos (rows_cost (rows_of source p (protocols_at p l list))) ≡ cost (problem_of p l) list
+AddUp source p l list = pos (rows_cost (rows_of source p (map (protocol (problem_of p l)) list))) ≡ cost (problem_of p l) list
 
 abbrev pub CostsAddUp : Type 0
 CostsAddUp =

@@ -6,8 +6,6 @@ use Rattle.vd_base.specs.declared.protocols.Proto.{Proto}
 use Rattle.vd_base.specs.declared.protocols.Proto.TheVariants.{Local, Rep}
 use Rattle.vd_base.specs.HostSets.{same_host}
 use Rattle.vd_base.specs.Moves.{move_at}
-use Rattle.vd_space.specs.declared.problem.Problem.{Problem}
-use Rattle.vd_space.specs.Validity.{protocol}
 use Rattle.vd_assigned_dependence.specs.Hearing.{comes, comes_alone, has_clear, stands}
 use Rattle.vd_drawing.specs.declared.row.Arrow.{Arrow}
 use Rattle.vd_drawing.specs.declared.row.Arrow.TheVariants.{Clear, Checked, Opened, Revealed}
@@ -40,10 +38,10 @@ abbrev pub ArrowsShow : Type 0
 ArrowsShow = (from to : Proto) (cost : ℕ) → move_at from to ≡ Some cost → IsSmall from → (h : HostId) → h.0 < 8 → shows h from to ≡ is_told h from to
 
 -- of a word that is moved from the one slot to the other, and of one that is moved to the host alone
-pub record ComeAsTold (problem : Problem) (list : List ℕ) (h : HostId) (from onto : SlotId) (p q : ℕ) : Type 0 where
-  pub moved : (comes problem list h from onto && not (stands problem list h (has_clear h) from)) ≡ is_told h (protocol problem p) (protocol problem q)
-  pub alone : (comes_alone problem list h from && not (stands problem list h (has_clear h) from)) ≡ is_told h (protocol problem p) (Local h)
+pub record ComeAsTold (protocols : List Proto) (h : HostId) (from onto : SlotId) (p q : Proto) : Type 0 where
+  pub moved : (comes protocols h from onto && not (stands protocols h (has_clear h) from)) ≡ is_told h p q
+  pub alone : (comes_alone protocols h from && not (stands protocols h (has_clear h) from)) ≡ is_told h p (Local h)
 
 abbrev pub ToldWordsCome : Type 0
-ToldWordsCome = (problem : Problem) (list : List ℕ) (h : HostId) (from onto : SlotId) (p q : ℕ)
-    → slice_get list from.0 ≡ Some p → slice_get list onto.0 ≡ Some q → ComeAsTold problem list h from onto p q
+ToldWordsCome = (protocols : List Proto) (h : HostId) (from onto : SlotId) (p q : Proto)
+    → slice_get protocols from.0 ≡ Some p → slice_get protocols onto.0 ≡ Some q → ComeAsTold protocols h from onto p q

@@ -1,12 +1,9 @@
 -- The deal that explains other inputs to a host, or why there is none.
-use Rattle.std.specs.Prelude.{◌≡◌, ◌≢◌, ℕ, List, Option, Some, None, length, map, Result, IfOk, IfErr}
+use Rattle.std.specs.Prelude.{◌≡◌, ◌≢◌, ℕ, List, Option, Some, None, length, Result, IfOk, IfErr}
 use Rattle.vd_base.specs.declared.ids.HostId.{HostId}
 use Rattle.vd_base.specs.declared.protocols.Proto.{Proto}
 use Rattle.vd_core.specs.declared.normal.NormalForm.{NormalForm}
 use Rattle.vd_constraints.specs.declared.labels.Labels.{Labels}
-use Rattle.vd_space.specs.declared.problem.Problem.{Problem}
-use Rattle.vd_space.specs.Reading.{problem_of}
-use Rattle.vd_space.specs.Validity.{protocol}
 use Rattle.vd_deals.specs.declared.deal.Deal.{Deal}
 use Rattle.vd_deals.specs.declared.deal.DealKind.{DealKind}
 use Rattle.vd_deals.specs.Validity.{IsConsistent}
@@ -26,11 +23,6 @@ use Rattle.vd_walking.specs.Files.{file_tape, first_short}
 use Rattle.vd_excuse.specs.declared.fault.ViewFault.{ViewFault}
 use Rattle.vd_excuse.specs.declared.fault.ViewFault.TheVariants.{Short, Differ, Memory}
 
--- a program of two hosts at protocols, none of them a commitment, which have these places in the list of all
-pub record IsOfTwoAt (p : NormalForm) (l : Labels) (places : List ℕ) (protocols : List Proto) : Type 0 where
-  pub two : IsOfTwo p l places
-  pub named : protocols ≡ map (protocol (problem_of p l)) places
-
 -- a kind that is short, or else a place at which what is known differs
 abbrev pub fault_of : Option DealKind → Option ℕ → Option ViewFault
 fault_of (Some kind) place = Some (Short kind)
@@ -38,8 +30,8 @@ fault_of None (Some place) = Some (Differ place)
 fault_of None None = None
 
 -- why the second inputs are not explained to h, if they are not
-abbrev pub fault_at : NormalForm → Labels → List ℕ → HostId → (first second : List (List ℕ)) → List Deal → Option ViewFault
-fault_at p l list h first second deals = fault_of (short_kind (plan_of p l list) first deals) (view_difference p l list h first second)
+abbrev pub fault_at : NormalForm → Labels → List Proto → HostId → (first second : List (List ℕ)) → List Deal → Option ViewFault
+fault_at p l protocols h first second deals = fault_of (short_kind (plan_of p protocols) first deals) (view_difference p l protocols h first second)
 
 -- inputs of two hosts, others, and a consistent deal of both
 pub record AreAsked (first second : List (List ℕ)) (deals : List Deal) : Type 0 where
@@ -52,20 +44,20 @@ pub record AreAsked (first second : List (List ℕ)) (deals : List Deal) : Type 
   pub consistent : IsConsistent deals
 
 -- no fault is there, and these are the files that explain the second inputs
-pub record IsExcused (p : NormalForm) (l : Labels) (list : List ℕ) (h : HostId) (first second : List (List ℕ)) (deals stored : List Deal) : Type 0 where
-  pub no_fault : fault_at p l list h first second deals ≡ None
-  pub agree : AgreeFor p l list h first second
-  pub files : stored ≡ excuse_files h.0 (plan_of p l list) first second deals
-  pub excuse : IsExcuse h.0 (plan_of p l list) first second deals stored
+pub record IsExcused (p : NormalForm) (l : Labels) (protocols : List Proto) (h : HostId) (first second : List (List ℕ)) (deals stored : List Deal) : Type 0 where
+  pub no_fault : fault_at p l protocols h first second deals ≡ None
+  pub agree : AgreeFor p l protocols h first second
+  pub files : stored ≡ excuse_files h.0 (plan_of p protocols) first second deals
+  pub excuse : IsExcuse h.0 (plan_of p protocols) first second deals stored
 
--- whatever the labels are by which the problem is that of the program
-abbrev pub Excuses : NormalForm → Problem → List ℕ → HostId → (first second : List (List ℕ)) → List Deal → Result (List Deal) ViewFault → Type 0
-Excuses p problem list h first second deals result =
-    (l : Labels) → problem ≡ problem_of p l → IsOfTwo p l list → IfOk result (IsExcused p l list h first second deals)
+-- whatever the labels are under which the assignment is valid
+abbrev pub Excuses : NormalForm → List Proto → HostId → (first second : List (List ℕ)) → List Deal → Result (List Deal) ViewFault → Type 0
+Excuses p protocols h first second deals result =
+    (l : Labels) → IsOfTwo p l protocols → IfOk result (IsExcused p l protocols h first second deals)
 
-abbrev pub Refuses : NormalForm → Problem → List ℕ → HostId → (first second : List (List ℕ)) → List Deal → Result (List Deal) ViewFault → Type 0
-Refuses p problem list h first second deals result =
-    (l : Labels) → problem ≡ problem_of p l → IsOfTwo p l list → IfErr result (λ fault. fault ≢ Memory → fault_at p l list h first second deals ≡ Some fault)
+abbrev pub Refuses : NormalForm → List Proto → HostId → (first second : List (List ℕ)) → List Deal → Result (List Deal) ViewFault → Type 0
+Refuses p protocols h first second deals result =
+    (l : Labels) → IsOfTwo p l protocols → IfErr result (λ fault. fault ≢ Memory → fault_at p l protocols h first second deals ≡ Some fault)
 
 -- both runs were gone along by steps that lead to the ends of this plan
 pub record HasWalked (h : HostId) (plan : Plan Gadget) (first second : List (List ℕ)) (deals : List Deal) (walked : Walked) : Type 0 where

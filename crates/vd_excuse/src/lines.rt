@@ -1,11 +1,10 @@
 //! The joint code of a program, as steps.
 
-ghost use Rattle.std.specs.Prelude.{IfOk, List, ℕ};
+ghost use Rattle.std.specs.Prelude.{IfOk};
 ghost use Rattle.vd_constraints.specs.declared.labels.Labels.{Labels};
 ghost use Rattle.vd_host_programs.specs.Programs.{IsRunnable};
-ghost use Rattle.vd_program_views.specs.Explained.{plan_of};
+ghost use Rattle.vd_program_views.specs.Explained.{IsOfTwo, plan_of};
 ghost use Rattle.vd_deal_excuses.specs.Excuses.{LeadTo};
-ghost use Rattle.vd_excuse.specs.Excuse.{IsOfTwoAt};
 
 use std::alloc::{AllocError, Global};
 use vd_base::Proto;
@@ -23,8 +22,8 @@ pub(crate) fn steps_at(
     protocols: &[Proto],
 ) -> Result<Items<Step>, AllocError>
     requires { IsRunnable program.now protocols.now }
-    ensures { IfOk result (λ steps. (l : Labels) (places : List ℕ) → IsOfTwoAt program.now l places protocols.now →
-        LeadTo steps (plan_of program.now l places)) }
+    ensures { IfOk result (λ steps. (l : Labels) → IsOfTwo program.now l protocols.now →
+        LeadTo steps (plan_of program.now protocols.now)) }
 {
     pairs_are_read_off();
     let lines = joint_lines(alloc, program, protocols)?;

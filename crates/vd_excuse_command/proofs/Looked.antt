@@ -1,21 +1,18 @@
 -- What is looked at before anything is explained.
-use Rattle.std.proofs.Common.{◌≡◌, ◌≢◌, ℕ, zero, suc, ◌<◌, ◌≤◌, nat_eq, nat_lt, Bool, true, false, not, cond, if◌then◌else◌, Option, Some, None, List, length, get_or, slice_index, slice_index_or, Result, Ok, Err, refl, sym, ap, ◌∙◌, arith, inl, inr}
+use Rattle.std.proofs.Common.{◌≡◌, ◌≢◌, ℕ, ◌<◌, ◌≤◌, nat_eq, nat_lt, Bool, true, false, not, cond, if◌then◌else◌, Option, Some, None, List, length, get_or, Result, Ok, Err, refl, sym, ap, ◌∙◌, arith, inl, inr}
 use Rattle.std.specs.List.{position, position_or_len}
 use Rattle.std.proofs.lemmas.Bool.{ltb-true, ltb-false}
 use Rattle.std.proofs.lemmas.Bool.Decides.{eqb_tells}
 use Rattle.std.proofs.lemmas.List.{get_or_past}
 use Rattle.std.proofs.lemmas.List.Sums.{prefix_len_passes}
 use Rattle.vd_base.specs.HostSets.{host}
-use Rattle.vd_base.specs.Protocols.{protocols_of}
 use Rattle.vd_base.specs.declared.ids.HostId.{HostId}
 use Rattle.vd_base.specs.declared.protocols.Proto.{Proto}
 use Rattle.vd_base.specs.declared.protocols.Proto.TheVariants.{Local}
+use Rattle.vd_base.specs.Holders.{proto_in}
 use Rattle.vd_core.specs.declared.normal.NormalForm.{NormalForm}
 use Rattle.vd_constraints.specs.declared.labels.Labels.{Labels}
-use Rattle.vd_space.specs.declared.problem.Problem.{Problem}
-use Rattle.vd_space.specs.Validity.{protocol, protocols}
 use Rattle.vd_suite.specs.Parts.{has_back_end}
-use Rattle.vd_whole.specs.Lists.{protos_of}
 use Rattle.vd_deals.specs.declared.deal.Deal.{Deal}
 use Rattle.vd_plan.specs.declared.status.Status.{Status}
 use Rattle.vd_plan.specs.declared.status.Status.TheVariants.{NotTwo}
@@ -24,7 +21,7 @@ use Rattle.vd_deal_excuses.specs.Excuses.{excuse_files}
 use Rattle.vd_excuse.specs.declared.fault.ViewFault.{ViewFault}
 use Rattle.vd_excuse.specs.Excuse.{IsExcused, fault_at}
 use Rattle.vd_excuse_command.specs.declared.runs.Runs.{Runs}
-use Rattle.vd_excuse_command.specs.Excusing.{as_excused, as_two, commitment_at, commitment_in, excused_for}
+use Rattle.vd_excuse_command.specs.Excusing.{as_excused, as_two, commitment_in, excused_for}
 
 -- ---- two hosts
 
@@ -60,32 +57,22 @@ all_pass p xs e k d low =
     let above : length xs ≤ n = ltb-false n (length xs) (none_found n (length xs) (nat_lt n (length xs)) refl e) in
     not_not (p (get_or xs k d)) (prefix_len_passes (λ x. not (not (p x))) xs k d (omega (arith, above, low)))
 
--- the first protocol of all is no commitment
-first_is_free : (n : ℕ) → has_back_end (slice_index_or (protocols_of n) 0 (Local (host 0))) ≡ true
-unfolding lib.Count.ones
-first_is_free zero = refl
-first_is_free (suc n) = refl
+module _ (protocols : List Proto) (none : commitment_in protocols ≡ None) (x : ℕ) where
+  free_at : (b : Bool) → nat_lt x (length protocols) ≡ b → has_back_end (proto_in protocols x) ≡ true
+  free_at true low = all_pass has_back_end protocols none x (Local (host 0)) (ltb-true x (length protocols) low)
+  free_at false high = ap (λ (q : Proto). has_back_end q) (get_or_past protocols x (Local (host 0)) (ltb-false x (length protocols) high))
 
-module _ (problem : Problem) (list : List ℕ) (none : commitment_in problem list ≡ None) (x : ℕ) where
-  free_at : (b : Bool) → nat_lt x (length list) ≡ b → has_back_end (protocol problem (slice_index list x)) ≡ true
-  free_at true low = all_pass (λ (place : ℕ). has_back_end (protocol problem place)) list none x 0 (ltb-true x (length list) low)
-  free_at false high = ap (λ (place : ℕ). has_back_end (protocol problem place)) (get_or_past list x 0 (ltb-false x (length list) high)) ∙ first_is_free (length problem.hosts)
-
-  pub all_free : has_back_end (protos_of problem list x) ≡ true
-  all_free = free_at (nat_lt x (length list)) refl
-
--- of a list of protocols that is that of the problem
-pub looked_in : (problem : Problem) (protos : List Proto) (list : List ℕ) (found : Option ℕ) → protos ≡ protocols problem → found ≡ commitment_at protos list → commitment_in problem list ≡ found
-looked_in problem protos list found same is = sym (is ∙ ap (λ (ps : List Proto). commitment_at ps list) same)
+  pub all_free : has_back_end (proto_in protocols x) ≡ true
+  all_free = free_at (nat_lt x (length protocols)) refl
 
 -- ---- the deal that explains
 
-module _ (p : NormalForm) (l : Labels) (list : List ℕ) (h : HostId) (runs : Runs) where
-  pub excused_is : (stored : List Deal) → IsExcused p l list h runs.first runs.second runs.deals stored → excused_for p l list h runs ≡ Ok stored
+module _ (p : NormalForm) (l : Labels) (protocols : List Proto) (h : HostId) (runs : Runs) where
+  pub excused_is : (stored : List Deal) → IsExcused p l protocols h runs.first runs.second runs.deals stored → excused_for p l protocols h runs ≡ Ok stored
   excused_is stored x =
-      ap (λ (o : Option ViewFault). as_excused o (excuse_files h.0 (plan_of p l list) runs.first runs.second runs.deals)) x.no_fault
+      ap (λ (o : Option ViewFault). as_excused o (excuse_files h.0 (plan_of p protocols) runs.first runs.second runs.deals)) x.no_fault
       ∙ ap (λ (files : List Deal). let r : Result (List Deal) Status = Ok files in r) (sym x.files)
 
-  pub refused_is : (fault : ViewFault) → fault_at p l list h runs.first runs.second runs.deals ≡ Some fault
-      → excused_for p l list h runs ≡ as_excused (Some fault) (excuse_files h.0 (plan_of p l list) runs.first runs.second runs.deals)
-  refused_is fault e = ap (λ (o : Option ViewFault). as_excused o (excuse_files h.0 (plan_of p l list) runs.first runs.second runs.deals)) e
+  pub refused_is : (fault : ViewFault) → fault_at p l protocols h runs.first runs.second runs.deals ≡ Some fault
+      → excused_for p l protocols h runs ≡ as_excused (Some fault) (excuse_files h.0 (plan_of p protocols) runs.first runs.second runs.deals)
+  refused_is fault e = ap (λ (o : Option ViewFault). as_excused o (excuse_files h.0 (plan_of p protocols) runs.first runs.second runs.deals)) e

@@ -1,5 +1,5 @@
 -- The plan with a search that gives up wherever it may, beside that with any other.
-use Rattle.std.proofs.Common.{ℕ, ◌+◌, List, [], ◌∷◌, ◌++◌, length, codes}
+use Rattle.std.proofs.Common.{ℕ, ◌+◌, List, [], ◌∷◌, ◌++◌, length, codes, refl}
 use Rattle.vd_base.specs.Limits.{most_deal_bytes, most_inputs_bytes}
 use Rattle.vd_base.specs.declared.ids.HostId.{HostId}
 use Rattle.vd_outside.specs.Files.{Contents}
@@ -7,7 +7,6 @@ use Rattle.vd_core.specs.declared.normal.NormalForm.{NormalForm}
 use Rattle.vd_core.specs.declared.source.Source.{Source}
 use Rattle.vd_normal.specs.Normal.{normal_form}
 use Rattle.vd_rewritten.specs.RunPrograms.{run_form}
-use Rattle.vd_space.specs.Reading.{problem_of}
 use Rattle.vd_cmd.specs.declared.command.ExcuseWords.{ExcuseWords}
 use Rattle.vd_deals.specs.declared.deal.Deal.{Deal}
 use Rattle.vd_selection.specs.Choices.{ChoiceOutcomes}
@@ -15,18 +14,17 @@ use Rattle.vd_plan.specs.Numbered.{file_name}
 use Rattle.vd_plan.specs.Plans.{Plan, check_then}
 use Rattle.vd_plan.proofs.Following.{Follows, check_follows, file_follows}
 use Rattle.vd_frontend.specs.Outcomes.{TextOutcomes, LabelOutcomes}
-use Rattle.vd_frontend.specs.Labelling.{labels_of}
 use Rattle.vd_frontend.specs.Inputs.{inputs_then, words_of}
 use Rattle.vd_selecting.proofs.Sure.{source_follows}
 use Rattle.vd_depending.specs.Depending.{as_host}
 use Rattle.vd_selecting.specs.Outcomes.{CertificateOutcomes}
 use Rattle.vd_selecting.specs.Searching.{Searched, searched_by, sure_search}
-use Rattle.vd_selecting.proofs.Selected.{places_follow}
+use Rattle.vd_selecting.proofs.Steps.{choice_follows}
 use Rattle.vd_outcomes.specs.Outcomes.{ReplayOutcomes}
 use Rattle.vd_asking.specs.Deals.{deal_of, deal_then, deals_from}
 use Rattle.vd_excuse_command.specs.declared.runs.Runs.{Runs}
 use Rattle.vd_excuse_command.specs.Runs.{runs_of}
-use Rattle.vd_excuse_command.specs.Excusing.{as_two, choice_plan, excuse_plan, host_plan, labels_plan, runs_plan, source_plan}
+use Rattle.vd_excuse_command.specs.Excusing.{as_two, choice_plan, excuse_plan, host_plan, runs_plan, source_plan}
 
 module _ (files : Contents) where
   abbrev Each : {X : Type 0} → (X → Contents → Plan) → (X → Contents → Plan) → Type 0
@@ -56,8 +54,7 @@ module _ (texts : TextOutcomes) (outcomes : ReplayOutcomes) (least : LabelOutcom
   host_follows : (p : NormalForm) (h : HostId) (runs : Runs)
       → Follows (host_plan outcomes least choices (sure_search choices) words p h runs files) (host_plan outcomes least choices (searched_by certificates choices searched) words p h runs files)
   host_follows p h runs =
-      check_follows (labels_of least p) (labels_plan outcomes choices (sure_search choices) words.budget p h runs words.out) (labels_plan outcomes choices (searched_by certificates choices searched) words.budget p h runs words.out) files
-      (λ l. places_follow (problem_of p l) words.budget certificates choices (choice_plan outcomes p l h runs words.out) searched files)
+      choice_follows p words.budget certificates choices (λ c. choice_plan outcomes h runs words.out c.program c.labels c.assignment) files (λ l one other. refl) least searched
 
   runs_follow : (p : NormalForm) (runs : Runs)
       → Follows (runs_plan outcomes least choices (sure_search choices) words p runs files) (runs_plan outcomes least choices (searched_by certificates choices searched) words p runs files)

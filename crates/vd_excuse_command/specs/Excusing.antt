@@ -1,37 +1,30 @@
 -- The command `excuse`.
-use Rattle.std.specs.Prelude.{ℕ, ◌-◌, nat_eq, true, not, if◌then◌else◌, Option, Some, None, List, [], ◌++◌, length, map, slice_index_or, Result, Ok, Err, codes}
+use Rattle.std.specs.Prelude.{ℕ, ◌-◌, nat_eq, true, not, if◌then◌else◌, Option, Some, None, List, [], ◌++◌, length, Result, Ok, Err, codes, slice_index_or}
 use Rattle.std.specs.List.{position}
 use Rattle.vd_base.specs.declared.ids.HostId.{HostId}
-use Rattle.vd_base.specs.HostSets.{host}
 use Rattle.vd_base.specs.declared.protocols.Proto.{Proto}
-use Rattle.vd_base.specs.declared.protocols.Proto.TheVariants.{Local}
 use Rattle.vd_outside.specs.Files.{FilesView, Contents}
 use Rattle.vd_core.specs.declared.normal.NormalForm.{NormalForm}
 use Rattle.vd_core.specs.declared.source.Source.{Source}
 use Rattle.vd_normal.specs.Normal.{normal_form}
 use Rattle.vd_rewritten.specs.RunPrograms.{run_form}
 use Rattle.vd_constraints.specs.declared.labels.Labels.{Labels}
-use Rattle.vd_space.specs.declared.problem.Problem.{Problem}
-use Rattle.vd_space.specs.Reading.{problem_of}
-use Rattle.vd_space.specs.Spaces.{IsProblem}
-use Rattle.vd_space.specs.Validity.{protocol, protocols}
 use Rattle.vd_suite.specs.Parts.{has_back_end}
 use Rattle.vd_cmd.specs.declared.command.ExcuseWords.{ExcuseWords}
 use Rattle.vd_deals.specs.declared.deal.Deal.{Deal}
 use Rattle.vd_report.specs.Lines.{words_line}
-use Rattle.vd_selection.specs.Choices.{ChoiceOutcomes, IsChosen}
+use Rattle.vd_selection.specs.Choices.{ChoiceOutcomes}
 use Rattle.vd_plan.specs.Plans.{Plan, Executes, check_then, answer_then, ended}
 use Rattle.vd_plan.specs.declared.answer.Answer.{Answer}
 use Rattle.vd_plan.specs.declared.status.Status.{Status}
 use Rattle.vd_plan.specs.declared.status.Status.TheVariants.{Memory, NotTwo, HasCommit, DealShort, ViewDiffers}
 use Rattle.vd_dealing.specs.Dealing.{deal_files}
 use Rattle.vd_frontend.specs.Outcomes.{TextOutcomes, LabelOutcomes}
-use Rattle.vd_frontend.specs.Labelling.{labels_of}
 use Rattle.vd_frontend.specs.Sources.{source_then}
 use Rattle.vd_depending.specs.Depending.{as_host}
 use Rattle.vd_selecting.specs.Searching.{Search, SomeSearch}
-use Rattle.vd_selecting.specs.Problems.{IsProblemOf}
-use Rattle.vd_selecting.specs.Selected.{places_then}
+use Rattle.vd_selecting.specs.Choice.{choice_then}
+use Rattle.vd_selecting.specs.declared.choice.Assignment.{Assignment}
 use Rattle.vd_compiling.specs.Selected.{no_list}
 use Rattle.vd_outcomes.specs.Outcomes.{ReplayOutcomes}
 use Rattle.vd_asking.specs.Deals.{as_consistent}
@@ -44,12 +37,6 @@ use Rattle.vd_talk.specs.Talk.{talk}
 use Rattle.vd_excuse_command.specs.declared.runs.Runs.{Runs}
 use Rattle.vd_excuse_command.specs.Runs.{runs_then}
 
--- the problem is that of the program under its least labels, and this list is its choice
-pub record IsSelectedIn (p : NormalForm) (problem : Problem) (list : List ℕ) : Type 0 where
-  pub of : IsProblemOf p problem
-  pub holds : IsProblem problem
-  pub chosen : IsChosen problem (Some list)
-
 -- ---- what is looked at
 
 -- the source has two hosts
@@ -57,11 +44,8 @@ abbrev pub as_two : (names : List (List ℕ)) → Result (Unit {0}) Status
 as_two names = if nat_eq (length names) 2 then Ok tt else Err (NotTwo (length names))
 
 -- the first slot that stands at a commitment
-abbrev pub commitment_at : List Proto → List ℕ → Option ℕ
-commitment_at protos list = position (λ place. not (has_back_end (slice_index_or protos place (Local (host 0))))) list
-
-abbrev pub commitment_in : Problem → List ℕ → Option ℕ
-commitment_in problem list = commitment_at (protocols problem) list
+abbrev pub commitment_in : List Proto → Option ℕ
+commitment_in protocols = position (λ p. not (has_back_end p)) protocols
 
 abbrev pub as_free : Option ℕ → Result (Unit {0}) Status
 as_free None = Ok tt
@@ -74,9 +58,9 @@ as_excused (Some (view_fault.Short kind)) files = Err (DealShort kind)
 as_excused (Some (view_fault.Differ place)) files = Err (ViewDiffers place)
 as_excused (Some view_fault.Memory) files = Err Memory
 
-abbrev pub excused_for : NormalForm → Labels → List ℕ → HostId → Runs → Result (List Deal) Status
-excused_for p l list h runs =
-    as_excused (fault_at p l list h runs.first runs.second runs.deals) (excuse_files h.0 (plan_of p l list) runs.first runs.second runs.deals)
+abbrev pub excused_for : NormalForm → Labels → List Proto → HostId → Runs → Result (List Deal) Status
+excused_for p l protocols h runs =
+    as_excused (fault_at p l protocols h runs.first runs.second runs.deals) (excuse_files h.0 (plan_of p protocols) runs.first runs.second runs.deals)
 
 -- ---- the answer
 
@@ -88,34 +72,27 @@ talk_line names h words = words_line (slice_index_or names (1 - h.0) [] ++ codes
 abbrev pub excuse_answer : NormalForm → List Proto → HostId → Runs → (out : List ℕ) → List Deal → Answer
 excuse_answer p protocols h runs out stored = ended (deal_files out stored) (talk_line p.hosts h (talk p protocols runs.first runs.deals (1 - h.0) h.0))
 
--- the protocols at these places of the list of all
-abbrev pub protocols_in : NormalForm → Labels → List ℕ → List Proto
-protocols_in p l list = map (protocol (problem_of p l)) list
-
 -- ---- the plan
 
--- with a list of protocols that has no commitment, and a consistent deal
-abbrev pub excused_plan : NormalForm → Labels → HostId → Runs → (out : List ℕ) → List ℕ → Contents → Plan
-excused_plan p l h runs out list = check_then (excused_for p l list h runs) (λ stored. answer_then (excuse_answer p (protocols_in p l list) h runs out stored))
+-- with protocols none of which is a commitment, and a consistent deal
+abbrev pub excused_plan : NormalForm → Labels → HostId → Runs → (out : List ℕ) → List Proto → Contents → Plan
+excused_plan p l h runs out protocols = check_then (excused_for p l protocols h runs) (λ stored. answer_then (excuse_answer p protocols h runs out stored))
 
--- with a list of protocols
-abbrev pub list_plan : ReplayOutcomes → NormalForm → Labels → HostId → Runs → (out : List ℕ) → List ℕ → Contents → Plan
-list_plan outcomes p l h runs out list =
-    check_then (as_free (commitment_in (problem_of p l) list)) (λ free.
-    check_then (as_consistent (outcomes.judge runs.deals)) (λ consistent. excused_plan p l h runs out list))
+-- with the choice for a program
+abbrev pub assignment_plan : ReplayOutcomes → NormalForm → Labels → HostId → Runs → (out : List ℕ) → Assignment → Contents → Plan
+assignment_plan outcomes p l h runs out a =
+    check_then (as_free (commitment_in a.protocols)) (λ free.
+    check_then (as_consistent (outcomes.judge runs.deals)) (λ consistent. excused_plan p l h runs out a.protocols))
 
--- with the choice, if there is one
-abbrev pub choice_plan : ReplayOutcomes → NormalForm → Labels → HostId → Runs → (out : List ℕ) → Option (List ℕ) → Contents → Plan
-choice_plan outcomes p l h runs out None = answer_then no_list
-choice_plan outcomes p l h runs out (Some list) = list_plan outcomes p l h runs out list
-
--- with the least labels
-abbrev pub labels_plan : ReplayOutcomes → ChoiceOutcomes → Search → (budget : ℕ) → NormalForm → HostId → Runs → (out : List ℕ) → Labels → Contents → Plan
-labels_plan outcomes choices search budget p h runs out l = places_then choices search budget (problem_of p l) (choice_plan outcomes p l h runs out)
+-- if there is one
+abbrev pub choice_plan : ReplayOutcomes → HostId → Runs → (out : List ℕ) → NormalForm → Labels → Option Assignment → Contents → Plan
+choice_plan outcomes h runs out p l None = answer_then no_list
+choice_plan outcomes h runs out p l (Some a) = assignment_plan outcomes p l h runs out a
 
 -- with a program, one of its two hosts, and both runs
 abbrev pub host_plan : ReplayOutcomes → LabelOutcomes → ChoiceOutcomes → Search → ExcuseWords → NormalForm → HostId → Runs → Contents → Plan
-host_plan outcomes least choices search words p h runs = check_then (labels_of least p) (labels_plan outcomes choices search words.budget p h runs words.out)
+host_plan outcomes least choices search words p h runs =
+    choice_then least choices search words.budget p (λ c. choice_plan outcomes h runs words.out c.program c.labels c.assignment)
 
 -- with a program, and both runs
 abbrev pub runs_plan : ReplayOutcomes → LabelOutcomes → ChoiceOutcomes → Search → ExcuseWords → NormalForm → Runs → Contents → Plan
@@ -135,17 +112,12 @@ excuse_plan texts outcomes least choices search words = source_then texts words.
 
 -- ---- what the parts of the command do, whatever functions pick outcomes
 
-abbrev pub ExecutesExcused : NormalForm → Labels → HostId → Runs → (out : List ℕ) → List ℕ → Result Answer Status → Type 0
-ExecutesExcused p l h runs out list result = (files : FilesView) → Executes true (excused_plan p l h runs out list) files files result
+abbrev pub ExecutesExcused : NormalForm → Labels → HostId → Runs → (out : List ℕ) → List Proto → Result Answer Status → Type 0
+ExecutesExcused p l h runs out protocols result = (files : FilesView) → Executes true (excused_plan p l h runs out protocols) files files result
 
-abbrev pub ExecutesList : NormalForm → Labels → HostId → Runs → (out : List ℕ) → List ℕ → Result Answer Status → Type 0
-ExecutesList p l h runs out list result =
-    (outcomes : ReplayOutcomes) (files : FilesView) → Executes true (list_plan outcomes p l h runs out list) files files result
-
-abbrev pub ExecutesLabels : NormalForm → Labels → HostId → Runs → (out : List ℕ) → (budget : ℕ) → Result Answer Status → Type 0
-ExecutesLabels p l h runs out budget result =
-    SomeSearch (λ choices search. (outcomes : ReplayOutcomes) (files : FilesView)
-    → Executes true (labels_plan outcomes choices search budget p h runs out l) files files result)
+abbrev pub ExecutesChoice : NormalForm → Labels → HostId → Runs → (out : List ℕ) → Assignment → Result Answer Status → Type 0
+ExecutesChoice p l h runs out a result =
+    (outcomes : ReplayOutcomes) (files : FilesView) → Executes true (assignment_plan outcomes p l h runs out a) files files result
 
 abbrev pub ExecutesHost : ExcuseWords → NormalForm → HostId → Runs → Result Answer Status → Type 0
 ExecutesHost words p h runs result =

@@ -30,13 +30,13 @@ use Rattle.vd_excuse_command.specs.Excusing.{talk_line}
 pub record IsExcuseOf (name : List ℕ) (p : NormalForm) (runs : Runs) (out : List ℕ) (stored : List Stored) (printed : List ℕ) : Type 0 where
   pub assignment : Assignment
   pub selected : IsSelected p assignment
-  pub two : IsOfTwo p selected.labels selected.places
+  pub two : IsOfTwo p selected.labels assignment.protocols
   pub host : HostId
   pub low : host.0 < 2
   pub named : host_of p.hosts name ≡ Some host.0
-  pub agree : AgreeFor p selected.labels selected.places host runs.first runs.second
+  pub agree : AgreeFor p selected.labels assignment.protocols host runs.first runs.second
   pub deals : List Deal
-  pub explain : IsExcuse host.0 (plan_of p selected.labels selected.places) runs.first runs.second runs.deals deals
+  pub explain : IsExcuse host.0 (plan_of p assignment.protocols) runs.first runs.second runs.deals deals
   pub files : stored ≡ deal_files out deals
   pub line : printed ≡ talk_line p.hosts host (talk p assignment.protocols runs.first runs.deals (1 - host.0) host.0)
   pub line_too : printed ≡ talk_line p.hosts host (talk p assignment.protocols runs.second deals (1 - host.0) host.0)

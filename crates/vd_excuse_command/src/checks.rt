@@ -1,16 +1,14 @@
 //! What is looked at before anything is explained.
 
-ghost use Rattle.std.specs.Prelude.{◌≡◌, OnOk, IfOk, ◌<◌, length, map, true, ℕ};
+ghost use Rattle.std.specs.Prelude.{◌≡◌, OnOk, IfOk, ◌<◌, length, true, ℕ};
 ghost use Rattle.vd_constraints.specs.declared.labels.Labels.{Labels};
-ghost use Rattle.vd_space.specs.Reading.{problem_of};
-ghost use Rattle.vd_space.specs.Validity.{protocol};
+ghost use Rattle.vd_base.specs.Holders.{proto_in};
 ghost use Rattle.vd_host_programs.specs.Programs.{IsRunnable};
 ghost use Rattle.vd_program_views.specs.Explained.{IsOfTwo};
 ghost use Rattle.vd_suite.specs.Parts.{has_back_end};
-ghost use Rattle.vd_whole.specs.Lists.{protos_of};
 ghost use Rattle.vd_plan.specs.Plans.{Checks};
 ghost use Rattle.vd_excuse.specs.Excuse.{AreAsked, IsExcused};
-ghost use Rattle.vd_excuse_command.specs.Excusing.{as_free, as_two, commitment_at, commitment_in, excused_for};
+ghost use Rattle.vd_excuse_command.specs.Excusing.{as_free, as_two, commitment_in, excused_for};
 
 use crate::runs::Runs;
 use std::alloc::Global;
@@ -19,8 +17,6 @@ use vd_core::Program;
 use vd_deals::Deals;
 use vd_excuse::{ViewFault, excuse};
 use vd_plan::Status;
-use vd_space::protocol_at;
-use vd_spaces::Space;
 
 /// Refuses another number of hosts than two.
 pub(crate) fn expect_two(names: &Names) -> Result<(), Status>
@@ -43,20 +39,18 @@ fn is_free(protocol: Proto) -> bool
 }
 
 /// The first slot that stands at a commitment.
-fn commitment_in(list: &[Proto], places: &[u32]) -> Option<usize>
-    ensures { result ≡ commitment_at list.now places.now }
+fn commitment_in(protocols: &[Proto]) -> Option<usize>
+    ensures { result ≡ commitment_in protocols.now }
 {
-    places
-        .iter()
-        .position(|place| !is_free(protocol_at(list, *place)))
+    protocols.iter().position(|protocol| !is_free(*protocol))
 }
 
-/// Refuses a list of protocols with a commitment.
-pub(crate) fn expect_free(space: &Space, places: &[u32]) -> Result<(), Status>
-    ensures checks { Checks (as_free (commitment_in space.now places.now)) result }
-    ensures free { OnOk result ((x : ℕ) → has_back_end (protos_of space.now places.now x) ≡ true) }
+/// Refuses protocols with a commitment among them.
+pub(crate) fn expect_free(protocols: &[Proto]) -> Result<(), Status>
+    ensures checks { Checks (as_free (commitment_in protocols.now)) result }
+    ensures free { OnOk result ((x : ℕ) → has_back_end (proto_in protocols.now x) ≡ true) }
 {
-    match commitment_in(space.list(), places) {
+    match commitment_in(protocols) {
         None => Ok(()),
         Some(slot) => Err(Status::HasCommit(slot)),
     }
@@ -66,27 +60,22 @@ pub(crate) fn expect_free(space: &Space, places: &[u32]) -> Result<(), Status>
 pub(crate) fn excused(
     alloc: Global,
     program: &Program,
-    space: &Space,
     protocols: &[Proto],
-    places: &[u32],
     host: HostId,
     runs: &Runs,
 ) -> Result<Deals, Status>
     requires host { host.0 < 2 }
     requires runnable { IsRunnable program.now protocols.now }
-    requires named { protocols.now ≡ map (protocol space.now) places.now }
     requires asked { AreAsked runs.now.first runs.now.second runs.now.deals }
-    ensures checks { (l : Labels) → space.now ≡ problem_of program.now l → IsOfTwo program.now l places.now →
-        Checks (excused_for program.now l places.now host runs.now) result }
-    ensures excused { (l : Labels) → space.now ≡ problem_of program.now l → IsOfTwo program.now l places.now →
-        IfOk result (IsExcused program.now l places.now host runs.now.first runs.now.second runs.now.deals) }
+    ensures checks { (l : Labels) → IsOfTwo program.now l protocols.now →
+        Checks (excused_for program.now l protocols.now host runs.now) result }
+    ensures excused { (l : Labels) → IsOfTwo program.now l protocols.now →
+        IfOk result (IsExcused program.now l protocols.now host runs.now.first runs.now.second runs.now.deals) }
 {
     match excuse(
         alloc,
         program,
-        space,
         protocols,
-        places,
         host,
         &runs.first,
         &runs.second,

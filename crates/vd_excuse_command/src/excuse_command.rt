@@ -4,11 +4,12 @@ ghost use Rattle.std.specs.Prelude.{◌≡◌, ◌<◌, ◌≤◌, ℕ, length, 
 ghost use Rattle.vd_base.specs.Limits.{most_search_budget};
 ghost use Rattle.vd_constraints.specs.declared.labels.Labels.{Labels};
 ghost use Rattle.vd_deals.specs.Validity.{IsConsistent};
-ghost use Rattle.vd_selecting.specs.Problems.{IsProblemOf};
+ghost use Rattle.vd_base.specs.Holders.{proto_in};
+ghost use Rattle.vd_cheapest.specs.Cheapest.{IsAssignment};
+ghost use Rattle.vd_selecting.specs.Choice.{IsSelected};
 ghost use Rattle.vd_space.specs.Reading.{problem_of};
 ghost use Rattle.vd_suite.specs.Parts.{has_back_end};
-ghost use Rattle.vd_whole.specs.Lists.{protos_of};
-ghost use Rattle.vd_excuse_command.specs.Excusing.{ExecutesExcuse, ExecutesExcused, ExecutesHost, ExecutesLabels, ExecutesList, ExecutesProgram, ExecutesRuns, ExecutesSource, IsSelectedIn};
+ghost use Rattle.vd_excuse_command.specs.Excusing.{ExecutesChoice, ExecutesExcuse, ExecutesExcused, ExecutesHost, ExecutesProgram, ExecutesRuns, ExecutesSource};
 ghost use Rattle.vd_excuse_command.specs.Runs.{AreRead};
 ghost use Rattle.vd_excuse_command.specs.Telling.{TellsAt, TellsExcuse, TellsOf, TellsProgram, TellsSource};
 
@@ -22,39 +23,35 @@ use vd_cmd::ExcuseWords;
 use vd_compiling::no_assignment;
 use vd_core::Program;
 use vd_depending::host_named;
-use vd_frontend::{least_labels, load_source};
+use vd_frontend::load_source;
 use vd_outside::Files;
 use vd_plan::{Answer, Status};
 use vd_resolve::Resolved;
 use vd_rewritten::run_program;
-use vd_selecting::protocols_at;
-use vd_selection::{SelectFault, Selection, Sweeps, select};
-use vd_spaces::Space;
+use vd_selecting::{Assignment, choice_for};
 
-/// Explains the second inputs at a list of protocols, none of them a commitment.
+/// Explains the second inputs at the choice of protocols, none of them a commitment.
 fn excuse_free(
     alloc: Global,
     program: &Program,
-    space: &Space,
-    places: &[u32],
+    assignment: &Assignment,
     host: HostId,
     runs: Runs,
     out: &str,
 ) -> Result<Answer, Status>
     requires host { host.0 < 2 }
     requires hosts { length program.now.hosts ≡ 2 }
-    requires selected { IsSelectedIn program.now space.now places.now }
-    requires free { (x : ℕ) → has_back_end (protos_of space.now places.now x) ≡ true }
+    requires selected { IsSelected program.now assignment.now }
+    requires free { (x : ℕ) → has_back_end (proto_in assignment.now.protocols x) ≡ true }
     requires read { AreRead 2 runs }
     requires consistent { IsConsistent runs.deals }
-    ensures executes { (l : Labels) → space.now ≡ problem_of program.now l →
-        ExecutesExcused program.now l host runs out.now places.now result }
+    ensures executes { (l : Labels) → IsAssignment (problem_of program.now l) assignment.now.protocols →
+        ExecutesExcused program.now l host runs out.now assignment.now.protocols result }
     ensures tells { TellsAt host program.now out.now runs result }
 {
     program.numbers_fit();
-    let protocols = protocols_at(alloc, space, places)?;
-    let list = protocols.as_slice();
-    let stored = excused(alloc, program, space, list, places, host, &runs)?;
+    let protocols = assignment.protocols.as_slice();
+    let stored = excused(alloc, program, protocols, host, &runs)?;
     let Runs {
         first,
         second: _,
@@ -63,7 +60,7 @@ fn excuse_free(
     let answer = answer(
         alloc,
         program,
-        list,
+        protocols,
         host,
         &first,
         deals,
@@ -73,97 +70,68 @@ fn excuse_free(
     Ok(answer)
 }
 
-/// What `excuse` does with a list of protocols.
-fn excuse_list(
+/// What `excuse` does with the choice for a program.
+fn excuse_choice(
     alloc: Global,
     program: &Program,
-    space: &Space,
-    places: &[u32],
+    assignment: &Assignment,
     host: HostId,
     runs: Runs,
     out: &str,
 ) -> Result<Answer, Status>
     requires host { host.0 < 2 }
     requires hosts { length program.now.hosts ≡ 2 }
-    requires selected { IsSelectedIn program.now space.now places.now }
+    requires selected { IsSelected program.now assignment.now }
     requires read { AreRead 2 runs }
-    ensures executes { (l : Labels) → space.now ≡ problem_of program.now l →
-        ExecutesList program.now l host runs out.now places.now result }
+    ensures executes { (l : Labels) → IsAssignment (problem_of program.now l) assignment.now.protocols →
+        ExecutesChoice program.now l host runs out.now assignment.now result }
     ensures tells { TellsAt host program.now out.now runs result }
 {
-    expect_free(space, places)?;
+    expect_free(assignment.protocols.as_slice())?;
     expect_consistent(&runs.deals)?;
-    excuse_free(alloc, program, space, places, host, runs, out)
-}
-
-/// What `excuse` does with the space of a program.
-fn excuse_space(
-    alloc: Global,
-    program: &Program,
-    space: &Space,
-    host: HostId,
-    runs: Runs,
-    out: &str,
-    budget: u32,
-) -> Result<Answer, Status>
-    requires host { host.0 < 2 }
-    requires hosts { length program.now.hosts ≡ 2 }
-    requires budget { budget ≤ most_search_budget }
-    requires problem { IsProblemOf program.now space.now }
-    requires read { AreRead 2 runs }
-    ensures executes { (l : Labels) → space.now ≡ problem_of program.now l →
-        ExecutesLabels program.now l host runs out.now budget result }
-    ensures tells { TellsAt host program.now out.now runs result }
-{
-    match select(alloc, &Sweeps, space.problem(), budget) {
-        Ok(Selection::Found(places, _, _)) => {
-            excuse_list(alloc, program, space, places.as_slice(), host, runs, out)
-        }
-        Ok(Selection::NoAssignment(_)) => Ok(no_assignment(alloc)),
-        Err(SelectFault::Spent) => Err(Status::Spent(budget)),
-        Err(SelectFault::Memory) => Err(Status::Memory),
-    }
+    excuse_free(alloc, program, assignment, host, runs, out)
 }
 
 /// What `excuse` does with a program of two hosts, and both runs.
 fn excuse_host(
     alloc: Global,
     words: &ExcuseWords,
-    program: &Program,
+    program: Program,
     host: HostId,
     runs: Runs,
 ) -> Result<Answer, Status>
     requires host { host.0 < 2 }
-    requires hosts { length program.now.hosts ≡ 2 }
+    requires hosts { length program.hosts ≡ 2 }
     requires budget { words.now.budget ≤ most_search_budget }
     requires read { AreRead 2 runs }
-    ensures executes { ExecutesHost words.now program.now host runs result }
-    ensures tells { TellsAt host program.now words.now.out runs result }
+    ensures executes { ExecutesHost words.now program host runs result }
+    ensures tells { TellsAt host program words.now.out runs result }
 {
-    let labels = least_labels(alloc, program)?;
-    let space = Space::of(alloc, program, &labels)?;
-    excuse_space(
-        alloc,
-        program,
-        &space,
-        host,
-        runs,
-        words.out.as_str(),
-        words.budget,
-    )
+    let choice = choice_for(alloc, program, words.budget)?;
+    match &choice.assignment {
+        Some(assignment) => excuse_choice(
+            alloc,
+            &choice.program,
+            assignment,
+            host,
+            runs,
+            words.out.as_str(),
+        ),
+        None => Ok(no_assignment(alloc)),
+    }
 }
 
 /// What `excuse` does with a program, and both runs.
 fn excuse_runs(
     alloc: Global,
     words: &ExcuseWords,
-    program: &Program,
+    program: Program,
     runs: Runs,
 ) -> Result<Answer, Status>
     requires budget { words.now.budget ≤ most_search_budget }
-    requires read { AreRead (length program.now.hosts) runs }
-    ensures executes { ExecutesRuns words.now program.now runs result }
-    ensures tells { TellsOf words.now.host words.now.out program.now runs result }
+    requires read { AreRead (length program.hosts) runs }
+    ensures executes { ExecutesRuns words.now program runs result }
+    ensures tells { TellsOf words.now.host words.now.out program runs result }
 {
     let names = &program.form().hosts;
     let host = host_named(alloc, names, words.host.as_str())?;
@@ -176,11 +144,11 @@ fn excuse_program<F: Files>(
     alloc: Global,
     files: &mut F,
     words: &ExcuseWords,
-    program: &Program,
+    program: Program,
 ) -> Result<Answer, Status>
     requires { words.now.budget ≤ most_search_budget }
-    ensures executes { ExecutesProgram words.now program.now (F.view files.old) (F.view files.new) result }
-    ensures tells { TellsProgram words.now program.now (F.view files.old) result }
+    ensures executes { ExecutesProgram words.now program (F.view files.old) (F.view files.new) result }
+    ensures tells { TellsProgram words.now program (F.view files.old) result }
 {
     let runs = load_runs(alloc, files, words, &program.form().hosts)?;
     excuse_runs(alloc, words, program, runs)
@@ -198,7 +166,7 @@ fn excuse_source<F: Files>(
     ensures tells { TellsSource words.now source.now (F.view files.old) result }
 {
     let program = run_program(alloc, source)?;
-    excuse_program(alloc, files, words, &program)
+    excuse_program(alloc, files, words, program)
 }
 
 /// The command `excuse`: deals by which a host of a source of two hosts sees of the second inputs what it saw of the first by the deals

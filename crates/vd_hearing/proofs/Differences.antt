@@ -4,6 +4,7 @@ use Rattle.std.specs.Option.{option_map}
 use Rattle.std.proofs.lemmas.List.{length-replicate}
 use Rattle.std.proofs.lemmas.Bool.{eqb-true, eqb-false, eq-eqb, ne_eqb}
 use Rattle.vd_base.specs.declared.ids.HostId.{HostId}
+use Rattle.vd_base.specs.declared.protocols.Proto.{Proto}
 use Rattle.vd_core.specs.declared.normal.NormalForm.{NormalForm}
 use Rattle.vd_constraints.specs.declared.labels.Labels.{Labels}
 use Rattle.vd_meaning.specs.World.{first_word, later_words}
@@ -95,27 +96,27 @@ as_long xs ys =
 
 -- ---- no difference, exactly where the host knows the same
 
-module _ (p : NormalForm) (l : Labels) (list : List ℕ) (h : HostId) (first second : List (List ℕ)) where
+module _ (p : NormalForm) (l : Labels) (protocols : List Proto) (h : HostId) (first second : List (List ℕ)) where
   abbrev xs : List ℕ
   xs = words_of first h
 
   abbrev ys : List ℕ
   ys = words_of second h
 
-  known_same : view_difference p l list h first second ≡ None → KnowsTheSame p l list h first second
+  known_same : view_difference p l protocols h first second ≡ None → KnowsTheSame p l protocols h first second
   known_same none =
-      let parts = parted (filled (length ys) xs) (filled (length xs) ys) (heard_words p l list h first) (heard_words p l list h second) (as_long xs ys)
-      (same_where_none (known_beside p l list h second first) (known_beside p l list h first second) none) in
+      let parts = parted (filled (length ys) xs) (filled (length xs) ys) (heard_words p l protocols h first) (heard_words p l protocols h second) (as_long xs ys)
+      (same_where_none (known_beside p l protocols h second first) (known_beside p l protocols h first second) none) in
       (λ i. sym (filled_at xs (length ys - length xs) i) ∙ ap (λ zs. slice_index zs i) parts.0 ∙ filled_at ys (length xs - length ys) i, parts.1)
 
-  none_differs : KnowsTheSame p l list h first second → view_difference p l list h first second ≡ None
+  none_differs : KnowsTheSame p l protocols h first second → view_difference p l protocols h first second ≡ None
   none_differs same =
-      none_where_same (known_beside p l list h second first) (known_beside p l list h first second)
-      (ap (λ zs. zs ++ heard_words p l list h first) (same_filled xs ys (length ys - length xs) (length xs - length ys) refl refl same.0)
+      none_where_same (known_beside p l protocols h second first) (known_beside p l protocols h first second)
+      (ap (λ zs. zs ++ heard_words p l protocols h first) (same_filled xs ys (length ys - length xs) (length xs - length ys) refl refl same.0)
       ∙ ap (λ zs. filled (length xs) ys ++ zs) same.1)
 
 pub differs_exactly : DiffersExactly
-differs_exactly p l list h first second = (known_same p l list h first second, none_differs p l list h first second)
+differs_exactly p l protocols h first second = (known_same p l protocols h first second, none_differs p l protocols h first second)
 
 -- ---- the code's loop
 

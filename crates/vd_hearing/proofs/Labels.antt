@@ -2,17 +2,17 @@
 use Rattle.std.proofs.Common.{◌≡◌, ℕ, zero, suc, Bool, true, false, nat_eq, List, [], ◌∷◌, ◌++◌, map, refl, sym, ap, ◌∙◌, subst, if◌then◌else◌}
 use Rattle.vd_base.specs.declared.ids.HostId.{HostId}
 use Rattle.vd_base.specs.declared.ids.SlotId.{SlotId}
+use Rattle.vd_base.specs.declared.protocols.Proto.{Proto}
 use Rattle.vd_core.specs.declared.normal.Stmt.{Stmt, roll-Stmt, map-Stmt, ind-Stmt}
 use Rattle.vd_core.specs.declared.normal.Stmt.TheOpen.{Stmt-F}
 use Rattle.vd_core.specs.declared.normal.Stmt.TheFolds.{fold-roll-Stmt}
 use Rattle.vd_constraints.specs.declared.labels.Labels.{Labels}
 use Rattle.vd_meaning.specs.ProgramMeaning.{SlotState, word_at, in_order}
 use Rattle.vd_meaning.specs.Turns.{turns}
-use Rattle.vd_space.specs.declared.problem.Problem.{Problem}
 use Rattle.vd_space.specs.Reading.{all_named, all_told}
 use Rattle.vd_assigned_dependence.specs.Hearing.{Heard, run_of, read_of, heard_in_order, heard_in_turns, is_part, heard_step, heard}
 
-module _ (problem : Problem) (list : List ℕ) (h : HostId) (l l' : Labels) where
+module _ (protocols : List Proto) (h : HostId) (l l' : Labels) where
   -- the same is done and heard, and the same slots and hosts are named
   record Same (a b : Heard) : Type 0 where
     run : (turn : ℕ) (s : SlotState) → a.run turn s ≡ b.run turn s
@@ -21,21 +21,21 @@ module _ (problem : Problem) (list : List ℕ) (h : HostId) (l l' : Labels) wher
     told : a.read.told ≡ b.read.told
 
   abbrev R : Type 0
-  R = (s : Stmt) × Same (heard problem list h l s) (heard problem list h l' s)
+  R = (s : Stmt) × Same (heard protocols h l s) (heard protocols h l' s)
 
   abbrev bare : Stmt-F R → Stmt-F Stmt
   bare = map-Stmt R Stmt (λ m. m.0)
 
   abbrev by : Labels → List R → List Heard
-  by k ms = map (heard problem list h k) (map {B = Stmt} (λ (m : R). m.0) ms)
+  by k ms = map (heard protocols h k) (map {B = Stmt} (λ (m : R). m.0) ms)
 
   runs : (ms : List R) (turn : ℕ) (s : SlotState) → in_order (map run_of (by l ms)) turn s ≡ in_order (map run_of (by l' ms)) turn s
   runs [] turn s = refl
-  runs (m ∷ ms) turn s = ap (in_order (map run_of (by l ms)) turn) (m.1.run turn s) ∙ runs ms turn ((heard problem list h l' m.0).run turn s)
+  runs (m ∷ ms) turn s = ap (in_order (map run_of (by l ms)) turn) (m.1.run turn s) ∙ runs ms turn ((heard protocols h l' m.0).run turn s)
 
   words : (ms : List R) (turn : ℕ) (s : SlotState) → heard_in_order (by l ms) turn s ≡ heard_in_order (by l' ms) turn s
   words [] turn s = refl
-  words (m ∷ ms) turn s = rw (m.1.words turn s, m.1.run turn s, words ms turn ((heard problem list h l' m.0).run turn s)) refl
+  words (m ∷ ms) turn s = rw (m.1.words turn s, m.1.run turn s, words ms turn ((heard protocols h l' m.0).run turn s)) refl
 
   in_turns : (n : ℕ) (ms : List R) (s : SlotState) → turns n (in_order (map run_of (by l ms))) s ≡ turns n (in_order (map run_of (by l' ms))) s
   in_turns zero ms s = refl
@@ -61,7 +61,7 @@ module _ (problem : Problem) (list : List ℕ) (h : HostId) (l l' : Labels) wher
   both_told [] b = all_told_same b
   both_told (m ∷ a) b = rw (m.1.told, both_told a b) refl
 
-  part_same : (g : SlotId) (a b : List R) → is_part problem list h g (by l a) (by l b) ≡ is_part problem list h g (by l' a) (by l' b)
+  part_same : (g : SlotId) (a b : List R) → is_part protocols h g (by l a) (by l b) ≡ is_part protocols h g (by l' a) (by l' b)
   part_same g a b = rw (both_named a b, both_told a b) refl
 
   chosen_runs : (test : Bool) (a b : List R) (turn : ℕ) (s : SlotState)
@@ -75,7 +75,7 @@ module _ (problem : Problem) (list : List ℕ) (h : HostId) (l l' : Labels) wher
   chosen_words false a b turn s = words a turn s
 
   same_step : (y : Stmt-F R)
-      → Same (heard_step problem list h l (map-Stmt Stmt Heard (heard problem list h l) (bare y))) (heard_step problem list h l' (map-Stmt Stmt Heard (heard problem list h l') (bare y)))
+      → Same (heard_step protocols h l (map-Stmt Stmt Heard (heard protocols h l) (bare y))) (heard_step protocols h l' (map-Stmt Stmt Heard (heard protocols h l') (bare y)))
   same_step (Stmt-F.Let x r) = record { run = λ turn s. refl; words = λ turn s. refl; named = refl; told = refl }
   same_step (Stmt-F.NewVar v y) = record { run = λ turn s. refl; words = λ turn s. refl; named = refl; told = refl }
   same_step (Stmt-F.NewArray v size) = record { run = λ turn s. refl; words = λ turn s. refl; named = refl; told = refl }
@@ -95,15 +95,15 @@ module _ (problem : Problem) (list : List ℕ) (h : HostId) (l l' : Labels) wher
     told = all_told_same body;
   }
 
-  same_heard : (s : Stmt) → Same (heard problem list h l s) (heard problem list h l' s)
-  same_heard = ind-Stmt (λ s. Same (heard problem list h l s) (heard problem list h l' s)) (λ x y is. subst (λ z. Same (heard problem list h l (roll-Stmt z)) (heard problem list h l' (roll-Stmt z))) is (at_roll y))
+  same_heard : (s : Stmt) → Same (heard protocols h l s) (heard protocols h l' s)
+  same_heard = ind-Stmt (λ s. Same (heard protocols h l s) (heard protocols h l' s)) (λ x y is. subst (λ z. Same (heard protocols h l (roll-Stmt z)) (heard protocols h l' (roll-Stmt z))) is (at_roll y))
     where
-      at_roll : (y : Stmt-F R) → Same (heard problem list h l (roll-Stmt (bare y))) (heard problem list h l' (roll-Stmt (bare y)))
+      at_roll : (y : Stmt-F R) → Same (heard protocols h l (roll-Stmt (bare y))) (heard protocols h l' (roll-Stmt (bare y)))
       at_roll y =
-          subst (λ z. Same z (heard problem list h l' (roll-Stmt (bare y)))) (sym (fold-roll-Stmt Heard (heard_step problem list h l) (bare y)))
-          (subst (λ z. Same (heard_step problem list h l (map-Stmt Stmt Heard (heard problem list h l) (bare y))) z) (sym (fold-roll-Stmt Heard (heard_step problem list h l') (bare y))) (same_step y))
+          subst (λ z. Same z (heard protocols h l' (roll-Stmt (bare y)))) (sym (fold-roll-Stmt Heard (heard_step protocols h l) (bare y)))
+          (subst (λ z. Same (heard_step protocols h l (map-Stmt Stmt Heard (heard protocols h l) (bare y))) z) (sym (fold-roll-Stmt Heard (heard_step protocols h l') (bare y))) (same_step y))
 
   -- the words of statements, one after another
-  pub labels_free : (body : List Stmt) (turn : ℕ) (s : SlotState) → heard_in_order (map (heard problem list h l) body) turn s ≡ heard_in_order (map (heard problem list h l') body) turn s
+  pub labels_free : (body : List Stmt) (turn : ℕ) (s : SlotState) → heard_in_order (map (heard protocols h l) body) turn s ≡ heard_in_order (map (heard protocols h l') body) turn s
   labels_free [] turn s = refl
-  labels_free (x ∷ body) turn s = rw ((same_heard x).words turn s, (same_heard x).run turn s, labels_free body turn ((heard problem list h l' x).run turn s)) refl
+  labels_free (x ∷ body) turn s = rw ((same_heard x).words turn s, (same_heard x).run turn s, labels_free body turn ((heard protocols h l' x).run turn s)) refl

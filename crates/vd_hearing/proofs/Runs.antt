@@ -81,7 +81,7 @@ loop_after x count body turn r = turns_after count (all_heard x body) r ∙ ap (
 
 -- what comes to the host where operands are moved
 abbrev pub with_operands : Hearer → SlotId → List SlotId → HeardRun → HeardRun
-with_operands x onto ys r = with_words r.state (r.words ++ map (word_at r.state) (filter (λ y. comes x.problem x.list x.host y onto) ys))
+with_operands x onto ys r = with_words r.state (r.words ++ map (word_at r.state) (filter (λ y. comes x.protocols x.host y onto) ys))
 
 one_more : (b : Bool) (word : ℕ) (before behind : List ℕ) → before ++ word_if b word ++ behind ≡ before ++ (if b then word ∷ behind else behind)
 one_more true word before behind = append_assoc before (word ∷ []) behind
@@ -93,11 +93,11 @@ moved false s y ys = refl
 
 -- the next operand is moved
 pub operand_moved : (x : Hearer) (onto y : SlotId) (ys : List SlotId) (r : HeardRun)
-    → with_operands x onto ys (record r { words = r.words ++ word_if (comes x.problem x.list x.host y onto) (word_at r.state y) }) ≡ with_operands x onto (y ∷ ys) r
+    → with_operands x onto ys (record r { words = r.words ++ word_if (comes x.protocols x.host y onto) (word_at r.state y) }) ≡ with_operands x onto (y ∷ ys) r
 operand_moved x onto y ys r =
     ap (with_words r.state)
-    (one_more (comes x.problem x.list x.host y onto) (word_at r.state y) r.words (map (word_at r.state) (filter (λ z. comes x.problem x.list x.host z onto) ys))
-    ∙ ap (λ zs. r.words ++ zs) (moved (comes x.problem x.list x.host y onto) r.state y (filter (λ z. comes x.problem x.list x.host z onto) ys)))
+    (one_more (comes x.protocols x.host y onto) (word_at r.state y) r.words (map (word_at r.state) (filter (λ z. comes x.protocols x.host z onto) ys))
+    ∙ ap (λ zs. r.words ++ zs) (moved (comes x.protocols x.host y onto) r.state y (filter (λ z. comes x.protocols x.host z onto) ys)))
 
 -- ---- as the code goes
 
@@ -188,20 +188,20 @@ on_ok (Err e) leads holds = tt
 -- ---- the whole program
 
 pub heard_at_end : (x : Hearer) (body : List Stmt) (r r1 : HeardRun) (l : Labels) → r.words ≡ [] → r1 ≡ after_all (all_heard x body) 0 r
-    → r1.words ≡ heard_in_order (map (heard x.problem x.list x.host l) body) 0 r.state
+    → r1.words ≡ heard_in_order (map (heard x.protocols x.host l) body) 0 r.state
 heard_at_end x body r r1 l none is =
     ap (λ (q : HeardRun). q.words) (is ∙ all_after (all_heard x body) 0 r)
     ∙ ap (λ (ws : List ℕ). ws ++ heard_in_order (all_heard x body) 0 r.state) none
-    ∙ labels_free x.problem x.list x.host no_labels l body 0 r.state
+    ∙ labels_free x.protocols x.host no_labels l body 0 r.state
 
 -- what came to the host in a run from the start
 pub words_of_program : (x : Hearer) (p : NormalForm) (inputs : List (List ℕ)) (body : List Stmt) (words : List ℕ) (arrays : List (List ℕ)) (world : World) (heard_before : List ℕ) (r1 : HeardRun) (result : List ℕ)
     → body ≡ p.body → words ≡ [] → arrays ≡ [] → heard_before ≡ [] → world ≡ world_at_start (length p.hosts) inputs
     → r1 ≡ after_all (all_heard x body) 0 (with_words (record { words = words; arrays = arrays; world = world }) heard_before) → result ≡ r1.words
-    → (l : Labels) → result ≡ heard_in_order (map (heard x.problem x.list x.host l) p.body) 0 (start p inputs)
+    → (l : Labels) → result ≡ heard_in_order (map (heard x.protocols x.host l) p.body) 0 (start p inputs)
 words_of_program x p inputs body words arrays world heard_before r1 result body_is no_words no_arrays none starts run_is result_is l =
     result_is ∙ heard_at_end x body (with_words (record { words = words; arrays = arrays; world = world }) heard_before) r1 l none run_is
-    ∙ ap (λ (b : List Stmt). heard_in_order (map (heard x.problem x.list x.host l) b) 0 (record { words = words; arrays = arrays; world = world })) body_is
-    ∙ ap (λ (ws : List ℕ). heard_in_order (map (heard x.problem x.list x.host l) p.body) 0 (record { words = ws; arrays = arrays; world = world })) no_words
-    ∙ ap (λ (xs : List (List ℕ)). heard_in_order (map (heard x.problem x.list x.host l) p.body) 0 (record { words = []; arrays = xs; world = world })) no_arrays
-    ∙ ap (λ (z : World). heard_in_order (map (heard x.problem x.list x.host l) p.body) 0 (record { words = []; arrays = []; world = z })) starts
+    ∙ ap (λ (b : List Stmt). heard_in_order (map (heard x.protocols x.host l) b) 0 (record { words = words; arrays = arrays; world = world })) body_is
+    ∙ ap (λ (ws : List ℕ). heard_in_order (map (heard x.protocols x.host l) p.body) 0 (record { words = ws; arrays = arrays; world = world })) no_words
+    ∙ ap (λ (xs : List (List ℕ)). heard_in_order (map (heard x.protocols x.host l) p.body) 0 (record { words = []; arrays = xs; world = world })) no_arrays
+    ∙ ap (λ (z : World). heard_in_order (map (heard x.protocols x.host l) p.body) 0 (record { words = []; arrays = []; world = z })) starts

@@ -1,18 +1,17 @@
 -- Whether a host takes part in statements: by what they tell it, or by a slot that they name.
-use Rattle.std.specs.Prelude.{ℕ, Bool, false, ◌&&◌, List, map, slice_get}
+use Rattle.std.specs.Prelude.{ℕ, Bool, ◌&&◌, List, map}
 use Rattle.std.specs.List.{list_any}
-use Rattle.std.specs.Option.{option_map_or}
 use Rattle.vd_base.specs.declared.ids.SlotId.{SlotId}
 use Rattle.vd_base.specs.HostSets.{same_host}
+use Rattle.vd_base.specs.Holders.{is_holder}
 use Rattle.vd_space.specs.Reading.{all_named, all_told}
-use Rattle.vd_space.specs.Validity.{holds_at}
 use Rattle.vd_meaning.specs.ProgramMeaning.{SlotState, word_at}
-use Rattle.vd_assigned_dependence.specs.Hearing.{Heard, read_of, word_if, comes_alone, is_part}
+use Rattle.vd_assigned_dependence.specs.Hearing.{Heard, read_of, word_if, comes_alone, is_part, stands}
 use Rattle.vd_hearing.specs.Runs.{Hearer}
 
 -- the slot is kept at the host
 abbrev pub slot_held : Hearer → SlotId → Bool
-slot_held x slot = option_map_or (holds_at x.problem x.host) (slice_get x.list slot.0) false
+slot_held x = stands x.protocols x.host (λ p. is_holder p x.host)
 
 -- the host is told something in one of the statements
 abbrev pub told_there : Hearer → List Heard → Bool
@@ -25,4 +24,4 @@ held_there x statements = list_any (slot_held x) (all_named (map read_of stateme
 -- what comes to the host of the guard of two branches
 abbrev pub guard_heard : Hearer → SlotId → List Heard → List Heard → SlotState → List ℕ
 guard_heard x g then_block else_block s =
-    word_if (is_part x.problem x.list x.host g then_block else_block && comes_alone x.problem x.list x.host g) (word_at s g)
+    word_if (is_part x.protocols x.host g then_block else_block && comes_alone x.protocols x.host g) (word_at s g)

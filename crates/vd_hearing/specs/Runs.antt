@@ -2,18 +2,17 @@
 use Rattle.std.specs.Prelude.{ℕ, List, [], ◌∷◌, ◌++◌, map}
 use Rattle.vd_base.specs.declared.ids.HostId.{HostId}
 use Rattle.vd_base.specs.declared.ids.SlotId.{SlotId}
+use Rattle.vd_base.specs.declared.protocols.Proto.{Proto}
 use Rattle.vd_core.specs.declared.normal.Right.{Right}
 use Rattle.vd_core.specs.declared.normal.Stmt.{Stmt}
 use Rattle.vd_core.specs.declared.normal.Stmt.TheOpen.{Stmt-F}
 use Rattle.vd_constraints.specs.declared.labels.Labels.{Labels}
 use Rattle.vd_meaning.specs.ProgramMeaning.{SlotState}
-use Rattle.vd_space.specs.declared.problem.Problem.{Problem}
 use Rattle.vd_assigned_dependence.specs.Hearing.{Heard, heard, heard_step}
 
 -- a host, and where the slots of a program stand
 pub record Hearer : Type 0 where
-  pub problem : Problem
-  pub list : List ℕ
+  pub protocols : List Proto
   pub host : HostId
 
 -- a run, and the words that came to the host so far
@@ -26,11 +25,11 @@ no_labels = record { slots = []; blocks = [] }
 
 -- what statements do, and the words that come to the host in them. Labels do not matter to it
 abbrev pub heard_by : Hearer → Stmt → Heard
-heard_by x = heard x.problem x.list x.host no_labels
+heard_by x = heard x.protocols x.host no_labels
 
 -- a statement over what its blocks do, and those that have no block
 abbrev pub step_of : Hearer → Stmt-F Heard → Heard
-step_of x = heard_step x.problem x.list x.host no_labels
+step_of x = heard_step x.protocols x.host no_labels
 
 abbrev pub binding : Hearer → SlotId → Right → Heard
 binding x slot right = step_of x (Stmt-F.Let slot right)

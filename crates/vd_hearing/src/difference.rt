@@ -2,7 +2,6 @@
 
 ghost use Rattle.std.specs.Prelude.{◌≡◌, ◌++◌, IfOk, OnOk, replicate, length};
 ghost use Rattle.vd_constraints.specs.declared.labels.Labels.{Labels};
-ghost use Rattle.vd_space.specs.Reading.{problem_of};
 ghost use Rattle.vd_hearing.specs.Difference.{IsDifference, filled, first_difference as first_place, known_beside, words_of as inputs_at};
 
 use crate::listener::Listener;
@@ -54,8 +53,8 @@ fn known_beside(
     other: &Inputs,
     inputs: &Inputs,
 ) -> Result<Words, AllocError>
-    ensures { let x = listener.now in IfOk result (λ words. (l : Labels) → x.problem ≡ problem_of program.now l →
-        words ≡ known_beside program.now l x.list x.host other.now inputs.now) }
+    ensures { let x = listener.now in IfOk result (λ words. (l : Labels) →
+        words ≡ known_beside program.now l x.protocols x.host other.now inputs.now) }
 {
     let host = listener.host();
     let mut known = filled(alloc, inputs_of(other, host).len(), inputs_of(inputs, host))?;

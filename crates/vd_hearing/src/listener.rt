@@ -1,58 +1,39 @@
 //! A host to which clear words come.
 
-ghost use Rattle.std.specs.Prelude.{◌≡◌, ◌∷◌, [], slice_index};
+ghost use Rattle.std.specs.Prelude.{◌≡◌, ◌∷◌, []};
 ghost use Rattle.std.specs.List.{list_any};
 ghost use Rattle.vd_assigned_dependence.specs.Hearing.{has_clear as is_clear_at, is_alone as is_alone_at, stands, comes, comes_alone, index_comes, is_part};
 ghost use Rattle.vd_base.specs.HostSets.{same_host};
-ghost use Rattle.vd_base.specs.Holders.{is_holder};
+ghost use Rattle.vd_base.specs.Holders.{proto_in};
 ghost use Rattle.vd_hearing.specs.Parts.{told_there, held_there, slot_held};
 ghost use Rattle.vd_hearing.specs.Runs.{all_heard, heard_by};
 ghost use Rattle.vd_space.specs.Reading.{named_by};
-ghost use Rattle.vd_space.specs.Validity.{protocols as all_protocols};
 
 use std::marker::Model;
-use vd_base::{HostId, Proto, SlotId, is_holder};
+use vd_base::{HostId, Proto, SlotId, is_holder, is_same, proto_of};
 use vd_core::{Right, Stmt};
-use vd_space::{Problem, protocol_at};
 
 /// A host, and where the slots of a program stand.
 #[derive(Drop)]
 pub struct Listener<'a> {
-    problem: &'a Problem,
     protocols: &'a [Proto],
-    places: &'a [u32],
     host: HostId,
 }
 
 impl<'a> Model for Listener<'a> {
-    ghost use Rattle.std.specs.Prelude.{◌≡◌};
     ghost use Rattle.vd_hearing.specs.Runs.{Hearer};
-    ghost use Rattle.vd_space.specs.Validity.{protocols as all_protocols};
 
     ghost Value = { Hearer };
 
-    ghost view = { λ x. record { problem = x.problem.now; list = x.places.now; host = x.host } };
-
-    ghost invariant = { λ x. x.protocols.now ≡ all_protocols x.problem.now };
+    ghost view = { λ x. record { protocols = x.protocols.now; host = x.host } };
 }
 
 impl<'a> Listener<'a> {
-    /// A host of a program, whose slots stand at these places of the list of protocols.
-    pub fn new(
-        problem: &'a Problem,
-        protocols: &'a [Proto],
-        places: &'a [u32],
-        host: HostId,
-    ) -> Listener<'a>
-        requires { protocols.now ≡ all_protocols problem.now }
-        ensures { result ≡ record { problem = problem.now; list = places.now; host = host } }
+    /// A host of a program, whose slots stand at these protocols.
+    pub fn new(protocols: &'a [Proto], host: HostId) -> Listener<'a>
+        ensures { result ≡ record { protocols = protocols.now; host = host } }
     {
-        Listener {
-            problem,
-            protocols,
-            places,
-            host,
-        }
+        Listener { protocols, host }
     }
 
     /// The host.
@@ -69,29 +50,29 @@ impl<'a> Listener<'a> {
         self.host == host
     }
 
-    /// The place of the slot's protocol in the list of protocols.
-    fn place(&self, slot: SlotId) -> u32
-        ensures { result ≡ slice_index self.now.list slot.0 }
+    /// The protocol of the slot.
+    fn protocol(&self, slot: SlotId) -> Proto
+        ensures { result ≡ proto_in self.now.protocols slot.0 }
     {
-        self.places.get(usize::from(slot.0)).copied().unwrap_or(0)
+        proto_of(self.protocols, slot)
     }
 
     /// Whether the host has in clear what stands at the slot.
     fn has_clear(&self, slot: SlotId) -> bool
-        ensures { result ≡ stands self.now.problem self.now.list self.now.host (is_clear_at self.now.host) slot }
+        ensures { result ≡ stands self.now.protocols self.now.host (is_clear_at self.now.host) slot }
     {
-        match self.places.get(usize::from(slot.0)) {
-            Some(place) => is_in_clear(protocol_at(self.protocols, *place), self.host),
+        match self.protocols.get(usize::from(slot.0)) {
+            Some(protocol) => is_in_clear(*protocol, self.host),
             None => false,
         }
     }
 
     /// Whether the slot stands at the host alone.
     fn is_alone(&self, slot: SlotId) -> bool
-        ensures { result ≡ stands self.now.problem self.now.list self.now.host (is_alone_at self.now.host) slot }
+        ensures { result ≡ stands self.now.protocols self.now.host (is_alone_at self.now.host) slot }
     {
-        match self.places.get(usize::from(slot.0)) {
-            Some(place) => is_only_at(protocol_at(self.protocols, *place), self.host),
+        match self.protocols.get(usize::from(slot.0)) {
+            Some(protocol) => is_only_at(*protocol, self.host),
             None => false,
         }
     }
@@ -100,36 +81,36 @@ impl<'a> Listener<'a> {
     fn holds(&self, slot: SlotId) -> bool
         ensures { result ≡ slot_held self.now slot }
     {
-        match self.places.get(usize::from(slot.0)) {
-            Some(place) => is_holder(protocol_at(self.protocols, *place), self.host),
+        match self.protocols.get(usize::from(slot.0)) {
+            Some(protocol) => is_holder(*protocol, self.host),
             None => false,
         }
     }
 
     /// Whether a word that is moved from the one slot to the other comes to the host.
     pub(crate) fn comes(&self, from: SlotId, onto: SlotId) -> bool
-        ensures { result ≡ comes self.now.problem self.now.list self.now.host from onto }
+        ensures { result ≡ comes self.now.protocols self.now.host from onto }
     {
-        self.has_clear(onto) && self.place(from) != self.place(onto)
+        self.has_clear(onto) && !is_same(self.protocol(from), self.protocol(onto))
     }
 
     /// Whether a word that is moved to the host itself comes to it.
     pub(crate) fn comes_alone(&self, from: SlotId) -> bool
-        ensures { result ≡ comes_alone self.now.problem self.now.list self.now.host from }
+        ensures { result ≡ comes_alone self.now.protocols self.now.host from }
     {
         !self.is_alone(from)
     }
 
     /// Whether the index of an array comes to the host.
     pub(crate) fn index_comes(&self, array: SlotId, index: SlotId) -> bool
-        ensures { result ≡ index_comes self.now.problem self.now.list self.now.host array index }
+        ensures { result ≡ index_comes self.now.protocols self.now.host array index }
     {
         self.holds(array) && self.comes_alone(index)
     }
 
     /// Whether the host takes part in the branches of a guard.
     pub(crate) fn is_part(&self, guard: SlotId, then_block: &[Stmt], else_block: &[Stmt]) -> bool
-        ensures { let x = self.now in result ≡ is_part x.problem x.list x.host guard (all_heard x then_block.now)
+        ensures { let x = self.now in result ≡ is_part x.protocols x.host guard (all_heard x then_block.now)
             (all_heard x else_block.now) }
     {
         self.is_told(then_block)

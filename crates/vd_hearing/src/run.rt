@@ -28,7 +28,7 @@ pub fn heard_words(
     inputs: &Inputs,
 ) -> Result<Words, AllocError>
     ensures { let x = listener.now in IfOk result (λ words. (l : Labels) →
-        words ≡ heard_in_order (map (heard x.problem x.list x.host l) program.now.body) 0 (start program.now inputs.now)) }
+        words ≡ heard_in_order (map (heard x.protocols x.host l) program.now.body) 0 (start program.now inputs.now)) }
 {
     let mut run = Run {
         alloc,
@@ -106,7 +106,7 @@ impl<'a> Run<'a> {
         onto: SlotId,
     ) -> Result<(), AllocError>
         ensures { let x = listener.now in OnOk result (self.new ≡ record self.old {
-          words = self.old.words ++ word_if (comes x.problem x.list x.host from onto) (word_at self.old.state from);
+          words = self.old.words ++ word_if (comes x.protocols x.host from onto) (word_at self.old.state from);
         }) }
     {
         let word = self.word(from);
@@ -121,7 +121,7 @@ impl<'a> Run<'a> {
         onto: SlotId,
     ) -> Result<(), AllocError>
         ensures { let x = listener.now in OnOk result (self.new ≡ record self.old {
-          words = self.old.words ++ map (word_at self.old.state) (filter (λ y. comes x.problem x.list x.host y onto) slots.now);
+          words = self.old.words ++ map (word_at self.old.state) (filter (λ y. comes x.protocols x.host y onto) slots.now);
         }) }
     {
         for slot in slots {
@@ -139,7 +139,7 @@ impl<'a> Run<'a> {
         onto: SlotId,
     ) -> Result<(), AllocError>
         ensures { let x = listener.now in OnOk result (self.new ≡ record self.old {
-          words = self.old.words ++ right_heard x.problem x.list x.host onto (Element array index) self.old.state;
+          words = self.old.words ++ right_heard x.protocols x.host onto (Element array index) self.old.state;
         }) }
     {
         let at = self.word(index);
@@ -156,7 +156,7 @@ impl<'a> Run<'a> {
         right: &Right,
     ) -> Result<(), AllocError>
         ensures { let x = listener.now in OnOk result (self.new ≡ record self.old {
-          words = self.old.words ++ right_heard x.problem x.list x.host onto right.now self.old.state;
+          words = self.old.words ++ right_heard x.protocols x.host onto right.now self.old.state;
         }) }
     {
         match right {

@@ -2,20 +2,19 @@
 use Rattle.std.proofs.Common.{◌≡◌, ℕ, zero, suc, ◌^◌, ◌<◌, ◌≤◌, List, [], ◌∷◌, inl, length, map, slice_index, slice_index_or, refl, sym, ap, ap₂, subst, ◌∙◌, arith}
 use Rattle.std.specs.List.{All, range_with_len}
 use Rattle.std.proofs.lemmas.List.Elements.{All-map}
-use mathlib.Core.Path.{fun_ext}
 use Rattle.vd_base.specs.declared.protocols.Proto.{Proto}
 use Rattle.vd_base.specs.declared.protocols.Proto.TheVariants.{Local}
 use Rattle.vd_base.specs.HostSets.{host}
 use Rattle.vd_base.specs.Protocols.{protocols_of}
 use Rattle.vd_base.specs.Holders.{proto_in}
+use Rattle.vd_base.specs.Words.{InputsAreWords}
 use Rattle.vd_core.specs.declared.normal.NormalForm.{NormalForm}
 use Rattle.vd_core.specs.Facts.{IsWellMade}
+use Rattle.vd_core.specs.Numbers.{NumbersFit}
 use Rattle.vd_constraints.specs.declared.labels.Labels.{Labels}
 use Rattle.vd_constraints.specs.Rules.{label}
-use Rattle.vd_space.specs.declared.problem.Problem.{Problem}
 use Rattle.vd_space.specs.Reading.{problem_of}
 use Rattle.vd_space.specs.Validity.{protocol}
-use Rattle.vd_space.proofs.Counted.{as_many}
 use Rattle.vd_execution.specs.declared.instructions.Instr.{Instr}
 use Rattle.vd_execution.specs.Code.{Finished}
 use Rattle.vd_execution.specs.Deals.{IsValidDeal}
@@ -24,16 +23,15 @@ use Rattle.vd_execution.specs.Text.{text, flat, pick}
 use Rattle.vd_execution.specs.World.{Tape, followed_by_zeros}
 use Rattle.vd_schedules.proofs.Picks.{picks}
 use Rattle.vd_schedules.proofs.Reading.{read_back, unbegun}
-use Rattle.vd_core.specs.Numbers.{NumbersFit}
 use Rattle.vd_suite.specs.Suite.{IsOver, AreGiven}
 use Rattle.vd_suite.specs.Given.{zero_deal}
 use Rattle.vd_suite.specs.Whole.{inputs_of, CanRun}
 use Rattle.vd_suite.proofs.Given.{listed_protocols_are_over, zero_deals_are_valid}
 use Rattle.vd_suite.proofs.Whole.{code_tells_the_same, code_runs_well}
-use Rattle.vd_whole.specs.Lists.{IsChosen, protos_of}
+use Rattle.vd_whole.specs.Assignments.{IsChosen}
 use Rattle.vd_whole.proofs.Chosen.{can_run}
 use Rattle.vd_ranges.proofs.Programs.{code_is_in_range}
-use Rattle.vd_host_programs.specs.Programs.{IsRunnable, AreOver, joint_of, host_codes, CodesCanBeLoaded, AreWords, CodesRunAsTold, CodesRunWell}
+use Rattle.vd_host_programs.specs.Programs.{IsRunnable, AreOver, joint_of, host_codes, CodesCanBeLoaded, CodesRunAsTold, CodesRunWell}
 
 or_default : {X : Type 0} (P : X → Type 0) (xs : List X) (d : X) → All P xs → P d → (k : ℕ) → P (slice_index_or xs k d)
 or_default P [] d a z k = z
@@ -68,41 +66,16 @@ runnable_over program protocols made is =
     subst (All (IsOver (length program.hosts))) (sym is.assignment.named)
     (All-map (IsOver (length program.hosts)) f is.assignment.places (λ k d lt. place_over program is.labels made (slice_index_or is.assignment.places k d)))
 
--- the protocol of a slot, by its place
-first_proto : (n : ℕ) → Local (host 0) ≡ slice_index_or (protocols_of n) 0 (Local (host 0))
-unfolding lib.Count.ones
-first_proto zero = refl
-first_proto (suc n) = refl
-
-placed_at : (problem : Problem) (places : List ℕ) (x : ℕ) → proto_in (map (protocol problem) places) x ≡ protocol problem (slice_index places x)
-placed_at problem [] x = first_proto (length problem.hosts)
-placed_at problem (p ∷ places) zero = refl
-placed_at problem (p ∷ places) (suc x) = placed_at problem places x
-
-placed : (problem : Problem) (places : List ℕ) → proto_in (map (protocol problem) places) ≡ protos_of problem places
-placed problem places = fun_ext (λ x. placed_at problem places x)
-
--- each is the protocol of the program's problem
-pub problem_protos : (problem : Problem) (protocols : List Proto) (places : List ℕ) → protocols ≡ map (protocol problem) places → proto_in protocols ≡ protos_of problem places
-problem_protos problem protocols places named = ap (λ (l : List Proto). let f : ℕ → Proto = proto_in l in f) named ∙ placed problem places
-
 pub no_words : (h i : ℕ) → slice_index (inputs_of [] h) i < 2 ^ 32
 no_words h i = omega arith
 
--- a valid assignment, by the places of its protocols
-pub chosen_of : (program : NormalForm) (protocols : List Proto) → IsWellMade program → NumbersFit program → (is : IsRunnable program protocols) → IsChosen program is.labels is.assignment.places
-chosen_of program protocols made numbers is = record {
-  made = made;
-  numbers = numbers;
-  whole = is.assignment.is_valid.whole ∙ as_many program is.labels made;
-  valid = is.assignment.is_valid.valid;
-}
+-- so it is chosen
+pub chosen_of : (program : NormalForm) (protocols : List Proto) → IsWellMade program → NumbersFit program → (is : IsRunnable program protocols) → IsChosen program is.labels protocols
+chosen_of program protocols made numbers is = record { made = made; numbers = numbers; assignment = is.assignment }
 
 module _ (program : NormalForm) (protocols : List Proto) (made : IsWellMade program) (numbers : NumbersFit program) (runnable : IsRunnable program protocols) where
-  pub program_can_run : (inputs : List (List ℕ)) → AreWords inputs → (t : Tape) → IsValidDeal t → AreGiven (inputs_of inputs) t → CanRun program (proto_in protocols) inputs t
-  program_can_run inputs words t deal given =
-      subst (λ (f : ℕ → Proto). CanRun program f inputs t) (sym (problem_protos (problem_of program runnable.labels) protocols runnable.assignment.places runnable.assignment.named))
-      (can_run program runnable.labels runnable.assignment.places (chosen_of program protocols made numbers runnable) inputs words t deal given)
+  pub program_can_run : (inputs : List (List ℕ)) → InputsAreWords inputs → (t : Tape) → IsValidDeal t → AreGiven (inputs_of inputs) t → CanRun program (proto_in protocols) inputs t
+  program_can_run inputs words t deal given = can_run program runnable.labels protocols (chosen_of program protocols made numbers runnable) inputs words t deal given
 
   pub joint_is_tidy : IsTidy (joint_of program protocols)
   joint_is_tidy =

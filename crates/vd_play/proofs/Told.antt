@@ -4,10 +4,10 @@ use Rattle.std.specs.Prelude.{if◌then◌else◌, slice_index_or}
 use Rattle.std.proofs.lemmas.Bool.{cases_lt}
 use Rattle.std.proofs.lemmas.List.FromFn.{get_or-map-range_with_len}
 use Rattle.vd_base.specs.declared.host_state.HostState.TheVariants as state
+use Rattle.vd_base.specs.Holders.{proto_in}
 use Rattle.vd_meaning.specs.ProgramMeaning.{program_outputs}
 use Rattle.vd_normal.specs.Normal.{normal_form}
 use Rattle.vd_normal.proofs.Kept.{outputs_kept}
-use Rattle.vd_space.specs.Reading.{problem_of}
 use Rattle.vd_execution.specs.declared.instructions.Action.{Action}
 use Rattle.vd_execution.specs.declared.instructions.Action.TheVariants as action
 use Rattle.vd_execution.specs.Registers.{Registers}
@@ -22,8 +22,7 @@ use Rattle.vd_schedules.proofs.Rounds.{all_stuck, run_ended, run_both}
 use Rattle.vd_report.specs.declared.schedule.Schedule.{Schedule}
 use Rattle.vd_suite.specs.Whole.{CanRun, RunsAsToldBy}
 use Rattle.vd_suite.proofs.Whole.{code_runs_well}
-use Rattle.vd_whole.specs.Lists.{protos_of}
-use Rattle.vd_whole.proofs.Chosen.{valid_lists_can_run, valid_lists_tell_the_same}
+use Rattle.vd_whole.proofs.Chosen.{assignments_can_run, assignments_tell_the_same}
 use Rattle.vd_play.specs.Supplies.{supply_of_files}
 use Rattle.vd_play.specs.Schedules.{numbers, replayed}
 use Rattle.vd_play.specs.Told.{HaveEnded, IsToldOf, TellsUnder, chosen_code, ProgramsTell, SourcesTell}
@@ -119,20 +118,20 @@ module _ (n : ℕ) (outputs : List (List ℕ)) (s : Supply) (j : Joint) (runs : 
 -- ---- programs and sources
 
 pub programs_tell : ProgramsTell
-programs_tell program labels list chosen inputs deals files count schedule =
+programs_tell program labels protocols chosen inputs deals files count schedule =
     let s = supply_of_files inputs deals in
     let t = followed_by_zeros s in
     let valid = files_are_valid inputs deals files in
-    let proto = protos_of (problem_of program labels) list in
-    let can : CanRun program proto inputs t = valid_lists_can_run program labels list chosen inputs files.words t valid.0 valid.1 in
-    let told : RunsAsToldBy program proto inputs t = valid_lists_tell_the_same program labels list chosen inputs files.words t valid.0 valid.1 in
+    let proto = proto_in protocols in
+    let can : CanRun program proto inputs t = assignments_can_run program labels protocols chosen inputs files.words t valid.0 valid.1 in
+    let told : RunsAsToldBy program proto inputs t = assignments_tell_the_same program labels protocols chosen inputs files.words t valid.0 valid.1 in
     let n = length program.hosts in
-    let last = last_of s (chosen_code program labels list) in
+    let last = last_of s (chosen_code program protocols) in
     let prints : (h : ℕ) → h < n → slice_index_or (program_outputs program inputs) h [] ≡ (last h).printed =
     λ h lt. ap (λ (outputs : List (List ℕ)). slice_index_or outputs h []) (sym told.prints) ∙ get_or-map-range_with_len (λ (k : ℕ). (last k).printed) 0 n h h [] lt (omega arith) in
-    tells_under n (program_outputs program inputs) s (chosen_code program labels list) (code_runs_well program proto inputs s can) told.hosts prints schedule
+    tells_under n (program_outputs program inputs) s (chosen_code program protocols) (code_runs_well program proto inputs s can) told.hosts prints schedule
 
 pub sources_tell : SourcesTell
-sources_tell source labels list chosen inputs deals files count schedule =
-    subst (λ (outputs : List (List ℕ)). TellsUnder (length (normal_form source).hosts) outputs (supply_of_files inputs deals) (chosen_code (normal_form source) labels list) schedule) (outputs_kept source inputs)
-    (programs_tell (normal_form source) labels list chosen inputs deals files count schedule)
+sources_tell source labels protocols chosen inputs deals files count schedule =
+    subst (λ (outputs : List (List ℕ)). TellsUnder (length (normal_form source).hosts) outputs (supply_of_files inputs deals) (chosen_code (normal_form source) protocols) schedule) (outputs_kept source inputs)
+    (programs_tell (normal_form source) labels protocols chosen inputs deals files count schedule)

@@ -1,13 +1,14 @@
 -- What holds of all hosts under any schedule: what they print is what the program tells.
 use Rattle.std.specs.Prelude.{◌≡◌, ◌⊎◌, ℕ, ◌<◌, true, List, [], length, slice_index_or}
 use Rattle.vd_base.specs.declared.host_state.HostState.TheVariants.{Ended}
+use Rattle.vd_base.specs.declared.protocols.Proto.{Proto}
+use Rattle.vd_base.specs.Holders.{proto_in}
 use Rattle.vd_core.specs.declared.normal.NormalForm.{NormalForm}
 use Rattle.vd_core.specs.declared.source.Source.{Source}
 use Rattle.vd_meaning.specs.ProgramMeaning.{program_outputs}
 use Rattle.vd_meaning.specs.SourceMeaning.{source_outputs}
 use Rattle.vd_normal.specs.Normal.{normal_form}
 use Rattle.vd_constraints.specs.declared.labels.Labels.{Labels}
-use Rattle.vd_space.specs.Reading.{problem_of}
 use Rattle.vd_deals.specs.declared.deal.Deal.{Deal}
 use Rattle.vd_execution.specs.World.{World, Supply, IsPrefixOf, HasNoFault, CanStep, IsShort, words_of}
 use Rattle.vd_execution.specs.Joint.{Joint, Hosts, started}
@@ -15,7 +16,7 @@ use Rattle.vd_execution.specs.States.{host_state}
 use Rattle.vd_schedules.specs.Claims.{Suffices, last_of}
 use Rattle.vd_report.specs.declared.schedule.Schedule.{Schedule}
 use Rattle.vd_suite.specs.Whole.{code_at}
-use Rattle.vd_whole.specs.Lists.{protos_of, IsChosen}
+use Rattle.vd_whole.specs.Assignments.{IsChosen}
 use Rattle.vd_play.specs.Supplies.{supply_of_files, AreFiles}
 use Rattle.vd_play.specs.Schedules.{replayed}
 
@@ -43,26 +44,26 @@ pub record TellsUnder (n : ℕ) (outputs : List (List ℕ)) (s : Supply) (j : Jo
   pub told : IsToldOf n outputs (last_of s j) s (replayed s n schedule (started j))
   pub ends : schedule.all ≡ true → Suffices s (last_of s j) → HaveEnded s n (replayed s n schedule (started j))
 
--- the joint code of a program at a list of protocols
-abbrev pub chosen_code : NormalForm → Labels → List ℕ → Joint
-chosen_code program labels list = code_at (protos_of (problem_of program labels) list) program
+-- the joint code of a program at these protocols
+abbrev pub chosen_code : NormalForm → List Proto → Joint
+chosen_code program protocols = code_at (proto_in protocols) program
 
 -- with these inputs and deals, under a schedule
-abbrev pub Tells : NormalForm → Labels → List ℕ → (outputs inputs : List (List ℕ)) → List Deal → Schedule → Type 0
-Tells program labels list outputs inputs deals schedule =
-    TellsUnder (length program.hosts) outputs (supply_of_files inputs deals) (chosen_code program labels list) schedule
+abbrev pub Tells : NormalForm → List Proto → (outputs inputs : List (List ℕ)) → List Deal → Schedule → Type 0
+Tells program protocols outputs inputs deals schedule =
+    TellsUnder (length program.hosts) outputs (supply_of_files inputs deals) (chosen_code program protocols) schedule
 
--- The joint code of every well-made program, at each valid list of protocols, with all inputs and every
+-- The joint code of every well-made program, at each valid assignment, with all inputs and every
 -- consistent deal, under every schedule.
 abbrev pub ProgramsTell : Type 0
 ProgramsTell =
-    (program : NormalForm) (labels : Labels) (list : List ℕ) → IsChosen program labels list
+    (program : NormalForm) (labels : Labels) (protocols : List Proto) → IsChosen program labels protocols
     → (inputs : List (List ℕ)) (deals : List Deal) → AreFiles inputs deals → length deals ≡ length program.hosts
-    → (schedule : Schedule) → Tells program labels list (program_outputs program inputs) inputs deals schedule
+    → (schedule : Schedule) → Tells program protocols (program_outputs program inputs) inputs deals schedule
 
 -- The same of every source, whose outputs are those of its let-normal form.
 abbrev pub SourcesTell : Type 0
 SourcesTell =
-    (source : Source) (labels : Labels) (list : List ℕ) → IsChosen (normal_form source) labels list
+    (source : Source) (labels : Labels) (protocols : List Proto) → IsChosen (normal_form source) labels protocols
     → (inputs : List (List ℕ)) (deals : List Deal) → AreFiles inputs deals → length deals ≡ length (normal_form source).hosts
-    → (schedule : Schedule) → Tells (normal_form source) labels list (source_outputs source inputs) inputs deals schedule
+    → (schedule : Schedule) → Tells (normal_form source) protocols (source_outputs source inputs) inputs deals schedule

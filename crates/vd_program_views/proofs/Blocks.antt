@@ -8,6 +8,7 @@ use Rattle.vd_base.specs.declared.ids.SlotId.{SlotId}
 use Rattle.vd_base.specs.declared.protocols.Proto.{Proto}
 use Rattle.vd_base.specs.declared.protocols.Proto.TheVariants.{Local}
 use Rattle.vd_base.specs.HostSets.{host, same_host}
+use Rattle.vd_base.specs.Holders.{proto_in}
 use Rattle.vd_core.specs.declared.normal.Right.{Right}
 use Rattle.vd_core.specs.declared.normal.Right.TheVariants.{Get}
 use Rattle.vd_core.specs.Facts.{Sight}
@@ -16,7 +17,6 @@ use Rattle.vd_constraints.specs.Scoped.{is_below, right_below, stmt_below}
 use Rattle.vd_meaning.specs.Turns.{turns}
 use Rattle.vd_meaning.specs.World.{after_output}
 use Rattle.vd_meaning.specs.ProgramMeaning.{SlotState, Effect, word_at, array_at, with_word, with_array, in_world, right_word, after_right, in_order, stmt_effect}
-use Rattle.vd_space.specs.declared.problem.Problem.{Problem}
 use Rattle.vd_execution.specs.World.{Tape}
 use Rattle.vd_execution.specs.Joint.{Part, Apart, TakesPart, Host, Hosts, is_other, turn_begun, turns as code_turns}
 use Rattle.vd_execution.specs.Gadgets.{Gadget}
@@ -43,7 +43,6 @@ use Rattle.vd_views.specs.Hiding.{GadgetKnows, GadgetsKnow}
 use Rattle.vd_views.specs.Plans.{NoGuard, run_turn, PlanKnows, PlanChooses}
 use Rattle.vd_views.proofs.Blocks.{takes_or_not, begun_alike}
 use Rattle.vd_assigned_dependence.specs.Hearing.{Heard, run_of, word_if, comes, comes_alone, index_comes, is_part, heard_in_order, heard_in_turns, heard_step, right_heard}
-use Rattle.vd_told.specs.Telling.{placed_by}
 use Rattle.vd_told.proofs.Takers.{below, runs_each, part_is}
 use Rattle.vd_call_views.specs.Sides.{AreKin, Both, after, Telling}
 use Rattle.vd_call_views.proofs.Sides.{both_all, telling_quiet, telling_on}
@@ -135,11 +134,11 @@ opposite false p q = cc
 
 -- ---- two runs
 
-module _ (h : HostId) (few : h.0 < 8) (two : h.0 < 2) (t u : Tape) (kin : AreKin h.0 t u) (inputs others : ℕ → List ℕ) (hosts : ℕ) (known : h.0 < hosts) (problem : Problem) (list : List ℕ) (l : Labels)
+module _ (h : HostId) (few : h.0 < 8) (two : h.0 < 2) (t u : Tape) (kin : AreKin h.0 t u) (inputs others : ℕ → List ℕ) (hosts : ℕ) (known : h.0 < hosts) (protocols : List Proto) (l : Labels)
     (laws : Laws (machine t inputs) (suite t inputs hosts)) (laws' : Laws (machine u others) (suite u others hosts))
-    (over : (x : ℕ) → IsOver hosts (placed_by problem list x)) (free : (x : ℕ) → has_back_end (placed_by problem list x) ≡ true) where
+    (over : (x : ℕ) → IsOver hosts (proto_in protocols x)) (free : (x : ℕ) → has_back_end (proto_in protocols x) ≡ true) where
   abbrev pub proto : ℕ → Proto
-  proto = placed_by problem list
+  proto = proto_in protocols
 
   abbrev pub m : AnyHosts
   m = machine t inputs
@@ -160,10 +159,10 @@ module _ (h : HostId) (few : h.0 < 8) (two : h.0 < 2) (t u : Tape) (kin : AreKin
   emits b = in_turn (suite_calls hosts) proto (each (stmt_emission (suite_calls hosts) proto) b)
 
   abbrev pub heards : Block → List Heard
-  heards b = each (heard_step problem list h l) b
+  heards b = each (heard_step protocols h l) b
 
   abbrev pub low_block : Block → Bool
-  low_block b = list_all (λ x. x) (each (stmt_below (length list)) b)
+  low_block b = list_all (λ x. x) (each (stmt_below (length protocols)) b)
 
   abbrev pub Ends' : Plan Gadget → Hosts → Hosts → List ℕ → List ℕ → Type 0
   Ends' plan w v xs ys = Concluded h.0 t u plan w v xs ys
@@ -281,15 +280,15 @@ module _ (h : HostId) (few : h.0 < 8) (two : h.0 < 2) (t u : Tape) (kin : AreKin
         (turns_at n s' proto tb) (turns_at n s' proto eb) comes1' comes2' x sees_x reaches' (both_idle n s' proto laws' over tb eb) e v d turn has is fit1.needs_too fit2.needs_too small st.second st.second_turn
 
     -- the guard is told to h where it takes part
-    guard_tells : ((is_part problem list h x (heards tb) (heards eb) && comes_alone problem list h x) ≡ true → word_at c x ≡ word_at d x) → Tells guard.acts w v
+    guard_tells : ((is_part protocols h x (heards tb) (heards eb) && comes_alone protocols h x) ≡ true → word_at c x ≡ word_at d x) → Tells guard.acts w v
     guard_tells agrees =
-        delivered_tells h few t u kin inputs others hosts problem list laws laws' over free (proto x.0) (free x.0) (over x.0) (part m s proto e.held x.0) (word_at c x) (word_at d x) ks
+        delivered_tells h few t u kin inputs others hosts protocols laws laws' over free (proto x.0) (free x.0) (over x.0) (part m s proto e.held x.0) (word_at c x) (word_at d x) ks
         (picked_join m s laws proto (proto x.0) test 0 hosts (λ g lt i. reaches g (within lt) i) (omega arith)) e.next w v st.first.ready st.second.ready
         (operand_of m s proto laws over o e.next e.held w c st.first x.0 sees_x) (operand_of n s' proto laws' over o e.next e.held v d st.second x.0 sees_x)
         (λ same among.
-        same_alone h few t u kin inputs others hosts problem list laws laws' over free x (part m s proto e.held x.0) w v (word_at c x) (word_at d x) same (st.first.stands Binding x.0 sees_x) (st.second.stands Binding x.0 sees_x)
-        (when_both (is_part problem list h x (heards tb) (heards eb)) (comes_alone problem list h x)
-        (part_is problem list h l (suite_calls hosts) x tb eb fit1.low fit2.low ∙ picked_passes test 0 hosts h.0 among) agrees))
+        same_alone h few t u kin inputs others hosts protocols laws laws' over free x (part m s proto e.held x.0) w v (word_at c x) (word_at d x) same (st.first.stands Binding x.0 sees_x) (st.second.stands Binding x.0 sees_x)
+        (when_both (is_part protocols h x (heards tb) (heards eb)) (comes_alone protocols h x)
+        (part_is protocols h l (suite_calls hosts) x tb eb fit1.low fit2.low ∙ picked_passes test 0 hosts h.0 among) agrees))
       where
         within : {g : ℕ} → g < 0 + hosts → g < hosts
         within lt = omega arith
@@ -332,8 +331,8 @@ module _ (h : HostId) (few : h.0 < 8) (two : h.0 < 2) (t u : Tape) (kin : AreKin
               }
 
       quiet_block : (b : Bool) (z : SlotState) → test h.0 ≡ false → heard_in_order (if b then heards eb else heards tb) turn z ≡ []
-      quiet_block true z off = silent problem list h l hosts eb fit2.low (or_none_right _ _ off) turn z
-      quiet_block false z off = silent problem list h l hosts tb fit1.low (or_none_left _ _ off) turn z
+      quiet_block true z off = silent protocols h l hosts eb fit2.low (or_none_right _ _ off) turn z
+      quiet_block false z off = silent protocols h l hosts tb fit1.low (or_none_left _ _ off) turn z
 
       -- it takes none: nothing comes to it
       absent : test h.0 ≡ false → Ends' (Branch guard.given first_tree other_tree Ends) w1 v1 xs ys
@@ -350,11 +349,11 @@ module _ (h : HostId) (few : h.0 < 8) (two : h.0 < 2) (t u : Tape) (kin : AreKin
       inside false off = absent off
 
     pub branch_ends : Static whole → Hides h.0 t u whole w v → (xs ys : List ℕ)
-        → (word_if (is_part problem list h x (heards tb) (heards eb) && comes_alone problem list h x) (word_at c x) ++ heard_in_order (if nat_eq (word_at c x) 0 then heards eb else heards tb) turn c) ++ xs
-        ≡ (word_if (is_part problem list h x (heards tb) (heards eb) && comes_alone problem list h x) (word_at d x) ++ heard_in_order (if nat_eq (word_at d x) 0 then heards eb else heards tb) turn d) ++ ys
+        → (word_if (is_part protocols h x (heards tb) (heards eb) && comes_alone protocols h x) (word_at c x) ++ heard_in_order (if nat_eq (word_at c x) 0 then heards eb else heards tb) turn c) ++ xs
+        ≡ (word_if (is_part protocols h x (heards tb) (heards eb) && comes_alone protocols h x) (word_at d x) ++ heard_in_order (if nat_eq (word_at d x) 0 then heards eb else heards tb) turn d) ++ ys
         → Ends' whole w v xs ys
     branch_ends static hides xs ys words =
-        let part_of : Bool = is_part problem list h x (heards tb) (heards eb) && comes_alone problem list h x in
+        let part_of : Bool = is_part protocols h x (heards tb) (heards eb) && comes_alone protocols h x in
         let c_words : List ℕ = heard_in_order (if nat_eq (word_at c x) 0 then heards eb else heards tb) turn c in
         let d_words : List ℕ = heard_in_order (if nat_eq (word_at d x) 0 then heards eb else heards tb) turn d in
         let off = one_off part_of (word_at c x) (word_at d x) (c_words ++ xs) (d_words ++ ys) (regroup (word_if part_of (word_at c x)) c_words (word_if part_of (word_at d x)) d_words xs ys words) in
@@ -458,8 +457,8 @@ module _ (h : HostId) (few : h.0 < 8) (two : h.0 < 2) (t u : Tape) (kin : AreKin
           let lt : i < count = omega (arith, le) in
           let small : i < 2 ^ 32 = omega (arith, lt, few_turns) in
           let st = begins i small before.0.both static apart in
-          let same_c : c_words ≡ heard_in_order (heards body) i (clear1 i) = ap (λ (fs : List Effect). heard_in_order (heards body) i (turns i (in_order fs) c)) (runs_each problem list h l body) in
-          let same_d : d_words ≡ heard_in_order (heards body) i (clear2 i) = ap (λ (fs : List Effect). heard_in_order (heards body) i (turns i (in_order fs) d)) (runs_each problem list h l body) in
+          let same_c : c_words ≡ heard_in_order (heards body) i (clear1 i) = ap (λ (fs : List Effect). heard_in_order (heards body) i (turns i (in_order fs) c)) (runs_each protocols h l body) in
+          let same_d : d_words ≡ heard_in_order (heards body) i (clear2 i) = ap (λ (fs : List Effect). heard_in_order (heards body) i (turns i (in_order fs) d)) (runs_each protocols h l body) in
           let one = f1 o k (emits body).acts_at fit inner (begun1 i) (begun2 i) (clear1 i) (clear2 i) i is small st static (hidden i lt) xs ys
           (ap (λ (z : List ℕ). z ++ xs) (sym same_c) ∙ before.1 ∙ ap (λ (z : List ℕ). z ++ ys) same_d) in
           let a1 = comes_body inner (begun1 i) (clear1 i) i (emits body).acts_at is fit.needs small st.first st.first_turn in
@@ -514,21 +513,21 @@ module _ (h : HostId) (few : h.0 < 8) (two : h.0 < 2) (t u : Tape) (kin : AreKin
 
   -- ---- all statements
 
-  array_below : (right : Right) → right_below (length list) right ≡ true → (a i : SlotId) → right ≡ Get a i → a.0 < length list
-  array_below right low a i e = below (length list) a (and_left (is_below (length list) a) (is_below (length list) i) (subst (λ (r : Right). right_below (length list) r ≡ true) e low))
+  array_below : (right : Right) → right_below (length protocols) right ≡ true → (a i : SlotId) → right ≡ Get a i → a.0 < length protocols
+  array_below right low a i e = below (length protocols) a (and_left (is_below (length protocols) a) (is_below (length protocols) i) (subst (λ (r : Right). right_below (length protocols) r ≡ true) e low))
 
   pub follows : (b : Block) → Follows b
   follows End o k has fit e w v c d turn is small st static hides xs ys words = record { knows = tt; chooses = tt; rest = words }
   follows (Let x right rest) o k has fit e w v c d turn is small st static hides xs ys words =
-      let here = and_left (is_below (length list) x && right_below (length list) right) (low_block rest) fit.low in
+      let here = and_left (is_below (length protocols) x && right_below (length protocols) right) (low_block rest) fit.low in
       let sees_right = and_left _ _ fit.seen in
       let made = right_made (suite_calls hosts) proto (proto x.0) right e in
       let c1 = with_word x (right_word right turn c) (in_world (after_right right c.world) c) in
       let d1 = with_word x (right_word right turn d) (in_world (after_right right d.world) d) in
       let a1 = let_after m s proto laws over o e w c turn has x right st.first (fit.row.0 ∙ sym is) sees_right fit.fits.0 fit.placed.0 small (λ i g p. fit.needs g (turn_here m s proto laws over x right rest g i p)) st.first_turn in
       let a2 = let_after n s' proto laws' over o e v d turn has x right st.second (fit.row.0 ∙ sym is) sees_right fit.fits.0 fit.placed_too.0 small (λ i g p. fit.needs_too g (turn_here n s' proto laws' over x right rest g i p)) st.second_turn in
-      let off = right_off problem list h x right c d (heard_in_order (heards rest) turn c1 ++ xs) (heard_in_order (heards rest) turn d1 ++ ys)
-      (regroup (right_heard problem list h x right c) (heard_in_order (heards rest) turn c1) (right_heard problem list h x right d) (heard_in_order (heards rest) turn d1) xs ys words) in
+      let off = right_off protocols h x right c d (heard_in_order (heards rest) turn c1 ++ xs) (heard_in_order (heards rest) turn d1 ++ ys)
+      (regroup (right_heard protocols h x right c) (heard_in_order (heards rest) turn c1) (right_heard protocols h x right d) (heard_in_order (heards rest) turn d1) xs ys words) in
       go_on rest (follows rest) o (with_use Binding x.0 o) e (with_parts (suite_calls hosts) proto made e) 1 k has
       (record {
         row = fit.row.1;
@@ -536,17 +535,17 @@ module _ (h : HostId) (few : h.0 < 8) (two : h.0 < 2) (t u : Tape) (kin : AreKin
         fits = fit.fits.1;
         placed = fit.placed.1;
         placed_too = fit.placed_too.1;
-        low = and_right (is_below (length list) x && right_below (length list) right) (low_block rest) fit.low;
+        low = and_right (is_below (length protocols) x && right_below (length protocols) right) (low_block rest) fit.low;
         needs = λ g p. fit.needs g (turn_later m s proto laws over x right rest g p);
         needs_too = λ g p. fit.needs_too g (turn_later n s' proto laws' over x right rest g p);
       })
       w v c d c1 d1 turn is small st a1 a2 static hides xs ys
       (λ alone some.
       acts_concluded h.0 two t u kin inputs others made.acts w v (heard_in_order (heards rest) turn c1 ++ xs) (heard_in_order (heards rest) turn d1 ++ ys) alone st.both some
-      (right_tells h few t u kin inputs others hosts problem list laws laws' over free o e w v c d st.first st.second x right (below (length list) x (and_left (is_below (length list) x) (right_below (length list) right) here)) sees_right fit.placed.0
-      (array_below right (and_right (is_below (length list) x) (right_below (length list) right) here)) off.0) off.1)
+      (right_tells h few t u kin inputs others hosts protocols laws laws' over free o e w v c d st.first st.second x right (below (length protocols) x (and_left (is_below (length protocols) x) (right_below (length protocols) right) here)) sees_right fit.placed.0
+      (array_below right (and_right (is_below (length protocols) x) (right_below (length protocols) right) here)) off.0) off.1)
   follows (NewVar a y rest) o k has fit e w v c d turn is small st static hides xs ys words =
-      let here = and_left (is_below (length list) a && is_below (length list) y) (low_block rest) fit.low in
+      let here = and_left (is_below (length protocols) a && is_below (length protocols) y) (low_block rest) fit.low in
       let sees_y = and_left _ _ fit.seen in
       let moved = (suite_calls hosts).move (proto y.0) (proto a.0) (part m s proto e.held y.0) e.next in
       let kept = (suite_calls hosts).keep (proto a.0) moved.given moved.next in
@@ -554,8 +553,8 @@ module _ (h : HostId) (few : h.0 < 8) (two : h.0 < 2) (t u : Tape) (kin : AreKin
       let d1 = with_word a (word_at d y) d in
       let a1 = var_after m s proto laws over o e w c a y st.first (fit.row.0 ∙ sym is) sees_y fit.placed.0 fit.placed.1 in
       let a2 = var_after n s' proto laws' over o e v d a y st.second (fit.row.0 ∙ sym is) sees_y fit.placed_too.0 fit.placed_too.1 in
-      let off = one_off (comes problem list h y a) (word_at c y) (word_at d y) (heard_in_order (heards rest) turn c1 ++ xs) (heard_in_order (heards rest) turn d1 ++ ys)
-      (regroup (word_if (comes problem list h y a) (word_at c y)) (heard_in_order (heards rest) turn c1) (word_if (comes problem list h y a) (word_at d y)) (heard_in_order (heards rest) turn d1) xs ys words) in
+      let off = one_off (comes protocols h y a) (word_at c y) (word_at d y) (heard_in_order (heards rest) turn c1 ++ xs) (heard_in_order (heards rest) turn d1 ++ ys)
+      (regroup (word_if (comes protocols h y a) (word_at c y)) (heard_in_order (heards rest) turn c1) (word_if (comes protocols h y a) (word_at d y)) (heard_in_order (heards rest) turn d1) xs ys words) in
       go_on rest (follows rest) o (with_use Variable a.0 o) e (with_parts (suite_calls hosts) proto (record { given = kept.given; acts = moved.acts ++ kept.acts; next = kept.next }) e) 1 k has
       (record {
         row = fit.row.1;
@@ -563,7 +562,7 @@ module _ (h : HostId) (few : h.0 < 8) (two : h.0 < 2) (t u : Tape) (kin : AreKin
         fits = fit.fits;
         placed = fit.placed.2;
         placed_too = fit.placed_too.2;
-        low = and_right (is_below (length list) a && is_below (length list) y) (low_block rest) fit.low;
+        low = and_right (is_below (length protocols) a && is_below (length protocols) y) (low_block rest) fit.low;
         needs = fit.needs;
         needs_too = fit.needs_too;
       })
@@ -571,7 +570,7 @@ module _ (h : HostId) (few : h.0 < 8) (two : h.0 < 2) (t u : Tape) (kin : AreKin
       (λ alone some.
       acts_concluded h.0 two t u kin inputs others (moved.acts ++ kept.acts) w v (heard_in_order (heards rest) turn c1 ++ xs) (heard_in_order (heards rest) turn d1 ++ ys) alone st.both some
       (telling_on h.0 t u kin moved.acts kept.acts w v (after t moved.acts w) (after u moved.acts v) refl refl
-      (word_tells h few t u kin inputs others hosts problem list laws laws' over free o e w v c d st.first st.second y a (below (length list) a (and_left (is_below (length list) a) (is_below (length list) y) here)) sees_y fit.placed.1 off.0)
+      (word_tells h few t u kin inputs others hosts protocols laws laws' over free o e w v c d st.first st.second y a (below (length protocols) a (and_left (is_below (length protocols) a) (is_below (length protocols) y) here)) sees_y fit.placed.1 off.0)
       (telling_quiet h.0 t u kin kept.acts (after t moved.acts w) (after u moved.acts v) (keep_quiet (proto a.0) moved.given.at moved.next))) off.1)
   follows (NewArray a size rest) o k has fit e w v c d turn is small st static hides xs ys words =
       let made = (suite_calls hosts).cells (proto a.0) size e.next in
@@ -595,7 +594,7 @@ module _ (h : HostId) (few : h.0 < 8) (two : h.0 < 2) (t u : Tape) (kin : AreKin
       acts_concluded h.0 two t u kin inputs others made.acts w v (heard_in_order (heards rest) turn c1 ++ xs) (heard_in_order (heards rest) turn d1 ++ ys) alone st.both some
       (telling_quiet h.0 t u kin made.acts w v (cells_quiet (proto a.0) size e.next)) words)
   follows (Store a y rest) o k has fit e w v c d turn is small st static hides xs ys words =
-      let here = and_left (is_below (length list) a && is_below (length list) y) (low_block rest) fit.low in
+      let here = and_left (is_below (length protocols) a && is_below (length protocols) y) (low_block rest) fit.low in
       let seen_here = and_left _ _ fit.seen in
       let moved = (suite_calls hosts).move (proto y.0) (proto a.0) (part m s proto e.held y.0) e.next in
       let acts = (suite_calls hosts).renew (proto a.0) (part m s proto e.held a.0) moved.given in
@@ -603,8 +602,8 @@ module _ (h : HostId) (few : h.0 < 8) (two : h.0 < 2) (t u : Tape) (kin : AreKin
       let d1 = with_word a (word_at d y) d in
       let a1 = store_after m s proto laws over o e w c a y st.first (and_left _ _ seen_here) (and_right _ _ seen_here) fit.placed.0 fit.placed.1 in
       let a2 = store_after n s' proto laws' over o e v d a y st.second (and_left _ _ seen_here) (and_right _ _ seen_here) fit.placed_too.0 fit.placed_too.1 in
-      let off = one_off (comes problem list h y a) (word_at c y) (word_at d y) (heard_in_order (heards rest) turn c1 ++ xs) (heard_in_order (heards rest) turn d1 ++ ys)
-      (regroup (word_if (comes problem list h y a) (word_at c y)) (heard_in_order (heards rest) turn c1) (word_if (comes problem list h y a) (word_at d y)) (heard_in_order (heards rest) turn d1) xs ys words) in
+      let off = one_off (comes protocols h y a) (word_at c y) (word_at d y) (heard_in_order (heards rest) turn c1 ++ xs) (heard_in_order (heards rest) turn d1 ++ ys)
+      (regroup (word_if (comes protocols h y a) (word_at c y)) (heard_in_order (heards rest) turn c1) (word_if (comes protocols h y a) (word_at d y)) (heard_in_order (heards rest) turn d1) xs ys words) in
       go_on rest (follows rest) o o e (store_made (suite_calls hosts) proto a y e) 0 k has
       (record {
         row = no_slots m s proto laws over k _ fit.row;
@@ -612,7 +611,7 @@ module _ (h : HostId) (few : h.0 < 8) (two : h.0 < 2) (t u : Tape) (kin : AreKin
         fits = fit.fits;
         placed = fit.placed.2;
         placed_too = fit.placed_too.2;
-        low = and_right (is_below (length list) a && is_below (length list) y) (low_block rest) fit.low;
+        low = and_right (is_below (length protocols) a && is_below (length protocols) y) (low_block rest) fit.low;
         needs = fit.needs;
         needs_too = fit.needs_too;
       })
@@ -620,11 +619,11 @@ module _ (h : HostId) (few : h.0 < 8) (two : h.0 < 2) (t u : Tape) (kin : AreKin
       (λ alone some.
       acts_concluded h.0 two t u kin inputs others (moved.acts ++ acts) w v (heard_in_order (heards rest) turn c1 ++ xs) (heard_in_order (heards rest) turn d1 ++ ys) alone st.both some
       (telling_on h.0 t u kin moved.acts acts w v (after t moved.acts w) (after u moved.acts v) refl refl
-      (word_tells h few t u kin inputs others hosts problem list laws laws' over free o e w v c d st.first st.second y a (below (length list) a (and_left (is_below (length list) a) (is_below (length list) y) here)) (and_right _ _ seen_here) fit.placed.1 off.0)
+      (word_tells h few t u kin inputs others hosts protocols laws laws' over free o e w v c d st.first st.second y a (below (length protocols) a (and_left (is_below (length protocols) a) (is_below (length protocols) y) here)) (and_right _ _ seen_here) fit.placed.1 off.0)
       (telling_quiet h.0 t u kin acts (after t moved.acts w) (after u moved.acts v) (renew_quiet (proto a.0) (part m s proto e.held a.0).at moved.given.at))) off.1)
   follows (Put a i y rest) o k has fit e w v c d turn is small st static hides xs ys words =
       let here = and_left _ _ fit.low in
-      let below_a = below (length list) a (and_left _ _ (and_left _ _ here)) in
+      let below_a = below (length protocols) a (and_left _ _ (and_left _ _ here)) in
       let seen_here = and_left _ _ fit.seen in
       let sees_a = and_left _ _ (and_left _ _ seen_here) in
       let sees_i = and_right _ _ (and_left _ _ seen_here) in
@@ -640,14 +639,14 @@ module _ (h : HostId) (few : h.0 < 8) (two : h.0 < 2) (t u : Tape) (kin : AreKin
       let b2 = (index_reached n s' proto laws' over o e.next e.held v d st.second a i sees_i fit.placed_too.2).between in
       let t1 = tied_past m s proto laws o e.next index.next e.held w b1.reached c index.acts st.first b1.leads b1.quiet b1.known b1.longer in
       let t2 = tied_past n s' proto laws' o e.next index.next e.held v b2.reached d index.acts st.second b2.leads b2.quiet b2.known b2.longer in
-      let ic = word_if (index_comes problem list h a i) (word_at c i) in
-      let id = word_if (index_comes problem list h a i) (word_at d i) in
-      let wc = word_if (comes problem list h y a) (word_at c y) in
-      let wd = word_if (comes problem list h y a) (word_at d y) in
+      let ic = word_if (index_comes protocols h a i) (word_at c i) in
+      let id = word_if (index_comes protocols h a i) (word_at d i) in
+      let wc = word_if (comes protocols h y a) (word_at c y) in
+      let wd = word_if (comes protocols h y a) (word_at d y) in
       let rc = heard_in_order (heards rest) turn c1 in
       let rd = heard_in_order (heards rest) turn d1 in
-      let first = one_off (index_comes problem list h a i) (word_at c i) (word_at d i) (wc ++ (rc ++ xs)) (wd ++ (rd ++ ys)) (regroup ic wc id wd (rc ++ xs) (rd ++ ys) (regroup (ic ++ wc) rc (id ++ wd) rd xs ys words)) in
-      let off = one_off (comes problem list h y a) (word_at c y) (word_at d y) (rc ++ xs) (rd ++ ys) first.1 in
+      let first = one_off (index_comes protocols h a i) (word_at c i) (word_at d i) (wc ++ (rc ++ xs)) (wd ++ (rd ++ ys)) (regroup ic wc id wd (rc ++ xs) (rd ++ ys) (regroup (ic ++ wc) rc (id ++ wd) rd xs ys words)) in
+      let off = one_off (comes protocols h y a) (word_at c y) (word_at d y) (rc ++ xs) (rd ++ ys) first.1 in
       go_on rest (follows rest) o o e (put_made (suite_calls hosts) proto a i y e) 0 k has
       (record {
         row = no_slots m s proto laws over k _ fit.row;
@@ -664,8 +663,8 @@ module _ (h : HostId) (few : h.0 < 8) (two : h.0 < 2) (t u : Tape) (kin : AreKin
       acts_concluded h.0 two t u kin inputs others ((index.acts ++ moved.acts) ++ acts) w v (rc ++ xs) (rd ++ ys) alone st.both some
       (telling_on h.0 t u kin (index.acts ++ moved.acts) acts w v (after t (index.acts ++ moved.acts) w) (after u (index.acts ++ moved.acts) v) refl refl
       (telling_on h.0 t u kin index.acts moved.acts w v b1.reached b2.reached (same_run t inputs index.acts w ∙ b1.leads.runs) (same_run u others index.acts v ∙ b2.leads.runs)
-      (index_tells h few t u kin inputs others hosts problem list laws laws' over free o e w v c d st.first st.second a i below_a sees_i fit.placed.2 first.0)
-      (word_tells h few t u kin inputs others hosts problem list laws laws' over free o (record { next = index.next; held = e.held; loop = e.loop }) b1.reached b2.reached c d t1 t2 y a below_a sees_y fit.placed.1 off.0))
+      (index_tells h few t u kin inputs others hosts protocols laws laws' over free o e w v c d st.first st.second a i below_a sees_i fit.placed.2 first.0)
+      (word_tells h few t u kin inputs others hosts protocols laws laws' over free o (record { next = index.next; held = e.held; loop = e.loop }) b1.reached b2.reached c d t1 t2 y a below_a sees_y fit.placed.1 off.0))
       (telling_quiet h.0 t u kin acts (after t (index.acts ++ moved.acts) w) (after u (index.acts ++ moved.acts) v) (put_quiet (proto a.0) (part m s proto e.held a.0) index.given moved.given.at))) off.1)
   follows (Output y g offset rest) o k has fit e w v c d turn is small st static hides xs ys words =
       let sees_y = and_left _ _ fit.seen in
@@ -675,7 +674,7 @@ module _ (h : HostId) (few : h.0 < 8) (two : h.0 < 2) (t u : Tape) (kin : AreKin
       let d1 = in_world (after_output d.world g.0 (word_at d y)) d in
       let a1 = output_after m s proto laws over o e w c y g st.first sees_y fit.fits.0 fit.placed.0 in
       let a2 = output_after n s' proto laws' over o e v d y g st.second sees_y fit.fits.0 fit.placed_too.0 in
-      let test : Bool = same_host h g && comes_alone problem list h y in
+      let test : Bool = same_host h g && comes_alone protocols h y in
       let off = one_off test (word_at c y) (word_at d y) (heard_in_order (heards rest) turn c1 ++ xs) (heard_in_order (heards rest) turn d1 ++ ys)
       (regroup (word_if test (word_at c y)) (heard_in_order (heards rest) turn c1) (word_if test (word_at d y)) (heard_in_order (heards rest) turn d1) xs ys words) in
       go_on rest (follows rest) o o e (output_made (suite_calls hosts) proto y g e) 0 k has
@@ -693,10 +692,10 @@ module _ (h : HostId) (few : h.0 < 8) (two : h.0 < 2) (t u : Tape) (kin : AreKin
       (λ alone some.
       acts_concluded h.0 two t u kin inputs others (moved.acts ++ acts) w v (heard_in_order (heards rest) turn c1 ++ xs) (heard_in_order (heards rest) turn d1 ++ ys) alone st.both some
       (telling_on h.0 t u kin moved.acts acts w v (after t moved.acts w) (after u moved.acts v) refl refl
-      (moved_tells h few t u kin inputs others hosts problem list laws laws' over free o e.next e.held w v c d st.first st.second y sees_y (Local g) refl fit.placed.0
+      (moved_tells h few t u kin inputs others hosts protocols laws laws' over free o e.next e.held w v c d st.first st.second y sees_y (Local g) refl fit.placed.0
       (λ same own.
-      same_alone h few t u kin inputs others hosts problem list laws laws' over free y (part m s proto e.held y.0) w v (word_at c y) (word_at d y) same (st.first.stands Binding y.0 sees_y) (st.second.stands Binding y.0 sees_y)
-      (when_both (same_host h g) (comes_alone problem list h y) (eq-eqb h.0 g.0 own) off.0)))
+      same_alone h few t u kin inputs others hosts protocols laws laws' over free y (part m s proto e.held y.0) w v (word_at c y) (word_at d y) same (st.first.stands Binding y.0 sees_y) (st.second.stands Binding y.0 sees_y)
+      (when_both (same_host h g) (comes_alone protocols h y) (eq-eqb h.0 g.0 own) off.0)))
       (telling_quiet h.0 t u kin acts (after t moved.acts w) (after u moved.acts v) (output_quiet g moved.given.at))) off.1)
   follows (If x tb eb offset rest) o k has fit e w v c d turn is small st static hides xs ys words =
       let seen_here = and_left _ _ fit.seen in
@@ -728,10 +727,10 @@ module _ (h : HostId) (few : h.0 < 8) (two : h.0 < 2) (t u : Tape) (kin : AreKin
       let d1 = in_order (if nat_eq (word_at d x) 0 then each stmt_effect eb else each stmt_effect tb) turn d in
       let a1 = after_first tb eb (follows tb) (follows eb) x o k has fit1 fit2 sees_x fit.placed.0 fit.placed_too.0 e w v c d turn is small st in
       let a2 = after_second tb eb (follows tb) (follows eb) x o k has fit1 fit2 sees_x fit.placed.0 fit.placed_too.0 e w v c d turn is small st in
-      let test : Bool = is_part problem list h x (heards tb) (heards eb) && comes_alone problem list h x in
+      let test : Bool = is_part protocols h x (heards tb) (heards eb) && comes_alone protocols h x in
       let rest_of : SlotState → List Effect → List Effect → List ℕ = λ z gs fs. heard_in_order (heards rest) turn (in_order (if nat_eq (word_at z x) 0 then fs else gs) turn z) in
-      let same_c : rest_of c (map run_of (heards tb)) (map run_of (heards eb)) ≡ heard_in_order (heards rest) turn c1 = ap₂ (λ (gs fs : List Effect). rest_of c gs fs) (runs_each problem list h l tb) (runs_each problem list h l eb) in
-      let same_d : rest_of d (map run_of (heards tb)) (map run_of (heards eb)) ≡ heard_in_order (heards rest) turn d1 = ap₂ (λ (gs fs : List Effect). rest_of d gs fs) (runs_each problem list h l tb) (runs_each problem list h l eb) in
+      let same_c : rest_of c (map run_of (heards tb)) (map run_of (heards eb)) ≡ heard_in_order (heards rest) turn c1 = ap₂ (λ (gs fs : List Effect). rest_of c gs fs) (runs_each protocols h l tb) (runs_each protocols h l eb) in
+      let same_d : rest_of d (map run_of (heards tb)) (map run_of (heards eb)) ≡ heard_in_order (heards rest) turn d1 = ap₂ (λ (gs fs : List Effect). rest_of d gs fs) (runs_each protocols h l tb) (runs_each protocols h l eb) in
       let of_c : List ℕ = word_if test (word_at c x) ++ heard_in_order (if nat_eq (word_at c x) 0 then heards eb else heards tb) turn c in
       let of_d : List ℕ = word_if test (word_at d x) ++ heard_in_order (if nat_eq (word_at d x) 0 then heards eb else heards tb) turn d in
       let agree : of_c ++ (heard_in_order (heards rest) turn c1 ++ xs) ≡ of_d ++ (heard_in_order (heards rest) turn d1 ++ ys) =
@@ -770,8 +769,8 @@ module _ (h : HostId) (few : h.0 < 8) (two : h.0 < 2) (t u : Tape) (kin : AreKin
       let a1 = loop_first body (follows body) o k fit1 e w v c d is st.first st.second st.both count fit.fits.0 in
       let a2 = loop_second body (follows body) o k fit1 e w v c d is st.first st.second st.both count fit.fits.0 in
       let rest_of : SlotState → List Effect → List ℕ = λ z fs. heard_in_order (heards rest) turn (turns count (in_order fs) z) in
-      let same_c : rest_of c (map run_of (heards body)) ≡ heard_in_order (heards rest) turn c1 = ap (rest_of c) (runs_each problem list h l body) in
-      let same_d : rest_of d (map run_of (heards body)) ≡ heard_in_order (heards rest) turn d1 = ap (rest_of d) (runs_each problem list h l body) in
+      let same_c : rest_of c (map run_of (heards body)) ≡ heard_in_order (heards rest) turn c1 = ap (rest_of c) (runs_each protocols h l body) in
+      let same_d : rest_of d (map run_of (heards body)) ≡ heard_in_order (heards rest) turn d1 = ap (rest_of d) (runs_each protocols h l body) in
       let of_c : List ℕ = heard_in_turns count (heards body) c in
       let of_d : List ℕ = heard_in_turns count (heards body) d in
       let agree : of_c ++ (heard_in_order (heards rest) turn c1 ++ xs) ≡ of_d ++ (heard_in_order (heards rest) turn d1 ++ ys) =

@@ -2,6 +2,7 @@
 use Rattle.std.proofs.Common.{◌≡◌, ◌≢◌, ℕ, ◌<◌, ◌≤◌, true, List, [], ◌∷◌, refl, sym, ap, subst}
 use mathlib.Core.Path.{fun_ext}
 use Rattle.vd_base.specs.declared.ids.HostId.{HostId}
+use Rattle.vd_base.specs.declared.protocols.Proto.{Proto}
 use Rattle.vd_core.specs.declared.normal.NormalForm.{NormalForm}
 use Rattle.vd_constraints.specs.declared.labels.Labels.{Labels}
 use Rattle.vd_execution.specs.Registers.{nth}
@@ -25,41 +26,41 @@ use Rattle.vd_program_views.proofs.Theorem.{tree, plan_is, static, dealt_zeros, 
 same_tape : (t z : Tape) → ((g : ℕ) (s : Source) (i : ℕ) → z g s i ≡ t g s i) → z ≡ t
 same_tape t z e = fun_ext (λ g. fun_ext (λ s. fun_ext (λ i. e g s i)))
 
-module _ (p : NormalForm) (l : Labels) (list : List ℕ) (of_two : IsOfTwo p l list) (h : HostId) (low : h.0 < 2) where
+module _ (p : NormalForm) (l : Labels) (protocols : List Proto) (of_two : IsOfTwo p l protocols) (h : HostId) (low : h.0 < 2) where
   abbrev plan : Plan Gadget
-  plan = plan_of p l list
+  plan = plan_of p protocols
 
-  dealt_of : (inputs other : List (List ℕ)) → AgreeFor p l list h other inputs → (t : Tape) → IsDealOf (input_words inputs) t → IsDealt inputs t
+  dealt_of : (inputs other : List (List ℕ)) → AgreeFor p l protocols h other inputs → (t : Tape) → IsDealOf (input_words inputs) t → IsDealt inputs t
   dealt_of inputs other agree t d = record { words = agree.words; deal = d.deal; given = λ g i. ap (λ (xs : List ℕ). nth xs 0) (d.inputs g i) }
 
   -- what the plan is whatever the deals
-  pub fixed_tidy : PlanIsTidy (plan_of p l list)
-  fixed_tidy = subst PlanIsTidy (sym (plan_is p l list of_two)) (static p l list of_two [] _ dealt_zeros).tidy
+  pub fixed_tidy : PlanIsTidy (plan_of p protocols)
+  fixed_tidy = subst PlanIsTidy (sym (plan_is p l protocols of_two)) (static p l protocols of_two [] _ dealt_zeros).tidy
 
-  pub fixed_with : PlanIsWith h.0 (plan_of p l list)
+  pub fixed_with : PlanIsWith h.0 (plan_of p protocols)
   fixed_with =
-      let fixed = static p l list of_two [] _ dealt_zeros in
-      subst (PlanIsWith h.0) (sym (plan_is p l list of_two)) (plan_with h.0 low fixed.parts fixed.two (tree p l list of_two) fixed.tidy fixed.within)
+      let fixed = static p l protocols of_two [] _ dealt_zeros in
+      subst (PlanIsWith h.0) (sym (plan_is p l protocols of_two)) (plan_with h.0 low fixed.parts fixed.two (tree p l protocols of_two) fixed.tidy fixed.within)
 
-  module _ (first second : List (List ℕ)) (there : AgreeFor p l list h first second) (here : AgreeFor p l list h second first) where
+  module _ (first second : List (List ℕ)) (there : AgreeFor p l protocols h first second) (here : AgreeFor p l protocols h second first) where
     pub explained : (t : Tape) → IsDealOf (input_words first) t → HasExplanation h.0 plan t (input_words second)
-    explained t d = (excused h.0 t plan (with_inputs t (input_words second)) fresh fresh, others_are_explained p l list of_two h low first second t (dealt_of first second here t d) there)
+    explained t d = (excused h.0 t plan (with_inputs t (input_words second)) fresh fresh, others_are_explained p l protocols of_two h low first second t (dealt_of first second here t d) there)
 
-  module _ (first second : List (List ℕ)) (there : AgreeFor p l list h first second) (here : AgreeFor p l list h second first) where
+  module _ (first second : List (List ℕ)) (there : AgreeFor p l protocols h first second) (here : AgreeFor p l protocols h second first) where
     pub turned : (t y : Tape) → IsDealOf (input_words first) t → Explains h.0 plan t (input_words second) y → Explains h.0 plan y (input_words first) t
     turned t y d e =
         let again : HasExplanation h.0 plan y (input_words first) = explained second first here there y (record { deal = e.deal; inputs = e.inputs }) in
         subst (λ (z : Tape). Explains h.0 plan y (input_words first) z)
-        (same_tape t again.0 (explained_back p l list of_two h low t (input_words first) (input_words second) y again.0 d.deal d.inputs e again.1)) again.1
+        (same_tape t again.0 (explained_back p l protocols of_two h low t (input_words first) (input_words second) y again.0 d.deal d.inputs e again.1)) again.1
 
     pub only : (t y z : Tape) → IsDealOf (input_words first) t → Explains h.0 plan t (input_words second) y → Explains h.0 plan t (input_words second) z → z ≡ y
-    only t y z d e f = same_tape y z (explained_back p l list of_two h low y (input_words second) (input_words first) t z e.deal e.inputs (turned t y d e) f)
+    only t y z d e f = same_tape y z (explained_back p l protocols of_two h low y (input_words second) (input_words first) t z e.deal e.inputs (turned t y d e) f)
 
     shared_rest : (t y : Tape) → IsDealOf (input_words first) t → Explains h.0 plan t (input_words second) y
         → (g : ℕ) (s : Source) (i : ℕ) → is_shared s ≡ true → s ≢ Inputs → (joint t (joint_of plan) fresh g).cursors s ≤ i → y g s i ≡ t g s i
     shared_rest t y d e g s i shared n lt =
         let R : ℕ → Type 0 = λ c. c ≤ i in
-        e.past g s i n (subst R (plan_counts h.0 t y (plan_of p l list) fixed_tidy fixed_with s shared fresh fresh e.chooses (λ k. refl) g) lt)
+        e.past g s i n (subst R (plan_counts h.0 t y (plan_of p protocols) fixed_tidy fixed_with s shared fresh fresh e.chooses (λ k. refl) g) lt)
 
     rest : (t y : Tape) → IsDealOf (input_words first) t → Explains h.0 plan t (input_words second) y
         → (g : ℕ) (s : Source) (i : ℕ) → s ≢ Inputs → (joint t (joint_of plan) fresh g).cursors s ≤ i → y g s i ≡ t g s i
@@ -69,10 +70,10 @@ module _ (p : NormalForm) (l : Labels) (list : List ℕ) (of_two : IsOfTwo p l l
     rest t y d e g (BitTriples k) i n lt = shared_rest t y d e g (BitTriples k) i refl n lt
     rest t y d e g (Pairs k) i n lt = shared_rest t y d e g (Pairs k) i refl n lt
 
-    pub pair_up : PairUp h.0 (plan_of p l list) (input_words first) (input_words second)
+    pub pair_up : PairUp h.0 (plan_of p protocols) (input_words first) (input_words second)
     pair_up = record { forth = explained first second there here; turned = turned; only = only; rest = rest }
 
-  module _ (first second : List (List ℕ)) (there : AgreeFor p l list h first second) (here : AgreeFor p l list h second first) where
+  module _ (first second : List (List ℕ)) (there : AgreeFor p l protocols h first second) (here : AgreeFor p l protocols h second first) where
     -- a deal that explains another than one of these is none of what explain them
     different : (t y : Tape) → IsDealOf (input_words first) t → Explains h.0 plan t (input_words second) y → (ts ys : List Tape) → Each (IsDealOf (input_words first)) ts
         → EachExplains h.0 plan (input_words second) ts ys → Each (λ u. t ≢ u) ts → Each (λ z. y ≢ z) ys
@@ -87,7 +88,7 @@ module _ (p : NormalForm) (l : Labels) (list : List ℕ) (of_two : IsOfTwo p l l
             let from_u : Explains h.0 plan y (input_words first) u = subst (λ (x : Tape). Explains h.0 plan x (input_words first) u) (sym same) (turned first second there here u z ds.0 es.0) in
             only second first here there y u t (record { deal = e.deal; inputs = e.inputs }) from_u from_t
 
-    pub as_many : AsMany h.0 (plan_of p l list) (input_words first) (input_words second)
+    pub as_many : AsMany h.0 (plan_of p protocols) (input_words first) (input_words second)
     as_many [] ds ns = ([], tt, tt, tt)
     as_many (t ∷ ts) ds ns =
         let one : HasExplanation h.0 plan t (input_words second) = explained first second there here t ds.0 in
@@ -99,7 +100,7 @@ module _ (p : NormalForm) (l : Labels) (list : List ℕ) (of_two : IsOfTwo p l l
         )
 
 pub deals_pair_up : DealsPairUp
-deals_pair_up p l list of_two h low first second there here = pair_up p l list of_two h low first second there here
+deals_pair_up p l protocols of_two h low first second there here = pair_up p l protocols of_two h low first second there here
 
 pub there_are_as_many : ThereAreAsMany
-there_are_as_many p l list of_two h low first second there here = as_many p l list of_two h low first second there here
+there_are_as_many p l protocols of_two h low first second there here = as_many p l protocols of_two h low first second there here

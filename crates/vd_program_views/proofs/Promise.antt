@@ -12,13 +12,13 @@ use Rattle.vd_program_views.specs.Promise.{ExplainsOthers}
 use Rattle.vd_program_views.proofs.Theorem.{others_are_explained}
 
 explains : (p : NormalForm) (l : Labels) (h : HostId) (released : ℕ → ℕ → Bool) (known : ℕ → Bool) → HearsOnlyAssigned p l h released known → ExplainsOthers p l h released known
-explains p l h released known hears list of_two low first second t dealt agree =
-    let agree_for : AgreeFor p l list h first second = record {
+explains p l h released known hears protocols of_two low first second t dealt agree =
+    let agree_for : AgreeFor p l protocols h first second = record {
       words = agree.words;
       own = agree.own;
-      heard = hears (subst (λ n. h.0 < n) (sym of_two.hosts) low) list (record { whole = of_two.chosen.whole; valid = of_two.chosen.valid }) first second agree.same agree.declassified;
+      heard = hears (subst (λ n. h.0 < n) (sym of_two.hosts) low) protocols of_two.chosen.assignment first second agree.same agree.declassified;
     } in
-    (agree_for, others_are_explained p l list of_two h low first second t dealt agree_for)
+    (agree_for, others_are_explained p l protocols of_two h low first second t dealt agree_for)
 
 pub readable_inputs_explain : OfEachHost (λ p l h. ExplainsOthers p l h (becomes_readable_to p l h) (reads_host p h))
 readable_inputs_explain p l h well satisfies = explains p l h (becomes_readable_to p l h) (reads_host p h) (all_hear_readable p l h well satisfies)

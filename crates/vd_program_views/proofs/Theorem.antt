@@ -4,12 +4,12 @@ use Rattle.std.specs.List.{concat, list_all}
 use mathlib.Core.Path.{fun_ext}
 use Rattle.vd_base.specs.declared.ids.HostId.{HostId}
 use Rattle.vd_base.specs.declared.protocols.Proto.{Proto}
+use Rattle.vd_base.specs.Holders.{proto_in}
 use Rattle.vd_core.specs.declared.normal.NormalForm.{NormalForm}
 use Rattle.vd_core.specs.Facts.{nothing_seen, Seeing, slots_step, seeing_step, seeing_all}
 use Rattle.vd_constraints.specs.declared.labels.Labels.{Labels}
 use Rattle.vd_constraints.specs.Scoped.{stmt_below}
 use Rattle.vd_constraints.proofs.InSight.{well_made_scoped}
-use Rattle.vd_space.specs.Reading.{problem_of}
 use Rattle.vd_execution.specs.Registers.{nth}
 use Rattle.vd_execution.specs.Step.{Source, Inputs, OwnWords, Triples, BitTriples, Pairs}
 use Rattle.vd_execution.specs.World.{Tape}
@@ -35,8 +35,7 @@ use Rattle.vd_suite.proofs.Given.{zero_deals_are_valid}
 use Rattle.vd_suite.proofs.SuiteLaws.{suite_laws}
 use Rattle.vd_suite.proofs.SuitePlaces.{suite_places}
 use Rattle.vd_suite.proofs.PlanTidy.{within}
-use Rattle.vd_whole.specs.Lists.{protos_of}
-use Rattle.vd_whole.proofs.Chosen.{can_run, valid_lists_tell_the_same}
+use Rattle.vd_whole.proofs.Chosen.{can_run, each_has, assignments_tell_the_same}
 use Rattle.vd_views.specs.Back.{AreOfTwo}
 use Rattle.vd_views.specs.Hiding.{IsAnotherDeal}
 use Rattle.vd_views.specs.Hides.{Hides}
@@ -90,36 +89,36 @@ own_part h t second same (Pairs p) i = refl
 
 -- ---- a program of two hosts
 
-module _ (p : NormalForm) (l : Labels) (list : List ℕ) (of_two : IsOfTwo p l list) where
+module _ (p : NormalForm) (l : Labels) (protocols : List Proto) (of_two : IsOfTwo p l protocols) where
   abbrev hosts : ℕ
   hosts = length p.hosts
 
   abbrev proto : ℕ → Proto
-  proto = protos_of (problem_of p l) list
+  proto = proto_in protocols
 
   abbrev b : Block
   b = block_of p.body
 
-  abbrev begin : Emitting (suite_calls (length p.hosts)) (protos_of (problem_of p l) list)
-  begin = emitting_at_start (suite_calls (length p.hosts)) (protos_of (problem_of p l) list)
+  abbrev begin : Emitting (suite_calls (length p.hosts)) (proto_in protocols)
+  begin = emitting_at_start (suite_calls (length p.hosts)) (proto_in protocols)
 
   -- the plan, by the recursion over blocks
   abbrev pub tree : Plan Gadget
-  tree = ((in_turn (suite_calls (length p.hosts)) (protos_of (problem_of p l) list) (each (stmt_emission (suite_calls (length p.hosts)) (protos_of (problem_of p l) list)) (block_of p.body))).emit begin).tree
+  tree = ((in_turn (suite_calls (length p.hosts)) (proto_in protocols) (each (stmt_emission (suite_calls (length p.hosts)) (proto_in protocols)) (block_of p.body))).emit begin).tree
 
-  pub plan_is : plan_of p l list ≡ tree
+  pub plan_is : plan_of p protocols ≡ tree
   plan_is =
-      ap (λ (es : List (Emission (suite_calls (length p.hosts)) (protos_of (problem_of p l) list))). ((in_turn (suite_calls (length p.hosts)) (protos_of (problem_of p l) list) es).emit begin).tree)
-      (fold_each (stmt_emission (suite_calls (length p.hosts)) (protos_of (problem_of p l) list)) p.body)
+      ap (λ (es : List (Emission (suite_calls (length p.hosts)) (proto_in protocols))). ((in_turn (suite_calls (length p.hosts)) (proto_in protocols) es).emit begin).tree)
+      (fold_each (stmt_emission (suite_calls (length p.hosts)) (proto_in protocols)) p.body)
 
   -- ---- one run
 
   module _ (inputs : List (List ℕ)) (t : Tape) (dealt : IsDealt inputs t) where
     pub can : CanRun p proto inputs t
-    can = can_run p l list of_two.chosen inputs dealt.words t dealt.deal dealt.given
+    can = can_run p l protocols of_two.chosen inputs dealt.words t dealt.deal dealt.given
 
     pub runs : RunsAsToldBy p proto inputs t
-    runs = valid_lists_tell_the_same p l list of_two.chosen inputs dealt.words t dealt.deal dealt.given
+    runs = assignments_tell_the_same p l protocols of_two.chosen inputs dealt.words t dealt.deal dealt.given
 
     pub laws : Laws (machine t (inputs_of inputs)) (suite t (inputs_of inputs) (length p.hosts))
     laws = suite_laws t dealt.deal (inputs_of inputs) dealt.given (length p.hosts)
@@ -133,9 +132,9 @@ module _ (p : NormalForm) (l : Labels) (list : List ℕ) (of_two : IsOfTwo p l l
     few : hosts ≤ 8
     few = let e = of_two.hosts in omega (arith, e)
 
-    within_both : PlanIsWithin both_parts (plan_of p l list)
+    within_both : PlanIsWithin both_parts (plan_of p protocols)
     within_both =
-        within t (inputs_of inputs) both_parts (plan_of p l list) (λ g i.
+        within t (inputs_of inputs) both_parts (plan_of p protocols) (λ g i.
         among_both g
         (subst (λ z. g < z) of_two.hosts
         (program_within (machine t (inputs_of inputs)) (suite t (inputs_of inputs) (length p.hosts)) proto laws can.over p inputs fresh can.made can.numbers refl can.valid starts
@@ -152,7 +151,7 @@ module _ (p : NormalForm) (l : Labels) (list : List ℕ) (of_two : IsOfTwo p l l
 
   -- ---- two runs
 
-  module _ (h : HostId) (h_low : h.0 < 2) (first second : List (List ℕ)) (t : Tape) (dealt : IsDealt first t) (agree : AgreeFor p l list h first second) where
+  module _ (h : HostId) (h_low : h.0 < 2) (first second : List (List ℕ)) (t : Tape) (dealt : IsDealt first t) (agree : AgreeFor p l protocols h first second) where
     own_inputs : (i : ℕ) → t h.0 Inputs i ≡ input_words second h.0 i ∷ []
     own_inputs i = one_item (t h.0 Inputs i) (input_words second h.0 i) (dealt.deal.lengths h.0 Inputs i) (dealt.given h.0 i ∙ agree.own i)
 
@@ -183,28 +182,28 @@ module _ (p : NormalForm) (l : Labels) (list : List ℕ) (of_two : IsOfTwo p l l
       kin : AreKin h.0 t y
       kin = record { first = dealt.deal; second = another.deal; part = sym (another.part ∙ same_part); own_words = λ g i. sym (another.own_words g i) }
 
-      fitting : Fitting h low h_low t y kin (inputs_of first) (inputs_of second) hosts known (problem_of p l) list l (laws first t dealt) (laws second y dealt_too) (can first t dealt).over of_two.free b nothing_seen 0 (λ g. false)
+      fitting : Fitting h low h_low t y kin (inputs_of first) (inputs_of second) hosts known protocols l (laws first t dealt) (laws second y dealt_too) (can first t dealt).over of_two.free b nothing_seen 0 (λ g. false)
       fitting = record {
         row = row_of 0 (length p.slots) (slots (block_of p.body)) (sym (ap concat (fold_each slots_step p.body)) ∙ of_two.chosen.made.in_order);
         seen = ap (λ (s : List Seeing). (seeing_all s nothing_seen).all) (sym (fold_each seeing_step p.body)) ∙ of_two.chosen.made.made_before;
         fits = all_fit p of_two.chosen.made of_two.chosen.numbers;
         placed = (can first t dealt).valid;
         placed_too = (can second y dealt_too).valid;
-        low = subst (λ n. list_all (λ x. x) (each (stmt_below n) (block_of p.body)) ≡ true) (sym of_two.chosen.whole)
+        low = subst (λ n. list_all (λ x. x) (each (stmt_below n) (block_of p.body)) ≡ true) (sym (each_has p l protocols of_two.chosen))
             (ap (list_all (λ x. x)) (sym (fold_each (stmt_below (length p.slots)) p.body)) ∙ (well_made_scoped p of_two.chosen.made).named_slots);
         needs = λ g i. absurd (no_turns (machine t (inputs_of first)) (suite t (inputs_of first) (length p.hosts)) proto p of_two.chosen.made g i);
         needs_too = λ g i. absurd (no_turns (machine y (inputs_of second)) (suite y (inputs_of second) (length p.hosts)) proto p of_two.chosen.made g i);
       }
 
-      words : heard_in_order (each (heard_step (problem_of p l) list h l) b) 0 (start p first) ++ [] ≡ heard_in_order (each (heard_step (problem_of p l) list h l) b) 0 (start p second) ++ []
+      words : heard_in_order (each (heard_step protocols h l) b) 0 (start p first) ++ [] ≡ heard_in_order (each (heard_step protocols h l) b) 0 (start p second) ++ []
       words =
           ap (λ (z : List ℕ). z ++ [])
-          (ap (λ (hs : List Heard). heard_in_order hs 0 (start p first)) (sym (fold_each (heard_step (problem_of p l) list h l) p.body)) ∙ agree.heard
-          ∙ ap (λ (hs : List Heard). heard_in_order hs 0 (start p second)) (fold_each (heard_step (problem_of p l) list h l) p.body))
+          (ap (λ (hs : List Heard). heard_in_order hs 0 (start p first)) (sym (fold_each (heard_step protocols h l) p.body)) ∙ agree.heard
+          ∙ ap (λ (hs : List Heard). heard_in_order hs 0 (start p second)) (fold_each (heard_step protocols h l) p.body))
 
       pub concluded : Concluded h.0 t y tree fresh fresh [] []
       concluded =
-          follows h low h_low t y kin (inputs_of first) (inputs_of second) hosts known (problem_of p l) list l (laws first t dealt) (laws second y dealt_too) (can first t dealt).over of_two.free b nothing_seen 0 (λ g. false) fitting
+          follows h low h_low t y kin (inputs_of first) (inputs_of second) hosts known protocols l (laws first t dealt) (laws second y dealt_too) (can first t dealt).over of_two.free b nothing_seen 0 (λ g. false) fitting
           begin fresh fresh (start p first) (start p second) 0 refl (omega arith)
           (record {
             first = tied_at_start (machine t (inputs_of first)) (suite t (inputs_of first) (length p.hosts)) proto (length p.hosts) refl first fresh (starts first t dealt);
@@ -226,11 +225,11 @@ module _ (p : NormalForm) (l : Labels) (list : List ℕ) (of_two : IsOfTwo p l l
       knows = λ y another hidden. let c = concluded y another hidden in (c.chooses, c.knows);
     }
 
-    pub it_explains : IsExplained h.0 (plan_of p l list) t (input_words second)
+    pub it_explains : IsExplained h.0 (plan_of p protocols) t (input_words second)
     it_explains = subst (λ (plan : Plan Gadget). IsExplained h.0 plan t (input_words second)) (sym plan_is) (explained h.0 tree t (input_words second) condition)
 
 pub others_are_explained : OthersAreExplained
-others_are_explained p l list of_two h low first second t dealt agree = it_explains p l list of_two h low first second t dealt agree
+others_are_explained p l protocols of_two h low first second t dealt agree = it_explains p l protocols of_two h low first second t dealt agree
 
 -- ---- the way back
 
@@ -241,14 +240,14 @@ dealt_zeros =
     let v = zero_deals_are_valid (inputs_of []) small in
     record { words = small; deal = v.0; given = v.1 }
 
-module _ (p : NormalForm) (l : Labels) (list : List ℕ) (of_two : IsOfTwo p l list) (h : HostId) (low : h.0 < 2) (t : Tape) (first second : InputWords) (y z : Tape) (valid : IsValidDeal t) (has : HasInputs t first) where
-  again : Explains h.0 (tree p l list of_two) t second y → Explains h.0 (tree p l list of_two) y first z → (g : ℕ) (s : Source) (i : ℕ) → z g s i ≡ t g s i
+module _ (p : NormalForm) (l : Labels) (protocols : List Proto) (of_two : IsOfTwo p l protocols) (h : HostId) (low : h.0 < 2) (t : Tape) (first second : InputWords) (y z : Tape) (valid : IsValidDeal t) (has : HasInputs t first) where
+  again : Explains h.0 (tree p l protocols of_two) t second y → Explains h.0 (tree p l protocols of_two) y first z → (g : ℕ) (s : Source) (i : ℕ) → z g s i ≡ t g s i
   again one two =
-      let fixed = static p l list of_two [] (zero_deal (inputs_of [])) dealt_zeros in
-      first_again h.0 (tree p l list of_two) fixed.tidy (plan_with h.0 low fixed.parts fixed.two (tree p l list of_two) fixed.tidy fixed.within) t first second y z valid has one two
+      let fixed = static p l protocols of_two [] (zero_deal (inputs_of [])) dealt_zeros in
+      first_again h.0 (tree p l protocols of_two) fixed.tidy (plan_with h.0 low fixed.parts fixed.two (tree p l protocols of_two) fixed.tidy fixed.within) t first second y z valid has one two
 
 pub explained_back : ExplainedBack
-explained_back p l list of_two h low t first second y z valid has one two =
+explained_back p l protocols of_two h low t first second y z valid has one two =
     let P : Plan Gadget → Type 0 = λ plan. Explains h.0 plan t second y → Explains h.0 plan y first z → (g : ℕ) (s : Source) (i : ℕ) → z g s i ≡ t g s i in
-    let all : P (plan_of p l list) = subst P (sym (plan_is p l list of_two)) (again p l list of_two h low t first second y z valid has) in
+    let all : P (plan_of p protocols) = subst P (sym (plan_is p l protocols of_two)) (again p l protocols of_two h low t first second y z valid has) in
     all one two

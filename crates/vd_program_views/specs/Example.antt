@@ -2,6 +2,8 @@
 use Rattle.std.specs.Prelude.{◌≡◌, ℕ, zero, suc, nat_eq, if◌then◌else◌, List, [], ◌∷◌}
 use Rattle.vd_base.specs.declared.form.Form as form
 use Rattle.vd_base.specs.declared.operations.Op.TheVariants as op
+use Rattle.vd_base.specs.declared.protocols.Proto.{Proto}
+use Rattle.vd_base.specs.Holders.{proto_in}
 use Rattle.vd_core.specs.declared.normal.Right.TheVariants.{Apply, Input, Declassify}
 use Rattle.vd_core.specs.declared.normal.Stmt.{Stmt, Let, Output}
 use Rattle.vd_execution.specs.Step.{Inputs, OwnWords, Triples, BitTriples, Pairs}
@@ -13,8 +15,7 @@ use Rattle.vd_joint.specs.Block.{Block, block_of, each}
 use Rattle.vd_joint.specs.Emission.{in_turn, stmt_emission, emitting_at_start}
 use Rattle.vd_suite.specs.Parts.{suite_calls}
 use Rattle.vd_views.specs.Contract.{InputWords, with_inputs}
-use Rattle.vd_assigned_dependence.specs.Example.{alice, bob, slot, two_hosts}
-use Rattle.vd_told.specs.Telling.{placed_by}
+use Rattle.vd_assigned_dependence.specs.Example.{alice, bob, slot, at_alice, at_bob, sums_at_both, bits_at_both}
 use Rattle.vd_views.specs.Excused.{excused}
 
 abbrev pub product : List Stmt
@@ -28,8 +29,8 @@ product =
     ∷ []
 
 -- alice alone, bob alone, shares of both by sums, and the product at alice, who tells it to bob
-abbrev pub in_sums : List ℕ
-in_sums = 0 ∷ 1 ∷ 5 ∷ 0 ∷ []
+abbrev pub in_sums : List Proto
+in_sums = at_alice ∷ at_bob ∷ sums_at_both ∷ at_alice ∷ []
 
 -- both inputs by exclusive or, and that word once more by sums, for alice
 abbrev pub conversion : List Stmt
@@ -43,12 +44,12 @@ conversion =
     ∷ []
 
 -- alice alone, bob alone, shares by exclusive or, shares by sums, and the sum at alice
-abbrev pub converted_once : List ℕ
-converted_once = 0 ∷ 1 ∷ 6 ∷ 5 ∷ 0 ∷ []
+abbrev pub converted_once : List Proto
+converted_once = at_alice ∷ at_bob ∷ bits_at_both ∷ sums_at_both ∷ at_alice ∷ []
 
-abbrev pub plan_with : Block → List ℕ → Plan Gadget
-plan_with block list =
-    ((in_turn (suite_calls 2) (placed_by two_hosts list) (each (stmt_emission (suite_calls 2) (placed_by two_hosts list)) block)).emit (emitting_at_start (suite_calls 2) (placed_by two_hosts list))).tree
+abbrev pub plan_with : Block → List Proto → Plan Gadget
+plan_with block protocols =
+    ((in_turn (suite_calls 2) (proto_in protocols) (each (stmt_emission (suite_calls 2) (proto_in protocols)) block)).emit (emitting_at_start (suite_calls 2) (proto_in protocols))).tree
 
 -- alice has this input, and bob 6
 abbrev pub inputs_with : ℕ → InputWords

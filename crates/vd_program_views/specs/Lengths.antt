@@ -1,6 +1,7 @@
 -- Deals that end, and how many of them show a host the same.
 use Rattle.std.specs.Prelude.{◌≡◌, ◌≢◌, ◌⊎◌, ℕ, ◌≤◌, ◌<◌, List, [], ◌∷◌, length}
 use Rattle.vd_base.specs.declared.ids.HostId.{HostId}
+use Rattle.vd_base.specs.declared.protocols.Proto.{Proto}
 use Rattle.vd_core.specs.declared.normal.NormalForm.{NormalForm}
 use Rattle.vd_constraints.specs.declared.labels.Labels.{Labels}
 use Rattle.vd_execution.specs.Step.{Source, Inputs}
@@ -26,8 +27,8 @@ pub record IsLongEnough (n : Lengths) (plan : Plan Gadget) (t : Tape) : Type 0 w
 -- what explains another run is as long, and the run takes no item past its end
 abbrev pub ExcusesAreAsLong : Type 0
 ExcusesAreAsLong =
-    (p : NormalForm) (l : Labels) (list : List ℕ) → IsOfTwo p l list → (h : HostId) → h.0 < 2 → (second : InputWords) (t y : Tape) → Explains h.0 (plan_of p l list) t second y
-    → (n : Lengths) → IsLongEnough n (plan_of p l list) t → IsLongEnough n (plan_of p l list) y
+    (p : NormalForm) (l : Labels) (protocols : List Proto) → IsOfTwo p l protocols → (h : HostId) → h.0 < 2 → (second : InputWords) (t y : Tape) → Explains h.0 (plan_of p protocols) t second y
+    → (n : Lengths) → IsLongEnough n (plan_of p protocols) t → IsLongEnough n (plan_of p protocols) y
 
 -- ---- so there are equally many of given lengths that show a host the same
 
@@ -55,6 +56,6 @@ pub record AreAll {X : Type 0} (P : X → Type 0) (ts : List X) : Type 0 where
 -- where these are all deals of the first inputs that show h what it sees, there are as many of the second
 abbrev pub ShowEquallyMany : Type 0
 ShowEquallyMany =
-    (p : NormalForm) (l : Labels) (list : List ℕ) → IsOfTwo p l list → (h : HostId) → h.0 < 2 → (first second : List (List ℕ)) → AgreeFor p l list h first second → AgreeFor p l list h second first
-    → (n : Lengths) (t : Tape) (ts : List Tape) → AreAll (Shows h.0 (plan_of p l list) n t (input_words first)) ts
-    → (ys : List Tape) × (length ys ≡ length ts) × AreAll (Shows h.0 (plan_of p l list) n t (input_words second)) ys
+    (p : NormalForm) (l : Labels) (protocols : List Proto) → IsOfTwo p l protocols → (h : HostId) → h.0 < 2 → (first second : List (List ℕ)) → AgreeFor p l protocols h first second → AgreeFor p l protocols h second first
+    → (n : Lengths) (t : Tape) (ts : List Tape) → AreAll (Shows h.0 (plan_of p protocols) n t (input_words first)) ts
+    → (ys : List Tape) × (length ys ≡ length ts) × AreAll (Shows h.0 (plan_of p protocols) n t (input_words second)) ys

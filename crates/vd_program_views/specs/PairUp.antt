@@ -1,6 +1,7 @@
 -- The deals with two families of inputs that agree for a host belong to each other one to one, and it sees the same by both.
 use Rattle.std.specs.Prelude.{◌≡◌, ◌≢◌, ℕ, ◌≤◌, ◌<◌, List, [], ◌∷◌}
 use Rattle.vd_base.specs.declared.ids.HostId.{HostId}
+use Rattle.vd_base.specs.declared.protocols.Proto.{Proto}
 use Rattle.vd_core.specs.declared.normal.NormalForm.{NormalForm}
 use Rattle.vd_constraints.specs.declared.labels.Labels.{Labels}
 use Rattle.vd_execution.specs.Step.{Source, Inputs}
@@ -29,8 +30,8 @@ pub record PairUp (h : ℕ) (plan : Plan Gadget) (first second : InputWords) : T
 
 abbrev pub DealsPairUp : Type 0
 DealsPairUp =
-    (p : NormalForm) (l : Labels) (list : List ℕ) → IsOfTwo p l list → (h : HostId) → h.0 < 2 → (first second : List (List ℕ)) → AgreeFor p l list h first second → AgreeFor p l list h second first
-    → PairUp h.0 (plan_of p l list) (input_words first) (input_words second)
+    (p : NormalForm) (l : Labels) (protocols : List Proto) → IsOfTwo p l protocols → (h : HostId) → h.0 < 2 → (first second : List (List ℕ)) → AgreeFor p l protocols h first second → AgreeFor p l protocols h second first
+    → PairUp h.0 (plan_of p protocols) (input_words first) (input_words second)
 
 -- ---- so there are equally many
 
@@ -51,5 +52,5 @@ AsMany h plan first second =
 
 abbrev pub ThereAreAsMany : Type 0
 ThereAreAsMany =
-    (p : NormalForm) (l : Labels) (list : List ℕ) → IsOfTwo p l list → (h : HostId) → h.0 < 2 → (first second : List (List ℕ)) → AgreeFor p l list h first second → AgreeFor p l list h second first
-    → AsMany h.0 (plan_of p l list) (input_words first) (input_words second)
+    (p : NormalForm) (l : Labels) (protocols : List Proto) → IsOfTwo p l protocols → (h : HostId) → h.0 < 2 → (first second : List (List ℕ)) → AgreeFor p l protocols h first second → AgreeFor p l protocols h second first
+    → AsMany h.0 (plan_of p protocols) (input_words first) (input_words second)

@@ -2,6 +2,7 @@
 -- may read, and on what is declassified to it.
 use Rattle.std.specs.Prelude.{◌≡◌, ℕ, ◌<◌, ◌^◌, Bool, List}
 use Rattle.vd_base.specs.declared.ids.HostId.{HostId}
+use Rattle.vd_base.specs.declared.protocols.Proto.{Proto}
 use Rattle.vd_core.specs.declared.normal.NormalForm.{NormalForm}
 use Rattle.vd_constraints.specs.declared.labels.Labels.{Labels}
 use Rattle.vd_execution.specs.World.{Tape}
@@ -17,8 +18,8 @@ pub record AgreeOn (p : NormalForm) (h : HostId) (released : ℕ → ℕ → Boo
   pub same : SameInputs known first second
   pub declassified : declassified_words p released first ≡ declassified_words p released second
 
--- whatever valid list without commitments is taken, and whatever was dealt: the second inputs are explained to h
+-- whatever valid assignment without commitments is taken, and whatever was dealt: the second inputs are explained to h
 abbrev pub ExplainsOthers : NormalForm → Labels → HostId → (ℕ → ℕ → Bool) → (ℕ → Bool) → Type 0
 ExplainsOthers p l h released known =
-    (list : List ℕ) → IsOfTwo p l list → h.0 < 2 → (first second : List (List ℕ)) (t : Tape) → IsDealt first t → AgreeOn p h released known first second
-    → AgreeFor p l list h first second × IsExplained h.0 (plan_of p l list) t (input_words second)
+    (protocols : List Proto) → IsOfTwo p l protocols → h.0 < 2 → (first second : List (List ℕ)) (t : Tape) → IsDealt first t → AgreeOn p h released known first second
+    → AgreeFor p l protocols h first second × IsExplained h.0 (plan_of p protocols) t (input_words second)

@@ -12,7 +12,7 @@ ghost use Rattle.vd_program_views.specs.Lengths.{ExcusesAreAsLong, ShowEquallyMa
 ghost use Rattle.vd_program_views.specs.Example.{WorkedExcuse, WorkedConversion};
 ghost use Rattle.vd_program_views.specs.AnyOrder.{SeesFrontsInAnyOrder};
 
-/// Of a program of two hosts at a valid list of protocols without commitments: where other inputs agree on a host's own inputs
+/// Of a program of two hosts at a valid assignment of protocols without commitments: where other inputs agree on a host's own inputs
 /// and on each word that comes to it in clear, there is another valid deal, with the same part for the host and the same own
 /// words of both, under which it sees of the other inputs what it saw of the first. It is computed gadget by gadget, along both
 /// runs. Explained back, the first deal comes again.
@@ -40,7 +40,7 @@ pub fn any_order_looks_alike()
 
 /// Whatever a host sees could have come from any inputs that agree on its own, on those of the hosts that it may read, and on the
 /// words that become readable to it by a declassification; and so where they agree on the hosts whose inputs are reached from what
-/// it is told, and on all that is declassified to it. It holds at every valid list without commitments.
+/// it is told, and on all that is declassified to it. It holds at every valid assignment without commitments.
 pub fn what_may_not_be_read_stays_open()
     ensures readable { OfEachHost (λ p l h. ExplainsOthers p l h (becomes_readable_to p l h) (reads_host p h)) }
     ensures reached { OfEachHost (λ p l h. (hosts : ℕ → Bool) → AreReached p l h hosts → ExplainsOthers p l h (reads_result p l h) hosts) }

@@ -18,12 +18,11 @@ use Rattle.vd_execution.specs.Ranges.{IsInRange}
 use Rattle.vd_execution.specs.Text.{IsCodeOf, text}
 use Rattle.vd_execution.specs.World.{World, Supply}
 use Rattle.vd_schedules.specs.Claims.{IsOf}
-use Rattle.vd_space.specs.Reading.{problem_of}
 use Rattle.vd_suite.specs.Given.{zero_deal}
-use Rattle.vd_suite.specs.Whole.{code_at, inputs_of}
+use Rattle.vd_suite.specs.Whole.{inputs_of}
 use Rattle.vd_suite.proofs.Given.{zero_deals_are_valid}
 use Rattle.vd_host_programs.specs.Programs.{IsRunnable, host_codes, joint_of}
-use Rattle.vd_host_programs.proofs.HostCodes.{chosen_of, codes_can_be_loaded, codes_run_as_told, no_words, problem_protos, runnable_over}
+use Rattle.vd_host_programs.proofs.HostCodes.{chosen_of, codes_can_be_loaded, codes_run_as_told, no_words, runnable_over}
 use Rattle.vd_plan.specs.Plans.{Computes, ended}
 use Rattle.vd_plan.specs.declared.answer.Answer.{Answer}
 use Rattle.vd_plan.specs.declared.status.Status.{Status}
@@ -130,8 +129,7 @@ module _ (program : NormalForm) (a : Assignment) (made : IsWellMade program) (nu
         dealt = subst (λ (hosts : ℕ). AreDealsOf hosts asked.deals) (sym are.all) are.deals;
         consistent = consistent;
       } in
-      subst (λ (f : ℕ → Proto). TellsUnder (length program.hosts) (program_outputs program asked.inputs) (supply_of_files asked.inputs asked.deals) (code_at f program) asked.schedule) (sym (problem_protos (problem_of program selected.labels) list selected.places runnable.assignment.named))
-      (programs_tell program selected.labels selected.places (chosen_of program list made numbers runnable) asked.inputs asked.deals files are.all asked.schedule)
+      programs_tell program runnable.labels list (chosen_of program list made numbers runnable) asked.inputs asked.deals files are.all asked.schedule
 
   pub is_report : (asked : Asked) (answer : Answer) (printed : List ℕ) → AreAsked (length program.hosts) asked → IsConsistent asked.deals
       → answer ≡ ended [] printed → printed ≡ report_for program list asked → IsReport program (program_outputs program asked.inputs) asked answer.printed

@@ -18,6 +18,7 @@ use Rattle.vd_space.specs.Spaces.{IsProblem}
 use Rattle.vd_space.specs.Usual.{usual}
 use Rattle.vd_space.specs.Validity.{protocol}
 use Rattle.vd_cheapest.proofs.Cheapest.{cheapest}
+use Rattle.vd_cheapest.specs.Cheapest.{IsAssignment}
 use Rattle.vd_selection.specs.Choices.{ChoiceOutcomes, IsChosen, needed}
 use Rattle.vd_selection.specs.Confirming.{confirmed}
 use Rattle.vd_selection.specs.Selecting.{IsAccepted, IsOver, Selects}
@@ -95,8 +96,12 @@ module _ (program : NormalForm) (l : Labels) (budget : ℕ) where
       → (result : Result Choice Status) → IfOk result (λ choice. choice ≡ given program l (Some (record { protocols = map (protocol space) seen; cost = least })) c) → IfOk result (IsChoiceFor program)
   found_is holds is_least list least c is seen space same spaced (Ok choice) found =
       let a : Assignment = record { protocols = map (protocol space) seen; cost = least } in
-      let one = selected_as holds is_least list is.0 a (seen_as list least c is seen space same spaced) in
-      subst (IsChoiceFor program) (sym found) (record { same = refl; selected = one })
+      let seen_so = seen_as list least c is seen space same spaced in
+      let one = selected_as holds is_least list is.0 a seen_so in
+      let valid : IsAssignment problem a.protocols =
+      record { places = list; is_valid = (cheapest problem list holds is.0).is_valid; named = ap (λ (b : Assignment). b.protocols) seen_so }
+      in
+      subst (IsChoiceFor program) (sym found) (record { same = refl; selected = one; valid = valid })
   found_is holds is_least list least c is seen space same spaced (Err status) found = tt
 
   pub none_found : (c : Certificate) → Selects problem budget (NoAssignment c) → Searches program l budget (Ok (given program l None c))

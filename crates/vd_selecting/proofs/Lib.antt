@@ -4,4 +4,3 @@ pub mod Statuses
 pub mod Chosen
 pub mod Steps
 pub mod Sure
-pub mod Selected

@@ -15,7 +15,7 @@ use Rattle.vd_space.specs.declared.problem.Problem.{Problem}
 use Rattle.vd_space.specs.Costs.{cost}
 use Rattle.vd_space.specs.Reading.{problem_of}
 use Rattle.vd_space.specs.Validity.{protocol}
-use Rattle.vd_cheapest.specs.Cheapest.{IsCheapest}
+use Rattle.vd_cheapest.specs.Cheapest.{IsAssignment, IsCheapest}
 use Rattle.vd_selection.specs.Choices.{ChoiceOutcomes}
 use Rattle.vd_plan.specs.Plans.{ExecutesStep, Plan, check_then}
 use Rattle.vd_plan.specs.declared.status.Status.{Status}
@@ -94,6 +94,7 @@ ChoosesRun source budget result =
 pub record IsChoiceFor (program : NormalForm) (choice : Choice) : Type 0 where
   pub same : choice.program ≡ program
   pub selected : IfSome choice.assignment (IsSelected choice.program)
+  pub valid : IfSome choice.assignment (λ a. IsAssignment (problem_of choice.program choice.labels) a.protocols)
 
 -- and for the program that is run for a source
 pub record IsRunChoice (source : Source) (choice : Choice) : Type 0 where

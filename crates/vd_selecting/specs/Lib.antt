@@ -5,4 +5,3 @@ pub mod Certifying
 pub mod Searching
 pub mod Choice
 pub mod Choosing
-pub mod Selected

@@ -43,11 +43,7 @@ pub struct Choice {
 }
 
 /// The protocols at these places of a space's list.
-pub fn protocols_at(
-    alloc: Global,
-    space: &Space,
-    places: &[u32],
-) -> Result<Items<Proto>, AllocError>
+fn protocols_at(alloc: Global, space: &Space, places: &[u32]) -> Result<Items<Proto>, AllocError>
     ensures { IfOk result (λ protocols. protocols ≡ map (protocol space.now) places.now) }
 {
     let list = space.list();

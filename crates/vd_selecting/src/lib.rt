@@ -11,7 +11,7 @@ mod gen_command;
 mod spaces;
 
 pub use certify_command::certify;
-pub use choice::{Assignment, Choice, choice_for, choice_of, protocols_at};
+pub use choice::{Assignment, Choice, choice_for, choice_of};
 pub use choose_command::{assignment_text, choose};
 pub use gen_command::generate_source;
 pub use spaces::least_space;

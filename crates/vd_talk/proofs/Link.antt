@@ -22,17 +22,15 @@ use Rattle.vd_execution.specs.Ranges.{IsInRange}
 use Rattle.vd_execution.specs.Text.{IsCodeOf, text}
 use Rattle.vd_execution.specs.World.{World, Tape, followed_by_zeros, words_of}
 use Rattle.vd_schedules.specs.Claims.{IsOf, Suffices, last_of}
-use Rattle.vd_space.specs.Reading.{problem_of}
 use Rattle.vd_suite.specs.Given.{zero_deal}
-use Rattle.vd_suite.specs.Whole.{code_at, inputs_of}
+use Rattle.vd_suite.specs.Whole.{inputs_of}
 use Rattle.vd_suite.proofs.Given.{zero_deals_are_valid}
 use Rattle.vd_needing.specs.Needs.{counts, takes}
 use Rattle.vd_needing.proofs.Taken.{most}
 use Rattle.vd_needs.specs.declared.taking.HostNeeds.{HostNeeds}
 use Rattle.vd_machine.specs.Machines.{word_item}
 use Rattle.vd_host_programs.specs.Programs.{IsRunnable, host_codes, joint_of}
-use Rattle.vd_host_programs.proofs.HostCodes.{chosen_of, problem_protos, runnable_over, codes_can_be_loaded, codes_run_as_told, ended_past, no_words}
-use Rattle.vd_read_back.specs.Stored.{CountsFit}
+use Rattle.vd_host_programs.proofs.HostCodes.{chosen_of, runnable_over, codes_can_be_loaded, codes_run_as_told, ended_past, no_words}
 use Rattle.vd_enough.specs.Enough.{CanBeSplit, needs_for}
 use Rattle.vd_enough.proofs.Countable.{count_codes}
 use Rattle.vd_enough.proofs.Sizes.{any_there, count_needs, counted, needs_at, taken}
@@ -159,10 +157,7 @@ module _ (program : NormalForm) (protocols : List Proto) (made : IsWellMade prog
     -- ---- so the world ends, with all words sent
 
     told : (schedule : Schedule) → TellsUnder (length program.hosts) (program_outputs program (filled inputs (needs_for program protocols))) (supply_of_files (filled inputs (needs_for program protocols)) deals) (joint_of program protocols) schedule
-    told schedule =
-        subst (λ (f : ℕ → Proto). TellsUnder (length program.hosts) (program_outputs program (filled inputs (needs_for program protocols))) (supply_of_files (filled inputs (needs_for program protocols)) deals) (code_at f program) schedule)
-        (sym (problem_protos (problem_of program runnable.labels) protocols runnable.assignment.places runnable.assignment.named))
-        (programs_tell program runnable.labels runnable.assignment.places (chosen_of program protocols made numbers runnable) (filled inputs (needs_for program protocols)) deals files playable.all_deals schedule)
+    told schedule = programs_tell program runnable.labels protocols (chosen_of program protocols made numbers runnable) (filled inputs (needs_for program protocols)) deals files playable.all_deals schedule
 
     pub talk_is : (codes : List (List Instr)) (needs : List HostNeeds) (all : List (List ℕ)) (schedule : Schedule) (w : World) (from to : ℕ) → codes ≡ host_codes program protocols → needs ≡ needs_for program protocols
         → all ≡ filled inputs needs → schedule.all ≡ true → ((k : Joint) → AreCodesOf codes k → w ≡ played all deals (length codes) schedule k)

@@ -5,14 +5,13 @@ use Rattle.vd_base.specs.declared.ids.HostId.{HostId}
 use Rattle.vd_base.specs.declared.ids.SlotId.{SlotId}
 use Rattle.vd_base.specs.declared.protocols.Proto.{Proto}
 use Rattle.vd_base.specs.HostSets.{host, same_host}
-use Rattle.vd_base.specs.Holders.{is_holder}
+use Rattle.vd_base.specs.Holders.{is_holder, proto_in}
 use Rattle.vd_core.specs.declared.normal.Right.TheVariants.{Turn}
 use Rattle.vd_core.specs.Facts.{Sight}
 use Rattle.vd_constraints.specs.declared.labels.Labels.{Labels}
 use Rattle.vd_constraints.specs.Scoped.{stmt_below}
 use Rattle.vd_meaning.specs.Turns.{turns}
 use Rattle.vd_meaning.specs.ProgramMeaning.{SlotState, Effect, word_at, in_order, stmt_effect}
-use Rattle.vd_space.specs.declared.problem.Problem.{Problem}
 use Rattle.vd_joint.specs.Block.{Block, End, Let, NewVar, NewArray, Store, Put, Output, If, For, each}
 use Rattle.vd_joint.specs.Joint.{Hosts, run_acts, Each, branch, choice, joint}
 use Rattle.vd_joint.specs.Suite.{picked, Made, Suite, Laws, hosts_of}
@@ -27,20 +26,20 @@ use Rattle.vd_joint.proofs.Steps.{E, Ties, TurnsIn, After, turns_past, let_after
 use Rattle.vd_joint.proofs.Loops as loops
 use Rattle.vd_joint.proofs.Blocks.{slots, sees, effect_of, emits, turn_here, turn_later, turns_act, no_slots, both_idle, means}
 use Rattle.vd_assigned_dependence.specs.Hearing.{Heard, run_of, word_if, comes, comes_alone, is_part, heard_in_order, heard_in_turns, heard_step}
-use Rattle.vd_told.specs.Telling.{placed_by, in_turns, given_word, delivered_told, told}
+use Rattle.vd_told.specs.Telling.{in_turns, given_word, delivered_told, told}
 use Rattle.vd_told.proofs.Hosts.{comes_clear, picked_once}
 use Rattle.vd_told.proofs.Takers.{runs_each, part_is}
 use Rattle.vd_told.proofs.Moved.{HasInClear, given_is, delivered_is, index_is, right_is}
 
-module _ (m : Hosts) (s : Suite m) (problem : Problem) (list : List ℕ) (h : HostId) (l : Labels) (laws : Laws m s) (declared : (x : ℕ) → s.Declared (placed_by problem list x)) (clear : HasInClear m s h) (known : h.0 < s.calls.hosts) where
+module _ (m : Hosts) (s : Suite m) (protocols : List Proto) (h : HostId) (l : Labels) (laws : Laws m s) (declared : (x : ℕ) → s.Declared (proto_in protocols x)) (clear : HasInClear m s h) (known : h.0 < s.calls.hosts) where
   abbrev pub proto : ℕ → Proto
-  proto = placed_by problem list
+  proto = proto_in protocols
 
   abbrev pub heards : Block → List Heard
-  heards b = each (heard_step problem list h l) b
+  heards b = each (heard_step protocols h l) b
 
   abbrev pub low_block : Block → Bool
-  low_block b = list_all (λ x. x) (each (stmt_below (length list)) b)
+  low_block b = list_all (λ x. x) (each (stmt_below (length protocols)) b)
 
   -- ---- where nobody takes part
 
@@ -81,14 +80,14 @@ module _ (m : Hosts) (s : Suite m) (problem : Problem) (list : List ℕ) (h : Ho
   Tells b =
       (o : Sight) (k : ℕ) → InRow k (slots b) → (sees b o).all ≡ true → Fits s.calls.hosts b → Placed m s proto b → low_block b ≡ true
       → (e : E m s proto) (w : m.World) (c : SlotState) (turn : ℕ) (has : ℕ → Bool) → length e.held ≡ k → ((g : ℕ) → turns_at m s proto b g ≡ true → has g ≡ true) → turn < 2 ^ 32
-      → Ties m s proto o e w c → TurnsIn m s proto has o e w turn → told m s.calls problem list h b e w ≡ heard_in_order (heards b) turn c
+      → Ties m s proto o e w c → TurnsIn m s proto has o e w turn → told m s.calls protocols h b e w ≡ heard_in_order (heards b) turn c
 
   and_rest : (rest : Block) → Tells rest → (o o1 : Sight) (e : E m s proto) (one : Emitted s.calls proto) (n k : ℕ) (w : m.World) (c c1 : SlotState) (turn : ℕ) (has : ℕ → Bool) → length e.held ≡ k
       → InRow (k + n) (slots rest) → (sees rest o1).all ≡ true → Fits s.calls.hosts rest → Placed m s proto rest → low_block rest ≡ true → ((g : ℕ) → turns_at m s proto rest g ≡ true → has g ≡ true) → turn < 2 ^ 32
       → Ties m s proto o e w c → TurnsIn m s proto has o e w turn → After m s proto o o1 e one n w c1
-      → told m s.calls problem list h rest one.state (joint m one.tree w) ≡ heard_in_order (heards rest) turn c1
+      → told m s.calls protocols h rest one.state (joint m one.tree w) ≡ heard_in_order (heards rest) turn c1
   and_rest rest tells o o1 e one n k w c c1 turn has is row all fits placed low needs small t ts a =
-      ap (λ (u : m.World). told m s.calls problem list h rest one.state u) a.runs
+      ap (λ (u : m.World). told m s.calls protocols h rest one.state u) a.runs
       ∙ tells o1 (k + n) row all fits placed low one.state a.reached c1 turn has (ap length a.held ∙ length-append e.held a.more ∙ sum is a.many) needs small a.tied (turns_past m s proto has turn o o1 e one n w c c1 t a ts)
     where
       sum : {i j : ℕ} → i ≡ k → j ≡ n → i + j ≡ k + n
@@ -96,11 +95,11 @@ module _ (m : Hosts) (s : Suite m) (problem : Problem) (list : List ℕ) (h : Ho
 
   -- a word is moved to where the slot x stands
   word_is : (o : Sight) (next : List ℕ) (held : List s.Parts) (w : m.World) (c : SlotState) → Tied m s proto o next held w c → (y x : SlotId) → Sees o Binding y.0 → s.joins (proto y.0) (proto x.0) ≡ true
-      → word_if (comes problem list h y x) (given_word m s.calls h (s.calls.move (proto y.0) (proto x.0) (part m s proto held y.0) next) w) ≡ word_if (comes problem list h y x) (word_at c y)
+      → word_if (comes protocols h y x) (given_word m s.calls h (s.calls.move (proto y.0) (proto x.0) (part m s proto held y.0) next) w) ≡ word_if (comes protocols h y x) (word_at c y)
   word_is o next held w c t y x sees_y joins =
       let one = s.calls.move (proto y.0) (proto x.0) (part m s proto held y.0) next in
       let g = moved m s proto laws declared o next held w c t y.0 sees_y (proto x.0) (declared x.0) joins in
-      given_is m s problem list h laws declared clear (comes problem list h y x) (proto x.0) one w g.reached (word_at c y) (comes_clear problem list h y x) g.leads.runs g.stands
+      given_is m s protocols h laws declared clear (comes protocols h y x) (proto x.0) one w g.reached (word_at c y) (comes_clear protocols h y x) g.leads.runs g.stands
 
   -- ---- branches
 
@@ -156,20 +155,20 @@ module _ (m : Hosts) (s : Suite m) (problem : Problem) (list : List ℕ) (h : Ho
     beyond lt = omega arith
 
     -- the guard comes to the host where it takes part
-    guard_is : delivered_told m s.calls problem list h x e (picked 0 s.calls.hosts test) e.next w ≡ word_if (is_part problem list h x (heards tb) (heards eb) && comes_alone problem list h x) (word_at c x)
+    guard_is : delivered_told m s.calls protocols h x e (picked 0 s.calls.hosts test) e.next w ≡ word_if (is_part protocols h x (heards tb) (heards eb) && comes_alone protocols h x) (word_at c x)
     guard_is =
-        delivered_is m s problem list h laws declared clear x e (word_at c x) (picked 0 s.calls.hosts test)
+        delivered_is m s protocols h laws declared clear x e (word_at c x) (picked 0 s.calls.hosts test)
         (picked_join m s laws proto (proto x.0) test 0 s.calls.hosts (λ g lt i. reaches g (within lt) i) (omega arith)) e.next w t.ready (operand_of m s proto laws declared o e.next e.held w c t x.0 sees_x)
-        ∙ picked_once h (comes_alone problem list h x) (word_at c x) test s.calls.hosts known
-        ∙ ap (λ (b : Bool). word_if (b && comes_alone problem list h x) (word_at c x)) (sym (part_is problem list h l s.calls x tb eb low1 low2))
+        ∙ picked_once h (comes_alone protocols h x) (word_at c x) test s.calls.hosts known
+        ∙ ap (λ (b : Bool). word_if (b && comes_alone protocols h x) (word_at c x)) (sym (part_is protocols h l s.calls x tb eb low1 low2))
 
     nobody : length guard.given ≡ 0 → (g : ℕ) → g < s.calls.hosts → test g ≡ false
     nobody none g lt = loops.none_picked m s proto laws declared test 0 s.calls.hosts (no_hosts guard.given (picked 0 s.calls.hosts test) given.there.placed none) g (omega arith) (beyond lt)
 
-    pub branches_are : delivered_told m s.calls problem list h x e (picked 0 s.calls.hosts test) e.next w
-        ++ branch m guard.given (run_acts m guard.acts w) [] (told m s.calls problem list h tb (record { next = guard.next; held = e.held; loop = e.loop }) (run_acts m guard.acts w))
-        (told m s.calls problem list h eb ((emission_of m s proto tb).emit (record { next = guard.next; held = e.held; loop = e.loop })).state (run_acts m guard.acts w))
-        ≡ word_if (is_part problem list h x (heards tb) (heards eb) && comes_alone problem list h x) (word_at c x) ++ heard_in_order (if nat_eq (word_at c x) 0 then heards eb else heards tb) turn c
+    pub branches_are : delivered_told m s.calls protocols h x e (picked 0 s.calls.hosts test) e.next w
+        ++ branch m guard.given (run_acts m guard.acts w) [] (told m s.calls protocols h tb (record { next = guard.next; held = e.held; loop = e.loop }) (run_acts m guard.acts w))
+        (told m s.calls protocols h eb ((emission_of m s proto tb).emit (record { next = guard.next; held = e.held; loop = e.loop })).state (run_acts m guard.acts w))
+        ≡ word_if (is_part protocols h x (heards tb) (heards eb) && comes_alone protocols h x) (word_at c x) ++ heard_in_order (if nat_eq (word_at c x) 0 then heards eb else heards tb) turn c
     branches_are =
         let start : E m s proto = record { next = guard.next; held = e.held; loop = e.loop } in
         let other : E m s proto = ((emission_of m s proto tb).emit start).state in
@@ -177,8 +176,8 @@ module _ (m : Hosts) (s : Suite m) (problem : Problem) (list : List ℕ) (h : Ho
         let begins = loops.begins_at m s proto laws declared o (sees tb o).after (sees eb o).after (emission_of m s proto tb) (emission_of m s proto eb) (each stmt_effect tb) (each stmt_effect eb) (length (slots tb)) (length (slots eb)) k
         (turns_at m s proto tb) (turns_at m s proto eb) comes1 comes2 x sees_x reaches (both_idle m s proto laws declared tb eb) e w c turn has is covers1 covers2 small t ts in
         ap₂ (λ (p q : List ℕ). p ++ q) guard_is
-        (ap (λ (u : m.World). branch m guard.given u [] (told m s.calls problem list h tb start u) (told m s.calls problem list h eb other u)) b.leads.runs
-        ∙ branch_is (nat_eq (word_at c x) 0) (word_at c x) refl guard.next b.reached guard.given given.there.words (told m s.calls problem list h tb start b.reached) (told m s.calls problem list h eb other b.reached)
+        (ap (λ (u : m.World). branch m guard.given u [] (told m s.calls protocols h tb start u) (told m s.calls protocols h eb other u)) b.leads.runs
+        ∙ branch_is (nat_eq (word_at c x) 0) (word_at c x) refl guard.next b.reached guard.given given.there.words (told m s.calls protocols h tb start b.reached) (told m s.calls protocols h eb other b.reached)
         (heard_in_order (heards tb) turn c) (heard_in_order (heards eb) turn c)
         (λ z. (silent tb (λ g lt. or_none_left _ _ (nobody z g lt)) turn c, silent eb (λ g lt. or_none_right _ _ (nobody z g lt)) turn c))
         (tells1 o k row1 seen1 fits1 placed1 low1 start b.reached c turn has is covers1 small begins.0.0 begins.0.1)
@@ -202,7 +201,7 @@ module _ (m : Hosts) (s : Suite m) (problem : Problem) (list : List ℕ) (h : Ho
     registers = loop_registers repeat.acts_at 0 e.next
 
     turns_are : (n : ℕ) → n ≤ 2 ^ 32
-        → in_turns n (λ i. told m s.calls problem list h body inner (m.begun registers i (turns i (λ j v. joint m (repeat.emit inner).tree (m.begun registers j v)) w))) ≡ heard_in_turns n (heards body) c
+        → in_turns n (λ i. told m s.calls protocols h body inner (m.begun registers i (turns i (λ j v. joint m (repeat.emit inner).tree (m.begun registers j v)) w))) ≡ heard_in_turns n (heards body) c
     turns_are zero small = refl
     turns_are (suc n) small =
         let at = loops.all_turns m s proto laws declared o (sees body o).after repeat (effect_of body) (length (slots body)) k (turns_at m s proto body) comes_body (turns_act m s proto laws declared body) e w c is t n (omega arith) in
@@ -210,13 +209,13 @@ module _ (m : Hosts) (s : Suite m) (problem : Problem) (list : List ℕ) (h : Ho
         let turning = loops.turning m s proto laws declared o (sees body o).after repeat (effect_of body) (length (slots body)) k (turns_at m s proto body) comes_body (turns_act m s proto laws declared body) e w c is t n at in
         ap₂ (λ (p q : List ℕ). p ++ q) (turns_are n (omega arith))
         (tells1 o k row seen fits placed low inner (m.begun registers n (turns n (λ j v. joint m (repeat.emit inner).tree (m.begun registers j v)) w)) (turns n (effect_of body) c) n repeat.acts_at is (turns_act m s proto laws declared body) (omega arith) begins turning
-        ∙ ap (λ (fs : List Effect). heard_in_order (heards body) n (turns n (in_order fs) c)) (sym (runs_each problem list h l body)))
+        ∙ ap (λ (fs : List Effect). heard_in_order (heards body) n (turns n (in_order fs) c)) (sym (runs_each protocols h l body)))
 
     pub after_loop : (count : ℕ) → count ≤ 2 ^ 32 → After m s proto o o e (for_made s.calls proto count (emission_of m s proto body) e) (length (slots body)) w (turns count (effect_of body) c)
     after_loop count small = loops.loop_after m s proto laws declared o (sees body o).after repeat (effect_of body) (length (slots body)) k (turns_at m s proto body) comes_body (turns_act m s proto laws declared body) e w c is t count small
 
     pub loop_is : (count : ℕ) → count ≤ 2 ^ 32
-        → in_turns count (λ i. told m s.calls problem list h body inner (m.begun registers i (turns i (λ j v. joint m (repeat.emit inner).tree (m.begun registers j v)) w))) ≡ heard_in_turns count (heards body) c
+        → in_turns count (λ i. told m s.calls protocols h body inner (m.begun registers i (turns i (λ j v. joint m (repeat.emit inner).tree (m.begun registers j v)) w))) ≡ heard_in_turns count (heards body) c
     loop_is count small = turns_are count small
 
   -- ---- all statements
@@ -228,7 +227,7 @@ module _ (m : Hosts) (s : Suite m) (problem : Problem) (list : List ℕ) (h : Ho
       let reach = λ (i : right ≡ Turn) (g : ℕ) (p : is_holder (proto x.0) (host g) ≡ true). needs g (turn_here m s proto laws declared x right rest g i p) in
       let a = let_after m s proto laws declared o e w c turn has x right t (row.0 ∙ sym is) (and_left _ _ all) fits.0 placed.0 small reach ts in
       ap₂ (λ (p q : List ℕ). p ++ q)
-      (right_is m s problem list h laws declared clear known o e w c t turn has x right (and_left _ _ all) fits.0 placed.0 (and_right _ _ here) small reach ts)
+      (right_is m s protocols h laws declared clear known o e w c t turn has x right (and_left _ _ all) fits.0 placed.0 (and_right _ _ here) small reach ts)
       (and_rest rest (all_told rest) o (with_use Binding x.0 o) e _ 1 k w c _ turn has is row.1 (and_right _ _ all) fits.1 placed.1 (and_right _ _ low) (λ g p. needs g (turn_later m s proto laws declared x right rest g p)) small t ts a)
   all_told (NewVar v y rest) o k row all fits placed low e w c turn has is needs small t ts =
       let a = var_after m s proto laws declared o e w c v y t (row.0 ∙ sym is) (and_left _ _ all) placed.0 placed.1 in
@@ -254,15 +253,15 @@ module _ (m : Hosts) (s : Suite m) (problem : Problem) (list : List ℕ) (h : Ho
       let t1 = tied_past m s proto laws o e.next index.next e.held w b.reached c index.acts t b.leads b.quiet b.known b.longer in
       ap₂ (λ (p q : List ℕ). p ++ q)
       (ap₂ (λ (p q : List ℕ). p ++ q)
-      (index_is m s problem list h laws declared clear known o e w c t v i (and_left _ _ (and_left _ _ (and_left _ _ low))) sees_i placed.2)
-      (ap (λ (u : m.World). word_if (comes problem list h y v) (given_word m s.calls h (s.calls.move (proto y.0) (proto v.0) (part m s proto e.held y.0) index.next) u)) b.leads.runs
+      (index_is m s protocols h laws declared clear known o e w c t v i (and_left _ _ (and_left _ _ (and_left _ _ low))) sees_i placed.2)
+      (ap (λ (u : m.World). word_if (comes protocols h y v) (given_word m s.calls h (s.calls.move (proto y.0) (proto v.0) (part m s proto e.held y.0) index.next) u)) b.leads.runs
       ∙ word_is o index.next e.held b.reached c t1 y v sees_y placed.1))
       (and_rest rest (all_told rest) o o e _ 0 k w c _ turn has is (no_slots m s proto laws declared k _ row) (and_right _ _ all) fits placed.3 (and_right _ _ low) needs small t ts a)
   all_told (Output y g offset rest) o k row all fits placed low e w c turn has is needs small t ts =
       let a = output_after m s proto laws declared o e w c y g t (and_left _ _ all) fits.0 placed.0 in
       ap₂ (λ (p q : List ℕ). p ++ q)
-      (delivered_is m s problem list h laws declared clear y e (word_at c y) (g ∷ []) ((fits.0, placed.0), tt) e.next w t.ready (operand_of m s proto laws declared o e.next e.held w c t y.0 (and_left _ _ all))
-      ∙ append-nil (word_if (same_host h g && comes_alone problem list h y) (word_at c y)))
+      (delivered_is m s protocols h laws declared clear y e (word_at c y) (g ∷ []) ((fits.0, placed.0), tt) e.next w t.ready (operand_of m s proto laws declared o e.next e.held w c t y.0 (and_left _ _ all))
+      ∙ append-nil (word_if (same_host h g && comes_alone protocols h y) (word_at c y)))
       (and_rest rest (all_told rest) o o e _ 0 k w c _ turn has is (no_slots m s proto laws declared k _ row) (and_right _ _ all) fits.1 placed.1 (and_right _ _ low) needs small t ts a)
   all_told (If x tb eb offset rest) o k row all fits placed low e w c turn has is needs small t ts =
       let here = and_left _ _ all in
@@ -280,7 +279,7 @@ module _ (m : Hosts) (s : Suite m) (problem : Problem) (list : List ℕ) (h : Ho
       (branches_are tb eb (all_told tb) (all_told eb) x o k front back (and_left _ _ (and_left _ _ here)) (and_right _ _ (and_left _ _ here)) (and_right _ _ here) fits.0 fits.1 placed.1 placed.2 low1 low2 placed.0 e w c turn has is covers1 covers2 small t ts)
       (and_rest rest (all_told rest) o o e _ (length (slots tb) + length (slots eb)) k w c _ turn has is (subst (λ z. InRow (k + z) (slots rest)) (length-append (slots tb) (slots eb)) row2) (and_right _ _ all) fits.2 placed.3 (and_right _ _ low)
       (λ g p. needs g (or_right _ _ p)) small t ts a
-      ∙ ap₂ (λ (gs fs : List Effect). heard_in_order (heards rest) turn (in_order (if nat_eq (word_at c x) 0 then fs else gs) turn c)) (sym (runs_each problem list h l tb)) (sym (runs_each problem list h l eb)))
+      ∙ ap₂ (λ (gs fs : List Effect). heard_in_order (heards rest) turn (in_order (if nat_eq (word_at c x) 0 then fs else gs) turn c)) (sym (runs_each protocols h l tb)) (sym (runs_each protocols h l eb)))
   all_told (For count body rest) o k row all fits placed low e w c turn has is needs small t ts =
       let row1 = row_front k (slots body) (slots rest) row in
       let row2 = row_back k (slots body) (slots rest) row in
@@ -289,4 +288,4 @@ module _ (m : Hosts) (s : Suite m) (problem : Problem) (list : List ℕ) (h : Ho
       ap₂ (λ (p q : List ℕ). p ++ q)
       (loop_is body (all_told body) o k row1 (and_left _ _ all) fits.1 placed.0 low1 e w c is t count fits.0)
       (and_rest rest (all_told rest) o o e _ (length (slots body)) k w c _ turn has is row2 (and_right _ _ all) fits.2 placed.1 (and_right (low_block body) (low_block rest) low) needs small t ts a
-      ∙ ap (λ (fs : List Effect). heard_in_order (heards rest) turn (turns count (in_order fs) c)) (sym (runs_each problem list h l body)))
+      ∙ ap (λ (fs : List Effect). heard_in_order (heards rest) turn (turns count (in_order fs) c)) (sym (runs_each protocols h l body)))

@@ -1,5 +1,5 @@
 -- Which moves come to a host, by what stands where.
-use Rattle.std.proofs.Common.{◌≡◌, ◌≢◌, ℕ, zero, suc, ◌+◌, ◌<◌, ◌≤◌, nat_eq, ◌&&◌, not, Bool, true, false, true≢false, if◌then◌else◌, List, [], ◌∷◌, ◌++◌, length, slice_get, slice_index, refl, sym, ap, ◌∙◌, arith, append-nil}
+use Rattle.std.proofs.Common.{◌≡◌, ◌≢◌, ℕ, zero, suc, ◌+◌, ◌<◌, ◌≤◌, nat_eq, ◌&&◌, not, Bool, true, false, true≢false, if◌then◌else◌, List, [], ◌∷◌, ◌++◌, length, slice_get, refl, sym, ap, ◌∙◌, arith, append-nil}
 use Rattle.std.specs.Option.{option_map_or}
 use Rattle.std.proofs.lemmas.Bool.{and_parts, eq-eqb, eqb-true}
 use native.Mathlib.Decide.{ℕ_discrete}
@@ -8,21 +8,18 @@ use Rattle.vd_base.specs.declared.ids.SlotId.{SlotId}
 use Rattle.vd_base.specs.declared.protocols.Proto.{Proto}
 use Rattle.vd_base.specs.declared.protocols.Proto.TheVariants.{Local, Rep, Commit, Add, Xor}
 use Rattle.vd_base.specs.HostSets.{host, same_host}
-use Rattle.vd_base.specs.Holders.{is_holder}
-use Rattle.vd_space.specs.declared.problem.Problem.{Problem}
-use Rattle.vd_space.specs.Validity.{protocol}
+use Rattle.vd_base.specs.Holders.{is_holder, proto_in, same_protocol}
 use Rattle.vd_joint.specs.Suite.{picked}
 use Rattle.vd_assigned_dependence.specs.Hearing.{has_clear, word_if, stands, comes}
-use Rattle.vd_told.specs.Telling.{placed_by}
 
 -- ---- items of lists
 
-found_at : (f : ℕ → Bool) (xs : List ℕ) (k : ℕ) → option_map_or f (slice_get xs k) false ≡ true → f (slice_index xs k) ≡ true
+found_at : (f : Proto → Bool) (xs : List Proto) (k : ℕ) → option_map_or f (slice_get xs k) false ≡ true → f (proto_in xs k) ≡ true
 found_at f [] k e = absurd (true≢false (sym e))
 found_at f (x ∷ xs) zero e = e
 found_at f (x ∷ xs) (suc k) e = found_at f xs k e
 
-item_at : (f : ℕ → Bool) (xs : List ℕ) (k : ℕ) → k < length xs → option_map_or f (slice_get xs k) false ≡ f (slice_index xs k)
+pub item_at : (f : Proto → Bool) (xs : List Proto) (k : ℕ) → k < length xs → option_map_or f (slice_get xs k) false ≡ f (proto_in xs k)
 item_at f [] k low = absurd (omega (arith, low))
 item_at f (x ∷ xs) zero low = refl
 item_at f (x ∷ xs) (suc k) low = item_at f xs k (omega (arith, low))
@@ -45,16 +42,15 @@ holder_is (Commit p v) h = refl
 holder_is (Add a b) h = refl
 holder_is (Xor a b) h = refl
 
-module _ (problem : Problem) (list : List ℕ) (h : HostId) where
+module _ (protocols : List Proto) (h : HostId) where
   -- what comes is in clear where it comes to
-  pub comes_clear : (y x : SlotId) → comes problem list h y x ≡ true → has_clear h (placed_by problem list x.0) ≡ true
+  pub comes_clear : (y x : SlotId) → comes protocols h y x ≡ true → has_clear h (proto_in protocols x.0) ≡ true
   comes_clear y x e =
-      found_at (λ p. has_clear h (protocol problem p)) list x.0
-      (and_parts (stands problem list h (has_clear h) x) (not (nat_eq (slice_index list y.0) (slice_index list x.0))) e).0
+      found_at (has_clear h) protocols x.0 (and_parts (stands protocols h (has_clear h) x) (not (same_protocol (proto_in protocols y.0) (proto_in protocols x.0))) e).0
 
   -- a slot of the program is kept at the hosts of its protocol
-  pub kept_at : (x : SlotId) → x.0 < length list → stands problem list h (λ p. is_holder p h) x ≡ is_holder (placed_by problem list x.0) (host h.0)
-  kept_at x low = item_at (λ p. is_holder (protocol problem p) h) list x.0 low ∙ holder_is (protocol problem (slice_index list x.0)) h
+  pub kept_at : (x : SlotId) → x.0 < length protocols → stands protocols h (λ p. is_holder p h) x ≡ is_holder (proto_in protocols x.0) (host h.0)
+  kept_at x low = item_at (λ p. is_holder p h) protocols x.0 low ∙ holder_is (proto_in protocols x.0) h
 
 -- ---- a word for each host
 

@@ -1,6 +1,8 @@
 -- A worked program in its joint run: what comes to whom.
 use Rattle.std.specs.Prelude.{◌≡◌, ℕ, List, [], ◌∷◌}
 use Rattle.vd_base.specs.declared.ids.HostId.{HostId}
+use Rattle.vd_base.specs.declared.protocols.Proto.{Proto}
+use Rattle.vd_base.specs.Holders.{proto_in}
 use Rattle.vd_execution.specs.Joint.{fresh}
 use Rattle.vd_joint.specs.Block.{Block, block_of}
 use Rattle.vd_joint.specs.Emission.{emitting_at_start}
@@ -8,14 +10,14 @@ use Rattle.vd_suite.specs.Given.{zero_deal}
 use Rattle.vd_suite.specs.Machine.{machine}
 use Rattle.vd_suite.specs.Parts.{suite_calls}
 use Rattle.vd_suite.specs.Whole.{inputs_of}
-use Rattle.vd_assigned_dependence.specs.Example.{bob, two_hosts, guarded, copied}
-use Rattle.vd_told.specs.Telling.{placed_by, told}
+use Rattle.vd_assigned_dependence.specs.Example.{bob, guarded, copied}
+use Rattle.vd_told.specs.Telling.{told}
 
 -- the words that come to a host in the joint run of a program with these protocols, where alice and bob have these inputs
-abbrev pub told_of : Block → List ℕ → HostId → ℕ → ℕ → List ℕ
-told_of block list h a b =
+abbrev pub told_of : Block → List Proto → HostId → ℕ → ℕ → List ℕ
+told_of block protocols h a b =
     let inputs = inputs_of ((a ∷ []) ∷ (b ∷ []) ∷ []) in
-    told (machine (zero_deal inputs) inputs) (suite_calls 2) two_hosts list h block (emitting_at_start (suite_calls 2) (placed_by two_hosts list)) fresh
+    told (machine (zero_deal inputs) inputs) (suite_calls 2) protocols h block (emitting_at_start (suite_calls 2) (proto_in protocols)) fresh
 
 -- bob's registers hold the guard where he is told it, and the word of the variable where it is output to him
 pub record WorkedRegisters : Type 0 where

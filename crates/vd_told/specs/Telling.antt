@@ -1,26 +1,21 @@
 -- What comes to a host in clear in the joint run: at each move to where it has a word in clear, what the register then holds
 -- in which its program has the word.
-use Rattle.std.specs.Prelude.{ℕ, zero, suc, ◌&&◌, ◌||◌, List, [], ◌∷◌, ◌++◌, slice_index}
+use Rattle.std.specs.Prelude.{ℕ, zero, suc, ◌&&◌, ◌||◌, List, [], ◌∷◌, ◌++◌}
 use Rattle.vd_base.specs.declared.ids.HostId.{HostId}
 use Rattle.vd_base.specs.declared.ids.SlotId.{SlotId}
 use Rattle.vd_base.specs.declared.protocols.Proto.{Proto}
 use Rattle.vd_base.specs.declared.protocols.Proto.TheVariants.{Local}
 use Rattle.vd_base.specs.HostSets.{same_host}
+use Rattle.vd_base.specs.Holders.{proto_in}
 use Rattle.vd_core.specs.declared.normal.Right.{Right}
 use Rattle.vd_core.specs.declared.normal.Right.TheVariants.{Lit, Turn, Copy, Apply, Input, Declassify, Endorse, Load, Get}
 use Rattle.vd_core.specs.declared.normal.Stmt.TheOpen.{Stmt-F}
 use Rattle.vd_meaning.specs.Turns.{turns}
-use Rattle.vd_space.specs.declared.problem.Problem.{Problem}
-use Rattle.vd_space.specs.Validity.{protocol}
 use Rattle.vd_joint.specs.Block.{Block, End, Let, NewVar, NewArray, Store, Put, Output, If, For, each}
 use Rattle.vd_joint.specs.Joint.{Hosts, run_acts, branch, joint}
 use Rattle.vd_joint.specs.Suite.{picked, Made, Calls, hosts_of}
 use Rattle.vd_joint.specs.Emission.{Emitting, Emitted, Emission, parts_at, delivered, right_made, in_turn, stmt_emission, loop_registers, after_loop_registers}
 use Rattle.vd_assigned_dependence.specs.Hearing.{word_if, comes, comes_alone}
-
--- the protocol of each slot, where a list gives it
-abbrev pub placed_by : Problem → List ℕ → ℕ → Proto
-placed_by problem list x = protocol problem (slice_index list x)
 
 -- the words of turns, one after another
 abbrev pub in_turns : ℕ → (ℕ → List ℕ) → List ℕ
@@ -32,9 +27,9 @@ module _ (m : Hosts) {P : Type 0} (s : Calls m.Act P) (h : HostId) where
   abbrev pub given_word : Made m.Act P → m.World → ℕ
   given_word made w = m.word (run_acts m made.acts w) h.0 (s.register made.given h.0)
 
-module _ (m : Hosts) {P : Type 0} (s : Calls m.Act P) (problem : Problem) (list : List ℕ) (h : HostId) where
+module _ (m : Hosts) {P : Type 0} (s : Calls m.Act P) (protocols : List Proto) (h : HostId) where
   abbrev pub proto : ℕ → Proto
-  proto = placed_by problem list
+  proto = proto_in protocols
 
   abbrev pub emission_of : Block → Emission s proto
   emission_of b = in_turn s proto (each (stmt_emission s proto) b)
@@ -44,19 +39,19 @@ module _ (m : Hosts) {P : Type 0} (s : Calls m.Act P) (problem : Problem) (list 
   operands_told x e [] next w = []
   operands_told x e (y ∷ ys) next w =
       let one = s.move (proto y.0) (proto x.0) (parts_at s proto e y) next in
-      word_if (comes problem list h y x) (given_word m s h one w) ++ operands_told x e ys one.next (run_acts m one.acts w)
+      word_if (comes protocols h y x) (given_word m s h one w) ++ operands_told x e ys one.next (run_acts m one.acts w)
 
   -- a word that is moved to each of some hosts alone
   abbrev pub delivered_told : SlotId → Emitting s proto → List HostId → List ℕ → m.World → List ℕ
   delivered_told x e [] next w = []
   delivered_told x e (k ∷ ks) next w =
       let one = s.move (proto x.0) (Local k) (parts_at s proto e x) next in
-      let here = same_host h k && comes_alone problem list h x in
+      let here = same_host h k && comes_alone protocols h x in
       word_if here (given_word m s h one w) ++ delivered_told x e ks one.next (run_acts m one.acts w)
 
   -- a right side that is bound to x: its word is moved there last
   abbrev pub moved_told : SlotId → SlotId → Right → Emitting s proto → m.World → List ℕ
-  moved_told y x right e w = word_if (comes problem list h y x) (given_word m s h (right_made s proto (proto x.0) right e) w)
+  moved_told y x right e w = word_if (comes protocols h y x) (given_word m s h (right_made s proto (proto x.0) right e) w)
 
   abbrev pub right_told : SlotId → Right → Emitting s proto → m.World → List ℕ
   right_told x (Lit n) e w = []
@@ -72,7 +67,7 @@ module _ (m : Hosts) {P : Type 0} (s : Calls m.Act P) (problem : Problem) (list 
   -- a word that is moved to where the slot stands
   abbrev pub word_told : SlotId → SlotId → Emitting s proto → List ℕ → m.World → List ℕ
   word_told y x e next w =
-      word_if (comes problem list h y x) (given_word m s h (s.move (proto y.0) (proto x.0) (parts_at s proto e y) next) w)
+      word_if (comes protocols h y x) (given_word m s h (s.move (proto y.0) (proto x.0) (parts_at s proto e y) next) w)
 
   -- the acts of a statement, and the state of the splitter after it
   abbrev pub made : Stmt-F (Emission s proto) → Emitting s proto → Emitted s proto

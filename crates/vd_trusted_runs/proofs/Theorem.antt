@@ -1,15 +1,13 @@
 -- What hosts that keep to their programs print in a whole run in which others depart.
-use Rattle.std.proofs.Common.{◌≡◌, ℕ, zero, suc, ◌+◌, ◌^◌, ◌<◌, ◌≤◌, nat_eq, ◌||◌, Bool, true, false, true≢false, if◌then◌else◌, List, [], ◌∷◌, ◌++◌, inl, length, drop, map, replicate, slice_index, slice_index_or, refl, sym, ap, subst, ◌∙◌, arith, ◌⊎◌, nat_lt, inr}
-use Rattle.std.proofs.lemmas.Bool.Decides.{nat_tests}
-use Rattle.std.proofs.lemmas.List.{get_or_past}
+use Rattle.std.proofs.Common.{◌≡◌, ℕ, zero, suc, ◌+◌, ◌^◌, ◌<◌, ◌≤◌, nat_eq, ◌||◌, Bool, true, false, true≢false, if◌then◌else◌, List, [], ◌∷◌, ◌++◌, inl, length, drop, map, replicate, slice_index, slice_index_or, refl, sym, ap, subst, ◌∙◌, arith}
 use Rattle.std.specs.Prelude.{filter}
-use Rattle.std.specs.List.{concat, list_all, list_any, range_with_len}
+use Rattle.std.specs.List.{concat, list_all, list_any, range_with_len, All}
 use Rattle.std.proofs.lemmas.Bool.{and_parts, eqb-true}
 use Rattle.vd_base.specs.declared.ids.HostId.{HostId}
 use Rattle.vd_base.specs.declared.protocols.Proto.{Proto}
 use Rattle.vd_base.specs.declared.protocols.Proto.TheVariants.{Local, Rep, Commit, Add, Xor}
-use Rattle.vd_base.specs.Protocols.{protocols_of}
 use Rattle.vd_base.specs.HostSets.{has_host, host}
+use Rattle.vd_base.specs.Holders.{proto_in}
 use Rattle.vd_core.specs.declared.normal.NormalForm.{NormalForm}
 use Rattle.vd_core.specs.Facts.{is_binding, nothing_seen, Seeing, slots_step, seeing_step, seeing_all, IsWellMade}
 use Rattle.vd_formula.specs.TruthTable.{TruthTable}
@@ -19,7 +17,6 @@ use Rattle.vd_constraints.specs.Satisfies.{Satisfies}
 use Rattle.vd_constraints.specs.Scoped.{stmt_below}
 use Rattle.vd_constraints.proofs.InSight.{well_made_scoped}
 use Rattle.vd_space.specs.Reading.{problem_of}
-use Rattle.vd_space.specs.Validity.{protocol}
 use Rattle.vd_execution.specs.Joint.{Hosts, fresh}
 use Rattle.vd_execution.specs.World.{Tape}
 use Rattle.vd_joint.specs.Block.{block_of, each}
@@ -37,7 +34,7 @@ use Rattle.vd_suite.specs.Parts.{suite_calls}
 use Rattle.vd_suite.specs.Suite.{suite}
 use Rattle.vd_suite.specs.Whole.{inputs_of, CanRun}
 use Rattle.vd_suite.proofs.TwoHosts.{has_member}
-use Rattle.vd_whole.specs.Lists.{protos_of, IsChosen}
+use Rattle.vd_whole.specs.Assignments.{IsChosen}
 use Rattle.vd_whole.proofs.Chosen.{can_run}
 use Rattle.vd_dependence.specs.Flowing.{Knowledge, all_flow, flow_step}
 use Rattle.vd_dependence.specs.Reading.{start, visible_slots}
@@ -46,7 +43,7 @@ use Rattle.vd_dependence.proofs.Members.{times, body_splits}
 use Rattle.vd_trust.specs.Trust.{OfEachProgram, against, becomes_trusted, trusts_slot}
 use Rattle.vd_trust.proofs.Lawful.{knowledge}
 use Rattle.vd_trust.proofs.Theorem.{against_is_trust, trusted_flows}
-use Rattle.vd_assigned_dependence.specs.Assigned.{IsAssignment}
+use Rattle.vd_cheapest.specs.Cheapest.{IsAssignment}
 use Rattle.vd_assigned_trust.specs.Keeping.{is_kept}
 use Rattle.vd_assigned_trust.proofs.Assigned.{words_guarded}
 use Rattle.vd_told.specs.Told.{IsDealt}
@@ -55,7 +52,7 @@ use Rattle.vd_departing.specs.Copies.{IsInClear}
 use Rattle.vd_departing.specs.Departing.{AreRight}
 use Rattle.vd_endorsed.specs.Endorsed.{Doing, Given, all_done, given_step}
 use Rattle.vd_endorsed.proofs.Hiding.{run_of}
-use Rattle.vd_trusted_runs.specs.Trusted.{Begins, FrontsAreExplained, IsExplained, IsExplainedSoFar, RunsAreExplained, RunsIntoAttack, RunsWithAttackers, StandsInClear, parts_at_end}
+use Rattle.vd_trusted_runs.specs.Trusted.{Begins, FrontsAreExplained, IsExplained, IsExplainedSoFar, RunsAreExplained, RunsIntoAttack, RunsWithAttackers, StandInClear, parts_at_end}
 use Rattle.vd_trusted_runs.proofs.Calls.{IsKeptAt}
 use Rattle.vd_trusted_runs.proofs.Statements.{given}
 use Rattle.vd_trusted_runs.proofs.Stopping.{Stopped, block_stops}
@@ -119,23 +116,11 @@ kept_somewhere keeps n few (Commit p v) clear is = absurd clear
 kept_somewhere keeps n few (Add a b) clear is = absurd clear
 kept_somewhere keeps n few (Xor a b) clear is = absurd clear
 
-first_in_clear : (n : ℕ) → IsInClear (slice_index_or (protocols_of n) 0 (Local (host 0)))
-unfolding lib.Count.ones
-first_in_clear zero = tt
-first_in_clear (suc n) = tt
-
-nat_order : (a b : ℕ) → (a < b) ⊎ (b ≤ a)
-nat_order a b = by (nat_lt a b) refl
-  where
-    lower : nat_lt a b ≡ true → a < b
-    lower e = grind (arith, nat_tests)
-
-    higher : nat_lt a b ≡ false → b ≤ a
-    higher e = grind (arith, nat_tests)
-
-    by : (c : Bool) → nat_lt a b ≡ c → (a < b) ⊎ (b ≤ a)
-    by true e = inl (lower e)
-    by false e = inr (higher e)
+-- what is beyond the list stands at the first host
+each_in_clear : (protocols : List Proto) → All IsInClear protocols → (x : ℕ) → IsInClear (proto_in protocols x)
+each_in_clear [] all x = tt
+each_in_clear (q ∷ protocols) all zero = all 0 (Local (host 0)) (omega arith)
+each_in_clear (q ∷ protocols) all (suc x) = each_in_clear protocols (λ j e lt. all (suc j) e (omega (arith, lt))) x
 
 none_seen : (u : Use) (x : ℕ) → Sees nothing_seen u x → ⊥
 none_seen Binding x i = true≢false (sym i)
@@ -158,13 +143,13 @@ all_dropped (x ∷ xs) = refl
 from_zero : (i : ℕ) → 0 + i ≡ i
 from_zero i = omega arith
 
-module _ (p : NormalForm) (l : Labels) (well : IsWellMade p) (satisfies : Satisfies (system_of p) l) (numbers : NumbersFit p) (list : List ℕ) (assigned : IsAssignment p l list) (in_clear : StandsInClear p l list) (set : ℕ) (low : set < 2 ^ length p.principals)
+module _ (p : NormalForm) (l : Labels) (well : IsWellMade p) (satisfies : Satisfies (system_of p) l) (numbers : NumbersFit p) (protocols : List Proto) (assigned : IsAssignment (problem_of p l) protocols) (in_clear : StandInClear protocols) (set : ℕ) (low : set < 2 ^ length p.principals)
     (inputs : List (List ℕ)) (t : Tape) (dealt : IsDealt inputs t) where
   abbrev n : ℕ
   n = length p.hosts
 
   abbrev proto : ℕ → Proto
-  proto = protos_of (problem_of p l) list
+  proto = proto_in protocols
 
   abbrev T : TruthTable → Bool
   T = against set
@@ -175,21 +160,17 @@ module _ (p : NormalForm) (l : Labels) (well : IsWellMade p) (satisfies : Satisf
   abbrev k : Knowledge
   k = knowledge p l (against set) (becomes_trusted l (against set)) nothing (λ x. list_any (nat_eq x) (visible_slots (trusts_slot l (against set)) p.body))
 
-  -- what is beyond the list stands at the first host
-  clear : (x : ℕ) → IsInClear (protos_of (problem_of p l) list x)
-  clear x = elim (nat_order x (length p.slots)) [
-    | inl less ↦ in_clear x less
-    | inr le ↦ subst (λ q. IsInClear (protocol (problem_of p l) q)) (sym (get_or_past list x 0 (let whole = assigned.whole in omega (arith, le, whole)))) (first_in_clear (length (problem_of p l).hosts))
-  ]
+  clear : (x : ℕ) → IsInClear (proto_in protocols x)
+  clear x = each_in_clear protocols in_clear x
 
-  chosen : IsChosen p l list
-  chosen = record { made = well; numbers = numbers; whole = assigned.whole; valid = assigned.valid }
+  chosen : IsChosen p l protocols
+  chosen = record { made = well; numbers = numbers; assignment = assigned }
 
-  can : CanRun p (protos_of (problem_of p l) list) inputs t
-  can = can_run p l list chosen inputs dealt.words t dealt.deal dealt.given
+  can : CanRun p (proto_in protocols) inputs t
+  can = can_run p l protocols chosen inputs dealt.words t dealt.deal dealt.given
 
   guarded : (x : ℕ) → x < length p.slots → trusts_slot l (against set) x ≡ true → IsKeptAt k.known (proto x)
-  guarded x less is = kept_somewhere k.known n (let few = well.limits.hosts in omega (arith, few)) (proto x) (clear x) ((words_guarded p l well satisfies list assigned set low (record { 0 = x }) less).kept is)
+  guarded x less is = kept_somewhere k.known n (let few = well.limits.hosts in omega (arith, few)) (proto x) (clear x) ((words_guarded p l well satisfies protocols assigned set low (record { 0 = x }) less).kept is)
 
   visible_low : (x : ℕ) → view x ≡ true → x < length p.slots
   visible_low x is =
@@ -237,7 +218,7 @@ module _ (p : NormalForm) (l : Labels) (well : IsWellMade p) (satisfies : Satisf
     };
   }
 
-  module _ (w : Hosts) (run : RunsWithAttackers p l list set t w) where
+  module _ (w : Hosts) (run : RunsWithAttackers p l protocols set t w) where
     abbrev e0 : Emitting (suite_calls n) proto
     e0 = emitting_at_start (suite_calls n) proto
 
@@ -248,7 +229,7 @@ module _ (p : NormalForm) (l : Labels) (well : IsWellMade p) (satisfies : Satisf
         (λ g i. absurd (no_turns (machine t (inputs_of inputs)) (suite t (inputs_of inputs) n) proto p well g i)) (omega arith)
         (tied_at_start (machine t (inputs_of inputs)) (suite t (inputs_of inputs) n) proto n refl inputs fresh starts) (λ g lt i. absurd (true≢false (sym i))) fresh w (start p inputs) begins (λ h less i. absurd (true≢false (sym i))) run
 
-    pub explained : IsExplained p l list set inputs w
+    pub explained : IsExplained p l protocols set inputs w
     explained = record {
       words = leads.words ++ [];
       printed = λ h less keep.
@@ -258,11 +239,11 @@ module _ (p : NormalForm) (l : Labels) (well : IsWellMade p) (satisfies : Satisf
       held = λ x sees_x there.
           let right = leads.trust.right Binding x.0 (ap (λ (ss : List Seeing). is_binding (seeing_all ss nothing_seen).after x) (sym (fold_each seeing_step p.body)) ∙ sees_x) there in
           let run_is = ap (λ (fs : List Doing). all_done fs 0 (given (start p inputs) (leads.words ++ []))) (fold_each (given_step (becomes_trusted l (against set))) p.body) ∙ leads.runs [] in
-          subst (λ (z : Given). AreRight k.known w (parts_at_end p l list x).at (word_at z.state x)) (sym run_is)
+          subst (λ (z : Given). AreRight k.known w (parts_at_end p protocols x).at (word_at z.state x)) (sym run_is)
           (subst (λ (fs : List (Emission (suite_calls n) proto)). AreRight k.known w (parts_at (suite_calls n) proto ((in_turn (suite_calls n) proto fs).emit e0).state x).at (word_at leads.after x)) (sym (fold_each (stmt_emission (suite_calls n) proto) p.body)) right);
     }
 
-  module _ (w : Hosts) (run : RunsIntoAttack p l list set t w) where
+  module _ (w : Hosts) (run : RunsIntoAttack p l protocols set t w) where
     stopped : Stopped n t dealt.deal (inputs_of inputs) dealt.given proto clear can.over k (λ x y. refl) stays (λ h is. is) (length p.slots) endorses (λ x y. (refl, refl)) (λ h is. is) (run_of k (block_of p.body)) 0 w (start p inputs)
     stopped =
         block_stops n t dealt.deal (inputs_of inputs) dealt.given proto clear can.over k (λ x y. refl) stays (λ h is. is) (length p.slots) endorses (λ x y. (refl, refl)) (λ h is. is)
@@ -279,7 +260,7 @@ module _ (p : NormalForm) (l : Labels) (well : IsWellMade p) (satisfies : Satisf
     }
 
 pub runs_explained : OfEachProgram (λ p l. RunsAreExplained p l)
-runs_explained p l well satisfies numbers list assigned clear set low inputs t dealt w run = explained p l well satisfies numbers list assigned clear set low inputs t dealt w run
+runs_explained p l well satisfies numbers protocols assigned clear set low inputs t dealt w run = explained p l well satisfies numbers protocols assigned clear set low inputs t dealt w run
 
 pub fronts_explained : OfEachProgram (λ p l. FrontsAreExplained p l)
-fronts_explained p l well satisfies numbers list assigned clear set low inputs t dealt w run = explained_so_far p l well satisfies numbers list assigned clear set low inputs t dealt w run
+fronts_explained p l well satisfies numbers protocols assigned clear set low inputs t dealt w run = explained_so_far p l well satisfies numbers protocols assigned clear set low inputs t dealt w run

@@ -1,7 +1,10 @@
 -- Whole runs in which hosts for whose integrity attackers can act depart from their programs.
 use Rattle.std.specs.Prelude.{◌≡◌, ℕ, ◌^◌, ◌<◌, Bool, true, List, ◌++◌, length, map}
+use Rattle.std.specs.List.{All}
 use Rattle.vd_base.specs.declared.ids.HostId.{HostId}
 use Rattle.vd_base.specs.declared.ids.SlotId.{SlotId}
+use Rattle.vd_base.specs.declared.protocols.Proto.{Proto}
+use Rattle.vd_base.specs.Holders.{proto_in}
 use Rattle.vd_core.specs.declared.normal.NormalForm.{NormalForm}
 use Rattle.vd_core.specs.Facts.{is_binding, nothing_seen, seeing, seeing_all}
 use Rattle.vd_constraints.specs.declared.labels.Labels.{Labels}
@@ -13,9 +16,8 @@ use Rattle.vd_joint.specs.Block.{block_of}
 use Rattle.vd_joint.specs.Emission.{block_emission, emitting_at_start, parts_at}
 use Rattle.vd_core.specs.Numbers.{NumbersFit}
 use Rattle.vd_suite.specs.Parts.{Parts, suite_calls}
-use Rattle.vd_whole.specs.Lists.{protos_of}
 use Rattle.vd_trust.specs.Trust.{against, becomes_trusted, in_trust, trusts_host}
-use Rattle.vd_assigned_dependence.specs.Assigned.{IsAssignment}
+use Rattle.vd_cheapest.specs.Cheapest.{IsAssignment}
 use Rattle.vd_told.specs.Told.{IsDealt}
 use Rattle.vd_departing.specs.Copies.{IsInClear}
 use Rattle.vd_departing.specs.Departing.{AreRight}
@@ -27,41 +29,41 @@ abbrev pub keeps_from : NormalForm → ℕ → ℕ → Bool
 keeps_from p set h = trusts_host p (against set) h
 
 -- The program runs at these protocols from its start to this state of all hosts, where all others may send any words.
-abbrev pub RunsWithAttackers : NormalForm → Labels → List ℕ → ℕ → Tape → Hosts → Type 0
-RunsWithAttackers p l list set t w =
-    RunsBlock (length p.hosts) (protos_of (problem_of p l) list) (keeps_from p set) t (becomes_trusted l (against set)) (block_of p.body)
-    (emitting_at_start (suite_calls (length p.hosts)) (protos_of (problem_of p l) list)) fresh w
+abbrev pub RunsWithAttackers : NormalForm → Labels → List Proto → ℕ → Tape → Hosts → Type 0
+RunsWithAttackers p l protocols set t w =
+    RunsBlock (length p.hosts) (proto_in protocols) (keeps_from p set) t (becomes_trusted l (against set)) (block_of p.body)
+    (emitting_at_start (suite_calls (length p.hosts)) (proto_in protocols)) fresh w
 
 -- It runs so, and maybe stops there before one of its statements, as where a comparison fails next.
-abbrev pub RunsIntoAttack : NormalForm → Labels → List ℕ → ℕ → Tape → Hosts → Type 0
-RunsIntoAttack p l list set t w =
-    RunsInto (length p.hosts) (protos_of (problem_of p l) list) (keeps_from p set) t (becomes_trusted l (against set)) (block_of p.body)
-    (emitting_at_start (suite_calls (length p.hosts)) (protos_of (problem_of p l) list)) fresh w
+abbrev pub RunsIntoAttack : NormalForm → Labels → List Proto → ℕ → Tape → Hosts → Type 0
+RunsIntoAttack p l protocols set t w =
+    RunsInto (length p.hosts) (proto_in protocols) (keeps_from p set) t (becomes_trusted l (against set)) (block_of p.body)
+    (emitting_at_start (suite_calls (length p.hosts)) (proto_in protocols)) fresh w
 
 -- each slot stands in clear, at one host or as copies at several
-abbrev pub StandsInClear : NormalForm → Labels → List ℕ → Type 0
-StandsInClear p l list = (x : ℕ) → x < length p.slots → IsInClear (protos_of (problem_of p l) list x)
+abbrev pub StandInClear : List Proto → Type 0
+StandInClear protocols = All IsInClear protocols
 
 -- the parts of a slot behind the last statement
-abbrev pub parts_at_end : NormalForm → Labels → List ℕ → SlotId → Parts
-parts_at_end p l list x =
+abbrev pub parts_at_end : NormalForm → List Proto → SlotId → Parts
+parts_at_end p protocols x =
     let calls = suite_calls (length p.hosts) in
-    let proto = protos_of (problem_of p l) list in
+    let proto = proto_in protocols in
     parts_at calls proto ((block_emission calls proto p.body).emit (emitting_at_start calls proto)).state x
 
 -- Some words that become trusted explain what the hosts that keep to their programs have printed, and what they hold of the bindings
 -- in sight at the end that are in trust: these are those of the program on the inputs, where these words are endorsed.
-pub record IsExplained (p : NormalForm) (l : Labels) (list : List ℕ) (set : ℕ) (inputs : List (List ℕ)) (w : Hosts) : Type 0 where
+pub record IsExplained (p : NormalForm) (l : Labels) (protocols : List Proto) (set : ℕ) (inputs : List (List ℕ)) (w : Hosts) : Type 0 where
   pub words : List ℕ
   pub printed : (h : HostId) → h.0 < length p.hosts → keeps_from p set h.0 ≡ true → (w h.0).printed ≡ outputs_given p (becomes_trusted l (against set)) h words inputs
   pub held : (x : SlotId) → is_binding (seeing_all (map seeing p.body) nothing_seen).after x ≡ true → in_trust p l (against set) x.0 ≡ true
-      → AreRight (keeps_from p set) w (parts_at_end p l list x).at (word_at (run_given p (becomes_trusted l (against set)) words inputs).state x)
+      → AreRight (keeps_from p set) w (parts_at_end p protocols x).at (word_at (run_given p (becomes_trusted l (against set)) words inputs).state x)
 
 -- So it is at each valid assignment in clear, with each deal.
 abbrev pub RunsAreExplained : NormalForm → Labels → Type 0
 RunsAreExplained p l =
-    NumbersFit p → (list : List ℕ) → IsAssignment p l list → StandsInClear p l list → (set : ℕ) → set < 2 ^ length p.principals
-    → (inputs : List (List ℕ)) (t : Tape) → IsDealt inputs t → (w : Hosts) → RunsWithAttackers p l list set t w → IsExplained p l list set inputs w
+    NumbersFit p → (protocols : List Proto) → IsAssignment (problem_of p l) protocols → StandInClear protocols → (set : ℕ) → set < 2 ^ length p.principals
+    → (inputs : List (List ℕ)) (t : Tape) → IsDealt inputs t → (w : Hosts) → RunsWithAttackers p l protocols set t w → IsExplained p l protocols set inputs w
 
 -- The second list begins with the first.
 pub record Begins (front whole : List ℕ) : Type 0 where
@@ -75,5 +77,5 @@ pub record IsExplainedSoFar (p : NormalForm) (l : Labels) (set : ℕ) (inputs : 
 
 abbrev pub FrontsAreExplained : NormalForm → Labels → Type 0
 FrontsAreExplained p l =
-    NumbersFit p → (list : List ℕ) → IsAssignment p l list → StandsInClear p l list → (set : ℕ) → set < 2 ^ length p.principals
-    → (inputs : List (List ℕ)) (t : Tape) → IsDealt inputs t → (w : Hosts) → RunsIntoAttack p l list set t w → IsExplainedSoFar p l set inputs w
+    NumbersFit p → (protocols : List Proto) → IsAssignment (problem_of p l) protocols → StandInClear protocols → (set : ℕ) → set < 2 ^ length p.principals
+    → (inputs : List (List ℕ)) (t : Tape) → IsDealt inputs t → (w : Hosts) → RunsIntoAttack p l protocols set t w → IsExplainedSoFar p l set inputs w

@@ -33,7 +33,8 @@ use Rattle.vd_space.specs.Reading.{Read, named_by, all_parts, all_named, guard_o
 use Rattle.vd_space.specs.Validity.{protocols, protocol, acts_for, covers, may_read, holds_at, if_decided, move_to_host, is_told, takes_part, guard_told}
 use Rattle.vd_space.proofs.Kept.{IsValid, parts_of}
 use Rattle.vd_dependence.specs.Reading.{acts}
-use Rattle.vd_assigned_dependence.specs.Assigned.{IsAssignment}
+use Rattle.vd_space.proofs.Counted.{as_many as as_many_slots}
+use Rattle.vd_cheapest.specs.Cheapest.{IsValid as IsValidList}
 use Rattle.vd_assigned_dependence.proofs.Slots.{label_of_slot, stand_at, of_host}
 use Rattle.vd_rewriting.specs.Rewriting.{Rewriting, all_pure, some_changed, is_some as some_in, is_hidden, kept_let, rewriting_step, rewriting, rewritings, is_within}
 use Rattle.vd_mux.specs.Selections.{with_selections, turned}
@@ -41,6 +42,7 @@ use Rattle.vd_mux.specs.BooleanGuards.{has_boolean_guards}
 use Rattle.vd_rewriting.specs.Rewriting.{marked}
 use Rattle.vd_mux.specs.Hidden.{some_reads, hidden_marks, turn_of}
 use Rattle.vd_mux.proofs.Reading.{found}
+use Rattle.vd_unchanged.specs.Unchanged.{ChosenProgramsStay}
 use Rattle.vd_unchanged.proofs.Held.{Holder, is_held_by}
 
 own_label : (p : NormalForm) (labels : List Written) (i : ℕ) (d e : Label) → i < length labels → slice_index_or (map (label p) labels) i d ≡ option_map_or (label p) (slice_get labels i) e
@@ -86,7 +88,7 @@ mark_at f [] k d h = absurd (true≢false (sym h))
 mark_at f (x ∷ xs) zero d h = h
 mark_at f (x ∷ xs) (suc k) d h = mark_at f xs k d h
 
-module _ (p : NormalForm) (l : Labels) (list : List ℕ) (well : IsWellMade p) (satisfies : Satisfies (system_of p) l) (assigned : IsAssignment p l list) where
+module _ (p : NormalForm) (l : Labels) (list : List ℕ) (well : IsWellMade p) (satisfies : Satisfies (system_of p) l) (assigned : IsValidList (problem_of p l) list) where
   abbrev problem : Problem
   problem = problem_of p l
 
@@ -122,7 +124,7 @@ module _ (p : NormalForm) (l : Labels) (list : List ℕ) (well : IsWellMade p) (
   -- some host has a slot that is made
   holder_of : (x : SlotId) → x.0 < n → (q : ℕ) × ((slice_get list x.0 ≡ Some q) × Holder (length problem.hosts) (protocol problem q))
   holder_of x low =
-      let there = item_there list x.0 (let e = assigned.whole in omega (arith, e, low)) in
+      let there = item_there list x.0 (let e = assigned.whole in let e' = as_many_slots p l well in omega (arith, e, e', low)) in
       let stands = stand_at problem problem.slots list x.0 there.0 valid.stands there.1 in
       let making = stands.0 in
       let first = and_parts (nat_lt there.0 (length (protocols problem)) && is_some (cost_at making.row (protocol problem there.0))) (covers (authority_of (protocol problem there.0) problem.hosts) making.label) stands.1.1 in
@@ -279,5 +281,5 @@ module _ (p : NormalForm) (l : Labels) (list : List ℕ) (well : IsWellMade p) (
       by true = turned_same
       by false = refl
 
-pub programs_stay : (p : NormalForm) (l : Labels) (list : List ℕ) → IsWellMade p → Satisfies (system_of p) l → IsAssignment p l list → turn_of p l ≡ p
-programs_stay p l list well satisfies assigned = stays p l list well satisfies assigned
+pub programs_stay : ChosenProgramsStay
+programs_stay p l protocols well satisfies assigned = stays p l assigned.places well satisfies assigned.is_valid

@@ -20,7 +20,8 @@ use Rattle.vd_space.specs.Reading.{problem_of}
 use Rattle.vd_space.specs.Validity.{protocols, protocol, can_stand, covers, has_candidate}
 use Rattle.vd_space.proofs.Kept.{parts_of}
 use Rattle.vd_space.proofs.Counted.{as_many}
-use Rattle.vd_assigned_dependence.specs.Assigned.{IsAssignment}
+use Rattle.vd_cheapest.specs.Cheapest.{IsValid as IsValidList}
+use Rattle.vd_unchanged.specs.Unchanged.{ChosenDivisionsStay}
 use Rattle.vd_assigned_dependence.proofs.Slots.{stand_at}
 use Rattle.vd_rewriting.specs.Rewriting.{is_within}
 use Rattle.vd_long.specs.Lengthened.{parts_of as parts_of_right, is_division, some_true, lengthens_step, with_long_divisions}
@@ -48,7 +49,7 @@ all_false f [] h k = refl
 all_false f (x ∷ xs) h zero = h zero x (omega arith) refl
 all_false f (x ∷ xs) h (suc k) = all_false f xs (λ j a low e. h (suc j) a (omega arith) e) k
 
-module _ (p : NormalForm) (l : Labels) (list : List ℕ) (well : IsWellMade p) (assigned : IsAssignment p l list) where
+module _ (p : NormalForm) (l : Labels) (list : List ℕ) (well : IsWellMade p) (assigned : IsValidList (problem_of p l) list) where
   abbrev problem : Problem
   problem = problem_of p l
 
@@ -106,5 +107,5 @@ module _ (p : NormalForm) (l : Labels) (list : List ℕ) (well : IsWellMade p) (
   pub long_stays : lengthen_of p l ≡ p
   long_stays = ap (λ b. if b && (is_within (with_long_divisions marks p) && nat_le (nesting (with_long_divisions marks p).body) most_nesting) then with_long_divisions marks p else p) (none_in p.body)
 
-pub divisions_stay : (p : NormalForm) (l : Labels) (list : List ℕ) → IsWellMade p → IsAssignment p l list → lengthen_of p l ≡ p
-divisions_stay p l list well assigned = long_stays p l list well assigned
+pub divisions_stay : ChosenDivisionsStay
+divisions_stay p l protocols well assigned = long_stays p l assigned.places well assigned.is_valid

@@ -1,5 +1,5 @@
--- A program at a valid list of protocols can run.
-use Rattle.std.proofs.Common.{◌≡◌, ℕ, zero, suc, ◌+◌, ◌^◌, ◌<◌, ◌≤◌, nat_eq, nat_lt, ◌&&◌, ◌||◌, not, Bool, true, false, is_some, List, [], ◌∷◌, ◌⊎◌, inl, inr, length, map, slice_get, slice_index, slice_index_or, refl, sym, ap, subst, ◌∙◌, arith}
+-- A program at a valid assignment of protocols can run.
+use Rattle.std.proofs.Common.{◌≡◌, ℕ, zero, suc, ◌+◌, ◌^◌, ◌<◌, ◌≤◌, nat_eq, nat_lt, ◌&&◌, ◌||◌, not, Bool, true, false, IsTrue, is_some, List, [], ◌∷◌, ◌⊎◌, inl, inr, length, map, slice_get, slice_index, slice_index_or, refl, sym, ap, subst, ◌∙◌, arith}
 use Rattle.std.specs.List.{All, AllByRecursion, concat, list_all, list_any, range_with_len}
 use Rattle.std.specs.Option.{option_map_or}
 use Rattle.std.proofs.lemmas.Bool.{eq-eqb, eqb-true}
@@ -12,9 +12,9 @@ use Rattle.vd_base.specs.Costs.{cost_at}
 use Rattle.vd_base.specs.HostSets.{host, same_host}
 use Rattle.vd_base.specs.Moves.{move_at}
 use Rattle.vd_base.specs.Protocols.{protocols_of}
-use Rattle.vd_base.specs.Holders.{is_holder}
+use Rattle.vd_base.specs.Holders.{is_holder, proto_in}
 use Rattle.vd_core.specs.declared.normal.NormalForm.{NormalForm}
-use Rattle.vd_core.specs.Facts.{slots_step, nothing_seen, Seeing, seeing_step, seeing_all}
+use Rattle.vd_core.specs.Facts.{IsWellMade, slots_step, nothing_seen, Seeing, seeing_step, seeing_all}
 use Rattle.vd_constraints.specs.declared.labels.Labels.{Labels}
 use Rattle.vd_constraints.specs.Rules.{label}
 use Rattle.vd_constraints.specs.Scoped.{is_below, stmt_below}
@@ -27,12 +27,15 @@ use Rattle.vd_space.specs.declared.problem.Guard.{Guard}
 use Rattle.vd_space.specs.declared.problem.Index.{Index}
 use Rattle.vd_space.specs.Reading.{Parts, Read, all_parts, read_step, read_stmt, problem_of}
 use Rattle.vd_space.specs.Spaces.{IsUse, IsIndex}
-use Rattle.vd_space.specs.Validity.{protocols, protocol, move_to_host, move, holds_at, all_hosts, may_read, can_stand, stand, if_decided, use_joins, output_joins, is_told, takes_part, guard_told, index_test, index_told}
+use Rattle.vd_space.specs.Validity.{protocols, protocol, move_to_host, move, holds_at, all_hosts, may_read, can_stand, stand, if_decided, use_joins, output_joins, is_told, takes_part, guard_told, index_test, index_told, is_valid}
 use Rattle.vd_space.proofs.Programs.{names_below}
+use Rattle.vd_space.proofs.Counted.{as_many as as_many_slots}
+use Rattle.vd_cheapest.proofs.Places.{protos_are}
 use Rattle.vd_execution.specs.World.{Tape}
 use Rattle.vd_execution.specs.Deals.{IsValidDeal}
 use Rattle.vd_joint.specs.Block.{Block, block_of, each}
 use Rattle.vd_joint.specs.Joint.{Each}
+use Rattle.vd_core.specs.Numbers.{NumbersFit}
 use Rattle.vd_joint.proofs.Folds.{fold_each}
 use Rattle.vd_joint.proofs.Lists.{and_left, and_right, or_left, or_right, or_cases, InRow, row_of}
 use Rattle.vd_joint.proofs.Blocks.{slots}
@@ -40,7 +43,7 @@ use Rattle.vd_suite.specs.Suite.{IsOver, AreGiven}
 use Rattle.vd_suite.specs.Whole.{inputs_of, CanRun}
 use Rattle.vd_suite.proofs.Given.{listed_protocols_are_over}
 use Rattle.vd_suite.proofs.Whole.{code_tells_the_same}
-use Rattle.vd_whole.specs.Lists.{protos_of, IsChosen, ValidListsCanRun, ValidListsTellTheSame}
+use Rattle.vd_whole.specs.Assignments.{IsChosen, AssignmentsCanRun, AssignmentsTellTheSame}
 use Rattle.vd_whole.proofs.Placing.{sees, among, stands_at, Stand, Tells, as_many, placed}
 
 -- ---- lists
@@ -167,7 +170,18 @@ module _ (problem : Problem) (list : List ℕ) where
       (sym (item_at list i.array.0 (λ p. list_all (index_test problem list i p) (all_hosts problem)) true (subst (λ k. i.array.0 < k) is low.array)) ∙ e) (omega arith) (omega (arith, lt, are)))
       z)
 
-module _ (program : NormalForm) (labels : Labels) (list : List ℕ) (chosen : IsChosen program labels list) where
+-- a list of places that is valid for a well-made program
+record IsPlaced (program : NormalForm) (labels : Labels) (list : List ℕ) : Type 0 where
+  made : IsWellMade program
+  numbers : NumbersFit program
+  whole : length list ≡ length program.slots
+  valid : IsTrue (is_valid (problem_of program labels) list)
+
+-- the protocol of each slot, by its place
+abbrev protos_of : Problem → List ℕ → ℕ → Proto
+protos_of problem list x = protocol problem (slice_index list x)
+
+module _ (program : NormalForm) (labels : Labels) (list : List ℕ) (chosen : IsPlaced program labels list) where
   abbrev problem : Problem
   problem = problem_of program labels
 
@@ -243,9 +257,9 @@ module _ (program : NormalForm) (labels : Labels) (list : List ℕ) (chosen : Is
   seen : (sees (block_of program.body) nothing_seen).all ≡ true
   seen = ap (λ (l : List Seeing). (seeing_all l nothing_seen).all) (sym (fold_each seeing_step program.body)) ∙ chosen.made.made_before
 
-  pub can_run : (inputs : List (List ℕ)) → ((h i : ℕ) → slice_index (inputs_of inputs h) i < 2 ^ 32) → (t : Tape) → IsValidDeal t → AreGiven (inputs_of inputs) t
+  places_can_run : (inputs : List (List ℕ)) → ((h i : ℕ) → slice_index (inputs_of inputs h) i < 2 ^ 32) → (t : Tape) → IsValidDeal t → AreGiven (inputs_of inputs) t
       → CanRun program (protos_of (problem_of program labels) list) inputs t
-  can_run inputs words t deal given = record {
+  places_can_run inputs words t deal given = record {
     made = chosen.made;
     numbers = chosen.numbers;
     over = over;
@@ -256,9 +270,25 @@ module _ (program : NormalForm) (labels : Labels) (list : List ℕ) (chosen : Is
     given = given;
   }
 
-pub valid_lists_can_run : ValidListsCanRun
-valid_lists_can_run program labels list chosen inputs words t deal given = can_run program labels list chosen inputs words t deal given
+module _ (program : NormalForm) (labels : Labels) (protocols : List Proto) (chosen : IsChosen program labels protocols) where
+  abbrev places : List ℕ
+  places = chosen.assignment.places
 
-pub valid_lists_tell_the_same : ValidListsTellTheSame
-valid_lists_tell_the_same program labels list chosen inputs words t deal given =
-    code_tells_the_same program (protos_of (problem_of program labels) list) inputs t (can_run program labels list chosen inputs words t deal given)
+  placed_so : IsPlaced program labels places
+  placed_so = record { made = chosen.made; numbers = chosen.numbers; whole = chosen.assignment.is_valid.whole ∙ as_many_slots program labels chosen.made; valid = chosen.assignment.is_valid.valid }
+
+  -- a protocol for each slot
+  pub each_has : length protocols ≡ length program.slots
+  each_has = ap (λ (ps : List Proto). length ps) chosen.assignment.named ∙ length_map (protocol (problem_of program labels)) places ∙ placed_so.whole
+
+  pub can_run : (inputs : List (List ℕ)) → ((h i : ℕ) → slice_index (inputs_of inputs h) i < 2 ^ 32) → (t : Tape) → IsValidDeal t → AreGiven (inputs_of inputs) t → CanRun program (proto_in protocols) inputs t
+  can_run inputs words t deal given =
+      subst (λ (f : ℕ → Proto). CanRun program f inputs t) (sym (protos_are (problem_of program labels) protocols places chosen.assignment.named))
+      (places_can_run program labels places placed_so inputs words t deal given)
+
+pub assignments_can_run : AssignmentsCanRun
+assignments_can_run program labels protocols chosen inputs words t deal given = can_run program labels protocols chosen inputs words t deal given
+
+pub assignments_tell_the_same : AssignmentsTellTheSame
+assignments_tell_the_same program labels protocols chosen inputs words t deal given =
+    code_tells_the_same program (proto_in protocols) inputs t (can_run program labels protocols chosen inputs words t deal given)

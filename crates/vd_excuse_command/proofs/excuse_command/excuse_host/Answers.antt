@@ -1,39 +1,49 @@
-use Rattle.std.proofs.Common.{Ok, Err}
+use Rattle.std.proofs.Common.{◌≡◌, Some, None, length, subst, sym}
 use Rattle.std.proofs.lemmas.Result.{err_from_is_err_and}
-use Rattle.vd_frontend.specs.Labelling.{labels_of}
-use Rattle.vd_plan.proofs.InSteps.{any_memory, check_step}
-use Rattle.vd_selecting.specs.Searching.{GaveUp, searched_by}
-use Rattle.vd_selecting.proofs.Labelled.{has_labels}
-use Rattle.vd_excuse_command.specs.Excusing.{labels_plan}
+use Rattle.vd_core.specs.declared.normal.NormalForm.{NormalForm}
+use Rattle.vd_space.specs.Reading.{problem_of}
+use Rattle.vd_cheapest.specs.Cheapest.{IsAssignment}
+use Rattle.vd_plan.proofs.InSteps.{answers}
+use Rattle.vd_selecting.specs.Choice.{IsSelected}
+use Rattle.vd_selecting.specs.declared.choice.Assignment.{Assignment}
+use Rattle.vd_selecting.proofs.Steps.{which_is}
+use Rattle.vd_compiling.specs.Selected.{no_list}
+use Rattle.vd_compiling.proofs.Compiled.{none_computes}
+use Rattle.vd_excuse_command.specs.Telling.{TellsAt}
+use Rattle.vd_excuse_command.proofs.Answered.{host_refused, none_told, with_choice}
 use Rattle.vd_excuse_command.proofs.excuse_command.excuse_host.Goals as goal
 
-pub of-requires : goal.of-requires
-of-requires c = has_labels c.args.program.now c.in_ok-labels.labels (c.in_ok-labels.ensures {u = tt}).least
+pub excuse_choice-requires-clause-hosts : goal.excuse_choice-requires-clause-hosts
+excuse_choice-requires-clause-hosts c = subst (λ (p : NormalForm). length p.hosts ≡ 2) (sym (c.in_ok-choice.ensures {u = tt}).found.same) c.requires.hosts
 
-pub excuse_space-requires-clause-problem : goal.excuse_space-requires-clause-problem
-excuse_space-requires-clause-problem c = record { labels = c.in_ok-labels.labels; least = (c.in_ok-labels.ensures {u = tt}).least; same = c.in_ok-space.ensures {u = tt} }
+pub excuse_choice-requires-clause-selected : goal.excuse_choice-requires-clause-selected
+excuse_choice-requires-clause-selected c =
+    which_is (IsSelected c.in_ok-choice.choice.program) c.in_ok-choice.choice.assignment c.in-Some.assignment c.in-Some.is (c.in_ok-choice.ensures {u = tt}).found.selected
 
-pub returns-in_err-labels-clause-executes : goal.returns-in_err-labels-clause-executes
-returns-in_err-labels-clause-executes c = (
-  GaveUp,
-  λ certificates choices outcomes least files.
-      let p = err_from_is_err_and c.from_residual.result c.from_residual.ensures.1 in
-      rw (p.1, p.2)
-      (check_step (labels_of least c.args.program.now) files (Err c.in_err-labels.field-0.0) ((c.in_err-labels.ensures {u = tt}).checks least)
-      (labels_plan outcomes choices (searched_by certificates choices GaveUp) c.args.words.now.budget c.args.program.now c.args.host c.args.runs c.args.words.now.out)),
-)
+pub returns-in_err-choice-clause-executes : goal.returns-in_err-choice-clause-executes
+returns-in_err-choice-clause-executes c =
+    let p = err_from_is_err_and c.from_residual.result c.from_residual.ensures.1 in
+    rw (p.1, p.2) (host_refused c.args.words.now c.args.program c.args.host c.args.runs c.in_err-choice.field-0.0 (c.in_err-choice.ensures {u = tt}).chooses)
 
-pub returns-in_err-space-clause-executes : goal.returns-in_err-space-clause-executes
-returns-in_err-space-clause-executes c = (
-  GaveUp,
-  λ certificates choices outcomes least files. let p = err_from_is_err_and c.from_residual-in_err-space.result c.from_residual-in_err-space.ensures.1 in rw (p.1, p.2) (any_memory _ files),
-)
+pub returns-in-Some-clause-executes : goal.returns-in-Some-clause-executes
+returns-in-Some-clause-executes c =
+    let executes_at = rw c.as_str.ensures at c.excuse_choice.ensures.executes in
+    let valid =
+    which_is (λ (a : Assignment). IsAssignment (problem_of c.in_ok-choice.choice.program c.in_ok-choice.choice.labels) a.protocols) c.in_ok-choice.choice.assignment c.in-Some.assignment c.in-Some.is
+    (c.in_ok-choice.ensures {u = tt}).found.valid
+    in
+    with_choice c.args.words.now c.args.program c.args.host c.args.runs c.in_ok-choice.choice (Some c.in-Some.assignment) c.excuse_choice.result (c.in_ok-choice.ensures {u = tt}).chooses c.in-Some.is
+    (executes_at c.in_ok-choice.choice.labels valid)
 
-pub returns-clause-executes : goal.returns-clause-executes
-returns-clause-executes c =
-    let s = rw c.as_str.ensures at (c.excuse_space.ensures.executes c.in_ok-labels.labels (c.in_ok-space.ensures {u = tt})) in (
-      s.0,
-      λ certificates choices outcomes least files.
-          check_step (labels_of least c.args.program.now) files (Ok c.in_ok-labels.labels) ((c.in_ok-labels.ensures {u = tt}).checks least)
-          (labels_plan outcomes choices (searched_by certificates choices s.0) c.args.words.now.budget c.args.program.now c.args.host c.args.runs c.args.words.now.out) files _ (s.1 certificates choices outcomes files),
-    )
+pub returns-in-Some-clause-tells : goal.returns-in-Some-clause-tells
+returns-in-Some-clause-tells c =
+    let tells_at = rw c.as_str.ensures at c.excuse_choice.ensures.tells in
+    subst (λ (p : NormalForm). TellsAt c.args.host p c.args.words.now.out c.args.runs c.excuse_choice.result) (c.in_ok-choice.ensures {u = tt}).found.same tells_at
+
+pub returns-in-None-clause-executes : goal.returns-in-None-clause-executes
+returns-in-None-clause-executes c =
+    with_choice c.args.words.now c.args.program c.args.host c.args.runs c.in_ok-choice.choice None _ (c.in_ok-choice.ensures {u = tt}).chooses c.in-None.is
+    (λ outcomes files. answers no_list files _ (none_computes c.no_assignment.result c.no_assignment.ensures))
+
+pub returns-in-None-clause-tells : goal.returns-in-None-clause-tells
+returns-in-None-clause-tells c = none_told c.args.host c.args.program c.args.words.now.out c.args.runs c.no_assignment.result c.no_assignment.ensures

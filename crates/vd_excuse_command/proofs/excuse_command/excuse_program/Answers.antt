@@ -20,7 +20,7 @@ returns-in_err-runs-clause-executes g c = (
   λ certificates choices texts outcomes least.
       let p = err_from_is_err_and c.from_residual.result c.from_residual.ensures.1 in
       let loads = rw c.form.ensures.same at (c.in_err-runs.ensures {u = tt}).loads in
-      rw (p.1, p.2) (loads texts outcomes (runs_plan outcomes least choices (searched_by certificates choices GaveUp) c.args.words.now c.args.program.now)),
+      rw (p.1, p.2) (loads texts outcomes (runs_plan outcomes least choices (searched_by certificates choices GaveUp) c.args.words.now c.args.program)),
 )
 
 pub returns-clause-executes : goal.returns-clause-executes
@@ -29,9 +29,9 @@ returns-clause-executes g c =
     let loads = rw c.form.ensures.same at (c.in_ok-runs.ensures {u = tt}).loads in (
       s.0,
       λ certificates choices texts outcomes least.
-          loads texts outcomes (runs_plan outcomes least choices (searched_by certificates choices s.0) c.args.words.now c.args.program.now) _ _ (s.1 certificates choices outcomes least _),
+          loads texts outcomes (runs_plan outcomes least choices (searched_by certificates choices s.0) c.args.words.now c.args.program) _ _ (s.1 certificates choices outcomes least _),
     )
 
 pub returns-clause-tells : goal.returns-clause-tells
 returns-clause-tells g c =
-    program_told c.args.words.now (g.F.Files.view c.args.files.now) c.args.program.now c.form.result.now c.in_ok-runs.runs c.excuse_runs.result c.form.ensures.same (c.in_ok-runs.ensures {u = tt}).given c.excuse_runs.ensures.tells
+    program_told c.args.words.now (g.F.Files.view c.args.files.now) c.args.program c.form.result.now c.in_ok-runs.runs c.excuse_runs.result c.form.ensures.same (c.in_ok-runs.ensures {u = tt}).given c.excuse_runs.ensures.tells

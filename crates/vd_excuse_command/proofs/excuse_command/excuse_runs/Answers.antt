@@ -27,7 +27,7 @@ returns-in_err-host-clause-executes c = (
   λ certificates choices outcomes least files.
       let p = err_from_is_err_and c.from_residual.result c.from_residual.ensures.1 in
       let checks = rw (c.form.ensures.same, c.as_str.ensures) at (c.in_err-host.ensures {u = tt}) in
-      rw (p.1, p.2) (unnamed outcomes least choices (searched_by certificates choices GaveUp) c.args.words.now c.args.program.now c.args.runs files c.in_err-host.field-0.0 checks),
+      rw (p.1, p.2) (unnamed outcomes least choices (searched_by certificates choices GaveUp) c.args.words.now c.args.program c.args.runs files c.in_err-host.field-0.0 checks),
 )
 
 pub returns-in_err-expect_two-clause-executes : goal.returns-in_err-expect_two-clause-executes
@@ -37,7 +37,7 @@ returns-in_err-expect_two-clause-executes c = (
       let p = err_from_is_err_and c.from_residual-in_err-expect_two.result c.from_residual-in_err-expect_two.ensures.1 in
       let checks = rw (c.form.ensures.same, c.as_str.ensures) at (c.in_ok-host.ensures {u = tt}) in
       let two = rw c.form.ensures.same at (c.in_err-expect_two.ensures {u = tt}).checks in
-      rw (p.1, p.2) (not_two outcomes least choices (searched_by certificates choices GaveUp) c.args.words.now c.args.program.now c.args.runs files c.in_ok-host.host checks c.in_err-expect_two.field-0.0 two),
+      rw (p.1, p.2) (not_two outcomes least choices (searched_by certificates choices GaveUp) c.args.words.now c.args.program c.args.runs files c.in_ok-host.host checks c.in_err-expect_two.field-0.0 two),
 )
 
 pub returns-clause-executes : goal.returns-clause-executes
@@ -47,10 +47,10 @@ returns-clause-executes c =
     let two = rw c.form.ensures.same at (c.in_ok-expect_two.ensures {u = tt}).checks in (
       s.0,
       λ certificates choices outcomes least files.
-          of_two_hosts outcomes least choices (searched_by certificates choices s.0) c.args.words.now c.args.program.now c.args.runs files c.in_ok-host.host checks _ two (s.1 certificates choices outcomes least files),
+          of_two_hosts outcomes least choices (searched_by certificates choices s.0) c.args.words.now c.args.program c.args.runs files c.in_ok-host.host checks _ two (s.1 certificates choices outcomes least files),
     )
 
 pub returns-clause-tells : goal.returns-clause-tells
 returns-clause-tells c =
     let checks = rw (c.form.ensures.same, c.as_str.ensures) at (c.in_ok-host.ensures {u = tt}) in
-    c.excuse_host.ensures.tells c.args.words.now.host (named c.args.program.now.hosts c.args.words.now.host c.in_ok-host.host checks.ok)
+    c.excuse_host.ensures.tells c.args.words.now.host (named c.args.program.hosts c.args.words.now.host c.in_ok-host.host checks.ok)
