@@ -1,3 +1,4 @@
 pub mod Shifts
 pub mod LexicalLemmas
-pub mod Protocols
+pub mod Same
+pub mod WordLists

@@ -1,5 +1,6 @@
-ghost use Rattle.std.specs.Prelude.{◌≡◌};
+ghost use Rattle.std.specs.Prelude.{◌≡◌, true};
 ghost use Rattle.vd_base.specs.Holders.{is_holder, proto_in, same_protocol};
+ghost use Rattle.vd_base.specs.declared.protocols.Proto.{Proto as Protocols};
 
 use crate::{HostId, SlotId};
 
@@ -50,6 +51,11 @@ pub fn is_same(first: Proto, second: Proto) -> bool
         _ => false,
     }
 }
+
+/// Protocols that are the same by the test are one.
+pub fn same_protocols_are_one()
+    ensures { (p q : Protocols) → same_protocol p q ≡ true → p ≡ q }
+{}
 
 /// The protocol of a slot.
 pub fn proto_of(protocols: &[Proto], slot: SlotId) -> Proto

@@ -10,7 +10,7 @@ use Rattle.vd_base.specs.declared.protocols.Proto.{Proto}
 use Rattle.vd_base.specs.declared.protocols.Proto.TheVariants.{Local, Rep, Commit, Add, Xor}
 use Rattle.vd_base.specs.HostSets.{same_host, host}
 use Rattle.vd_base.specs.Holders.{proto_in, same_protocol}
-use Rattle.vd_base.proofs.Protocols.{same_is}
+use Rattle.vd_base.proofs.Same.{same_is}
 use Rattle.vd_assigned_dependence.specs.Hearing.{has_clear, is_alone, stands}
 use Rattle.vd_drawing.specs.Moves as moves
 use Rattle.vd_drawn_words.specs.Showing.{ToldWordsCome}

@@ -1,5 +1,5 @@
 -- Protocols that are the same by the test.
-use Rattle.std.proofs.Common.{◌≡◌, ℕ, Bool, true, false, true≢false, ◌&&◌, sym, ap, ap₂}
+use Rattle.std.proofs.Common.{◌≡◌, ℕ, true, false, true≢false, sym, ap, ap₂}
 use Rattle.std.proofs.lemmas.Bool.{and_parts, eqb-true}
 use Rattle.vd_base.specs.declared.ids.HostId.{HostId}
 use Rattle.vd_base.specs.declared.protocols.Proto.{Proto}
