@@ -61,7 +61,7 @@ fn least_rows(
 ) -> Result<Items<Option<i64>>, AllocError>
     ensures { IfOk result (λ leasts. leasts ≡ map (least_row seconds.now) cells.now) }
 {
-    let mut leasts = Items::new(alloc);
+    let mut leasts = Items::from_vec(Vec::with_capacity(alloc, cells.len())?);
     for row in cells {
         leasts.push(least_passing(seconds, row.as_slice()))?;
     }
@@ -92,7 +92,7 @@ fn least_columns(
 ) -> Result<Items<Option<i64>>, AllocError>
     ensures { IfOk result (λ leasts. leasts ≡ by_place columns (least_column firsts.now cells.now)) }
 {
-    let mut leasts = Items::new(alloc);
+    let mut leasts = Items::from_vec(Vec::with_capacity(alloc, columns)?);
     for second in 0..columns {
         let column = column_of(alloc, cells, second)?;
         leasts.push(least_passing(firsts, column.as_slice()))?;
@@ -175,7 +175,7 @@ pub(crate) fn shifted(
     requires to { (w : ℕ) → IsWithin 562949953421312 (slice_index_or to.now w (pos 0)) }
     ensures { IfOk result (λ shifted. shifted ≡ shifted_cells cells.now from.now to.now) }
 {
-    let mut shifted = Items::new(alloc);
+    let mut shifted = Items::from_vec(Vec::with_capacity(alloc, cells.len())?);
     for first in 0..cells.len() {
         shifted.push(shifted_row(alloc, row_at(cells, first), first, from, to)?)?;
     }

@@ -67,7 +67,7 @@ fn scaled_table(
     requires prices { ArePrices prices.now }
     ensures { IfOk result (λ rows. rows ≡ scaled_cells weight prices.now) }
 {
-    let mut rows = Items::new(alloc);
+    let mut rows = Items::from_vec(Vec::with_capacity(alloc, prices.len())?);
     for row in prices {
         rows.push(scaled_row(alloc, weight, row.as_slice())?)?;
     }
@@ -140,7 +140,7 @@ fn guard_costs(
     requires prices { (p : ℕ) → unwrap_or (move_at (slice_index_or list.now p (local (nth_host 0))) (local host)) 0 ≤ 848 }
     ensures { IfOk result (λ cells. cells ≡ guard_cells list.now weight host) }
 {
-    let mut cells = Items::new(alloc);
+    let mut cells = Items::from_vec(Vec::with_capacity(alloc, list.len())?);
     for protocol in list {
         let told = scaled(weight, told_price(*protocol, host));
         cells.push(Items::from_slice(alloc, &[Some(0), told])?)?;
@@ -157,7 +157,7 @@ fn member_costs(
 ) -> Result<Items<Items<Option<i64>>>, AllocError>
     ensures { IfOk result (λ cells. cells ≡ member_cells list.now host) }
 {
-    let mut cells = Items::new(alloc);
+    let mut cells = Items::from_vec(Vec::with_capacity(alloc, list.len())?);
     for protocol in list {
         let off = if is_holder(*protocol, host) {
             None

@@ -104,9 +104,6 @@ fn zeros(alloc: Global, count: usize, places: usize) -> Result<Vec<Items<i64>>, 
 fn zero_row(alloc: Global, places: usize) -> Result<Items<i64>, AllocError>
     ensures { IfOk result (λ row. row ≡ replicate places (pos 0)) }
 {
-    let mut row = Items::from_vec(Vec::with_capacity(alloc, places)?);
-    for _ in 0..places {
-        row.push(0)?;
-    }
-    Ok(row)
+    let row = vec![in alloc; 0i64; places]?;
+    Ok(Items::from_vec(row))
 }
