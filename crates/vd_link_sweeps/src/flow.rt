@@ -1,8 +1,9 @@
 //! What sweeps one way carry over the links.
 
-use crate::fours::least_after;
 use crate::network::{End, Network};
-use crate::numbers::{nearest_small, number_at, put, small_at, small_zeros};
+use crate::numbers::{
+    add_small, nearest_small, number_at, put, small_at, small_row_at, small_zeros,
+};
 use crate::shares::{Shares, share_of};
 use crate::tables::Tables;
 use std::alloc::{AllocError, Global};
@@ -55,22 +56,64 @@ impl Carried {
         changes != 0
     }
 
-    /// Computes what is told of what is held, where the far point is at this end of the link. Answers whether that is another
-    /// amount than before at some setting.
-    fn tell(&mut self, tables: &Tables, end: End) -> bool {
+    /// Computes what is told of what is held, where the far point is at this end of the link, and changes by that what all links
+    /// tell that point. Answers whether it is another amount than before at some setting.
+    fn tell(&mut self, tables: &Tables, end: End, sums: &mut Vec<i32>) -> bool {
+        let by_near = tables.rows(end.turned());
+        if by_near.len() == 2 {
+            self.tell_of_two(by_near[0].as_slice(), by_near[1].as_slice(), sums)
+        } else {
+            self.tell_of_all(tables.rows(end), sums)
+        }
+    }
+
+    /// The same by what the link costs from either of the two settings of the near point.
+    fn tell_of_two(&mut self, first: &[i32], second: &[i32], sums: &mut Vec<i32>) -> bool {
+        let from_first = small_at(self.held.as_slice(), 0);
+        let from_second = small_at(self.held.as_slice(), 1);
+        let prices = first.iter().zip(second);
         let mut changes = 0;
-        for (group, prices) in tables.fours(end).iter().enumerate() {
-            let least = least_after(prices.as_slice(), self.held.as_slice());
-            changes |= least.put(&mut self.told, group);
+        for (place, (told, (one, other))) in self.told.iter_mut().zip(prices).enumerate() {
+            let least = one
+                .wrapping_sub(from_first)
+                .min(other.wrapping_sub(from_second));
+            let more = least.wrapping_sub(*told);
+            changes |= more;
+            *told = least;
+            add_small(sums, place, more);
         }
         changes != 0
     }
+
+    /// The same by what the link costs, with a row for each setting of the far point.
+    fn tell_of_all(&mut self, rows: &[Vec<i32>], sums: &mut Vec<i32>) -> bool {
+        let mut changes = 0;
+        for (place, (told, prices)) in self.told.iter_mut().zip(rows).enumerate() {
+            let least = least_after(prices.as_slice(), self.held.as_slice());
+            let more = least.wrapping_sub(*told);
+            changes |= more;
+            *told = least;
+            add_small(sums, place, more);
+        }
+        changes != 0
+    }
+}
+
+/// The least of the prices, less what is held.
+fn least_after(prices: &[i32], held: &[i32]) -> i32 {
+    let mut least = i32::MAX;
+    for (price, amount) in prices.iter().zip(held) {
+        least = least.min(price.wrapping_sub(*amount));
+    }
+    least
 }
 
 /// What sweeps one way carry over all links.
 #[derive(Drop)]
 pub struct Flow {
     links: Vec<Carried>,
+    /// By point, and then by its settings: what all links tell it together.
+    sums: Vec<Vec<i32>>,
     /// By point: the least that it costs with what it is told and what it holds.
     leasts: Vec<i32>,
     /// The sum of these. No list costs less.
@@ -89,7 +132,11 @@ impl Flow {
         network: &Network,
         forward: bool,
     ) -> Result<Flow, AllocError> {
-        let mut links = Vec::new(alloc);
+        let mut links = Vec::with_capacity(alloc, network.firsts.len())?;
+        let mut sums = Vec::with_capacity(alloc, tables.costs.len())?;
+        for costs in &tables.costs {
+            sums.push(small_zeros(alloc, costs.len())?)?;
+        }
         for first in &network.firsts {
             let near = if first.is_ahead(forward) {
                 *first
@@ -100,12 +147,15 @@ impl Flow {
             let near_count = tables.rows(near).len();
             let far_count = tables.rows(far).len();
             let mut carried = Carried::nothing(alloc, near_count, far_count)?;
-            carried.tell(tables, far);
+            if far.point < sums.len() {
+                carried.tell(tables, far, &mut sums[far.point]);
+            }
             links.push(carried)?;
         }
         let points = network.by_point.len();
         Ok(Flow {
             links,
+            sums,
             leasts: small_zeros(alloc, points)?,
             bound: 0,
             work: 0,
@@ -131,6 +181,11 @@ impl Flow {
         }
     }
 
+    /// What all links tell a point together, by its settings.
+    pub fn sums(&self, point: usize) -> &[i32] {
+        small_row_at(self.sums.as_slice(), point)
+    }
+
     /// What is told over a link, by the settings of its far point.
     pub fn told(&self, at: usize) -> &[i32] {
         match self.links.get(at) {
@@ -149,12 +204,12 @@ impl Flow {
 
     /// Holds these amounts at the near end of a link, by the settings of its point, where those in the tables have these places.
     pub fn hold_all(&mut self, tables: &Tables, near: End, amounts: &[i64], places: &[usize]) {
-        if near.at < self.links.len() {
+        if near.at < self.links.len() && near.other < self.sums.len() {
             let carried = &mut self.links[near.at];
             for (held, place) in carried.held.iter_mut().zip(places) {
                 *held = nearest_small(number_at(amounts, *place).wrapping_shr(tables.bits));
             }
-            carried.tell(tables, near.turned());
+            carried.tell(tables, near.turned(), &mut self.sums[near.other]);
         }
     }
 
@@ -176,13 +231,13 @@ impl Flow {
         shares: &Shares,
         turn: i32,
     ) -> bool {
-        if end.at < self.links.len() {
+        if end.at < self.links.len() && end.other < self.sums.len() {
             let carried = &mut self.links[end.at];
             if !carried.hold(costs, shares, turn) {
                 return false;
             }
             let prices = carried.prices();
-            let has_changed = carried.tell(tables, end.turned());
+            let has_changed = carried.tell(tables, end.turned(), &mut self.sums[end.other]);
             self.count(prices);
             return has_changed;
         }
@@ -191,13 +246,13 @@ impl Flow {
 
     /// Gives the share of a turn of what is held of the link of an end to the link.
     pub fn give_back(&mut self, tables: &Tables, end: End, shares: &Shares, turn: i32) -> bool {
-        if end.at < self.links.len() {
+        if end.at < self.links.len() && end.other < self.sums.len() {
             let carried = &mut self.links[end.at];
             if !carried.lower(shares, turn) {
                 return false;
             }
             let prices = carried.prices();
-            let has_changed = carried.tell(tables, end.turned());
+            let has_changed = carried.tell(tables, end.turned(), &mut self.sums[end.other]);
             self.count(prices);
             return has_changed;
         }

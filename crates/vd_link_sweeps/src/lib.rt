@@ -3,7 +3,6 @@
 #![tactic(auto)]
 
 mod flow;
-mod fours;
 mod left;
 mod nets;
 mod network;

@@ -71,17 +71,20 @@ fn cell(link: &LinkTable, first: usize, second: usize) -> i64 {
 pub struct Network {
     pub firsts: Vec<End>,
     pub by_point: Vec<Vec<End>>,
+    /// Of these the ends of links to points that come earlier, and those to points that come later.
+    earlier: Vec<Vec<End>>,
+    later: Vec<Vec<End>>,
 }
 
 impl Network {
     pub fn of(alloc: Global, links: &[LinkTable], order: &Order) -> Result<Network, AllocError> {
+        let points = order.points.len();
         let mut network = Network {
-            firsts: Vec::new(alloc),
-            by_point: Vec::new(alloc),
+            firsts: Vec::with_capacity(alloc, links.len())?,
+            by_point: no_ends(alloc, points)?,
+            earlier: no_ends(alloc, points)?,
+            later: no_ends(alloc, points)?,
         };
-        for _ in 0..order.points.len() {
-            network.by_point.push(Vec::new(alloc))?;
-        }
         for (at, link) in links.iter().enumerate() {
             let first = End {
                 at,
@@ -98,17 +101,50 @@ impl Network {
 
     /// Puts an end of a link to those of its point.
     fn put(&mut self, end: End) -> Result<(), AllocError> {
-        if end.point < self.by_point.len() {
-            self.by_point[end.point].push(end)?;
+        push_at(&mut self.by_point, end)?;
+        if end.is_ahead(true) {
+            push_at(&mut self.later, end)
+        } else {
+            push_at(&mut self.earlier, end)
         }
-        Ok(())
     }
 
     /// The ends of links that a point has.
     pub fn of_point(&self, point: usize) -> &[End] {
-        match self.by_point.get(point) {
-            Some(ends) => ends.as_slice(),
-            None => &[],
+        ends_at(self.by_point.as_slice(), point)
+    }
+
+    /// Those of links to points that come later on the way.
+    pub fn ahead(&self, point: usize, forward: bool) -> &[End] {
+        if forward {
+            ends_at(self.later.as_slice(), point)
+        } else {
+            ends_at(self.earlier.as_slice(), point)
         }
+    }
+}
+
+/// No ends of so many points.
+fn no_ends(alloc: Global, points: usize) -> Result<Vec<Vec<End>>, AllocError> {
+    let mut rows = Vec::with_capacity(alloc, points)?;
+    for _ in 0..points {
+        rows.push(Vec::new(alloc))?;
+    }
+    Ok(rows)
+}
+
+/// Puts an end to those of its point, if there is such a point.
+fn push_at(rows: &mut Vec<Vec<End>>, end: End) -> Result<(), AllocError> {
+    if end.point < rows.len() {
+        rows[end.point].push(end)?;
+    }
+    Ok(())
+}
+
+/// The ends of a point, which are none past the end.
+fn ends_at(rows: &[Vec<End>], point: usize) -> &[End] {
+    match rows.get(point) {
+        Some(ends) => ends.as_slice(),
+        None => &[],
     }
 }

@@ -98,6 +98,13 @@ pub fn put(numbers: &mut Vec<i32>, place: usize, number: i32) {
     }
 }
 
+/// Adds to the small number at a place, if there is one.
+pub fn add_small(numbers: &mut Vec<i32>, place: usize, amount: i32) {
+    if place < numbers.len() {
+        numbers[place] = numbers[place].wrapping_add(amount);
+    }
+}
+
 /// A row of so many zeros.
 pub fn zeros(alloc: Global, count: usize) -> Result<Vec<i64>, AllocError> {
     vec![in alloc; 0; count]

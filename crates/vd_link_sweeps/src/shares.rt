@@ -1,43 +1,52 @@
 //! What a point costs by its settings, and how what is above the least is split over its links.
 
-ghost use Rattle.std.specs.Prelude.{ℕ, ◌<◌};
-
-use crate::network::End;
-use crate::numbers::{SMALL_FAR, put, small_at, small_zeros, zeros};
+use crate::network::Network;
+use crate::numbers::{SMALL_FAR, number_at, put, small_at, small_zeros, zeros};
 use std::alloc::{AllocError, Global};
 
 /// How what a point gives is split over the links that are ahead: in equal parts for all of them, and for as many behind.
-#[derive(Clone, Copy)]
+#[derive(Clone, Copy, PartialEq, Eq, Debug)]
 pub struct Split {
     ahead: u32,
     parts: u32,
-    ghost divisor: { 0 < parts },
+    /// 2^`bits` divided by the parts, and 1 more: by this a number is divided without a division.
+    factor: u32,
+    bits: u32,
 }
 
 impl Split {
-    /// None where no link is ahead.
-    pub fn of(ends: &[End], forward: bool) -> Option<Split> {
-        let mut ahead: u32 = 0;
-        let mut behind: u32 = 0;
-        for end in ends {
-            if end.is_ahead(forward) {
-                ahead = ahead.saturating_add(1);
-            } else {
-                behind = behind.saturating_add(1);
-            }
-        }
+    /// Of so many links ahead and behind; none where no link is ahead.
+    pub fn of(ahead: usize, behind: usize) -> Option<Split> {
         if ahead == 0 {
             return None;
         }
-        Some(Split {
-            ahead,
-            parts: ahead.max(behind),
-        })
+        Some(Split::in_parts(nearest_count(ahead), nearest_count(ahead.max(behind))))
     }
 
     /// All for one link.
     pub fn whole() -> Split {
-        Split { ahead: 1, parts: 1 }
+        Split::in_parts(1, 1)
+    }
+
+    /// For so many links ahead, where so many parts are made. The factor is great enough for all numbers below 2^31.
+    fn in_parts(ahead: u32, parts: u32) -> Split {
+        let bits = 63u32.saturating_sub(parts.saturating_sub(1).leading_zeros());
+        let factor = (1u64.wrapping_shl(bits) / u64::from(parts.max(1))).wrapping_add(1);
+        Split {
+            ahead,
+            parts,
+            factor: nearest_word(factor),
+            bits,
+        }
+    }
+
+    /// A number below 2^31 divided by the parts, rounded down.
+    fn part_of(self, number: u32) -> u32 {
+        nearest_word(
+            u64::from(number)
+                .wrapping_mul(u64::from(self.factor))
+                .wrapping_shr(self.bits),
+        )
     }
 
     /// How many links ahead get one more, where so much is left over: their part of it, rounded up.
@@ -45,10 +54,32 @@ impl Split {
         if self.ahead == self.parts {
             return left_over;
         }
-        left_over
-            .saturating_mul(self.ahead)
-            .saturating_add(self.parts - 1)
-            / self.parts
+        let all = left_over.saturating_mul(self.ahead);
+        self.part_of(all.saturating_add(self.parts.saturating_sub(1)))
+    }
+}
+
+/// By point, how what it gives is split in sweeps one way.
+pub fn splits(
+    alloc: Global,
+    network: &Network,
+    forward: bool,
+) -> Result<Vec<Option<Split>>, AllocError> {
+    let points = network.by_point.len();
+    let mut splits = Vec::with_capacity(alloc, points)?;
+    for point in 0..points {
+        let ahead = network.ahead(point, forward).len();
+        let behind = network.ahead(point, !forward).len();
+        splits.push(Split::of(ahead, behind))?;
+    }
+    Ok(splits)
+}
+
+/// How what a point gives is split; not at all past the end.
+pub fn split_at(splits: &[Option<Split>], point: usize) -> Option<Split> {
+    match splits.get(point) {
+        Some(split) => *split,
+        None => None,
     }
 }
 
@@ -87,6 +118,15 @@ impl Shares {
     /// The next sweep.
     pub fn turn(&mut self) {
         self.turn = self.turn.wrapping_add(1);
+    }
+
+    /// Begins with what a point costs alone, and what its links tell it in sweeps either way.
+    pub fn sum_up(&mut self, costs: &[i32], told: &[i32], told_back: &[i32]) {
+        self.count = costs.len();
+        let amounts = costs.iter().zip(told).zip(told_back);
+        for (total, ((cost, amount), back)) in self.totals.iter_mut().zip(amounts) {
+            *total = cost.wrapping_add(*amount).wrapping_add(*back);
+        }
     }
 
     /// Begins with what a point costs alone.
@@ -128,17 +168,24 @@ impl Shares {
         }
     }
 
-    /// The first setting of the least sum.
-    pub fn best(&self) -> usize {
+    /// The first setting of the least sum, together with what the point is told besides.
+    pub fn best(&self, told: &[i32]) -> usize {
         let mut best = 0;
         let mut least = i64::MAX;
-        for (setting, sum) in self.sums.iter().take(self.count).enumerate() {
-            if *sum < least {
-                least = *sum;
+        let sums = self.sums.iter().take(self.count).zip(told);
+        for (setting, (sum, amount)) in sums.enumerate() {
+            let cost = sum.wrapping_add(i64::from(*amount));
+            if cost < least {
+                least = cost;
                 best = setting;
             }
         }
         best
+    }
+
+    /// The sum at a setting.
+    pub fn sum_at(&self, setting: usize) -> i64 {
+        number_at(self.sums.as_slice(), setting)
     }
 
     /// Splits what the point costs above its least.
@@ -147,8 +194,8 @@ impl Shares {
         for setting in 0..self.count {
             let above = small_at(self.totals.as_slice(), setting).saturating_sub(least);
             let above = above.max(0) as u32;
-            let part = above / split.parts;
-            let left_over = above % split.parts;
+            let part = split.part_of(above);
+            let left_over = above.wrapping_sub(part.wrapping_mul(split.parts));
             put(&mut self.parts, setting, number_of(part));
             put(&mut self.more, setting, number_of(split.shared(left_over)));
         }
@@ -186,4 +233,14 @@ fn minus_one_below(number: i32, other: i32) -> i32 {
 /// The number, or `SMALL_FAR` where it is greater.
 fn number_of(number: u32) -> i32 {
     number.min(SMALL_FAR as u32) as i32
+}
+
+/// So many, or the greatest number of 32 bits where there are more.
+fn nearest_count(count: usize) -> u32 {
+    count.min(4_294_967_295) as u32
+}
+
+/// The number, or the greatest one of 32 bits where it is greater.
+fn nearest_word(number: u64) -> u32 {
+    number.min(4_294_967_295) as u32
 }

@@ -6,7 +6,7 @@ use crate::flow::Flow;
 use crate::nets::{Nets, count_at, spread};
 use crate::network::{End, Network};
 use crate::numbers::{settings_at, small_row_at};
-use crate::shares::{Shares, Split};
+use crate::shares::{Shares, Split, split_at, splits};
 use crate::tables::Tables;
 use crate::witness::Witness;
 use std::alloc::{AllocError, Global};
@@ -46,6 +46,9 @@ pub struct State {
     /// Whether the last sweep went forward.
     is_forward: bool,
     shares: Shares,
+    /// By point: how what it gives is split in sweeps forward, and in those backward.
+    splits: Vec<Option<Split>>,
+    splits_back: Vec<Option<Split>>,
     /// What was computed besides the sweeps.
     besides: u64,
     /// What it takes to put each point where it costs least.
@@ -65,6 +68,8 @@ impl State {
             backward: Flow::nothing(alloc, tables, network, false)?,
             is_forward: true,
             shares: Shares::room(alloc, most)?,
+            splits: splits(alloc, network, true)?,
+            splits_back: splits(alloc, network, false)?,
             besides: 0,
             once: work_of_all(tables, network),
         })
@@ -192,27 +197,25 @@ impl State {
             let point = if forward { step } else { points - 1 - step };
             if forward {
                 if self.forward.take(point) {
-                    let ends = network.of_point(point);
                     visit(
                         &mut self.shares,
                         &mut self.forward,
                         &mut self.backward,
                         tables,
-                        ends,
+                        network.ahead(point, true),
+                        split_at(self.splits.as_slice(), point),
                         point,
-                        forward,
                     );
                 }
             } else if self.backward.take(point) {
-                let ends = network.of_point(point);
                 visit(
                     &mut self.shares,
                     &mut self.backward,
                     &mut self.forward,
                     tables,
-                    ends,
+                    network.ahead(point, false),
+                    split_at(self.splits_back.as_slice(), point),
                     point,
-                    forward,
                 );
             }
         }
@@ -247,37 +250,31 @@ impl State {
         fixed: &[Option<usize>],
     ) -> Result<Witness, AllocError> {
         self.count(self.once);
-        let mut list = Vec::new(alloc);
-        for point in 0..network.by_point.len() {
+        let points = network.by_point.len();
+        let mut list = Vec::with_capacity(alloc, points)?;
+        let mut cost: i64 = 0;
+        for point in 0..points {
+            self.sum_prices(tables, network.ahead(point, false), point, list.as_slice());
             let setting = match fixed.get(point) {
                 Some(Some(setting)) => *setting,
-                _ => self.best_setting(tables, network.of_point(point), point, list.as_slice()),
+                _ => self.shares.best(self.backward.sums(point)),
             };
+            cost = cost.saturating_add(self.shares.sum_at(setting));
             list.push(setting)?;
         }
-        Ok(Witness::of(tables, network, list))
+        Ok(Witness::of(list, cost))
     }
 
-    /// The first setting at which a point costs least together with its links to the points of a list, and with what those to
-    /// others tell it.
-    fn best_setting(
-        &mut self,
-        tables: &Tables,
-        ends: &[End],
-        point: usize,
-        list: &[usize],
-    ) -> usize {
+    /// Sums up what a point costs by its settings together with its links to the points before it, which stand in a list.
+    fn sum_prices(&mut self, tables: &Tables, ends: &[End], point: usize, list: &[usize]) {
         self.shares
             .begin_sums(small_row_at(tables.costs.as_slice(), point));
         for end in ends {
-            match list.get(end.other) {
-                Some(there) => self
-                    .shares
-                    .sum(small_row_at(tables.rows(end.turned()), *there)),
-                None => self.shares.sum(self.backward.told(end.at)),
+            if let Some(there) = list.get(end.other) {
+                self.shares
+                    .sum(small_row_at(tables.rows(end.turned()), *there));
             }
         }
-        self.shares.best()
     }
 
     /// Sweeps either way by turns, until a list costs no more than the bound, this does not rise any more, or the reach ends.
@@ -343,63 +340,35 @@ fn work_of(costs: &[i32], ends: &[End]) -> u64 {
         .saturating_mul(costs.len() as u64)
 }
 
-/// What the point costs by its settings, with what its links tell it in a sweep that way.
-fn sum_up(
-    shares: &mut Shares,
-    here: &Flow,
-    back: &Flow,
-    costs: &[i32],
-    ends: &[End],
-    forward: bool,
-) {
-    shares.begin(costs);
-    for end in ends {
-        if end.is_ahead(forward) {
-            shares.add(back.told(end.at));
-        } else {
-            shares.add(here.told(end.at));
-        }
-    }
-}
-
-/// What a sweep does at a point.
+/// What a sweep does at a point, which has these ends of links ahead.
 fn visit(
     shares: &mut Shares,
     here: &mut Flow,
     back: &mut Flow,
     tables: &Tables,
-    ends: &[End],
+    ahead: &[End],
+    split: Option<Split>,
     point: usize,
-    forward: bool,
 ) {
     let costs = small_row_at(tables.costs.as_slice(), point);
-    here.count(work_of(costs, ends));
-    sum_up(shares, here, back, costs, ends, forward);
+    here.count(work_of(costs, ahead));
+    shares.sum_up(costs, here.sums(point), back.sums(point));
     let least = shares.least();
     here.note(point, least);
-    if let Some(split) = Split::of(ends, forward) {
+    if let Some(split) = split {
         shares.split(split, least);
-        give_all(shares, here, back, tables, ends, forward);
+        give_all(shares, here, back, tables, ahead);
     }
 }
 
 /// Gives their shares to the links that are ahead.
-fn give_all(
-    shares: &Shares,
-    here: &mut Flow,
-    back: &mut Flow,
-    tables: &Tables,
-    ends: &[End],
-    forward: bool,
-) {
+fn give_all(shares: &Shares, here: &mut Flow, back: &mut Flow, tables: &Tables, ahead: &[End]) {
     let Some(mut turn) = shares.first_turn() else {
         return;
     };
-    for end in ends {
-        if end.is_ahead(forward) {
-            give(shares, here, back, tables, *end, turn);
-            turn = shares.turn_after(turn);
-        }
+    for end in ahead {
+        give(shares, here, back, tables, *end, turn);
+        turn = shares.turn_after(turn);
     }
 }
 

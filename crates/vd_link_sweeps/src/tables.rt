@@ -1,8 +1,7 @@
 //! What points and links cost by the settings that are left, in steps: parts of a unit, or so many bits more where costs are great.
 
-use crate::fours::{Four, by_four};
 use crate::network::{End, Network, Side};
-use crate::numbers::{FAR, SMALL, SMALL_FAR, nearest_small, settings_at};
+use crate::numbers::{FAR, SMALL, SMALL_FAR, add_small, nearest_small, settings_at};
 use crate::order::Order;
 use std::alloc::{AllocError, Global};
 use vd_linked_path::{LinkTable, LinkedTables, PointTable};
@@ -16,41 +15,14 @@ const MOST_BITS: u32 = 32;
 struct Prices {
     by_first: Vec<Vec<i32>>,
     by_second: Vec<Vec<i32>>,
-    /// The same by four settings of the first point, and by four of the second.
-    to_first: Vec<Vec<Four>>,
-    to_second: Vec<Vec<Four>>,
 }
 
 impl Prices {
-    /// With these rows.
-    fn of(
-        alloc: Global,
-        by_first: Vec<Vec<i32>>,
-        by_second: Vec<Vec<i32>>,
-    ) -> Result<Prices, AllocError> {
-        let to_first = by_four(alloc, by_second.as_slice())?;
-        let to_second = by_four(alloc, by_first.as_slice())?;
-        Ok(Prices {
-            by_first,
-            by_second,
-            to_first,
-            to_second,
-        })
-    }
-
     /// The rows for the settings at this end.
     fn rows(&self, side: Side) -> &[Vec<i32>] {
         match side {
             Side::First => self.by_first.as_slice(),
             Side::Second => self.by_second.as_slice(),
-        }
-    }
-
-    /// By four settings at this end, what these cost with each setting at the other.
-    fn fours(&self, side: Side) -> &[Vec<Four>] {
-        match side {
-            Side::First => self.to_first.as_slice(),
-            Side::Second => self.to_second.as_slice(),
         }
     }
 
@@ -93,7 +65,7 @@ impl Tables {
         for first in &network.firsts {
             let by_first = rows_of(alloc, links, *first, settings, bits)?;
             let by_second = rows_of(alloc, links, first.turned(), settings, bits)?;
-            kinds.push(kind_of(alloc, &mut prices, by_first, by_second)?)?;
+            kinds.push(kind_of(&mut prices, by_first, by_second)?)?;
         }
         Ok(Tables {
             bits,
@@ -106,7 +78,7 @@ impl Tables {
     /// Makes a point cost more at a setting.
     pub fn raise(&mut self, point: usize, setting: usize, amount: i32) {
         if point < self.costs.len() {
-            add(&mut self.costs[point], setting, amount);
+            add_small(&mut self.costs[point], setting, amount);
         }
     }
 
@@ -118,30 +90,14 @@ impl Tables {
         }
     }
 
-    /// What a link costs, by four settings at this end with each setting at the other.
-    pub(crate) fn fours(&self, end: End) -> &[Vec<Four>] {
-        match self.prices_of(end) {
-            Some(prices) => prices.fours(end.side),
-            None => &[],
-        }
-    }
-
     /// The prices of a link.
     fn prices_of(&self, end: End) -> Option<&Prices> {
         self.prices.get(*self.kinds.get(end.at)?)
     }
 }
 
-/// Adds to the number at a place, if there is one.
-fn add(numbers: &mut Vec<i32>, place: usize, amount: i32) {
-    if place < numbers.len() {
-        numbers[place] = numbers[place].wrapping_add(amount);
-    }
-}
-
 /// The number of the prices with these rows among those that are there, to which they are added if they are new.
 fn kind_of(
-    alloc: Global,
     prices: &mut Vec<Prices>,
     by_first: Vec<Vec<i32>>,
     by_second: Vec<Vec<i32>>,
@@ -151,7 +107,10 @@ fn kind_of(
             return Ok(number);
         }
     }
-    prices.push(Prices::of(alloc, by_first, by_second)?)?;
+    prices.push(Prices {
+        by_first,
+        by_second,
+    })?;
     Ok(prices.len() - 1)
 }
 

@@ -1,8 +1,6 @@
 //! Lists that are known.
 
-use crate::network::{End, Network};
-use crate::numbers::{FAR, SMALL_FAR, small_at, small_row_at};
-use crate::tables::Tables;
+use crate::numbers::SMALL_FAR;
 use std::alloc::Global;
 
 /// A list of settings, one for each point, and what it costs in steps: `i64::MAX` where a link does not join.
@@ -21,10 +19,13 @@ impl Witness {
         }
     }
 
-    /// A list, with what it costs by the tables.
-    pub fn of(tables: &Tables, network: &Network, settings: Vec<usize>) -> Witness {
-        let cost = cost_of(tables, network, settings.as_slice());
-        Witness { settings, cost }
+    /// A list, with what it costs: no list where that is too much for links that join.
+    pub fn of(settings: Vec<usize>, cost: i64) -> Witness {
+        let joins = cost < i64::from(SMALL_FAR);
+        Witness {
+            settings,
+            cost: if joins { cost } else { i64::MAX },
+        }
     }
 
     /// Whether the list has the point at the setting.
@@ -37,32 +38,5 @@ impl Witness {
         if other.cost < self.cost {
             *self = other;
         }
-    }
-}
-
-/// What a list of settings costs; `i64::MAX` where a link does not join.
-fn cost_of(tables: &Tables, network: &Network, list: &[usize]) -> i64 {
-    let mut sum: i64 = 0;
-    for (costs, setting) in tables.costs.iter().zip(list) {
-        sum = sum.saturating_add(i64::from(small_at(costs.as_slice(), *setting)));
-    }
-    for first in &network.firsts {
-        sum = sum.saturating_add(price_in(tables, *first, list));
-    }
-    if sum < FAR { sum } else { i64::MAX }
-}
-
-/// What a link costs in a list of settings.
-fn price_in(tables: &Tables, first: End, list: &[usize]) -> i64 {
-    match (list.get(first.point), list.get(first.other)) {
-        (Some(here), Some(there)) => {
-            let price = small_at(small_row_at(tables.rows(first), *here), *there);
-            if price < SMALL_FAR {
-                i64::from(price)
-            } else {
-                FAR
-            }
-        }
-        _ => FAR,
     }
 }
