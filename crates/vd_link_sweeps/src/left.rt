@@ -10,7 +10,7 @@ use vd_linked_path::{LinkTable, LinkedTables, PointTable, SwitchTable};
 use vd_space::Problem;
 
 /// What a point costs that cannot be at a setting, in parts.
-const NOTHING_LEFT: i64 = 256_000_000_000;
+pub const NOTHING_LEFT: i64 = 256_000_000_000;
 
 /// A setting that is not left.
 #[derive(Clone, Copy, PartialEq, Eq, Debug)]

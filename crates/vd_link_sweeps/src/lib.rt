@@ -13,11 +13,11 @@ mod sweeps;
 mod tables;
 mod witness;
 
-pub use left::{Death, Left};
+pub use left::{Death, Left, NOTHING_LEFT};
 pub use nets::{Nets, fixed_at};
 pub use network::{End, Network, Side};
 pub use numbers::{FAR, number_at, row_at, settings_at};
 pub use order::Order;
-pub use sweeps::{Ending, Reach, State};
+pub use sweeps::{Ending, Reach, State, nearest_before};
 pub use tables::Tables;
 pub use witness::Witness;

@@ -115,6 +115,11 @@ impl Shares {
         })
     }
 
+    /// Lets the next sweep be the first.
+    pub fn begin_turns(&mut self) {
+        self.turn = u32::MAX;
+    }
+
     /// The next sweep.
     pub fn turn(&mut self) {
         self.turn = self.turn.wrapping_add(1);
@@ -134,6 +139,13 @@ impl Shares {
         self.count = costs.len();
         for (total, cost) in self.totals.iter_mut().zip(costs) {
             *total = *cost;
+        }
+    }
+
+    /// Begins with nothing.
+    pub fn begin_with_nothing(&mut self) {
+        for total in &mut self.totals {
+            *total = 0;
         }
     }
 
@@ -181,6 +193,11 @@ impl Shares {
             }
         }
         best
+    }
+
+    /// The same with what was added besides.
+    pub fn best_with_more(&self) -> usize {
+        self.best(self.totals.as_slice())
     }
 
     /// The sum at a setting.

@@ -86,19 +86,48 @@ impl State {
         nets: &Nets,
     ) -> Result<State, AllocError> {
         let mut state = State::of(alloc, tables, network, most)?;
-        state.is_forward = false;
+        state.hold_all(tables, network, settings, nets, false);
+        Ok(state)
+    }
+
+    /// The same behind a sweep forward, before the first one of all.
+    pub fn from_nets_ahead(
+        alloc: Global,
+        tables: &Tables,
+        network: &Network,
+        most: usize,
+        settings: &[Vec<usize>],
+        nets: &Nets,
+    ) -> Result<State, AllocError> {
+        let mut state = State::of(alloc, tables, network, most)?;
+        state.shares.begin_turns();
+        state.hold_all(tables, network, settings, nets, true);
+        Ok(state)
+    }
+
+    /// Holds these amounts at the near ends of all links, as a sweep that way.
+    fn hold_all(
+        &mut self,
+        tables: &Tables,
+        network: &Network,
+        settings: &[Vec<usize>],
+        nets: &Nets,
+        forward: bool,
+    ) {
+        self.is_forward = forward;
         for first in &network.firsts {
-            let near = if first.is_ahead(false) {
+            let near = if first.is_ahead(forward) {
                 *first
             } else {
                 first.turned()
             };
             let places = settings_at(settings, near.point);
-            state
-                .backward
-                .hold_all(tables, near, nets.row(near), places);
+            if forward {
+                self.forward.hold_all(tables, near, nets.row(near), places);
+            } else {
+                self.backward.hold_all(tables, near, nets.row(near), places);
+            }
         }
-        Ok(state)
     }
 
     /// Notes that a point has other costs.
@@ -241,7 +270,7 @@ impl State {
     }
 
     /// The list that puts each point that is not fixed, in order, where it costs least together with its links to the points
-    /// before it, and with what those to the points behind it tell it.
+    /// before it, and with what those to the points behind it tell it; behind a sweep forward, with what it holds of these.
     pub fn decoded(
         &mut self,
         alloc: Global,
@@ -257,12 +286,25 @@ impl State {
             self.sum_prices(tables, network.ahead(point, false), point, list.as_slice());
             let setting = match fixed.get(point) {
                 Some(Some(setting)) => *setting,
-                _ => self.shares.best(self.backward.sums(point)),
+                _ => self.best_setting(network, point),
             };
             cost = cost.saturating_add(self.shares.sum_at(setting));
             list.push(setting)?;
         }
         Ok(Witness::of(list, cost))
+    }
+
+    /// The first setting at which a point costs least, as it was summed up, and with what its links to the points behind it tell
+    /// it; behind a sweep forward, with what it holds of these.
+    fn best_setting(&mut self, network: &Network, point: usize) -> usize {
+        if !self.is_forward {
+            return self.shares.best(self.backward.sums(point));
+        }
+        self.shares.begin_with_nothing();
+        for end in network.ahead(point, true) {
+            self.shares.add(self.forward.held(end.at));
+        }
+        self.shares.best_with_more()
     }
 
     /// Sums up what a point costs by its settings together with its links to the points before it, which stand in a list.
@@ -415,7 +457,7 @@ fn give(shares: &Shares, here: &mut Flow, back: &mut Flow, tables: &Tables, end:
 }
 
 /// The end of a link whose other point is before this one, and of these the last; the first of equals.
-fn nearest_before(ends: &[End]) -> Option<End> {
+pub fn nearest_before(ends: &[End]) -> Option<End> {
     let mut nearest: Option<End> = None;
     for end in ends {
         if end.other < end.point && nearest.is_none_or(|found| found.other < end.other) {

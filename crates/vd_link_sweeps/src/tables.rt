@@ -53,9 +53,21 @@ impl Tables {
         order: &Order,
         settings: &[Vec<usize>],
     ) -> Result<Tables, AllocError> {
+        Tables::in_steps(alloc, tables, network, order, settings, 0)
+    }
+
+    /// The same, where a step is at least so many bits more than a part.
+    pub fn in_steps(
+        alloc: Global,
+        tables: &LinkedTables,
+        network: &Network,
+        order: &Order,
+        settings: &[Vec<usize>],
+        least_bits: u32,
+    ) -> Result<Tables, AllocError> {
         let points = tables.points.as_slice();
         let links = tables.links.as_slice();
-        let bits = bits_of(greatest_sum(points, links, network, order, settings));
+        let bits = bits_of(greatest_sum(points, links, network, order, settings)).max(least_bits);
         let mut costs = Vec::new(alloc);
         for (point, left) in order.points.iter().zip(settings) {
             costs.push(costs_of(alloc, points, *point, left.as_slice(), bits)?)?;
