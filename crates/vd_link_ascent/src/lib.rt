@@ -13,5 +13,6 @@ mod walker;
 
 pub use ascent::Ascent;
 pub use laws::shifts_take_the_amounts;
+pub use made::shifts_of;
 pub use refutation::Refutation;
 pub use walk::Walk;
