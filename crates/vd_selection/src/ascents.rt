@@ -2,9 +2,9 @@
 
 ghost use Rattle.std.specs.Prelude.{◌≡◌, ℕ, Option, List, ◌≤◌, IfOk, IfSome, length, option_map};
 ghost use Rattle.std.specs.List.{All};
-ghost use Rattle.vd_ascent.specs.Shifts.{AreShiftsOf};
 ghost use Rattle.vd_link_ascent.specs.Shifts.{AreLinkShifts};
 ghost use Rattle.vd_linked_path.specs.Tables.{AreLinkedTables};
+ghost use Rattle.vd_plain_ascent.specs.Shifts.{AreUseShifts};
 ghost use Rattle.vd_prefixes.specs.declared.shift.Shift.{Shift as Shifts};
 ghost use Rattle.vd_selection.specs.Linking.{IsBeyond};
 ghost use Rattle.vd_space.specs.Labelled.{IsLabelled};
@@ -14,10 +14,10 @@ ghost use Rattle.vd_space.specs.declared.problem.Problem.{Problem as Problems};
 
 use crate::passing::walked;
 use std::alloc::{AllocError, Global};
-use vd_ascent::ascend;
 use vd_items::Items;
 use vd_link_ascent::Ascent;
 use vd_linked_path::{LinkedPath, LinkedTables};
+use vd_plain_ascent::plain_shifts;
 use vd_prefixes::Shift;
 use vd_space::Problem;
 
@@ -49,7 +49,7 @@ pub trait Ascents {
         requires labelled { IsLabelled problem.now }
         requires limits { IsWithinLimits problem.now }
         ensures gives { IfOk result (uses_give self.now problem.now) }
-        ensures shifts { IfOk result (λ found. IfSome found (AreShiftsOf problem.now)) };
+        ensures shifts { IfOk result (λ found. IfSome found (AreUseShifts problem.now)) };
 
     /// The shifts of links, by the tables without shifts. An answer has at least one.
     fn over_links(
@@ -90,7 +90,7 @@ pub trait Ascents {
 pub struct Sweeps;
 
 impl Ascents for Sweeps {
-    ghost uses_give = { λ sweeps problem found. IfSome found (AreShiftsOf problem) };
+    ghost uses_give = { λ sweeps problem found. IfSome found (AreUseShifts problem) };
 
     ghost links_give = { λ sweeps problem found. IfSome found (AreLinkShifts problem) };
 
@@ -101,7 +101,7 @@ impl Ascents for Sweeps {
         alloc: Global,
         problem: &Problem,
     ) -> Result<Option<Items<Shift>>, AllocError> {
-        ascend(alloc, problem)
+        plain_shifts(alloc, problem)
     }
 
     fn over_links(
