@@ -83,7 +83,7 @@ fn climbed_from(
         };
         if reached >= bound {
             bound = reached;
-            nets = plain.nets_of(alloc, &tables, &state)?;
+            plain.write_nets(&tables, &state, &mut nets);
         }
         if turn % 4 == 3 {
             let list = state.decoded(alloc, &tables, &plain.network, &[])?;

@@ -40,8 +40,7 @@ fn send_back(
 fn collect(plain: &Plain, end: End, nets: &mut Nets) {
     for setting in plain.settings_of(end.point) {
         let least = least_after(plain, end, *setting, nets);
-        let held = number_at(nets.row(end), *setting);
-        nets.add(end, *setting, least.saturating_sub(held));
+        nets.put(end, *setting, least);
     }
 }
 

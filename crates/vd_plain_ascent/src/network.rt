@@ -112,20 +112,8 @@ impl Plain {
         State::from_nets_ahead(alloc, tables, &self.network, self.left.most, settings, nets)
     }
 
-    /// What the shifts of a state come to.
-    pub fn nets_of(
-        &self,
-        alloc: Global,
-        tables: &Tables,
-        state: &State,
-    ) -> Result<Nets, AllocError> {
-        let settings = self.settings.as_slice();
-        state.nets(
-            alloc,
-            tables,
-            &self.network,
-            settings,
-            self.counts.as_slice(),
-        )
+    /// Writes into the amounts what the shifts of a state come to.
+    pub fn write_nets(&self, tables: &Tables, state: &State, nets: &mut Nets) {
+        state.write_nets(tables, &self.network, self.settings.as_slice(), &[], nets);
     }
 }
