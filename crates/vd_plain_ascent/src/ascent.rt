@@ -48,9 +48,14 @@ fn nets_of(alloc: Global, plain: &Plain) -> Result<Nets, AllocError> {
 /// Amounts in parts, as whole units.
 fn in_units(rows: &mut Vec<Vec<i64>>) {
     for row in rows {
-        for place in 0..row.len() {
-            row[place] = row[place].wrapping_shr(UNIT_BITS);
-        }
+        row_in_units(row);
+    }
+}
+
+/// The same of a row.
+fn row_in_units(row: &mut Vec<i64>) {
+    for place in 0..row.len() {
+        row[place] = row[place].wrapping_shr(UNIT_BITS);
     }
 }
 
