@@ -8,7 +8,7 @@ use Rattle.vd_path.specs.Tables.{AreListed}
 use Rattle.vd_link_ascent.specs.declared.refutation.Refutation.{Refutation}
 use Rattle.vd_link_ascent.specs.declared.walk.Tested.{Tested}
 use Rattle.vd_link_ascent.specs.declared.walk.Tested.TheVariants.{Open, Refuted}
-use Rattle.vd_link_ascent.specs.Shifts.{AreLinkShifts}
+use Rattle.vd_link_shifts.specs.Shifts.{AreLinkShifts}
 
 -- a prefix of a problem's lists that is not empty, and some shifts of its links
 pub record IsRefutation (problem : Problem) (found : Refutation) : Type 0 where

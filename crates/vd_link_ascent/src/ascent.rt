@@ -1,16 +1,16 @@
 //! The ascent over the points and links of a problem.
 
 ghost use Rattle.std.specs.Prelude.{◌≡◌, IfOk, IfSome};
-ghost use Rattle.vd_link_ascent.specs.Shifts.{AreLinkShifts};
+ghost use Rattle.vd_link_shifts.specs.Shifts.{AreLinkShifts};
 ghost use Rattle.vd_linked_path.specs.Tables.{AreLinkedTables};
 ghost use Rattle.vd_space.specs.Labelled.{IsLabelled};
 ghost use Rattle.vd_space.specs.Validity.{protocols as protocols_of};
 
 use crate::climbing::Climb;
-use crate::made::shifts_of;
 use std::alloc::{AllocError, Global};
 use vd_base::Proto;
 use vd_items::Items;
+use vd_link_shifts::shifts_of;
 use vd_link_sweeps::Nets;
 use vd_linked_path::LinkedTables;
 use vd_prefixes::Shift;

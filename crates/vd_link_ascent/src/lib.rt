@@ -4,15 +4,11 @@
 
 mod ascent;
 mod climbing;
-mod laws;
 mod lifting;
-mod made;
 mod refutation;
 mod walk;
 mod walker;
 
 pub use ascent::Ascent;
-pub use laws::shifts_take_the_amounts;
-pub use made::shifts_of;
 pub use refutation::Refutation;
 pub use walk::Walk;

@@ -8,10 +8,10 @@ ghost use Rattle.vd_space.specs.Labelled.{IsLabelled};
 ghost use Rattle.vd_space.specs.Validity.{protocols as protocols_of};
 
 use crate::ascent::Ascent;
-use crate::made::shifts_of;
 use crate::refutation::Refutation;
 use crate::walker::{Candidate, Verdict, Walker};
 use std::alloc::{AllocError, Global};
+use vd_link_shifts::shifts_of;
 use vd_linked_path::{LinkedPath, LinkedTables};
 use vd_prefixes::Prefixes;
 use vd_space::Problem;

@@ -1,7 +1,7 @@
 -- Shifts of so many uses and protocols are those of a problem that has so many.
 use Rattle.std.proofs.Common.{◌≡◌, ℕ, Option, Result, List, length, subst}
 use Rattle.std.specs.Prelude.{IfOk, IfSome}
-use Rattle.vd_link_ascent.specs.Shifts.{AreShiftsOf}
+use Rattle.vd_link_shifts.specs.Shifts.{AreShiftsOf}
 use Rattle.vd_plain_ascent.specs.Shifts.{AreUseShifts}
 use Rattle.vd_prefixes.specs.declared.shift.Shift.{Shift}
 use Rattle.vd_space.specs.declared.problem.Problem.{Problem}

@@ -1,6 +1,6 @@
 -- What shifts of uses a certificate can have.
 use Rattle.std.specs.Prelude.{List, length}
-use Rattle.vd_link_ascent.specs.Shifts.{AreShiftsOf}
+use Rattle.vd_link_shifts.specs.Shifts.{AreShiftsOf}
 use Rattle.vd_prefixes.specs.declared.shift.Shift.{Shift}
 use Rattle.vd_space.specs.declared.problem.Problem.{Problem}
 use Rattle.vd_space.specs.Validity.{protocols}

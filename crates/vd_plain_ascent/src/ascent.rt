@@ -14,7 +14,7 @@ use crate::tables::UNIT_BITS;
 use std::alloc::{AllocError, Global};
 use vd_base::Proto;
 use vd_items::Items;
-use vd_link_ascent::shifts_of;
+use vd_link_shifts::shifts_of;
 use vd_link_sweeps::Nets;
 use vd_prefixes::Shift;
 use vd_protocol::protocols;

@@ -29,7 +29,7 @@ use Rattle.vd_linked.specs.Linked.{linked_tree}
 use Rattle.vd_linked.proofs.Bounded.{linked_high_whole, linked_tree_bounded}
 use Rattle.vd_linked_path.specs.declared.made.LinkedTables.{LinkedTables}
 use Rattle.vd_linked_path.specs.Tables.{AreLinkedTables}
-use Rattle.vd_link_ascent.specs.Shifts.{AreLinkShifts, IsLinkShift}
+use Rattle.vd_link_shifts.specs.Shifts.{AreLinkShifts, IsLinkShift}
 use Rattle.vd_selection.specs.Confirming.{confirmed}
 use Rattle.vd_selection.specs.Linking.{CanLink, NamesLink}
 use Rattle.vd_selection.specs.Selecting.{Selects}

@@ -2,7 +2,7 @@
 
 ghost use Rattle.std.specs.Prelude.{◌≡◌, ℕ, Option, List, ◌≤◌, IfOk, IfSome, length, option_map};
 ghost use Rattle.std.specs.List.{All};
-ghost use Rattle.vd_link_ascent.specs.Shifts.{AreLinkShifts};
+ghost use Rattle.vd_link_shifts.specs.Shifts.{AreLinkShifts};
 ghost use Rattle.vd_linked_path.specs.Tables.{AreLinkedTables};
 ghost use Rattle.vd_plain_ascent.specs.Shifts.{AreUseShifts};
 ghost use Rattle.vd_prefixes.specs.declared.shift.Shift.{Shift as Shifts};

@@ -1,7 +1,7 @@
 //! The search by links.
 
 ghost use Rattle.std.specs.Prelude.{◌≡◌, ◌≢◌, ◌<◌, ◌≤◌, [], IfNone, IfOk, IfSome, Err, length, true};
-ghost use Rattle.vd_link_ascent.specs.Shifts.{AreLinkShifts};
+ghost use Rattle.vd_link_shifts.specs.Shifts.{AreLinkShifts};
 ghost use Rattle.vd_linked.specs.Linked.{linked_tree};
 ghost use Rattle.vd_linked_path.specs.Tables.{AreLinkedTables};
 ghost use Rattle.vd_path.specs.Tables.{AreTables};

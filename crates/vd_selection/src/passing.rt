@@ -2,8 +2,8 @@
 
 ghost use Rattle.std.specs.Prelude.{◌≡◌, ◌==◌, IfOk, IfSome, is_some, length, nat_lt, true};
 ghost use Rattle.std.specs.List.{All, list_all};
-ghost use Rattle.vd_link_ascent.specs.Shifts.{AreLinkShifts};
 ghost use Rattle.vd_link_ascent.specs.Walking.{made};
+ghost use Rattle.vd_link_shifts.specs.Shifts.{AreLinkShifts};
 ghost use Rattle.vd_linked_bound.specs.Bounds.{IsBoundOf};
 ghost use Rattle.vd_linked_path.specs.Tables.{AreLinkedTables};
 ghost use Rattle.vd_selection.specs.Linking.{IsBeyond};

@@ -2,7 +2,7 @@
 
 ghost use Rattle.std.specs.Prelude.{◌≡◌, ◌<◌, ◌≤◌, IfOk, IfSome, OnOk};
 ghost use Rattle.vd_link_sweeps.specs.Rows.{row_of};
-ghost use Rattle.vd_link_ascent.specs.Shifts.{Adds, AreShiftsOf, Puts, PutsRow, link_shifts, row_shifts, shift_to, shifts_by};
+ghost use Rattle.vd_link_shifts.specs.Shifts.{Adds, AreShiftsOf, Puts, PutsRow, link_shifts, row_shifts, shift_to, shifts_by};
 
 use std::alloc::{AllocError, Global};
 use vd_base::limits;

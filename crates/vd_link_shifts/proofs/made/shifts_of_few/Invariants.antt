@@ -1,7 +1,7 @@
 use Rattle.std.proofs.Common.{◌≡◌}
-use Rattle.vd_link_ascent.specs.Shifts.{AreShiftsOf, net_shifts}
+use Rattle.vd_link_shifts.specs.Shifts.{AreShiftsOf, net_shifts}
 use Rattle.vd_link_sweeps.specs.Rows.{row_of}
-use Rattle.vd_link_ascent.proofs.made.shifts_of_few.Given as goal
+use Rattle.vd_link_shifts.proofs.made.shifts_of_few.Given as goal
 
 abbrev pub invariant-loop-at : goal.invariant-loop-at
 invariant-loop-at l = record {

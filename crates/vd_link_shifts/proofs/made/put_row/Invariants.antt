@@ -1,6 +1,6 @@
 use Rattle.std.proofs.Common.{◌≡◌, ◌++◌}
-use Rattle.vd_link_ascent.specs.Shifts.{PutsRow, row_shifts}
-use Rattle.vd_link_ascent.proofs.made.put_row.Given as goal
+use Rattle.vd_link_shifts.specs.Shifts.{PutsRow, row_shifts}
+use Rattle.vd_link_shifts.proofs.made.put_row.Given as goal
 
 abbrev pub invariant-loop-place : goal.invariant-loop-place
 invariant-loop-place l = record {

@@ -1,7 +1,7 @@
 //! What is true of all amounts. The functions here do nothing: the contract of each is a law.
 
 ghost use Rattle.std.specs.Prelude.{◌≡◌, ℕ, ◌<◌, ◌+ℤ◌};
-ghost use Rattle.vd_link_ascent.specs.Shifts.{amount_in, shifts_by};
+ghost use Rattle.vd_link_shifts.specs.Shifts.{amount_in, shifts_by};
 ghost use Rattle.vd_link_sweeps.specs.declared.nets.Nets.{Nets as Amounts};
 ghost use Rattle.vd_space.specs.Bounds.{use_shift};
 ghost use Rattle.vd_space.specs.Costs.{total};

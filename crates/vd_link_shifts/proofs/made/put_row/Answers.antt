@@ -1,7 +1,7 @@
 use Rattle.std.proofs.Common.{◌≡◌, ◌∙◌, arith, w64}
 use Rattle.std.proofs.lemmas.Int.{to_z-of_z}
-use Rattle.vd_link_ascent.proofs.Making.{all_places, next_place, row_next}
-use Rattle.vd_link_ascent.proofs.made.put_row.Goals as goal
+use Rattle.vd_link_shifts.proofs.Making.{all_places, next_place, row_next}
+use Rattle.vd_link_shifts.proofs.made.put_row.Goals as goal
 
 pub loop-place-preserved : goal.loop-place-preserved
 loop-place-preserved c = record {

@@ -8,8 +8,8 @@ use Rattle.vd_prefixes.specs.declared.shift.Shift.{Shift}
 use Rattle.vd_space.specs.Bounds.{use_shift}
 use Rattle.vd_space.specs.Costs.{total}
 use Rattle.vd_space.proofs.Totals.{total_append}
-use Rattle.vd_link_ascent.specs.Shifts.{link_shifts, net_shifts, row_shifts, shift_to}
-use Rattle.vd_link_ascent.proofs.Making.{flat_more}
+use Rattle.vd_link_shifts.specs.Shifts.{link_shifts, net_shifts, row_shifts, shift_to}
+use Rattle.vd_link_shifts.proofs.Making.{flat_more}
 
 -- ---- of lists by number one alone counts
 

@@ -1,7 +1,7 @@
 use Rattle.std.proofs.Common.{arith}
-use Rattle.vd_link_ascent.proofs.Making.{link_next}
+use Rattle.vd_link_shifts.proofs.Making.{link_next}
 use Rattle.vd_link_sweeps.specs.Rows.{row_of}
-use Rattle.vd_link_ascent.proofs.made.shifts_of_few.Goals as goal
+use Rattle.vd_link_shifts.proofs.made.shifts_of_few.Goals as goal
 
 pub loop-at-preserved : goal.loop-at-preserved
 loop-at-preserved c =

@@ -1,6 +1,6 @@
-use Rattle.vd_link_ascent.proofs.Making.{adds_both, in_rows, puts_both}
+use Rattle.vd_link_shifts.proofs.Making.{adds_both, in_rows, puts_both}
 use Rattle.vd_link_sweeps.specs.Rows.{row_of}
-use Rattle.vd_link_ascent.proofs.made.put_link.Goals as goal
+use Rattle.vd_link_shifts.proofs.made.put_link.Goals as goal
 
 pub returns-clause-puts : goal.returns-clause-puts
 returns-clause-puts c =

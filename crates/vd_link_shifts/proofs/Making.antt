@@ -10,7 +10,7 @@ use Rattle.vd_space.specs.declared.problem.Problem.{Problem}
 use Rattle.vd_space.specs.Validity.{protocols}
 use Rattle.vd_linked.specs.Links.{links}
 use Rattle.vd_link_sweeps.specs.Rows.{row_in, row_of}
-use Rattle.vd_link_ascent.specs.Shifts.{Adds, AreLinkShifts, AreShiftsOf, Puts, PutsRow, link_shifts, net_shifts, row_shifts, shift_by, shift_to}
+use Rattle.vd_link_shifts.specs.Shifts.{Adds, AreLinkShifts, AreShiftsOf, Puts, PutsRow, link_shifts, net_shifts, row_shifts, shift_by, shift_to}
 
 -- a place more, where the first of at least so many places are reached
 pub next_place : (at place places : ℕ) (before between after : List Shift) → place < places → PutsRow at place before between → Puts at place between after → PutsRow at places before after
