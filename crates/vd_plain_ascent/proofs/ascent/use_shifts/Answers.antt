@@ -1,4 +1,4 @@
-use Rattle.std.proofs.Common.{ap, ◌∙◌, length, arith}
+use Rattle.std.proofs.Common.{ap, length, arith}
 use Rattle.vd_space.proofs.Few.{few_in}
 use Rattle.vd_plain_ascent.proofs.Naming.{of_problem}
 use Rattle.vd_plain_ascent.proofs.ascent.use_shifts.Goals as goal

@@ -1,4 +1,4 @@
-use Rattle.std.proofs.Common.{List, length, arith, ap}
+use Rattle.std.proofs.Common.{length, arith, ap}
 use Rattle.vd_space.proofs.Few.{few_in}
 use Rattle.vd_plain_ascent.proofs.tables.points.Goals as goal
 
