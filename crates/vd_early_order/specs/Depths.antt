@@ -1,7 +1,7 @@
 -- How lines of joint code rank, as in list scheduling: by depth, the longest chain of what comes one after the other since their block began.
--- Depths count half rounds. Packets are told in the even ones, and heard two later. What is made of a word behind a packet that tells it and
--- opens nothing is one deeper than the packet: so packets of a round stand side by side, and no such use of a word goes before them.
-use Rattle.std.specs.Prelude.{ℕ, ◌+◌, ◌-◌, ◌*◌, ◌%◌, ◌^◌, max, min, nat_eq, if◌then◌else◌, List, [], ◌∷◌, map}
+-- Depths count half rounds. A packet is heard in the first half of the next round. What is made of a word behind a packet that tells it and
+-- opens nothing is in the second half of its round: so packets of a round stand side by side, and no such use of a word goes before them.
+use Rattle.std.specs.Prelude.{ℕ, ◌+◌, ◌-◌, ◌*◌, ◌%◌, ◌^◌, max, min, nat_lt, if◌then◌else◌, List, [], ◌∷◌, map}
 use Rattle.vd_execution.specs.declared.instructions.Reg.{Reg}
 use Rattle.vd_execution.specs.declared.instructions.Line.{Line}
 use Rattle.vd_execution.specs.declared.instructions.Line.TheVariants as line
@@ -39,13 +39,13 @@ noted h (r ∷ rs) n d = noted h rs n (put d (place_of h r.0) n)
 abbrev pub later : ℕ → ℕ → ℕ
 later n k = min (n + k) (2 ^ 32 - 1)
 
--- the first even one
-abbrev pub even_from : ℕ → ℕ
-even_from n = later n (n % 2)
+-- the first half of its round
+abbrev pub round_of : ℕ → ℕ
+round_of n = n - n % 2
 
 abbrev pub depth : Depths → Turn → ℕ
 depth d (Does h a) = deepest d h 0 (reads a)
-depth d (Tells a said b heard) = even_from (deepest d a 0 said)
+depth d (Tells a said b heard) = deepest d a 0 said
 
 -- words that a packet tells, if it opens none
 abbrev pub told : Opened → ℕ → List Reg → ℕ → Depths → Depths
@@ -54,14 +54,14 @@ told opened h rs n d = if meet rs (opened h) then d else noted h rs n d
 abbrev pub depths_behind : Opened → Depths → Turn → Depths
 depths_behind opened d (Does h a) = noted h (writes a) (deepest d h 0 (reads a)) d
 depths_behind opened d (Tells a said b heard) =
-    noted b heard (later (even_from (deepest d a 0 said)) 2) (told opened a said (later (even_from (deepest d a 0 said)) 1) d)
+    noted b heard (later (round_of (deepest d a 0 said)) 2) (told opened a said (later (round_of (deepest d a 0 said)) 1) d)
 
 -- ---- ranks
 
 -- Packets stand by sender and receiver, and in every second round in the other order: a host that awaits first in one round sends first in
 -- the next.
 abbrev pub packet_place : ℕ → ℕ → ℕ → ℕ
-packet_place n a b = if nat_eq (n % 4) 0 then 1 + (a * 256 + b) else 65536 - (a * 256 + b)
+packet_place n a b = if nat_lt (n % 4) 2 then 1 + (a * 256 + b) else 65536 - (a * 256 + b)
 
 -- Of one depth acts come first.
 abbrev pub rank : Depths → Turn → ℕ

@@ -1,6 +1,6 @@
-//! How lines of joint code rank: by depth, the longest chain of what comes one after the other since their block began, in half rounds.
-//! Packets are told in the even ones, and heard two later. What is made of a word behind a packet that tells it and opens nothing is one
-//! deeper than the packet.
+//! How lines of joint code rank: by depth, the longest chain of what comes one after the other since their block began, in half rounds. A
+//! packet is heard in the first half of the next round. What is made of a word behind a packet that tells it and opens nothing is in the
+//! second half of its round.
 
 ghost use Rattle.std.specs.Prelude.{◌≡◌, ◌+◌, ◌<◌, IfOk, OnOk, length, slice_index};
 ghost use Rattle.vd_execution.specs.Registers.{put};
@@ -177,7 +177,7 @@ fn packet_place(depth: u32, from: HostId, to: HostId) -> u64
     ensures within { result < 65537 }
 {
     let link = u64::from(from.0) * 256 + u64::from(to.0);
-    if depth % 4 == 0 {
+    if depth % 4 < 2 {
         1 + link
     } else {
         65536 - link
@@ -196,16 +196,11 @@ fn act_rank(depths: &mut Items<u32>, opened: &[Items<Reg>], act: &Act) -> Result
             Ok(u64::from(depth) * DEPTH)
         }
         Act::Msg(from, said, to, heard) => {
-            let ready = words_depth(depths.as_slice(), *from, said.as_slice());
-            let depth = ready.saturating_add(ready % 2);
-            note_told(
-                depths,
-                opened,
-                *from,
-                said.as_slice(),
-                depth.saturating_add(1),
-            )?;
-            note_all(depths, *to, heard.as_slice(), depth.saturating_add(2))?;
+            let depth = words_depth(depths.as_slice(), *from, said.as_slice());
+            let round = depth.saturating_sub(depth % 2);
+            let used = round.saturating_add(1);
+            note_told(depths, opened, *from, said.as_slice(), used)?;
+            note_all(depths, *to, heard.as_slice(), round.saturating_add(2))?;
             Ok(u64::from(depth) * DEPTH + packet_place(depth, *from, *to))
         }
     }
