@@ -3,7 +3,7 @@
 ghost use Rattle.std.specs.Prelude.{◌≡◌, [], ◌∷◌, ◌++◌, length, take, is_some, option_copied, option_map, OnOk, IfErr, false};
 ghost use Rattle.vd_base.specs.Names.{at_name};
 ghost use Rattle.vd_resolve.specs.declared.fault.NameFault.TheVariants.{Memory as want_of_memory};
-ghost use Rattle.vd_resolve.specs.Tables.{names, places};
+ghost use Rattle.vd_resolve.specs.Tables.{Table, names, places};
 
 use crate::fault::NameFault;
 use indexmap::IndexMap;
@@ -22,9 +22,9 @@ impl<'a, V> Model for NameTable<'a, V> {
     ghost use Rattle.std.specs.Prelude.{map};
     ghost use Rattle.std.specs.Coded.{coded_list, coded×, coded_ℕ};
     ghost use Rattle.vd_base.specs.contracts.ids.Span as span;
-    ghost use Rattle.vd_resolve.specs.Tables.{Table};
+    ghost use Rattle.vd_resolve.specs.Tables.{Table as Listed};
 
-    ghost Value = { Table V };
+    ghost Value = { Listed V };
 
     ghost coded = { coded× (coded_list (coded× (coded_list coded_ℕ) V.code)) (coded_list (coded× (coded_list coded_ℕ) span.the_row.coded)) };
 
@@ -116,11 +116,15 @@ impl<'a, V> NameTable<'a, V> {
         self.insert(name.name.as_slice(), value, name.span)
     }
 
-    /// Keeps the first `len` names.
+    /// Keeps the first `len` names: so it is again what it was when it had so many.
     pub fn truncate(&mut self, len: usize)
     where
         V: Drop,
-        ensures { self.new ≡ (take len (names self.old), take len (places self.old)) }
+        ensures cut { self.new ≡ (take len (names self.old), take len (places self.old)) }
+        ensures restores { (before : Table V) →
+            take (length (names before)) (names self.old) ≡ names before →
+            take (length (places before)) (places self.old) ≡ places before →
+            len ≡ length (names before) → len ≡ length (places before) → self.new ≡ before }
     {
         self.entries.truncate(len);
     }
