@@ -3,7 +3,7 @@
 ghost use Rattle.std.specs.Prelude.{◌≡◌, if◌then◌else◌, Ok, IfErr, IfOk};
 ghost use Rattle.vd_base.specs.Names.{at_name};
 ghost use Rattle.vd_base.specs.declared.operations.Kind.TheVariants.{Word};
-ghost use Rattle.vd_resolve.specs.Causes.{index_met, plain, where_meet};
+ghost use Rattle.vd_resolve.specs.Causes.{go_on, index_met, plain, where_meet};
 ghost use Rattle.vd_resolve.specs.Faults.{Kinds};
 ghost use Rattle.vd_resolve.specs.Rules.{and_then, element_kind, form_check, kind_or, known as known_name, mux_kind, of_words, value_kind};
 ghost use Rattle.vd_resolve.specs.Sizes.{IsCapped, also, is_variable, nothing, one};
