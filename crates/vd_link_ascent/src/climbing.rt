@@ -31,7 +31,7 @@ const THINNED: Reach = Reach {
 /// At last so many over all settings again.
 const LAST: Reach = Reach {
     sweeps: 512,
-    work: 536_870_912,
+    work: 402_653_184,
     patience: 48,
     pause: 3,
 };

@@ -163,7 +163,7 @@ impl<'a> Walk<'a> {
                 Ok(Tested::Open)
             }
             Verdict::Refuted => {
-                self.walker.lift(self.tables.links.as_slice());
+                self.walker.lift(self.tables.links.as_slice(), candidate);
                 let refutation = self.refutation(alloc)?;
                 self.walker.take_back(candidate);
                 self.path.leave();

@@ -17,6 +17,12 @@ const PENALTY: i32 = 1_048_576;
 /// the list.
 const BACKS: u32 = 256;
 
+/// It ends where so many candidates were refuted since it got farther.
+const IDLE: u32 = 32;
+
+/// To show that a candidate is refuted takes as long as to look so often at all prices that count for it.
+const SHOWING: u64 = 3;
+
 /// A candidate of a slot: a setting of its point.
 #[derive(Clone, Copy, PartialEq, Eq, Debug)]
 pub struct Candidate {
@@ -52,6 +58,15 @@ pub struct Walker {
     showing: u64,
     /// How often it went back.
     backs: u32,
+    /// The farthest point at which a candidate was tested, and how many were refuted since it got there.
+    farthest: usize,
+    idle: u32,
+    /// Whether the bound of the last sweep still holds: no point costs less at a setting at which it may be than when it was visited.
+    is_settled: bool,
+    /// The candidates of the slot before that number were refuted together, or passed over before.
+    refuted: usize,
+    /// Whether what the shifts came to is written down for all of these.
+    is_written: bool,
 }
 
 impl Walker {
@@ -62,9 +77,9 @@ impl Walker {
             climb.witness = Witness::none(alloc);
         }
         let fixed = vec![in alloc; None; climb.order.points.len()]?;
-        let showing = climb.work_of_shifts();
+        let showing = climb.work_of_shifts().saturating_mul(SHOWING);
         let lifting = climb.lifting(alloc)?;
-        Ok(Walker {
+        let mut walker = Walker {
             climb,
             lifting,
             fixed,
@@ -72,12 +87,20 @@ impl Walker {
             most,
             showing,
             backs: 0,
-        })
+            farthest: 0,
+            idle: 0,
+            is_settled: true,
+            refuted: 0,
+            is_written: false,
+        };
+        walker.sweep(true);
+        walker.sweep(false);
+        Ok(walker)
     }
 
     /// The next candidate of a slot, if one is left, and work may still be done to test it.
     pub fn candidate(&self, slot: u32) -> Option<Candidate> {
-        if self.climb.state.work() >= WORK {
+        if self.is_over() {
             return None;
         }
         let point = self.climb.order.rank(slot);
@@ -89,8 +112,28 @@ impl Walker {
         })
     }
 
-    /// Writes down what the shifts come to by the prefix.
-    pub fn lift(&mut self, links: &[LinkTable]) {
+    /// Whether so much was computed, or so many candidates refuted without getting farther, that the walk ends.
+    fn is_over(&self) -> bool {
+        self.climb.state.work() >= WORK || self.idle >= IDLE
+    }
+
+    /// Writes down what the shifts come to by the prefix with a candidate that is refuted; once for all that are refuted together.
+    pub fn lift(&mut self, links: &[LinkTable], candidate: Candidate) {
+        if candidate.number >= self.refuted {
+            self.write(links);
+        } else if !self.is_written {
+            let point = candidate.point;
+            self.raise_outside(candidate, PENALTY);
+            self.visit(point);
+            self.write(links);
+            self.raise_outside(candidate, 0i32.saturating_sub(PENALTY));
+            self.visit(point);
+            self.is_written = true;
+        }
+    }
+
+    /// Writes down what the shifts come to.
+    fn write(&mut self, links: &[LinkTable]) {
         self.climb
             .lift(links, self.fixed.as_slice(), &mut self.lifting);
     }
@@ -100,13 +143,59 @@ impl Walker {
         &self.lifting.nets
     }
 
-    /// Fixes the candidate, and tests whether each list that goes on so costs too much.
+    /// Tests whether each list that goes on with the candidate costs too much. It is fixed, but where that is shown of it together
+    /// with others.
     pub fn test(&mut self, alloc: Global, candidate: Candidate) -> Result<Verdict, AllocError> {
+        if candidate.point > self.farthest {
+            self.farthest = candidate.point;
+            self.idle = 0;
+        }
+        if self.is_refuted(candidate) {
+            return Ok(Verdict::Refuted);
+        }
         self.raise_others(candidate, PENALTY);
         self.fix(candidate.point, Some(candidate.number));
         if self.climb.witness.has(candidate.point, candidate.number) {
             return Ok(Verdict::Open);
         }
+        self.is_settled = false;
+        let verdict = self.test_by_sweeps(alloc)?;
+        self.is_settled = verdict == Verdict::Open;
+        Ok(verdict)
+    }
+
+    /// Whether the candidate is refuted at once, alone or together with those behind it.
+    fn is_refuted(&mut self, candidate: Candidate) -> bool {
+        if candidate.number >= self.refuted && self.is_settled {
+            self.refuted = self.end_of_refuted(candidate);
+            self.is_written = false;
+        }
+        candidate.number < self.refuted
+    }
+
+    /// The number behind those, from the candidate on, of which the last sweep shows alone that each list that goes on with one of
+    /// them costs too much.
+    fn end_of_refuted(&self, candidate: Candidate) -> usize {
+        let climb = &self.climb;
+        let bound = climb.state.bound();
+        let mut end = candidate.number;
+        for _ in settings_at(climb.settings.as_slice(), candidate.point) {
+            let rise = climb.state.rise(&climb.tables, candidate.point, end);
+            if end >= self.count_of(candidate.point) || bound.saturating_add(rise) <= self.most {
+                break;
+            }
+            end = end.saturating_add(1);
+        }
+        end
+    }
+
+    /// How many settings of a point are left.
+    fn count_of(&self, point: usize) -> usize {
+        settings_at(self.climb.settings.as_slice(), point).len()
+    }
+
+    /// The same by sweeps, where the candidate is fixed already.
+    fn test_by_sweeps(&mut self, alloc: Global) -> Result<Verdict, AllocError> {
         let mut before = i64::MIN;
         for round in 0..ROUNDS {
             if self.sweep(true) > self.most || self.sweep(false) > self.most {
@@ -137,18 +226,24 @@ impl Walker {
     /// Goes on to the next slot, behind a candidate that is fixed.
     pub fn go_on(&mut self) {
         self.next = 0;
+        self.refuted = 0;
     }
 
     /// Takes back a test that refuted the candidate, and passes it over.
     pub fn take_back(&mut self, candidate: Candidate) {
         self.climb.state.count(self.showing);
-        self.release(candidate);
+        self.idle = self.idle.saturating_add(1);
+        if candidate.number < self.refuted {
+            self.pass_over(candidate);
+        } else {
+            self.release(candidate);
+        }
     }
 
     /// Takes back the candidate that is fixed for a slot, all candidates of the one behind it having been passed over, and passes
     /// it over. Answers whether it did: not where so much was computed, or it went back so often, that the walk ends.
     pub fn go_back(&mut self, slot: u32) -> bool {
-        if self.climb.state.work() >= WORK || self.backs >= BACKS {
+        if self.is_over() || self.backs >= BACKS {
             return false;
         }
         let point = self.climb.order.rank(slot);
@@ -162,6 +257,8 @@ impl Walker {
             choice: 0,
         };
         self.backs = self.backs.saturating_add(1);
+        self.is_settled = false;
+        self.refuted = 0;
         let behind = self.climb.order.rank(slot.saturating_add(1));
         self.open_all(behind);
         self.next = candidate.number;
@@ -178,7 +275,7 @@ impl Walker {
 
     /// Takes back that the candidates of a point were passed over.
     fn open_all(&mut self, point: usize) {
-        for number in 0..settings_at(self.climb.settings.as_slice(), point).len() {
+        for number in 0..self.count_of(point) {
             self.raise(point, number, 0i32.saturating_sub(PENALTY));
         }
     }
@@ -198,8 +295,17 @@ impl Walker {
 
     /// Makes the other settings of the point cost more.
     fn raise_others(&mut self, candidate: Candidate, amount: i32) {
-        for other in 0..settings_at(self.climb.settings.as_slice(), candidate.point).len() {
+        for other in 0..self.count_of(candidate.point) {
             if other != candidate.number {
+                self.raise(candidate.point, other, amount);
+            }
+        }
+    }
+
+    /// Makes the settings of the point cost more that are not refuted together with the candidate.
+    fn raise_outside(&mut self, candidate: Candidate, amount: i32) {
+        for other in 0..self.count_of(candidate.point) {
+            if other < candidate.number || other >= self.refuted {
                 self.raise(candidate.point, other, amount);
             }
         }
@@ -209,6 +315,13 @@ impl Walker {
     fn raise(&mut self, point: usize, number: usize, amount: i32) {
         self.climb.tables.raise(point, number, amount);
         self.climb.state.wake(point);
+    }
+
+    /// Visits a point as the last sweep did. Answers the bound then.
+    fn visit(&mut self, point: usize) -> i64 {
+        let climb = &mut self.climb;
+        climb.state.visit(&climb.tables, &climb.network, point);
+        climb.state.bound()
     }
 
     /// A sweep. Answers the bound behind it.

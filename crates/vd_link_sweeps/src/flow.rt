@@ -213,6 +213,11 @@ impl Flow {
         }
     }
 
+    /// The least that a point costs, as it was noted last.
+    pub fn least(&self, point: usize) -> i64 {
+        i64::from(small_at(self.leasts.as_slice(), point))
+    }
+
     /// Notes the least that a point costs.
     pub fn note(&mut self, point: usize, least: i32) {
         let before = i64::from(small_at(self.leasts.as_slice(), point));

@@ -31,7 +31,7 @@ impl Split {
     /// For so many links ahead, where so many parts are made. The factor is great enough for all numbers below 2^31.
     fn in_parts(ahead: u32, parts: u32) -> Split {
         let bits = 63u32.saturating_sub(parts.saturating_sub(1).leading_zeros());
-        let factor = (1u64.wrapping_shl(bits) / u64::from(parts.max(1))).wrapping_add(1);
+        let factor = (1u64.wrapping_shl(bits) / u64::from(parts).max(1)).wrapping_add(1);
         Split {
             ahead,
             parts,

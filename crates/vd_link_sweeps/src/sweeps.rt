@@ -5,7 +5,7 @@
 use crate::flow::Flow;
 use crate::nets::{Nets, count_at, spread};
 use crate::network::{End, Network};
-use crate::numbers::{settings_at, small_row_at};
+use crate::numbers::{settings_at, small_at, small_row_at};
 use crate::shares::{Shares, Split, split_at, splits};
 use crate::tables::Tables;
 use crate::witness::Witness;
@@ -150,6 +150,16 @@ impl State {
         self.last().bound
     }
 
+    /// By how much the bound rises at least where a point stays at a setting, as long as no other point costs less than when it was
+    /// visited.
+    pub fn rise(&self, tables: &Tables, point: usize, setting: usize) -> i64 {
+        let cost = small_at(small_row_at(tables.costs.as_slice(), point), setting);
+        let told = small_at(self.forward.sums(point), setting);
+        let told_back = small_at(self.backward.sums(point), setting);
+        let total = cost.wrapping_add(told).wrapping_add(told_back);
+        i64::from(total).saturating_sub(self.last().least(point))
+    }
+
     /// How much was computed so far, where to look at a price of a link counts 1.
     pub fn work(&self) -> u64 {
         self.forward
@@ -226,27 +236,38 @@ impl State {
             let point = if forward { step } else { points - 1 - step };
             if forward {
                 if self.forward.take(point) {
-                    visit(
-                        &mut self.shares,
-                        &mut self.forward,
-                        &mut self.backward,
-                        tables,
-                        network.ahead(point, true),
-                        split_at(self.splits.as_slice(), point),
-                        point,
-                    );
+                    self.visit(tables, network, point);
                 }
             } else if self.backward.take(point) {
-                visit(
-                    &mut self.shares,
-                    &mut self.backward,
-                    &mut self.forward,
-                    tables,
-                    network.ahead(point, false),
-                    split_at(self.splits_back.as_slice(), point),
-                    point,
-                );
+                self.visit(tables, network, point);
             }
+        }
+    }
+
+    /// Visits a point the way of the last sweep, again where it was visited in it. So the bound tells at once what it comes to where
+    /// nothing but the costs of the point has changed.
+    pub fn visit(&mut self, tables: &Tables, network: &Network, point: usize) {
+        let ahead = network.ahead(point, self.is_forward);
+        if self.is_forward {
+            visit(
+                &mut self.shares,
+                &mut self.forward,
+                &mut self.backward,
+                tables,
+                ahead,
+                split_at(self.splits.as_slice(), point),
+                point,
+            );
+        } else {
+            visit(
+                &mut self.shares,
+                &mut self.backward,
+                &mut self.forward,
+                tables,
+                ahead,
+                split_at(self.splits_back.as_slice(), point),
+                point,
+            );
         }
     }
 
