@@ -18,7 +18,7 @@ const PENALTY: i32 = 1_048_576;
 const BACKS: u32 = 256;
 
 /// It ends where so many candidates were refuted since it got farther.
-const IDLE: u32 = 32;
+const IDLE: u32 = 24;
 
 /// To show that a candidate is refuted takes as long as to look so often at all prices that count for it.
 const SHOWING: u64 = 3;
