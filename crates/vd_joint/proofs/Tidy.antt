@@ -1,6 +1,6 @@
 -- The hosts that have an instruction of a block take part in it.
 use Rattle.std.proofs.Common.{◌≡◌, ℕ, zero, suc, ◌+◌, nat_eq, Bool, true, false, ◌||◌, if◌then◌else◌, List, [], ◌∷◌, ◌⊎◌, inl, inr, refl, sym, ap, ◌∙◌}
-use Rattle.std.proofs.lemmas.Bool.{eq-eqb, eqb-true}
+use Rattle.std.proofs.lemmas.Bool.{eqb-true}
 use Rattle.std.specs.List.{list_any}
 use Rattle.vd_base.specs.declared.ids.HostId.{HostId}
 use Rattle.vd_base.specs.declared.ids.SlotId.{SlotId}
@@ -157,7 +157,7 @@ module _ (m : Hosts) (s : Suite m) (proto : ℕ → Proto) (laws : Places m s) w
       told : (s.calls.moves_at (proto x.0) (Local k) h || nat_eq k.0 h) ≡ true → (nat_eq k.0 h || here x.0 h) ≡ true
       told t =
           or_both (s.calls.moves_at (proto x.0) (Local k) h) (nat_eq k.0 h) (nat_eq k.0 h || here x.0 h)
-          (λ d. or_map (nat_eq h k.0) (here x.0 h) (nat_eq k.0 h) (here x.0 h) (λ i. eq-eqb k.0 h (sym (eqb-true h k.0 i))) (λ i. i) (moved_in (proto x.0) (Local k) h d)) (or_left (nat_eq k.0 h) (here x.0 h)) t
+          (moved_in (proto x.0) (Local k) h) (or_left (nat_eq k.0 h) (here x.0 h)) t
   acts_inside (IfB x t f offset rest) h p e = or_map _ _ _ _ branched (acts_inside rest h p.3) e
     where
       takes : ℕ → Bool
