@@ -1,5 +1,5 @@
 -- As many arguments as parameters fit where none is of another kind.
-use Rattle.std.proofs.Common.{◌≡◌, ℕ, ◌+◌, true, false, List, [], ◌∷◌, length, Some, is_none, refl, arith, ◌&&◌, if◌then◌else◌}
+use Rattle.std.proofs.Common.{◌≡◌, ℕ, ◌+◌, true, false, List, [], ◌∷◌, length, Some, None, is_none, refl, arith, ◌&&◌, if◌then◌else◌}
 use Rattle.vd_base.specs.declared.operations.Kind.{Kind}
 use Rattle.vd_resolve.specs.Causes.{argument_met}
 use Rattle.vd_resolve.specs.Rules.{kind_eq, kinds_eq}
@@ -18,3 +18,9 @@ fit_from before (k ∷ ks) (p ∷ ps) same =
 
 pub kinds_fit : (ks ps : List Kind) → length ks ≡ length ps → kinds_eq ks ps ≡ is_none (argument_met 0 ks ps)
 kinds_fit ks ps same = fit_from 0 ks ps same
+
+-- arguments for which no parameter is left
+pub none_left : (before : ℕ) (ks left : List Kind) → length left ≡ 0 → argument_met before ks left ≡ None
+none_left before [] [] none = refl
+none_left before (k ∷ ks) [] none = refl
+none_left before ks (p ∷ ps) none = absurd (omega (arith, none))

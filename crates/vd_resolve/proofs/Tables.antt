@@ -83,7 +83,7 @@ module _ {V : Type 0} (es : Entries (V × Span)) (table : Named V × Named Span)
       ∙ ap (λ (z : Named V × Named Span). at_name z.1 name) is
 
   pub inserted : (after : Entries (V × Span)) (k : Bor (List ℕ)) (v : V × Span) → is_some (at_name table.0 k.now) ≡ false → after ≡ insert_entry (λ x y. bytes_eq x.now y.now) es k v
-      → (named (λ (e : V × Span). e.0) after, named (λ (e : V × Span). e.1) after) ≡ (table.0 ++ (k.now, v.0) ∷ [], table.1 ++ (k.now, v.1) ∷ [])
+      → ◌≡◌ {A = Named V × Named Span} (named (λ (e : V × Span). e.0) after, named (λ (e : V × Span). e.1) after) (table.0 ++ (k.now, v.0) ∷ [], table.1 ++ (k.now, v.1) ∷ [])
   inserted after k v none made =
       let pair : Named V → Named Span → Named V × Named Span = λ x y. (x, y) in
       let fresh : is_some (lookup (λ j. bytes_eq k.now j.now) es) ≡ false =
@@ -91,7 +91,7 @@ module _ {V : Type 0} (es : Entries (V × Span)) (table : Named V × Named Span)
       ap₂ pair (ap (named (λ (e : V × Span). e.0)) made ∙ insert_named (λ (e : V × Span). e.0) es k v fresh) (ap (named (λ (e : V × Span). e.1)) made ∙ insert_named (λ (e : V × Span). e.1) es k v fresh)
       ∙ ap (λ (z : Named V × Named Span). pair (z.0 ++ (k.now, v.0) ∷ []) (z.1 ++ (k.now, v.1) ∷ [])) is
 
-  pub cut : (after : Entries (V × Span)) (n : ℕ) → after ≡ take n es → (named (λ (e : V × Span). e.0) after, named (λ (e : V × Span). e.1) after) ≡ (take n table.0, take n table.1)
+  pub cut : (after : Entries (V × Span)) (n : ℕ) → after ≡ take n es → ◌≡◌ {A = Named V × Named Span} (named (λ (e : V × Span). e.0) after, named (λ (e : V × Span). e.1) after) (take n table.0, take n table.1)
   cut after n made =
       let pair : Named V → Named Span → Named V × Named Span = λ x y. (x, y) in
       ap₂ pair (ap (named (λ (e : V × Span). e.0)) made ∙ take_named (λ (e : V × Span). e.0) n es) (ap (named (λ (e : V × Span). e.1)) made ∙ take_named (λ (e : V × Span). e.1) n es)
