@@ -2,6 +2,7 @@
 use Rattle.std.specs.Prelude.{ℕ, zero, suc, ◌+◌, ◌*◌, min, Bool, false, if◌then◌else◌, Option, Some, None, option_map, unwrap_or, List, map, length, slice_index_or}
 use Rattle.std.specs.List.{range_with_len}
 use Rattle.vd_base.specs.declared.protocols.Proto.{Proto}
+use Rattle.vd_base.specs.Holders.{proto_in}
 use Rattle.vd_base.specs.Moves.{move_at}
 
 abbrev pub if_passes : Bool → Option ℕ → Option ℕ
@@ -39,14 +40,14 @@ least_number (suc n) value = lesser_number (least_number n value) (value n)
 
 -- from a protocol to a place at which the target can stand, with what the target hands on there
 abbrev pub given_at : List Proto → ℕ → List Bool → List ℕ → Proto → ℕ → Option ℕ
-given_at list weight targets taken from q = if_passes (slice_index_or targets q false) (option_map (λ v. v + slice_index_or taken q 0) (weighed weight (move_at from (proto_at list q))))
+given_at list weight targets taken from q = if_passes (slice_index_or targets q false) (option_map (λ v. v + slice_index_or taken q 0) (weighed weight (move_at from (proto_in list q))))
 
 abbrev pub given_from : List Proto → ℕ → List Bool → List ℕ → Proto → Option ℕ
 given_from list weight targets taken from = least_number (length list) (given_at list weight targets taken from)
 
 -- from each place at which the source can stand
 abbrev pub given_by_place : List Proto → ℕ → List Bool → List Bool → List ℕ → ℕ → ℕ
-given_by_place list weight sources targets taken p = unwrap_or (if_passes (slice_index_or sources p false) (given_from list weight targets taken (proto_at list p))) 0
+given_by_place list weight sources targets taken p = unwrap_or (if_passes (slice_index_or sources p false) (given_from list weight targets taken (proto_in list p))) 0
 
 abbrev pub givens_of : List Proto → ℕ → List Bool → List Bool → List ℕ → List ℕ
 givens_of list weight sources targets taken = by_place (length list) (given_by_place list weight sources targets taken)
