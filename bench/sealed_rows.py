@@ -1,5 +1,5 @@
 #!/usr/bin/env python3
-"""sealed_rows.py FOLDER: writes the rows of deals of version 2, marks and sealed links that end the rows of crates/vd_acceptance, and what is
+"""sealed_rows.py FOLDER: writes the rows of deals of version 2, marks and sealed links that end the rows of crates/vd_test_acceptance, and what is
 to come of each, as FOLDER/stdin and FOLDER/stdout. They come from a second implementation (sealing.py), never from the program."""
 import sys
 

@@ -5,7 +5,7 @@ ghost use Rattle.vd_base.specs.Names.{at_name};
 
 use crate::lists::Name;
 use std::alloc::{AllocError, Global};
-use vd_items::Items;
+use vd_base_lists::Items;
 
 /// What a name stands for: the first that is in sight has it.
 pub fn find_name<T: Copy>(names: &[(Name, T)], name: &[u8]) -> Option<T>

@@ -2,7 +2,7 @@ ghost use Rattle.std.specs.Prelude.{◌≡◌, IfOk, OnOk, OnErr, [], ◌∷◌,
 
 use std::alloc::{AllocError, Global};
 use std::marker::Model;
-use vd_items::Items;
+use vd_base_lists::Items;
 
 /// A text that contracts see as its bytes.
 #[derive(Debug, Drop)]

@@ -15,18 +15,18 @@ use Rattle.vd_execution.specs.Text.{register}
 use Rattle.vd_duet.specs.Builder.{most_taken, TakesAtMost}
 use Rattle.vd_duet.specs.Calls.{Places, Made}
 use Rattle.vd_duet.specs.Laws.{Gives, GivesWord, StandFor, IsReady}
-use Rattle.vd_algebra.specs.Circuits.{shl, shr, mask_of}
-use Rattle.vd_algebra.specs.Gates.{Gate, And, Xor, Shl, Shr, Not, Flip, Lowest, Mask, made_by, taken_by}
-use Rattle.vd_algebra.proofs.Parts.{xor_past, xor_turn, shl_each, shr_each, mask_each}
-use Rattle.vd_algebra.proofs.BitProducts.{bit_product}
-use Rattle.vd_pairs.specs.declared.shares.Shares.{Shares}
-use Rattle.vd_pairs.specs.Sharings.{joined}
-use Rattle.vd_pairs.specs.PairCalls.{two, places_at, at_hosts, pair_calls}
-use Rattle.vd_pairs.proofs.Deeds.{Side, First, Second, Old, New, Deed, Number, Applied, ShiftedLeft, ShiftedRight}
-use Rattle.vd_pairs.proofs.Runs.{both_first, both_second, low_of}
-use Rattle.vd_pairs.proofs.Fresh.{fresh_gives, one_gives}
-use Rattle.vd_pairs.proofs.Parts.{Parts, stands_by, both_known}
-use Rattle.vd_pairs.proofs.Operations.{ItemsMultiply, applied_gives, numbered_gives, product_gives}
+use Rattle.vd_backend_algebra.specs.Circuits.{shl, shr, mask_of}
+use Rattle.vd_backend_algebra.specs.Gates.{Gate, And, Xor, Shl, Shr, Not, Flip, Lowest, Mask, made_by, taken_by}
+use Rattle.vd_backend_algebra.proofs.Parts.{xor_past, xor_turn, shl_each, shr_each, mask_each}
+use Rattle.vd_backend_algebra.proofs.BitProducts.{bit_product}
+use Rattle.vd_backend_sharing.specs.declared.shares.Shares.{Shares}
+use Rattle.vd_backend_sharing.specs.Sharings.{joined}
+use Rattle.vd_backend_sharing.specs.PairCalls.{two, places_at, at_hosts, pair_calls}
+use Rattle.vd_backend_sharing.proofs.Deeds.{Side, First, Second, Old, New, Deed, Number, Applied, ShiftedLeft, ShiftedRight}
+use Rattle.vd_backend_sharing.proofs.Runs.{both_first, both_second, low_of}
+use Rattle.vd_backend_sharing.proofs.Fresh.{fresh_gives, one_gives}
+use Rattle.vd_backend_sharing.proofs.Parts.{Parts, stands_by, both_known}
+use Rattle.vd_backend_sharing.proofs.Operations.{ItemsMultiply, applied_gives, numbered_gives, product_gives}
 use Rattle.vd_bits.specs.BitCalls.{parts_at, shifted_left, shifted_right, turned_first, mask_at, masked_shares, gate_shares}
 use Rattle.vd_bits.proofs.Places.{AreParts, AreFrom, parts_there, from_there}
 use Rattle.vd_bits.proofs.GateRooms.{gate_few}

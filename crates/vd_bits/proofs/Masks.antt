@@ -3,8 +3,8 @@ use Rattle.std.proofs.Common.{◌≡◌, ℕ, ◌+◌, sym, ap, subst, ◌∙◌
 use Rattle.vd_base.specs.declared.ids.HostId.{HostId}
 use Rattle.vd_duet.specs.Builder.{Builder}
 use Rattle.vd_duet.specs.Calls.{Makes, appended, called}
-use Rattle.vd_pairs.specs.declared.shares.Shares.{Shares}
-use Rattle.vd_pairs.specs.PairCalls.{two, reserved_both}
+use Rattle.vd_backend_sharing.specs.declared.shares.Shares.{Shares}
+use Rattle.vd_backend_sharing.specs.PairCalls.{two, reserved_both}
 use Rattle.vd_bits.specs.BitCalls.{mask_at, masked_shares}
 
 pub mask_code : (a b : HostId) (x at : Shares) (c c0 c1 c2 : Builder) → (at, c0) ≡ reserved_both a 4 b 4 c → c1 ≡ appended (mask_at a x.first at.first.0) c0

@@ -1,8 +1,8 @@
 -- The worked numbers, computed.
 use Rattle.std.proofs.Common.{refl}
 use Rattle.vd_execution.specs.Registers.{put}
-use Rattle.vd_algebra.specs.Gates.{gates_of}
-use Rattle.vd_pairs.specs.PairCalls.{product_shares}
+use Rattle.vd_backend_algebra.specs.Gates.{gates_of}
+use Rattle.vd_backend_sharing.specs.PairCalls.{product_shares}
 use Rattle.vd_bits.specs.Example.{EightIsInBoth}
 
 pub eight_is_in_both : EightIsInBoth

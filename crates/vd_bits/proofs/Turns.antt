@@ -5,10 +5,10 @@ use Rattle.vd_base.specs.declared.ids.HostId.{HostId}
 use Rattle.vd_execution.specs.declared.instructions.Line.{Line}
 use Rattle.vd_duet.specs.Builder.{Builder, TakesAtMost}
 use Rattle.vd_duet.specs.Calls.{called, Made}
-use Rattle.vd_algebra.specs.Gates.{Gate}
+use Rattle.vd_backend_algebra.specs.Gates.{Gate}
 use Rattle.vd_duet.proofs.Leads.{emitted_append}
-use Rattle.vd_pairs.specs.declared.shares.Shares.{Shares}
-use Rattle.vd_pairs.specs.PairCalls.{shares_of}
+use Rattle.vd_backend_sharing.specs.declared.shares.Shares.{Shares}
+use Rattle.vd_backend_sharing.specs.PairCalls.{shares_of}
 use Rattle.vd_bits.specs.declared.gates.Gate.{Gate as Written}
 use Rattle.vd_bits.specs.declared.xor_pair.XorShare.{XorShare}
 use Rattle.vd_bits.specs.BitCalls.{gate_of, gates_in, newest_of, gate_shares, gates_shares}

@@ -2,14 +2,14 @@ ghost use Rattle.std.specs.Prelude.{◌≡◌, ◌<◌, ◌∷◌, [], IfOk, OnO
 ghost use Rattle.vd_duet.specs.Builder.{TakesAtMost};
 ghost use Rattle.vd_duet.specs.Calls.{Makes, appended};
 ghost use Rattle.vd_duet.specs.Laws.{AreKnown};
-ghost use Rattle.vd_pairs.specs.PairCalls.{AreLow};
+ghost use Rattle.vd_backend_sharing.specs.PairCalls.{AreLow};
 ghost use Rattle.vd_bits.specs.BitCalls.{parts_at, shifted_left, shifted_right, turned_first, masked_shares, mask_at};
 
 use std::alloc::AllocError;
+use vd_backend_sharing::{Pair, Shares};
 use vd_base::HostId;
 use vd_duet::Duet;
 use vd_execution::{Act, Action, Binary, Reg};
-use vd_pairs::{Pair, Shares};
 
 /// The parts of the word at a place.
 #[tactic(auto, using(crate::proofs::Places::part_there, crate::proofs::Places::part_past))]

@@ -3,8 +3,8 @@ ghost use Rattle.vd_base.specs.declared.operations.Op.TheVariants as op;
 ghost use Rattle.vd_duet.specs.Builder.{TakesAtMost};
 ghost use Rattle.vd_duet.specs.Calls.{Makes, in_clear, hosts_of};
 ghost use Rattle.vd_duet.specs.Laws.{AreKnown};
-ghost use Rattle.vd_pairs.specs.PairCalls.{AreLow, shares_of, places_at};
-ghost use Rattle.vd_pairs.specs.declared.shares.Sharing.TheVariants as way;
+ghost use Rattle.vd_backend_sharing.specs.PairCalls.{AreLow, shares_of, places_at};
+ghost use Rattle.vd_backend_sharing.specs.declared.shares.Sharing.TheVariants as way;
 ghost use Rattle.vd_bits.specs.BitCalls.{HasCircuitRoom, gate_of, gates_in, gate_shares, gates_shares, circuit_made, computed, bit_calls};
 ghost use Rattle.vd_bits.specs.BitParts.{parts_of, all_parts_of};
 
@@ -12,11 +12,11 @@ use crate::circuits::{bit_circuit, difference_circuit, sum_circuit};
 use crate::gates::Gate;
 use crate::steps::{mask, part, shift_left, shift_right, turn};
 use std::alloc::{AllocError, Global};
+use vd_backend_sharing::{Pair, Shares, Sharing};
 use vd_base::{HostId, Op, Proto};
+use vd_base_lists::Items;
 use vd_duet::{Args, Backend, Clear, Duet, Parts};
 use vd_execution::{Binary, Reg};
-use vd_items::Items;
-use vd_pairs::{Pair, Shares, Sharing};
 
 /// A host's part of an exclusive or.
 #[derive(Clone, Copy, PartialEq, Eq, Debug)]

@@ -1,9 +1,9 @@
 -- What a checker answers of a whole certificate: first the shifts that name nothing.
 use Rattle.std.specs.Prelude.{ℕ, ◌+◌, Bool, ◌&&◌, not, nat_lt, if◌then◌else◌, Option, Some, None, Result, Err, List, [], ◌∷◌}
 use Rattle.std.specs.Option.{option_map_or}
-use Rattle.vd_prefixes.specs.declared.shift.Shift.{Shift}
-use Rattle.vd_prefixes.specs.Trees.{Tree}
-use Rattle.vd_certificate.specs.declared.certificate.Certificate.{Certificate}
+use Rattle.vd_search_tree.specs.declared.shift.Shift.{Shift}
+use Rattle.vd_search_tree.specs.Trees.{Tree}
+use Rattle.vd_search_certificate.specs.declared.certificate.Certificate.{Certificate}
 use Rattle.vd_bound.specs.declared.checking.CheckFault.{CheckFault}
 use Rattle.vd_bound.specs.declared.checking.CheckFault.TheVariants.{BadShift}
 use Rattle.vd_bound.specs.declared.checking.Proved.{Proved}

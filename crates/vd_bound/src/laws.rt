@@ -4,7 +4,7 @@ ghost use Rattle.std.specs.Prelude.{◌≡◌, ℕ, Ok, Option, List};
 ghost use Rattle.vd_bound.specs.Checking.{Proves, checked};
 ghost use Rattle.vd_bound.specs.declared.checking.Proved.{Proved as Proofs};
 ghost use Rattle.vd_bound.specs.Laws.{AcceptsSound, SoundWhereAccepted, SoundShows};
-ghost use Rattle.vd_prefixes.specs.Trees.{IsBounded, Tree};
+ghost use Rattle.vd_search_tree.specs.Trees.{IsBounded, Tree};
 
 /// A sound certificate shows that no whole list costs less than the stated cost and that one costs as much, or that
 /// there is none. Whoever made the marks is not trusted.

@@ -5,7 +5,7 @@ use Rattle.vd_base.specs.declared.operations.Op.{Op}
 use Rattle.vd_base.specs.Costs.{xored_cost}
 use Rattle.vd_execution.specs.Gadgets.{ByXors}
 use Rattle.vd_duet.specs.Calls.{Calls}
-use Rattle.vd_pairs.specs.PairCalls.{pair_calls}
+use Rattle.vd_backend_sharing.specs.PairCalls.{pair_calls}
 use Rattle.vd_bits.specs.BitCalls.{circuit_shares}
 
 -- the operations that the table of costs has at exclusive or

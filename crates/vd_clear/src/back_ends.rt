@@ -13,9 +13,9 @@ use crate::show::show;
 use crate::steps::{Adopt, Keep, Literal, Share, Show};
 use std::alloc::{AllocError, Global};
 use vd_base::{HostId, HostSet, Op, Proto};
+use vd_base_lists::Items;
 use vd_duet::{Args, Backend, Clear, Duet, Parts, register_at};
 use vd_execution::{Act, Action, Reg};
-use vd_items::Items;
 
 /// One host that holds words in clear.
 #[derive(Clone, Copy, PartialEq, Eq, Debug)]

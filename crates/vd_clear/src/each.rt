@@ -8,9 +8,9 @@ ghost use Rattle.vd_clear.specs.Copies.{each_made};
 
 use std::alloc::AllocError;
 use vd_base::HostId;
+use vd_base_lists::Items;
 use vd_duet::{Clear, Duet, Parts};
 use vd_execution::Reg;
-use vd_items::Items;
 
 /// What each of some hosts does to have its copy of a word.
 pub trait Step {

@@ -6,9 +6,9 @@ ghost use Rattle.vd_clear.specs.Copies.{told, compared, first_register, shown};
 
 use std::alloc::AllocError;
 use vd_base::HostId;
+use vd_base_lists::Items;
 use vd_duet::{Clear, Duet, Parts, register_at};
 use vd_execution::{Act, Action, Reg};
-use vd_items::Items;
 
 /// Whether a host has a part.
 fn has_part(x: &Parts<Clear>, host: HostId) -> bool

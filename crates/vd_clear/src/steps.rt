@@ -7,9 +7,9 @@ use crate::each::Step;
 use crate::show::show;
 use std::alloc::AllocError;
 use vd_base::HostId;
+use vd_base_lists::Items;
 use vd_duet::{Clear, Duet, Parts, register_at};
 use vd_execution::{Act, Action, Reg};
-use vd_items::Items;
 
 /// A number.
 #[derive(Drop)]

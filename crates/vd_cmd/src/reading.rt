@@ -14,7 +14,7 @@ use crate::numbers::number_within;
 use std::alloc::{AllocError, Global};
 use vd_base::limits::{DEAL_ITEMS, HOSTS, SEARCH_BUDGET};
 use vd_base::{Text, Texts};
-use vd_deals::Counts;
+use vd_deal_items::Counts;
 use vd_gen::COORDINATES;
 
 /// The least first port of a run.

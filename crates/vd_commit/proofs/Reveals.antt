@@ -15,7 +15,7 @@ use Rattle.vd_execution.proofs.Puts.{put_itself}
 use Rattle.vd_execution.proofs.Gadgets.{gadgets_sound}
 use Rattle.vd_duet.specs.Builder.{taken}
 use Rattle.vd_duet.proofs.Leads.{taken_known, taken_bounds}
-use Rattle.vd_pairs.proofs.Adds.{Adds}
+use Rattle.vd_backend_sharing.proofs.Adds.{Adds}
 use Rattle.vd_commit.specs.declared.ends.Held.{Held}
 use Rattle.vd_commit.specs.declared.ends.Seen.{Seen}
 use Rattle.vd_commit.specs.Commit.{eight, same_each, revealing, revealed}

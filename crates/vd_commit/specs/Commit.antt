@@ -7,7 +7,7 @@ use Rattle.vd_execution.specs.Gadgets.{Gadget, Alone, Tells}
 use Rattle.vd_execution.specs.Text.{register}
 use Rattle.vd_duet.specs.Builder.{taken}
 use Rattle.vd_duet.specs.Calls.{Made}
-use Rattle.vd_pairs.specs.PairCalls.{fresh_at}
+use Rattle.vd_backend_sharing.specs.PairCalls.{fresh_at}
 use Rattle.vd_commit.specs.declared.ends.Held.{Held}
 use Rattle.vd_commit.specs.declared.ends.Seen.{Seen}
 

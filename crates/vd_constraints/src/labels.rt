@@ -3,8 +3,8 @@
 ghost use Rattle.std.specs.Prelude.{◌≡◌};
 
 use crate::system::{Part, Place};
+use vd_base_lists::Items;
 use vd_formula::{Formula, Label};
-use vd_items::Items;
 
 /// A label for each slot and one for each block.
 #[derive(PartialEq, Eq, Debug, Drop)]

@@ -11,9 +11,9 @@ ghost use Rattle.vd_constraints.specs.Systems.{IsLabelOver, IsPlaceOf, IsSmall};
 use crate::system::{Place, System};
 use std::alloc::{AllocError, Global};
 use vd_base::{HostId, SlotId};
+use vd_base_lists::Items;
 use vd_core::{NormalForm, Program, Right, Stmt, Written};
 use vd_formula::{Formula, Label};
-use vd_items::Items;
 
 /// The rules and checks of a program, in program order. Only want of memory refuses it.
 pub fn constraints(alloc: Global, program: &Program) -> Result<System, AllocError>

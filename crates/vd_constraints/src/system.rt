@@ -8,8 +8,8 @@ use crate::origin::Origin;
 use std::alloc::AllocError;
 use std::marker::Model;
 use vd_base::{Names, SlotId};
+use vd_base_lists::Items;
 use vd_formula::Formula;
-use vd_items::Items;
 
 /// What has a label.
 #[derive(Clone, Copy, PartialEq, Eq, Debug)]

@@ -5,8 +5,8 @@ use Rattle.vd_base.specs.declared.ids.HostId.{HostId}
 use Rattle.vd_base.specs.declared.operations.Op.TheVariants as op
 use Rattle.vd_duet.specs.Acting.{is_either, acts_in, acts_at}
 use Rattle.vd_duet.specs.Calls.{Places, Made}
-use Rattle.vd_pairs.specs.declared.shares.Shares.{Shares}
-use Rattle.vd_pairs.specs.PairCalls.{shares_of, places_at}
+use Rattle.vd_backend_sharing.specs.declared.shares.Shares.{Shares}
+use Rattle.vd_backend_sharing.specs.PairCalls.{shares_of, places_at}
 use Rattle.vd_bits.specs.BitCalls.{circuit_shares, computed, bit_serves}
 use Rattle.vd_bits.proofs.BitActs.{computed_acts}
 use Rattle.vd_convert.specs.Convert.{masked_parts, drawn, finished, to_xor_made, to_add_made}

@@ -6,10 +6,10 @@ use Rattle.vd_execution.specs.declared.instructions.Line.{Line}
 use Rattle.vd_duet.specs.Builder.{Builder}
 use Rattle.vd_duet.specs.Calls.{Places, Made, called}
 use Rattle.vd_duet.proofs.Leads.{emitted_append}
-use Rattle.vd_pairs.specs.declared.pair.Pair.{Pair}
-use Rattle.vd_pairs.specs.declared.shares.Shares.{Shares}
-use Rattle.vd_pairs.specs.declared.shares.Sharing.TheVariants as way
-use Rattle.vd_pairs.specs.PairCalls.{shares_of, places_at}
+use Rattle.vd_backend_sharing.specs.declared.pair.Pair.{Pair}
+use Rattle.vd_backend_sharing.specs.declared.shares.Shares.{Shares}
+use Rattle.vd_backend_sharing.specs.declared.shares.Sharing.TheVariants as way
+use Rattle.vd_backend_sharing.specs.PairCalls.{shares_of, places_at}
 use Rattle.vd_bits.specs.BitCalls.{computed}
 use Rattle.vd_convert.specs.Convert.{masked_parts, drawn, finished, to_xor_made, to_add_made}
 

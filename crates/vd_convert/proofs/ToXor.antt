@@ -11,13 +11,13 @@ use Rattle.vd_duet.specs.Builder.{most_taken}
 use Rattle.vd_duet.specs.Calls.{Places, Made}
 use Rattle.vd_duet.specs.Laws.{IsIn, IsInOne, AreBelow, Gives, GivesWord, StandFor, Operand, IsReady}
 use Rattle.vd_duet.proofs.Leads.{Since}
-use Rattle.vd_algebra.proofs.Parts.{taken_off, put_on}
-use Rattle.vd_pairs.specs.declared.shares.Shares.{Shares}
-use Rattle.vd_pairs.specs.PairCalls.{two, shares_of, places_at}
-use Rattle.vd_pairs.proofs.Deeds.{First, Second, Old, New, BothGive, Applied, nothing_left, own_word}
-use Rattle.vd_pairs.proofs.Fresh.{pair_at, fresh_gives}
-use Rattle.vd_pairs.proofs.Parts.{Parts, parts_of, parts_named, both_known, stands_by}
-use Rattle.vd_pairs.proofs.Chains.{gives_then}
+use Rattle.vd_backend_algebra.proofs.Parts.{taken_off, put_on}
+use Rattle.vd_backend_sharing.specs.declared.shares.Shares.{Shares}
+use Rattle.vd_backend_sharing.specs.PairCalls.{two, shares_of, places_at}
+use Rattle.vd_backend_sharing.proofs.Deeds.{First, Second, Old, New, BothGive, Applied, nothing_left, own_word}
+use Rattle.vd_backend_sharing.proofs.Fresh.{pair_at, fresh_gives}
+use Rattle.vd_backend_sharing.proofs.Parts.{Parts, parts_of, parts_named, both_known, stands_by}
+use Rattle.vd_backend_sharing.proofs.Chains.{gives_then}
 use Rattle.vd_words.specs.AddCalls.{add_serves, add_apply, add_calls}
 use Rattle.vd_bits.specs.BitCalls.{circuit_shares, computed, bit_serves, bit_calls}
 use Rattle.vd_bits.proofs.BitLaws.{gives_wider, circuit_gives_few}

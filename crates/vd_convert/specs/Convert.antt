@@ -8,8 +8,8 @@ use Rattle.vd_execution.specs.declared.instructions.Action.TheVariants as action
 use Rattle.vd_execution.specs.Gadgets.{ByXors, Pairing, Gadget, Alone, BothShare, Opens, Paired}
 use Rattle.vd_execution.specs.Text.{register}
 use Rattle.vd_duet.specs.Calls.{Places, placed, Made}
-use Rattle.vd_pairs.specs.declared.shares.Shares.{Shares}
-use Rattle.vd_pairs.specs.PairCalls.{two, fresh_at, shares_of, places_at}
+use Rattle.vd_backend_sharing.specs.declared.shares.Shares.{Shares}
+use Rattle.vd_backend_sharing.specs.PairCalls.{two, fresh_at, shares_of, places_at}
 use Rattle.vd_words.specs.declared.add_pair.AddShare.{AddShare}
 use Rattle.vd_bits.specs.BitCalls.{computed}
 

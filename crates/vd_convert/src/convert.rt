@@ -3,18 +3,18 @@ ghost use Rattle.vd_execution.specs.Gadgets.{BothShare};
 ghost use Rattle.vd_duet.specs.Builder.{HasRoom, TakesAtMost, TakesFew};
 ghost use Rattle.vd_duet.specs.Calls.{Makes, appended, hosts_of};
 ghost use Rattle.vd_duet.specs.Laws.{AreKnown};
-ghost use Rattle.vd_pairs.specs.PairCalls.{AreLow, shares_of, places_at};
-ghost use Rattle.vd_pairs.specs.declared.shares.Sharing.TheVariants as way;
+ghost use Rattle.vd_backend_sharing.specs.PairCalls.{AreLow, shares_of, places_at};
+ghost use Rattle.vd_backend_sharing.specs.declared.shares.Sharing.TheVariants as way;
 ghost use Rattle.vd_bits.specs.BitParts.{parts_of};
 ghost use Rattle.vd_convert.specs.Convert.{added_parts, masked_parts, drawn, finishing, finished, to_xor_made, to_add_made};
 
 use std::alloc::{AllocError, Global};
+use vd_backend_sharing::{Pair, Shares, Sharing, tell};
 use vd_base::HostId;
+use vd_base_lists::Items;
 use vd_bits::{XorPair, XorShare};
 use vd_duet::{Duet, Parts};
 use vd_execution::{Act, Action, Binary, Reg};
-use vd_items::Items;
-use vd_pairs::{Pair, Shares, Sharing, tell};
 use vd_words::{AddPair, AddShare};
 
 /// Two words by their parts.

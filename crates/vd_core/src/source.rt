@@ -1,7 +1,7 @@
 //! The syntax tree of a source. Each span is that of one token, at which a fault may be reported.
 
 use vd_base::{Kind, Name, Span};
-use vd_items::{Boxed, Items};
+use vd_base_lists::{Boxed, Items};
 
 /// A name as it stands in the text.
 #[derive(PartialEq, Eq, Debug, Drop)]

@@ -2,8 +2,8 @@ ghost use Rattle.std.specs.Prelude.{◌≡◌};
 ghost use Rattle.vd_duet.specs.Calls.{in_clear, register_of};
 
 use vd_base::HostId;
+use vd_base_lists::Items;
 use vd_execution::Reg;
-use vd_items::Items;
 
 /// A word in clear at one host.
 #[derive(Clone, Copy, PartialEq, Eq, Debug)]

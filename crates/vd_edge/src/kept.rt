@@ -1,7 +1,7 @@
 //! What was read of a file.
 
 use vd_base::{Bytes, Text};
-use vd_items::Items;
+use vd_base_lists::Items;
 
 /// What a file held.
 #[derive(Debug, Drop)]

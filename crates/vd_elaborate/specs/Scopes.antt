@@ -7,10 +7,10 @@ use Rattle.vd_core.specs.declared.source.Expr.{Expr}
 use Rattle.vd_core.specs.declared.source.Link.{Link}
 use Rattle.vd_core.specs.declared.source.Statement.{Statement}
 use Rattle.vd_core.specs.declared.source.Function.{Function}
-use Rattle.vd_meaning.specs.SourceMeaning.{host_names}
-use Rattle.vd_normal.specs.declared.here.Here.{Here}
-use Rattle.vd_normal.specs.declared.spot.Spot.{Spot}
-use Rattle.vd_normal.specs.Normal.{Made, Place, Inlining, lowering, lowering_of_link, chain_made, all_made, call_made, lowering_of, statements_made, with_body, inner_made, loop_made, inlining_of, inlinings_of}
+use Rattle.vd_semantics.specs.SourceMeaning.{host_names}
+use Rattle.vd_anf.specs.declared.here.Here.{Here}
+use Rattle.vd_anf.specs.declared.spot.Spot.{Spot}
+use Rattle.vd_anf.specs.Normal.{Made, Place, Inlining, lowering, lowering_of_link, chain_made, all_made, call_made, lowering_of, statements_made, with_body, inner_made, loop_made, inlining_of, inlinings_of}
 use Rattle.vd_elaborate.specs.declared.scope.Scope.{Scope}
 
 -- 16 bits number all slots, and all blocks

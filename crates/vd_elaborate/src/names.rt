@@ -2,13 +2,13 @@
 
 ghost use Rattle.std.specs.Prelude.{◌≡◌, IfOk};
 ghost use Rattle.vd_base.specs.Names.{bound};
-ghost use Rattle.vd_meaning.specs.SourceMeaning.{parameter_names};
-ghost use Rattle.vd_normal.specs.declared.spot.Spot.TheVariants.{Binding};
+ghost use Rattle.vd_semantics.specs.SourceMeaning.{parameter_names};
+ghost use Rattle.vd_anf.specs.declared.spot.Spot.TheVariants.{Binding};
 
 use std::alloc::{AllocError, Global};
+use vd_anf::Spot;
 use vd_base::{Name, add_name};
 use vd_core::Parameter;
-use vd_normal::Spot;
 
 /// The parameters of a call, at the slots of its arguments.
 pub(crate) fn bind(

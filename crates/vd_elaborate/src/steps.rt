@@ -1,16 +1,16 @@
 //! The single steps by which a let-normal form is made.
 
 ghost use Rattle.std.specs.Prelude.{◌≡◌, [], ◌∷◌, IfOk, OnOk};
-ghost use Rattle.vd_meaning.specs.SourceMeaning.{host_names};
-ghost use Rattle.vd_normal.specs.Normal.{emitted, lowering, infix_right, infix_kind, prefix_op, prefix_kind, prefixes_made, shift_op, name_made, get_made, copied, stored, put_made, scale_of, operation_made, kind_at, two as two_slots};
+ghost use Rattle.vd_semantics.specs.SourceMeaning.{host_names};
+ghost use Rattle.vd_anf.specs.Normal.{emitted, lowering, infix_right, infix_kind, prefix_op, prefix_kind, prefixes_made, shift_op, name_made, get_made, copied, stored, put_made, scale_of, operation_made, kind_at, two as two_slots};
 ghost use Rattle.vd_elaborate.specs.Scopes.{Fits, Gives};
 
 use crate::made::Made;
 use std::alloc::{AllocError, Global};
+use vd_anf::{Here, Spot};
 use vd_base::{Kind, Name, Op, SlotId, find_name};
+use vd_base_lists::Items;
 use vd_core::{Direction, Expr, Host, Infix, Prefix, Right, Sign, Stmt};
-use vd_items::Items;
-use vd_normal::{Here, Spot};
 
 pub(crate) fn prefix_operation(op: Prefix) -> Op
     ensures { result ≡ prefix_op op }

@@ -2,8 +2,8 @@
 
 ghost use Rattle.std.specs.Prelude.{◌≡◌, ◌≤◌, IfOk, OnOk, length, map};
 ghost use Rattle.vd_base.specs.Limits.{most_hosts};
-ghost use Rattle.vd_meaning.specs.SourceMeaning.{host_names};
-ghost use Rattle.vd_normal.specs.Normal.{main_made, host_id, normal_form, written};
+ghost use Rattle.vd_semantics.specs.SourceMeaning.{host_names};
+ghost use Rattle.vd_anf.specs.Normal.{main_made, host_id, normal_form, written};
 ghost use Rattle.vd_elaborate.specs.Outputs.{KeepsOutputs};
 ghost use Rattle.vd_elaborate.specs.Scopes.{Fits, Gives, lowered, all_lowered, linked, chained, called, entered, place as at, stated, sequenced, inside, both, branched, in_turn, around};
 
@@ -16,14 +16,14 @@ use crate::steps::{
     put, shift_operation, store,
 };
 use std::alloc::{AllocError, Global};
+use vd_anf::{Here, Spot};
 use vd_base::{HostId, Kind, Name, Names, Op, SlotId, add_name, find_name};
+use vd_base_lists::Items;
 use vd_core::{
     Expr, Function, Host, Ident, Link, NormalForm, Program, Right, Source, Statement, Stmt, Written,
 };
-use vd_items::Items;
-use vd_meaning::hosts::place;
-use vd_normal::{Here, Spot};
 use vd_resolve::Resolved;
+use vd_semantics::hosts::place;
 
 /// The number of a host.
 fn host_of(hosts: &[Host], host: &Ident) -> HostId

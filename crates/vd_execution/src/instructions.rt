@@ -1,5 +1,5 @@
 use vd_base::HostId;
-use vd_items::Items;
+use vd_base_lists::Items;
 
 /// A register of one host. A register that was never written holds 0.
 #[derive(Clone, Copy, PartialEq, Eq, Debug)]

@@ -2,7 +2,7 @@ ghost use Rattle.std.specs.Prelude.{◌≡◌, ◌≤◌, []};
 ghost use Rattle.vd_outside.specs.Causes.{Rose};
 ghost use Rattle.vd_fakes.specs.Failing.{is_listed, one_more};
 
-use vd_items::Items;
+use vd_base_lists::Items;
 
 /// Which calls of an object in memory fail, by their numbers from 0; how many were made, and how many failed.
 #[derive(Debug, Drop)]

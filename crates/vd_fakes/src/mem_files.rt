@@ -8,7 +8,7 @@ use crate::Failures;
 use crate::finding::{find, limited};
 use std::alloc::Global;
 use vd_base::{Bytes, CallFault, Text};
-use vd_items::Items;
+use vd_base_lists::Items;
 use vd_outside::{FetchFault, Files, FilesCall, Stored};
 
 /// Files in memory, which fail at the calls whose numbers they are given. Of files with one name the first counts.

@@ -7,7 +7,7 @@ use crate::{Failures, SureLink};
 use std::alloc::{AllocError, Global};
 use std::marker::Model;
 use vd_base::{Bytes, Failed};
-use vd_items::Items;
+use vd_base_lists::Items;
 use vd_outside::Link;
 
 /// A link in memory that takes and gives so many bytes a call at most, though always one, and fails at the calls whose

@@ -2,15 +2,15 @@
 
 ghost use Rattle.std.specs.Prelude.{◌≡◌, [], Some, None, IfOk, is_some};
 ghost use Rattle.vd_fakes.specs.Failing.{StoreFailsAsListed, failures_at};
-ghost use Rattle.vd_marks.specs.Marks.{Claims, Draws, Releases};
+ghost use Rattle.vd_outside_marks.specs.Marks.{Claims, Draws, Releases};
 ghost use Rattle.vd_fakes.specs.MemMarks.{DrawFailsAsListed, marks_view, taken_of};
-ghost use Rattle.vd_marks.specs.Places.{mark_at};
+ghost use Rattle.vd_outside_marks.specs.Places.{mark_at};
 
 use crate::Failures;
 use std::alloc::{AllocError, Global};
 use vd_base::{Bytes, CallFault};
-use vd_items::Items;
-use vd_marks::{Marks, MarksCall, mark_at};
+use vd_base_lists::Items;
+use vd_outside_marks::{Marks, MarksCall, mark_at};
 
 /// A place that was taken, with the bytes that stand there, or that was made free again.
 #[derive(Debug, Drop)]

@@ -9,7 +9,7 @@ use crate::{Failures, MemLink};
 use std::alloc::{AllocError, Global};
 use std::marker::Model;
 use vd_base::{CallFault, Text};
-use vd_items::Items;
+use vd_base_lists::Items;
 use vd_outside::{Link, Net, NetCall};
 
 /// A net in memory that gives the links that it holds, each at its address in their order. It fails where none is left

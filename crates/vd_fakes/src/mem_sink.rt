@@ -7,7 +7,7 @@ use crate::Failures;
 use std::alloc::{AllocError, Global};
 use std::marker::Model;
 use vd_base::Failed;
-use vd_items::Items;
+use vd_base_lists::Items;
 use vd_outside::{Recorder, Sink};
 
 /// A sink in memory that takes so many bytes a call at most, though always one, and fails at the calls whose numbers

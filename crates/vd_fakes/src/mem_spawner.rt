@@ -7,7 +7,7 @@ use crate::starting::start_call;
 use std::alloc::Global;
 use std::marker::Model;
 use vd_base::{CallFault, Texts};
-use vd_items::Items;
+use vd_base_lists::Items;
 use vd_outside::{Child, Line, Spawner, SpawnerCall};
 
 /// A spawner in memory that starts the children that it holds in their order. It fails at a start where none is left, and

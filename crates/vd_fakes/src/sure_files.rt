@@ -3,7 +3,7 @@ ghost use Rattle.std.specs.Prelude.{◌≡◌, true, []};
 use crate::finding::{find_or_empty, limited};
 use std::alloc::Global;
 use vd_base::{Bytes, CallFault, Text};
-use vd_items::Items;
+use vd_base_lists::Items;
 use vd_outside::{FetchFault, Files, FilesCall, Stored};
 
 /// Files in memory that never fail: a name with no file is an empty file. Of files with one name the first counts.

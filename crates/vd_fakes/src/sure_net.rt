@@ -7,7 +7,7 @@ use crate::waiting::take_link;
 use std::alloc::{AllocError, Global};
 use std::marker::Model;
 use vd_base::{Bytes, CallFault, Text};
-use vd_items::Items;
+use vd_base_lists::Items;
 use vd_outside::{Net, NetCall};
 
 /// A net in memory that never fails: at each address it gives the links that it holds for it in their order, and where

@@ -3,7 +3,7 @@ ghost use Rattle.vd_outside.specs.Net.{link_at, without_link_at};
 ghost use Rattle.vd_fakes.specs.SureNet.{FirstWaits, IsTakenOut, NoneWaits};
 
 use vd_base::Text;
-use vd_items::Items;
+use vd_base_lists::Items;
 
 /// Takes the first link that waits at an address.
 pub fn take_link<L: Drop>(waiting: &mut Items<(Text, L)>, address: &str) -> Option<L>

@@ -13,7 +13,7 @@ use std::alloc::{AllocError, Global};
 use std::error::Error;
 use std::fmt;
 use vd_base::{Form, Name, Names};
-use vd_items::Items;
+use vd_base_lists::Items;
 
 /// Why a written form has no formula.
 #[derive(PartialEq, Eq, Debug, Drop)]

@@ -7,10 +7,10 @@ ghost use Rattle.vd_tape.specs.Text.{IsDealOf};
 
 use std::alloc::{AllocError, Global};
 use vd_base::{Text, Words};
-use vd_deals::Deal;
+use vd_base_lists::Items;
+use vd_deal_items::Deal;
+use vd_host_session::Task;
 use vd_host_text::HostProgram;
-use vd_hosting::Task;
-use vd_items::Items;
 use vd_machine::Machine;
 
 /// A host that is ready to be run: what it is told of itself and its peers, and its machine.

@@ -4,7 +4,7 @@ use Rattle.std.specs.Prelude.{max}
 use Rattle.std.specs.Ordering.{ord_max, nat_cmp}
 use Rattle.std.proofs.lemmas.Bool.{ne_eqb}
 use Rattle.std.proofs.lemmas.Grind.{common_steps}
-use Rattle.vd_bytes.specs.Reading.{Reading}
+use Rattle.vd_base_codec.specs.Reading.{Reading}
 use Rattle.vd_host_text.specs.declared.words.Word.{Word}
 use Rattle.vd_host_text.specs.Words.{spelling}
 use Rattle.vd_host_text.specs.Reading.{alike, among}

@@ -1,10 +1,10 @@
 -- Lines one after the other, as a loop reads them.
 use Rattle.std.proofs.Common.{◌≡◌, ℕ, zero, suc, ◌<◌, ◌≤◌, Bool, true, false, cond, List, [], ◌∷◌, ◌++◌, length, Ok, Err, refl, sym, ap, ◌∙◌, append_assoc, arith, true≢false}
 use Rattle.std.proofs.lemmas.List.{append-nil}
-use Rattle.vd_bytes.specs.declared.fault.ReadFault.{ReadFault}
-use Rattle.vd_bytes.specs.declared.fault.ReadFault.TheVariants as fault
-use Rattle.vd_bytes.specs.Reading.{Reading, ◌>>=◌, byte_at, StopsOrMemory}
-use Rattle.vd_bytes.specs.Exact.{IsAnything, IsExact}
+use Rattle.vd_base_codec.specs.declared.fault.ReadFault.{ReadFault}
+use Rattle.vd_base_codec.specs.declared.fault.ReadFault.TheVariants as fault
+use Rattle.vd_base_codec.specs.Reading.{Reading, ◌>>=◌, byte_at, StopsOrMemory}
+use Rattle.vd_base_codec.specs.Exact.{IsAnything, IsExact}
 use Rattle.vd_execution.specs.declared.instructions.Instr.{Instr}
 use Rattle.vd_host_text.specs.declared.words.Word.{Word}
 use Rattle.vd_host_text.specs.declared.blocks.Arrays.{Arrays}

@@ -7,9 +7,9 @@ use Rattle.std.proofs.lemmas.List.Concat.{flat_map-cons}
 use Rattle.std.proofs.lemmas.Bool.{and_parts, and_from, or_from, eqb-true}
 use Rattle.vd_base.specs.Lexical.{is_letter, is_digit, is_word_byte, is_name, is_keyword, keywords}
 use Rattle.vd_base.specs.Names.{is_among}
-use Rattle.vd_bytes.specs.Reading.{first, Reading, ◌>>=◌}
-use Rattle.vd_bytes.specs.Exact.{IsBreak, Spells, Stops, IsExact}
-use Rattle.vd_bytes.proofs.Parts.{done_exact, byte_exact, Picks, then_exact, first_append, head_or, tail}
+use Rattle.vd_base_codec.specs.Reading.{first, Reading, ◌>>=◌}
+use Rattle.vd_base_codec.specs.Exact.{IsBreak, Spells, Stops, IsExact}
+use Rattle.vd_base_codec.proofs.Parts.{done_exact, byte_exact, Picks, then_exact, first_append, head_or, tail}
 use Rattle.vd_host_text.specs.Text.{name_field}
 use Rattle.vd_host_text.specs.File.{new_name, AreNew}
 use Rattle.vd_host_text.specs.Reading.{starts_with}

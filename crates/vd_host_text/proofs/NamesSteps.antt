@@ -1,8 +1,8 @@
 -- The names of the hosts as the loop of their reader takes them.
 use Rattle.std.proofs.Common.{◌≡◌, ℕ, ◌+◌, ◌<◌, ◌≤◌, true, false, List, [], ◌∷◌, ◌++◌, length, Ok, sym, ap, subst, ◌∙◌, length-append, arith}
-use Rattle.vd_bytes.specs.declared.fault.ReadFault.{ReadFault}
-use Rattle.vd_bytes.specs.declared.fault.ReadFault.TheVariants as fault
-use Rattle.vd_bytes.specs.Reading.{Reading, StopsOrMemory}
+use Rattle.vd_base_codec.specs.declared.fault.ReadFault.{ReadFault}
+use Rattle.vd_base_codec.specs.declared.fault.ReadFault.TheVariants as fault
+use Rattle.vd_base_codec.specs.Reading.{Reading, StopsOrMemory}
 use Rattle.vd_host_text.specs.Reading.{starts_with}
 use Rattle.vd_host_text.specs.Heading.{next_name_at, hosts_at}
 use Rattle.vd_host_text.proofs.HostSteps.{NamesGoOn, names_start, names_none, names_next, names_stopped, names_over, names_full}

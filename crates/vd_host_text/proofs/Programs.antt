@@ -3,9 +3,9 @@ use Rattle.std.proofs.Common.{◌≡◌, ℕ, ◌-◌, ◌<◌, ◌≤◌, Bool,
 use Rattle.std.specs.Prelude.{codes, ◌↔◌, ◌||◌, min, IfOk, IfErr}
 use Rattle.std.specs.List.{flat_map, AllByRecursion, list_any}
 use Rattle.vd_base.specs.HostSets.{host}
-use Rattle.vd_bytes.specs.Reading.{Reading, ◌>>=◌, literal_at, field_at, to_the_end}
-use Rattle.vd_bytes.specs.Exact.{IsAnything, StopsAt, IsTextOf, whole, outcome, IsExactWhole}
-use Rattle.vd_bytes.proofs.Whole.{stops_single, left_within}
+use Rattle.vd_base_codec.specs.Reading.{Reading, ◌>>=◌, literal_at, field_at, to_the_end}
+use Rattle.vd_base_codec.specs.Exact.{IsAnything, StopsAt, IsTextOf, whole, outcome, IsExactWhole}
+use Rattle.vd_base_codec.proofs.Whole.{stops_single, left_within}
 use Rattle.vd_execution.specs.declared.instructions.Reg.{Reg}
 use Rattle.vd_execution.specs.declared.instructions.Action.TheVariants as action
 use Rattle.vd_execution.specs.declared.instructions.Instr.{Instr}

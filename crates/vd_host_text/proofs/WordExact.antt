@@ -3,8 +3,8 @@ use Rattle.std.proofs.Common.{◌≡◌, ℕ, suc, ◌<◌, ◌≤◌, Bool, tru
 use Rattle.std.specs.Prelude.{max}
 use Rattle.std.proofs.lemmas.List.{take-append-drop, length-take-le, append_cancel_left}
 use Rattle.std.proofs.lemmas.Bool.{eqb-true, eqb-false, cases_order}
-use Rattle.vd_bytes.specs.Reading.{first}
-use Rattle.vd_bytes.specs.Exact.{IsAnything, Spells, Stops, IsExact}
+use Rattle.vd_base_codec.specs.Reading.{first}
+use Rattle.vd_base_codec.specs.Exact.{IsAnything, Spells, Stops, IsExact}
 use Rattle.vd_execution.specs.declared.instructions.Binary.TheVariants as binary
 use Rattle.vd_host_text.specs.declared.words.Word.{Word}
 use Rattle.vd_host_text.specs.declared.words.Word.TheVariants as word

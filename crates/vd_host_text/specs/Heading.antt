@@ -2,8 +2,8 @@
 use Rattle.std.specs.Prelude.{◌==◌, ℕ, zero, suc, ◌+◌, ◌-◌, ◌*◌, Bool, false, ◌&&◌, List, [], ◌∷◌, ◌++◌, Option, Some, None, Result, Ok, Err, length, take, drop, codes, nat_le, if◌then◌else◌}
 use Rattle.std.specs.List.{prefix_len}
 use Rattle.vd_base.specs.Lexical.{is_letter, is_word_byte}
-use Rattle.vd_bytes.specs.Reading.{Reading, ◌>>=◌, byte_at, literal_at, field_at, each_at}
-use Rattle.vd_bytes.specs.Exact.{whole}
+use Rattle.vd_base_codec.specs.Reading.{Reading, ◌>>=◌, byte_at, literal_at, field_at, each_at}
+use Rattle.vd_base_codec.specs.Exact.{whole}
 use Rattle.vd_host_text.specs.declared.blocks.Arrays.{Arrays}
 use Rattle.vd_host_text.specs.declared.blocks.Arrays.TheVariants as arrays
 use Rattle.vd_host_text.specs.Lines.{start}

@@ -1,7 +1,7 @@
 -- The lines of a host's program, each a word and numbers, and in which order they stand.
 use Rattle.std.specs.Prelude.{◌≡◌, ℕ, ◌≤◌, Bool, true, false, List, [], ◌∷◌, ◌++◌, Option, Some, None, length, flat_map, codes}
 use Rattle.std.specs.List.{AllByRecursion}
-use Rattle.vd_bytes.specs.Reading.{field}
+use Rattle.vd_base_codec.specs.Reading.{field}
 use Rattle.vd_execution.specs.declared.instructions.Instr.{Instr}
 use Rattle.vd_host_text.specs.declared.words.Word.{Word}
 use Rattle.vd_host_text.specs.declared.words.Word.TheVariants as word

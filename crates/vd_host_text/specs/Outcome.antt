@@ -2,8 +2,8 @@
 use Rattle.std.specs.Prelude.{◌≡◌, ◌↔◌, ℕ, ◌-◌, ◌<◌, List, map, length, Result, Ok, Err, codes}
 use Rattle.std.specs.List.{AllByRecursion}
 use Rattle.vd_base.specs.HostSets.{host}
-use Rattle.vd_bytes.specs.Reading.{Reading, ◌>>=◌, literal_at, field_at, capped}
-use Rattle.vd_bytes.specs.Exact.{StopsAt, IsTextOf, whole}
+use Rattle.vd_base_codec.specs.Reading.{Reading, ◌>>=◌, literal_at, field_at, capped}
+use Rattle.vd_base_codec.specs.Exact.{StopsAt, IsTextOf, whole}
 use Rattle.vd_execution.specs.declared.instructions.Action.TheVariants as action
 use Rattle.vd_execution.specs.declared.instructions.Instr.{Instr}
 use Rattle.vd_execution.specs.declared.instructions.Instr.TheVariants as instr

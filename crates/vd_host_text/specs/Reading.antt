@@ -2,7 +2,7 @@
 use Rattle.std.specs.Prelude.{◌==◌, ℕ, zero, suc, Bool, false, List, [], ◌∷◌, ◌++◌, Ok, Err, length, drop, map, max, min, get_or, if◌then◌else◌}
 use Rattle.vd_base.specs.HostSets.{host}
 use Rattle.vd_base.specs.declared.ids.HostId.{HostId}
-use Rattle.vd_bytes.specs.Reading.{Reading, ◌>>=◌, byte_at, field_at, each_at}
+use Rattle.vd_base_codec.specs.Reading.{Reading, ◌>>=◌, byte_at, field_at, each_at}
 use Rattle.vd_execution.specs.declared.instructions.Reg.{Reg}
 use Rattle.vd_execution.specs.declared.instructions.Binary.TheVariants as binary
 use Rattle.vd_execution.specs.declared.instructions.Action.TheVariants as action

@@ -2,7 +2,7 @@
 use Rattle.std.specs.Prelude.{ℕ, ◌+◌, ◌/◌, ◌%◌, List, [], ◌∷◌, ◌++◌, Bool, nat_lt, if◌then◌else◌, codes, flat_map}
 use Rattle.std.specs.List.{list_any}
 use Rattle.vd_execution.specs.declared.instructions.Instr.{Instr}
-use Rattle.vd_bytes.specs.Reading.{field}
+use Rattle.vd_base_codec.specs.Reading.{field}
 use Rattle.vd_host_text.specs.declared.program.HostProgram.{HostProgram}
 use Rattle.vd_host_text.specs.Words.{spelling, word_of, operands, is_array}
 

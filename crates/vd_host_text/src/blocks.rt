@@ -6,7 +6,7 @@ ghost use Rattle.vd_host_text.specs.Lines as lines;
 use crate::words::Word;
 use std::alloc::{AllocError, Global};
 use std::marker::Model;
-use vd_items::Items;
+use vd_base_lists::Items;
 
 /// An open block.
 #[derive(Clone, Copy, PartialEq, Eq, Debug)]

@@ -1,14 +1,14 @@
 //! Files of host programs.
 
 ghost use Rattle.std.specs.Prelude.{◌≡◌, Ok, IfOk, IfErr};
-ghost use Rattle.vd_bytes.specs.Reading.{GivesOrMemory, to_the_end};
+ghost use Rattle.vd_base_codec.specs.Reading.{GivesOrMemory, to_the_end};
 ghost use Rattle.vd_host_text.specs.Outcome.{IsFileOf, IsRefused, IsFaultOf, program_at, program_read};
 
 use crate::heading::read_program;
 use crate::program::HostProgram;
 use std::alloc::Global;
 use vd_base::FileFault;
-use vd_bytes::{Cursor, ReadFault, offset};
+use vd_base_codec::{Cursor, ReadFault, offset};
 
 /// The program of one host, from its file. The ranges of its instructions are not looked at.
 ///

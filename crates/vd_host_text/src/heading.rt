@@ -4,7 +4,7 @@ ghost use Rattle.std.specs.Prelude.{◌≡◌, ◌<◌, ◌≤◌, IfOk, length}
 ghost use Rattle.std.specs.List.{list_any};
 ghost use Rattle.std.specs.Str.{bytes_eq};
 ghost use Rattle.vd_base.specs.Limits.{most_hosts};
-ghost use Rattle.vd_bytes.specs.Reading.{Gives, GivesOrMemory, each_at};
+ghost use Rattle.vd_base_codec.specs.Reading.{Gives, GivesOrMemory, each_at};
 ghost use Rattle.vd_base.specs.Names as names;
 ghost use Rattle.vd_host_text.specs.Heading as heading;
 ghost use Rattle.vd_host_text.specs.Outcome as outcome;
@@ -15,7 +15,7 @@ use crate::reading::{read_code, stands_at};
 use std::alloc::Global;
 use vd_base::limits::HOSTS;
 use vd_base::{HostId, Name, Names, is_letter, is_name, word_len};
-use vd_bytes::{Cursor, ReadFault, Stopped};
+use vd_base_codec::{Cursor, ReadFault, Stopped};
 
 /// Whether instructions on arrays may come, by the number of the format.
 fn version(byte: u8) -> Option<Arrays>

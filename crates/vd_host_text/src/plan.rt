@@ -9,8 +9,8 @@ use crate::writing::print;
 use sha2::{Digest as Hash, Sha256};
 use std::alloc::{AllocError, Global};
 use vd_base::{Bytes, HostId, Names};
+use vd_base_lists::Items;
 use vd_execution::Instr;
-use vd_items::Items;
 
 /// The digest by which the programs of one plan know each other: the SHA-256 of the source's bytes followed by the printed choice.
 pub fn plan_of(source: &[u8], choice: &[u8]) -> Digest

@@ -1,8 +1,8 @@
 //! Host programs.
 
 use vd_base::{HostId, Names};
+use vd_base_lists::Items;
 use vd_execution::Instr;
-use vd_items::Items;
 
 /// A SHA-256 digest, by which the programs that were made together know each other.
 #[derive(Clone, Copy, Debug)]

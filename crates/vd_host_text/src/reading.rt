@@ -1,7 +1,7 @@
 //! The reader of the lines of host programs.
 
 ghost use Rattle.std.specs.Prelude.{◌≡◌, IfOk, length, map, drop};
-ghost use Rattle.vd_bytes.specs.Reading.{Gives, GivesOrMemory, each_at};
+ghost use Rattle.vd_base_codec.specs.Reading.{Gives, GivesOrMemory, each_at};
 ghost use Rattle.vd_execution.specs.Text.{register};
 ghost use Rattle.vd_host_text.specs.Lines as lines;
 ghost use Rattle.vd_host_text.specs.Reading as reading;
@@ -10,9 +10,9 @@ use crate::blocks::{Arrays, Outline};
 use crate::words::{Word, spelling};
 use std::alloc::{AllocError, Global};
 use vd_base::{HostId, Words};
-use vd_bytes::{Cursor, ReadFault, Stopped};
+use vd_base_codec::{Cursor, ReadFault, Stopped};
+use vd_base_lists::Items;
 use vd_execution::{Action, Binary, Instr, Reg};
-use vd_items::Items;
 
 /// All words.
 const WORDS: [Word; 36] = [

@@ -2,7 +2,7 @@
 
 ghost use Rattle.std.specs.Prelude.{◌≡◌, ◌++◌, ◌<◌, IfOk, OnOk, flat_map, map};
 ghost use Rattle.std.specs.List.{list_any};
-ghost use Rattle.vd_bytes.specs.Reading.{field};
+ghost use Rattle.vd_base_codec.specs.Reading.{field};
 ghost use Rattle.vd_host_text.specs.Words as words;
 ghost use Rattle.vd_host_text.specs.Text as text;
 
@@ -10,7 +10,7 @@ use crate::program::HostProgram;
 use crate::words::{is_array, spelling, word_of};
 use std::alloc::{AllocError, Global};
 use vd_base::{Bytes, Name};
-use vd_bytes::push_field;
+use vd_base_codec::push_field;
 use vd_execution::{Action, Instr, Reg};
 
 /// The one text of a host's program.

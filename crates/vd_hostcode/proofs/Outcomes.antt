@@ -3,9 +3,9 @@ use Rattle.std.proofs.Common.{◌≡◌, ◌≢◌, ℕ, ◌+◌, ◌-◌, ◌<�
 use Rattle.std.specs.Prelude.{IfOk}
 use Rattle.std.proofs.lemmas.Bool.{cases_lt, cases_order}
 use Rattle.vd_base.specs.declared.ids.HostId.{HostId}
-use Rattle.vd_bytes.specs.Reading.{capped}
-use Rattle.vd_bytes.specs.Exact.{StopsAt}
-use Rattle.vd_bytes.proofs.Whole.{stops_single}
+use Rattle.vd_base_codec.specs.Reading.{capped}
+use Rattle.vd_base_codec.specs.Exact.{StopsAt}
+use Rattle.vd_base_codec.proofs.Whole.{stops_single}
 use Rattle.vd_execution.specs.declared.instructions.Instr.{Instr}
 use Rattle.vd_execution.specs.declared.instructions.Instr.TheVariants as instr
 use Rattle.vd_execution.specs.Code.{Code, Finished}

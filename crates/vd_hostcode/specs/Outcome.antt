@@ -2,8 +2,8 @@
 use Rattle.std.specs.Prelude.{◌≡◌, ◌≢◌, ◌↔◌, ℕ, ◌<◌, ◌≤◌, List, length, Result, Ok, Err}
 use Rattle.vd_base.specs.Limits.{most_hosts}
 use Rattle.vd_base.specs.declared.ids.HostId.{HostId}
-use Rattle.vd_bytes.specs.Reading.{capped}
-use Rattle.vd_bytes.specs.Exact.{StopsAt}
+use Rattle.vd_base_codec.specs.Reading.{capped}
+use Rattle.vd_base_codec.specs.Exact.{StopsAt}
 use Rattle.vd_execution.specs.declared.instructions.Instr.{Instr}
 use Rattle.vd_execution.specs.Code.{Code}
 use Rattle.vd_execution.specs.Text.{IsCodeOf}

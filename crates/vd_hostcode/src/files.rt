@@ -12,7 +12,7 @@ use crate::ranges::{first_broken, numbered};
 use crate::steps::count_steps;
 use std::alloc::Global;
 use vd_base::{FileFault, HostId};
-use vd_bytes::offset;
+use vd_base_codec::offset;
 use vd_execution::Instr;
 use vd_host_text::{HostProgram, parse};
 

@@ -8,8 +8,8 @@ ghost use Rattle.vd_hostcode.specs.Counts.{capped, CountsOn};
 
 use crate::blocks::Behind;
 use std::alloc::{AllocError, Global};
+use vd_base_lists::Items;
 use vd_execution::Instr;
-use vd_items::Items;
 
 /// One more than the most static steps of a program. No count goes further.
 const TOO_MANY: u64 = 4_294_967_296;

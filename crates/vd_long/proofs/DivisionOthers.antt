@@ -4,8 +4,8 @@ use Rattle.std.proofs.lemmas.Bool.{leb-true, and_parts}
 use Rattle.vd_core.specs.declared.normal.Right.{Right}
 use Rattle.vd_core.specs.declared.normal.Right.TheVariants.{Lit, Turn, Copy, Apply, Input, Declassify, Endorse, Load, Get}
 use Rattle.vd_core.specs.declared.normal.Stmt.TheOpen.{Stmt-F}
-use Rattle.vd_meaning.specs.Turns.{turns}
-use Rattle.vd_meaning.specs.ProgramMeaning.{SlotState, word_at, right_word, after_right, Effect, stmt_effect}
+use Rattle.vd_semantics.specs.Turns.{turns}
+use Rattle.vd_semantics.specs.ProgramMeaning.{SlotState, word_at, right_word, after_right, Effect, stmt_effect}
 use Rattle.vd_long.specs.Template.{placed, placed_right, placed_slot, division_start, division_turn, division_end, remainder_start, remainder_turn, remainder_end}
 use Rattle.vd_long.proofs.DivisionSteps.{is_plain, is_plain_right, all_plain, run, ran, ran_rest, item_put_other}
 

@@ -7,9 +7,9 @@ use Rattle.vd_base.specs.declared.operations.Op.TheVariants.{Div, Rem, Eq, Mux}
 use Rattle.vd_core.specs.declared.normal.Right.{Right}
 use Rattle.vd_core.specs.declared.normal.Right.TheVariants.{Lit, Turn, Copy, Apply, Input, Declassify, Endorse, Load, Get}
 use Rattle.vd_core.specs.declared.normal.Stmt.TheOpen.{Stmt-F}
-use Rattle.vd_meaning.specs.Stores.{put}
-use Rattle.vd_meaning.specs.Turns.{turns}
-use Rattle.vd_meaning.specs.ProgramMeaning.{SlotState, word_at, with_word, right_word, Effect, in_order, stmt_effect}
+use Rattle.vd_semantics.specs.Stores.{put}
+use Rattle.vd_semantics.specs.Turns.{turns}
+use Rattle.vd_semantics.specs.ProgramMeaning.{SlotState, word_at, with_word, right_word, Effect, in_order, stmt_effect}
 use Rattle.vd_long.specs.LongDivision.{Division, divided_turn, divided}
 use Rattle.vd_long.specs.Template.{slot, placed, placed_slot, placed_right, division_start, division_turn, division_end, remainder_start, remainder_turn, remainder_end}
 use Rattle.vd_long.proofs.DivisionWhole.{whole_rest, whole_quotient}

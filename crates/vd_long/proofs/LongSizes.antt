@@ -4,9 +4,9 @@ use Rattle.vd_base.specs.declared.ids.SlotId.{SlotId}
 use Rattle.vd_core.specs.declared.normal.Right.{Right}
 use Rattle.vd_core.specs.declared.normal.Slot.{Slot}
 use Rattle.std.specs.Prelude.{Bool}
-use Rattle.vd_rewriting.specs.Rewriting.{Made, moved, kept_let}
-use Rattle.vd_rewriting.proofs.Shape.{Makes, makes_deeper}
-use Rattle.vd_rewriting.proofs.Sizes.{anything, kept_makes}
+use Rattle.vd_rewrite.specs.Rewriting.{Made, moved, kept_let}
+use Rattle.vd_rewrite.proofs.Shape.{Makes, makes_deeper}
+use Rattle.vd_rewrite.proofs.Sizes.{anything, kept_makes}
 use Rattle.vd_long.specs.Lengthened.{long_let}
 use Rattle.vd_long.proofs.DivisionMade.{IsDivision, long_cases}
 use Rattle.vd_long.proofs.DivisionWellMade.{Fits, fits_all, template_makes}

@@ -4,7 +4,7 @@ use Rattle.vd_base.specs.declared.ids.SlotId.{SlotId}
 use Rattle.vd_core.specs.declared.normal.Slot.{Slot}
 use Rattle.vd_long.specs.declared.steps.Place.{Place}
 use Rattle.vd_long.specs.declared.division.Division.{Division}
-use Rattle.vd_rewriting.specs.Rewriting.{Made, entry_of, in_block}
+use Rattle.vd_rewrite.specs.Rewriting.{Made, entry_of, in_block}
 use Rattle.vd_long.specs.Steps.{division_in}
 use Rattle.vd_long.specs.Divisions.{as_parts, place_in, long_of}
 

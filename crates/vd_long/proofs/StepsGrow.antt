@@ -6,10 +6,10 @@ use Rattle.vd_core.specs.declared.normal.Stmt.TheOpen.{Stmt-F}
 use Rattle.vd_long.specs.declared.steps.Place.{Place}
 use Rattle.vd_long.specs.declared.steps.Step.{Step}
 use Rattle.vd_long.specs.declared.steps.Step.TheVariants.{Lit, Copy, Load, One, Two, Three, NewVar, Store}
-use Rattle.vd_rewriting.specs.Rewriting.{Made, emptied}
+use Rattle.vd_rewrite.specs.Rewriting.{Made, emptied}
 use Rattle.vd_long.specs.Lengthened.{step_made, steps_made, Template}
 use Rattle.vd_long.specs.Steps.{step_of, step_in, steps_in, made_in, loop_in, division_in}
-use Rattle.vd_rewriting.specs.Stops.{size, IsTooLarge}
+use Rattle.vd_rewrite.specs.Stops.{size, IsTooLarge}
 
 step_more : (at : ℕ → ℕ) (offset block : ℕ) (s : Stmt-F Stmt) (m : Made) → size m ≤ size (step_made at offset block s m)
 step_more at offset block (Stmt-F.Let p r) m = omega arith

@@ -5,7 +5,7 @@ use Rattle.vd_core.specs.declared.normal.Slot.{Slot}
 use Rattle.vd_long.specs.declared.division.Division.{Division}
 use Rattle.vd_long.specs.declared.division.Division.TheVariants.{Quotient, Remainder}
 use Rattle.vd_long.specs.declared.steps.Place.{Place}
-use Rattle.vd_rewriting.specs.Rewriting.{Made, moved}
+use Rattle.vd_rewrite.specs.Rewriting.{Made, moved}
 use Rattle.vd_long.specs.Lengthened.{Parts, quotient_template, remainder_template, template_made}
 
 abbrev pub as_parts : Division → Parts

@@ -16,7 +16,7 @@ use Rattle.vd_core.specs.declared.normal.Stmt as stmt
 use Rattle.vd_core.specs.declared.normal.Stmt.TheOpen.{Stmt-F}
 use Rattle.vd_core.specs.declared.normal.Stmt.TheFolds.{fold-Stmt}
 use Rattle.vd_core.specs.Facts.{nesting}
-use Rattle.vd_rewriting.specs.Rewriting.{Made, slot, entry_of, in_block, fresh, moved, with_stmt, with_new, with_kept, emptied, closed, Lets, kept_let, rewritten, is_within}
+use Rattle.vd_rewrite.specs.Rewriting.{Made, slot, entry_of, in_block, fresh, moved, with_stmt, with_new, with_kept, emptied, closed, Lets, kept_let, rewritten, is_within}
 use Rattle.vd_long.specs.Template.{place_at, placed_slot, placed_right, division_start, division_turn, division_choice, division_last, remainder_start, remainder_turn, remainder_last}
 
 -- the kind of a new slot: a comparison gives a truth value

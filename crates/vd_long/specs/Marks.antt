@@ -5,7 +5,7 @@ use Rattle.vd_constraints.specs.declared.labels.Labels.{Labels}
 use Rattle.vd_space.specs.declared.problem.Problem.{Problem}
 use Rattle.vd_space.specs.Reading.{problem_of}
 use Rattle.vd_space.specs.Validity.{has_candidate}
-use Rattle.vd_rewriting.specs.Rewriting.{marked}
+use Rattle.vd_rewrite.specs.Rewriting.{marked}
 use Rattle.vd_long.specs.Lengthened.{lengthened}
 
 -- of each slot whether it has no candidate

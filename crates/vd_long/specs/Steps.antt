@@ -9,7 +9,7 @@ use Rattle.vd_long.specs.declared.steps.Place.{Place}
 use Rattle.vd_long.specs.declared.steps.Step.{Step}
 use Rattle.vd_long.specs.declared.steps.Step.TheVariants.{Lit, Copy, Load, One, Two, Three, NewVar, Store}
 use Rattle.vd_core.specs.declared.normal.Slot.{Slot}
-use Rattle.vd_rewriting.specs.Rewriting.{Made, emptied, closed, with_kept}
+use Rattle.vd_rewrite.specs.Rewriting.{Made, emptied, closed, with_kept}
 use Rattle.vd_long.specs.Template.{slot, place_at, placed_slot, placed_right}
 use Rattle.vd_long.specs.Lengthened.{step_made, steps_made, looped, Template}
 

@@ -5,7 +5,7 @@ use Rattle.vd_core.specs.declared.normal.Stmt.{Stmt}
 use Rattle.vd_core.specs.declared.normal.Stmt.TheFolds.{fold-Stmt}
 use Rattle.vd_long.specs.Lengthened.{long_let, nothing_hidden, lengthens_step, some_lengthened}
 use Rattle.vd_long.specs.declared.walk.Walk.{Walk}
-use Rattle.vd_rewriting.specs.Rewriting.{marked, Lets, Made, Rewriting, run_all, rewriting}
+use Rattle.vd_rewrite.specs.Rewriting.{marked, Lets, Made, Rewriting, run_all, rewriting}
 
 abbrev pub marked_in : Walk → SlotId → Bool
 marked_in w = marked w.long.now

@@ -4,13 +4,13 @@ ghost use Rattle.std.specs.Prelude.{◌≡◌, OnOk};
 ghost use Rattle.std.specs.Option.{option_map};
 ghost use Rattle.vd_long.specs.Lengthened.{parts_of as the_parts};
 ghost use Rattle.vd_long.specs.Divisions.{as_parts, place_in, long_of};
-ghost use Rattle.vd_rewriting.specs.Stops.{Stops};
+ghost use Rattle.vd_rewrite.specs.Stops.{Stops};
 
 use crate::steps::Place;
 use std::alloc::Global;
 use vd_base::{Op, SlotId};
 use vd_core::{Right, Slot};
-use vd_rewriting::{Made, Stop, copy_slot};
+use vd_rewrite::{Made, Stop, copy_slot};
 
 /// A division of the first slot by the second.
 #[derive(Clone, Copy, PartialEq, Eq, Debug)]

@@ -3,16 +3,16 @@
 ghost use Rattle.std.specs.Prelude.{◌≡◌, IfOk};
 ghost use Rattle.vd_long.specs.Lengthened.{IsLengthened};
 ghost use Rattle.vd_long.specs.Walks.{made_of_all};
-ghost use Rattle.vd_rewriting.specs.Rewriting.{marked, made_at_start};
-ghost use Rattle.vd_rewriting.specs.Stops.{Stops};
+ghost use Rattle.vd_rewrite.specs.Rewriting.{marked, made_at_start};
+ghost use Rattle.vd_rewrite.specs.Stops.{Stops};
 
 use crate::nesting::nest_within;
 use crate::walk::Walk;
 use std::alloc::{AllocError, Global};
 use vd_base::limits::NESTING;
+use vd_base_lists::Items;
 use vd_core::{Program, Slot, Stmt};
-use vd_items::Items;
-use vd_rewriting::{Made, Stop, fit, with_parts};
+use vd_rewrite::{Made, Stop, fit, with_parts};
 
 /// The program with loops of 32 turns in the place of the divisions whose slots are marked, or none where it is the same: where
 /// no division is marked, or the new program would break a limit.

@@ -10,9 +10,9 @@ ghost use Rattle.vd_space.specs.Validity.{protocols as protocols_in};
 use crate::lengthening::lengthen;
 use std::alloc::{AllocError, Global};
 use vd_base::Proto;
+use vd_base_lists::Items;
 use vd_constraints::Labels;
 use vd_core::Program;
-use vd_items::Items;
 use vd_protocol::protocols;
 use vd_space::{Problem, has_candidate};
 

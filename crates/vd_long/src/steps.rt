@@ -1,18 +1,18 @@
 //! The statements that take the place of one division.
 
 ghost use Rattle.std.specs.Prelude.{◌≡◌, ◌≤◌, OnOk};
-ghost use Rattle.vd_rewriting.specs.Rewriting.{fresh};
-ghost use Rattle.vd_rewriting.specs.Rewriting.{with_new};
+ghost use Rattle.vd_rewrite.specs.Rewriting.{fresh};
+ghost use Rattle.vd_rewrite.specs.Rewriting.{with_new};
 ghost use Rattle.vd_long.specs.Lengthened.{kind_of_op as kind_of, quotient_template, remainder_template};
 ghost use Rattle.vd_long.specs.Template.{division_start, division_turn, division_choice, remainder_start as remainder_begin, remainder_turn};
 ghost use Rattle.vd_long.specs.Steps.{placed_in, step_in, steps_in, turns_in, made_in, loop_in, division_in};
-ghost use Rattle.vd_rewriting.specs.Stops.{Stops};
+ghost use Rattle.vd_rewrite.specs.Stops.{Stops};
 
 use std::alloc::{AllocError, Global};
 use vd_base::{Kind, Op, SlotId};
+use vd_base_lists::Items;
 use vd_core::{Right, Slot, Stmt};
-use vd_items::Items;
-use vd_rewriting::{Made, Stop, fresh_slot};
+use vd_rewrite::{Made, Stop, fresh_slot};
 
 /// Where the statements go: the number of the first new slot, the operands' numbers, and the offset and block of new slots.
 #[derive(Clone, Copy, PartialEq, Eq, Debug)]

@@ -5,15 +5,15 @@ ghost use Rattle.std.specs.Option.{option_map};
 ghost use Rattle.vd_core.specs.Facts.{nesting, nesting_of};
 ghost use Rattle.vd_long.specs.Lengthened.{parts_of as the_parts, is_division as is_one};
 ghost use Rattle.vd_long.specs.Walks.{lets_of, made_of, made_of_all, is_long as is_long_in, some_long};
-ghost use Rattle.vd_rewriting.specs.Rewriting.{emptied};
-ghost use Rattle.vd_rewriting.specs.Stops.{Stops, with_body};
+ghost use Rattle.vd_rewrite.specs.Rewriting.{emptied};
+ghost use Rattle.vd_rewrite.specs.Stops.{Stops, with_body};
 
 use crate::division::{add_long, parts_of};
 use std::alloc::Global;
 use vd_base::SlotId;
+use vd_base_lists::Items;
 use vd_core::{Right, Slot, Stmt};
-use vd_items::Items;
-use vd_rewriting::{
+use vd_rewrite::{
     Made, Stop, is_marked, keep_array, keep_let, keep_output, keep_put, keep_store, keep_variable,
 };
 

@@ -11,9 +11,9 @@ use crate::digest::digest;
 use crate::lists::{Lists, Taken, pairs_with, triples_with};
 use crate::registers::{clear, write, write_from};
 use vd_base::{HostId, Op, combine};
-use vd_deals::{PairItem, Triple};
+use vd_base_lists::Items;
+use vd_deal_items::{PairItem, Triple};
 use vd_execution::{Action, Binary};
-use vd_items::Items;
 
 /// What an operation on two words gives.
 pub fn apply(operation: Binary, x: u32, y: u32) -> u32

@@ -10,9 +10,9 @@ ghost use Rattle.vd_machine.specs.Wants.{want_of, IsFromHost};
 use crate::lists::{Lists, Taken, pairs_with, triples_with};
 use crate::ops::{Op, Plain};
 use vd_base::HostId;
-use vd_deals::DealKind;
+use vd_base_lists::Items;
+use vd_deal_items::DealKind;
 use vd_execution::Action;
-use vd_items::Items;
 
 /// What the next instruction needs.
 #[derive(Clone, Copy, PartialEq, Eq, Debug)]

@@ -3,14 +3,14 @@ use Rattle.std.proofs.Common.{◌≡◌, ℕ, Bool, true, false, ◌&&◌, if◌
 use Rattle.vd_base.specs.declared.ids.SlotId.{SlotId}
 use Rattle.vd_core.specs.declared.normal.NormalForm.{NormalForm}
 use Rattle.vd_core.specs.Facts.{SlotsInOrder, SlotsMadeBefore}
-use Rattle.vd_meaning.specs.World.{world_at_start}
-use Rattle.vd_meaning.specs.ProgramMeaning.{program_outputs}
+use Rattle.vd_semantics.specs.World.{world_at_start}
+use Rattle.vd_semantics.specs.ProgramMeaning.{program_outputs}
 use Rattle.vd_mux.specs.BooleanGuards.{is_truth_slot, keeps_truth, has_boolean_guards, HasBooleanGuards}
 use Rattle.vd_mux.specs.Selections.{turned_where_boolean}
-use Rattle.vd_rewriting.specs.Rewriting.{kept_let, rewritings, some_changed, is_within}
+use Rattle.vd_rewrite.specs.Rewriting.{kept_let, rewritings, some_changed, is_within}
 use Rattle.vd_mux.specs.Selections.{with_selections, turned}
-use Rattle.vd_rewriting.proofs.Meaning.{Laws}
-use Rattle.vd_rewriting.proofs.Outputs.{outputs_kept, let_grown, let_adds, let_gives}
+use Rattle.vd_rewrite.proofs.Meaning.{Laws}
+use Rattle.vd_rewrite.proofs.Outputs.{outputs_kept, let_grown, let_adds, let_gives}
 use Rattle.vd_mux.proofs.Truths.{Truths}
 use Rattle.vd_mux.proofs.Guards.{meant, truths_at_start}
 

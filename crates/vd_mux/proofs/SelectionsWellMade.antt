@@ -7,10 +7,10 @@ use Rattle.vd_base.specs.Limits.{most_statements, most_weights}
 use Rattle.vd_core.specs.declared.normal.NormalForm.{NormalForm}
 use Rattle.vd_core.specs.Facts.{statement_count, weight_sum, IsWellMade}
 use Rattle.vd_mux.specs.BooleanGuards.{is_truth_slot, keeps_truth}
-use Rattle.vd_rewriting.specs.Rewriting.{kept_let, rewritings, some_changed}
+use Rattle.vd_rewrite.specs.Rewriting.{kept_let, rewritings, some_changed}
 use Rattle.vd_mux.specs.Selections.{with_selections, turned}
 use Rattle.vd_mux.proofs.Truths.{Truths}
-use Rattle.vd_rewriting.proofs.WellMade.{kept_fits, entry_passes, rewritten_well_made}
+use Rattle.vd_rewrite.proofs.WellMade.{kept_fits, entry_passes, rewritten_well_made}
 use Rattle.vd_mux.proofs.SelectionsKept.{turn_laws}
 
 pub turned_well_made : (hides : SlotId → Bool) (program : NormalForm) → IsWellMade program → IsWellMade (turned hides program)

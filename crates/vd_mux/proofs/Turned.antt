@@ -5,15 +5,15 @@ use Rattle.vd_core.specs.declared.normal.NormalForm.{NormalForm}
 use Rattle.vd_core.specs.declared.normal.Slot.{Slot}
 use Rattle.vd_core.specs.declared.normal.Stmt.{Stmt}
 use Rattle.vd_core.specs.Facts.{meets, all_meet}
-use Rattle.vd_rewriting.specs.Rewriting.{Made, made_at_start, kept_let, run_all, rewritings, all_made, with_made, some_changed, is_within}
+use Rattle.vd_rewrite.specs.Rewriting.{Made, made_at_start, kept_let, run_all, rewritings, all_made, with_made, some_changed, is_within}
 use Rattle.vd_mux.specs.Selections.{with_selections, turned}
-use Rattle.vd_rewriting.specs.Stops.{IsTooLarge}
+use Rattle.vd_rewrite.specs.Stops.{IsTooLarge}
 use Rattle.std.specs.List.{list_all}
 use Rattle.std.proofs.lemmas.List.Folds.{list_all-map}
 use Rattle.vd_mux.specs.BooleanGuards.{is_truth_slot, keeps_truth, has_boolean_guards}
-use Rattle.vd_rewriting.specs.Limits.{bodies_fit}
+use Rattle.vd_rewrite.specs.Limits.{bodies_fit}
 use Rattle.vd_mux.specs.Selections.{turned_where_boolean}
-use Rattle.vd_rewriting.proofs.Sizes.{kept_makes, large_is_not_within}
+use Rattle.vd_rewrite.proofs.Sizes.{kept_makes, large_is_not_within}
 
 module _ (hides : SlotId → Bool) (program : NormalForm) where
   abbrev changed : Bool

@@ -5,9 +5,9 @@ use Rattle.vd_core.specs.declared.normal.NormalForm.{NormalForm}
 use Rattle.vd_formula.specs.declared.label.Label.{Label}
 use Rattle.vd_constraints.specs.Rules.{host_label}
 use Rattle.vd_constraints.specs.declared.labels.Labels.{Labels}
-use Rattle.vd_dependence.specs.Reading.{acts}
+use Rattle.vd_noninter_laws.specs.Reading.{acts}
 use Rattle.vd_mux.specs.Selections.{turned_where_boolean}
-use Rattle.vd_rewriting.specs.Rewriting.{marked}
+use Rattle.vd_rewrite.specs.Rewriting.{marked}
 
 abbrev pub host : ℕ → HostId
 host k = record { 0 = k }

@@ -3,7 +3,7 @@ use Rattle.std.specs.Prelude.{◌≡◌, Bool, ◌&&◌, if◌then◌else◌, Op
 use Rattle.std.specs.Option.{MatchOption}
 use Rattle.vd_base.specs.declared.ids.SlotId.{SlotId}
 use Rattle.vd_core.specs.declared.normal.NormalForm.{NormalForm}
-use Rattle.vd_rewriting.specs.Rewriting.{kept_let, rewritings, rewritten, some_changed, is_within}
+use Rattle.vd_rewrite.specs.Rewriting.{kept_let, rewritings, rewritten, some_changed, is_within}
 use Rattle.vd_mux.specs.BooleanGuards.{has_boolean_guards}
 
 -- each Let stays

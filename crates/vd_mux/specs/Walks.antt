@@ -2,9 +2,9 @@
 use Rattle.std.specs.Prelude.{ℕ, Bool, ◌||◌, List, [], ◌∷◌, ◌++◌, map}
 use Rattle.vd_base.specs.declared.ids.SlotId.{SlotId}
 use Rattle.vd_core.specs.declared.normal.Stmt.{Stmt}
-use Rattle.vd_rewriting.specs.declared.guard.Guard.{Guard}
+use Rattle.vd_rewrite.specs.declared.guard.Guard.{Guard}
 use Rattle.vd_mux.specs.declared.walk.Walk.{Walk}
-use Rattle.vd_rewriting.specs.Rewriting.{marked, Made, Rewriting, entry_of, moved, is_some, is_hidden, guard_of, stored, run_all, kept_let, rewriting}
+use Rattle.vd_rewrite.specs.Rewriting.{marked, Made, Rewriting, entry_of, moved, is_some, is_hidden, guard_of, stored, run_all, kept_let, rewriting}
 
 abbrev pub as_rewriting : Walk → Stmt → Rewriting
 as_rewriting w = rewriting (marked w.hidden.now) (kept_let w.slots.now) w.slots.now

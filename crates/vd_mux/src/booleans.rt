@@ -7,7 +7,7 @@ ghost use Rattle.vd_mux.specs.Truths.{truth_of, kept, all_kept};
 
 use vd_base::{Kind, Op, SlotId};
 use vd_core::{Right, Slot, Stmt};
-use vd_rewriting::kind_of;
+use vd_rewrite::kind_of;
 
 /// The slots of a program, with their kinds.
 #[derive(Drop)]

@@ -6,16 +6,16 @@ ghost use Rattle.vd_base.specs.Limits.{most_hosts, most_principals};
 ghost use Rattle.vd_constraints.specs.Rules.{host_label, system_of};
 ghost use Rattle.vd_constraints.specs.Satisfies.{Satisfies};
 ghost use Rattle.vd_constraints.specs.Systems.{IsLabelOver};
-ghost use Rattle.vd_dependence.specs.Reading.{acts};
+ghost use Rattle.vd_noninter_laws.specs.Reading.{acts};
 ghost use Rattle.vd_mux.specs.Hidden.{some_reads, hidden_from, hidden_marks, turn_of};
 
 use crate::turning::turn;
 use std::alloc::{AllocError, Global};
 use vd_base::HostId;
+use vd_base_lists::Items;
 use vd_constraints::Labels;
 use vd_core::{NormalForm, Program};
 use vd_formula::{Formula, Label};
-use vd_items::Items;
 
 /// Whom the confidentiality of a host acts for.
 fn conf_of(form: &NormalForm, host: HostId) -> Formula

@@ -4,7 +4,7 @@ ghost use Rattle.std.specs.Prelude.{◌≡◌, ℕ, List, Bool};
 ghost use Rattle.vd_base.specs.declared.ids.SlotId.{SlotId};
 ghost use Rattle.vd_core.specs.declared.normal.NormalForm.{NormalForm};
 ghost use Rattle.vd_core.specs.Facts.{IsWellMade};
-ghost use Rattle.vd_meaning.specs.ProgramMeaning.{program_outputs};
+ghost use Rattle.vd_semantics.specs.ProgramMeaning.{program_outputs};
 ghost use Rattle.vd_mux.specs.BooleanGuards.{HasBooleanGuards};
 ghost use Rattle.vd_mux.specs.Selections.{turned_where_boolean};
 ghost use Rattle.vd_mux.specs.Selections.{turned};

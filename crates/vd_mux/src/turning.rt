@@ -1,18 +1,18 @@
 //! Hidden branches as selections.
 
 ghost use Rattle.std.specs.Prelude.{◌≡◌, [], IfOk};
-ghost use Rattle.vd_rewriting.specs.Rewriting.{made_at_start};
-ghost use Rattle.vd_rewriting.specs.Stops.{Stops};
+ghost use Rattle.vd_rewrite.specs.Rewriting.{made_at_start};
+ghost use Rattle.vd_rewrite.specs.Stops.{Stops};
 ghost use Rattle.vd_mux.specs.Selections.{IsTurned};
-ghost use Rattle.vd_rewriting.specs.Rewriting.{marked};
+ghost use Rattle.vd_rewrite.specs.Rewriting.{marked};
 ghost use Rattle.vd_mux.specs.Walks.{made_of_all};
 
 use crate::booleans::Truths;
 use crate::walk::Walk;
 use std::alloc::{AllocError, Global};
+use vd_base_lists::Items;
 use vd_core::{Program, Slot, Stmt};
-use vd_items::Items;
-use vd_rewriting::{Made, Stop, fit, with_parts};
+use vd_rewrite::{Made, Stop, fit, with_parts};
 
 /// The program with selections in the place of its hidden branches, or none where it is the same: where some guard may be
 /// another word than 0 and 1, nothing is hidden, or the new one would break a limit. `hidden` marks the slots that no host may read.

@@ -3,8 +3,8 @@ use Rattle.std.proofs.Common.{◌≡◌, ℕ, ◌≤◌, Bool, ◌&&◌, List, l
 use Rattle.vd_base.specs.declared.ids.HostId.{HostId}
 use Rattle.vd_core.specs.declared.normal.NormalForm.{NormalForm}
 use Rattle.vd_core.specs.Facts.{IsWellMade}
-use Rattle.vd_dependence.specs.Dependence.{Reach}
-use Rattle.vd_trust.specs.Influence.{IsInfluence, AreInfluences}
+use Rattle.vd_noninter_laws.specs.Dependence.{Reach}
+use Rattle.vd_integrity_laws.specs.Influence.{IsInfluence, AreInfluences}
 use Rattle.vd_noninter.specs.declared.link.Link.{Link}
 use Rattle.vd_noninter.specs.InfluenceLinks.{influence_links_of}
 use Rattle.vd_noninter.specs.Reached.{IsReachOf}

@@ -1,8 +1,8 @@
 -- What is reached from what a host is told, along links.
 use Rattle.std.specs.Prelude.{◌≡◌, ℕ, ◌≤◌, Bool, true, false, List, [], ◌∷◌, ◌++◌, length, slice_index_or}
 use Rattle.std.specs.List.{list_all}
-use Rattle.vd_dependence.specs.Flowing.{only_with}
-use Rattle.vd_dependence.specs.Dependence.{Reach, IsWithin}
+use Rattle.vd_noninter_laws.specs.Flowing.{only_with}
+use Rattle.vd_noninter_laws.specs.Dependence.{Reach, IsWithin}
 use Rattle.vd_noninter.specs.declared.link.Node.{Node}
 use Rattle.vd_noninter.specs.declared.link.Node.TheVariants.{Told, Slot, Inputs}
 use Rattle.vd_noninter.specs.declared.link.Link.{Link}

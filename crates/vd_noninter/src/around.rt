@@ -4,7 +4,7 @@ ghost use Rattle.std.specs.Prelude.{◌≡◌, IfOk};
 
 use std::alloc::{AllocError, Global};
 use vd_base::SlotId;
-use vd_items::Items;
+use vd_base_lists::Items;
 
 /// The guards around a statement, from the outermost one inwards, and whether the host may read them all.
 #[derive(Debug, Drop)]

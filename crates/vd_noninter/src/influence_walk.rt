@@ -9,8 +9,8 @@ use crate::link::Link;
 use crate::walk::{add_input, add_made, add_told};
 use std::alloc::{AllocError, Global};
 use vd_base::{HostId, SlotId};
+use vd_base_lists::Items;
 use vd_core::{NormalForm, Right, Stmt};
-use vd_items::Items;
 
 /// What depends on what in a program, from all that is output to the host; through endorsements too where they are passed.
 pub fn influence_links(

@@ -5,8 +5,8 @@ ghost use Rattle.vd_base.specs.declared.ids.HostId.{HostId};
 ghost use Rattle.vd_constraints.specs.declared.labels.Labels.{Labels};
 ghost use Rattle.vd_core.specs.declared.normal.NormalForm.{NormalForm};
 ghost use Rattle.vd_core.specs.Facts.{IsWellMade};
-ghost use Rattle.vd_dependence.specs.Dependence.{IsDependence, Reach};
-ghost use Rattle.vd_trust.specs.Influence.{IsInfluence};
+ghost use Rattle.vd_noninter_laws.specs.Dependence.{IsDependence, Reach};
+ghost use Rattle.vd_integrity_laws.specs.Influence.{IsInfluence};
 
 /// What is told to a host reaches some slots and some hosts' inputs, in every well-made program, whatever its labels are: there is a least
 /// choice of them that is closed.

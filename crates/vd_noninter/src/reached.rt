@@ -8,7 +8,7 @@ use crate::link::{Link, Node};
 use crate::marks::Marks;
 use std::alloc::{AllocError, Global};
 use vd_base::HostSet;
-use vd_items::Items;
+use vd_base_lists::Items;
 
 /// Slots that are reached, and hosts whose inputs are.
 #[derive(Debug, Drop)]

@@ -4,13 +4,13 @@ ghost use Rattle.std.specs.Prelude.{◌≡◌, ◌≤◌, IfOk, length, All};
 ghost use Rattle.vd_base.specs.Limits.{most_principals};
 ghost use Rattle.vd_constraints.specs.Rules.{host_label};
 ghost use Rattle.vd_constraints.specs.Systems.{IsLabelOver};
-ghost use Rattle.vd_dependence.specs.Reading.{acts};
+ghost use Rattle.vd_noninter_laws.specs.Reading.{acts};
 
 use std::alloc::{AllocError, Global};
 use vd_base::{HostId, SlotId};
+use vd_base_lists::Items;
 use vd_core::NormalForm;
 use vd_formula::{Formula, Label};
-use vd_items::Items;
 
 /// A host, and for each slot whether the host may read it.
 #[derive(Debug, Drop)]

@@ -8,8 +8,8 @@ use crate::link::{Link, Node};
 use crate::reader::Reader;
 use std::alloc::{AllocError, Global};
 use vd_base::{HostId, SlotId};
+use vd_base_lists::Items;
 use vd_core::{NormalForm, Right, Stmt};
-use vd_items::Items;
 
 /// What depends on what in a program, for a host that is told what it may read.
 pub fn links(alloc: Global, reader: &Reader, form: &NormalForm) -> Result<Items<Link>, AllocError>

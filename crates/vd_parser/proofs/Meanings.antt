@@ -1,6 +1,6 @@
 -- What the trees of the grammar stand for, a rule at a time.
 use Rattle.std.proofs.Common.{◌≡◌, ℕ, true, false, List, [], ◌∷◌, ◌++◌, Option, Some, None, refl, sym, ap, ◌∙◌}
-use Rattle.vd_grammar.specs.Trees.{Tree, Both, First, Second, Empty}
+use Rattle.vd_source_ll1.specs.Trees.{Tree, Both, First, Second, Empty}
 use Rattle.vd_base.specs.declared.ids.Span.{Span}
 use Rattle.vd_base.specs.declared.operations.Kind.{Kind}
 use Rattle.vd_core.specs.declared.source.Ident.{Ident}
@@ -19,7 +19,7 @@ use Rattle.vd_core.specs.declared.source.Link.TheVariants as link
 use Rattle.vd_core.specs.declared.source.Statement.{Statement}
 use Rattle.vd_core.specs.declared.source.Statement.TheVariants as stmt
 use Rattle.vd_core.specs.declared.source.Function.{Function}
-use Rattle.vd_lexer.specs.declared.token.Token.{Token}
+use Rattle.vd_source_lexer.specs.declared.token.Token.{Token}
 use Rattle.vd_parser.specs.Syntax.{bracketed, arguments_of, array_of, assign_of, assigned, atom_of, block_of, body_of, bor_of, both_of, chained, conj_of, conjs_of, direction_of, either_of, else_of, expr_of, exprs_of, fatom_of, fatoms_of, first_of, for_of, form_of, function_of, functions_of, host_list_of, host_name_of, host_of, hosts_of, ident_of, idents_of, if_of, index_of, index_option_of, infix_of, kind_of, label_of, label_option_of, length_of, let_of, more_exprs_of, more_idents_of, more_parameters_of, named_of, new_form_of, value_of, other_atom_of, output_of, parameter_list_of, parameter_of, parameters_of, principals_of, relabelled_of, return_of, returned_of, second_of, shift_links_of, shift_of, signed, signs_of, source_of, span_of, statement_of, statements_of, sum_of, third_of, three_of, token_of, two_of, typed_kind_of, typed_name_of, typed_of, unary_of, var_of, whole_body_of, word_atom_of}
 
 pub idents_first : (text : List ℕ) (x : Tree Token) (v : Ident) → v ≡ ident_of text x → (y : Tree Token) → idents_of text (Both x y) ≡ (v ∷ []) ++ more_idents_of text y

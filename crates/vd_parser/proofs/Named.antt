@@ -3,19 +3,19 @@ use Rattle.std.proofs.Common.{◌≡◌, ℕ, ◌<◌, Bool, true, ◌⊎◌, in
 use Rattle.std.specs.Prelude.{All, IfOk}
 use Rattle.std.specs.List.{AllPass}
 use Rattle.std.proofs.lemmas.List.Elements.{All-nil, All-cons, All-head, All-tail}
-use Rattle.vd_grammar.specs.Grammar.{Ebnf, Sym, Seq, Star}
-use Rattle.vd_grammar.specs.Trees.{Tree, Both, Makes, m-tok, m-sym, m-eps, m-seq, m-left, m-right, m-stop, m-more}
+use Rattle.vd_source_ll1.specs.Grammar.{Ebnf, Sym, Seq, Star}
+use Rattle.vd_source_ll1.specs.Trees.{Tree, Both, Makes, m-tok, m-sym, m-eps, m-seq, m-left, m-right, m-stop, m-more}
 use Rattle.vd_base.specs.Lexical.{is_name}
 use Rattle.vd_core.specs.declared.source.Ident.{Ident}
 use Rattle.vd_core.specs.declared.source.Host.{Host}
 use Rattle.vd_core.specs.declared.source.Source.{Source}
 use Rattle.vd_core.specs.Named.{HasNames}
-use Rattle.vd_lexer.specs.Kinds.{code_of}
-use Rattle.vd_lexer.specs.Tokens.{IsSpelled}
-use Rattle.vd_lexer.specs.declared.token.Token.{Token}
-use Rattle.vd_lexer.specs.declared.token.TokenKind.{TokenKind}
-use Rattle.vd_lexer.specs.declared.token.TokenKind.TheVariants as kind
-use Rattle.vd_lexer.proofs.TokenFacts.{tokens_spelled}
+use Rattle.vd_source_lexer.specs.Kinds.{code_of}
+use Rattle.vd_source_lexer.specs.Tokens.{IsSpelled}
+use Rattle.vd_source_lexer.specs.declared.token.Token.{Token}
+use Rattle.vd_source_lexer.specs.declared.token.TokenKind.{TokenKind}
+use Rattle.vd_source_lexer.specs.declared.token.TokenKind.TheVariants as kind
+use Rattle.vd_source_lexer.proofs.TokenFacts.{tokens_spelled}
 use Rattle.vd_parser.specs.declared.fault.ParseFault.{ParseFault}
 use Rattle.vd_parser.specs.declared.fault.ParseFault.TheVariants as fault
 use Rattle.vd_parser.specs.Language.{Symbol, SOURCE, HOST, rule, tok, commas, principals_rule, hosts_rule}

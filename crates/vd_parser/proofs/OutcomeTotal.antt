@@ -3,18 +3,18 @@ use Rattle.std.proofs.Common.{◌≡◌, ℕ, ◌+◌, ◌-◌, ◌≤◌, true,
 use Rattle.std.proofs.lemmas.List.{take_all}
 use Rattle.std.proofs.Math.Seq.{take-length}
 use Rattle.std.proofs.lemmas.Bool.{cases_lt, or_right, both_ways}
-use Rattle.vd_grammar.specs.Grammar.{Ebnf, Tok, Sym, Seq, Derives, d-seq, d-tok, Begins, b-none, b-tok, b-first, b-next, Spells, Starts, NothingLeft}
-use Rattle.vd_grammar.specs.Machine.{has, run}
-use Rattle.vd_grammar.specs.Trees.{Tree, Both, Makes, m-seq}
-use Rattle.vd_grammar.specs.Laws.{FirstUnexpected, Taken}
-use Rattle.vd_grammar.proofs.Extra.{absent, starts_absent}
-use Rattle.vd_grammar.proofs.Lawful.{exact, texts_trees}
+use Rattle.vd_source_ll1.specs.Grammar.{Ebnf, Tok, Sym, Seq, Derives, d-seq, d-tok, Begins, b-none, b-tok, b-first, b-next, Spells, Starts, NothingLeft}
+use Rattle.vd_source_ll1.specs.Machine.{has, run}
+use Rattle.vd_source_ll1.specs.Trees.{Tree, Both, Makes, m-seq}
+use Rattle.vd_source_ll1.specs.Laws.{FirstUnexpected, Taken}
+use Rattle.vd_source_ll1.proofs.Extra.{absent, starts_absent}
+use Rattle.vd_source_ll1.proofs.Lawful.{exact, texts_trees}
 use Rattle.vd_core.specs.declared.source.Source.{Source}
-use Rattle.vd_lexer.specs.Kinds.{code_of}
-use Rattle.vd_lexer.specs.Tokens.{EndsOnce, kinds, Lexes}
-use Rattle.vd_lexer.specs.declared.token.Token.{Token}
-use Rattle.vd_lexer.proofs.TokenLaws.{lexes_once}
-use Rattle.vd_lexer.proofs.TokenFacts.{ends_once}
+use Rattle.vd_source_lexer.specs.Kinds.{code_of}
+use Rattle.vd_source_lexer.specs.Tokens.{EndsOnce, kinds, Lexes}
+use Rattle.vd_source_lexer.specs.declared.token.Token.{Token}
+use Rattle.vd_source_lexer.proofs.TokenLaws.{lexes_once}
+use Rattle.vd_source_lexer.proofs.TokenFacts.{ends_once}
 use Rattle.vd_parser.specs.declared.fault.ParseFault.{ParseFault}
 use Rattle.vd_parser.specs.declared.fault.ParseFault.TheVariants as fault
 use Rattle.vd_parser.specs.Language.{Symbol, rule, SOURCE, HOST, LABEL, FORM, CONJ, FATOM, FUN, PARAM, KIND, BLOCK, STMT, EXPR, BOR, BXOR, BAND, SHIFT, SUM, PROD, UNARY, ATOM}

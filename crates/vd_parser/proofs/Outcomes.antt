@@ -2,22 +2,22 @@
 use Rattle.std.proofs.Common.{◌≡◌, ℕ, zero, suc, ◌+◌, ◌-◌, ◌<◌, ◌≤◌, true, false, List, [], ◌∷◌, ◌++◌, ◌⊎◌, inl, inr, length, take, drop, get_or, Some, None, refl, sym, ap, ◌∙◌, subst, true≢false, arith, length-append, append_assoc, ◌^◌, Result, Ok, Err, length-drop}
 use Rattle.std.proofs.lemmas.List.{length-map}
 use Rattle.std.proofs.lemmas.Bool.{cases_lt}
-use Rattle.vd_grammar.specs.Grammar.{Ebnf, Sym, Starts, b-none, b-next}
-use Rattle.vd_grammar.specs.Trees.{Tree, Leaf, Both, Makes, m-tok, m-sym, m-eps, m-seq, m-left, m-right, m-stop, m-more}
-use Rattle.vd_grammar.specs.Laws.{FirstUnexpected}
-use Rattle.vd_grammar.specs.Reading.{Stops, Gives}
-use Rattle.vd_grammar.proofs.Lawful.{exact}
-use Rattle.vd_grammar.proofs.OneTree.{makes_derives}
+use Rattle.vd_source_ll1.specs.Grammar.{Ebnf, Sym, Starts, b-none, b-next}
+use Rattle.vd_source_ll1.specs.Trees.{Tree, Leaf, Both, Makes, m-tok, m-sym, m-eps, m-seq, m-left, m-right, m-stop, m-more}
+use Rattle.vd_source_ll1.specs.Laws.{FirstUnexpected}
+use Rattle.vd_source_ll1.specs.Reading.{Stops, Gives}
+use Rattle.vd_source_ll1.proofs.Lawful.{exact}
+use Rattle.vd_source_ll1.proofs.OneTree.{makes_derives}
 use Rattle.vd_core.specs.declared.source.Source.{Source}
-use Rattle.vd_lexer.specs.Kinds.{code_of}
-use Rattle.vd_lexer.specs.Tokens.{EndsOnce, kinds, Lexes, lexes_end, lexes_blank, lexes_token, IsWithin}
-use Rattle.vd_lexer.specs.declared.piece.Piece.TheVariants.{Lexeme}
-use Rattle.vd_lexer.proofs.Pieces.{piece_within}
+use Rattle.vd_source_lexer.specs.Kinds.{code_of}
+use Rattle.vd_source_lexer.specs.Tokens.{EndsOnce, kinds, Lexes, lexes_end, lexes_blank, lexes_token, IsWithin}
+use Rattle.vd_source_lexer.specs.declared.piece.Piece.TheVariants.{Lexeme}
+use Rattle.vd_source_lexer.proofs.Pieces.{piece_within}
 use Rattle.vd_parser.specs.declared.fault.ParseFault.{ParseFault}
 use Rattle.vd_parser.specs.declared.fault.ParseFault.TheVariants as fault
-use Rattle.vd_lexer.specs.declared.token.Token.{Token}
-use Rattle.vd_lexer.specs.declared.token.TokenKind.{TokenKind}
-use Rattle.vd_lexer.specs.declared.token.TokenKind.TheVariants as kind
+use Rattle.vd_source_lexer.specs.declared.token.Token.{Token}
+use Rattle.vd_source_lexer.specs.declared.token.TokenKind.{TokenKind}
+use Rattle.vd_source_lexer.specs.declared.token.TokenKind.TheVariants as kind
 use Rattle.vd_parser.specs.declared.cursor.Refusal.{Refusal}
 use Rattle.vd_parser.specs.declared.cursor.Refusal.TheVariants as refusal
 use Rattle.vd_parser.specs.Language.{Symbol, rule, SOURCE}

@@ -1,10 +1,10 @@
 -- Operators as the parser tests them and as the grammar has them.
 use Rattle.std.proofs.Common.{◌≡◌, ℕ, ◌<◌, Bool, true, false, ◌||◌, if◌then◌else◌, Option, inl, inr, true≢false, List, [], ◌∷◌, ◌++◌, length, Some, None, nat_eq, refl, sym, ap, ◌∙◌, subst, arith, eqb-true}
 use Rattle.std.proofs.lemmas.Bool.{or_left, or_from, cases_Bool, or_cases}
-use Rattle.vd_grammar.specs.Grammar.{Ebnf, Tok, Sym, Eps, Seq, Alt, Star, one_of}
-use Rattle.vd_grammar.specs.Machine.{has, first}
-use Rattle.vd_grammar.specs.Trees.{Tree, Leaf, Both, First, Second, Empty}
-use Rattle.vd_grammar.specs.Reading.{head, Within, Gives, Collects}
+use Rattle.vd_source_ll1.specs.Grammar.{Ebnf, Tok, Sym, Eps, Seq, Alt, Star, one_of}
+use Rattle.vd_source_ll1.specs.Machine.{has, first}
+use Rattle.vd_source_ll1.specs.Trees.{Tree, Leaf, Both, First, Second, Empty}
+use Rattle.vd_source_ll1.specs.Reading.{head, Within, Gives, Collects}
 use Rattle.vd_core.specs.declared.source.Infix.{Infix}
 use Rattle.vd_core.specs.declared.source.Infix.TheVariants as op
 use Rattle.vd_core.specs.declared.source.Prefix.{Prefix}
@@ -17,10 +17,10 @@ use Rattle.vd_core.specs.declared.source.Sign.{Sign}
 use Rattle.vd_core.specs.declared.source.Link.{Link}
 use Rattle.vd_core.specs.declared.source.Statement.{Statement}
 use Rattle.vd_core.specs.declared.source.Link.TheVariants as link
-use Rattle.vd_lexer.specs.Kinds.{code_of}
-use Rattle.vd_lexer.specs.declared.token.Token.{Token}
-use Rattle.vd_lexer.specs.declared.token.TokenKind.{TokenKind}
-use Rattle.vd_lexer.specs.declared.token.TokenKind.TheVariants as kind
+use Rattle.vd_source_lexer.specs.Kinds.{code_of}
+use Rattle.vd_source_lexer.specs.declared.token.Token.{Token}
+use Rattle.vd_source_lexer.specs.declared.token.TokenKind.{TokenKind}
+use Rattle.vd_source_lexer.specs.declared.token.TokenKind.TheVariants as kind
 use Rattle.vd_parser.specs.declared.operators.Level.{Level}
 use Rattle.vd_parser.specs.declared.operators.Level.TheVariants as level
 use Rattle.vd_parser.specs.declared.cursor.Refusal.{Refusal}
@@ -29,7 +29,7 @@ use Rattle.vd_parser.specs.Syntax.{token_of, span_of, infix_of, direction_of, pr
 use Rattle.vd_parser.specs.Parsing.{language, next_kind, kind_at, Refused}
 use Rattle.vd_parser.specs.Levels.{begins_statement, is_kind, comparison_at, infix_at, prefix_at, direction_at, ops_of, symbol_of, operand_symbol, level_of, operand_of, links_of}
 use Rattle.vd_parser.proofs.Ready.{F, E, language_ll1}
-use Rattle.vd_grammar.proofs.Readings as readings
+use Rattle.vd_source_ll1.proofs.Readings as readings
 use Rattle.vd_parser.proofs.Meanings.{statements_more, statements_none, shifts_more, shifts_none}
 use Rattle.vd_parser.proofs.Steps.{head_is, start, rule_start, next, last, refused_last, collects_known, stop_known, end_known}
 

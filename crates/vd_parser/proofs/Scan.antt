@@ -3,8 +3,8 @@ use Rattle.std.proofs.Common.{◌≡◌, ℕ, suc, ◌+◌, ◌-◌, ◌<◌, �
 use Rattle.std.specs.List.{fold}
 use Rattle.std.proofs.lemmas.List.{drop_all}
 use Rattle.std.proofs.lemmas.Bool.{cases_Bool, and_parts, and_from, leb-true, leb-false, le-leb}
-use Rattle.vd_lexer.specs.declared.token.Token.{Token}
-use Rattle.vd_lexer.specs.declared.token.TokenKind.{TokenKind}
+use Rattle.vd_source_lexer.specs.declared.token.Token.{Token}
+use Rattle.vd_source_lexer.specs.declared.token.TokenKind.{TokenKind}
 use Rattle.vd_parser.specs.Nesting.{opens, closes, open_behind, NoneTooDeep, IsFirstDeep}
 
 abbrev pub is_too_deep : TokenKind → ℕ → Bool

@@ -1,7 +1,7 @@
 -- The levels of precedence: their operators and the symbols of the grammar.
 use Rattle.std.specs.Prelude.{ℕ, Bool, ◌||◌, List, Option, Some, None, nat_eq, if◌then◌else◌}
-use Rattle.vd_grammar.specs.Grammar.{Ebnf}
-use Rattle.vd_grammar.specs.Trees.{Tree}
+use Rattle.vd_source_ll1.specs.Grammar.{Ebnf}
+use Rattle.vd_source_ll1.specs.Trees.{Tree}
 use Rattle.vd_core.specs.declared.source.Prefix.{Prefix}
 use Rattle.vd_core.specs.declared.source.Prefix.TheVariants as prefix
 use Rattle.vd_core.specs.declared.source.Infix.{Infix}
@@ -10,10 +10,10 @@ use Rattle.vd_core.specs.declared.source.Direction.{Direction}
 use Rattle.vd_core.specs.declared.source.Direction.TheVariants as direction
 use Rattle.vd_core.specs.declared.source.Expr.{Expr}
 use Rattle.vd_core.specs.declared.source.Link.{Link}
-use Rattle.vd_lexer.specs.Kinds.{code_of}
-use Rattle.vd_lexer.specs.declared.token.TokenKind.{TokenKind}
-use Rattle.vd_lexer.specs.declared.token.TokenKind.TheVariants as kind
-use Rattle.vd_lexer.specs.declared.token.Token.{Token}
+use Rattle.vd_source_lexer.specs.Kinds.{code_of}
+use Rattle.vd_source_lexer.specs.declared.token.TokenKind.{TokenKind}
+use Rattle.vd_source_lexer.specs.declared.token.TokenKind.TheVariants as kind
+use Rattle.vd_source_lexer.specs.declared.token.Token.{Token}
 use Rattle.vd_parser.specs.declared.operators.Level.{Level}
 use Rattle.vd_parser.specs.declared.operators.Level.TheVariants as level
 use Rattle.vd_parser.specs.Language.{Symbol, BOR, BXOR, BAND, SHIFT, SUM, PROD, UNARY, tok, sum_ops, product_ops}

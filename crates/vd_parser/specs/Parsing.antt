@@ -1,13 +1,13 @@
 -- What each function of the parser promises.
 use Rattle.std.specs.Prelude.{◌≡◌, ℕ, List, [], ◌∷◌, Result, Ok, Err}
-use Rattle.vd_grammar.specs.Grammar.{Ebnf}
-use Rattle.vd_grammar.specs.Machine.{firsts, IsLL1}
-use Rattle.vd_grammar.specs.Trees.{Tree}
-use Rattle.vd_grammar.specs.Reading.{Grammar, Stops, Gives}
-use Rattle.vd_lexer.specs.Kinds.{code_of}
-use Rattle.vd_lexer.specs.declared.token.Token.{Token}
-use Rattle.vd_lexer.specs.declared.token.TokenKind.{TokenKind}
-use Rattle.vd_lexer.specs.declared.token.TokenKind.TheVariants as kind
+use Rattle.vd_source_ll1.specs.Grammar.{Ebnf}
+use Rattle.vd_source_ll1.specs.Machine.{firsts, IsLL1}
+use Rattle.vd_source_ll1.specs.Trees.{Tree}
+use Rattle.vd_source_ll1.specs.Reading.{Grammar, Stops, Gives}
+use Rattle.vd_source_lexer.specs.Kinds.{code_of}
+use Rattle.vd_source_lexer.specs.declared.token.Token.{Token}
+use Rattle.vd_source_lexer.specs.declared.token.TokenKind.{TokenKind}
+use Rattle.vd_source_lexer.specs.declared.token.TokenKind.TheVariants as kind
 use Rattle.vd_parser.specs.declared.cursor.Refusal.{Refusal}
 use Rattle.vd_parser.specs.declared.cursor.Refusal.TheVariants as refusal
 use Rattle.vd_parser.specs.Language.{Symbol, rule}

@@ -1,7 +1,7 @@
 -- The syntax tree that a tree of the grammar stands for. text is the bytes of the source, in which names stand.
 use Rattle.std.specs.Prelude.{ℕ, ◌-◌, Bool, if◌then◌else◌, true, false, List, [], ◌∷◌, ◌++◌, drop, take, Option, Some, None}
 use mathlib.Core.List.{reverse}
-use Rattle.vd_grammar.specs.Trees.{Tree, Leaf, Both, First, Second, Empty}
+use Rattle.vd_source_ll1.specs.Trees.{Tree, Leaf, Both, First, Second, Empty}
 use Rattle.vd_base.specs.declared.ids.Span.{Span}
 use Rattle.vd_base.specs.declared.operations.Kind.{Kind}
 use Rattle.vd_base.specs.declared.operations.Kind.TheVariants as word_kind
@@ -27,9 +27,9 @@ use Rattle.vd_core.specs.declared.source.Statement.{Statement}
 use Rattle.vd_core.specs.declared.source.Statement.TheVariants as stmt
 use Rattle.vd_core.specs.declared.source.Function.{Function}
 use Rattle.vd_core.specs.declared.source.Source.{Source}
-use Rattle.vd_lexer.specs.declared.token.TokenKind.{TokenKind}
-use Rattle.vd_lexer.specs.declared.token.TokenKind.TheVariants as kind
-use Rattle.vd_lexer.specs.declared.token.Token.{Token}
+use Rattle.vd_source_lexer.specs.declared.token.TokenKind.{TokenKind}
+use Rattle.vd_source_lexer.specs.declared.token.TokenKind.TheVariants as kind
+use Rattle.vd_source_lexer.specs.declared.token.Token.{Token}
 
 -- whether an expression stands in brackets
 abbrev pub are_brackets : Expr-F Bool Bool → Bool

@@ -1,5 +1,5 @@
 ghost use Rattle.std.specs.Prelude.{◌≡◌, ◌≢◌, ◌<◌, ◌∷◌, length, nat_eq, IfOk};
-ghost use Rattle.vd_lexer.specs.Kinds.{code_of};
+ghost use Rattle.vd_source_lexer.specs.Kinds.{code_of};
 ghost use Rattle.vd_parser.specs.Language.{tok};
 ghost use Rattle.vd_parser.specs.Syntax.{token_of};
 ghost use Rattle.vd_parser.specs.Parsing.{kind_at, next_kind, Parses};
@@ -7,7 +7,7 @@ ghost use Rattle.vd_parser.specs.declared.cursor.Refusal.TheVariants as refusal;
 
 use std::alloc::{AllocError, AllocFailed};
 use std::marker::Model;
-use vd_lexer::{Token, TokenKind};
+use vd_source_lexer::{Token, TokenKind};
 
 /// Why there is no tree; where, the cursor tells.
 #[derive(Drop)]
@@ -40,7 +40,7 @@ pub struct Cursor<'a> {
 
 impl<'a> Model for Cursor<'a> {
     ghost use Rattle.std.specs.Prelude.{List};
-    ghost use Rattle.vd_lexer.specs.declared.token.Token.{Token};
+    ghost use Rattle.vd_source_lexer.specs.declared.token.Token.{Token};
 
     ghost Value = { List Token };
 

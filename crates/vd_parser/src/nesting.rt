@@ -4,7 +4,7 @@ ghost use Rattle.vd_parser.specs.Nesting as nesting;
 
 use crate::operators::is;
 use vd_base::limits::OPEN_BRACKETS;
-use vd_lexer::{Token, TokenKind};
+use vd_source_lexer::{Token, TokenKind};
 
 fn opens(kind: TokenKind) -> bool
     ensures { result ≡ nesting.opens kind }

@@ -1,9 +1,9 @@
 ghost use Rattle.std.specs.Prelude.{◌≡◌, nat_eq};
-ghost use Rattle.vd_lexer.specs.Kinds.{code_of};
+ghost use Rattle.vd_source_lexer.specs.Kinds.{code_of};
 ghost use Rattle.vd_parser.specs.Levels.{comparison_at, infix_at, prefix_at, direction_at};
 
 use vd_core::{Direction, Infix, Prefix};
-use vd_lexer::TokenKind;
+use vd_source_lexer::TokenKind;
 
 /// The levels of precedence of the infix operators that chain, from the loosest. Shifts stand between And and Sum.
 #[derive(Clone, Copy)]

@@ -1,6 +1,6 @@
 ghost use Rattle.std.specs.Prelude.{◌≡◌, ◌<◌, length, IfOk};
-ghost use Rattle.vd_grammar.specs.Grammar.{Sym};
-ghost use Rattle.vd_lexer.specs.declared.token.TokenKind.TheVariants as kind;
+ghost use Rattle.vd_source_ll1.specs.Grammar.{Sym};
+ghost use Rattle.vd_source_lexer.specs.declared.token.TokenKind.TheVariants as kind;
 ghost use Rattle.vd_parser.specs.Language.{tok, commas, typed_rule, KIND};
 ghost use Rattle.vd_parser.specs.Syntax.{word_at, ident_of, idents_of, kind_of, typed_of};
 ghost use Rattle.vd_parser.specs.Parsing.{Parses};
@@ -8,9 +8,9 @@ ghost use Rattle.vd_parser.specs.Parsing.{Parses};
 use crate::cursor::{Cursor, Refusal};
 use std::alloc::Global;
 use vd_base::{Kind, Span};
+use vd_base_lists::Items;
 use vd_core::Ident;
-use vd_items::Items;
-use vd_lexer::TokenKind;
+use vd_source_lexer::TokenKind;
 
 /// Reads the parts of a source, each by a method, from the tokens that a cursor has.
 #[derive(Drop)]

@@ -2,8 +2,8 @@ ghost use Rattle.std.specs.Prelude.{◌≡◌, ◌⊎◌, ◌+◌, ◌<◌, ◌�
 ghost use Rattle.vd_core.specs.Named.{HasNames};
 ghost use Rattle.vd_core.specs.declared.source.Source.{Source};
 ghost use Rattle.vd_parser.specs.declared.fault.ParseFault.{ParseFault};
-ghost use Rattle.vd_grammar.specs.Grammar.{Sym};
-ghost use Rattle.vd_lexer.specs.Tokens.{EndsOnce, kinds};
+ghost use Rattle.vd_source_ll1.specs.Grammar.{Sym};
+ghost use Rattle.vd_source_lexer.specs.Tokens.{EndsOnce, kinds};
 ghost use Rattle.vd_parser.specs.Language.{SOURCE};
 ghost use Rattle.vd_parser.specs.Syntax.{source_of};
 ghost use Rattle.vd_parser.specs.Nesting.{NoneTooDeep, IsFirstDeep};
@@ -17,7 +17,7 @@ use crate::parser::Parser;
 use std::alloc::Global;
 use vd_base::limits::SOURCE_BYTES;
 use vd_core::Source;
-use vd_lexer::{LexFault, Token, TokenKind, tokens};
+use vd_source_lexer::{LexFault, Token, TokenKind, tokens};
 
 impl<'a> Parser<'a> {
     /// A source, and no token behind it.

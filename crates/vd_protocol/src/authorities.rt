@@ -3,8 +3,8 @@ ghost use Rattle.vd_base.specs.Limits.{most_hosts};
 ghost use Rattle.vd_protocol.specs.Authority.{AreOverSameNames, HasHosts, IsOver, authority_of, committed_of, copies_of, names_of, shared_of};
 
 use vd_base::{HostId, HostSet, Proto};
+use vd_base_lists::Items;
 use vd_formula::{Formula, Label};
-use vd_items::Items;
 
 /// The label of each host, in order.
 pub type HostLabels = Items<Label>;

@@ -7,7 +7,7 @@ ghost use Rattle.vd_protocol.specs.Pairings.{protocol_of, takes};
 
 use std::alloc::{AllocError, Global};
 use vd_base::{HostId, HostSet, Proto};
-use vd_items::Items;
+use vd_base_lists::Items;
 
 /// The protocols over so many hosts, in order.
 pub fn protocols(alloc: Global, hosts: u8) -> Result<Items<Proto>, AllocError>

@@ -7,7 +7,7 @@ use crate::hosts::name_of;
 use crate::lines::push_words_line;
 use std::alloc::{AllocError, Global};
 use vd_base::{Bytes, HostState, Names, Words};
-use vd_items::Items;
+use vd_base_lists::Items;
 
 /// How a host stands, and the words that it printed.
 #[derive(PartialEq, Eq, Debug, Drop)]

@@ -14,7 +14,7 @@ use crate::token::{Token, TokenKind, next_token};
 use std::alloc::Global;
 use vd_base::limits::{HOSTS, SCHEDULE_ENTRIES};
 use vd_base::{HostId, Names};
-use vd_items::Items;
+use vd_base_lists::Items;
 
 /// In which order hosts step.
 #[derive(PartialEq, Eq, Debug, Drop)]

@@ -21,8 +21,8 @@ use crate::size::Size;
 use crate::symbol::Symbol;
 use crate::table::NameTable;
 use vd_base::{Kind, Span};
+use vd_base_lists::Items;
 use vd_core::{Expr, Function, Ident, Infix, Link, Sign};
-use vd_items::Items;
 
 /// The values in sight.
 pub(crate) type Values<'a> = NameTable<'a, Symbol>;

@@ -19,8 +19,8 @@ use crate::statement::expect_kind;
 use crate::symbol::{Callee, Signature, Symbol};
 use crate::table::NameTable;
 use std::alloc::{AllocError, Global};
+use vd_base_lists::Items;
 use vd_core::{Function, Ident, Parameter, Statement};
-use vd_items::Items;
 
 fn declare_parameters<'a>(
     values: &mut Values<'a>,

@@ -2,7 +2,7 @@
 
 use crate::size::Size;
 use vd_base::Kind;
-use vd_items::Items;
+use vd_base_lists::Items;
 
 /// What the name of a value stands for.
 #[derive(Clone, Copy, PartialEq, Eq, Debug)]

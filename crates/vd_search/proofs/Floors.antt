@@ -1,7 +1,7 @@
 -- What no whole list costs less than.
 use Rattle.std.proofs.Common.{ℕ, ◌≤◌, max, Some, [], arith, pos}
 use Rattle.std.proofs.lemmas.Int.{ints}
-use Rattle.vd_prefixes.specs.Trees.{Tree, IsBounded, AtLeast}
+use Rattle.vd_search_tree.specs.Trees.{Tree, IsBounded, AtLeast}
 use Rattle.vd_search.specs.Answers.{IsFloor}
 use Rattle.vd_search.specs.Writing.{NoneLess}
 

@@ -4,8 +4,8 @@ ghost use Rattle.std.specs.Prelude.{◌≡◌, ◌^◌, ◌<◌, [], IfOk, lengt
 ghost use Rattle.vd_solver.specs.Reading.{IsIndex, part_number, read_part};
 
 use std::alloc::{AllocError, Global};
+use vd_base_lists::Items;
 use vd_constraints::{Bound, Part, Place, System};
-use vd_items::Items;
 
 /// For each part, by its number, the places of the rules whose bounds read it.
 pub(crate) fn readers(alloc: Global, system: &System) -> Result<Vec<Items<u32>>, AllocError>

@@ -2,9 +2,9 @@
 use Rattle.std.proofs.Common.{◌≡◌, ℕ, ◌<◌, List, ◌++◌, length, refl, sym, ◌∙◌, subst, arith, ℤ, pos, negsuc, ◌≤ℤ◌, ◌<ℤ◌}
 use Rattle.std.proofs.lemmas.Int.{ints}
 use Rattle.std.specs.Prelude.{IsTrue}
-use Rattle.vd_prefixes.specs.Trees.{IsBounded}
+use Rattle.vd_search_tree.specs.Trees.{IsBounded}
 use Rattle.vd_space.specs.declared.problem.Problem.{Problem}
-use Rattle.vd_prefixes.specs.declared.shift.Shift.{Shift}
+use Rattle.vd_search_tree.specs.declared.shift.Shift.{Shift}
 use Rattle.vd_space.specs.Validity.{is_valid}
 use Rattle.vd_space.specs.Costs.{ones, pairs, cost}
 use Rattle.vd_space.specs.Bounds.{low, shifted, high, shifted_ones, shifted_pairs}

@@ -8,7 +8,7 @@ use Rattle.std.proofs.lemmas.Bool.{true≢false, cond-true, cond-false, cases_Bo
 use Rattle.vd_space.specs.declared.problem.Problem.{Problem}
 use Rattle.vd_space.specs.declared.problem.Use.{Use}
 use Rattle.vd_space.specs.declared.problem.Output.{Output}
-use Rattle.vd_prefixes.specs.declared.shift.Shift.{Shift}
+use Rattle.vd_search_tree.specs.declared.shift.Shift.{Shift}
 use Rattle.vd_space.specs.Validity.{is_valid}
 use Rattle.vd_space.specs.Costs.{total, one_at, pair_at, operation_value, operation_term, output_value, output_term, use_value, use_term, index_term, slots_of, ones, cost}
 use Rattle.vd_space.specs.Bounds.{signed, side_of, slot_shift, use_shift, add, outputs_value, shifted_one, shifted_use, shifted_uses, shifted_ones, shifted_pairs}

@@ -5,7 +5,7 @@ use Rattle.std.specs.Option.{option_map_or}
 use Rattle.vd_space.specs.declared.problem.Problem.{Problem}
 use Rattle.vd_space.specs.declared.problem.Use.{Use}
 use Rattle.vd_space.specs.declared.problem.Output.{Output}
-use Rattle.vd_prefixes.specs.declared.shift.Shift.{Shift}
+use Rattle.vd_search_tree.specs.declared.shift.Shift.{Shift}
 use Rattle.vd_space.specs.Validity.{protocols, is_candidate}
 use Rattle.vd_space.specs.Costs.{One, Pair, operation_value, output_value, use_value, index_term, total, slots_of, ones, pairs, guards_total}
 

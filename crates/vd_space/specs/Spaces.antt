@@ -1,9 +1,9 @@
 -- The tree of all lists of protocols of a problem, and what a problem keeps.
 use Rattle.std.specs.Prelude.{◌≡◌, ℕ, ◌<◌, List, length, IsTrue, pos, ◌≤ℤ◌, ◌<ℤ◌}
 use Rattle.std.specs.List.{AllByRecursion}
-use Rattle.vd_prefixes.specs.Trees.{Tree}
+use Rattle.vd_search_tree.specs.Trees.{Tree}
 use Rattle.vd_space.specs.declared.problem.Problem.{Problem}
-use Rattle.vd_prefixes.specs.declared.shift.Shift.{Shift}
+use Rattle.vd_search_tree.specs.declared.shift.Shift.{Shift}
 use Rattle.vd_space.specs.declared.problem.Use.{Use}
 use Rattle.vd_space.specs.declared.problem.Output.{Output}
 use Rattle.vd_space.specs.declared.problem.Guard.{Guard}

@@ -1,9 +1,9 @@
 -- The usual shifts: each slot hands what it must cost on to the slots that its values come from.
 use Rattle.std.specs.Prelude.{ℕ, zero, suc, ◌+◌, Bool, true, false, if◌then◌else◌, Option, Some, None, List, [], ◌∷◌, ◌++◌, length, ℤ, pos, negsuc}
-use Rattle.vd_prefixes.specs.Trees.{Tree, count_within}
+use Rattle.vd_search_tree.specs.Trees.{Tree, count_within}
 use Rattle.vd_space.specs.declared.problem.Problem.{Problem}
 use Rattle.vd_space.specs.declared.problem.Use.{Use}
-use Rattle.vd_prefixes.specs.declared.shift.Shift.{Shift}
+use Rattle.vd_search_tree.specs.declared.shift.Shift.{Shift}
 use Rattle.vd_space.specs.Validity.{protocols, is_candidate}
 use Rattle.vd_space.specs.Bounds.{least_at, low, shifted_one, shifted_use}
 use Rattle.vd_space.specs.Spaces.{tree_of}

@@ -1,7 +1,7 @@
 //! What is true of every problem. The functions here do nothing: the contract of each is a law.
 
 ghost use Rattle.std.specs.Prelude.{◌≡◌, List, length, ℕ};
-ghost use Rattle.vd_prefixes.specs.Trees.{IsBounded};
+ghost use Rattle.vd_search_tree.specs.Trees.{IsBounded};
 ghost use Rattle.vd_space.specs.Bounds.{high, low};
 ghost use Rattle.vd_space.specs.Growth.{OneByPlace, PairByPlace};
 ghost use Rattle.vd_space.specs.Costs.{One, Pair};
@@ -14,7 +14,7 @@ ghost use Rattle.vd_space.specs.Laws.{EndsInCost, IsBelowCosts, SumGrows, ValidG
 ghost use Rattle.vd_space.specs.Sizes.{IsWithinLimits};
 ghost use Rattle.vd_space.specs.Spaces.{IsProblem, tree_of};
 ghost use Rattle.vd_space.specs.declared.problem.Problem.{Problem as Problems};
-ghost use Rattle.vd_prefixes.specs.declared.shift.Shift.{Shift as Shifts};
+ghost use Rattle.vd_search_tree.specs.declared.shift.Shift.{Shift as Shifts};
 
 /// A bound of a prefix is at most the cost of every valid list that it begins, whatever the shifts are.
 pub fn bounds_are_below_costs()

@@ -1,8 +1,8 @@
 //! What the choice of protocols must know of a program.
 
 use vd_base::{HostId, Row, SlotId};
+use vd_base_lists::Items;
 use vd_formula::Label;
-use vd_items::Items;
 
 /// What a slot asks of its protocol, how often its statement is executed, and its least label.
 #[derive(Clone, Copy, PartialEq, Eq, Debug)]

@@ -4,7 +4,7 @@ use Rattle.std.proofs.Common.{◌≡◌, ℕ, ◌+◌, ◌<◌, ◌≤◌, List,
 use Rattle.vd_base.specs.declared.protocols.Proto.{Proto}
 use Rattle.vd_base.specs.Holders.{holders, proto_in}
 use Rattle.vd_duet.specs.Builder.{HasRoom, TakesAtMost}
-use Rattle.vd_joint.proofs.Lists.{front_kept, at_end}
+use Rattle.vd_choreography.proofs.Lists.{front_kept, at_end}
 use Rattle.vd_split.specs.Offer.{Offer, CanCall, Fitting, AreHeld, IsReady, Emits}
 
 pub takes_none : (next : List ℕ) → TakesAtMost 0 next next

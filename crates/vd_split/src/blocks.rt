@@ -12,10 +12,10 @@ use crate::statements::{array, binding, store, tell, variable, write};
 use crate::taking::takers_of;
 use std::alloc::{AllocError, Global};
 use vd_base::{HostId, Proto, SlotId};
+use vd_base_lists::Items;
 use vd_core::{Program, Stmt};
 use vd_duet::Duet;
 use vd_execution::Line;
-use vd_items::Items;
 
 /// A `for` at each host that has an instruction of the body, with a fresh register for the number of the turn.
 fn open_loop<P: Protocols>(

@@ -3,8 +3,8 @@ ghost use Rattle.vd_execution.specs.Text.{pick, pick_act};
 
 use std::alloc::{AllocError, Global};
 use vd_base::HostId;
+use vd_base_lists::Items;
 use vd_execution::{Act, Instr, Line};
-use vd_items::Items;
 
 /// An instruction at the end, where the host has it.
 fn add_where(here: bool, instr: Instr, code: &mut Items<Instr>) -> Result<(), AllocError>

@@ -12,8 +12,8 @@ use crate::protocols::Protocols;
 use crate::slots::parts_of;
 use std::alloc::AllocError;
 use vd_base::{HostId, Proto, SlotId, proto_of};
+use vd_base_lists::Items;
 use vd_duet::Duet;
-use vd_items::Items;
 
 /// The move of a slot's word to a protocol.
 pub(crate) fn move_slot<P: Protocols>(

@@ -9,8 +9,8 @@ ghost use Rattle.vd_split.specs.Lines.{Makes};
 
 use std::alloc::AllocError;
 use vd_base::{HostId, Op, Proto};
+use vd_base_lists::Items;
 use vd_duet::Duet;
-use vd_items::Items;
 
 /// All protocols together, as the splitter asks for them. Each call that is lent a `Duet` gives what the call of `offer`
 /// gives, and puts exactly its gadgets at the end. On `Err`, which is want of memory, the `Duet` holds some of the acts and

@@ -11,9 +11,9 @@ use crate::protocols::Protocols;
 use crate::slots::{hosts_at, parts_of};
 use std::alloc::AllocError;
 use vd_base::{Op, Proto, SlotId, proto_of};
+use vd_base_lists::Items;
 use vd_core::Right;
 use vd_duet::Duet;
-use vd_items::Items;
 
 /// An operation on slots.
 fn apply<P: Protocols>(

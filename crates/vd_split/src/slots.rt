@@ -1,11 +1,11 @@
 ghost use Rattle.std.specs.Prelude.{◌≡◌, IfOk, slice_index_or};
-ghost use Rattle.vd_joint.specs.Suite.{hosts_of as hosts_at_proto};
+ghost use Rattle.vd_choreography.specs.Suite.{hosts_of as hosts_at_proto};
 
 use crate::protocols::Protocols;
 use std::alloc::AllocError;
 use vd_base::{HostId, Proto, SlotId, is_holder};
+use vd_base_lists::Items;
 use vd_duet::Duet;
-use vd_items::Items;
 
 /// The parts of a slot.
 pub(crate) fn parts_of<'a, P: Protocols>(

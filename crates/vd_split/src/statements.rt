@@ -9,9 +9,9 @@ use crate::rights::right_side;
 use crate::slots::{hosts_at, parts_of};
 use std::alloc::AllocError;
 use vd_base::{HostId, Proto, SlotId, proto_of};
+use vd_base_lists::Items;
 use vd_core::Right;
 use vd_duet::Duet;
-use vd_items::Items;
 
 /// A binding.
 pub(crate) fn binding<P: Protocols>(

@@ -1,15 +1,15 @@
 ghost use Rattle.std.specs.Prelude.{◌≡◌, ◌||◌, nat_eq, IfOk};
 ghost use Rattle.std.specs.List.{list_any};
 ghost use Rattle.vd_base.specs.Holders.{is_holder, proto_in};
-ghost use Rattle.vd_joint.specs.Emission.{right_takes_part, emission, block_emission};
+ghost use Rattle.vd_choreography.specs.Emission.{right_takes_part, emission, block_emission};
 ghost use Rattle.vd_split.specs.Places.{all_takers, takers};
 
 use crate::protocols::Protocols;
 use std::alloc::AllocError;
 use vd_base::{HostId, Proto, SlotId, is_holder, proto_of};
+use vd_base_lists::Items;
 use vd_core::{Right, Stmt};
 use vd_duet::Duet;
-use vd_items::Items;
 
 /// Whether some slot stands at a host.
 fn any_stands_at(protos: &[Proto], slots: &[SlotId], host: HostId) -> bool

@@ -5,13 +5,13 @@ use Rattle.std.specs.List.{AllByRecursion}
 use Rattle.std.proofs.lemmas.List.{append-nil}
 use Rattle.std.proofs.lemmas.List.Elements.{All-from_recursion, recursion_from_All}
 use Rattle.vd_base.specs.Limits.{most_hosts, most_deal_items}
-use Rattle.vd_bytes.specs.Reading.{◌>>=◌, literal_at, field}
-use Rattle.vd_bytes.specs.Exact.{IsAnything, IsExact, IsExactWhole, StopsAt}
-use Rattle.vd_bytes.proofs.Parts.{done_exact, literal_exact, Picks, then_exact, AreEach, exact_as, exact_for}
-use Rattle.vd_bytes.proofs.Whole.{whole_exact, stops_single}
-use Rattle.vd_deals.specs.declared.deal.Deal.{Deal}
+use Rattle.vd_base_codec.specs.Reading.{◌>>=◌, literal_at, field}
+use Rattle.vd_base_codec.specs.Exact.{IsAnything, IsExact, IsExactWhole, StopsAt}
+use Rattle.vd_base_codec.proofs.Parts.{done_exact, literal_exact, Picks, then_exact, AreEach, exact_as, exact_for}
+use Rattle.vd_base_codec.proofs.Whole.{whole_exact, stops_single}
+use Rattle.vd_deal_items.specs.declared.deal.Deal.{Deal}
 use Rattle.vd_base.specs.Words.{IsWord}
-use Rattle.vd_deals.specs.Validity.{AreTripleWords, ArePairWords, AreWithin}
+use Rattle.vd_deal_items.specs.Validity.{AreTripleWords, ArePairWords, AreWithin}
 use Rattle.vd_tape.specs.declared.reading.Shares.{Shares}
 use Rattle.vd_tape.specs.Text.{list_text, shares_text, deal_text, IsDealOf, IsFileOf, IsDealText}
 use Rattle.vd_tape.specs.Outcome.{DealsFollowGrammar}

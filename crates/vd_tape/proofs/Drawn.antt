@@ -2,11 +2,11 @@
 use Rattle.std.proofs.Common.{◌≡◌, ℕ, ◌+◌, ◌*◌, ◌-◌, List, [], ◌∷◌, ◌++◌, sym, ap, ◌∙◌, arith}
 use Rattle.std.proofs.lemmas.List.FromFn.{map-range_with_len_more}
 use Rattle.rand_chacha.specs.ChaCha.{ChaCha, word_at}
-use Rattle.vd_deals.specs.declared.items.Triple.{Triple}
-use Rattle.vd_deals.specs.declared.items.PairItem.{PairItem}
-use Rattle.vd_deals.specs.declared.deal.Deal.{Deal}
-use Rattle.vd_deals.specs.declared.deal.Counts.{Counts}
-use Rattle.vd_deals.specs.Validity.{peer_at}
+use Rattle.vd_deal_items.specs.declared.items.Triple.{Triple}
+use Rattle.vd_deal_items.specs.declared.items.PairItem.{PairItem}
+use Rattle.vd_deal_items.specs.declared.deal.Deal.{Deal}
+use Rattle.vd_deal_items.specs.declared.deal.Counts.{Counts}
+use Rattle.vd_deal_items.specs.Validity.{peer_at}
 use Rattle.vd_tape.specs.Made.{cipher_key, keyed_word, words_from, first_of, mul_item, and_item, pair_item, keyed_deal}
 use Rattle.vd_tape.specs.Generator.{IsAt, stands_at, words_at}
 

@@ -3,14 +3,14 @@ use Rattle.std.proofs.Common.{◌≡◌, ℕ, zero, suc, ◌≤◌, List, [], �
 use Rattle.std.specs.List.{flat_map, AllByRecursion}
 use Rattle.std.proofs.lemmas.List.{append-nil}
 use Rattle.vd_base.specs.Limits.{most_deal_items}
-use Rattle.vd_bytes.specs.Reading.{Reading, ◌>>=◌, byte_at, field_at, each_at, field}
-use Rattle.vd_bytes.specs.Exact.{IsBreak, IsAnything, IsExact}
-use Rattle.vd_bytes.proofs.Parts.{done_exact, byte_exact, Picks, then_exact, AreEach, break_each, each_exact, exact_for}
-use Rattle.vd_bytes.proofs.Numbers.{AtMost, field_exact}
-use Rattle.vd_deals.specs.declared.items.Triple.{Triple}
-use Rattle.vd_deals.specs.declared.items.PairItem.{PairItem}
+use Rattle.vd_base_codec.specs.Reading.{Reading, ◌>>=◌, byte_at, field_at, each_at, field}
+use Rattle.vd_base_codec.specs.Exact.{IsBreak, IsAnything, IsExact}
+use Rattle.vd_base_codec.proofs.Parts.{done_exact, byte_exact, Picks, then_exact, AreEach, break_each, each_exact, exact_for}
+use Rattle.vd_base_codec.proofs.Numbers.{AtMost, field_exact}
+use Rattle.vd_deal_items.specs.declared.items.Triple.{Triple}
+use Rattle.vd_deal_items.specs.declared.items.PairItem.{PairItem}
 use Rattle.vd_base.specs.Words.{IsWord}
-use Rattle.vd_deals.specs.Validity.{AreTripleWords, ArePairWords}
+use Rattle.vd_deal_items.specs.Validity.{AreTripleWords, ArePairWords}
 use Rattle.vd_tape.specs.Text.{triple_text, pair_text, list_text}
 use Rattle.vd_tape.specs.Reading.{word_at, triple_at, pair_at, list_at}
 

@@ -1,10 +1,10 @@
 -- What the reader answers, by the grammar.
 use Rattle.std.proofs.Common.{◌≡◌, ℕ, ◌≤◌, List, length, Result, Ok, Err, refl, sym, ap, ◌∙◌}
 use Rattle.std.specs.Prelude.{◌↔◌, IfOk, IfErr}
-use Rattle.vd_bytes.specs.Reading.{capped, to_the_end}
-use Rattle.vd_bytes.specs.Exact.{IsAnything}
-use Rattle.vd_bytes.proofs.Whole.{stops_single, left_within}
-use Rattle.vd_deals.specs.declared.deal.Deal.{Deal}
+use Rattle.vd_base_codec.specs.Reading.{capped, to_the_end}
+use Rattle.vd_base_codec.specs.Exact.{IsAnything}
+use Rattle.vd_base_codec.proofs.Whole.{stops_single, left_within}
+use Rattle.vd_deal_items.specs.declared.deal.Deal.{Deal}
 use Rattle.vd_base.specs.declared.faults.FileFault.{FileFault}
 use Rattle.vd_base.specs.declared.faults.FileFault.TheVariants.{Text, Memory}
 use Rattle.vd_tape.specs.Text.{deal_text, IsDealText, IsDealOf}

@@ -1,12 +1,12 @@
 -- Reading the lines of peers one after the other, as a loop does.
 use Rattle.std.proofs.Common.{◌≡◌, ℕ, suc, ◌+◌, ◌-◌, ◌<◌, ◌≤◌, List, [], ◌∷◌, ◌++◌, Ok, Err, refl, sym, ap, ◌∙◌, append_assoc, arith}
 use Rattle.std.proofs.lemmas.List.{append-nil}
-use Rattle.vd_bytes.specs.Reading.{Reading, ◌>>=◌, StopsOrMemory}
-use Rattle.vd_bytes.specs.declared.fault.ReadFault.{ReadFault}
-use Rattle.vd_bytes.specs.declared.fault.ReadFault.TheVariants as fault
-use Rattle.vd_deals.specs.Validity.{peer_at}
-use Rattle.vd_deals.specs.declared.items.Triple.{Triple}
-use Rattle.vd_deals.specs.declared.items.PairItem.{PairItem}
+use Rattle.vd_base_codec.specs.Reading.{Reading, ◌>>=◌, StopsOrMemory}
+use Rattle.vd_base_codec.specs.declared.fault.ReadFault.{ReadFault}
+use Rattle.vd_base_codec.specs.declared.fault.ReadFault.TheVariants as fault
+use Rattle.vd_deal_items.specs.Validity.{peer_at}
+use Rattle.vd_deal_items.specs.declared.items.Triple.{Triple}
+use Rattle.vd_deal_items.specs.declared.items.PairItem.{PairItem}
 use Rattle.vd_tape.specs.declared.reading.Share.{Share}
 use Rattle.vd_tape.specs.declared.reading.Shares.{Shares}
 use Rattle.vd_tape.specs.Reading.{share_at, shares_at, with_share, no_shares}

@@ -2,14 +2,14 @@
 use Rattle.std.proofs.Common.{◌≡◌, ℕ, zero, suc, ◌+◌, List, [], ◌∷◌, ◌++◌, length, Ok, inl, refl, sym, ap, ◌∙◌, arith}
 use Rattle.std.specs.Prelude.{codes}
 use Rattle.std.proofs.lemmas.List.{append-nil}
-use Rattle.vd_bytes.specs.Reading.{Reading, ◌>>=◌, literal_at, field}
-use Rattle.vd_bytes.specs.Exact.{IsAnything, IsExact}
-use Rattle.vd_bytes.proofs.Parts.{bind_assoc, done_exact, literal_exact, Picks, then_exact, AreEach, head_or, tail, same_cons, exact_as}
-use Rattle.vd_deals.specs.declared.items.Triple.{Triple}
-use Rattle.vd_deals.specs.declared.items.PairItem.{PairItem}
-use Rattle.vd_deals.specs.Identities.{zero_triple, zero_pair}
+use Rattle.vd_base_codec.specs.Reading.{Reading, ◌>>=◌, literal_at, field}
+use Rattle.vd_base_codec.specs.Exact.{IsAnything, IsExact}
+use Rattle.vd_base_codec.proofs.Parts.{bind_assoc, done_exact, literal_exact, Picks, then_exact, AreEach, head_or, tail, same_cons, exact_as}
+use Rattle.vd_deal_items.specs.declared.items.Triple.{Triple}
+use Rattle.vd_deal_items.specs.declared.items.PairItem.{PairItem}
+use Rattle.vd_deal_items.specs.Identities.{zero_triple, zero_pair}
 use Rattle.vd_base.specs.Words.{IsWord}
-use Rattle.vd_deals.specs.Validity.{AreTripleWords, ArePairWords, peer_at}
+use Rattle.vd_deal_items.specs.Validity.{AreTripleWords, ArePairWords, peer_at}
 use Rattle.vd_tape.specs.declared.reading.Share.{Share}
 use Rattle.vd_tape.specs.declared.reading.Shares.{Shares}
 use Rattle.vd_tape.specs.Text.{triple_text, pair_text, list_text, share_text, shares_text}

@@ -1,8 +1,8 @@
 -- What the bytes of a deal file come to: its deal, or the first offset at which they go on as no deal file does.
 use Rattle.std.specs.Prelude.{◌≡◌, ◌≢◌, ◌↔◌, ℕ, List, Result, Ok, Err}
-use Rattle.vd_bytes.specs.Reading.{capped}
-use Rattle.vd_bytes.specs.Exact.{StopsAt}
-use Rattle.vd_deals.specs.declared.deal.Deal.{Deal}
+use Rattle.vd_base_codec.specs.Reading.{capped}
+use Rattle.vd_base_codec.specs.Exact.{StopsAt}
+use Rattle.vd_deal_items.specs.declared.deal.Deal.{Deal}
 use Rattle.vd_base.specs.declared.faults.FileFault.{FileFault}
 use Rattle.vd_base.specs.declared.faults.FileFault.TheVariants.{Text, Memory}
 use Rattle.vd_tape.specs.Text.{IsFileOf, IsDealText}

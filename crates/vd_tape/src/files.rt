@@ -9,8 +9,8 @@ ghost use Rattle.vd_tape.specs.Outcome.{Accepts, Refuses, IsFaultOf};
 use crate::reading::read_file;
 use std::alloc::Global;
 use vd_base::{FileFault, HostId};
-use vd_bytes::{Cursor, ReadFault, offset};
-use vd_deals::Deal;
+use vd_base_codec::{Cursor, ReadFault, offset};
+use vd_deal_items::Deal;
 
 /// The deal of one host among so many, from its file.
 ///

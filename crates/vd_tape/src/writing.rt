@@ -1,15 +1,15 @@
 //! The writer of deal files.
 
 ghost use Rattle.std.specs.Prelude.{◌≡◌, ◌<◌, ◌++◌, IfOk, OnOk};
-ghost use Rattle.vd_bytes.specs.Reading.{field};
-ghost use Rattle.vd_deals.specs.Validity.{peer_at};
+ghost use Rattle.vd_base_codec.specs.Reading.{field};
+ghost use Rattle.vd_deal_items.specs.Validity.{peer_at};
 ghost use Rattle.vd_tape.specs.Text.{list_text, share_text, shares_text, deal_text};
 
 use crate::item::Item;
 use std::alloc::{AllocError, Global};
 use vd_base::Bytes;
-use vd_bytes::push_field;
-use vd_deals::{Deal, PairItem, Triple};
+use vd_base_codec::push_field;
+use vd_deal_items::{Deal, PairItem, Triple};
 
 /// The one text of a deal.
 pub fn write_deal(alloc: Global, deal: &Deal) -> Result<Bytes, AllocError>

@@ -2,28 +2,28 @@
 use Rattle.std.proofs.Common.{◌≡◌, ℕ, true, IsTrue, List, ◌++◌, Option, Some, None, refl, sym, ap, ◌∙◌, subst}
 use Rattle.vd_outside.specs.Files.{Contents, FilesView}
 use Rattle.vd_outside.specs.Sink.{SinkView}
-use Rattle.vd_deals.specs.declared.deal.Counts.{Counts}
+use Rattle.vd_deal_items.specs.declared.deal.Counts.{Counts}
 use Rattle.vd_cmd.specs.Commands.{KeepsLimits, form_of}
 use Rattle.vd_cmd.specs.declared.command.Command.{Command}
 use Rattle.vd_cmd.specs.declared.command.Command.TheVariants.{OnFiles}
 use Rattle.vd_cmd.specs.declared.command.FilesCommand.{FilesCommand}
 use Rattle.vd_cmd.specs.declared.command.FilesCommand.TheVariants.{Certify, Choose, Compile, Deal, Draw, Hasten, Labels}
-use Rattle.vd_plan.specs.Deliver.{stored}
-use Rattle.vd_plan.specs.Plans.{answer_then}
-use Rattle.vd_plan.specs.declared.answer.Answer.{Answer}
-use Rattle.vd_plan.specs.declared.status.Status.{Status}
-use Rattle.vd_plan.specs.declared.status.Status.TheVariants.{Ended}
-use Rattle.vd_dealing.specs.Dealing.{deal_answer, deal_plan}
-use Rattle.vd_answers.specs.Answers.{TellsChoice, TellsCompiled, TellsLabels, TellsProof}
-use Rattle.vd_answers.proofs.Choices.{choices_tell}
-use Rattle.vd_answers.proofs.Compiled.{compiled_tell}
-use Rattle.vd_answers.proofs.Labels.{labels_tell}
-use Rattle.vd_answers.proofs.Proofs.{proofs_tell}
-use Rattle.vd_dealt_files.specs.Dealt.{TellsDeal}
-use Rattle.vd_dealt_files.proofs.Taken.{deals_tell}
-use Rattle.vd_draw_command.proofs.Telling.{drawings_tell}
-use Rattle.vd_hasten_command.proofs.Told.{hastens_tell}
-use Rattle.vd_hasten_command.specs.Telling.{TellsHastened}
+use Rattle.vd_cmd_plan.specs.Deliver.{stored}
+use Rattle.vd_cmd_plan.specs.Plans.{answer_then}
+use Rattle.vd_cmd_plan.specs.declared.answer.Answer.{Answer}
+use Rattle.vd_cmd_plan.specs.declared.status.Status.{Status}
+use Rattle.vd_cmd_plan.specs.declared.status.Status.TheVariants.{Ended}
+use Rattle.vd_cmd_deal.specs.Dealing.{deal_answer, deal_plan}
+use Rattle.vd_cmd_answers.specs.Answers.{TellsChoice, TellsCompiled, TellsLabels, TellsProof}
+use Rattle.vd_cmd_answers.proofs.Choices.{choices_tell}
+use Rattle.vd_cmd_answers.proofs.Compiled.{compiled_tell}
+use Rattle.vd_cmd_answers.proofs.Labels.{labels_tell}
+use Rattle.vd_cmd_answers.proofs.Proofs.{proofs_tell}
+use Rattle.vd_cmd_deal_laws.specs.Dealt.{TellsDeal}
+use Rattle.vd_cmd_deal_laws.proofs.Taken.{deals_tell}
+use Rattle.vd_cmd_draw.proofs.Telling.{drawings_tell}
+use Rattle.vd_cmd_hasten.proofs.Told.{hastens_tell}
+use Rattle.vd_cmd_hasten.specs.Telling.{TellsHastened}
 use Rattle.vd_top.specs.Answers.{Adds, AreWithinLimits, KeepsChoice, KeepsCompiled, KeepsDeal, KeepsDrawing, KeepsHastened, KeepsLabels, KeepsProof}
 use Rattle.vd_top.specs.Commands.{RunsForm, RunsWords, plan_of, search_of}
 use Rattle.vd_top.proofs.Words.{are_counts, some_outcomes}

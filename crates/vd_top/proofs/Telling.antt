@@ -1,28 +1,28 @@
 -- What holds of a command holds of the words that are its form.
 use Rattle.std.proofs.Common.{◌≡◌, ℕ, List, [], Option, Some, None, Err, true, false, refl, sym, ap, subst, ◌∙◌, arith}
 use Rattle.vd_outside.specs.Files.{FilesView}
-use Rattle.vd_marks.specs.Marks.{MarksView}
+use Rattle.vd_outside_marks.specs.Marks.{MarksView}
 use Rattle.vd_outside.specs.Sink.{SinkView}
 use Rattle.vd_outside.specs.Spawner.{SpawnerView}
 use Rattle.vd_cmd.specs.Commands.{form_of}
 use Rattle.vd_cmd.specs.declared.command.Command.{Command}
 use Rattle.vd_cmd.specs.declared.command.Command.TheVariants.{OnFiles, KeyDeal, Early, Host, Run}
 use Rattle.vd_cmd.specs.declared.command.FilesCommand.TheVariants.{Depends, Influences, Needs, Replay, Trial}
-use Rattle.vd_plan.specs.Plans.{Executes, fetch_calls}
-use Rattle.vd_plan.specs.declared.status.Status.{Status}
-use Rattle.vd_plan.specs.declared.status.Status.TheVariants.{Ended, Memory, Usage}
-use Rattle.vd_plan.proofs.Fronts.{same_within}
-use Rattle.vd_plan.proofs.InSteps.{any_memory}
-use Rattle.vd_plan.proofs.WholeRuns.{runs_err}
-use Rattle.vd_selecting.specs.Searching.{GaveUp, searched_by}
+use Rattle.vd_cmd_plan.specs.Plans.{Executes, fetch_calls}
+use Rattle.vd_cmd_plan.specs.declared.status.Status.{Status}
+use Rattle.vd_cmd_plan.specs.declared.status.Status.TheVariants.{Ended, Memory, Usage}
+use Rattle.vd_cmd_plan.proofs.Fronts.{same_within}
+use Rattle.vd_cmd_plan.proofs.InSteps.{any_memory}
+use Rattle.vd_cmd_plan.proofs.WholeRuns.{runs_err}
+use Rattle.vd_cmd_choose.specs.Searching.{GaveUp, searched_by}
 use Rattle.vd_execution.specs.Joint.{Done}
-use Rattle.vd_early_command.specs.Compiling.{early_plan}
-use Rattle.vd_host_command.specs.Hosts.{HostRuns, Marked, NetsView, NotLoaded, Plainly}
-use Rattle.vd_host_command.proofs.Marked.{used_once}
-use Rattle.vd_key_dealing.specs.Sources.{FromFile, NoMemory, RunsKeyDeal, file_plan}
-use Rattle.vd_host_command.specs.Loading.{OfProgram, files_of}
-use Rattle.vd_running.specs.Running.{Refused}
-use Rattle.vd_running.specs.RunsHosts.{outside}
+use Rattle.vd_cmd_compile_early.specs.Compiling.{early_plan}
+use Rattle.vd_cmd_host.specs.Hosts.{HostRuns, Marked, NetsView, NotLoaded, Plainly}
+use Rattle.vd_cmd_host.proofs.Marked.{used_once}
+use Rattle.vd_cmd_deal_keyed.specs.Sources.{FromFile, NoMemory, RunsKeyDeal, file_plan}
+use Rattle.vd_cmd_host.specs.Loading.{OfProgram, files_of}
+use Rattle.vd_cmd_run.specs.Running.{Refused}
+use Rattle.vd_cmd_run.specs.RunsHosts.{outside}
 use Rattle.vd_cmd.specs.declared.command.HostWords.{HostWords}
 use Rattle.vd_cmd.specs.declared.command.KeyDealWords.{KeyDealWords}
 use Rattle.vd_cmd.specs.declared.command.KeySource.{KeySource}
@@ -32,8 +32,8 @@ use Rattle.vd_top.specs.Commands.{RunsForm, plan_of, search_of, usage_plan}
 use Rattle.vd_top.specs.Counts.{CountedForm, KeepsCount}
 use Rattle.vd_top.specs.Early.{EarlyForm}
 use Rattle.vd_top.specs.Headline.{KeepsTrial, KeepsDependence, KeepsHeadline, KeepsInfluence, KeepsNeeds, ShowsForm}
-use Rattle.vd_running.proofs.Holding.{complete}
-use Rattle.vd_serving.proofs.Serving.{plain_served, served}
+use Rattle.vd_cmd_run.proofs.Holding.{complete}
+use Rattle.vd_cmd_host_laws.proofs.Serving.{plain_served, served}
 use Rattle.vd_top.specs.Hosts.{KeysForm, MarksForm, PlaysForm, ReportsForm, ServesForm, SpawnsForm, marks_by, speaks_by, spawns_by}
 
 -- what is shown by the form is what is said of the words

@@ -3,14 +3,14 @@ use Rattle.std.proofs.Common.{◌≡◌, ℕ, true, IsTrue, List, [], ◌∷◌,
 use Rattle.vd_outside.specs.Files.{FilesView}
 use Rattle.vd_outside.specs.Sink.{SinkView}
 use Rattle.vd_outside.specs.declared.files.FilesCall.TheVariants.{Fetch}
-use Rattle.vd_plan.specs.Deliver.{store_calls}
-use Rattle.vd_plan.specs.Plans.{Computes, GrowsWithin, IsLast, IsProper, only, refused}
-use Rattle.vd_plan.specs.Runs.{Finishes, IsAnswered, Runs}
-use Rattle.vd_plan.specs.declared.answer.Answer.{Answer}
-use Rattle.vd_plan.specs.declared.status.Status.{Status}
-use Rattle.vd_plan.specs.declared.status.Status.TheVariants.{Memory, ReadFault, WriteFault}
-use Rattle.vd_plan.proofs.Steps.{computes}
-use Rattle.vd_trial.specs.Telling.{AnswersTrial, EndsTrial}
+use Rattle.vd_cmd_plan.specs.Deliver.{store_calls}
+use Rattle.vd_cmd_plan.specs.Plans.{Computes, GrowsWithin, IsLast, IsProper, only, refused}
+use Rattle.vd_cmd_plan.specs.Runs.{Finishes, IsAnswered, Runs}
+use Rattle.vd_cmd_plan.specs.declared.answer.Answer.{Answer}
+use Rattle.vd_cmd_plan.specs.declared.status.Status.{Status}
+use Rattle.vd_cmd_plan.specs.declared.status.Status.TheVariants.{Memory, ReadFault, WriteFault}
+use Rattle.vd_cmd_plan.proofs.Steps.{computes}
+use Rattle.vd_cmd_trial.specs.Telling.{AnswersTrial, EndsTrial}
 
 -- what grew by nothing has no last item that came
 none_last : {T : Type 0} (item : T) (before now wanted : List T) → wanted ≡ [] → GrowsWithin before now wanted → IsLast item before now → ⊥

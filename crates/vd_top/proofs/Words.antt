@@ -1,30 +1,30 @@
 -- What the functions that pick outcomes are, and the plans of commands beside one another.
 use Rattle.std.proofs.Common.{inl, Bool, Result, Ok, Err, IfOk}
 use Rattle.vd_outside.specs.Files.{Contents}
-use Rattle.vd_deals.specs.declared.deal.Counts.{Counts}
+use Rattle.vd_deal_items.specs.declared.deal.Counts.{Counts}
 use Rattle.vd_tape.specs.Made.{AreCounts}
 use Rattle.vd_cmd.specs.Commands.{AreWithin}
 use Rattle.vd_cmd.specs.declared.command.FilesCommand.{FilesCommand}
 use Rattle.vd_cmd.specs.declared.command.FilesCommand.TheVariants.{Choose, Draw, Compile, Excuse, Needs, Replay, Trial}
-use Rattle.vd_plan.specs.Plans.{IsProper, IsGiven}
-use Rattle.vd_plan.specs.declared.status.Status.{Status}
-use Rattle.vd_plan.specs.declared.answer.Answer.{Answer}
-use Rattle.vd_plan.proofs.Following.{Follows}
-use Rattle.vd_frontend.proofs.Reading.{some_texts, some_labels}
-use Rattle.vd_selection.proofs.Once.{some_choices}
-use Rattle.vd_selecting.specs.Searching.{Searched, sure_search}
-use Rattle.vd_selecting.proofs.Reading.{some_certificates}
-use Rattle.vd_selecting.proofs.Sure.{choose_follows}
-use Rattle.vd_compiling.proofs.Sure.{compile_follows}
-use Rattle.vd_draw_command.proofs.Sure.{draw_follows}
-use Rattle.vd_hasten_command.proofs.Existing.{some_reading}
-use Rattle.vd_needs_command.proofs.Existing.{some_programs}
-use Rattle.vd_needs_command.proofs.Sure.{needs_follows}
-use Rattle.vd_outcomes.proofs.Picked.{some_outcomes as some_replays}
-use Rattle.vd_replaying.proofs.Sure.{replay_follows}
-use Rattle.vd_excuse_command.proofs.Sure.{excuse_follows}
-use Rattle.vd_trial.proofs.Sure.{trial_follows}
-use Rattle.vd_depending.proofs.Existing.{some_dependences, some_influences}
+use Rattle.vd_cmd_plan.specs.Plans.{IsProper, IsGiven}
+use Rattle.vd_cmd_plan.specs.declared.status.Status.{Status}
+use Rattle.vd_cmd_plan.specs.declared.answer.Answer.{Answer}
+use Rattle.vd_cmd_plan.proofs.Following.{Follows}
+use Rattle.vd_cmd_frontend.proofs.Reading.{some_texts, some_labels}
+use Rattle.vd_search_stages.proofs.Once.{some_choices}
+use Rattle.vd_cmd_choose.specs.Searching.{Searched, sure_search}
+use Rattle.vd_cmd_choose.proofs.Reading.{some_certificates}
+use Rattle.vd_cmd_choose.proofs.Sure.{choose_follows}
+use Rattle.vd_cmd_compile.proofs.Sure.{compile_follows}
+use Rattle.vd_cmd_draw.proofs.Sure.{draw_follows}
+use Rattle.vd_cmd_hasten.proofs.Existing.{some_reading}
+use Rattle.vd_cmd_needs.proofs.Existing.{some_programs}
+use Rattle.vd_cmd_needs.proofs.Sure.{needs_follows}
+use Rattle.vd_report_outcomes.proofs.Picked.{some_outcomes as some_replays}
+use Rattle.vd_cmd_replay.proofs.Sure.{replay_follows}
+use Rattle.vd_cmd_excuse.proofs.Sure.{excuse_follows}
+use Rattle.vd_cmd_trial.proofs.Sure.{trial_follows}
+use Rattle.vd_cmd_depends.proofs.Existing.{some_dependences, some_influences}
 use Rattle.vd_top.specs.Commands.{Outcomes, plan_of, search_of}
 
 -- an answer of a proper result may be delivered

@@ -2,19 +2,19 @@
 use Rattle.std.specs.Prelude.{◌≡◌, ℕ, IsTrue, List, ◌++◌, Some}
 use Rattle.vd_outside.specs.Files.{FilesView}
 use Rattle.vd_outside.specs.Sink.{SinkView}
-use Rattle.vd_deals.specs.declared.deal.Counts.{Counts}
+use Rattle.vd_deal_items.specs.declared.deal.Counts.{Counts}
 use Rattle.vd_cmd.specs.Commands.{KeepsLimits, form_of}
 use Rattle.vd_cmd.specs.declared.command.Command.{Command}
 use Rattle.vd_cmd.specs.declared.command.Command.TheVariants.{KeyDeal, OnFiles}
 use Rattle.vd_cmd.specs.declared.command.KeyDealWords.{KeyDealWords}
 use Rattle.vd_cmd.specs.declared.command.FilesCommand.TheVariants.{Certify, Choose, Compile, Deal, Draw, Hasten, Labels}
-use Rattle.vd_plan.specs.declared.status.Status.{Status}
-use Rattle.vd_plan.specs.declared.status.Status.TheVariants.{Ended}
-use Rattle.vd_answers.specs.Answers.{TellsChoice, TellsCompiled, TellsLabels, TellsProof}
-use Rattle.vd_dealt_files.specs.Dealt.{TellsDeal}
-use Rattle.vd_dealt_files.specs.KeyedDealt.{TellsKeyed}
-use Rattle.vd_draw_command.specs.Telling.{TellsDrawing}
-use Rattle.vd_hasten_command.specs.Telling.{TellsHastened}
+use Rattle.vd_cmd_plan.specs.declared.status.Status.{Status}
+use Rattle.vd_cmd_plan.specs.declared.status.Status.TheVariants.{Ended}
+use Rattle.vd_cmd_answers.specs.Answers.{TellsChoice, TellsCompiled, TellsLabels, TellsProof}
+use Rattle.vd_cmd_deal_laws.specs.Dealt.{TellsDeal}
+use Rattle.vd_cmd_deal_laws.specs.KeyedDealt.{TellsKeyed}
+use Rattle.vd_cmd_draw.specs.Telling.{TellsDrawing}
+use Rattle.vd_cmd_hasten.specs.Telling.{TellsHastened}
 
 -- the bytes that were added to the output are told so
 pub record Adds (Tells : List ℕ → Type 0) (out_before out_now : SinkView) : Type 0 where

@@ -7,10 +7,10 @@ use Rattle.vd_cmd.specs.declared.command.Command.TheVariants.{OnFiles}
 use Rattle.vd_cmd.specs.declared.command.FilesCommand.{FilesCommand}
 use Rattle.vd_cmd.specs.declared.command.FilesCommand.TheVariants.{Replay}
 use Rattle.vd_cmd.specs.declared.command.ReplayWords.{ReplayWords}
-use Rattle.vd_plan.specs.declared.answer.Answer.{Answer}
-use Rattle.vd_plan.specs.declared.status.Status.{Status}
-use Rattle.vd_plan.specs.declared.status.Status.TheVariants.{Ended}
-use Rattle.vd_replaying.specs.Counting.{CountsReplay, IsReplayCount}
+use Rattle.vd_cmd_plan.specs.declared.answer.Answer.{Answer}
+use Rattle.vd_cmd_plan.specs.declared.status.Status.{Status}
+use Rattle.vd_cmd_plan.specs.declared.status.Status.TheVariants.{Ended}
+use Rattle.vd_cmd_replay.specs.Counting.{CountsReplay, IsReplayCount}
 
 -- Where the words are those of `replay`, and the files tell what they hold, a run with status 0 has counted the packets that the hosts
 -- of the source sent to one another in the run that was reported.

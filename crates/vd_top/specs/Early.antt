@@ -6,8 +6,8 @@ use Rattle.vd_cmd.specs.Commands.{form_of}
 use Rattle.vd_cmd.specs.declared.command.Command.{Command}
 use Rattle.vd_cmd.specs.declared.command.Command.TheVariants.{Early}
 use Rattle.vd_cmd.specs.declared.command.EarlyWords.{EarlyWords}
-use Rattle.vd_plan.specs.declared.status.Status.{Status}
-use Rattle.vd_early_command.specs.Running.{KeepsOrder, RunsEarly}
+use Rattle.vd_cmd_plan.specs.declared.status.Status.{Status}
+use Rattle.vd_cmd_compile_early.specs.Running.{KeepsOrder, RunsEarly}
 
 -- The whole of its plan is run, with some order; and where the files tell what they hold and it ends well, it has stored the programs of all
 -- hosts in an order that waits less.

@@ -12,18 +12,18 @@ use Rattle.vd_cmd.specs.declared.command.FilesCommand.TheVariants.{Compile, Depe
 use Rattle.vd_cmd.specs.declared.command.ExcuseWords.{ExcuseWords}
 use Rattle.vd_cmd.specs.declared.command.NeedsWords.{NeedsWords}
 use Rattle.vd_cmd.specs.declared.command.ReplayWords.{ReplayWords}
-use Rattle.vd_plan.specs.Deliver.{stored}
-use Rattle.vd_plan.specs.declared.answer.Answer.{Answer}
-use Rattle.vd_plan.specs.declared.status.Status.{Status}
-use Rattle.vd_plan.specs.declared.status.Status.TheVariants.{Ended, Memory}
-use Rattle.vd_compiling.specs.Telling.{TellsSource}
-use Rattle.vd_depending.specs.Telling.{IsDependenceOf, TellsDependence}
-use Rattle.vd_depending.specs.Influencing.{IsInfluenceOf, TellsInfluence}
-use Rattle.vd_excuse_command.specs.Telling.{IsExcuseBy, TellsExcuse}
-use Rattle.vd_needs_command.specs.Telling.{IsNeeds, TellsNeeds}
-use Rattle.vd_replaying.specs.Accepting.{IsAccepted}
-use Rattle.vd_replaying.specs.Telling.{IsHeadline, TellsHeadline}
-use Rattle.vd_trial.specs.Telling.{AnswersTrial, EndsTrial, IsTrial, TellsTrial}
+use Rattle.vd_cmd_plan.specs.Deliver.{stored}
+use Rattle.vd_cmd_plan.specs.declared.answer.Answer.{Answer}
+use Rattle.vd_cmd_plan.specs.declared.status.Status.{Status}
+use Rattle.vd_cmd_plan.specs.declared.status.Status.TheVariants.{Ended, Memory}
+use Rattle.vd_cmd_compile.specs.Telling.{TellsSource}
+use Rattle.vd_cmd_depends.specs.Telling.{IsDependenceOf, TellsDependence}
+use Rattle.vd_cmd_depends.specs.Influencing.{IsInfluenceOf, TellsInfluence}
+use Rattle.vd_cmd_excuse.specs.Telling.{IsExcuseBy, TellsExcuse}
+use Rattle.vd_cmd_needs.specs.Telling.{IsNeeds, TellsNeeds}
+use Rattle.vd_cmd_replay.specs.Accepting.{IsAccepted}
+use Rattle.vd_cmd_replay.specs.Telling.{IsHeadline, TellsHeadline}
+use Rattle.vd_cmd_trial.specs.Telling.{AnswersTrial, EndsTrial, IsTrial, TellsTrial}
 
 -- the bytes that were added are the report of which the headline speaks
 pub record PrintsHeadline (words : ReplayWords) (before : FilesView) (out_before out_now : SinkView) : Type 0 where

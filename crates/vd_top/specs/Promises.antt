@@ -1,14 +1,14 @@
 -- What is promised of the words of a command line.
 use Rattle.std.specs.Prelude.{◌≡◌, ℕ, List, Option, Some, None, false}
 use Rattle.vd_outside.specs.Files.{FilesView}
-use Rattle.vd_marks.specs.Marks.{MarksView}
+use Rattle.vd_outside_marks.specs.Marks.{MarksView}
 use Rattle.vd_outside.specs.Sink.{SinkView}
 use Rattle.vd_outside.specs.Spawner.{SpawnerView}
-use Rattle.vd_host_command.specs.Hosts.{NetsView}
+use Rattle.vd_cmd_host.specs.Hosts.{NetsView}
 use Rattle.vd_cmd.specs.Own.{own_text_of}
-use Rattle.vd_plan.specs.Lines.{Says, status_line}
-use Rattle.vd_plan.specs.Runs.{Prints}
-use Rattle.vd_plan.specs.declared.status.Status.{Status}
+use Rattle.vd_cmd_plan.specs.Lines.{Says, status_line}
+use Rattle.vd_cmd_plan.specs.Runs.{Prints}
+use Rattle.vd_cmd_plan.specs.declared.status.Status.{Status}
 use Rattle.vd_top.specs.Answers.{KeepsChoice, KeepsCompiled, KeepsDeal, KeepsDrawing, KeepsHastened, KeepsKeyed, KeepsLabels, KeepsProof}
 use Rattle.vd_top.specs.Compiled.{KeepsStored}
 use Rattle.vd_top.specs.Early.{EarlyByWords}

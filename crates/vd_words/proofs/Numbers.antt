@@ -1,7 +1,7 @@
 -- The worked numbers, computed.
 use Rattle.std.proofs.Common.{refl}
 use Rattle.vd_execution.specs.Registers.{put}
-use Rattle.vd_pairs.specs.PairCalls.{product_shares}
+use Rattle.vd_backend_sharing.specs.PairCalls.{product_shares}
 use Rattle.vd_words.specs.Example.{FiveIsShared, SevenTimesSix}
 
 pub five_is_shared : FiveIsShared

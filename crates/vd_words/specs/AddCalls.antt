@@ -7,8 +7,8 @@ use Rattle.vd_base.specs.Costs.{added_cost}
 use Rattle.vd_execution.specs.declared.instructions.Binary.TheVariants as binary
 use Rattle.vd_execution.specs.Gadgets.{BySums}
 use Rattle.vd_duet.specs.Calls.{Places, Made, Calls}
-use Rattle.vd_pairs.specs.declared.shares.Shares.{Shares}
-use Rattle.vd_pairs.specs.PairCalls.{two, operand, applied_shares, numbered_shares, product_shares, pair_calls}
+use Rattle.vd_backend_sharing.specs.declared.shares.Shares.{Shares}
+use Rattle.vd_backend_sharing.specs.PairCalls.{two, operand, applied_shares, numbered_shares, product_shares, pair_calls}
 
 -- the operations that the table of costs has at added parts
 abbrev pub add_serves : Op → Bool

@@ -2,16 +2,16 @@ ghost use Rattle.std.specs.Prelude.{◌≡◌, ◌∷◌, [], IfOk, OnOk};
 ghost use Rattle.vd_duet.specs.Builder.{HasRoom, TakesFew};
 ghost use Rattle.vd_duet.specs.Calls.{placed, all_placed, in_clear};
 ghost use Rattle.vd_execution.specs.Gadgets.{BySums};
-ghost use Rattle.vd_pairs.specs.PairCalls.{shares_of, operand, places_at};
-ghost use Rattle.vd_pairs.specs.declared.shares.Sharing.TheVariants as way;
+ghost use Rattle.vd_backend_sharing.specs.PairCalls.{shares_of, operand, places_at};
+ghost use Rattle.vd_backend_sharing.specs.declared.shares.Sharing.TheVariants as way;
 ghost use Rattle.vd_words.specs.AddCalls.{add_calls};
 
 use std::alloc::{AllocError, Global};
+use vd_backend_sharing::{Pair, Shares, Sharing};
 use vd_base::{HostId, Op, Proto};
+use vd_base_lists::Items;
 use vd_duet::{Args, Backend, Clear, Duet, Parts};
 use vd_execution::{Binary, Reg};
-use vd_items::Items;
-use vd_pairs::{Pair, Shares, Sharing};
 
 /// A host's part of a sum.
 #[derive(Clone, Copy, PartialEq, Eq, Debug)]

@@ -1,21 +1,21 @@
 -- What the program does, whatever objects it is given.
 use Rattle.std.specs.Prelude.{◌≡◌, ◌⊎◌, ℕ, List, Option, None, Some, Result}
 use Rattle.vd_outside.specs.Files.{Contents, FilesView}
-use Rattle.vd_marks.specs.Marks.{MarksView}
+use Rattle.vd_outside_marks.specs.Marks.{MarksView}
 use Rattle.vd_outside.specs.Sink.{SinkView}
 use Rattle.vd_outside.specs.Spawner.{SpawnerView}
 use Rattle.vd_cmd.specs.Commands.{form_of}
 use Rattle.vd_edge.specs.KeptFiles.{IsReadAhead}
-use Rattle.vd_host_command.specs.Hosts.{NetsView}
-use Rattle.vd_plan.specs.Lines.{Says, code_of, status_line}
-use Rattle.vd_plan.specs.declared.status.Status.{Status}
-use Rattle.vd_plan.specs.declared.status.Status.TheVariants.{Host, Memory}
-use Rattle.vd_plan.specs.declared.status.HostStatus.TheVariants.{EndOfLink, PeerFault}
-use Rattle.vd_remarks.specs.declared.fault.TellFault.{TellFault}
-use Rattle.vd_telling.specs.Saying.{SaysTo}
-use Rattle.vd_telling.specs.declared.telling.Destination.{Destination}
+use Rattle.vd_cmd_host.specs.Hosts.{NetsView}
+use Rattle.vd_cmd_plan.specs.Lines.{Says, code_of, status_line}
+use Rattle.vd_cmd_plan.specs.declared.status.Status.{Status}
+use Rattle.vd_cmd_plan.specs.declared.status.Status.TheVariants.{Host, Memory}
+use Rattle.vd_cmd_plan.specs.declared.status.HostStatus.TheVariants.{EndOfLink, PeerFault}
+use Rattle.vd_diag.specs.declared.fault.TellFault.{TellFault}
+use Rattle.vd_diag_terminal.specs.Saying.{SaysTo}
+use Rattle.vd_diag_terminal.specs.declared.telling.Destination.{Destination}
 use Rattle.vd_top.specs.Promises.{Around, Starts}
-use Rattle.vd_driver.specs.Ahead.{wanted_by}
+use Rattle.vd_cmd_driver.specs.Ahead.{wanted_by}
 
 -- the peer that a status names
 abbrev pub peer_of : Status → Option (List ℕ)

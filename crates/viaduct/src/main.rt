@@ -12,18 +12,18 @@ use std::os::unix::process::parent_id;
 use std::process::ExitCode;
 use std::{env, fs, io, process};
 use vd_base::{Bytes, Name, Texts};
-use vd_driver::{
+use vd_channel_net::SealedNet;
+use vd_cmd_driver::{
     host_numbered, speaker_of, tell_reason, text_of_first, text_of_packets, text_of_peer,
     text_of_seal, text_of_sent,
 };
+use vd_cmd_plan::Status;
+use vd_diag_terminal::Destination;
 use vd_edge::{
     KeptFiles, PeerReason, RealFiles, RealNet, RealSink, SystemDirectory, SystemSockets, Waits,
 };
-use vd_plan::Status;
-use vd_processes::{PARENT, REASONS, RealSpawner};
-use vd_real_marks::RealMarks;
-use vd_sealed_net::SealedNet;
-use vd_telling::Destination;
+use vd_edge_marks::RealMarks;
+use vd_edge_processes::{PARENT, REASONS, RealSpawner};
 
 /// The code of a deal that was used.
 const DEAL_USED: u8 = 33;

@@ -2,21 +2,21 @@
 
 ghost use Rattle.std.specs.Prelude.{◌≡◌, ◌≤◌, IfOk, drop, if◌then◌else◌, map, string_bytes};
 ghost use Rattle.std.specs.Process.{exit_status};
-ghost use Rattle.vd_host_command.specs.Hosts.{nets_of};
-ghost use Rattle.vd_plan.specs.Lines.{Says, code_of, status_line};
-ghost use Rattle.vd_telling.specs.declared.telling.Destination.TheVariants.{File, Terminal};
+ghost use Rattle.vd_cmd_host.specs.Hosts.{nets_of};
+ghost use Rattle.vd_cmd_plan.specs.Lines.{Says, code_of, status_line};
+ghost use Rattle.vd_diag_terminal.specs.declared.telling.Destination.TheVariants.{File, Terminal};
 ghost use Rattle.viaduct.specs.Program.{IsRun, RunsOver, peer_of};
 
 use std::alloc::{AllocError, Global};
 use std::process::ExitCode;
 use vd_base::{Name, Texts};
-use vd_driver::read_ahead;
+use vd_channel_net::SealedNet;
+use vd_cmd_driver::read_ahead;
+use vd_cmd_plan::{HostStatus, Status, tell};
+use vd_diag_terminal::{Destination, say_more};
 use vd_edge::{Directory, KeptFiles, RealFiles};
-use vd_marks::Marks;
 use vd_outside::{Files, Net, Sink, Spawner};
-use vd_plan::{HostStatus, Status, tell};
-use vd_sealed_net::SealedNet;
-use vd_telling::{Destination, say_more};
+use vd_outside_marks::Marks;
 use vd_top::start;
 
 /// Copies of texts.

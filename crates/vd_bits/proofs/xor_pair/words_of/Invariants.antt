@@ -1,5 +1,5 @@
 use Rattle.std.proofs.Common.{◌≡◌, map, take}
-use Rattle.vd_pairs.specs.PairCalls.{shares_of}
+use Rattle.vd_backend_sharing.specs.PairCalls.{shares_of}
 use Rattle.vd_bits.specs.BitParts.{all_parts_of}
 use Rattle.vd_bits.proofs.xor_pair.words_of.Given as goal
 

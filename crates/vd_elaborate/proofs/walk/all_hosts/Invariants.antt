@@ -1,5 +1,5 @@
 use Rattle.std.proofs.Common.{◌≡◌, take}
-use Rattle.vd_meaning.specs.SourceMeaning.{host_names}
+use Rattle.vd_semantics.specs.SourceMeaning.{host_names}
 use Rattle.vd_elaborate.proofs.walk.all_hosts.Given as goal
 
 abbrev pub invariant-loop-host : goal.invariant-loop-host

@@ -1,6 +1,6 @@
 use Rattle.std.proofs.Common.{ap, arith}
 use Rattle.vd_base.specs.Names.{place_of}
-use Rattle.vd_meaning.specs.SourceMeaning.{host_names}
+use Rattle.vd_semantics.specs.SourceMeaning.{host_names}
 use Rattle.vd_elaborate.proofs.Growth.{place_within, hosts_length}
 use Rattle.vd_elaborate.proofs.walk.host_of.Goals as goal
 

@@ -1,6 +1,6 @@
 use Rattle.std.proofs.Common.{refl, sym, subst, ℕ}
 use Rattle.vd_execution.specs.Ranges.{IsInRange}
-use Rattle.vd_hosting.specs.declared.task.Task.{Task}
+use Rattle.vd_host_session.specs.declared.task.Task.{Task}
 use Rattle.vd_host_start.proofs.Playing.{program_plays}
 use Rattle.vd_host_start.proofs.starting.start.Goals as goal
 

@@ -1,5 +1,5 @@
 use Rattle.std.proofs.Common.{◌≡◌, ◌++◌, take, flat_map, map}
-use Rattle.vd_bytes.specs.Reading.{field}
+use Rattle.vd_base_codec.specs.Reading.{field}
 use Rattle.vd_host_text.proofs.writing.push_registers.Given as goal
 
 abbrev pub invariant-loop-register : goal.invariant-loop-register

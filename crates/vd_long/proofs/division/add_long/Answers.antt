@@ -1,7 +1,7 @@
 use Rattle.std.proofs.Common.{◌≡◌, OnOk, sym, ap, ◌∙◌, subst}
 use Rattle.vd_long.specs.declared.division.Division.{Division}
 use Rattle.vd_long.specs.declared.division.Division.TheVariants.{Quotient, Remainder}
-use Rattle.vd_rewriting.specs.Rewriting.{Made}
+use Rattle.vd_rewrite.specs.Rewriting.{Made}
 use Rattle.vd_long.specs.Divisions.{long_of}
 use Rattle.vd_long.proofs.Placing.{placed_division}
 use Rattle.vd_long.proofs.division.add_long.Goals as goal

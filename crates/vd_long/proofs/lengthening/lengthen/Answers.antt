@@ -5,7 +5,7 @@ use Rattle.vd_core.specs.declared.normal.Stmt.{Stmt}
 use Rattle.std.specs.Prelude.{nat_le}
 use Rattle.vd_base.specs.Limits.{most_nesting}
 use Rattle.vd_core.specs.Facts.{IsWellMade, nesting}
-use Rattle.vd_rewriting.specs.Rewriting.{marked, with_made}
+use Rattle.vd_rewrite.specs.Rewriting.{marked, with_made}
 use Rattle.vd_long.proofs.LongProgram.{not_changed, anew, large_is_old, unfit_is_old, deep_is_old, fit_is_new}
 use Rattle.vd_long.proofs.DivisionWellMade.{lengthened_well_made}
 use Rattle.vd_long.proofs.lengthening.lengthen.Goals as goal

@@ -1,5 +1,5 @@
 use Rattle.std.proofs.Common.{Bool, List, IfOk, ◌∙◌, subst}
-use Rattle.vd_rewriting.specs.Rewriting.{marked}
+use Rattle.vd_rewrite.specs.Rewriting.{marked}
 use Rattle.vd_long.specs.Lengthened.{IsLengthened}
 use Rattle.vd_long.proofs.marks.lengthen_labelled.Goals as goal
 

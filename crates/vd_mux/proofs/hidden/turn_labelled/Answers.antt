@@ -1,6 +1,6 @@
 use Rattle.std.proofs.Common.{◌≡◌, Bool, List, IfOk, ◌∙◌, subst}
 use Rattle.vd_mux.specs.Selections.{IsTurned}
-use Rattle.vd_rewriting.specs.Rewriting.{marked}
+use Rattle.vd_rewrite.specs.Rewriting.{marked}
 use Rattle.vd_mux.proofs.hidden.turn_labelled.Goals as goal
 
 pub returns : goal.returns

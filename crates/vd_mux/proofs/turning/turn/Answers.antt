@@ -3,8 +3,8 @@ use Rattle.vd_core.specs.declared.normal.NormalForm.{NormalForm}
 use Rattle.vd_core.specs.declared.normal.Slot.{Slot}
 use Rattle.vd_core.specs.declared.normal.Stmt.{Stmt}
 use Rattle.vd_core.specs.Facts.{IsWellMade}
-use Rattle.vd_rewriting.specs.Rewriting.{with_made}
-use Rattle.vd_rewriting.specs.Rewriting.{marked}
+use Rattle.vd_rewrite.specs.Rewriting.{with_made}
+use Rattle.vd_rewrite.specs.Rewriting.{marked}
 use Rattle.vd_mux.proofs.Turned.{boolean_if, kept_is, not_changed, anew, large_is_old, unfit_is_old, fit_is_new}
 use Rattle.vd_mux.proofs.SelectionsWellMade.{turned_well_made}
 use Rattle.vd_mux.proofs.turning.turn.Goals as goal

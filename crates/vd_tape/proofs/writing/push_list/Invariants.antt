@@ -1,5 +1,5 @@
 use Rattle.std.proofs.Common.{◌≡◌, ◌++◌, take, length, flat_map}
-use Rattle.vd_bytes.specs.Reading.{field}
+use Rattle.vd_base_codec.specs.Reading.{field}
 use Rattle.vd_tape.proofs.writing.push_list.Given as goal
 
 abbrev pub invariant-loop-item : goal.invariant-loop-item

@@ -1,7 +1,7 @@
 use Rattle.std.proofs.Common.{refl}
 use Rattle.vd_cmd.specs.Commands.{form_of}
-use Rattle.vd_host_command.specs.Hosts.{nets_of}
-use Rattle.vd_plan.specs.declared.status.Status.TheVariants.{Memory, Usage}
+use Rattle.vd_cmd_host.specs.Hosts.{nets_of}
+use Rattle.vd_cmd_plan.specs.declared.status.Status.TheVariants.{Memory, Usage}
 use Rattle.vd_top.proofs.Answering.{within_limits}
 use Rattle.vd_top.proofs.Compiling.{stores_by, stores_nothing}
 use Rattle.vd_top.proofs.Telling.{childless_by, counts_by, counts_nothing, early_by, early_nothing, early_refused, keys_by, keys_nothing, keys_refused, marked_all, marked_by, plays_by, plays_nothing, plays_refused, runs_by, runs_nothing, runs_refused, shows_by, shows_nothing, shows_refused, silent_by, spawns_as, spawns_nothing, spawns_refused, unmarked_by}

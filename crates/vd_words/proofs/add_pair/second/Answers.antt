@@ -2,7 +2,7 @@ use Rattle.std.proofs.Common.{◌≡◌, ℕ, suc, ◌<◌, List, [], ◌∷◌,
 use Rattle.vd_base.specs.declared.ids.HostId.{HostId}
 use Rattle.vd_execution.specs.declared.instructions.Reg.{Reg}
 use Rattle.vd_duet.specs.Calls.{all_placed}
-use Rattle.vd_pairs.specs.PairCalls.{two, operand}
+use Rattle.vd_backend_sharing.specs.PairCalls.{two, operand}
 use Rattle.vd_words.specs.declared.add_pair.AddShare.{AddShare}
 use Rattle.vd_words.proofs.add_pair.second.Goals as goal
 

@@ -2,7 +2,7 @@ use Rattle.std.proofs.lemmas.Result.{err_from_is_err_and}
 use Rattle.std.proofs.Common.{List, sym, subst}
 use Rattle.vd_long.specs.declared.steps.Step.{Step}
 use Rattle.vd_long.specs.Steps.{steps_in}
-use Rattle.vd_rewriting.specs.Stops.{IsTooLarge}
+use Rattle.vd_rewrite.specs.Stops.{IsTooLarge}
 use Rattle.vd_long.proofs.StepsGrow.{first_stops}
 use Rattle.vd_long.proofs.steps.Place.+steps.Goals as goal
 

@@ -1,5 +1,5 @@
 use Rattle.std.proofs.Common.{◌≡◌, drop}
-use Rattle.vd_rewriting.specs.Rewriting.{all_pure}
+use Rattle.vd_rewrite.specs.Rewriting.{all_pure}
 use Rattle.vd_mux.specs.Walks.{as_rewritings}
 use Rattle.vd_mux.proofs.walk.Walk.+pure.Given as goal
 

@@ -1,6 +1,6 @@
 use Rattle.std.proofs.Common.{sym, ap, ◌∙◌, refl}
 use Rattle.std.proofs.lemmas.Result.{err_from_is_err_and}
-use Rattle.vd_lexer.specs.declared.token.TokenKind.TheVariants as kind
+use Rattle.vd_source_lexer.specs.declared.token.TokenKind.TheVariants as kind
 use Rattle.vd_parser.specs.Language.{ATOM, EXPR, SHIFT, UNARY, named_rule, other_atom_rule, word_atom_rule}
 use Rattle.vd_parser.specs.Syntax.{atom_of, named_of, other_atom_of, word_atom_of}
 use Rattle.vd_parser.specs.Levels.{comparison_at, direction_at, infix_at}

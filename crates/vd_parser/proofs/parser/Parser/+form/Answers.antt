@@ -1,6 +1,6 @@
 use Rattle.std.proofs.Common.{sym, ◌∙◌, refl}
 use Rattle.std.proofs.lemmas.Result.{err_from_is_err_and}
-use Rattle.vd_lexer.specs.declared.token.TokenKind.TheVariants as kind
+use Rattle.vd_source_lexer.specs.declared.token.TokenKind.TheVariants as kind
 use Rattle.vd_parser.specs.Language.{CONJ, FATOM, FORM}
 use Rattle.vd_parser.proofs.Steps.{collects_first, end_after, into_left, into_right, last, more_after, next, refused_first, refused_last, rule_start, start, stop_after}
 use Rattle.vd_parser.proofs.Meanings.{conj_is, conjs_more, conjs_none, fatom_any, fatom_form, fatom_name, fatom_none, fatoms_more, fatoms_none, form_is}

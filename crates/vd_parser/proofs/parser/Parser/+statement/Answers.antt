@@ -1,6 +1,6 @@
 use Rattle.std.proofs.Common.{sym, ap, ◌∙◌, refl}
 use Rattle.std.proofs.lemmas.Result.{err_from_is_err_and}
-use Rattle.vd_lexer.specs.declared.token.TokenKind.TheVariants as kind
+use Rattle.vd_source_lexer.specs.declared.token.TokenKind.TheVariants as kind
 use Rattle.vd_parser.specs.Language.{BLOCK, STMT, array_rule, assign_rule, for_rule, if_rule, let_rule, output_rule, var_rule}
 use Rattle.vd_parser.specs.Syntax.{array_of, assign_of, for_of, if_of, let_of, output_of, statement_of, var_of}
 use Rattle.vd_parser.specs.Levels.{begins_statement}

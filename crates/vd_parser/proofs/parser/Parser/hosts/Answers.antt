@@ -1,6 +1,6 @@
 use Rattle.std.proofs.Common.{sym, ◌∙◌, refl}
 use Rattle.std.proofs.lemmas.Result.{err_from_is_err_and}
-use Rattle.vd_lexer.specs.declared.token.TokenKind.TheVariants as kind
+use Rattle.vd_source_lexer.specs.declared.token.TokenKind.TheVariants as kind
 use Rattle.vd_parser.proofs.Steps.{collects_first, end_kind, more_kind, next, refused_first, start, stop_kind}
 use Rattle.vd_parser.proofs.Meanings.{hosts_first, hosts_more, hosts_none}
 use Rattle.vd_parser.proofs.Progress.{symbol_less}

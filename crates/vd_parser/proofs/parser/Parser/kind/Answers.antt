@@ -1,6 +1,6 @@
 use Rattle.std.proofs.Common.{sym, ◌∙◌, refl}
 use Rattle.std.proofs.lemmas.Result.{err_from_is_err_and}
-use Rattle.vd_lexer.specs.declared.token.TokenKind.TheVariants as kind
+use Rattle.vd_source_lexer.specs.declared.token.TokenKind.TheVariants as kind
 use Rattle.vd_parser.specs.Language.{KIND}
 use Rattle.vd_parser.proofs.Steps.{into_left, into_right, last, refused_last, rule_start}
 use Rattle.vd_parser.proofs.parser.Parser.kind.Goals as goal

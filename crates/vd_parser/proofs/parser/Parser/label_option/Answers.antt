@@ -1,6 +1,6 @@
 use Rattle.std.proofs.Common.{sym, ◌∙◌, refl}
 use Rattle.std.proofs.lemmas.Result.{err_from_is_err_and}
-use Rattle.vd_lexer.specs.declared.token.TokenKind.TheVariants as kind
+use Rattle.vd_source_lexer.specs.declared.token.TokenKind.TheVariants as kind
 use Rattle.vd_parser.proofs.Steps.{into_left, last, left_out, refused_last, start}
 use Rattle.vd_parser.proofs.Meanings.{label_none, label_some}
 use Rattle.vd_parser.proofs.parser.Parser.label_option.Goals as goal

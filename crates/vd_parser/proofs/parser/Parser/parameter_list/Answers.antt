@@ -1,6 +1,6 @@
 use Rattle.std.proofs.Common.{sym, ◌∙◌}
 use Rattle.std.proofs.lemmas.Result.{err_from_is_err_and}
-use Rattle.vd_lexer.specs.declared.token.TokenKind.TheVariants as kind
+use Rattle.vd_source_lexer.specs.declared.token.TokenKind.TheVariants as kind
 use Rattle.vd_parser.proofs.Steps.{collects_first, end_after, more_after, next, refused_first, start, stop_after}
 use Rattle.vd_parser.proofs.Meanings.{parameters_first, parameters_more, parameters_none}
 use Rattle.vd_parser.proofs.parser.Parser.parameter_list.Goals as goal

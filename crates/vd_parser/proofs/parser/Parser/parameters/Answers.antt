@@ -1,6 +1,6 @@
 use Rattle.std.proofs.Common.{sym, ◌∙◌, refl}
 use Rattle.std.proofs.lemmas.Result.{err_from_is_err_and}
-use Rattle.vd_lexer.specs.declared.token.TokenKind.TheVariants as kind
+use Rattle.vd_source_lexer.specs.declared.token.TokenKind.TheVariants as kind
 use Rattle.vd_parser.proofs.Steps.{last, next, next_open, refused_first, refused_last, refused_open, skip_known, start}
 use Rattle.vd_parser.proofs.Meanings.{parameters_empty, parameters_some}
 use Rattle.vd_parser.proofs.parser.Parser.parameters.Goals as goal

@@ -1,7 +1,7 @@
 use Rattle.std.proofs.Common.{sym, ◌∙◌}
 use Rattle.std.proofs.lemmas.Result.{err_from_is_err_and}
 use Rattle.std.proofs.Common.{eqb-true}
-use Rattle.vd_lexer.specs.declared.token.TokenKind.TheVariants as kind
+use Rattle.vd_source_lexer.specs.declared.token.TokenKind.TheVariants as kind
 use Rattle.vd_parser.proofs.Steps.{next, not_took, refused_first, refused_last, start}
 use Rattle.vd_parser.proofs.Outcomes.{whole_text}
 use Rattle.vd_parser.proofs.parser.Parser.whole_source.Goals as goal

@@ -1,0 +1,119 @@
+-- Every source passes tests that are always true.
+use Rattle.std.proofs.Common.{◌≡◌, Bool, true, List, [], ◌∷◌, map, Option, Some, None, refl, sym, subst, ℕ}
+use Rattle.vd_core.specs.declared.source.Link.{Link}
+use Rattle.vd_core.specs.declared.source.Expr.{Expr, roll-Expr}
+use Rattle.vd_core.specs.declared.source.Expr.TheOpen.{Expr-F, Link-F}
+use Rattle.vd_core.specs.declared.source.Expr.TheFolds.{map-Expr, map-Link, ind-Expr, ind-Link, fold-roll-Expr, fold-roll-Link}
+use Rattle.vd_core.specs.declared.source.Expr.TheViews.{roll-Link}
+use Rattle.vd_core.specs.declared.source.WrittenLabel.{WrittenLabel}
+use Rattle.vd_core.specs.declared.source.Statement.{Statement, roll-Statement, map-Statement, ind-Statement}
+use Rattle.vd_core.specs.declared.source.Statement.TheOpen.{Statement-F}
+use Rattle.vd_core.specs.declared.source.Statement.TheFolds.{fold-roll-Statement}
+use Rattle.vd_core.specs.declared.source.Function.{Function}
+use Rattle.vd_core.specs.declared.source.Source.{Source}
+use Rattle.vd_semantics.specs.SourceMeaning.{host_names}
+use Rattle.vd_anf_wellformed.proofs.Tests.{Tests, all_true, label_passes, expr_passes, link_passes, passes, passes_link, statement_passes, passes_statement, passes_function, functions_pass}
+use Rattle.vd_anf_wellformed.proofs.Walk.{source_passes}
+
+abbrev pub always : Tests
+always = record { host = λ h. true; form = λ f. true; shift = λ n. true }
+
+label_always : (l : Option WrittenLabel) → label_passes always l ≡ true
+label_always None = refl
+label_always (Some l) = refl
+
+module _ (hosts : List (List ℕ)) where
+  abbrev E : Type 0
+  E = (e : Expr) × (passes hosts always e ≡ true)
+
+  abbrev L : Type 0
+  L = (l : Link) × (passes_link hosts always l ≡ true)
+
+  exprs : (es : List E) → all_true (map (passes hosts always) (map (λ (e : E). e.0) es)) ≡ true
+  exprs [] = refl
+  exprs (e ∷ es) = rw (e.1, exprs es) refl
+
+  links : (ls : List L) → all_true (map (passes_link hosts always) (map (λ (l : L). l.0) ls)) ≡ true
+  links [] = refl
+  links (l ∷ ls) = rw (l.1, links ls) refl
+
+  abbrev expr_layer : Expr-F E L → Expr-F Expr Link
+  expr_layer = map-Expr E L Expr Link (λ e. e.0) (λ l. l.0)
+
+  abbrev link_layer : Link-F E L → Link-F Expr Link
+  link_layer = map-Link E L Expr Link (λ e. e.0) (λ l. l.0)
+
+  step : (y : Expr-F E L) → expr_passes hosts always (map-Expr Expr Link Bool Bool (passes hosts always) (passes_link hosts always) (expr_layer y)) ≡ true
+  step (Expr-F.Number n) = refl
+  step (Expr-F.Truth b) = refl
+  step (Expr-F.Value x) = refl
+  step (Expr-F.Element x index) = index.1
+  step (Expr-F.Input host) = refl
+  step (Expr-F.Call f arguments) = exprs arguments
+  step (Expr-F.Min at x y) = rw (x.1, y.1) refl
+  step (Expr-F.Max at x y) = rw (x.1, y.1) refl
+  step (Expr-F.Mux at x y z) = rw (x.1, y.1, z.1) refl
+  step (Expr-F.Declassify x to) = rw x.1 refl
+  step (Expr-F.Endorse x to) = rw x.1 refl
+  step (Expr-F.Unary x signs) = x.1
+  step (Expr-F.Chain x ls) = rw (x.1, links ls) refl
+  step (Expr-F.Brackets x) = x.1
+
+  link_step : (y : Link-F E L) → link_passes always (map-Link Expr Link Bool Bool (passes hosts always) (passes_link hosts always) (link_layer y)) ≡ true
+  link_step (Link-F.Infix o at r) = r.1
+  link_step (Link-F.Shift towards at bits) = refl
+
+  at_roll : (y : Expr-F E L) → passes hosts always (roll-Expr (expr_layer y)) ≡ true
+  at_roll y = subst (λ (b : Bool). b ≡ true) (sym (fold-roll-Expr Bool Bool (expr_passes hosts always) (link_passes always) (expr_layer y))) (step y)
+
+  at_link_roll : (y : Link-F E L) → passes_link hosts always (roll-Link (link_layer y)) ≡ true
+  at_link_roll y = subst (λ (b : Bool). b ≡ true) (sym (fold-roll-Link Bool Bool (expr_passes hosts always) (link_passes always) (link_layer y))) (link_step y)
+
+  pub expr_always : (e : Expr) → passes hosts always e ≡ true
+  expr_always = ind-Expr (λ e. passes hosts always e ≡ true) (λ l. passes_link hosts always l ≡ true)
+      (λ x y is. subst (λ z. passes hosts always (roll-Expr z) ≡ true) is (at_roll y))
+      (λ x y is. subst (λ z. passes_link hosts always (roll-Link z) ≡ true) is (at_link_roll y))
+
+  pub link_always : (l : Link) → passes_link hosts always l ≡ true
+  link_always = ind-Link (λ e. passes hosts always e ≡ true) (λ l. passes_link hosts always l ≡ true)
+      (λ x y is. subst (λ z. passes hosts always (roll-Expr z) ≡ true) is (at_roll y))
+      (λ x y is. subst (λ z. passes_link hosts always (roll-Link z) ≡ true) is (at_link_roll y))
+
+  abbrev M : Type 0
+  M = (s : Statement) × (passes_statement hosts always s ≡ true)
+
+  statements : (ms : List M) → all_true (map (passes_statement hosts always) (map (λ (m : M). m.0) ms)) ≡ true
+  statements [] = refl
+  statements (m ∷ ms) = rw (m.1, statements ms) refl
+
+  abbrev layer : Statement-F M → Statement-F Statement
+  layer = map-Statement M Statement (λ m. m.0)
+
+  statement_step : (y : Statement-F M) → statement_passes hosts always (map-Statement Statement Bool (passes_statement hosts always) (layer y)) ≡ true
+  statement_step (Statement-F.Let at x label e) = rw (expr_always e, label_always label) refl
+  statement_step (Statement-F.Var at x kind label e) = rw (expr_always e, label_always label) refl
+  statement_step (Statement-F.Array at x kind size label) = label_always label
+  statement_step (Statement-F.Store x e) = expr_always e
+  statement_step (Statement-F.Put x i e) = rw (expr_always i, expr_always e) refl
+  statement_step (Statement-F.Output at e host) = rw (expr_always e) refl
+  statement_step (Statement-F.If at c a b) = rw (expr_always c, statements a, statements b) refl
+  statement_step (Statement-F.For at x count body) = statements body
+
+  pub statement_always : (s : Statement) → passes_statement hosts always s ≡ true
+  statement_always = ind-Statement (λ s. passes_statement hosts always s ≡ true)
+      (λ x y is. subst (λ z. passes_statement hosts always (roll-Statement z) ≡ true) is
+      (subst (λ (b : Bool). b ≡ true) (sym (fold-roll-Statement Bool (statement_passes hosts always) (layer y))) (statement_step y)))
+
+  pub body_always : (ss : List Statement) → all_true (map (passes_statement hosts always) ss) ≡ true
+  body_always [] = refl
+  body_always (s ∷ ss) = rw (statement_always s, body_always ss) refl
+
+  pub function_always : (f : Function) → passes_function hosts always f ≡ true
+  function_always f = rw (body_always f.body, expr_always f.gives) refl
+
+  pub functions_always : (fs : List Function) → functions_pass hosts always fs ≡ true
+  functions_always [] = refl
+  functions_always (f ∷ fs) = rw (body_always f.body, expr_always f.gives, functions_always fs) refl
+
+pub source_always : (source : Source) → source_passes always source ≡ true
+source_always source = rw (functions_always (host_names source.hosts) source.functions, body_always (host_names source.hosts) source.main) refl

@@ -1,7 +1,0 @@
-use Rattle.std.proofs.Common.{sym, subst}
-use Rattle.vd_bench.specs.Codes.{CanLoad}
-use Rattle.vd_bench.proofs.Loads.{counting_loads}
-use Rattle.vd_bench.proofs.hosts.world.Goals as goal
-
-pub two-requires-clause-first : goal.two-requires-clause-first
-two-requires-clause-first c = subst CanLoad (sym c.in_ok-counting_code.ensures) (counting_loads c.args.turns)

@@ -1,5 +1,0 @@
-use Rattle.vd_bytes.proofs.Numbers.{number_exact, field_exact}
-use Rattle.vd_bytes.proofs.laws.numbers_are_exact.Goals as goal
-
-pub returns : goal.returns
-returns c = record { number = number_exact; field = field_exact }

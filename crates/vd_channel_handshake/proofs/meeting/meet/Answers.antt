@@ -1,0 +1,16 @@
+use Rattle.std.proofs.lemmas.Result.{err_from_is_err_and}
+use Rattle.vd_channel_crypto.specs.Keys.{direction}
+use Rattle.vd_channel_handshake.specs.Meeting.{IsHeard}
+use Rattle.vd_channel_handshake.proofs.Refusing.{of_proof}
+use Rattle.vd_channel_handshake.proofs.meeting.meet.Goals as goal
+
+pub returns-in_err-prove_both-clause-refused : goal.returns-in_err-prove_both-clause-refused
+returns-in_err-prove_both-clause-refused g c t =
+    let p = err_from_is_err_and c.from_residual-in_err-prove_both.result c.from_residual-in_err-prove_both.ensures.1 in
+    let says = (c.in_ok-theirs.ensures {u = tt}).says in
+    let fails = c.in_err-prove_both.ensures {u = tt} in
+    let rest = (g.L.Link.view c.exchange_hellos.new.link).coming in
+    let heard : IsHeard c.args.mine.now c.in_ok-theirs.theirs (g.L.Link.view c.args.link.now).coming rest =
+    record { id_is = says.id_is; from_is = says.from_is; to_is = says.to_is; nonce = says.nonce; came = says.came (fails.proves.was_told t) } in
+    rw (p.1, p.2)
+    (of_proof c.args.mine.now c.in_ok-theirs.theirs c.args.key.now (g.L.Link.view c.args.link.now).coming rest (direction c.keys_of.result.1) c.in_err-prove_both.field-0.0 c.keys_of.ensures.theirs heard (fails.refused t))

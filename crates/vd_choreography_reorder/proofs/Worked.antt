@@ -1,0 +1,16 @@
+-- The worked lines.
+use Rattle.std.proofs.Common.{refl}
+use Rattle.vd_execution.specs.Registers.{put}
+use Rattle.vd_choreography_reorder.specs.Examples.{DrawnWordsAreToldFirst, OpenedWordsStay, WordsGoSideBySide}
+
+pub stays : OpenedWordsStay
+unfolding put
+stays = (refl, refl)
+
+pub ahead : WordsGoSideBySide
+unfolding put
+ahead = refl
+
+pub drawn : DrawnWordsAreToldFirst
+unfolding put
+drawn = refl

@@ -1,0 +1,13 @@
+use Rattle.std.proofs.Common.{◌≡◌, ◌+◌}
+use Rattle.std.specs.Prelude.{slice_index}
+use Rattle.vd_reorder_laws.specs.Testing.{row}
+use Rattle.vd_choreography_reorder.specs.Depths.{deepest}
+use Rattle.vd_choreography_reorder.proofs.depths.row_depth.Given as goal
+
+abbrev pub invariant-registers : goal.invariant-registers
+invariant-registers l =
+    (deepest (slice_index l.depths) l.host.0 l.deepest (row l.register l.left) ≡ deepest (slice_index l.depths) l.host.0 l.least (row l.fn.row.first.0 l.fn.row.count))
+    × (l.register + l.left ≡ l.fn.row.first.0 + l.fn.row.count)
+
+abbrev pub decreases-registers : goal.decreases-registers
+decreases-registers l = l.left

@@ -1,0 +1,38 @@
+//! Laws of the pass. Nothing is computed here.
+
+ghost use Rattle.vd_choreography_reorder.specs.Examples.{DrawnWordsAreToldFirst, OpenedWordsStay, WordsGoSideBySide};
+ghost use Rattle.vd_choreography_reorder.specs.Order.{CodeThatIsBroughtForwardRunsOn, OrderIsKept};
+ghost use Rattle.vd_choreography_reorder.specs.Passing.{ArrangedLinesAreBroughtForward};
+ghost use Rattle.vd_choreography_reorder.specs.Sorting.{NothingIsLeftToSort, SortedCodeIsBroughtForward};
+ghost use Rattle.vd_choreography_reorder.specs.Testing.{TestIsSound};
+
+/// The test by registers and lists says yes only where neighbours in joint code may be exchanged.
+pub fn test_is_sound()
+    ensures { TestIsSound }
+{}
+
+/// What a host compares, prints and opens stands in its order, wherever careful exchanges lead.
+pub fn order_is_kept()
+    ensures { OrderIsKept }
+{}
+
+/// Tidy code leads to tidy code that tells the same, however far each line goes behind its neighbours where it may; so does the order of
+/// the pass. On any lists the new code runs well, and to its end, where the old one does.
+pub fn passes_bring_forward()
+    ensures forward { ArrangedLinesAreBroughtForward }
+    ensures order { SortedCodeIsBroughtForward }
+    ensures runs { CodeThatIsBroughtForwardRunsOn }
+{}
+
+/// In the order of the pass no two neighbours are left of which the second ranks lower and may pass the first.
+pub fn order_is_sorted()
+    ensures { NothingIsLeftToSort }
+{}
+
+/// Worked lines: masked words of two gadgets go side by side, a drawn word is told before it is used, and a word that is opened stays
+/// behind the answer that it stood behind.
+pub fn worked_lines()
+    ensures stays { OpenedWordsStay }
+    ensures ahead { WordsGoSideBySide }
+    ensures drawn { DrawnWordsAreToldFirst }
+{}

@@ -1,0 +1,93 @@
+-- The command `certify`.
+use Rattle.std.specs.Prelude.{ℕ, ◌<◌, ◌≤◌, true, List, [], ◌++◌, length, Result, Ok, Err, codes}
+use Rattle.std.specs.Fmt.{decimal}
+use Rattle.vd_base.specs.Limits.{most_certificate_bytes, most_certificate_shifts}
+use Rattle.vd_outside.specs.Files.{FilesView, Contents}
+use Rattle.vd_core.specs.declared.normal.NormalForm.{NormalForm}
+use Rattle.vd_core.specs.declared.source.Source.{Source}
+use Rattle.vd_anf.specs.Normal.{normal_form}
+use Rattle.vd_cmd_rewrite.specs.RunPrograms.{run_form}
+use Rattle.vd_search_certificate.specs.declared.certificate.Certificate.{Certificate}
+use Rattle.vd_bound.specs.declared.checking.CheckFault.{CheckFault}
+use Rattle.vd_bound.specs.declared.checking.CheckFault.TheVariants as check_fault
+use Rattle.vd_bound.specs.declared.checking.Proved.{Proved}
+use Rattle.vd_bound.specs.declared.checking.Proved.TheVariants.{Least, Empty}
+use Rattle.vd_space.specs.declared.problem.Problem.{Problem}
+use Rattle.vd_search_stages.specs.Confirming.{confirmed}
+use Rattle.vd_cmd_plan.specs.Plans.{Plan, Executes, ExecutesStep, file_then, check_then, answer_then, ended}
+use Rattle.vd_cmd_plan.specs.declared.answer.Answer.{Answer}
+use Rattle.vd_cmd_plan.specs.declared.status.Status.{Status}
+use Rattle.vd_cmd_plan.specs.declared.status.Status.TheVariants.{Memory, CertificateText, CertificateRefused}
+use Rattle.vd_cmd_plan.specs.declared.status.CertificateFault.TheVariants.{Shift, Shape, BestInvalid, Cost, NotViolated, NotBounded}
+use Rattle.vd_cmd_frontend.specs.Outcomes.{TextOutcomes, LabelOutcomes}
+use Rattle.vd_cmd_frontend.specs.Sources.{source_then}
+use Rattle.vd_cmd_choose.specs.Outcomes.{CertificateOutcomes}
+use Rattle.vd_cmd_choose.specs.Problems.{problem_for}
+
+abbrev pub as_certificate : Result Certificate ℕ → Result Certificate Status
+as_certificate (Ok certificate) = Ok certificate
+as_certificate (Err offset) = Err (CertificateText offset)
+
+-- the certificate whose text the bytes are, or the status of their refusal
+abbrev pub certificate_of : CertificateOutcomes → List ℕ → Result Certificate Status
+certificate_of certificates bytes = as_certificate (certificates.read bytes)
+
+-- fetch a certificate and go on with it
+unfoldable pub certificate_then : CertificateOutcomes → List ℕ → (Certificate → Contents → Plan) → Contents → Plan
+certificate_then certificates name rest = file_then name most_certificate_bytes (λ bytes. check_then (certificate_of certificates bytes) rest)
+
+-- what a certificate keeps that comes from a file
+pub record IsFromFile (certificate : Certificate) : Type 0 where
+  pub few_shifts : length certificate.shifts ≤ most_certificate_shifts
+  pub few_marks : length certificate.marks < 4294967296
+
+-- the status of a certificate that is not accepted
+abbrev pub check_status : CheckFault → Status
+check_status (check_fault.BadShift shift) = CertificateRefused (Shift shift)
+check_status (check_fault.Shape mark) = CertificateRefused (Shape mark)
+check_status check_fault.BestInvalid = CertificateRefused BestInvalid
+check_status (check_fault.CostWrong stated own) = CertificateRefused (Cost stated own)
+check_status (check_fault.NotViolated mark) = CertificateRefused (NotViolated mark)
+check_status (check_fault.NotBounded mark bound cost) = CertificateRefused (NotBounded mark bound cost)
+check_status check_fault.Memory = Memory
+
+abbrev pub as_proved : Result Proved CheckFault → Result Proved Status
+as_proved (Ok proved) = Ok proved
+as_proved (Err fault) = Err (check_status fault)
+
+-- what a certificate shows of a problem, or the status of its refusal
+abbrev pub proved_of : Problem → Certificate → Result Proved Status
+proved_of problem certificate = as_proved (confirmed problem certificate)
+
+abbrev pub proved_text : Proved → List ℕ
+proved_text (Least list cost) = codes "least " ++ (decimal cost ++ codes "\n")
+proved_text Empty = codes "empty\n"
+
+-- what `certify` does with a problem, and with a program
+abbrev pub confirmed_plan : Certificate → Problem → Contents → Plan
+confirmed_plan certificate problem = check_then (proved_of problem certificate) (λ proved. answer_then (ended [] (proved_text proved)))
+
+abbrev pub certified_plan : LabelOutcomes → NormalForm → Certificate → Contents → Plan
+certified_plan least program certificate = check_then (problem_for least program) (confirmed_plan certificate)
+
+-- what it does with a source that meets every rule
+abbrev pub certificate_plan : LabelOutcomes → CertificateOutcomes → List ℕ → Source → Contents → Plan
+certificate_plan least certificates name source = certificate_then certificates name (certified_plan least (run_form least (normal_form source)))
+
+abbrev pub certify_plan : TextOutcomes → LabelOutcomes → CertificateOutcomes → List ℕ → List ℕ → Contents → Plan
+certify_plan texts least certificates source name = source_then texts source (certificate_plan least certificates name)
+
+-- ---- what the parts of the command do, whatever functions pick outcomes
+
+abbrev pub LoadsCertificate : List ℕ → FilesView → FilesView → Result Certificate Status → Type 0
+LoadsCertificate name before now result = (certificates : CertificateOutcomes) → ExecutesStep (certificate_then certificates name) before now result
+
+abbrev pub ExecutesCertified : NormalForm → Certificate → Result Answer Status → Type 0
+ExecutesCertified program certificate result = (least : LabelOutcomes) (files : FilesView) → Executes true (certified_plan least program certificate) files files result
+
+abbrev pub ExecutesCertificate : List ℕ → Source → FilesView → FilesView → Result Answer Status → Type 0
+ExecutesCertificate name source before now result = (least : LabelOutcomes) (certificates : CertificateOutcomes) → Executes true (certificate_plan least certificates name source) before now result
+
+abbrev pub ExecutesCertify : List ℕ → List ℕ → FilesView → FilesView → Result Answer Status → Type 0
+ExecutesCertify source name before now result =
+    (texts : TextOutcomes) (least : LabelOutcomes) (certificates : CertificateOutcomes) → Executes true (certify_plan texts least certificates source name) before now result

@@ -1,0 +1,103 @@
+-- The choice of protocols for a program, and the step that finds it.
+use Rattle.std.specs.Prelude.{◌≡◌, ℕ, Option, option_map, List, map, Result, Ok, Err, IfSome}
+use Rattle.vd_outside.specs.Files.{Contents, FilesView}
+use Rattle.vd_core.specs.declared.normal.NormalForm.{NormalForm}
+use Rattle.vd_core.specs.declared.source.Source.{Source}
+use Rattle.vd_anf.specs.Normal.{normal_form}
+use Rattle.vd_cmd_rewrite.specs.RunPrograms.{IsRunProgram, TellsAs, run_form}
+use Rattle.vd_report.specs.ChoiceLines.{choice_lines}
+use Rattle.vd_constraints.specs.Rules.{system_of}
+use Rattle.vd_constraints.specs.Satisfies.{IsLeast}
+use Rattle.vd_constraints.specs.declared.labels.Labels.{Labels}
+use Rattle.vd_search_certificate.specs.Texts.{text_of}
+use Rattle.vd_search.specs.Answers.{nat_or_zero}
+use Rattle.vd_space.specs.declared.problem.Problem.{Problem}
+use Rattle.vd_space.specs.Costs.{cost}
+use Rattle.vd_space.specs.Reading.{problem_of}
+use Rattle.vd_space.specs.Validity.{protocol}
+use Rattle.vd_space_optimum.specs.Cheapest.{IsAssignment, IsCheapest}
+use Rattle.vd_search_stages.specs.Choices.{ChoiceOutcomes}
+use Rattle.vd_cmd_plan.specs.Plans.{ExecutesStep, Plan, check_then}
+use Rattle.vd_cmd_plan.specs.declared.status.Status.{Status}
+use Rattle.vd_cmd_frontend.specs.Outcomes.{LabelOutcomes}
+use Rattle.vd_cmd_frontend.specs.Labelling.{labels_of}
+use Rattle.vd_cmd_choose.specs.Searching.{Search, SomeSearch}
+use Rattle.vd_cmd_choose.specs.declared.choice.Assignment.{Assignment}
+use Rattle.vd_cmd_choose.specs.declared.choice.Choice.{Choice}
+
+-- the protocols at these places of the list of all, and what they cost together
+abbrev pub assigned : Problem → List ℕ → Assignment
+assigned problem places = record { protocols = map (protocol problem) places; cost = nat_or_zero (cost problem places) }
+
+-- the choice of a problem, if it has one
+abbrev pub assignment_of : ChoiceOutcomes → Problem → Option Assignment
+assignment_of choices problem = option_map (assigned problem) (choices.choose problem)
+
+-- This is the choice for a program: the assignment that is valid under its least labels, of least cost, and the first of these in order.
+pub record IsSelected (program : NormalForm) (a : Assignment) : Type 0 where
+  pub labels : Labels
+  pub least : IsLeast (system_of program) labels
+  pub places : List ℕ
+  pub cheapest : IsCheapest (problem_of program labels) places
+  pub is : a ≡ assigned (problem_of program labels) places
+
+-- what is printed of it: a line for each slot, and the cost
+abbrev pub printed_at : NormalForm → Assignment → List ℕ
+printed_at program a = choice_lines program a.protocols a.cost
+
+-- ---- the step that finds it
+
+-- the program and its labels, the choice, if there is one, and the bytes of a certificate of that
+pub record Chosen : Type 0 where
+  pub program : NormalForm
+  pub labels : Labels
+  pub assignment : Option Assignment
+  pub certificate : List ℕ
+
+abbrev pub chosen_by : ChoiceOutcomes → NormalForm → Labels → List ℕ → Chosen
+chosen_by choices program l bytes = record { program = program; labels = l; assignment = assignment_of choices (problem_of program l); certificate = bytes }
+
+-- search with a budget under these labels of a program, and go on with what is found
+abbrev pub search_then : ChoiceOutcomes → Search → (budget : ℕ) → NormalForm → Labels → (Chosen → Contents → Plan) → Contents → Plan
+search_then choices search budget program l rest = check_then (search (problem_of program l) budget) (λ bytes. rest (chosen_by choices program l bytes))
+
+-- the same under its least labels
+abbrev pub choice_then : LabelOutcomes → ChoiceOutcomes → Search → (budget : ℕ) → NormalForm → (Chosen → Contents → Plan) → Contents → Plan
+choice_then least choices search budget program rest = check_then (labels_of least program) (λ l. search_then choices search budget program l rest)
+
+-- and for the program that is run for a source
+abbrev pub run_choice_then : LabelOutcomes → ChoiceOutcomes → Search → (budget : ℕ) → Source → (Chosen → Contents → Plan) → Contents → Plan
+run_choice_then least choices search budget source rest = choice_then least choices search budget (run_form least (normal_form source)) rest
+
+-- ---- what its parts do, whatever functions pick outcomes
+
+abbrev pub chosen_of : Choice → Chosen
+chosen_of choice = record { program = choice.program; labels = choice.labels; assignment = choice.assignment; certificate = text_of choice.certificate }
+
+abbrev pub chosen_in : Result Choice Status → Result Chosen Status
+chosen_in (Ok choice) = Ok (chosen_of choice)
+chosen_in (Err status) = Err status
+
+abbrev pub Searches : NormalForm → Labels → (budget : ℕ) → Result Choice Status → Type 0
+Searches program l budget result =
+    SomeSearch (λ choices search. (files : FilesView) → ExecutesStep (search_then choices search budget program l) files files (chosen_in result))
+
+abbrev pub Chooses : NormalForm → (budget : ℕ) → Result Choice Status → Type 0
+Chooses program budget result =
+    SomeSearch (λ choices search. (least : LabelOutcomes) (files : FilesView) → ExecutesStep (choice_then least choices search budget program) files files (chosen_in result))
+
+abbrev pub ChoosesRun : Source → (budget : ℕ) → Result Choice Status → Type 0
+ChoosesRun source budget result =
+    SomeSearch (λ choices search. (least : LabelOutcomes) (files : FilesView) → ExecutesStep (run_choice_then least choices search budget source) files files (chosen_in result))
+
+-- what was found for a program
+pub record IsChoiceFor (program : NormalForm) (choice : Choice) : Type 0 where
+  pub same : choice.program ≡ program
+  pub selected : IfSome choice.assignment (IsSelected choice.program)
+  pub valid : IfSome choice.assignment (λ a. IsAssignment (problem_of choice.program choice.labels) a.protocols)
+
+-- and for the program that is run for a source
+pub record IsRunChoice (source : Source) (choice : Choice) : Type 0 where
+  pub is_run : IsRunProgram source choice.program
+  pub tells : TellsAs source choice.program
+  pub selected : IfSome choice.assignment (IsSelected choice.program)

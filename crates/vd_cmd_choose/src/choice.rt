@@ -1,0 +1,136 @@
+//! The choice of protocols for a program.
+
+ghost use Rattle.std.specs.Prelude.{◌≡◌, ◌≤◌, Some, map, IfErr, IfOk};
+ghost use Rattle.vd_base.specs.Limits.{most_search_budget};
+ghost use Rattle.vd_constraints.specs.Rules.{system_of};
+ghost use Rattle.vd_constraints.specs.Satisfies.{IsLeast};
+ghost use Rattle.vd_cmd_plan.specs.declared.status.Status.TheVariants.{Memory};
+ghost use Rattle.vd_space.specs.Validity.{protocol};
+ghost use Rattle.vd_cmd_choose.specs.Choice.{Chooses, ChoosesRun, IsChoiceFor, IsRunChoice, Searches};
+
+use std::alloc::{AllocError, Global};
+use vd_base::Proto;
+use vd_base_lists::Items;
+use vd_cmd_frontend::least_labels;
+use vd_cmd_plan::Status;
+use vd_cmd_rewrite::run_program;
+use vd_constraints::Labels;
+use vd_core::Program;
+use vd_resolve::Resolved;
+use vd_search_certificate::Certificate;
+use vd_search_stages::{SelectFault, Selection, Sweeps, select};
+use vd_space::protocol_at;
+use vd_space_api::Space;
+
+/// The protocol of each slot of a program, and what they cost together.
+#[derive(Drop)]
+pub struct Assignment {
+    pub protocols: Items<Proto>,
+    pub cost: u32,
+}
+
+/// What the search for protocols came to.
+#[derive(Drop)]
+pub struct Choice {
+    /// The program.
+    pub program: Program,
+    /// The least labels of its slots.
+    pub labels: Labels,
+    /// The choice, if an assignment is valid.
+    pub assignment: Option<Assignment>,
+    /// The checker accepts it.
+    pub certificate: Certificate,
+}
+
+/// The protocols at these places of a space's list.
+fn protocols_at(alloc: Global, space: &Space, places: &[u32]) -> Result<Items<Proto>, AllocError>
+    ensures { IfOk result (λ protocols. protocols ≡ map (protocol space.now) places.now) }
+{
+    let list = space.list();
+    let mut protocols = Items::new(alloc);
+    for place in places {
+        protocols.push(protocol_at(list, *place))?;
+    }
+    Ok(protocols)
+}
+
+/// What was found, by the places of its protocols.
+fn found(
+    alloc: Global,
+    space: &Space,
+    program: Program,
+    labels: Labels,
+    places: &[u32],
+    cost: u32,
+    certificate: Certificate,
+) -> Result<Choice, Status>
+    ensures found { IfOk result (λ choice. choice ≡ record {
+      program = program;
+      labels = labels;
+      assignment = Some (record { protocols = map (protocol space.now) places.now; cost = cost });
+      certificate = certificate;
+    }) }
+    ensures memory { IfErr result (λ status. status ≡ Memory) }
+{
+    let protocols = protocols_at(alloc, space, places)?;
+    Ok(Choice {
+        program,
+        labels,
+        assignment: Some(Assignment { protocols, cost }),
+        certificate,
+    })
+}
+
+/// The choice for a program under its least labels.
+fn choice_under(
+    alloc: Global,
+    program: Program,
+    labels: Labels,
+    budget: u32,
+) -> Result<Choice, Status>
+    requires budget { budget ≤ most_search_budget }
+    requires least { IsLeast (system_of program) labels }
+    ensures searches { Searches program labels budget result }
+    ensures found { IfOk result (IsChoiceFor program) }
+{
+    let space = Space::of(alloc, &program, &labels)?;
+    match select(alloc, &Sweeps, space.problem(), budget) {
+        Ok(Selection::Found(places, cost, certificate)) => found(
+            alloc,
+            &space,
+            program,
+            labels,
+            places.as_slice(),
+            cost,
+            certificate,
+        ),
+        Ok(Selection::NoAssignment(certificate)) => Ok(Choice {
+            program,
+            labels,
+            assignment: None,
+            certificate,
+        }),
+        Err(SelectFault::Spent) => Err(Status::Spent(budget)),
+        Err(SelectFault::Memory) => Err(Status::Memory),
+    }
+}
+
+/// The choice for a program, found with a search of at most so many prefixes.
+pub fn choice_for(alloc: Global, program: Program, budget: u32) -> Result<Choice, Status>
+    requires { budget ≤ most_search_budget }
+    ensures chooses { Chooses program budget result }
+    ensures found { IfOk result (IsChoiceFor program) }
+{
+    let labels = least_labels(alloc, &program)?;
+    choice_under(alloc, program, labels, budget)
+}
+
+/// The choice for the program that is run for a source that meets every rule.
+pub fn choice_of(alloc: Global, source: &Resolved, budget: u32) -> Result<Choice, Status>
+    requires { budget ≤ most_search_budget }
+    ensures chooses { ChoosesRun source.now budget result }
+    ensures found { IfOk result (IsRunChoice source.now) }
+{
+    let program = run_program(alloc, source)?;
+    choice_for(alloc, program, budget)
+}

@@ -1,0 +1,97 @@
+//! The command `choose`.
+
+ghost use Rattle.std.specs.Prelude.{◌≡◌, ◌≤◌, [], ◌∷◌, IfOk};
+ghost use Rattle.vd_base.specs.Limits.{most_search_budget};
+ghost use Rattle.vd_search_certificate.specs.Texts.{text_of};
+ghost use Rattle.vd_cmd_plan.specs.Plans.{Computes};
+ghost use Rattle.vd_cmd_choose.specs.Choice.{chosen_of, printed_at};
+ghost use Rattle.vd_cmd_choose.specs.Choosing.{ExecutesChoose, ExecutesTree, certificate_file, chosen_answer};
+
+use crate::choice::{Assignment, Choice, choice_of};
+use std::alloc::{AllocError, Global};
+use vd_base::{Bytes, Text};
+use vd_base_lists::Items;
+use vd_cmd_frontend::load_source;
+use vd_cmd_plan::{Answer, Status};
+use vd_core::Program;
+use vd_outside::{Files, Stored};
+use vd_report::choice_text;
+use vd_resolve::Resolved;
+use vd_search_certificate::Certificate;
+
+/// The lines that tell an assignment and its cost.
+pub fn assignment_text(
+    alloc: Global,
+    program: &Program,
+    assignment: &Assignment,
+) -> Result<Bytes, AllocError>
+    ensures { IfOk result (λ text. text ≡ printed_at program.now assignment.now) }
+{
+    let protocols = assignment.protocols.as_slice();
+    choice_text(alloc, program, protocols, u64::from(assignment.cost))
+}
+
+/// The file in which a certificate is stored.
+fn certificate_files(
+    alloc: Global,
+    source: &str,
+    certificate: &Certificate,
+) -> Result<Items<Stored>, AllocError>
+    ensures { IfOk result (λ files. files ≡ certificate_file source.now (text_of certificate.now) ∷ []) }
+{
+    let name = format!(in alloc; "{source}.cert")?;
+    let name = Text::copy_of(alloc, name.as_str())?;
+    let content = certificate.write(alloc)?;
+    let mut files = Items::new(alloc);
+    files.push(Stored { name, content })?;
+    Ok(files)
+}
+
+/// Stores the certificate, and prints the choice, if there is one.
+fn answer_choice(alloc: Global, source: &str, choice: &Choice) -> Result<Answer, Status>
+    ensures { Computes (chosen_answer source.now (chosen_of choice.now)) result }
+{
+    match &choice.assignment {
+        Some(assignment) => {
+            let printed = assignment_text(alloc, &choice.program, assignment)?;
+            Ok(Answer {
+                status: Status::Ended,
+                stores: certificate_files(alloc, source, &choice.certificate)?,
+                printed,
+            })
+        }
+        None => Ok(Answer {
+            status: Status::NoAssignment,
+            stores: certificate_files(alloc, source, &choice.certificate)?,
+            printed: Bytes::new(alloc),
+        }),
+    }
+}
+
+/// What `choose` does with a source that meets every rule.
+fn choose_for_source(
+    alloc: Global,
+    source: &Resolved,
+    name: &str,
+    budget: u32,
+) -> Result<Answer, Status>
+    requires { budget ≤ most_search_budget }
+    ensures { ExecutesTree source.now name.now budget result }
+{
+    let choice = choice_of(alloc, source, budget)?;
+    answer_choice(alloc, name, &choice)
+}
+
+/// The command `choose`: the choice of protocols for a source, found with a search of at most so many prefixes.
+pub fn choose<F: Files>(
+    alloc: Global,
+    files: &mut F,
+    source: &str,
+    budget: u32,
+) -> Result<Answer, Status>
+    requires { budget ≤ most_search_budget }
+    ensures { ExecutesChoose source.now budget (F.view files.old) (F.view files.new) result }
+{
+    let resolved = load_source(alloc, files, source)?;
+    choose_for_source(alloc, &resolved, source, budget)
+}

@@ -1,0 +1,35 @@
+-- A program can be split at its choice of protocols.
+use Rattle.std.proofs.Common.{◌≡◌, ◌≤◌, List, [], length, ap, ◌∙◌, arith}
+use Rattle.std.proofs.lemmas.List.FromFn.{length-map-range_with_len}
+use Rattle.vd_base.specs.declared.protocols.Proto.{Proto}
+use Rattle.vd_base.specs.Limits.{most_hosts}
+use Rattle.vd_core.specs.declared.normal.NormalForm.{NormalForm}
+use Rattle.vd_core.specs.Facts.{IsWellMade}
+use Rattle.vd_execution.specs.declared.instructions.Instr.{Instr}
+use Rattle.vd_execution.specs.Joint.{code_of}
+use Rattle.vd_execution.specs.Text.{text}
+use Rattle.vd_projection.specs.Programs.{IsRunnable, host_codes, joint_of}
+use Rattle.vd_cmd_choose.specs.Choice.{IsSelected}
+use Rattle.vd_cmd_choose.specs.declared.choice.Assignment.{Assignment}
+use Rattle.vd_space.specs.Reading.{problem_of}
+use Rattle.vd_space_optimum.specs.Cheapest.{IsAssignment}
+
+-- the choice is valid under the labels that it is chosen under
+pub assignment_of : (program : NormalForm) (a : Assignment) → (is : IsSelected program a) → IsAssignment (problem_of program is.labels) a.protocols
+assignment_of program a is = record { places = is.places; is_valid = is.cheapest.is_valid; named = ap (λ (b : Assignment). b.protocols) is.is }
+
+pub runnable_of : (program : NormalForm) (a : Assignment) → IsSelected program a → (protocols : List Proto) → protocols ≡ a.protocols → IsRunnable program protocols
+runnable_of program a is protocols same = record {
+  labels = is.labels;
+  assignment = record { places = is.places; is_valid = is.cheapest.is_valid; named = same ∙ ap (λ (b : Assignment). b.protocols) is.is };
+}
+
+-- there is a code for each host
+pub code_count : (program : NormalForm) (protocols : List Proto) → length (host_codes program protocols) ≡ length program.hosts
+code_count program protocols = length-map-range_with_len (λ h. text (code_of h (joint_of program protocols)) []) 0 (length program.hosts)
+
+pub few_codes : (program : NormalForm) (protocols : List Proto) (codes : List (List Instr)) → IsWellMade program → codes ≡ host_codes program protocols → length codes ≤ most_hosts
+few_codes program protocols codes made are =
+    let count : length codes ≡ length program.hosts = ap (λ (cs : List (List Instr)). length cs) are ∙ code_count program protocols in
+    let limit = made.limits.hosts in
+    omega (arith, count, limit)

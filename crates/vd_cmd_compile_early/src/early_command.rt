@@ -1,0 +1,119 @@
+//! The command `compile SOURCE PREFIX early`.
+
+ghost use Rattle.std.specs.Prelude.{◌≡◌, ◌≤◌, ◌++◌, codes, IfOk};
+ghost use Rattle.vd_base.specs.Limits.{most_search_budget};
+ghost use Rattle.vd_cmd_plan.specs.Plans.{Computes};
+ghost use Rattle.vd_cmd_choose.specs.Choice.{IsSelected};
+ghost use Rattle.vd_cmd_compile_early.specs.Compiling.{ExecutesEarly, ExecutesSource, SomeOrder, early_at};
+ghost use Rattle.vd_cmd.specs.Commands.{IsBudget};
+ghost use Rattle.vd_cmd_compile_early.specs.Running.{KeepsOrder, RunsEarly};
+ghost use Rattle.vd_cmd_compile_early.specs.Telling.{TellsPrograms, TellsSource, TellsTree};
+
+use std::alloc::{AllocError, Global};
+use vd_base::Bytes;
+use vd_base::limits::SOURCE_BYTES;
+use vd_cmd::EarlyWords;
+use vd_cmd_choose::{Assignment, assignment_text, choice_of};
+use vd_cmd_compile::{files_of, no_assignment};
+use vd_cmd_frontend::{read_source, resolve_source};
+use vd_cmd_plan::{Answer, Status, finish, load};
+use vd_core::Program;
+use vd_host_text::plan_of;
+use vd_outside::{Files, Sink};
+use vd_projection_reordered::split_early;
+use vd_resolve::Resolved;
+
+/// What is printed, with the word for this order behind it.
+fn marked(alloc: Global, printed: &[u8]) -> Result<Bytes, AllocError>
+    ensures { IfOk result (λ text. text ≡ printed.now ++ codes "early\n") }
+{
+    let mut text = Bytes::from_slice(alloc, printed)?;
+    text.extend_from_slice(b"early\n")?;
+    Ok(text)
+}
+
+/// Stores the programs of all hosts in an order that waits less, and prints the choice.
+fn compile_at(
+    alloc: Global,
+    program: &Program,
+    assignment: &Assignment,
+    text: &[u8],
+    prefix: &str,
+) -> Result<Answer, Status>
+    requires { IsSelected program.now assignment.now }
+    ensures computes { SomeOrder (λ joint. Computes (early_at program.now joint assignment.now text.now prefix.now) result) }
+    ensures tells { TellsPrograms program.now text.now prefix.now result }
+{
+    program.numbers_fit();
+    let printed = assignment_text(alloc, program, assignment)?;
+    let protocols = assignment.protocols.as_slice();
+    let codes = split_early(alloc, program, protocols)?;
+    let told = marked(alloc, printed.as_slice())?;
+    let plan = plan_of(text, told.as_slice());
+    let hosts = &program.form().hosts;
+    let stores = files_of(alloc, hosts, prefix, plan, codes)?;
+    Ok(Answer {
+        status: Status::Ended,
+        stores,
+        printed,
+    })
+}
+
+/// What `compile early` does with a source that meets every rule, whose text this is.
+fn compile_source(
+    alloc: Global,
+    source: &Resolved,
+    text: &[u8],
+    prefix: &str,
+    budget: u32,
+) -> Result<Answer, Status>
+    requires { budget ≤ most_search_budget }
+    ensures executes { ExecutesSource source.now text.now prefix.now budget result }
+    ensures tells { TellsTree source.now text.now prefix.now result }
+{
+    let choice = choice_of(alloc, source, budget)?;
+    match &choice.assignment {
+        Some(assignment) => compile_at(alloc, &choice.program, assignment, text, prefix),
+        None => Ok(no_assignment(alloc)),
+    }
+}
+
+/// The command `compile` with the word `early`: the programs of all hosts of a source in an order that waits less, at its choice of
+/// protocols, which is found with a search of at most so many prefixes.
+fn compile_early<F: Files>(
+    alloc: Global,
+    files: &mut F,
+    source: &str,
+    prefix: &str,
+    budget: u32,
+) -> Result<Answer, Status>
+    requires { budget ≤ most_search_budget }
+    ensures executes { ExecutesEarly source.now prefix.now budget (F.view files.old) (F.view files.new) result }
+    ensures tells { TellsSource source.now prefix.now (F.view files.old) result }
+{
+    let text = load(alloc, files, source, SOURCE_BYTES)?;
+    let tree = read_source(alloc, text.as_slice())?;
+    let resolved = resolve_source(alloc, tree)?;
+    compile_source(alloc, &resolved, text.as_slice(), prefix, budget)
+}
+
+/// Runs `compile SOURCE PREFIX early`: it stores the programs of all hosts in an order that waits less, and prints the choice.
+pub fn run_early<F: Files, O: Sink>(
+    alloc: Global,
+    files: &mut F,
+    out: &mut O,
+    words: &EarlyWords,
+) -> Status
+    requires { IsBudget words.now.budget }
+    ensures runs { RunsEarly words.now (F.view files.old) (F.view files.new) (O.view out.old) (O.view out.new) result }
+    ensures keeps { KeepsOrder words.now (F.view files.old) (F.view files.new) (O.view out.old) (O.view out.new) result }
+{
+    let came = compile_early(
+        alloc,
+        files,
+        words.source.as_str(),
+        words.prefix.as_str(),
+        words.budget,
+    );
+    finish(came, files, out)
+}

@@ -1,0 +1,19 @@
+use Rattle.std.proofs.lemmas.Result.{err_from_is_err_and}
+use Rattle.vd_anf.specs.Normal.{normal_form}
+use Rattle.vd_cmd_rewrite.specs.RunPrograms.{run_form}
+use Rattle.vd_cmd_depends.specs.Influencing.{influence_plan}
+use Rattle.vd_cmd_depends.proofs.Influence.{influence_told}
+use Rattle.vd_cmd_depends.proofs.influences_command.influences.Goals as goal
+
+pub returns-in_err-resolved-clause-executes : goal.returns-in_err-resolved-clause-executes
+returns-in_err-resolved-clause-executes g c = λ texts least outcomes.
+    let p = err_from_is_err_and c.from_residual.result c.from_residual.ensures.1 in
+    rw (p.1, p.2) ((c.in_err-resolved.ensures {u = tt}).loads texts (λ tree. influence_plan least outcomes c.args.host.now (run_form least (normal_form tree))))
+
+pub returns-clause-executes : goal.returns-clause-executes
+returns-clause-executes g c = λ texts least outcomes.
+    (c.in_ok-resolved.ensures {u = tt}).loads texts (λ tree. influence_plan least outcomes c.args.host.now (run_form least (normal_form tree))) _ _ (c.influences_in_source.ensures.executes least outcomes _)
+
+pub returns-clause-tells : goal.returns-clause-tells
+returns-clause-tells g c =
+    influence_told c.args.source.now c.args.host.now (g.F.Files.view c.args.files.now) c.in_ok-resolved.resolved _ (c.in_ok-resolved.ensures {u = tt}).given c.influences_in_source.ensures.tells

@@ -1,0 +1,37 @@
+use Rattle.std.proofs.Common.{ap}
+use Rattle.std.proofs.lemmas.Result.{err_from_is_err_and}
+use Rattle.vd_core.specs.declared.normal.NormalForm.{NormalForm}
+use Rattle.vd_cmd_depends.proofs.Influence.{answered, no_memory, told, unlabelled, unnamed}
+use Rattle.vd_cmd_depends.proofs.influences_command.influences_in_program.Goals as goal
+
+pub returns-in_err-host-clause-executes : goal.returns-in_err-host-clause-executes
+returns-in_err-host-clause-executes c = λ least outcomes files.
+    let p = err_from_is_err_and c.from_residual.result c.from_residual.ensures.1 in
+    rw (p.1, p.2) (unnamed c.args.name.now c.args.program.now least outcomes files c.form.result.now.hosts (ap (λ (f : NormalForm). f.hosts) c.form.ensures.same) c.in_err-host.field-0.0 (c.in_err-host.ensures {u = tt}))
+
+pub returns-in_err-labels-clause-executes : goal.returns-in_err-labels-clause-executes
+returns-in_err-labels-clause-executes c = λ least outcomes files.
+    let p = err_from_is_err_and c.from_residual-in_err-labels.result c.from_residual-in_err-labels.ensures.1 in
+    rw (p.1, p.2)
+    (unlabelled c.args.name.now c.args.program.now least outcomes files c.form.result.now.hosts (ap (λ (f : NormalForm). f.hosts) c.form.ensures.same) c.in_ok-host.host c.in_err-labels.field-0.0
+    (c.in_ok-host.ensures {u = tt}) ((c.in_err-labels.ensures {u = tt}).checks least))
+
+pub returns-in_err-all-clause-executes : goal.returns-in_err-all-clause-executes
+returns-in_err-all-clause-executes c = λ least outcomes files.
+    let p = err_from_is_err_and c.from_residual-in_err-all.result c.from_residual-in_err-all.ensures.1 in
+    rw (p.1, p.2) (no_memory c.args.name.now c.args.program.now least outcomes files c.form.result.now.hosts (ap (λ (f : NormalForm). f.hosts) c.form.ensures.same))
+
+pub returns-in_err-direct-clause-executes : goal.returns-in_err-direct-clause-executes
+returns-in_err-direct-clause-executes c = λ least outcomes files.
+    let p = err_from_is_err_and c.from_residual-in_err-direct.result c.from_residual-in_err-direct.ensures.1 in
+    rw (p.1, p.2) (no_memory c.args.name.now c.args.program.now least outcomes files c.form.result.now.hosts (ap (λ (f : NormalForm). f.hosts) c.form.ensures.same))
+
+pub returns-clause-executes : goal.returns-clause-executes
+returns-clause-executes c = λ least outcomes files.
+    answered c.args.name.now c.args.program.now least outcomes files c.form.result.now.hosts (ap (λ (f : NormalForm). f.hosts) c.form.ensures.same) c.in_ok-host.host c.in_ok-labels.labels c.in_ok-all.all c.in_ok-direct.direct _
+    c.form.ensures.well_made (c.in_ok-host.ensures {u = tt}) ((c.in_ok-labels.ensures {u = tt}).checks least) (c.in_ok-all.ensures {u = tt}) (c.in_ok-direct.ensures {u = tt}) c.influence_answer.ensures
+
+pub returns-clause-tells : goal.returns-clause-tells
+returns-clause-tells c =
+    told c.args.name.now c.args.program.now c.form.result.now.hosts c.in_ok-host.host c.in_ok-labels.labels c.in_ok-all.all c.in_ok-direct.direct _ c.form.ensures.well_made (ap (λ (f : NormalForm). f.hosts) c.form.ensures.same)
+    (c.in_ok-host.ensures {u = tt}) (c.in_ok-labels.ensures {u = tt}).least (c.in_ok-all.ensures {u = tt}) (c.in_ok-direct.ensures {u = tt}) c.influence_answer.ensures

@@ -1,0 +1,142 @@
+//! The lines that name the hosts that a host depends on.
+
+ghost use Rattle.std.specs.Prelude.{◌≡◌, ◌++◌, ◌∷◌, ◌≤◌, ◌&&◌, [], IfOk, OnOk, flat_map, if◌then◌else◌, length, not};
+ghost use Rattle.vd_base.specs.HostSets.{has_host, members};
+ghost use Rattle.vd_base.specs.Limits.{most_hosts};
+ghost use Rattle.vd_cmd_depends.specs.Depending.{hosts_line, name_field};
+ghost use Rattle.vd_cmd_depends.specs.Influencing.{hosts_field, influence_line, lacked};
+ghost use Rattle.vd_report.specs.Lines.{number_field};
+
+use itoa::Buffer;
+use std::alloc::{AllocError, Global};
+use vd_base::{Bytes, HostId, HostSet, Names};
+use vd_base_lists::Items;
+use vd_report::name_of;
+
+/// A host, how many hosts it depends on, and their names in host order.
+pub fn hosts_text(
+    alloc: Global,
+    names: &Names,
+    host: HostId,
+    set: HostSet,
+) -> Result<Bytes, AllocError>
+    requires { length names.now ≤ most_hosts }
+    ensures { IfOk result (λ text. text ≡ hosts_line names.now host set) }
+{
+    let list = members(alloc, names, set)?;
+    let mut text = Bytes::new(alloc);
+    text.extend_from_slice(name_of(names, usize::from(host.0)))?;
+    push_number(&mut text, list.as_slice().len() as u64)?;
+    push_names(&mut text, names, list.as_slice())?;
+    text.push(b'\n')?;
+    Ok(text)
+}
+
+/// A host, how many hosts' inputs bear on what it is told, and their names; then the same of those that `direct` lacks.
+pub fn influence_text(
+    alloc: Global,
+    names: &Names,
+    host: HostId,
+    all: HostSet,
+    direct: HostSet,
+) -> Result<Bytes, AllocError>
+    requires { length names.now ≤ most_hosts }
+    ensures { IfOk result (λ text. text ≡ influence_line names.now host all direct) }
+{
+    let reached = members(alloc, names, all)?;
+    let endorsed = lacked(alloc, names, all, direct)?;
+    let mut text = Bytes::new(alloc);
+    text.extend_from_slice(name_of(names, usize::from(host.0)))?;
+    push_hosts(&mut text, names, reached.as_slice())?;
+    push_hosts(&mut text, names, endorsed.as_slice())?;
+    text.push(b'\n')?;
+    Ok(text)
+}
+
+/// Puts how many hosts these are at the end, and their names.
+fn push_hosts(text: &mut Bytes, names: &Names, list: &[HostId]) -> Result<(), AllocError>
+    ensures { OnOk result (text.new ≡ text.old ++ hosts_field names.now list.now) }
+{
+    push_number(text, list.len() as u64)?;
+    push_names(text, names, list)
+}
+
+/// The named hosts that the one set has and the other lacks, in order.
+fn lacked(
+    alloc: Global,
+    names: &Names,
+    all: HostSet,
+    direct: HostSet,
+) -> Result<Items<HostId>, AllocError>
+    requires { length names.now ≤ most_hosts }
+    ensures { IfOk result (λ list. list ≡ lacked (length names.now) all direct) }
+{
+    let mut list = Items::new(alloc);
+    for place in 0..names.as_slice().len() as u8 {
+        push_lacked(&mut list, all, direct, HostId(place))?;
+    }
+    Ok(list)
+}
+
+/// Puts the host at the end, if the one set has it and the other lacks it.
+fn push_lacked(
+    list: &mut Items<HostId>,
+    all: HostSet,
+    direct: HostSet,
+    host: HostId,
+) -> Result<(), AllocError>
+    ensures { OnOk result (list.new ≡ list.old ++ (if has_host all host && not (has_host direct host) then host ∷ [] else [])) }
+{
+    if all.has(host) && !direct.has(host) {
+        list.push(host)?;
+    }
+    Ok(())
+}
+
+/// The members of the set among the named hosts, in order.
+fn members(alloc: Global, names: &Names, set: HostSet) -> Result<Items<HostId>, AllocError>
+    requires { length names.now ≤ most_hosts }
+    ensures { IfOk result (λ list. list ≡ members (length names.now) set) }
+{
+    let mut list = Items::new(alloc);
+    for place in 0..names.as_slice().len() as u8 {
+        push_member(&mut list, set, HostId(place))?;
+    }
+    Ok(list)
+}
+
+/// Puts the host at the end, if it is a member of the set.
+fn push_member(list: &mut Items<HostId>, set: HostSet, host: HostId) -> Result<(), AllocError>
+    ensures { OnOk result (list.new ≡ list.old ++ (if has_host set host then host ∷ [] else [])) }
+{
+    if set.has(host) {
+        list.push(host)?;
+    }
+    Ok(())
+}
+
+/// Puts the names of these hosts at the end, each behind a space.
+fn push_names(text: &mut Bytes, names: &Names, list: &[HostId]) -> Result<(), AllocError>
+    ensures { OnOk result (text.new ≡ text.old ++ flat_map (name_field names.now) list.now) }
+{
+    for host in list {
+        push_name(text, names, *host)?;
+    }
+    Ok(())
+}
+
+/// Puts the name of a host at the end, behind a space.
+fn push_name(text: &mut Bytes, names: &Names, host: HostId) -> Result<(), AllocError>
+    ensures { OnOk result (text.new ≡ text.old ++ name_field names.now host) }
+{
+    text.push(b' ')?;
+    text.extend_from_slice(name_of(names, usize::from(host.0)))
+}
+
+/// Puts a number at the end, behind a space.
+fn push_number(text: &mut Bytes, number: u64) -> Result<(), AllocError>
+    ensures { OnOk result (text.new ≡ text.old ++ number_field number) }
+{
+    text.push(b' ')?;
+    text.extend_from_slice(Buffer::new().format(number).as_bytes())
+}

@@ -1,0 +1,77 @@
+-- The line that tells a person why a call of the outside failed.
+use Rattle.std.specs.Prelude.{◌≡◌, ◌⊎◌, ℕ, List, [], ◌∷◌, ◌++◌, codes, Option, None, Some, slice_get, nat_eq, if◌then◌else◌}
+use Rattle.std.specs.Fmt.{decimal}
+use Rattle.vd_cmd.specs.declared.command.Command.{Command}
+use Rattle.vd_cmd.specs.declared.command.Command.TheVariants.{Host, Run}
+use Rattle.vd_cmd.specs.declared.command.HostWords.{HostWords}
+use Rattle.vd_cmd.specs.declared.command.RunWords.{RunWords}
+use Rattle.vd_edge.specs.PeerReasons.{call_text}
+use Rattle.vd_edge.specs.declared.peer_reason.PeerReason.{PeerReason}
+use Rattle.vd_cmd_host.specs.Loading.{HoldsProgram}
+use Rattle.vd_host_text.specs.declared.program.HostProgram.{HostProgram}
+use Rattle.vd_outside.specs.Files.{Contents}
+use Rattle.vd_cmd_plan.specs.Shown.{shown}
+use Rattle.vd_cmd_run.specs.Compiled.{AreHostsOf}
+
+-- a host speaks by its name, since several can write to one terminal
+abbrev pub speaker : Option (List ℕ) → List ℕ
+speaker None = []
+speaker (Some host) = codes "host " ++ (shown host ++ codes ", ")
+
+abbrev pub reason_line : Option (List ℕ) → List ℕ → List ℕ
+reason_line host reason = codes "viaduct: " ++ (speaker host ++ (shown reason ++ 10 ∷ []))
+
+-- a peer goes by its name, where it is known for whom something was done
+abbrev pub peer_part : Option (List ℕ) → List ℕ
+peer_part None = codes "a peer"
+peer_part (Some name) = name
+
+abbrev pub address_part : Option (List ℕ) → List ℕ
+address_part None = []
+address_part (Some address) = codes " at " ++ address
+
+-- what was done for which peer, at which address, and what the system says of it
+abbrev pub peer_text : Option (List ℕ) → PeerReason → List ℕ
+peer_text peer reason = call_text reason.call ++ (codes " " ++ (peer_part peer ++ (address_part reason.address ++ (codes ": " ++ reason.cause))))
+
+-- one packet, or so many packets
+abbrev pub noun_of : ℕ → List ℕ
+noun_of count = if nat_eq count 1 then codes "packet" else codes "packets"
+
+-- how many packets a host sent, and how many came to it
+abbrev pub packets_text : (sent came : ℕ) → List ℕ
+packets_text sent came = decimal sent ++ (codes " " ++ (noun_of sent ++ (codes " sent, " ++ (decimal came ++ codes " received"))))
+
+-- how many packets the hosts of a replay sent to one another
+abbrev pub sent_text : (sent : ℕ) → List ℕ
+sent_text sent = decimal sent ++ (codes " " ++ (noun_of sent ++ codes " sent"))
+
+-- the host of a program goes by its own name, and by that of the program's file where that is none
+abbrev pub IsOwnName : HostWords → Contents → List ℕ → Type 0
+IsOwnName words contents name = (program : HostProgram) × HoldsProgram words contents program × (slice_get program.hosts program.me.0 ≡ Some name)
+
+abbrev pub IsHostName : HostWords → Contents → List ℕ → Type 0
+IsHostName words contents name = IsOwnName words contents name ⊎ (name ≡ words.program)
+
+-- the host that a command line runs; other commands run none here
+abbrev pub IsSpeaker : Option Command → Contents → List ℕ → Type 0
+IsSpeaker (Some (Host words)) contents name = IsHostName words contents name
+IsSpeaker command contents name = ⊥
+
+-- the host with this number in the source that is run
+abbrev pub IsHostAt : RunWords → Contents → (number : ℕ) → List ℕ → Type 0
+IsHostAt words contents number name = (names : List (List ℕ)) × AreHostsOf words.source contents names × (slice_get names number ≡ Some name)
+
+-- so it is with a command line that runs hosts; others run none
+abbrev pub IsHostNumbered : Option Command → Contents → (number : ℕ) → List ℕ → Type 0
+IsHostNumbered (Some (Run words)) contents number name = IsHostAt words contents number name
+IsHostNumbered command contents number name = ⊥
+
+-- a host goes by its number, counted from 0, where its name is not known
+abbrev pub host_part : Option (List ℕ) → (number : ℕ) → List ℕ
+host_part None number = decimal number
+host_part (Some name) number = name
+
+-- which host of a run was the first to end with a fault, and how
+abbrev pub first_text : Option (List ℕ) → (number status : ℕ) → List ℕ
+first_text host number status = codes "host " ++ (host_part host number ++ (codes " ended first, with status " ++ decimal status))

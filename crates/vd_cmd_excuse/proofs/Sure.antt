@@ -1,0 +1,76 @@
+-- The plan with a search that gives up wherever it may, beside that with any other.
+use Rattle.std.proofs.Common.{ℕ, ◌+◌, List, [], ◌∷◌, ◌++◌, length, codes, refl}
+use Rattle.vd_base.specs.Limits.{most_deal_bytes, most_inputs_bytes}
+use Rattle.vd_base.specs.declared.ids.HostId.{HostId}
+use Rattle.vd_outside.specs.Files.{Contents}
+use Rattle.vd_core.specs.declared.normal.NormalForm.{NormalForm}
+use Rattle.vd_core.specs.declared.source.Source.{Source}
+use Rattle.vd_anf.specs.Normal.{normal_form}
+use Rattle.vd_cmd_rewrite.specs.RunPrograms.{run_form}
+use Rattle.vd_cmd.specs.declared.command.ExcuseWords.{ExcuseWords}
+use Rattle.vd_deal_items.specs.declared.deal.Deal.{Deal}
+use Rattle.vd_search_stages.specs.Choices.{ChoiceOutcomes}
+use Rattle.vd_cmd_plan.specs.Numbered.{file_name}
+use Rattle.vd_cmd_plan.specs.Plans.{Plan, check_then}
+use Rattle.vd_cmd_plan.proofs.Following.{Follows, check_follows, file_follows}
+use Rattle.vd_cmd_frontend.specs.Outcomes.{TextOutcomes, LabelOutcomes}
+use Rattle.vd_cmd_frontend.specs.Inputs.{inputs_then, words_of}
+use Rattle.vd_cmd_choose.proofs.Sure.{source_follows}
+use Rattle.vd_cmd_depends.specs.Depending.{as_host}
+use Rattle.vd_cmd_choose.specs.Outcomes.{CertificateOutcomes}
+use Rattle.vd_cmd_choose.specs.Searching.{Searched, searched_by, sure_search}
+use Rattle.vd_cmd_choose.proofs.Steps.{choice_follows}
+use Rattle.vd_report_outcomes.specs.Outcomes.{ReplayOutcomes}
+use Rattle.vd_cmd_inputs.specs.Deals.{deal_of, deal_then, deals_from}
+use Rattle.vd_cmd_excuse.specs.declared.runs.Runs.{Runs}
+use Rattle.vd_cmd_excuse.specs.Runs.{runs_of}
+use Rattle.vd_cmd_excuse.specs.Excusing.{as_two, choice_plan, excuse_plan, host_plan, runs_plan, source_plan}
+
+module _ (files : Contents) where
+  abbrev Each : {X : Type 0} → (X → Contents → Plan) → (X → Contents → Plan) → Type 0
+  Each {X = X} sure plan = (x : X) → Follows (sure x files) (plan x files)
+
+  inputs_follow : (texts : TextOutcomes) (name : List ℕ) (hosts : List (List ℕ)) (sure plan : List (List ℕ) → Contents → Plan) → Each sure plan → Follows (inputs_then texts name hosts sure files) (inputs_then texts name hosts plan files)
+  unfolding inputs_then
+  inputs_follow texts name hosts sure plan each =
+      file_follows name most_inputs_bytes (λ bytes. check_then (words_of texts hosts bytes) sure) (λ bytes. check_then (words_of texts hosts bytes) plan) files (λ bytes. check_follows (words_of texts hosts bytes) sure plan files each)
+
+  deal_follows : (outcomes : ReplayOutcomes) (prefix : List ℕ) (hosts number : ℕ) (name : List ℕ) (sure plan : Deal → Contents → Plan) → Each sure plan
+      → Follows (deal_then outcomes prefix hosts number name sure files) (deal_then outcomes prefix hosts number name plan files)
+  unfolding deal_then
+  deal_follows outcomes prefix hosts number name sure plan each =
+      file_follows (file_name prefix number (codes ".deal")) most_deal_bytes (λ bytes. check_then (deal_of outcomes hosts number name bytes) sure) (λ bytes. check_then (deal_of outcomes hosts number name bytes) plan) files
+      (λ bytes. check_follows (deal_of outcomes hosts number name bytes) sure plan files each)
+
+  deals_follow : (outcomes : ReplayOutcomes) (prefix : List ℕ) (hosts number : ℕ) (names : List (List ℕ)) (before : List Deal) (sure plan : List Deal → Contents → Plan) → Each sure plan
+      → Follows (deals_from outcomes prefix hosts number names before sure files) (deals_from outcomes prefix hosts number names before plan files)
+  unfolding deals_from
+  deals_follow outcomes prefix hosts number [] before sure plan each = each before
+  deals_follow outcomes prefix hosts number (name ∷ names) before sure plan each =
+      deal_follows outcomes prefix hosts number name (λ deal. deals_from outcomes prefix hosts (number + 1) names (before ++ deal ∷ []) sure) (λ deal. deals_from outcomes prefix hosts (number + 1) names (before ++ deal ∷ []) plan)
+      (λ deal. deals_follow outcomes prefix hosts (number + 1) names (before ++ deal ∷ []) sure plan each)
+
+module _ (texts : TextOutcomes) (outcomes : ReplayOutcomes) (least : LabelOutcomes) (certificates : CertificateOutcomes) (choices : ChoiceOutcomes) (searched : Searched) (words : ExcuseWords) (files : Contents) where
+  host_follows : (p : NormalForm) (h : HostId) (runs : Runs)
+      → Follows (host_plan outcomes least choices (sure_search choices) words p h runs files) (host_plan outcomes least choices (searched_by certificates choices searched) words p h runs files)
+  host_follows p h runs =
+      choice_follows p words.budget certificates choices (λ c. choice_plan outcomes h runs words.out c.program c.labels c.assignment) files (λ l one other. refl) least searched
+
+  runs_follow : (p : NormalForm) (runs : Runs)
+      → Follows (runs_plan outcomes least choices (sure_search choices) words p runs files) (runs_plan outcomes least choices (searched_by certificates choices searched) words p runs files)
+  runs_follow p runs =
+      check_follows (as_host p.hosts words.host) (λ h. check_then (as_two p.hosts) (λ two. host_plan outcomes least choices (sure_search choices) words p h runs))
+      (λ h. check_then (as_two p.hosts) (λ two. host_plan outcomes least choices (searched_by certificates choices searched) words p h runs)) files
+      (λ h. check_follows (as_two p.hosts) (λ two. host_plan outcomes least choices (sure_search choices) words p h runs)
+      (λ two. host_plan outcomes least choices (searched_by certificates choices searched) words p h runs) files (λ two. host_follows p h runs))
+
+  tree_goes : (tree : Source) → Follows (source_plan texts outcomes least choices (sure_search choices) words tree files) (source_plan texts outcomes least choices (searched_by certificates choices searched) words tree files)
+  tree_goes tree =
+      inputs_follow files texts words.inputs (run_form least (normal_form tree)).hosts _ _ (λ first.
+      inputs_follow files texts words.second (run_form least (normal_form tree)).hosts _ _ (λ second.
+      deals_follow files outcomes words.prefix (length (run_form least (normal_form tree)).hosts) 0 (run_form least (normal_form tree)).hosts [] _ _ (λ deals.
+      runs_follow (run_form least (normal_form tree)) (runs_of first second deals))))
+
+  pub excuse_follows : Follows (excuse_plan texts outcomes least choices (sure_search choices) words files) (excuse_plan texts outcomes least choices (searched_by certificates choices searched) words files)
+  excuse_follows =
+      source_follows texts words.source (source_plan texts outcomes least choices (sure_search choices) words) (source_plan texts outcomes least choices (searched_by certificates choices searched) words) files tree_goes

@@ -1,0 +1,51 @@
+use Rattle.std.proofs.Common.{List, subst, sym}
+use Rattle.std.proofs.lemmas.Result.{err_from_is_err_and}
+use Rattle.vd_base.specs.declared.protocols.Proto.{Proto}
+use Rattle.vd_cmd_plan.proofs.InSteps.{any_memory}
+use Rattle.vd_cmd_compile.proofs.Runnable.{runnable_of}
+use Rattle.vd_views_transcript.specs.Talk.{IsPlayable}
+use Rattle.vd_cmd_excuse.proofs.Explained.{are_asked, chosen_two, of_two, playable, told}
+use Rattle.vd_cmd_excuse.proofs.Answered.{explained, not_excused}
+use Rattle.vd_cmd_excuse.proofs.excuse_command.excuse_free.Goals as goal
+
+pub excused-requires-clause-runnable : goal.excused-requires-clause-runnable
+excused-requires-clause-runnable c = runnable_of c.args.program.now c.args.assignment.now c.requires.selected c.as_slice-protocols.result.now c.as_slice-protocols.ensures
+
+pub excused-requires-clause-asked : goal.excused-requires-clause-asked
+excused-requires-clause-asked c = are_asked c.args.runs c.requires.read c.requires.consistent
+
+pub answer-requires-clause-runnable : goal.answer-requires-clause-runnable
+answer-requires-clause-runnable c = runnable_of c.args.program.now c.args.assignment.now c.requires.selected c.as_slice-protocols.result.now c.as_slice-protocols.ensures
+
+pub answer-requires-clause-playable : goal.answer-requires-clause-playable
+answer-requires-clause-playable c =
+    let two = chosen_two c.args.program.now c.args.assignment.now c.numbers_fit.ensures.well_made c.numbers_fit.ensures.fit c.requires.selected c.requires.hosts c.requires.free in
+    let excused_at = rw c.as_slice-protocols.ensures at (c.in_ok-stored.ensures {u = tt}).excused in
+    subst (λ (ps : List Proto). IsPlayable c.args.program.now ps c.args.runs.first c.args.runs.deals) (sym c.as_slice-protocols.ensures)
+    (playable c.args.program.now c.args.assignment.now c.numbers_fit.ensures.well_made c.numbers_fit.ensures.fit c.requires.selected c.requires.hosts c.requires.free c.args.host c.args.runs c.requires.read c.requires.consistent c.in_ok-stored.stored
+    (excused_at c.requires.selected.labels two))
+
+pub returns-in_err-stored-clause-executes : goal.returns-in_err-stored-clause-executes
+returns-in_err-stored-clause-executes c = λ l valid files.
+    let p = err_from_is_err_and c.from_residual.result c.from_residual.ensures.1 in
+    let two = of_two c.args.program.now c.args.assignment.now c.numbers_fit.ensures.well_made c.numbers_fit.ensures.fit c.requires.selected c.requires.hosts c.requires.free l valid in
+    let checks_at = rw c.as_slice-protocols.ensures at (c.in_err-stored.ensures {u = tt}).checks in
+    rw (p.1, p.2) (not_excused c.args.program.now c.args.host c.args.runs c.args.out.now l c.args.assignment.now.protocols c.in_err-stored.field-0.0 (checks_at l two) files)
+
+pub returns-in_err-answer-clause-executes : goal.returns-in_err-answer-clause-executes
+returns-in_err-answer-clause-executes c = λ l valid files.
+    let p = err_from_is_err_and c.from_residual-in_err-answer.result c.from_residual-in_err-answer.ensures.1 in rw (p.1, p.2) (any_memory _ files)
+
+pub returns-clause-executes : goal.returns-clause-executes
+returns-clause-executes c = λ l valid.
+    let two = of_two c.args.program.now c.args.assignment.now c.numbers_fit.ensures.well_made c.numbers_fit.ensures.fit c.requires.selected c.requires.hosts c.requires.free l valid in
+    let checks_at = rw c.as_slice-protocols.ensures at (c.in_ok-stored.ensures {u = tt}).checks in
+    explained c.args.program.now c.args.host c.args.runs c.args.out.now l c.args.assignment.now.protocols c.in_ok-stored.stored c.in_ok-answer.answer (checks_at l two)
+    (rw (c.as_slice-protocols.ensures, c.as_slice.ensures) at (c.in_ok-answer.ensures {u = tt}))
+
+pub returns-clause-tells : goal.returns-clause-tells
+returns-clause-tells c = λ name named e.
+    let two = chosen_two c.args.program.now c.args.assignment.now c.numbers_fit.ensures.well_made c.numbers_fit.ensures.fit c.requires.selected c.requires.hosts c.requires.free in
+    let excused_at = rw c.as_slice-protocols.ensures at (c.in_ok-stored.ensures {u = tt}).excused in
+    told c.args.program.now c.args.assignment.now c.numbers_fit.ensures.well_made c.numbers_fit.ensures.fit c.requires.selected c.requires.hosts c.requires.free c.args.host c.requires.host c.args.runs c.requires.read c.requires.consistent
+    c.in_ok-stored.stored (excused_at c.requires.selected.labels two) c.args.out.now name named c.in_ok-answer.answer (rw (c.as_slice-protocols.ensures, c.as_slice.ensures) at (c.in_ok-answer.ensures {u = tt}))

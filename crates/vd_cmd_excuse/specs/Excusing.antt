@@ -1,0 +1,145 @@
+-- The command `excuse`.
+use Rattle.std.specs.Prelude.{ℕ, ◌-◌, nat_eq, true, not, if◌then◌else◌, Option, Some, None, List, [], ◌++◌, length, Result, Ok, Err, codes, slice_index_or}
+use Rattle.std.specs.List.{position}
+use Rattle.vd_base.specs.declared.ids.HostId.{HostId}
+use Rattle.vd_base.specs.declared.protocols.Proto.{Proto}
+use Rattle.vd_outside.specs.Files.{FilesView, Contents}
+use Rattle.vd_core.specs.declared.normal.NormalForm.{NormalForm}
+use Rattle.vd_core.specs.declared.source.Source.{Source}
+use Rattle.vd_anf.specs.Normal.{normal_form}
+use Rattle.vd_cmd_rewrite.specs.RunPrograms.{run_form}
+use Rattle.vd_constraints.specs.declared.labels.Labels.{Labels}
+use Rattle.vd_backend_laws.specs.Parts.{has_back_end}
+use Rattle.vd_cmd.specs.declared.command.ExcuseWords.{ExcuseWords}
+use Rattle.vd_deal_items.specs.declared.deal.Deal.{Deal}
+use Rattle.vd_report.specs.Lines.{words_line}
+use Rattle.vd_search_stages.specs.Choices.{ChoiceOutcomes}
+use Rattle.vd_cmd_plan.specs.Plans.{Plan, Executes, check_then, answer_then, ended}
+use Rattle.vd_cmd_plan.specs.declared.answer.Answer.{Answer}
+use Rattle.vd_cmd_plan.specs.declared.status.Status.{Status}
+use Rattle.vd_cmd_plan.specs.declared.status.Status.TheVariants.{Memory, NotTwo, HasCommit, DealShort, ViewDiffers}
+use Rattle.vd_cmd_deal.specs.Dealing.{deal_files}
+use Rattle.vd_cmd_frontend.specs.Outcomes.{TextOutcomes, LabelOutcomes}
+use Rattle.vd_cmd_frontend.specs.Sources.{source_then}
+use Rattle.vd_cmd_depends.specs.Depending.{as_host}
+use Rattle.vd_cmd_choose.specs.Searching.{Search, SomeSearch}
+use Rattle.vd_cmd_choose.specs.Choice.{choice_then}
+use Rattle.vd_cmd_choose.specs.declared.choice.Assignment.{Assignment}
+use Rattle.vd_cmd_compile.specs.Selected.{no_list}
+use Rattle.vd_report_outcomes.specs.Outcomes.{ReplayOutcomes}
+use Rattle.vd_cmd_inputs.specs.Deals.{as_consistent}
+use Rattle.vd_views_programs.specs.Explained.{plan_of}
+use Rattle.vd_equivocation_deals.specs.Excuses.{excuse_files}
+use Rattle.vd_equivocation.specs.declared.fault.ViewFault.{ViewFault}
+use Rattle.vd_equivocation.specs.declared.fault.ViewFault.TheVariants as view_fault
+use Rattle.vd_equivocation.specs.Excuse.{fault_at}
+use Rattle.vd_views_transcript.specs.Talk.{talk}
+use Rattle.vd_cmd_excuse.specs.declared.runs.Runs.{Runs}
+use Rattle.vd_cmd_excuse.specs.Runs.{runs_then}
+
+-- ---- what is looked at
+
+-- the source has two hosts
+abbrev pub as_two : (names : List (List ℕ)) → Result (Unit {0}) Status
+as_two names = if nat_eq (length names) 2 then Ok tt else Err (NotTwo (length names))
+
+-- the first slot that stands at a commitment
+abbrev pub commitment_in : List Proto → Option ℕ
+commitment_in protocols = position (λ p. not (has_back_end p)) protocols
+
+abbrev pub as_free : Option ℕ → Result (Unit {0}) Status
+as_free None = Ok tt
+as_free (Some slot) = Err (HasCommit slot)
+
+-- the files that explain, where nothing is short and nothing differs
+abbrev pub as_excused : Option ViewFault → List Deal → Result (List Deal) Status
+as_excused None files = Ok files
+as_excused (Some (view_fault.Short kind)) files = Err (DealShort kind)
+as_excused (Some (view_fault.Differ place)) files = Err (ViewDiffers place)
+as_excused (Some view_fault.Memory) files = Err Memory
+
+abbrev pub excused_for : NormalForm → Labels → List Proto → HostId → Runs → Result (List Deal) Status
+excused_for p l protocols h runs =
+    as_excused (fault_at p l protocols h runs.first runs.second runs.deals) (excuse_files h.0 (plan_of p protocols) runs.first runs.second runs.deals)
+
+-- ---- the answer
+
+-- the line of the link to one of two hosts, with the words that came on it
+abbrev pub talk_line : (names : List (List ℕ)) → HostId → List ℕ → List ℕ
+talk_line names h words = words_line (slice_index_or names (1 - h.0) [] ++ codes ">" ++ slice_index_or names h.0 []) words
+
+-- a file for each host, and the words that the other host sends
+abbrev pub excuse_answer : NormalForm → List Proto → HostId → Runs → (out : List ℕ) → List Deal → Answer
+excuse_answer p protocols h runs out stored = ended (deal_files out stored) (talk_line p.hosts h (talk p protocols runs.first runs.deals (1 - h.0) h.0))
+
+-- ---- the plan
+
+-- with protocols none of which is a commitment, and a consistent deal
+abbrev pub excused_plan : NormalForm → Labels → HostId → Runs → (out : List ℕ) → List Proto → Contents → Plan
+excused_plan p l h runs out protocols = check_then (excused_for p l protocols h runs) (λ stored. answer_then (excuse_answer p protocols h runs out stored))
+
+-- with the choice for a program
+abbrev pub assignment_plan : ReplayOutcomes → NormalForm → Labels → HostId → Runs → (out : List ℕ) → Assignment → Contents → Plan
+assignment_plan outcomes p l h runs out a =
+    check_then (as_free (commitment_in a.protocols)) (λ free.
+    check_then (as_consistent (outcomes.judge runs.deals)) (λ consistent. excused_plan p l h runs out a.protocols))
+
+-- if there is one
+abbrev pub choice_plan : ReplayOutcomes → HostId → Runs → (out : List ℕ) → NormalForm → Labels → Option Assignment → Contents → Plan
+choice_plan outcomes h runs out p l None = answer_then no_list
+choice_plan outcomes h runs out p l (Some a) = assignment_plan outcomes p l h runs out a
+
+-- with a program, one of its two hosts, and both runs
+abbrev pub host_plan : ReplayOutcomes → LabelOutcomes → ChoiceOutcomes → Search → ExcuseWords → NormalForm → HostId → Runs → Contents → Plan
+host_plan outcomes least choices search words p h runs =
+    choice_then least choices search words.budget p (λ c. choice_plan outcomes h runs words.out c.program c.labels c.assignment)
+
+-- with a program, and both runs
+abbrev pub runs_plan : ReplayOutcomes → LabelOutcomes → ChoiceOutcomes → Search → ExcuseWords → NormalForm → Runs → Contents → Plan
+runs_plan outcomes least choices search words p runs =
+    check_then (as_host p.hosts words.host) (λ h.
+    check_then (as_two p.hosts) (λ two. host_plan outcomes least choices search words p h runs))
+
+-- with a program, and with a source that meets every rule
+abbrev pub program_plan : TextOutcomes → ReplayOutcomes → LabelOutcomes → ChoiceOutcomes → Search → ExcuseWords → NormalForm → Contents → Plan
+program_plan texts outcomes least choices search words p = runs_then texts outcomes words p.hosts (runs_plan outcomes least choices search words p)
+
+abbrev pub source_plan : TextOutcomes → ReplayOutcomes → LabelOutcomes → ChoiceOutcomes → Search → ExcuseWords → Source → Contents → Plan
+source_plan texts outcomes least choices search words source = program_plan texts outcomes least choices search words (run_form least (normal_form source))
+
+abbrev pub excuse_plan : TextOutcomes → ReplayOutcomes → LabelOutcomes → ChoiceOutcomes → Search → ExcuseWords → Contents → Plan
+excuse_plan texts outcomes least choices search words = source_then texts words.source (source_plan texts outcomes least choices search words)
+
+-- ---- what the parts of the command do, whatever functions pick outcomes
+
+abbrev pub ExecutesExcused : NormalForm → Labels → HostId → Runs → (out : List ℕ) → List Proto → Result Answer Status → Type 0
+ExecutesExcused p l h runs out protocols result = (files : FilesView) → Executes true (excused_plan p l h runs out protocols) files files result
+
+abbrev pub ExecutesChoice : NormalForm → Labels → HostId → Runs → (out : List ℕ) → Assignment → Result Answer Status → Type 0
+ExecutesChoice p l h runs out a result =
+    (outcomes : ReplayOutcomes) (files : FilesView) → Executes true (assignment_plan outcomes p l h runs out a) files files result
+
+abbrev pub ExecutesHost : ExcuseWords → NormalForm → HostId → Runs → Result Answer Status → Type 0
+ExecutesHost words p h runs result =
+    SomeSearch (λ choices search. (outcomes : ReplayOutcomes) (least : LabelOutcomes) (files : FilesView)
+    → Executes true (host_plan outcomes least choices search words p h runs) files files result)
+
+abbrev pub ExecutesRuns : ExcuseWords → NormalForm → Runs → Result Answer Status → Type 0
+ExecutesRuns words p runs result =
+    SomeSearch (λ choices search. (outcomes : ReplayOutcomes) (least : LabelOutcomes) (files : FilesView)
+    → Executes true (runs_plan outcomes least choices search words p runs) files files result)
+
+abbrev pub ExecutesProgram : ExcuseWords → NormalForm → FilesView → FilesView → Result Answer Status → Type 0
+ExecutesProgram words p before now result =
+    SomeSearch (λ choices search. (texts : TextOutcomes) (outcomes : ReplayOutcomes) (least : LabelOutcomes)
+    → Executes true (program_plan texts outcomes least choices search words p) before now result)
+
+abbrev pub ExecutesSource : ExcuseWords → Source → FilesView → FilesView → Result Answer Status → Type 0
+ExecutesSource words source before now result =
+    SomeSearch (λ choices search. (texts : TextOutcomes) (outcomes : ReplayOutcomes) (least : LabelOutcomes)
+    → Executes true (source_plan texts outcomes least choices search words source) before now result)
+
+abbrev pub ExecutesExcuse : ExcuseWords → FilesView → FilesView → Result Answer Status → Type 0
+ExecutesExcuse words before now result =
+    SomeSearch (λ choices search. (texts : TextOutcomes) (outcomes : ReplayOutcomes) (least : LabelOutcomes)
+    → Executes true (excuse_plan texts outcomes least choices search words) before now result)

@@ -1,0 +1,45 @@
+-- The step that reads both inputs and the deals.
+use Rattle.std.specs.Prelude.{◌≡◌, ◌≤◌, ℕ, List, length, Result}
+use Rattle.vd_base.specs.Limits.{most_hosts}
+use Rattle.vd_outside.specs.Files.{FilesView, Contents}
+use Rattle.vd_cmd.specs.declared.command.ExcuseWords.{ExcuseWords}
+use Rattle.vd_deal_items.specs.declared.deal.Deal.{Deal}
+use Rattle.vd_tape.specs.Text.{AreDealsOf}
+use Rattle.vd_cmd_plan.specs.Plans.{Plan, ExecutesStep}
+use Rattle.vd_cmd_plan.specs.declared.status.Status.{Status}
+use Rattle.vd_cmd_frontend.specs.Outcomes.{TextOutcomes}
+use Rattle.vd_cmd_frontend.specs.Inputs.{inputs_then, HoldsInputs}
+use Rattle.vd_report_outcomes.specs.Outcomes.{ReplayOutcomes}
+use Rattle.vd_cmd_inputs.specs.Deals.{deals_then, HoldDeals}
+use Rattle.vd_base.specs.Words.{InputsAreWords}
+use Rattle.vd_cmd_excuse.specs.declared.runs.Runs.{Runs}
+
+-- the inputs are words, and they and the deals are those of so many hosts
+pub record AreRead (hosts : ℕ) (runs : Runs) : Type 0 where
+  pub few : hosts ≤ most_hosts
+  pub first : length runs.first ≡ hosts
+  pub second : length runs.second ≡ hosts
+  pub first_words : InputsAreWords runs.first
+  pub second_words : InputsAreWords runs.second
+  pub all : length runs.deals ≡ hosts
+  pub deals : AreDealsOf hosts runs.deals
+
+abbrev pub runs_of : (first second : List (List ℕ)) → List Deal → Runs
+runs_of first second deals = record { first = first; second = second; deals = deals }
+
+-- fetch both inputs and the deals of the hosts with these names, and go on with them
+abbrev pub runs_then : TextOutcomes → ReplayOutcomes → ExcuseWords → (names : List (List ℕ)) → (Runs → Contents → Plan) → Contents → Plan
+runs_then texts outcomes words names rest =
+    inputs_then texts words.inputs names (λ first.
+    inputs_then texts words.second names (λ second.
+    deals_then outcomes words.prefix names (λ deals. rest (runs_of first second deals))))
+
+abbrev pub LoadsRuns : ExcuseWords → (names : List (List ℕ)) → FilesView → FilesView → Result Runs Status → Type 0
+LoadsRuns words names before now result = (texts : TextOutcomes) (outcomes : ReplayOutcomes) → ExecutesStep (runs_then texts outcomes words names) before now result
+
+-- What is compared is what the files say that the words name.
+pub record HoldRuns (words : ExcuseWords) (names : List (List ℕ)) (contents : Contents) (runs : Runs) : Type 0 where
+  pub first : HoldsInputs words.inputs names contents runs.first
+  pub second : HoldsInputs words.second names contents runs.second
+  pub deals : HoldDeals words.prefix (length names) contents runs.deals
+  pub all : length runs.deals ≡ length names

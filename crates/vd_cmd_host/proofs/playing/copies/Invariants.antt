@@ -1,0 +1,5 @@
+use Rattle.std.proofs.Common.{◌≡◌, take}
+use Rattle.vd_cmd_host.proofs.playing.copies.Given as goal
+
+abbrev pub invariant-loop-text : goal.invariant-loop-text
+invariant-loop-text l = l.list ≡ take l.text-index l.texts

@@ -1,0 +1,27 @@
+//! What holds of each run of the command, and the first three of those with a deal of version 1. Nothing is computed here: the functions' clauses are laws.
+
+ghost use Rattle.vd_cmd_host.specs.Laws.{HostsAskInOrder, LinksComeBack, StatusesHaveCauses};
+ghost use Rattle.vd_cmd_host.specs.Once.{DealsAreUsedOnce};
+
+/// A net is asked for a front of the host's calls and for no other: for all with status 0, and for none where the files were
+/// not loaded.
+pub fn hosts_ask_in_order()
+    ensures { HostsAskInOrder }
+{}
+
+/// A fault of a fetch, of a peer or of the output is answered only where the count of the files, of the net or of the sink
+/// rose.
+pub fn statuses_have_causes()
+    ensures { StatusesHaveCauses }
+{}
+
+/// Whatever the status is, each link that was given comes back to a net that tells them.
+pub fn links_come_back()
+    ensures { LinksComeBack }
+{}
+
+/// Where something may have gone out over a sealed link behind its greeting, the deal is of version 2, and its mark was not there before and is
+/// there now: no second run passes.
+pub fn deals_are_used_once()
+    ensures { DealsAreUsedOnce }
+{}

@@ -1,0 +1,170 @@
+//! What a host's files hold.
+
+ghost use Rattle.std.specs.Prelude.{◌≡◌, ◌≢◌, ◌<◌, ◌≤◌, ◌+◌, Ok, Some, length, slice_get, IfOk, IfErr, OnOk};
+ghost use Rattle.vd_base.specs.Limits.{most_hosts};
+ghost use Rattle.vd_cmd_host.specs.Loading.{IsDealEnd, IsInputsEnd, IsLoaded, IsProgramEnd, IsProgramRead, LoadsDeal, LoadsHost, LoadsInputs, LoadsProgram};
+ghost use Rattle.vd_hostcode.specs.Outcome.{IsOutcome};
+ghost use Rattle.vd_cmd_plan.specs.declared.status.Status.TheVariants.{Usage};
+ghost use Rattle.vd_report.specs.InputsText.{GivesInputs};
+ghost use Rattle.vd_deal_versions.specs.Text.{IsDealtFile, IsDealtOf};
+
+use std::alloc::{AllocError, Global};
+use vd_base::limits::{DEAL_BYTES, HOST_FILE_BYTES, INPUTS_BYTES};
+use vd_base::{FileFault, HostId, Inputs, Name, Names, Words};
+use vd_cmd::HostWords;
+use vd_cmd_plan::{HostStatus, Status, TextFault, load};
+use vd_deal_versions::{Dealt, read_dealt};
+use vd_host_text::HostProgram;
+use vd_hostcode::{CodeFault, read};
+use vd_outside::Files;
+use vd_report::{ReadFault, read_inputs};
+
+/// What a host's files hold: its program, its inputs and its deal.
+#[derive(Drop)]
+pub struct Loaded {
+    pub program: HostProgram,
+    pub inputs: Words,
+    pub dealt: Dealt,
+}
+
+/// The program of a file.
+fn program_in(alloc: Global, bytes: &[u8]) -> Result<HostProgram, Status>
+    ensures given { IfOk result (λ program. IsOutcome bytes.now (Ok program)) }
+    ensures read { IfOk result IsProgramRead }
+    ensures refused { IfErr result (IsProgramEnd bytes.now) }
+{
+    match read(alloc, bytes) {
+        Ok(program) => Ok(program),
+        Err(CodeFault::Text(offset)) => Err(Status::Host(HostStatus::ProgramText(offset))),
+        Err(CodeFault::Range(number)) => Err(Status::Host(HostStatus::ProgramRange(number))),
+        Err(CodeFault::Memory) => Err(Status::Memory),
+    }
+}
+
+/// The words that a text gives to these hosts.
+fn inputs_in(alloc: Global, bytes: &[u8], hosts: &Names) -> Result<Inputs, Status>
+    ensures given { IfOk result (GivesInputs hosts.now bytes.now) }
+    ensures all { IfOk result (λ inputs. length inputs ≡ length hosts.now) }
+    ensures refused { IfErr result (IsInputsEnd hosts.now bytes.now) }
+{
+    match read_inputs(alloc, bytes, hosts) {
+        Ok(inputs) => Ok(inputs),
+        Err(ReadFault::Text(offset)) => Err(Status::InputText(TextFault::Text(offset))),
+        Err(ReadFault::UnknownHost(offset)) => Err(Status::InputText(TextFault::UnknownHost(
+            offset,
+        ))),
+        Err(ReadFault::Memory) => Err(Status::Memory),
+    }
+}
+
+/// The words of one host.
+fn words_at(inputs: Inputs, me: HostId) -> Words
+    requires { me.0 < length inputs }
+    ensures { slice_get inputs me.0 ≡ Some result }
+{
+    let mut inputs = inputs;
+    inputs.remove(usize::from(me.0))
+}
+
+/// A copy of the name of a host.
+fn own_name(alloc: Global, hosts: &Names, me: HostId) -> Result<Name, AllocError>
+    requires { me.0 < length hosts.now }
+    ensures { IfOk result (λ name. slice_get hosts.now me.0 ≡ Some name) }
+{
+    let name = &hosts.as_slice()[usize::from(me.0)];
+    Ok(Name::from_slice(alloc, name.as_slice())?)
+}
+
+/// The deal of a file of either version, to one of these hosts.
+fn deal_in(alloc: Global, bytes: &[u8], hosts: &Names, me: HostId) -> Result<Dealt, Status>
+    requires few { length hosts.now ≤ most_hosts }
+    requires declared { me.0 < length hosts.now }
+    ensures given { IfOk result (IsDealtFile (length hosts.now) me.0 bytes.now) }
+    ensures dealt { IfOk result (IsDealtOf (length hosts.now) me.0) }
+    ensures refused { IfErr result (IsDealEnd hosts.now me.0 bytes.now) }
+{
+    match read_dealt(alloc, bytes, hosts.as_slice().len() as u8, me) {
+        Ok(dealt) => Ok(dealt),
+        Err(FileFault::Text(offset)) => {
+            let name = own_name(alloc, hosts, me)?;
+            Err(Status::DealText(name, offset))
+        }
+        Err(FileFault::Memory) => Err(Status::Memory),
+    }
+}
+
+/// Refuses a number of addresses that is not that of the peers.
+fn expect_addresses(program: &HostProgram, words: &HostWords) -> Result<(), Status>
+    ensures ok { OnOk result (length words.now.addresses + 1 ≡ length program.now.hosts) }
+    ensures err { IfErr result (λ status. (status ≡ Usage) × (length words.now.addresses + 1 ≢ length program.now.hosts)) }
+{
+    if words.addresses.as_slice().len() + 1 == program.hosts.as_slice().len() {
+        Ok(())
+    } else {
+        Err(Status::Usage)
+    }
+}
+
+/// Fetches the program of a host, and reads it.
+fn load_program<F: Files>(
+    alloc: Global,
+    files: &mut F,
+    words: &HostWords,
+) -> Result<HostProgram, Status>
+    ensures loads { LoadsProgram words.now (F.view files.old) (F.view files.new) result }
+    ensures read { IfOk result IsProgramRead }
+{
+    let bytes = load(alloc, files, words.program.as_str(), HOST_FILE_BYTES)?;
+    program_in(alloc, bytes.as_slice())
+}
+
+/// Fetches the inputs of all hosts of a program, and reads those of its own host.
+fn load_inputs<F: Files>(
+    alloc: Global,
+    files: &mut F,
+    words: &HostWords,
+    program: &HostProgram,
+) -> Result<Words, Status>
+    requires { IsProgramRead program.now }
+    ensures { LoadsInputs words.now program.now (F.view files.old) (F.view files.new) result }
+{
+    let bytes = load(alloc, files, words.inputs.as_str(), INPUTS_BYTES)?;
+    let inputs = inputs_in(alloc, bytes.as_slice(), &program.hosts)?;
+    Ok(words_at(inputs, program.me))
+}
+
+/// Fetches the deal of a program's host, and reads it.
+fn load_deal<F: Files>(
+    alloc: Global,
+    files: &mut F,
+    words: &HostWords,
+    program: &HostProgram,
+) -> Result<Dealt, Status>
+    requires { IsProgramRead program.now }
+    ensures loads { LoadsDeal words.now program.now (F.view files.old) (F.view files.new) result }
+    ensures dealt { IfOk result (IsDealtOf (length program.now.hosts) program.now.me.0) }
+{
+    let bytes = load(alloc, files, words.deal.as_str(), DEAL_BYTES)?;
+    deal_in(alloc, bytes.as_slice(), &program.hosts, program.me)
+}
+
+/// Fetches the program, and then the inputs and the deal of its host, and reads each as soon as it is fetched. The number
+/// of addresses is looked at right behind the program's text.
+pub fn load_host<F: Files>(
+    alloc: Global,
+    files: &mut F,
+    words: &HostWords,
+) -> Result<Loaded, Status>
+    ensures loads { LoadsHost words.now (F.view files.old) (F.view files.new) result }
+    ensures loaded { IfOk result (IsLoaded words.now) }
+{
+    let program = load_program(alloc, files, words)?;
+    expect_addresses(&program, words)?;
+    let inputs = load_inputs(alloc, files, words, &program)?;
+    let dealt = load_deal(alloc, files, words, &program)?;
+    Ok(Loaded {
+        program,
+        inputs,
+        dealt,
+    })
+}

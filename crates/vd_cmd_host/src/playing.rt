@@ -1,0 +1,119 @@
+//! A host whose files were read is played.
+
+ghost use Rattle.std.specs.Prelude.{◌≡◌, ◌≤◌, None, Ok, IfOk};
+ghost use Rattle.vd_outside.specs.Files.{FilesView};
+ghost use Rattle.vd_channel_net.specs.Views.{sealing};
+ghost use Rattle.vd_cmd_host.specs.Hosts.{IsSealedFor, PlainRuns, RunsLoaded, status_after};
+ghost use Rattle.vd_cmd_host.specs.Loading.{IsLoaded, LoadsHost};
+
+use crate::loading::Loaded;
+use crate::marking::Claimed;
+use crate::statuses::status_of;
+use std::alloc::{AllocError, Global};
+use vd_base::{Name, Names, Text};
+use vd_base_lists::Items;
+use vd_channel_net::SealedNet;
+use vd_cmd::HostWords;
+use vd_cmd_plan::Status;
+use vd_host_session::play;
+use vd_host_start::{Ready, start};
+use vd_outside::{Net, Sink};
+
+/// Copies of texts.
+fn copies(alloc: Global, texts: &[Text]) -> Result<Items<Text>, AllocError>
+    ensures { IfOk result (λ list. list ≡ texts.now) }
+{
+    let mut list = Items::new(alloc);
+    for text in texts {
+        list.push(Text::copy_of(alloc, text.as_str())?)?;
+    }
+    Ok(list)
+}
+
+/// Copies of names.
+fn names_of(alloc: Global, names: &Names) -> Result<Names, AllocError>
+    ensures { IfOk result (λ list. list ≡ names.now) }
+{
+    let mut list = Names::new(alloc);
+    for name in names.as_slice() {
+        list.push(Name::from_slice(alloc, name.as_slice())?)?;
+    }
+    Ok(list)
+}
+
+/// Runs a host whose files were read, over a net whose waits are as long as its words allow.
+fn run_loaded<N: Net, O: Sink>(
+    alloc: Global,
+    net: &mut N,
+    out: &mut O,
+    words: &HostWords,
+    loaded: Loaded,
+) -> Result<(), Status>
+    requires room { (N.view net.old).given ≤ 4294967000 }
+    requires loaded { IsLoaded words.now loaded }
+    requires limited { N.has_limit net.old words.now.limit }
+    ensures { RunsLoaded words.now loaded (N.view net.old) (N.view net.new) (O.view out.old) (O.view out.new) result }
+{
+    let Loaded {
+        program,
+        inputs,
+        dealt,
+    } = loaded;
+    let names = names_of(alloc, &program.hosts)?;
+    let addresses = copies(alloc, words.addresses.as_slice())?;
+    let Ready { task, machine } = start(alloc, program, inputs, dealt.deal, addresses)?;
+    match play(alloc, net, out, &task, machine) {
+        Ok(_) => Ok(()),
+        Err(fault) => Err(status_of(names, fault)),
+    }
+}
+
+/// The status of a host that ran.
+pub(crate) fn status_after(ran: Result<(), Status>) -> Status
+    ensures { result ≡ status_after ran }
+{
+    match ran {
+        Ok(()) => Status::Ended,
+        Err(status) => status,
+    }
+}
+
+/// Runs a host whose deal is of version 1, over the net as it is.
+pub(crate) fn run_plain<N: Net + Drop, O: Sink>(
+    alloc: Global,
+    net: &mut SealedNet<N>,
+    out: &mut O,
+    words: &HostWords,
+    loaded: Loaded,
+) -> Status
+    requires room { (N.view net.old.net).given ≤ 4294967000 }
+    requires loaded { IsLoaded words.now loaded }
+    requires limited { N.has_limit net.old.net words.now.limit }
+    requires plain { loaded.dealt.secrets ≡ None }
+    ensures runs { (before now : FilesView) → LoadsHost words.now before now (Ok loaded) →
+        PlainRuns words.now before now (N.view net.old.net) (N.view net.new.net) (O.view out.old) (O.view out.new) result }
+    ensures same { net.new.ledger ≡ net.old.ledger }
+{
+    let ran = run_loaded(alloc, &mut net.net, out, words, loaded);
+    status_after(ran)
+}
+
+/// Runs a host whose deal is of version 2, over a net that seals by what the deal tells of its dealing and by the bytes that were drawn
+/// for this run.
+pub(crate) fn run_sealed<N: Net + Drop, O: Sink>(
+    alloc: Global,
+    net: &mut SealedNet<N>,
+    out: &mut O,
+    words: &HostWords,
+    loaded: Loaded,
+    _claimed: &Claimed,
+) -> Result<(), Status>
+    requires room { (N.view net.old.net).given ≤ 4294967000 }
+    requires loaded { IsLoaded words.now loaded }
+    requires limited { N.has_limit net.old.net words.now.limit }
+    requires sealed { IsSealedFor loaded _claimed.now.seed net.old.seal }
+    ensures { RunsLoaded words.now loaded (sealing (N.view net.old.net) net.old.faults) (sealing (N.view net.new.net) net.new.faults)
+        (O.view out.old) (O.view out.new) result }
+{
+    run_loaded(alloc, net, out, words, loaded)
+}

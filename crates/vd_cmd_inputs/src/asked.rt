@@ -1,0 +1,12 @@
+use vd_base::Inputs;
+use vd_deal_items::Deals;
+use vd_report::Schedule;
+
+/// What the hosts of a program are to run on: the inputs and the deal of each, and a schedule; and whether links are reported.
+#[derive(Drop)]
+pub struct Asked {
+    pub inputs: Inputs,
+    pub deals: Deals,
+    pub schedule: Schedule,
+    pub messages: bool,
+}

@@ -1,0 +1,118 @@
+-- What is told of needs.
+use Rattle.std.proofs.Common.{◌≡◌, ℕ, Bool, List, [], Result, Ok, Err, IfOk, refl, sym, ap, ◌∙◌, subst}
+use Rattle.vd_base.specs.declared.protocols.Proto.{Proto}
+use Rattle.vd_base.specs.Limits.{most_host_file_bytes}
+use Rattle.vd_outside.specs.Files.{FilesView}
+use Rattle.vd_core.specs.declared.normal.NormalForm.{NormalForm}
+use Rattle.vd_core.specs.declared.source.Source.{Source}
+use Rattle.vd_core.specs.Facts.{IsWellMade}
+use Rattle.vd_cmd_rewrite.specs.RunPrograms.{IsRunProgram}
+use Rattle.vd_core.specs.Numbers.{NumbersFit}
+use Rattle.vd_parser.specs.Outcomes.{IsParse}
+use Rattle.vd_execution.specs.Code.{Code}
+use Rattle.vd_execution.specs.Joint.{Joint, IsTidy, code_of}
+use Rattle.vd_execution.specs.Step.{Source as Listed}
+use Rattle.vd_execution.specs.Text.{IsCodeOf}
+use Rattle.vd_deal_needs_laws.specs.Needs.{counts, takes}
+use Rattle.vd_deal_needs_laws.proofs.ReadOff.{read_off}
+use Rattle.vd_deal_needs.specs.Counted.{code_in}
+use Rattle.vd_host_text.specs.declared.program.HostProgram.{HostProgram}
+use Rattle.vd_hostcode.specs.Outcome.{CanRun, IsOutcome}
+use Rattle.vd_deal_needs_programs.specs.Enough.{CanBeSplit, sizes_for}
+use Rattle.vd_deal_needs_programs.proofs.Countable.{code_is, of_can_run}
+use Rattle.vd_deal_needs_programs.proofs.Enough.{sizes_are_enough, sizes_are_least}
+use Rattle.vd_deal_needs_programs.proofs.Made.{deals_have_their_sizes}
+use Rattle.vd_cmd.specs.declared.command.NeedsWords.{NeedsWords}
+use Rattle.vd_cmd_plan.specs.Loads.{Loads}
+use Rattle.vd_cmd_plan.specs.Plans.{Checks, Computes, ended}
+use Rattle.vd_cmd_plan.specs.declared.answer.Answer.{Answer}
+use Rattle.vd_cmd_plan.specs.declared.status.Status.{Status}
+use Rattle.vd_cmd_plan.specs.declared.status.Status.TheVariants.{Ended, NoAssignment}
+use Rattle.vd_cmd_plan.proofs.Finding.{loaded_is}
+use Rattle.vd_cmd_frontend.specs.Sources.{IsSourceText, resolved_of}
+use Rattle.vd_cmd_choose.specs.Choice.{IsSelected}
+use Rattle.vd_cmd_choose.specs.declared.choice.Assignment.{Assignment}
+use Rattle.vd_cmd_compile.specs.Selected.{no_list}
+use Rattle.vd_cmd_compile.proofs.Runnable.{runnable_of}
+use Rattle.vd_cmd_needs.specs.Lines.{program_lines}
+use Rattle.vd_cmd_needs.specs.Needing.{needs_text}
+use Rattle.vd_cmd_needs.specs.Telling.{IsNeedsOf, IsNeedsOfBytes, IsNeedsOfHost, OfHost, OfSource, TellsBytes, TellsHost, TellsNeeds, TellsSource, TellsText}
+use Rattle.vd_cmd_needs.proofs.Reading.{meets}
+
+-- ---- with a list of protocols
+
+module _ (each : Bool) (program : NormalForm) (a : Assignment) (made : IsWellMade program) (numbers : NumbersFit program) (selected : IsSelected program a) where
+  can : CanBeSplit program a.protocols
+  can = record { made = made; numbers = numbers; runnable = runnable_of program a selected a.protocols refl }
+
+  is_needs : (printed : List ℕ) → printed ≡ needs_text each program a.protocols → IsNeedsOf each program printed
+  is_needs printed line = record {
+    assignment = a;
+    selected = selected;
+    line = line;
+    enough = sizes_are_enough program a.protocols can;
+    made = deals_have_their_sizes (sizes_for program a.protocols);
+    least = sizes_are_least program a.protocols can;
+  }
+
+  pub needs_told : (answer : Answer) (printed : List ℕ) (protocols : List Proto) → answer ≡ ended [] printed → printed ≡ needs_text each program protocols → protocols ≡ a.protocols → IsNeedsOf each program answer.printed
+  needs_told answer printed protocols is line same =
+      is_needs answer.printed (ap (λ (x : Answer). x.printed) is ∙ line ∙ ap (λ (l : List Proto). needs_text each program l) same)
+
+-- the answer that prints a text
+pub prints : (answer : Answer) (printed wanted : List ℕ) → answer ≡ ended [] printed → printed ≡ wanted → Computes (ended [] wanted) (Ok answer)
+prints answer printed wanted is same =
+    subst (λ (a : Answer). Computes (ended [] wanted) (Ok a)) (sym (is ∙ ap (λ (t : List ℕ). ended [] t) same)) (record { proper = (tt, refl); no_fault = λ file e. cc e; settled = refl })
+
+-- it is told of the source, whatever the status
+pub told_then : (words : NeedsWords) (source : Source) (program : NormalForm) (result : Result Answer Status) → IsRunProgram source program → IfOk result (λ answer. IsNeedsOf words.each program answer.printed)
+    → TellsSource words source result
+told_then words source program (Ok answer) is_run is = λ e. (program, is_run, is)
+told_then words source program (Err status) is_run is = tt
+
+-- where no list is valid, nothing is told
+pub none_told : (words : NeedsWords) (source : Source) (answer : Answer) → answer ≡ no_list → TellsSource words source (Ok answer)
+none_told words source answer is = λ e. let wrong : NoAssignment ≡ Ended = sym (ap (λ (a : Answer). a.status) is) ∙ e in absurd (cc wrong)
+
+-- ---- with the text of a source
+
+source_text : (bytes : List ℕ) (tree source : Source) → IsParse bytes (Ok tree) → Checks (resolved_of tree) (Ok source) → IsSourceText source bytes
+source_text bytes tree source parsed checks =
+    let m = meets tree source checks in
+    subst (λ (s : Source). IsSourceText s bytes) m.0 (record { parsed = parsed; meets = m.1 })
+
+pub text_told : (words : NeedsWords) (bytes : List ℕ) (tree source : Source) (result : Result Answer Status) → IsParse bytes (Ok tree) → Checks (resolved_of tree) (Ok source)
+    → TellsSource words source result → TellsText words bytes result
+text_told words bytes tree source (Ok answer) parsed checks tells = λ e. let run = tells e in record { source = source; text = source_text bytes tree source parsed checks; program = run.0; is_run = run.1; needs = run.2 }
+text_told words bytes tree source (Err status) parsed checks tells = tt
+
+-- ---- with the program of a host
+
+host_taken : (program : HostProgram) (j : Joint) (list : Listed) → IsTidy j → IsCodeOf program.code (code_of program.me.0 j) → takes j program.me.0 list ≡ counts (code_in program.code) list
+host_taken program j list tidy is =
+    sym (read_off j program.me.0 list tidy) ∙ ap (λ (c : Code). counts c list) (sym (code_is program.code (code_of program.me.0 j) is))
+
+host_is : (bytes : List ℕ) (program : HostProgram) (printed : List ℕ) → IsOutcome bytes (Ok program) → CanRun program → printed ≡ program_lines program → IsNeedsOfHost bytes printed
+host_is bytes program printed read runs line =
+    record { program = program; read = read; line = line; nested = (of_can_run program runs).nested; taken = host_taken program }
+
+pub host_told : (bytes : List ℕ) (program : HostProgram) (result : Result Answer Status) → IsOutcome bytes (Ok program) → CanRun program → Computes (ended [] (program_lines program)) result
+    → TellsHost bytes result
+host_told bytes program (Ok answer) read runs computes = host_is bytes program answer.printed read runs (ap (λ (a : Answer). a.printed) computes.settled)
+host_told bytes program (Err status) read runs computes = tt
+
+-- ---- with the file
+
+pub of_host_told : (words : NeedsWords) (bytes : List ℕ) (result : Result Answer Status) → TellsHost bytes result → TellsBytes words bytes result
+of_host_told words bytes (Ok answer) tells = λ e. OfHost tells
+of_host_told words bytes (Err status) tells = tt
+
+pub of_text_told : (words : NeedsWords) (bytes : List ℕ) (result : Result Answer Status) → TellsText words bytes result → TellsBytes words bytes result
+of_text_told words bytes (Ok answer) tells = λ e. OfSource (tells e)
+of_text_told words bytes (Err status) tells = tt
+
+pub file_told : (words : NeedsWords) (before now : FilesView) (bytes seen : List ℕ) (result : Result Answer Status) → Loads words.file most_host_file_bytes before now (Ok bytes) → seen ≡ bytes
+    → TellsBytes words seen result → TellsNeeds words before result
+file_told words before now bytes seen (Ok answer) loads same tells = λ t e.
+    loaded_is words.file most_host_file_bytes before now bytes seen (λ b. IsNeedsOfBytes words.each b answer.printed) loads same (tells e) t
+file_told words before now bytes seen (Err status) loads same tells = λ t. tt

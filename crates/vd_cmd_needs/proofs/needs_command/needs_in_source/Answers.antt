@@ -1,0 +1,39 @@
+use Rattle.std.proofs.Common.{Some, None, []}
+use Rattle.std.proofs.lemmas.Result.{err_from_is_err_and}
+use Rattle.vd_cmd_plan.specs.Plans.{ended}
+use Rattle.vd_cmd_plan.proofs.InSteps.{answers}
+use Rattle.vd_cmd_choose.specs.Choice.{IsSelected}
+use Rattle.vd_cmd_choose.proofs.Steps.{run_refused, run_with, which_is}
+use Rattle.vd_cmd_compile.specs.Selected.{no_list}
+use Rattle.vd_cmd_compile.proofs.Compiled.{none_computes}
+use Rattle.vd_cmd_needs.specs.Needing.{choice_plan, needs_text}
+use Rattle.vd_cmd_needs.proofs.Told.{none_told, told_then}
+use Rattle.vd_cmd_needs.proofs.needs_command.needs_in_source.Goals as goal
+
+pub needs_at-requires : goal.needs_at-requires
+needs_at-requires c =
+    which_is (IsSelected c.in_ok-choice.choice.program) c.in_ok-choice.choice.assignment c.in-Some.assignment c.in-Some.is (c.in_ok-choice.ensures {u = tt}).found.selected
+
+pub returns-in_err-choice-clause-executes : goal.returns-in_err-choice-clause-executes
+returns-in_err-choice-clause-executes c =
+    let p = err_from_is_err_and c.from_residual.result c.from_residual.ensures.1 in
+    rw (p.1, p.2)
+    (run_refused c.args.source.now c.args.words.now.budget (λ x. choice_plan c.args.words.now.each x.program x.assignment) c.in_err-choice.field-0.0 (c.in_err-choice.ensures {u = tt}).chooses)
+
+pub returns-in-Some-clause-executes : goal.returns-in-Some-clause-executes
+returns-in-Some-clause-executes c =
+    let choice = c.in_ok-choice.choice in
+    run_with c.args.source.now c.args.words.now.budget (choice_plan c.args.words.now.each) choice (Some c.in-Some.assignment) c.needs_at.result (c.in_ok-choice.ensures {u = tt}).chooses c.in-Some.is
+    (λ files. answers (ended [] (needs_text c.args.words.now.each choice.program c.in-Some.assignment.protocols)) files c.needs_at.result c.needs_at.ensures.computes)
+
+pub returns-in-Some-clause-tells : goal.returns-in-Some-clause-tells
+returns-in-Some-clause-tells c =
+    told_then c.args.words.now c.args.source.now c.in_ok-choice.choice.program c.needs_at.result (c.in_ok-choice.ensures {u = tt}).found.is_run c.needs_at.ensures.tells
+
+pub returns-in-None-clause-executes : goal.returns-in-None-clause-executes
+returns-in-None-clause-executes c =
+    run_with c.args.source.now c.args.words.now.budget (choice_plan c.args.words.now.each) c.in_ok-choice.choice None _ (c.in_ok-choice.ensures {u = tt}).chooses c.in-None.is
+    (λ files. answers no_list files _ (none_computes c.no_assignment.result c.no_assignment.ensures))
+
+pub returns-in-None-clause-tells : goal.returns-in-None-clause-tells
+returns-in-None-clause-tells c = none_told c.args.words.now c.args.source.now c.no_assignment.result c.no_assignment.ensures

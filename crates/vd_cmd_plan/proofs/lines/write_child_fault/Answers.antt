@@ -1,0 +1,10 @@
+use Rattle.vd_cmd_plan.proofs.lines.write_child_fault.Goals as goal
+
+pub returns-in-Failed : goal.returns-in-Failed
+returns-in-Failed g c = rw c.in-Failed.is c.write_named.ensures
+
+pub returns-in-Line : goal.returns-in-Line
+returns-in-Line g c = rw c.in-Line.is c.write_named-in-Line.ensures
+
+pub returns-in-Status : goal.returns-in-Status
+returns-in-Status g c = rw (c.in-Status.is, ← c.format.ensures.text, ← c.as_bytes-number.ensures.value) c.write_named-in-Status.ensures

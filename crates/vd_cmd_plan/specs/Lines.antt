@@ -1,0 +1,206 @@
+-- The number of each status, and its line.
+use Rattle.std.specs.Prelude.{◌≡◌, ◌≤◌, ◌⊎◌, ℕ, ℤ, IsTrue, List, [], ◌++◌, take, codes}
+use Rattle.std.specs.Fmt.{decimal, signed_decimal}
+use Rattle.vd_outside.specs.Causes.{Rose}
+use Rattle.vd_outside.specs.Sink.{SinkView}
+use Rattle.vd_cmd_plan.specs.Shown.{shown}
+use Rattle.vd_cmd_plan.specs.declared.status.SyntaxFault.{SyntaxFault}
+use Rattle.vd_cmd_plan.specs.declared.status.SyntaxFault.TheVariants.{BadByte, Unexpected, Nesting}
+use Rattle.vd_deal_items.specs.declared.deal.BadItem.{BadItem}
+use Rattle.vd_deal_items.specs.declared.deal.DealKind.{DealKind}
+use Rattle.vd_deal_items.specs.declared.deal.DealKind.TheVariants as deal_kind
+use Rattle.vd_resolve.specs.declared.fault.Quantity.{Quantity}
+use Rattle.vd_resolve.specs.declared.fault.Quantity.TheVariants as quantity
+use Rattle.vd_cmd_plan.specs.declared.status.RuleFault.{RuleFault}
+use Rattle.vd_cmd_plan.specs.declared.status.RuleFault.TheVariants as rule
+use Rattle.vd_cmd_plan.specs.declared.status.TextFault.{TextFault}
+use Rattle.vd_cmd_plan.specs.declared.status.TextFault.TheVariants.{Text, UnknownHost}
+use Rattle.vd_cmd_plan.specs.declared.status.CertificateFault.{CertificateFault}
+use Rattle.vd_cmd_plan.specs.declared.status.CertificateFault.TheVariants as cert
+use Rattle.vd_cmd_plan.specs.declared.status.HostStatus.{HostStatus}
+use Rattle.vd_cmd_plan.specs.declared.status.HostStatus.TheVariants as host_status
+use Rattle.vd_cmd_plan.specs.declared.status.ChildCause.{ChildCause}
+use Rattle.vd_cmd_plan.specs.declared.status.ChildCause.TheVariants as child_cause
+use Rattle.vd_cmd_plan.specs.declared.status.Status.{Status}
+use Rattle.vd_cmd_plan.specs.declared.status.Status.TheVariants.{Ended, Memory, Usage, ReadFault, WriteFault, TooLong, Syntax, Names, Flow, NoAssignment, Spent, InputText, DealText, ScheduleText, CertificateText, BadDeal, CertificateRefused, Host, ChildFault, NoHost, NotTwo, HasCommit, DealShort, ViewDiffers, DealUsed, ShortKey}
+
+abbrev pub host_code : HostStatus → ℕ
+host_code (host_status.ProgramText offset) = 14
+host_code (host_status.ProgramRange number) = 14
+host_code (host_status.PeerFault name) = 18
+host_code (host_status.BadFrame offset byte) = 19
+host_code (host_status.Unequal left right) = 20
+host_code host_status.WrongProgram = 21
+host_code (host_status.WrongHost wanted named) = 22
+host_code (host_status.ShortInput cursor count) = 23
+host_code (host_status.ShortDeal kind cursor count) = 24
+host_code (host_status.EndOfLink name) = 25
+
+abbrev pub code_of : Status → ℕ
+code_of Ended = 0
+code_of Memory = 1
+code_of Usage = 2
+code_of (ReadFault name) = 3
+code_of WriteFault = 4
+code_of (TooLong name limit) = 5
+code_of (Syntax fault) = 6
+code_of (Names fault) = 7
+code_of (Flow check offset) = 8
+code_of NoAssignment = 9
+code_of (Spent budget) = 10
+code_of (InputText fault) = 11
+code_of (DealText name offset) = 12
+code_of (ScheduleText fault) = 13
+code_of (CertificateText offset) = 15
+code_of (BadDeal bad) = 16
+code_of (CertificateRefused fault) = 17
+code_of (Host status) = host_code status
+code_of (ChildFault name cause) = 26
+code_of (NoHost name) = 27
+code_of (NotTwo count) = 28
+code_of (HasCommit slot) = 29
+code_of (DealShort kind) = 31
+code_of (ViewDiffers place) = 32
+code_of (DealUsed name) = 33
+code_of (ShortKey name length) = 34
+
+-- a text that ends in a number
+abbrev pub offset_line : List ℕ → ℕ → List ℕ
+offset_line text offset = text ++ (decimal offset ++ codes "\n")
+
+abbrev pub syntax_line : SyntaxFault → List ℕ
+syntax_line (BadByte offset) = offset_line (codes "viaduct: bad byte at ") offset
+syntax_line (Unexpected offset) = offset_line (codes "viaduct: unexpected token at ") offset
+syntax_line (Nesting offset) = offset_line (codes "viaduct: nesting at ") offset
+
+abbrev pub quantity_name : Quantity → List ℕ
+quantity_name quantity.Principals = codes "principals"
+quantity_name quantity.Hosts = codes "hosts"
+quantity_name quantity.Nesting = codes "nesting"
+quantity_name quantity.Statements = codes "statements"
+quantity_name quantity.Weights = codes "weights"
+quantity_name quantity.Cells = codes "cells"
+
+abbrev pub rule_line : RuleFault → List ℕ
+rule_line (rule.Unknown offset) = offset_line (codes "viaduct: unknown name at ") offset
+rule_line (rule.Twice offset) = offset_line (codes "viaduct: name twice at ") offset
+rule_line (rule.Recursive offset) = offset_line (codes "viaduct: recursive call at ") offset
+rule_line (rule.Arity offset) = offset_line (codes "viaduct: arity at ") offset
+rule_line (rule.Kind offset) = offset_line (codes "viaduct: kind at ") offset
+rule_line (rule.Limit which count) = codes "viaduct: limit " ++ (quantity_name which ++ (codes " " ++ (decimal count ++ codes "\n")))
+
+abbrev pub input_line : TextFault → List ℕ
+input_line (Text offset) = offset_line (codes "viaduct: input text at ") offset
+input_line (UnknownHost offset) = offset_line (codes "viaduct: input host at ") offset
+
+abbrev pub deal_line : List ℕ → ℕ → List ℕ
+deal_line name offset = codes "viaduct: deal text " ++ (shown name ++ offset_line (codes " at ") offset)
+
+abbrev pub schedule_line : TextFault → List ℕ
+schedule_line (Text offset) = offset_line (codes "viaduct: schedule text at ") offset
+schedule_line (UnknownHost offset) = offset_line (codes "viaduct: schedule host at ") offset
+
+abbrev pub kind_name : DealKind → List ℕ
+kind_name deal_kind.Own = codes "own"
+kind_name deal_kind.Mul = codes "mul"
+kind_name deal_kind.And = codes "and"
+kind_name deal_kind.Pair = codes "pair"
+
+-- a number behind the space that parts it from what stands before it, and what follows
+abbrev pub number_then : ℕ → List ℕ → List ℕ
+number_then number behind = codes " " ++ (decimal number ++ behind)
+
+-- the kind, the two hosts, the place, and both sides
+abbrev pub bad_deal_line : BadItem → List ℕ
+bad_deal_line bad =
+    codes "viaduct: bad deal " ++ (kind_name bad.kind ++ number_then bad.first.0 (number_then bad.second.0 (number_then bad.index
+    (number_then bad.left (number_then bad.right (codes "\n"))))))
+
+abbrev pub cost_line : ℕ → ℤ → List ℕ
+cost_line stated own = codes "viaduct: cert refused cost " ++ (decimal stated ++ (codes " " ++ (signed_decimal own ++ codes "\n")))
+
+abbrev pub bound_line : ℕ → ℤ → ℕ → List ℕ
+bound_line mark bound cost =
+    codes "viaduct: cert refused not bounded " ++ (decimal mark ++ (codes " " ++ (signed_decimal bound ++ (codes " " ++ (decimal cost ++ codes "\n")))))
+
+abbrev pub certificate_line : CertificateFault → List ℕ
+certificate_line (cert.Shift shift) = offset_line (codes "viaduct: cert refused shift ") shift
+certificate_line (cert.Shape mark) = offset_line (codes "viaduct: cert refused shape ") mark
+certificate_line cert.BestInvalid = codes "viaduct: cert refused best invalid\n"
+certificate_line (cert.Cost stated own) = cost_line stated own
+certificate_line (cert.NotViolated mark) = offset_line (codes "viaduct: cert refused not violated ") mark
+certificate_line (cert.NotBounded mark bound cost) = bound_line mark bound cost
+
+-- a text that ends in a name, which is shown without control characters; with a number of bytes behind it; and one that ends in two numbers
+abbrev pub name_line : List ℕ → List ℕ → List ℕ
+name_line text name = text ++ (shown name ++ codes "\n")
+
+abbrev pub sized_line : List ℕ → (name : List ℕ) → (size : ℕ) → List ℕ
+sized_line text name size = text ++ (shown name ++ (codes " " ++ (decimal size ++ codes "\n")))
+
+abbrev pub two_line : List ℕ → (first second : ℕ) → List ℕ
+two_line text first second = text ++ (decimal first ++ number_then second (codes "\n"))
+
+abbrev pub frame_line : (offset byte : ℕ) → List ℕ
+frame_line offset byte = codes "viaduct: bad frame at " ++ (decimal offset ++ offset_line (codes " byte ") byte)
+
+abbrev pub short_deal_line : DealKind → (cursor count : ℕ) → List ℕ
+short_deal_line kind cursor count = codes "viaduct: short deal " ++ (kind_name kind ++ number_then cursor (number_then count (codes "\n")))
+
+-- why a host did not run to its end
+abbrev pub host_line : HostStatus → List ℕ
+host_line (host_status.ProgramText offset) = offset_line (codes "viaduct: host text at ") offset
+host_line (host_status.ProgramRange number) = offset_line (codes "viaduct: host range at ") number
+host_line (host_status.PeerFault name) = name_line (codes "viaduct: peer fault ") name
+host_line (host_status.BadFrame offset byte) = frame_line offset byte
+host_line (host_status.Unequal left right) = two_line (codes "viaduct: unequal ") left right
+host_line host_status.WrongProgram = codes "viaduct: wrong program\n"
+host_line (host_status.WrongHost wanted named) = two_line (codes "viaduct: wrong host ") wanted named
+host_line (host_status.ShortInput cursor count) = two_line (codes "viaduct: short input ") cursor count
+host_line (host_status.ShortDeal kind cursor count) = short_deal_line kind cursor count
+host_line (host_status.EndOfLink name) = name_line (codes "viaduct: link ended ") name
+
+-- why a child did not end well, behind its host
+abbrev pub cause_text : ChildCause → List ℕ
+cause_text child_cause.Failed = codes "\n"
+cause_text child_cause.Line = codes " line\n"
+cause_text (child_cause.Status status) = codes " " ++ (decimal status ++ codes "\n")
+
+abbrev pub child_line : List ℕ → ChildCause → List ℕ
+child_line name cause = codes "viaduct: child fault " ++ (shown name ++ cause_text cause)
+
+-- Ended has no line.
+abbrev pub status_line : Status → List ℕ
+status_line Ended = []
+status_line Memory = codes "viaduct: memory\n"
+status_line Usage = codes "viaduct: usage\n"
+status_line (ReadFault name) = name_line (codes "viaduct: read fault ") name
+status_line WriteFault = codes "viaduct: write fault\n"
+status_line (TooLong name limit) = sized_line (codes "viaduct: too long ") name limit
+status_line (Syntax fault) = syntax_line fault
+status_line (Names fault) = rule_line fault
+status_line (Flow check offset) = codes "viaduct: flow check " ++ (decimal check ++ (codes " at " ++ (decimal offset ++ codes "\n")))
+status_line NoAssignment = codes "viaduct: no assignment\n"
+status_line (Spent budget) = offset_line (codes "viaduct: budget spent ") budget
+status_line (InputText fault) = input_line fault
+status_line (DealText name offset) = deal_line name offset
+status_line (ScheduleText fault) = schedule_line fault
+status_line (BadDeal bad) = bad_deal_line bad
+status_line (CertificateText offset) = offset_line (codes "viaduct: cert text at ") offset
+status_line (CertificateRefused fault) = certificate_line fault
+status_line (Host status) = host_line status
+status_line (ChildFault name cause) = child_line name cause
+status_line (NoHost name) = name_line (codes "viaduct: no host ") name
+status_line (NotTwo count) = offset_line (codes "viaduct: hosts ") count
+status_line (HasCommit slot) = offset_line (codes "viaduct: commitment ") slot
+status_line (DealShort kind) = name_line (codes "viaduct: deal short ") (kind_name kind)
+status_line (ViewDiffers place) = offset_line (codes "viaduct: view differs at ") place
+status_line (DealUsed name) = name_line (codes "viaduct: deal used ") name
+status_line (ShortKey name length) = sized_line (codes "viaduct: short key ") name length
+
+-- the line goes to err, whole unless err failed
+pub record Says (line : List ℕ) (before now : SinkView) : Type 0 where
+  pub later : before.faults ≤ now.faults
+  pub was_told : IsTrue now.told → IsTrue before.told
+  pub part : IsTrue now.told → (count : ℕ) × (now.taken ≡ before.taken ++ take count line)
+  pub whole : IsTrue now.told → Rose before.faults now.faults ⊎ (now.taken ≡ before.taken ++ line)

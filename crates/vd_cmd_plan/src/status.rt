@@ -1,0 +1,222 @@
+//! How a run ended.
+
+ghost use Rattle.std.specs.Prelude.{◌≡◌};
+ghost use Rattle.vd_cmd_plan.specs.declared.status.Status.TheVariants.{Memory};
+ghost use Rattle.vd_cmd_plan.specs.Lines.{code_of, host_code};
+
+use std::alloc::AllocError;
+use vd_base::{Name, Text};
+use vd_deal_items::{BadItem, DealKind};
+use vd_resolve::Quantity;
+
+/// What is wrong with a source's text, and the offset at which it is.
+#[derive(Clone, Copy, Debug, PartialEq, Eq)]
+pub enum SyntaxFault {
+    /// A byte that starts no token.
+    BadByte(u32),
+    /// The first token with which no source goes on.
+    Unexpected(u32),
+    /// A bracket that would be open besides as many as are allowed.
+    Nesting(u32),
+}
+
+/// What is wrong with the names, kinds or sizes of a source: the offset of the first fault, or a quantity above its limit
+/// with its count, which is 4294967295 where it would be larger.
+#[derive(Clone, Copy, Debug, PartialEq, Eq)]
+pub enum RuleFault {
+    /// A name that is not in sight.
+    Unknown(u32),
+    /// A name that is in sight already.
+    Twice(u32),
+    /// A call of the function itself or of a later one.
+    Recursive(u32),
+    /// A call with another number of arguments.
+    Arity(u32),
+    /// A value of the wrong kind, or a name that stands for no such thing.
+    Kind(u32),
+    /// A quantity above its limit.
+    Limit(Quantity, u32),
+}
+
+/// What is wrong with a hand-written file, and the offset at which it is.
+#[derive(Clone, Copy, Debug, PartialEq, Eq)]
+pub enum TextFault {
+    /// The first token that cannot stand there.
+    Text(u32),
+    /// A name that is no host of the source.
+    UnknownHost(u32),
+}
+
+/// Why a certificate is not accepted, in the order in which faults are looked for. Shifts and marks are counted from 0.
+#[derive(Clone, Copy, Debug, PartialEq, Eq)]
+pub enum CertificateFault {
+    /// The shift with this number names no use or no protocol.
+    Shift(u32),
+    /// The mark with this number cannot stand there, or the marks end before it.
+    Shape(u32),
+    /// The list with the mark of the best is not valid.
+    BestInvalid,
+    /// The stated cost, and that of the list with the mark of the best.
+    Cost(u32, i64),
+    /// The mark with this number says of a valid prefix that it is not.
+    NotViolated(u32),
+    /// The number of a mark, the bound of its prefix, and the stated cost, which is greater.
+    NotBounded(u32, i64, u32),
+}
+
+/// Why one host did not run to its end over a net, beside what may end any command. Offsets of bytes that came are counted
+/// from the first byte of the link's greeting.
+#[derive(Debug, Drop)]
+pub enum HostStatus {
+    /// No program's text goes on at this offset as the file does.
+    ProgramText(u32),
+    /// The instruction with this number breaks a range of host code.
+    ProgramRange(u32),
+    /// A call of the net for this peer failed, or the link to it.
+    PeerFault(Name),
+    /// The first byte at this offset that no greeting has, or no awaited packet.
+    BadFrame(u64, u8),
+    /// Two words that are to be the same.
+    Unequal(u32, u32),
+    /// A greeting came whole, by another plan.
+    WrongProgram,
+    /// The host that a byte of a greeting should name, and the one that it names.
+    WrongHost(u8, u8),
+    /// An input past the end: how many were taken, and how many there are.
+    ShortInput(usize, usize),
+    /// An item past the end of a list of the deal: how many were taken, and how many there are.
+    ShortDeal(DealKind, usize, usize),
+    /// The link to this peer told its end within an awaited frame or before it.
+    EndOfLink(Name),
+}
+
+impl HostStatus {
+    /// The number with which the process ends.
+    pub fn code(&self) -> u8
+        ensures { result ≡ host_code self.now }
+    {
+        match self {
+            HostStatus::ProgramText(_) | HostStatus::ProgramRange(_) => 14,
+            HostStatus::PeerFault(_) => 18,
+            HostStatus::BadFrame(_, _) => 19,
+            HostStatus::Unequal(_, _) => 20,
+            HostStatus::WrongProgram => 21,
+            HostStatus::WrongHost(_, _) => 22,
+            HostStatus::ShortInput(_, _) => 23,
+            HostStatus::ShortDeal(_, _, _) => 24,
+            HostStatus::EndOfLink(_) => 25,
+        }
+    }
+}
+
+/// Why a host's child did not end well.
+#[derive(Clone, Copy, Debug, PartialEq, Eq)]
+pub enum ChildCause {
+    /// A call for it failed.
+    Failed,
+    /// Its lines are not those of a host, or end too early.
+    Line,
+    /// It ended with this status, which is not 0.
+    Status(u32),
+}
+
+/// How a run ended.
+#[derive(Debug, Drop)]
+pub enum Status {
+    /// The command was carried out.
+    Ended,
+    /// There was no memory left.
+    Memory,
+    /// The words have no form.
+    Usage,
+    /// The fetch of this file failed.
+    ReadFault(Text),
+    /// A store, or a write of the output, failed.
+    WriteFault,
+    /// This file is longer than its limit in bytes.
+    TooLong(Text, u32),
+    /// The text of the source is not in the grammar.
+    Syntax(SyntaxFault),
+    /// The source breaks a rule on names, kinds or sizes.
+    Names(RuleFault),
+    /// No labelling satisfies the flow rules: the number of the first check that fails, and the offset of its statement.
+    Flow(u32, u32),
+    /// The command was carried out, and came to this: no assignment of protocols is valid.
+    NoAssignment,
+    /// The search had this budget, and needs more.
+    Spent(u32),
+    /// The text of the inputs is refused.
+    InputText(TextFault),
+    /// The text of this host's deal is refused: no deal of its goes on at this offset as the file does.
+    DealText(Name, u32),
+    /// The text of the schedule is refused.
+    ScheduleText(TextFault),
+    /// No certificate's text goes on at this offset as the file does.
+    CertificateText(u32),
+    /// The first item of the deals that breaks its identity.
+    BadDeal(BadItem),
+    /// The certificate is not accepted.
+    CertificateRefused(CertificateFault),
+    /// One host did not run to its end over a net.
+    Host(HostStatus),
+    /// The child that plays this host did not end well.
+    ChildFault(Name, ChildCause),
+    /// No host of the source has this name.
+    NoHost(Text),
+    /// The source has so many hosts, and not two.
+    NotTwo(usize),
+    /// The choice has a commitment: the first slot that stands at one.
+    HasCommit(usize),
+    /// The first kind of items of which a run takes more than a host was dealt.
+    DealShort(DealKind),
+    /// The first place at which what a host knows of two inputs differs.
+    ViewDiffers(usize),
+    /// The deal in this file was used before.
+    DealUsed(Text),
+    /// This file of a key has so many bytes, and not 32.
+    ShortKey(Text, u32),
+}
+
+impl Status {
+    /// The number with which the process ends.
+    pub fn code(&self) -> u8
+        ensures { result ≡ code_of self.now }
+    {
+        match self {
+            Status::Ended => 0,
+            Status::Memory => 1,
+            Status::Usage => 2,
+            Status::ReadFault(_) => 3,
+            Status::WriteFault => 4,
+            Status::TooLong(_, _) => 5,
+            Status::Syntax(_) => 6,
+            Status::Names(_) => 7,
+            Status::Flow(_, _) => 8,
+            Status::NoAssignment => 9,
+            Status::Spent(_) => 10,
+            Status::InputText(_) => 11,
+            Status::DealText(_, _) => 12,
+            Status::ScheduleText(_) => 13,
+            Status::CertificateText(_) => 15,
+            Status::BadDeal(_) => 16,
+            Status::CertificateRefused(_) => 17,
+            Status::Host(fault) => fault.code(),
+            Status::ChildFault(_, _) => 26,
+            Status::NoHost(_) => 27,
+            Status::NotTwo(_) => 28,
+            Status::HasCommit(_) => 29,
+            Status::DealShort(_) => 31,
+            Status::ViewDiffers(_) => 32,
+            Status::DealUsed(_) => 33,
+            Status::ShortKey(_, _) => 34,
+        }
+    }
+}
+
+impl From<AllocError> for Status {
+    ghost from_gives = { λ _ status. status ≡ Memory };
+
+    fn from(_: AllocError) -> Self {
+        Status::Memory
+    }
+}

@@ -1,0 +1,61 @@
+-- How many packets the hosts of a replay sent to one another.
+use Rattle.std.specs.Prelude.{◌≡◌, ℕ, Option, Some, List, length, Result, IfOk}
+use Rattle.vd_base.specs.declared.protocols.Proto.{Proto}
+use Rattle.vd_outside.specs.Files.{FilesView, Contents}
+use Rattle.vd_core.specs.declared.normal.NormalForm.{NormalForm}
+use Rattle.vd_core.specs.declared.source.Source.{Source}
+use Rattle.vd_cmd_rewrite.specs.RunPrograms.{IsRunProgram}
+use Rattle.vd_cmd.specs.declared.command.ReplayWords.{ReplayWords}
+use Rattle.vd_world.specs.Packets.{counted, packets_of}
+use Rattle.vd_cmd_plan.specs.Held.{Finds}
+use Rattle.vd_cmd_plan.specs.declared.answer.Answer.{Answer}
+use Rattle.vd_cmd_plan.specs.declared.status.Status.{Status}
+use Rattle.vd_cmd_plan.specs.declared.status.Status.TheVariants.{Ended}
+use Rattle.vd_cmd_frontend.specs.Sources.{HoldsSource}
+use Rattle.vd_cmd_choose.specs.Choice.{IsSelected}
+use Rattle.vd_cmd_choose.specs.declared.choice.Assignment.{Assignment}
+use Rattle.vd_cmd_inputs.specs.declared.asked.Asked.{Asked}
+use Rattle.vd_cmd_inputs.specs.Asking.{HoldAsked}
+use Rattle.vd_cmd_replay.specs.Replaying.{world_for}
+
+-- those of the world to which the schedule leads, as far as 64 bits tell it
+abbrev pub packets_for : NormalForm → List Proto → Asked → ℕ
+packets_for program protocols asked = counted (packets_of (world_for program protocols asked) (length program.hosts))
+
+-- the count is that of the hosts of a program at its choice of protocols
+pub record IsCount (program : NormalForm) (asked : Asked) (packets : Option ℕ) : Type 0 where
+  pub assignment : Assignment
+  pub selected : IsSelected program assignment
+  pub packets_are : packets ≡ Some (packets_for program assignment.protocols asked)
+
+-- on what the files say that the words name
+pub record IsCountOf (words : ReplayWords) (program : NormalForm) (contents : Contents) (packets : Option ℕ) : Type 0 where
+  pub asked : Asked
+  pub held : HoldAsked words program.hosts contents asked
+  pub count : IsCount program asked packets
+
+-- of the program that is run for a source
+pub record IsCountFor (words : ReplayWords) (source : Source) (contents : Contents) (packets : Option ℕ) : Type 0 where
+  pub program : NormalForm
+  pub is_run : IsRunProgram source program
+  pub count : IsCountOf words program contents packets
+
+-- and of the source that they hold
+pub record IsReplayCount (words : ReplayWords) (contents : Contents) (packets : Option ℕ) : Type 0 where
+  pub source : Source
+  pub is_source : HoldsSource words.source contents source
+  pub count : IsCountFor words source contents packets
+
+-- ---- where a program was run, so many packets are counted
+
+abbrev pub CountsOf : NormalForm → Asked → Option ℕ → Result Answer Status → Type 0
+CountsOf program asked packets result = IfOk result (λ answer. answer.status ≡ Ended → IsCount program asked packets)
+
+abbrev pub CountsProgram : ReplayWords → NormalForm → FilesView → Option ℕ → Result Answer Status → Type 0
+CountsProgram words program before packets result = Finds before result (λ contents answer. answer.status ≡ Ended → IsCountOf words program contents packets)
+
+abbrev pub CountsSource : ReplayWords → Source → FilesView → Option ℕ → Result Answer Status → Type 0
+CountsSource words source before packets result = Finds before result (λ contents answer. answer.status ≡ Ended → IsCountFor words source contents packets)
+
+abbrev pub CountsReplay : ReplayWords → FilesView → Option ℕ → Result Answer Status → Type 0
+CountsReplay words before packets result = Finds before result (λ contents answer. answer.status ≡ Ended → IsReplayCount words contents packets)

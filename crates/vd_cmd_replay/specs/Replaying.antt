@@ -1,0 +1,94 @@
+-- The command `replay`.
+use Rattle.std.specs.Prelude.{ℕ, true, Option, Some, None, List, [], length, Result}
+use Rattle.vd_base.specs.declared.protocols.Proto.{Proto}
+use Rattle.vd_outside.specs.Files.{FilesView, Contents}
+use Rattle.vd_core.specs.declared.normal.NormalForm.{NormalForm}
+use Rattle.vd_core.specs.declared.source.Source.{Source}
+use Rattle.vd_anf.specs.Normal.{normal_form}
+use Rattle.vd_cmd_rewrite.specs.RunPrograms.{run_form}
+use Rattle.vd_cmd.specs.declared.command.ReplayWords.{ReplayWords}
+use Rattle.vd_execution.specs.Joint.{started}
+use Rattle.vd_execution.specs.World.{World}
+use Rattle.vd_search_stages.specs.Choices.{ChoiceOutcomes}
+use Rattle.vd_projection.specs.Programs.{joint_of}
+use Rattle.vd_world_report.specs.Supplies.{supply_of_files}
+use Rattle.vd_world_report.specs.Schedules.{replayed}
+use Rattle.vd_world_report.specs.Reports.{report_of}
+use Rattle.vd_cmd_plan.specs.Plans.{Plan, Executes, check_then, answer_then, ended}
+use Rattle.vd_cmd_plan.specs.declared.answer.Answer.{Answer}
+use Rattle.vd_cmd_plan.specs.declared.status.Status.{Status}
+use Rattle.vd_cmd_frontend.specs.Outcomes.{TextOutcomes, LabelOutcomes}
+use Rattle.vd_cmd_frontend.specs.Sources.{source_then}
+use Rattle.vd_cmd_choose.specs.Searching.{Search, SomeSearch}
+use Rattle.vd_cmd_choose.specs.Choice.{choice_then}
+use Rattle.vd_cmd_choose.specs.declared.choice.Assignment.{Assignment}
+use Rattle.vd_cmd_compile.specs.Selected.{no_list}
+use Rattle.vd_report_outcomes.specs.Outcomes.{ReplayOutcomes}
+use Rattle.vd_cmd_inputs.specs.declared.asked.Asked.{Asked}
+use Rattle.vd_cmd_inputs.specs.Asking.{asked_then}
+use Rattle.vd_cmd_inputs.specs.Deals.{as_consistent}
+
+-- ---- what it runs
+
+-- the world of all hosts of a program at an assignment of protocols, after the schedule
+abbrev pub world_for : NormalForm → List Proto → Asked → World
+world_for program protocols asked =
+    replayed (supply_of_files asked.inputs asked.deals) (length program.hosts) asked.schedule (started (joint_of program protocols))
+
+-- its report
+abbrev pub report_for : NormalForm → List Proto → Asked → List ℕ
+report_for program protocols asked =
+    report_of program.hosts (supply_of_files asked.inputs asked.deals) (world_for program protocols asked) asked.messages
+
+-- ---- the plan
+
+-- with the choice for a program
+abbrev pub assignment_plan : ReplayOutcomes → Asked → NormalForm → Assignment → Contents → Plan
+assignment_plan outcomes asked program a =
+    check_then (as_consistent (outcomes.judge asked.deals)) (λ consistent. answer_then (ended [] (report_for program a.protocols asked)))
+
+-- if there is one
+abbrev pub choice_plan : ReplayOutcomes → Asked → NormalForm → Option Assignment → Contents → Plan
+choice_plan outcomes asked program None = answer_then no_list
+choice_plan outcomes asked program (Some a) = assignment_plan outcomes asked program a
+
+-- with a program, and all that it is to run on
+abbrev pub asked_plan : ReplayOutcomes → LabelOutcomes → ChoiceOutcomes → Search → (budget : ℕ) → NormalForm → Asked → Contents → Plan
+asked_plan outcomes least choices search budget program asked = choice_then least choices search budget program (λ c. choice_plan outcomes asked c.program c.assignment)
+
+-- with a program, and with a source that meets every rule
+abbrev pub program_plan : TextOutcomes → ReplayOutcomes → LabelOutcomes → ChoiceOutcomes → Search → ReplayWords → NormalForm → Contents → Plan
+program_plan texts outcomes least choices search words program =
+    asked_then texts outcomes words program.hosts (asked_plan outcomes least choices search words.budget program)
+
+abbrev pub source_plan : TextOutcomes → ReplayOutcomes → LabelOutcomes → ChoiceOutcomes → Search → ReplayWords → Source → Contents → Plan
+source_plan texts outcomes least choices search words source = program_plan texts outcomes least choices search words (run_form least (normal_form source))
+
+abbrev pub replay_plan : TextOutcomes → ReplayOutcomes → LabelOutcomes → ChoiceOutcomes → Search → ReplayWords → Contents → Plan
+replay_plan texts outcomes least choices search words =
+    source_then texts words.source (source_plan texts outcomes least choices search words)
+
+-- ---- what the parts of the command do, whatever functions pick outcomes
+
+abbrev pub ExecutesChoice : NormalForm → Asked → Assignment → Result Answer Status → Type 0
+ExecutesChoice program asked a result = (outcomes : ReplayOutcomes) (files : FilesView) → Executes true (assignment_plan outcomes asked program a) files files result
+
+abbrev pub ExecutesAsked : NormalForm → Asked → (budget : ℕ) → Result Answer Status → Type 0
+ExecutesAsked program asked budget result =
+    SomeSearch (λ choices search. (outcomes : ReplayOutcomes) (least : LabelOutcomes) (files : FilesView)
+    → Executes true (asked_plan outcomes least choices search budget program asked) files files result)
+
+abbrev pub ExecutesProgram : ReplayWords → NormalForm → FilesView → FilesView → Result Answer Status → Type 0
+ExecutesProgram words program before now result =
+    SomeSearch (λ choices search. (texts : TextOutcomes) (outcomes : ReplayOutcomes) (least : LabelOutcomes)
+    → Executes true (program_plan texts outcomes least choices search words program) before now result)
+
+abbrev pub ExecutesSource : ReplayWords → Source → FilesView → FilesView → Result Answer Status → Type 0
+ExecutesSource words source before now result =
+    SomeSearch (λ choices search. (texts : TextOutcomes) (outcomes : ReplayOutcomes) (least : LabelOutcomes)
+    → Executes true (source_plan texts outcomes least choices search words source) before now result)
+
+abbrev pub ExecutesReplay : ReplayWords → FilesView → FilesView → Result Answer Status → Type 0
+ExecutesReplay words before now result =
+    SomeSearch (λ choices search. (texts : TextOutcomes) (outcomes : ReplayOutcomes) (least : LabelOutcomes)
+    → Executes true (replay_plan texts outcomes least choices search words) before now result)

@@ -1,0 +1,115 @@
+-- What is printed: how hosts stand that have printed a front of what the source tells them.
+use Rattle.std.specs.Prelude.{◌≡◌, ℕ, ◌<◌, List, [], length, Result, IfOk}
+use Rattle.vd_outside.specs.Files.{FilesView, Contents}
+use Rattle.vd_core.specs.declared.normal.NormalForm.{NormalForm}
+use Rattle.vd_core.specs.declared.source.Source.{Source}
+use Rattle.vd_semantics.specs.ProgramMeaning.{program_outputs}
+use Rattle.vd_semantics.specs.SourceMeaning.{host_names, source_outputs}
+use Rattle.vd_cmd_rewrite.specs.RunPrograms.{IsRunProgram}
+use Rattle.vd_cmd.specs.declared.command.ReplayWords.{ReplayWords}
+use Rattle.vd_deal_items.specs.Validity.{IsConsistent}
+use Rattle.vd_execution.specs.declared.instructions.Instr.{Instr}
+use Rattle.vd_execution.specs.Joint.{Joint, code_of, started}
+use Rattle.vd_execution.specs.Text.{text}
+use Rattle.vd_projection.specs.Programs.{joint_of}
+use Rattle.vd_world_report.specs.Loading.{AreCodesOf}
+use Rattle.vd_world_report.specs.Reports.{report_of}
+use Rattle.vd_world_report.specs.Schedules.{replayed}
+use Rattle.vd_base.specs.Words.{InputsAreWords}
+use Rattle.vd_world_report.specs.Supplies.{supply_of_files}
+use Rattle.vd_world_report.specs.Told.{TellsUnder}
+use Rattle.vd_cmd_plan.specs.Held.{Finds}
+use Rattle.vd_cmd_plan.specs.declared.answer.Answer.{Answer}
+use Rattle.vd_cmd_plan.specs.declared.status.Status.{Status}
+use Rattle.vd_cmd_plan.specs.declared.status.Status.TheVariants.{Ended}
+use Rattle.vd_cmd_frontend.specs.Sources.{HoldsSource}
+use Rattle.vd_cmd_compile.specs.Compiling.{IsStoredFor}
+use Rattle.vd_cmd_choose.specs.Choice.{IsSelected}
+use Rattle.vd_cmd_choose.specs.declared.choice.Assignment.{Assignment}
+use Rattle.vd_cmd_compile.specs.Selected.{AreCovered}
+use Rattle.vd_cmd_inputs.specs.declared.asked.Asked.{Asked}
+use Rattle.vd_cmd_inputs.specs.Asking.{HoldAsked}
+
+-- ---- the two halves of the headline
+
+-- What is told. Hosts of these names run this joint code, each its own part, and what is printed is the report of their world.
+pub record IsReportOf (names outputs : List (List ℕ)) (asked : Asked) (joint : Joint) (printed : List ℕ) : Type 0 where
+  -- there is a code for each host, which can be loaded and is that host's part of the joint code
+  pub codes : List (List Instr)
+  pub counted : length codes ≡ length names
+  pub parts : AreCodesOf codes joint
+  -- the deals of all hosts keep their identities
+  pub consistent : IsConsistent asked.deals
+  -- what is printed is the report of the world to which the schedule leads from the start of all hosts
+  pub report : let supply = supply_of_files asked.inputs asked.deals in
+      printed ≡ report_of names supply (replayed supply (length names) asked.schedule (started joint)) asked.messages
+  -- in that world each host has printed a front of the words that it is told, and all else holds that is claimed of every schedule
+  pub told : TellsUnder (length names) outputs (supply_of_files asked.inputs asked.deals) joint asked.schedule
+
+-- Which code it is: that of a program at its choice of protocols.
+pub record IsCodeAtChoice (program : NormalForm) (joint : Joint) : Type 0 where
+  -- the choice: valid under the least labels, of least cost, and the first of these in order
+  pub assignment : Assignment
+  pub selected : IsSelected program assignment
+  -- the protocol of each slot covers its least label, in confidentiality and in integrity
+  pub covered : AreCovered program selected.labels assignment.protocols
+  -- the joint code is that of the program at this choice
+  pub compiled : joint ≡ joint_of program assignment.protocols
+  -- and each host's part of it is what `compile` stores for that host
+  pub stored : (h : ℕ) → h < length program.hosts → IsStoredFor program assignment h (text (code_of h joint) [])
+
+-- The report of a program whose hosts are told these outputs.
+pub record IsReport (program : NormalForm) (outputs : List (List ℕ)) (asked : Asked) (printed : List ℕ) : Type 0 where
+  pub joint : Joint
+  pub told : IsReportOf program.hosts outputs asked joint printed
+  pub code : IsCodeAtChoice program joint
+
+-- The report of a program on what the files say that the words name.
+pub record IsReplay (words : ReplayWords) (program : NormalForm) (outputs : List (List ℕ) → List (List ℕ)) (contents : Contents) (printed : List ℕ) : Type 0 where
+  pub asked : Asked
+  pub held : HoldAsked words program.hosts contents asked
+  pub are_words : InputsAreWords asked.inputs
+  pub report : IsReport program (outputs asked.inputs) asked printed
+
+-- The report of the program that is run for a source.
+pub record IsReplayOf (words : ReplayWords) (source : Source) (contents : Contents) (printed : List ℕ) : Type 0 where
+  pub program : NormalForm
+  pub is_run : IsRunProgram source program
+  pub replay : IsReplay words program (source_outputs source) contents printed
+
+-- ---- the headline
+
+-- What the files hold that the words name: the first is the text of a source that meets every rule, and the others give inputs,
+-- deals and a schedule for its hosts.
+pub record HoldReplay (words : ReplayWords) (contents : Contents) : Type 0 where
+  pub source : Source
+  pub is_source : HoldsSource words.source contents source
+  pub asked : Asked
+  pub are_asked : HoldAsked words (host_names source.hosts) contents asked
+
+-- The headline. What is printed is the report of a world in which each host of the source has printed a front of the words that the
+-- source tells it, and sent a front of what the joint run sends, all of it where all hosts have ended. What runs there is the code, at
+-- its choice of protocols, of the program that is run for the source.
+pub record IsHeadline (words : ReplayWords) (contents : Contents) (printed : List ℕ) : Type 0 where
+  pub held : HoldReplay words contents
+  pub joint : Joint
+  pub told : IsReportOf (host_names held.source.hosts) (source_outputs held.source held.asked.inputs) held.asked joint printed
+  pub program : NormalForm
+  pub is_run : IsRunProgram held.source program
+  pub code : IsCodeAtChoice program joint
+
+-- ---- where a program was run, what is printed is such a report
+
+abbrev pub TellsOf : NormalForm → Asked → Result Answer Status → Type 0
+TellsOf program asked result = IfOk result (λ answer. answer.status ≡ Ended → IsReport program (program_outputs program asked.inputs) asked answer.printed)
+
+abbrev pub TellsProgram : ReplayWords → NormalForm → FilesView → Result Answer Status → Type 0
+TellsProgram words program before result =
+    Finds before result (λ contents answer. answer.status ≡ Ended → IsReplay words program (program_outputs program) contents answer.printed)
+
+abbrev pub TellsSource : ReplayWords → Source → FilesView → Result Answer Status → Type 0
+TellsSource words source before result =
+    Finds before result (λ contents answer. answer.status ≡ Ended → IsReplayOf words source contents answer.printed)
+
+abbrev pub TellsHeadline : ReplayWords → FilesView → Result Answer Status → Type 0
+TellsHeadline words before result = Finds before result (λ contents answer. answer.status ≡ Ended → IsHeadline words contents answer.printed)

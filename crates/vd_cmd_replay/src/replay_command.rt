@@ -1,0 +1,176 @@
+//! The command `replay`.
+
+ghost use Rattle.std.specs.Prelude.{◌≡◌, ◌≤◌, [], Some, length, IfOk, OnOk};
+ghost use Rattle.vd_base.specs.Limits.{most_search_budget};
+ghost use Rattle.vd_deal_items.specs.Validity.{IsConsistent};
+ghost use Rattle.vd_semantics.specs.ProgramMeaning.{program_outputs};
+ghost use Rattle.vd_cmd_plan.specs.Plans.{Computes, ended};
+ghost use Rattle.vd_cmd_choose.specs.Choice.{IsSelected};
+ghost use Rattle.vd_cmd_inputs.specs.Asking.{AreAsked};
+ghost use Rattle.vd_cmd_replay.specs.Counting.{CountsOf, CountsProgram, CountsReplay, CountsSource, packets_for};
+ghost use Rattle.vd_cmd_replay.specs.Replaying.{ExecutesAsked, ExecutesChoice, ExecutesProgram, ExecutesReplay, ExecutesSource, report_for};
+ghost use Rattle.vd_cmd_replay.specs.Telling.{IsReport, TellsHeadline, TellsOf, TellsProgram, TellsSource};
+
+use std::alloc::Global;
+use vd_base::Bytes;
+use vd_base_lists::Items;
+use vd_cmd::ReplayWords;
+use vd_cmd_choose::{Assignment, choice_for};
+use vd_cmd_compile::no_assignment;
+use vd_cmd_frontend::load_source;
+use vd_cmd_inputs::{Asked, expect_consistent, load_asked};
+use vd_cmd_plan::{Answer, Status};
+use vd_cmd_rewrite::run_program;
+use vd_core::Program;
+use vd_outside::Files;
+use vd_projection::split;
+use vd_resolve::Resolved;
+use vd_world_report::{play, report};
+
+/// The answer that prints this and stores nothing.
+fn printing(alloc: Global, printed: Bytes) -> Answer
+    ensures { result ≡ ended [] printed }
+{
+    Answer {
+        status: Status::Ended,
+        stores: Items::new(alloc),
+        printed,
+    }
+}
+
+/// Runs a program at its choice of protocols, keeps how many packets its hosts sent, and prints the report.
+fn replay_counted(
+    alloc: Global,
+    program: &Program,
+    assignment: &Assignment,
+    asked: Asked,
+    packets: &mut Option<u64>,
+) -> Result<Answer, Status>
+    requires selected { IsSelected program.now assignment.now }
+    requires asked { AreAsked (length program.now.hosts) asked }
+    requires consistent { IsConsistent asked.deals }
+    ensures computes { Computes (ended [] (report_for program.now assignment.now.protocols asked)) result }
+    ensures tells { IfOk result (λ answer. IsReport program.now (program_outputs program.now asked.inputs) asked answer.printed) }
+    ensures counts { OnOk result (packets.new ≡ Some (packets_for program.now assignment.now.protocols asked)) }
+{
+    program.numbers_fit();
+    let Asked {
+        inputs,
+        deals,
+        schedule,
+        messages,
+    } = asked;
+    let protocols = assignment.protocols.as_slice();
+    let codes = split(alloc, program, protocols)?;
+    let world = play(alloc, codes, inputs, deals, &schedule)?;
+    *packets = Some(world.packets_sent());
+    let printed = report(alloc, &program.form().hosts, &world, messages)?;
+    Ok(printing(alloc, printed))
+}
+
+/// Runs a program at its choice of protocols, and prints the report.
+pub fn replay_at(
+    alloc: Global,
+    program: &Program,
+    assignment: &Assignment,
+    asked: Asked,
+) -> Result<Answer, Status>
+    requires selected { IsSelected program.now assignment.now }
+    requires asked { AreAsked (length program.now.hosts) asked }
+    requires consistent { IsConsistent asked.deals }
+    ensures computes { Computes (ended [] (report_for program.now assignment.now.protocols asked)) result }
+    ensures tells { IfOk result (λ answer. IsReport program.now (program_outputs program.now asked.inputs) asked answer.printed) }
+{
+    let mut packets = None;
+    replay_counted(alloc, program, assignment, asked, &mut packets)
+}
+
+/// What `replay` does with the choice for a program.
+fn replay_choice(
+    alloc: Global,
+    program: &Program,
+    assignment: &Assignment,
+    asked: Asked,
+    packets: &mut Option<u64>,
+) -> Result<Answer, Status>
+    requires selected { IsSelected program.now assignment.now }
+    requires asked { AreAsked (length program.now.hosts) asked }
+    ensures executes { ExecutesChoice program.now asked assignment.now result }
+    ensures tells { TellsOf program.now asked result }
+    ensures counts { CountsOf program.now asked packets.new result }
+{
+    expect_consistent(&asked.deals)?;
+    replay_counted(alloc, program, assignment, asked, packets)
+}
+
+/// What `replay` does with a program, and all that it is to run on.
+fn replay_asked(
+    alloc: Global,
+    program: Program,
+    asked: Asked,
+    budget: u32,
+    packets: &mut Option<u64>,
+) -> Result<Answer, Status>
+    requires budget { budget ≤ most_search_budget }
+    requires asked { AreAsked (length program.hosts) asked }
+    ensures executes { ExecutesAsked program asked budget result }
+    ensures tells { TellsOf program asked result }
+    ensures counts { CountsOf program asked packets.new result }
+{
+    let choice = choice_for(alloc, program, budget)?;
+    match &choice.assignment {
+        Some(assignment) => replay_choice(alloc, &choice.program, assignment, asked, packets),
+        None => Ok(no_assignment(alloc)),
+    }
+}
+
+/// What `replay` does with a program.
+fn replay_program<F: Files>(
+    alloc: Global,
+    files: &mut F,
+    words: &ReplayWords,
+    program: Program,
+    packets: &mut Option<u64>,
+) -> Result<Answer, Status>
+    requires { words.now.budget ≤ most_search_budget }
+    ensures executes { ExecutesProgram words.now program (F.view files.old) (F.view files.new) result }
+    ensures tells { TellsProgram words.now program (F.view files.old) result }
+    ensures counts { CountsProgram words.now program (F.view files.old) packets.new result }
+{
+    let asked = load_asked(alloc, files, words, &program.form().hosts)?;
+    replay_asked(alloc, program, asked, words.budget, packets)
+}
+
+/// What `replay` does with a source that meets every rule.
+fn replay_source<F: Files>(
+    alloc: Global,
+    files: &mut F,
+    words: &ReplayWords,
+    source: &Resolved,
+    packets: &mut Option<u64>,
+) -> Result<Answer, Status>
+    requires { words.now.budget ≤ most_search_budget }
+    ensures executes { ExecutesSource words.now source.now (F.view files.old) (F.view files.new) result }
+    ensures tells { TellsSource words.now source.now (F.view files.old) result }
+    ensures counts { CountsSource words.now source.now (F.view files.old) packets.new result }
+{
+    let program = run_program(alloc, source)?;
+    replay_program(alloc, files, words, program, packets)
+}
+
+/// The command `replay`: all hosts of a source run over a schedule, and how each stands then. Where they ran, it is kept how many
+/// packets they sent to one another.
+pub fn replay<F: Files>(
+    alloc: Global,
+    files: &mut F,
+    words: &ReplayWords,
+    packets: &mut Option<u64>,
+) -> Result<Answer, Status>
+    requires { words.now.budget ≤ most_search_budget }
+    ensures executes { ExecutesReplay words.now (F.view files.old) (F.view files.new) result }
+    ensures tells { TellsHeadline words.now (F.view files.old) result }
+    ensures counts { CountsReplay words.now (F.view files.old) packets.new result }
+{
+    let source = load_source(alloc, files, words.source.as_str())?;
+    replay_source(alloc, files, words, &source, packets)
+}

@@ -1,0 +1,26 @@
+//! What holds of each run. Nothing is computed here: the functions' clauses are laws.
+
+ghost use Rattle.vd_cmd_run.specs.Asking.{EndedRunsReport, RunsAskInOrder};
+ghost use Rattle.vd_cmd_run.specs.Completing.{RunsAreComplete, StatusesHaveCauses};
+
+/// A good source, children that are hosts, and no fault of the outside give status 0, or want of memory.
+pub fn runs_are_complete()
+    ensures { RunsAreComplete }
+{}
+
+/// A fault of a fetch, of a write or of a call for a child is answered only where the count of the files, of the sink or of
+/// the spawner rose.
+pub fn statuses_have_causes()
+    ensures { StatusesHaveCauses }
+{}
+
+/// A spawner is asked for the calls of a run of the source's hosts, for a front of them, or for nothing.
+pub fn runs_ask_in_order()
+    ensures { RunsAskInOrder }
+{}
+
+/// With status 0 each host of the source was a child with its command line, ended well, and is reported with the words that
+/// it printed.
+pub fn ended_runs_report()
+    ensures { EndedRunsReport }
+{}

@@ -1,5 +1,0 @@
-use Rattle.vd_compiled_files.proofs.Texts.{compiled_files_can_be_read}
-use Rattle.vd_compiled_files.proofs.laws.compiled_files_can_be_read.Goals as goal
-
-pub returns : goal.returns
-returns c = compiled_files_can_be_read c.args.program.now c.numbers_fit.ensures.well_made c.numbers_fit.ensures.fit

@@ -1,0 +1,74 @@
+//! The ascent over the points and links of a problem.
+
+ghost use Rattle.std.specs.Prelude.{◌≡◌, IfOk, IfSome};
+ghost use Rattle.vd_cost_network_shifts.specs.Shifts.{AreLinkShifts};
+ghost use Rattle.vd_cost_network_prefix.specs.Tables.{AreLinkedTables};
+ghost use Rattle.vd_space.specs.Labelled.{IsLabelled};
+ghost use Rattle.vd_space.specs.Validity.{protocols as protocols_of};
+
+use crate::climbing::Climb;
+use std::alloc::{AllocError, Global};
+use vd_base::Proto;
+use vd_base_lists::Items;
+use vd_cost_network_prefix::LinkedTables;
+use vd_cost_network_shifts::shifts_of;
+use vd_cost_network_sweeps::Nets;
+use vd_protocol::protocols;
+use vd_search_tree::Shift;
+use vd_space::Problem;
+
+/// Sweeps over the points and links of a problem, after which shifts of links come to much.
+#[derive(Drop)]
+pub struct Ascent {
+    pub(crate) climb: Climb,
+}
+
+impl Ascent {
+    /// After all sweeps, by the tables without shifts. None where a point has no setting left, since then no list is valid.
+    pub fn of(
+        alloc: Global,
+        problem: &Problem,
+        tables: &LinkedTables,
+    ) -> Result<Option<Ascent>, AllocError>
+        requires { IsLabelled problem.now }
+    {
+        match Climb::of(alloc, problem, tables)? {
+            Some(climb) => Ok(Some(Ascent { climb })),
+            None => Ok(None),
+        }
+    }
+
+    /// Shifts of links under which the bounds by links of the problem are greater than under most others, by the tables without
+    /// shifts. There are none where an amount became too great for a shift, or shifts too many for a certificate.
+    pub fn shifts(
+        &self,
+        alloc: Global,
+        problem: &Problem,
+        tables: &LinkedTables,
+    ) -> Result<Option<Items<Shift>>, AllocError>
+        requires labelled { IsLabelled problem.now }
+        requires tables { AreLinkedTables problem.now tables.now }
+        ensures { IfOk result (λ found. IfSome found (AreLinkShifts problem.now)) }
+    {
+        let nets = self.climb.lifted(alloc, tables.links.as_slice())?;
+        let list = protocols(alloc, problem.hosts.as_slice().len() as u8)?;
+        linked_shifts(alloc, problem, tables, list.as_slice(), &nets)
+    }
+}
+
+/// The shifts of the problem's links that come to these amounts, if shifts can have them.
+fn linked_shifts(
+    alloc: Global,
+    problem: &Problem,
+    tables: &LinkedTables,
+    list: &[Proto],
+    nets: &Nets,
+) -> Result<Option<Items<Shift>>, AllocError>
+    requires labelled { IsLabelled problem.now }
+    requires tables { AreLinkedTables problem.now tables.now }
+    requires list { list.now ≡ protocols_of problem.now }
+    ensures { IfOk result (λ found. IfSome found (AreLinkShifts problem.now)) }
+{
+    let count = tables.links.as_slice().len();
+    shifts_of(alloc, count, list.len(), nets)
+}

@@ -1,0 +1,204 @@
+//! The climb over the points and links of a problem.
+
+ghost use Rattle.vd_space.specs.Labelled.{IsLabelled};
+
+use crate::lifting::Lifting;
+use std::alloc::{AllocError, Global};
+use vd_base_lists::Items;
+use vd_cost_network_dominance::Thinned;
+use vd_cost_network_prefix::{LinkTable, LinkedTables};
+use vd_cost_network_sweeps::{Ending, Left, Nets, Network, Order, Reach, State, Tables, Witness};
+use vd_protocol::protocols;
+use vd_space::Problem;
+use vd_space_terms::candidates;
+
+/// At first so many sweeps are made at most, over all settings.
+const FIRST: Reach = Reach {
+    sweeps: 256,
+    work: 268_435_456,
+    patience: 48,
+    pause: 3,
+};
+
+/// Then so many over those settings that cost less than each other one of their point for some partners.
+const THINNED: Reach = Reach {
+    sweeps: 16_384,
+    work: 268_435_456,
+    patience: 400,
+    pause: 15,
+};
+
+/// At last so many over all settings again.
+const LAST: Reach = Reach {
+    sweeps: 512,
+    work: 402_653_184,
+    patience: 48,
+    pause: 3,
+};
+
+/// The walk behind an ascent ends when so many prices of links were looked at in both, where other work counts as long as it
+/// takes: both together take some three quarters of a second at most.
+pub const WORK: u64 = 805_306_368;
+
+/// The points and links of a problem, and what sweeps over them came to.
+#[derive(Drop)]
+pub struct Climb {
+    pub order: Order,
+    pub network: Network,
+    pub left: Left,
+    /// How many settings each point has, with those that are not left.
+    pub counts: Vec<usize>,
+    /// By point.
+    pub settings: Vec<Vec<usize>>,
+    /// By the settings that are left.
+    pub tables: Tables,
+    pub state: State,
+    /// The cheapest list that was met.
+    pub witness: Witness,
+}
+
+impl Climb {
+    /// After all sweeps over a problem, at whose end each point gave what it has above its least back to the points before it; by
+    /// the tables without shifts; none where a point has no setting left.
+    pub fn of(
+        alloc: Global,
+        problem: &Problem,
+        linked: &LinkedTables,
+    ) -> Result<Option<Climb>, AllocError>
+        requires { IsLabelled problem.now }
+    {
+        let list = protocols(alloc, problem.hosts.as_slice().len() as u8)?;
+        let places = candidates(alloc, problem, list.as_slice())?;
+        Climb::from_candidates(alloc, problem, linked, places.as_slice())
+    }
+
+    /// The same, where these are the places at which the slots may stand.
+    fn from_candidates(
+        alloc: Global,
+        problem: &Problem,
+        linked: &LinkedTables,
+        candidates: &[Items<bool>],
+    ) -> Result<Option<Climb>, AllocError> {
+        let order = Order::of(alloc, problem, linked.switches.as_slice())?;
+        let network = Network::of(alloc, linked.links.as_slice(), &order)?;
+        let left = Left::of(alloc, problem, linked, candidates, &network, &order)?;
+        let Some(settings) = left.settings(alloc)? else {
+            return Ok(None);
+        };
+        let counts = left.counts(alloc)?;
+        let tables = Tables::of(alloc, linked, &network, &order, settings.as_slice())?;
+        let state = State::of(alloc, &tables, &network, left.most)?;
+        let mut climb = Climb {
+            order,
+            network,
+            left,
+            counts,
+            settings,
+            tables,
+            state,
+            witness: Witness::none(alloc),
+        };
+        if climb.sweep(alloc, FIRST)? == Ending::Cut {
+            climb.go_on(alloc, linked)?;
+        }
+        climb.state.send_home(&climb.tables, &climb.network);
+        Ok(Some(climb))
+    }
+
+    /// Sweeps over all settings.
+    fn sweep(&mut self, alloc: Global, reach: Reach) -> Result<Ending, AllocError> {
+        let witness = &mut self.witness;
+        self.state
+            .climb(alloc, &self.tables, &self.network, reach, witness)
+    }
+
+    /// Goes on where the first sweeps did not do: over fewer settings, and then over all again.
+    fn go_on(&mut self, alloc: Global, linked: &LinkedTables) -> Result<(), AllocError> {
+        let settings = self.settings.as_slice();
+        let thinned = Thinned::of(alloc, &self.tables, &self.network, settings)?;
+        self.state.come_back(&self.tables, &self.network);
+        let nets = self.thinned_nets(alloc, linked, &thinned)?;
+        let work = self.state.work();
+        self.state = self.state_from(alloc, &nets)?;
+        self.state.count(work);
+        self.sweep(alloc, LAST)?;
+        Ok(())
+    }
+
+    /// The state behind a sweep backward that came to these amounts.
+    fn state_from(&self, alloc: Global, nets: &Nets) -> Result<State, AllocError> {
+        let most = self.left.most;
+        let settings = self.settings.as_slice();
+        State::from_nets(alloc, &self.tables, &self.network, most, settings, nets)
+    }
+
+    /// What the shifts come to by sweeps over fewer settings, where the others get shifts behind these.
+    fn thinned_nets(
+        &mut self,
+        alloc: Global,
+        linked: &LinkedTables,
+        thinned: &Thinned,
+    ) -> Result<Nets, AllocError> {
+        let network = &self.network;
+        let counts = self.counts.as_slice();
+        let nets = self.state.nets(
+            alloc,
+            &self.tables,
+            network,
+            self.settings.as_slice(),
+            counts,
+        )?;
+        let few = thinned.settings.as_slice();
+        let tables = Tables::of(alloc, linked, network, &self.order, few)?;
+        let mut state = State::from_nets(alloc, &tables, network, self.left.most, few, &nets)?;
+        let mut witness = Witness::none(alloc);
+        state.climb(alloc, &tables, network, THINNED, &mut witness)?;
+        state.come_back(&tables, network);
+        self.state.count(state.work());
+        let mut nets = state.nets(alloc, &tables, network, few, counts)?;
+        thinned.extend(alloc, linked.links.as_slice(), network, counts, &mut nets)?;
+        Ok(nets)
+    }
+
+    /// What the shifts come to by all settings, where those that are not left are lifted.
+    pub fn lifted(&self, alloc: Global, links: &[LinkTable]) -> Result<Nets, AllocError> {
+        let mut lifting = self.lifting(alloc)?;
+        self.lift(links, &[], &mut lifting);
+        Ok(lifting.into_nets())
+    }
+
+    /// Room for what shifts come to by all settings.
+    pub fn lifting(&self, alloc: Global) -> Result<Lifting, AllocError> {
+        let counts = self.counts.as_slice();
+        let settings = self.settings.as_slice();
+        Lifting::of(alloc, &self.network, &self.left, counts, settings)
+    }
+
+    /// Writes down what the shifts come to where points are fixed so, by all settings at which these may be.
+    pub fn lift(&self, links: &[LinkTable], fixed: &[Option<usize>], lifting: &mut Lifting) {
+        let settings = self.settings.as_slice();
+        self.state.write_nets(
+            &self.tables,
+            &self.network,
+            settings,
+            fixed,
+            &mut lifting.nets,
+        );
+        lifting.lift(links, &self.network, &self.left, fixed);
+    }
+
+    /// What it takes to have the amounts as shifts, and the bound of a prefix under these: so many prices are looked at.
+    pub fn work_of_shifts(&self) -> u64 {
+        let mut work: u64 = 0;
+        for death in &self.left.deaths {
+            let links = self.network.of_point(death.point).len() as u64;
+            work = work.saturating_add(links.saturating_mul(self.left.most as u64));
+        }
+        for first in &self.network.firsts {
+            let here = self.tables.rows(*first).len() as u64;
+            let there = self.tables.rows(first.turned()).len() as u64;
+            work = work.saturating_add(here.saturating_mul(there));
+        }
+        work
+    }
+}

@@ -1,0 +1,154 @@
+//! Lifts what is not left. A setting that went can stand in no valid list, but bounds count it. So it gets a greater cost at
+//! its point, which is taken from the link where it has no partner left: no two that are left lose by that. At its other links it
+//! costs more only as far as it would cost too little there.
+
+use std::alloc::{AllocError, Global};
+use vd_cost_network_prefix::LinkTable;
+use vd_cost_network_sweeps::{
+    Death, End, FAR, Left, Nets, Network, fixed_at, number_at, settings_at,
+};
+
+/// So many parts more are put on each: 65,536 units, so that some hundred lifts together still are an amount of 32 bits.
+const LIFT: i64 = 16_777_216;
+
+/// What shifts come to, with room for what is lifted. It is made once and written again and again.
+#[derive(Drop)]
+pub struct Lifting {
+    /// What the shifts come to by all settings.
+    pub nets: Nets,
+    /// What is lifted of it.
+    lifts: Nets,
+    /// By point, the settings that it has left, and those that went.
+    known: Vec<Vec<usize>>,
+}
+
+impl Lifting {
+    /// Nothing is shifted yet. Each point has so many settings, of which it has these left.
+    pub fn of(
+        alloc: Global,
+        network: &Network,
+        left: &Left,
+        counts: &[usize],
+        settings: &[Vec<usize>],
+    ) -> Result<Lifting, AllocError> {
+        Ok(Lifting {
+            nets: Nets::none(alloc, network.firsts.as_slice(), counts)?,
+            lifts: Nets::none(alloc, network.firsts.as_slice(), counts)?,
+            known: known_settings(alloc, settings, left.deaths.as_slice())?,
+        })
+    }
+
+    /// What the shifts come to.
+    pub fn into_nets(self) -> Nets {
+        let Lifting {
+            nets,
+            lifts: _,
+            known: _,
+        } = self;
+        nets
+    }
+
+    /// Lifts all that went, from the last to the first: by that time those are lifted that it had for partners. A point that is
+    /// fixed is at none of them, so these need not be.
+    pub fn lift(
+        &mut self,
+        links: &[LinkTable],
+        network: &Network,
+        left: &Left,
+        fixed: &[Option<usize>],
+    ) {
+        for death in &left.deaths {
+            self.take_back(network, death);
+        }
+        for death in left.deaths.iter().rev() {
+            if fixed_at(fixed, death.point).is_none() {
+                self.lift_one(links, network, death);
+            }
+        }
+    }
+
+    /// Shifts nothing of one.
+    fn take_back(&mut self, network: &Network, death: &Death) {
+        for end in network.of_point(death.point) {
+            self.nets.put(*end, death.setting, 0);
+            self.lifts.put(*end, death.setting, 0);
+        }
+    }
+
+    /// Lifts one, where the later ones were lifted. One that a point alone cannot have costs enough there already.
+    fn lift_one(&mut self, links: &[LinkTable], network: &Network, death: &Death) {
+        let mut sum = LIFT;
+        for end in network.of_point(death.point) {
+            if !is_at(death, *end) {
+                let need = self.needed(links, *end, death.setting);
+                self.nets
+                    .put(*end, death.setting, 0i64.saturating_sub(need));
+                sum = sum.saturating_add(need);
+            }
+        }
+        if let Some(end) = death.end {
+            self.nets.put(end, death.setting, sum);
+            self.lifts.put(end, death.setting, sum);
+        }
+    }
+
+    /// What a link must cost more at a setting, so that it costs enough with each partner that was lifted at the link, and with
+    /// the others no less than nothing. No price is less than nothing, so that of a partner which asks for no more need not be
+    /// looked at.
+    fn needed(&self, links: &[LinkTable], end: End, setting: usize) -> i64 {
+        let there = end.turned();
+        let amounts = self.nets.row(there);
+        let lifts = self.lifts.row(there);
+        let mut most = 0;
+        for partner in settings_at(self.known.as_slice(), there.point) {
+            let lift = number_at(lifts, *partner);
+            let is_lifted = lift > 0;
+            let asked = if is_lifted {
+                lift.saturating_add(LIFT)
+            } else {
+                number_at(amounts, *partner)
+            };
+            if asked > most {
+                let price = end.price(links, setting, *partner);
+                if price < FAR {
+                    most = most.max(if is_lifted {
+                        asked
+                    } else {
+                        asked.saturating_sub(price)
+                    });
+                }
+            }
+        }
+        most
+    }
+}
+
+/// By point, the settings that it has left, and those that went.
+fn known_settings(
+    alloc: Global,
+    settings: &[Vec<usize>],
+    deaths: &[Death],
+) -> Result<Vec<Vec<usize>>, AllocError> {
+    let mut known = Vec::with_capacity(alloc, settings.len())?;
+    for left in settings {
+        let mut row = Vec::with_capacity(alloc, left.len())?;
+        for setting in left {
+            row.push(*setting)?;
+        }
+        known.push(row)?;
+    }
+    for death in deaths {
+        if death.point < known.len() {
+            known[death.point].push(death.setting)?;
+        }
+    }
+    Ok(known)
+}
+
+/// Whether it went at this end of a link.
+fn is_at(death: &Death, end: End) -> bool {
+    match death.end {
+        Some(own) => own.at == end.at && own.side == end.side,
+        None => false,
+    }
+}

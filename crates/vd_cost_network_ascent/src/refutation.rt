@@ -1,0 +1,12 @@
+//! What a walk finds.
+
+use vd_base_lists::Items;
+use vd_search_tree::Shift;
+
+/// A prefix, and shifts of links under which each list that it begins seems to cost more than the walk's aim. Nothing of that is
+/// promised: the bound of the prefix under these shifts says what is so.
+#[derive(PartialEq, Eq, Debug, Drop)]
+pub struct Refutation {
+    pub prefix: Items<u32>,
+    pub shifts: Items<Shift>,
+}

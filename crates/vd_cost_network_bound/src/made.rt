@@ -1,0 +1,21 @@
+//! What does not depend on shifts.
+
+use vd_base::Proto;
+use vd_base_lists::Items;
+use vd_cost_network_prefix::SwitchTable;
+use vd_cost_network_tables::RawLink;
+
+/// What the bound by links of every prefix is made of, whatever the shifts are. All amounts are in parts of a unit.
+#[derive(PartialEq, Eq, Debug, Drop)]
+pub struct LinkedBound {
+    /// The protocols of the problem.
+    pub list: Items<Proto>,
+    /// By guard, and then by host.
+    pub switches: Items<SwitchTable>,
+    /// By number, without shifts.
+    pub links: Items<RawLink>,
+    /// By point, the settings at which it may be.
+    pub free: Items<Items<u32>>,
+    /// By point, what it alone costs by setting.
+    pub values: Items<Items<Option<i64>>>,
+}

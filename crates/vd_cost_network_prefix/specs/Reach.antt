@@ -1,0 +1,46 @@
+-- What a choice may change: the points that a slot may decide, and the links that a point has.
+use Rattle.std.specs.Prelude.{◌≡◌, ℕ, ◌-◌, ◌||◌, ◌==◌, nat_lt, if◌then◌else◌, Bool, false, Option, List, filter, length, slice_get}
+use Rattle.std.specs.List.{list_any, range_with_len}
+use Rattle.std.specs.Option.{option_map_or}
+use Rattle.vd_base.specs.declared.ids.SlotId.{SlotId}
+use Rattle.vd_space.specs.declared.problem.Problem.{Problem}
+use Rattle.vd_space.specs.declared.problem.Guard.{Guard}
+use Rattle.vd_space_prefix.specs.Naming.{numbers_from}
+use Rattle.vd_space_prefix.specs.Transfers.{by_place}
+use Rattle.vd_cost_network.specs.Points.{decided}
+use Rattle.vd_cost_network_prefix.specs.States.{as_states}
+use Rattle.vd_cost_network_prefix.specs.declared.made.LinkTable.{LinkTable}
+use Rattle.vd_cost_network_prefix.specs.declared.made.SwitchTable.{SwitchTable}
+use Rattle.vd_cost_network_prefix.specs.declared.made.LinkedTables.{LinkedTables}
+use Rattle.vd_cost_network_prefix.specs.declared.reach.Reach.{Reach}
+
+abbrev pub names_slot : ℕ → List SlotId → Bool
+names_slot slot slots = list_any (λ (s : SlotId). s.0 == slot) slots
+
+-- the slot is a member of the switch, or in the branches of its guard
+abbrev pub may_turn : Problem → ℕ → SwitchTable → Bool
+may_turn problem slot table = names_slot slot table.members || option_map_or (λ (guard : Guard). names_slot slot guard.slots) (slice_get problem.guards table.guard) false
+
+-- the point is the slot's own, or that of a switch that the slot may turn
+abbrev pub may_change : Problem → List SwitchTable → ℕ → ℕ → Bool
+may_change problem tables slot point =
+    if nat_lt point (length problem.slots) then point == slot else option_map_or (may_turn problem slot) (slice_get tables (point - length problem.slots)) false
+
+abbrev pub changed_by : Problem → LinkedTables → ℕ → List ℕ
+changed_by problem tables slot = filter (may_change problem tables.switches slot) (range_with_len 0 (length tables.points))
+
+abbrev pub has_end : ℕ → LinkTable → Bool
+has_end point table = table.first == point || table.second == point
+
+-- the links that have the point at an end, by number
+abbrev pub links_at : List LinkTable → ℕ → List ℕ
+links_at tables point = numbers_from (has_end point) 0 tables
+
+-- by slot, and by point
+pub record IsReach (problem : Problem) (tables : LinkedTables) (reach : Reach) : Type 0 where
+  pub points : reach.points ≡ by_place (length problem.slots) (changed_by problem tables)
+  pub links : reach.links ≡ by_place (length tables.points) (links_at tables.links)
+
+-- each point that the slot may not change stands as the prefix decides it
+abbrev pub AreDecidedBeside : Problem → List SwitchTable → List ℕ → ℕ → List (Option ℕ) → Type 0
+AreDecidedBeside problem tables prefix slot states = (point : ℕ) → may_change problem tables slot point ≡ false → as_states states point ≡ decided problem prefix point

@@ -1,0 +1,150 @@
+//! Points and the links between them, as points see them. Each point is named by its place in the order of sweeps.
+
+use crate::numbers::FAR;
+use crate::order::Order;
+use std::alloc::{AllocError, Global};
+use vd_cost_network_prefix::LinkTable;
+
+#[derive(Clone, Copy, PartialEq, Eq, Debug)]
+pub enum Side {
+    First,
+    Second,
+}
+
+/// One end of a link.
+#[derive(Clone, Copy, PartialEq, Eq, Debug)]
+pub struct End {
+    /// The number of the link.
+    pub at: usize,
+    pub side: Side,
+    /// The point at this end.
+    pub point: usize,
+    /// The point at the other end.
+    pub other: usize,
+}
+
+impl End {
+    /// The other end.
+    pub fn turned(self) -> End {
+        let side = match self.side {
+            Side::First => Side::Second,
+            Side::Second => Side::First,
+        };
+        End {
+            side,
+            point: self.other,
+            other: self.point,
+            ..self
+        }
+    }
+
+    /// Whether the other point comes later on the way.
+    pub fn is_ahead(self, forward: bool) -> bool {
+        (self.other > self.point) == forward
+    }
+
+    /// What the link costs where this end is at one setting and the other at another; `FAR` where these do not join.
+    pub fn price(self, links: &[LinkTable], here: usize, there: usize) -> i64 {
+        match links.get(self.at) {
+            Some(link) => match self.side {
+                Side::First => cell(link, here, there),
+                Side::Second => cell(link, there, here),
+            },
+            None => FAR,
+        }
+    }
+}
+
+/// What a link costs at these settings; `FAR` where they do not join.
+fn cell(link: &LinkTable, first: usize, second: usize) -> i64 {
+    match link.cells.as_slice().get(first) {
+        Some(row) => match row.as_slice().get(second) {
+            Some(Some(cost)) => *cost,
+            _ => FAR,
+        },
+        None => FAR,
+    }
+}
+
+/// The links: the first ends of all, and for each point its ends of them, by number.
+#[derive(Drop)]
+pub struct Network {
+    pub firsts: Vec<End>,
+    pub by_point: Vec<Vec<End>>,
+    /// Of these the ends of links to points that come earlier, and those to points that come later.
+    earlier: Vec<Vec<End>>,
+    later: Vec<Vec<End>>,
+}
+
+impl Network {
+    pub fn of(alloc: Global, links: &[LinkTable], order: &Order) -> Result<Network, AllocError> {
+        let points = order.points.len();
+        let mut network = Network {
+            firsts: Vec::with_capacity(alloc, links.len())?,
+            by_point: no_ends(alloc, points)?,
+            earlier: no_ends(alloc, points)?,
+            later: no_ends(alloc, points)?,
+        };
+        for (at, link) in links.iter().enumerate() {
+            let first = End {
+                at,
+                side: Side::First,
+                point: order.rank(link.first),
+                other: order.rank(link.second),
+            };
+            network.firsts.push(first)?;
+            network.put(first)?;
+            network.put(first.turned())?;
+        }
+        Ok(network)
+    }
+
+    /// Puts an end of a link to those of its point.
+    fn put(&mut self, end: End) -> Result<(), AllocError> {
+        push_at(&mut self.by_point, end)?;
+        if end.is_ahead(true) {
+            push_at(&mut self.later, end)
+        } else {
+            push_at(&mut self.earlier, end)
+        }
+    }
+
+    /// The ends of links that a point has.
+    pub fn of_point(&self, point: usize) -> &[End] {
+        ends_at(self.by_point.as_slice(), point)
+    }
+
+    /// Those of links to points that come later on the way.
+    pub fn ahead(&self, point: usize, forward: bool) -> &[End] {
+        if forward {
+            ends_at(self.later.as_slice(), point)
+        } else {
+            ends_at(self.earlier.as_slice(), point)
+        }
+    }
+}
+
+/// No ends of so many points.
+fn no_ends(alloc: Global, points: usize) -> Result<Vec<Vec<End>>, AllocError> {
+    let mut rows = Vec::with_capacity(alloc, points)?;
+    for _ in 0..points {
+        rows.push(Vec::new(alloc))?;
+    }
+    Ok(rows)
+}
+
+/// Puts an end to those of its point, if there is such a point.
+fn push_at(rows: &mut Vec<Vec<End>>, end: End) -> Result<(), AllocError> {
+    if end.point < rows.len() {
+        rows[end.point].push(end)?;
+    }
+    Ok(())
+}
+
+/// The ends of a point, which are none past the end.
+fn ends_at(rows: &[Vec<End>], point: usize) -> &[End] {
+    match rows.get(point) {
+        Some(ends) => ends.as_slice(),
+        None => &[],
+    }
+}

@@ -1,0 +1,23 @@
+use Rattle.std.proofs.Common.{◌≡◌, ◌+◌, ◌<◌, List, length, ap, sym, ◌∙◌, subst}
+use Rattle.std.specs.Prelude.{IfOk}
+use Rattle.vd_space_terms.specs.Prices.{moves_of}
+use Rattle.vd_cost_network_prefix.specs.declared.made.SwitchTable.{SwitchTable}
+use Rattle.vd_cost_network_tables.specs.declared.raw.RawLink.{RawLink}
+use Rattle.vd_cost_network_tables.specs.Raws.{raws_by}
+use Rattle.vd_cost_network_tables.proofs.Assembling.{few_switches}
+use Rattle.vd_cost_network_tables.proofs.Rawing.{raws_are}
+use Rattle.vd_cost_network_tables.proofs.assembly.all_links.Goals as goal
+
+pub raw_links-requires-clause-points : goal.raw_links-requires-clause-points
+raw_links-requires-clause-points c =
+    let problem = c.args.problem.now in
+    subst (λ (switches : List SwitchTable). length problem.slots + length switches < 4294967296) (sym c.requires.switches) (few_switches problem c.requires.labelled c.requires.limits)
+
+pub returns : goal.returns
+returns c =
+    let problem = c.args.problem.now in
+    let moves = c.as_slice.ensures ∙ c.in_ok-moves.ensures.prices ∙ ap moves_of c.requires.list in
+    let tells = c.as_slice-2.ensures ∙ c.in_ok-tells.ensures.prices in
+    subst (λ (links : List RawLink). IfOk c.raw_links.result (λ (raws : List RawLink). raws ≡ links))
+    ((λ i. raws_by problem (c.requires.list i) (moves i) (tells i) (c.requires.switches i)) ∙ raws_are problem c.requires.holds)
+    c.raw_links.ensures

@@ -1,0 +1,36 @@
+-- What shifts come to, all together, by row and setting.
+use Rattle.std.specs.Prelude.{ℕ, false, ◌&&◌, ◌==◌, if◌then◌else◌, Option, Some, None, option_map, List, slice_get, All, ℤ, pos}
+use Rattle.std.specs.Option.{option_map_or}
+use Rattle.vd_search_tree.specs.declared.shift.Shift.{Shift}
+use Rattle.vd_space.specs.Costs.{total}
+use Rattle.vd_space.specs.Bounds.{signed}
+use Rattle.vd_space_prefix.specs.Transfers.{IsWithin, by_place}
+use Rattle.vd_space_prefix.specs.Tables.{gain_at}
+use Rattle.vd_cost_network_tables.specs.declared.raw.RawLink.{RawLink}
+use Rattle.vd_cost_network_tables.specs.declared.sums.Rows.{Rows}
+use Rattle.vd_cost_network_tables.specs.declared.sums.Rows.TheVariants.{Firsts, Seconds, Points}
+
+abbrev pub side_of : RawLink → ℕ → ℕ
+side_of link side = if side == 0 then link.first else link.second
+
+-- the row in which a shift counts
+abbrev pub row_of : List RawLink → Rows → Shift → Option ℕ
+row_of links Firsts shift = if shift.side == 0 then Some shift.at else None
+row_of links Seconds shift = if shift.side == 0 then None else Some shift.at
+row_of links Points shift = option_map (λ link. side_of link shift.side) (slice_get links shift.at)
+
+-- what it puts there at a setting
+abbrev pub part : List RawLink → Rows → ℕ → ℕ → Shift → ℤ
+part links rows row place shift = if option_map_or (λ r. r == row) (row_of links rows shift) false && shift.proto == place then signed shift else pos 0
+
+-- of so many rows and settings
+abbrev pub sums_of : List RawLink → Rows → ℕ → ℕ → List Shift → List (List ℤ)
+sums_of links rows count places shifts = by_place count (λ row. by_place places (λ place. total (part links rows row place) shifts))
+
+-- 2^32: an amount is a number of 32 bits
+abbrev pub AreSmallShifts : List Shift → Type 0
+AreSmallShifts shifts = All (λ shift. IsWithin 4294967296 (signed shift)) shifts
+
+-- 2^49: shifts are at most 2^17, each of less than 2^32
+abbrev pub AreSmallSums : List (List ℤ) → Type 0
+AreSmallSums sums = (row place : ℕ) → IsWithin 562949953421312 (gain_at sums row place)

@@ -1,0 +1,174 @@
+//! The tables of links, put together.
+
+ghost use Rattle.std.specs.Prelude.{◌≡◌, ◌≤◌, ◌∷◌, ◌++◌, ℕ, [], IfOk, length, map, replicate, slice_index_or, true};
+ghost use Rattle.vd_base.specs.Limits.{most_certificate_shifts};
+ghost use Rattle.vd_cost_network.specs.Links.{links};
+ghost use Rattle.vd_cost_network_prefix.specs.States.{AreSmallLinks, settings as settings_of};
+ghost use Rattle.vd_cost_network_prefix.specs.Tables.{AreLinkedTables};
+ghost use Rattle.vd_cost_network_tables.specs.Tables.{link_tables_of, raw_link, switch_tables_from, tests_of};
+ghost use Rattle.vd_space.specs.Labelled.{IsLabelled};
+ghost use Rattle.vd_space.specs.Sizes.{IsWithinLimits};
+ghost use Rattle.vd_space.specs.Spaces.{IsProblem};
+ghost use Rattle.vd_space.specs.Validity.{protocols as protocols_of_problem};
+
+use crate::cells::{link_table, shifted};
+use crate::links::raw_links;
+use crate::points::point_tables;
+use crate::raw::RawLink;
+use crate::sums::{Rows, shift_sums};
+use crate::switches::switch_tables;
+use std::alloc::{AllocError, Global};
+use vd_base::Proto;
+use vd_base_lists::Items;
+use vd_cost_network_prefix::{LinkTable, LinkedTables, SwitchTable};
+use vd_protocol::protocols;
+use vd_search_tree::Shift;
+use vd_space::Problem;
+use vd_space_terms::{candidates, index_prices, move_prices};
+
+/// Which settings each point may be at: a slot at its candidates, and a switch off or on.
+pub fn settings(
+    alloc: Global,
+    candidates: Items<Items<bool>>,
+    switches: usize,
+) -> Result<Items<Items<bool>>, AllocError>
+    ensures { IfOk result (λ settings. settings ≡ candidates ++ replicate switches (true ∷ true ∷ [])) }
+{
+    let mut settings = candidates;
+    for _ in 0..switches {
+        settings.push(Items::from_slice(alloc, &[true, true])?)?;
+    }
+    Ok(settings)
+}
+
+/// The settings at which a point may be.
+fn tests_at(settings: &[Items<bool>], point: u32) -> &[bool]
+    ensures { result.now ≡ slice_index_or settings.now point [] }
+{
+    match settings.get(point as usize) {
+        Some(row) => row.as_slice(),
+        None => &[],
+    }
+}
+
+/// The tables of all links, under shifts.
+fn link_tables(
+    alloc: Global,
+    problem: &Problem,
+    raws: &[RawLink],
+    settings: &[Items<bool>],
+    most: usize,
+    shifts: &[Shift],
+) -> Result<Items<LinkTable>, AllocError>
+    requires labelled { IsLabelled problem.now }
+    requires limits { IsWithinLimits problem.now }
+    requires raws { raws.now ≡ map (raw_link problem.now) (links problem.now) }
+    requires settings { (point : ℕ) → slice_index_or settings.now point [] ≡ tests_of problem.now point }
+    requires most { (point : ℕ) → settings_of problem.now point ≤ most }
+    requires few { length shifts.now ≤ most_certificate_shifts }
+    ensures tables { IfOk result (λ tables. tables ≡ link_tables_of problem.now shifts.now) }
+    ensures small { IfOk result AreSmallLinks }
+{
+    let from = shift_sums(alloc, raws, Rows::Firsts, raws.len(), most, shifts)?;
+    let to = shift_sums(alloc, raws, Rows::Seconds, raws.len(), most, shifts)?;
+    let mut tables = Items::new(alloc);
+    for number in 0..raws.len() {
+        let raw = &raws[number];
+        let from = from[number].as_slice();
+        let to = to[number].as_slice();
+        let cells = shifted(alloc, raw.cells.as_slice(), from, to)?;
+        let firsts = tests_at(settings, raw.first);
+        let seconds = tests_at(settings, raw.second);
+        tables.push(link_table(alloc, (raw.first, raw.second), firsts, seconds, cells)?)?;
+    }
+    Ok(tables)
+}
+
+/// The list of protocols.
+pub fn all_protocols(alloc: Global, problem: &Problem) -> Result<Items<Proto>, AllocError>
+    requires { IsLabelled problem.now }
+    ensures list { IfOk result (λ list. list ≡ protocols_of_problem problem.now) }
+    ensures few { IfOk result (λ list. length list ≤ 64) }
+{
+    protocols(alloc, problem.hosts.as_slice().len() as u8)
+}
+
+/// All links, without shifts.
+pub fn all_links(
+    alloc: Global,
+    problem: &Problem,
+    list: &[Proto],
+    switches: &[SwitchTable],
+) -> Result<Items<RawLink>, AllocError>
+    requires holds { IsProblem problem.now }
+    requires labelled { IsLabelled problem.now }
+    requires limits { IsWithinLimits problem.now }
+    requires list { list.now ≡ protocols_of_problem problem.now }
+    requires switches { switches.now ≡ switch_tables_from problem.now 0 problem.now.guards }
+    ensures { IfOk result (λ raws. raws ≡ map (raw_link problem.now) (links problem.now)) }
+{
+    let moves = move_prices(alloc, list)?;
+    let tells = index_prices(alloc, problem, list)?;
+    raw_links(
+        alloc,
+        problem,
+        list,
+        moves.as_slice(),
+        tells.as_slice(),
+        switches,
+    )
+}
+
+/// As many settings as each point has at most.
+pub fn most_settings(list: &[Proto]) -> usize
+    ensures places { length list.now ≤ result }
+    ensures switches { 2 ≤ result }
+{
+    list.len().max(2)
+}
+
+/// The tables of a problem and of shifts that name its links.
+pub fn linked_tables(
+    alloc: Global,
+    problem: &Problem,
+    shifts: Items<Shift>,
+) -> Result<LinkedTables, AllocError>
+    requires holds { IsProblem problem.now }
+    requires labelled { IsLabelled problem.now }
+    requires limits { IsWithinLimits problem.now }
+    requires few { length shifts ≤ most_certificate_shifts }
+    ensures tables { IfOk result (AreLinkedTables problem.now) }
+    ensures shifts { IfOk result (λ tables. tables.shifts ≡ shifts) }
+{
+    let list = all_protocols(alloc, problem)?;
+    let list = list.as_slice();
+    let candidates = candidates(alloc, problem, list)?;
+    let switches = switch_tables(alloc, problem, list, candidates.as_slice())?;
+    let raws = all_links(alloc, problem, list, switches.as_slice())?;
+    let settings = settings(alloc, candidates, switches.as_slice().len())?;
+    let most = most_settings(list);
+    let links = link_tables(
+        alloc,
+        problem,
+        raws.as_slice(),
+        settings.as_slice(),
+        most,
+        shifts.as_slice(),
+    )?;
+    let points = point_tables(
+        alloc,
+        problem,
+        list,
+        switches.as_slice(),
+        raws.as_slice(),
+        settings.as_slice(),
+        most,
+        shifts.as_slice(),
+    )?;
+    Ok(LinkedTables {
+        shifts,
+        points,
+        links,
+        switches,
+    })
+}

@@ -1,5 +1,0 @@
-use Rattle.vd_dealt.proofs.DealtExact.{follow_grammar}
-use Rattle.vd_dealt.proofs.laws.dealt_files_follow_the_grammar.Goals as goal
-
-pub returns : goal.returns
-returns c = follow_grammar

@@ -1,5 +1,0 @@
-use Rattle.vd_dealt.proofs.DealtExact.{written_is_read}
-use Rattle.vd_dealt.proofs.laws.written_secrets_are_read.Goals as goal
-
-pub returns : goal.returns
-returns c = written_is_read

@@ -1,7 +1,0 @@
-use Rattle.std.proofs.Common.{◌≡◌, ◌-◌}
-use Rattle.vd_dealt.specs.Reading.{linked_at}
-use Rattle.vd_dealt.proofs.LinkLoop.{with_front}
-use Rattle.vd_dealt.proofs.reading.read_linked.Given as goal
-
-abbrev pub invariant-loop-place : goal.invariant-loop-place
-invariant-loop-place l = with_front l.linked (linked_at l.me l.place (l.count - l.place) l.cursor) ≡ linked_at l.me 0 l.count l.fn.cursor

@@ -1,5 +1,0 @@
-use Rattle.vd_depending.proofs.Existing.{some_dependences}
-use Rattle.vd_depending.proofs.dependence_outcomes_exist.Goals as goal
-
-pub returns : goal.returns
-returns c = some_dependences

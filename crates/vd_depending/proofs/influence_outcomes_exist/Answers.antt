@@ -1,5 +1,0 @@
-use Rattle.vd_depending.proofs.Existing.{some_influences}
-use Rattle.vd_depending.proofs.influence_outcomes_exist.Goals as goal
-
-pub returns : goal.returns
-returns c = some_influences

@@ -1,6 +1,0 @@
-use Rattle.std.proofs.Common.{◌≡◌, ◌++◌, take, flat_map}
-use Rattle.vd_depending.specs.Depending.{name_field}
-use Rattle.vd_depending.proofs.line.push_names.Given as goal
-
-abbrev pub invariant-loop-host : goal.invariant-loop-host
-invariant-loop-host l = l.text ≡ l.initial.text ++ flat_map (name_field l.names) (take l.host-index l.list)

@@ -1,0 +1,34 @@
+-- Sentences on faults of inputs, schedules and machine-written files.
+use Rattle.std.specs.Prelude.{ℕ, List, codes, drop, decimal}
+use Rattle.std.specs.List.{take_while}
+use Rattle.vd_base.specs.Lexical.{is_word_byte}
+use Rattle.vd_diag.specs.Parts.{three}
+
+unfoldable pub inputs_sentence : List ℕ
+inputs_sentence = codes "an inputs file has, for each host at most once, its name, a colon and numbers of at most 4294967295"
+
+unfoldable pub schedule_sentence : List ℕ
+schedule_sentence = codes "a schedule has names of hosts, and may end with `all`"
+
+-- of a machine-written file, and the offset from which it goes on as none does
+abbrev pub deal_sentence : ℕ → List ℕ
+deal_sentence offset = three (codes "from byte ") (decimal offset) (codes " on no deal file goes on as this file does; `viaduct deal` makes deal files")
+
+abbrev pub certificate_sentence : ℕ → List ℕ
+certificate_sentence offset = three (codes "from byte ") (decimal offset) (codes " on no certificate goes on as this file does; `viaduct choose` makes certificates")
+
+abbrev pub program_sentence : ℕ → List ℕ
+program_sentence offset = three (codes "from byte ") (decimal offset) (codes " on no host program goes on as this file does; `viaduct compile` makes host programs")
+
+-- the name that stands at an offset
+abbrev pub name_at : List ℕ → ℕ → List ℕ
+name_at bytes offset = take_while is_word_byte (drop offset bytes)
+
+abbrev pub host_sentence : List ℕ → List ℕ
+host_sentence word = three (codes "`") word (codes "` is no host of the source")
+
+abbrev pub spent_sentence : ℕ → List ℕ
+spent_sentence budget = three (codes "the search opened ") (decimal budget) (codes " prefixes of choices and needs more; at most 200000 may be given")
+
+unfoldable pub no_assignment_sentence : List ℕ
+no_assignment_sentence = codes "no choice of protocols is valid for this source"

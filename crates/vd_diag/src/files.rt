@@ -1,0 +1,110 @@
+//! Sentences on faults of inputs, schedules and machine-written files, and on a search.
+
+ghost use Rattle.std.specs.Prelude.{◌≡◌, IfOk};
+ghost use Rattle.vd_diag.specs.Files as files;
+
+use crate::parts::three;
+use itoa::Buffer;
+use std::alloc::{AllocError, Global};
+use vd_base::{Bytes, word_len};
+
+/// The name that stands at an offset.
+#[tactic(auto, using(std::proofs::lemmas::List::drop_min))]
+fn name_at(bytes: &[u8], offset: u32) -> &[u8]
+    ensures { result.now ≡ files.name_at bytes.now offset }
+{
+    let rest = &bytes[(offset as usize).min(bytes.len())..];
+    &rest[..word_len(rest)]
+}
+
+/// What is said of a name at an offset that is no host of the source.
+pub fn host_sentence(alloc: Global, bytes: &[u8], offset: u32) -> Result<Bytes, AllocError>
+    ensures { IfOk result (λ text. text ≡ files.host_sentence (files.name_at bytes.now offset)) }
+{
+    three(
+        alloc,
+        b"`",
+        name_at(bytes, offset),
+        b"` is no host of the source",
+    )
+}
+
+/// What an inputs file has.
+#[tactic(auto, unfolding(crate::specs::Files::inputs_sentence))]
+pub fn inputs_sentence() -> &'static str
+    ensures { result.now ≡ files.inputs_sentence }
+{
+    "an inputs file has, for each host at most once, its name, a colon and numbers of at most 4294967295"
+}
+
+/// What a schedule has.
+#[tactic(auto, unfolding(crate::specs::Files::schedule_sentence))]
+pub fn schedule_sentence() -> &'static str
+    ensures { result.now ≡ files.schedule_sentence }
+{
+    "a schedule has names of hosts, and may end with `all`"
+}
+
+/// What is said of a deal file that goes on as no deal does from this byte on.
+pub fn deal_sentence(alloc: Global, offset: u32) -> Result<Bytes, AllocError>
+    ensures { IfOk result (λ text. text ≡ files.deal_sentence offset) }
+{
+    let mut buffer = Buffer::new();
+    let offset = buffer.format(offset).as_bytes();
+    three(
+        alloc,
+        b"from byte ",
+        offset,
+        b" on no deal file goes on as this file does; `viaduct deal` makes deal files",
+    )
+}
+
+/// What is said of a certificate that goes on as none does from this byte on.
+pub fn certificate_sentence(alloc: Global, offset: u32) -> Result<Bytes, AllocError>
+    ensures { IfOk result (λ text. text ≡ files.certificate_sentence offset) }
+{
+    let mut buffer = Buffer::new();
+    let offset = buffer.format(offset).as_bytes();
+    three(
+        alloc,
+        b"from byte ",
+        offset,
+        b" on no certificate goes on as this file does; `viaduct choose` makes certificates",
+    )
+}
+
+/// What is said of a host program that goes on as none does from this byte on.
+pub fn program_sentence(alloc: Global, offset: u32) -> Result<Bytes, AllocError>
+    ensures { IfOk result (λ text. text ≡ files.program_sentence offset) }
+{
+    let mut buffer = Buffer::new();
+    let offset = buffer.format(offset).as_bytes();
+    three(
+        alloc,
+        b"from byte ",
+        offset,
+        b" on no host program goes on as this file does; `viaduct compile` makes host programs",
+    )
+}
+
+/// What is said of a search that needs more than this budget.
+pub fn spent_sentence(alloc: Global, budget: u32) -> Result<Bytes, AllocError>
+    ensures { IfOk result (λ text. text ≡ files.spent_sentence budget) }
+{
+    let mut buffer = Buffer::new();
+    let budget = buffer.format(budget).as_bytes();
+    three(
+        alloc,
+        b"the search opened ",
+        budget,
+        b" prefixes of choices and needs more; at most 200000 may be given",
+    )
+}
+
+/// What is said where no choice of protocols is valid.
+#[tactic(auto, unfolding(crate::specs::Files::no_assignment_sentence))]
+pub fn no_assignment_sentence() -> &'static str
+    ensures { result.now ≡ files.no_assignment_sentence }
+{
+    "no choice of protocols is valid for this source"
+}

@@ -1,0 +1,51 @@
+//! Parts of sentences on formulas.
+
+ghost use Rattle.std.specs.Prelude.{◌≡◌, [], IfOk, slice_index_or};
+ghost use Rattle.vd_diag_flow.specs.Phrases as phrases;
+
+use std::alloc::{AllocError, Global};
+use vd_base::{Bytes, HostId, Names};
+use vd_diag::three;
+
+/// The name of a host; empty where there is none.
+pub(crate) fn host_name(hosts: &Names, host: HostId) -> &[u8]
+    ensures { result.now ≡ slice_index_or hosts.now host.0 [] }
+{
+    match hosts.as_slice().get(usize::from(host.0)) {
+        Some(name) => name.as_slice(),
+        None => &[],
+    }
+}
+
+/// What a formula of this text does, by whether it has one name or more.
+fn guard_word(text: &[u8]) -> &'static [u8]
+    ensures { result.now ≡ phrases.guard_word text.now }
+{
+    if text.contains(&b' ') {
+        b" guard"
+    } else {
+        b" guards"
+    }
+}
+
+/// What has the confidentiality of this text.
+pub(crate) fn guarded(alloc: Global, text: &[u8]) -> Result<Bytes, AllocError>
+    ensures { IfOk result (λ phrase. phrase ≡ phrases.guarded text.now) }
+{
+    if text == b"none".as_slice() {
+        Bytes::from_slice(alloc, b"what no one may read")
+    } else {
+        three(alloc, b"what ", text, guard_word(text))
+    }
+}
+
+/// What is asked to have the integrity of this text.
+pub(crate) fn vouched(alloc: Global, text: &[u8]) -> Result<Bytes, AllocError>
+    ensures { IfOk result (λ phrase. phrase ≡ phrases.vouched text.now) }
+{
+    if text == b"none".as_slice() {
+        Bytes::from_slice(alloc, b"what no one can answer for")
+    } else {
+        three(alloc, b"what ", text, b" must answer for")
+    }
+}

@@ -1,0 +1,36 @@
+-- What is said of a status of which no file is read: how a command is called, or that a file which only this program writes
+-- is another.
+use Rattle.std.specs.Prelude.{ℕ, false, List, [], codes, if◌then◌else◌}
+use Rattle.std.specs.Option.{option_map_or}
+use Rattle.std.specs.Str.{bytes_eq}
+use Rattle.vd_cmd_plan.specs.declared.status.HostStatus.{HostStatus}
+use Rattle.vd_cmd_plan.specs.declared.status.HostStatus.TheVariants as host_status
+use Rattle.vd_cmd_plan.specs.declared.status.Status.{Status}
+use Rattle.vd_cmd_plan.specs.declared.status.Status.TheVariants as status
+use Rattle.vd_diag.specs.Files.{certificate_sentence, deal_sentence, program_sentence}
+use Rattle.vd_diag.specs.Remarks.{of_file, told}
+use Rattle.vd_diag.specs.Usage.{usage_of}
+use Rattle.vd_diag_terminal.specs.Files.{command, word_at}
+
+-- a sentence on the whole file with this name
+abbrev pub of_whole : List ℕ → List ℕ → List ℕ
+of_whole name sentence = told false name [] (of_file sentence)
+
+-- on the file that the word at this place names; nothing where there is no such word
+abbrev pub of_word : List (List ℕ) → ℕ → List ℕ → List ℕ
+of_word words place sentence = option_map_or (λ name. of_whole name sentence) (word_at words place) []
+
+abbrev pub of_host : List (List ℕ) → HostStatus → List ℕ
+of_host words (host_status.ProgramText offset) = of_word words 1 (program_sentence offset)
+of_host words fault = []
+
+-- the words of `host` name the deal file, and the prefix of `excuse` is another word
+abbrev pub of_deal : List (List ℕ) → (offset : ℕ) → List ℕ
+of_deal words offset = if bytes_eq (command words) (codes "excuse") then [] else of_word words 3 (deal_sentence offset)
+
+abbrev pub alone : List (List ℕ) → Status → List ℕ
+alone words status.Usage = usage_of (command words)
+alone words (status.CertificateText offset) = of_word words 2 (certificate_sentence offset)
+alone words (status.DealText host offset) = of_deal words offset
+alone words (status.Host fault) = of_host words fault
+alone words status = []

@@ -1,0 +1,56 @@
+-- The file from whose bytes more is said of a status.
+use Rattle.std.specs.Prelude.{ℕ, List, [], ◌∷◌, Option, Some, None, codes, if◌then◌else◌, slice_get}
+use Rattle.std.specs.Option.{option_map_or}
+use Rattle.std.specs.Str.{bytes_eq}
+use Rattle.vd_base.specs.Limits.{most_source_bytes, most_inputs_bytes, most_schedule_bytes}
+use Rattle.vd_cmd_plan.specs.declared.status.Status.{Status}
+use Rattle.vd_cmd_plan.specs.declared.status.Status.TheVariants as status
+use Rattle.vd_diag_terminal.specs.declared.files.Reading.{Reading}
+
+-- the first word of a command line names the command
+abbrev pub command : List (List ℕ) → List ℕ
+command words = option_map_or (λ word. word) (slice_get words 0) []
+
+-- the words with the places that they have in `host`: those of `host-within` have a limit besides, in the place of the command
+abbrev pub placed : List (List ℕ) → List (List ℕ)
+placed [] = []
+placed (word ∷ words) = if bytes_eq word (codes "host-within") then words else word ∷ words
+
+abbrev pub word_at : List (List ℕ) → ℕ → Option (List ℕ)
+word_at words place = slice_get (placed words) place
+
+abbrev pub source : Reading
+source = record { word = 1; limit = most_source_bytes }
+
+abbrev pub inputs : Reading
+inputs = record { word = 2; limit = most_inputs_bytes }
+
+abbrev pub schedule : Reading
+schedule = record { word = 4; limit = most_schedule_bytes }
+
+-- the source; none of this command, whose words name none
+abbrev pub source_unless : List ℕ → List (List ℕ) → Option Reading
+source_unless other words = if bytes_eq (command words) other then None else Some source
+
+-- the inputs; none of `excuse`, whose words name two files of inputs
+abbrev pub inputs_of : List (List ℕ) → Option Reading
+inputs_of words = if bytes_eq (command words) (codes "excuse") then None else Some inputs
+
+-- the source in which the number of a deal file's host stands; none of `excuse`, whose prefix is another word
+abbrev pub source_of_deals : List (List ℕ) → Option Reading
+source_of_deals words =
+    if bytes_eq (command words) (codes "excuse") then None
+    else if bytes_eq (command words) (codes "host-within") then None
+    else source_unless (codes "host") words
+
+-- `trial` makes its source. A deal file is named by a prefix and its host's number in the source, but in the words of `host` and of `host-within`.
+abbrev pub reading_of : List (List ℕ) → Status → Option Reading
+reading_of words (status.Syntax fault) = source_unless (codes "trial") words
+reading_of words (status.Names fault) = source_unless (codes "trial") words
+reading_of words (status.Flow check offset) = source_unless (codes "trial") words
+reading_of words status.NoAssignment = source_unless (codes "trial") words
+reading_of words (status.Spent budget) = source_unless (codes "trial") words
+reading_of words (status.InputText fault) = inputs_of words
+reading_of words (status.ScheduleText fault) = Some schedule
+reading_of words (status.DealText host offset) = source_of_deals words
+reading_of words status = None

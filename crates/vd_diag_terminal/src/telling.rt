@@ -1,0 +1,165 @@
+//! What is said of a status to a person, besides its line.
+
+ghost use Rattle.std.specs.Prelude.{◌≡◌, IfOk, Some, []};
+ghost use Rattle.vd_diag_terminal.specs.Said as texts;
+ghost use Rattle.vd_diag_terminal.specs.Saying.{SaysMore, SaysTo};
+
+use crate::alone::alone;
+use crate::deals::deal_told;
+use crate::files::{Reading, reading_of};
+use crate::remarks::remark_on;
+use crate::words::word_at;
+use std::alloc::Global;
+use vd_base::{Bytes, Texts};
+use vd_cmd_plan::Status;
+use vd_diag::{TellFault, tell};
+use vd_outside::{FetchFault, Files, Sink, write_all};
+
+/// Where standard error goes.
+#[derive(Clone, Copy)]
+pub enum Destination {
+    /// Into a file or a pipe, which get the line of a status and no more.
+    File,
+    /// To a terminal, with colours or without.
+    Terminal { coloured: bool },
+}
+
+/// The remark on the bytes of the file with this name, as it is printed; nothing where there is none.
+fn remark_told(
+    alloc: Global,
+    coloured: bool,
+    name: &str,
+    bytes: &[u8],
+    status: &Status,
+) -> Result<Bytes, TellFault>
+    ensures { IfOk result (texts.IsRemarkTold coloured status.now name.now bytes.now) }
+{
+    let found = remark_on(alloc, bytes, status)?;
+    match found {
+        Some(remark) => {
+            let text = tell(alloc, coloured, name, bytes, &remark)?;
+            Ok(text)
+        }
+        None => Ok(Bytes::new(alloc)),
+    }
+}
+
+/// What is said of a status when the file with this name holds these bytes.
+fn told(
+    alloc: Global,
+    coloured: bool,
+    words: &Texts,
+    name: &str,
+    bytes: &[u8],
+    status: &Status,
+) -> Result<Bytes, TellFault>
+    ensures { IfOk result (texts.IsTold coloured words.now status.now name.now bytes.now) }
+{
+    match status {
+        Status::DealText(host, offset) => {
+            deal_told(alloc, words, bytes, host.as_slice(), *offset)
+        }
+        _ => remark_told(alloc, coloured, name, bytes, status),
+    }
+}
+
+/// What is said where a file is not given: nothing, unless there was no memory for it.
+fn said_of_fault(alloc: Global, fault: FetchFault) -> Result<Bytes, TellFault>
+    ensures { IfOk result (λ text. text ≡ []) }
+{
+    match fault {
+        FetchFault::Failed | FetchFault::TooLong => Ok(Bytes::new(alloc)),
+        FetchFault::Memory => Err(TellFault::Memory),
+    }
+}
+
+/// What is said of a status by the file with this name; nothing where it is not given or is longer than the limit.
+fn said_of_file<F: Files>(
+    alloc: Global,
+    coloured: bool,
+    words: &Texts,
+    files: &mut F,
+    name: &str,
+    limit: u32,
+    status: &Status,
+) -> Result<Bytes, TellFault>
+    ensures { texts.IsSaidOfFile coloured words.now status.now name.now limit (F.view files.old) (F.view files.new) result }
+{
+    match files.fetch(name, limit) {
+        Ok(bytes) => told(alloc, coloured, words, name, bytes.as_slice(), status),
+        Err(fault) => said_of_fault(alloc, fault),
+    }
+}
+
+/// What is said of a status by the file that is read for it; nothing where no word names it.
+fn said_by<F: Files>(
+    alloc: Global,
+    coloured: bool,
+    words: &Texts,
+    files: &mut F,
+    reading: Reading,
+    status: &Status,
+) -> Result<Bytes, TellFault>
+    ensures { texts.IsSaidBy coloured words.now status.now (Some reading) (F.view files.old) (F.view files.new) result }
+{
+    match word_at(words, reading.word) {
+        Some(name) => said_of_file(alloc, coloured, words, files, name, reading.limit, status),
+        None => Ok(Bytes::new(alloc)),
+    }
+}
+
+/// What is said of a status; nothing where there is no more to say.
+fn said<F: Files>(
+    alloc: Global,
+    coloured: bool,
+    words: &Texts,
+    files: &mut F,
+    status: &Status,
+) -> Result<Bytes, TellFault>
+    ensures { texts.IsSaid coloured words.now status.now (F.view files.old) (F.view files.new) result }
+{
+    match reading_of(words, status) {
+        Some(reading) => said_by(alloc, coloured, words, files, reading, status),
+        None => {
+            let text = alone(alloc, words, status)?;
+            Ok(text)
+        }
+    }
+}
+
+/// Says more of a status at a terminal, where there is more to say: the text that belongs to it, as far as the stream takes
+/// it. It is refused where there is no memory for the text; then nothing is written.
+fn say_at_terminal<F: Files, E: Sink>(
+    alloc: Global,
+    coloured: bool,
+    words: &Texts,
+    files: &mut F,
+    err: &mut E,
+    status: &Status,
+) -> Result<(), TellFault>
+    ensures { SaysMore coloured words.now status.now (F.view files.old) (F.view files.new) (E.view err.old) (E.view err.new) result }
+{
+    let text = said(alloc, coloured, words, files, status)?;
+    let _ = write_all(err, text.as_slice());
+    Ok(())
+}
+
+/// Says more of a status to the person at a terminal: the text that belongs to it, where there is one. At most one file is
+/// fetched for it, and none is stored. It is refused where there is no memory for the text; then nothing is written.
+pub fn say_more<F: Files, E: Sink>(
+    alloc: Global,
+    destination: Destination,
+    words: &Texts,
+    files: &mut F,
+    err: &mut E,
+    status: &Status,
+) -> Result<(), TellFault>
+    ensures { SaysTo destination words.now status.now (F.view files.old) (F.view files.new) (E.view err.old) (E.view err.new) result }
+{
+    match destination {
+        Destination::File => Ok(()),
+        Destination::Terminal { coloured } => {
+            say_at_terminal(alloc, coloured, words, files, err, status)
+        }
+    }
+}

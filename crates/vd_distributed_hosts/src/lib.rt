@@ -1,0 +1,15 @@
+//! All hosts of a joint code, each driven by itself over its links. Nothing is computed here: the clauses are laws.
+#![tactic(auto)]
+
+ghost use Rattle.vd_distributed_hosts.specs.AllHosts.{DrivenHostsAreTold, WaitingHostsHaveEnded};
+
+/// Hosts that are driven by themselves, each on packets that its peers sent to it, in order, and of which any have hastened codes, print
+/// what the joint run prints: a front of it, and all of it where they have ended. None comes to compared words that differ.
+pub fn driven_hosts_are_told()
+    ensures { DrivenHostsAreTold }
+{}
+
+/// Such hosts, where their lists suffice, are never all waiting for packets that nobody will send.
+pub fn waiting_hosts_have_ended()
+    ensures { WaitingHostsHaveEnded }
+{}

@@ -1,8 +1,0 @@
-//! What is true of the rows of every program. The function here does nothing: its contract is a law.
-
-ghost use Rattle.vd_drawing.specs.Costs.{CostsAddUp};
-
-/// The costs of the rows of a program at a valid list of protocols add up to what the list costs.
-pub fn costs_add_up()
-    ensures { CostsAddUp }
-{}

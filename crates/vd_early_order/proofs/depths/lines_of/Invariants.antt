@@ -1,6 +1,0 @@
-use Rattle.std.proofs.Common.{◌≡◌}
-use Rattle.vd_early_order.specs.Depths.{lines_of}
-use Rattle.vd_early_order.proofs.depths.lines_of.Given as goal
-
-abbrev pub invariant-loop-item : goal.invariant-loop-item
-invariant-loop-item l = l.lines ≡ lines_of l.yielded

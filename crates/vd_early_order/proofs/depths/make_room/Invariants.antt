@@ -1,9 +1,0 @@
-use Rattle.std.proofs.Common.{◌≡◌, ◌+◌, ◌-◌, length}
-use Rattle.std.specs.Prelude.{slice_index}
-use Rattle.vd_early_order.proofs.depths.make_room.Given as goal
-
-abbrev pub invariant-places : goal.invariant-places
-invariant-places l = slice_index l.depths ≡ slice_index l.initial.depths
-
-abbrev pub decreases-places : goal.decreases-places
-decreases-places l = l.place + 1 - length l.depths

@@ -1,5 +1,0 @@
-use Rattle.vd_hasten.proofs.Texts.{each_text}
-use Rattle.vd_hasten.proofs.passing.hasten_code.Goals as goal
-
-pub returns-clause-code : goal.returns-clause-code
-returns-clause-code c = each_text c.args.code c.hasten_text.result c.hasten_text.ensures

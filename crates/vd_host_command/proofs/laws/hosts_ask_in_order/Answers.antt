@@ -1,5 +1,0 @@
-use Rattle.vd_host_command.proofs.Runs.{asks_in_order}
-use Rattle.vd_host_command.proofs.laws.hosts_ask_in_order.Goals as goal
-
-pub returns : goal.returns
-returns c = asks_in_order

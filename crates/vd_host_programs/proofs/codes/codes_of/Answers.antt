@@ -1,7 +1,0 @@
-use Rattle.vd_execution.specs.Text.{pick}
-use Rattle.vd_host_programs.proofs.Lines.{code_more}
-use Rattle.vd_host_programs.proofs.codes.codes_of.Goals as goal
-
-pub loop-number-preserved : goal.loop-number-preserved
-loop-number-preserved c =
-    code_more (λ h. pick h c.args.lines.now) c.loop-number.number c.loop-number.codes c.push.new.self c.in_ok-code.code c.loop-number.invariant (c.in_ok-code.ensures {u = tt}) (c.in_ok-push.ensures {u = tt}).ok

@@ -1,5 +1,0 @@
-use Rattle.vd_hosting.proofs.ComingBack.{links_come_back}
-use Rattle.vd_hosting.proofs.laws.links_come_back.Goals as goal
-
-pub returns : goal.returns
-returns c = links_come_back

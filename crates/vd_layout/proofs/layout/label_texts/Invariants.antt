@@ -1,6 +1,0 @@
-use Rattle.std.proofs.Common.{◌≡◌, map, take}
-use Rattle.vd_layout.specs.Words.{label_text}
-use Rattle.vd_layout.proofs.layout.label_texts.Given as goal
-
-abbrev pub invariant-loop-label : goal.invariant-loop-label
-invariant-loop-label l = l.texts ≡ map (label_text l.form.principals) (take l.label-index l.labels.slots)

@@ -1,6 +1,0 @@
-use Rattle.vd_link_sweeps.specs.Rows.{row_of}
-use Rattle.vd_link_shifts.proofs.Taken.{taken}
-use Rattle.vd_link_shifts.proofs.laws.shifts_take_the_amounts.Goals as goal
-
-pub returns : goal.returns
-returns c = λ nets places links at v w low first second. taken at v w (row_of nets.firsts) (row_of nets.seconds) places links low first second

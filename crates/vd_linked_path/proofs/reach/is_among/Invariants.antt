@@ -1,6 +1,0 @@
-use Rattle.std.proofs.Common.{◌≡◌, drop}
-use Rattle.vd_linked_path.specs.Reach.{names_slot}
-use Rattle.vd_linked_path.proofs.reach.is_among.Given as goal
-
-abbrev pub invariant-loop-other : goal.invariant-loop-other
-invariant-loop-other l = names_slot l.slot (drop l.other-index l.slots) ≡ names_slot l.slot l.slots

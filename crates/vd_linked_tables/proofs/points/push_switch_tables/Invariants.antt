@@ -1,7 +1,0 @@
-use Rattle.std.proofs.Common.{◌≡◌, ◌+◌, length}
-use Rattle.vd_path.specs.Transfers.{by_place}
-use Rattle.vd_linked_tables.specs.Tables.{table_by}
-use Rattle.vd_linked_tables.proofs.points.push_switch_tables.Given as goal
-
-abbrev pub invariant-loop-number : goal.invariant-loop-number
-invariant-loop-number l = l.tables ≡ by_place (length l.problem.slots + l.number) (table_by l.problem l.sums)

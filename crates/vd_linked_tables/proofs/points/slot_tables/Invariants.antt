@@ -1,7 +1,0 @@
-use Rattle.std.proofs.Common.{◌≡◌}
-use Rattle.vd_path.specs.Transfers.{by_place}
-use Rattle.vd_linked_tables.specs.Tables.{table_by}
-use Rattle.vd_linked_tables.proofs.points.slot_tables.Given as goal
-
-abbrev pub invariant-loop-slot : goal.invariant-loop-slot
-invariant-loop-slot l = l.tables ≡ by_place l.slot (table_by l.problem l.sums)

@@ -1,6 +1,0 @@
-use Rattle.std.proofs.Common.{◌≡◌, filter, take}
-use Rattle.vd_linked.specs.Points.{may_bring}
-use Rattle.vd_linked_tables.proofs.switches.members_of.Given as goal
-
-abbrev pub invariant-loop-slot : goal.invariant-loop-slot
-invariant-loop-slot l = l.members ≡ filter (may_bring l.problem l.host) (take l.slot-index l.slots)

@@ -1,7 +1,0 @@
-use Rattle.std.proofs.Common.{◌≡◌, drop}
-use Rattle.vd_space.specs.Validity.{guard_told}
-use Rattle.vd_path.specs.Naming.{all_at}
-use Rattle.vd_path.proofs.naming.are_guards_told.Given as goal
-
-abbrev pub invariant-loop-number : goal.invariant-loop-number
-invariant-loop-number l = all_at (guard_told l.problem l.after) l.problem.guards (drop l.number-index l.numbers) ≡ all_at (guard_told l.problem l.after) l.problem.guards l.numbers

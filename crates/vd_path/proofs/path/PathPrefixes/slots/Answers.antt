@@ -1,5 +1,0 @@
-use Rattle.vd_space.proofs.Bounded.{tree_bounded}
-use Rattle.vd_path.proofs.path.PathPrefixes.slots.Goals as goal
-
-pub returns-clause-bounded : goal.returns-clause-bounded
-returns-clause-bounded c = tree_bounded c.args.self.now.problem.now c.args.self.now.holds c.args.self.now.tables.now.shifts

@@ -1,8 +1,0 @@
-use Rattle.vd_plan.proofs.WholeRuns.{delivered, cut}
-use Rattle.vd_plan.proofs.deliver.deliver.Goals as goal
-
-pub returns-in-Ok-write_all : goal.returns-in-Ok-write_all
-returns-in-Ok-write_all g c = delivered c.args.answer c.as_slice.result.now c.as_slice-in-Ok.result.now _ _ _ _ c.requires c.as_slice.ensures c.as_slice-in-Ok.ensures (c.in-Ok.ensures {u = tt}) (c.in-Ok-write_all.ensures {u = tt})
-
-pub returns-in-Err-write_all : goal.returns-in-Err-write_all
-returns-in-Err-write_all g c = cut c.args.answer c.as_slice.result.now c.as_slice-in-Ok.result.now _ _ _ _ _ c.as_slice.ensures c.as_slice-in-Ok.ensures (c.in-Ok.ensures {u = tt}) (c.in-Err-write_all.ensures {u = tt})

@@ -1,0 +1,17 @@
+//! What each deal file, each schedule and the deals of all hosts come to. Nothing is computed here: each function's clause is
+//! a law.
+#![tactic(auto)]
+
+ghost use Rattle.vd_report_outcomes.specs.Outcomes.{OutcomesAreSingle, ReplayOutcomes};
+
+/// Each deal file, each schedule file and the deals of all hosts have an outcome, so there are functions that pick it: the deal
+/// or the first offset at which the bytes go on as no deal does; the schedule or the fault of the first token that cannot
+/// stand; the first item that breaks its identity, or none.
+pub fn outcomes_exist()
+    ensures { ReplayOutcomes }
+{}
+
+/// None of them has two.
+pub fn outcomes_are_single()
+    ensures { OutcomesAreSingle }
+{}

@@ -1,6 +1,0 @@
-use Rattle.std.proofs.Common.{◌≡◌, drop}
-use Rattle.vd_rewritten.specs.Plain.{some_branch}
-use Rattle.vd_rewritten.proofs.plain.+branch.Given as goal
-
-abbrev pub invariant-some_branch-loop-stmt : goal.invariant-some_branch-loop-stmt
-invariant-some_branch-loop-stmt l = some_branch (drop l.stmt-index l.body) ≡ some_branch l.body

@@ -1,6 +1,0 @@
-use Rattle.std.proofs.Common.{◌≡◌, drop}
-use Rattle.vd_rewritten.specs.Plain.{some_division}
-use Rattle.vd_rewritten.proofs.plain.+division.Given as goal
-
-abbrev pub invariant-some_division-loop-stmt : goal.invariant-some_division-loop-stmt
-invariant-some_division-loop-stmt l = some_division (drop l.stmt-index l.body) ≡ some_division l.body

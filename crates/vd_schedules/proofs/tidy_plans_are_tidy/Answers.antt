@@ -1,5 +1,0 @@
-use Rattle.vd_execution.proofs.Gadgets.{plan_tidy}
-use Rattle.vd_schedules.proofs.tidy_plans_are_tidy.Goals as goal
-
-pub returns : goal.returns
-returns c = plan_tidy

@@ -1,5 +1,0 @@
-use Rattle.std.proofs.Common.{◌≡◌, ◌↔◌, IsTrue, take}
-use Rattle.vd_seal.proofs.codes.same.Given as goal
-
-abbrev pub invariant-bytes : goal.invariant-bytes
-invariant-bytes l = IsTrue l.equal ↔ (take l.i l.left ≡ take l.i l.right)

@@ -1,5 +1,0 @@
-use Rattle.vd_sealed.proofs.Sent.{carried_on}
-use Rattle.vd_sealed.proofs.laws.sent_is_carried.Goals as goal
-
-pub returns : goal.returns
-returns c = carried_on

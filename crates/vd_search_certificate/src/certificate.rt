@@ -1,0 +1,28 @@
+use vd_base_lists::Items;
+use vd_search_tree::Shift;
+
+/// What a certificate says of a prefix.
+#[derive(Clone, Copy, PartialEq, Eq, Debug)]
+pub enum Mark {
+    /// The prefixes that go on by one choice are marked next.
+    Expanded,
+    /// The prefix is not valid.
+    Violated,
+    /// What begins so costs no less than the stated cost.
+    Bounded,
+    /// This list is whole and has the stated cost.
+    Best,
+}
+
+/// The claim that a cost is the least, or that there is no valid list; and what shows it.
+#[derive(PartialEq, Eq, Debug, Drop)]
+pub struct Certificate {
+    /// The stated cost; none where there is no valid list.
+    pub cost: Option<u32>,
+    /// Whether the shifts name links, and prefixes are bounded by these.
+    pub linked: bool,
+    /// The shifts under which prefixes are bounded.
+    pub shifts: Items<Shift>,
+    /// A tree of marks, each before those below it.
+    pub marks: Items<Mark>,
+}

@@ -1,5 +1,0 @@
-use Rattle.vd_search_sizes.proofs.Counted.{high_dear, linked_dear, low_dear}
-use Rattle.vd_search_sizes.proofs.nothing_left_is_dear.Goals as goal
-
-pub returns : goal.returns
-returns c = record { low = low_dear; high = high_dear; linked = linked_dear }

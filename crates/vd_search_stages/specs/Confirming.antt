@@ -1,0 +1,28 @@
+-- What a checker answers of a certificate for a problem.
+use Rattle.std.specs.Prelude.{◌≡◌, ◌≢◌, ℕ, if◌then◌else◌, Result, Err, IfOk, length}
+use Rattle.vd_search_tree.specs.Trees.{Tree}
+use Rattle.vd_search_certificate.specs.declared.certificate.Certificate.{Certificate}
+use Rattle.vd_bound.specs.declared.checking.CheckFault.{CheckFault}
+use Rattle.vd_bound.specs.declared.checking.CheckFault.TheVariants.{Memory}
+use Rattle.vd_bound.specs.declared.checking.Proved.{Proved}
+use Rattle.vd_bound.specs.Checking.{Proves}
+use Rattle.vd_bound.specs.Shifts.{certificate_checked}
+use Rattle.vd_cost_network.specs.Links.{links}
+use Rattle.vd_cost_network.specs.Linked.{linked_tree}
+use Rattle.vd_space.specs.declared.problem.Problem.{Problem}
+use Rattle.vd_space.specs.Spaces.{tree_of}
+
+-- the bounds are those under the shifts that the certificate has, which name uses, or by its form links
+abbrev pub tree_by : Problem → Certificate → Tree
+tree_by problem c = if c.linked then linked_tree problem c.shifts else tree_of problem c.shifts
+
+abbrev pub names_by : Problem → Certificate → ℕ
+names_by problem c = if c.linked then length (links problem) else length problem.uses
+
+abbrev pub confirmed : Problem → Certificate → Result Proved CheckFault
+confirmed problem c = certificate_checked (names_by problem c) (tree_by problem c) c
+
+-- the answer is that one, unless memory is wanting; and a yes shows what it says
+pub record Confirms (problem : Problem) (c : Certificate) (result : Result Proved CheckFault) : Type 0 where
+  pub exact : result ≢ Err Memory → result ≡ confirmed problem c
+  pub proved : IfOk result (Proves (tree_by problem c))

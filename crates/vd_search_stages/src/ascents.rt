@@ -1,0 +1,136 @@
+//! The ascents that find the shifts of the later searches.
+
+ghost use Rattle.std.specs.Prelude.{◌≡◌, ℕ, Option, List, ◌≤◌, IfOk, IfSome, length, option_map};
+ghost use Rattle.std.specs.List.{All};
+ghost use Rattle.vd_cost_network_shifts.specs.Shifts.{AreLinkShifts};
+ghost use Rattle.vd_cost_network_prefix.specs.Tables.{AreLinkedTables};
+ghost use Rattle.vd_space_ascent.specs.Shifts.{AreUseShifts};
+ghost use Rattle.vd_search_tree.specs.declared.shift.Shift.{Shift as Shifts};
+ghost use Rattle.vd_search_stages.specs.Linking.{IsBeyond};
+ghost use Rattle.vd_space.specs.Labelled.{IsLabelled};
+ghost use Rattle.vd_space.specs.Sizes.{IsWithinLimits};
+ghost use Rattle.vd_space.specs.Spaces.{IsProblem};
+ghost use Rattle.vd_space.specs.declared.problem.Problem.{Problem as Problems};
+
+use crate::passing::walked;
+use std::alloc::{AllocError, Global};
+use vd_base_lists::Items;
+use vd_cost_network_ascent::Ascent;
+use vd_cost_network_prefix::{LinkedPath, LinkedTables};
+use vd_search_tree::Shift;
+use vd_space::Problem;
+use vd_space_ascent::plain_shifts;
+
+/// An ascent over the links of a problem, and the shifts that it came to.
+#[derive(Drop)]
+pub struct LinkAscent {
+    pub ascent: Ascent,
+    pub shifts: Items<Shift>,
+}
+
+/// What finds shifts under which the bounds of a problem are greater than under most others. A search goes by what it answers,
+/// whatever that is.
+pub trait Ascents {
+    /// Over the uses of a problem it comes to these shifts, or to none.
+    ghost uses_give: { Self → Problems → Option (List Shifts) → Type 0 };
+
+    /// Over the links of a problem it comes to these shifts, or to none.
+    ghost links_give: { Self → Problems → Option (List Shifts) → Type 0 };
+
+    /// A walk to lists that cost at most so much passes over these prefixes, or comes to no whole list.
+    ghost walks_give: { Self → Problems → ℕ → Option (List (List ℕ)) → Type 0 };
+
+    /// The shifts of uses.
+    fn over_uses(
+        &self,
+        alloc: Global,
+        problem: &Problem,
+    ) -> Result<Option<Items<Shift>>, AllocError>
+        requires labelled { IsLabelled problem.now }
+        requires limits { IsWithinLimits problem.now }
+        ensures gives { IfOk result (uses_give self.now problem.now) }
+        ensures shifts { IfOk result (λ found. IfSome found (AreUseShifts problem.now)) };
+
+    /// The shifts of links, by the tables without shifts. An answer has at least one.
+    fn over_links(
+        &self,
+        alloc: Global,
+        problem: &Problem,
+        without: &LinkedTables,
+    ) -> Result<Option<LinkAscent>, AllocError>
+        requires labelled { IsLabelled problem.now }
+        requires limits { IsWithinLimits problem.now }
+        requires without { AreLinkedTables problem.now without.now }
+        ensures gives { IfOk result (λ found. links_give self.now problem.now (option_map (λ a. a.shifts) found)) }
+        ensures shifts { IfOk result (λ found. IfSome found (λ a. AreLinkShifts problem.now a.shifts)) }
+        ensures some { IfOk result (λ found. IfSome found (λ a. 1 ≤ length a.shifts)) };
+
+    /// The prefixes that a walk to lists that cost at most so much passes over, behind an ascent over links and from the empty
+    /// prefix on; none where it comes to no whole list. Each list that one of them begins costs more.
+    fn over_prefixes(
+        &self,
+        alloc: Global,
+        problem: &Problem,
+        without: &LinkedTables,
+        path: LinkedPath,
+        ascent: Ascent,
+        most: u32,
+    ) -> Result<Option<Items<Items<u32>>>, AllocError>
+        requires holds { IsProblem problem.now }
+        requires labelled { IsLabelled problem.now }
+        requires limits { IsWithinLimits problem.now }
+        requires without { AreLinkedTables problem.now without.now }
+        requires path { path.problem.now ≡ problem.now }
+        ensures gives { IfOk result (walks_give self.now problem.now most) }
+        ensures beyond { IfOk result (λ found. IfSome found (All (IsBeyond problem.now most))) };
+}
+
+/// Ascents by sweeps over all uses and over all links.
+#[derive(Clone, Copy, PartialEq, Eq, Debug)]
+pub struct Sweeps;
+
+impl Ascents for Sweeps {
+    ghost uses_give = { λ sweeps problem found. IfSome found (AreUseShifts problem) };
+
+    ghost links_give = { λ sweeps problem found. IfSome found (AreLinkShifts problem) };
+
+    ghost walks_give = { λ sweeps problem most found. IfSome found (All (IsBeyond problem most)) };
+
+    fn over_uses(
+        &self,
+        alloc: Global,
+        problem: &Problem,
+    ) -> Result<Option<Items<Shift>>, AllocError> {
+        plain_shifts(alloc, problem)
+    }
+
+    fn over_links(
+        &self,
+        alloc: Global,
+        problem: &Problem,
+        without: &LinkedTables,
+    ) -> Result<Option<LinkAscent>, AllocError> {
+        let Some(ascent) = Ascent::of(alloc, problem, without)? else {
+            return Ok(None);
+        };
+        let Some(shifts) = ascent.shifts(alloc, problem, without)? else {
+            return Ok(None);
+        };
+        if shifts.as_slice().len() == 0 {
+            return Ok(None);
+        }
+        Ok(Some(LinkAscent { ascent, shifts }))
+    }
+
+    fn over_prefixes(
+        &self,
+        alloc: Global,
+        problem: &Problem,
+        without: &LinkedTables,
+        path: LinkedPath,
+        ascent: Ascent,
+        most: u32,
+    ) -> Result<Option<Items<Items<u32>>>, AllocError> {
+        walked(alloc, problem, without, path, ascent, most)
+    }
+}

@@ -1,0 +1,155 @@
+//! The search for the choice.
+
+ghost use Rattle.std.specs.Prelude.{◌≡◌, ◌≤◌, ◌<◌, IfOk, Err, true, false, length};
+ghost use Rattle.std.specs.List.{AllByRecursion};
+ghost use Rattle.vd_base.specs.Limits.{most_certificate_shifts};
+ghost use Rattle.vd_space_prefix.specs.Tables.{AreTables};
+ghost use Rattle.vd_search_stages.specs.Naming.{NamesUse};
+ghost use Rattle.vd_search_stages.specs.Selecting.{CostsAtLeast, IsOver, Selects};
+ghost use Rattle.vd_search_stages.specs.declared.selecting.SelectFault.TheVariants as select_fault;
+ghost use Rattle.vd_space.specs.Labelled.{IsLabelled};
+ghost use Rattle.vd_space.specs.Sizes.{IsWithinLimits};
+ghost use Rattle.vd_space.specs.Spaces.{IsProblem};
+ghost use Rattle.vd_space.specs.Usual.{usual as usual_shifts};
+
+use std::alloc::{AllocError, Global};
+use std::error::Error;
+use std::fmt;
+use vd_base_lists::Items;
+use vd_search::{Answer, Stop, search_above};
+use vd_search_budget::is_exceeded;
+use vd_search_certificate::{Certificate, Mark};
+use vd_space::Problem;
+use vd_space_prefix::{Path, Tables};
+use vd_space_shifts::usual;
+use vd_space_tables::tables;
+
+/// What a selection came to.
+#[derive(PartialEq, Eq, Debug, Drop)]
+pub enum Selection {
+    /// The choice, by the places of its protocols in the list; its cost; and a certificate of that.
+    Found(Items<u32>, u32, Certificate),
+    /// No list of protocols is valid, as the certificate shows.
+    NoAssignment(Certificate),
+}
+
+/// Why there is no selection.
+#[derive(Clone, Copy, PartialEq, Eq, Debug)]
+pub enum SelectFault {
+    /// The search must open more prefixes than the budget allows.
+    Spent,
+    /// There was no memory left.
+    Memory,
+}
+
+impl fmt::Display for SelectFault {
+    fn fmt<W: fmt::Write>(&self, f: &mut fmt::Formatter<W>) -> fmt::Result {
+        match self {
+            SelectFault::Spent => write!(f, "the budget is spent"),
+            SelectFault::Memory => write!(f, "out of memory"),
+        }
+    }
+}
+
+impl Error for SelectFault {}
+
+impl From<AllocError> for SelectFault {
+    ghost from_gives = { λ _ fault. fault ≡ select_fault.Memory };
+
+    fn from(_: AllocError) -> Self {
+        SelectFault::Memory
+    }
+}
+
+/// Whether it is seen in few steps that the budget does not do by the tables of shifts, where each valid list costs at least the
+/// floor. With no floor nothing is seen.
+fn is_over(
+    alloc: Global,
+    problem: &Problem,
+    tables: &Tables,
+    floor: u32,
+    budget: u32,
+) -> Result<bool, AllocError>
+    requires holds { IsProblem problem.now }
+    requires labelled { IsLabelled problem.now }
+    requires tables { AreTables problem.now tables.now }
+    requires floor { CostsAtLeast problem.now floor }
+    requires budget { budget < 4294967295 }
+    ensures { IfOk result (λ over. over ≡ true → IsOver problem.now tables.now.shifts budget) }
+{
+    if floor == 0 {
+        return Ok(false);
+    }
+    let mut path = Path::new(alloc, problem, tables)?;
+    Ok(is_exceeded(&mut path, floor, budget))
+}
+
+/// The choice, or that there is none, by the tables of shifts, where it is known that each valid list costs at least the floor.
+pub fn select_by(
+    alloc: Global,
+    problem: &Problem,
+    tables: &Tables,
+    floor: u32,
+    budget: u32,
+) -> Result<Selection, SelectFault>
+    requires holds { IsProblem problem.now }
+    requires labelled { IsLabelled problem.now }
+    requires tables { AreTables problem.now tables.now }
+    requires named { AllByRecursion (NamesUse problem.now) tables.now.shifts }
+    requires few { length tables.now.shifts ≤ most_certificate_shifts }
+    requires floor { CostsAtLeast problem.now floor }
+    requires budget { budget < 4294967295 }
+    ensures selects { IfOk result (Selects problem.now budget) }
+    ensures spent { result ≡ Err select_fault.Spent → IsOver problem.now tables.now.shifts budget }
+{
+    if is_over(alloc, problem, tables, floor, budget)? {
+        return Err(SelectFault::Spent);
+    }
+    let mut path = Path::new(alloc, problem, tables)?;
+    match search_above(alloc, &mut path, floor, budget) {
+        Ok(Answer::Found(list, cost, marks)) => {
+            let certificate = least_certificate(alloc, tables, cost, marks)?;
+            Ok(Selection::Found(list, cost, certificate))
+        }
+        Ok(Answer::Empty(marks)) => Ok(Selection::NoAssignment(Certificate {
+            cost: None,
+            linked: false,
+            shifts: Items::new(alloc),
+            marks,
+        })),
+        Err(Stop::Spent) => Err(SelectFault::Spent),
+        Err(Stop::Memory) => Err(SelectFault::Memory),
+    }
+}
+
+/// The certificate of a least cost, with the shifts under which its marks are bounded.
+fn least_certificate(
+    alloc: Global,
+    tables: &Tables,
+    cost: u32,
+    marks: Items<Mark>,
+) -> Result<Certificate, AllocError>
+    ensures { IfOk result (λ c. c ≡ record { cost = Some cost; linked = false; shifts = tables.now.shifts; marks = marks }) }
+{
+    let shifts = Items::from_slice(alloc, tables.shifts.as_slice())?;
+    Ok(Certificate {
+        cost: Some(cost),
+        linked: false,
+        shifts,
+        marks,
+    })
+}
+
+/// The tables of the usual shifts.
+pub fn usual_tables(alloc: Global, problem: &Problem) -> Result<Tables, AllocError>
+    requires holds { IsProblem problem.now }
+    requires labelled { IsLabelled problem.now }
+    requires limits { IsWithinLimits problem.now }
+    ensures tables { IfOk result (AreTables problem.now) }
+    ensures usual { IfOk result (λ tables. tables.shifts ≡ usual_shifts problem.now) }
+    ensures few { IfOk result (λ tables. length tables.shifts ≤ most_certificate_shifts) }
+    ensures named { IfOk result (λ tables. AllByRecursion (NamesUse problem.now) tables.shifts) }
+{
+    let shifts = usual(alloc, problem)?;
+    tables(alloc, problem, shifts)
+}

@@ -1,0 +1,75 @@
+//! The ascent over the slots and uses of a problem.
+
+ghost use Rattle.std.specs.Prelude.{◌≡◌, IfOk, IfSome};
+ghost use Rattle.vd_space_ascent.specs.Shifts.{AreUseShifts};
+ghost use Rattle.vd_space.specs.Labelled.{IsLabelled};
+ghost use Rattle.vd_space.specs.Sizes.{IsWithinLimits};
+ghost use Rattle.vd_space.specs.Validity.{protocols as protocols_of};
+
+use crate::climbing::climbed;
+use crate::home::send_home;
+use crate::lifting::lift;
+use crate::network::Plain;
+use crate::tables::UNIT_BITS;
+use std::alloc::{AllocError, Global};
+use vd_base::Proto;
+use vd_base_lists::Items;
+use vd_cost_network_shifts::shifts_of;
+use vd_cost_network_sweeps::Nets;
+use vd_protocol::protocols;
+use vd_search_tree::Shift;
+use vd_space::Problem;
+
+/// Shifts of uses under which the bounds of a problem are greater than under most others. There are none where a slot has no
+/// protocol left, since then no list is valid; or where an amount became too great for a shift, or shifts too many for a certificate.
+pub fn plain_shifts(alloc: Global, problem: &Problem) -> Result<Option<Items<Shift>>, AllocError>
+    requires labelled { IsLabelled problem.now }
+    requires limits { IsWithinLimits problem.now }
+    ensures { IfOk result (λ found. IfSome found (AreUseShifts problem.now)) }
+{
+    let list = protocols(alloc, problem.hosts.as_slice().len() as u8)?;
+    let Some(plain) = Plain::of(alloc, problem, list.as_slice())? else {
+        return Ok(None);
+    };
+    let nets = nets_of(alloc, &plain)?;
+    use_shifts(alloc, problem, list.as_slice(), &nets)
+}
+
+/// What shifts come to in whole units, where what is not left is lifted.
+fn nets_of(alloc: Global, plain: &Plain) -> Result<Nets, AllocError> {
+    let mut nets = climbed(alloc, plain)?;
+    send_home(alloc, plain, &mut nets)?;
+    lift(alloc, plain, &mut nets)?;
+    in_units(&mut nets.firsts);
+    in_units(&mut nets.seconds);
+    Ok(nets)
+}
+
+/// Amounts in parts, as whole units.
+fn in_units(rows: &mut Vec<Vec<i64>>) {
+    for row in rows {
+        row_in_units(row);
+    }
+}
+
+/// The same of a row.
+fn row_in_units(row: &mut Vec<i64>) {
+    for place in 0..row.len() {
+        row[place] = row[place].wrapping_shr(UNIT_BITS);
+    }
+}
+
+/// The shifts of the problem's uses that come to these amounts, if shifts can have them.
+fn use_shifts(
+    alloc: Global,
+    problem: &Problem,
+    list: &[Proto],
+    nets: &Nets,
+) -> Result<Option<Items<Shift>>, AllocError>
+    requires labelled { IsLabelled problem.now }
+    requires list { list.now ≡ protocols_of problem.now }
+    ensures { IfOk result (λ found. IfSome found (AreUseShifts problem.now)) }
+{
+    let count = problem.uses.as_slice().len();
+    shifts_of(alloc, count, list.len(), nets)
+}

@@ -1,0 +1,7 @@
+use Rattle.std.proofs.Common.{◌≡◌, ◌++◌, drop}
+use Rattle.vd_space.specs.Growth.{guard_names}
+use Rattle.vd_space_prefix.specs.Naming.{numbers_from}
+use Rattle.vd_space_prefix.proofs.numbers.numbers_of_guards.Given as goal
+
+abbrev pub invariant-loop-number : goal.invariant-loop-number
+invariant-loop-number l = l.numbers ++ numbers_from (guard_names l.slot) l.number (drop l.number l.guards) ≡ numbers_from (guard_names l.slot) 0 l.guards

@@ -1,0 +1,7 @@
+use Rattle.std.proofs.Common.{◌≡◌}
+use Rattle.vd_space.specs.Costs.{operation_value}
+use Rattle.vd_space_prefix.specs.Transfers.{by_place}
+use Rattle.vd_space_tables.proofs.values.operation_values.Given as goal
+
+abbrev pub invariant-loop-place : goal.invariant-loop-place
+invariant-loop-place l = l.values ≡ by_place l.place (operation_value l.problem l.slot)

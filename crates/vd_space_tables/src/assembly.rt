@@ -1,0 +1,93 @@
+//! The tables of a problem and shifts, put together.
+
+ghost use Rattle.std.specs.Prelude.{◌≡◌, ◌≤◌, IfOk, length};
+ghost use Rattle.vd_base.specs.Limits.{most_certificate_shifts};
+ghost use Rattle.vd_space_terms.specs.Prices.{candidates_of};
+ghost use Rattle.vd_space_prefix.specs.Tables.{AreTables};
+ghost use Rattle.vd_space.specs.Labelled.{IsLabelled};
+ghost use Rattle.vd_space.specs.Sizes.{IsWithinLimits};
+ghost use Rattle.vd_space.specs.Spaces.{IsProblem};
+ghost use Rattle.vd_space.specs.Validity.{protocols};
+ghost use Rattle.vd_space_tables.specs.Charges.{AreCandidates};
+
+use crate::parts::{kept_parts, moved_values, slot_charges};
+use std::alloc::{AllocError, Global};
+use vd_base::Proto;
+use vd_base_lists::Items;
+use vd_protocol::protocols;
+use vd_search_tree::Shift;
+use vd_space::Problem;
+use vd_space_prefix::Tables;
+use vd_space_terms::candidates;
+
+/// The tables of a problem and shifts.
+pub fn tables(alloc: Global, problem: &Problem, shifts: Items<Shift>) -> Result<Tables, AllocError>
+    requires holds { IsProblem problem.now }
+    requires labelled { IsLabelled problem.now }
+    requires limits { IsWithinLimits problem.now }
+    requires few { length shifts ≤ most_certificate_shifts }
+    ensures tables { IfOk result (AreTables problem.now) }
+    ensures shifts { IfOk result (λ tables. tables.shifts ≡ shifts) }
+{
+    let list = all_protocols(alloc, problem)?;
+    let tests = all_candidates(alloc, problem, list.as_slice())?;
+    let moved = moved_values(
+        alloc,
+        problem,
+        list.as_slice(),
+        tests.as_slice(),
+        shifts.as_slice(),
+    )?;
+    let charges = slot_charges(
+        alloc,
+        problem,
+        list.as_slice(),
+        tests.as_slice(),
+        shifts.as_slice(),
+    )?;
+    let kept = kept_parts(
+        alloc,
+        problem,
+        list.as_slice(),
+        tests.as_slice(),
+        &charges,
+        &moved,
+    )?;
+    Ok(Tables {
+        list,
+        shifts,
+        moves: moved.moves,
+        tells: moved.tells,
+        links: moved.links,
+        shifted_links: moved.shifted_links,
+        index_links: moved.index_links,
+        tellings: kept.tellings,
+        gains: kept.gains,
+        shifted_gains: kept.shifted_gains,
+        naming: kept.naming,
+        start: kept.start,
+    })
+}
+
+/// The list of protocols.
+fn all_protocols(alloc: Global, problem: &Problem) -> Result<Items<Proto>, AllocError>
+    requires { IsLabelled problem.now }
+    ensures list { IfOk result (λ list. list ≡ protocols problem.now) }
+    ensures few { IfOk result (λ list. length list ≤ 64) }
+{
+    protocols(alloc, problem.hosts.as_slice().len() as u8)
+}
+
+/// Which places of the list are candidates, by slot.
+fn all_candidates(
+    alloc: Global,
+    problem: &Problem,
+    list: &[Proto],
+) -> Result<Items<Items<bool>>, AllocError>
+    requires list { list.now ≡ protocols problem.now }
+    requires labelled { IsLabelled problem.now }
+    ensures candidates { IfOk result (λ candidates. candidates ≡ candidates_of problem.now) }
+    ensures rows { IfOk result (AreCandidates problem.now) }
+{
+    candidates(alloc, problem, list)
+}

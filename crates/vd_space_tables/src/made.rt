@@ -1,0 +1,33 @@
+//! What tables are made of.
+
+use crate::charges::Charge;
+use vd_base_lists::Items;
+use vd_space_prefix::{Link, Naming, Sums, Telling};
+
+/// What is moved between two slots: prices by place, and links by use and by index, without and under shifts.
+#[derive(Drop)]
+pub struct Moved {
+    pub moves: Items<Items<Option<u32>>>,
+    pub tells: Items<Items<Option<u32>>>,
+    pub links: Items<Link>,
+    pub shifted_links: Items<Link>,
+    pub index_links: Items<Link>,
+}
+
+/// What slots alone cost: for operations and for outputs, and for both together under shifts.
+#[derive(Drop)]
+pub struct Charges {
+    pub operations: Items<Charge>,
+    pub outputs: Items<Charge>,
+    pub merged: Items<Charge>,
+}
+
+/// What is kept beside the links.
+#[derive(Drop)]
+pub struct Kept {
+    pub tellings: Items<Telling>,
+    pub gains: Items<Items<i64>>,
+    pub shifted_gains: Items<Items<i64>>,
+    pub naming: Items<Naming>,
+    pub start: Sums,
+}

@@ -1,0 +1,141 @@
+//! The parts of tables, as they are made.
+
+ghost use Rattle.std.specs.Prelude.{◌≡◌, ◌≤◌, IfOk, length, map};
+ghost use Rattle.vd_base.specs.Limits.{most_certificate_shifts};
+ghost use Rattle.vd_space_terms.specs.Prices.{candidates_of};
+ghost use Rattle.vd_space.specs.Labelled.{IsLabelled};
+ghost use Rattle.vd_space.specs.Sizes.{IsWithinLimits};
+ghost use Rattle.vd_space.specs.Spaces.{IsProblem};
+ghost use Rattle.vd_space.specs.Validity.{protocols};
+ghost use Rattle.vd_space_tables.specs.Charges.{AreCandidates, telling_of};
+ghost use Rattle.vd_space_tables.specs.Parts.{AreCharges, AreKept, AreMoved, AreSmallCharges, AreSmallMoved, AreSmallOnSlots, start_of};
+
+use crate::charges::{Charge, operation_charges, output_charges};
+use crate::gains::gains_by_slot;
+use crate::made::{Charges, Kept, Moved};
+use crate::shifted::merged_charges;
+use crate::start::{common_start, low_start, shifted_start};
+use crate::tellings::tellings_by_guard;
+use std::alloc::{AllocError, Global};
+use vd_base::Proto;
+use vd_base_lists::Items;
+use vd_search_tree::Shift;
+use vd_space::Problem;
+use vd_space_prefix::{Sums, Telling, namings};
+use vd_space_terms::{index_links, index_prices, move_prices, shifted_use_links, use_links};
+
+/// What is moved between two slots.
+pub fn moved_values(
+    alloc: Global,
+    problem: &Problem,
+    list: &[Proto],
+    candidates: &[Items<bool>],
+    shifts: &[Shift],
+) -> Result<Moved, AllocError>
+    requires list { list.now ≡ protocols problem.now }
+    requires holds { IsProblem problem.now }
+    requires labelled { IsLabelled problem.now }
+    requires limits { IsWithinLimits problem.now }
+    requires candidates { candidates.now ≡ candidates_of problem.now }
+    requires few { length shifts.now ≤ most_certificate_shifts }
+    ensures { IfOk result (AreMoved problem.now shifts.now) }
+{
+    let moves = move_prices(alloc, list)?;
+    let tells = index_prices(alloc, problem, list)?;
+    let links = use_links(alloc, problem, moves.as_slice(), candidates)?;
+    let shifted_links = shifted_use_links(alloc, problem, moves.as_slice(), candidates, shifts)?;
+    let index_links = index_links(alloc, problem, tells.as_slice(), candidates)?;
+    Ok(Moved {
+        moves,
+        tells,
+        links,
+        shifted_links,
+        index_links,
+    })
+}
+
+/// What slots alone cost.
+pub fn slot_charges(
+    alloc: Global,
+    problem: &Problem,
+    list: &[Proto],
+    candidates: &[Items<bool>],
+    shifts: &[Shift],
+) -> Result<Charges, AllocError>
+    requires list { list.now ≡ protocols problem.now }
+    requires few { length list.now ≤ 64 }
+    requires holds { IsProblem problem.now }
+    requires labelled { IsLabelled problem.now }
+    requires limits { IsWithinLimits problem.now }
+    requires candidates { AreCandidates problem.now candidates.now }
+    requires shifts { length shifts.now ≤ most_certificate_shifts }
+    ensures charges { IfOk result (AreCharges problem.now shifts.now) }
+    ensures small { IfOk result (λ charges. AreSmallOnSlots problem.now shifts.now) }
+{
+    Ok(Charges {
+        operations: operation_charges(alloc, problem, list, candidates)?,
+        outputs: output_charges(alloc, problem, list, candidates)?,
+        merged: merged_charges(alloc, problem, list, candidates, shifts)?,
+    })
+}
+
+/// The other parts.
+pub fn kept_parts(
+    alloc: Global,
+    problem: &Problem,
+    list: &[Proto],
+    candidates: &[Items<bool>],
+    charges: &Charges,
+    moved: &Moved,
+) -> Result<Kept, AllocError>
+    requires list { list.now ≡ protocols problem.now }
+    requires few { length list.now ≤ 64 }
+    requires holds { IsProblem problem.now }
+    requires labelled { IsLabelled problem.now }
+    requires limits { IsWithinLimits problem.now }
+    requires candidates { AreCandidates problem.now candidates.now }
+    requires charges { AreSmallCharges charges.now }
+    requires moved { AreSmallMoved moved.now }
+    ensures { IfOk result (AreKept problem.now charges.now moved.now) }
+{
+    let tellings = tellings_by_guard(alloc, problem, list, candidates)?;
+    let start = start(problem, list, charges, moved, tellings.as_slice());
+    Ok(Kept {
+        tellings,
+        gains: gains_by_slot(
+            alloc,
+            charges.operations.as_slice(),
+            charges.outputs.as_slice(),
+        )?,
+        shifted_gains: gains_by_slot(alloc, charges.merged.as_slice(), &[])?,
+        naming: namings(alloc, problem)?,
+        start,
+    })
+}
+
+/// The sums of the empty prefix.
+fn start(
+    problem: &Problem,
+    list: &[Proto],
+    charges: &Charges,
+    moved: &Moved,
+    tellings: &[Telling],
+) -> Sums
+    requires list { list.now ≡ protocols problem.now }
+    requires labelled { IsLabelled problem.now }
+    requires limits { IsWithinLimits problem.now }
+    requires charges { AreSmallCharges charges.now }
+    requires moved { AreSmallMoved moved.now }
+    requires tellings { tellings.now ≡ map (telling_of problem.now) problem.now.guards }
+    ensures { result ≡ start_of problem.now charges.now moved.now }
+{
+    Sums {
+        low: low_start(
+            charges.operations.as_slice(),
+            charges.outputs.as_slice(),
+            moved.links.as_slice(),
+        ),
+        shifted: shifted_start(charges.merged.as_slice(), moved.shifted_links.as_slice()),
+        common: common_start(problem, list, moved.index_links.as_slice(), tellings),
+    }
+}

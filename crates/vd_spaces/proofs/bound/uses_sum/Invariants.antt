@@ -1,6 +1,0 @@
-use Rattle.vd_spaces.specs.Low.{least_use}
-use Rattle.vd_spaces.proofs.Smalls.{IsSum}
-use Rattle.vd_spaces.proofs.bound.uses_sum.Given as goal
-
-abbrev pub invariant-loop-at : goal.invariant-loop-at
-invariant-loop-at l = IsSum (least_use l.problem l.prefix) l.problem.uses 1000000000 l.at l.sum

@@ -1,6 +1,0 @@
-use Rattle.std.proofs.Common.{take}
-use Rattle.vd_path.specs.Tables.{AreSumsOf}
-use Rattle.vd_spaces.proofs.high.high_bound.Given as goal
-
-abbrev pub invariant-loop-slot : goal.invariant-loop-slot
-invariant-loop-slot l = AreSumsOf l.problem l.tables.shifts (take l.slot l.prefix) l.sums

@@ -1,8 +1,0 @@
-use Rattle.std.proofs.Common.{◌≡◌}
-use Rattle.vd_space.specs.Bounds.{may_stand}
-use Rattle.vd_usual.specs.Rows.{if_passes, least_number}
-use Rattle.vd_spaces.specs.Low.{operation_number}
-use Rattle.vd_spaces.proofs.least.least_operation.Given as goal
-
-abbrev pub invariant-loop-place : goal.invariant-loop-place
-invariant-loop-place l = l.least ≡ least_number l.place (λ p. if_passes (may_stand l.problem l.prefix l.slot p) (operation_number l.problem l.slot p))

@@ -1,6 +1,0 @@
-use Rattle.std.proofs.Common.{◌≡◌, take, map}
-use Rattle.vd_spaces.specs.Places.{place_of}
-use Rattle.vd_spaces.proofs.places.fill_places.Given as goal
-
-abbrev pub invariant-loop-slot : goal.invariant-loop-slot
-invariant-loop-slot l = take l.slot l.room ≡ map (place_of l.list) (take l.slot l.prefix)

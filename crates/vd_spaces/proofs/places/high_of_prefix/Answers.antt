@@ -1,5 +1,0 @@
-use Rattle.vd_spaces.proofs.Positions.{valid_short}
-use Rattle.vd_spaces.proofs.places.high_of_prefix.Goals as goal
-
-pub fill_places-requires-clause-room : goal.fill_places-requires-clause-room
-fill_places-requires-clause-room c = valid_short c.args.problem.now c.args.list.now c.args.prefix.now c.requires.limits c.requires.valid

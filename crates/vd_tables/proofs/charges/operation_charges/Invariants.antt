@@ -1,8 +1,0 @@
-use Rattle.std.proofs.Common.{◌≡◌}
-use Rattle.vd_space.specs.Costs.{operation_term}
-use Rattle.vd_path.specs.Transfers.{by_place}
-use Rattle.vd_tables.specs.Charges.{charge_of}
-use Rattle.vd_tables.proofs.charges.operation_charges.Given as goal
-
-abbrev pub invariant-loop-slot : goal.invariant-loop-slot
-invariant-loop-slot l = l.charges ≡ by_place l.slot (λ slot. charge_of l.problem (operation_term l.problem slot))

@@ -1,8 +1,0 @@
-use Rattle.std.proofs.Common.{refl}
-use Rattle.vd_telling.proofs.telling.say_more.Goals as goal
-
-pub returns-in-File : goal.returns-in-File
-returns-in-File g c = rw c.in-File.is (refl, refl, refl)
-
-pub returns-in-Terminal : goal.returns-in-Terminal
-returns-in-Terminal g c = rw c.in-Terminal.is c.say_at_terminal.ensures

@@ -1,6 +1,0 @@
-use Rattle.std.proofs.Common.{◌≡◌}
-use Rattle.vd_trial.specs.Trial.{trial_words}
-use Rattle.vd_trial.proofs.asking.words_of.Given as goal
-
-abbrev pub invariant-loop-number : goal.invariant-loop-number
-invariant-loop-number l = l.words ≡ trial_words l.number l.host

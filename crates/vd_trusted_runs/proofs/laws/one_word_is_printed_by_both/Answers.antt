@@ -1,5 +1,0 @@
-use Rattle.vd_trusted_runs.proofs.Example.{prints_what_she_sent}
-use Rattle.vd_trusted_runs.proofs.laws.one_word_is_printed_by_both.Goals as goal
-
-pub returns : goal.returns
-returns c = prints_what_she_sent

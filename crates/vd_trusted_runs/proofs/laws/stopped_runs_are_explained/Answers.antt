@@ -1,5 +1,0 @@
-use Rattle.vd_trusted_runs.proofs.Theorem.{fronts_explained}
-use Rattle.vd_trusted_runs.proofs.laws.stopped_runs_are_explained.Goals as goal
-
-pub returns : goal.returns
-returns c = fronts_explained
