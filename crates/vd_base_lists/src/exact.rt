@@ -1,7 +1,7 @@
 //! Types whose clones equal what they copy.
 
 /// A type whose clone equals what it copies, so that a copy of a list of them does too.
-pub trait ExactClone: Clone {
+pub(crate) trait ExactClone: Clone {
     ghost use Rattle.std.specs.Prelude.{◌≡◌};
 
     ghost exact: { (value copy : Self) → Self.is_clone value copy → copy ≡ value };

@@ -7,5 +7,4 @@ mod exact;
 mod items;
 
 pub use boxed::Boxed;
-pub use exact::ExactClone;
 pub use items::Items;

@@ -17,4 +17,4 @@ pub use laws::{
     records_give_back_their_bytes, streams_are_apart,
 };
 pub use records::{Keys, RECORD_BYTES, open};
-pub use streams::{cover, key_stream};
+pub use streams::key_stream;

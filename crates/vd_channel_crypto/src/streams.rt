@@ -19,7 +19,7 @@ pub fn key_stream(key: &[u8; 32], number: u64) -> [u8; 128]
 }
 
 /// The bytes under a stream, at the front of what is answered.
-pub fn cover(bytes: &[u8], stream: &[u8; 128]) -> [u8; 128]
+pub(crate) fn cover(bytes: &[u8], stream: &[u8; 128]) -> [u8; 128]
     requires { length bytes.now ≤ 128 }
     ensures { take (length bytes.now) result ≡ under bytes.now stream.now }
 {

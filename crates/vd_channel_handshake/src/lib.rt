@@ -3,4 +3,4 @@
 
 mod meeting;
 
-pub use meeting::{meet, take_hello};
+pub use meeting::meet;

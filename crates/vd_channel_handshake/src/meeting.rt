@@ -11,7 +11,7 @@ use vd_outside::Link;
 /// Takes a hello of this dealing, from one host to another.
 ///
 /// Refuses the first two bytes if they are those of no hello of this version, then another dealing, then other hosts.
-pub fn take_hello<L: Link>(
+fn take_hello<L: Link>(
     link: &mut L,
     id: &[u8; 32],
     from: HostId,

@@ -54,7 +54,7 @@ impl Piece {
     }
 
     /// Gives the next bytes, and says how many: at least one where there is one and there is room for it.
-    pub fn give(&mut self, into: &mut [u8]) -> usize
+    pub(crate) fn give(&mut self, into: &mut [u8]) -> usize
         ensures given { self.old ≡ take result into.new ++ self.new }
         ensures within { result ≤ length into.old }
         ensures few { result ≤ 128 }

@@ -93,7 +93,7 @@ impl Session {
     }
 
     /// Sends the front of some bytes over the link below, in a record of its own.
-    pub fn send<L: Link>(&mut self, link: &mut L, bytes: &[u8]) -> Result<u32, Failed>
+    pub(crate) fn send<L: Link>(&mut self, link: &mut L, bytes: &[u8]) -> Result<u32, Failed>
         requires { 0 < length bytes.now }
         ensures sends { (rest : List ℕ) →
             Sends bytes.now (sealed_view self.old rest (L.view link.old)) (sealed_view self.new rest (L.view link.new)) result }
@@ -170,7 +170,7 @@ impl Session {
 
     /// Gives the next bytes that came over the link below in records with the codes of their direction and places. `before` is the
     /// link as it was when a record was last begun.
-    pub fn receive<L: Link>(
+    pub(crate) fn receive<L: Link>(
         &mut self,
         link: &mut L,
         before: &mut Snapshot<L>,

@@ -29,7 +29,7 @@ impl Ledger {
     }
 
     /// Notes that a link came back, and whether a record behind the greeting was begun over it.
-    pub fn takes_back(&mut self, sent: bool)
+    pub(crate) fn takes_back(&mut self, sent: bool)
         ensures { self.new ≡ with_returned sent self.old }
     {
         self.out = self.out.saturating_sub(1);

@@ -53,7 +53,7 @@ impl Seal {
     }
 
     /// The host that is awaited at a listener: the later hosts have one each, in their order.
-    pub fn awaited_at(&self, listener: u32) -> HostId
+    pub(crate) fn awaited_at(&self, listener: u32) -> HostId
         ensures { result.0 ≡ awaited_at self.now listener }
     {
         let place = listener
@@ -72,7 +72,7 @@ impl Seal {
     }
 
     /// The next earlier host, to which a link is asked for.
-    pub fn next_earlier(&mut self) -> HostId
+    pub(crate) fn next_earlier(&mut self) -> HostId
         ensures next { result.0 ≡ self.old.connected }
         ensures counted { self.new ≡ next_asked self.old }
     {
@@ -82,7 +82,7 @@ impl Seal {
     }
 
     /// The key of the link to a host, if it is a host of the dealing.
-    pub fn key_of(&self, peer: HostId) -> Option<[u8; 32]>
+    pub(crate) fn key_of(&self, peer: HostId) -> Option<[u8; 32]>
         ensures key { IfSome result (IsKeyFor self.now.me.0 self.now.secrets peer.0) }
         ensures none { IfNone result (IsKeyless self.now peer.0) }
     {
@@ -96,7 +96,7 @@ impl Seal {
     }
 
     /// The hello of the next connection, to this host.
-    pub fn next_hello(&mut self, peer: HostId) -> Hello
+    pub(crate) fn next_hello(&mut self, peer: HostId) -> Hello
         ensures id { result.id ≡ self.old.secrets.id }
         ensures from { result.from ≡ self.old.me }
         ensures to { result.to ≡ peer }
@@ -116,7 +116,7 @@ impl Seal {
     }
 
     /// What is known beforehand of the hello of this host: all but its nonce.
-    pub fn head_from(&self, peer: HostId) -> [u8; 36]
+    pub(crate) fn head_from(&self, peer: HostId) -> [u8; 36]
         ensures { result ≡ head_of self.now.secrets.id peer.0 self.now.me.0 }
     {
         let id = self.secrets.id;

@@ -222,7 +222,7 @@ fn rank_of(depths: &mut Items<u32>, opened: &[Items<Reg>], line: &Line) -> Resul
 
 /// The lines of joint code, each with its rank, where each host's packets open some registers (`opened`, by host).
 #[tactic(auto, using(crate::proofs::Tables::behind_more, crate::proofs::Tables::ranked_more))]
-pub fn rank_lines(
+pub(crate) fn rank_lines(
     alloc: Global,
     lines: Items<Line>,
     opened: &[Items<Reg>],
@@ -239,7 +239,7 @@ pub fn rank_lines(
 }
 
 /// The lines without their ranks.
-pub fn lines_of(alloc: Global, list: Items<Ranked>) -> Result<Items<Line>, AllocError>
+pub(crate) fn lines_of(alloc: Global, list: Items<Ranked>) -> Result<Items<Line>, AllocError>
     ensures { IfOk result (λ lines. lines ≡ order.lines_of list) }
 {
     let mut lines = Items::new(alloc);

@@ -118,7 +118,7 @@ fn opened_by(opened: &[Items<Reg>], host: HostId) -> &[Reg]
 }
 
 /// Whether registers of a packet of a host are opened.
-pub fn is_open(opened: &[Items<Reg>], host: HostId, registers: &[Reg]) -> bool
+pub(crate) fn is_open(opened: &[Items<Reg>], host: HostId, registers: &[Reg]) -> bool
     ensures { result ≡ meet registers.now (opened_at opened.now host.0) }
 {
     have_common(registers, opened_by(opened, host))
@@ -170,7 +170,7 @@ fn passes_act(opened: &[Items<Reg>], first: &Act, second: &Line) -> bool
 }
 
 /// Whether the second of two lines may pass the first.
-pub fn passes_line(opened: &[Items<Reg>], first: &Line, second: &Line) -> bool
+pub(crate) fn passes_line(opened: &[Items<Reg>], first: &Line, second: &Line) -> bool
     ensures { result ≡ passes (testing.may_pass (opened_at opened.now)) first.now second.now }
 {
     match first {

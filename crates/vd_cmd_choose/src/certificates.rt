@@ -27,7 +27,7 @@ fn read_certificate(alloc: Global, bytes: &[u8]) -> Result<Certificate, Status>
 }
 
 /// Fetches a certificate, and reads it.
-pub fn load_certificate<F: Files>(
+pub(crate) fn load_certificate<F: Files>(
     alloc: Global,
     files: &mut F,
     name: &str,

@@ -50,7 +50,7 @@ fn files_of(
 }
 
 /// The command `deal` for a key of 32 bytes: makes a deal of version 2, and stores the part of each host.
-pub fn deal_by_key(
+pub(crate) fn deal_by_key(
     alloc: Global,
     counts: Counts,
     key: &[u8; 32],

@@ -5,6 +5,5 @@ mod key_command;
 mod laws;
 mod sources;
 
-pub use key_command::deal_by_key;
 pub use laws::key_deals_are_read;
-pub use sources::{deal_by_file, deal_by_source};
+pub use sources::deal_by_source;

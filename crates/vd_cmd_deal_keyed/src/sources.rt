@@ -49,7 +49,7 @@ fn deal_in_bytes(
 }
 
 /// The command `deal` for a key that stands in a file of 32 bytes.
-pub fn deal_by_file<F: Files>(
+fn deal_by_file<F: Files>(
     alloc: Global,
     files: &mut F,
     counts: Counts,

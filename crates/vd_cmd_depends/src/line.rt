@@ -14,7 +14,7 @@ use vd_base_lists::Items;
 use vd_report::name_of;
 
 /// A host, how many hosts it depends on, and their names in host order.
-pub fn hosts_text(
+pub(crate) fn hosts_text(
     alloc: Global,
     names: &Names,
     host: HostId,
@@ -33,7 +33,7 @@ pub fn hosts_text(
 }
 
 /// A host, how many hosts' inputs bear on what it is told, and their names; then the same of those that `direct` lacks.
-pub fn influence_text(
+pub(crate) fn influence_text(
     alloc: Global,
     names: &Names,
     host: HostId,

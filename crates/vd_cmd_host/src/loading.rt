@@ -150,7 +150,7 @@ fn load_deal<F: Files>(
 
 /// Fetches the program, and then the inputs and the deal of its host, and reads each as soon as it is fetched. The number
 /// of addresses is looked at right behind the program's text.
-pub fn load_host<F: Files>(
+pub(crate) fn load_host<F: Files>(
     alloc: Global,
     files: &mut F,
     words: &HostWords,

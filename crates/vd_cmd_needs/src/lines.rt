@@ -19,7 +19,7 @@ const NOTHING: Shared = Shared {
 };
 
 /// How much to deal, in one line: the first words of `deal`.
-pub fn sizes_text(alloc: Global, sizes: Counts) -> Result<Bytes, AllocError>
+pub(crate) fn sizes_text(alloc: Global, sizes: Counts) -> Result<Bytes, AllocError>
     ensures { IfOk result (λ text. text ≡ lines.sizes_line sizes) }
 {
     let mut text = Bytes::new(alloc);
@@ -33,7 +33,11 @@ pub fn sizes_text(alloc: Global, sizes: Counts) -> Result<Bytes, AllocError>
 }
 
 /// A line for each host, and then one for each two hosts.
-pub fn each_text(alloc: Global, names: &Names, needs: &[HostNeeds]) -> Result<Bytes, AllocError>
+pub(crate) fn each_text(
+    alloc: Global,
+    names: &Names,
+    needs: &[HostNeeds],
+) -> Result<Bytes, AllocError>
     ensures { IfOk result (λ text. text ≡ lines.each_lines names.now needs.now) }
 {
     let mut text = host_lines(alloc, names, needs)?;
@@ -44,7 +48,7 @@ pub fn each_text(alloc: Global, names: &Names, needs: &[HostNeeds]) -> Result<By
 }
 
 /// The lines of one host: its own, and those of it with each other host.
-pub fn host_text(
+pub(crate) fn host_text(
     alloc: Global,
     names: &Names,
     me: usize,

@@ -10,7 +10,7 @@ use vd_base::{CallFault, Failed};
 use vd_outside::{Files, Sink, Stored, write_all};
 
 /// Writes these parts, one behind the other.
-pub fn write_parts<O: Sink>(out: &mut O, parts: &[&[u8]]) -> Result<(), Failed>
+pub(crate) fn write_parts<O: Sink>(out: &mut O, parts: &[&[u8]]) -> Result<(), Failed>
     ensures { WritesAll (flat_map (λ part. part.now) parts.now) (O.view out.old) (O.view out.new) result }
 {
     for part in parts {
@@ -41,7 +41,7 @@ pub fn store_all<F: Files>(files: &mut F, added: &[Stored]) -> Result<(), Status
 }
 
 /// Stores what the answer stores, and then writes what it prints.
-pub fn deliver<F: Files, O: Sink>(answer: Answer, files: &mut F, out: &mut O) -> Status
+pub(crate) fn deliver<F: Files, O: Sink>(answer: Answer, files: &mut F, out: &mut O) -> Status
     requires { IsGiven answer.status answer.printed }
     ensures { Delivers answer (F.view files.old) (F.view files.new) (O.view out.old) (O.view out.new) result }
 {

@@ -92,7 +92,7 @@ fn host_words(
 
 /// The command lines of all hosts, in order: each plays its program `PREFIX.i.host` with the inputs and its deal
 /// `PREFIX.i.deal`, and meets its peers on this machine at ports from this one on.
-pub fn command_lines(
+pub(crate) fn command_lines(
     alloc: Global,
     prefix: &str,
     inputs: &str,

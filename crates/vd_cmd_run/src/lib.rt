@@ -12,7 +12,6 @@ mod run_command;
 mod running;
 mod statuses;
 
-pub use commands::command_lines;
 pub use compiled::Compiled;
 pub use fault::RunFault;
 pub use laws::{ended_runs_report, runs_are_complete, runs_ask_in_order, statuses_have_causes};

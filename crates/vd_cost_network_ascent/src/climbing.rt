@@ -38,7 +38,7 @@ const LAST: Reach = Reach {
 
 /// The walk behind an ascent ends when so many prices of links were looked at in both, where other work counts as long as it
 /// takes: both together take some three quarters of a second at most.
-pub const WORK: u64 = 805_306_368;
+pub(crate) const WORK: u64 = 805_306_368;
 
 /// The points and links of a problem, and what sweeps over them came to.
 #[derive(Drop)]
@@ -161,21 +161,21 @@ impl Climb {
     }
 
     /// What the shifts come to by all settings, where those that are not left are lifted.
-    pub fn lifted(&self, alloc: Global, links: &[LinkTable]) -> Result<Nets, AllocError> {
+    pub(crate) fn lifted(&self, alloc: Global, links: &[LinkTable]) -> Result<Nets, AllocError> {
         let mut lifting = self.lifting(alloc)?;
         self.lift(links, &[], &mut lifting);
         Ok(lifting.into_nets())
     }
 
     /// Room for what shifts come to by all settings.
-    pub fn lifting(&self, alloc: Global) -> Result<Lifting, AllocError> {
+    pub(crate) fn lifting(&self, alloc: Global) -> Result<Lifting, AllocError> {
         let counts = self.counts.as_slice();
         let settings = self.settings.as_slice();
         Lifting::of(alloc, &self.network, &self.left, counts, settings)
     }
 
     /// Writes down what the shifts come to where points are fixed so, by all settings at which these may be.
-    pub fn lift(&self, links: &[LinkTable], fixed: &[Option<usize>], lifting: &mut Lifting) {
+    pub(crate) fn lift(&self, links: &[LinkTable], fixed: &[Option<usize>], lifting: &mut Lifting) {
         let settings = self.settings.as_slice();
         self.state.write_nets(
             &self.tables,
@@ -188,7 +188,7 @@ impl Climb {
     }
 
     /// What it takes to have the amounts as shifts, and the bound of a prefix under these: so many prices are looked at.
-    pub fn work_of_shifts(&self) -> u64 {
+    pub(crate) fn work_of_shifts(&self) -> u64 {
         let mut work: u64 = 0;
         for death in &self.left.deaths {
             let links = self.network.of_point(death.point).len() as u64;

@@ -39,7 +39,7 @@ impl Lifting {
     }
 
     /// What the shifts come to.
-    pub fn into_nets(self) -> Nets {
+    pub(crate) fn into_nets(self) -> Nets {
         let Lifting {
             nets,
             lifts: _,
@@ -50,7 +50,7 @@ impl Lifting {
 
     /// Lifts all that went, from the last to the first: by that time those are lifted that it had for partners. A point that is
     /// fixed is at none of them, so these need not be.
-    pub fn lift(
+    pub(crate) fn lift(
         &mut self,
         links: &[LinkTable],
         network: &Network,

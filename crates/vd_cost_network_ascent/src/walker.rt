@@ -35,7 +35,7 @@ pub struct Candidate {
 
 /// What a test says of a candidate.
 #[derive(Clone, Copy, PartialEq, Eq, Debug)]
-pub enum Verdict {
+pub(crate) enum Verdict {
     /// A list that begins with it costs too much, by what was shifted.
     Refuted,
     /// Nothing of that kind was found.
@@ -99,7 +99,7 @@ impl Walker {
     }
 
     /// The next candidate of a slot, if one is left, and work may still be done to test it.
-    pub fn candidate(&self, slot: u32) -> Option<Candidate> {
+    pub(crate) fn candidate(&self, slot: u32) -> Option<Candidate> {
         if self.is_over() {
             return None;
         }
@@ -118,7 +118,7 @@ impl Walker {
     }
 
     /// Writes down what the shifts come to by the prefix with a candidate that is refuted; once for all that are refuted together.
-    pub fn lift(&mut self, links: &[LinkTable], candidate: Candidate) {
+    pub(crate) fn lift(&mut self, links: &[LinkTable], candidate: Candidate) {
         if candidate.number >= self.refuted {
             self.write(links);
         } else if !self.is_written {
@@ -139,13 +139,17 @@ impl Walker {
     }
 
     /// What the shifts came to when it was written down last.
-    pub fn nets(&self) -> &Nets {
+    pub(crate) fn nets(&self) -> &Nets {
         &self.lifting.nets
     }
 
     /// Tests whether each list that goes on with the candidate costs too much. It is fixed, but where that is shown of it together
     /// with others.
-    pub fn test(&mut self, alloc: Global, candidate: Candidate) -> Result<Verdict, AllocError> {
+    pub(crate) fn test(
+        &mut self,
+        alloc: Global,
+        candidate: Candidate,
+    ) -> Result<Verdict, AllocError> {
         if candidate.point > self.farthest {
             self.farthest = candidate.point;
             self.idle = 0;
@@ -224,13 +228,13 @@ impl Walker {
     }
 
     /// Goes on to the next slot, behind a candidate that is fixed.
-    pub fn go_on(&mut self) {
+    pub(crate) fn go_on(&mut self) {
         self.next = 0;
         self.refuted = 0;
     }
 
     /// Takes back a test that refuted the candidate, and passes it over.
-    pub fn take_back(&mut self, candidate: Candidate) {
+    pub(crate) fn take_back(&mut self, candidate: Candidate) {
         self.climb.state.count(self.showing);
         self.idle = self.idle.saturating_add(1);
         if candidate.number < self.refuted {
@@ -242,7 +246,7 @@ impl Walker {
 
     /// Takes back the candidate that is fixed for a slot, all candidates of the one behind it having been passed over, and passes
     /// it over. Answers whether it did: not where so much was computed, or it went back so often, that the walk ends.
-    pub fn go_back(&mut self, slot: u32) -> bool {
+    pub(crate) fn go_back(&mut self, slot: u32) -> bool {
         if self.is_over() || self.backs >= BACKS {
             return false;
         }

@@ -182,12 +182,12 @@ impl Flow {
     }
 
     /// What all links tell a point together, by its settings.
-    pub fn sums(&self, point: usize) -> &[i32] {
+    pub(crate) fn sums(&self, point: usize) -> &[i32] {
         small_row_at(self.sums.as_slice(), point)
     }
 
     /// What is told over a link, by the settings of its far point.
-    pub fn told(&self, at: usize) -> &[i32] {
+    pub(crate) fn told(&self, at: usize) -> &[i32] {
         match self.links.get(at) {
             Some(carried) => carried.told.as_slice(),
             None => &[],
@@ -195,7 +195,7 @@ impl Flow {
     }
 
     /// What is held of a link, by the settings of its near point.
-    pub fn held(&self, at: usize) -> &[i32] {
+    pub(crate) fn held(&self, at: usize) -> &[i32] {
         match self.links.get(at) {
             Some(carried) => carried.held.as_slice(),
             None => &[],
@@ -203,7 +203,13 @@ impl Flow {
     }
 
     /// Holds these amounts at the near end of a link, by the settings of its point, where those in the tables have these places.
-    pub fn hold_all(&mut self, tables: &Tables, near: End, amounts: &[i64], places: &[usize]) {
+    pub(crate) fn hold_all(
+        &mut self,
+        tables: &Tables,
+        near: End,
+        amounts: &[i64],
+        places: &[usize],
+    ) {
         if near.at < self.links.len() && near.other < self.sums.len() {
             let carried = &mut self.links[near.at];
             for (held, place) in carried.held.iter_mut().zip(places) {
@@ -219,7 +225,7 @@ impl Flow {
     }
 
     /// Notes the least that a point costs.
-    pub fn note(&mut self, point: usize, least: i32) {
+    pub(crate) fn note(&mut self, point: usize, least: i32) {
         let before = i64::from(small_at(self.leasts.as_slice(), point));
         let change = i64::from(least).saturating_sub(before);
         put(&mut self.leasts, point, least);
@@ -228,7 +234,7 @@ impl Flow {
 
     /// Gives the share of a turn to the link of an end, whose point is the near one, where the link costs so much at least by
     /// the settings of that point. Answers whether what is told over it is another amount than before.
-    pub fn give(
+    pub(crate) fn give(
         &mut self,
         tables: &Tables,
         end: End,
@@ -250,7 +256,13 @@ impl Flow {
     }
 
     /// Gives the share of a turn of what is held of the link of an end to the link.
-    pub fn give_back(&mut self, tables: &Tables, end: End, shares: &Shares, turn: i32) -> bool {
+    pub(crate) fn give_back(
+        &mut self,
+        tables: &Tables,
+        end: End,
+        shares: &Shares,
+        turn: i32,
+    ) -> bool {
         if end.at < self.links.len() && end.other < self.sums.len() {
             let carried = &mut self.links[end.at];
             if !carried.lower(shares, turn) {

@@ -126,7 +126,7 @@ impl Left {
     }
 
     /// Whether the point may be at the setting.
-    pub fn is_live(&self, point: usize, setting: usize) -> bool {
+    fn is_live(&self, point: usize, setting: usize) -> bool {
         match self.live.get(point) {
             Some(row) => is_set(row.as_slice(), setting),
             None => false,

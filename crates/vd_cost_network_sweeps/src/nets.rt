@@ -45,7 +45,7 @@ impl Nets {
 
     /// Puts numbers of so many bits more on the point at this end, at the settings that are left; nothing at those at which it is
     /// not where it is fixed.
-    pub fn put_left(
+    pub(crate) fn put_left(
         &mut self,
         end: End,
         row: &[i32],
@@ -91,7 +91,7 @@ pub fn fixed_at(fixed: &[Option<usize>], point: usize) -> Option<usize> {
 }
 
 /// A row of so many, with the numbers at these places, each of so many bits more.
-pub fn spread(
+pub(crate) fn spread(
     alloc: Global,
     row: &[i32],
     places: &[usize],
@@ -108,7 +108,7 @@ pub fn spread(
 }
 
 /// A count of the list, and 0 past the end.
-pub fn count_at(counts: &[usize], point: usize) -> usize {
+pub(crate) fn count_at(counts: &[usize], point: usize) -> usize {
     match counts.get(point) {
         Some(count) => *count,
         None => 0,

@@ -39,7 +39,7 @@ impl End {
     }
 
     /// Whether the other point comes later on the way.
-    pub fn is_ahead(self, forward: bool) -> bool {
+    pub(crate) fn is_ahead(self, forward: bool) -> bool {
         (self.other > self.point) == forward
     }
 
@@ -115,7 +115,7 @@ impl Network {
     }
 
     /// Those of links to points that come later on the way.
-    pub fn ahead(&self, point: usize, forward: bool) -> &[End] {
+    pub(crate) fn ahead(&self, point: usize, forward: bool) -> &[End] {
         if forward {
             ends_at(self.later.as_slice(), point)
         } else {

@@ -9,13 +9,13 @@ use std::alloc::{AllocError, Global};
 pub const FAR: i64 = 1125899906842624;
 
 /// All that points and links cost together is no greater, in steps.
-pub const SMALL: i64 = 536_870_912;
+pub(crate) const SMALL: i64 = 536_870_912;
 
 /// More than any such sum: what it would cost to do what cannot be done, in steps.
-pub const SMALL_FAR: i32 = 1_073_741_824;
+pub(crate) const SMALL_FAR: i32 = 1_073_741_824;
 
 /// The nearest small number.
-pub fn nearest_small(number: i64) -> i32 {
+pub(crate) fn nearest_small(number: i64) -> i32 {
     number.max(-SMALL).min(SMALL) as i32
 }
 
@@ -30,7 +30,7 @@ pub fn number_at(numbers: &[i64], place: usize) -> i64
 }
 
 /// The small number at a place, and 0 past the end.
-pub fn small_at(numbers: &[i32], place: usize) -> i32 {
+pub(crate) fn small_at(numbers: &[i32], place: usize) -> i32 {
     match numbers.get(place) {
         Some(number) => *number,
         None => 0,
@@ -48,7 +48,7 @@ pub fn row_at(rows: &[Vec<i64>], row: usize) -> &[i64]
 }
 
 /// A row of a table of small numbers, which is empty past the end.
-pub fn small_row_at(rows: &[Vec<i32>], row: usize) -> &[i32] {
+pub(crate) fn small_row_at(rows: &[Vec<i32>], row: usize) -> &[i32] {
     match rows.get(row) {
         Some(numbers) => numbers.as_slice(),
         None => &[],
@@ -64,21 +64,21 @@ pub fn settings_at(settings: &[Vec<usize>], point: usize) -> &[usize] {
 }
 
 /// Adds to the number at a place, if there is one.
-pub fn add(numbers: &mut Vec<i64>, place: usize, amount: i64) {
+pub(crate) fn add(numbers: &mut Vec<i64>, place: usize, amount: i64) {
     if place < numbers.len() {
         numbers[place] = numbers[place].wrapping_add(amount);
     }
 }
 
 /// Adds to the number of a table at a row and a place, if there is one.
-pub fn add_at(rows: &mut Vec<Vec<i64>>, row: usize, place: usize, amount: i64) {
+pub(crate) fn add_at(rows: &mut Vec<Vec<i64>>, row: usize, place: usize, amount: i64) {
     if row < rows.len() {
         add(&mut rows[row], place, amount);
     }
 }
 
 /// Puts a number into a table at a row and a place, if there is one.
-pub fn put_at(rows: &mut Vec<Vec<i64>>, row: usize, place: usize, number: i64) {
+pub(crate) fn put_at(rows: &mut Vec<Vec<i64>>, row: usize, place: usize, number: i64) {
     if row < rows.len() {
         put_number(&mut rows[row], place, number);
     }
@@ -92,25 +92,25 @@ fn put_number(numbers: &mut Vec<i64>, place: usize, number: i64) {
 }
 
 /// Puts a small number at a place, if there is one.
-pub fn put(numbers: &mut Vec<i32>, place: usize, number: i32) {
+pub(crate) fn put(numbers: &mut Vec<i32>, place: usize, number: i32) {
     if place < numbers.len() {
         numbers[place] = number;
     }
 }
 
 /// Adds to the small number at a place, if there is one.
-pub fn add_small(numbers: &mut Vec<i32>, place: usize, amount: i32) {
+pub(crate) fn add_small(numbers: &mut Vec<i32>, place: usize, amount: i32) {
     if place < numbers.len() {
         numbers[place] = numbers[place].wrapping_add(amount);
     }
 }
 
 /// A row of so many zeros.
-pub fn zeros(alloc: Global, count: usize) -> Result<Vec<i64>, AllocError> {
+pub(crate) fn zeros(alloc: Global, count: usize) -> Result<Vec<i64>, AllocError> {
     vec![in alloc; 0; count]
 }
 
 /// A row of so many small zeros.
-pub fn small_zeros(alloc: Global, count: usize) -> Result<Vec<i32>, AllocError> {
+pub(crate) fn small_zeros(alloc: Global, count: usize) -> Result<Vec<i32>, AllocError> {
     vec![in alloc; 0; count]
 }

@@ -60,7 +60,7 @@ impl Split {
 }
 
 /// By point, how what it gives is split in sweeps one way.
-pub fn splits(
+pub(crate) fn splits(
     alloc: Global,
     network: &Network,
     forward: bool,
@@ -76,7 +76,7 @@ pub fn splits(
 }
 
 /// How what a point gives is split; not at all past the end.
-pub fn split_at(splits: &[Option<Split>], point: usize) -> Option<Split> {
+pub(crate) fn split_at(splits: &[Option<Split>], point: usize) -> Option<Split> {
     match splits.get(point) {
         Some(split) => *split,
         None => None,
@@ -116,7 +116,7 @@ impl Shares {
     }
 
     /// Lets the next sweep be the first.
-    pub fn begin_turns(&mut self) {
+    pub(crate) fn begin_turns(&mut self) {
         self.turn = u32::MAX;
     }
 
@@ -126,7 +126,7 @@ impl Shares {
     }
 
     /// Begins with what a point costs alone, and what its links tell it in sweeps either way.
-    pub fn sum_up(&mut self, costs: &[i32], told: &[i32], told_back: &[i32]) {
+    pub(crate) fn sum_up(&mut self, costs: &[i32], told: &[i32], told_back: &[i32]) {
         self.count = costs.len();
         let amounts = costs.iter().zip(told).zip(told_back);
         for (total, ((cost, amount), back)) in self.totals.iter_mut().zip(amounts) {
@@ -143,7 +143,7 @@ impl Shares {
     }
 
     /// Begins with nothing.
-    pub fn begin_with_nothing(&mut self) {
+    pub(crate) fn begin_with_nothing(&mut self) {
         for total in &mut self.totals {
             *total = 0;
         }
@@ -166,7 +166,7 @@ impl Shares {
     }
 
     /// Begins sums with what a point costs alone.
-    pub fn begin_sums(&mut self, costs: &[i32]) {
+    pub(crate) fn begin_sums(&mut self, costs: &[i32]) {
         self.count = costs.len();
         for (sum, cost) in self.sums.iter_mut().zip(costs) {
             *sum = i64::from(*cost);
@@ -181,7 +181,7 @@ impl Shares {
     }
 
     /// The first setting of the least sum, together with what the point is told besides.
-    pub fn best(&self, told: &[i32]) -> usize {
+    pub(crate) fn best(&self, told: &[i32]) -> usize {
         let mut best = 0;
         let mut least = i64::MAX;
         let sums = self.sums.iter().take(self.count).zip(told);
@@ -196,17 +196,17 @@ impl Shares {
     }
 
     /// The same with what was added besides.
-    pub fn best_with_more(&self) -> usize {
+    pub(crate) fn best_with_more(&self) -> usize {
         self.best(self.totals.as_slice())
     }
 
     /// The sum at a setting.
-    pub fn sum_at(&self, setting: usize) -> i64 {
+    pub(crate) fn sum_at(&self, setting: usize) -> i64 {
         number_at(self.sums.as_slice(), setting)
     }
 
     /// Splits what the point costs above its least.
-    pub fn split(&mut self, split: Split, least: i32) {
+    pub(crate) fn split(&mut self, split: Split, least: i32) {
         self.links = split.ahead;
         for setting in 0..self.count {
             let above = small_at(self.totals.as_slice(), setting).saturating_sub(least);
@@ -219,7 +219,7 @@ impl Shares {
     }
 
     /// Whose turn the first of the links is in this sweep; none where no link gets anything.
-    pub fn first_turn(&self) -> Option<i32> {
+    pub(crate) fn first_turn(&self) -> Option<i32> {
         if self.links == 0 {
             return None;
         }
@@ -227,7 +227,7 @@ impl Shares {
     }
 
     /// Whose turn the link behind one with that turn is.
-    pub fn turn_after(&self, turn: i32) -> i32 {
+    pub(crate) fn turn_after(&self, turn: i32) -> i32 {
         let next = turn.saturating_add(1);
         if next < number_of(self.links) {
             next
@@ -238,7 +238,7 @@ impl Shares {
 }
 
 /// What a link with a turn gets, where each gets this part, and as many links, the first ones, get one more.
-pub fn share_of(part: i32, more: i32, turn: i32) -> i32 {
+pub(crate) fn share_of(part: i32, more: i32, turn: i32) -> i32 {
     part.wrapping_sub(minus_one_below(turn, more))
 }
 

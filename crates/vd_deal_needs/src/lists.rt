@@ -63,7 +63,7 @@ fn are_same(list: ItemList, other: ItemList) -> bool
 }
 
 /// How many items an action takes from a list: one, or none.
-pub fn taken_by(action: &Action, list: ItemList) -> u64
+pub(crate) fn taken_by(action: &Action, list: ItemList) -> u64
     ensures { result ≡ one_of (source_of action.now) (source_in list) }
 {
     match list_of(action) {

@@ -10,4 +10,4 @@ mod remarks;
 pub use barriers::Barrier;
 pub use hidden::Branch;
 pub use law::barriers_are_what_is_not_pure;
-pub use remarks::{branch_remark, hidden_remark};
+pub use remarks::branch_remark;

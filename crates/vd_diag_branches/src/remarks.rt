@@ -16,7 +16,7 @@ use vd_solver::solve;
 
 /// The remark on the first branch of a program whose guard no host may read and that cannot become a selection, under these labels.
 /// None where there is no such branch.
-pub fn hidden_remark(
+fn hidden_remark(
     alloc: Global,
     program: &Program,
     labels: &Labels,

@@ -6,5 +6,5 @@ mod lines;
 mod terminal;
 
 pub use excerpts::excerpt;
-pub use lines::{line_before, line_behind, line_number};
+pub use lines::{line_behind, line_number};
 pub use terminal::shown;

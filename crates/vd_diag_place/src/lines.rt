@@ -45,7 +45,7 @@ fn last_line(bytes: &[u8]) -> &[u8]
 }
 
 /// The bytes before an offset that stand in its line.
-pub fn line_before(bytes: &[u8], offset: usize) -> &[u8]
+pub(crate) fn line_before(bytes: &[u8], offset: usize) -> &[u8]
     ensures { result.now ≡ lines.line_before bytes.now offset }
 {
     last_line(front(bytes, offset))

@@ -87,7 +87,7 @@ fn goes_on(alloc: Global, before: &[Token], kind: TokenKind) -> Result<bool, Fol
 /// The kinds of tokens with which a source goes on behind these tokens, and no other. The end is one of them.
 ///
 /// They are refused where the tokens, with a blank behind each, are longer than a source may be.
-pub fn following(alloc: Global, before: &[Token]) -> Result<Items<TokenKind>, FollowFault>
+pub(crate) fn following(alloc: Global, before: &[Token]) -> Result<Items<TokenKind>, FollowFault>
     requires no_end { NoEnd before.now }
     requires begins { BeginSource before.now }
     requires shallow { NoneTooDeep before.now }

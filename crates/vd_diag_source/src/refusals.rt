@@ -89,7 +89,11 @@ fn unexpected_remark(
 }
 
 /// The remark on the fault that the parser answers for these bytes.
-pub fn syntax_remark(alloc: Global, bytes: &[u8], fault: ParseFault) -> Result<Remark, TellFault>
+pub(crate) fn syntax_remark(
+    alloc: Global,
+    bytes: &[u8],
+    fault: ParseFault,
+) -> Result<Remark, TellFault>
     requires { (fault ≡ parse_fault.Memory) ⊎ IsParse bytes.now (Err fault) }
     ensures { IfOk result (remarks.IsSyntaxRemark bytes.now fault) }
 {

@@ -11,7 +11,7 @@ use vd_diag::three;
 use vd_source_lexer::{Token, TokenKind};
 
 /// The sentence on a token that cannot stand where it stands, and the kinds that can.
-pub fn unexpected_sentence(
+pub(crate) fn unexpected_sentence(
     alloc: Global,
     bytes: &[u8],
     token: Token,
@@ -26,7 +26,11 @@ pub fn unexpected_sentence(
 }
 
 /// The same where the kinds that can are not known.
-pub fn refused_sentence(alloc: Global, bytes: &[u8], token: Token) -> Result<Bytes, AllocError>
+pub(crate) fn refused_sentence(
+    alloc: Global,
+    bytes: &[u8],
+    token: Token,
+) -> Result<Bytes, AllocError>
     ensures { IfOk result (λ text. text ≡ syntax.refused_sentence bytes.now token) }
 {
     let token = token_phrase(alloc, bytes, token)?;
@@ -39,7 +43,7 @@ pub fn refused_sentence(alloc: Global, bytes: &[u8], token: Token) -> Result<Byt
 }
 
 /// The sentence on a byte that begins nothing of a source.
-pub fn bad_byte_sentence(alloc: Global, byte: u8) -> Result<Bytes, AllocError>
+pub(crate) fn bad_byte_sentence(alloc: Global, byte: u8) -> Result<Bytes, AllocError>
     ensures { IfOk result (λ text. text ≡ syntax.bad_byte_sentence byte) }
 {
     if is_digit(byte) {
@@ -54,7 +58,7 @@ pub fn bad_byte_sentence(alloc: Global, byte: u8) -> Result<Bytes, AllocError>
 
 /// The sentence on a bracket that would be one too many.
 #[tactic(auto, unfolding(crate::specs::Syntax::nesting_sentence))]
-pub fn nesting_sentence(alloc: Global) -> Result<Bytes, AllocError>
+pub(crate) fn nesting_sentence(alloc: Global) -> Result<Bytes, AllocError>
     ensures { IfOk result (λ text. text ≡ syntax.nesting_sentence) }
 {
     Bytes::from_slice(
@@ -64,7 +68,7 @@ pub fn nesting_sentence(alloc: Global) -> Result<Bytes, AllocError>
 }
 
 /// The sentence on a source of too many bytes.
-pub fn long_sentence(alloc: Global, len: u64) -> Result<Bytes, AllocError>
+pub(crate) fn long_sentence(alloc: Global, len: u64) -> Result<Bytes, AllocError>
     ensures { IfOk result (λ text. text ≡ syntax.long_sentence len) }
 {
     let mut buffer = Buffer::new();

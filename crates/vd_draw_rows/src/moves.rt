@@ -118,7 +118,7 @@ pub fn is_seen(from: Proto, to: Proto) -> bool
 }
 
 /// Where a slot stands.
-pub fn place(list: &[Proto], slot: SlotId) -> Proto
+pub(crate) fn place(list: &[Proto], slot: SlotId) -> Proto
     ensures { result ≡ moves_spec.place list.now slot }
 {
     match list.get(usize::from(slot.0)) {
@@ -128,7 +128,7 @@ pub fn place(list: &[Proto], slot: SlotId) -> Proto
 }
 
 /// The word of a slot goes to a protocol.
-pub fn move_of(list: &[Proto], slot: SlotId, to: Proto) -> Move
+pub(crate) fn move_of(list: &[Proto], slot: SlotId, to: Proto) -> Move
     ensures { result ≡ moves_spec.move_of list.now slot to }
 {
     let from = place(list, slot);
@@ -141,7 +141,7 @@ pub fn move_of(list: &[Proto], slot: SlotId, to: Proto) -> Move
 }
 
 /// Adds that the word of a slot is told to a host, where the test holds.
-pub fn tell(
+pub(crate) fn tell(
     moves: &mut Items<Move>,
     list: &[Proto],
     slot: SlotId,
@@ -176,7 +176,7 @@ fn index_moves(
 }
 
 /// The moves for a word that is stored in an array, or read from one: its index, and the word itself.
-pub fn element_moves(
+pub(crate) fn element_moves(
     alloc: Global,
     list: &[Proto],
     hosts: u8,
@@ -192,7 +192,7 @@ pub fn element_moves(
 }
 
 /// The move of one word.
-pub fn one_move(
+pub(crate) fn one_move(
     alloc: Global,
     list: &[Proto],
     slot: SlotId,
@@ -222,7 +222,7 @@ fn operand_moves(
 }
 
 /// The words that are moved where a right side is bound to a slot.
-pub fn right_moves(
+pub(crate) fn right_moves(
     alloc: Global,
     list: &[Proto],
     hosts: u8,
@@ -247,7 +247,7 @@ pub fn right_moves(
 }
 
 /// What the operation of a right side costs at a protocol.
-pub fn operation_cost(right: &Right, at: Proto) -> u32
+pub(crate) fn operation_cost(right: &Right, at: Proto) -> u32
     ensures { result ≡ moves_spec.operation_of right.now at }
 {
     match right {

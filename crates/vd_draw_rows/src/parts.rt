@@ -80,7 +80,7 @@ fn is_part_of_output(list: &[Proto], host: HostId, slot: SlotId, told: HostId) -
 
 /// Whether a host takes part in a block: it is told something there, or a slot that is named there is kept at it.
 #[cycle(parts)]
-pub fn takes_part(list: &[Proto], host: HostId, body: &[Stmt]) -> bool
+fn takes_part(list: &[Proto], host: HostId, body: &[Stmt]) -> bool
     ensures { (source : List ℕ) (p : Forms) → result ≡ part_of_all list.now host (map (drawn source p list.now) body.now) }
 {
     for stmt in body {
@@ -92,7 +92,12 @@ pub fn takes_part(list: &[Proto], host: HostId, body: &[Stmt]) -> bool
 }
 
 /// Whether a host takes part in one of two blocks.
-pub fn takes_part_in_either(list: &[Proto], host: HostId, first: &[Stmt], other: &[Stmt]) -> bool
+pub(crate) fn takes_part_in_either(
+    list: &[Proto],
+    host: HostId,
+    first: &[Stmt],
+    other: &[Stmt],
+) -> bool
     ensures { (source : List ℕ) (p : Forms) → result ≡ (part_of_all list.now host (map (drawn source p list.now) first.now) ||
         part_of_all list.now host (map (drawn source p list.now) other.now)) }
 {

@@ -28,7 +28,7 @@ fn push_number(text: &mut Bytes, number: u32) -> Result<(), AllocError>
 }
 
 /// Puts the name of a slot at the end: its number where the source gives none.
-pub fn push_name(text: &mut Bytes, slots: &[Slot], slot: SlotId) -> Result<(), AllocError>
+fn push_name(text: &mut Bytes, slots: &[Slot], slot: SlotId) -> Result<(), AllocError>
     ensures { OnOk result (text.new ≡ text.old ++ texts.slot_name slots.now slot) }
 {
     let name = written_name(slots, slot);
@@ -221,7 +221,7 @@ fn push_right(
 }
 
 /// A binding: the name of the slot and the right side.
-pub fn binding_text(
+pub(crate) fn binding_text(
     alloc: Global,
     hosts: &Names,
     slots: &[Slot],
@@ -238,7 +238,7 @@ pub fn binding_text(
 }
 
 /// A variable and its first word.
-pub fn variable_text(
+pub(crate) fn variable_text(
     alloc: Global,
     slots: &[Slot],
     variable: SlotId,
@@ -253,7 +253,7 @@ pub fn variable_text(
 }
 
 /// An array and how many words it has.
-pub fn array_text(
+pub(crate) fn array_text(
     alloc: Global,
     slots: &[Slot],
     array: SlotId,
@@ -269,7 +269,7 @@ pub fn array_text(
 }
 
 /// What is stored in a variable.
-pub fn store_text(
+pub(crate) fn store_text(
     alloc: Global,
     slots: &[Slot],
     variable: SlotId,
@@ -284,7 +284,7 @@ pub fn store_text(
 }
 
 /// What is stored in an array.
-pub fn put_text(
+pub(crate) fn put_text(
     alloc: Global,
     slots: &[Slot],
     array: SlotId,
@@ -300,7 +300,7 @@ pub fn put_text(
 }
 
 /// What is told to a host.
-pub fn output_text(
+pub(crate) fn output_text(
     alloc: Global,
     hosts: &Names,
     slots: &[Slot],
@@ -317,7 +317,7 @@ pub fn output_text(
 }
 
 /// The guard of a branch.
-pub fn branch_text(alloc: Global, slots: &[Slot], guard: SlotId) -> Result<Bytes, AllocError>
+pub(crate) fn branch_text(alloc: Global, slots: &[Slot], guard: SlotId) -> Result<Bytes, AllocError>
     ensures { IfOk result (λ text. text ≡ texts.branch_text slots.now guard) }
 {
     let mut text = Bytes::from_slice(alloc, b"if ")?;
@@ -326,7 +326,7 @@ pub fn branch_text(alloc: Global, slots: &[Slot], guard: SlotId) -> Result<Bytes
 }
 
 /// How often a loop is done.
-pub fn loop_text(alloc: Global, count: u32) -> Result<Bytes, AllocError>
+pub(crate) fn loop_text(alloc: Global, count: u32) -> Result<Bytes, AllocError>
     ensures { IfOk result (λ text. text ≡ texts.loop_text count) }
 {
     let mut text = Bytes::new(alloc);

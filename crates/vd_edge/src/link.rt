@@ -54,7 +54,7 @@ impl<S: Duplex + Drop> RealLink<S> {
     }
 
     /// Whether it has told its end.
-    pub fn has_ended(&self) -> bool
+    pub(crate) fn has_ended(&self) -> bool
         ensures { result ≡ self.now.ended }
     {
         self.ended

@@ -85,7 +85,7 @@ impl Meter {
     }
 
     /// Counts these bytes, which have passed.
-    pub fn pass(&mut self, bytes: &[u8])
+    pub(crate) fn pass(&mut self, bytes: &[u8])
         ensures { self.new ≡ after_bytes self.old bytes.now }
     {
         for byte in bytes {

@@ -36,7 +36,7 @@ impl Waits {
     }
 
     /// Whether a wait may end before its peer does something.
-    pub fn may_end(&self) -> bool
+    pub(crate) fn may_end(&self) -> bool
         ensures { result ≡ (is_some self.now.parent || is_some self.now.seconds) }
     {
         self.parent.is_some() || self.seconds.is_some()
@@ -50,7 +50,7 @@ impl Waits {
     }
 
     /// How often a call is made that comes back each second.
-    pub fn turns(&self) -> u64
+    pub(crate) fn turns(&self) -> u64
         ensures { result ≡ turns self.now.seconds }
     {
         match self.seconds {
@@ -60,7 +60,7 @@ impl Waits {
     }
 
     /// Goes on waiting. It is an error if the process that started this one is gone, and where none is known that never is.
-    pub fn go_on(&self) -> io::Result<()>
+    pub(crate) fn go_on(&self) -> io::Result<()>
         ensures { OnErr result (is_some self.now.parent ≡ true) }
     {
         match self.parent {
@@ -73,6 +73,6 @@ impl Waits {
 }
 
 /// The error of a peer that did nothing for as long as a wait may last.
-pub fn silent() -> io::Error {
+pub(crate) fn silent() -> io::Error {
     io::Error::new(ErrorKind::TimedOut, "silent for too long")
 }

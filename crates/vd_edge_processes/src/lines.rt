@@ -84,13 +84,13 @@ impl<O: Read + Drop> Lines<O> {
     }
 
     /// Whether the output has ended.
-    pub fn is_over(&self) -> bool {
+    pub(crate) fn is_over(&self) -> bool {
         self.output.is_none()
     }
 
     /// Takes what the stream gives now, and says whether that was anything. A read that fails is a fault, and so is more than a
     /// host writes: the stream is then let go.
-    pub fn turn(&mut self) -> Result<bool, CallFault>
+    pub(crate) fn turn(&mut self) -> Result<bool, CallFault>
         ensures { OnOk result (Keeps (left O.remaining self.old.output self.old.bytes self.old.handed)
             (left O.remaining self.new.output self.new.bytes self.new.handed)) }
     {
@@ -113,7 +113,7 @@ impl<O: Read + Drop> Lines<O> {
     }
 
     /// What there is of the next line. Bytes that no line feed ends are the last line. A line that is too long is a fault.
-    pub fn next(&mut self) -> Result<Next, CallFault>
+    pub(crate) fn next(&mut self) -> Result<Next, CallFault>
         ensures { IfOk result (GivesNext (left O.remaining self.old.output self.old.bytes self.old.handed)
             (left O.remaining self.new.output self.new.bytes self.new.handed)) }
     {

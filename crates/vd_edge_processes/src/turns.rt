@@ -75,7 +75,7 @@ fn pause_for<R: Clock>(rt: &R, pause: u64) -> u64 {
 
 /// The next line of a child, and `None` at the end of its output. Until it is there, all children are read by turns, so that none of
 /// them stands still because nobody reads it. Where one has ended with a fault, it is a fault if the line does not come soon.
-pub fn next_line<R: Clock, P: Player>(
+pub(crate) fn next_line<R: Clock, P: Player>(
     rt: &R,
     children: &mut [P],
     number: usize,
@@ -154,7 +154,7 @@ fn are_over<P: Player>(children: &[P]) -> bool {
 }
 
 /// The child that most likely failed first, after a run. All children have a moment to end.
-pub fn first_failure<R: Clock, P: Player>(rt: &R, children: &mut [P]) -> Option<(usize, u32)>
+pub(crate) fn first_failure<R: Clock, P: Player>(rt: &R, children: &mut [P]) -> Option<(usize, u32)>
     ensures found { IfSome result (λ found. found.0 < length children.old) }
     ensures ended { IfSome result (λ found. EndedAs P.ended children.new found.0 found.1) }
 {

@@ -328,7 +328,7 @@ impl Side {
     /// The host acts by itself. Past the end of a list it takes zeros.
     ///
     /// Only want of memory refuses it.
-    pub fn perform(&mut self, action: &Action) -> Result<(), AllocError>
+    pub(crate) fn perform(&mut self, action: &Action) -> Result<(), AllocError>
         ensures { OnOk result (self.new ≡ performed action.now self.old) }
     {
         match action {
@@ -391,14 +391,14 @@ impl Side {
     }
 
     /// The host hears words.
-    pub fn hear(&mut self, into: &[Reg], words: &[u32]) -> Result<(), AllocError>
+    pub(crate) fn hear(&mut self, into: &[Reg], words: &[u32]) -> Result<(), AllocError>
         ensures { OnOk result (self.new ≡ has_heard into.now words.now self.old) }
     {
         write_each(&mut self.registers, into, words)
     }
 
     /// A register gets the number of a turn.
-    pub fn count_turn(&mut self, counter: u32, turn: u32) -> Result<(), AllocError>
+    pub(crate) fn count_turn(&mut self, counter: u32, turn: u32) -> Result<(), AllocError>
         ensures { OnOk result (self.new ≡ counted counter turn self.old) }
     {
         write(&mut self.registers, counter as usize, turn)

@@ -25,7 +25,7 @@ impl Failures {
     }
 
     /// Counts a call, and says whether it is one that fails.
-    pub fn next_fails(&mut self) -> bool
+    pub(crate) fn next_fails(&mut self) -> bool
         ensures listed { result ≡ is_listed self.old.failing self.old.calls }
         ensures counted { self.new ≡ record self.old { calls = one_more self.old.calls } }
     {
@@ -35,7 +35,7 @@ impl Failures {
     }
 
     /// Counts a fault.
-    pub fn count_fault(&mut self)
+    pub(crate) fn count_fault(&mut self)
         ensures rose { Rose self.old.faults self.new.faults }
         ensures later { self.old.faults ≤ self.new.faults }
         ensures counted { self.new ≡ record self.old { faults = one_more self.old.faults } }

@@ -9,7 +9,7 @@ use vd_base::Bytes;
 use vd_outside::{FetchFault, Stored};
 
 /// A copy of what stands at a name.
-pub fn find(alloc: Global, files: &[Stored], name: &str) -> Result<Option<Bytes>, AllocError>
+pub(crate) fn find(alloc: Global, files: &[Stored], name: &str) -> Result<Option<Bytes>, AllocError>
     ensures { IfOk result (λ content. content ≡ found files.now name.now) }
 {
     for file in files {
@@ -22,7 +22,11 @@ pub fn find(alloc: Global, files: &[Stored], name: &str) -> Result<Option<Bytes>
 }
 
 /// A copy of what stands at a name, and no bytes at a name with no file.
-pub fn find_or_empty(alloc: Global, files: &[Stored], name: &str) -> Result<Bytes, AllocError>
+pub(crate) fn find_or_empty(
+    alloc: Global,
+    files: &[Stored],
+    name: &str,
+) -> Result<Bytes, AllocError>
     ensures { IfOk result (λ content. found_or_empty files.now name.now ≡ Some content) }
 {
     for file in files {
@@ -35,7 +39,7 @@ pub fn find_or_empty(alloc: Global, files: &[Stored], name: &str) -> Result<Byte
 }
 
 /// What was found, if it is no longer than the limit.
-pub fn limited(found: Option<Bytes>, limit: u32) -> Result<Bytes, FetchFault>
+pub(crate) fn limited(found: Option<Bytes>, limit: u32) -> Result<Bytes, FetchFault>
     ensures { result ≡ fetched found limit }
 {
     match found {

@@ -33,7 +33,7 @@ impl Mark {
     }
 
     /// The name beside a file is free.
-    pub fn free(alloc: Global, beside: &str, name: &[u8]) -> Result<Mark, AllocError>
+    fn free(alloc: Global, beside: &str, name: &[u8]) -> Result<Mark, AllocError>
         ensures { IfOk result (λ mark. mark ≡ record { place = mark_at beside.now name.now; bytes = None }) }
     {
         let place = mark_at(alloc, beside, name)?;

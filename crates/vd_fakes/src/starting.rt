@@ -18,7 +18,11 @@ fn copy_of(alloc: Global, texts: &Texts) -> Result<Texts, AllocError>
 }
 
 /// The call that starts a program with these words.
-pub fn start_call(alloc: Global, program: &str, words: &Texts) -> Result<SpawnerCall, AllocError>
+pub(crate) fn start_call(
+    alloc: Global,
+    program: &str,
+    words: &Texts,
+) -> Result<SpawnerCall, AllocError>
     ensures { IfOk result (λ call. call ≡ SpawnerCall.Start program.now words.now) }
 {
     let program = Text::copy_of(alloc, program)?;

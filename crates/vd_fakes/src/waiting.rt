@@ -6,7 +6,7 @@ use vd_base::Text;
 use vd_base_lists::Items;
 
 /// Takes the first link that waits at an address.
-pub fn take_link<L: Drop>(waiting: &mut Items<(Text, L)>, address: &str) -> Option<L>
+pub(crate) fn take_link<L: Drop>(waiting: &mut Items<(Text, L)>, address: &str) -> Option<L>
     ensures link { result ≡ link_at address.now waiting.old None }
     ensures rest { waiting.new ≡ without_link_at address.now waiting.old }
 {

@@ -5,7 +5,7 @@ use crate::ChildrenFault;
 use vd_base::{CallFault, HostId};
 
 /// The fault of a call for a host.
-pub fn fault_of(host: HostId, fault: CallFault) -> ChildrenFault
+pub(crate) fn fault_of(host: HostId, fault: CallFault) -> ChildrenFault
     ensures { result ≡ fault_at host fault }
 {
     match fault {

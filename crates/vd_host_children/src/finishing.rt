@@ -7,7 +7,11 @@ use vd_base::HostId;
 use vd_outside::Spawner;
 
 /// Finishes a child whose output has ended. A status other than 0 is a fault.
-pub fn finish<S: Spawner>(spawner: &mut S, child: u32, host: HostId) -> Result<(), ChildrenFault>
+pub(crate) fn finish<S: Spawner>(
+    spawner: &mut S,
+    child: u32,
+    host: HostId,
+) -> Result<(), ChildrenFault>
     requires { child < (S.view spawner.old).given }
     ensures { Ends child host (S.view spawner.old) (S.view spawner.new) result }
 {

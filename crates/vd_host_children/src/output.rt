@@ -30,14 +30,14 @@ impl Output {
 }
 
 /// Whether a line is this text.
-pub fn is(line: &[u8], text: &[u8]) -> bool
+pub(crate) fn is(line: &[u8], text: &[u8]) -> bool
     ensures { result ≡ bytes_eq line.now text.now }
 {
     line == text
 }
 
 /// Takes a further line of a host's child, if it may stand there: a word in decimal, or `ended` behind all words.
-pub fn take_line(output: &mut Output, host: HostId, line: &[u8]) -> Result<(), ChildrenFault>
+pub(crate) fn take_line(output: &mut Output, host: HostId, line: &[u8]) -> Result<(), ChildrenFault>
     ensures { TakesLine host line.now output.old output.new result }
 {
     if output.over {

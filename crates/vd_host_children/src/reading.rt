@@ -10,7 +10,7 @@ use vd_base::{HostId, Words};
 use vd_outside::Spawner;
 
 /// Reads the lines of a host's child behind its first one to their end, and finishes it: the words that it printed.
-pub fn read<S: Spawner>(
+pub(crate) fn read<S: Spawner>(
     alloc: Global,
     spawner: &mut S,
     child: u32,

@@ -9,7 +9,7 @@ use vd_base::{HostId, Texts};
 use vd_outside::Spawner;
 
 /// Starts a host's child, and reads its first line, which is `listening`. It gives the number of the child.
-pub fn start<S: Spawner>(
+pub(crate) fn start<S: Spawner>(
     spawner: &mut S,
     host: HostId,
     program: &str,

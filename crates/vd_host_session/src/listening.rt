@@ -8,7 +8,7 @@ use vd_base::{CallFault, HostId};
 use vd_outside::Net;
 
 /// Listens for all later peers, and says the number of the first listener.
-pub fn listen_all<N: Net>(net: &mut N, task: &Task) -> Result<u32, HostFault>
+pub(crate) fn listen_all<N: Net>(net: &mut N, task: &Task) -> Result<u32, HostFault>
     requires few { length task.now.addresses ≤ 3 }
     requires own { task.now.me.0 ≤ length task.now.addresses }
     requires room { (N.view net.old).given ≤ 4294967000 }
@@ -34,7 +34,7 @@ fn first_listener(first: u32, number: u32, place: usize, first_place: usize) -> 
 }
 
 /// The fault of a call for a peer.
-pub fn fault_of(peer: HostId, fault: CallFault) -> HostFault
+pub(crate) fn fault_of(peer: HostId, fault: CallFault) -> HostFault
     ensures { (address : List ℕ) → result ≡ call_status (record { number = peer.0; address = address }) fault }
 {
     match fault {

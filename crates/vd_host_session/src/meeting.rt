@@ -118,7 +118,7 @@ fn meet<N: Net>(
 }
 
 /// Meets all peers in their order. Of the listeners the first has this number.
-pub fn meet_all<N: Net>(
+pub(crate) fn meet_all<N: Net>(
     alloc: Global,
     net: &mut N,
     task: &Task,

@@ -7,7 +7,7 @@ use vd_engine::Links;
 use vd_outside::Net;
 
 /// Hands the links of all sessions back, in the order of the hosts.
-pub fn hand_back<N: Net>(net: &mut N, links: Links<N::Link>)
+pub(crate) fn hand_back<N: Net>(net: &mut N, links: Links<N::Link>)
     ensures { HandedBack (sessions_of N.Link.view links) (N.view net.old) 4 (N.view net.new) }
 {
     let mut links = links;
@@ -20,7 +20,7 @@ pub fn hand_back<N: Net>(net: &mut N, links: Links<N::Link>)
 }
 
 /// Hands a link back, if there is one.
-pub fn hang_up<N: Net>(net: &mut N, link: Option<N::Link>)
+pub(crate) fn hang_up<N: Net>(net: &mut N, link: Option<N::Link>)
     ensures { HungUp (option_map N.Link.view link) (N.view net.old) (N.view net.new) }
 {
     if let Some(link) = link {

@@ -14,7 +14,7 @@ pub struct Task {
 }
 
 /// The host whose address is at this place: all hosts in order, without this one.
-pub fn peer_at(me: HostId, place: usize) -> HostId
+pub(crate) fn peer_at(me: HostId, place: usize) -> HostId
     requires { place < 3 }
     ensures { result.0 ≡ number_at me.0 place }
 {
@@ -27,7 +27,7 @@ pub fn peer_at(me: HostId, place: usize) -> HostId
 }
 
 /// The address at this place.
-pub fn address_at(task: &Task, place: usize) -> &str
+pub(crate) fn address_at(task: &Task, place: usize) -> &str
     requires { place < length task.now.addresses }
     ensures { result.now ≡ address_of task.now place }
 {

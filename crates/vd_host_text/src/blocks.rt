@@ -119,7 +119,7 @@ impl Outline {
     }
 
     /// A line with this word comes.
-    pub fn pass(&mut self, word: Word) -> Result<(), AllocError>
+    pub(crate) fn pass(&mut self, word: Word) -> Result<(), AllocError>
         ensures { OnOk result (self.new ≡ lines.after self.old word) }
     {
         match word {

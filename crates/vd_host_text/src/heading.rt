@@ -193,7 +193,7 @@ fn read_me(cursor: &mut Cursor, hosts: usize) -> Result<u8, Stopped>
 
 /// The whole file up to its last line.
 #[tactic(auto, unfolding(crate::specs::Outcome::program_at))]
-pub fn read_program(alloc: Global, cursor: &mut Cursor) -> Result<HostProgram, ReadFault>
+pub(crate) fn read_program(alloc: Global, cursor: &mut Cursor) -> Result<HostProgram, ReadFault>
     ensures { GivesOrMemory result cursor.new (outcome.program_at cursor.old) }
 {
     let arrays = read_version(cursor)?;

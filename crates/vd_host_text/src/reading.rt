@@ -55,7 +55,7 @@ const WORDS: [Word; 36] = [
 ];
 
 /// The lines up to the one that ends the program, as instructions.
-pub fn read_code(
+pub(crate) fn read_code(
     alloc: Global,
     cursor: &mut Cursor,
     arrays: Arrays,
@@ -182,7 +182,7 @@ fn read_many(alloc: Global, cursor: &mut Cursor) -> Result<Words, ReadFault>
 }
 
 /// Whether this byte is the next one.
-pub fn stands_at(cursor: &Cursor, byte: u8) -> bool
+pub(crate) fn stands_at(cursor: &Cursor, byte: u8) -> bool
     ensures { result ≡ reading.starts_with byte cursor.now }
 {
     cursor.first() == Some(byte)

@@ -56,7 +56,7 @@ fn binary_spelling(operation: Binary) -> &'static [u8]
 }
 
 /// How a word is written.
-pub fn spelling(word: Word) -> &'static [u8]
+pub(crate) fn spelling(word: Word) -> &'static [u8]
     ensures { result.now ≡ words.spelling word }
 {
     match word {
@@ -112,7 +112,7 @@ fn action_word(action: &Action) -> Word
 }
 
 /// The word with which an instruction begins.
-pub fn word_of(instruction: &Instr) -> Word
+pub(crate) fn word_of(instruction: &Instr) -> Word
     ensures { result ≡ words.word_of instruction.now }
 {
     match instruction {
@@ -127,7 +127,7 @@ pub fn word_of(instruction: &Instr) -> Word
 }
 
 /// Whether it is one of the three instructions on arrays.
-pub fn is_array(instruction: &Instr) -> bool
+pub(crate) fn is_array(instruction: &Instr) -> bool
     ensures { result ≡ words.is_array instruction.now }
 {
     matches!(

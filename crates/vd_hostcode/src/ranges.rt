@@ -138,7 +138,7 @@ fn numbers(instruction: &Instr) -> usize
 }
 
 /// The number of the first instruction that breaks a range, if one does. Static steps are not counted here.
-pub fn first_broken(hosts: usize, me: HostId, code: &[Instr]) -> Option<usize>
+pub(crate) fn first_broken(hosts: usize, me: HostId, code: &[Instr]) -> Option<usize>
     ensures { result ≡ ranges.first_broken hosts me 0 0 code.now }
 {
     let mut number: usize = 0;
@@ -154,7 +154,7 @@ pub fn first_broken(hosts: usize, me: HostId, code: &[Instr]) -> Option<usize>
 }
 
 /// How many instructions have a number.
-pub fn numbered(code: &[Instr]) -> usize
+pub(crate) fn numbered(code: &[Instr]) -> usize
     ensures { result ≡ ranges.count_in code.now }
 {
     let mut count: usize = 0;

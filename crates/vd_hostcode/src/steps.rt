@@ -83,7 +83,7 @@ fn count_before(
 
 /// The static steps of a well-nested code, or `TOO_MANY` where they would be more. The text is read from its end to its front,
 /// so that the steps of a block are known where it opens.
-pub fn count_steps(alloc: Global, code: &[Instr]) -> Result<u64, AllocError>
+pub(crate) fn count_steps(alloc: Global, code: &[Instr]) -> Result<u64, AllocError>
     requires { (nested : Code) × IsCodeOf code.now nested }
     ensures { (nested : Code) → IsCodeOf code.now nested → IfOk result (λ steps. steps ≡ capped (static_steps nested)) }
 {

@@ -12,19 +12,19 @@ use std::marker::Model;
 use vd_base::{HostId, Packet};
 
 /// The first byte of a greeting.
-pub const GREETING_TAG: u8 = 0x47;
+pub(crate) const GREETING_TAG: u8 = 0x47;
 
 /// The second byte of a greeting.
-pub const GREETING_VERSION: u8 = 1;
+pub(crate) const GREETING_VERSION: u8 = 1;
 
 /// The bytes of a greeting.
 pub const GREETING_BYTES: usize = 36;
 
 /// The first byte of a packet.
-pub const PACKET_TAG: u8 = 0x56;
+pub(crate) const PACKET_TAG: u8 = 0x56;
 
 /// The most bytes of a packet.
-pub const PACKET_BYTES: usize = 66;
+pub(crate) const PACKET_BYTES: usize = 66;
 
 /// The greeting of a host to another, with the digest of its plan.
 pub fn greeting_of(plan: &Digest, from: HostId, to: HostId) -> [u8; GREETING_BYTES]
@@ -63,7 +63,7 @@ impl Frame {
     }
 
     /// Puts the greeting of a host to another here.
-    pub fn set_greeting(&mut self, plan: &Digest, from: HostId, to: HostId)
+    pub(crate) fn set_greeting(&mut self, plan: &Digest, from: HostId, to: HostId)
         ensures { self.new ≡ greeting plan.now from.0 to.0 }
     {
         self.bytes.clear();
@@ -75,7 +75,7 @@ impl Frame {
     }
 
     /// Puts a packet here.
-    pub fn set_packet(&mut self, packet: &Packet)
+    pub(crate) fn set_packet(&mut self, packet: &Packet)
         ensures { self.new ≡ frame (packet_words packet.now) }
     {
         let words = words_of(packet);
@@ -96,7 +96,7 @@ impl Frame {
 }
 
 /// The packet of these bytes, four bytes a word, the highest first.
-pub fn packet_of(bytes: &[u8], count: u8) -> Packet
+pub(crate) fn packet_of(bytes: &[u8], count: u8) -> Packet
     requires most { count ≤ most_packet_words }
     requires whole { length bytes.now ≡ 4 * count }
     ensures count { length (packet_words result) ≡ count }

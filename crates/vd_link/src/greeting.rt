@@ -61,7 +61,7 @@ fn receive_greeting<L: Link>(
 }
 
 /// Sends the own greeting, and receives that of the peer.
-pub fn exchange_greetings<L: Link>(
+pub(crate) fn exchange_greetings<L: Link>(
     link: &mut L,
     frame: &mut Frame,
     me: HostId,

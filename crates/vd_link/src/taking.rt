@@ -21,7 +21,11 @@ fn fault_at(fault: FrameFault, offset: u64) -> LinkFault
 }
 
 /// Receives a packet of so many words, the first byte of which has this offset.
-pub fn take_packet<L: Link>(link: &mut L, count: u8, offset: u64) -> Result<Packet, LinkFault>
+pub(crate) fn take_packet<L: Link>(
+    link: &mut L,
+    count: u8,
+    offset: u64,
+) -> Result<Packet, LinkFault>
     requires some { 1 ≤ count }
     requires most { count ≤ most_packet_words }
     ensures { Takes count offset (L.view link.old) (L.view link.new) result }

@@ -31,7 +31,7 @@ fn marks_of(alloc: Global, problem: &Problem, list: &[Proto]) -> Result<Items<bo
 }
 
 /// Of each slot of the program whether no protocol is a candidate for it, under these labels of the slots.
-pub fn slots_without_protocol(
+fn slots_without_protocol(
     alloc: Global,
     program: &Program,
     labels: &Labels,

@@ -36,7 +36,7 @@ pub enum Outgoing<'a> {
 
 /// The words of registers, of which a packet has room for all.
 #[tactic(auto, using(crate::proofs::Packets::one_more))]
-pub fn packet_of(registers: &Vec<u32>, from: &[Reg]) -> Packet
+pub(crate) fn packet_of(registers: &Vec<u32>, from: &[Reg]) -> Packet
     requires within { All (λ r. r.0 < length registers.now.items) from.now }
     requires few { length from.now ≤ most_packet_words }
     ensures count { result.count ≤ most_packet_words }
@@ -55,7 +55,7 @@ pub fn packet_of(registers: &Vec<u32>, from: &[Reg]) -> Packet
 }
 
 /// What others will see of an instruction.
-pub fn outgoing_at<'a>(registers: &Vec<u32>, op: &'a Op) -> Outgoing<'a>
+pub(crate) fn outgoing_at<'a>(registers: &Vec<u32>, op: &'a Op) -> Outgoing<'a>
     requires { OpIsWithin (length registers.now.items) op.now }
     ensures deed { deed_of_outgoing (held registers.now.items) result ≡ seen (op_deed (held registers.now.items) op.now) }
     ensures fits { (hosts : ℕ) → PacketFits hosts op.now → OutgoingFits (length registers.now.items) hosts result }

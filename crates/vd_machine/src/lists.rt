@@ -25,7 +25,11 @@ pub struct Taken {
 }
 
 /// The triples that a host shares with a peer; none with itself.
-pub fn triples_with<'a>(lists: &'a Items<Items<Triple>>, me: HostId, peer: HostId) -> &'a [Triple]
+pub(crate) fn triples_with<'a>(
+    lists: &'a Items<Items<Triple>>,
+    me: HostId,
+    peer: HostId,
+) -> &'a [Triple]
     ensures { result.now ≡ list_of lists.now me.0 peer.0 }
 {
     if peer.0 == me.0 {
@@ -39,7 +43,11 @@ pub fn triples_with<'a>(lists: &'a Items<Items<Triple>>, me: HostId, peer: HostI
 }
 
 /// The pairs that a host shares with a peer; none with itself.
-pub fn pairs_with<'a>(lists: &'a Items<Items<PairItem>>, me: HostId, peer: HostId) -> &'a [PairItem]
+pub(crate) fn pairs_with<'a>(
+    lists: &'a Items<Items<PairItem>>,
+    me: HostId,
+    peer: HostId,
+) -> &'a [PairItem]
     ensures { result.now ≡ list_of lists.now me.0 peer.0 }
 {
     if peer.0 == me.0 {

@@ -16,7 +16,7 @@ use vd_deal_items::{PairItem, Triple};
 use vd_execution::{Action, Binary};
 
 /// What an operation on two words gives.
-pub fn apply(operation: Binary, x: u32, y: u32) -> u32
+pub(crate) fn apply(operation: Binary, x: u32, y: u32) -> u32
     ensures { result ≡ applied operation x y }
 {
     match operation {
@@ -77,7 +77,7 @@ fn take_pair(
 
 /// One action.
 #[tactic(auto, using(crate::proofs::Items::peer_there, crate::proofs::Items::inputs_further, crate::proofs::Items::own_further, crate::proofs::Items::triples_further, crate::proofs::Items::bits_further, crate::proofs::Items::pairs_further))]
-pub fn perform(registers: &mut Vec<u32>, taken: &mut Taken, lists: &Lists, action: &Action)
+pub(crate) fn perform(registers: &mut Vec<u32>, taken: &mut Taken, lists: &Lists, action: &Action)
     requires fits { ActionFits (length registers.old.items) action.now }
     requires same { SamePeers lists.now taken.old }
     requires met { IsMet lists.now (cursors_of taken.old) [] (need_of_action (held registers.old.items) action.now) }

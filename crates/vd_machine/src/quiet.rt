@@ -125,7 +125,7 @@ fn is_quiet_action(registers: &Vec<u32>, taken: &Taken, lists: &Lists, action: &
 }
 
 /// Whether what an instruction needs is there, and nobody sees it.
-pub fn is_quiet_at(registers: &Vec<u32>, taken: &Taken, lists: &Lists, op: &Op) -> bool
+pub(crate) fn is_quiet_at(registers: &Vec<u32>, taken: &Taken, lists: &Lists, op: &Op) -> bool
     requires { OpIsWithin (length registers.now.items) op.now }
     ensures yes { result ≡ true → IsQuietAt lists.now (cursors_of taken.now) (op_need (held registers.now.items) op.now)
         (op_deed (held registers.now.items) op.now) }
@@ -259,7 +259,7 @@ fn next_turn(registers: &mut Vec<u32>, top: &mut Frame, below: &mut Vec<Frame>) 
 }
 
 /// Goes on through quiet actions and through the turns of loops, as far as no frame comes or goes.
-pub fn run_turns(
+pub(crate) fn run_turns(
     registers: &mut Vec<u32>,
     taken: &mut Taken,
     lists: &Lists,

@@ -51,7 +51,12 @@ fn dealt(kind: DealKind, at: usize, count: usize) -> Want
 }
 
 /// What an action needs.
-pub fn want_action(registers: &Vec<u32>, taken: &Taken, lists: &Lists, action: &Action) -> Want
+pub(crate) fn want_action(
+    registers: &Vec<u32>,
+    taken: &Taken,
+    lists: &Lists,
+    action: &Action,
+) -> Want
     requires { ActionFits (length registers.now.items) action.now }
     ensures { result ≡ want_of lists.now (cursors_of taken.now) (need_of_action (held registers.now.items) action.now) }
 {
@@ -101,7 +106,7 @@ pub fn want_action(registers: &Vec<u32>, taken: &Taken, lists: &Lists, action: &
 }
 
 /// What an instruction needs.
-pub fn want_at(registers: &Vec<u32>, taken: &Taken, lists: &Lists, op: &Op) -> Want
+pub(crate) fn want_at(registers: &Vec<u32>, taken: &Taken, lists: &Lists, op: &Op) -> Want
     requires within { OpIsWithin (length registers.now.items) op.now }
     requires few { PacketFits lists.now.deal.hosts op.now }
     ensures host { IsFromHost lists.now.deal.hosts result }

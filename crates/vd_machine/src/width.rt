@@ -72,7 +72,7 @@ fn instruction_width(instruction: &Instr) -> u32
 }
 
 /// One more than the highest register that a code names.
-pub fn width(code: &[Instr]) -> u32
+pub(crate) fn width(code: &[Instr]) -> u32
     requires { All (λ i. InstrFits most_registers i) code.now }
     ensures fits { All (λ i. InstrFits result i) code.now }
     ensures few { result ≤ most_registers }

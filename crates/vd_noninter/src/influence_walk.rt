@@ -13,7 +13,7 @@ use vd_base_lists::Items;
 use vd_core::{NormalForm, Right, Stmt};
 
 /// What depends on what in a program, from all that is output to the host; through endorsements too where they are passed.
-pub fn influence_links(
+pub(crate) fn influence_links(
     alloc: Global,
     passed: bool,
     host: HostId,

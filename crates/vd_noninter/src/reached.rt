@@ -19,7 +19,7 @@ pub struct Reached {
 
 /// What is reached along these links from what a host is told, and no more.
 #[tactic(auto, using(crate::proofs::Following::leads_first, crate::proofs::Following::leads_next, crate::proofs::Following::leads_to))]
-pub fn reach_along(alloc: Global, links: Items<Link>) -> Result<Reached, AllocError>
+pub(crate) fn reach_along(alloc: Global, links: Items<Link>) -> Result<Reached, AllocError>
     ensures { IfOk result (λ reached. IsReachOf links (reach_of reached)) }
 {
     let mut reached = Reached::new(alloc);

@@ -12,7 +12,11 @@ use vd_base_lists::Items;
 use vd_core::{NormalForm, Right, Stmt};
 
 /// What depends on what in a program, for a host that is told what it may read.
-pub fn links(alloc: Global, reader: &Reader, form: &NormalForm) -> Result<Items<Link>, AllocError>
+pub(crate) fn links(
+    alloc: Global,
+    reader: &Reader,
+    form: &NormalForm,
+) -> Result<Items<Link>, AllocError>
     ensures { IfOk result (λ links. links ≡ links_of (reads_in reader.now) reader.now.host.0 form.now.body) }
 {
     let around = Around {
@@ -122,7 +126,7 @@ fn add_put(
 }
 
 /// Adds that a slot is an input: it depends on the host's inputs, and these on the guards around each of them.
-pub fn add_input(
+pub(crate) fn add_input(
     links: &mut Items<Link>,
     around: &Around,
     slot: SlotId,
@@ -153,7 +157,7 @@ fn add_parts(
 }
 
 /// Adds that a slot is made of these parts, under the guards around it.
-pub fn add_made(
+pub(crate) fn add_made(
     links: &mut Items<Link>,
     around: &Around,
     slot: SlotId,
@@ -166,7 +170,11 @@ pub fn add_made(
 }
 
 /// Adds that the host is told of these slots, where it is.
-pub fn add_told(links: &mut Items<Link>, told: bool, slots: &[SlotId]) -> Result<(), AllocError>
+pub(crate) fn add_told(
+    links: &mut Items<Link>,
+    told: bool,
+    slots: &[SlotId],
+) -> Result<(), AllocError>
     ensures { OnOk result (links.new ≡ with_told told slots.now links.old) }
 {
     if told {

@@ -12,7 +12,7 @@ use vd_base_lists::Items;
 use vd_core::NormalForm;
 
 /// The first place at which the lists hold different words, or one of them has ended.
-pub fn first_difference(first: &[u32], second: &[u32]) -> Option<usize>
+pub(crate) fn first_difference(first: &[u32], second: &[u32]) -> Option<usize>
     ensures { result ≡ first_place first.now second.now }
 {
     for at in 0..first.len() {

@@ -9,7 +9,6 @@ mod run;
 mod stores;
 mod world;
 
-pub use difference::{first_difference, view_difference};
+pub use difference::view_difference;
 pub use laws::differences_are_exact;
 pub use listener::Listener;
-pub use run::heard_words;

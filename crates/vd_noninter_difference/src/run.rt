@@ -21,7 +21,7 @@ use vd_core::{NormalForm, Right, Stmt};
 /// The clear words that come to a host of the program, in order. The inputs of each host are followed by zeros.
 ///
 /// Only want of memory refuses it.
-pub fn heard_words(
+pub(crate) fn heard_words(
     alloc: Global,
     program: &NormalForm,
     listener: &Listener,

@@ -80,7 +80,7 @@ impl<'a> Cursor<'a> {
     }
 
     /// Takes the next token.
-    pub fn advance(&mut self) -> Token
+    pub(crate) fn advance(&mut self) -> Token
         requires { 0 < length self.old }
         ensures { self.old ≡ result ∷ self.new }
     {
@@ -90,7 +90,7 @@ impl<'a> Cursor<'a> {
     }
 
     /// Takes the next token, if it is of this kind.
-    pub fn expect(&mut self, kind: TokenKind) -> Result<Token, Refusal>
+    pub(crate) fn expect(&mut self, kind: TokenKind) -> Result<Token, Refusal>
         requires { code_of kind ≢ 0 }
         ensures token { Parses (tok kind) token_of self.old self.new result }
         ensures shorter { IfOk result (λ _. length self.new < length self.old) }

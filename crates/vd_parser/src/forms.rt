@@ -103,7 +103,7 @@ impl<'a> Parser<'a> {
     }
 
     /// [label]
-    pub fn label_option(&self, cursor: &mut Cursor) -> Result<Option<WrittenLabel>, Refusal>
+    pub(crate) fn label_option(&self, cursor: &mut Cursor) -> Result<Option<WrittenLabel>, Refusal>
         ensures { Parses (optional (Sym LABEL)) (label_option_of self.now.text.now) cursor.old cursor.new result }
     {
         if cursor.is(TokenKind::OpenBrace) {

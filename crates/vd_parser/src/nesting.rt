@@ -44,7 +44,7 @@ fn is_too_deep(kind: TokenKind, depth: u32) -> bool
 }
 
 /// The number of the first token that opens a bracket beyond the limit.
-pub fn first_deep(tokens: &[Token]) -> Option<usize>
+pub(crate) fn first_deep(tokens: &[Token]) -> Option<usize>
     ensures { nesting.IsFirstDeepIn tokens.now result }
 {
     let mut depth = 0;

@@ -16,14 +16,14 @@ pub enum Level {
 }
 
 /// Whether a kind is the wanted one.
-pub fn is(kind: TokenKind, wanted: TokenKind) -> bool
+pub(crate) fn is(kind: TokenKind, wanted: TokenKind) -> bool
     ensures { result ≡ nat_eq (code_of kind) (code_of wanted) }
 {
     kind.code() == wanted.code()
 }
 
 /// The infix operator of this level that a token of this kind is.
-pub fn infix(level: Level, kind: TokenKind) -> Option<Infix>
+pub(crate) fn infix(level: Level, kind: TokenKind) -> Option<Infix>
     ensures { result ≡ infix_at level kind }
 {
     match level {
@@ -66,7 +66,7 @@ pub fn infix(level: Level, kind: TokenKind) -> Option<Infix>
 }
 
 /// The comparison that a token of this kind is.
-pub fn comparison(kind: TokenKind) -> Option<Infix>
+pub(crate) fn comparison(kind: TokenKind) -> Option<Infix>
     ensures { result ≡ comparison_at kind }
 {
     if is(kind, TokenKind::EqualEqual) {
@@ -87,7 +87,7 @@ pub fn comparison(kind: TokenKind) -> Option<Infix>
 }
 
 /// The operator before an operand that a token of this kind is.
-pub fn prefix(kind: TokenKind) -> Option<Prefix>
+pub(crate) fn prefix(kind: TokenKind) -> Option<Prefix>
     ensures { result ≡ prefix_at kind }
 {
     if is(kind, TokenKind::Bang) {
@@ -100,7 +100,7 @@ pub fn prefix(kind: TokenKind) -> Option<Prefix>
 }
 
 /// Which way a shift goes.
-pub fn direction(kind: TokenKind) -> Option<Direction>
+pub(crate) fn direction(kind: TokenKind) -> Option<Direction>
     ensures { result ≡ direction_at kind }
 {
     if is(kind, TokenKind::ShiftLeft) {

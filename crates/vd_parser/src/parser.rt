@@ -46,7 +46,7 @@ impl<'a> Parser<'a> {
     }
 
     /// NAME {"," NAME}
-    pub fn idents(&self, cursor: &mut Cursor) -> Result<Items<Ident>, Refusal>
+    pub(crate) fn idents(&self, cursor: &mut Cursor) -> Result<Items<Ident>, Refusal>
         ensures { Parses (commas (tok kind.Name)) (idents_of self.now.text.now) cursor.old cursor.new result }
     {
         let mut names = Items::new(self.alloc);
@@ -74,7 +74,7 @@ impl<'a> Parser<'a> {
     }
 
     /// NAME ":" kind
-    pub fn typed(&self, cursor: &mut Cursor) -> Result<(Ident, Kind), Refusal>
+    pub(crate) fn typed(&self, cursor: &mut Cursor) -> Result<(Ident, Kind), Refusal>
         ensures { Parses typed_rule (typed_of self.now.text.now) cursor.old cursor.new result }
     {
         let name = self.ident(cursor)?;

@@ -28,7 +28,7 @@ impl<'a> Parser<'a> {
     }
 
     /// {"!" | "~"}, the nearest to the operand first.
-    pub fn signs(&self, cursor: &mut Cursor) -> Result<Items<Sign>, Refusal>
+    pub(crate) fn signs(&self, cursor: &mut Cursor) -> Result<Items<Sign>, Refusal>
         ensures { Parses (Star prefix_ops) signs_of cursor.old cursor.new result }
     {
         let prefixes = self.prefixes(cursor)?;

@@ -139,7 +139,7 @@ pub fn written_by(action: &Action) -> Rows
 
 /// Whether a register is in a row.
 #[tactic(auto, using(crate::proofs::InRows::has_row))]
-pub fn holds(row: Row, register: Reg) -> bool
+pub(crate) fn holds(row: Row, register: Reg) -> bool
     ensures { result ≡ has register (in_row row) }
 {
     let first = u64::from(row.first.0);
@@ -160,7 +160,7 @@ fn overlap(row: Row, other: Row) -> bool
 
 /// Whether a register is in one of three rows.
 #[tactic(auto, using(crate::proofs::InRows::has_three))]
-pub fn any_holds(rows: Rows, register: Reg) -> bool
+pub(crate) fn any_holds(rows: Rows, register: Reg) -> bool
     ensures { result ≡ has register (in_rows rows) }
 {
     holds(rows.first, register) || (holds(rows.second, register) || holds(rows.third, register))
@@ -176,7 +176,7 @@ fn overlaps_any(row: Row, others: Rows) -> bool
 
 /// Whether one of three rows and one of three others have a register in common.
 #[tactic(auto, using(crate::proofs::InRows::three_meet))]
-pub fn any_overlap(rows: Rows, others: Rows) -> bool
+pub(crate) fn any_overlap(rows: Rows, others: Rows) -> bool
     ensures { result ≡ meet (in_rows rows) (in_rows others) }
 {
     overlaps_any(rows.first, others)
@@ -192,7 +192,7 @@ pub fn any_among(registers: &[Reg], rows: Rows) -> bool
 }
 
 /// Whether a register is among others.
-pub fn is_among(registers: &[Reg], register: Reg) -> bool
+pub(crate) fn is_among(registers: &[Reg], register: Reg) -> bool
     ensures { result ≡ has register registers.now }
 {
     registers.iter().any(|other| register.0 == other.0)

@@ -86,7 +86,7 @@ fn packet_passes(first: &Instr, peer: HostId, registers: &Items<Reg>, opened: &[
 }
 
 /// Whether the second of two neighbours may stand before the first, where packets with these registers are open.
-pub fn may_pass(first: &Instr, second: &Instr, opened: &[Reg]) -> bool
+pub(crate) fn may_pass(first: &Instr, second: &Instr, opened: &[Reg]) -> bool
     ensures { result ≡ passes (careful (stays_by opened.now)) first.now second.now }
 {
     match second {

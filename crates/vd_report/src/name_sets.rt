@@ -8,7 +8,7 @@ use std::alloc::AllocError;
 use vd_base::{Bytes, Names};
 
 /// Puts the names in a set at the end, with the separator between them.
-pub fn push_members(
+pub(crate) fn push_members(
     text: &mut Bytes,
     names: &Names,
     separator: &[u8],

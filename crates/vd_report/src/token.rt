@@ -36,7 +36,7 @@ pub struct Token {
 }
 
 /// The first token that stands at an offset or behind it.
-pub fn next_token(bytes: &[u8], at: usize) -> Token
+pub(crate) fn next_token(bytes: &[u8], at: usize) -> Token
     requires { at ≤ length bytes.now }
     ensures first { tokens.tokens_at bytes.now at ≡ result ∷ tokens.behind bytes.now result }
     ensures within { tokens.IsToken at result (length bytes.now) }

@@ -53,7 +53,7 @@ fn expect_array(values: &Values<'_>, name: &Ident, index: Kind, kind: Kind) -> R
 
 impl<'a> Declarations<'a> {
     /// A constant, whose name stays in sight.
-    pub fn let_statement(
+    pub(crate) fn let_statement(
         &self,
         values: &mut Values<'a>,
         name: &'a Ident,
@@ -83,7 +83,7 @@ impl<'a> Declarations<'a> {
     }
 
     /// A variable, whose name stays in sight.
-    pub fn var_statement(
+    pub(crate) fn var_statement(
         &self,
         values: &mut Values<'a>,
         name: &'a Ident,
@@ -112,7 +112,7 @@ impl<'a> Declarations<'a> {
     }
 
     /// An array, whose name stays in sight.
-    pub fn array_statement(
+    pub(crate) fn array_statement(
         &self,
         values: &mut Values<'a>,
         name: &'a Ident,
@@ -139,7 +139,7 @@ impl<'a> Declarations<'a> {
     }
 
     /// A value that is stored to a variable.
-    pub fn store_statement(
+    pub(crate) fn store_statement(
         &self,
         values: &mut Values<'a>,
         name: &Ident,
@@ -161,7 +161,7 @@ impl<'a> Declarations<'a> {
     }
 
     /// A value that is put into an array.
-    pub fn put_statement(
+    pub(crate) fn put_statement(
         &self,
         values: &mut Values<'a>,
         name: &Ident,
@@ -186,7 +186,7 @@ impl<'a> Declarations<'a> {
     }
 
     /// A value that is given to a host.
-    pub fn output_statement(
+    pub(crate) fn output_statement(
         &self,
         values: &mut Values<'a>,
         value: &Expr,

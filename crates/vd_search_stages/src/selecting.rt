@@ -85,7 +85,7 @@ fn is_over(
 }
 
 /// The choice, or that there is none, by the tables of shifts, where it is known that each valid list costs at least the floor.
-pub fn select_by(
+pub(crate) fn select_by(
     alloc: Global,
     problem: &Problem,
     tables: &Tables,
@@ -141,7 +141,7 @@ fn least_certificate(
 }
 
 /// The tables of the usual shifts.
-pub fn usual_tables(alloc: Global, problem: &Problem) -> Result<Tables, AllocError>
+pub(crate) fn usual_tables(alloc: Global, problem: &Problem) -> Result<Tables, AllocError>
     requires holds { IsProblem problem.now }
     requires labelled { IsLabelled problem.now }
     requires limits { IsWithinLimits problem.now }

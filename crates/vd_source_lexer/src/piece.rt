@@ -135,7 +135,7 @@ fn digits(text: &[u8]) -> Piece
 }
 
 /// What stands at the front of a text.
-pub fn first_piece(text: &[u8]) -> Piece
+pub(crate) fn first_piece(text: &[u8]) -> Piece
     requires { 0 < length text.now }
     ensures { result ≡ tokens.first_piece text.now }
 {

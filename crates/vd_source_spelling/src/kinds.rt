@@ -8,7 +8,7 @@ ghost use Rattle.vd_source_spelling.specs.Kinds.{all_kinds};
 use vd_source_lexer::TokenKind;
 
 /// All kinds in the order of their numbers, `End` being the first.
-pub const KINDS: [TokenKind; 58] = [
+const KINDS: [TokenKind; 58] = [
     TokenKind::End,
     TokenKind::Name,
     TokenKind::Number,

@@ -146,7 +146,7 @@ fn guards_sum(problem: &Problem, list: &[Proto], prefix: &[u32]) -> u64
 }
 
 /// The bound of a prefix.
-pub fn lower_bound(problem: &Problem, list: &[Proto], prefix: &[u32]) -> u64
+pub(crate) fn lower_bound(problem: &Problem, list: &[Proto], prefix: &[u32]) -> u64
     requires list { list.now ≡ protocols problem.now }
     requires few { length list.now < 256 }
     requires labelled { IsLabelled problem.now }

@@ -10,7 +10,7 @@ use vd_space::Problem;
 use vd_space_prefix::{Tables, grown};
 
 /// The bound of a valid prefix under shifts, by their tables.
-pub fn high_bound(problem: &Problem, tables: &Tables, prefix: &[u32]) -> i64
+pub(crate) fn high_bound(problem: &Problem, tables: &Tables, prefix: &[u32]) -> i64
     requires labelled { IsLabelled problem.now }
     requires tables { AreTables problem.now tables.now }
     requires valid { IsTrue (is_valid problem.now prefix.now) }

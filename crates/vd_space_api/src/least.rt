@@ -82,7 +82,7 @@ fn operation_at(problem: &Problem, list: &[Proto], slot: usize, place: usize) ->
 }
 
 /// The least that the slot's operation can cost.
-pub fn least_operation(problem: &Problem, list: &[Proto], prefix: &[u32], slot: usize) -> u64
+pub(crate) fn least_operation(problem: &Problem, list: &[Proto], prefix: &[u32], slot: usize) -> u64
     requires list { list.now ≡ protocols problem.now }
     requires labelled { IsLabelled problem.now }
     requires few { length list.now < 256 }
@@ -113,7 +113,7 @@ fn told_at(
 }
 
 /// The least that it can cost to tell a host the slot's value.
-pub fn least_told(
+pub(crate) fn least_told(
     problem: &Problem,
     list: &[Proto],
     prefix: &[u32],
@@ -169,7 +169,7 @@ fn least_use_from(
 }
 
 /// The least that a use can cost.
-pub fn least_use(problem: &Problem, list: &[Proto], prefix: &[u32], u: &Use) -> u64
+pub(crate) fn least_use(problem: &Problem, list: &[Proto], prefix: &[u32], u: &Use) -> u64
     requires list { list.now ≡ protocols problem.now }
     requires labelled { IsLabelled problem.now }
     requires few { length list.now < 256 }
@@ -267,7 +267,7 @@ fn least_index_from(
 }
 
 /// The least that an index can cost.
-pub fn least_index(problem: &Problem, list: &[Proto], prefix: &[u32], index: &Index) -> u64
+pub(crate) fn least_index(problem: &Problem, list: &[Proto], prefix: &[u32], index: &Index) -> u64
     requires list { list.now ≡ protocols problem.now }
     requires labelled { IsLabelled problem.now }
     requires few { length list.now < 256 }

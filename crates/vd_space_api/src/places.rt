@@ -42,7 +42,7 @@ fn fill_places(list: &[Proto], prefix: &[Proto], room: &mut [u32])
 }
 
 /// Whether the prefix is valid.
-pub fn is_valid_prefix(problem: &Problem, list: &[Proto], prefix: &[Proto]) -> bool
+pub(crate) fn is_valid_prefix(problem: &Problem, list: &[Proto], prefix: &[Proto]) -> bool
     requires list { list.now ≡ protocols problem.now }
     requires few { length list.now < 256 }
     requires labelled { IsLabelled problem.now }
@@ -58,7 +58,7 @@ pub fn is_valid_prefix(problem: &Problem, list: &[Proto], prefix: &[Proto]) -> b
 }
 
 /// The bound of a valid prefix.
-pub fn bound_of_prefix(problem: &Problem, list: &[Proto], prefix: &[Proto]) -> u64
+pub(crate) fn bound_of_prefix(problem: &Problem, list: &[Proto], prefix: &[Proto]) -> u64
     requires list { list.now ≡ protocols problem.now }
     requires few { length list.now < 256 }
     requires labelled { IsLabelled problem.now }
@@ -72,7 +72,12 @@ pub fn bound_of_prefix(problem: &Problem, list: &[Proto], prefix: &[Proto]) -> u
 }
 
 /// The bound of a valid prefix under shifts, by their tables.
-pub fn high_of_prefix(problem: &Problem, list: &[Proto], tables: &Tables, prefix: &[Proto]) -> i64
+pub(crate) fn high_of_prefix(
+    problem: &Problem,
+    list: &[Proto],
+    tables: &Tables,
+    prefix: &[Proto],
+) -> i64
     requires list { list.now ≡ protocols problem.now }
     requires few { length list.now < 256 }
     requires labelled { IsLabelled problem.now }

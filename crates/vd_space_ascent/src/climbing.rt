@@ -44,7 +44,7 @@ const LEVELS: [Level; 4] = [
 const PATIENCE: u32 = 12;
 
 /// What shifts come to, in parts, at the end of all levels, or of the first try where that shows that a list costs least.
-pub fn climbed(alloc: Global, plain: &Plain) -> Result<Nets, AllocError> {
+pub(crate) fn climbed(alloc: Global, plain: &Plain) -> Result<Nets, AllocError> {
     let start = plain.no_nets(alloc)?;
     let (first, is_shown) = climbed_from(alloc, plain, FIRST, start)?;
     if is_shown {

@@ -6,7 +6,7 @@ use std::alloc::{AllocError, Global};
 use vd_cost_network_sweeps::{End, FAR, Nets, nearest_before, number_at};
 
 /// Sends home what all slots have above their least.
-pub fn send_home(alloc: Global, plain: &Plain, nets: &mut Nets) -> Result<(), AllocError> {
+pub(crate) fn send_home(alloc: Global, plain: &Plain, nets: &mut Nets) -> Result<(), AllocError> {
     let points = plain.settings.len();
     for step in 0..points {
         send_back(alloc, plain, points - 1 - step, nets)?;

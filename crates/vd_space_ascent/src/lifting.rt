@@ -10,7 +10,7 @@ use vd_cost_network_sweeps::{Death, End, FAR, Nets};
 const LIFT: i64 = 256_000_000;
 
 /// Lifts all that went, from the last to the first: by that time those are lifted that it had for partners.
-pub fn lift(alloc: Global, plain: &Plain, nets: &mut Nets) -> Result<(), AllocError> {
+pub(crate) fn lift(alloc: Global, plain: &Plain, nets: &mut Nets) -> Result<(), AllocError> {
     let mut lifts = plain.no_nets(alloc)?;
     for death in plain.left.deaths.iter().rev() {
         lift_one(plain, death, nets, &mut lifts);

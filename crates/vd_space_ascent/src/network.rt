@@ -64,12 +64,12 @@ impl Plain {
     }
 
     /// The places that are left for a slot.
-    pub fn settings_of(&self, point: usize) -> &[usize] {
+    pub(crate) fn settings_of(&self, point: usize) -> &[usize] {
         settings_at(self.settings.as_slice(), point)
     }
 
     /// What a slot costs at a place, in parts.
-    pub fn cost_at(&self, point: usize, setting: usize) -> i64 {
+    pub(crate) fn cost_at(&self, point: usize, setting: usize) -> i64 {
         match self.tables.points.as_slice().get(point) {
             Some(table) => match table.costs.as_slice().get(setting) {
                 Some(cost) => *cost,
@@ -80,7 +80,7 @@ impl Plain {
     }
 
     /// No amounts.
-    pub fn no_nets(&self, alloc: Global) -> Result<Nets, AllocError> {
+    pub(crate) fn no_nets(&self, alloc: Global) -> Result<Nets, AllocError> {
         Nets::none(
             alloc,
             self.network.firsts.as_slice(),
@@ -89,7 +89,7 @@ impl Plain {
     }
 
     /// What slots and uses cost at the places that are left, where a step is at least so many bits more than a part.
-    pub fn in_steps(&self, alloc: Global, bits: u32) -> Result<Tables, AllocError> {
+    pub(crate) fn in_steps(&self, alloc: Global, bits: u32) -> Result<Tables, AllocError> {
         let settings = self.settings.as_slice();
         Tables::in_steps(
             alloc,
@@ -102,7 +102,7 @@ impl Plain {
     }
 
     /// The state behind a sweep forward that came to these amounts.
-    pub fn state_ahead(
+    pub(crate) fn state_ahead(
         &self,
         alloc: Global,
         tables: &Tables,
@@ -113,7 +113,7 @@ impl Plain {
     }
 
     /// Writes into the amounts what the shifts of a state come to.
-    pub fn write_nets(&self, tables: &Tables, state: &State, nets: &mut Nets) {
+    pub(crate) fn write_nets(&self, tables: &Tables, state: &State, nets: &mut Nets) {
         state.write_nets(tables, &self.network, self.settings.as_slice(), &[], nets);
     }
 }

@@ -15,13 +15,13 @@ use vd_space_tables::merged_values;
 use vd_space_terms::move_prices;
 
 /// A unit of cost, in parts: 2 to the power of so many bits.
-pub const UNIT: i64 = 256;
+pub(crate) const UNIT: i64 = 256;
 
-pub const UNIT_BITS: u32 = 8;
+pub(crate) const UNIT_BITS: u32 = 8;
 
 /// The tables of slots and uses without shifts, as far as sweeps look at them: what each costs by the places of the protocols. At
 /// these places each slot may stand.
-pub fn plain_tables(
+pub(crate) fn plain_tables(
     alloc: Global,
     problem: &Problem,
     list: &[Proto],

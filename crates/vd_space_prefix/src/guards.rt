@@ -237,7 +237,7 @@ fn change_at(
 }
 
 /// What the guards with these numbers cost more with the choice that makes one prefix of the other. All of them name its slot.
-pub fn growth_of_guards(
+pub(crate) fn growth_of_guards(
     problem: &Problem,
     list: &[Proto],
     tellings: &[Telling],

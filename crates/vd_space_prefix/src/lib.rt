@@ -9,10 +9,9 @@ mod steps;
 mod tables;
 mod transfers;
 
-pub use guards::{Telling, growth_of_guards, guard_cost};
-pub use naming::{Naming, is_allowed};
+pub use guards::{Telling, guard_cost};
+pub use naming::Naming;
 pub use numbers::namings;
 pub use path::Path;
-pub use steps::{cost_under, growth_of};
-pub use tables::{Sums, Tables, can_grow, grown};
+pub use tables::{Sums, Tables, grown};
 pub use transfers::{Link, Transfer, amount_at, number_of};

@@ -25,7 +25,7 @@ pub struct Naming {
 }
 
 /// Whether what names the slot behind a valid prefix allows a choice for it, which makes one prefix of the other.
-pub fn is_allowed(
+pub(crate) fn is_allowed(
     problem: &Problem,
     list: &[Proto],
     naming: &Naming,

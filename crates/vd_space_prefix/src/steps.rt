@@ -8,14 +8,14 @@ use crate::transfers::{Link, amount_at, cost_at, number_of};
 use vd_base_lists::Items;
 
 /// Where the slot stands, if it is decided.
-pub fn decided(prefix: &[u32], slot: u32) -> Option<u32>
+pub(crate) fn decided(prefix: &[u32], slot: u32) -> Option<u32>
     ensures { result ≡ slice_get prefix.now slot }
 {
     prefix.get(slot as usize).copied()
 }
 
 /// The least that the link costs under the prefix.
-pub fn cost_under(prices: &[Items<Option<u32>>], link: &Link, prefix: &[u32]) -> i64
+fn cost_under(prices: &[Items<Option<u32>>], link: &Link, prefix: &[u32]) -> i64
     requires prices { ArePrices prices.now }
     requires link { IsLink link.now }
     ensures cost { result ≡ under prices.now link.now prefix.now }
@@ -56,7 +56,7 @@ fn change_of(
 }
 
 /// What the links with these numbers cost more under the one prefix than under the other.
-pub fn growth_of(
+pub(crate) fn growth_of(
     prices: &[Items<Option<u32>>],
     links: &[Link],
     numbers: &[u32],

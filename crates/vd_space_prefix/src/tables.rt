@@ -178,7 +178,7 @@ pub fn grown(
 }
 
 /// Whether what names the slot allows the choice, by which a valid prefix grows.
-pub fn can_grow(
+pub(crate) fn can_grow(
     problem: &Problem,
     tables: &Tables,
     choice: u32,

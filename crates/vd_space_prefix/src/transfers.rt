@@ -75,7 +75,7 @@ fn weighed(weight: u32, price: u32, less: i64) -> i64
 }
 
 /// What the transfer costs at two places, if they join.
-pub fn cost_at(
+pub(crate) fn cost_at(
     prices: &[Items<Option<u32>>],
     transfer: &Transfer,
     first: usize,

@@ -11,7 +11,7 @@ use vd_cost::move_cost;
 use vd_protocol::joins;
 
 /// So often the price, which is of 64 bits.
-pub fn product(weight: u32, price: u32) -> u64
+pub(crate) fn product(weight: u32, price: u32) -> u64
     ensures value { result ≡ weight * price }
     ensures fits { result ≤ 18446744065119617025 }
 {
@@ -31,7 +31,7 @@ pub fn price(weight: u32, from: Proto, to: Proto) -> Option<u64>
 }
 
 /// The amounts of a row, and 0 where there is none.
-pub fn amounts(alloc: Global, row: &[Option<u64>]) -> Result<Items<u64>, AllocError>
+pub(crate) fn amounts(alloc: Global, row: &[Option<u64>]) -> Result<Items<u64>, AllocError>
     ensures { IfOk result (λ amounts. amounts ≡ amounts_of row.now) }
 {
     let mut amounts = Items::new(alloc);
@@ -42,7 +42,7 @@ pub fn amounts(alloc: Global, row: &[Option<u64>]) -> Result<Items<u64>, AllocEr
 }
 
 /// The row with 0 for each amount.
-pub fn emptied(alloc: Global, row: &[Option<u64>]) -> Result<Items<Option<u64>>, AllocError>
+pub(crate) fn emptied(alloc: Global, row: &[Option<u64>]) -> Result<Items<Option<u64>>, AllocError>
     ensures { IfOk result (λ emptied. emptied ≡ emptied_of row.now) }
 {
     let mut emptied = Items::new(alloc);
@@ -75,7 +75,7 @@ fn raised_term(term: Option<u64>, amount: u64) -> Option<u64>
 }
 
 /// The row with each amount besides.
-pub fn raised(
+pub(crate) fn raised(
     alloc: Global,
     row: &[Option<u64>],
     amounts: &[u64],
@@ -164,7 +164,7 @@ fn given_by_place(
 }
 
 /// The least that a use costs from each place at which its source can stand, with what its target hands on.
-pub fn givens(
+pub(crate) fn givens(
     alloc: Global,
     list: &[Proto],
     weight: u32,

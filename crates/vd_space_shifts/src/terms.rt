@@ -42,7 +42,7 @@ fn candidates_of(
 }
 
 /// At which places of the list each slot can stand.
-pub fn all_candidates(
+pub(crate) fn all_candidates(
     alloc: Global,
     problem: &Problem,
     list: &[Proto],
@@ -193,7 +193,7 @@ fn add_output(
 }
 
 /// What each slot costs at each place before any shift.
-pub fn all_terms(
+pub(crate) fn all_terms(
     alloc: Global,
     problem: &Problem,
     list: &[Proto],

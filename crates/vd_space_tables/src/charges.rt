@@ -79,7 +79,7 @@ fn value_if(test: bool, values: &[Option<i64>], place: usize) -> Option<i64>
 }
 
 /// The charges of operations, by slot.
-pub fn operation_charges(
+pub(crate) fn operation_charges(
     alloc: Global,
     problem: &Problem,
     list: &[Proto],
@@ -119,7 +119,7 @@ fn operation_charge(
 }
 
 /// The charges of outputs.
-pub fn output_charges(
+pub(crate) fn output_charges(
     alloc: Global,
     problem: &Problem,
     list: &[Proto],
@@ -149,7 +149,7 @@ pub fn output_charges(
 }
 
 /// The charge of telling a slot's value so often to a host.
-pub fn told_charge(
+pub(crate) fn told_charge(
     alloc: Global,
     problem: &Problem,
     list: &[Proto],
@@ -171,7 +171,7 @@ pub fn told_charge(
 }
 
 /// Which places are candidates of a slot.
-pub fn tests_at(candidates: &[Items<bool>], slot: usize) -> &[bool]
+pub(crate) fn tests_at(candidates: &[Items<bool>], slot: usize) -> &[bool]
     ensures { result.now ≡ slice_index_or candidates.now slot [] }
 {
     match candidates.get(slot) {

@@ -11,7 +11,7 @@ use vd_base_lists::Items;
 use vd_space_prefix::amount_at;
 
 /// By slot and place: what the charge of the slot and those of its outputs grow by.
-pub fn gains_by_slot(
+pub(crate) fn gains_by_slot(
     alloc: Global,
     charges: &[Charge],
     outputs: &[Charge],

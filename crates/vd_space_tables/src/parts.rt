@@ -25,7 +25,7 @@ use vd_space_prefix::{Sums, Telling, namings};
 use vd_space_terms::{index_links, index_prices, move_prices, shifted_use_links, use_links};
 
 /// What is moved between two slots.
-pub fn moved_values(
+pub(crate) fn moved_values(
     alloc: Global,
     problem: &Problem,
     list: &[Proto],
@@ -55,7 +55,7 @@ pub fn moved_values(
 }
 
 /// What slots alone cost.
-pub fn slot_charges(
+pub(crate) fn slot_charges(
     alloc: Global,
     problem: &Problem,
     list: &[Proto],
@@ -80,7 +80,7 @@ pub fn slot_charges(
 }
 
 /// The other parts.
-pub fn kept_parts(
+pub(crate) fn kept_parts(
     alloc: Global,
     problem: &Problem,
     list: &[Proto],

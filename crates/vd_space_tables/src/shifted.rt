@@ -18,7 +18,7 @@ use vd_space::Problem;
 use vd_space_terms::slot_shifts;
 
 /// The charges of operations and outputs together, with what shifts put on them, by slot.
-pub fn merged_charges(
+pub(crate) fn merged_charges(
     alloc: Global,
     problem: &Problem,
     list: &[Proto],

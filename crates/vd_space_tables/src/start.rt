@@ -98,7 +98,7 @@ fn told_cost(problem: &Problem, list: &[Proto], guard: &Guard, telling: &Telling
 }
 
 /// The terms of slots and uses where no slot is decided.
-pub fn low_start(operations: &[Charge], outputs: &[Charge], links: &[Link]) -> i64
+pub(crate) fn low_start(operations: &[Charge], outputs: &[Charge], links: &[Link]) -> i64
     requires operations { All (IsCharge 1125899906842624) operations.now }
     requires few_operations { length operations.now ≤ 2048 }
     requires outputs { All (IsCharge 1125899906842624) outputs.now }
@@ -111,7 +111,7 @@ pub fn low_start(operations: &[Charge], outputs: &[Charge], links: &[Link]) -> i
 }
 
 /// The same under shifts.
-pub fn shifted_start(merged: &[Charge], links: &[Link]) -> i64
+pub(crate) fn shifted_start(merged: &[Charge], links: &[Link]) -> i64
     requires merged { All (IsCharge 1125899906842624) merged.now }
     requires few_merged { length merged.now ≤ 2048 }
     requires links { AreLinks links.now }
@@ -122,7 +122,12 @@ pub fn shifted_start(merged: &[Charge], links: &[Link]) -> i64
 }
 
 /// The terms of indexes and guards where no slot is decided.
-pub fn common_start(problem: &Problem, list: &[Proto], links: &[Link], tellings: &[Telling]) -> i64
+pub(crate) fn common_start(
+    problem: &Problem,
+    list: &[Proto],
+    links: &[Link],
+    tellings: &[Telling],
+) -> i64
     requires list { list.now ≡ protocols problem.now }
     requires labelled { IsLabelled problem.now }
     requires limits { IsWithinLimits problem.now }

@@ -16,7 +16,7 @@ use vd_space::{Guard, Problem};
 use vd_space_prefix::Telling;
 
 /// What it costs to tell each guard.
-pub fn tellings_by_guard(
+pub(crate) fn tellings_by_guard(
     alloc: Global,
     problem: &Problem,
     list: &[Proto],

@@ -25,7 +25,7 @@ use vd_space_prefix::amount_at;
 pub type Values = Items<Option<i64>>;
 
 /// What the slot's operation costs, by place.
-pub fn operation_values(
+pub(crate) fn operation_values(
     alloc: Global,
     problem: &Problem,
     list: &[Proto],
@@ -44,7 +44,7 @@ pub fn operation_values(
 }
 
 /// What it costs to tell a value so often to a host, by place.
-pub fn told_values(
+pub(crate) fn told_values(
     alloc: Global,
     problem: &Problem,
     list: &[Proto],

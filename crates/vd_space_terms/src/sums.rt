@@ -38,7 +38,7 @@ pub fn slot_shifts(
 }
 
 /// What the shifts come to in each of so many rows and places.
-pub fn shift_sums(
+pub(crate) fn shift_sums(
     alloc: Global,
     uses: &[Use],
     rows: Rows,

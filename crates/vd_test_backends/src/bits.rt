@@ -127,7 +127,7 @@ fn print_choice<W: Write>(to: &mut W, alloc: Global) -> io::Result<()> {
 }
 
 /// Prints the code of each row.
-pub fn print<W: Write>(to: &mut W, alloc: Global) -> io::Result<()> {
+pub(crate) fn print<W: Write>(to: &mut W, alloc: Global) -> io::Result<()> {
     print_bits(to, alloc)?;
     print_comparison(to, alloc)?;
     print_order(to, alloc)?;

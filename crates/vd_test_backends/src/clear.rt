@@ -72,7 +72,7 @@ fn print_moved<W: Write>(to: &mut W, alloc: Global) -> io::Result<()> {
 }
 
 /// Prints the code of each row.
-pub fn print<W: Write>(to: &mut W, alloc: Global) -> io::Result<()> {
+pub(crate) fn print<W: Write>(to: &mut W, alloc: Global) -> io::Result<()> {
     print_compared(to, alloc)?;
     print_moved(to, alloc)
 }

@@ -35,7 +35,7 @@ fn multiplied(to: &mut Duet) -> Result<Clear, AllocError>
 }
 
 /// Host 0 shares a number and host 1 another; they are multiplied, and host 1 is shown the product.
-pub fn print<W: Write>(to: &mut W, alloc: Global) -> io::Result<()> {
+pub(crate) fn print<W: Write>(to: &mut W, alloc: Global) -> io::Result<()> {
     let mut duet = Duet::new(alloc, 2)?;
     let at = multiplied(&mut duet)?;
     print_code(to, "shared words are multiplied", duet.lines(), at.0)

@@ -11,7 +11,7 @@ use vd_tape::{make, read_deal, write_deal};
 
 /// Makes the deals of two hosts with so many own words and items of each kind, writes and reads them, and compares. Answers
 /// the bytes of both texts.
-pub fn deal(alloc: Global, count: u32) -> anyhow::Result<u64> {
+pub(crate) fn deal(alloc: Global, count: u32) -> anyhow::Result<u64> {
     ensure!(count <= DEAL_ITEMS, "too many items");
     let counts = Counts {
         hosts: 2,

@@ -15,7 +15,7 @@ use vd_world::World;
 
 /// What a run made.
 #[derive(Clone, Copy)]
-pub struct Run {
+struct Run {
     /// How many steps the hosts took together.
     pub steps: u64,
     /// The word that was printed.
@@ -135,13 +135,13 @@ fn run_to_end(mut hosts: World, turns: u32, printer: HostId) -> Result<Run, Allo
 }
 
 /// Runs so many turns at the first of two hosts, of which the second has nothing to do.
-pub fn world(alloc: Global, turns: u32) -> Result<Run, AllocError> {
+pub(crate) fn world(alloc: Global, turns: u32) -> Result<Run, AllocError> {
     let hosts = two(alloc, counting_code(alloc, turns)?, Items::new(alloc))?;
     run_to_end(hosts, turns, HostId(0))
 }
 
 /// Runs so many turns of two hosts, in each of which a word goes from the first to the second.
-pub fn talk(alloc: Global, turns: u32) -> Result<Run, AllocError> {
+pub(crate) fn talk(alloc: Global, turns: u32) -> Result<Run, AllocError> {
     let hosts = two(
         alloc,
         speaker_code(alloc, turns)?,

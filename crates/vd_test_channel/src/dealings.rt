@@ -4,7 +4,7 @@ use vd_deal_items::Counts;
 use vd_deal_keys::{dealing_id, items_key, link_key};
 
 /// Prints what the bytes from 0 to 31 make for a dealing of four own words and two products to two hosts.
-pub fn print_all<W: Write>(to: &mut W) -> io::Result<()> {
+pub(crate) fn print_all<W: Write>(to: &mut W) -> io::Result<()> {
     let key = counted();
     let counts = Counts {
         hosts: 2,

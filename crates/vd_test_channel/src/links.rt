@@ -140,7 +140,7 @@ fn print_opening<W: Write>(
 }
 
 /// Prints what goes over a link: hellos, keys, a nonce and records.
-pub fn print_all<W: Write>(to: &mut W, alloc: Global) -> anyhow::Result<()> {
+pub(crate) fn print_all<W: Write>(to: &mut W, alloc: Global) -> anyhow::Result<()> {
     let mut frame = Frame::new(alloc)?;
     let zero = hello(0, 1, 0xa0);
     let one = hello(1, 0, 0xb1);

@@ -4,7 +4,7 @@ use vd_channel_crypto::{derive, hmac, key_stream};
 
 /// Prints the cases 1 to 3 of RFC 4231, the cases 1 and 3 of RFC 5869, and of RFC 8439 the blocks 1, 2 and 5 of A.1
 /// and the first of 2.4.2.
-pub fn print_all<W: Write>(to: &mut W) -> io::Result<()> {
+pub(crate) fn print_all<W: Write>(to: &mut W) -> io::Result<()> {
     print_codes(to)?;
     print_keys(to)?;
     print_streams(to)

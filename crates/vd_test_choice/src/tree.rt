@@ -61,7 +61,7 @@ impl Prefixes for Words {
 
 impl Words {
     /// No bits yet, with room for as many as the list has.
-    pub fn new(room: Vec<u32>) -> Words
+    pub(crate) fn new(room: Vec<u32>) -> Words
         requires { length room.items < 4294967296 }
         ensures room { result.room.items ≡ room.items }
         ensures depth { result.depth ≡ 0 }

@@ -17,7 +17,7 @@ const ROWS: [(&str, bool, &[u8], usize); 3] = [
 ];
 
 /// Prints the excerpt of each row.
-pub fn print<W: Write>(to: &mut W, alloc: Global) -> io::Result<()> {
+pub(crate) fn print<W: Write>(to: &mut W, alloc: Global) -> io::Result<()> {
     for (name, colours, bytes, offset) in ROWS {
         let text = excerpt(alloc, colours, "f", bytes, offset, b"here")?;
         to.write_all(name.as_bytes())?;

@@ -36,7 +36,7 @@ fn print_told<W: Write>(
 }
 
 /// Prints the form of each command, and what is told of two inputs files.
-pub fn print<W: Write>(to: &mut W, alloc: Global) -> io::Result<()> {
+pub(crate) fn print<W: Write>(to: &mut W, alloc: Global) -> io::Result<()> {
     for word in COMMANDS {
         to.write_all(word.as_bytes())?;
         to.write_all(b": ")?;

@@ -24,7 +24,7 @@ fn remark_on(alloc: Global, program: &Program) -> anyhow::Result<Remark> {
 }
 
 /// What a person sees of a source for which no choice of protocols is valid.
-pub fn seen(alloc: Global, source: &str) -> anyhow::Result<Bytes> {
+pub(crate) fn seen(alloc: Global, source: &str) -> anyhow::Result<Bytes> {
     let program = program_of(alloc, source)?;
     let remark = remark_on(alloc, &program)?;
     Ok(tell(alloc, false, "less.via", source.as_bytes(), &remark)?)
@@ -37,7 +37,7 @@ fn search_of(alloc: Global, program: &Program, budget: u32) -> anyhow::Result<By
 }
 
 /// A line with the sentence on a search for a source, which opened so many prefixes.
-pub fn sentence(alloc: Global, source: &str, budget: u32) -> anyhow::Result<Bytes> {
+pub(crate) fn sentence(alloc: Global, source: &str, budget: u32) -> anyhow::Result<Bytes> {
     let program = program_of(alloc, source)?;
     let mut line = search_of(alloc, &program, budget)?;
     line.push(b'\n')?;

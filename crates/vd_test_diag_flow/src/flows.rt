@@ -13,7 +13,7 @@ fn remark_on(alloc: Global, source: &str) -> anyhow::Result<Option<Remark>> {
 }
 
 /// What a person sees of the flow of a source; nothing where it has a labelling.
-pub fn seen(alloc: Global, source: &str) -> anyhow::Result<Bytes> {
+pub(crate) fn seen(alloc: Global, source: &str) -> anyhow::Result<Bytes> {
     match remark_on(alloc, source)? {
         Some(remark) => Ok(tell(alloc, false, "less.via", source.as_bytes(), &remark)?),
         None => Ok(Bytes::new(alloc)),

@@ -13,7 +13,7 @@ fn resolved_of(alloc: Global, source: &str) -> anyhow::Result<Resolved> {
 }
 
 /// The let-normal program of a source that meets every rule.
-pub fn program_of(alloc: Global, source: &str) -> anyhow::Result<Program> {
+pub(crate) fn program_of(alloc: Global, source: &str) -> anyhow::Result<Program> {
     let resolved = resolved_of(alloc, source)?;
     Ok(elaborate(alloc, &resolved)?)
 }

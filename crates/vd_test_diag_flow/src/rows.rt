@@ -30,7 +30,12 @@ fn number(text: &str) -> u32 {
 }
 
 /// Prints a row, and what a person sees of its source; nothing more where nothing is told.
-pub fn print<W: Write>(to: &mut W, alloc: Global, row: &str, source: &str) -> anyhow::Result<()> {
+pub(crate) fn print<W: Write>(
+    to: &mut W,
+    alloc: Global,
+    row: &str,
+    source: &str,
+) -> anyhow::Result<()> {
     to.write_all(row.as_bytes())?;
     to.write_all(b"\n")?;
     let seen = seen(alloc, row, source)?;

@@ -61,7 +61,7 @@ fn print_all<W: Write, F: Files>(to: &mut W, files: &mut F, text: &[u8]) -> io::
 }
 
 /// Prints what becomes of files of this runtime.
-pub fn print_files<W: Write, R: Disk + Clone + Drop>(
+pub(crate) fn print_files<W: Write, R: Disk + Clone + Drop>(
     to: &mut W,
     rt: &R,
     alloc: Global,

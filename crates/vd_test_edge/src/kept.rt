@@ -93,7 +93,7 @@ fn print_beside<W: Write, F: Files, R: Disk + Clone + Drop>(
 }
 
 /// Prints what files that were read ahead give.
-pub fn print_kept<W: Write, R: Disk + Clone + Drop>(
+pub(crate) fn print_kept<W: Write, R: Disk + Clone + Drop>(
     to: &mut W,
     rt: &R,
     alloc: Global,

@@ -276,7 +276,7 @@ fn print_gone_alone<W: Write, R: Network + Clock + Clone + Drop>(
 }
 
 /// Prints what passes over links of the loopback.
-pub fn print_links<W: Write, R: Network + Clock + Clone + Drop>(
+pub(crate) fn print_links<W: Write, R: Network + Clock + Clone + Drop>(
     to: &mut W,
     rt: &R,
     alloc: Global,

@@ -138,7 +138,7 @@ const REFUSED: [&[Step]; 7] = [
 ];
 
 /// Prints what stands after stores of which some steps are refused.
-pub fn print_stores<W: Write>(to: &mut W, alloc: Global) -> io::Result<()> {
+pub(crate) fn print_stores<W: Write>(to: &mut W, alloc: Global) -> io::Result<()> {
     for stood in [Held::Nothing, Held::Old] {
         for refused in REFUSED {
             print_store(to, alloc, stood, refused)?;

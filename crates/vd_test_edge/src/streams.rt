@@ -40,7 +40,7 @@ fn print_memory<W: Write>(to: &mut W, alloc: Global) -> io::Result<()> {
 }
 
 /// Prints what streams take: one in memory, and one that takes a byte at a time until it has no room.
-pub fn print_streams<W: Write>(to: &mut W, alloc: Global) -> io::Result<()> {
+pub(crate) fn print_streams<W: Write>(to: &mut W, alloc: Global) -> io::Result<()> {
     print_memory(to, alloc)?;
     let mut narrow = RealSink::new(Narrow { room: 2 });
     print_write(to, &mut narrow, b"abc")?;

@@ -54,7 +54,7 @@ impl Writing {
 }
 
 /// A net that gives these links, and fails at the calls with these numbers.
-pub fn net_of(
+pub(crate) fn net_of(
     alloc: Global,
     links: &[Waiting],
     most: u32,
@@ -70,7 +70,7 @@ pub fn net_of(
 }
 
 /// A spawner that starts these children, and fails at the calls with these numbers.
-pub fn spawner_of(
+pub(crate) fn spawner_of(
     alloc: Global,
     children: &[Writing],
     failing: Items<u64>,
@@ -94,7 +94,7 @@ fn digit(byte: u8) -> Option<u8> {
 }
 
 /// Puts the bytes that are written in hexadecimal at the end, two digits each; blanks and all other bytes are left out.
-pub fn push_bytes(bytes: &mut Bytes, text: &str) -> Result<(), AllocError> {
+pub(crate) fn push_bytes(bytes: &mut Bytes, text: &str) -> Result<(), AllocError> {
     let mut high: Option<u8> = None;
     for byte in text.as_bytes() {
         if let Some(low) = digit(*byte) {
@@ -111,7 +111,7 @@ pub fn push_bytes(bytes: &mut Bytes, text: &str) -> Result<(), AllocError> {
 }
 
 /// The 32 bytes that are written so, if they are 32.
-pub fn drawn_of(alloc: Global, text: &str) -> Result<Option<[u8; 32]>, AllocError> {
+pub(crate) fn drawn_of(alloc: Global, text: &str) -> Result<Option<[u8; 32]>, AllocError> {
     let mut bytes = Bytes::new(alloc);
     push_bytes(&mut bytes, text)?;
     let mut drawn = [0; 32];

@@ -167,11 +167,10 @@ const PAIRS: [(&str, &str); 4] = [
 ];
 
 /// Prints what becomes of children that a shell plays, and of a program that is not there.
-pub fn print_children<W: Write, R: Processes<Started = SystemProcess> + Clock + Clone + Drop>(
-    to: &mut W,
-    rt: &R,
-    alloc: Global,
-) -> io::Result<()> {
+pub(crate) fn print_children<
+    W: Write,
+    R: Processes<Started = SystemProcess> + Clock + Clone + Drop,
+>(to: &mut W, rt: &R, alloc: Global) -> io::Result<()> {
     for command in COMMANDS {
         print_command(to, rt, alloc, command)?;
     }

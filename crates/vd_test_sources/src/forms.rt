@@ -41,7 +41,7 @@ fn form_at(alloc: Global, byte: u8, behind: &mut Items<Form>) -> Result<Form, Fa
 }
 
 /// The form of a text.
-pub fn form(alloc: Global, text: &str) -> Result<Form, Fail> {
+pub(crate) fn form(alloc: Global, text: &str) -> Result<Form, Fail> {
     let mut forms = Items::new(alloc);
     for byte in text.as_bytes().iter().rev() {
         let form = form_at(alloc, *byte, &mut forms)?;
@@ -54,7 +54,7 @@ pub fn form(alloc: Global, text: &str) -> Result<Form, Fail> {
 }
 
 /// The names A, B, and so on.
-pub fn letters(alloc: Global, count: usize) -> Result<Names, AllocError> {
+pub(crate) fn letters(alloc: Global, count: usize) -> Result<Names, AllocError> {
     let mut names = Items::new(alloc);
     for letter in b"ABCDEF".iter().take(count) {
         names.push(Items::from_slice(alloc, &[*letter])?)?;
@@ -63,7 +63,7 @@ pub fn letters(alloc: Global, count: usize) -> Result<Names, AllocError> {
 }
 
 /// The formula of a form over the names A, B and so on.
-pub fn over(alloc: Global, count: usize, form: &Form) -> Result<Formula, Fail> {
+pub(crate) fn over(alloc: Global, count: usize, form: &Form) -> Result<Formula, Fail> {
     let names = letters(alloc, count)?;
     if names.as_slice().len() > 6 {
         return Err("too many names".into());
@@ -72,7 +72,7 @@ pub fn over(alloc: Global, count: usize, form: &Form) -> Result<Formula, Fail> {
 }
 
 /// The formula of a text over the names A, B and so on.
-pub fn formula(alloc: Global, count: usize, text: &str) -> Result<Formula, Fail> {
+pub(crate) fn formula(alloc: Global, count: usize, text: &str) -> Result<Formula, Fail> {
     let form = form(alloc, text)?;
     over(alloc, count, &form)
 }

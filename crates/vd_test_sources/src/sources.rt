@@ -21,18 +21,18 @@ fn resolved_of(alloc: Global, text: &[u8]) -> Result<Resolved, Fail> {
 }
 
 /// The let-normal program of a text.
-pub fn program_of(alloc: Global, text: &[u8]) -> Result<Program, Fail> {
+pub(crate) fn program_of(alloc: Global, text: &[u8]) -> Result<Program, Fail> {
     let resolved = resolved_of(alloc, text)?;
     Ok(elaborate(alloc, &resolved)?)
 }
 
 /// The flow rules of a program.
-pub fn system_of(alloc: Global, program: &Program) -> Result<System, Fail> {
+pub(crate) fn system_of(alloc: Global, program: &Program) -> Result<System, Fail> {
     Ok(constraints(alloc, program)?)
 }
 
 /// The least labels of a system.
-pub fn least_labels(alloc: Global, system: &System) -> Result<Labels, Fail> {
+pub(crate) fn least_labels(alloc: Global, system: &System) -> Result<Labels, Fail> {
     match solve(alloc, system)? {
         Ok(labels) => Ok(labels),
         Err(_check) => Err("no labels".into()),

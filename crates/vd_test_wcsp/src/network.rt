@@ -15,7 +15,7 @@ const TOP: i64 = 4_294_967_296;
 const PARTS: i64 = 256;
 
 /// Prints the network of a space.
-pub fn print<W: Write>(alloc: Global, to: &mut W, space: &Space) -> anyhow::Result<()> {
+pub(crate) fn print<W: Write>(alloc: Global, to: &mut W, space: &Space) -> anyhow::Result<()> {
     let problem = space.problem();
     let tables = linked_tables(alloc, problem, Items::new(alloc))?;
     let settings = Settings::of(alloc, problem, space.list(), &tables)?;

@@ -19,13 +19,13 @@ const OFF: usize = 0;
 
 /// By point: the settings at which it may be, in order.
 #[derive(Drop)]
-pub struct Settings {
+pub(crate) struct Settings {
     rows: Vec<Vec<usize>>,
 }
 
 impl Settings {
     /// Of a problem, by its tables without shifts.
-    pub fn of(
+    pub(crate) fn of(
         alloc: Global,
         problem: &Problem,
         list: &[Proto],
@@ -52,7 +52,7 @@ impl Settings {
     }
 
     /// The settings of a point, none past the end.
-    pub fn at(&self, point: usize) -> &[usize] {
+    pub(crate) fn at(&self, point: usize) -> &[usize] {
         match self.rows.get(point) {
             Some(row) => row.as_slice(),
             None => &[],

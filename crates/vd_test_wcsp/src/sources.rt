@@ -24,7 +24,7 @@ fn resolved_of(alloc: Global, source: &[u8]) -> anyhow::Result<Resolved> {
 }
 
 /// The space of choices for a source, under its least labels.
-pub fn space_of(alloc: Global, source: &str) -> anyhow::Result<Space> {
+pub(crate) fn space_of(alloc: Global, source: &str) -> anyhow::Result<Space> {
     let resolved = resolved_of(alloc, source.as_bytes())?;
     let program = run_program(alloc, &resolved)?;
     match least_space(alloc, &program) {

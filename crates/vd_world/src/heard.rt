@@ -32,7 +32,7 @@ fn sent<'a>(hosts: &'a [Host], from: usize, to: usize, place: usize) -> Option<&
 }
 
 /// How host h, which this is, goes on at its next step, by what it hears.
-pub fn heard<'a>(hosts: &'a [Host], h: usize, host: &Host) -> Turn<'a>
+pub(crate) fn heard<'a>(hosts: &'a [Host], h: usize, host: &Host) -> Turn<'a>
     requires { slice_get hosts.now h ≡ Some host.now }
     ensures hears { Hears hosts.now h host.now result }
     ensures takes { CanTake host.now result }

@@ -99,7 +99,7 @@ impl Host {
     }
 
     /// How many packets it took from a host.
-    pub fn taken_from(&self, peer: usize) -> usize
+    pub(crate) fn taken_from(&self, peer: usize) -> usize
         ensures { result ≡ slice_index self.now.taken peer }
     {
         match self.taken.get(peer) {
@@ -109,7 +109,7 @@ impl Host {
     }
 
     /// A packet that it sent to a host, by its place among those, if it sent so many.
-    pub fn packet_to(&self, peer: usize, place: usize) -> Option<&[u32]>
+    pub(crate) fn packet_to(&self, peer: usize, place: usize) -> Option<&[u32]>
         ensures packet { IsPlace result (slice_get ((local_of self.now).sent peer) place) }
         ensures room { IfSome result (λ _. place + 1 < 2 ^ 64) }
     {
@@ -120,7 +120,7 @@ impl Host {
     }
 
     /// How many packets it sent to a host.
-    pub fn packets_to(&self, peer: usize) -> usize
+    pub(crate) fn packets_to(&self, peer: usize) -> usize
         ensures { result ≡ length ((local_of self.now).sent peer) }
     {
         match self.links.get(peer) {
@@ -130,7 +130,7 @@ impl Host {
     }
 
     /// All words that it sent to a host.
-    pub fn words_to(&self, peer: usize) -> &[u32]
+    pub(crate) fn words_to(&self, peer: usize) -> &[u32]
         ensures { result.now ≡ words_of ((local_of self.now).sent peer) }
     {
         match self.links.get(peer) {
@@ -156,7 +156,7 @@ impl Host {
     }
 
     /// One step that waits for nothing. Out of memory changes nothing.
-    pub fn go(&mut self) -> Result<(), AllocError>
+    pub(crate) fn go(&mut self) -> Result<(), AllocError>
         requires { Want.Nothing ≡ wanted self.old.machine }
         ensures ok { OnOk result (local_of self.new ≡ gone_on self.old []) }
         ensures lists { self.new.machine.lists ≡ self.old.machine.lists }

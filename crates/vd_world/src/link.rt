@@ -96,7 +96,11 @@ impl Link {
     }
 
     /// One more packet, of the words of registers, at the end. Out of memory changes nothing.
-    pub fn send_registers(&mut self, registers: &[u32], from: &[Reg]) -> Result<(), AllocError>
+    pub(crate) fn send_registers(
+        &mut self,
+        registers: &[u32],
+        from: &[Reg],
+    ) -> Result<(), AllocError>
         requires { All (λ r. r.0 < length registers.now) from.now }
         ensures ok { OnOk result (self.new ≡ self.old ++ words_in (held registers.now) from.now ∷ []) }
         ensures err { OnErr result (self.new ≡ self.old) }

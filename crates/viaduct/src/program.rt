@@ -31,7 +31,7 @@ fn copies(alloc: Global, texts: &[String]) -> Result<Texts, AllocError>
 }
 
 /// The words of a command line: all arguments but the first, which names the program.
-pub fn words_of(alloc: Global, arguments: &[String]) -> Result<Texts, AllocError>
+pub(crate) fn words_of(alloc: Global, arguments: &[String]) -> Result<Texts, AllocError>
     ensures { IfOk result (λ words. words ≡ map string_bytes (drop 1 arguments.now)) }
 {
     match arguments {
@@ -41,7 +41,7 @@ pub fn words_of(alloc: Global, arguments: &[String]) -> Result<Texts, AllocError
 }
 
 /// Where an error stream goes, by whether a terminal is behind it, and whether colours are wanted there.
-pub fn destination_of(is_terminal: bool, coloured: bool) -> Destination
+pub(crate) fn destination_of(is_terminal: bool, coloured: bool) -> Destination
     ensures { result ≡ (if is_terminal then Terminal coloured else File) }
 {
     if is_terminal {
@@ -70,7 +70,7 @@ fn peer_of(status: Status) -> Option<Name>
 
 /// How a run ended: the code of its status, the peer that the status names, and how many packets the hosts of a `replay` sent.
 #[derive(Drop)]
-pub struct Ending {
+pub(crate) struct Ending {
     pub code: ExitCode,
     pub peer: Option<Name>,
     pub packets: Option<u64>,
@@ -78,7 +78,7 @@ pub struct Ending {
 
 /// Runs a command line over these objects, and says how that ended; where the error stream goes to a terminal, it then says
 /// more of a fault.
-pub fn run_program<F: Files, M: Marks, O: Sink, E: Sink, N: Net + Drop, S: Spawner>(
+fn run_program<F: Files, M: Marks, O: Sink, E: Sink, N: Net + Drop, S: Spawner>(
     alloc: Global,
     destination: Destination,
     words: &Texts,
@@ -124,7 +124,7 @@ pub fn run_program<F: Files, M: Marks, O: Sink, E: Sink, N: Net + Drop, S: Spawn
 }
 
 /// Says how a run ended that began nothing, and gives the code of that.
-pub fn end<E: Sink>(alloc: Global, err: &mut E, status: &Status) -> ExitCode
+pub(crate) fn end<E: Sink>(alloc: Global, err: &mut E, status: &Status) -> ExitCode
     ensures says { Says (status_line status.now) (E.view err.old) (E.view err.new) }
     ensures ends { exit_status result ≡ code_of status.now }
 {
@@ -134,13 +134,13 @@ pub fn end<E: Sink>(alloc: Global, err: &mut E, status: &Status) -> ExitCode
 
 /// A run over files that were read ahead: how it ended, and the files, unless there was no memory for them.
 #[derive(Drop)]
-pub struct Ran<D: Directory + Drop> {
+pub(crate) struct Ran<D: Directory + Drop> {
     pub ending: Ending,
     pub files: Option<KeptFiles<D>>,
 }
 
 /// Why the last call of these files failed, where one did.
-pub fn reason_of<D: Directory + Drop>(files: &Option<KeptFiles<D>>) -> Option<&str> {
+pub(crate) fn reason_of<D: Directory + Drop>(files: &Option<KeptFiles<D>>) -> Option<&str> {
     match files {
         Some(files) => files.reason(),
         None => None,
@@ -149,7 +149,7 @@ pub fn reason_of<D: Directory + Drop>(files: &Option<KeptFiles<D>>) -> Option<&s
 
 /// Reads the files that a command line may fetch, runs it over what they held, and says how that ended. Each file
 /// is read once, so that all of a run, and what is said of it to a person, speaks of the same bytes.
-pub fn run_over<D: Directory + Drop, M: Marks, O: Sink, E: Sink, N: Net + Drop, S: Spawner>(
+pub(crate) fn run_over<D: Directory + Drop, M: Marks, O: Sink, E: Sink, N: Net + Drop, S: Spawner>(
     alloc: Global,
     destination: Destination,
     words: &Texts,
