@@ -12,10 +12,6 @@ tagged ns = map (λ n. (n, tt)) ns
 abbrev pub idents : List Ident → List (List ℕ)
 idents xs = map (λ x. x.name) xs
 
-pub tagged_append : (xs ys : List (List ℕ)) → tagged (xs ++ ys) ≡ tagged xs ++ tagged ys
-tagged_append [] ys = refl
-tagged_append (x ∷ xs) ys = rw (tagged_append xs ys) refl
-
 pub among_is : (ns : List (List ℕ)) (x : List ℕ) → is_some (at_name (tagged ns) x) ≡ is_among ns x
 among_is [] x = refl
 among_is (n ∷ ns) x =

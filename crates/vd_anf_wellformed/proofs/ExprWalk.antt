@@ -59,10 +59,6 @@ module _ (hosts : List (List ℕ)) (tests : Tests) (W : Type 0) (Keeps : W → M
   Shown w m [] = Unit {0}
   Shown w m (e ∷ es) = At w m e.1 × Shown w m es
 
-  pub bindings_stay : (w : W) (m m' : Made) (ks : List ℕ) → Keeps w m m' → Bindings w m ks → Bindings w m' ks
-  bindings_stay w m m' [] k h = tt
-  bindings_stay w m m' (j ∷ js) k h = (laws.stays w m m' (Binding j) k h.0, bindings_stay w m m' js k h.1)
-
   pub shown_stay : (w : W) (m m' : Made) (names : Named Spot) → Keeps w m m' → Shown w m names → Shown w m' names
   shown_stay w m m' [] k h = tt
   shown_stay w m m' (e ∷ es) k h = (laws.stays w m m' e.1 k h.0, shown_stay w m m' es k h.1)

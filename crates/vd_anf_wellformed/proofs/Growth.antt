@@ -12,12 +12,12 @@ use Rattle.vd_core.specs.declared.source.Source.{Source}
 use Rattle.vd_core.specs.Facts.{count_of, statement_count}
 use Rattle.vd_anf.specs.declared.here.Here.{Here}
 use Rattle.vd_anf.specs.declared.spot.Spot.{Spot}
-use Rattle.vd_anf.specs.Normal.{Made, slot, with_slot, with_stmt, emptied, for_made, lowering, lowering_of_link, chain_made, all_made, call_made, lowering_of, statements_made, inlining_of, inlinings_of, Place, main_made}
+use Rattle.vd_anf.specs.Normal.{Made, slot, with_slot, with_stmt, emptied, for_made, lowering, lowering_of_link, chain_made, all_made, call_made, lowering_of, statements_made, inlinings_of, Place, main_made}
 use Rattle.vd_anf_wellformed.proofs.Laws.{with_if, block_more, turned, Laws}
 use Rattle.vd_anf_wellformed.proofs.Counts.{count_push, let_one, var_one, array_is, store_one, put_one, output_one, if_is, for_is}
 use Rattle.vd_anf_wellformed.proofs.ExprWalk.{Bindings, Shown, Calls, at_calls, call_makes, expr_keeps, link_keeps}
-use Rattle.vd_anf_wellformed.proofs.Walk.{statement_keeps, function_keeps, all_calls, main_keeps}
-use Rattle.vd_anf_wellformed.proofs.Plain.{always, source_always, expr_always, link_always, statement_always, function_always, functions_always}
+use Rattle.vd_anf_wellformed.proofs.Walk.{statement_keeps, all_calls, main_keeps}
+use Rattle.vd_anf_wellformed.proofs.Plain.{always, source_always, expr_always, link_always, statement_always, functions_always}
 
 -- slots and blocks together
 abbrev pub size : Made → ℕ
@@ -145,9 +145,6 @@ module _ (hosts : List (List ℕ)) where
         let one = statement_more s block p in
         let rest = statements_more ss block (lowering_of hosts s (inlinings_of hosts functions) block p) in
         omega arith
-
-    pub function_more : (f : Function) (here : Here) (ks : List ℕ) (m : Made) → size m ≤ size (inlining_of hosts f (inlinings_of hosts functions) here ks m).1
-    function_more f here ks m = (function_keeps hosts always W Keeps Here' inside laws f (function_always hosts f) (inlinings_of hosts functions) kept tt here ks m (bindings m ks)).0.more
 
     pub call_more : (name : List ℕ) (here : Here) (ks : List ℕ) (m : Made) → size m ≤ size (call_made (at_name (inlinings_of hosts functions) name) here (ks, m)).1
     call_more name here ks m =

@@ -12,7 +12,7 @@ use Rattle.vd_core.specs.declared.source.Statement.TheFolds.{fold-roll-Statement
 use Rattle.vd_core.specs.declared.source.Function.{Function}
 use Rattle.vd_core.specs.declared.source.Source.{Source}
 use Rattle.vd_semantics.specs.SourceMeaning.{host_names}
-use Rattle.vd_anf_wellformed.proofs.Tests.{Tests, all_true, label_passes, expr_passes, link_passes, passes, passes_link, statement_passes, passes_statement, passes_function, functions_pass}
+use Rattle.vd_anf_wellformed.proofs.Tests.{Tests, all_true, label_passes, expr_passes, link_passes, passes, passes_link, statement_passes, passes_statement, functions_pass}
 use Rattle.vd_anf_wellformed.proofs.Walk.{source_passes}
 
 abbrev pub always : Tests
@@ -107,9 +107,6 @@ module _ (hosts : List (List ℕ)) where
   pub body_always : (ss : List Statement) → all_true (map (passes_statement hosts always) ss) ≡ true
   body_always [] = refl
   body_always (s ∷ ss) = rw (statement_always s, body_always ss) refl
-
-  pub function_always : (f : Function) → passes_function hosts always f ≡ true
-  function_always f = rw (body_always f.body, expr_always f.gives) refl
 
   pub functions_always : (fs : List Function) → functions_pass hosts always fs ≡ true
   functions_always [] = refl

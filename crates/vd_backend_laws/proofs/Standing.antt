@@ -143,9 +143,6 @@ still w w' (Xor a b) x c s kept = still_there (Xor a b) refl w w' x c s kept
 
 -- ---- the register of a host's cell
 
-equal_of : (a b : ℕ) → nat_eq a b ≡ true → a ≡ b
-equal_of a b e = grind (arith, rules)
-
 differ_of : (a b : ℕ) → nat_eq a b ≡ false → a ≢ b
 differ_of a b e f = grind (arith, rules)
 

@@ -18,7 +18,6 @@ use Rattle.vd_backend_sharing.specs.PairCalls.{split_off, exchanged, shared_from
 use Rattle.vd_words.specs.AddCalls.{add_serves, add_apply}
 use Rattle.vd_bits.specs.BitCalls.{gate_shares, gates_shares, circuit_shares, computed}
 use Rattle.vd_convert.specs.Convert.{masked_parts, drawn, finished}
-use Rattle.vd_commit.specs.Commit.{same_each}
 use Rattle.vd_backend_openings.specs.Openings.{Opening, openings, all_openings, to_each, TellsWhatIsShown}
 use Rattle.vd_backend_openings.specs.Law.{ClearCallsTell, ConversionsTellTheRest, CommitmentsTell}
 
@@ -117,11 +116,6 @@ conversions_tell = record {
       told_append rest.gadgets end.gadgets
       ∙ ap (λ (l : List Opening). l ++ all_openings end.gadgets) (gates_silent a b (gates_of op.Sub) (map shares_of (x ∷ places_at a b pair.given.1 ∷ [])) pair.next);
 }
-
-same_silent : (h : HostId) (xs ys : List Reg) → all_openings (same_each h xs ys) ≡ []
-same_silent h [] ys = refl
-same_silent h (x ∷ xs) [] = refl
-same_silent h (x ∷ xs) (y ∷ ys) = same_silent h xs ys
 
 pub commitments_tell : CommitmentsTell
 commitments_tell = record {

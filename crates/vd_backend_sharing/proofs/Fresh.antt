@@ -30,9 +30,6 @@ all_low n (r ∷ rs) low (suc j) few = all_low n rs low.1 j (omega (arith, few))
 module _ (t : Tape) (deal : IsValidDeal t) (next : List ℕ) (w : Hosts) (sound : IsSound w) (a b : HostId) (apart : a.0 ≢ b.0)
     (a_known : a.0 < length next) (b_known : b.0 < length next) (xs ys : List Reg)
     (xs_low : Each (λ r. r.0 < slice_index next a.0) xs) (ys_low : Each (λ r. r.0 < slice_index next b.0) ys) where
-  abbrev p : Pair
-  p = pair_at a b xs ys next
-
   pub marks : (s : Side) → (pair_at a b xs ys next).mark s ≡ slice_index next ((pair_at a b xs ys next).host s).0
   marks First = refl
   marks Second = refl

@@ -62,10 +62,6 @@ module _ (a b : HostId) (serves : Op → Bool) (apply : Op → List Places → L
   first_holds BySums = inl refl
   first_holds ByXors = inl refl
 
-  pub second_holds : (s : Sharing) → IsHost (holders (shared_by s a b)) b.0
-  second_holds BySums = inr (inl refl)
-  second_holds ByXors = inr (inl refl)
-
   pub both_known : (s : Sharing) (next : List ℕ) → AreKnown (holders (shared_by s a b)) next → (a.0 < length next) × (b.0 < length next)
   both_known BySums next k = (k.0, k.1.0)
   both_known ByXors next k = (k.0, k.1.0)

@@ -85,10 +85,6 @@ item_is_no_pair : (sharing : Sharing) (q r : ℕ) → same_source (source_of sha
 item_is_no_pair BySums q r = refl
 item_is_no_pair ByXors q r = refl
 
-same_item : (sharing : Sharing) (q : ℕ) → same_source (source_of sharing q) (source_of sharing q) ≡ true
-same_item BySums q = same_number q
-same_item ByXors q = same_number q
-
 took_item : (t : Tape) (h : ℕ) (sharing : Sharing) (peer : HostId) (a b c : Reg) (u : Hosts)
     → Takes h (source_of sharing peer.0) u (after_do t h (take sharing peer a b c) u)
 took_item t h BySums peer a b c u = put_takes u h (acted (t h) (action.Triple peer a b c) (u h)) (Triples peer.0) (λ s. refl)

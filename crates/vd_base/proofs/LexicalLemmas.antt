@@ -4,10 +4,6 @@ use Rattle.std.specs.List.{fold, list_all}
 use Rattle.std.proofs.lemmas.Bool.Decides.{nat_tests}
 use Rattle.vd_base.specs.Lexical.{is_digit, is_letter, is_word_byte, is_keyword, is_name, is_numeral, decimal_value, number_of}
 
-pub front_and_rest : (xs : List ℕ) → 0 < length xs → xs ≡ get_or xs 0 0 ∷ drop 1 xs
-front_and_rest [] h = absurd (omega arith)
-front_and_rest (x ∷ xs) h = refl
-
 pub name_at : (xs : List ℕ) → 0 < length xs → is_name xs ≡ (is_letter (get_or xs 0 0) && list_all is_word_byte (drop 1 xs) && not (is_keyword xs))
 name_at [] h = absurd (omega arith)
 name_at (x ∷ xs) h = refl

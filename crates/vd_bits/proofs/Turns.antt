@@ -1,6 +1,6 @@
 -- Loops over gates and over operands.
-use Rattle.std.proofs.Common.{◌≡◌, ℕ, ◌+◌, ◌*◌, ◌<◌, List, [], ◌∷◌, ◌++◌, length, map, take, drop, get_or, refl, sym, ap, ap₂, subst, ◌∙◌, arith, append_assoc, append-nil}
-use Rattle.std.proofs.lemmas.List.{drop_more, take_more, map-append}
+use Rattle.std.proofs.Common.{◌≡◌, ℕ, ◌+◌, ◌*◌, ◌<◌, List, [], ◌∷◌, ◌++◌, length, drop, get_or, sym, ap, subst, ◌∙◌, arith, append_assoc}
+use Rattle.std.proofs.lemmas.List.{drop_more}
 use Rattle.vd_base.specs.declared.ids.HostId.{HostId}
 use Rattle.vd_execution.specs.declared.instructions.Line.{Line}
 use Rattle.vd_duet.specs.Builder.{Builder, TakesAtMost}
@@ -8,11 +8,8 @@ use Rattle.vd_duet.specs.Calls.{called, Made}
 use Rattle.vd_backend_algebra.specs.Gates.{Gate}
 use Rattle.vd_duet.proofs.Leads.{emitted_append}
 use Rattle.vd_backend_sharing.specs.declared.shares.Shares.{Shares}
-use Rattle.vd_backend_sharing.specs.PairCalls.{shares_of}
 use Rattle.vd_bits.specs.declared.gates.Gate.{Gate as Written}
-use Rattle.vd_bits.specs.declared.xor_pair.XorShare.{XorShare}
-use Rattle.vd_bits.specs.BitCalls.{gate_of, gates_in, newest_of, gate_shares, gates_shares}
-use Rattle.vd_bits.specs.BitParts.{parts_of, all_parts_of}
+use Rattle.vd_bits.specs.BitCalls.{gate_of, gates_in, gate_shares, gates_shares}
 
 step_on : (a b : HostId) (g : Gate) (gates : List Gate) (words : List Shares) (c : Builder) (goal : Shares × Builder) (made : Shares) (c' : Builder)
     → (made, c') ≡ called (gate_shares a b g words c.next) c → called (gates_shares a b (g ∷ gates) words c.next) c ≡ goal
@@ -40,22 +37,3 @@ gates_turn a b gates i d words slice words' next c goal made c' low same is few 
           (ap (λ (l : List Written). called (gates_shares a b (gates_in l) words c.next) c) (sym more) ∙ e),
       (few.0 ∙ taken.0, λ h. let p = few.1 h in let q = taken.1 h in omega (arith, p, q)),
     )
-
--- all gates are done
-pub gates_done : (a b : HostId) (words : List Shares) (c : Builder) → (newest_of words, c) ≡ called (gates_shares a b [] words c.next) c
-gates_done a b words c = ap (λ (l : List Line). let p : Shares × Builder = (newest_of words, record { lines = l; next = c.next }) in p) (sym (append-nil c.lines))
-
-pub gates_ended : (a b : HostId) (gates : List Written) (i : ℕ) (words : List Shares) (next : List ℕ) (c : Builder) (goal : Shares × Builder)
-    → drop i gates ≡ [] → GatesSoFar a b gates i words next c goal → (newest_of words, c) ≡ goal
-gates_ended a b gates i words next c goal none so_far =
-    gates_done a b words c ∙ ap (λ (l : List Written). called (gates_shares a b (gates_in l) words c.next) c) (sym none) ∙ so_far.0
-
--- one operand more
-pub words_more : (args : List (List (HostId × XorShare))) (i : ℕ) (d : List (HostId × XorShare)) (words words' : List Shares) → i < length args
-    → words' ≡ words ++ shares_of (parts_of (get_or args i d)) ∷ [] → words ≡ map shares_of (all_parts_of (take i args))
-    → words' ≡ map shares_of (all_parts_of (take (i + 1) args))
-words_more args i d words words' low longer e =
-    longer ∙ ap (λ (l : List Shares). l ++ shares_of (parts_of (get_or args i d)) ∷ []) e
-    ∙ sym (ap (λ (l : List (List (HostId × XorShare))). map shares_of (all_parts_of l)) (take_more args i d low)
-    ∙ ap (map shares_of) (map-append parts_of (take i args) (get_or args i d ∷ []))
-    ∙ map-append shares_of (all_parts_of (take i args)) (parts_of (get_or args i d) ∷ []))

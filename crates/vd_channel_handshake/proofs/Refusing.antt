@@ -1,12 +1,11 @@
 -- Hellos and proofs that are refused.
-use Rattle.std.proofs.Common.{◌≡◌, ◌≢◌, ◌∙◌, ◌≤◌, ◌<◌, ◌+◌, ℕ, Bool, true, false, ◌&&◌, IsTrue, List, [], ◌∷◌, ◌++◌, length, take, drop, ap, ap₂, sym, refl, subst, arith, append_assoc, length-append}
+use Rattle.std.proofs.Common.{◌≡◌, ◌≢◌, ◌∙◌, ◌≤◌, ◌+◌, ℕ, Bool, true, false, ◌&&◌, List, [], ◌∷◌, ◌++◌, length, take, drop, ap, ap₂, sym, refl, subst, arith, append_assoc, length-append}
 use Rattle.std.proofs.Math.Seq.{take-append_seam, drop-append_seam}
 use Rattle.std.proofs.lemmas.Bool.{le-leb}
 use Rattle.std.proofs.lemmas.Slice.Eq.{bytes_eq-Decides}
 use Rattle.vd_channel_crypto.specs.Hellos.{digest_between, link_direction}
-use Rattle.vd_channel_crypto.specs.Records.{Direction, sealed}
+use Rattle.vd_channel_crypto.specs.Records.{Direction}
 use Rattle.vd_channel_crypto.specs.declared.hellos.Hello.{Hello}
-use Rattle.vd_channel_link.specs.Filling.{EndsReceive}
 use Rattle.vd_channel_link.specs.Opened.{has_tag, is_few}
 use Rattle.vd_channel_link.specs.Taking.{Brings, HasNoHead, IsReason}
 use Rattle.vd_channel_link.specs.declared.fault.SealFault.{SealFault}
@@ -56,16 +55,6 @@ other_hosts id from to a version b heard c ends d va hb ec v i wide two wrong =
     va ∙ ap (λ (xs : List ℕ). xs ++ b) v
     ∙ ap (λ (xs : List ℕ). 0x47 ∷ 2 ∷ xs) (hb ∙ ap (λ (xs : List ℕ). xs ++ c) i ∙ ap (λ (xs : List ℕ). id ++ xs) ec) in
     differ (0x47 ∷ 2 ∷ id) ends d (from ∷ to ∷ []) [] a (head_of id from to) 34 36 are refl (omega (arith, wide)) (omega (arith, wide, two)) (sym two) wrong
-
--- the link failed or ended within the hello
-pub hello_ends : (wanted coming : List ℕ) (why : SealFault) → EndsReceive why → (why ≡ fault.End → length coming < 68) → IsHelloFault wanted coming why
-hello_ends wanted coming fault.Peer ends short = tt
-hello_ends wanted coming fault.End ends short = short refl
-hello_ends wanted coming fault.Version ends short = absurd ends
-hello_ends wanted coming fault.Dealing ends short = absurd ends
-hello_ends wanted coming fault.Host ends short = absurd ends
-hello_ends wanted coming fault.Head ends short = ends
-hello_ends wanted coming fault.Code ends short = ends
 
 -- ---- the record behind it
 

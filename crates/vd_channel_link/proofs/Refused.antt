@@ -1,11 +1,10 @@
 -- Bytes that are refused.
-use Rattle.std.proofs.Common.{◌≡◌, ◌≢◌, ◌∙◌, ◌≤◌, ◌<◌, ◌+◌, ℕ, Bool, true, false, ◌&&◌, List, [], ◌∷◌, ◌++◌, length, slice_index, IsTrue, ap, ap₂, sym, refl, subst, arith, length-append}
-use Rattle.std.proofs.lemmas.Bool.{lt-leb, leb-true, le-leb}
+use Rattle.std.proofs.Common.{◌≡◌, ◌≢◌, ◌∙◌, ◌≤◌, ◌+◌, ℕ, Bool, true, false, ◌&&◌, List, [], ◌∷◌, ◌++◌, length, slice_index, IsTrue, ap, ap₂, sym, refl, subst, arith, length-append}
+use Rattle.std.proofs.lemmas.Bool.{le-leb}
 use Rattle.std.proofs.lemmas.Slice.Eq.{bytes_eq-Decides}
 use Rattle.vd_channel_crypto.specs.Records.{Direction, record_code}
-use Rattle.vd_channel_link.specs.Filling.{EndsReceive}
-use Rattle.vd_channel_link.specs.Opened.{code_at, covered_at, has_code, has_tag, is_few}
-use Rattle.vd_channel_link.specs.Taking.{HasNoHead, HasOtherCode, IsCut, IsReason}
+use Rattle.vd_channel_link.specs.Opened.{code_at, covered_at, has_code}
+use Rattle.vd_channel_link.specs.Taking.{HasOtherCode, IsCut, IsReason}
 use Rattle.vd_channel_link.specs.declared.fault.SealFault.{SealFault}
 use Rattle.vd_channel_link.specs.declared.fault.SealFault.TheVariants as fault
 use Rattle.vd_channel_link.proofs.Front.{code_there, covered_there, parts}
@@ -13,14 +12,6 @@ use Rattle.vd_channel_link.proofs.Front.{code_there, covered_there, parts}
 never : (t : Bool) → (t ≡ true → ⊥) → t ≡ false
 never true wrong = absurd (wrong refl)
 never false wrong = refl
-
-not_both : (a b : Bool) → a ≡ false → (a && b) ≡ false
-not_both true b wrong = absurd cc
-not_both false b wrong = refl
-
-not_second : (a b : Bool) → b ≡ false → (a && b) ≡ false
-not_second true b wrong = wrong
-not_second false b wrong = refl
 
 -- a head of two bytes
 two_of : (head : List ℕ) → length head ≡ 2 → head ≡ slice_index head 0 ∷ slice_index head 1 ∷ []
@@ -34,27 +25,6 @@ begun tag count mid = tag ∷ count ∷ mid
 
 front_is : (coming head mid : List ℕ) → coming ≡ head ++ mid → length head ≡ 2 → coming ≡ begun (slice_index head 0) (slice_index head 1) mid
 front_is coming head mid is two = is ∙ ap (λ (l : List ℕ). l ++ mid) (two_of head two)
-
-tag_tells : (tag count : ℕ) (mid : List ℕ) → has_tag (begun tag count mid) ≡ true → tag ≡ 0x58
-tag_tells tag count mid e = let same : tag ∷ [] ≡ 0x58 ∷ [] = (bytes_eq-Decides (tag ∷ []) (0x58 ∷ [])).0 e in cc
-
-no_tag_at : (tag count : ℕ) (mid : List ℕ) → tag ≢ 0x58 → HasNoHead (begun tag count mid)
-no_tag_at tag count mid other =
-    let raw = begun tag count mid in
-    (omega arith, not_both (has_tag raw) (is_few raw) (never (has_tag raw) (λ e. other (tag_tells tag count mid e))))
-
-too_many_at : (tag count : ℕ) (mid : List ℕ) → 128 < count → HasNoHead (begun tag count mid)
-too_many_at tag count mid many =
-    let raw = begun tag count mid in
-    (omega arith, not_second (has_tag raw) (is_few raw) (lt-leb count 128 many))
-
--- another tag
-pub no_tag : (coming head mid : List ℕ) → coming ≡ head ++ mid → length head ≡ 2 → slice_index head 0 ≢ 0x58 → HasNoHead coming
-no_tag coming head mid is two other = subst HasNoHead (sym (front_is coming head mid is two)) (no_tag_at (slice_index head 0) (slice_index head 1) mid other)
-
--- too many bytes
-pub too_many : (coming head mid : List ℕ) → coming ≡ head ++ mid → length head ≡ 2 → 128 < slice_index head 1 → HasNoHead coming
-too_many coming head mid is two many = subst HasNoHead (sym (front_is coming head mid is two)) (too_many_at (slice_index head 0) (slice_index head 1) mid many)
 
 other_code_at : (keys : Direction) (number count : ℕ) (covered code rest : List ℕ) → count ≤ 128 → length covered ≡ count → length code ≡ 32
     → code ≢ record_code keys number covered → HasOtherCode keys number (parts count covered code rest)
@@ -77,16 +47,6 @@ other_code keys number coming head covered code mid last rest is more end two ta
     ∙ ap (λ (t : ℕ). begun t (slice_index head 1) mid) tag
     ∙ ap (λ (l : List ℕ). 0x58 ∷ slice_index head 1 ∷ l) (more ∙ ap (λ (l : List ℕ). covered ++ l) end) in
     subst (HasOtherCode keys number) (sym whole) (other_code_at keys number (slice_index head 1) covered code rest few counted long other)
-
--- the link failed or ended
-pub of_link : (keys : Direction) (number : ℕ) (coming : List ℕ) (why : SealFault) → EndsReceive why → (why ≡ fault.End → IsCut coming) → IsReason keys number coming why
-of_link keys number coming fault.Peer ends cut = tt
-of_link keys number coming fault.End ends cut = cut refl
-of_link keys number coming fault.Version ends cut = ends
-of_link keys number coming fault.Dealing ends cut = ends
-of_link keys number coming fault.Host ends cut = ends
-of_link keys number coming fault.Head ends cut = absurd ends
-of_link keys number coming fault.Code ends cut = absurd ends
 
 -- where it ended, the bytes end within a record
 pub cut_of : (keys : Direction) (number : ℕ) (coming : List ℕ) (why : SealFault) → why ≡ fault.End → IsReason keys number coming why → IsCut coming

@@ -11,7 +11,7 @@ use Rattle.vd_core.specs.declared.normal.Stmt.TheOpen.{Stmt-F}
 use Rattle.vd_core.specs.declared.normal.NormalForm.{NormalForm}
 use Rattle.vd_core.specs.Facts.{nothing_seen, Seeing, slots_step, seeing_step, seeing_all, blocks_meet, of_rights, operands_fit, amount_fits, shift_fits, host_is_declared, turns_step, is_turn, has_turns_in_loops, IsWellMade, meets}
 use Rattle.vd_semantics.specs.World.{world_at_start}
-use Rattle.vd_semantics.specs.ProgramMeaning.{SlotState, Effect, in_order, stmt_effect, state_at_start, program_outputs}
+use Rattle.vd_semantics.specs.ProgramMeaning.{Effect, in_order, stmt_effect, state_at_start, program_outputs}
 use Rattle.vd_choreography.specs.Block.{Block, End, Let, NewVar, NewArray, Store, Put, Output, If, For, block_of, each}
 use Rattle.vd_execution.specs.Plans.{Plan}
 use Rattle.vd_choreography.specs.Joint.{Hosts, joint, Goes}
@@ -180,9 +180,6 @@ module _ (m : Hosts) (s : Suite m) (proto : ℕ → Proto) where
       (valid : ValidAt m s proto program) (starts : Starts m inputs w) where
     abbrev b : Block
     b = block_of program.body
-
-    start : SlotState
-    start = state_at_start (world_at_start (length program.hosts) inputs)
 
     tied : Tied m s proto nothing_seen (replicate s.calls.hosts 0) [] w (state_at_start (world_at_start (length program.hosts) inputs))
     tied = record {

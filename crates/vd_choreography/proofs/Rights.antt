@@ -88,9 +88,6 @@ module _ (m : Hosts) (s : Suite m) (proto : ℕ → Proto) (laws : Laws m s) (de
         (laws.move_law p q dp dq j made.given v made.next g.reached (ready_past m s next w made.acts made.next t.ready a) (record { below = g.fresh.below; stands = g.stands }))
         g.fresh.from
 
-    none_named : (h r : ℕ) → nothing h r → Kept o held h r
-    none_named h r n = absurd n
-
     -- the operands of an operation
     pub movables : (q : Proto) (ys : List SlotId) → list_all (is_binding o) ys ≡ true → Each (λ y. s.joins (proto y.0) q ≡ true) ys
         → Each (λ y. Movable m s laws proto next w (Kept o held) q (proto y.0) (held_at held y.0) (word_at c y)) ys

@@ -8,9 +8,6 @@ use Rattle.vd_choreography_coalescing.specs.Joining.{line_before, joined_lines}
 pub on_top : (old : List Line) (l : Line) → reverse (old ++ l ∷ []) ≡ l ∷ reverse old
 on_top old l = reverse-append old (l ∷ [])
 
-pub two_on_top : (old : List Line) (l k : Line) → reverse (old ++ k ∷ l ∷ []) ≡ l ∷ k ∷ reverse old
-two_on_top old l k = reverse-append old (k ∷ l ∷ [])
-
 module _ (most : ℕ) where
   -- lines before those that were joined
   abbrev pub onto : List Line → List Line → List Line
@@ -31,6 +28,3 @@ module _ (most : ℕ) where
   pub one_read : (all left rest : List Line) (l : Line) (stack new : List Line) → left ≡ rest ++ l ∷ [] → reverse new ≡ line_before most l (reverse stack)
       → onto left (reverse stack) ≡ joined_lines most all → onto rest (reverse new) ≡ joined_lines most all
   one_read all left rest l stack new is read so_far = ap (onto rest) read ∙ sym (onto_last rest l (reverse stack)) ∙ ap (λ ls. onto ls (reverse stack)) (sym is) ∙ so_far
-
-  pub all_read : (all left stack : List Line) → left ≡ [] → onto left (reverse stack) ≡ joined_lines most all → reverse stack ≡ joined_lines most all
-  all_read all left stack none so_far = ap (λ ls. onto ls (reverse stack)) (sym none) ∙ so_far

@@ -1,7 +1,7 @@
 -- One line that goes behind others, neighbour by neighbour, and all lines one after the other.
-use Rattle.std.proofs.Common.{◌≡◌, ℕ, suc, ◌+◌, ◌<◌, ◌≤◌, Bool, true, false, if◌then◌else◌, List, [], ◌∷◌, ◌++◌, length, take, drop, get_or, set, refl, sym, ap, ◌∙◌, subst, arith}
+use Rattle.std.proofs.Common.{◌≡◌, ℕ, ◌+◌, ◌<◌, ◌≤◌, true, false, if◌then◌else◌, List, [], ◌∷◌, ◌++◌, length, take, drop, get_or, set, refl, sym, ap, ◌∙◌, subst, arith}
 use Rattle.std.specs.List.{swap}
-use Rattle.std.proofs.lemmas.List.{drop_more, take-append-drop, take_all, take_more, drop_all, append-nil, length-take-le, length-append, length_push, get_or_at, set_at, append_assoc, take_at, drop_at}
+use Rattle.std.proofs.lemmas.List.{drop_more, take-append-drop, take_more, length-take-le, length-append, length_push, get_or_at, set_at, append_assoc, take_at, drop_at}
 use Rattle.std.proofs.lemmas.List.Edits.{swap_is}
 use Rattle.vd_base.specs.HostSets.{host}
 use Rattle.vd_execution.specs.declared.instructions.Line.TheVariants as line
@@ -127,12 +127,6 @@ module _ (opened : Opened) (goal : List Ranked) (size : ℕ) (lines : List Ranke
 -- ---- the whole pass
 
 module _ (opened : Opened) where
-  pub all_begun : (lines : List Ranked) (left : ℕ) → left ≡ length lines → lines ≡ take left lines ++ sorted opened (drop left lines)
-  all_begun lines left is =
-      sym (append-nil lines)
-      ∙ ap (λ l. l ++ []) (sym (take_all left lines (omega (arith, is))))
-      ∙ ap (λ l. take left lines ++ sorted opened l) (sym (drop_all left lines (omega (arith, is))))
-
   pub all_more : (old lines new : List Ranked) (left next : ℕ) → next + 1 ≡ left → left ≤ length old → lines ≡ take left old ++ sorted opened (drop left old)
       → new ≡ take next lines ++ first_inserted opened (drop next lines) → new ≡ take next old ++ sorted opened (drop next old)
   all_more old lines new left next one le is new_is =

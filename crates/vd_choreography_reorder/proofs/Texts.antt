@@ -68,9 +68,6 @@ module _ (test : Turn → Turn → Bool) where
   act_stops (suc n) x (line.For a r count ∷ ls) is = refl
   act_stops (suc n) x (line.End a ∷ ls) is = refl
 
-  each_halts : (p : Part) (ps : List Part) (mark : Part → Line) (behind : List Line) → ((q : Part) → IsMark (mark q)) → Halts (each_then (p ∷ ps) mark behind)
-  each_halts p ps mark behind is = is p
-
   module _ (far : List Line → ℕ) where
     halts_arranged : (ls : List Line) → Halts ls → Halts (arranged_lines test far ls)
     halts_arranged [] is = tt

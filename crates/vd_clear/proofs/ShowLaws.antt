@@ -4,7 +4,7 @@ use Rattle.vd_base.specs.declared.ids.HostId.{HostId}
 use Rattle.vd_execution.specs.declared.instructions.Reg.{Reg}
 use Rattle.vd_execution.specs.declared.instructions.Action.TheVariants as action
 use Rattle.vd_execution.specs.Registers.{put}
-use Rattle.vd_execution.specs.Step.{Need, Nothing, Unequal, Cursors, advanced}
+use Rattle.vd_execution.specs.Step.{Nothing, Unequal, Cursors, advanced}
 use Rattle.vd_execution.specs.World.{Tape}
 use Rattle.vd_execution.specs.Deals.{IsValidDeal}
 use Rattle.vd_execution.specs.Joint.{Host, Hosts, after_do, after_msg}
@@ -66,10 +66,6 @@ module _ (t : Tape) (deal : IsValidDeal t) (source : ℕ → ℕ → Type 0) (v 
             (λ h. (taken_bounds to 1 next known h).0) one more.leads;
         is = (more.leads.kept to.0 (next_at next to).0 fresh.below.0 (λ z. z) ∙ heard.there ∙ copies.0, more.is);
       }
-
--- a comparison of equal words changes nothing
-need_same : (b : Bool) (x y : ℕ) → Need
-need_same b x y = if b then Nothing else Unequal x y
 
 still_there : (b : Bool) (x y : ℕ) (c : Cursors) → advanced c (if b then Nothing else Unequal x y) ≡ c
 still_there true x y c = refl

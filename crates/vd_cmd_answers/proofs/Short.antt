@@ -1,5 +1,5 @@
 -- The certificate of a search within the greatest budget is short enough to be read.
-use Rattle.std.proofs.Common.{◌≡◌, ℕ, suc, ◌+◌, ◌*◌, ◌<◌, ◌≤◌, Bool, true, false, if◌then◌else◌, Option, Some, None, List, [], ◌∷◌, ◌++◌, map, length, Result, Ok, refl, sym, ap, ◌∙◌, subst, lit≤, lit<, arith, length-append}
+use Rattle.std.proofs.Common.{◌≡◌, ℕ, suc, ◌+◌, ◌*◌, ◌<◌, ◌≤◌, Bool, true, false, if◌then◌else◌, Option, Some, None, List, [], ◌∷◌, ◌++◌, map, length, Ok, sym, ap, ◌∙◌, subst, lit≤, lit<, arith, length-append}
 use Rattle.std.specs.Prelude.{codes, decimal, flat_map}
 use Rattle.std.specs.List.{AllByRecursion}
 use Rattle.std.proofs.Math.Nat.{mul-suc, mul-zero, mul-le-mul_right}
@@ -93,9 +93,6 @@ number_short n le = length-decimal-le 10 n (lit< tt) (omega (arith, le)) (omega 
 
 both_short : (xs ys : List ℕ) (m n : ℕ) → length xs ≤ m → length ys ≤ n → length (xs ++ ys) ≤ m + n
 both_short xs ys m n first second = let size = length-append xs ys in omega (arith, size, first, second)
-
-one_more : (x : ℕ) (xs : List ℕ) (n : ℕ) → length xs ≤ n → length (x ∷ xs) ≤ suc n
-one_more x xs n le = omega (arith, le)
 
 shift_short : (shift : Shift) → IsShift shift → length (shift_text shift) ≤ 46
 shift_short shift is =

@@ -47,10 +47,6 @@ module _ (program : NormalForm) (text prefix : List ℕ) where
         stores = is ∙ (λ i. host_files prefix (f i).hosts (digest i) 0 (codes i));
       }
 
-  -- where no list of protocols is valid, nothing ended
-  pub none_stored : (answer : Answer) → answer ≡ no_list → TellsPrograms program text prefix (Ok answer)
-  none_stored answer none e = let status = ap (λ (a : Answer). a.status) none in absurd (cc status)
-
 -- nor of a source
 pub none_told : (source : Source) (text prefix : List ℕ) (answer : Answer) → answer ≡ no_list → TellsTree source text prefix (Ok answer)
 none_told source text prefix answer none e = let status = ap (λ (a : Answer). a.status) none in absurd (cc status)

@@ -1,2 +1,1 @@
-mod Deals
 mod Speakers

@@ -1,5 +1,5 @@
 -- The steps in which a command reads its texts.
-use Rattle.std.proofs.Common.{◌⊎◌, inl, inr, ◌≡◌, ℕ, List, Result, Ok, Err, refl, sym, ap, subst}
+use Rattle.std.proofs.Common.{◌⊎◌, inl, inr, ◌≡◌, ℕ, List, Result, Ok, Err, refl, ap, subst}
 use Rattle.vd_base.specs.Limits.{most_source_bytes, most_inputs_bytes}
 use Rattle.vd_outside.specs.Files.{FilesView}
 use Rattle.vd_core.specs.declared.source.Source.{Source}
@@ -11,8 +11,7 @@ use Rattle.vd_parser.proofs.OutcomeTotal.{parses_somehow}
 use Rattle.vd_labels_least.proofs.Function.{labelling_of, labelling_is}
 use Rattle.vd_report.proofs.InputsFaults.{follows_grammar}
 use Rattle.vd_report.specs.Inputs.{inputs_read}
-use Rattle.vd_report.specs.InputsText.{GivesInputs, IsInputsText, InputsFollowGrammar}
-use Rattle.vd_report.specs.Outcome.{Accepts, Refuses, FirstWrong}
+use Rattle.vd_report.specs.InputsText.{InputsFollowGrammar}
 use Rattle.vd_report.specs.declared.fault.ReadFault.{ReadFault}
 use Rattle.vd_report.specs.declared.fault.ReadFault.TheVariants as read_fault
 use Rattle.vd_cmd_plan.specs.declared.status.Status.{Status}
@@ -20,7 +19,7 @@ use Rattle.vd_cmd_plan.specs.Plans.{Checks, ExecutesStep, file_then, check_then}
 use Rattle.vd_cmd_plan.specs.Loads.{Loads}
 use Rattle.vd_cmd_frontend.specs.Outcomes.{TextOutcomes, LabelOutcomes, IsInputs}
 use Rattle.vd_cmd_frontend.specs.Sources.{as_source, source_of, tree_then, resolved_of, source_then}
-use Rattle.vd_cmd_frontend.specs.Inputs.{as_inputs, words_of, inputs_then}
+use Rattle.vd_cmd_frontend.specs.Inputs.{words_of, inputs_then}
 use Rattle.vd_cmd_plan.proofs.InSteps.{load_step, check_step, both_steps, first_step}
 
 pub tree_err : (texts : TextOutcomes) (name : List ℕ) (before now : FilesView) (status : Status) → Loads name most_source_bytes before now (Err status) → ExecutesStep {T = Source} (tree_then texts name) before now (Err status)
@@ -57,15 +56,6 @@ source_ok texts name tree before now result step c = both_steps (tree_then texts
 pub parsed : (texts : TextOutcomes) (name bytes : List ℕ) (result : Result Source ParseFault) → (result ≡ Err parse_fault.Memory) ⊎ IsParse bytes result → (result ≡ Err parse_fault.Memory → ⊥) → source_of texts name bytes ≡ as_source name result
 parsed texts name bytes result (inl memory) other = absurd (other memory)
 parsed texts name bytes result (inr is) other = ap (as_source name) (parses_once bytes (texts.parse bytes) result (texts.parse_is bytes) is)
-
--- the one outcome of an inputs file is the one that was answered
-pub read : (texts : TextOutcomes) (hosts : List (List ℕ)) (bytes : List ℕ) (result : Result (List (List ℕ)) ReadFault) → (result ≡ Err read_fault.Memory → ⊥)
-    → Accepts result (GivesInputs hosts bytes) → Refuses result (FirstWrong IsInputsText hosts bytes) → words_of texts hosts bytes ≡ as_inputs result
-read texts hosts bytes result other accepts refuses = ap as_inputs (sym (same (texts.inputs hosts bytes) (texts.inputs_is hosts bytes)))
-  where
-    same : (said : Result (List (List ℕ)) ReadFault) → IsInputs hosts bytes said → result ≡ said
-    same (Ok inputs) is = (accepts other inputs).1 is
-    same (Err fault) is = (refuses other fault).1 is
 
 -- what an inputs file says is its outcome
 is_read : (hosts : List (List ℕ)) (bytes : List ℕ) → InputsFollowGrammar hosts bytes → (said : Result (List (List ℕ)) ReadFault) → inputs_read hosts bytes ≡ said → IsInputs hosts bytes said

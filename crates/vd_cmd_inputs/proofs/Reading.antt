@@ -1,5 +1,5 @@
 -- The steps in which the command reads deals and a schedule.
-use Rattle.std.proofs.Common.{◌≡◌, ℕ, ◌<◌, ◌≤◌, List, IfOk, Result, Ok, Err, refl, sym, ap, subst, codes}
+use Rattle.std.proofs.Common.{◌≡◌, ℕ, ◌<◌, ◌≤◌, List, IfOk, Result, Ok, Err, refl, ap, subst, codes}
 use Rattle.vd_base.specs.Limits.{most_deal_bytes, most_hosts, most_schedule_bytes}
 use Rattle.vd_outside.specs.Files.{FilesView}
 use Rattle.vd_base_codec.specs.Reading.{capped}
@@ -7,11 +7,8 @@ use Rattle.vd_deal_items.specs.declared.deal.Deal.{Deal}
 use Rattle.vd_base.specs.declared.faults.FileFault.{FileFault}
 use Rattle.vd_base.specs.declared.faults.FileFault.TheVariants as file_fault
 use Rattle.vd_deal_versions.specs.Plain.{Accepts, Refuses}
-use Rattle.vd_report.specs.Outcome.{FirstWrong, Accepts as TextAccepts, Refuses as TextRefuses}
-use Rattle.vd_report.specs.declared.fault.ReadFault.{ReadFault}
 use Rattle.vd_report.specs.declared.fault.ReadFault.TheVariants as read_fault
 use Rattle.vd_report.specs.declared.schedule.Schedule.{Schedule}
-use Rattle.vd_report.specs.ScheduleText.{GivesSchedule, IsScheduleText}
 use Rattle.vd_cmd_plan.specs.Held.{Finds, IsHeld}
 use Rattle.vd_cmd_plan.specs.Loads.{Loads}
 use Rattle.vd_cmd_plan.specs.Numbered.{file_name}
@@ -20,9 +17,9 @@ use Rattle.vd_cmd_plan.specs.declared.status.Status.{Status}
 use Rattle.vd_cmd_plan.specs.declared.status.Status.TheVariants.{DealText}
 use Rattle.vd_cmd_plan.proofs.Finding.{loaded_is}
 use Rattle.vd_cmd_plan.proofs.InSteps.{both_steps, check_step, first_step, load_step}
-use Rattle.vd_report_outcomes.specs.Outcomes.{IsDealRead, IsScheduleRead, ReplayOutcomes}
+use Rattle.vd_report_outcomes.specs.Outcomes.{IsDealRead, ReplayOutcomes}
 use Rattle.vd_cmd_inputs.specs.Deals.{as_deal, deal_of, deal_then}
-use Rattle.vd_cmd_inputs.specs.Schedules.{as_schedule, schedule_of, schedule_then}
+use Rattle.vd_cmd_inputs.specs.Schedules.{schedule_of, schedule_then}
 
 -- what was read of a file is what the file says
 pub found : {T : Type 0} (name file : List ℕ) (limit : ℕ) (before now : FilesView) (bytes seen : List ℕ) (result : Result T Status) (Is : List ℕ → T → Type 0) → file ≡ name → Loads file limit before now (Ok bytes) → seen ≡ bytes
@@ -93,12 +90,3 @@ unfolding schedule_then
 schedule_ok outcomes name hosts bytes seen before now result l is c =
     both_steps (file_then name most_schedule_bytes) (λ b. check_then (schedule_of outcomes hosts b)) before now now bytes result (load_step name most_schedule_bytes before now (Ok bytes) l)
     (check_step (schedule_of outcomes hosts bytes) now result (subst (λ (b : List ℕ). Checks (schedule_of outcomes hosts b) result) is c))
-
--- the one outcome of a schedule is the one that was answered
-pub schedule_answered : (outcomes : ReplayOutcomes) (hosts : List (List ℕ)) (bytes : List ℕ) (result : Result Schedule ReadFault) → (result ≡ Err read_fault.Memory → ⊥)
-    → TextAccepts result (GivesSchedule hosts bytes) → TextRefuses result (FirstWrong IsScheduleText hosts bytes) → schedule_of outcomes hosts bytes ≡ as_schedule result
-schedule_answered outcomes hosts bytes result other accepts refuses = ap as_schedule (sym (same (outcomes.schedule hosts bytes) (outcomes.schedule_is hosts bytes)))
-  where
-    same : (said : Result Schedule ReadFault) → IsScheduleRead hosts bytes said → result ≡ said
-    same (Ok schedule) is = (accepts other schedule).1 is
-    same (Err fault) is = (refuses other fault).1 is

@@ -14,9 +14,6 @@ unfolding file_then
 load_step name limit before now (Ok bytes) g = λ rest last result w. load_ok name limit rest before now last bytes result g w
 load_step name limit before now (Err status) g = λ rest. load_err name limit rest before now status g
 
-refused_executes : (now : FilesView) (wanted : Status) → Computes (refused wanted) (Err wanted) → Executes true (λ files. only (refused wanted)) now now (Err wanted)
-refused_executes now wanted c = computes (refused wanted) now (Err wanted) c
-
 check_ok : {T : Type 0} (wanted : Result T Status) (value : T) → wanted ≡ Ok value → (rest : T → Contents → Plan) → check_then wanted rest ≡ rest value
 unfolding check_then
 check_ok wanted value is rest = rw is

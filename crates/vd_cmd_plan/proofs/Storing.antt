@@ -1,6 +1,6 @@
 -- One store after others.
 use Rattle.std.proofs.Common.{◌≡◌, inr, ℕ, false, List, [], ◌∷◌, ◌++◌, length, take, drop, get_or, ◌+◌, ◌<◌, Some, Ok, Err, IsTrue, refl, sym, ◌∙◌, ap, subst, append_assoc, arith}
-use Rattle.std.proofs.lemmas.List.{append-nil, take-append-drop}
+use Rattle.std.proofs.lemmas.List.{take-append-drop}
 use Rattle.std.proofs.lemmas.Grind.{take_at_read}
 use Rattle.std.specs.Str.{bytes_eq}
 use Rattle.vd_outside.specs.Files.{FilesView, Contents, with_content}
@@ -10,7 +10,7 @@ use Rattle.vd_cmd_plan.specs.declared.status.Status.{Status}
 use Rattle.vd_cmd_plan.specs.declared.status.Status.TheVariants.{Memory, WriteFault}
 use Rattle.vd_outside.specs.declared.stored.Stored.{Stored}
 use Rattle.vd_cmd_plan.specs.Plans.{GrowsWithin}
-use Rattle.vd_cmd_plan.proofs.Fronts.{same_within, front_within, all_within, later_within}
+use Rattle.vd_cmd_plan.proofs.Fronts.{front_within, all_within, later_within}
 use Rattle.vd_cmd_plan.specs.Deliver.{StoresOne, StoresAll, stored, store_calls, IsOpenAt}
 
 store_calls-append : (xs ys : List Stored) → store_calls (xs ++ ys) ≡ store_calls xs ++ store_calls ys
@@ -24,19 +24,6 @@ stored-append (x ∷ xs) ys files = stored-append xs ys (with_content files x.na
 take_front : (xs ys : List Stored) → take (length xs) (xs ++ ys) ≡ xs
 take_front [] ys = refl
 take_front (x ∷ xs) ys = ap (λ (l : List Stored). x ∷ l) (take_front xs ys)
-
-pub stores_none : (now : FilesView) → StoresAll [] now now (Ok tt)
-stores_none now = record {
-  later = omega arith;
-  ends = tt;
-  fault = λ e. absurd (cc e);
-  last = λ t e. absurd (cc e);
-  still_told = λ t. t;
-  front = λ t. same_within now.asked now.asked [] refl;
-  whole = λ t. sym (append-nil now.asked);
-  contents = λ t. refl;
-  part = λ t. tt;
-}
 
 asked_more : (xs : List Stored) (p : Stored) (zs : List Stored) (before mid : List FilesCall) → mid ≡ before ++ store_calls xs → mid ++ Store p.name ∷ store_calls zs ≡ before ++ store_calls (xs ++ p ∷ zs)
 asked_more xs p zs before mid is =

@@ -1,11 +1,8 @@
 -- Lists that grow in loops.
-use Rattle.std.proofs.Common.{arith, ◌≡◌, ◌+◌, ◌<◌, ℕ, List, [], ◌∷◌, ◌++◌, length, map, take, get_or, add-one, append_assoc, sym, ap, ap₂, ◌∙◌}
+use Rattle.std.proofs.Common.{arith, ◌≡◌, ◌+◌, ℕ, List, [], ◌∷◌, ◌++◌, map, add-one, append_assoc, sym, ap, ap₂, ◌∙◌}
 use Rattle.std.specs.List.{range_with_len}
-use Rattle.std.proofs.lemmas.List.{map-append, take_more}
 use Rattle.std.proofs.lemmas.List.FromFn.{map-range_with_len_more}
-use Rattle.vd_report.specs.declared.reports.HostLine.{HostLine}
 use Rattle.vd_cmd_run.specs.CommandLines.{meeting, meetings}
-use Rattle.vd_cmd_run.specs.EndedLines.{ended_line}
 
 -- one more of a function's values
 pub grows : {X : Type 0} (f : ℕ → X) (n : ℕ) (items more : List X) (item : X) → items ≡ map f (range_with_len 0 n) → item ≡ f n → more ≡ items ++ item ∷ [] → more ≡ map f (range_with_len 0 (n + 1))
@@ -16,10 +13,3 @@ pub meetings_more : (port me peer : ℕ) (first words more : List (List ℕ)) �
 meetings_more port me peer first words more so_far added =
     added ∙ ap (λ (l : List (List ℕ)). l ++ meeting port me peer) so_far ∙ append_assoc first (meetings port me peer) (meeting port me peer)
     ∙ ap (λ (n : ℕ). first ++ meetings port me n) (sym (add-one peer))
-
--- the lines with one host more
-pub lines_more : (printed : List (List ℕ)) (place : ℕ) (words : List ℕ) (lines more : List HostLine) (line : HostLine) → place < length printed → words ≡ get_or printed place words
-    → lines ≡ map ended_line (take place printed) → line ≡ ended_line words → more ≡ lines ++ line ∷ [] → more ≡ map ended_line (take (place + 1) printed)
-lines_more printed place words lines more line less at so_far is pushed =
-    pushed ∙ ap₂ (λ front last. front ++ last ∷ []) so_far is ∙ sym (map-append ended_line (take place printed) (words ∷ []))
-    ∙ ap (λ (l : List (List ℕ)). map ended_line l) (ap (λ (w : List ℕ). take place printed ++ w ∷ []) at ∙ sym (take_more printed place words less))

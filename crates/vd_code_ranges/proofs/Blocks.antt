@@ -301,9 +301,6 @@ module _ (hosts N : ℕ) (proto : ℕ → Proto) (known : (x : ℕ) → IsKnown 
   simple rest goes p q one a n f more most =
       then_fits 0 (size rest) (1 + size rest) a n one ((emission_of rest).emit one.state) (omega arith) (omega arith) f (goes p q one.state a n f.state more most)
 
-  below_all : (m c n : ℕ) → m + 2560 + c ≤ n → n < N → m + 2560 < N
-  below_all m c n le lt = omega (arith, le, lt)
-
   regroup : (m c n : ℕ) → m + (2560 + c) ≤ n → m + 2560 + c ≤ n
   regroup m c n le = omega (arith, le)
 

@@ -1,10 +1,10 @@
 -- Committing binds a host to a word.
-use Rattle.std.proofs.Common.{◌≡◌, ◌≢◌, ℕ, ◌+◌, ◌<◌, ◌≤◌, List, [], ◌∷◌, ◌++◌, length, refl, sym, ap, ap₂, subst, ◌∙◌, arith}
+use Rattle.std.proofs.Common.{◌≡◌, ◌≢◌, ℕ, ◌+◌, ◌<◌, List, length, refl, sym, ap, ap₂, subst, ◌∙◌, arith}
 use Rattle.std.specs.Prelude.{slice_index}
 use Rattle.vd_base.specs.declared.ids.HostId.{HostId}
 use Rattle.vd_execution.specs.declared.instructions.Reg.{Reg}
 use Rattle.vd_execution.specs.declared.instructions.Action.TheVariants as action
-use Rattle.vd_execution.specs.Registers.{words_from, digest_of, nth}
+use Rattle.vd_execution.specs.Registers.{words_from, digest_of}
 use Rattle.vd_execution.specs.Step.{words_in}
 use Rattle.vd_execution.specs.World.{Tape}
 use Rattle.vd_execution.specs.Joint.{Hosts, after_do, after_msg}
@@ -15,7 +15,7 @@ use Rattle.vd_execution.proofs.Gadgets.{gadgets_sound}
 use Rattle.vd_duet.specs.Builder.{taken}
 use Rattle.vd_duet.specs.Calls.{Made}
 use Rattle.vd_duet.proofs.Leads.{taken_known, taken_there, taken_other, taken_bounds}
-use Rattle.vd_backend_sharing.proofs.Adds.{Adds, adds_on}
+use Rattle.vd_backend_sharing.proofs.Adds.{Adds}
 use Rattle.vd_commit.specs.declared.ends.Held.{Held}
 use Rattle.vd_commit.specs.declared.ends.Seen.{Seen}
 use Rattle.vd_commit.specs.Commit.{eight, own_each, committing, committed}
@@ -23,9 +23,6 @@ use Rattle.vd_commit.specs.Law.{IsCommitted, AreReady, LeadsTo}
 use Rattle.vd_commit.proofs.Rows.{eight_row, words_alike, words_are, said_from, own_adds, digest_count, hash_adds, tell_adds, keeps}
 
 module _ (p v : HostId) (t : Tape) (next : List ℕ) (w : Hosts) (ready : AreReady p v t next w) (x : Reg) (low : x.0 < slice_index next p.0) where
-  abbrev after_next : List ℕ
-  after_next = taken v 8 (taken p 16 next)
-
   abbrev made_at : ℕ → Made (Held × Seen)
   made_at m = record {
     given = (record { value = x; nonce = register (slice_index next p.0) }, record { digest = register m });

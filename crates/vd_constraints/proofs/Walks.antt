@@ -1,5 +1,5 @@
 -- The steps of the walk over a program: systems that grow, and statements that name declared slots.
-use Rattle.std.proofs.Common.{◌≡◌, ℕ, zero, suc, ◌+◌, ◌<◌, Bool, ◌&&◌, List, [], ◌∷◌, length, get_or, map, refl, sym, ap, ◌∙◌, subst, arith, rules}
+use Rattle.std.proofs.Common.{◌≡◌, ℕ, zero, suc, ◌+◌, ◌<◌, Bool, ◌&&◌, List, [], ◌∷◌, length, get_or, map, sym, ap, ◌∙◌, subst, arith, rules}
 use Rattle.std.specs.Prelude.{IsTrue}
 use Rattle.std.specs.List.{list_all}
 use Rattle.std.proofs.lemmas.Bool.{and_parts}
@@ -17,9 +17,6 @@ use Rattle.vd_constraints.specs.declared.system.Place.TheVariants.{Slot, Block}
 use Rattle.vd_constraints.specs.Rules.{stmt_step, with_branch, with_stmt, with_body}
 use Rattle.vd_constraints.specs.Scoped.{is_below, slots_below, block_below}
 use Rattle.vd_constraints.proofs.Kept.{more_places}
-
-pub extends-refl : (s : Constraints) → Extends s s
-extends-refl s = record { principals = refl; slots = refl; blocks = omega arith }
 
 pub extends-trans : (s t u : Constraints) → Extends s t → Extends t u → Extends s u
 extends-trans s t u first second = record {

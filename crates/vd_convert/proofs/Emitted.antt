@@ -1,5 +1,5 @@
 -- The code of conversions, call by call.
-use Rattle.std.proofs.Common.{◌≡◌, ℕ, List, [], ◌∷◌, ◌++◌, sym, ap, ap₂, subst, ◌∙◌, append_assoc}
+use Rattle.std.proofs.Common.{◌≡◌, List, [], ◌∷◌, ◌++◌, sym, ap, ap₂, ◌∙◌, append_assoc}
 use Rattle.vd_base.specs.declared.ids.HostId.{HostId}
 use Rattle.vd_base.specs.declared.operations.Op.TheVariants as op
 use Rattle.vd_execution.specs.declared.instructions.Line.{Line}
@@ -11,7 +11,7 @@ use Rattle.vd_backend_sharing.specs.declared.shares.Shares.{Shares}
 use Rattle.vd_backend_sharing.specs.declared.shares.Sharing.TheVariants as way
 use Rattle.vd_backend_sharing.specs.PairCalls.{shares_of, places_at}
 use Rattle.vd_bits.specs.BitCalls.{computed}
-use Rattle.vd_convert.specs.Convert.{masked_parts, drawn, finished, to_xor_made, to_add_made}
+use Rattle.vd_convert.specs.Convert.{drawn, finished, to_add_made}
 
 -- one call and then another
 pub both_called : {X Y : Type 0} (one : Made X) (more : Made Y) (c : Builder)
@@ -19,16 +19,6 @@ pub both_called : {X Y : Type 0} (one : Made X) (more : Made Y) (c : Builder)
 both_called one more c =
     ap (λ (l : List Line). let p : _ × Builder = (more.given, record { lines = l; next = more.next }) in p)
     (append_assoc c.lines _ _ ∙ ap (λ (l : List Line). c.lines ++ l) (sym (emitted_append one.gadgets more.gadgets)))
-
-pub to_xor_code : (a b : HostId) (x : Places) (one other y z v : Places) (p q : Shares) (c c1 c2 : Builder) → ((p, q), c1) ≡ called (masked_parts a b (shares_of x) c.next) c
-    → one ≡ places_at a b p → other ≡ places_at a b q → (v, c2) ≡ called (computed a b op.Add (one ∷ other ∷ []) c1.next) c1
-    → (v, c2) ≡ called (to_xor_made a b x c.next) c
-to_xor_code a b x one other y z v p q c c1 c2 e f g h =
-    h ∙ ap (λ (l : Places). called (computed a b op.Add (l ∷ other ∷ []) c1.next) c1) f
-    ∙ ap (λ (l : Places). called (computed a b op.Add (places_at a b p ∷ l ∷ []) c1.next) c1) g
-    ∙ ap (λ (s : (Shares × Shares) × Builder). called (computed a b op.Add (places_at a b s.0.0 ∷ places_at a b s.0.1 ∷ []) s.1.next) s.1) e
-    ∙ both_called (masked_parts a b (shares_of x) c.next)
-    (computed a b op.Add (places_at a b (masked_parts a b (shares_of x) c.next).given.0 ∷ places_at a b (masked_parts a b (shares_of x) c.next).given.1 ∷ []) (masked_parts a b (shares_of x) c.next).next) c
 
 pub to_add_code : (a b : HostId) (x : Places) (word rest v : Places) (p q r : Shares) (c c1 c2 c3 : Builder) → ((p, q), c1) ≡ called (drawn a b (shares_of x) c.next) c
     → word ≡ places_at a b q → (rest, c2) ≡ called (computed a b op.Sub (x ∷ word ∷ []) c1.next) c1 → (r, c3) ≡ called (finished a b (shares_of rest) p c2.next) c2

@@ -1,6 +1,5 @@
 -- A word shared by sums becomes one shared by exclusive or.
-use Rattle.std.proofs.Common.{◌≡◌, ◌≢◌, ℕ, ◌+◌, ◌%◌, ◌^◌, ◌<◌, ◌≤◌, List, [], ◌∷◌, ◌++◌, ◌⊎◌, inl, inr, length, refl, sym, ap, ap₂, subst, ◌∙◌, arith, lit≤, bit_xor}
-use Rattle.std.specs.Prelude.{slice_index}
+use Rattle.std.proofs.Common.{◌≡◌, ◌≢◌, ℕ, ◌+◌, ◌≤◌, List, [], ◌∷◌, ◌++◌, inl, inr, refl, ap₂, subst, ◌∙◌, arith, lit≤, bit_xor}
 use Rattle.vd_base.specs.declared.ids.HostId.{HostId}
 use Rattle.vd_base.specs.declared.operations.Op.TheVariants as op
 use Rattle.vd_execution.specs.declared.instructions.Binary.TheVariants as binary
@@ -9,14 +8,13 @@ use Rattle.vd_execution.specs.World.{Tape}
 use Rattle.vd_execution.specs.Gadgets.{BySums, ByXors}
 use Rattle.vd_duet.specs.Builder.{most_taken}
 use Rattle.vd_duet.specs.Calls.{Places, Made}
-use Rattle.vd_duet.specs.Laws.{IsIn, IsInOne, AreBelow, Gives, GivesWord, StandFor, Operand, IsReady}
-use Rattle.vd_duet.proofs.Leads.{Since}
+use Rattle.vd_duet.specs.Laws.{IsIn, IsInOne, Gives, GivesWord, StandFor, Operand, IsReady}
 use Rattle.vd_backend_algebra.proofs.Parts.{taken_off, put_on}
 use Rattle.vd_backend_sharing.specs.declared.shares.Shares.{Shares}
 use Rattle.vd_backend_sharing.specs.PairCalls.{two, shares_of, places_at}
 use Rattle.vd_backend_sharing.proofs.Deeds.{First, Second, Old, New, BothGive, Applied, nothing_left, own_word}
 use Rattle.vd_backend_sharing.proofs.Fresh.{pair_at, fresh_gives}
-use Rattle.vd_backend_sharing.proofs.Parts.{Parts, parts_of, parts_named, both_known, stands_by}
+use Rattle.vd_backend_sharing.proofs.Parts.{Parts, parts_of, both_known, stands_by}
 use Rattle.vd_backend_sharing.proofs.Chains.{gives_then}
 use Rattle.vd_words.specs.AddCalls.{add_serves, add_apply, add_calls}
 use Rattle.vd_bits.specs.BitCalls.{circuit_shares, computed, bit_serves, bit_calls}
@@ -39,9 +37,6 @@ either_word a b p q h r (inr (inr i)) = absurd i
 
 module _ (a b : HostId) (apart : a.0 ≢ b.0) (t : Tape) (next : List ℕ) (w : Hosts) (ready : IsReady (add_calls a b) t next w) (x : Places) (v : ℕ)
     (o : Operand (add_calls a b) next w x v) where
-  first_part : ℕ
-  first_part = (w a.0).registers (shares_of x).first.0
-
   abbrev words_there : List ℕ → Made Places
   words_there n = record {
     given = places_at a b (masked_parts a b (shares_of x) next).given.0 ++ places_at a b (masked_parts a b (shares_of x) next).given.1;

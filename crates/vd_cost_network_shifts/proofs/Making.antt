@@ -1,8 +1,7 @@
 -- Lists of shifts that grow, and those that are a problem's.
-use Rattle.std.proofs.Common.{◌≡◌, ℕ, zero, suc, ◌+◌, add-one, ◌<◌, ◌≤◌, Bool, true, Option, Result, Ok, Err, List, [], ◌∷◌, ◌++◌, length, get_or, refl, sym, ap, ◌∙◌, subst, arith, ℤ, pos, negsuc}
-use Rattle.std.specs.Prelude.{IfOk, IfSome, OnOk, Vec, int_lt, nat_abs, vec_items}
+use Rattle.std.proofs.Common.{◌≡◌, ℕ, zero, suc, ◌+◌, add-one, ◌<◌, Bool, Option, Result, Ok, Err, List, [], ◌∷◌, ◌++◌, length, get_or, refl, sym, ap, ◌∙◌, subst, arith, ℤ, pos}
+use Rattle.std.specs.Prelude.{IfOk, IfSome, OnOk, Vec, vec_items}
 use Rattle.std.specs.List.{flat_map, range_with_len}
-use Rattle.std.proofs.lemmas.Bool.{lt-ltb}
 use Rattle.std.proofs.lemmas.Grind.{flat_map-append}
 use Rattle.std.proofs.lemmas.List.{append_assoc, append-nil}
 use Rattle.vd_search_tree.specs.declared.shift.Shift.{Shift}
@@ -10,7 +9,7 @@ use Rattle.vd_space.specs.declared.problem.Problem.{Problem}
 use Rattle.vd_space.specs.Validity.{protocols}
 use Rattle.vd_cost_network.specs.Links.{links}
 use Rattle.vd_cost_network_sweeps.specs.Rows.{row_in, row_of}
-use Rattle.vd_cost_network_shifts.specs.Shifts.{Adds, AreLinkShifts, AreShiftsOf, Puts, PutsRow, link_shifts, net_shifts, row_shifts, shift_by, shift_to}
+use Rattle.vd_cost_network_shifts.specs.Shifts.{Adds, AreLinkShifts, AreShiftsOf, Puts, PutsRow, link_shifts, net_shifts, row_shifts, shift_to}
 
 -- a place more, where the first of at least so many places are reached
 pub next_place : (at place places : ℕ) (before between after : List Shift) → place < places → PutsRow at place before between → Puts at place between after → PutsRow at places before after
@@ -70,14 +69,6 @@ adds_both firsts seconds places at first second before between after (Err cause)
 -- a row of a table
 pub in_rows : {Y Z : Type 0} (rows : Vec (Vec ℤ Z) Y) (slice : List (Vec ℤ Z)) (row : List ℤ) (at : ℕ) → row ≡ row_in slice at → slice ≡ vec_items rows → row ≡ row_of rows at
 in_rows rows slice row at is same = is ∙ ap (λ (all : List (Vec ℤ _)). row_in all at) same
-
--- a shift of an amount that is not 0
-pub some_shift : (at side place : ℕ) (amount : ℤ) (add : Bool) (size : ℕ) → 1 ≤ size → add ≡ int_lt (pos 0) amount → size ≡ nat_abs amount → shift_to at side place amount ≡ shift_by at side place add size ∷ []
-some_shift at side place (pos zero) add size some is_add is_size = absurd (omega (arith, some, is_size))
-some_shift at side place (pos (suc n)) add size some is_add is_size =
-    let positive : add ≡ true = is_add ∙ lt-ltb 0 (suc n) (omega arith) in
-    λ i. shift_by at side place (sym positive i) (sym is_size i) ∷ []
-some_shift at side place (negsuc n) add size some is_add is_size = λ i. shift_by at side place (sym is_add i) (sym is_size i) ∷ []
 
 -- two rows of a link, one after the other
 pub puts_both : {T E : Type 0} (result : Result T E) (at places : ℕ) (before between after : List Shift) → PutsRow at places before between → OnOk result (PutsRow at places between after) → OnOk result (PutsRow at places before after)

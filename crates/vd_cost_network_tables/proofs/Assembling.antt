@@ -1,7 +1,7 @@
 -- What all tables are made with: the settings of points, and few of everything.
-use Rattle.std.proofs.Common.{◌≡◌, ℕ, ◌+◌, ◌-◌, ◌*◌, ◌<◌, ◌≤◌, Bool, true, List, [], ◌∷◌, ◌++◌, length, replicate, get_or, refl, sym, ap, ap₂, ◌∙◌, subst, arith, inl, inr, append_assoc, length-append}
+use Rattle.std.proofs.Common.{◌≡◌, ℕ, ◌+◌, ◌-◌, ◌*◌, ◌<◌, ◌≤◌, Bool, true, List, [], ◌∷◌, ◌++◌, length, replicate, get_or, refl, sym, ap, ◌∙◌, subst, arith, inl, inr, length-append}
 use Rattle.std.proofs.lemmas.Bool.{cases_lt}
-use Rattle.std.proofs.lemmas.List.{get_or_append_left, get_or_past, get_or-append_right, get_or-replicate, length-map, length-replicate, replicate_more}
+use Rattle.std.proofs.lemmas.List.{get_or_append_left, get_or_past, get_or-append_right, get_or-replicate, length-map, length-replicate}
 use Rattle.std.proofs.lemmas.List.FromFn.{fill_by_all, length-range_with_len}
 use Rattle.std.proofs.lemmas.Option.{slice_get_past}
 use Rattle.std.specs.Option.{option_map_or}
@@ -29,13 +29,6 @@ use Rattle.vd_cost_network_tables.specs.Tables.{switch_table, switch_tables_at, 
 
 abbrev two : List Bool
 two = true ∷ true ∷ []
-
-pub settings_more : (front settings more : List (List Bool)) (row : List Bool) (i : ℕ) → settings ≡ front ++ replicate i two → row ≡ two → more ≡ settings ++ row ∷ [] → more ≡ front ++ replicate (i + 1) two
-settings_more front settings more row i so_far is pushed =
-    pushed
-    ∙ ap₂ (λ (xs : List (List Bool)) (last : List Bool). xs ++ last ∷ []) so_far is
-    ∙ append_assoc front (replicate i two) (two ∷ [])
-    ∙ ap (λ back. front ++ back) (replicate_more i two)
 
 module _ (problem : Problem) where
   abbrev places : ℕ → List Bool

@@ -40,13 +40,3 @@ triple_at items i = unwrap_or (slice_get items i) zero_triple
 
 abbrev pub pair_at : List PairItem → ℕ → PairItem
 pair_at items i = unwrap_or (slice_get items i) zero_pair
-
--- each item of the two lists meets its identity
-abbrev pub MulListsMeet : List Triple → List Triple → Type 0
-MulListsMeet ps qs = (i : ℕ) → MeetsMul (triple_at ps i) (triple_at qs i)
-
-abbrev pub AndListsMeet : List Triple → List Triple → Type 0
-AndListsMeet ps qs = (i : ℕ) → MeetsAnd (triple_at ps i) (triple_at qs i)
-
-abbrev pub PairListsMeet : List PairItem → List PairItem → Type 0
-PairListsMeet ps qs = (i : ℕ) → MeetsPair (pair_at ps i) (pair_at qs i)

@@ -57,11 +57,6 @@ all_linked me front count i bytes total le so_far =
     let here : with_front front (linked_at me i (count - i) bytes) ≡ Ok (front, bytes) = rw k (ap (λ (f : Linked). Ok (f, bytes)) e) in
     sym so_far ∙ here
 
-pub first_linked : (me count : ℕ) (bytes : List ℕ) → with_front no_links (linked_at me 0 (count - 0) bytes) ≡ linked_at me 0 count bytes
-first_linked me count bytes =
-    let k : count - 0 ≡ count = omega arith in
-    rw k (elim (linked_at me 0 count bytes) as (λ r. with_front no_links r ≡ r) [ Ok x ↦ refl | Err left ↦ refl ])
-
 pub one_fault : (why : ReadFault) (me : ℕ) (front : Linked) (count i : ℕ) (bytes left : List ℕ) (total : Reading Linked) → i < count → StopsOrMemory why left (one_at (peer_at me i) bytes)
     → with_front front (linked_at me i (count - i) bytes) ≡ total → StopsOrMemory why left total
 one_fault fault.Stopped me front count i bytes left total lt h so_far = no_one me front count i bytes left total lt h so_far

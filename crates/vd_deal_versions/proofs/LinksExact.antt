@@ -2,7 +2,7 @@
 use Rattle.std.proofs.Common.{◌≡◌, ℕ, zero, suc, ◌+◌, List, [], ◌∷◌, ◌++◌, length, Ok, refl, sym, ap, ◌∙◌, append_assoc, arith}
 use Rattle.std.specs.Prelude.{codes}
 use Rattle.std.proofs.lemmas.List.{append-nil}
-use Rattle.vd_base_codec.specs.Reading.{Reading, ◌>>=◌, byte_at, field}
+use Rattle.vd_base_codec.specs.Reading.{◌>>=◌, byte_at}
 use Rattle.vd_base_codec.specs.Exact.{IsAnything, IsExact}
 use Rattle.vd_base_codec.proofs.Parts.{done_exact, byte_exact, Picks, then_exact, AreEach, head_or, tail, same_cons, exact_as}
 use Rattle.vd_deal_items.specs.declared.items.Triple.{Triple}
@@ -75,9 +75,6 @@ same_one x link share l s = ap (λ k. one_of k x.share) l ∙ ap (one_of link) s
 
 no_share : (s : Share) × FitsShare s
 no_share = (share_of [] [] [], (none_fits AreTripleWords, none_fits AreTripleWords, none_fits ArePairWords))
-
-some_one : (x : LinkedShare) × FitsOne x
-some_one = (one_of some_link no_share.0, (some_key.1, no_share.1))
 
 picks_link : (peer : ℕ) → Picks IsAnything FitsLink (link_text peer) IsAnything FitsOne (one_text peer) (λ (x : LinkedShare). text_of peer x.share) (λ (x : LinkedShare). x.link)
 picks_link peer = record {

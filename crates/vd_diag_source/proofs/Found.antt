@@ -1,9 +1,8 @@
 -- The refused token and those before it.
-use Rattle.std.proofs.Common.{◌≡◌, ◌≢◌, ℕ, suc, ◌+◌, ◌<◌, ◌≤◌, List, [], ◌∷◌, ◌++◌, inl, inr, ◌⊎◌, Option, Some, None, Result, length, take, get_or, Err, refl, sym, ap, ◌∙◌, subst, arith, length-append}
-use Rattle.vd_source_lexer.specs.Tokens.{Lexes, EndsOnce, BadFits, FirstBad, kinds}
+use Rattle.std.proofs.Common.{◌≡◌, ◌≢◌, ℕ, ◌+◌, ◌<◌, List, ◌∷◌, ◌++◌, inl, inr, ◌⊎◌, Option, Some, None, Result, length, take, get_or, Err, sym, ap, ◌∙◌, subst, arith, length-append}
+use Rattle.vd_source_lexer.specs.Tokens.{Lexes, EndsOnce, BadFits, kinds}
 use Rattle.vd_source_lexer.specs.declared.token.Token.{Token}
 use Rattle.vd_source_lexer.proofs.TokenLaws.{lexes_once}
-use Rattle.vd_parser.specs.Nesting.{NoneTooDeep}
 use Rattle.vd_parser.specs.Whole.{NoEnd}
 use Rattle.vd_parser.specs.Outcomes.{BeginSource, IsUnexpected, IsParse}
 use Rattle.vd_parser.specs.declared.fault.ParseFault.TheVariants as fault
@@ -37,9 +36,6 @@ front_is ts k o p = ap (λ n. take n ts) p.number ∙ ap (take (length p.before)
 
 pub front_begins : (ts : List Token) (k o : ℕ) → IsUnexpected ts k o → BeginSource (take k ts)
 front_begins ts k o p = subst BeginSource (sym (front_is ts k o p)) p.begins
-
-pub front_shallow : (ts : List Token) (k o : ℕ) → IsUnexpected ts k o → NoneTooDeep (take k ts)
-front_shallow ts k o p = subst NoneTooDeep (sym (front_is ts k o p)) p.shallow
 
 pub front_no_end : (ts : List Token) (k o : ℕ) → EndsOnce (kinds ts) → IsUnexpected ts k o → NoEnd (take k ts)
 front_no_end ts k o e p = let h = number_within ts k o p in no_end ts k e (omega (arith, h))

@@ -3,10 +3,9 @@ use Rattle.std.proofs.Common.{◌≡◌, ◌≢◌, ℕ, [], ◌∷◌, refl, sy
 use native.Mathlib.Decide.{ℕ_discrete}
 use Rattle.vd_execution.specs.declared.instructions.Reg.{Reg}
 use Rattle.vd_execution.specs.declared.instructions.Action.TheVariants as action
-use Rattle.vd_execution.specs.Registers.{put, nth}
-use Rattle.vd_execution.specs.Step.{OwnWords, Inputs}
-use Rattle.vd_execution.specs.Joint.{Host, Hosts, acted, after_do, after_msg, said_to, has_heard}
-use Rattle.vd_execution.specs.World.{Tape}
+use Rattle.vd_execution.specs.Registers.{put}
+use Rattle.vd_execution.specs.Step.{Inputs}
+use Rattle.vd_execution.specs.Joint.{Host, Hosts, after_msg, said_to, has_heard}
 use Rattle.vd_execution.proofs.Puts.{put_same, put_other}
 
 pub record Writes (h r v : ℕ) (w w' : Hosts) : Type 0 where
@@ -44,22 +43,6 @@ writes_own h r v w = record {
   inputs = λ k. same w h (wrote r v (w h)) k (λ (x : Host). x.cursors Inputs) refl;
   printed = λ k. same w h (wrote r v (w h)) k (λ (x : Host). x.printed) refl;
 }
-
--- the next own word of a host
-abbrev pub next_own : Tape → ℕ → Hosts → ℕ
-next_own t h w = nth (t h OwnWords ((w h).cursors OwnWords)) 0
-
--- a host takes an own word
-pub writes_own_word : (t : Tape) (h : ℕ) (r : Reg) (w : Hosts) → Writes h r.0 (next_own t h w) w (after_do t h (action.Own r) w)
-writes_own_word t h r w = record {
-  there = ap (λ (s : Host). s.registers r.0) (put_same w h new) ∙ put_same (w h).registers r.0 (next_own t h w);
-  elsewhere = one_place w h r.0 (next_own t h w) new refl;
-  inputs = λ k. same w h new k (λ (x : Host). x.cursors Inputs) refl;
-  printed = λ k. same w h new k (λ (x : Host). x.printed) refl;
-}
-  where
-    new : Host
-    new = acted (t h) (action.Own r) (w h)
 
 -- a host hears a word of another
 pub writes_heard : (a : ℕ) (x : Reg) (b : ℕ) (y : Reg) (w : Hosts) → a ≢ b → Writes b y.0 ((w a).registers x.0) w (after_msg a (x ∷ []) b (y ∷ []) w)

@@ -1,5 +1,5 @@
 -- What files that were read ahead tell.
-use Rattle.std.proofs.Common.{◌≡◌, true≢false, ℕ, ◌<◌, Bool, true, false, ◌&&◌, ◌||◌, List, [], ◌∷◌, ◌++◌, length, Option, Some, None, Ok, Err, Result, IfOk, IfSome, IsErrOf, IsTrue, refl, sym, ◌∙◌, subst}
+use Rattle.std.proofs.Common.{◌≡◌, true≢false, ℕ, Bool, true, false, ◌&&◌, ◌||◌, List, [], ◌∷◌, ◌++◌, Option, Some, Ok, Err, Result, IfOk, IsErrOf, IsTrue, refl, sym, ◌∙◌, subst}
 use Rattle.std.specs.Str.{bytes_eq}
 use Rattle.std.proofs.lemmas.Bool.{cond-false, false_from_ne_true}
 use Rattle.std.proofs.lemmas.Slice.Eq.{bytes_eq-Decides}
@@ -9,7 +9,6 @@ use Rattle.vd_outside.specs.declared.faults.FetchFault.TheVariants as fetch_faul
 use Rattle.vd_outside.specs.declared.files.FilesCall.{FilesCall}
 use Rattle.vd_outside.specs.declared.files.FilesCall.TheVariants.{Fetch, Store}
 use Rattle.vd_edge.specs.KeptFiles.{AreHeldOf, IsHeldOf, after_stores, stores_at, were_asked}
-use Rattle.vd_edge.specs.declared.kept.Held.TheVariants.{Whole, Longer}
 use Rattle.vd_edge.specs.declared.kept.Kept.{Kept}
 
 both : (a b : Bool) → (a && b) ≡ true → (a ≡ true) × (b ≡ true)
@@ -78,15 +77,6 @@ pub asked_store : (calls : List FilesCall) (name bytes : List ℕ) (stores : Lis
     → IsTrue (were_asked (calls ++ Store name ∷ []) ((name, bytes) ∷ stores))
 asked_store calls name bytes stores is =
     joined (stores_at name (calls ++ Store name ∷ [])) (were_asked (calls ++ Store name ∷ []) stores) (stores_last name calls) (asked_more calls (Store name) stores is)
-
--- what was fetched is held
-pub whole_held : (bytes : List ℕ) (known : Option (List ℕ)) → IfSome known (λ all. bytes ≡ all) → IsHeldOf (Whole bytes) known
-whole_held bytes None is = tt
-whole_held bytes (Some all) is = is
-
-pub longer_held : (most : ℕ) (known : Option (List ℕ)) → IfSome known (λ all. most < length all) → IsHeldOf (Longer most) known
-longer_held most None is = tt
-longer_held most (Some all) is = is
 
 -- one more file is as it is held
 pub held_more : (files : List Kept) (file : Kept) (holds : Contents) → AreHeldOf files holds → IsHeldOf file.held (holds file.name) → AreHeldOf (files ++ file ∷ []) holds

@@ -9,12 +9,11 @@ use Rattle.vd_link.specs.declared.session.Greeted.{Greeted}
 use Rattle.vd_engine.specs.Events.{Event, Reached, AtStart, OneMore, received_in, shown, word_of, printed}
 use Rattle.vd_engine.specs.Links.{session_at}
 use Rattle.vd_engine.specs.Drives.{Sessions, CarriesAt, CarriesAll, Writes, IsDriven, IsSound, Drives, session_view, sessions_of}
-use Rattle.vd_engine.specs.Turning.{Goes, IsTurn}
+use Rattle.vd_engine.specs.Turning.{Goes}
 use Rattle.vd_engine.specs.declared.links.Links.{Links}
 use Rattle.vd_machine.specs.declared.want.Want.{Want}
 use Rattle.vd_machine.specs.declared.want.Want.TheVariants as want
 use Rattle.vd_execution.specs.Step.{Deed}
-use Rattle.vd_engine.specs.declared.engine.Turn.{Turn}
 use Rattle.vd_engine.specs.declared.engine.Turn.TheVariants as turn
 use Rattle.vd_engine.specs.declared.fault.EngineFault.{EngineFault}
 use Rattle.vd_engine.proofs.Turns.{sound_after}
@@ -78,23 +77,9 @@ stands_at view host events None y carries some = absurd (cc some)
 pub still_stands : {L : Type 0} (view : L → LinkView) (links later : Links L) (events : List Event) (host : ℕ) → CarriesAll events (sessions_of view links) (sessions_of view later) → IsSome (session_at links host) → IsSome (session_at later host)
 still_stands view links later events host carries some = stands_at view host events (session_at links host) (session_at later host) (carries host) some
 
--- a turn of this kind goes on
-pub quiet_goes : {M : Type 0} (wants : M → Want) (next : M → List ℕ → M) (does : M → Deed) (mid end : M) (now later : Sessions) (om on : SinkView) (kind : Turn)
-    → IsTurn wants next does mid end now later om on (Ok kind) → kind ≡ turn.Quiet → Goes wants next does mid end now later om on 0
-quiet_goes wants next does mid end now later om on kind is_turn is = subst (λ (t : Turn). IsTurn wants next does mid end now later om on (Ok t)) is is_turn
-
-pub printed_goes : {M : Type 0} (wants : M → Want) (next : M → List ℕ → M) (does : M → Deed) (mid end : M) (now later : Sessions) (om on : SinkView) (kind : Turn)
-    → IsTurn wants next does mid end now later om on (Ok kind) → kind ≡ turn.Printed → Goes wants next does mid end now later om on 1
-printed_goes wants next does mid end now later om on kind is_turn is = subst (λ (t : Turn). IsTurn wants next does mid end now later om on (Ok t)) is is_turn
-
 pub same_count : {M : Type 0} (wants : M → Want) (next : M → List ℕ → M) (does : M → Deed) (start end : M) (before later : Sessions) (ob on : SinkView) (count : ℕ)
     → Driven wants next does start end before later ob on (count + 0) → Driven wants next does start end before later ob on count
 same_count wants next does start end before later ob on count d = subst (λ (n : ℕ). Driven wants next does start end before later ob on n) (let s : count + 0 ≡ count = omega arith in s) d
-
--- what a turn that goes on leaves
-pub goes_stands : {M L : Type 0} (wants : M → Want) (next : M → List ℕ → M) (does : M → Deed) (mid end : M) (view : L → LinkView) (links later : Links L) (om on : SinkView) (count host : ℕ)
-    → Goes wants next does mid end (sessions_of view links) (sessions_of view later) om on count → IsSome (session_at links host) → IsSome (session_at later host)
-goes_stands wants next does mid end view links later om on count host goes some = still_stands view links later (received_in (wants mid) goes.heard ++ shown (does mid)) host goes.kept some
 
 pub goes_sound : {M : Type 0} (wants : M → Want) (next : M → List ℕ → M) (does : M → Deed) (mid end : M) (now later : Sessions) (om on : SinkView) (count : ℕ) → Goes wants next does mid end now later om on count → IsSound later
 goes_sound wants next does mid end now later om on count goes = sound_after (received_in (wants mid) goes.heard ++ shown (does mid)) now later goes.kept

@@ -228,10 +228,6 @@ heard_count count packet (Some b) (Some n) at = at.0.count_is
 heard_count count packet (Some b) None at = absurd at
 heard_count count packet None y at = absurd at
 
--- a packet that came has as many words as were awaited
-pub heard_words : (host count : ℕ) (packet : Packet) (before now : Sessions) → Hears host count before now (Ok packet) → length (packet_words packet) ≡ count
-heard_words host count packet before now hears = heard_count count packet (before host) (now host) hears.at
-
 -- a turn that took a packet
 pub goes_heard : {M : Type 0} (wants : M → Want) (next : M → List ℕ → M) (does : M → Deed) (start end : M) (host : HostId) (count : ℕ) (packet : Packet) (before now : Sessions) (out : SinkView)
     → wants start ≡ want.Words host count → shown (does start) ≡ [] → IsSound before → Hears host.0 count before now (Ok packet) → end ≡ next start (packet_words packet) → AreWords (packet_words packet) → Goes wants next does start end before now out out 0

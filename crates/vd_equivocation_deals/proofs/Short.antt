@@ -7,8 +7,6 @@ use Rattle.vd_deal_items.specs.declared.deal.Deal.{Deal}
 use Rattle.vd_deal_items.specs.declared.deal.DealKind.{DealKind}
 use Rattle.vd_deal_items.specs.declared.deal.DealKind.TheVariants.{Own, Mul, And, Pair}
 use Rattle.vd_execution.specs.Step.{Source, Inputs, OwnWords, Triples, BitTriples, Pairs}
-use Rattle.vd_execution.specs.Gadgets.{Gadget}
-use Rattle.vd_execution.specs.Plans.{Plan}
 use Rattle.vd_views_programs.specs.Explained.{IsOfTwo, plan_of}
 use Rattle.vd_views_programs.proofs.Steps.{Static}
 use Rattle.vd_views_programs.proofs.Theorem.{plan_is, static, dealt_zeros}
@@ -42,9 +40,6 @@ not_more : (count taken : ℕ) → taken ≤ count → nat_lt count taken ≡ fa
 not_more count taken le = grind (arith, nat_tests)
 
 module _ (p : NormalForm) (l : Labels) (protocols : List Proto) (of_two : IsOfTwo p l protocols) (inputs : List (List ℕ)) (deals : List Deal) where
-  abbrev plan : Plan Gadget
-  plan = plan_of p protocols
-
   fixed : Static (plan_of p protocols)
   fixed = subst Static (sym (plan_is p l protocols of_two)) (static p l protocols of_two [] _ dealt_zeros)
 

@@ -1,9 +1,9 @@
 -- A list that grows as it is written: past its end and within, and several writes in turn.
-use Rattle.std.proofs.Common.{◌≡◌, ℕ, zero, suc, ◌+◌, ◌-◌, ◌<◌, ◌≤◌, List, [], ◌∷◌, ◌++◌, length, get_or, drop, drop-cons, add-one, refl, sym, ap, ◌∙◌, arith}
+use Rattle.std.proofs.Common.{◌≡◌, ℕ, zero, suc, ◌+◌, ◌-◌, ◌<◌, ◌≤◌, List, [], ◌∷◌, ◌++◌, length, drop, refl, sym, ap, ◌∙◌, arith}
 use Rattle.std.specs.Prelude.{slice_index_or, slice_set}
 use Rattle.vd_execution.specs.declared.instructions.Reg.{Reg}
 use Rattle.vd_semantics.specs.Stores.{put}
-use Rattle.vd_equivocation_runs.specs.Registers.{put_each, put_from, cleared}
+use Rattle.vd_equivocation_runs.specs.Registers.{put_each, cleared}
 
 -- the default may be written out
 pub put_past : {A : Type 0} (d : A) (s : List A) (k : ℕ) (x : A) → length s ≤ k → put d (s ++ d ∷ []) k x ≡ put d s k x
@@ -23,17 +23,6 @@ put_more d s t k x e le is h = ap (λ z. put d z k x) is ∙ put_past d s k x le
 pub put_done : {A : Type 0} (d : A) (s : List A) (k : ℕ) (x : A) (e : List A) → k < length s → put d s k x ≡ e → slice_set s k x ≡ e
 put_done d s k x e lt h = sym (put_within d s k x lt) ∙ h
 
--- the default of a read within the length is not looked at
-pub read_within : {A : Type 0} (s : List A) (k : ℕ) (d d' : A) → k < length s → slice_index_or s k d ≡ slice_index_or s k d'
-read_within [] k d d' lt = absurd (omega arith)
-read_within (x ∷ xs) zero d d' lt = refl
-read_within (x ∷ xs) (suc k) d d' lt = read_within xs k d d' (omega arith)
-
--- an element is changed in its place
-pub put_changed : {A : Type 0} (d : A) (s : List A) (k : ℕ) (x y : A) (f : A → A) → k < length s → x ≡ slice_index_or s k x → y ≡ f x → slice_set s k y ≡ put d s k (f (slice_index_or s k d))
-put_changed d s k x y f lt is e =
-    ap (slice_set s k) (e ∙ ap f (is ∙ read_within s k x d lt)) ∙ sym (put_within d s k (f (slice_index_or s k d)) lt)
-
 -- the first default may be written out at a read too
 pub read_past : {A : Type 0} (d : A) (s : List A) (k : ℕ) → length s ≤ k → slice_index_or (s ++ d ∷ []) k d ≡ slice_index_or s k d
 read_past d [] zero le = refl
@@ -46,14 +35,6 @@ read_more d s t k e le is h = ap (λ z. slice_index_or z k d) is ∙ read_past d
 
 -- ---- several words
 
-pub put_each_on : (f g : List ℕ) (rs : List Reg) (xs : List ℕ) (i : ℕ) (d : Reg) → i < length rs → i < length xs → g ≡ put 0 f (get_or rs i d).0 (get_or xs i 0)
-    → put_each g (drop (i + 1) rs) (drop (i + 1) xs) ≡ put_each f (drop i rs) (drop i xs)
-put_each_on f g rs xs i d h k e =
-    let a : drop i rs ≡ get_or rs i d ∷ drop (i + 1) rs = rw (add-one) (drop-cons rs i d h) in
-    let b : drop i xs ≡ get_or xs i 0 ∷ drop (i + 1) xs = rw (add-one) (drop-cons xs i 0 k) in
-    ap (λ z. put_each z (drop (i + 1) rs) (drop (i + 1) xs)) e
-    ∙ sym (ap (λ l. put_each f l (drop i xs)) a ∙ ap (λ l. put_each f (get_or rs i d ∷ drop (i + 1) rs) l) b)
-
 none_behind : {X : Type 0} (xs : List X) (i : ℕ) → length xs ≤ i → drop i xs ≡ []
 none_behind [] zero h = refl
 none_behind [] (suc i) h = refl
@@ -64,23 +45,8 @@ no_words : (f : List ℕ) (rs : List Reg) → put_each f rs [] ≡ f
 no_words f [] = refl
 no_words f (r ∷ rs) = refl
 
-pub each_put : (f g : List ℕ) (rs : List Reg) (xs : List ℕ) (i : ℕ) → length rs ≤ i → put_each f (drop i rs) (drop i xs) ≡ put_each g rs xs → f ≡ put_each g rs xs
-each_put f g rs xs i h e = sym (ap (λ l. put_each f l (drop i xs)) (none_behind rs i h)) ∙ e
-
 pub each_word_put : (f g : List ℕ) (rs : List Reg) (xs : List ℕ) (i : ℕ) → length xs ≤ i → put_each f (drop i rs) (drop i xs) ≡ put_each g rs xs → f ≡ put_each g rs xs
 each_word_put f g rs xs i h e = sym (ap (λ l. put_each f (drop i rs) l) (none_behind xs i h) ∙ no_words f (drop i rs)) ∙ e
-
-pub put_from_on : (f g : List ℕ) (r : ℕ) (xs : List ℕ) (i : ℕ) → i < length xs → g ≡ put 0 f (r + i) (get_or xs i 0)
-    → put_from g (r + (i + 1)) (drop (i + 1) xs) ≡ put_from f (r + i) (drop i xs)
-put_from_on f g r xs i k e =
-    let b : drop i xs ≡ get_or xs i 0 ∷ drop (i + 1) xs = rw (add-one) (drop-cons xs i 0 k) in
-    let n : r + (i + 1) ≡ r + i + 1 = omega arith in
-    ap (λ z. put_from z (r + (i + 1)) (drop (i + 1) xs)) e
-    ∙ ap (λ m. put_from (put 0 f (r + i) (get_or xs i 0)) m (drop (i + 1) xs)) n
-    ∙ sym (ap (put_from f (r + i)) b)
-
-pub all_put : (f g : List ℕ) (r : ℕ) (xs : List ℕ) (i : ℕ) → length xs ≤ i → put_from f (r + i) (drop i xs) ≡ put_from g r xs → f ≡ put_from g r xs
-all_put f g r xs i h e = sym (ap (put_from f (r + i)) (none_behind xs i h)) ∙ e
 
 pub cleared_on : (f g : List ℕ) (r i n : ℕ) → i < n → g ≡ slice_set f (r + i) 0 → cleared g (r + (i + 1)) (n - (i + 1)) ≡ cleared f (r + i) (n - i)
 cleared_on f g r i n h e =
@@ -89,6 +55,3 @@ cleared_on f g r i n h e =
     ap (λ z. cleared z (r + (i + 1)) (n - (i + 1))) e
     ∙ ap (λ m. cleared (slice_set f (r + i) 0) m (n - (i + 1))) place
     ∙ sym (ap (cleared f (r + i)) more)
-
-pub all_cleared : (f g : List ℕ) (r i n : ℕ) → n ≤ i → cleared f (r + i) (n - i) ≡ cleared g r n → f ≡ cleared g r n
-all_cleared f g r i n h e = let none : n - i ≡ 0 = omega arith in sym (ap (cleared f (r + i)) none) ∙ e

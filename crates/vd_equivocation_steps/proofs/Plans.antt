@@ -52,12 +52,6 @@ shut_behind k h steps x more [] = refl
 shut_behind k h [] x more (b ∷ bs) = ap (λ (q : Bool). q && suits k h b) (no_steps (length more))
 shut_behind k h (y ∷ steps) x more (b ∷ bs) = ap (λ (q : Bool). q && suits k h b) (no_steps (length (steps ++ x ∷ more)))
 
-false_last : (a b : Bool) → (a && (b && false)) ≡ false
-false_last true true = refl
-false_last true false = refl
-false_last false true = refl
-false_last false false = refl
-
 takes_its_part : (ps : List Part) (h : ℕ) → TakesPart ps h → takes_part h ps ≡ true
 takes_its_part [] h part = absurd part
 takes_its_part (p ∷ ps) h (inl e) = found (nat_eq p.0 h) (takes_part h ps) (inl (tested (sym e)))

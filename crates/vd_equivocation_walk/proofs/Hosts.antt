@@ -35,11 +35,6 @@ place_far me p far = at (nat_lt p me)
     at true = omega (arith, far)
     at false = omega (arith, far)
 
--- the only peer has the list, and no one else
-if_same : {X : Type 0} (b : Bool) (x y z : X) → b ≡ true → z ≡ x → z ≡ (if b then x else y)
-if_same true x y z e f = f
-if_same false x y z e f = absurd cc
-
 if_other : {X : Type 0} (b : Bool) (x y z : X) → b ≡ false → z ≡ y → z ≡ (if b then x else y)
 if_other true x y z e f = absurd cc
 if_other false x y z e f = f
@@ -118,9 +113,6 @@ module _ {X : Type 0} (item : X → List ℕ) (none : X) (s : Source) (nothing :
   list_there : (b : Bool) (l xs : List X) (i : ℕ) → l ≡ (if b then xs else []) → or_zeros s (item_or_none item (slice_get l i)) ≡ item (if b then unwrap_or (slice_get xs i) none else none)
   list_there true l xs i e = ap (λ (q : List X). or_zeros s (item_or_none item (slice_get q i))) e ∙ one_there (slice_get xs i)
   list_there false l xs i e = ap (λ (q : List X). or_zeros s (item_or_none item (slice_get q i))) e ∙ no_list i
-
-abbrev both_files : Part → Part → List Deal
-both_files x y = file 0 x ∷ file 1 y ∷ []
 
 pub file_holds : (inputs : List (List ℕ)) (x y : Part) (g : ℕ) (s : Source) (i : ℕ) → file_tape inputs (file 0 x ∷ file 1 y ∷ []) g s i ≡ supplies (lists_of (side_at (dealt_sides 0 inputs (file 0 x ∷ file 1 y ∷ [])) g)) s i
 file_holds inputs x y zero Inputs i = word_there (slice_index_or inputs 0 []) Inputs i refl

@@ -88,9 +88,6 @@ or_false false = refl
 one_more : (h : ℕ) (before : List Part) (p : Part) → stood h (before ++ p ∷ []) ≡ (stood h before || nat_eq p.0 h)
 one_more h before p = list_any-append (λ (q : Part). nat_eq q.0 h) before (p ∷ []) ∙ ap (λ (b : Bool). stood h before || b) (or_false (nat_eq p.0 h))
 
-counted_if : List Part → ℕ → ℕ → Side → Side
-counted_if ps h turn s = if_part ps h (λ c. counted c turn s) s
-
 -- the next host's counter is set, unless it stood before
 next_side : (before : List Part) (p : Part) (turn : ℕ) (run : List Side) (h : ℕ) (b c : Bool) → stood p.0 before ≡ b → nat_eq h p.0 ≡ c
     → side_at (next_begun before p turn run) h ≡ (if b then side_at run h else (if c then counted p.1 turn (side_at run h) else side_at run h))

@@ -28,9 +28,6 @@ gone_sent l (xs ∷ rest) h = prefix_trans _ _ _ ((moved_grows l xs).sent h) (go
 get_front : {X : Type 0} (xs ys : List X) (i : ℕ) (x : X) → IsPrefixOf xs ys → slice_get xs i ≡ Some x → slice_get ys i ≡ Some x
 get_front xs ys i x p e = ap (λ l. slice_get l i) (sym p.1) ∙ get_append xs p.0 i x e
 
-some_same : {X : Type 0} (x y : X) → Some x ≡ Some y → x ≡ y
-some_same x y e = cc
-
 -- the packet at the front, where one of the awaited length was answered
 at_front : (n : ℕ) (o : Option (List ℕ)) (ys : List ℕ) → of_length n o ≡ Some ys → (zs : List ℕ) × (o ≡ Some zs)
 at_front n None ys e = absurd cc

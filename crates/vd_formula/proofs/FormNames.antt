@@ -1,5 +1,5 @@
 -- The first name of a written form that is not among the names, one part after another.
-use Rattle.std.proofs.Common.{◌≡◌, ℕ, ◌+◌, ◌<◌, ◌≤◌, ◌||◌, Option, None, Some, List, [], ◌∷◌, get_or, drop, map, cond, refl, sym, ap, ◌∙◌, add-one, drop-cons}
+use Rattle.std.proofs.Common.{◌≡◌, ℕ, ◌+◌, ◌<◌, ◌≤◌, ◌||◌, Option, None, List, [], ◌∷◌, get_or, drop, map, refl, sym, ap, ◌∙◌, add-one, drop-cons}
 use Rattle.std.specs.List.{find, flat_map, list_any}
 use Rattle.std.specs.Option.{option_or}
 use Rattle.std.specs.Str.{bytes_eq}
@@ -16,29 +16,11 @@ pub any_is_among : (names : List (List ℕ)) (name : List ℕ) → list_any (λ 
 any_is_among [] name = refl
 any_is_among (other ∷ names) name = ap (λ b. bytes_eq other name || b) (any_is_among names name)
 
-names-any : names_in form.Any ≡ []
-names-any = search (rules, the_lemmas)
-
-names-never : names_in form.Never ≡ []
-names-never = search (rules, the_lemmas)
-
-names-name : (name : List ℕ) → names_in (form.Name name) ≡ name ∷ []
-names-name name = search (rules, the_lemmas)
-
 names-both : (parts : List Form) → names_in (form.Both parts) ≡ flat_map (λ names. names) (map names_in parts)
 names-both parts = search (rules, the_lemmas)
 
 names-either : (parts : List Form) → names_in (form.Either parts) ≡ flat_map (λ names. names) (map names_in parts)
 names-either parts = search (rules, the_lemmas)
-
-pub unknown-any : (names : List (List ℕ)) → first_unknown names form.Any ≡ None
-unknown-any names = ap (find (is_unknown names)) names-any
-
-pub unknown-never : (names : List (List ℕ)) → first_unknown names form.Never ≡ None
-unknown-never names = ap (find (is_unknown names)) names-never
-
-pub unknown-name : (names : List (List ℕ)) (name : List ℕ) → first_unknown names (form.Name name) ≡ cond (is_unknown names name) (Some name) None
-unknown-name names name = ap (find (is_unknown names)) (names-name name)
 
 -- the first unknown name of these parts, in order
 abbrev pub unknown_of : List (List ℕ) → List Form → Option (List ℕ)

@@ -2,7 +2,7 @@
 use Rattle.std.proofs.Common.{◌≡◌, ℕ, zero, suc, ◌-◌, ◌^◌, ◌<◌, ◌≤◌, Bool, true, false, not, ◌&&◌, ◌||◌, cond, eqb, refl, sym, ap, ◌∙◌, arith, min, max, inl, inr}
 use Rattle.std.specs.Prelude.{bit_and, bit_or}
 use Rattle.std.specs.Int.{bit_at, bit_not, w64}
-use Rattle.std.proofs.lemmas.Nat.Bits.{bit_at_and, bit_at_or, bit_at_not, bit_at-lt, bit_at_cat_low, bit_at_cat_high, bit_at_above, same_from_bits_below}
+use Rattle.std.proofs.lemmas.Nat.Bits.{bit_at_and, bit_at_or, bit_at_not, bit_at-lt, bit_at_cat_low, bit_at_cat_high, same_from_bits_below}
 use Rattle.std.proofs.lemmas.Bool.{cases_lt}
 use Rattle.std.proofs.Math.Nat.{mul-le-mul_right, pow-suc}
 use Rattle.vd_formula.specs.TruthTable.{has, word_where}
@@ -47,9 +47,6 @@ has-or a b i = ap (λ x. eqb x 1) (bit_at_or a b i) ∙ either_one _ _ (bit_at-l
 
 pub has-not : (a i : ℕ) → a < 2 ^ 64 → i < 64 → has (bit_not w64 a) i ≡ not (has a i)
 has-not a i small low = ap (λ x. eqb x 1) (bit_at_not w64 a i small low) ∙ other_one _ (bit_at-lt a i)
-
-pub has-above : (a k i : ℕ) → a < 2 ^ k → k ≤ i → has a i ≡ false
-has-above a k i small above = ap (λ x. eqb x 1) (bit_at_above a k i small above)
 
 -- two words with the same bits are equal
 pub same_words : (n a b : ℕ) → a < 2 ^ n → b < 2 ^ n → ((i : ℕ) → i < n → has a i ≡ has b i) → a ≡ b

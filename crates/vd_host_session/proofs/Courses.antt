@@ -1,5 +1,5 @@
 -- What becomes of a host.
-use Rattle.std.proofs.Common.{arith, ◌≡◌, ◌<◌, ℕ, length, Option, Ok, Err, Result, IsSome, refl, sym, subst, ◌∙◌}
+use Rattle.std.proofs.Common.{◌≡◌, ◌<◌, ℕ, length, Option, Ok, Err, Result, IsSome, refl, sym, subst, ◌∙◌}
 use Rattle.vd_base.specs.declared.faults.Failed.{Failed}
 use Rattle.vd_machine.specs.Kept.{Kept}
 use Rattle.vd_outside.specs.Link.{LinkView}
@@ -10,7 +10,7 @@ use Rattle.vd_engine.specs.declared.engine.Ended.{Ended}
 use Rattle.vd_host_session.specs.Histories.{HandedBack, HungUp, listening}
 use Rattle.vd_host_session.specs.Peers.{number_at}
 use Rattle.vd_host_session.specs.Plays.{Driven, DrivesAndTells, Meets, NoRoom, NotAnnounced, NotGiven, NotGreeted, NotListening, Plays}
-use Rattle.vd_host_session.specs.Stages.{AreMet, Fails, HasListened, HasListeners, NoGreeting, NoLink, NoMemory, Unheard}
+use Rattle.vd_host_session.specs.Stages.{AreMet, Fails, HasListened, NoGreeting, NoLink, NoMemory, Unheard}
 use Rattle.vd_host_session.specs.declared.fault.HostFault.{HostFault}
 use Rattle.vd_host_session.specs.declared.fault.HostFault.TheVariants as fault
 use Rattle.vd_host_session.specs.declared.task.Task.{Task}
@@ -26,9 +26,6 @@ are_met_still task first count start now sessions later m same = record {
   later = λ place least. same (number_at task.me.0 place) ∙ m.later place least;
   own = same task.me.0 ∙ m.own;
 }
-
-pub has_listeners : (task : Task) (start net : NetView) (first : ℕ) → HasListened task start net first → HasListeners task first net
-has_listeners task start net first h = λ less. let low = h.low in let given = h.given in omega (arith, less, low, given)
 
 pub plays_unheard : (machine : Kept) (task : Task) (start end : NetView) (out : SinkView) (told : HostFault) → Unheard task start end told
     → Plays machine task start end out out (Err told)

@@ -1,7 +1,6 @@
 -- A host listens for its later peers, one after the other.
-use Rattle.std.proofs.Common.{arith, ◌≡◌, ◌≢◌, ◌<◌, ◌≤◌, ◌+◌, ◌-◌, ⊎_elim, ℕ, List, [], length, slice_index_or, get_or, Ok, Err, refl, sym, ap, subst, ◌∙◌}
+use Rattle.std.proofs.Common.{arith, ◌≡◌, ◌≢◌, ◌<◌, ◌≤◌, ◌+◌, ◌-◌, ⊎_elim, ℕ, List, length, Ok, Err, sym, ap, subst, ◌∙◌}
 use Rattle.std.proofs.Math.Nat.{eq-or-lt_of_le}
-use Rattle.std.proofs.lemmas.Option.{get_or_from_slice_get, slice_get_read}
 use Rattle.vd_base.specs.declared.faults.CallFault.{CallFault}
 use Rattle.vd_outside.specs.Net.{NetView, Listens}
 use Rattle.vd_host_session.specs.Histories.{Listened, NoListener, call_status}
@@ -10,11 +9,6 @@ use Rattle.vd_host_session.specs.Stages.{HasListened, Unheard}
 use Rattle.vd_host_session.specs.declared.fault.HostFault.{HostFault}
 use Rattle.vd_host_session.specs.declared.task.Task.{Task}
 use Rattle.vd_host_session.proofs.Announced.{listened_more, unheard}
-
--- an address that was read at a place
-pub address_read : (addresses : List (List ℕ)) (place : ℕ) (address : List ℕ) → place < length addresses → address ≡ get_or addresses place address
-    → address ≡ slice_index_or addresses place []
-address_read addresses place address less is = sym (get_or_from_slice_get addresses place address [] (slice_get_read addresses (length addresses) place address refl less is))
 
 -- it listens for the peers up to a place; the first listener has this number
 pub record IsListening (task : Task) (start now : NetView) (place first : ℕ) : Type 0 where

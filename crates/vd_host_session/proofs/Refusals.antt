@@ -1,19 +1,13 @@
 -- How a peer is met, or why not.
-use Rattle.std.proofs.Common.{arith, ◌≡◌, ◌≢◌, ◌<◌, ◌≤◌, ◌+◌, ◌-◌, ℕ, suc, Bool, false, List, Option, Some, None, Result, Ok, Err, option_map, refl, sym, ap, subst, ◌∙◌}
+use Rattle.std.proofs.Common.{arith, ◌≡◌, ◌<◌, ◌≤◌, ◌+◌, ◌-◌, ℕ, suc, List, Option, Some, None, Result, Ok, Err, option_map, refl, sym, ap, subst, ◌∙◌}
 use Rattle.vd_base.specs.declared.faults.CallFault.{CallFault}
 use Rattle.vd_outside.specs.Link.{LinkView}
 use Rattle.vd_outside.specs.Net.{NetView, Accepts, Connects}
 use Rattle.vd_link.specs.Sessions.{Ends, Greets}
-use Rattle.vd_link.specs.States.{has_failed, link_of, offset_of}
 use Rattle.vd_link.specs.declared.faults.GreetFault.{GreetFault}
-use Rattle.vd_link.specs.declared.session.Greeted.{Greeted}
-use Rattle.vd_link.specs.declared.session.Session.{Session}
-use Rattle.vd_engine.specs.Drives.{SessionView, session_view, sessions_of}
-use Rattle.vd_engine.specs.Links.{session_at}
-use Rattle.vd_engine.specs.declared.links.Links.{Links}
 use Rattle.vd_host_session.specs.Histories.{ByAccept, ByConnect, Gets, call_status, ends_with, greet_status}
 use Rattle.vd_host_session.specs.Peers.{address_of, number_at, peer_at}
-use Rattle.vd_host_session.specs.Stages.{Fails, MetOne, NoGreeting, NoLink, NoMemory}
+use Rattle.vd_host_session.specs.Stages.{Fails, NoGreeting, NoLink, NoMemory}
 use Rattle.vd_host_session.specs.declared.fault.HostFault.{HostFault}
 use Rattle.vd_host_session.specs.declared.fault.HostFault.TheVariants as fault
 use Rattle.vd_host_session.specs.declared.task.Task.{Task}
@@ -61,33 +55,6 @@ no_greeting view task first place peer before now ends link begun closed back re
     (NoGreeting (view link) (view closed) refusal gets
     (subst (λ (e : Ends). Greets e (view link) (view closed) (Err refusal)) (ends_are task place peer ends is are)
     (subst (λ l. Greets ends (view l) (view closed) (Err refusal)) same greets))))
-
-session_is : {L : Type 0} (view : L → LinkView) (session : Session L Greeted) → offset_of session ≡ 36 → has_failed session ≡ false
-    → session_view view session ≡ record { link = view (link_of session); received = 36; failed = false }
-session_is view session offset sound =
-    let first : session_view view session ≡ record { link = view (link_of session); received = 36; failed = has_failed session } = ap (λ (n : ℕ). let v : SessionView = record { link = view (link_of session); received = n; failed = has_failed session } in v) offset in
-    let second : first_view ≡ record { link = view (link_of session); received = 36; failed = false } = ap (λ (b : Bool). let v : SessionView = record { link = view (link_of session); received = 36; failed = b } in v) sound in
-    first ∙ second
-  where
-    first_view : SessionView
-    first_view = record { link = view (link_of session); received = 36; failed = has_failed session }
-
-pub met_one : {L : Type 0} (view : L → LinkView) (task : Task) (first place peer : ℕ) (before now : NetView) (links later : Links L) (ends : Ends) (link begun : L) (session : Session L Greeted)
-    → peer ≡ number_at task.me.0 place → begun ≡ link → ends ≡ record { me = task.me.0; peer = peer; plan = task.plan }
-    → Gets first task.me.0 (peer_at task place) before now (Ok (view link)) → Greets ends (view begun) (view (link_of session)) (Ok tt)
-    → offset_of session ≡ 36 → has_failed session ≡ false → session_at later peer ≡ Some session
-    → ((other : ℕ) → other ≢ peer → session_at later other ≡ session_at links other)
-    → MetOne task first place before now (sessions_of view links) (sessions_of view later)
-met_one view task first place peer before now links later ends link begun session is same are gets greets offset sound put others = record {
-  given = view link;
-  greeted = view (link_of session);
-  gets = gets;
-  greets = subst (λ (e : Ends). Greets e (view link) (view (link_of session)) (Ok tt)) (ends_are task place peer ends is are)
-      (subst (λ l. Greets ends (view l) (view (link_of session)) (Ok tt)) same greets);
-  added = subst (λ (n : ℕ). sessions_of view later n ≡ Some (record { link = view (link_of session); received = 36; failed = false })) is
-      (ap (option_map (session_view view)) put ∙ ap Some (session_is view session offset sound));
-  others = λ other apart. ap (option_map (session_view view)) (others other (λ e. apart (e ∙ is)));
-}
 
 -- where there is no session as it is told, there is none
 pub none_inside : {A B : Type 0} (f : A → B) (o : Option A) → option_map f o ≡ None → o ≡ None

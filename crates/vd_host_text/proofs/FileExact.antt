@@ -253,31 +253,6 @@ array_needs s word.Else e h = absurd (true≢false (sym e))
 array_needs s word.For e h = absurd (true≢false (sym e))
 array_needs s word.End e h = absurd (true≢false (sym e))
 
-array_frees : (s : State) (w : Word) → is_array_word w ≡ true → (after s w).arrays ≡ arrays.Free
-array_frees s word.Const e = absurd (true≢false (sym e))
-array_frees s word.Copy e = absurd (true≢false (sym e))
-array_frees s (word.Apply o) e = absurd (true≢false (sym e))
-array_frees s word.Shl e = absurd (true≢false (sym e))
-array_frees s word.Shr e = absurd (true≢false (sym e))
-array_frees s word.Mux e = absurd (true≢false (sym e))
-array_frees s word.Own e = absurd (true≢false (sym e))
-array_frees s word.Triple e = absurd (true≢false (sym e))
-array_frees s word.Bits e = absurd (true≢false (sym e))
-array_frees s word.Pair e = absurd (true≢false (sym e))
-array_frees s word.Input e = absurd (true≢false (sym e))
-array_frees s word.Print e = absurd (true≢false (sym e))
-array_frees s word.Hash e = absurd (true≢false (sym e))
-array_frees s word.Same e = absurd (true≢false (sym e))
-array_frees s word.Zero e = refl
-array_frees s word.Get e = refl
-array_frees s word.Put e = refl
-array_frees s word.Send e = absurd (true≢false (sym e))
-array_frees s word.Recv e = absurd (true≢false (sym e))
-array_frees s word.If e = absurd (true≢false (sym e))
-array_frees s word.Else e = absurd (true≢false (sym e))
-array_frees s word.For e = absurd (true≢false (sym e))
-array_frees s word.End e = absurd (true≢false (sym e))
-
 others_keep : (s : State) (w : Word) → is_array_word w ≡ false → (after s w).arrays ≡ s.arrays
 others_keep s word.Const e = refl
 others_keep s word.Copy e = refl

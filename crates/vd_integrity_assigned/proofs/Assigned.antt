@@ -1,5 +1,5 @@
 -- At a valid assignment words stand where they are kept, and where they are not seen.
-use Rattle.std.proofs.Common.{◌≡◌, ℕ, zero, suc, ◌+◌, ◌^◌, ◌<◌, ◌≤◌, Bool, true, false, true≢false, ◌&&◌, ◌||◌, not, List, [], ◌∷◌, map, length, Option, Some, None, refl, sym, ap, ap₂, ◌∙◌, subst, arith, slice_get, slice_index, if◌then◌else◌}
+use Rattle.std.proofs.Common.{◌≡◌, ℕ, zero, suc, ◌+◌, ◌^◌, ◌<◌, ◌≤◌, Bool, true, false, true≢false, ◌&&◌, ◌||◌, not, List, [], ◌∷◌, map, length, Option, Some, refl, sym, ap, ap₂, ◌∙◌, subst, arith, slice_get, slice_index, if◌then◌else◌}
 use Rattle.std.specs.Prelude.{All, filter, is_some, nat_lt}
 use Rattle.std.specs.List.{AllByRecursion, list_all, list_any, range_with_len}
 use Rattle.std.specs.Option.{option_map_or}
@@ -87,9 +87,6 @@ turned true true k h is off = absurd (true≢false (sym off))
 turned true false k h is off = absurd (true≢false (sym (h refl)))
 turned false b true h is off = refl
 turned false b false h is off = absurd (true≢false (sym is))
-
-none_there : {X : Type 0} (x : X) → None ≡ Some x → ⊥
-none_there x is = true≢false (sym (ap is_some is))
 
 get_below : (xs : List ℕ) (i : ℕ) → i < length xs → slice_get xs i ≡ Some (slice_index xs i)
 get_below [] i low = absurd (omega (arith, low))

@@ -27,9 +27,6 @@ each_below f r (x ∷ rs) (y ∷ ws) q row low =
 
 -- ---- what comes to a host
 module _ (from to : ℕ) (words : List ℕ) (heard : List Reg) (w : Hosts) (apart : from ≢ to) where
-  after : Hosts
-  after = after_telling from words to heard w
-
   at_receiver : (q : ℕ) → (after_telling from words to heard w to).registers q ≡ put_each (w to).registers heard words q
   at_receiver q = ap (λ (s : Host). s.registers q) (put_same (put w from (said_to to words (w from))) to (has_heard heard words (w to)))
 
@@ -74,9 +71,6 @@ module _ (keeps : ℕ → Bool) (t : Tape) (v : HostId) where
 
   -- ---- an opening
   module _ (p : HostId) (next : List ℕ) (w w' : Hosts) (apart : p.0 ≢ v.0) (held : Held) (seen : Seen) (low : seen.digest.0 + 8 ≤ slice_index next v.0) (run : RunsGadgets keeps t (revealed p v held seen next).gadgets w w') where
-    m : ℕ
-    m = slice_index next v.0
-
     abbrev hears : List Reg
     hears = register (slice_index next v.0) ∷ eight (slice_index next v.0 + 1)
 

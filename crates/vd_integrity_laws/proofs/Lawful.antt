@@ -5,7 +5,6 @@ use Rattle.std.specs.Option.{option_map_or}
 use Rattle.std.specs.List.{list_all, flat_map}
 use Rattle.std.proofs.lemmas.Bool.{and_parts, ltb-true}
 use Rattle.std.proofs.lemmas.List.Folds.{list_all-append}
-use Rattle.std.proofs.lemmas.List.Elements.{All-nil, All-cons, All-head, All-tail}
 use Rattle.vd_base.specs.declared.form.Form.{Form}
 use Rattle.vd_base.specs.declared.ids.SlotId.{SlotId}
 use Rattle.vd_base.specs.declared.ids.HostId.{HostId}
@@ -272,9 +271,6 @@ module _ (p : NormalForm) (l : Labels) (T : TruthTable → Bool) (vouched freed 
     all_obey : (ms : List M) → BlockObeys (statements ms)
     all_obey [] = none_obeys
     all_obey (m ∷ ms) = stmt_more m.0 (statements ms) m.1 (all_obey ms)
-
-    with_shown_binding : (x : ℕ) (sight : Sight) → Shown sight → list_all V (x ∷ []) ≡ true → list_all V (x ∷ sight.bindings) ≡ true
-    with_shown_binding x sight shown vis = and_of (V x) (list_all V sight.bindings) (and_parts (V x) true vis).0 shown.bindings
 
     with_shown : (x : ℕ) (xs : List ℕ) → list_all V (x ∷ []) ≡ true → list_all V xs ≡ true → list_all V (x ∷ xs) ≡ true
     with_shown x xs vis all = and_of (V x) (list_all V xs) (and_parts (V x) true vis).0 all

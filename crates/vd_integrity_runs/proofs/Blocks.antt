@@ -21,7 +21,7 @@ use Rattle.vd_execution.specs.World.{Tape}
 use Rattle.vd_execution.specs.Deals.{IsValidDeal}
 use Rattle.vd_duet.specs.Laws.{IsHost}
 use Rattle.vd_choreography.specs.Block.{Block, End, Let, NewVar, NewArray, Store, Put, Output, If, For, each}
-use Rattle.vd_choreography.specs.Joint.{Hosts as AnyHosts, Each as EachOf, IsIn, choice}
+use Rattle.vd_choreography.specs.Joint.{Each as EachOf, IsIn, choice}
 use Rattle.vd_choreography.specs.Suite.{Word, Cells, Made, Suite, Laws, picked, hosts_of as hosts_at}
 use Rattle.vd_choreography.specs.Emission.{Emitting, Emitted, Emission, delivered, right_made, if_made, for_made, loop_registers, after_loop_registers}
 use Rattle.vd_choreography.specs.Validity.{Fits, Placed, RightFits, RightPlaced, Reaches, emission_of, turns_at}
@@ -56,9 +56,6 @@ use Rattle.vd_integrity_runs.proofs.Guards.{NoneKeeps, RightAt, delivered_fresh,
 module _ (hosts : ℕ) (t : Tape) (deal : IsValidDeal t) (inputs : ℕ → List ℕ) (dealt : AreGiven inputs t) (proto : ℕ → Proto) (clear : (x : ℕ) → IsInClear (proto x)) (declared : (x : ℕ) → IsOver hosts (proto x))
     (k : Knowledge) (declassified : (x y : ℕ) → k.given.declassified x y ≡ false) (stays : (x : ℕ) → k.kept x ≡ true → IsKeptAt k.known (proto x)) (heard : (h : ℕ) → k.known h ≡ true → k.heard h ≡ true)
     (n : ℕ) (endorses : (x y : ℕ) → x < n → k.given.endorsed x y ≡ true → IsKeptAt k.known (proto x)) (closed : (x y : ℕ) → (k.freed.declassified x y ≡ false) × (k.freed.endorsed x y ≡ false)) (alike : (h : ℕ) → k.heard h ≡ true → k.known h ≡ true) where
-  abbrev m : AnyHosts
-  m = machine t inputs
-
   abbrev s : Suite (machine t inputs)
   s = suite t inputs hosts
 

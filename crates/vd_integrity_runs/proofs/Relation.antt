@@ -11,7 +11,6 @@ use Rattle.vd_execution.specs.Step.{Inputs}
 use Rattle.vd_execution.specs.World.{Tape}
 use Rattle.vd_duet.specs.Calls.{Places, hosts_of}
 use Rattle.vd_duet.specs.Laws.{AreBelow, IsIn}
-use Rattle.vd_choreography.specs.Joint.{Hosts as AnyHosts}
 use Rattle.vd_choreography.specs.Suite.{Content, Word, Cells, Suite}
 use Rattle.vd_choreography.proofs.Lists.{front_kept, at_end}
 use Rattle.vd_choreography.proofs.Sight.{Use, Binding, Variable, Array, Sees, changing, content, with_use, Which, New, Old, which}
@@ -59,9 +58,6 @@ sized_by_use Variable c c' x p size = size
 sized_by_use Array c c' x p size = size
 
 module _ (hosts : ℕ) (t : Tape) (inputs : ℕ → List ℕ) (proto : ℕ → Proto) (clear : (x : ℕ) → IsInClear (proto x)) where
-  abbrev pub m : AnyHosts
-  m = machine t inputs
-
   abbrev pub s : Suite (machine t inputs)
   s = suite t inputs hosts
 

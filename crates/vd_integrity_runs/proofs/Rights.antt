@@ -97,9 +97,6 @@ module _ (hosts : ℕ) (t : Tape) (deal : IsValidDeal t) (inputs : ℕ → List 
 
   -- ---- right words
   module _ (k : Knowledge) (declassified : (x y : ℕ) → k.given.declassified x y ≡ false) (stays : (x : ℕ) → k.kept x ≡ true → IsKeptAt k.known (proto x)) where
-    abbrev pub keeps : ℕ → Bool
-    keeps = k.known
-
     abbrev pub Trust : Sight → List Parts → Hosts → SlotState → Type 0
     Trust o held w c = InTrust hosts t inputs proto clear k.known k.kept o held w c
 

@@ -10,7 +10,6 @@ use Rattle.vd_base.specs.HostSets.{has_host, host}
 use Rattle.vd_base.specs.Holders.{proto_in}
 use Rattle.vd_core.specs.declared.normal.NormalForm.{NormalForm}
 use Rattle.vd_core.specs.Facts.{is_binding, nothing_seen, Seeing, slots_step, seeing_step, seeing_all, IsWellMade}
-use Rattle.vd_formula.specs.TruthTable.{TruthTable}
 use Rattle.vd_constraints.specs.declared.labels.Labels.{Labels}
 use Rattle.vd_constraints.specs.Rules.{system_of}
 use Rattle.vd_constraints.specs.Satisfies.{Satisfies}
@@ -150,9 +149,6 @@ module _ (p : NormalForm) (l : Labels) (well : IsWellMade p) (satisfies : Satisf
 
   abbrev proto : ℕ → Proto
   proto = proto_in protocols
-
-  abbrev T : TruthTable → Bool
-  T = against set
 
   abbrev view : ℕ → Bool
   view x = list_any (nat_eq x) (visible_slots (trusts_slot l (against set)) p.body)

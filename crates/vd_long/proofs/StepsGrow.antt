@@ -1,14 +1,13 @@
 -- Steps only make what is made larger.
 use Rattle.std.proofs.Common.{ℕ, ◌≤◌, List, [], ◌∷◌, arith}
-use Rattle.vd_core.specs.declared.normal.Slot.{Slot}
 use Rattle.vd_core.specs.declared.normal.Stmt.{Stmt}
 use Rattle.vd_core.specs.declared.normal.Stmt.TheOpen.{Stmt-F}
 use Rattle.vd_long.specs.declared.steps.Place.{Place}
 use Rattle.vd_long.specs.declared.steps.Step.{Step}
 use Rattle.vd_long.specs.declared.steps.Step.TheVariants.{Lit, Copy, Load, One, Two, Three, NewVar, Store}
-use Rattle.vd_rewrite.specs.Rewriting.{Made, emptied}
-use Rattle.vd_long.specs.Lengthened.{step_made, steps_made, Template}
-use Rattle.vd_long.specs.Steps.{step_of, step_in, steps_in, made_in, loop_in, division_in}
+use Rattle.vd_rewrite.specs.Rewriting.{Made}
+use Rattle.vd_long.specs.Lengthened.{step_made}
+use Rattle.vd_long.specs.Steps.{step_of, step_in, steps_in}
 use Rattle.vd_rewrite.specs.Stops.{size, IsTooLarge}
 
 step_more : (at : ℕ → ℕ) (offset block : ℕ) (s : Stmt-F Stmt) (m : Made) → size m ≤ size (step_made at offset block s m)
@@ -41,30 +40,3 @@ steps_more place (s ∷ ss) m =
 
 pub first_stops : (place : Place) (s : Step) (ss : List Step) (m : Made) → IsTooLarge (step_in place s m) → IsTooLarge (steps_in place (s ∷ ss) m)
 first_stops place s ss m large = let rest = steps_more place ss (step_in place s m) in omega (arith, rest, large)
-
-all_more : (at : ℕ → ℕ) (offset block : ℕ) (ss : List (Stmt-F Stmt)) (m : Made) → size m ≤ size (steps_made at offset block ss m)
-all_more at offset block [] m = omega arith
-all_more at offset block (s ∷ ss) m =
-    let one = step_more at offset block s m in
-    let rest = all_more at offset block ss (step_made at offset block s m) in
-    omega (arith, one, rest)
-
-made_more : (place : Place) (ss : List (Stmt-F Stmt)) (m : Made) → size m ≤ size (made_in place ss m)
-made_more place ss m = all_more _ place.offset place.block ss m
-
-loop_more : (place : Place) (ss : List (Stmt-F Stmt)) (m : Made) → size m ≤ size (loop_in place ss m)
-loop_more place ss m = all_more _ place.offset place.block ss (emptied m)
-
-pub behind_stops : (place : Place) (t : Template) (entry : Slot) (m : Made) → IsTooLarge (made_in place t.behind (loop_in place t.turn (made_in place t.start m))) → IsTooLarge (division_in place t entry m)
-behind_stops place t entry m large = omega (arith, large)
-
-pub turns_stop : (place : Place) (t : Template) (entry : Slot) (m : Made) → IsTooLarge (loop_in place t.turn (made_in place t.start m)) → IsTooLarge (division_in place t entry m)
-turns_stop place t entry m large =
-    let more = made_more place t.behind (loop_in place t.turn (made_in place t.start m)) in
-    omega (arith, large, more)
-
-pub start_stops : (place : Place) (t : Template) (entry : Slot) (m : Made) → IsTooLarge (made_in place t.start m) → IsTooLarge (division_in place t entry m)
-start_stops place t entry m large =
-    let more = loop_more place t.turn (made_in place t.start m) in
-    let more' = made_more place t.behind (loop_in place t.turn (made_in place t.start m)) in
-    omega (arith, large, more, more')

@@ -1,11 +1,11 @@
 -- Quiet steps after quiet steps.
 use Rattle.std.proofs.Common.{◌≡◌, ℕ, zero, suc, ◌+◌, ◌<◌, ◌≤◌, Bool, true, false, List, [], ◌∷◌, ◌++◌, length, take, get_or, refl, sym, ap, ◌∙◌, subst, arith, rules}
-use Rattle.std.specs.Prelude.{All, nat_lt, slice_set, if◌then◌else◌, None}
+use Rattle.std.specs.Prelude.{All, nat_lt, slice_set, if◌then◌else◌}
 use Rattle.vd_execution.specs.declared.instructions.Action.{Action}
-use Rattle.vd_execution.specs.Registers.{Registers, put, written}
+use Rattle.vd_execution.specs.Registers.{put}
 use Rattle.vd_execution.specs.Code.{Finished, weight}
 use borrow.Author.Tests.{ltb-true}
-use Rattle.vd_execution.specs.Step.{State, Source, Inputs, OwnWords, Triples, BitTriples, Pairs, Cursors, Need, Nothing, Item, Packet, Unequal, Ended, Deed, need, next, need_of_action, word_printed, deed_of_print, advanced}
+use Rattle.vd_execution.specs.Step.{State, Source, Inputs, OwnWords, Triples, BitTriples, Pairs, Cursors, Need, Nothing, Item, Packet, Unequal, Ended, Deed, need, next}
 use Rattle.vd_machine.specs.declared.frames.Frame.{Frame}
 use Rattle.vd_machine.specs.declared.frames.Frame.TheVariants.{Run, Loop}
 use Rattle.vd_machine.specs.declared.lists.Lists.{Lists}
@@ -17,7 +17,7 @@ use Rattle.vd_machine.specs.declared.want.Want.TheVariants as want
 use Rattle.vd_machine.specs.Machines.{held, cursors_of, IsLeft, IsMet, words_for, SamePeers}
 use Rattle.vd_machine.specs.Wants.{want_of, short, count_of}
 use Rattle.vd_machine.specs.Kept.{Kept, state_of, stepped, FrameFits, HasRoom, IsOver, IsSound, Same, frames_code, pending_of, loop_of}
-use Rattle.vd_machine.specs.Quietly.{IsQuietAt, IsQuiet, QuietSteps, Quietly, ActsQuietly, OpActsQuietly, GoesOn, IsFitting, TurnsInPlace, CounterFits, kept_as}
+use Rattle.vd_machine.specs.Quietly.{IsQuietAt, IsQuiet, QuietSteps, Quietly, OpActsQuietly, GoesOn, IsFitting, TurnsInPlace, CounterFits, kept_as}
 use Rattle.vd_machine.proofs.Framing.{same_refl, popped}
 use Rattle.vd_machine.proofs.Spans.{run_want, run_deed}
 use Rattle.vd_machine.proofs.Steps.{at_front, one_next, plain_fits, turn_next, turned_at}
@@ -70,18 +70,7 @@ met_alone l c (Packet p k) e = absurd cc
 met_alone l c (Unequal x y) e = absurd cc
 met_alone l c Ended e = absurd cc
 
--- an action that needs registers alone
-pub alone_quietly : (l : Lists) (f g : Registers) (t : Taken) (a : Action) → need_of_action f a ≡ Nothing → word_printed f a ≡ None → g ≡ written f a [] → ActsQuietly l f g t t a
-alone_quietly l f g t a needs unseen value = record {
-  quiet = record { wants = ap (want_of l (cursors_of t)) needs; unseen = ap deed_of_print unseen };
-  value = value ∙ sym (ap (λ n. written f a (words_for l (cursors_of t) [] n)) needs);
-  cursors = sym (ap (advanced (cursors_of t)) needs);
-}
-
 -- ---- a machine goes on
-
-pub goes_none : (m : Kept) → IsFitting m → GoesOn m m
-goes_none m fits = record { steps = quietly_none m.lists (state_of m) (state_of m) refl; fits = fits; room = λ n r. r }
 
 pub goes_both : (m k p : Kept) → k.lists ≡ m.lists → GoesOn m k → GoesOn k p → GoesOn m p
 goes_both m k p same a b = record {

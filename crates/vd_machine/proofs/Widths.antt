@@ -104,11 +104,3 @@ one_more code i w v w' x less e f a b so k d h l =
       | inl s ↦ instr_more w w' (get_or code k d) a (so k d s l)
       | inr s ↦ subst (InstrFits w') (e ∙ get_or_default code i x d less ∙ ap (λ j. get_or code j d) (sym s)) (instr_more v w' x b f)
     ]
-
-pub one_register : (rs : List Reg) (i w w' : ℕ) (x : Reg) → i < length rs → x ≡ get_or rs i x → w ≤ w' → x.0 + 1 ≤ w'
-    → ((k : ℕ) (d : Reg) → k < i → k < length rs → (get_or rs k d).0 < w) → (k : ℕ) (d : Reg) → k < i + 1 → k < length rs → (get_or rs k d).0 < w'
-one_register rs i w w' x less e a b so k d h l =
-    elim (same_or_less k i h) [
-      | inl s ↦ let p = so k d s l in omega (arith, p, a)
-      | inr s ↦ subst (λ (r : Reg). r.0 < w') (e ∙ get_or_default rs i x d less ∙ ap (λ j. get_or rs j d) (sym s)) (omega (arith, b))
-    ]

@@ -1,5 +1,5 @@
 -- What comes to a host in statements and turns, one after another.
-use Rattle.std.proofs.Common.{◌≡◌, ◌≢◌, ℕ, zero, suc, Bool, true, false, nat_eq, List, [], ◌∷◌, ◌++◌, append_assoc, append-nil, map, length, refl, sym, ap, ap₂, ◌∙◌, if◌then◌else◌, rules, Ok, Err}
+use Rattle.std.proofs.Common.{◌≡◌, ◌≢◌, ℕ, zero, suc, Bool, true, false, nat_eq, List, [], ◌∷◌, ◌++◌, append_assoc, append-nil, map, length, sym, ap, ap₂, ◌∙◌, if◌then◌else◌, rules, Ok, Err}
 use Rattle.std.specs.Prelude.{filter, ◌||◌}
 use Rattle.std.specs.List.{list_any}
 use Rattle.std.proofs.lemmas.List.Folds.{list_any-append}
@@ -17,7 +17,7 @@ use Rattle.vd_core.specs.declared.normal.NormalForm.{NormalForm}
 use Rattle.vd_noninter_laws.specs.Reading.{start}
 use Rattle.vd_semantics.specs.World.{World, world_at_start}
 use Rattle.vd_semantics.specs.Turns.{turns}
-use Rattle.vd_noninter_assigned.specs.Hearing.{Heard, heard, run_of, read_of, word_if, comes, heard_in_order, heard_in_turns}
+use Rattle.vd_noninter_assigned.specs.Hearing.{Heard, heard, run_of, read_of, comes, heard_in_order, heard_in_turns}
 use Rattle.vd_constraints.specs.declared.labels.Labels.{Labels}
 use Rattle.vd_noninter_difference.proofs.Labels.{labels_free}
 use Rattle.vd_noninter_difference.specs.Runs.{Hearer, HeardRun, no_labels, step_of, storing, making, writing, telling, heard_by, all_heard, after, after_all}
@@ -82,22 +82,6 @@ loop_after x count body turn r = turns_after count (all_heard x body) r ∙ ap (
 -- what comes to the host where operands are moved
 abbrev pub with_operands : Hearer → SlotId → List SlotId → HeardRun → HeardRun
 with_operands x onto ys r = with_words r.state (r.words ++ map (word_at r.state) (filter (λ y. comes x.protocols x.host y onto) ys))
-
-one_more : (b : Bool) (word : ℕ) (before behind : List ℕ) → before ++ word_if b word ++ behind ≡ before ++ (if b then word ∷ behind else behind)
-one_more true word before behind = append_assoc before (word ∷ []) behind
-one_more false word before behind = append_assoc before [] behind
-
-moved : (b : Bool) (s : SlotState) (y : SlotId) (ys : List SlotId) → (if b then word_at s y ∷ map (word_at s) ys else map (word_at s) ys) ≡ map (word_at s) (if b then y ∷ ys else ys)
-moved true s y ys = refl
-moved false s y ys = refl
-
--- the next operand is moved
-pub operand_moved : (x : Hearer) (onto y : SlotId) (ys : List SlotId) (r : HeardRun)
-    → with_operands x onto ys (record r { words = r.words ++ word_if (comes x.protocols x.host y onto) (word_at r.state y) }) ≡ with_operands x onto (y ∷ ys) r
-operand_moved x onto y ys r =
-    ap (with_words r.state)
-    (one_more (comes x.protocols x.host y onto) (word_at r.state y) r.words (map (word_at r.state) (filter (λ z. comes x.protocols x.host z onto) ys))
-    ∙ ap (λ zs. r.words ++ zs) (moved (comes x.protocols x.host y onto) r.state y (filter (λ z. comes x.protocols x.host z onto) ys)))
 
 -- ---- as the code goes
 

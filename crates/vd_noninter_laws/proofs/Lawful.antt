@@ -285,9 +285,6 @@ module _ (p : NormalForm) (l : Labels) (h : HostId) (test : ℕ → ℕ → Bool
     all_obey [] = none_obeys
     all_obey (m ∷ ms) = stmt_more m.0 (statements ms) m.1 (all_obey ms)
 
-    with_shown_binding : (x : ℕ) (sight : Sight) → Shown sight → list_all V (x ∷ []) ≡ true → list_all V (x ∷ sight.bindings) ≡ true
-    with_shown_binding x sight shown vis = and_of (V x) (list_all V sight.bindings) (and_parts (V x) true vis).0 shown.bindings
-
     with_shown : (x : ℕ) (xs : List ℕ) → list_all V (x ∷ []) ≡ true → list_all V xs ≡ true → list_all V (x ∷ xs) ≡ true
     with_shown x xs vis all = and_of (V x) (list_all V xs) (and_parts (V x) true vis).0 all
 

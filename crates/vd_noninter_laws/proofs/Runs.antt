@@ -1,15 +1,10 @@
 -- Two runs in step: what follows for blocks and loops from their statements.
-use Rattle.std.proofs.Common.{◌≡◌, ℕ, zero, suc, Bool, true, false, List, [], ◌∷◌, ◌++◌, append_assoc, map, refl, sym, ap, ◌∙◌, if◌then◌else◌}
+use Rattle.std.proofs.Common.{◌≡◌, ℕ, zero, suc, Bool, true, false, List, [], ◌∷◌, ◌++◌, append_assoc, map, refl, sym, ◌∙◌, if◌then◌else◌}
 use Rattle.vd_semantics.specs.ProgramMeaning.{SlotState, in_order}
 use Rattle.vd_semantics.specs.Turns.{turns}
-use Rattle.vd_semantics.specs.World.{later_words}
 use Rattle.vd_noninter_laws.specs.Flowing.{Knowledge}
 use Rattle.vd_noninter_laws.specs.Agreement.{Agree}
 use Rattle.vd_noninter_laws.specs.Watching.{Watched, run_of, given_by, freed_by, shown_by, words_in_order, words_of_turns}
-
-pub append_cancel : (xs ys zs : List ℕ) → xs ++ ys ≡ xs ++ zs → ys ≡ zs
-append_cancel [] ys zs e = e
-append_cancel (x ∷ xs) ys zs e = append_cancel xs ys zs (ap later_words e)
 
 module _ (k : Knowledge) where
   pub agree_refl : (s : SlotState) → Agree k s s
@@ -125,10 +120,6 @@ module _ (k : Knowledge) where
     freed = words_in_order freed_by (if c then b else a);
     shown = words_in_order shown_by (if c then b else a);
   }
-
-  pub seen_branch : (c : Bool) (a b : List Watched) → Seen (block a) → Seen (block b) → Seen (branch c a b)
-  seen_branch true a b first second = second
-  seen_branch false a b first second = first
 
   pub unseen_branch : (c : Bool) (a b : List Watched) → Unseen (block a) → Unseen (block b) → Unseen (branch c a b)
   unseen_branch true a b first second = second

@@ -1,5 +1,5 @@
 -- What the machine says of kinds, said of tokens.
-use Rattle.std.proofs.Common.{◌≡◌, ℕ, zero, suc, ◌+◌, ◌-◌, ◌<◌, ◌≤◌, true, false, List, [], ◌∷◌, ◌++◌, ◌⊎◌, inl, inr, length, take, drop, get_or, Some, None, refl, sym, ap, ◌∙◌, subst, true≢false, arith, length-append, append_assoc, ◌^◌, Result, Ok, Err, length-drop}
+use Rattle.std.proofs.Common.{◌≡◌, ℕ, zero, suc, ◌+◌, ◌-◌, ◌<◌, ◌≤◌, true, List, [], ◌∷◌, ◌++◌, ◌⊎◌, inl, inr, length, take, drop, get_or, Some, None, refl, sym, ap, ◌∙◌, subst, true≢false, arith, length-append, append_assoc, ◌^◌, Result, Ok, Err, length-drop}
 use Rattle.std.proofs.lemmas.List.{length-map}
 use Rattle.std.proofs.lemmas.Bool.{cases_lt}
 use Rattle.vd_source_ll1.specs.Grammar.{Ebnf, Sym, Starts, b-none, b-next}
@@ -18,19 +18,15 @@ use Rattle.vd_parser.specs.declared.fault.ParseFault.TheVariants as fault
 use Rattle.vd_source_lexer.specs.declared.token.Token.{Token}
 use Rattle.vd_source_lexer.specs.declared.token.TokenKind.{TokenKind}
 use Rattle.vd_source_lexer.specs.declared.token.TokenKind.TheVariants as kind
-use Rattle.vd_parser.specs.declared.cursor.Refusal.{Refusal}
 use Rattle.vd_parser.specs.declared.cursor.Refusal.TheVariants as refusal
 use Rattle.vd_parser.specs.Language.{Symbol, rule, SOURCE}
 use Rattle.vd_parser.specs.Syntax.{source_of}
 use Rattle.vd_parser.specs.Parsing.{language, next_kind, Refused}
 use Rattle.vd_parser.specs.Nesting.{opens}
-use Rattle.vd_parser.specs.Whole.{NoEnd, ParsesWhole, IsOutcome}
+use Rattle.vd_parser.specs.Whole.{NoEnd, IsOutcome}
 use Rattle.vd_parser.specs.Outcomes.{sentence, BeginSource, IsSource, IsUnexpected, IsTooDeep, IsParse}
 use Rattle.vd_parser.proofs.Ready.{F, E, language_ll1}
 use Rattle.vd_parser.proofs.Scan.{first_deep, NoneBefore, deep_at, none_in_front}
-
-code : Token → ℕ
-code t = code_of t.kind
 
 -- lists
 pub record Split (ts : List Token) (xs : List ℕ) (y : ℕ) : Type 0 where
@@ -303,14 +299,6 @@ pub one_at_least : (ts : List Token) → EndsOnce (kinds ts) → length ts - 1 +
 one_at_least ts h =
     let some : 0 < length ts = subst (λ n. 0 < n) (length-map ts (λ t. code_of t.kind)) h.some in
     omega (arith, some)
-
-pub refused_of : (text : List ℕ) (ts us : List Token) (r : Result Source Refusal) (f : Refusal) → r ≡ Err f → f ≡ refusal.Unexpected → ParsesWhole (Sym SOURCE) (source_of text) ts us r → Refused sentence ts us refusal.Unexpected
-refused_of text ts us (Ok v) f e h p = absurd cc
-refused_of text ts us (Err g) f e h p = let same : g ≡ f = cc in subst (Refused sentence ts us) (same ∙ h) p
-
-pub whole_of : (text : List ℕ) (ts us : List Token) (r : Result Source Refusal) (v : Source) → r ≡ Ok v → ParsesWhole (Sym SOURCE) (source_of text) ts us r → Gives language (Sym SOURCE) (source_of text) ts [] v
-whole_of text ts us (Ok w) v e p = let same : w ≡ v = cc in subst (λ z. Gives language (Sym SOURCE) (source_of text) ts [] z) same p.0
-whole_of text ts us (Err f) v e p = absurd cc
 
 tokens_few : {bs : List ℕ} {i : ℕ} {ts : List Token} → Lexes bs i ts → length ts ≤ length bs + 1
 tokens_few lexes_end = omega arith

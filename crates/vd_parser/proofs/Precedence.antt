@@ -1,5 +1,5 @@
 -- Operators as the parser tests them and as the grammar has them.
-use Rattle.std.proofs.Common.{◌≡◌, ℕ, ◌<◌, Bool, true, false, ◌||◌, if◌then◌else◌, Option, inl, inr, true≢false, List, [], ◌∷◌, ◌++◌, length, Some, None, nat_eq, refl, sym, ap, ◌∙◌, subst, arith, eqb-true}
+use Rattle.std.proofs.Common.{◌≡◌, ℕ, Bool, true, false, ◌||◌, if◌then◌else◌, Option, inl, inr, true≢false, List, [], ◌∷◌, ◌++◌, Some, None, nat_eq, refl, sym, ap, ◌∙◌, subst, eqb-true}
 use Rattle.std.proofs.lemmas.Bool.{or_left, or_from, cases_Bool, or_cases}
 use Rattle.vd_source_ll1.specs.Grammar.{Ebnf, Tok, Sym, Eps, Seq, Alt, Star, one_of}
 use Rattle.vd_source_ll1.specs.Machine.{has, first}
@@ -26,7 +26,7 @@ use Rattle.vd_parser.specs.declared.operators.Level.TheVariants as level
 use Rattle.vd_parser.specs.declared.cursor.Refusal.{Refusal}
 use Rattle.vd_parser.specs.Language.{Symbol, tok, BOR, BXOR, BAND, SUM, PROD, STMT, comparison_ops, shift_ops, prefix_ops}
 use Rattle.vd_parser.specs.Syntax.{token_of, span_of, infix_of, direction_of, prefix_of, prefixes_of, chained, link_of, bor_of, bor_links_of, bxor_of, bxor_links_of, band_of, band_links_of, sum_of, sum_links_of, prod_of, prod_links_of, shift_links_of, statements_of, statement_of}
-use Rattle.vd_parser.specs.Parsing.{language, next_kind, kind_at, Refused}
+use Rattle.vd_parser.specs.Parsing.{language, kind_at, Refused}
 use Rattle.vd_parser.specs.Levels.{begins_statement, is_kind, comparison_at, infix_at, prefix_at, direction_at, ops_of, symbol_of, operand_symbol, level_of, operand_of, links_of}
 use Rattle.vd_parser.proofs.Ready.{F, E, language_ll1}
 use Rattle.vd_source_ll1.proofs.Readings as readings
@@ -44,9 +44,6 @@ one c (d ∷ ds) t ts h = elim (cases_Bool (nat_eq (code_of t.kind) c)) [
   | inl e ↦ (let r : Gives language (Tok c) token_of (t ∷ ts) ts t = record { tree = Leaf t; read = readings.read_tok language E language_ll1 c t ts (eqb-true _ _ e); value = refl } in last (readings.into_left language E language_ll1 start (or_left _ false e)) r refl)
   | inr e ↦ (let r = one d ds t ts (subst (λ b. (b || has (code_of t.kind) (d ∷ ds)) ≡ true) e h) in last (readings.into_right language E language_ll1 start (or_from _ false e refl) refl) r r.value)
 ]
-
-pub head_at : (us vs : List Token) (t : Token) → us ≡ t ∷ vs → head language us ≡ code_of t.kind
-head_at us vs t s = head_is us ∙ ap next_kind s
 
 kind_of_first : (us vs : List Token) (t : Token) → us ≡ t ∷ vs → kind_at us ≡ t.kind
 kind_of_first us vs t s = ap kind_at s
@@ -143,27 +140,6 @@ direction_is _ o e = absurd (nowhere e)
 
 direction_none : (k : TokenKind) → direction_at k ≡ None → has (code_of k) (first F shift_ops) ≡ false
 direction_none k e = none_more (is_kind k kind.ShiftLeft) direction.Left _ _ (none_last (is_kind k kind.ShiftRight) direction.Right) e
-
--- tokens that are operators
-pub infix_there : (l : Level) (us : List Token) (o : Infix) → infix_at l (kind_at us) ≡ Some o → 0 < length us
-infix_there level.Or [] o e = absurd cc
-infix_there level.Xor [] o e = absurd cc
-infix_there level.And [] o e = absurd cc
-infix_there level.Sum [] o e = absurd cc
-infix_there level.Product [] o e = absurd cc
-infix_there l (t ∷ ts) o e = omega arith
-
-pub comparison_there : (us : List Token) (o : Infix) → comparison_at (kind_at us) ≡ Some o → 0 < length us
-comparison_there [] o e = absurd cc
-comparison_there (t ∷ ts) o e = omega arith
-
-pub prefix_there : (us : List Token) (o : Prefix) → prefix_at (kind_at us) ≡ Some o → 0 < length us
-prefix_there [] o e = absurd cc
-prefix_there (t ∷ ts) o e = omega arith
-
-pub direction_there : (us : List Token) (o : Direction) → direction_at (kind_at us) ≡ Some o → 0 < length us
-direction_there [] o e = absurd cc
-direction_there (t ∷ ts) o e = omega arith
 
 -- levels
 pub level_start : (l : Level) {ts : List Token} → Within language (Sym (symbol_of l)) ts (Seq (Sym (operand_symbol l)) (Star (Seq (ops_of l) (Sym (operand_symbol l))))) ts (λ x. x)

@@ -70,9 +70,6 @@ pub refused_last : {e d : Ebnf Symbol} {ts us vs : List Token} {up : Tree Token 
 unfolding language
 refused_last w r = record { stops = λ e. readings.stop_here language E language_ll1 w (r.stops e) }
 
-pub out_of_memory : {e : Ebnf Symbol} {ts us : List Token} {f : Refusal} → f ≡ refusal.Memory → Refused e ts us f
-out_of_memory {f = f} m = record { stops = λ e. absurd cc }
-
 -- choices, by the next token
 pub known : (k : TokenKind) (ts : List Token) (b : Bool) (a : Ebnf Symbol) → nat_eq (next_kind ts) (code_of k) ≡ true → has (code_of k) (first F a) ≡ b → has (head language ts) (first language.firsts a) ≡ b
 unfolding language
@@ -81,11 +78,6 @@ known k ts b a e h = subst (λ c. has c (first F a) ≡ b) (sym (head_is ts ∙ 
 pub into_left : {e a b : Ebnf Symbol} {ts us : List Token} {up : Tree Token → Tree Token} (k : TokenKind) → Within language e ts (Alt a b) us up → nat_eq (next_kind us) (code_of k) ≡ true → has (code_of k) (first F a) ≡ true → Within language e ts a us (λ x. up (First x))
 unfolding language
 into_left {a = a} {us = us} k w e h = readings.into_left language E language_ll1 w (known k us true a e h)
-
--- the next token is of a kind with which no text of the first begins
-pub past : {e a b : Ebnf Symbol} {ts us : List Token} {up : Tree Token → Tree Token} (k : TokenKind) → Within language e ts (Alt a b) us up → nat_eq (next_kind us) (code_of k) ≡ true → has (code_of k) (first F a) ≡ false → nullable a ≡ false → Within language e ts b us (λ x. up (Second x))
-unfolding language
-past {a = a} {us = us} k w e h m = readings.into_right language E language_ll1 w (known k us false a e h) m
 
 -- the first begins with one kind, and the next token is of another
 pub unlike : (c : ℕ) (ts : List Token) → nat_eq (next_kind ts) c ≡ false → has (head language ts) (c ∷ []) ≡ false

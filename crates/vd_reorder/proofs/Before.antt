@@ -1,12 +1,12 @@
 -- What was done before an instruction, the latest first.
-use Rattle.std.proofs.Common.{◌≡◌, ℕ, suc, ◌+◌, ◌<◌, Bool, true, false, if◌then◌else◌, List, [], ◌∷◌, ◌++◌, reverse, length, take, drop, get_or, refl, sym, ap, ◌∙◌, arith}
+use Rattle.std.proofs.Common.{◌≡◌, ℕ, ◌+◌, ◌<◌, Bool, true, false, if◌then◌else◌, List, [], ◌∷◌, ◌++◌, reverse, length, take, get_or, sym, ap, ◌∙◌, arith}
 use Rattle.std.specs.List.{filter}
-use Rattle.std.proofs.lemmas.List.{reverse-append, append_assoc, append-nil, drop_more, drop_all, take_more, take_all}
+use Rattle.std.proofs.lemmas.List.{reverse-append, append_assoc, take_all}
 use Rattle.std.proofs.lemmas.List.Elements.{filter_more}
 use Rattle.vd_execution.specs.declared.instructions.Reg.{Reg}
 use Rattle.vd_execution.specs.declared.instructions.Instr.{Instr}
 use Rattle.vd_execution.specs.declared.instructions.Instr.TheVariants as instr
-use Rattle.vd_reorder.specs.Packets.{touches, since, latest, opened, opened_in}
+use Rattle.vd_reorder.specs.Packets.{touches, since, latest}
 
 pub last_first : (rest earlier : List Instr) (last : Instr) → rest ≡ earlier ++ last ∷ [] → reverse rest ≡ last ∷ reverse earlier
 last_first rest earlier last is = ap reverse is ∙ reverse-append earlier (last ∷ [])
@@ -36,25 +36,6 @@ register_opened test sent place r old known new lt there known_is new_is =
 
 pub registers_opened : (test : Reg → Bool) (sent : List Reg) (place : ℕ) (old known : List Reg) → length sent ≡ place → known ≡ old ++ filter test (take place sent) → known ≡ old ++ filter test sent
 registers_opened test sent place old known end known_is = known_is ∙ ap (λ l. old ++ filter test l) (take_all place sent (omega (arith, end)))
-
-pub one_more : (code : List Instr) (place : ℕ) (x : Instr) (known new : List Reg) → place < length code → x ≡ get_or code place x
-    → new ≡ known ++ opened (reverse (take place code)) x → known ++ opened_in (reverse (take place code)) (drop place code) ≡ opened_in [] code
-    → new ++ opened_in (reverse (take (place + 1) code)) (drop (place + 1) code) ≡ opened_in [] code
-one_more code place x known new lt there is so_far =
-    let before = reverse (take place code) in
-    let front : reverse (take (place + 1) code) ≡ x ∷ before =
-    ap reverse (take_more code place x lt) ∙ ap (λ y. reverse (take place code ++ y ∷ [])) (sym there) ∙ reverse-append (take place code) (x ∷ []) in
-    let back : drop place code ≡ x ∷ drop (place + 1) code = drop_more code place x lt ∙ ap (λ y. y ∷ drop (place + 1) code) (sym there) in
-    ap (λ l. l ++ opened_in (reverse (take (place + 1) code)) (drop (place + 1) code)) is
-    ∙ ap (λ l. (known ++ opened before x) ++ opened_in l (drop (place + 1) code)) front
-    ∙ append_assoc known (opened before x) (opened_in (x ∷ before) (drop (place + 1) code))
-    ∙ ap (λ l. known ++ opened_in before l) (sym back)
-    ∙ so_far
-
-pub all_there : (code : List Instr) (place : ℕ) (known : List Reg) → length code ≡ place → known ++ opened_in (reverse (take place code)) (drop place code) ≡ opened_in [] code
-    → known ≡ opened_in [] code
-all_there code place known end so_far =
-    sym (append-nil known) ∙ ap (λ l. known ++ opened_in (reverse (take place code)) l) (sym (drop_all place code (omega (arith, end)))) ∙ so_far
 
 -- the latest of what was done
 pub latest_is : (test : Instr → List Instr → Bool) (before : List Instr) (rest earlier : List Instr) (last : Instr) → reverse rest ≡ before → rest ≡ earlier ++ last ∷ []

@@ -1,5 +1,5 @@
 -- An instruction or a block that goes behind others, neighbour by neighbour.
-use Rattle.std.proofs.Common.{◌≡◌, ℕ, zero, suc, ◌+◌, ◌-◌, ◌<◌, ◌≤◌, Bool, true, false, ◌&&◌, if◌then◌else◌, List, [], ◌∷◌, ◌++◌, length, take, drop, get_or, set, refl, sym, ap, ◌∙◌, subst, arith}
+use Rattle.std.proofs.Common.{◌≡◌, ℕ, zero, suc, ◌+◌, ◌-◌, ◌<◌, ◌≤◌, Bool, true, false, ◌&&◌, if◌then◌else◌, List, [], ◌∷◌, ◌++◌, length, take, drop, get_or, set, refl, sym, ap, ◌∙◌, arith}
 use Rattle.std.specs.List.{swap}
 use Rattle.std.proofs.lemmas.List.{drop_more, take-append-drop, take_all, take_more, drop_all, append-nil, length-take-le, length-append, length_push, get_or_at, get_or_default, set_at, append_assoc, take_at, drop_at}
 use Rattle.std.proofs.lemmas.List.Edits.{swap_is}
@@ -73,53 +73,6 @@ module _ (last : ℕ) (old : List Instr) (lt : last < length old) where
       ∙ append_assoc (take next top) (moved ∷ []) (x ∷ behind)
       ∙ ap (λ l. take next top ++ (l ++ x ∷ behind)) (sym only_moved)
       ∙ ap (λ l. take next top ++ (drop last (take (suc last) old) ++ (l ++ rest))) (sym opened)
-
--- ---- how far a block goes
-
-pub depth_grows : (d : ℕ) (i : Instr) → depth_behind d i ≤ suc d
-depth_grows d (instr.Do a) = omega arith
-depth_grows d (instr.Send p rs) = omega arith
-depth_grows d (instr.Recv p rs) = omega arith
-depth_grows d (instr.If g) = omega arith
-depth_grows d instr.Else = omega arith
-depth_grows d (instr.For r n) = omega arith
-depth_grows zero instr.End = omega arith
-depth_grows (suc d) instr.End = omega arith
-
-none_open : (d n : ℕ) → d ≡ 0 → if_open d n ≡ 0
-none_open zero n e = refl
-none_open (suc d) n e = absurd (omega (arith, e))
-
-some_open : (d n : ℕ) → (d ≡ 0 → ⊥) → if_open d n ≡ n
-some_open zero n e = absurd (e refl)
-some_open (suc d) n e = refl
-
-span_there : (code : List Instr) (place depth : ℕ) (i : Instr) → place < length code → i ≡ get_or code place i
-    → span depth (drop place code) ≡ suc (if_open (depth_behind depth i) (span (depth_behind depth i) (drop (place + 1) code)))
-span_there code place depth i lt there = ap (span depth) (drop_more code place i lt ∙ ap (λ x. x ∷ drop (place + 1) code) (sym there))
-
-pub span_goes_on : (code : List Instr) (place depth next goal : ℕ) (i : Instr) → place < length code → i ≡ get_or code place i → next ≡ depth_behind depth i → (next ≡ 0 → ⊥)
-    → place + span depth (drop place code) ≡ goal → (place + 1) + span next (drop (place + 1) code) ≡ goal
-span_goes_on code place depth next goal i lt there is some e =
-    let k : ℕ = depth_behind depth i in
-    let rest = drop (place + 1) code in
-    let one = span_there code place depth i lt there in
-    let two : if_open k (span k rest) ≡ span next rest = some_open k (span k rest) (λ z. some (is ∙ z)) ∙ ap (λ d. span d rest) (sym is) in
-    omega (arith, e, one, two)
-
-pub span_stops : (code : List Instr) (place depth next goal : ℕ) (i : Instr) → place < length code → i ≡ get_or code place i → next ≡ depth_behind depth i → next ≡ 0
-    → place + span depth (drop place code) ≡ goal → place + 1 ≡ goal
-span_stops code place depth next goal i lt there is none e =
-    let k : ℕ = depth_behind depth i in
-    let rest = drop (place + 1) code in
-    let one = span_there code place depth i lt there in
-    let two : if_open k (span k rest) ≡ 0 = none_open k (span k rest) (sym is ∙ none) in
-    omega (arith, e, one, two)
-
-pub span_ends : (code : List Instr) (place depth goal : ℕ) → length code ≤ place → place + span depth (drop place code) ≡ goal → place ≡ goal
-span_ends code place depth goal le e =
-    let none : span depth (drop place code) ≡ 0 = ap (span depth) (drop_all place code le) in
-    omega (arith, e, none)
 
 -- ---- what stands first sinks
 
@@ -252,10 +205,6 @@ module _ (test : Piece → Piece → Bool) (goal : List Instr) (size : ℕ) (cod
 
 -- ---- the whole pass
 
-pub all_begun : (test : Piece → Piece → Bool) (n : ℕ) (code : List Instr) (left : ℕ) → left ≡ length code → code ≡ take left code ++ hastened_text test n (drop left code)
-all_begun test n code left is =
-    sym (append-nil code) ∙ ap (λ l. l ++ []) (sym (take_all left code (omega (arith, is)))) ∙ ap (λ l. take left code ++ hastened_text test n l) (sym (drop_all left code (omega (arith, is))))
-
 pub all_more : (test : Piece → Piece → Bool) (n : ℕ) (old code new : List Instr) (left next : ℕ) → next + 1 ≡ left → left ≤ length old → code ≡ take left old ++ hastened_text test n (drop left old)
     → new ≡ take next code ++ sunk_first test n (drop next code) → new ≡ take next old ++ hastened_text test n (drop next old)
 all_more test n old code new left next one le is new_is =
@@ -269,6 +218,3 @@ all_more test n old code new left next one le is new_is =
     let back : drop next code ≡ x ∷ rest = ap (drop next) whole ∙ drop_at (take next old) (x ∷ rest) next len in
     let opened : drop next old ≡ x ∷ drop left old = drop_more old next instr.Else lt ∙ ap (λ k. x ∷ drop k old) one in
     new_is ∙ ap (λ l. l ++ sunk_first test n (drop next code)) front ∙ ap (λ l. take next old ++ sunk_first test n l) back ∙ ap (λ l. take next old ++ hastened_text test n l) (sym opened)
-
-pub all_done : (test : Piece → Piece → Bool) (n : ℕ) (old code : List Instr) (left : ℕ) → left ≡ 0 → code ≡ take left old ++ hastened_text test n (drop left old) → code ≡ hastened_text test n old
-all_done test n old code left none is = is ∙ ap (λ k. take k old ++ hastened_text test n (drop k old)) none

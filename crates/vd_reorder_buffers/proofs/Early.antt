@@ -60,10 +60,6 @@ pub all_free : (x : Stretch) (ys : List Piece) → AllPass x ys → AllFree ys
 all_free x [] may = tt
 all_free x (y ∷ ys) may = (stretch_free x y may.0, all_free x ys may.1)
 
-pub free_before : (ys zs : List Piece) → AllFree (ys ++ zs) → AllFree ys
-free_before [] zs f = tt
-free_before (y ∷ ys) zs f = (f.0, free_before ys zs f.1)
-
 pub free_behind : (ys zs : List Piece) → AllFree (ys ++ zs) → AllFree zs
 free_behind [] zs f = f
 free_behind (y ∷ ys) zs f = free_behind ys zs f.1

@@ -51,11 +51,6 @@ adds_both n n' s s' s'' le a b = record { world = b.world ∙ a.world; arrays = 
 pub adds_word : (n k w : ℕ) (s : SlotState) → n ≤ k → Adds n s (with_word (slot k) w s)
 adds_word n k w s le = record { world = refl; arrays = refl; below = λ j h. item_put_other 0 s.words k j w (λ e. omega arith) }
 
-pub wanted_same : (n : ℕ) (s s' : SlotState) (gs : List Guard) → LowGuards n gs → ((j : ℕ) → j < n → word s' j ≡ word s j) → all_wanted s' gs ≡ all_wanted s gs
-wanted_same n s s' [] low h = refl
-wanted_same n s s' (g ∷ gs) low h =
-    ap₂ (λ (a b : Bool). a && b) (ap (λ z. nat_eq (z % 2) (wanted g.first)) (h g.slot.0 low.0)) (wanted_same n s s' gs low.1 h)
-
 bit_choice : (n a b : ℕ) → n < 2 → (if nat_eq n 1 then a else b) ≡ (if nat_eq n 0 then b else a)
 bit_choice zero a b lt = refl
 bit_choice (suc zero) a b lt = refl

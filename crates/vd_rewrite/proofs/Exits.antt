@@ -58,9 +58,6 @@ module _ (hides : SlotId → Bool) (lets : Lets) (deep : ℕ) (lets_make : (x : 
           let same = ap size (whole_flat e) in
           omega arith
 
-      pub stops_second : flat ≡ true → IsTooLarge (both_run place (all a) (all b) offset gs block m) → IsTooLarge ((the s).run gs block m)
-      stops_second e large = let same = ap size (whole_flat e) in omega arith
-
       pub stops_block : flat ≡ false → IsTooLarge (record { next = m.next; slots = m.slots; table = m.table; blocks = m.blocks + 1; body = m.body }) → IsTooLarge ((the s).run gs block m)
       stops_block e large =
           let p = run_all (all a) [] m.blocks (block_more m) in
@@ -75,6 +72,3 @@ module _ (hides : SlotId → Bool) (lets : Lets) (deep : ℕ) (lets_make : (x : 
           let more' = body_more hides lets deep lets_make old b [] m.blocks (emptied p) in
           let same = ap size (whole_kept e) in
           omega arith
-
-      pub stops_else : flat ≡ false → IsTooLarge (run_all (all b) [] m.blocks (emptied (run_all (all a) [] m.blocks (block_more m)))) → IsTooLarge ((the s).run gs block m)
-      stops_else e large = let same = ap size (whole_kept e) in omega arith

@@ -2,7 +2,6 @@
 use Rattle.std.proofs.Common.{◌≡◌, ℕ, ◌+◌, ◌<◌, ◌≤◌, nat_le, Bool, true, false, ◌&&◌, List, [], map, refl, arith}
 use Rattle.std.proofs.lemmas.Bool.{leb-true}
 use Rattle.vd_base.specs.declared.ids.SlotId.{SlotId}
-use Rattle.vd_base.specs.declared.operations.Kind.{Kind}
 use Rattle.vd_base.specs.Limits.{most_statements, most_weights}
 use Rattle.vd_core.specs.declared.normal.Right.{Right}
 use Rattle.vd_core.specs.declared.normal.Slot.{Slot}
@@ -10,15 +9,12 @@ use Rattle.vd_core.specs.declared.normal.Stmt.{Stmt, Let}
 use Rattle.vd_core.specs.declared.normal.NormalForm.{NormalForm}
 use Rattle.vd_core.specs.Facts.{statement_count, weight_sum}
 use Rattle.vd_rewrite.specs.declared.guard.Guard.{Guard}
-use Rattle.vd_rewrite.specs.Rewriting.{Made, slot, entry_of, in_block, moved_right, selected, Rewriting, Lets, run_all, kept_let, rewriting, made_at_start, all_made, rewritten, is_within}
+use Rattle.vd_rewrite.specs.Rewriting.{Made, slot, entry_of, in_block, moved_right, Rewriting, Lets, run_all, kept_let, rewriting, made_at_start, all_made, rewritten, is_within}
 use Rattle.vd_rewrite.specs.Stops.{size, IsTooLarge}
-use Rattle.vd_rewrite.proofs.Shape.{Makes, makes_kept, slots_let, cells_let, nest_let, selected_makes, stmt_makes, body_makes}
+use Rattle.vd_rewrite.proofs.Shape.{Makes, makes_kept, slots_let, cells_let, nest_let, body_makes}
 
 abbrev pub anything : Slot → Bool
 anything s = true
-
-pub chain_more : (kind : Kind) (block : ℕ) (v : SlotId) (gs : List Guard) (y : SlotId) (m : Made) → size m ≤ size (selected kind block v gs y m).1
-chain_more kind block v gs y m = (selected_makes anything (λ k o b. refl) kind block v gs y m).more
 
 -- a Let that stays
 pub kept_makes : (old : List Slot) (x : SlotId) (r : Right) (block : ℕ) (m : Made) → Makes anything m (kept_let old x r block m) 0 0
@@ -33,9 +29,6 @@ module _ (hides : SlotId → Bool) (lets : Lets) (deep : ℕ) (lets_make : (x : 
 
     pub body_more : (body : List Stmt) (gs : List Guard) (block : ℕ) (m : Made) → size m ≤ size (run_all (map the body) gs block m)
     body_more body gs block m = (body_makes anything (λ k o b. refl) hides lets old (λ x b. refl) deep lets_make body gs block m).more
-
-    pub stmt_more : (s : Stmt) (gs : List Guard) (block : ℕ) (m : Made) → size m ≤ size ((the s).run gs block m)
-    stmt_more s gs block m = (stmt_makes anything (λ k o b. refl) hides lets old (λ x b. refl) deep lets_make s gs block m).more
 
     pub body_few : (body : List Stmt) (gs : List Guard) (block : ℕ) (m : Made) → size (run_all (map the body) gs block m) + statement_count m.body ≤ size m + statement_count (run_all (map the body) gs block m).body
     body_few body gs block m = (body_makes anything (λ k o b. refl) hides lets old (λ x b. refl) deep lets_make body gs block m).few

@@ -31,14 +31,6 @@ or_first : (a b : Bool) → a ≡ true → (a || b) ≡ true
 or_first true b h = refl
 or_first false b h = absurd (true≢false (sym h))
 
-and_false : (b : Bool) → (b && false) ≡ false
-and_false true = refl
-and_false false = refl
-
-both_true : (a b : Bool) → a ≡ true → b ≡ true → (a && b) ≡ true
-both_true true b h h' = h'
-both_true false b h h' = h
-
 some_push : (gs : List Guard) (g : Guard) → is_some (gs ++ g ∷ []) ≡ true
 some_push [] g = refl
 some_push (g' ∷ gs) g = refl

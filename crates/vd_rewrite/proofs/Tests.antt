@@ -42,12 +42,6 @@ module _ (test : Stmt-F Bool → Bool) (looks : Looks test) where
       let p = and_parts (tested s) (all_tested ss) h in
       rw (p.0, all_mapped ss p.1) refl
 
-  pub all_unmapped : (body : List Stmt) → list_all (λ b. b) (map tested body) ≡ true → all_tested body ≡ true
-  all_unmapped [] h = refl
-  all_unmapped (s ∷ ss) h =
-      let p = and_parts (tested s) (list_all (λ b. b) (map tested ss)) h in
-      rw (p.0, all_unmapped ss p.1) refl
-
   pub test_let : (x : SlotId) (r : Right) → tested (Let x r) ≡ test (Stmt-F.Let x r)
   test_let x r = search (rules, the_lemmas)
 

@@ -7,9 +7,6 @@ use Rattle.vd_core.specs.Facts.{Weighing, weigh_step, weighing}
 use Rattle.vd_rewrite.specs.Limits.{weight_at}
 use Rattle.vd_rewrite.proofs.Pushes.{sum_cons}
 
-AtLeast : Weighing → Type 0
-AtLeast f = (around : ℕ) → around ≤ f around
-
 step : (y : Stmt-F Weighing) (around : ℕ) → around ≤ weigh_step y around
 step (Stmt-F.Let x r) around = omega arith
 step (Stmt-F.NewVar v x) around = omega arith

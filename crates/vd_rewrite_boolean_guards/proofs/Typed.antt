@@ -68,12 +68,6 @@ Bindings m [] (d ∷ ds) = ⊥
 Bindings m (k ∷ ks) [] = ⊥
 Bindings m (k ∷ ks) (d ∷ ds) = Has m k d × Bindings m ks ds
 
-pub bindings_stay : (m m' : Made) → Grows m m' → (ks : List ℕ) (ds : List Kind) → Bindings m ks ds → Bindings m' ks ds
-bindings_stay m m' g [] [] h = tt
-bindings_stay m m' g [] (d ∷ ds) h = h
-bindings_stay m m' g (k ∷ ks) [] h = h
-bindings_stay m m' g (k ∷ ks) (d ∷ ds) h = (has_stays m m' k d g h.0, bindings_stay m m' g ks ds h.1)
-
 -- a call of a function with this signature
 abbrev pub FitsCall : Signature → Inlining → Type 0
 FitsCall signature c = (here : Here) (ks : List ℕ) (m : Made) → Sound m → Bindings m ks signature.parameters → Makes m (c here ks m) signature.result

@@ -135,9 +135,6 @@ module _ (l : Labels) where
   abbrev Rules : List Lower → Type 0
   Rules rs = All (HoldsRule l) rs
 
-  abbrev Checks : List Check → Type 0
-  Checks cs = All (HoldsCheck l) cs
-
   pub flows_met : (from to : Place) → Flows (label_at l from) (label_at l to) → All (HoldsRule l) (flows from to)
   flows_met from to f = together (HoldsRule l) (flows from to) (f.conf, (f.integ, tt))
 

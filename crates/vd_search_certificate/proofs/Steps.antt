@@ -1,5 +1,5 @@
 -- The steps of the reader, over plain lists.
-use Rattle.std.proofs.Common.{◌≡◌, ℕ, suc, ◌+◌, ◌-◌, ◌<◌, ◌≤◌, Bool, cond, Option, Some, None, Ok, Err, List, [], ◌∷◌, ◌++◌, length, get_or, drop, refl, sym, ap, ◌∙◌, arith, add-one, drop-cons}
+use Rattle.std.proofs.Common.{◌≡◌, ℕ, suc, ◌+◌, ◌-◌, ◌<◌, ◌≤◌, Bool, cond, Option, None, Ok, Err, List, [], ◌∷◌, ◌++◌, length, get_or, drop, refl, sym, ap, ◌∙◌, arith, add-one, drop-cons}
 use Rattle.std.proofs.lemmas.List.{drop_all}
 use Rattle.std.specs.Option.{option_map_or}
 use Rattle.std.proofs.lemmas.Bool.{eq-eqb, ne_eqb}
@@ -9,7 +9,7 @@ use Rattle.vd_base.specs.declared.faults.FileFault.{FileFault}
 use Rattle.vd_base.specs.declared.faults.FileFault.TheVariants.{Text, Memory}
 use Rattle.vd_search_certificate.specs.Steps.{Said, ShiftMoves}
 use Rattle.vd_search_certificate.specs.Texts.{newline}
-use Rattle.vd_search_certificate.specs.Scan.{Scanner, word, number, digits_after, read_to, stops_at, first_digit, with_digit, scan_marks, certificate, at_end, mark_of, scan_shift, scan_shifts}
+use Rattle.vd_search_certificate.specs.Scan.{Scanner, word, scan_marks, certificate, at_end, mark_of, scan_shift, scan_shifts}
 
 pub here : (bytes : List ℕ) (at b : ℕ) → at < length bytes → b ≡ get_or bytes at 0 → drop at bytes ≡ b ∷ drop (at + 1) bytes
 here bytes at b low is = rw (add-one at, is) (drop-cons bytes at 0 low)
@@ -19,61 +19,9 @@ gone bytes at high = drop_all at bytes high
 
 -- ---- words
 
-pub word_next : (expected bytes : List ℕ) (i at b : ℕ) → i < length expected → at < length bytes → b ≡ get_or bytes at 0 → b ≡ get_or expected i 0
-    → word (drop i expected) (drop at bytes) ≡ word (drop (i + 1) expected) (drop (at + 1) bytes)
-word_next expected bytes i at b low low_at is same =
-    ap (λ w. word w (drop at bytes)) (here expected i b low same) ∙ ap (word (b ∷ drop (i + 1) expected)) (here bytes at b low_at is)
-    ∙ ap (λ t. cond t (word (drop (i + 1) expected) (drop (at + 1) bytes)) (Err (b ∷ drop (at + 1) bytes))) (eq-eqb b b refl)
-
-pub word_other : (expected bytes : List ℕ) (i at b w : ℕ) → i < length expected → at < length bytes → b ≡ get_or bytes at 0 → w ≡ get_or expected i 0 → (b ≡ w → ⊥)
-    → word (drop i expected) (drop at bytes) ≡ Err (drop at bytes)
-word_other expected bytes i at b w low low_at is same other =
-    ap (λ x. word x (drop at bytes)) (here expected i w low same) ∙ ap (word (w ∷ drop (i + 1) expected)) (here bytes at b low_at is)
-    ∙ ap (λ t. cond t (word (drop (i + 1) expected) (drop (at + 1) bytes)) (Err (b ∷ drop (at + 1) bytes))) (ne_eqb b w other)
-    ∙ ap Err (sym (here bytes at b low_at is))
-
 pub word_ended : (expected bytes : List ℕ) (i at : ℕ) → i < length expected → length bytes ≤ at → word (drop i expected) (drop at bytes) ≡ Err (drop at bytes)
 word_ended expected bytes i at low high =
     ap (λ x. word x (drop at bytes)) (here expected i (get_or expected i 0) low refl) ∙ ap (word (get_or expected i 0 ∷ drop (i + 1) expected)) (gone bytes at high) ∙ ap Err (sym (gone bytes at high))
-
-pub word_done : (expected rest : List ℕ) (i : ℕ) → length expected ≤ i → word (drop i expected) rest ≡ Ok rest
-word_done expected rest i high = ap (λ x. word x rest) (gone expected i high)
-
--- ---- numbers
-
-module _ (most end : ℕ) (bytes : List ℕ) (at n b : ℕ) (low : at < length bytes) (is : b ≡ get_or bytes at 0) where
-  pub digit_ends : b ≡ end → digits_after most end n (drop at bytes) ≡ read_to n (drop (at + 1) bytes)
-  digit_ends same =
-      ap (digits_after most end n) (here bytes at b low is)
-      ∙ ap (λ t. cond t (read_to n (drop (at + 1) bytes)) (option_map_or (λ m. digits_after most end m (drop (at + 1) bytes)) (with_digit most n b) (stops_at (b ∷ drop (at + 1) bytes)))) (eq-eqb b end same)
-
-  pub digit_goes : (b ≡ end → ⊥) → (m : ℕ) → Some m ≡ with_digit most n b → digits_after most end n (drop at bytes) ≡ digits_after most end m (drop (at + 1) bytes)
-  digit_goes other m next =
-      ap (digits_after most end n) (here bytes at b low is)
-      ∙ ap (λ t. cond t (read_to n (drop (at + 1) bytes)) (option_map_or (λ m. digits_after most end m (drop (at + 1) bytes)) (with_digit most n b) (stops_at (b ∷ drop (at + 1) bytes)))) (ne_eqb b end other)
-      ∙ ap (λ o. option_map_or (λ m. digits_after most end m (drop (at + 1) bytes)) o (stops_at (b ∷ drop (at + 1) bytes))) (sym next)
-
-  pub digit_stops : (b ≡ end → ⊥) → None ≡ with_digit most n b → digits_after most end n (drop at bytes) ≡ stops_at (drop at bytes)
-  digit_stops other next =
-      ap (digits_after most end n) (here bytes at b low is)
-      ∙ ap (λ t. cond t (read_to n (drop (at + 1) bytes)) (option_map_or (λ m. digits_after most end m (drop (at + 1) bytes)) (with_digit most n b) (stops_at (b ∷ drop (at + 1) bytes)))) (ne_eqb b end other)
-      ∙ ap (λ o. option_map_or (λ m. digits_after most end m (drop (at + 1) bytes)) o (stops_at (b ∷ drop (at + 1) bytes))) (sym next)
-      ∙ ap stops_at (sym (here bytes at b low is))
-
-pub digits_gone : (most end n : ℕ) (bytes : List ℕ) (at : ℕ) → length bytes ≤ at → digits_after most end n (drop at bytes) ≡ stops_at (drop (length bytes) bytes)
-digits_gone most end n bytes at high = ap (digits_after most end n) (gone bytes at high) ∙ ap stops_at (sym (gone bytes (length bytes) (omega arith)))
-
-module _ (least most end : ℕ) (bytes : List ℕ) (at b : ℕ) (low : at < length bytes) (is : b ≡ get_or bytes at 0) where
-  pub first_goes : (n : ℕ) → Some n ≡ first_digit least most b → digits_after most end n (drop (at + 1) bytes) ≡ number least most end (drop at bytes)
-  first_goes n first = sym (ap (number least most end) (here bytes at b low is) ∙ ap (λ o. option_map_or (λ m. digits_after most end m (drop (at + 1) bytes)) o (stops_at (b ∷ drop (at + 1) bytes))) (sym first))
-
-  pub first_stops : None ≡ first_digit least most b → number least most end (drop at bytes) ≡ stops_at (drop at bytes)
-  first_stops first =
-      ap (number least most end) (here bytes at b low is) ∙ ap (λ o. option_map_or (λ m. digits_after most end m (drop (at + 1) bytes)) o (stops_at (b ∷ drop (at + 1) bytes))) (sym first)
-      ∙ ap stops_at (sym (here bytes at b low is))
-
-pub number_gone : (least most end : ℕ) (bytes : List ℕ) (at : ℕ) → length bytes ≤ at → number least most end (drop at bytes) ≡ stops_at (drop at bytes)
-number_gone least most end bytes at high = ap (number least most end) (gone bytes at high) ∙ ap stops_at (sym (gone bytes at high))
 
 -- ---- marks
 
@@ -91,12 +39,6 @@ module _ (cost : Option ℕ) (linked : Bool) (shifts : List Shift) (marks : List
     where
       next : drop (at + 1) bytes ≡ get_or bytes (at + 1) 0 ∷ drop (at + 1 + 1) bytes
       next = here bytes (at + 1) (get_or bytes (at + 1) 0) more refl
-
-  pub mark_goes : (b ≡ newline → ⊥) → (mark : Mark) → Some mark ≡ mark_of b → scan_marks cost linked shifts marks (drop at bytes) ≡ scan_marks cost linked shifts (marks ++ mark ∷ []) (drop (at + 1) bytes)
-  mark_goes other mark found =
-      ap (scan_marks cost linked shifts marks) (here bytes at b low is)
-      ∙ ap (λ t. cond t (at_end (certificate cost linked shifts marks) (drop (at + 1) bytes)) (option_map_or (λ mark. scan_marks cost linked shifts (marks ++ mark ∷ []) (drop (at + 1) bytes)) (mark_of b) (Err (b ∷ drop (at + 1) bytes)))) (ne_eqb b newline other)
-      ∙ ap (λ o. option_map_or (λ mark. scan_marks cost linked shifts (marks ++ mark ∷ []) (drop (at + 1) bytes)) o (Err (b ∷ drop (at + 1) bytes))) (sym found)
 
   pub mark_stops : (b ≡ newline → ⊥) → None ≡ mark_of b → scan_marks cost linked shifts marks (drop at bytes) ≡ Err (drop at bytes)
   mark_stops other found =

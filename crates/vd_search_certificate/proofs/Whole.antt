@@ -360,9 +360,6 @@ heading_is true rest = refl
 heading_is false rest = refl
 
 module _ (marks : List Mark) where
-  empty_text : text_of (certificate None false [] marks) ≡ codes "viaduct-cert 1\nempty\n" ++ marks_text marks
-  empty_text = refl
-
   least_text : (cost : ℕ) → text_of (certificate (Some cost) false [] marks) ≡ codes "viaduct-cert 1\ncost " ++ (decimal cost ++ (newline ∷ marks_text marks))
   least_text cost = ap (λ x. codes "viaduct-cert 1\n" ++ x) (cost_line cost (marks_text marks))
 

@@ -37,10 +37,6 @@ module _ (tree : Tree) (listed : (prefix rest : List ℕ) (choice : ℕ) → IsT
   abbrev BestBelow : List ℕ → ℕ → Type 0
   BestBelow prefix n = ((choice : ℕ) × (rest : List ℕ) × IsFirstBelow prefix n choice rest) ⊎ NoneBelow prefix n
 
-  in_order_same : (xs : List ℕ) → InOrder xs xs
-  in_order_same [] = tt
-  in_order_same (x ∷ xs) = inr (refl, in_order_same xs)
-
   -- a list of the length of the prefix is the prefix
   nothing_behind : (prefix rest : List ℕ) → length prefix ≡ tree.slots → IsWhole tree (prefix ++ rest) → rest ≡ []
   nothing_behind prefix [] full whole = refl

@@ -1,9 +1,9 @@
 -- The lists of the rules that read each part, while they grow.
-use Rattle.std.proofs.Common.{◌≡◌, ℕ, ◌+◌, ◌*◌, ◌<◌, ◌≤◌, Bool, true, false, Option, Some, None, List, [], ◌∷◌, ◌++◌, length, get_or, set, replicate, refl, sym, ap, ◌∙◌, subst, arith, inl, inr}
+use Rattle.std.proofs.Common.{◌≡◌, ℕ, ◌+◌, ◌*◌, ◌<◌, ◌≤◌, Bool, true, false, Option, Some, None, List, [], ◌∷◌, ◌++◌, length, get_or, set, sym, ap, ◌∙◌, subst, arith, inl, inr}
 use Rattle.std.specs.Prelude.{All, Contains, IfSome}
 use Rattle.std.proofs.lemmas.Bool.{cases_eq}
-use Rattle.std.proofs.lemmas.List.{length-replicate, length-set, get_or_default, get_or-set_same, get_or-set_other}
-use Rattle.std.proofs.lemmas.List.Elements.{All-nil, All-push, All-set, All-weaker, All-replicate, Contains-push, Contains-append_left}
+use Rattle.std.proofs.lemmas.List.{length-set, get_or_default, get_or-set_same, get_or-set_other}
+use Rattle.std.proofs.lemmas.List.Elements.{All-push, All-set, All-weaker, Contains-push, Contains-append_left}
 use Rattle.std.proofs.Math.ListN.{length-append}
 use Rattle.vd_constraints.specs.declared.system.Place.{Place}
 use Rattle.vd_constraints.specs.declared.system.Place.TheVariants.{Slot, Block}
@@ -31,14 +31,6 @@ read_low s (Constant f) valid = tt
 read_low s (Same part) valid = valid
 read_low s (Given f part) valid = valid.1
 read_low s (Or f part) valid = valid.1
-
-pub index_none : (s : Constraints) → IsIndex s 0 (replicate (2 * (s.slots + s.blocks)) [])
-index_none s = record {
-  count = length-replicate (2 * (s.slots + s.blocks)) [];
-  rules = All-replicate (All (λ rule. rule < 0)) (2 * (s.slots + s.blocks)) [] (All-nil (λ rule. rule < 0));
-  short = All-replicate (λ (list : List ℕ). length list ≤ 0) (2 * (s.slots + s.blocks)) [] (omega arith);
-  complete = λ rule d low. absurd (omega arith);
-}
 
 module _ (s : Constraints) (n : ℕ) (readers : List (List ℕ)) (so_far : IsIndex s n readers) where
   abbrev Read : List (List ℕ) → ℕ → Option Part → Type 0

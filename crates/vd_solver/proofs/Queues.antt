@@ -1,12 +1,12 @@
 -- Queues of rules that wait.
-use Rattle.std.proofs.Common.{◌≡◌, ℕ, zero, suc, ◌+◌, ◌<◌, ◌≤◌, Bool, true, false, List, [], ◌∷◌, ◌++◌, length, get_or, set, take, refl, sym, ap, ◌∙◌, subst, arith, inl, inr}
+use Rattle.std.proofs.Common.{◌≡◌, ℕ, zero, suc, ◌+◌, ◌<◌, Bool, true, false, List, [], ◌∷◌, ◌++◌, length, get_or, set, take, sym, ap, ◌∙◌, subst, arith, inl, inr}
 use Rattle.std.specs.Prelude.{All, Contains, IsTrue}
 use Rattle.std.proofs.lemmas.Bool.{cases_eq, true≢false}
-use Rattle.std.proofs.lemmas.List.{length-set, get_or-set_same, get_or-set_other, get_or_past}
-use Rattle.std.proofs.lemmas.List.Elements.{All-push, All-more, All-nil, All-weaker, Contains-push, Contains-append_left, Contains-append_cases}
+use Rattle.std.proofs.lemmas.List.{length-set, get_or-set_same, get_or-set_other}
+use Rattle.std.proofs.lemmas.List.Elements.{All-push, All-more, All-weaker, Contains-push, Contains-append_left, Contains-append_cases}
 use Rattle.std.proofs.Math.ListN.{length-append, length-take}
 use Rattle.vd_solver.specs.declared.waiting.Waiting.{Waiting}
-use Rattle.vd_solver.specs.Visits.{IsWaiting, IsQueue, TakesRule, AddsRules}
+use Rattle.vd_solver.specs.Visits.{IsWaiting, AddsRules}
 
 only : (x y : ℕ) → Contains (x ∷ []) y → x ≡ y
 only x y (zero, low, same) = same
@@ -45,8 +45,6 @@ module _ (flags : List Bool) (queue : List ℕ) (rule : ℕ) where
   ]
 
 -- ---- the rules of a list put in, one after another
-pub adds_none : (w : Waiting) (rules : List ℕ) → IsQueue w → AddsRules w (take 0 rules) w
-adds_none w rules queue = record { count = refl; queue = queue; added = All-nil (IsWaiting w); kept = λ rule waits. waits; longer = omega arith }
 
 module _ (old w : Waiting) (rules : List ℕ) (i rule : ℕ) (low : i < length rules) (is : rule ≡ get_or rules i rule) (so_far : AddsRules old (take i rules) w) where
   long : length (take (i + 1) rules) ≡ length (take i rules) + 1

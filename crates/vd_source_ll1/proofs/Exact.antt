@@ -71,29 +71,6 @@ module _ (S : Type 0) (F E : S → List ℕ) where
       let p = and_parts (is_ll1 F E a) _ h in
       (is_ll1-Ok a p.0, apart-apart (follow_last F E a) (first F a) p.1)
 
-  pub nullable-follow_last : (t : ℕ) (e : Ebnf S) → nullable e ≡ true → has t (first F e) ≡ true → has t (follow_last F E e) ≡ true
-  nullable-follow_last t (Tok c) n h = absurd (true≢false (sym n))
-  nullable-follow_last t (Sym s) n h = absurd (true≢false (sym n))
-  nullable-follow_last t Eps n h = h
-  nullable-follow_last t (Seq a b) n h =
-      let p = and_parts (nullable a) (nullable b) n in
-      elim (has-cases t (first F a) _ h) [
-        | inl x ↦ has-right t (follow_last F E b) _ (kept-has t (nullable b) (follow_last F E a) p.1 (nullable-follow_last t a p.0 x))
-        | inr y ↦ has-left t (follow_last F E b) _ (nullable-follow_last t b p.1 (has-kept t (nullable a) (first F b) y).1)
-      ]
-  nullable-follow_last t (Alt a b) n h =
-      elim (or_cases (nullable a) (nullable b) n) [
-        | inl na ↦ elim (has-cases t (first F a) _ h) [
-          | inl x ↦ has-left t (follow_last F E a ++ follow_last F E b) _ (has-left t (follow_last F E a) _ (nullable-follow_last t a na x))
-          | inr y ↦ has-right t (follow_last F E a ++ follow_last F E b) _ (has-left t _ _ (kept-has t (nullable a) (first F b) na y))
-        ]
-        | inr nb ↦ elim (has-cases t (first F a) _ h) [
-          | inl x ↦ has-right t (follow_last F E a ++ follow_last F E b) _ (has-right t (elim (nullable a) [ true ↦ first F b | false ↦ [] ]) _ (kept-has t (nullable b) (first F a) nb x))
-          | inr y ↦ has-left t (follow_last F E a ++ follow_last F E b) _ (has-right t (follow_last F E a) _ (nullable-follow_last t b nb y))
-        ]
-      ]
-  nullable-follow_last t (Star a) n h = has-left t (first F a) _ h
-
   abbrev pub Fine : List (Ebnf S) → Type 0
   Fine [] = Unit {0}
   Fine (k ∷ ks) = Ok k × Apart (follow_last F E k) (firsts_of F ks) × Fine ks

@@ -1,6 +1,6 @@
 -- A grammar and the same grammar left factored have the same texts and the same beginnings.
 use Rattle.std.proofs.Common.{ℕ, List}
-use Rattle.vd_source_ll1.specs.Grammar.{Ebnf, Tok, Eps, Seq, Alt, Derives, d-tok, d-sym, d-eps, d-seq, d-left, d-right, d-stop, d-more, Begins, b-none, b-tok, b-sym, b-first, b-next, b-left, b-right, b-one, b-more}
+use Rattle.vd_source_ll1.specs.Grammar.{Ebnf, Alt, Derives, d-tok, d-sym, d-eps, d-seq, d-left, d-right, d-stop, d-more, Begins, b-none, b-tok, b-sym, b-first, b-next, b-left, b-right, b-one, b-more}
 
 -- one rule for another, where the other's rules make each text of the first
 module _ (S : Type 0) (rule rule' : S → Ebnf S) (gens : (s : S) (ts m : List ℕ) → Derives S rule' (rule s) ts m → Derives S rule' (rule' s) ts m) where
@@ -27,35 +27,6 @@ module _ (S : Type 0) (rule rule' : S → Ebnf S) (gens : (s : S) (ts m : List �
     begins_to (b-more g h) = b-more (derives_to g) (begins_to h)
 
 module _ (S : Type 0) (rule : S → Ebnf S) where
-  -- two ways with one first token are one way with the rest left out or there
-  pub factor : {c : ℕ} {x r : Ebnf S} {ts m : List ℕ} → Derives S rule (Alt (Tok c) (Alt (Seq (Tok c) x) r)) ts m → Derives S rule (Alt (Seq (Tok c) (Alt x Eps)) r) ts m
-  factor (d-left g) = d-left (d-seq g (d-right d-eps))
-  factor (d-right (d-left (d-seq g h))) = d-left (d-seq g (d-left h))
-  factor (d-right (d-right g)) = d-right g
-
-  pub spread : {c : ℕ} {x r : Ebnf S} {ts m : List ℕ} → Derives S rule (Alt (Seq (Tok c) (Alt x Eps)) r) ts m → Derives S rule (Alt (Tok c) (Alt (Seq (Tok c) x) r)) ts m
-  spread (d-left (d-seq g (d-left h))) = d-right (d-left (d-seq g h))
-  spread (d-left (d-seq g (d-right d-eps))) = d-left g
-  spread (d-right g) = d-right (d-right g)
-
-  pub b-factor : {c : ℕ} {x r : Ebnf S} {ts : List ℕ} → Begins S rule (Alt (Tok c) (Alt (Seq (Tok c) x) r)) ts → Begins S rule (Alt (Seq (Tok c) (Alt x Eps)) r) ts
-  b-factor b-none = b-none
-  b-factor (b-left g) = b-left (b-first g)
-  b-factor (b-right b-none) = b-none
-  b-factor (b-right (b-left b-none)) = b-none
-  b-factor (b-right (b-left (b-first g))) = b-left (b-first g)
-  b-factor (b-right (b-left (b-next g h))) = b-left (b-next g (b-left h))
-  b-factor (b-right (b-right g)) = b-right g
-
-  pub b-spread : {c : ℕ} {x r : Ebnf S} {ts : List ℕ} → Begins S rule (Alt (Seq (Tok c) (Alt x Eps)) r) ts → Begins S rule (Alt (Tok c) (Alt (Seq (Tok c) x) r)) ts
-  b-spread b-none = b-none
-  b-spread (b-left b-none) = b-none
-  b-spread (b-left (b-first g)) = b-left g
-  b-spread (b-left (b-next g b-none)) = b-right (b-left (b-next g b-none))
-  b-spread (b-left (b-next g (b-left h))) = b-right (b-left (b-next g h))
-  b-spread (b-left (b-next g (b-right b-none))) = b-right (b-left (b-next g b-none))
-  b-spread (b-right g) = b-right (b-right g)
-
   pub under : {a b b' : Ebnf S} {ts m : List ℕ} → (Derives S rule b ts m → Derives S rule b' ts m) → Derives S rule (Alt a b) ts m → Derives S rule (Alt a b') ts m
   under f (d-left g) = d-left g
   under f (d-right g) = d-right (f g)

@@ -20,9 +20,6 @@ has-if : (t : ℕ) (b : Bool) (xs : List ℕ) → has t (elim b [ true ↦ xs | 
 has-if t true xs = refl
 has-if t false xs = refl
 
-not-has : (t : ℕ) (xs ys : List ℕ) → has t xs ≡ false → has t ys ≡ false → has t (xs ++ ys) ≡ false
-not-has t xs ys p q = has-append t xs ys ∙ or_from _ _ p q
-
 -- the choices at one part after another, by a table
 seq_table : {X : Type 0} (p q r s : Bool) (x y z w : X) →
     ◌≡◌ {A = X} (elim (p || (q && r)) [ true ↦ (elim p [ true ↦ x | false ↦ y ]) | false ↦ (elim (q && s) [ true ↦ z | false ↦ w ]) ])
@@ -174,10 +171,6 @@ module _ {S T : Type 0} (g : Grammar S T) (E : S → List ℕ) (ll1 : IsLL1 S g.
     runs = λ ks. w.runs ks ∙ same_step us _ _ (step_seq S g.rule g.firsts E g.bound ll1 (head g us) ks a b) ∙ r.runs (b ∷ ks);
     shorter = omega (arith, w.shorter, r.shorter);
   }
-
-  -- an optional part that is there, or is not
-  pub read_some : {a : Ebnf S} {ts us : List T} {x : Tree T} → has (head g ts) (first g.firsts a) ≡ true → Read g a ts us x → Read g (Alt a Eps) ts us (First x)
-  read_some h r = last_read (into_left begin h) r
 
   pub read_left_out : {a : Ebnf S} (ts : List T) → has (head g ts) (first g.firsts a) ≡ false → nullable a ≡ false → Read g (Alt a Eps) ts ts (Second Empty)
   read_left_out ts h m = last_read (into_right begin h m) (read_none ts)

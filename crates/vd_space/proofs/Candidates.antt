@@ -1,8 +1,8 @@
 -- Candidates: the loop over protocols, and what stands is a candidate.
-use Rattle.std.proofs.Common.{◌≡◌, ℕ, zero, suc, ◌+◌, ◌-◌, ◌<◌, ◌≤◌, Bool, true, false, ◌||◌, ◌&&◌, List, [], ◌∷◌, ◌++◌, length, drop, refl, sym, ap, ◌∙◌, subst, arith}
+use Rattle.std.proofs.Common.{◌≡◌, ℕ, zero, suc, ◌+◌, ◌-◌, ◌<◌, Bool, false, ◌||◌, ◌&&◌, List, [], ◌∷◌, length, refl, ap, ◌∙◌, subst, arith}
 use Rattle.std.specs.Prelude.{IsTrue, nat_lt, is_some}
 use Rattle.std.specs.List.{list_all, list_any, range_with_len}
-use Rattle.std.proofs.lemmas.Bool.{true≢false, and_parts, and_from, or_left, or_right, ltb-true}
+use Rattle.std.proofs.lemmas.Bool.{and_parts, and_from, or_left, or_right, ltb-true}
 use Rattle.vd_base.specs.Costs.{cost_at}
 use Rattle.vd_protocol.specs.Authority.{authority_of}
 use Rattle.vd_space.specs.declared.problem.Problem.{Problem}
@@ -15,14 +15,6 @@ pub place_passed : (test : ℕ → Bool) (k n : ℕ) → k < n → test k ≡ fa
 place_passed test k n low fails =
     let one : n - k ≡ suc (n - (k + 1)) = omega arith in
     ap (λ m. list_any test (range_with_len k m)) one ∙ ap (λ b. b || list_any test (range_with_len (k + 1) (n - (k + 1)))) fails
-
-pub place_found : (test : ℕ → Bool) (k n : ℕ) → k < n → test k ≡ true → list_any test (range_with_len k (n - k)) ≡ true
-place_found test k n low passes =
-    let one : n - k ≡ suc (n - (k + 1)) = omega arith in
-    ap (λ m. list_any test (range_with_len k m)) one ∙ ap (λ b. b || list_any test (range_with_len (k + 1) (n - (k + 1)))) passes
-
-pub none_left : (test : ℕ → Bool) (k n : ℕ) → n ≤ k → list_any test (range_with_len k (n - k)) ≡ false
-none_left test k n high = let none : n - k ≡ 0 = omega arith in ap (λ m. list_any test (range_with_len k m)) none
 
 -- a number of a range that passes
 any_of_range : (test : ℕ → Bool) (a n k : ℕ) → k < n → IsTrue (test (k + a)) → IsTrue (list_any test (range_with_len a n))

@@ -1,5 +1,5 @@
 -- Each least is small, and a sum over a list grows item by item.
-use Rattle.std.proofs.Common.{◌≡◌, ℕ, ◌+◌, ◌*◌, ◌<◌, ◌≤◌, Bool, true, false, cond, Option, Some, None, List, [], ◌∷◌, length, get_or, take, refl, sym, ap, ◌∙◌, subst, arith, slice_get}
+use Rattle.std.proofs.Common.{◌≡◌, ℕ, ◌+◌, ◌*◌, ◌<◌, ◌≤◌, Option, Some, None, List, [], ◌∷◌, length, get_or, take, refl, sym, ap, ◌∙◌, subst, arith, slice_get}
 use Rattle.std.specs.Prelude.{unwrap_or, All}
 use Rattle.std.specs.Option.{option_and_then}
 use Rattle.std.proofs.lemmas.Option.{get_or_from_slice_get, slice_get_within}
@@ -10,9 +10,8 @@ use Rattle.vd_space.specs.declared.problem.Problem.{Problem}
 use Rattle.vd_space.specs.declared.problem.Making.{Making}
 use Rattle.vd_space.specs.declared.problem.Use.{Use}
 use Rattle.vd_space.specs.declared.problem.Index.{Index}
-use Rattle.vd_space.specs.declared.problem.Guard.{Guard}
 use Rattle.vd_space.specs.declared.problem.Output.{Output}
-use Rattle.vd_space.specs.Validity.{protocols, protocol, move, move_to_host, takes_part}
+use Rattle.vd_space.specs.Validity.{protocols, protocol, move, move_to_host}
 use Rattle.vd_space.specs.Costs.{moves_to, hosts_at}
 use Rattle.vd_space.specs.Bounds.{may_stand}
 use Rattle.vd_space.specs.Sizes.{heft, IsWithinLimits}
@@ -20,7 +19,7 @@ use Rattle.vd_space.proofs.Priced.{heft_append, index_price, small, told_price}
 use Rattle.vd_space.proofs.Prices.{row_price, move_price}
 use Rattle.vd_space_shifts.specs.Rows.{if_passes, weighed}
 use Rattle.vd_space_shifts.proofs.Numbers.{least_low, passes_low, weighed_low}
-use Rattle.vd_space_api.specs.Low.{least_place, number_left, operation_number, told_number, use_number, index_number, least_operation, least_told, least_use, least_index, guard_number}
+use Rattle.vd_space_api.specs.Low.{least_place, number_left, operation_number, told_number, use_number, index_number, least_operation, least_told, least_use, least_index}
 
 left_low : (o : Option ℕ) → unwrap_or o 0 ≤ 1000000000 → number_left o ≤ 1000000000
 left_low None low = omega arith
@@ -63,13 +62,6 @@ module _ (problem : Problem) (few : length problem.hosts ≤ 4) (prefix : List �
       let cost = weighed_low i.weight 848 (moves_to problem q (hosts_at problem p)) (index_price problem few p q) in
       omega (arith, cost, low))))
 
-  if_small : (part : Bool) (n : ℕ) → n ≤ 1000000000 → cond part n 0 ≤ 1000000000
-  if_small true n low = low
-  if_small false n low = omega arith
-
-  pub guard_small : (guard : Guard) (h : HostId) → guard.weight ≤ 65536 → guard_number problem prefix guard h ≤ 1000000000
-  guard_small guard h low = if_small (takes_part problem prefix guard h) (least_told problem prefix guard.slot.0 guard.weight h) (told_small guard.slot.0 guard.weight h low)
-
 -- ---- sums
 
 -- a sum so far, which is at most so much for each item
@@ -111,6 +103,3 @@ pub weight_in : {X : Type 0} (weight : X → ℕ) (xs slice : List X) (d : X) (i
 weight_in weight xs slice d i same low each =
     let size = ap length same in
     subst (λ s. weight (get_or s i d) ≤ 65536) (sym same) (each i d (omega (arith, size, low)))
-
-pub weight_read : {X : Type 0} (weight : X → ℕ) (xs slice : List X) (x : X) (i : ℕ) → slice ≡ xs → i < length slice → x ≡ get_or slice i x → All (λ v. weight v ≤ 65536) xs → weight x ≤ 65536
-weight_read weight xs slice x i same low read each = subst (λ v. weight v ≤ 65536) (sym read) (weight_in weight xs slice x i same low each)

@@ -4,11 +4,11 @@ use Rattle.std.proofs.lemmas.Int.{ints}
 use Rattle.std.proofs.lemmas.List.Elements.{All-append, All-cons, All-nil}
 use Rattle.vd_space.specs.declared.problem.Problem.{Problem}
 use Rattle.vd_space.specs.Validity.{protocols}
-use Rattle.vd_space.specs.Growth.{extends, guard_names}
+use Rattle.vd_space.specs.Growth.{guard_names}
 use Rattle.vd_space_prefix.specs.declared.tables.Tables.{Tables}
 use Rattle.vd_space_prefix.specs.Steps.{changes}
 use Rattle.vd_space_prefix.specs.Guards.{guard_changes}
-use Rattle.vd_space_prefix.specs.Naming.{all_at, allows}
+use Rattle.vd_space_prefix.specs.Naming.{all_at}
 use Rattle.vd_space_prefix.specs.Transfers.{IsWithin}
 use Rattle.vd_space_prefix.specs.Tables.{low_part, shifted_part, common_part, naming_at, gain_at, AreListed, AreTables, IsStep, GrowsBy}
 
@@ -51,6 +51,3 @@ module _ (problem : Problem) (tables : Tables) (before : List ℕ) (choice : ℕ
 
   pub common_grows : changes tables.tells tables.index_links (naming_at tables (length before)).indexes before after +ℤ guard_changes problem tables.tellings (naming_at tables (length before)).guards before after ≡ common_part problem after -ℤ common_part problem before
   common_grows = subst (λ list. changes tables.tells tables.index_links (naming_at tables (length before)).indexes before list +ℤ guard_changes problem tables.tellings (naming_at tables (length before)).guards before list ≡ common_part problem list -ℤ common_part problem before) (sym step.grown) grows.common
-
-  pub allows_grow : allows problem (naming_at tables (length before)) (length before) choice after ≡ extends problem before choice
-  allows_grow = subst (λ list. allows problem (naming_at tables (length before)) (length before) choice list ≡ extends problem before choice) (sym step.grown) grows.allowed

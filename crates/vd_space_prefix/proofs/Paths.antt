@@ -1,5 +1,5 @@
 -- A path after a choice more, and with its last choice given back.
-use Rattle.std.proofs.Common.{◌≡◌, ℕ, ◌+◌, ◌-◌, ◌<◌, ◌≤◌, min, Bool, true, false, cond, ◌&&◌, List, [], ◌∷◌, ◌++◌, length, take, set, get_or, get_or-set_other, get_or-set_same, refl, sym, ap, ◌∙◌, subst, arith, inl, inr, length-set, length-append}
+use Rattle.std.proofs.Common.{◌≡◌, ℕ, ◌+◌, ◌-◌, ◌<◌, ◌≤◌, min, Bool, true, false, ◌&&◌, List, [], ◌∷◌, ◌++◌, length, take, set, get_or, get_or-set_other, get_or-set_same, refl, sym, ap, ◌∙◌, subst, arith, inl, inr, length-set, length-append}
 use Rattle.std.specs.Prelude.{nat_lt}
 use Rattle.std.proofs.lemmas.Bool.{cases_eq, and_parts, lt-ltb, le-ltb, ltb-true}
 use Rattle.std.proofs.Math.Seq.{take-append_seam}
@@ -19,31 +19,6 @@ and_false true = refl
 and_false false = refl
 
 module _ (problem : Problem) (tables : Tables) where
-  -- the empty prefix
-  pub empty : (room : List ℕ) (sums : List Sums) (valid : Bool) → length room ≡ length problem.slots → length sums ≡ length problem.slots + 1 → ((default : Sums) → get_or sums 0 default ≡ tables.start)
-      → valid ≡ is_valid problem [] → AreSumsOf problem tables.shifts [] tables.start → IsPath problem tables room sums 0 (cond valid 1 0)
-  empty room sums valid size sums_size first is start = record {
-    room = size;
-    sums_room = sums_size;
-    depth = omega arith;
-    valid = at_most_one valid;
-    listed = All-nil (λ p. p < length (protocols problem));
-    validity = λ k low. subst (λ j. is_valid problem (take j room) ≡ nat_lt j (cond valid 1 0)) (omega (arith, low)) (sym is ∙ same_test valid);
-    sums = λ k default low. subst (λ j. AreSumsOf problem tables.shifts (take j room) (get_or sums j default)) (one_alone valid k low) (subst (AreSumsOf problem tables.shifts []) (sym (first default)) start);
-  }
-    where
-      at_most_one : (b : Bool) → cond b 1 0 ≤ 0 + 1
-      at_most_one true = omega arith
-      at_most_one false = omega arith
-
-      same_test : (b : Bool) → b ≡ nat_lt 0 (cond b 1 0)
-      same_test true = refl
-      same_test false = refl
-
-      one_alone : (b : Bool) (k : ℕ) → k < cond b 1 0 → 0 ≡ k
-      one_alone true k low = omega (arith, low)
-      one_alone false k low = omega (arith, low)
-
   -- a choice is written down behind those that are made
   pub written : (room : List ℕ) (sums : List Sums) (made valid choice : ℕ) → IsPath problem tables room sums made valid → IsPath problem tables (set room made choice) sums made valid
   written room sums made valid choice is =

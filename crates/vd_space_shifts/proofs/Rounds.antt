@@ -15,7 +15,7 @@ use Rattle.vd_space.specs.Costs.{total}
 use Rattle.vd_space.specs.Bounds.{use_shift}
 use Rattle.vd_space.specs.Sizes.{heft, IsWithinLimits}
 use Rattle.vd_space.specs.Usual.{usual_from}
-use Rattle.vd_space_shifts.specs.Terms.{candidates_of, row_at, IsTable, terms_after, AreCosts}
+use Rattle.vd_space_shifts.specs.Terms.{candidates_of, IsTable, terms_after, AreCosts}
 use Rattle.vd_space_shifts.specs.Ledger.{AreSmall, places_at, given_by, handed_on, IsHandedOn, IsSmallShift}
 use Rattle.vd_space_shifts.proofs.Costs.{each_at}
 use Rattle.vd_space_shifts.proofs.Tables.{no_shifts}
@@ -30,12 +30,6 @@ module _ (problem : Problem) (holds : IsProblem problem) (labelled : IsLabelled 
   named : IsUse (length problem.slots) u
   named = each_at (IsUse (length problem.slots)) problem.uses at u holds.uses low read
 
-  pub source_low : u.source.0 < length ledger.terms
-  source_low = let slots = is.terms.slots in let source = named.source in omega (arith, slots, source)
-
-  pub target_low : u.target.0 < length ledger.terms
-  target_low = let slots = is.terms.slots in let target = named.target in omega (arith, slots, target)
-
   pub round_given : AreSmall (given_by list candidates u ledger)
   round_given = subst (λ l. AreSmall (given_by l candidates u ledger)) (sym listed)
       (next_small problem labelled.few_hosts candidates can at u found named.source named.target ledger (subst (λ k. IsHandedOn problem k ledger) one is))
@@ -48,9 +42,6 @@ module _ (problem : Problem) (holds : IsProblem problem) (labelled : IsLabelled 
 module _ (problem : Problem) (list : List Proto) (listed : list ≡ protocols problem) (candidates : List (List Bool)) (can : candidates ≡ map (candidates_of problem) problem.slots) (ledger : Ledger) (n : ℕ) (is : IsHandedOn problem n ledger) where
   pub round_places : (slot : ℕ) → slot < length ledger.terms → length (places_at candidates slot) ≡ length list
   round_places slot low = let slots = is.terms.slots in places_size problem candidates slot can (omega (arith, slots, low)) ∙ sym (ap length listed)
-
-  pub round_rows : (slot : ℕ) → slot < length ledger.terms → length (row_at ledger.terms slot) ≡ length list
-  round_rows slot low = let slots = is.terms.slots in is.terms.places slot (omega (arith, slots, low)) ∙ sym (ap length listed)
 
 abbrev no_use : Use
 no_use = record { source = record { 0 = 0 }; target = record { 0 = 0 }; weight = 0 }

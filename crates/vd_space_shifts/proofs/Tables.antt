@@ -46,9 +46,6 @@ module _ (problem : Problem) where
 
   -- ---- further shifts
 
-  base : ℕ → ℕ → Option ℤ
-  base slot p = add (operation_value problem slot p) (outputs_value problem slot p problem.outputs)
-
   shift_by : (o : Option ℤ) (a b c : ℤ) → c ≡ a +ℤ b → option_map (λ v. v +ℤ c) o ≡ option_map (λ v. v +ℤ b) (option_map (λ v. v +ℤ a) o)
   shift_by None a b c is = refl
   shift_by (Some v) a b c is = ap Some (omega (arith, ints, is))

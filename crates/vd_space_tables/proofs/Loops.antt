@@ -1,6 +1,6 @@
 -- The steps of the loops over places and outputs.
-use Rattle.std.proofs.Common.{◌≡◌, ℕ, ◌+◌, ◌*◌, ◌<◌, ◌≤◌, Bool, true, cond, Option, Some, None, List, [], ◌∷◌, ◌++◌, length, drop, take, slice_get, get_or, ltb, add-one, refl, sym, ap, ap₂, ◌∙◌, subst, arith, ℤ, pos, ◌+ℤ◌, to_z, of_z, w64, inl, inr}
-use Rattle.std.specs.Prelude.{option_map, unwrap_or, IfSome}
+use Rattle.std.proofs.Common.{◌≡◌, ℕ, ◌+◌, ◌<◌, ◌≤◌, Bool, true, cond, Option, Some, None, List, [], ◌∷◌, ◌++◌, length, drop, take, slice_get, get_or, ltb, add-one, refl, sym, ap, ap₂, ◌∙◌, subst, arith, ℤ, pos, ◌+ℤ◌, to_z, of_z, w64, inl, inr}
+use Rattle.std.specs.Prelude.{option_map, IfSome}
 use Rattle.std.proofs.Math.Seq.{drop-cons}
 use Rattle.std.proofs.lemmas.Int.{ints}
 use Rattle.std.proofs.lemmas.Bool.{cases_Bool, cond-true, cond-false, ltb-true}
@@ -19,8 +19,7 @@ use Rattle.vd_space_prefix.specs.declared.transfers.Link.{Link}
 use Rattle.vd_space_prefix.specs.Steps.{IsLink, AreLinks}
 use Rattle.vd_space_prefix.specs.Transfers.{IsWithin, by_place}
 use Rattle.vd_space_tables.specs.Charges.{AreCandidates, charge_from, charge_of}
-use Rattle.vd_space_tables.specs.Values.{HasRoom}
-use Rattle.vd_space_tables.proofs.Small.{HasAtMost, add_within, more_within, kept}
+use Rattle.vd_space_tables.proofs.Small.{HasAtMost, kept}
 use Rattle.vd_space_tables.proofs.Charged.{charge_is}
 
 add_assoc : (a b c : Option ℤ) → add (add a b) c ≡ add a (add b c)
@@ -59,11 +58,6 @@ outputs_end problem slot place os i v shifted sum whole past is small shifted_sm
     let v_small : IsWithin 1152921504606846976 v = subst (HasAtMost 1152921504606846976) is small in
     let computed : to_z w64 (of_z w64 (to_z w64 (of_z w64 v) +ℤ to_z w64 (of_z w64 shifted))) ≡ v +ℤ pos 0 +ℤ shifted = omega (arith, ints, v_small.low, v_small.high, shifted_small.low, shifted_small.high) in
     ap Some computed ∙ ap (option_map (λ x. x +ℤ shifted)) all
-
-pub room_more : (n : ℕ) (first second : Option ℤ) → HasRoom n first → HasRoom 1 second → HasRoom (n + 1) (add first second)
-room_more n first second has other =
-    more_within (281474976710656 * n + 281474976710656 * 1) (281474976710656 * (n + 1)) (unwrap_or (add first second) (pos 0)) (omega arith)
-    (add_within (281474976710656 * n) (281474976710656 * 1) first second has other)
 
 -- values and candidates of a slot
 pub charged : (problem : Problem) (one : One) (list : List Proto) (candidates : List (List Bool)) (values slice : List (Option ℤ)) (tests : List Bool) → list ≡ protocols problem → AreCandidates problem candidates → one.slot < length problem.slots

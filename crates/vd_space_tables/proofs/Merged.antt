@@ -30,7 +30,7 @@ use Rattle.vd_space_tables.specs.declared.charges.Charge.{Charge}
 use Rattle.vd_space_tables.specs.Charges.{AreCandidates, IsCharge, charge_from, charge_of, operations_of, outputs_of, merged_of}
 use Rattle.vd_space_tables.specs.Values.{merged_value}
 use Rattle.vd_space_tables.specs.Parts.{AreSmallOnSlots}
-use Rattle.vd_space_tables.proofs.Small.{charge_more, operation_small, merged_small}
+use Rattle.vd_space_tables.proofs.Small.{operation_small, merged_small}
 use Rattle.vd_space_tables.proofs.Charged.{charge_is, merged_is, one_under}
 use Rattle.vd_space_tables.proofs.Bounds.{output_charges}
 
@@ -90,9 +90,6 @@ module _ (problem : Problem) (labelled : IsLabelled problem) (limits : IsWithinL
       let size = length-range_with_len 0 (length problem.slots) in
       let at = get_or-range_with_len 0 (length problem.slots) k d (omega (arith, size, low)) in
       merged_small problem labelled limits shifts (get_or (range_with_len 0 (length problem.slots)) k d) (λ p within. small (get_or (range_with_len 0 (length problem.slots)) k d) p (omega (arith, at, size, low)) within))
-
-pub wider : (charges : List Charge) → All (IsCharge 1073741824) charges → All (IsCharge 1125899906842624) charges
-wider charges each k d low = charge_more 1073741824 1125899906842624 (get_or charges k d) (omega arith) (each k d low)
 
 -- ---- the empty prefix
 

@@ -58,9 +58,6 @@ if_some_more P (y ∷ xs) x each is zero = each 0
 if_some_more P (y ∷ xs) x each is (suc k) = if_some_more P xs x (λ j. each (suc j)) is k
 
 module _ (problem : Problem) (prices : List (List (Option ℕ))) where
-  pub none_linked : AreLinksOf problem prices [] []
-  none_linked = record { size = refl; small = λ k. tt; under = λ k term at. absurd (true≢false (sym (ap is_some at))) }
-
   pub linked_more : (terms : List Pair) (links : List Link) (term : Pair) (link : Link) → AreLinksOf problem prices terms links → IsLink link → ((front : List ℕ) → AreListed problem front → under prices link front ≡ least_pair problem front term)
       → AreLinksOf problem prices (terms ++ term ∷ []) (links ++ link ∷ [])
   linked_more terms links term link are is placed =

@@ -17,17 +17,12 @@ use Rattle.vd_space_terms.specs.Links.{AreLinksOf, use_transfer, index_transfer,
 use Rattle.vd_space_terms.specs.Prices.{candidates_of, moves_of, tells_of}
 use Rattle.vd_space_terms.specs.Sums.{AreSmallShifts}
 use Rattle.vd_space_terms.proofs.Made.{get_or_any}
-use Rattle.vd_space_terms.proofs.Placing.{sources, targets, use_is_transfer, index_is_transfer, use_step, index_step}
+use Rattle.vd_space_terms.proofs.Placing.{sources, targets, use_is_transfer, use_step, index_step}
 
 pub all_linked : (problem : Problem) (prices : List (List (Option ℕ))) (terms : List Pair) (links : List Link) (n : ℕ) → length terms ≤ n → AreLinksOf problem prices (take n terms) links → AreLinksOf problem prices terms links
 all_linked problem prices terms links n past are = subst (λ ts. AreLinksOf problem prices ts links) (take_all n terms past) are
 
 module _ (problem : Problem) (labelled : IsLabelled problem) (limits : IsWithinLimits problem) where
-  pub index_transfer_is : (indexes : List Index) (n : ℕ) (d : Index) → indexes ≡ problem.indexes → n < length indexes → IsTransfer (index_transfer (get_or indexes n d))
-  index_transfer_is indexes n d mine low =
-      let light : (get_or indexes n d).weight ≤ 65536 = subst (λ (xs : List Index). (get_or xs n d).weight ≤ 65536) (sym mine) (limits.indexes n d (subst (λ xs. n < length xs) mine low)) in
-      index_is_transfer problem labelled (get_or indexes n d) light
-
   pub use_transfer_is : (shifts : List Shift) (few : length shifts ≤ 131072) (small : AreSmallShifts shifts) (uses : List Use) (n : ℕ) (d : Use) (from to : List ℤ) → uses ≡ problem.uses → n < length uses
       → from ≡ sources problem labelled shifts few small n (get_or uses n d) → to ≡ targets problem labelled shifts few small n (get_or uses n d) → IsTransfer (use_transfer (get_or uses n d) from to)
   use_transfer_is shifts few small uses n d from to mine low from_is to_is =

@@ -9,10 +9,6 @@ use Rattle.vd_space.specs.declared.problem.Problem.{Problem}
 use Rattle.vd_space.specs.Validity.{holds_at, move_to_host}
 use Rattle.vd_space.specs.Costs.{plus, moves_to}
 
-plus_none : (a : Option ℕ) → plus a None ≡ None
-plus_none None = refl
-plus_none (Some a) = refl
-
 pub plus_together : (a b c : Option ℕ) → plus (plus a b) c ≡ plus a (plus b c)
 plus_together None b c = refl
 plus_together (Some a) None c = refl
@@ -22,10 +18,6 @@ plus_together (Some a) (Some b) (Some c) = ap Some (omega arith)
 pub plus_nothing : (a : Option ℕ) → plus (Some 0) a ≡ a
 plus_nothing None = refl
 plus_nothing (Some a) = ap Some (omega arith)
-
-pub plus_last : (a : Option ℕ) → plus a (Some 0) ≡ a
-plus_last None = refl
-plus_last (Some a) = ap Some (omega arith)
 
 pub plus_few : (a b : Option ℕ) (m n : ℕ) → unwrap_or a 0 ≤ m → unwrap_or b 0 ≤ n → unwrap_or (plus a b) 0 ≤ m + n
 plus_few None b m n first second = omega arith
@@ -65,8 +57,3 @@ module _ (problem : Problem) (q p : ℕ) where
       ∙ plus_together sum (told (host h)) (rest_from (h + 1) n)
       ∙ ap (plus sum) (sym (rest_next h n low))
       ∙ so_far
-
-  pub telling_end : (n : ℕ) (sum whole : Option ℕ) → plus sum (rest_from n n) ≡ whole → sum ≡ whole
-  telling_end n sum whole is =
-      let none : n - n ≡ 0 = omega arith in
-      sym (plus_last sum) ∙ ap (λ k. plus sum (moves_to problem q (filter (λ x. holds_at problem x p) (map host (range_with_len n k))))) (sym none) ∙ is

@@ -32,9 +32,6 @@ emitted_on l xs ys =
     append_assoc l (emitted xs) (emitted ys)
     ∙ ap (λ (k : List Line). l ++ k) (sym (ap lines_of (gadgets_append xs ys) ∙ lines_append (acts_of_gadgets xs) (acts_of_gadgets ys)))
 
-pub joined_end : {X : Type 0} (xs : List X) (c : Builder) → joined xs (record { given = []; acts = []; next = c.next }) c ≡ (xs, c)
-joined_end xs c = ap₂ (λ (a : List _) (b : List Line). let p : List _ × Builder = (a, record { lines = b; next = c.next }) in p) (append-nil xs) (append-nil c.lines)
-
 module _ {P : Type 0} (s : Calls Gadget P) (proto : ℕ → Proto) where
   pub deliver_step : (p : Proto) (x : P) (h : HostId) (hs : List HostId) (xs : List (ℕ × ℕ)) (c : Builder) (goal : List (ℕ × ℕ) × Builder) (moved : P × Builder) → moved ≡ called (s.move p (Local h) x c.next) c
       → joined xs (delivered s proto p x (h ∷ hs) c.next) c ≡ goal → joined (xs ++ (h.0, s.register moved.0 h.0) ∷ []) (delivered s proto p x hs moved.1.next) moved.1 ≡ goal
@@ -88,10 +85,6 @@ module _ {P : Type 0} (s : Calls Gadget P) (proto : ℕ → Proto) where
   acts_onto {X} one f e c first last is is' =
       ap (λ (z : Builder). let r : Builder × List P = (z, e.held) in r) (is' ∙ ap (λ (z : X × Builder). appended (f z.0) z.1) is ∙ ap (λ (l : List Line). let r : Builder = record { lines = l; next = one.next } in r) (emitted_on c.lines one.acts (f one.given)))
       ∙ sym (onto_acts (one.acts ++ f one.given) one.next e c)
-
--- the rest of a list is behind what is there
-pub at_end : {X : Type 0} (xs goal : List X) → xs ++ [] ≡ goal → xs ≡ goal
-at_end xs goal e = sym (append-nil xs) ∙ e
 
 module _ {P : Type 0} (s : Calls Gadget P) (protos : List Proto) where
   abbrev pr : ℕ → Proto

@@ -20,9 +20,6 @@ pub record Opening (has : ℕ → Bool) (count : ℕ) (start : Builder) (loops :
   pub same : drop number to.next ≡ drop number start.next
   pub known : length to.next ≡ length start.next
 
-pub opening : (has : ℕ → Bool) (count : ℕ) (start : Builder) → Opening has count start [] start 0
-opening has count start = record { marked = refl; raised = refl; lines = refl; same = refl; known = refl }
-
 first_of : (xs : List ℕ) (n : ℕ) → slice_index (drop n xs) 0 ≡ slice_index xs n
 first_of [] zero = refl
 first_of [] (suc n) = refl

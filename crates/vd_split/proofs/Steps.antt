@@ -1,11 +1,11 @@
 -- Statements that are emitted one after the other.
-use Rattle.std.proofs.Common.{◌≡◌, ℕ, ◌+◌, ◌-◌, ◌≤◌, IsTrue, List, [], ◌∷◌, length, drop, refl, sym, ap, ◌∙◌, subst, arith}
+use Rattle.std.proofs.Common.{◌≡◌, ℕ, ◌+◌, ◌-◌, ◌≤◌, IsTrue, List, ◌∷◌, length, drop, sym, ap, ◌∙◌, subst, arith}
 use Rattle.vd_base.specs.declared.protocols.Proto.{Proto}
 use Rattle.vd_core.specs.declared.normal.Stmt.{Stmt}
 use Rattle.vd_duet.specs.Builder.{TakesAtMost}
-use Rattle.vd_choreography.proofs.Lists.{and_left, and_right}
+use Rattle.vd_choreography.proofs.Lists.{and_right}
 use Rattle.vd_split.specs.Offer.{Offer, Fit, AreHeld, CanEmit, Emits, fit, block_fit}
-use Rattle.vd_split.proofs.Rooms.{takes_none, takes_on, takes_less, room_on}
+use Rattle.vd_split.proofs.Rooms.{takes_on}
 
 module _ {P : Type 0} (o : Offer P) (protos : List Proto) where
   -- what is kept while the statements of a block are emitted
@@ -16,31 +16,10 @@ module _ {P : Type 0} (o : Offer P) (protos : List Proto) where
     pub within : (block_fit o protos (drop i body) (length held)).taken ≤ (block_fit o protos body (length start)).taken
     pub few : TakesAtMost ((block_fit o protos body (length start)).taken - (block_fit o protos (drop i body) (length held)).taken) first next
 
-  pub rest_start : (body : List Stmt) (held : List P) (next : List ℕ) → CanEmit o protos (block_fit o protos body) held next → Rest body 0 held next held next
-  rest_start body held next c =
-      record { placed = c.ready.placed; fits = c.fits; after = refl; within = omega arith; few = takes_less 0 _ next next (takes_none next) (omega arith) }
-
   module _ (body : List Stmt) (i : ℕ) (start : List P) (first : List ℕ) (held : List P) (next : List ℕ) (stmt : Stmt) (rest : List Stmt) (can : CanEmit o protos (block_fit o protos body) start first)
       (r : Rest body i start first held next) (is : drop i body ≡ stmt ∷ rest) where
-    abbrev now : Rest body i start first held next → Fit
-    now z = block_fit o protos (drop i body) (length held)
-
     now_is : block_fit o protos (drop i body) (length held) ≡ block_fit o protos (stmt ∷ rest) (length held)
     now_is = ap (λ (l : List Stmt). block_fit o protos l (length held)) is
-
-    pub rest_can : CanEmit o protos (fit o protos stmt) held next
-    rest_can =
-        let within = subst (λ (f : Fit). f.taken ≤ (block_fit o protos body (length start)).taken) now_is r.within in
-        let few = subst (λ (f : Fit). TakesAtMost ((block_fit o protos body (length start)).taken - f.taken) first next) now_is r.few in
-        record {
-          fits = and_left _ _ (subst (λ (f : Fit). IsTrue f.all) now_is r.fits);
-          ready = record {
-            served = can.ready.served;
-            placed = r.placed;
-            known = few.0 ∙ can.ready.known;
-            room = room_on _ (fit o protos stmt (length held)).taken (block_fit o protos body (length start)).taken first next can.ready.room few (omega arith);
-          };
-        }
 
     pub rest_more : (held' : List P) (next' : List ℕ) → drop (i + 1) body ≡ rest → Emits o protos (fit o protos stmt) held next held' next' → Rest body (i + 1) start first held' next'
     rest_more held' next' left e =
@@ -63,12 +42,3 @@ module _ {P : Type 0} (o : Offer P) (protos : List Proto) where
 
         left_over : (a b c : ℕ) → a + b ≤ c → (c - (a + b)) + a ≤ c - b
         left_over a b c le = omega arith
-
-  pub rest_end : (body : List Stmt) (i : ℕ) (start : List P) (first : List ℕ) (held : List P) (next : List ℕ) → Rest body i start first held next → drop i body ≡ []
-      → Emits o protos (block_fit o protos body) start first held next
-  rest_end body i start first held next r none =
-      record {
-        placed = r.placed;
-        after = subst (λ (l : List Stmt). (block_fit o protos l (length held)).after ≡ (block_fit o protos body (length start)).after) none r.after;
-        few = takes_less _ _ first next r.few (omega arith);
-      }

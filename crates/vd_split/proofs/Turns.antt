@@ -21,9 +21,6 @@ use Rattle.vd_split.proofs.Onto.{deliver_step, bring_step}
 pub each_left : {X : Type 0} (Q : X → Type 0) (xs : List X) (i : ℕ) (d : X) → i < length xs → Each Q (drop i xs) → Each Q (drop (i + 1) xs)
 each_left Q xs i d lt e = (subst (λ (l : List _). Each Q l) (drop_more xs i d lt) e).1
 
-pub each_here : {X : Type 0} (Q : X → Type 0) (xs : List X) (i : ℕ) (d : X) → i < length xs → Each Q (drop i xs) → Q (get_or xs i d)
-each_here Q xs i d lt e = (subst (λ (l : List _). Each Q l) (drop_more xs i d lt) e).0
-
 pub all_left : {X : Type 0} (f : X → Bool) (xs : List X) (i : ℕ) (d : X) → i < length xs → list_all f (drop i xs) ≡ true → list_all f (drop (i + 1) xs) ≡ true
 all_left f xs i d lt e = and_right (f (get_or xs i d)) _ (subst (λ (l : List _). list_all f l ≡ true) (drop_more xs i d lt) e)
 

@@ -116,10 +116,6 @@ module _ {P : Type 0} (o : Offer P) (protos : List Proto) where
       (s : Sight) (n : ℕ) → Known n s → (sees b s).all ≡ true → InRow n (slots b) → holds (of_rights operands_fit) b ≡ true → holds (host_is_declared o.calls.hosts) b ≡ true → holds (stmt_stands o protos) b ≡ true
       → Emittable b n
 
-  -- two blocks after each other
-  after_both : (a b : Block) (n : ℕ) → (fits a n).after ≡ n + length (slots a) → Emittable b (n + length (slots a)) → Emittable b (fits a n).after
-  after_both a b n e f = subst (Emittable b) (sym e) f
-
   pub emittable : (b : Block) → Fits b
   emittable End s n k a row p q r = record { all = refl; after = none n }
     where

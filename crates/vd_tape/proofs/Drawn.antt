@@ -2,12 +2,7 @@
 use Rattle.std.proofs.Common.{◌≡◌, ℕ, ◌+◌, ◌*◌, ◌-◌, List, [], ◌∷◌, ◌++◌, sym, ap, ◌∙◌, arith}
 use Rattle.std.proofs.lemmas.List.FromFn.{map-range_with_len_more}
 use Rattle.rand_chacha.specs.ChaCha.{ChaCha, word_at}
-use Rattle.vd_deal_items.specs.declared.items.Triple.{Triple}
-use Rattle.vd_deal_items.specs.declared.items.PairItem.{PairItem}
-use Rattle.vd_deal_items.specs.declared.deal.Deal.{Deal}
-use Rattle.vd_deal_items.specs.declared.deal.Counts.{Counts}
-use Rattle.vd_deal_items.specs.Validity.{peer_at}
-use Rattle.vd_tape.specs.Made.{cipher_key, keyed_word, words_from, first_of, mul_item, and_item, pair_item, keyed_deal}
+use Rattle.vd_tape.specs.Made.{cipher_key, keyed_word, words_from, first_of}
 use Rattle.vd_tape.specs.Generator.{IsAt, stands_at, words_at}
 
 -- one more of a function's values
@@ -34,19 +29,3 @@ drawn make pick key stream step i g parts x is p e = e ∙ ap pick (p ∙ ap mak
 
 pub next_place : (step i : ℕ) → step * i + step ≡ step * (i + 1)
 next_place step i = omega arith
-
-abbrev deal_of : ℕ → ℕ → List ℕ → List (List Triple) → List (List Triple) → List (List PairItem) → Deal
-deal_of hosts me own ts bs ps = record { hosts = hosts; me = record { 0 = me }; own = own; triples = ts; bits = bs; pairs = ps }
-
-pub is_made : (counts : Counts) (key : List ℕ) (me place : ℕ) (own : List ℕ) (ts bs : List (List Triple)) (ps : List (List PairItem)) → place ≡ counts.hosts - 1
-    → own ≡ first_of counts.own (keyed_word key me)
-    → ts ≡ first_of place (λ k. first_of counts.muls (mul_item key me (peer_at me k)))
-    → bs ≡ first_of place (λ k. first_of counts.ands (and_item key me (peer_at me k)))
-    → ps ≡ first_of place (λ k. first_of counts.pairs (pair_item key me (peer_at me k)))
-    → deal_of counts.hosts me own ts bs ps ≡ keyed_deal counts key me
-is_made counts key me place own ts bs ps end o t b p =
-    ap (λ x. deal_of counts.hosts me x ts bs ps) o
-    ∙ ap (λ x. deal_of counts.hosts me (first_of counts.own (keyed_word key me)) x bs ps) t
-    ∙ ap (λ x. deal_of counts.hosts me (first_of counts.own (keyed_word key me)) (first_of place (λ k. first_of counts.muls (mul_item key me (peer_at me k)))) x ps) b
-    ∙ ap (λ x. deal_of counts.hosts me (first_of counts.own (keyed_word key me)) (first_of place (λ k. first_of counts.muls (mul_item key me (peer_at me k)))) (first_of place (λ k. first_of counts.ands (and_item key me (peer_at me k)))) x) p
-    ∙ ap (λ n. deal_of counts.hosts me (first_of counts.own (keyed_word key me)) (first_of n (λ k. first_of counts.muls (mul_item key me (peer_at me k)))) (first_of n (λ k. first_of counts.ands (and_item key me (peer_at me k)))) (first_of n (λ k. first_of counts.pairs (pair_item key me (peer_at me k))))) end

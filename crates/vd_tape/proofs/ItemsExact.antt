@@ -20,9 +20,6 @@ pub word_exact : (bytes : List ℕ) → IsExact IsBreak IsWord field bytes (word
 word_exact bytes =
     exact_for IsBreak (AtMost 4294967295) IsWord field bytes (word_at bytes) (λ n h. omega (arith, h)) (λ n h. omega (arith, h)) (field_exact 4294967295 bytes (omega arith))
 
-triple_of : ℕ → ℕ → ℕ → Triple
-triple_of a b c = record { a = a; b = b; c = c }
-
 picks_a : Picks IsBreak IsWord field IsBreak AreTripleWords triple_text (λ t. field t.b ++ field t.c) (λ t. t.a)
 picks_a = record {
   part_fits = λ t h. h.0;

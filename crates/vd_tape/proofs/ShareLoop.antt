@@ -63,11 +63,6 @@ all_shares me front count i bytes total le so_far =
     let here : with_front front (shares_at me i (count - i) bytes) ≡ Ok (front, bytes) = rw k (ap (λ (f : Shares). Ok (f, bytes)) e) in
     sym so_far ∙ here
 
-pub first_share : (me count : ℕ) (bytes : List ℕ) → with_front no_shares (shares_at me 0 (count - 0) bytes) ≡ shares_at me 0 count bytes
-first_share me count bytes =
-    let k : count - 0 ≡ count = omega arith in
-    rw k (elim (shares_at me 0 count bytes) as (λ r. with_front no_shares r ≡ r) [ Ok x ↦ refl | Err left ↦ refl ])
-
 pub share_fault : (why : ReadFault) (me : ℕ) (front : Shares) (count i : ℕ) (bytes left : List ℕ) (total : Reading Shares) → i < count → StopsOrMemory why left (share_at (peer_at me i) bytes)
     → with_front front (shares_at me i (count - i) bytes) ≡ total → StopsOrMemory why left total
 share_fault fault.Stopped me front count i bytes left total lt h so_far = no_share me front count i bytes left total lt h so_far

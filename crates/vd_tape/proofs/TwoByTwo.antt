@@ -39,9 +39,6 @@ deal_at deals ds i d are same h e =
     let fact = are.each i d (ap (λ xs. slice_get xs i) (sym same) ∙ at_index ds i d h e) in
     (fact.0, fact.1)
 
-pub none_besides : (ds : List Deal) (first : ℕ) → AllBesides ds first (first + 1)
-none_besides ds first s p q lt below ep eq kind i = absurd (omega arith)
-
 pub next_besides : (ds : List Deal) (first second : ℕ) (p0 q0 : Deal) → first < length ds → second < length ds → p0 ≡ get_or ds first p0 → q0 ≡ get_or ds second q0
     → AllMeet p0 q0 → AllBesides ds first second → AllBesides ds first (second + 1)
 next_besides ds first second p0 q0 hf hs ep0 eq0 met so_far s p q lt below ep eq kind i = elim (cases_eq s second) [

@@ -19,9 +19,6 @@ module _ (h : ℕ) (plan : Plan Gadget) (t : Tape) (second : InputWords) (can : 
   abbrev deal : IsValidDeal t
   deal = can.deal
 
-  abbrev u : Tape
-  u = with_inputs t second
-
   one_word : (x place : ℕ) → x < 2 ^ 32 → IsWord (nth (x ∷ []) place)
   one_word x zero p = p
   one_word x (suc n) p = lit< tt

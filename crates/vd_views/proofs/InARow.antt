@@ -40,10 +40,6 @@ pub row_knows : (h : ℕ) (t u : Tape) (gs : List Gadget) (w v : Hosts) → Gadg
 row_knows h t u [] w v k = tt
 row_knows h t u (g ∷ gs) w v k = (k.0, row_knows h t u gs (run_acts t (acts_of_gadget g) w) (run_acts u (acts_of_gadget g) v) k.1)
 
-pub row_hides : (h : ℕ) (t u : Tape) (gs : List Gadget) (w v : Hosts) → PlanHides h t u (in_a_row gs) w v → GadgetsHide h t u gs w v
-row_hides h t u [] w v k = tt
-row_hides h t u (g ∷ gs) w v k = (k.0, row_hides h t u gs (run_acts t (acts_of_gadget g) w) (run_acts u (acts_of_gadget g) v) k.1)
-
 pub row_hidden : (h : ℕ) (t u : Tape) (gs : List Gadget) (w v : Hosts) → GadgetsHide h t u gs w v → PlanHides h t u (in_a_row gs) w v
 row_hidden h t u [] w v k = tt
 row_hidden h t u (g ∷ gs) w v k = (k.0, row_hidden h t u gs (run_acts t (acts_of_gadget g) w) (run_acts u (acts_of_gadget g) v) k.1)

@@ -30,12 +30,6 @@ use Rattle.vd_views.proofs.Excuse.{ItemExcuse, another_itself, item_excuse}
 
 -- ---- what hides and says alike tells alike
 
--- what is left after acts in a row
-tidy_rest : (acts : List Act) (j : Joint) → IsTidy (do_then acts j) → IsTidy j
-tidy_rest [] j a = a
-tidy_rest (act.Do h x ∷ acts) j a = tidy_rest acts j a
-tidy_rest (act.Msg x said y heard ∷ acts) j a = tidy_rest acts j a.1.1
-
 smooth_rest : (t : Tape) (acts : List Act) (j : Joint) (w : Hosts) → IsSmooth t (do_then acts j) w → IsSmooth t j (run_acts t acts w)
 smooth_rest t [] j w a = a
 smooth_rest t (act.Do h x ∷ acts) j w a = smooth_rest t acts j (run_act t (act.Do h x) w) a.1

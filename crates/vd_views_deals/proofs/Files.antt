@@ -151,12 +151,6 @@ module _ (p : NormalForm) (l : Labels) (protocols : List Proto) (of_two : IsOfTw
   -- ---- counted
 
   module _ (given : List (List ℕ)) (few : length given ≤ 2) (words : InputsAreWords given) (own : (i : ℕ) → input_words given h.0 i ≡ input_words first h.0 i) where
-    abbrev InFiles : List Deal → Type 0
-    InFiles stored = ShowsTheSame h.0 plan first (file 0 x ∷ file 1 w ∷ []) given stored
-
-    abbrev InDeals : Tape → Type 0
-    InDeals z = Shows h.0 plan (counts_of (file 0 x ∷ file 1 w ∷ [])) (tape_of first (file 0 x ∷ file 1 w ∷ [])) (input_words given) z
-
     pub to_deal : (stored : List Deal) → ShowsTheSame h.0 plan first (file 0 x ∷ file 1 w ∷ []) given stored
         → Shows h.0 plan (counts_of (file 0 x ∷ file 1 w ∷ [])) (tape_of first (file 0 x ∷ file 1 w ∷ [])) (input_words given) (tape_of given stored)
     to_deal stored s = record {

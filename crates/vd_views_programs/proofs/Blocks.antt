@@ -76,14 +76,6 @@ picked_has test from (suc n) h le lt e = at (ℕ_discrete h from) (test from) re
     at (no d) true f later = inr (later (further d))
     at (no d) false f later = later (further d)
 
-head_of : List ℕ → ℕ
-head_of [] = 0
-head_of (x ∷ xs) = x
-
-tail_of : List ℕ → List ℕ
-tail_of [] = []
-tail_of (x ∷ xs) = xs
-
 none_left : (x : ℕ) (xs : List ℕ) → [] ≡ x ∷ xs → ⊥
 none_left x xs e = cc
 

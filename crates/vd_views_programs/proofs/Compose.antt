@@ -1,5 +1,5 @@
 -- Plans one after the other: what holds along both runs, and that they are tidy, plain and within.
-use Rattle.std.proofs.Common.{ℕ, List, [], ◌∷◌, sym, subst₂}
+use Rattle.std.proofs.Common.{ℕ, List, [], ◌∷◌, subst₂}
 use Rattle.vd_execution.specs.World.{Tape}
 use Rattle.vd_execution.specs.Joint.{Part, Hosts, joint, turns}
 use Rattle.vd_execution.specs.Acts.{run_acts}
@@ -25,21 +25,9 @@ module _ (h : ℕ) (P : Gadget → Hosts → Hosts → Type 0) (G : List Part �
   plan_on (Branch ps x o r) b w v p q = (p.0, plan_on r b (run_branch ps x o t w) (run_branch ps x o u v) p.1 q)
   plan_on (Loop ps n body r) b w v p q = (p.0, plan_on r b (turns (run_turn ps body t) n 0 w) (turns (run_turn ps body u) n 0 v) p.1 q)
 
-  pub plan_split : (a b : Plan Gadget) (w v : Hosts) → Along (and_then a b) w v → Along a w v × Along b (joint t (joint_of a) w) (joint u (joint_of a) v)
-  plan_split Ends b w v p = (tt, p)
-  plan_split (Then g r) b w v p =
-      let rest = plan_split r b (run_acts t (acts_of_gadget g) w) (run_acts u (acts_of_gadget g) v) p.1 in
-      ((p.0, rest.0), subst₂ (λ (x z : Hosts). Along b x z) (sym (runs_first t (acts_of_gadget g) (joint_of r) w)) (sym (runs_first u (acts_of_gadget g) (joint_of r) v)) rest.1)
-  plan_split (Branch ps x o r) b w v p = let rest = plan_split r b (run_branch ps x o t w) (run_branch ps x o u v) p.1 in ((p.0, rest.0), rest.1)
-  plan_split (Loop ps n body r) b w v p = let rest = plan_split r b (turns (run_turn ps body t) n 0 w) (turns (run_turn ps body u) n 0 v) p.1 in ((p.0, rest.0), rest.1)
-
   pub acts_on : (xs : List Gadget) (j : Plan Gadget) (w v : Hosts) → AlongGadgets P t u xs w v → Along j (after t xs w) (after u xs v) → Along (acts_then xs j) w v
   acts_on [] j w v p q = q
   acts_on (x ∷ xs) j w v p q = (p.0, acts_on xs j (run_acts t (acts_of_gadget x) w) (run_acts u (acts_of_gadget x) v) p.1 q)
-
-  pub acts_split : (xs : List Gadget) (j : Plan Gadget) (w v : Hosts) → Along (acts_then xs j) w v → AlongGadgets P t u xs w v × Along j (after t xs w) (after u xs v)
-  acts_split [] j w v p = (tt, p)
-  acts_split (x ∷ xs) j w v p = let rest = acts_split xs j (run_acts t (acts_of_gadget x) w) (run_acts u (acts_of_gadget x) v) p.1 in ((p.0, rest.0), rest.1)
 
 -- ---- what is static
 
@@ -59,10 +47,6 @@ within_split ps (Then g r) b p = let rest = within_split ps r b p.1 in ((p.0, re
 within_split ps (Branch qs x o r) b p = let rest = within_split ps r b p.1 in ((p.0, rest.0), rest.1)
 within_split ps (Loop qs n body r) b p = let rest = within_split ps r b p.1 in ((p.0, rest.0), rest.1)
 
-pub within_acts : (ps : List Part) (xs : List Gadget) (j : Plan Gadget) → PlanIsWithin ps (acts_then xs j) → PlanIsWithin ps j
-within_acts ps [] j p = p
-within_acts ps (x ∷ xs) j p = within_acts ps xs j p.1
-
 pub plain_on : (a b : Plan Gadget) → PlanIsPlain a → PlanIsPlain b → PlanIsPlain (and_then a b)
 plain_on Ends b p q = q
 plain_on (Then g r) b p q = (p.0, plain_on r b p.1 q)
@@ -78,10 +62,6 @@ plain_split Ends b p = (tt, p)
 plain_split (Then g r) b p = let rest = plain_split r b p.1 in ((p.0, rest.0), rest.1)
 plain_split (Branch ps x o r) b p = let rest = plain_split r b p.1.1 in ((p.0, (p.1.0, rest.0)), rest.1)
 plain_split (Loop ps n body r) b p = let rest = plain_split r b p.1 in ((p.0, rest.0), rest.1)
-
-pub plain_rest : (xs : List Gadget) (j : Plan Gadget) → PlanIsPlain (acts_then xs j) → PlanIsPlain j
-plain_rest [] j p = p
-plain_rest (x ∷ xs) j p = plain_rest xs j p.1
 
 pub nothing_along : (t u : Tape) (xs : List Gadget) (w v : Hosts) → AlongGadgets (λ g x y. Unit {0}) t u xs w v
 nothing_along t u [] w v = tt

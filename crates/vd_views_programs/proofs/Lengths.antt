@@ -7,8 +7,7 @@ use Rattle.vd_constraints.specs.declared.labels.Labels.{Labels}
 use Rattle.vd_execution.specs.Step.{Source, Inputs, OwnWords, Triples, BitTriples, Pairs}
 use Rattle.vd_execution.specs.World.{Tape}
 use Rattle.vd_execution.specs.Joint.{fresh, joint}
-use Rattle.vd_execution.specs.Gadgets.{Gadget}
-use Rattle.vd_execution.specs.Plans.{Plan, joint_of}
+use Rattle.vd_execution.specs.Plans.{joint_of}
 use Rattle.vd_views.specs.Contract.{InputWords, Explains, HasExplanation}
 use Rattle.vd_views.proofs.PlanBack.{plan_counts}
 use Rattle.vd_views_calls.specs.Sides.{Each}
@@ -21,9 +20,6 @@ use Rattle.vd_views_programs.proofs.Theorem.{plan_is, static, dealt_zeros}
 use Rattle.vd_views_programs.proofs.PairUp.{fixed_with, explained, turned, only, as_many}
 
 module _ (p : NormalForm) (l : Labels) (protocols : List Proto) (of_two : IsOfTwo p l protocols) (h : HostId) (low : h.0 < 2) where
-  abbrev plan : Plan Gadget
-  plan = plan_of p protocols
-
   fixed : Static (plan_of p protocols)
   fixed = subst Static (sym (plan_is p l protocols of_two)) (static p l protocols of_two [] _ dealt_zeros)
 

@@ -23,10 +23,6 @@ use Rattle.vd_noninter_registers.proofs.Hosts.{same_turned, kept_at}
 use Rattle.vd_noninter_registers.proofs.Takers.{below, part_is}
 use Rattle.vd_views_programs.proofs.Calls.{item}
 
-first_off : (a b : Bool) → a ≡ true → (a || b) ≡ false → false ≡ true
-first_off true b e f = cc
-first_off false b e f = e
-
 absent_clear : (h : HostId) (q : Proto) → is_holder q (host h.0) ≡ false → has_clear h q ≡ false
 absent_clear h (Local k) e = e
 absent_clear h (Rep set) e = e

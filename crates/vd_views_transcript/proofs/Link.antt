@@ -48,9 +48,6 @@ module _ (program : NormalForm) (protocols : List Proto) (made : IsWellMade prog
   can : CanBeSplit program protocols
   can = record { made = made; numbers = numbers; runnable = runnable }
 
-  abbrev j : Joint
-  j = joint_of program protocols
-
   -- ---- the codes can be loaded
 
   code_at_host : (h : ℕ) (code : List Instr) → slice_get (host_codes program protocols) h ≡ Some code → code ≡ text (code_of h (joint_of program protocols)) []
@@ -87,9 +84,6 @@ module _ (program : NormalForm) (protocols : List Proto) (made : IsWellMade prog
         }))
 
     -- ---- the inputs reach
-
-    abbrev given : List (List ℕ)
-    given = filled inputs (needs_for program protocols)
 
     files : AreFiles (filled inputs (needs_for program protocols)) deals
     files = record {

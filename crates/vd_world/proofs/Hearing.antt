@@ -1,10 +1,9 @@
 -- What a host wants, and what it is given.
-use Rattle.std.proofs.Common.{◌≡◌, ℕ, ◌<◌, ◌≤◌, Bool, true, false, List, [], ◌∷◌, length, refl, sym, ap, ◌∙◌, subst, arith, rules, ◌⊎◌, inl, inr}
-use Rattle.std.specs.Prelude.{Some, None, slice_get, slice_index_or, nat_lt, nat_eq, if◌then◌else◌}
+use Rattle.std.proofs.Common.{◌≡◌, ℕ, ◌<◌, ◌≤◌, Bool, true, false, List, [], ◌∷◌, length, refl, sym, ap, ◌∙◌, arith, rules, ◌⊎◌, inl, inr}
+use Rattle.std.specs.Prelude.{Some, None, slice_get, slice_index_or, nat_lt, if◌then◌else◌}
 use Rattle.std.proofs.lemmas.Option.{slice_get_past}
 use borrow.Author.Tests.{ltb-true}
-use Rattle.vd_base.specs.declared.ids.HostId.{HostId}
-use Rattle.vd_execution.specs.Step.{Source, Inputs, OwnWords, Triples, BitTriples, Pairs, Cursors, Need, Nothing, Item, Packet, Unequal, Ended, Given, answer, of_length}
+use Rattle.vd_execution.specs.Step.{Source, Inputs, OwnWords, Triples, BitTriples, Pairs, Cursors, Need, Nothing, Item, Packet, Unequal, Ended, Given, answer}
 use Rattle.vd_machine.specs.declared.lists.Lists.{Lists}
 use Rattle.vd_machine.specs.declared.want.Want.{Want}
 use Rattle.vd_machine.specs.declared.want.Want.TheVariants as want
@@ -15,7 +14,6 @@ use Rattle.vd_base.specs.HostSets.{host}
 use Rattle.vd_base.specs.declared.host_state.HostState.TheVariants as state
 use Rattle.vd_execution.specs.States.{state_for, ready_or, short_of}
 use Rattle.vd_world.specs.Hosts.{stuck_state}
-use Rattle.vd_world.proofs.Noting.{wants_words}
 
 -- ---- the items of a list
 
@@ -72,29 +70,6 @@ goes_alone g l c (Packet p k) items e = absurd cc
 goes_alone g l c (Unequal x y) items e = absurd cc
 goes_alone g l c Ended items e = absurd cc
 
--- ---- words are wanted
-
-equal : (n k : ℕ) → n ≡ k → nat_eq n k ≡ true
-equal n k e = grind (arith, rules, e)
-
-pub goes_on : (g : Given) (l : Lists) (c : Cursors) (n : Need) (p : HostId) (k : ℕ) (xs : List ℕ) → want.Words p k ≡ want_of l c n → g.front p.0 ≡ Some xs → length xs ≡ k → Goes g l c n xs
-goes_on g l c n p k xs e f h =
-    let is : n ≡ Packet p.0 k = wants_words l c n p k e in
-    record {
-      met = subst (IsMet l c xs) (sym is) h;
-      given = ap (answer g c) is ∙ ap (of_length k) f ∙ ap (λ b. if b then Some xs else None) (equal (length xs) k h) ∙ ap (λ m. Some (words_for l c xs m)) (sym is);
-    }
-
-unequal : (n k : ℕ) → (n ≡ k → ⊥) → nat_eq n k ≡ false
-unequal n k e = grind (arith, rules, e)
-
-pub waits : (g : Given) (l : Lists) (c : Cursors) (n : Need) (p : HostId) (k : ℕ) → want.Words p k ≡ want_of l c n → g.front p.0 ≡ None → answer g c n ≡ None
-waits g l c n p k e f = ap (answer g c) (wants_words l c n p k e) ∙ ap (of_length k) f
-
-pub waits_long : (g : Given) (l : Lists) (c : Cursors) (n : Need) (p : HostId) (k : ℕ) (xs : List ℕ) → want.Words p k ≡ want_of l c n → g.front p.0 ≡ Some xs → (length xs ≡ k → ⊥) → answer g c n ≡ None
-waits_long g l c n p k xs e f h =
-    ap (answer g c) (wants_words l c n p k e) ∙ ap (of_length k) f ∙ ap (λ b. if b then Some xs else None) (unequal (length xs) k h)
-
 -- ---- nothing can be done
 
 abbrev pub stops : Want → Bool
@@ -123,13 +98,6 @@ stopped g l c n w items e stop = at n (ap stops (sym e) ∙ stop)
     at Ended f = refl
 
 -- ---- how a host stands
-
-pub ready : (g : Given) (c : Cursors) (n : Need) (xs : List ℕ) → answer g c n ≡ Some xs → state.Ready ≡ state_for g c n
-ready g c Nothing xs e = refl
-ready g c (Item s) xs e = sym (ap (ready_or (short_of s)) e)
-ready g c (Packet p k) xs e = sym (ap (ready_or (state.Waiting (host p))) e)
-ready g c (Unequal x y) xs e = refl
-ready g c Ended xs e = absurd cc
 
 short_state : (s : Source) (i j : ℕ) → stuck_state (short s i j) ≡ short_of s
 short_state Inputs i j = refl

@@ -13,21 +13,12 @@ use Rattle.vd_execution.specs.Step.{Source, Inputs, OwnWords, Triples, BitTriple
 use Rattle.vd_execution.specs.World.{done}
 use Rattle.vd_execution.proofs.Puts.{put_same, put_other, same_or_not}
 use Rattle.vd_machine.specs.declared.lists.Lists.{Lists}
-use Rattle.vd_machine.specs.declared.want.Want.{Want}
 use Rattle.vd_machine.specs.declared.want.Want.TheVariants as want
 use Rattle.vd_machine.specs.Wants.{want_of, short, count_of}
 use Rattle.vd_machine.specs.Dids.{seen}
 use Rattle.vd_world.specs.Hosts.{local}
 
 -- ---- what was wanted
-
-peer_in : Want → ℕ
-peer_in (want.Words p n) = p.0
-peer_in w = 0
-
-count_in : Want → ℕ
-count_in (want.Words p n) = n
-count_in w = 0
 
 no_words : (b : Bool) (s : Source) (i j : ℕ) (p : HostId) (n : ℕ) → want.Words p n ≡ (if b then want.Nothing else short s i j) → ⊥
 no_words true s i j p n e = cc

@@ -1,14 +1,14 @@
 -- Rounds over the hosts.
-use Rattle.std.proofs.Common.{◌≡◌, ℕ, ◌+◌, ◌<◌, ◌≤◌, Bool, true, false, cond, subst, List, [], ◌∷◌, ◌++◌, length, refl, sym, ap, ◌∙◌, ◌⊎◌, inl, inr, arith}
-use Rattle.std.specs.Prelude.{Option, Some, None, if◌then◌else◌}
+use Rattle.std.proofs.Common.{◌≡◌, ℕ, ◌+◌, ◌<◌, ◌≤◌, Bool, true, false, subst, List, [], ◌∷◌, ◌++◌, length, refl, sym, ap, ◌∙◌, ◌⊎◌, inl, inr, arith}
+use Rattle.std.specs.Prelude.{Option, None, if◌then◌else◌}
 use Rattle.std.proofs.lemmas.Option.{slice_get_past}
 use Rattle.vd_execution.specs.Schedule.{after}
 use Rattle.vd_execution.specs.World.{World, Supply, EndedFrom, step, run, left, IsStuck, all_rounds}
 use Rattle.vd_execution_confluence.specs.Claims.{then_all}
 use Rattle.vd_execution_confluence.proofs.Confluence.{one_end}
 use Rattle.vd_execution_confluence.proofs.Diamond.{diamond}
-use Rattle.vd_execution_confluence.proofs.Rounds.{step_falls, all_stuck, run_both}
-use Rattle.vd_world.specs.Hosts.{HostKept, local_or_nobody, world_of, supply_of, is_step, Reaches}
+use Rattle.vd_execution_confluence.proofs.Rounds.{all_stuck, run_both}
+use Rattle.vd_world.specs.Hosts.{HostKept, local_or_nobody, world_of, supply_of, Reaches}
 use Rattle.vd_world.proofs.Worlds.{absent}
 
 pub reach_refl : (s : Supply) (w : World) → Reaches s w w
@@ -32,20 +32,8 @@ pub record Round (s : Supply) (n : ℕ) (w0 : World) (moved : Bool) (h : ℕ) (w
   pub still : moved ≡ false → w ≡ w0
   pub stuck : moved ≡ false → (g : ℕ) → g < h → step s g w ≡ None
 
-pub round_start : (s : Supply) (n : ℕ) (w : World) → Round s n w false 0 w
-round_start s n w = record { reached = ([], refl); falls = λ e. absurd cc; no_more = omega arith; still = λ e. refl; stuck = λ e g h. absurd (omega arith) }
-
 same_or_less : (h g : ℕ) → g < h + 1 → (g < h) ⊎ (g ≡ h)
 same_or_less h g e = grind arith
-
--- a host that steps, and one that does not
-round_moved : (s : Supply) (n : ℕ) (w0 w v : World) (moved : Bool) (h : ℕ) (u : World) → EndedFrom n w → Round s n w0 moved h w → step s h w ≡ Some u → v ≡ after (step s h w) w → Round s n w0 true (h + 1) v
-round_moved s n w0 w v moved h u ended r e is =
-    let z : v ≡ u = is ∙ ap (λ o. after o w) e in
-    let less : left n u < left n w = step_falls s n h w u ended e in
-    let more = r.no_more in
-    let lv = ap (left n) z in
-    record { reached = reach_on s h w0 w v r.reached is; falls = λ q. omega arith; no_more = omega arith; still = λ q. absurd cc; stuck = λ q. absurd cc }
 
 round_waits : (s : Supply) (n : ℕ) (w0 w v : World) (moved : Bool) (h : ℕ) → Round s n w0 moved h w → step s h w ≡ None → v ≡ after (step s h w) w → Round s n w0 moved (h + 1) v
 round_waits s n w0 w v moved h r e is =
@@ -59,16 +47,6 @@ round_waits s n w0 w v moved h r e is =
       still = λ q. z ∙ r.still q;
       stuck = λ q g lt. subst (λ x. step s g x ≡ None) (sym z) (elim (same_or_less h g lt) [ inl p ↦ r.stuck q g p | inr p ↦ ap (λ i. step s i w) p ∙ e ]);
     }
-
-round_at : (s : Supply) (n : ℕ) (w0 w v : World) (moved : Bool) (h : ℕ) (o : Option World) → EndedFrom n w → Round s n w0 moved h w → step s h w ≡ o → v ≡ after (step s h w) w
-    → Round s n w0 (cond (is_step o) true moved) (h + 1) v
-round_at s n w0 w v moved h None ended r e is = round_waits s n w0 w v moved h r e is
-round_at s n w0 w v moved h (Some u) ended r e is = round_moved s n w0 w v moved h u ended r e is
-
-pub round_on : (s : Supply) (n : ℕ) (w0 w v : World) (moved b new : Bool) (h : ℕ) → EndedFrom n w → Round s n w0 moved h w → b ≡ is_step (step s h w) → v ≡ after (step s h w) w
-    → new ≡ (if b then true else moved) → Round s n w0 new (h + 1) v
-round_on s n w0 w v moved b new h ended r e is k =
-    subst (λ x. Round s n w0 x (h + 1) v) (sym (k ∙ ap (λ x. cond x true moved) e)) (round_at s n w0 w v moved h (step s h w) ended r refl is)
 
 less_or_not : (m n : ℕ) → (m < n) ⊎ (n ≤ m)
 less_or_not m n = grind arith

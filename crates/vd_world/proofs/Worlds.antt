@@ -43,11 +43,6 @@ stays_at hosts h k new there e j =
 pub supply_stays : (hosts : List HostKept) (h : ℕ) (k new : HostKept) → slice_get hosts h ≡ Some k → new.machine.lists ≡ k.machine.lists → supply_of (slice_set hosts h new) ≡ supply_of hosts
 supply_stays hosts h k new there e = fun_ext (stays_at hosts h k new there e)
 
--- a host that can not step, and one that does
-pub cannot : (hosts : List HostKept) (h : ℕ) (k : HostKept) → slice_get hosts h ≡ Some k → gets hosts h k ≡ None → step (supply_of hosts) h (world_of hosts) ≡ None
-cannot hosts h k there e =
-    ap (with_host (supply_of hosts) (world_of hosts) h) (ap local_or_nobody there) ∙ ap (with_answer (world_of hosts) h (local_of k)) e
-
 pub absent : (hosts : List HostKept) (h : ℕ) → slice_get hosts h ≡ None → step (supply_of hosts) h (world_of hosts) ≡ None
 absent hosts h there = ap (with_host (supply_of hosts) (world_of hosts) h) (ap local_or_nobody there)
 
@@ -59,9 +54,6 @@ can hosts h k xs new there e is =
 
 pub is_after : (w v : World) (o : Option World) → o ≡ Some v → v ≡ after o w
 is_after w v o e = ap (λ z. after z w) (sym e)
-
-pub is_after_none : (w : World) (o : Option World) → o ≡ None → w ≡ after o w
-is_after_none w o e = ap (λ z. after z w) (sym e)
 
 the_same : (k0 k : HostKept) → Some k0 ≡ Some k → k0 ≡ k
 the_same k0 k e = cc

@@ -34,12 +34,3 @@ module _ (s : Supply) (n : ℕ) (schedule : Schedule) (w : World) where
       at : (all : Bool) → (if all then then_all s n (run s (numbers schedule.entries) w) else run s (numbers schedule.entries) w) ≡ run s (rounds_too all) w
       at true = sym (run_both s (numbers schedule.entries) (all_rounds n (run s (numbers schedule.entries) w)) w)
       at false = refl
-
--- a schedule that ends with `all`, and one that does not
-pub all_followed : (s others : Supply) (n many : ℕ) (schedule : Schedule) (w u v : World) → schedule.all ≡ true → others ≡ s → many ≡ n → u ≡ run s (numbers schedule.entries) w → v ≡ then_all others many u → v ≡ replayed s n schedule w
-all_followed s others n many schedule w u v all same hosts there moved =
-    moved ∙ (λ i. then_all (same i) (hosts i) (there i)) ∙ sym (ap (λ (b : Bool). if b then then_all s n (run s (numbers schedule.entries) w) else run s (numbers schedule.entries) w) all)
-
-pub entries_followed : (s : Supply) (n : ℕ) (schedule : Schedule) (w u : World) → schedule.all ≡ false → u ≡ run s (numbers schedule.entries) w → u ≡ replayed s n schedule w
-entries_followed s n schedule w u none there =
-    there ∙ sym (ap (λ (b : Bool). if b then then_all s n (run s (numbers schedule.entries) w) else run s (numbers schedule.entries) w) none)
