@@ -8,9 +8,6 @@ use crate::codes::hmac;
 use crate::records::Keys;
 use vd_base::HostId;
 
-/// The bytes of a hello.
-pub const HELLO_BYTES: usize = 68;
-
 /// What each end of a sealed link says first.
 #[derive(Clone, Copy, PartialEq, Eq, Debug)]
 pub struct Hello {
