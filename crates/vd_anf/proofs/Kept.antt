@@ -63,7 +63,7 @@ module _ (hosts : List (List ℕ)) where
       sights fs (gs ++ (f.name.name, callee_of hosts f gs) ∷ []) (is ++ (f.name.name, inlining_of hosts f is) ∷ []) (sights_push f.name.name (callee_of hosts f gs) (inlining_of hosts f is) (function_means f gs is h) gs is h)
 
 -- from any inputs, and whatever the slots had, the statements leave the world that the source leaves
-pub world_kept : (source : Source) (turn : ℕ) (s : SlotState) → (block_effect (main_made source).body turn s).world ≡ source_end source s.world
+world_kept : (source : Source) (turn : ℕ) (s : SlotState) → (block_effect (main_made source).body turn s).world ≡ source_end source s.world
 world_kept source turn s =
     let hosts = host_names source.hosts in
     let m : Made = record { next = 0; slots = []; blocks = 1; body = [] } in

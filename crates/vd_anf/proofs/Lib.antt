@@ -1,6 +1,6 @@
-pub mod Slots
-pub mod Gives
-pub mod Exprs
-pub mod Effects
-pub mod Statements
+mod Slots
+mod Gives
+mod Exprs
+mod Effects
+mod Statements
 pub mod Kept

@@ -15,7 +15,7 @@ item_put d [] (suc i) w = item_put d [] i w
 item_put d (x ∷ xs) zero w = refl
 item_put d (x ∷ xs) (suc i) w = item_put d xs i w
 
-pub item_put_other : {A : Type 0} (d : A) (s : List A) (i j : ℕ) (w : A) → (i ≡ j → ⊥) → slice_index_or (put d s i w) j d ≡ slice_index_or s j d
+item_put_other : {A : Type 0} (d : A) (s : List A) (i j : ℕ) (w : A) → (i ≡ j → ⊥) → slice_index_or (put d s i w) j d ≡ slice_index_or s j d
 item_put_other d [] zero zero w h = absurd (h refl)
 item_put_other d [] zero (suc j) w h = refl
 item_put_other d [] (suc i) zero w h = refl
@@ -72,7 +72,7 @@ shown s (Binding k) = Bound (word s k)
 shown s (Variable k) = Cell (word s k)
 shown s (Array k) = Elements (array s k)
 
-pub shown_same : (p : Spot) (s s' : SlotState) → cell s' (slot_of p) ≡ cell s (slot_of p) → shown s' p ≡ shown s p
+shown_same : (p : Spot) (s s' : SlotState) → cell s' (slot_of p) ≡ cell s (slot_of p) → shown s' p ≡ shown s p
 shown_same (Binding k) s s' e = ap (λ (z : Content). Bound z.0) e
 shown_same (Variable k) s s' e = ap (λ (z : Content). Cell z.0) e
 shown_same (Array k) s s' e = ap (λ (z : Content). Elements z.1) e
@@ -125,7 +125,7 @@ at_held (e ∷ es) s x =
       | false ↦ at_held es s x
     ]
 
-abbrev pub from_some : {A : Type 0} → A → Option A → A
+abbrev from_some : {A : Type 0} → A → Option A → A
 from_some d None = d
 from_some d (Some a) = a
 
@@ -157,7 +157,7 @@ apart_found q (r ∷ rs) x p a e v is =
     ]) e
 
 -- where only the slot of a name changes, only what the name stands for changes
-pub held_apart : (names : Named Spot) (s s' : SlotState) (p : Spot) → fixed p ≡ false → Apart p names → ((k : ℕ) → (slot_of p ≡ k → ⊥) → cell s' k ≡ cell s k) → held s' names ≡ held s names
+held_apart : (names : Named Spot) (s s' : SlotState) (p : Spot) → fixed p ≡ false → Apart p names → ((k : ℕ) → (slot_of p ≡ k → ⊥) → cell s' k ≡ cell s k) → held s' names ≡ held s names
 held_apart [] s s' p v a h = refl
 held_apart (e ∷ es) s s' p v a h = rw (held_apart es s s' p v a.1 h, shown_same e.1 s s' (h (slot_of e.1) (a.0 (rw v refl)))) refl
 

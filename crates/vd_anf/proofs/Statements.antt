@@ -36,7 +36,7 @@ module _ (hosts : List (List ℕ)) where
       if_means hosts at c (map (execution hosts) (statements a)) (map (execution hosts) (statements b)) (map (lowering_of hosts) (statements a)) (map (lowering_of hosts) (statements b)) (statements_both a) (statements_both b)
   step (Statement-F.For at x n body) = for_means hosts at x n (map (execution hosts) (statements body)) (map (lowering_of hosts) (statements body)) (statements_both body)
 
-  pub statement_means : (s : Statement) → StatementMeans (execution hosts s) (lowering_of hosts s)
+  statement_means : (s : Statement) → StatementMeans (execution hosts s) (lowering_of hosts s)
   statement_means = ind-Statement Meant (λ x y is. subst (λ z. Meant (roll-Statement z)) is
       (subst₂ StatementMeans (sym (fold-roll-Statement Execution (statement_execution hosts) (layer y))) (sym (fold-roll-Statement StatementLowering (statement_lowering hosts) (layer y))) (step y)))
 

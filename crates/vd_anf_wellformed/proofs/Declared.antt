@@ -67,7 +67,7 @@ module _ (principals hosts : List (List ℕ)) where
   shift_of (Load v) h = refl
   shift_of (Get v i) h = refl
 
-  pub shifts_meet : Meeting tests (of_rights shift_fits)
+  shifts_meet : Meeting tests (of_rights shift_fits)
   shifts_meet = record {
     right = λ x r made. shift_of r made;
     turn = λ x. refl;
@@ -91,7 +91,7 @@ module _ (principals hosts : List (List ℕ)) where
   host_of x (Load v) h = refl
   host_of x (Get v i) h = refl
 
-  pub hosts_meet : Meeting tests (host_is_declared (length hosts))
+  hosts_meet : Meeting tests (host_is_declared (length hosts))
   hosts_meet = record {
     right = λ x r made. host_of x r made;
     turn = λ x. refl;
@@ -115,7 +115,7 @@ module _ (principals hosts : List (List ℕ)) where
   form_of_right (Load v) h = refl
   form_of_right (Get v i) h = refl
 
-  pub forms_meet : Meeting tests (of_rights (right_is_declared principals))
+  forms_meet : Meeting tests (of_rights (right_is_declared principals))
   forms_meet = record {
     right = λ x r made. form_of_right r made;
     turn = λ x. refl;
@@ -151,7 +151,7 @@ module _ (principals hosts : List (List ℕ)) where
   relabelled (s ∷ ss) zero x (Some l) e h = rw (e, right (ok s) (list_all ok ss) h) refl
   relabelled (s ∷ ss) (suc k) x label e h = rw (left (ok s) (list_all ok ss) h, relabelled ss k x label e (right (ok s) (list_all ok ss) h)) refl
 
-  pub label_laws : Laws tests (Unit {0}) Keeps At (λ w m. tt)
+  label_laws : Laws tests (Unit {0}) Keeps At (λ w m. tt)
   label_laws = record {
     none = λ w m h. h;
     after = λ w m m1 m2 a b h. b (a h);
@@ -173,7 +173,7 @@ module _ (principals hosts : List (List ℕ)) where
     turn_stays = λ w m entry p h. tt;
   }
 
-  pub labels_kept : (source : Source) → source_passes tests source ≡ true → list_all ok (main_made source).slots ≡ true
+  labels_kept : (source : Source) → source_passes tests source ≡ true → list_all ok (main_made source).slots ≡ true
   labels_kept source p = main_keeps tests (Unit {0}) Keeps At (λ w m. tt) label_laws source p tt refl
 
 pub shifts_fit_all : (source : Source) → IsResolved source → ShiftsFit (normal_form source)

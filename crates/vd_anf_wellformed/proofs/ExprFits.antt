@@ -33,7 +33,7 @@ use Rattle.vd_anf_wellformed.proofs.Counts.{let_one}
 use Rattle.vd_anf_wellformed.proofs.Fits.{Fits, fits_none, fits_same, fits_then, fits_next, fits_inlined, fits_one}
 use Rattle.vd_anf_wellformed.proofs.Alike.{Alike, MaybeAlike, alike_at, Callees, MaybeCallee, callee_at}
 
-pub emit_fits : (here : Here) (kind : Kind) (r : Right) (m : Made) → Fits m.body (emitted here kind r m).1.body one 0
+emit_fits : (here : Here) (kind : Kind) (r : Right) (m : Made) → Fits m.body (emitted here kind r m).1.body one 0
 emit_fits here kind r m = fits_one m.body (Let (slot m.next) r) (let_one (slot m.next) r)
 
 -- one more binding, after what has a size
@@ -51,7 +51,7 @@ pub record ExprFits (t : Typing) (z : Sizing) (l : Lowering) (c : Calls) : Type 
   pub plain : (scope : Scope) (env : Named Symbol) (kind : Kind) → t scope env ≡ Ok kind → (names : Named Spot) (vars : Variables) → Alike env names vars → l.plain names ≡ z.plain vars
   pub fits : PartFits t z.size l.run c
 
-abbrev pub LinkFits : LinkTyping → LinkSizing → LinkLowering → Calls → Type 0
+abbrev LinkFits : LinkTyping → LinkSizing → LinkLowering → Calls → Type 0
 LinkFits t z l c = (scope : Scope) (env : Named Symbol) (left kind : Kind) → t scope env left ≡ Ok kind → (is : Named Inlining) (sizes : Named Size) (inside : Named ℕ) → Callees scope.functions is sizes inside
     → (names : Named Spot) (vars : Variables) → Alike env names vars → (here : Here) (x : ℕ) (m : Made) → Fits m.body (l is names here x m).1.body (z sizes vars) (c inside)
 

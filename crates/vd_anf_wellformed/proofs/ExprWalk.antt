@@ -35,14 +35,14 @@ pub right : (a b : Bool) → (a && b) ≡ true → b ≡ true
 right true b e = e
 right false b e = absurd (true≢false (sym e))
 
-pub none_is : {A : Type 0} (a : A) → None ≡ Some a → ⊥
+none_is : {A : Type 0} (a : A) → None ≡ Some a → ⊥
 none_is a e = cc
 
-abbrev pub from_some : {A : Type 0} → A → Option A → A
+abbrev from_some : {A : Type 0} → A → Option A → A
 from_some d None = d
 from_some d (Some a) = a
 
-pub some_is : {A : Type 0} (a b : A) → Some a ≡ Some b → a ≡ b
+some_is : {A : Type 0} (a b : A) → Some a ≡ Some b → a ≡ b
 some_is a b e = ap (from_some b) e
 
 module _ (hosts : List (List ℕ)) (tests : Tests) (W : Type 0) (Keeps : W → Made → Made → Type 0) (At : W → Made → Spot → Type 0) (inside : W → Made → W) (laws : Laws tests W Keeps At inside) where

@@ -23,7 +23,7 @@ use Rattle.vd_anf_wellformed.proofs.Plain.{always, source_always, expr_always, l
 abbrev pub size : Made → ℕ
 size m = m.next + m.blocks
 
-pub record Grows (m m' : Made) : Type 0 where
+record Grows (m m' : Made) : Type 0 where
   pub more : size m ≤ size m'
   pub few : size m' + statement_count m.body ≤ size m + statement_count m'.body
 
@@ -118,10 +118,10 @@ module _ (hosts : List (List ℕ)) where
     pub expr_more : (e : Expr) (names : Named Spot) (here : Here) (m : Made) → size m ≤ size ((lowering hosts e).run (inlinings_of hosts functions) names here m).1
     expr_more e names here m = (expr_keeps hosts always W Keeps Here' inside laws e (expr_always hosts e) (inlinings_of hosts functions) kept names here tt m (shown m names)).0.more
 
-    pub link_more : (l : Link) (names : Named Spot) (here : Here) (x : ℕ) (m : Made) → size m ≤ size (lowering_of_link hosts l (inlinings_of hosts functions) names here x m).1
+    link_more : (l : Link) (names : Named Spot) (here : Here) (x : ℕ) (m : Made) → size m ≤ size (lowering_of_link hosts l (inlinings_of hosts functions) names here x m).1
     link_more l names here x m = (link_keeps hosts always W Keeps Here' inside laws l (link_always hosts l) (inlinings_of hosts functions) kept names here tt x m (shown m names) tt).0.more
 
-    pub statement_more : (s : Statement) (block : ℕ) (p : Place) → size p.made ≤ size (lowering_of hosts s (inlinings_of hosts functions) block p).made
+    statement_more : (s : Statement) (block : ℕ) (p : Place) → size p.made ≤ size (lowering_of hosts s (inlinings_of hosts functions) block p).made
     statement_more s block p = (statement_keeps hosts always W Keeps Here' inside laws s (statement_always hosts s) (inlinings_of hosts functions) kept block tt p (shown p.made p.names)).0.more
 
     pub chain_more : (ls : List Link) (names : Named Spot) (here : Here) (x : ℕ) (m : Made) → size m ≤ size (chain_made (map (lowering_of_link hosts) ls) (inlinings_of hosts functions) names here x m).1

@@ -1,25 +1,25 @@
-pub mod Labels
-pub mod Tests
-pub mod Laws
-pub mod ExprWalk
-pub mod Walk
-pub mod Plain
-pub mod Order
-pub mod Every
-pub mod Operands
-pub mod Turns
-pub mod Seeing
+mod Labels
+mod Tests
+mod Laws
+mod ExprWalk
+mod Walk
+mod Plain
+mod Order
+mod Every
+mod Operands
+mod Turns
+mod Seeing
 pub mod Steps
-pub mod Distinct
-pub mod Forms
-pub mod Known
-pub mod Resolved
-pub mod Declared
-pub mod Counts
-pub mod Fits
-pub mod Alike
-pub mod ExprFits
-pub mod SourceFits
+mod Distinct
+mod Forms
+mod Known
+mod Resolved
+mod Declared
+mod Counts
+mod Fits
+mod Alike
+mod ExprFits
+mod SourceFits
 pub mod Exact
 pub mod Growth
 pub mod WellMade

@@ -35,7 +35,7 @@ length_push [] x = refl
 length_push (y ∷ ys) x = let rest = length_push ys x in omega arith
 
 -- from m to m' the next slots were made, in order, each with an entry
-pub record Orders (m m' : Made) : Type 0 where
+record Orders (m m' : Made) : Type 0 where
   pub count : ℕ
   pub next : m'.next ≡ m.next + count
   pub entries : length m'.slots ≡ length m.slots + count

@@ -104,7 +104,7 @@ module _ (hosts : List (List ℕ)) where
       (λ x y is. subst (λ z. passes_statement hosts always (roll-Statement z) ≡ true) is
       (subst (λ (b : Bool). b ≡ true) (sym (fold-roll-Statement Bool (statement_passes hosts always) (layer y))) (statement_step y)))
 
-  pub body_always : (ss : List Statement) → all_true (map (passes_statement hosts always) ss) ≡ true
+  body_always : (ss : List Statement) → all_true (map (passes_statement hosts always) ss) ≡ true
   body_always [] = refl
   body_always (s ∷ ss) = rw (statement_always s, body_always ss) refl
 

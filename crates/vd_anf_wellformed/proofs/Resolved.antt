@@ -51,7 +51,7 @@ pub record Known (source : Source) : Type 0 where
   pub labels : list_all (label_is_declared (principal_names source)) (map {B = Written} (λ h. written h.label) source.hosts) ≡ true
   pub parts : source_passes (declared_alone (principal_names source) (host_names source.hosts)) source ≡ true
 
-pub known_of : (source : Source) → source_check source ≡ Ok tt → Known source
+known_of : (source : Source) → source_check source ≡ Ok tt → Known source
 known_of source p =
     let ps = principal_names source in
     let hs = host_names source.hosts in

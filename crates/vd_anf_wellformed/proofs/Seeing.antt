@@ -73,7 +73,7 @@ abbrev Here : Sight → Made → Spot → Type 0
 Here w m p = sees (at w m) p ≡ true
 
 -- from m to m' all that is named is in sight, and what was in sight stays
-pub record Keeps (w : Sight) (m m' : Made) : Type 0 where
+record Keeps (w : Sight) (m m' : Made) : Type 0 where
   pub all : (statements_see m.body w).all ≡ true → (statements_see m'.body w).all ≡ true
   pub within : Within (at w m) (at w m')
 

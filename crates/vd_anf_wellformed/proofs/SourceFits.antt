@@ -33,7 +33,7 @@ use Rattle.vd_anf_wellformed.proofs.Alike.{Alike, MaybeAlike, alike_at, alike_pu
 use Rattle.vd_anf_wellformed.proofs.ExprFits.{then_emit, expr_fits}
 
 -- what is made is of that size, and the same names are in sight
-pub record Stays (xs : List Stmt) (p : Place) (s : Size × Variables) (c : ℕ) (env : Named Symbol) : Type 0 where
+record Stays (xs : List Stmt) (p : Place) (s : Size × Variables) (c : ℕ) (env : Named Symbol) : Type 0 where
   pub fits : Fits xs p.made.body s.0 c
   pub alike : Alike env p.names s.1
 

@@ -189,7 +189,7 @@ module _ (hosts : List (List ℕ)) (tests : Tests) (W : Type 0) (Keeps : W → M
   statement_keeps = ind-Statement (λ s. passes_statement hosts tests s ≡ true → StatementKeeps (lowering_of hosts s))
       (λ x y is. subst (λ z. passes_statement hosts tests (roll-Statement z) ≡ true → StatementKeeps (lowering_of hosts (roll-Statement z))) is (at_roll y))
 
-  pub body_keeps : (ss : List Statement) → all_true (map (passes_statement hosts tests) ss) ≡ true → StatementKeeps (statements_made (map (lowering_of hosts) ss))
+  body_keeps : (ss : List Statement) → all_true (map (passes_statement hosts tests) ss) ≡ true → StatementKeeps (statements_made (map (lowering_of hosts) ss))
   body_keeps [] ok is h block w p shown = (laws.none w p.made, shown)
   body_keeps (s ∷ ss) ok is h block w p shown =
       let q = lowering_of hosts s is block p in
@@ -203,7 +203,7 @@ module _ (hosts : List (List ℕ)) (tests : Tests) (W : Type 0) (Keeps : W → M
   bound_shown w m (x ∷ xs) [] h = tt
   bound_shown w m (x ∷ xs) (k ∷ ks) h = (h.0, bound_shown w m xs ks h.1)
 
-  pub function_keeps : (f : Function) → passes_function hosts tests f ≡ true → (is : Named Inlining) → KeptCalls is → KeptCall (inlining_of hosts f is)
+  function_keeps : (f : Function) → passes_function hosts tests f ≡ true → (is : Named Inlining) → KeptCalls is → KeptCall (inlining_of hosts f is)
   function_keeps f ok is h w here ks m known =
       let names = bound Binding (parameter_names f.parameters) ks in
       let p = statements_made (map (lowering_of hosts) f.body) is here.block (record { names = names; made = m }) in

@@ -165,7 +165,7 @@ sum_bit (suc i) x y c h =
     ∙ ap₂ (λ (a b : ℕ). ((a + b) % 2 + carry x y c (suc i)) % 2) (sym (bit_at-suc x i)) (sym (bit_at-suc y i))
 
 -- what a sum has beyond the bits of its two words
-pub carry_out : (i x y c : ℕ) → x < 2 ^ i → y < 2 ^ i → c < 2 → carry x y c i ≡ (x + y + c) / 2 ^ i
+carry_out : (i x y c : ℕ) → x < 2 ^ i → y < 2 ^ i → c < 2 → carry x y c i ≡ (x + y + c) / 2 ^ i
 carry_out zero x y c hx hy hc = none x y c hx hy
   where
     none : (x y c : ℕ) → x < 1 → y < 1 → c ≡ (x + y + c) / 1

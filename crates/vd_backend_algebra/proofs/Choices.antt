@@ -8,7 +8,7 @@ use Rattle.vd_base.specs.Operations.{truth_word}
 use Rattle.vd_backend_algebra.specs.Circuits.{mask_of, mux_of, min_of, max_of, lt_of}
 use Rattle.vd_backend_algebra.proofs.Comparisons.{lt_is}
 
-pub lowest : (c : ℕ) → bit_and 1 c ≡ c % 2
+lowest : (c : ℕ) → bit_and 1 c ≡ c % 2
 lowest c = and_comm 1 c ∙ and_mask c 1
 
 -- all bits are this bit

@@ -1,11 +1,11 @@
-pub mod Bits
-pub mod Carries
-pub mod Sums
-pub mod Comparisons
-pub mod Choices
-pub mod Computing
+mod Bits
+mod Carries
+mod Sums
+mod Comparisons
+mod Choices
+mod Computing
 pub mod Gates
 pub mod Parts
 pub mod BitProducts
 pub mod WordProducts
-pub mod Conversions
+mod Conversions

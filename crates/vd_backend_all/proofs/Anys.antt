@@ -25,7 +25,7 @@ module _ (p test : HostId → Bool) where
       ∙ any_append (filter p (hosts n)) (cond (p (host n)) (host n ∷ []) [])
 
   -- it is no member, or it does not pass
-  pub none_more : (n : ℕ) → any_of n ≡ false → list_any test (cond (p (host n)) (host n ∷ []) []) ≡ false → any_of (n + 1) ≡ false
+  none_more : (n : ℕ) → any_of n ≡ false → list_any test (cond (p (host n)) (host n ∷ []) []) ≡ false → any_of (n + 1) ≡ false
   none_more n e f = any_more n ∙ ap (λ (b : Bool). b || list_any test (cond (p (host n)) (host n ∷ []) [])) e ∙ f
 
   pub passed_over : (n : ℕ) → any_of n ≡ false → p (host n) ≡ false → any_of (n + 1) ≡ false

@@ -1,6 +1,6 @@
-pub mod Anys
-pub mod Cells
-pub mod Forms
-pub mod Making
-pub mod Offers
+mod Anys
+mod Cells
+mod Forms
+mod Making
+mod Offers
 pub mod Served

@@ -187,7 +187,7 @@ module _ (t : Tape) (deal : IsValidDeal t) (inputs : ℕ → List ℕ) (hosts : 
       ∙ ap (λ (hs : List HostId). map (λ (h : HostId). (w h.0).registers ((register_of x.at h.0).0 + i)) hs) at
 
   -- a host's register of a cell is not free
-  pub cell_low : (p : Proto) (next : List ℕ) (x : Parts) → Below (M t inputs hosts) (S t inputs hosts) next x → hosts_of x.at ≡ holders p
+  cell_low : (p : Proto) (next : List ℕ) (x : Parts) → Below (M t inputs hosts) (S t inputs hosts) next x → hosts_of x.at ≡ holders p
       → (i : ℕ) → i < x.size → (h : ℕ) → IsHost (holders p) h → (register_of x.at h).0 + i < slice_index next h
   cell_low p next x below at i lt h j = below h ((register_of x.at h).0 + i) (i, lt, in_cell i x.at h (subst (λ (l : List HostId). IsHost l h) (sym at) j))
 

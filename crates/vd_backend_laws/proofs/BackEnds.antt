@@ -108,7 +108,7 @@ bound_members set a b o e h i = at (either_order a.0 b.0 (bound_differ a b o)) (
     at (inr lt) small = turned (pair_members set b a (lt, small.0) (pair_turned (has_host set a) (has_host set b) (size set == 2) e) h i)
 
 -- the route between two protocols with back ends that join leads there
-pub route_leads : (hosts : ℕ) (p q : Proto) → has_back_end p ≡ true → has_back_end q ≡ true → IsTrue (joins p q) → IsOver hosts p → IsOver hosts q → IsRoute (route p q) (back_end p) (back_end q)
+route_leads : (hosts : ℕ) (p q : Proto) → has_back_end p ≡ true → has_back_end q ≡ true → IsTrue (joins p q) → IsOver hosts p → IsOver hosts q → IsRoute (route p q) (back_end p) (back_end q)
 route_leads hosts (Commit u v) q a b j d e = no_back_end a
 route_leads hosts (Local h) (Local k) a b j d e = (refl, j)
 route_leads hosts (Local h) (Rep set) a b j d e = (refl, j)

@@ -1,16 +1,16 @@
-pub mod BoundParts
+mod BoundParts
 pub mod Standing
 pub mod Over
 pub mod TwoHosts
 pub mod Moves
 pub mod Gives
-pub mod Binding
+mod Binding
 pub mod Rows
-pub mod BackEnds
-pub mod Alone
-pub mod Outside
+mod BackEnds
+mod Alone
+mod Outside
 pub mod Arrays
-pub mod Written
+mod Written
 pub mod SuiteLaws
 pub mod SuitePlaces
 pub mod PlanTidy

@@ -39,7 +39,7 @@ use Rattle.vd_backend_laws.proofs.Alone.{same, sound_after}
 -- ---- the number of a turn
 
 -- the word of a host's part: of two that share, the first has the number and the second has 0
-abbrev pub turn_value : Proto → ℕ → HostId → ℕ
+abbrev turn_value : Proto → ℕ → HostId → ℕ
 turn_value (Local k) turn h = turn
 turn_value (Rep set) turn h = turn
 turn_value (Commit a b) turn h = turn

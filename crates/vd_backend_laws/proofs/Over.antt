@@ -86,7 +86,7 @@ filter_apart test (x ∷ xs) a = at (filter_apart test xs a.1) (test x)
     at again false = again
 
 -- the members of a set are listed once
-pub members_apart : (n : ℕ) (set : HostSet) → AreApart (members n set)
+members_apart : (n : ℕ) (set : HostSet) → AreApart (members n set)
 members_apart n set = filter_apart (has_host set) (hosts n) (in_a_row 0 n)
 
 differ : (a b : ℕ) → a < b → a ≢ b

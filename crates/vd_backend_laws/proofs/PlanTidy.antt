@@ -13,7 +13,7 @@ use Rattle.vd_choreography.proofs.Lists.{or_left, or_right, or_cases}
 use Rattle.vd_backend_laws.specs.Machine.{machine}
 use Rattle.vd_backend_laws.specs.PlanRuns.{TidyAlike}
 
-pub takes : (ps : List Part) (h : ℕ) → is_part ps h ≡ true → TakesPart ps h
+takes : (ps : List Part) (h : ℕ) → is_part ps h ≡ true → TakesPart ps h
 takes [] h e = cc
 takes (p ∷ ps) h e = at (takes ps h) (or_cases (nat_eq h p.0) (is_part ps h) e)
   where

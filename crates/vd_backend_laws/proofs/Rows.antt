@@ -78,10 +78,10 @@ zeros_there p b w x at c =
 module _ (t : Tape) (source : ℕ → ℕ → Type 0) (f : HostId → List ℕ → Made Reg) (value : HostId → ℕ) (next0 : List ℕ) (w : Hosts) (P : HostId → Type 0)
     (law : (h : HostId) → P h → (next : List ℕ) (u : Hosts) → Since next0 w next u → GivesThere 8 t next source h (f h next) u (value h)) where
   -- the words of these hosts
-  abbrev pub AreThese : List HostId → List ℕ → Hosts → Type 0
+  abbrev AreThese : List HostId → List ℕ → Hosts → Type 0
   AreThese hs next z = (hosts_of (each_made f hs next).given ≡ hs) × (words_at z (each_made f hs next).given ≡ map value hs)
 
-  pub each_value : (hs : List HostId) → Each P hs → (next : List ℕ) (u : Hosts) → Since next0 w next u
+  each_value : (hs : List HostId) → Each P hs → (next : List ℕ) (u : Hosts) → Since next0 w next u
       → DuetGives (8 * length hs) t next source (each_made f hs next) u (AreThese hs next)
   each_value [] ps next u s = record {
     orderly = orderly_still (8 * 0) next source [] tt (λ h r i. absurd i);

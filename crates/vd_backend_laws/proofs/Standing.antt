@@ -19,7 +19,7 @@ use Rattle.vd_backend_laws.proofs.BoundParts.{value_in, nonce_in, digest_in}
 pub none_more : (n : ℕ) → n + 0 ≡ n
 none_more n = omega arith
 
-pub cell_zero : (x : Places) → cell 0 x ≡ x
+cell_zero : (x : Places) → cell 0 x ≡ x
 cell_zero [] = refl
 cell_zero (q ∷ x) = ap₂ (λ (n : ℕ) (l : Places). (q.0, register n) ∷ l) (none_more q.1.0) (cell_zero x)
 

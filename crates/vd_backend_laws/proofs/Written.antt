@@ -36,10 +36,10 @@ of_lt : (a b : ℕ) → a < b → nat_lt a b ≡ true
 of_lt a b h = grind (arith, nat_tests)
 
 module _ (t : Tape) (deal : IsValidDeal t) (kept : Parts) (at : List Part) (x : Places) (next : List ℕ) where
-  abbrev pub act : ℕ → Action
+  abbrev act : ℕ → Action
   act h = action.Put (register_of kept.at h) kept.size (index_of at h) (register_of x h)
 
-  abbrev pub gadgets : List HostId → List Gadget
+  abbrev gadgets : List HostId → List Gadget
   gadgets hs = map (λ h. Alone h (action.Put (register_of kept.at h.0) kept.size (index_of at h.0) (register_of x h.0))) hs
 
   record Written (hs : List HostId) (u : Hosts) : Type 0 where

@@ -23,7 +23,7 @@ if_both (Err e) P Q R f p q = p
 
 -- ---- a commitment's rows
 
-pub low_named : (x : Places) → (held_of x).nonce.0 < 4000000000 → (seen_of x).digest.0 < 4000000000 → is_named x ≡ true
+low_named : (x : Places) → (held_of x).nonce.0 < 4000000000 → (seen_of x).digest.0 < 4000000000 → is_named x ≡ true
 low_named x n d = and_from _ _ (of_lt (held_of x).nonce.0 4000000000 n) (of_lt (seen_of x).digest.0 4000000000 d)
 
 pub named_formed : (p v : HostId) (x : Places) → is_named x ≡ true → AreFormed (Commit p v) x

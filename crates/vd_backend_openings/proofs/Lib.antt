@@ -1,3 +1,3 @@
-pub mod Silent
-pub mod Sent
-pub mod Compared
+mod Silent
+mod Sent
+mod Compared

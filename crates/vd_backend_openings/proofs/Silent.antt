@@ -39,7 +39,7 @@ gate_silent a b (Flip x) words next = refl
 gate_silent a b (Lowest x) words next = refl
 gate_silent a b (Mask x) words next = refl
 
-pub gates_silent : (a b : HostId) (gates : List Gate) (words : List Shares) (next : List ℕ) → all_openings (gates_shares a b gates words next).gadgets ≡ []
+gates_silent : (a b : HostId) (gates : List Gate) (words : List Shares) (next : List ℕ) → all_openings (gates_shares a b gates words next).gadgets ≡ []
 gates_silent a b [] words next = refl
 gates_silent a b (g ∷ gates) words next =
     let one : Made Shares = gate_shares a b g words next in
@@ -62,7 +62,7 @@ shown_tells s a b x to next = at (nat_eq to.0 a.0)
     at true = refl
     at false = refl
 
-pub pair_tells : (s : Sharing) (a b : HostId) (serves : Op → Bool) (apply : Op → List Places → List ℕ → Made Shares)
+pair_tells : (s : Sharing) (a b : HostId) (serves : Op → Bool) (apply : Op → List Places → List ℕ → Made Shares)
     → ((o : Op) (xs : List Places) (next : List ℕ) → all_openings (apply o xs next).gadgets ≡ []) → TellsWhatIsShown a b (pair_calls s a b serves apply)
 pair_tells s a b serves apply silent = record {
   literal = λ v next. refl;

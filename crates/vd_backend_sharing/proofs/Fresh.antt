@@ -19,7 +19,7 @@ use Rattle.vd_backend_sharing.proofs.Blocks.{gives_so, AreNamed, Hold, gives}
 abbrev pub pair_at : HostId → HostId → List Reg → List Reg → List ℕ → Pair
 pair_at a b xs ys next = record { host = sides a b; operands = sides xs ys; mark = sides (slice_index next a.0) (slice_index next b.0) }
 
-pub all_low : (n : ℕ) (rs : List Reg) → Each (λ r. r.0 < n) rs → (j : ℕ) → j < length rs → (nth_register rs j).0 < n
+all_low : (n : ℕ) (rs : List Reg) → Each (λ r. r.0 < n) rs → (j : ℕ) → j < length rs → (nth_register rs j).0 < n
 all_low n [] low j few = absurd (none j few)
   where
     none : (j : ℕ) → j < 0 → ⊥

@@ -3,11 +3,11 @@ pub mod Deeds
 pub mod Runs
 pub mod Blocks
 pub mod Fresh
-pub mod Joined
+mod Joined
 pub mod Parts
 pub mod PairLaws
 pub mod PairActs
 pub mod Operations
 pub mod Rooms
-pub mod Emitted
+mod Emitted
 pub mod Chains

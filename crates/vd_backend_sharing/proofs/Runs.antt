@@ -44,25 +44,25 @@ fresh_is n (suc i) = refl
 
 -- ---- cursors
 
-abbrev pub SameCursors : Hosts → Hosts → Type 0
+abbrev SameCursors : Hosts → Hosts → Type 0
 SameCursors u v = (k : ℕ) (s : Source) → (v k).cursors s ≡ (u k).cursors s
 
 -- an action that takes no item
-pub do_same : (t : Tape) (h : ℕ) (a : Action) (u : Hosts) → ((s : Source) → (acted (t h) a (u h)).cursors s ≡ (u h).cursors s) → SameCursors u (after_do t h a u)
+do_same : (t : Tape) (h : ℕ) (a : Action) (u : Hosts) → ((s : Source) → (acted (t h) a (u h)).cursors s ≡ (u h).cursors s) → SameCursors u (after_do t h a u)
 do_same t h a u e k s = kept_by_all u h (acted (t h) a (u h)) k (λ (x : Host). x.cursors s) (e s)
 
-pub same_on : (u v z : Hosts) → SameCursors u v → SameCursors v z → SameCursors u z
+same_on : (u v z : Hosts) → SameCursors u v → SameCursors v z → SameCursors u z
 same_on u v z a b k s = b k s ∙ a k s
 
 -- a host took an item of a list
 module _ (h : ℕ) (from : Source) (u v : Hosts) (took : Takes h from u v) where
-  pub took_here : (s : Source) → same_source s from ≡ true → (v h).cursors s ≡ suc ((u h).cursors s)
+  took_here : (s : Source) → same_source s from ≡ true → (v h).cursors s ≡ suc ((u h).cursors s)
   took_here s e = took h s ∙ ap₂ (λ (a b : Bool). one_more (a && b) ((u h).cursors s)) (same_number h) e
 
-  pub took_elsewhere : (k : ℕ) (s : Source) → k ≢ h → (v k).cursors s ≡ (u k).cursors s
+  took_elsewhere : (k : ℕ) (s : Source) → k ≢ h → (v k).cursors s ≡ (u k).cursors s
   took_elsewhere k s d = took k s ∙ ap (λ (a : Bool). one_more (a && same_source s from) ((u k).cursors s)) (other_number k h d)
 
-  pub took_another : (k : ℕ) (s : Source) → same_source s from ≡ false → (v k).cursors s ≡ (u k).cursors s
+  took_another : (k : ℕ) (s : Source) → same_source s from ≡ false → (v k).cursors s ≡ (u k).cursors s
   took_another k s e = took k s ∙ ap (λ (b : Bool). one_more (nat_eq k h && b) ((u k).cursors s)) e ∙ none (nat_eq k h) ((u k).cursors s)
     where
       none : (a : Bool) (n : ℕ) → one_more (a && false) n ≡ n
@@ -138,7 +138,7 @@ module _ (t : Tape) (p : Pair) (w : Hosts) (next : List ℕ) (apart : (p.host Fi
         | no d ↦ a.others h r d ∙ kept h r below
       ]
 
-  pub first_added : (xs ys ws : List ℕ) (u u' : Hosts) → Stands xs ys u → Adds (at First) (p.mark First + length xs) ws u u' → Stands (xs ++ ws) ys u'
+  first_added : (xs ys ws : List ℕ) (u u' : Hosts) → Stands xs ys u → Adds (at First) (p.mark First + length xs) ws u u' → Stands (xs ++ ws) ys u'
   first_added xs ys ws u u' s a = record {
     first = longer (p.mark First) xs ws (u (at First)).registers (u' (at First)).registers s.first a.below a.there;
     second = λ i few. a.others (at Second) (p.mark Second + i) (λ e. apart (sym e)) ∙ s.second i few;
@@ -147,7 +147,7 @@ module _ (t : Tape) (p : Pair) (w : Hosts) (next : List ℕ) (apart : (p.host Fi
     inputs = λ h. a.inputs h ∙ s.inputs h;
   }
 
-  pub second_added : (xs ys ws : List ℕ) (u u' : Hosts) → Stands xs ys u → Adds (at Second) (p.mark Second + length ys) ws u u' → Stands xs (ys ++ ws) u'
+  second_added : (xs ys ws : List ℕ) (u u' : Hosts) → Stands xs ys u → Adds (at Second) (p.mark Second + length ys) ws u u' → Stands xs (ys ++ ws) u'
   second_added xs ys ws u u' s a = record {
     first = λ i few. a.others (at First) (p.mark First + i) apart ∙ s.first i few;
     second = longer (p.mark Second) ys ws (u (at Second)).registers (u' (at Second)).registers s.second a.below a.there;
@@ -159,7 +159,7 @@ module _ (t : Tape) (p : Pair) (w : Hosts) (next : List ℕ) (apart : (p.host Fi
   abbrev pub StandsBy : Left → Hosts → Type 0
   StandsBy m u = Stands m.first m.second u
 
-  pub added : (s : Side) (m : Left) (ws : List ℕ) (from : ℕ) (u u' : Hosts) → StandsBy m u → from ≡ p.mark s + length (words_of m s) → Adds (at s) from ws u u'
+  added : (s : Side) (m : Left) (ws : List ℕ) (from : ℕ) (u u' : Hosts) → StandsBy m u → from ≡ p.mark s + length (words_of m s) → Adds (at s) from ws u u'
       → StandsBy (with_words m s ws) u'
   added First m ws from u u' s e a = first_added m.first m.second ws u u' s (subst (λ z. Adds (at First) z ws u u') e a)
   added Second m ws from u u' s e a = second_added m.first m.second ws u u' s (subst (λ z. Adds (at Second) z ws u u') e a)
@@ -170,7 +170,7 @@ module _ (t : Tape) (p : Pair) (w : Hosts) (next : List ℕ) (apart : (p.host Fi
   place_low c s (Old j) known = let a = low s j (low_of j (length (p.operands s)) known) in omega (arith, a)
   place_low c s (New i) known = let a = low_of i (c s) known in let b = fresh_is (p.mark s) i in omega (arith, a, b)
 
-  pub words_here : (m : Left) (u : Hosts) → StandsBy m u → (s : Side) (i : ℕ) → i < length (words_of m s) → (u (at s)).registers (p.mark s + i) ≡ nth (words_of m s) i
+  words_here : (m : Left) (u : Hosts) → StandsBy m u → (s : Side) (i : ℕ) → i < length (words_of m s) → (u (at s)).registers (p.mark s + i) ≡ nth (words_of m s) i
   words_here m u stands First i few = stands.first i few
   words_here m u stands Second i few = stands.second i few
 

@@ -59,7 +59,7 @@ places_more hosts size n m [] le f = tt
 places_more hosts size n m (q ∷ x) le f = ((f.0.0, let p = f.0.1 in omega (arith, p, le)), places_more hosts size n m x le f.1)
 
 -- registers that are at most m are below a greater number
-pub places_under : (hosts m n : ℕ) (x : Places) → m < n → PlacesFit hosts 0 m x → PlacesFit hosts 1 n x
+places_under : (hosts m n : ℕ) (x : Places) → m < n → PlacesFit hosts 0 m x → PlacesFit hosts 1 n x
 places_under hosts m n [] lt f = tt
 places_under hosts m n (q ∷ x) lt f = ((f.0.0, let p = f.0.1 in omega (arith, p, lt)), places_under hosts m n x lt f.1)
 

@@ -66,7 +66,7 @@ module _ (hosts N : ℕ) where
         gadgets = ((omega (arith, p, more, most), tt), (((omega (arith, p, more, most), omega (arith, le, more, most), omega (arith, p, more, most)), tt), tt));
       }
 
-  pub operated_fits : (o : Op) (x y z : Reg) (h : HostId) (m n : ℕ) (next : List ℕ) → x.0 ≤ m → y.0 ≤ m → z.0 ≤ m → m + 2 ≤ n → n ≤ N → IsLow m next → RegFits hosts N 1 n (operated o x y z h next)
+  operated_fits : (o : Op) (x y z : Reg) (h : HostId) (m n : ℕ) (next : List ℕ) → x.0 ≤ m → y.0 ≤ m → z.0 ≤ m → m + 2 ≤ n → n ≤ N → IsLow m next → RegFits hosts N 1 n (operated o x y z h next)
   operated_fits o x y z h m n next ex ey ez more most low = at o
     where
       two : (o : Binary) → RegFits hosts N 1 n (written_by h (λ r. action.Apply o r x y) next)

@@ -5,5 +5,5 @@ pub mod Conversions
 pub mod Gates
 pub mod Pairs
 pub mod PairsOfCalls
-pub mod Shares
+mod Shares
 pub mod Commitments

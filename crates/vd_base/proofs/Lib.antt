@@ -1,4 +1,4 @@
-pub mod Shifts
+mod Shifts
 pub mod LexicalLemmas
 pub mod Same
-pub mod WordLists
+mod WordLists

@@ -1,5 +1,5 @@
 pub mod Parts
 pub mod Numbers
 pub mod Whole
-pub mod Steps
+mod Steps
 pub mod Loops

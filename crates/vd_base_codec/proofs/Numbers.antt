@@ -11,7 +11,7 @@ use Rattle.vd_base_codec.specs.Exact.{IsBreak, Spells, Stops, IsExact}
 use Rattle.vd_base_codec.proofs.Parts.{byte_exact}
 
 -- n, with these digits behind it, is y
-abbrev pub Continues : ℕ → List ℕ → ℕ → Type 0
+abbrev Continues : ℕ → List ℕ → ℕ → Type 0
 Continues n [] y = n ≡ y
 Continues n (d ∷ ds) y = (is_digit d ≡ true) × (0 < n) × Continues (n * 10 + (d - 48)) ds y
 
@@ -32,7 +32,7 @@ one_more n [] y d h pos is = (is, omega (arith, h), ap (λ m. m * 10 + (d - 48))
 one_more n (e ∷ ds) y d h pos is = (h.0, h.1, one_more (n * 10 + (e - 48)) ds y d h.2 pos is)
 
 -- the digits of a number: the first, and those behind it
-pub record Digits (n : ℕ) (bytes : List ℕ) : Type 0 where
+record Digits (n : ℕ) (bytes : List ℕ) : Type 0 where
   pub digit : ℕ
   pub behind : List ℕ
   pub is_digit : is_digit digit ≡ true
@@ -55,7 +55,7 @@ more_digits n ds h digits =
           (one_more (digits.digit - 48) digits.behind (n / 10) (48 + n % 10) digits.continues (omega arith) last);
     }
 
-pub digits_of : (n : ℕ) → n < 2 ^ 64 → Digits n (decimal n)
+digits_of : (n : ℕ) → n < 2 ^ 64 → Digits n (decimal n)
 digits_of n h = decimal_by_steps Digits one_digit more_digits n h
 
 written_on : (n : ℕ) (ds : List ℕ) (y : ℕ) → Continues n ds y → y < 2 ^ 64 → decimal y ≡ decimal n ++ ds
@@ -182,7 +182,7 @@ number_missing most bytes small none = record {
       none digits.digit (sym f ∙ ap first (sym spelled)) digits.is_digit (omega arith);
 }
 
-abbrev pub begins_number : ℕ → ℕ → Bool
+abbrev begins_number : ℕ → ℕ → Bool
 begins_number most b = is_digit b && nat_le (b - 48) most
 
 number_tested : (most b : ℕ) (bytes : List ℕ) (t : Bool) → begins_number most b ≡ t → most < 2 ^ 64

@@ -3,7 +3,7 @@ use Rattle.std.proofs.Common.{◌≡◌, ℕ, ◌+◌, ◌-◌, ◌*◌, ◌<◌
 use Rattle.std.proofs.lemmas.List.{drop_all}
 use Rattle.vd_base_codec.specs.Reading.{Reading, ◌>>=◌, byte_at, literal_at, goes_on, longer, longest_at}
 
-pub literal_step : (word : List ℕ) (i : ℕ) (bytes : List ℕ) → i < length word → literal_at (drop i word) bytes ≡ (byte_at (get_or word i 0) bytes >>= λ x. literal_at (drop (i + 1) word) x.1)
+literal_step : (word : List ℕ) (i : ℕ) (bytes : List ℕ) → i < length word → literal_at (drop i word) bytes ≡ (byte_at (get_or word i 0) bytes >>= λ x. literal_at (drop (i + 1) word) x.1)
 unfolding literal_at
 literal_step word i bytes h = rw (add-one, drop-cons word i 0) refl
 

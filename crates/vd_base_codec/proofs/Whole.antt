@@ -13,7 +13,7 @@ take_one_more : (xs : List ℕ) (b : ℕ) (bs : List ℕ) → take (length xs + 
 take_one_more xs b bs = take-append-add xs (b ∷ bs) 1
 
 -- where the bytes behind what was taken cannot go on
-pub stops_at : {X : Type 0} (Fits : X → Type 0) (text : X → List ℕ) (taken left rest : List ℕ) (begun : X) → Fits begun → text begun ≡ taken ++ rest
+stops_at : {X : Type 0} (Fits : X → Type 0) (text : X → List ℕ) (taken left rest : List ℕ) (begun : X) → Fits begun → text begun ≡ taken ++ rest
     → ((y : X) (more : List ℕ) → Fits y → text y ≡ taken ++ more → first more ≡ first left → ⊥)
     → StopsAt (IsTextOf Fits text) (taken ++ left) (length taken)
 stops_at Fits text taken [] rest begun fits begins none = record {

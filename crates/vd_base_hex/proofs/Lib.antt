@@ -1,2 +1,2 @@
 pub mod Exact
-pub mod Steps
+mod Steps

@@ -32,7 +32,7 @@ use Rattle.vd_bits.proofs.Places.{AreParts, AreFrom, parts_there, from_there}
 use Rattle.vd_bits.proofs.GateRooms.{gate_few}
 
 -- dealt bit triples multiply bit by bit
-pub bits_multiply : ItemsMultiply ByXors
+bits_multiply : ItemsMultiply ByXors
 bits_multiply x0 x1 y0 y1 a0 a1 b0 b1 c0 c1 p q r s u v item =
     bit_product (record { x = x0; y = y0; item = record { a = a0; b = b0; c = c0 } }) (record { x = x1; y = y1; item = record { a = a1; b = b1; c = c1 } }) item
 

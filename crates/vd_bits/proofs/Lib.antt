@@ -1,10 +1,10 @@
 pub mod Lists
-pub mod Places
-pub mod GateRooms
-pub mod GateGives
-pub mod CircuitGives
+mod Places
+mod GateRooms
+mod GateGives
+mod CircuitGives
 pub mod BitLaws
 pub mod BitActs
-pub mod Turns
-pub mod Numbers
-pub mod Masks
+mod Turns
+mod Numbers
+mod Masks

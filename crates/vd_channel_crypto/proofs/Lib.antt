@@ -1,3 +1,3 @@
 pub mod Distinct
-pub mod Pieces
+mod Pieces
 pub mod Twice

@@ -1,2 +1,2 @@
-pub mod Greeted
-pub mod Refusing
+mod Greeted
+mod Refusing

@@ -72,7 +72,7 @@ not_empty (a ∷ b ∷ rest) long wrong e =
     ap (λ (l : List ℕ). has_tag l && is_few l) (same_head a b 0 rest e) ∙ has_head 0 rest (omega arith) in
     absurd (let never : true ≡ false = sym yes ∙ wrong in cc)
 
-pub no_record : (coming : List ℕ) → HasNoHead coming → HasNoProof coming
+no_record : (coming : List ℕ) → HasNoHead coming → HasNoProof coming
 no_record coming none = record { long = none.0; other = not_empty coming none.0 none.1 }
 
 none_of : (bytes : List ℕ) → length bytes ≡ 0 → bytes ≡ []

@@ -8,7 +8,7 @@ use Rattle.vd_channel_link.specs.Taking.{Brings, Carries, TakesCarried, TakesSea
 use Rattle.vd_channel_link.proofs.Front.{cover_long, recovered}
 
 -- the record of the bytes that were covered
-pub carried : (keys : Direction) (number : ℕ) (coming rest bytes : List ℕ) → Carries keys number coming rest bytes → Brings keys number coming rest bytes
+carried : (keys : Direction) (number : ℕ) (coming rest bytes : List ℕ) → Carries keys number coming rest bytes → Brings keys number coming rest bytes
 carried keys number coming rest bytes c =
     let whole = recovered keys number c.covered rest (length c.covered) refl in
     let plain = c.plain in

@@ -1,9 +1,9 @@
-pub mod Carried
-pub mod Front
-pub mod Filled
-pub mod Given
-pub mod Next
+mod Carried
+mod Front
+mod Filled
+mod Given
+mod Next
 pub mod Refused
 pub mod Sent
-pub mod SentParts
-pub mod Walk
+mod SentParts
+mod Walk

@@ -6,7 +6,7 @@ use Rattle.vd_channel_link.specs.Taking.{Brings, IsCut}
 use Rattle.vd_channel_link.proofs.Walk.{cut_short, taken}
 
 -- where nothing ended and nothing is closed, all is still open
-pub all_open : (ended closed : Bool) (shut all : List ℕ) → ended ≡ false → closed ≡ false → (if ended then [] else (if closed then shut else all)) ≡ all
+all_open : (ended closed : Bool) (shut all : List ℕ) → ended ≡ false → closed ≡ false → (if ended then [] else (if closed then shut else all)) ≡ all
 all_open true closed shut all e f = absurd cc
 all_open false true shut all e f = absurd cc
 all_open false false shut all e f = refl

@@ -10,10 +10,10 @@ use Rattle.vd_channel_net.specs.Ledgers.{GreetAlone, GreetsAlone, Happened, None
 use Rattle.vd_channel_net.specs.declared.ledger.Ledger.{Ledger}
 
 -- whether a link came back over which a record behind the greeting was begun
-abbrev pub any_begun : List Session → Bool
+abbrev any_begun : List Session → Bool
 any_begun back = list_any has_begun back
 
-pub record Counts (given : ℕ) (back : List Session) (ledger : Ledger) : Type 0 where
+record Counts (given : ℕ) (back : List Session) (ledger : Ledger) : Type 0 where
   pub all : ledger.out + length back ≡ given
   pub any : ledger.sent ≡ any_begun back
 

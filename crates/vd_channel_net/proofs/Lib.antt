@@ -1,2 +1,2 @@
-pub mod Happening
-pub mod Tried
+mod Happening
+mod Tried

@@ -124,7 +124,7 @@ module _ (m : Hosts) (s : Suite m) (proto : ℕ → Proto) (laws : Laws m s) (de
       split r (inr p) = or_right _ _ (r p)
   turns_act (For count body rest) h a = or_right _ _ (turns_act rest h a)
 
-  abbrev pub Nobody : Block → Type 0
+  abbrev Nobody : Block → Type 0
   Nobody b = (h : ℕ) → h < s.calls.hosts → (emits b).takes_part h ≡ false
 
   -- a slot is somewhere
@@ -142,7 +142,7 @@ module _ (m : Hosts) (s : Suite m) (proto : ℕ → Proto) (laws : Laws m s) (de
   no_turns f idle (suc n) c = idle n (turns n f c) ∙ no_turns f idle n c
 
   -- where nobody takes part nothing happens
-  pub idle : (b : Block) → Nobody b → (turn : ℕ) (c : SlotState) → effect_of b turn c ≡ c
+  idle : (b : Block) → Nobody b → (turn : ℕ) (c : SlotState) → effect_of b turn c ≡ c
   idle End none turn c = refl
   idle (Let x right rest) none turn c = absurd (somebody x.0 (λ h lt. or_none_left _ _ (or_none_left _ _ (none h lt))))
   idle (NewVar v x rest) none turn c = absurd (somebody v.0 (λ h lt. or_none_left _ _ (or_none_left _ _ (none h lt))))

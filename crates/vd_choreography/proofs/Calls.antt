@@ -23,10 +23,10 @@ module _ (m : Hosts) (s : Suite m) where
   pub quiet_on : (w w1 w2 : m.World) → Quiet m s w w1 → Quiet m s w1 w2 → Quiet m s w w2
   quiet_on w w1 w2 a b = record { printed = λ h. b.printed h ∙ a.printed h; waiting = λ h. b.waiting h ∙ a.waiting h }
 
-  pub no_acts : (next : List ℕ) (changed : ℕ → ℕ → Type 0) (w : m.World) → m.Sound w → Leads m s next changed [] w w
+  no_acts : (next : List ℕ) (changed : ℕ → ℕ → Type 0) (w : m.World) → m.Sound w → Leads m s next changed [] w w
   no_acts next changed w sound = record { runs = refl; fine = tt; sound = sound; kept = λ h r lt n. refl }
 
-  pub quiet_here : (w : m.World) → Quiet m s w w
+  quiet_here : (w : m.World) → Quiet m s w w
   quiet_here w = record { printed = λ h. refl; waiting = λ h. refl }
 
   -- what is made may name what another source has

@@ -22,7 +22,7 @@ use Rattle.vd_choreography.proofs.Rights.{operand_of}
 use Rattle.vd_choreography.proofs.Steps.{E, Ties, TurnsIn, After}
 
 -- the registers of a loop are the first free ones of the hosts that have it
-pub is_loop_register : (has : ℕ → Bool) (k : ℕ) (next : List ℕ) (i : ℕ) → i < length next → has (k + i) ≡ true → IsIn (loop_registers has k next) (k + i) (slice_index next i)
+is_loop_register : (has : ℕ → Bool) (k : ℕ) (next : List ℕ) (i : ℕ) → i < length next → has (k + i) ≡ true → IsIn (loop_registers has k next) (k + i) (slice_index next i)
 is_loop_register has k [] i lt h = absurd (omega arith)
 is_loop_register has k (r ∷ rs) zero lt h = at (has k) (ap has (none k) ∙ h)
   where
@@ -70,7 +70,7 @@ after_longer has k (r ∷ rs) zero = at (has k)
     at false = omega arith
 after_longer has k (r ∷ rs) (suc i) = after_longer has (k + 1) rs i
 
-pub after_above : (has : ℕ → Bool) (k : ℕ) (next : List ℕ) (i : ℕ) → i < length next → has (k + i) ≡ true → slice_index next i < slice_index (after_loop_registers has k next) i
+after_above : (has : ℕ → Bool) (k : ℕ) (next : List ℕ) (i : ℕ) → i < length next → has (k + i) ≡ true → slice_index next i < slice_index (after_loop_registers has k next) i
 after_above has k [] i lt h = absurd (omega arith)
 after_above has k (r ∷ rs) zero lt h = at (has k) (ap has (none k) ∙ h)
   where

@@ -288,7 +288,7 @@ module _ (m : Hosts) (s : Suite m) (proto : ℕ → Proto) (laws : Laws m s) (pl
         (λ j. or_left (delivered_at s.calls proto (proto x.0) (picked 0 n takes) h || (emits t).takes_part h) ((emits f).takes_part h) (or_right (delivered_at s.calls proto (proto x.0) (picked 0 n takes) h) ((emits t).takes_part h) j))
         (λ j. or_right (delivered_at s.calls proto (proto x.0) (picked 0 n takes) h || (emits t).takes_part h) ((emits f).takes_part h) j) i
 
-    pub branch_orderly : Where m n guard.acts (delivered_at s.calls proto (proto x.0) (picked 0 n takes)) → ((h : ℕ) → is_part guard.given h ≡ list_any (λ (q : HostId). nat_eq h q.0) (picked 0 n takes))
+    branch_orderly : Where m n guard.acts (delivered_at s.calls proto (proto x.0) (picked 0 n takes)) → ((h : ℕ) → is_part guard.given h ≡ list_any (λ (q : HostId). nat_eq h q.0) (picked 0 n takes))
         → Apart guard.given → Orderly m n first (emits t).acts_at → Orderly m n second (emits f).acts_at
         → Orderly m n (acts_then guard.acts (Branch guard.given first second Ends)) place
     branch_orderly d is_told apart a b = record {

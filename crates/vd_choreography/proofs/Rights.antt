@@ -58,7 +58,7 @@ module _ (m : Hosts) (s : Suite m) (proto : ℕ → Proto) (laws : Laws m s) (de
 
   module _ (o : Sight) (next : List ℕ) (held : List s.Parts) (w : m.World) (c : SlotState) (t : Tied m s proto o next held w c) where
     -- the registers of a binding do not change
-    pub binding_kept : (x : ℕ) → Sees o Binding x → (h r : ℕ) → s.Names (held_at held x) h r → Kept o held h r
+    binding_kept : (x : ℕ) → Sees o Binding x → (h r : ℕ) → s.Names (held_at held x) h r → Kept o held h r
     binding_kept x i h r n v y j k n' = at (t.apart Binding x v y i j k)
       where
         at : Distinct m s proto held Binding x v y → ⊥
@@ -71,7 +71,7 @@ module _ (m : Hosts) (s : Suite m) (proto : ℕ → Proto) (laws : Laws m s) (de
     pub operand_of_variable : (x : ℕ) → Sees o Variable x → Operand m s next w (proto x) (held_at held x) (slice_index c.words x)
     operand_of_variable x i = record { below = t.below Variable x i; stands = t.stands Variable x i }
 
-    pub done_of : (q : Proto) (made : Made m.Act s.Parts) (v : ℕ) → Gives m s next (Kept o held) made w q (Word v) → Done o next held w q made v c.world
+    done_of : (q : Proto) (made : Made m.Act s.Parts) (v : ℕ) → Gives m s next (Kept o held) made w q (Word v) → Done o next held w q made v c.world
     done_of q made v g = record { reached = g.reached; leads = g.leads; fresh = g.fresh; stands = g.stands; outside = quiet_outside m s proto w g.reached c.world g.quiet t.outside }
 
     pub moved : (x : ℕ) → Sees o Binding x → (q : Proto) → s.Declared q → s.joins (proto x) q ≡ true → Gives m s next (Kept o held) (s.calls.move (proto x) q (held_at held x) next) w q (Word (slice_index c.words x))
@@ -80,7 +80,7 @@ module _ (m : Hosts) (s : Suite m) (proto : ℕ → Proto) (laws : Laws m s) (de
         (laws.move_law (proto x) q (declared x) dq j (held_at held x) (slice_index c.words x) next w t.ready (operand_of x i))
 
     -- a word that was just made is moved on
-    pub moved_on : (p q : Proto) → s.Declared p → s.Declared q → s.joins p q ≡ true → (made : Made m.Act s.Parts) (v : ℕ) → Gives m s next (Kept o held) made w p (Word v)
+    moved_on : (p q : Proto) → s.Declared p → s.Declared q → s.joins p q ≡ true → (made : Made m.Act s.Parts) (v : ℕ) → Gives m s next (Kept o held) made w p (Word v)
         → Gives m s next (Kept o held) (and_on s.calls proto made (s.calls.move p q)) w q (Word v)
     moved_on p q dp dq j made v g =
         let a : Between m s next w made.acts made.next = between_of m s next (Kept o held) made w p (Word v) g in

@@ -30,7 +30,7 @@ module _ (m : Hosts) (s : Suite m) (proto : ℕ → Proto) (laws : Places m s) w
   n = s.calls.hosts
 
   -- a test that some picked host passes
-  pub any_picked : (f : HostId → Bool) (test : ℕ → Bool) (from k : ℕ) → list_any f (picked from k test) ≡ true → (h : ℕ) × (test h ≡ true) × (f (host h) ≡ true)
+  any_picked : (f : HostId → Bool) (test : ℕ → Bool) (from k : ℕ) → list_any f (picked from k test) ≡ true → (h : ℕ) × (test h ≡ true) × (f (host h) ≡ true)
   any_picked f test from zero e = absurd (wrong e)
     where
       wrong : false ≡ true → ⊥

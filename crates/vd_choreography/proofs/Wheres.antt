@@ -30,10 +30,10 @@ module _ (m : Hosts) where
   each_append (x ∷ xs) ys a b = (a.0, each_append xs ys a.1 b)
 
   -- acts that follow each other
-  pub acting_append : (xs ys : List m.Act) (h : ℕ) → acting m (xs ++ ys) h ≡ true → (acting m xs h ≡ true) ⊎ (acting m ys h ≡ true)
+  acting_append : (xs ys : List m.Act) (h : ℕ) → acting m (xs ++ ys) h ≡ true → (acting m xs h ≡ true) ⊎ (acting m ys h ≡ true)
   acting_append xs ys h e = or_cases (acting m xs h) (acting m ys h) (sym (list_any-append (λ a. m.acts_at a h) xs ys) ∙ e)
 
-  pub where_on : (n : ℕ) (xs ys : List m.Act) (p q : ℕ → Bool) → Where m n xs p → Where m n ys q → Where m n (xs ++ ys) (λ h. p h || q h)
+  where_on : (n : ℕ) (xs ys : List m.Act) (p q : ℕ → Bool) → Where m n xs p → Where m n ys q → Where m n (xs ++ ys) (λ h. p h || q h)
   where_on n xs ys p q a b = record {
     tidy = each_append xs ys a.tidy b.tidy;
     at = λ h e. split h (acting_append xs ys h e);
@@ -48,7 +48,7 @@ module _ (m : Hosts) where
       split h (inl e) = let z = a.at h e in (z.0, or_left (p h) (q h) z.1)
       split h (inr e) = let z = b.at h e in (z.0, or_right (p h) (q h) z.1)
 
-  pub where_none : (n : ℕ) → Where m n [] (λ h. false)
+  where_none : (n : ℕ) → Where m n [] (λ h. false)
   where_none n = record { tidy = tt; at = λ h e. absurd (wrong e); all = λ h lt e. e }
     where
       wrong : false ≡ true → ⊥
@@ -84,12 +84,12 @@ module _ (m : Hosts) (s : Suite m) (proto : ℕ → Proto) (laws : Laws m s) (pl
       (operands_where q d source e word xs one.next a.reached (ready_past m s next w one.acts one.next ready a) (all_past m s laws proto next w one.acts one.next source q e word a xs h.1))
 
   module _ (o : Sight) (next : List ℕ) (held : List s.Parts) (w : m.World) (c : SlotState) (t : Tied m s proto o next held w c) where
-    pub moved_where : (x : ℕ) → Sees o Binding x → (q : Proto) → s.Declared q → s.joins (proto x) q ≡ true
+    moved_where : (x : ℕ) → Sees o Binding x → (q : Proto) → s.Declared q → s.joins (proto x) q ≡ true
         → Where m n (s.calls.move (proto x) q (part m s proto held x) next).acts (s.calls.moves_at (proto x) q)
     moved_where x i q dq j =
         places.move_at (proto x) q (declared x) dq j (part m s proto held x) (slice_index c.words x) next w t.ready (operand_of m s proto laws declared o next held w c t x i)
 
-    pub index_where : (v i : SlotId) → Sees o Binding i.0 → Reaches m s proto i (λ h. is_holder (proto v.0) (host h))
+    index_where : (v i : SlotId) → Sees o Binding i.0 → Reaches m s proto i (λ h. is_holder (proto v.0) (host h))
         → Where m n (delivered s.calls proto (proto i.0) (part m s proto held i.0) (hosts_of s.calls (proto v.0)) next).acts (delivered_at s.calls proto (proto i.0) (hosts_of s.calls (proto v.0)))
     index_where v i sees reaches =
         delivered_where (proto i.0) (declared i.0) (part m s proto held i.0) (word_at c i) (hosts_of s.calls (proto v.0))

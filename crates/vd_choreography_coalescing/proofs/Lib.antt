@@ -1,5 +1,5 @@
-pub mod Same
-pub mod Texts
-pub mod Fitting
+mod Same
+mod Texts
+mod Fitting
 pub mod Telling
-pub mod Stack
+mod Stack

@@ -79,7 +79,7 @@ module _ (most : ℕ) where
     before_keeps a said b heard (If ps first other rest) w apart size = is.itself (joint t (If ps first other rest) (after_msg a said b heard w))
     before_keeps a said b heard (For ps count body rest) w apart size = is.itself (joint t (For ps count body rest) (after_msg a said b heard w))
 
-    pub joined_keeps : (j : Joint) → IsTidy j → (w : Hosts) → R (joint t (joined most j) w) (joint t j w)
+    joined_keeps : (j : Joint) → IsTidy j → (w : Hosts) → R (joint t (joined most j) w) (joint t j w)
     joined_keeps Done tidy w = is.itself w
     joined_keeps (Do g x j) tidy w = joined_keeps j tidy (after_do t g x w)
     joined_keeps (Msg a said b heard j) tidy w =

@@ -9,7 +9,7 @@ use Rattle.vd_execution.specs.Joint.{Part, Joint, Done, Do, Msg, If, For, Host, 
 use Rattle.vd_execution.proofs.Puts.{same_or_not, put_same, put_other}
 use Rattle.vd_choreography_exchange.specs.Turning.{Turn, Does, Tells, gone_by, Compares, Look, look, AreAlike}
 
-pub put_alike : (w v : Hosts) (h : ℕ) (x y : Host) → AreAlike w v → look x ≡ look y → AreAlike (put w h x) (put v h y)
+put_alike : (w v : Hosts) (h : ℕ) (x y : Host) → AreAlike w v → look x ≡ look y → AreAlike (put w h x) (put v h y)
 put_alike w v h x y all same g =
     elim (same_or_not g h) [
       | inl e ↦

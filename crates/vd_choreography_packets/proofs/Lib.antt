@@ -1,4 +1,4 @@
 pub mod Kept
 pub mod Mail
-pub mod Same
-pub mod Waiting
+mod Same
+mod Waiting

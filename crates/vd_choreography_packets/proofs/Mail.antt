@@ -26,7 +26,7 @@ words_told (Does h a) w = []
 words_told (Tells a said b heard) w = words_in (w a).registers said
 
 -- a message to another host is one more packet on its link
-abbrev pub mailed : Turn → List ℕ → Mail → Mail
+abbrev mailed : Turn → List ℕ → Mail → Mail
 mailed (Does h a) words m = m
 mailed (Tells a said b heard) words m = put (put m a (put (m a) b (m a b ++ words ∷ []))) b (m b)
 
@@ -37,7 +37,7 @@ put_mail w h x i =
       | inr ne ↦ ap (λ (s : Host). s.sent) (put_other w h x i ne) ∙ sym (put_other (mail w) h x.sent i ne)
     ]
 
-pub mail_gone : (t : Tape) (x : Turn) (w : Hosts) → mail (gone_by t x w) ≡ mailed x (words_told x w) (mail w)
+mail_gone : (t : Tape) (x : Turn) (w : Hosts) → mail (gone_by t x w) ≡ mailed x (words_told x w) (mail w)
 mail_gone t (Does h a) w = fun_ext (put_mail w h (acted (t h) a (w h))) ∙ put_itself (mail w) h
 mail_gone t (Tells a said b heard) w =
     let sent : Hosts = put w a (said_to b (words_in (w a).registers said) (w a)) in
@@ -133,7 +133,7 @@ module _ (M : Type 0) (f : Measure M) (g h : ℕ) where
           ]
         ]
 
-  pub mailed_adds : (x : Turn) (words : List ℕ) (m : Mail) → measure (mailed x words m) ≡ f.join (measure m) (added x words)
+  mailed_adds : (x : Turn) (words : List ℕ) (m : Mail) → measure (mailed x words m) ≡ f.join (measure m) (added x words)
   mailed_adds (Does k a) words m = f.unit (measure m)
   mailed_adds (Tells a said b heard) words m = measured a b words m
 

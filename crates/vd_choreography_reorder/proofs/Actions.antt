@@ -37,7 +37,7 @@ differ_by : (s r : Source) (b : Bool) → same_source s r ≡ b → (if b then t
 differ_by s r true e f = absurd cc
 differ_by s r false e f = (e, f)
 
-pub differ : (m n : Need) → share_list m n ≡ false → ListsDiffer m n
+differ : (m n : Need) → share_list m n ≡ false → ListsDiffer m n
 differ Nothing n e = _
 differ (Item s) Nothing e = _
 differ (Item s) (Item r) e = differ_by s r (same_source s r) refl e
@@ -132,7 +132,7 @@ pub kept_words : (b : Action) (rs : List Reg) → is_simple b ≡ true → AreAp
 kept_words b rs s a f xs =
     ap (λ g. words_in g rs) (writes_results b s f xs) ∙ words_stay f (writes b) (results b (words_in f (reads b)) xs) rs a
 
-pub both_act : (b a : Action) → is_simple b ≡ true → is_simple a ≡ true → AreApart (reads a) (writes b) → AreApart (reads b) (writes a) → AreApart (writes b) (writes a)
+both_act : (b a : Action) → is_simple b ≡ true → is_simple a ≡ true → AreApart (reads a) (writes b) → AreApart (reads b) (writes a) → AreApart (writes b) (writes a)
     → (f : Registers) (xs ys : List ℕ) → written (written f b xs) a ys ≡ written (written f a ys) b xs
 both_act b a sb sa ra rb w f xs ys =
     writes_results a sa (written f b xs) ys

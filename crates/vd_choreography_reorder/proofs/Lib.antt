@@ -3,9 +3,9 @@ pub mod Sound
 pub mod Leads
 pub mod Texts
 pub mod Empty
-pub mod Order
+mod Order
 pub mod Brought
-pub mod Tables
-pub mod Sinking
-pub mod Sorted
-pub mod Worked
+mod Tables
+mod Sinking
+mod Sorted
+mod Worked

@@ -21,7 +21,7 @@ module _ (opened : Opened) where
 
   -- ---- one line
 
-  pub record Goes (x : Ranked) (ys : List Ranked) (new : List Ranked) : Type 0 where
+  record Goes (x : Ranked) (ys : List Ranked) (new : List Ranked) : Type 0 where
     pub far : ℕ
     pub is : lines_of new ≡ sunk_line test far x.line (lines_of ys)
 
@@ -38,7 +38,7 @@ module _ (opened : Opened) where
   goes_by x y ys new true e g = record { far = suc g.far; is = one_further x y ys new (both (nat_lt y.rank x.rank) (passes test x.line y.line) e).1 g }
   goes_by x y ys new false e g = record { far = 0; is = no_further x (y ∷ ys) }
 
-  pub goes : (x : Ranked) (ys : List Ranked) → Goes x ys (inserted opened x ys)
+  goes : (x : Ranked) (ys : List Ranked) → Goes x ys (inserted opened x ys)
   goes x [] = record { far = 0; is = no_further x [] }
   goes x (y ∷ ys) = goes_by x y ys (inserted opened x ys) (goes_behind opened x y) refl (goes x ys)
 
@@ -82,7 +82,7 @@ module _ (opened : Opened) where
       ap (λ n. sunk_line test n l (arranged_lines test f ls)) (same ls lt)
       ∙ ap (sunk_line test (g ls) l) (alike f g ls (λ behind less. same behind (omega (arith, less))))
 
-  pub sorted_is_arranged : (xs : List Ranked) → lines_of (sorted opened xs) ≡ arranged_lines test (far_in xs) (lines_of xs)
+  sorted_is_arranged : (xs : List Ranked) → lines_of (sorted opened xs) ≡ arranged_lines test (far_in xs) (lines_of xs)
   sorted_is_arranged [] = refl
   sorted_is_arranged (x ∷ xs) =
       let g = goes x (sorted opened xs) in

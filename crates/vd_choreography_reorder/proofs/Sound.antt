@@ -29,7 +29,7 @@ then_both : (a b c : Bool) → (not a || (not b && not c)) ≡ true → a ≡ tr
 then_both true b c e t = let w = both (not b) (not c) e in (is_not b w.0, is_not c w.1)
 then_both false b c e t = absurd cc
 
-pub differ_by : (n m : ℕ) → not (nat_eq n m) ≡ true → n ≢ m
+differ_by : (n m : ℕ) → not (nat_eq n m) ≡ true → n ≢ m
 differ_by n m e same = let f = is_not (nat_eq n m) e in let t = eq-eqb n m same in absurd cc
 
 beside : (h : ℕ) (a : Action) (from : ℕ) (said : List Reg) (to : ℕ) (heard : List Reg) → is_simple a ≡ true

@@ -36,7 +36,7 @@ put_there xs i v lt = fun_ext (λ j. set_at_place xs i v lt j (same_or_not j i))
 -- ---- registers one after the other
 
 module _ (d : Depths) (h : ℕ) where
-  pub deepest_both : (n : ℕ) (xs ys : List Reg) → deepest d h n (xs ++ ys) ≡ deepest d h (deepest d h n xs) ys
+  deepest_both : (n : ℕ) (xs ys : List Reg) → deepest d h n (xs ++ ys) ≡ deepest d h (deepest d h n xs) ys
   deepest_both n [] ys = refl
   deepest_both n (x ∷ xs) ys = deepest_both (max n (d (place_of h x.0))) xs ys
 
@@ -53,7 +53,7 @@ module _ (d : Depths) (h : ℕ) where
   pub deepest_none : (n r left : ℕ) → left ≡ 0 → deepest d h n (row r left) ≡ n
   deepest_none n r left none = ap (λ k. deepest d h n (row r k)) none
 
-pub noted_both : (h n : ℕ) (xs ys : List Reg) (d : Depths) → noted h (xs ++ ys) n d ≡ noted h ys n (noted h xs n d)
+noted_both : (h n : ℕ) (xs ys : List Reg) (d : Depths) → noted h (xs ++ ys) n d ≡ noted h ys n (noted h xs n d)
 noted_both h n [] ys d = refl
 noted_both h n (x ∷ xs) ys d = noted_both h n xs ys (put d (place_of h x.0) n)
 

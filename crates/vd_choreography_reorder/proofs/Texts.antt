@@ -35,7 +35,7 @@ HasParts (If (p ∷ ps) first other rest) = HasParts first × (HasParts other ×
 HasParts (For [] count body rest) = ⊥
 HasParts (For (p ∷ ps) count body rest) = HasParts body × HasParts rest
 
-abbrev pub act_of : Turn → Act
+abbrev act_of : Turn → Act
 act_of (Does h a) = act.Do (host h) a
 act_of (Tells a said b heard) = act.Msg (host a) said (host b) heard
 
@@ -96,7 +96,7 @@ module _ (test : Turn → Turn → Bool) where
   before_block : (n : ℕ) (x : Turn) (j : Joint) (behind : List Line) → Halts (flat j behind) → flat (then_goes x j) behind ≡ sunk_line test n (line.Act (act_of x)) (flat j behind)
   before_block n x j behind halts = flat_then x j behind ∙ sym (act_stops n (act_of x) (flat j behind) halts)
 
-  pub sunk_flat : (n : ℕ) (x : Turn) (j : Joint) (behind : List Line) → HasParts j → Halts behind → flat (sunk test n x j) behind ≡ sunk_line test n (line.Act (act_of x)) (flat j behind)
+  sunk_flat : (n : ℕ) (x : Turn) (j : Joint) (behind : List Line) → HasParts j → Halts behind → flat (sunk test n x j) behind ≡ sunk_line test n (line.Act (act_of x)) (flat j behind)
   sunk_flat n x Done behind has halts = before_block n x Done behind halts
   sunk_flat zero x (Do h a j) behind has halts = flat_then x (Do h a j) behind
   sunk_flat (suc n) x (Do h a j) behind has halts =

@@ -1,2 +1,2 @@
-pub mod Placing
+mod Placing
 pub mod Chosen

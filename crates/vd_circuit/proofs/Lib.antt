@@ -1,3 +1,3 @@
-pub mod Pieces
-pub mod Tables
-pub mod Numbers
+mod Pieces
+mod Tables
+mod Numbers

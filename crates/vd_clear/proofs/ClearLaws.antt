@@ -69,7 +69,7 @@ copies_of (Commit p v) clear w x u s = absurd clear
 copies_of (Add a b) clear w x v s = absurd clear
 copies_of (Xor a b) clear w x v s = absurd clear
 
-pub stand_for : (p : Proto) → IsClear p → (w : Hosts) (x : Places) (v : ℕ) → hosts_of x ≡ holders p → Copies w x v → StandFor (clear_calls p) w x v
+stand_for : (p : Proto) → IsClear p → (w : Hosts) (x : Places) (v : ℕ) → hosts_of x ≡ holders p → Copies w x v → StandFor (clear_calls p) w x v
 stand_for (Local h) clear w x v at c = record { at = at; word = copy_one h w x v at c }
 stand_for (Rep set) clear w x v at c = record { at = at; word = copies_all w x v c }
 stand_for (Commit p v) clear w x u at c = absurd clear
@@ -109,7 +109,7 @@ holds_later next next' w u h x v s f = record { here = s.kept h.0 x.0 f.low ∙ 
 -- ---- copies are written over
 
 module _ (t : Tape) (deal : IsValidDeal t) (next : List ℕ) (x kept : Places) (v : ℕ) where
-  pub record Renewed (ks : Places) (u : Hosts) : Type 0 where
+  record Renewed (ks : Places) (u : Hosts) : Type 0 where
     pub reached : Hosts
     pub leads : Leads t next (IsIn kept) (renewed ks x) u reached
     pub copies : Copies reached ks v
@@ -133,7 +133,7 @@ module _ (t : Tape) (deal : IsValidDeal t) (next : List ℕ) (x kept : Places) (
   all_keep u u' f [] c = tt
   all_keep u u' f (q ∷ y) c = (f q.0.0 q.1.0 c.0, all_keep u u' f y c.1)
 
-  pub renewed_law : (ks : Places) (u : Hosts) → IsSound u → AreBelow next x → Copies u x v → Each (λ q. IsHost (hosts_of x) q.0.0) ks
+  renewed_law : (ks : Places) (u : Hosts) → IsSound u → AreBelow next x → Copies u x v → Each (λ q. IsHost (hosts_of x) q.0.0) ks
       → ((h r : ℕ) → IsIn ks h r → IsIn kept h r) → Renewed ks u
   renewed_law [] u sound below c among inside =
       record { reached = u; leads = leads_nothing t next (IsIn kept) u sound; copies = tt; keeps = λ k r e. e }
@@ -182,7 +182,7 @@ after_length (x ∷ xs) n e = omega (arith, e)
 
 module _ (p : Proto) (clear : IsClear p) (t : Tape) (next : List ℕ) (w : Hosts) (ready : IsReady (clear_calls p) t next w) where
   -- each host takes a step
-  pub each_word : (source : ℕ → ℕ → Type 0) (f : HostId → List ℕ → Made Reg) (v : ℕ)
+  each_word : (source : ℕ → ℕ → Type 0) (f : HostId → List ℕ → Made Reg) (v : ℕ)
       → ((h : HostId) → IsHost (holders p) h.0 → (next' : List ℕ) (u : Hosts) → Since next w next' u → h.0 < length next' → GivesThere 8 t next' source h (f h next') u v)
       → GivesWord (clear_calls p) t next source (each_made f (holders p) next) w v
   each_word source f v law =
@@ -197,7 +197,7 @@ module _ (p : Proto) (clear : IsClear p) (t : Tape) (next : List ℕ) (w : Hosts
         is = stand_for p clear g.reached (each_made f (holders p) next).given v g.is.0 g.is.1;
       }
 
-  pub operand_found : (x : Places) (v : ℕ) → Operand (clear_calls p) next w x v → (h : HostId) → IsHost (holders p) h.0 → Found next w x h v
+  operand_found : (x : Places) (v : ℕ) → Operand (clear_calls p) next w x v → (h : HostId) → IsHost (holders p) h.0 → Found next w x h v
   operand_found x v o h i =
       found next w x h v (subst (λ (l : List HostId). IsHost l h.0) (sym o.stands.at) i) o.below (copies_of p clear w x v o.stands)
 

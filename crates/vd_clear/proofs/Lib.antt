@@ -1,8 +1,8 @@
 pub mod Loops
 pub mod Members
-pub mod Shows
-pub mod EachLaw
+mod Shows
+mod EachLaw
 pub mod HostLaws
-pub mod ShowLaws
+mod ShowLaws
 pub mod ClearLaws
 pub mod ClearActs

@@ -22,7 +22,7 @@ use Rattle.vd_clear.specs.Copies.{adopted, told, compared, first_register, shown
 use Rattle.vd_clear.proofs.HostLaws.{adopted_there}
 
 -- registers of one host
-abbrev pub all_at : HostId → List Reg → Places
+abbrev all_at : HostId → List Reg → Places
 all_at to rs = map (λ r. (to, r)) rs
 
 abbrev told_places : Places → HostId → List ℕ → Made Places
@@ -35,7 +35,7 @@ copies_later next w u [] v b kept c = tt
 copies_later next w u (q ∷ x) v b kept c = (kept q.0.0 q.1.0 b.0 ∙ c.0, copies_later next w u x v b.1 kept c.1)
 
 module _ (t : Tape) (deal : IsValidDeal t) (source : ℕ → ℕ → Type 0) (v : ℕ) (to : HostId) where
-  pub told_law : (x : Places) (next : List ℕ) (w : Hosts) → IsSound w → to.0 < length next → (IsHost (hosts_of x) to.0 → ⊥) → AreBelow next x → Copies w x v
+  told_law : (x : Places) (next : List ℕ) (w : Hosts) → IsSound w → to.0 < length next → (IsHost (hosts_of x) to.0 → ⊥) → AreBelow next x → Copies w x v
       → Gives (length x) t next source (told_places x to next) w (λ u. Copies u (all_at to (told x to next).given) v)
   told_law [] next w sound known apart below copies = record {
     orderly = orderly_still 0 next source [] tt (λ h r i. absurd i);
@@ -89,7 +89,7 @@ module _ (t : Tape) (to : HostId) (r : Reg) (v : ℕ) (w : Hosts) (first : (w to
   compared_agrees [] c = tt
   compared_agrees (s ∷ rs) c = (first ∙ sym c.0, subst (ActsAgree t (acts_of_gadgets (others rs))) (sym (same_stays t to.0 r s w)) (compared_agrees rs c.1))
 
-  pub compared_leads : (next : List ℕ) (rs : List Reg) → IsSound w → Copies w (all_at to rs) v → Leads t next nowhere (others rs) w w
+  compared_leads : (next : List ℕ) (rs : List Reg) → IsSound w → Copies w (all_at to rs) v → Leads t next nowhere (others rs) w w
   compared_leads next rs sound c = record {
     runs = compared_runs rs;
     agrees = compared_agrees rs c;
@@ -99,7 +99,7 @@ module _ (t : Tape) (to : HostId) (r : Reg) (v : ℕ) (w : Hosts) (first : (w to
     inputs = λ h. refl;
   }
 
-  pub compared_tidy : (rs : List Reg) → GadgetsAreTidy (others rs)
+  compared_tidy : (rs : List Reg) → GadgetsAreTidy (others rs)
   compared_tidy [] = tt
   compared_tidy (s ∷ rs) = (tt, compared_tidy rs)
 

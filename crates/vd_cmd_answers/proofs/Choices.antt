@@ -78,7 +78,7 @@ gave true given bytes is = (refl, cc is)
 gave false given bytes is = absurd (cc is)
 
 module _ (certificates : CertificateOutcomes) (choices : ChoiceOutcomes) (problem : Problem) (budget : ℕ) where
-  pub search_never : (searched : Searched) → NeverEnds (searched_by certificates choices searched problem budget)
+  search_never : (searched : Searched) → NeverEnds (searched_by certificates choices searched problem budget)
   search_never GaveUp status is ended = gave_up_never (nat_lt budget (needed problem (choices.choose problem))) budget status is ended
   search_never (Certified bytes) status is ended = certified_never (is_accepted problem budget (certificates.read bytes)) bytes status is ended
 

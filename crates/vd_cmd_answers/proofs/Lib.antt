@@ -1,9 +1,9 @@
 pub mod Plans
 pub mod Sources
 pub mod Labels
-pub mod Proved
+mod Proved
 pub mod Proofs
-pub mod Short
+mod Short
 pub mod Choices
 pub mod Standing
 pub mod Compiled

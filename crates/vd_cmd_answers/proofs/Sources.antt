@@ -136,7 +136,7 @@ module _ (least : LabelOutcomes) (program : NormalForm) (made : IsWellMade progr
   labels_are labels is =
       subst (IsLabelled (system_of program)) (labels_as (system_of program) labels (least.label (system_of program)) is) (least.label_is (system_of program) (program_system program made))
 
-  pub labels_found : (labels : Labels) → IsLeast (system_of program) labels → labels_of least program ≡ Ok labels
+  labels_found : (labels : Labels) → IsLeast (system_of program) labels → labels_of least program ≡ Ok labels
   labels_found labels is = labelled least (system_of program) (Ok labels) (program_system program made) is
 
   -- ---- the problem

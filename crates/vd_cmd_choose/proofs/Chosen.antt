@@ -40,7 +40,7 @@ reads_back : (certificates : CertificateOutcomes) (problem : Problem) (budget : 
 reads_back certificates problem budget c is = outcome_once (text_of c) (Ok c) (certificates.read (text_of c)) (record { is = is.has_text; text = refl }) (certificates.read_is (text_of c))
 
 -- so the search may answer it
-pub accepted : (certificates : CertificateOutcomes) (choices : ChoiceOutcomes) (problem : Problem) (budget : ℕ) (c : Certificate) → IsAccepted problem budget c → searched_by certificates choices (Certified (text_of c)) problem budget ≡ Ok (text_of c)
+accepted : (certificates : CertificateOutcomes) (choices : ChoiceOutcomes) (problem : Problem) (budget : ℕ) (c : Certificate) → IsAccepted problem budget c → searched_by certificates choices (Certified (text_of c)) problem budget ≡ Ok (text_of c)
 accepted certificates choices problem budget c is =
     let yes : is_accepted problem budget (Ok c) ≡ true = and_from (is_ok (confirmed problem c)) (nat_le (count_of is_expanded c.marks) budget) (ap is_ok is.accepted) (le-leb _ _ is.within) in
     cond-true (is_accepted problem budget (certificates.read (text_of c))) (Ok (text_of c)) (Err Memory) (ap (is_accepted problem budget) (reads_back certificates problem budget c is) ∙ yes)

@@ -1,6 +1,6 @@
 pub mod Labelled
 pub mod Reading
-pub mod Statuses
-pub mod Chosen
+mod Statuses
+mod Chosen
 pub mod Steps
 pub mod Sure

@@ -65,7 +65,7 @@ module _ (program : NormalForm) (budget : ℕ) (rest : Chosen → Contents → P
   abbrev pub RunsFor : Result Answer Status → Type 0
   RunsFor result = SomeSearch (λ choices search. (least : LabelOutcomes) (files : FilesView) → Executes true (choice_then least choices search budget program rest) files files result)
 
-  pub choice_with : (choice : Choice) (result : Result Answer Status) → Chooses program budget (Ok choice) → ((files : FilesView) → Executes true (rest (chosen_of choice)) files files result) → RunsFor result
+  choice_with : (choice : Choice) (result : Result Answer Status) → Chooses program budget (Ok choice) → ((files : FilesView) → Executes true (rest (chosen_of choice)) files files result) → RunsFor result
   choice_with choice result chooses then = (chooses.0, λ certificates choices least files. chooses.1 certificates choices least files rest files result (then files))
 
   pub choice_refused : (status : Status) → Chooses program budget (Err status) → RunsFor (Err status)

@@ -1,6 +1,6 @@
 pub mod Runnable
 pub mod Aloud
-pub mod Storing
+mod Storing
 pub mod Compiled
 pub mod Sure
-pub mod Telling
+mod Telling

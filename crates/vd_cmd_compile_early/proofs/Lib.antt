@@ -1,3 +1,3 @@
-pub mod Compiled
-pub mod Telling
-pub mod Running
+mod Compiled
+mod Telling
+mod Running

@@ -55,7 +55,7 @@ module _ (program : NormalForm) (list : List Proto) (plan : Digest) (digest : Is
   stored h lt = record { made = can.made; numbers = can.numbers; runnable = can.runnable; digest = digest; declared = lt }
 
   -- the text that is stored is that of the host's program
-  pub text_is : (h : ℕ) → h < hosts → program_text (stored_program program list plan h) ≡ program_text (program_at h (code h))
+  text_is : (h : ℕ) → h < hosts → program_text (stored_program program list plan h) ≡ program_text (program_at h (code h))
   text_is h lt = ap (λ (is : List Instr). program_text (program_at h is)) (part h lt)
 
   pub is_read : (h : ℕ) → h < hosts → IsReadBack program list plan h (program_text (stored_program program list plan h))
@@ -64,7 +64,7 @@ module _ (program : NormalForm) (list : List Proto) (plan : Digest) (digest : Is
     part = subst (λ (is : List Instr). IsCodeOf is (code_of h (joint_of program list))) (sym (part h lt)) (codes_can_be_loaded program list can.made (runnable_over program list can.made can.runnable) h).nested;
   }
 
-  pub files_read : (n k : ℕ) → k + n ≤ hosts → EachFrom (λ h file. IsReadBack program list plan h file.content) k (host_files prefix program.hosts plan k (map code (range_with_len k n)))
+  files_read : (n k : ℕ) → k + n ≤ hosts → EachFrom (λ h file. IsReadBack program list plan h file.content) k (host_files prefix program.hosts plan k (map code (range_with_len k n)))
   files_read zero k le = tt
   files_read (suc n) k le =
       let lt : k < hosts = omega (arith, le) in
@@ -73,11 +73,11 @@ module _ (program : NormalForm) (list : List Proto) (plan : Digest) (digest : Is
   abbrev IsNamed : ℕ → Stored → Type 0
   IsNamed h file = file.name ≡ file_name prefix h (codes ".host")
 
-  pub files_named : (n k : ℕ) → EachFrom IsNamed k (host_files prefix program.hosts plan k (map code (range_with_len k n)))
+  files_named : (n k : ℕ) → EachFrom IsNamed k (host_files prefix program.hosts plan k (map code (range_with_len k n)))
   files_named zero k = tt
   files_named (suc n) k = (refl, files_named n (k + 1))
 
-  pub files_counted : (n k : ℕ) → length (host_files prefix program.hosts plan k (map code (range_with_len k n))) ≡ n
+  files_counted : (n k : ℕ) → length (host_files prefix program.hosts plan k (map code (range_with_len k n))) ≡ n
   files_counted zero k = refl
   files_counted (suc n) k = let i = files_counted n (k + 1) in omega (arith, i)
 
@@ -85,7 +85,7 @@ module _ (program : NormalForm) (list : List Proto) (plan : Digest) (digest : Is
   short names h lt =
       subst (λ (is : List Instr). length (program_text (program_at h is)) ≤ 67108864) (part h lt) (stored_texts_are_short program list plan h (stored h lt) names)
 
-  pub files_short : length (flat_map name_field program.hosts) ≤ 65536 → (n k : ℕ) → k + n ≤ hosts
+  files_short : length (flat_map name_field program.hosts) ≤ 65536 → (n k : ℕ) → k + n ≤ hosts
       → AllByRecursion IsShort (host_files prefix program.hosts plan k (map code (range_with_len k n)))
   files_short names zero k le = tt
   files_short names (suc n) k le = (short names k (omega (arith, le)), files_short names n (k + 1) (omega (arith, le)))

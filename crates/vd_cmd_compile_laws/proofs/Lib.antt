@@ -1,3 +1,3 @@
-pub mod Files
-pub mod Texts
+mod Files
+mod Texts
 pub mod Holding

@@ -1,4 +1,4 @@
 pub mod KeyedTaken
-pub mod SecretShort
-pub mod Short
+mod SecretShort
+mod Short
 pub mod Taken

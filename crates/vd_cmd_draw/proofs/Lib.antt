@@ -1,4 +1,4 @@
-pub mod Drawn
+mod Drawn
 mod Printed
 pub mod Sure
 pub mod Telling

@@ -24,7 +24,7 @@ use Rattle.vd_cmd_choose.specs.declared.choice.Choice.{Choice}
 use Rattle.vd_cmd.specs.declared.command.ExcuseWords.{ExcuseWords}
 
 -- the answer that stores and prints this
-pub computes_it : (answer : Answer) (stores : List Stored) (printed : List ℕ) → answer ≡ ended stores printed → Computes (ended stores printed) (Ok answer)
+computes_it : (answer : Answer) (stores : List Stored) (printed : List ℕ) → answer ≡ ended stores printed → Computes (ended stores printed) (Ok answer)
 computes_it answer stores printed is =
     subst (λ (a : Answer). Computes (ended stores printed) (Ok a)) (sym is) (record { proper = (tt, refl); no_fault = λ file e. cc e; settled = refl })
 

@@ -101,7 +101,7 @@ module _ (program : NormalForm) (a : Assignment) (made : IsWellMade program) (nu
     }
 
     -- the other host sends the same in both runs
-    pub same_talk : talk program a.protocols runs.first runs.deals (1 - h.0) h.0 ≡ talk program a.protocols runs.second stored (1 - h.0) h.0
+    same_talk : talk program a.protocols runs.first runs.deals (1 - h.0) h.0 ≡ talk program a.protocols runs.second stored (1 - h.0) h.0
     same_talk =
         ap (λ (last : Hosts). words_of ((last (1 - h.0)).sent h.0)) (ends_are runs.first runs.deals)
         ∙ ap (λ (packets : List (List ℕ)). words_of packets) (x.excuse.explains.view.told (1 - h.0))

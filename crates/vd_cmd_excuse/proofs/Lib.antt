@@ -1,7 +1,7 @@
-pub mod Reading
-pub mod Explained
-pub mod Looked
-pub mod Answered
-pub mod Naming
-pub mod Held
+mod Reading
+mod Explained
+mod Looked
+mod Answered
+mod Naming
+mod Held
 pub mod Sure

@@ -1,4 +1,4 @@
 pub mod Reading
 pub mod Labelled
-pub mod InputLists
+mod InputLists
 pub mod HeldTexts

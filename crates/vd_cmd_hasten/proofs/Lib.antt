@@ -1,3 +1,3 @@
 pub mod Existing
-pub mod Answered
+mod Answered
 pub mod Told

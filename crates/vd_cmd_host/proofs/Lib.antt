@@ -1,8 +1,8 @@
-pub mod Ends
-pub mod Files
-pub mod InputLists
-pub mod Loadings
+mod Ends
+mod Files
+mod InputLists
+mod Loadings
 pub mod Marked
-pub mod Named
-pub mod Running
-pub mod Runs
+mod Named
+mod Running
+mod Runs

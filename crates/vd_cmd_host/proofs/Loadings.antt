@@ -23,7 +23,7 @@ use Rattle.vd_cmd_host.specs.Loading.{AreInputsOf, HasAddresses, HoldsProgram, H
 use Rattle.vd_cmd_host.proofs.Files.{IsRead, deal_read, gives, inputs_read, program_read, refused}
 
 -- a file that was fetched and read to its end
-pub read_file : {T : Type 0} (name : List ℕ) (limit : ℕ) (Gives : List ℕ → T → Type 0) (IsEnd : List ℕ → Status → Type 0) (before now : FilesView) (bytes seen : List ℕ) (result : Result T Status)
+read_file : {T : Type 0} (name : List ℕ) (limit : ℕ) (Gives : List ℕ → T → Type 0) (IsEnd : List ℕ → Status → Type 0) (before now : FilesView) (bytes seen : List ℕ) (result : Result T Status)
     → Loads name limit before now (Ok bytes) → seen ≡ bytes → IfOk result (λ value. Gives seen value) → IfErr result (λ status. IsEnd seen status × IsRead status) → LoadsFile {T = T} name limit Gives IsEnd before now result
 read_file {T = T} name limit Gives IsEnd before now bytes seen (Ok value) loads same ok err = gives {T = T} name limit Gives IsEnd before now bytes loads value (subst (λ (l : List ℕ). Gives l value) same ok)
 read_file {T = T} name limit Gives IsEnd before now bytes seen (Err status) loads same ok err =
@@ -64,11 +64,11 @@ pub record SoFar (before mid : FilesView) (calls : List FilesCall) : Type 0 wher
   pub contents : IsTrue before.told → mid.contents ≡ before.contents
   pub asked : IsTrue before.told → mid.asked ≡ before.asked ++ calls
 
-pub none_yet : (before : FilesView) → SoFar before before []
+none_yet : (before : FilesView) → SoFar before before []
 none_yet before = record { later = omega arith; still_told = λ t. t; contents = λ t. refl; asked = λ t. sym (append-nil before.asked) }
 
 module _ {T : Type 0} (name : List ℕ) (limit : ℕ) (Gives : List ℕ → T → Type 0) (IsEnd : List ℕ → Status → Type 0) (before mid now : FilesView) (calls : List FilesCall) (so : SoFar before mid calls) where
-  pub one_more : (value : T) → LoadsFile {T = T} name limit Gives IsEnd mid now (Ok value) → SoFar before now (calls ++ Fetch name ∷ [])
+  one_more : (value : T) → LoadsFile {T = T} name limit Gives IsEnd mid now (Ok value) → SoFar before now (calls ++ Fetch name ∷ [])
   one_more value loads = record {
     later = let first = so.later in let second = loads.later in omega (arith, first, second);
     still_told = λ t. loads.still_told (so.still_told t);
@@ -76,10 +76,10 @@ module _ {T : Type 0} (name : List ℕ) (limit : ℕ) (Gives : List ℕ → T �
     asked = λ t. loads.whole (so.still_told t) ∙ ap (λ (l : List FilesCall). l ++ Fetch name ∷ []) (so.asked t) ∙ append_assoc before.asked calls (Fetch name ∷ []);
   }
 
-  pub held : (value : T) → LoadsFile {T = T} name limit Gives IsEnd mid now (Ok value) → IsTrue before.told → IsHeld name limit before.contents (λ bytes. Gives bytes value)
+  held : (value : T) → LoadsFile {T = T} name limit Gives IsEnd mid now (Ok value) → IsTrue before.told → IsHeld name limit before.contents (λ bytes. Gives bytes value)
   held value loads t = subst (λ (files : Contents). IsHeld name limit files (λ bytes. Gives bytes value)) (so.contents t) (loads.given (so.still_told t))
 
-  pub stops : (words : HostWords) (rest : List FilesCall) (status : Status) → fetch_calls (files_of words) ≡ calls ++ (Fetch name ∷ [] ++ rest) → LoadsFile {T = T} name limit Gives IsEnd mid now (Err status)
+  stops : (words : HostWords) (rest : List FilesCall) (status : Status) → fetch_calls (files_of words) ≡ calls ++ (Fetch name ∷ [] ++ rest) → LoadsFile {T = T} name limit Gives IsEnd mid now (Err status)
       → (IsTrue before.told → IsFileCause name limit IsEnd before.contents status → IsCause words before.contents status) → LoadsHost words before now (Err status)
   stops words rest status all loads cause = record {
     later = let first = so.later in let second = loads.later in omega (arith, first, second);
@@ -116,7 +116,7 @@ module _ (words : HostWords) (before : FilesView) where
     program_held = held {T = HostProgram} words.program most_host_file_bytes IsProgramOf IsProgramEnd before before mid [] (none_yet before) program first
 
     -- the addresses are not as many as the peers
-    pub no_addresses : length words.addresses + 1 ≢ length program.hosts → LoadsHost words before mid (Err Usage)
+    no_addresses : length words.addresses + 1 ≢ length program.hosts → LoadsHost words before mid (Err Usage)
     no_addresses wrong = record {
       later = behind_program.later;
       ends = tt;

@@ -229,7 +229,7 @@ module _ (task : Task) (machine : Kept) (start end : NetView) (ob on : SinkView)
   ends_driven sessions later met out meets (Untold mid done failed drives written) back has = absurd (no_write has)
   ends_driven sessions later met out meets (Stopped cause drives) back has = absurd (never_stopped sessions later met out meets cause drives back)
 
-  pub ends_well : {result : Result Ended HostFault} → Plays machine task start end ob on result → HasCause start end ob on result → EndsWell result
+  ends_well : {result : Result Ended HostFault} → Plays machine task start end ob on result → HasCause start end ob on result → EndsWell result
   ends_well (NotListening count net cause there listened call same) has = quiet_call (peer_at task (task.me.0 + count)) cause has
   ends_well (NotAnnounced failed announces) has = absurd (no_write has)
   ends_well (NotGiven count sessions met net cause meets there gets back) has = quiet_call (peer_at task count) cause has

@@ -111,7 +111,7 @@ deal_wrong hosts me deal bytes other is wrong = absurd wrong
 -- ---- a host
 
 module _ (words : HostWords) (contents : Contents) where
-  pub same_program : (p q : HostProgram) → HoldsProgram words contents p → HoldsProgram words contents q → p ≡ q
+  same_program : (p q : HostProgram) → HoldsProgram words contents p → HoldsProgram words contents q → p ≡ q
   same_program p q a b = same_held {T = HostProgram} words.program most_host_file_bytes contents IsProgramOf p q (λ bytes h k. one_program bytes p q h k) a b
 
   same_own : (program : HostProgram) (own other : List ℕ) → HoldsInputs words contents program own → HoldsInputs words contents program other → own ≡ other

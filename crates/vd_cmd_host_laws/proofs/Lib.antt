@@ -1,7 +1,7 @@
-pub mod Files
-pub mod Giving
-pub mod Returning
-pub mod Staying
-pub mod Ending
-pub mod Instance
+mod Files
+mod Giving
+mod Returning
+mod Staying
+mod Ending
+mod Instance
 pub mod Serving

@@ -1,3 +1,3 @@
-pub mod Reading
-pub mod Loops
-pub mod AskedSteps
+mod Reading
+mod Loops
+mod AskedSteps

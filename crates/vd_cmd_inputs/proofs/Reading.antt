@@ -31,12 +31,12 @@ found name file limit before now bytes seen (Err status) Is named loads same is 
 -- ---- one deal
 
 -- a deal, or a fault, as the reader answers it
-abbrev pub as_read : Result Deal ℕ → Result Deal FileFault
+abbrev as_read : Result Deal ℕ → Result Deal FileFault
 as_read (Ok deal) = Ok deal
 as_read (Err offset) = Err (file_fault.Text (capped offset))
 
 -- the one outcome of a deal file is the one that was answered
-pub deal_answered : (hosts me : ℕ) (bytes : List ℕ) (result : Result Deal FileFault) → (result ≡ Err file_fault.Memory → ⊥) → Accepts hosts me bytes result → Refuses hosts me bytes result
+deal_answered : (hosts me : ℕ) (bytes : List ℕ) (result : Result Deal FileFault) → (result ≡ Err file_fault.Memory → ⊥) → Accepts hosts me bytes result → Refuses hosts me bytes result
     → (said : Result Deal ℕ) → IsDealRead hosts me bytes said → result ≡ as_read said
 deal_answered hosts me bytes result other accepts refuses (Ok deal) is = (accepts other deal).1 is
 deal_answered hosts me bytes result other accepts refuses (Err offset) is = (refuses other (file_fault.Text (capped offset))).1 (offset, is, refl)

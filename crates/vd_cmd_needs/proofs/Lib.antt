@@ -1,5 +1,5 @@
 pub mod Existing
-pub mod Reading
-pub mod Answered
-pub mod Told
+mod Reading
+mod Answered
+mod Told
 pub mod Sure

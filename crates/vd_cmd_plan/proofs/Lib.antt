@@ -1,12 +1,12 @@
 pub mod Fronts
 pub mod Steps
 pub mod InSteps
-pub mod Storing
+mod Storing
 pub mod Written
 pub mod WholeRuns
 pub mod Numbering
 pub mod Following
-pub mod SignedLines
-pub mod DealLines
+mod SignedLines
+mod DealLines
 pub mod Finding
-pub mod ShownNames
+mod ShownNames

@@ -7,7 +7,7 @@ use Rattle.std.specs.List.{flat_map}
 use Rattle.vd_outside.specs.Sink.{SinkView, WritesAll}
 use Rattle.vd_cmd_plan.specs.Lines.{Says}
 
-pub writes_ok : {E : Type 0} (xs ys : List ℕ) (before mid now : SinkView) → WritesAll {E = E} xs before mid (Ok tt) → WritesAll {E = E} ys mid now (Ok tt) → WritesAll {E = E} (xs ++ ys) before now (Ok tt)
+writes_ok : {E : Type 0} (xs ys : List ℕ) (before mid now : SinkView) → WritesAll {E = E} xs before mid (Ok tt) → WritesAll {E = E} ys mid now (Ok tt) → WritesAll {E = E} (xs ++ ys) before now (Ok tt)
 writes_ok xs ys before mid now a b = record {
   later = let x = a.later in let y = b.later in omega arith;
   failed = tt;

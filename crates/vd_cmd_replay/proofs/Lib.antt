@@ -1,7 +1,7 @@
-pub mod Playable
-pub mod Replayed
-pub mod Held
-pub mod Counting
-pub mod Steps
+mod Playable
+mod Replayed
+mod Held
+mod Counting
+mod Steps
 pub mod Accepting
 pub mod Sure

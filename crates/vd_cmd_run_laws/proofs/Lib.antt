@@ -1,2 +1,2 @@
-pub mod Texts
-pub mod Reports
+mod Texts
+mod Reports

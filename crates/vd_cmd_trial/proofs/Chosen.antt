@@ -19,7 +19,7 @@ refused_alike printed other (ReadFault name) computes = record { proper = comput
 refused_alike printed other Ended computes = absurd computes.proper
 refused_alike printed other status computes = let wrong : status ≡ Ended = ap (λ (a : Answer). a.status) computes.settled in absurd (cc wrong)
 
-pub headed_computes : (lines : List ℕ) (least : ℕ) (report headed : Answer) → Computes (ended [] lines) (Ok report) → headed ≡ headed_by least report → Computes (headed_by least (ended [] lines)) (Ok headed)
+headed_computes : (lines : List ℕ) (least : ℕ) (report headed : Answer) → Computes (ended [] lines) (Ok report) → headed ≡ headed_by least report → Computes (headed_by least (ended [] lines)) (Ok headed)
 headed_computes lines least report headed computes same =
     let is : headed ≡ headed_by least (ended [] lines) = same ∙ ap (headed_by least) computes.settled in
     subst (λ (a : Answer). Computes (headed_by least (ended [] lines)) (Ok a)) (sym is) (record { proper = (tt, refl); no_fault = λ file e. cc e; settled = refl })

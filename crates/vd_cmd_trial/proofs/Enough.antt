@@ -42,7 +42,7 @@ module _ (program : NormalForm) (list : List Proto) (can : CanBeSplit program li
   abbrev all_needs : List HostNeeds
   all_needs = needs_for program list
 
-  pub count : length all_needs ≡ length program.hosts
+  count : length all_needs ≡ length program.hosts
   count = count_needs program list can
 
   -- ---- inputs

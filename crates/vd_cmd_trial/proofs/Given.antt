@@ -30,12 +30,12 @@ input_below : (many host number : ℕ) → many ≤ 2 ^ 32 → number < many →
 input_below many zero number most below = omega (arith, most, below)
 input_below many (suc host) number most below = omega arith
 
-pub inputs_are_words : (hosts many : ℕ) → many ≤ 2 ^ 32 → InputsAreWords (trial_inputs hosts many)
+inputs_are_words : (hosts many : ℕ) → many ≤ 2 ^ 32 → InputsAreWords (trial_inputs hosts many)
 inputs_are_words hosts many most =
     at_each (λ (words : List ℕ). (i : ℕ) → slice_index words i < 2 ^ 32) hosts (trial_words many) []
     (λ host declared. at_each (λ (x : ℕ). x < 2 ^ 32) many (trial_input host) 0 (λ number below. input_below many host number most below) (omega arith)) (λ i. omega arith)
 
-pub count_of_inputs : (hosts many : ℕ) → length (trial_inputs hosts many) ≡ hosts
+count_of_inputs : (hosts many : ℕ) → length (trial_inputs hosts many) ≡ hosts
 count_of_inputs hosts many = length-map-range_with_len (trial_words many) 0 hosts
 
 -- ---- all of it

@@ -1,7 +1,7 @@
-pub mod Given
-pub mod Enough
-pub mod Chosen
-pub mod Told
+mod Given
+mod Enough
+mod Chosen
+mod Told
 pub mod Sure
-pub mod Texts
-pub mod Ends
+mod Texts
+mod Ends

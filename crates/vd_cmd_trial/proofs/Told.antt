@@ -68,7 +68,7 @@ module _ (program : NormalForm) (outputs : List (List ℕ)) (asked : Asked) (lin
   abbrev world : World
   world = replayed supply (length program.hosts) asked.schedule (started is.joint)
 
-  pub all_ended : asked.schedule.all ≡ true → asked.messages ≡ false → Suffice program is.code.assignment.protocols asked → lines ≡ ended_lines program.hosts outputs
+  all_ended : asked.schedule.all ≡ true → asked.messages ≡ false → Suffice program is.code.assignment.protocols asked → lines ≡ ended_lines program.hosts outputs
   all_ended all quiet suffice =
       let there : Suffices supply (last_of supply is.joint) = subst (λ (j : Joint). Suffices supply (last_of supply j)) (sym is.code.compiled) suffice in
       let ended : HaveEnded supply (length program.hosts) world = is.told.told.ends all there in

@@ -64,7 +64,7 @@ count_next : (n : ℕ) (ns : List ℕ) → sum (n ∷ ns) ≡ n + sum ns
 count_next n ns = sum_by-cons (λ (k : ℕ). k) n ns
 
 -- each operation has as many operands as it takes
-abbrev pub operands_hold : Block → Bool
+abbrev operands_hold : Block → Bool
 operands_hold b = list_all (λ x. x) (each (λ s. of_rights operands_fit s && blocks_meet s) b)
 
 module _ (hosts : ℕ) (proto : ℕ → Proto) (few_hosts : hosts ≤ 4) (over : (x : ℕ) → IsOver hosts (proto x)) where

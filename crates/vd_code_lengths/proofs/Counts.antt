@@ -14,7 +14,7 @@ abbrev pub acts_in : List Gadget → ℕ
 acts_in [] = 0
 acts_in (g ∷ gs) = length (acts_of_gadget g) + acts_in gs
 
-pub acts_both : (xs ys : List Gadget) → acts_in (xs ++ ys) ≡ acts_in xs + acts_in ys
+acts_both : (xs ys : List Gadget) → acts_in (xs ++ ys) ≡ acts_in xs + acts_in ys
 acts_both [] ys = omega arith
 acts_both (x ∷ xs) ys = next (length (acts_of_gadget x)) (acts_in (xs ++ ys)) (acts_in xs) (acts_in ys) (acts_both xs ys)
   where

@@ -1,8 +1,8 @@
-pub mod Counts
-pub mod Codes
-pub mod Shared
-pub mod Clear
-pub mod Calls
-pub mod Arrays
-pub mod Blocks
+mod Counts
+mod Codes
+mod Shared
+mod Clear
+mod Calls
+mod Arrays
+mod Blocks
 pub mod Programs

@@ -22,7 +22,7 @@ module _ (hosts N : ℕ) where
   one_then n (q ∷ x) y f g = (f.0, one_then n x y f.1 g)
 
   -- those of a commitment are as many as parts can have
-  pub bound_parts : (p v : HostId) → p.0 < hosts → v.0 < hosts → (ends : Held × Seen) (n : ℕ) → ends.0.value.0 < n → ends.0.nonce.0 + 8 ≤ n → ends.1.digest.0 + 8 ≤ n
+  bound_parts : (p v : HostId) → p.0 < hosts → v.0 < hosts → (ends : Held × Seen) (n : ℕ) → ends.0.value.0 < n → ends.0.nonce.0 + 8 ≤ n → ends.1.digest.0 + 8 ≤ n
       → PartsFit hosts 1 n (committed_at p v ends)
   bound_parts p v here there ends n value nonce digest = record {
     few = omega arith;
@@ -31,12 +31,12 @@ module _ (hosts N : ℕ) where
   }
 
   -- a register at a place is at most as great as all are
-  pub place_fits : (m : ℕ) (x : Places) (i : ℕ) → PlacesFit hosts 0 m x → (place x i).0 ≤ m
+  place_fits : (m : ℕ) (x : Places) (i : ℕ) → PlacesFit hosts 0 m x → (place x i).0 ≤ m
   place_fits m [] i f = omega arith
   place_fits m (q ∷ x) zero f = let p = f.0.1 in omega (arith, p)
   place_fits m (q ∷ x) (suc i) f = place_fits m x i f.1
 
-  pub nothing_fits : (m n : ℕ) (next : List ℕ) → Room N m n next → WordMade hosts N n (nothing_made next)
+  nothing_fits : (m n : ℕ) (next : List ℕ) → Room N m n next → WordMade hosts N n (nothing_made next)
   nothing_fits m n next room =
       let more : m + 384 ≤ n = room.more in
       record { low = low_more m n next (omega (arith, more)) room.low; given = record { few = omega arith; at = tt }; gadgets = tt }

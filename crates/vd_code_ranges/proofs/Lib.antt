@@ -1,6 +1,6 @@
 pub mod Blocks
-pub mod Commitments
+mod Commitments
 pub mod Calls
 pub mod Fits
-pub mod Loading
+mod Loading
 pub mod Programs

@@ -1,4 +1,4 @@
-pub mod Emitted
+mod Emitted
 pub mod Rows
 pub mod Binds
 pub mod Reveals

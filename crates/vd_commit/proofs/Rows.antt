@@ -64,7 +64,7 @@ pub said_from : (f : Registers) (r : ℕ) (rs : List Reg) → IsRow r rs → wor
 said_from f r [] row = refl
 said_from f r (x ∷ rs) row = ap₂ (λ (y : ℕ) (l : List ℕ). y ∷ l) (ap f row.0) (said_from f (r + 1) rs row.1)
 
-pub said_count : (f : Registers) (rs : List Reg) → length (words_in f rs) ≡ length rs
+said_count : (f : Registers) (rs : List Reg) → length (words_in f rs) ≡ length rs
 said_count f [] = refl
 said_count f (x ∷ rs) = (let e = said_count f rs in omega (arith, e))
 

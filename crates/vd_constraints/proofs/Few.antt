@@ -135,7 +135,7 @@ at_roll y =
 few : (s : Stmt) → Few (meets (of_rights operands_fit) s) (with_stmt s) (count_of s)
 few = ind-Stmt (λ s. Few (meets (of_rights operands_fit) s) (with_stmt s) (count_of s)) (λ x y is. subst (λ z. Few (meets (of_rights operands_fit) (roll-Stmt z)) (with_stmt (roll-Stmt z)) (count_of (roll-Stmt z))) is (at_roll y))
 
-pub body_few : (body : List Stmt) → Few (all_meet (of_rights operands_fit) body) (with_body body) (statement_count body)
+body_few : (body : List Stmt) → Few (all_meet (of_rights operands_fit) body) (with_body body) (statement_count body)
 body_few [] fits p pc s = omega arith
 body_few (x ∷ body) fits p pc s =
     let parts = and_parts (meets (of_rights operands_fit) x) (all_meet (of_rights operands_fit) body) fits in

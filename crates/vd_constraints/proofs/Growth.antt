@@ -20,7 +20,7 @@ use Rattle.vd_constraints.specs.Rules.{flows, right_rules, right_checks, written
 pub rules_size : (rules : List Lower) (s : Constraints) → size (with_rules rules s) ≡ size s + length rules
 rules_size rules s = omega (arith, length-append s.lower rules)
 
-pub checks_size : (checks : List Check) (s : Constraints) → size (with_checks checks s) ≡ size s + length checks
+checks_size : (checks : List Check) (s : Constraints) → size (with_checks checks s) ≡ size s + length checks
 checks_size checks s = omega (arith, length-append s.checks checks)
 
 pub right_size : (p : NormalForm) (pc : Place) (x : SlotId) (r : Right) (s : Constraints) → size (with_right p pc x r s) ≡ size s + length (right_rules p pc x r) + length (right_checks p pc x r)
@@ -44,7 +44,7 @@ optional_adds (Some w) x offset s = record {
 pub written_adds : (p : NormalForm) (x : SlotId) (s : Constraints) → Adds s (with_written p x s) 4
 written_adds p x s = optional_adds (written_at p x) (Slot x) (offset_of p x) s
 
-pub written_more : (p : NormalForm) (x : SlotId) (s : Constraints) → size s ≤ size (with_written p x s)
+written_more : (p : NormalForm) (x : SlotId) (s : Constraints) → size s ≤ size (with_written p x s)
 written_more p x s = (written_adds p x s).more
 
 -- an If: its block, and two flows
@@ -98,10 +98,10 @@ step (Stmt-F.For count body) p pc s = all body p pc s
 grows : (s : Stmt) → Grows (with_stmt s)
 grows = ind-Stmt (λ s. Grows (with_stmt s)) (λ x y is. subst (λ z. Grows (with_stmt (roll-Stmt z))) is (subst Grows (sym (fold-roll-Stmt Step stmt_step (layer y))) (step y)))
 
-pub stmt_more : (x : Stmt) (p : NormalForm) (pc : Place) (s : Constraints) → size s ≤ size (with_stmt x p pc s)
+stmt_more : (x : Stmt) (p : NormalForm) (pc : Place) (s : Constraints) → size s ≤ size (with_stmt x p pc s)
 stmt_more = grows
 
-pub body_more : (body : List Stmt) (p : NormalForm) (pc : Place) (s : Constraints) → size s ≤ size (with_body body p pc s)
+body_more : (body : List Stmt) (p : NormalForm) (pc : Place) (s : Constraints) → size s ≤ size (with_body body p pc s)
 body_more [] p pc s = omega arith
 body_more (x ∷ body) p pc s =
     let one = stmt_more x p pc s in
@@ -119,13 +119,13 @@ module _ (y : SlotId) (a b : List Stmt) (offset : ℕ) (p : NormalForm) (pc : Pl
   if_size : size (with_stmt (If y a b offset) p pc s) ≡ size (with_body b p (Block s.blocks) (with_body a p (Block s.blocks) (with_branch (Slot y) pc s)))
   if_size = ap size (with_if y a b offset p pc s)
 
-  pub then_within : size (with_body a p (Block s.blocks) (with_branch (Slot y) pc s)) ≤ size (with_stmt (If y a b offset) p pc s)
+  then_within : size (with_body a p (Block s.blocks) (with_branch (Slot y) pc s)) ≤ size (with_stmt (If y a b offset) p pc s)
   then_within =
       let whole = if_size in
       let rest = body_more b p (Block s.blocks) (with_body a p (Block s.blocks) (with_branch (Slot y) pc s)) in
       omega arith
 
-  pub branch_within : size (with_branch (Slot y) pc s) ≤ size (with_stmt (If y a b offset) p pc s)
+  branch_within : size (with_branch (Slot y) pc s) ≤ size (with_stmt (If y a b offset) p pc s)
   branch_within =
       let first = body_more a p (Block s.blocks) (with_branch (Slot y) pc s) in
       let second = then_within in

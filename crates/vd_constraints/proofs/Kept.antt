@@ -14,7 +14,7 @@ module _ (names slots blocks more : ℕ) (le : blocks ≤ more) where
   more_places (Slot x) is = is
   more_places (Block b) is = omega arith
 
-  pub more_bounds : (bound : Bound) → IsBoundIn names slots blocks bound → IsBoundIn names slots more bound
+  more_bounds : (bound : Bound) → IsBoundIn names slots blocks bound → IsBoundIn names slots more bound
   more_bounds (Constant f) is = is
   more_bounds (Same part) is = more_places part.at is
   more_bounds (Given f part) is = (is.0, more_places part.at is.1)

@@ -1,7 +1,7 @@
 pub mod Kept
 pub mod Fits
 pub mod Sizes
-pub mod Walks
+mod Walks
 pub mod Labellings
 pub mod Firsts
 pub mod InSight

@@ -34,7 +34,7 @@ pub record WalkSoFar (start here left wanted : Constraints) : Type 0 where
   pub left_is : left ≡ wanted
   pub extends : Extends start here
 
-pub all_at : {X : Type 0} (test : X → Bool) (xs : List X) (i : ℕ) (d : X) → i < length xs → IsTrue (list_all test xs) → IsTrue (test (get_or xs i d))
+all_at : {X : Type 0} (test : X → Bool) (xs : List X) (i : ℕ) (d : X) → i < length xs → IsTrue (list_all test xs) → IsTrue (test (get_or xs i d))
 all_at test [] i d h all = absurd (omega arith)
 all_at test (x ∷ xs) zero d h all = (and_parts (test x) (list_all test xs) all).0
 all_at test (x ∷ xs) (suc i) d h all = all_at test xs i d (omega arith) (and_parts (test x) (list_all test xs) all).1

@@ -14,13 +14,13 @@ use Rattle.vd_bits.specs.BitCalls.{computed}
 use Rattle.vd_convert.specs.Convert.{drawn, finished, to_add_made}
 
 -- one call and then another
-pub both_called : {X Y : Type 0} (one : Made X) (more : Made Y) (c : Builder)
+both_called : {X Y : Type 0} (one : Made X) (more : Made Y) (c : Builder)
     → called more (called one c).1 ≡ called (record { given = more.given; gadgets = one.gadgets ++ more.gadgets; next = more.next }) c
 both_called one more c =
     ap (λ (l : List Line). let p : _ × Builder = (more.given, record { lines = l; next = more.next }) in p)
     (append_assoc c.lines _ _ ∙ ap (λ (l : List Line). c.lines ++ l) (sym (emitted_append one.gadgets more.gadgets)))
 
-pub to_add_code : (a b : HostId) (x : Places) (word rest v : Places) (p q r : Shares) (c c1 c2 c3 : Builder) → ((p, q), c1) ≡ called (drawn a b (shares_of x) c.next) c
+to_add_code : (a b : HostId) (x : Places) (word rest v : Places) (p q r : Shares) (c c1 c2 c3 : Builder) → ((p, q), c1) ≡ called (drawn a b (shares_of x) c.next) c
     → word ≡ places_at a b q → (rest, c2) ≡ called (computed a b op.Sub (x ∷ word ∷ []) c1.next) c1 → (r, c3) ≡ called (finished a b (shares_of rest) p c2.next) c2
     → v ≡ places_at a b r → (v, c3) ≡ called (to_add_made a b x c.next) c
 to_add_code a b x word rest v p q r c c1 c2 c3 e f g h i =

@@ -1,4 +1,4 @@
-pub mod Emitted
+mod Emitted
 pub mod ToXor
 pub mod ToAdd
 pub mod ConvertActs

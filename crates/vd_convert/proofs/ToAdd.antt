@@ -27,7 +27,7 @@ use Rattle.vd_bits.proofs.BitLaws.{gives_wider, circuit_gives_few}
 use Rattle.vd_convert.specs.Convert.{pairing, drawn, finishing, finished, to_add_made}
 
 -- a dealt pair: its sum, and its exclusive or
-abbrev pub HoldPair : Hosts → Places → ℕ → Type 0
+abbrev HoldPair : Hosts → Places → ℕ → Type 0
 HoldPair u (p ∷ q ∷ r ∷ s ∷ []) x =
     (((u p.0.0).registers p.1.0 + (u q.0.0).registers q.1.0) % 2 ^ 32 ≡ x) × (bit_xor ((u r.0.0).registers r.1.0) ((u s.0.0).registers s.1.0) ≡ x)
 HoldPair u l x = ⊥

@@ -22,7 +22,7 @@ use Rattle.vd_bits.proofs.BitLaws.{gives_wider, circuit_gives_few}
 use Rattle.vd_convert.specs.Convert.{masking, masked_parts, to_xor_made}
 
 -- the parts of two words
-abbrev pub Hold : Hosts → Places → ℕ → ℕ → Type 0
+abbrev Hold : Hosts → Places → ℕ → ℕ → Type 0
 Hold u (p ∷ q ∷ r ∷ s ∷ []) x y =
     (bit_xor ((u p.0.0).registers p.1.0) ((u q.0.0).registers q.1.0) ≡ x) × (bit_xor ((u r.0.0).registers r.1.0) ((u s.0.0).registers s.1.0) ≡ y)
 Hold u l x y = ⊥

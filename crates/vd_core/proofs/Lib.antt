@@ -1,1 +1,1 @@
-pub mod StatementTests
+mod StatementTests

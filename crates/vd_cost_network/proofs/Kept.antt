@@ -18,7 +18,7 @@ use Rattle.vd_cost_network.proofs.Items.{held, any_in_range}
 use Rattle.vd_cost_network.proofs.Points.{at_either}
 
 -- what stands in a valid list is a candidate
-pub stands_at_candidate : (problem : Problem) (makings : List Making) (list : List ℕ) (slot p : ℕ) → IsTrue (stand problem makings list) → slice_get list slot ≡ Some p
+stands_at_candidate : (problem : Problem) (makings : List Making) (list : List ℕ) (slot p : ℕ) → IsTrue (stand problem makings list) → slice_get list slot ≡ Some p
     → IsTrue (option_map_or (λ making. can_stand problem making p) (slice_get makings slot) false)
 stands_at_candidate problem makings [] slot p stands is = absurd (true≢false (sym (ap is_some is)))
 stands_at_candidate problem [] (q ∷ list) slot p stands is = absurd (true≢false (sym stands))
@@ -28,11 +28,11 @@ stands_at_candidate problem (making ∷ makings) (q ∷ list) zero p stands is =
 stands_at_candidate problem (making ∷ makings) (q ∷ list) (suc slot) p stands is =
     stands_at_candidate problem makings list slot p (and_parts (can_stand problem making q) (stand problem makings list) stands).1 is
 
-pub valid_at : (problem : Problem) (list : List ℕ) → IsTrue (is_valid problem list) → (slot p : ℕ) → slice_get list slot ≡ Some p → IsAt problem list slot p
+valid_at : (problem : Problem) (list : List ℕ) → IsTrue (is_valid problem list) → (slot p : ℕ) → slice_get list slot ≡ Some p → IsAt problem list slot p
 valid_at problem list valid slot p is = record { decided = is; candidate = stands_at_candidate problem problem.slots list slot p (parts_of problem list valid).stands is }
 
 -- a slot that is kept at a host may bring it in
-pub brings : (problem : Problem) (list : List ℕ) (h : HostId) (slot : SlotId) (p : ℕ) → IsAt problem list slot.0 p → IsTrue (holds_at problem h p) → IsTrue (may_bring problem h slot)
+brings : (problem : Problem) (list : List ℕ) (h : HostId) (slot : SlotId) (p : ℕ) → IsAt problem list slot.0 p → IsTrue (holds_at problem h p) → IsTrue (may_bring problem h slot)
 brings problem list h slot p at holds =
     let low = is_listed problem list slot.0 p at in
     any_in_range (λ q. is_candidate problem slot.0 q && holds_at problem h q) 0 (length (protocols problem)) p (omega arith) (omega (arith, low)) (and_from (is_candidate problem slot.0 p) (holds_at problem h p) at.candidate holds)

@@ -1,9 +1,9 @@
 pub mod Items
 pub mod Points
-pub mod Kept
-pub mod Terms
-pub mod Valued
-pub mod Shifted
-pub mod Summed
+mod Kept
+mod Terms
+mod Valued
+mod Shifted
+mod Summed
 pub mod Bounded
 pub mod Few

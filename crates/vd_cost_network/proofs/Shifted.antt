@@ -25,10 +25,10 @@ use Rattle.vd_cost_network.proofs.Terms.{PointHas, LinkHas, HaveAll, point_at, l
 use Rattle.vd_cost_network.proofs.Valued.{plain_one, plain_has, links_have}
 
 -- the setting of a point in a whole list
-abbrev pub here : Problem → List ℕ → ℕ → ℕ
+abbrev here : Problem → List ℕ → ℕ → ℕ
 here problem list point = unwrap_or (decided problem list point) 0
 
-pub here_is : (problem : Problem) (list : List ℕ) (point v : ℕ) → decided problem list point ≡ Some v → here problem list point ≡ v
+here_is : (problem : Problem) (list : List ℕ) (point v : ℕ) → decided problem list point ≡ Some v → here problem list point ≡ v
 here_is problem list point v is = ap (λ o. unwrap_or o 0) is
 
 -- what a shift comes to on the point of its side, and on its link
@@ -84,7 +84,7 @@ module _ (problem : Problem) (list : List ℕ) (pairs : List Pair) (count : ℕ)
       (λ point. both_tests (side == point) (shift.proto == here problem list point) (signed shift)) (range_with_len 0 count)
       ∙ total_once side 0 count value (omega arith) (let low = end_low link (known link refl) in omega (arith, low))
 
-  pub points_effect : total (λ point. point_shift pairs point (here problem list point) shift) (range_with_len 0 count) ≡ effect problem list pairs shift
+  points_effect : total (λ point. point_shift pairs point (here problem list point) shift) (range_with_len 0 count) ≡ effect problem list pairs shift
   points_effect = points_effect_of (slice_get pairs shift.at) (λ link at. each_at (IsBetween count) pairs shift.at link at between)
 
 -- ---- links

@@ -33,7 +33,7 @@ module _ (problem : Problem) (prefix rest : List ℕ) (valid : IsTrue (is_valid 
     | inr same ↦ may_at problem point v (decided problem prefix point) (inr (same ∙ at.is)) at.setting
   ]
 
-  pub least_over_low : (point v : ℕ) (value : ℕ → Option ℤ) (c : ℤ) → IsSettled problem (prefix ++ rest) point v → AtMost (value v) c → AtMost (least_over problem (decided problem prefix) point value) c
+  least_over_low : (point v : ℕ) (value : ℕ → Option ℤ) (c : ℤ) → IsSettled problem (prefix ++ rest) point v → AtMost (value v) c → AtMost (least_over problem (decided problem prefix) point value) c
   least_over_low point v value c at low =
       least_low (most_settings problem) v (λ w. only_if (may_be problem (decided problem prefix) point w) (value w)) c at.within
       (only_low (may_be problem (decided problem prefix) point v) (value v) c (may_under point v at) low)
@@ -42,7 +42,7 @@ module _ (problem : Problem) (list : List ℕ) where
   settled_once : (point v w : ℕ) → IsSettled problem list point v → IsTrue (may_be problem (decided problem list) point w) → w ≡ v
   settled_once point v w at may = sym (eqb-true v w (subst (λ o. IsTrue (option_map_or (λ r. r == w) o (is_setting problem point w))) at.is may))
 
-  pub least_over_high : (point v : ℕ) (value : ℕ → Option ℤ) (c : ℤ) → IsSettled problem list point v → AtLeast (value v) c → AtLeast (least_over problem (decided problem list) point value) c
+  least_over_high : (point v : ℕ) (value : ℕ → Option ℤ) (c : ℤ) → IsSettled problem list point v → AtLeast (value v) c → AtLeast (least_over problem (decided problem list) point value) c
   least_over_high point v value c at high =
       least_high (most_settings problem) (λ w. only_if (may_be problem (decided problem list) point w) (value w)) c
       (λ w within. only_high (may_be problem (decided problem list) point w) (value w) c (λ may. subst (λ r. AtLeast (value r) c) (sym (settled_once point v w at may)) high))
@@ -85,13 +85,13 @@ some_high : (o : Option ℤ) (c : ℤ) → o ≡ Some c → AtLeast o c
 some_high o c is = subst (λ x. AtLeast x c) (sym is) (high_some c c (omega (arith, ints)))
 
 module _ (problem : Problem) (prefix rest : List ℕ) (valid : IsTrue (is_valid problem (prefix ++ rest))) where
-  pub point_low : (one : One) → PointHas problem (prefix ++ rest) one → least_point problem (decided problem prefix) one ≤ℤ point_at problem (prefix ++ rest) one
+  point_low : (one : One) → PointHas problem (prefix ++ rest) one → least_point problem (decided problem prefix) one ≤ℤ point_at problem (prefix ++ rest) one
   point_low one has =
       let least = found_low (least_over problem (decided problem prefix) one.slot one.value) has.c no_parts_left
       (least_over_low problem prefix rest valid one.slot has.v one.value has.c has.at (some_low (one.value has.v) has.c has.value)) in
       subst (λ c. least_point problem (decided problem prefix) one ≤ℤ c) (sym (point_is problem (prefix ++ rest) one has)) least
 
-  pub link_low : (link : Pair) → LinkHas problem (prefix ++ rest) link → least_link problem (decided problem prefix) link ≤ℤ link_at problem (prefix ++ rest) link
+  link_low : (link : Pair) → LinkHas problem (prefix ++ rest) link → least_link problem (decided problem prefix) link ≤ℤ link_at problem (prefix ++ rest) link
   link_low link has =
       let inner = least_over_low problem prefix rest valid link.second has.w (link.value has.v) has.c has.second (some_low (link.value has.v has.w) has.c has.value) in
       let least = found_low (least_over problem (decided problem prefix) link.first (λ v. least_over problem (decided problem prefix) link.second (link.value v))) has.c no_parts_left
@@ -108,14 +108,14 @@ module _ (problem : Problem) (list : List ℕ) (valid : IsTrue (is_valid problem
   again_valid : IsTrue (is_valid problem (list ++ []))
   again_valid = subst (λ l. IsTrue (is_valid problem l)) (sym same_list) valid
 
-  pub point_same : (one : One) → PointHas problem list one → least_point problem (decided problem list) one ≡ point_at problem list one
+  point_same : (one : One) → PointHas problem list one → least_point problem (decided problem list) one ≡ point_at problem list one
   point_same one has =
       found_high (least_over problem (decided problem list) one.slot one.value) has.c no_parts_left
       (least_over_low problem list [] again_valid one.slot has.v one.value has.c (again one.slot has.v has.at) (some_low (one.value has.v) has.c has.value))
       (least_over_high problem list one.slot has.v one.value has.c has.at (some_high (one.value has.v) has.c has.value))
       ∙ sym (point_is problem list one has)
 
-  pub link_same : (link : Pair) → LinkHas problem list link → least_link problem (decided problem list) link ≡ link_at problem list link
+  link_same : (link : Pair) → LinkHas problem list link → least_link problem (decided problem list) link ≡ link_at problem list link
   link_same link has =
       let inner_low = least_over_low problem list [] again_valid link.second has.w (link.value has.v) has.c (again link.second has.w has.second) (some_low (link.value has.v has.w) has.c has.value) in
       let inner_high = least_over_high problem list link.second has.w (link.value has.v) has.c has.second (some_high (link.value has.v has.w) has.c has.value) in

@@ -1,5 +1,5 @@
-pub mod Passing
-pub mod Joined
-pub mod Alone
-pub mod Owned
-pub mod Summed
+mod Passing
+mod Joined
+mod Alone
+mod Owned
+mod Summed

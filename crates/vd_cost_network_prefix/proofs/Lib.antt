@@ -1,7 +1,7 @@
 pub mod Decided
 pub mod Summing
-pub mod Steps
-pub mod Moving
-pub mod Reaching
-pub mod Turning
-pub mod Changing
+mod Steps
+mod Moving
+mod Reaching
+mod Turning
+mod Changing

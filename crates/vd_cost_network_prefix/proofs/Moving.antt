@@ -25,7 +25,7 @@ module _ (f g : ℕ → ℤ) (p : ℕ) (same : (k : ℕ) → (k == p) ≡ false 
       let rest = none_changes (first + 1) n (omega (arith, low)) in
       omega (arith, ints, here, rest)
 
-  pub one_changes : (first n : ℕ) → first ≤ p → p < first + n → total f (range_with_len first n) +ℤ g p ≡ total g (range_with_len first n) +ℤ f p
+  one_changes : (first n : ℕ) → first ≤ p → p < first + n → total f (range_with_len first n) +ℤ g p ≡ total g (range_with_len first n) +ℤ f p
   one_changes first zero low high = absurd (omega (arith, low, high))
   one_changes first (suc n) low high = elim (cases_eq first p) [
     | inl is ↦
@@ -40,7 +40,7 @@ module _ (f g : ℕ → ℤ) (p : ℕ) (same : (k : ℕ) → (k == p) ≡ false 
   ]
 
 module _ {X : Type 0} (test : X → Bool) (f g : ℕ → ℤ) where
-  pub some_change : (first : ℕ) (xs : List X) → ((k : ℕ) (x : X) → slice_get xs k ≡ Some x → test x ≡ false → f (first + k) ≡ g (first + k))
+  some_change : (first : ℕ) (xs : List X) → ((k : ℕ) (x : X) → slice_get xs k ≡ Some x → test x ≡ false → f (first + k) ≡ g (first + k))
       → total f (range_with_len first (length xs)) +ℤ total g (numbers_from test first xs) ≡ total g (range_with_len first (length xs)) +ℤ total f (numbers_from test first xs)
   some_change first [] same = refl
   some_change first (x ∷ xs) same =
@@ -72,7 +72,7 @@ module _ (tables : LinkedTables) (old new : States) (point : ℕ) (same : (k : �
       ∙ sym (ap (λ o. option_map_or (λ (t : LinkTable). link_at t (old t.first) (old t.second)) o (pos 0)) at)
 
   -- what the point and its links come to is what the sum changes by
-  pub parts_move : point < length tables.points → parts_by tables new
+  parts_move : point < length tables.points → parts_by tables new
       ≡ parts_by tables old +ℤ ((point_part tables.points new point +ℤ total (link_part tables.links new) (links_at tables.links point)) -ℤ (point_part tables.points old point +ℤ total (link_part tables.links old) (links_at tables.links point)))
   parts_move low =
       let points = one_changes (point_part tables.points new) (point_part tables.points old) point same_point 0 (length tables.points) (omega arith) (omega (arith, low)) in

@@ -26,7 +26,7 @@ use Rattle.vd_cost_network_tables.specs.Tables.{cells_of}
 use Rattle.vd_cost_network_tables.specs.Raws.{guard_cells, member_cells, scaled_cells}
 
 -- a list by its items is a list by place
-pub mapped_by_place : {X Y : Type 0} (f : X → Y) (xs : List X) (d : X) → map f xs ≡ by_place (length xs) (λ k. f (get_or xs k d))
+mapped_by_place : {X Y : Type 0} (f : X → Y) (xs : List X) (d : X) → map f xs ≡ by_place (length xs) (λ k. f (get_or xs k d))
 mapped_by_place f xs d = fill_by_all (λ k. f (get_or xs k d)) (map f xs) (length xs) (f d) (length-map xs f) (λ k low. get_or-map f xs k d (f d) low)
 
 pub map_map : {X Y Z : Type 0} (f : Y → Z) (g : X → Y) (xs : List X) → map f (map g xs) ≡ map (λ x. f (g x)) xs

@@ -60,7 +60,7 @@ module _ (links : List RawLink) (rows : Rows) where
   part_within row place shift low = if_within (option_map_or (λ r. r == row) (row_of links rows shift) false && shift.proto == place) (signed shift) low
 
   -- what the first i shifts come to
-  abbrev pub so_far : List Shift → ℕ → ℕ → ℕ → ℤ
+  abbrev so_far : List Shift → ℕ → ℕ → ℕ → ℤ
   so_far shifts i row place = total (part links rows row place) (take i shifts)
 
   part_of : (row place : ℕ) (shift : Shift) (o : Option ℕ) → row_of links rows shift ≡ o → part links rows row place shift ≡ cond (option_map_or (λ r. r == row) o false && shift.proto == place) (signed shift) (pos 0)
@@ -69,7 +69,7 @@ module _ (links : List RawLink) (rows : Rows) where
   pub no_row : (row place : ℕ) (shift : Shift) → row_of links rows shift ≡ None → part links rows row place shift ≡ pos 0
   no_row row place shift is = part_of row place shift None is
 
-  pub counted : (row : ℕ) (shift : Shift) → row_of links rows shift ≡ Some row → part links rows row shift.proto shift ≡ signed shift
+  counted : (row : ℕ) (shift : Shift) → row_of links rows shift ≡ Some row → part links rows row shift.proto shift ≡ signed shift
   counted row shift is =
       part_of row shift.proto shift (Some row) is
       ∙ cond-true (row == row && shift.proto == shift.proto) (signed shift) (pos 0) (both_true (row == row) (shift.proto == shift.proto) (eq-eqb row row refl) (eq-eqb shift.proto shift.proto refl))
@@ -100,7 +100,7 @@ module _ (links : List RawLink) (rows : Rows) where
           are ∙ same_by_place count (λ row. by_place places (so_far shifts i row)) (λ row. by_place places (so_far shifts (i + 1) row))
           (λ row low_row. same_by_place places (so_far shifts i row) (so_far shifts (i + 1) row) (λ place low_place. same_more row place (none row place low_row low_place)))
 
-      pub line_at : (sums : List (List ℤ)) (row : ℕ) (line : List ℤ) → sums ≡ sums_of links rows count places (take i shifts) → row < count → line ≡ get_or sums row line → line ≡ by_place places (so_far shifts i row)
+      line_at : (sums : List (List ℤ)) (row : ℕ) (line : List ℤ) → sums ≡ sums_of links rows count places (take i shifts) → row < count → line ≡ get_or sums row line → line ≡ by_place places (so_far shifts i row)
       line_at sums row line are low_row at = at ∙ ap (λ xs. get_or xs row line) are ∙ at_place count (λ r. by_place places (so_far shifts i r)) row line low_row
 
       pub added : (sums grown : List (List ℤ)) (row : ℕ) (line changed : List ℤ) → sums ≡ sums_of links rows count places (take i shifts) → row_of links rows shift ≡ Some row → row < count → shift.proto < places

@@ -1,14 +1,14 @@
 pub mod Placed
 pub mod Switching
-pub mod Counting
+mod Counting
 pub mod Placing
 pub mod Costs
-pub mod Tabled
+mod Tabled
 pub mod Shifting
-pub mod Raising
+mod Raising
 pub mod Ranging
 pub mod Rawing
-pub mod Bringing
+mod Bringing
 pub mod Owning
 pub mod Pointing
 pub mod Assembling

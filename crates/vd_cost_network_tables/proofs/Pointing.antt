@@ -144,7 +144,7 @@ each_mapped P f each (x ∷ xs) (suc k) = each_mapped P f each xs k
 
 module _ (problem : Problem) (labelled : IsLabelled problem) (limits : IsWithinLimits problem) where
   -- 2^41
-  pub own_within : (slot p : ℕ) → HasAtMost 2199023255552 (together problem slot p)
+  own_within : (slot p : ℕ) → HasAtMost 2199023255552 (together problem slot p)
   own_within slot p =
       let count = limits.count in
       let own = add_within 14417920 (13893632 * length problem.outputs) (operation_value problem slot p) (outputs_value problem slot p problem.outputs)

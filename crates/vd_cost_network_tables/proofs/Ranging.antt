@@ -73,7 +73,7 @@ cell_small n m value each v w = elim (listed_or_not n v) [
   | inr past ↦ subst IsSmall (sym (ap (λ row. get_or row w None) (get_or_past (by_place n (λ r. by_place m (value r))) v [] (subst (λ k. k ≤ v) (sym (size_by_place n (λ r. by_place m (value r)))) past)))) tt
 ]
 
-pub link_table_small : (first second : ℕ) (firsts seconds : List Bool) (value : ℕ → ℕ → Option ℤ) → ((v w : ℕ) → IsSmall (value v w)) → IsSmallLink (link_table_of first second firsts seconds value)
+link_table_small : (first second : ℕ) (firsts seconds : List Bool) (value : ℕ → ℕ → Option ℤ) → ((v w : ℕ) → IsSmall (value v w)) → IsSmallLink (link_table_of first second firsts seconds value)
 link_table_small first second firsts seconds value each =
     let row : (v : ℕ) → IsSmall (least_where seconds (value v)) = λ v. where_small seconds (value v) (each v) in
     let column : (w : ℕ) → IsSmall (least_where firsts (λ v. value v w)) = λ w. where_small firsts (λ v. value v w) (λ v. each v w) in
@@ -151,7 +151,7 @@ module _ (problem : Problem) (labelled : IsLabelled problem) (limits : IsWithinL
       (λ guard light. each_map (λ (w : Switch). w.guard.weight ≤ 65536) (switch_of guard) (all_hosts problem) (every (λ h. guard.weight ≤ 65536) (λ h. light) (all_hosts problem)))
       problem.guards (recursion_from_All (λ (guard : Guard). guard.weight ≤ 65536) problem.guards limits.guards))
 
-  pub links_light : AllByRecursion IsLight (links problem)
+  links_light : AllByRecursion IsLight (links problem)
   links_light = each_append IsLight (map in_parts (pairs problem)) (links_from problem (length problem.slots) (switches problem)) pairs_light (from_light (length problem.slots) (switches problem) switches_light)
 
 -- ---- links under shifts

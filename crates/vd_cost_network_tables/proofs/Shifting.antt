@@ -42,7 +42,7 @@ module _ (problem : Problem) (raws : List RawLink) (shifts : List Shift) (k most
       let both = sides_together raws k v w shifts in
       omega (arith, ints, first, second, both)
 
-  pub cells_shifted : shifted_cells (cells_of problem link) from to ≡ by_place (settings problem link.first) (λ v. by_place (settings problem link.second) ((linked_pair shifts k link).value v))
+  cells_shifted : shifted_cells (cells_of problem link) from to ≡ by_place (settings problem link.first) (λ v. by_place (settings problem link.second) ((linked_pair shifts k link).value v))
   cells_shifted =
       let n = settings problem link.first in
       let m = settings problem link.second in
@@ -53,7 +53,7 @@ module _ (problem : Problem) (raws : List RawLink) (shifts : List Shift) (k most
       ∙ row_shifted m (link.value v) ((linked_pair shifts k link).value v) (get_or from v (pos 0)) to
       (λ w low_w. ap (λ z. option_map (λ c. c -ℤ z) (link.value v w)) (taken v w low low_w)))
 
-  pub table_is : table_of_cells link.first link.second (tests_of problem link.first) (tests_of problem link.second) (shifted_cells (cells_of problem link) from to) ≡ link_table problem (linked_pair shifts k link)
+  table_is : table_of_cells link.first link.second (tests_of problem link.first) (tests_of problem link.second) (shifted_cells (cells_of problem link) from to) ≡ link_table problem (linked_pair shifts k link)
   table_is =
       ap (table_of_cells link.first link.second (tests_of problem link.first) (tests_of problem link.second))
       (cells_shifted ∙ ap₂ (λ n m. by_place n (λ v. by_place m ((linked_pair shifts k link).value v))) (sym (tests_size problem link.first)) (sym (tests_size problem link.second)))

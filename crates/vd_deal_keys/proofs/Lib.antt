@@ -1,3 +1,3 @@
-pub mod Ends
-pub mod OneMore
-pub mod Purposes
+mod Ends
+mod OneMore
+mod Purposes

@@ -22,12 +22,12 @@ module _ {X : Type 0} (parts : (ℕ → ℕ) → X × X) (key : List ℕ) (a b k
   abbrev here : (first second : ℕ) → ℕ → ℕ
   here first second = words_from key (shared_stream first second kind) places
 
-  pub mine : (if nat_lt a b then (parts (here (min a b) (max a b))).0 else (parts (here (min a b) (max a b))).1) ≡ (parts (here a b)).0
+  mine : (if nat_lt a b then (parts (here (min a b) (max a b))).0 else (parts (here (min a b) (max a b))).1) ≡ (parts (here a b)).0
   mine =
       ap₂ (λ (m n : ℕ). if nat_lt a b then (parts (here m n)).0 else (parts (here m n)).1) (omega (arith, l)) (omega (arith, l))
       ∙ ap (λ (c : Bool). if c then (parts (here a b)).0 else (parts (here a b)).1) (lower a b l)
 
-  pub theirs : (if nat_lt b a then (parts (here (min b a) (max b a))).0 else (parts (here (min b a) (max b a))).1) ≡ (parts (here a b)).1
+  theirs : (if nat_lt b a then (parts (here (min b a) (max b a))).0 else (parts (here (min b a) (max b a))).1) ≡ (parts (here a b)).1
   theirs =
       ap₂ (λ (m n : ℕ). if nat_lt b a then (parts (here m n)).0 else (parts (here m n)).1) (omega (arith, l)) (omega (arith, l))
       ∙ ap (λ (c : Bool). if c then (parts (here a b)).0 else (parts (here a b)).1) (higher a b l)

@@ -1,2 +1,2 @@
-pub mod Apart
-pub mod Keys
+mod Apart
+mod Keys

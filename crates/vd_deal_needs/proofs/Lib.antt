@@ -1,2 +1,2 @@
-pub mod Taken
+mod Taken
 pub mod Greatest

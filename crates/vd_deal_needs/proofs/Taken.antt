@@ -57,7 +57,7 @@ turns_within : (n x w : ℕ) → x ≤ w → n * x ≤ n * suc w
 turns_within zero x w le = omega arith
 turns_within (suc n) x w le = let i = turns_within n x w le in omega (arith, i, le)
 
-pub counts_within : (c : Code) (r : Source) → counts c r ≤ weight c
+counts_within : (c : Code) (r : Source) → counts c r ≤ weight c
 counts_within Finished r = omega arith
 counts_within (Then a c) r = let i = counts_within c r in let one = takes_one (source_of a) r in omega (arith, i, one)
 counts_within (Send p rs c) r = let i = counts_within c r in omega (arith, i)

@@ -149,7 +149,7 @@ branch_exact : (b : Bool) (w u v : Hosts) (h : ℕ) (r : Source) (m n : ℕ) →
 branch_exact true w u v h r m n x y e = omega (arith, y, e)
 branch_exact false w u v h r m n x y e = omega (arith, x, e)
 
-pub exact : (t : Tape) (j : Joint) (w : Hosts) (h : ℕ) (r : Source) → IsEven j → (joint t j w h).cursors r ≡ (w h).cursors r + takes j h r
+exact : (t : Tape) (j : Joint) (w : Hosts) (h : ℕ) (r : Source) → IsEven j → (joint t j w h).cursors r ≡ (w h).cursors r + takes j h r
 exact t Done w h r s = omega arith
 exact t (Do a x rest) w h r s =
     let e = do_takes t a x w h r in

@@ -1,3 +1,3 @@
-pub mod Acts
-pub mod Blocks
+mod Acts
+mod Blocks
 pub mod Programs

@@ -37,7 +37,7 @@ items_are_few program proto made over h r =
 
 module _ (program : NormalForm) (list : List Proto) (can : CanBeSplit program list) where
   -- at the list's protocols
-  pub few_at : (h : ℕ) (r : Source) → counted program list can h r ≤ most_items * weight_sum program.body
+  few_at : (h : ℕ) (r : Source) → counted program list can h r ≤ most_items * weight_sum program.body
   few_at h r =
       let all = taken program list can h r in
       at _ _ _ all (items_are_few program (proto_in list) can.made (proto_over program list can.made (runnable_over program list can.made can.runnable)) h r)

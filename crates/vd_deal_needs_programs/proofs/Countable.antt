@@ -63,12 +63,12 @@ module _ (program : NormalForm) (list : List Proto) (can : CanBeSplit program li
   pub within : (h : ℕ) → h < hosts → IsWithin (stored_program program list plan h)
   within h lt = (stored_programs_are_read_back program list plan h (stored h lt)).1
 
-  pub countable : (h : ℕ) → h < hosts → IsCountable (code h)
+  countable : (h : ℕ) → h < hosts → IsCountable (code h)
   countable h lt =
       let o = stored_programs_are_read_back program list plan h (stored h lt) in
       subst IsCountable (code_at h [] lt) (of_can_run (stored_program program list plan h) (can_run _ (stored_program program list plan h) o.0 o.1))
 
-  pub all_countable : All IsCountable (host_codes program list)
+  all_countable : All IsCountable (host_codes program list)
   all_countable k d lt =
       let n = count_codes in
       let declared : k < hosts = omega (arith, lt, n) in

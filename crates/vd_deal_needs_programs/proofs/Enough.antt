@@ -144,7 +144,7 @@ module _ (program : NormalForm) (list : List Proto) (can : CanBeSplit program li
     has_each given sizes h (Pairs p) i lt less =
         has_shared {X = PairItem} Pairs (λ s. s.pairs) (λ d. d.pairs) pair_item (λ h p i d. refl) (λ h p. refl) (λ h p none. none) (λ s t. refl) sizes.pairs h p i lt less
 
-    pub has_what : HandInEnough (joint_code program list can) inputs → HasSizes (sizes_for program list) deals → HasWhatItTakes supply (joint_code program list can)
+    has_what : HandInEnough (joint_code program list can) inputs → HasSizes (sizes_for program list) deals → HasWhatItTakes supply (joint_code program list can)
     has_what given sizes h r i less = elim (cases_lt h (hosts program list can)) [
       | inl lt ↦ has_each given sizes h r i lt less
       | inr past ↦ absurd (no_more _ _ i (taken program list can h r) (none_past h r past) less)
@@ -155,7 +155,7 @@ module _ (program : NormalForm) (list : List Proto) (can : CanBeSplit program li
         let valid = files_are_valid inputs deals files in
         codes_run_well program list can.made can.numbers can.runnable inputs files.words supply valid.0 valid.1
 
-    pub no_want : HandInEnough (joint_code program list can) inputs → HasSizes (sizes_for program list) deals → SuffersNoWant supply (joint_code program list can)
+    no_want : HandInEnough (joint_code program list can) inputs → HasSizes (sizes_for program list) deals → SuffersNoWant supply (joint_code program list can)
     no_want given sizes =
         let has = has_what given sizes in
         record {
@@ -172,7 +172,7 @@ module _ (program : NormalForm) (list : List Proto) (can : CanBeSplit program li
         let s = short h d.0 d.1 in
         omega (arith, t, long, s))
 
-    pub below_others : (others : Counts) → IsWithinSizes others deals → HasWhatItTakes supply (joint_code program list can) → AreBelow (sizes_for program list) others
+    below_others : (others : Counts) → IsWithinSizes others deals → HasWhatItTakes supply (joint_code program list can) → AreBelow (sizes_for program list) others
     below_others others short has = record {
       own = own_least others.own has short.own;
       muls = shared_least {X = Triple} Triples (λ s. s.muls) (λ d. d.triples) triple_item (λ h p i d. refl) (λ h p. refl) (λ h p none. none) (λ s t. refl) others.muls (none_least others.muls) has short.muls;

@@ -18,7 +18,7 @@ module _ {X : Type 0} (n m : ℕ) (item : ℕ → ℕ → X) where
   abbrev lists : List (List X)
   lists = first_of (n - 1) (λ place. first_of m (item place))
 
-  pub shared_length : (h p : ℕ) → h < n → p < n → p ≢ h → length (shared_with lists h p) ≡ m
+  shared_length : (h p : ℕ) → h < n → p < n → p ≢ h → length (shared_with lists h p) ≡ m
   shared_length h p x y ne =
       let place = peer_place h p in
       ap (λ (l : List X). length l) (unwrap_or-slice_get lists place [] ∙ get_or-map-range_with_len (λ place. first_of m (item place)) 0 (n - 1) place place [] (place_below n h p x y ne) (omega arith))
@@ -61,7 +61,7 @@ module _ (sizes : Counts) (key : List ℕ) where
   as_many : (a b : ℕ) → a ≡ b → b ≤ a
   as_many a b e = omega (arith, e)
 
-  pub has_sizes : HasSizes sizes deals
+  has_sizes : HasSizes sizes deals
   has_sizes = record {
     own = λ h deal is. as_many _ _ (own_length h deal is);
     muls = λ h p deal is lt ne. as_many _ _ (muls_length h p deal is lt ne);

@@ -49,7 +49,7 @@ module _ (program : NormalForm) (list : List Proto) (can : CanBeSplit program li
   abbrev pub counted : ℕ → Source → ℕ
   counted h r = counts (code_of h joint_code) r
 
-  pub tidy : IsTidy joint_code
+  tidy : IsTidy joint_code
   tidy = joint_is_tidy program list can.made can.numbers can.runnable
 
   pub taken : (h : ℕ) (r : Source) → takes joint_code h r ≡ counted h r

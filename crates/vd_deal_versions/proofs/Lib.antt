@@ -1,8 +1,8 @@
 pub mod DealtExact
-pub mod LinkLoop
-pub mod LinksExact
-pub mod LinksWritten
-pub mod Outcomes
+mod LinkLoop
+mod LinksExact
+mod LinksWritten
+mod Outcomes
 pub mod PlainExact
-pub mod SecretExact
-pub mod Versions
+mod SecretExact
+mod Versions

@@ -27,7 +27,7 @@ use Rattle.vd_deal_versions.specs.Reading.{link_at, one_at, linked_at, no_links,
 abbrev pub FitsLink : LinkKey → Type 0
 FitsLink link = IsKey link.0
 
-abbrev pub link_of : List ℕ → LinkKey
+abbrev link_of : List ℕ → LinkKey
 link_of key = record { 0 = key }
 
 abbrev some_link : LinkKey
@@ -61,7 +61,7 @@ link_exact peer bytes =
 
 -- ---- the lines of a peer
 
-abbrev pub FitsOne : LinkedShare → Type 0
+abbrev FitsOne : LinkedShare → Type 0
 FitsOne x = FitsLink x.link × FitsShare x.share
 
 abbrev one_text : ℕ → LinkedShare → List ℕ
@@ -115,7 +115,7 @@ FitsLinked n ls = AreEach FitsLink n ls.links × FitsShares n (shares_in ls)
 abbrev pub texts_of : ℕ → ℕ → Linked → List ℕ
 texts_of me place ls = linked_text me place ls.links ls.triples ls.bits ls.pairs
 
-abbrev pub linked_of : List LinkKey → Shares → Linked
+abbrev linked_of : List LinkKey → Shares → Linked
 linked_of links ss = record { links = links; triples = ss.triples; bits = ss.bits; pairs = ss.pairs }
 
 pub same_linked : (f g : Linked) → f.links ≡ g.links → f.triples ≡ g.triples → f.bits ≡ g.bits → f.pairs ≡ g.pairs → f ≡ g

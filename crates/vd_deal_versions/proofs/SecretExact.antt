@@ -25,7 +25,7 @@ use Rattle.vd_deal_versions.proofs.LinksExact.{FitsLink, FitsLinked, texts_of, s
 abbrev linked_in : SecretDeal → Linked
 linked_in x = record { links = x.secrets.links; triples = x.deal.triples; bits = x.deal.bits; pairs = x.deal.pairs }
 
-abbrev pub FitSecret : (hosts me : ℕ) → SecretDeal → Type 0
+abbrev FitSecret : (hosts me : ℕ) → SecretDeal → Type 0
 FitSecret hosts me x = Fit hosts me x.deal × IsKey x.secrets.id × AreEach FitsLink (hosts - 1) x.secrets.links
 
 fit_secret : (hosts me : ℕ) (x : SecretDeal) → IsSecretDealOf hosts me x → FitSecret hosts me x

@@ -1,4 +1,4 @@
-pub mod Candidates
-pub mod Told
-pub mod Labelled
-pub mod Searched
+mod Candidates
+mod Told
+mod Labelled
+mod Searched

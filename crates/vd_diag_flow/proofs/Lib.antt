@@ -1,2 +1,2 @@
-pub mod Solutions
-pub mod Refused
+mod Solutions
+mod Refused

@@ -11,7 +11,7 @@ use Rattle.vd_constraints.specs.Satisfies.{HoldsCheck, IsLabelling, SolvesRules,
 use Rattle.vd_constraints.specs.Outcomes.{HasNoLabelling}
 use Rattle.vd_labels_least.proofs.Once.{labelled_once}
 
-abbrev pub without_checks : Constraints → Constraints
+abbrev without_checks : Constraints → Constraints
 without_checks s = record s { checks = [] }
 
 module _ (s : Constraints) where

@@ -215,7 +215,7 @@ module _ (ts before : List Token) (k : TokenKind) (a : Asked ts before k) where
               ap (λ us. x ∷ us) (go n xs (omega (arith, less))) ∙ ap (λ m. x ∷ (xs ++ t ∷ take m ys)) e
 
 -- what the clause of the parser gives
-pub judged_exactly : (before : List Token) (k : TokenKind) (ks : List TokenKind) (text : List ℕ) (r : Result Source ParseFault) → ks ≡ through before k → BeginSource before → NoneTooDeep before → HasKinds text ks →
+judged_exactly : (before : List Token) (k : TokenKind) (ks : List TokenKind) (text : List ℕ) (r : Result Source ParseFault) → ks ≡ through before k → BeginSource before → NoneTooDeep before → HasKinds text ks →
     (r ≡ Err fault.Memory) ⊎ IsParse text r → IfOk (judged r (length before)) (λ yes. yes ≡ goes_on before k)
 judged_exactly before k ks text r e begins none h (inl memory) = subst (λ s. IfOk (judged s (length before)) (λ yes. yes ≡ goes_on before k)) (sym memory) tt
 judged_exactly before k ks text r e begins none h (inr p) = go r p
@@ -234,7 +234,7 @@ judged_exactly before k ks text r e begins none h (inr p) = go r p
     go (Err (fault.TooLong n)) p = tt
     go (Err fault.Memory) p = absurd p
 
-pub judged_long : (n : ℕ) (text : List ℕ) (r : Result Source ParseFault) → (r ≡ Err fault.Memory) ⊎ IsParse text r → IfErr (judged r n) (λ f. f ≡ TooLong → most_source_bytes < length text)
+judged_long : (n : ℕ) (text : List ℕ) (r : Result Source ParseFault) → (r ≡ Err fault.Memory) ⊎ IsParse text r → IfErr (judged r n) (λ f. f ≡ TooLong → most_source_bytes < length text)
 judged_long n text r (inl memory) = subst (λ s. IfErr (judged s n) (λ f. f ≡ TooLong → most_source_bytes < length text)) (sym memory) (λ e. absurd cc)
 judged_long n text r (inr p) = go r p
   where

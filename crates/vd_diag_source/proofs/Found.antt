@@ -26,7 +26,7 @@ use Rattle.vd_diag_source.specs.Syntax.{unexpected_sentence, refused_sentence}
 use Rattle.vd_diag_source.specs.SourceRemarks.{HasRuleFault, SaysOf, IsSourceRemark}
 use Rattle.vd_diag_source.specs.SyntaxRemarks.{Tells, TellsNumber}
 
-pub number_within : (ts : List Token) (k o : ℕ) → IsUnexpected ts k o → k < length ts
+number_within : (ts : List Token) (k o : ℕ) → IsUnexpected ts k o → k < length ts
 number_within ts k o p =
     let len : length ts ≡ length p.before + length (p.token ∷ p.behind) = ap length p.all ∙ length-append p.before (p.token ∷ p.behind) in
     omega (arith, len, p.number)
@@ -41,7 +41,7 @@ pub front_no_end : (ts : List Token) (k o : ℕ) → EndsOnce (kinds ts) → IsU
 front_no_end ts k o e p = let h = number_within ts k o p in no_end ts k e (omega (arith, h))
 
 -- what is said of the token of this number is said of it in every account of the text's tokens
-pub tells : (bytes : List ℕ) (ts : List Token) (number : ℕ) (d : Token) (sentence : List ℕ) → Lexes bytes 0 ts → Tells bytes (take number ts) (get_or ts number d) sentence → TellsNumber bytes number sentence
+tells : (bytes : List ℕ) (ts : List Token) (number : ℕ) (d : Token) (sentence : List ℕ) → Lexes bytes 0 ts → Tells bytes (take number ts) (get_or ts number d) sentence → TellsNumber bytes number sentence
 tells bytes ts number d sentence l h before token behind m e =
     let same : ts ≡ before ++ token ∷ behind = (lexes_once bytes).one_list ts (before ++ token ∷ behind) l m in
     let front : take number ts ≡ before = ap (λ n. take n ts) e ∙ ap (take (length before)) same ∙ take_front before token behind in

@@ -1,2 +1,2 @@
-pub mod Exactness
-pub mod Found
+mod Exactness
+mod Found

@@ -1,4 +1,4 @@
-pub mod Came
-pub mod Parts
-pub mod Others
-pub mod Looks
+mod Came
+mod Parts
+mod Others
+mod Looks

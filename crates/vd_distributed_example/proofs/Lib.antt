@@ -1,6 +1,6 @@
-pub mod Program
-pub mod Files
-pub mod Starting
-pub mod Playing
-pub mod Enough
-pub mod Whole
+mod Program
+mod Files
+mod Starting
+mod Playing
+mod Enough
+mod Whole

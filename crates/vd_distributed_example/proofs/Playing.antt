@@ -184,7 +184,7 @@ greets_b = record {
   fault = λ told. tt;
 }
 
-pub hangs_a : HangsUp later_a met_a (handed met_a later_a)
+hangs_a : HangsUp later_a met_a (handed met_a later_a)
 hangs_a = record {
   later = omega arith;
   link_failed = λ lt. absurd (omega (arith, lt));
@@ -198,7 +198,7 @@ hangs_a = record {
   back = λ told. refl;
 }
 
-pub hangs_b : HangsUp later_b met_b (handed met_b later_b)
+hangs_b : HangsUp later_b met_b (handed met_b later_b)
 hangs_b = record {
   later = omega arith;
   link_failed = λ lt. absurd (omega (arith, lt));

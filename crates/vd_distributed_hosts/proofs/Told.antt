@@ -60,7 +60,7 @@ module _ (s : Supply) (j : Joint) (n : ℕ) (codes : ℕ → Code) (lists : ℕ 
   front_is : (h p : ℕ) → front w h (w h) p ≡ slice_get (sent_to h (events p)) (length (received_from p (events h)))
   front_is h p = ap (λ (q : List (List ℕ)). slice_get q ((w h).taken p)) ((t p).sends h) ∙ ap (λ (i : ℕ). slice_get (sent_to h (events p)) i) ((t h).takes p)
 
-  pub from_traces : AreTold s j events state
+  from_traces : AreTold s j events state
   from_traces = record {
     prints = λ h. subst (λ q. IsPrefixOf q (last_of s j h).printed) (t h).prints (way.printed h);
     sends = λ h p. subst (λ q. IsPrefixOf q ((last_of s j h).sent p)) ((t h).sends p) (way.sent h p);
@@ -81,7 +81,7 @@ module _ (s : Supply) (j : Joint) (n : ℕ) (codes : ℕ → Code) (lists : ℕ 
   no_answer h c (Unequal x y) xs waits e = waits
   no_answer h c Ended xs waits e = absurd cc
 
-  pub all_ended : Suffices s (last_of s j) → ((h : ℕ) → WaitsFor events h (need (state h))) → (h : ℕ) → (state h).pending ≡ Finished
+  all_ended : Suffices s (last_of s j) → ((h : ℕ) → WaitsFor events h (need (state h))) → (h : ℕ) → (state h).pending ≡ Finished
   all_ended enough waits =
       elim way.goes_on [
         | inl all ↦ λ h. ap (λ (q : State). q.pending) (sym (t h).state_is) ∙ all h

@@ -41,7 +41,7 @@ item_differs : (source : Source) (b : Bool) (i n x y : ℕ) → (if b then want.
 item_differs source true i n x y e = cc
 item_differs source false i n x y e = short_is_not source i n x y e
 
-pub unequal_need : (lists : Lists) (c : Cursors) (n : Need) (x y : ℕ) → want_of lists c n ≡ want.Unequal x y → n ≡ Unequal x y
+unequal_need : (lists : Lists) (c : Cursors) (n : Need) (x y : ℕ) → want_of lists c n ≡ want.Unequal x y → n ≡ Unequal x y
 unequal_need lists c Nothing x y e = cc
 unequal_need lists c (Item source) x y e = absurd (item_differs source (nat_lt (c source) (count_of lists source)) (c source) (count_of lists source) x y e)
 unequal_need lists c (Packet p n) x y e = cc
@@ -147,7 +147,7 @@ pub record Ran (lists : Lists) (start : State) (come went : ℕ → List ℕ) (o
   pub ends : EndsSo come lists made.events made.state ob on result
 
 -- one step more that takes nothing
-pub one_step : (lists : Lists) (start m : State) (steps : ℕ) (events : List Event) → wants_with lists m ≡ want.Nothing → Reached (wants_with lists) (next_with lists) seen_at start steps events m
+one_step : (lists : Lists) (start m : State) (steps : ℕ) (events : List Event) → wants_with lists m ≡ want.Nothing → Reached (wants_with lists) (next_with lists) seen_at start steps events m
     → Reached (wants_with lists) (next_with lists) seen_at start (steps + 1) (events ++ shown (seen_at m)) (next_with lists m [])
 one_step lists start m steps events is r =
     subst (λ (w : Want). Reached (wants_with lists) (next_with lists) seen_at start (steps + 1) (events ++ (received_in w [] ++ shown (seen_at m))) (next_with lists m [])) is
@@ -353,7 +353,7 @@ module _ (lists : Lists) (start : State) (before now : Sessions) (ob on : SinkVi
   end_went host events w None y t f = absurd f
   end_went host events w (Some x) None t f = absurd f
 
-  pub ran : (steps : ℕ) (events : List Event) (m : State) (result : Result Done EngineFault) → Reaches steps events m → IsDriven events (wants_with lists m) (seen_at m) before now ob on result
+  ran : (steps : ℕ) (events : List Event) (m : State) (result : Result Done EngineFault) → Reaches steps events m → IsDriven events (wants_with lists m) (seen_at m) before now ob on result
       → Ran lists start come went ob on result
   ran steps events m (Ok done) r d = whole steps events m (Ok done) r d.2 d.3 (ended_pending lists m d.0, d.3.taken)
   ran steps events m (Err (fault.Peer host)) r d = failed host.0 steps events m (fault.Peer host) (λ e s. tt) r d.1 d.2 d.0

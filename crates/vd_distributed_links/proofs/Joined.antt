@@ -101,7 +101,7 @@ module _ (s : Supply) (j : Joint) (n : ℕ) (codes : ℕ → Code) (lists : ℕ 
       let w = (ran h).written t in
       (w.0, front_trans w.0 (lines (printed (made h).events)) (lines (last_of s j h).printed) w.1 (flat_front _ (printed (made h).events) (last_of s j h).printed (told_all.prints h)), w.2)
 
-  pub joined : TellTheSame s j ob on result
+  joined : TellTheSame s j ob on result
   joined = record { written = λ h t. writes_at h (result h) (ran h).ends t; blames = λ h. blames_at h (result h) (ran h).ends }
 
 -- no exchange leads from a code to itself

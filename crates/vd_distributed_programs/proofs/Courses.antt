@@ -50,7 +50,7 @@ drop_front (suc n) (x ∷ xs) (y ∷ ys) p = let e : xs ++ p.0 ≡ ys = (let f =
 greeting_size : (plan : List ℕ) (from to : ℕ) → length plan ≡ 32 → length (greeting plan from to) ≡ 36
 greeting_size plan from to long = omega (arith, long, length-append plan (from ∷ to ∷ []))
 
-pub behind_greeting : (plan : List ℕ) (from to : ℕ) (rest : List ℕ) → length plan ≡ 32 → drop 36 (greeting plan from to ++ rest) ≡ rest
+behind_greeting : (plan : List ℕ) (from to : ℕ) (rest : List ℕ) → length plan ≡ 32 → drop 36 (greeting plan from to ++ rest) ≡ rest
 behind_greeting plan from to rest long = ap (λ (n : ℕ). drop n (greeting plan from to ++ rest)) (sym (greeting_size plan from to long)) ∙ drop-append_seam (greeting plan from to) rest
 
 nothing_behind : (plan : List ℕ) (from to : ℕ) (went : List ℕ) → length plan ≡ 32 → IsPrefixOf went (greeting plan from to) → IsPrefixOf (drop 36 went) []

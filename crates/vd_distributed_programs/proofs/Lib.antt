@@ -1,6 +1,6 @@
 pub mod Numbers
-pub mod Courses
-pub mod Printing
-pub mod Stages
+mod Courses
+mod Printing
+mod Stages
 pub mod Running
-pub mod Exchanged
+mod Exchanged

@@ -491,7 +491,7 @@ module _ (program : NormalForm) (list : List Proto) (plan : Digest) (inputs : Li
   writes h lt (Ok done) is e t = e.1 t ∙ ap (λ (words : List ℕ). (run h).out.taken ++ text_of words) (told.all_printed h e.0 ∙ prints h lt)
   writes h lt (Err cause) is e t = let w = (at h).written lt t in (w.0, front_of_text h lt w.0 w.2, w.1)
 
-  pub each_tells : (h : ℕ) → h < n → WritesWhatItIsTold (slice_index_or outputs h []) (run h)
+  each_tells : (h : ℕ) → h < n → WritesWhatItIsTold (slice_index_or outputs h []) (run h)
   each_tells h lt =
       let e = (at h).ends_as lt in
       record { written = writes h lt (run h).result refl e; blames = blames h (run h).result e }
@@ -670,7 +670,7 @@ module _ (program : NormalForm) (list : List Proto) (plan : Digest) (inputs : Li
           | inr (inr w) ↦ subst (WaitsFor events h) (sym w.2) (received_all h w.0 w.1 w.2 w.3 w.4 w.5)
         ]
 
-    pub each_ends : (h : ℕ) → h < n → (done : Ended) × ((run h).result ≡ Ok done)
+    each_ends : (h : ℕ) → h < n → (done : Ended) × ((run h).result ≡ Ok done)
     each_ends h lt = (waiting h).well lt (waiting_ended s j n codes lists events state hosts.well goes.enough all_hastened are_driven waits_for h)
 
 pub running_hosts_tell_the_source : RunningHostsTellTheSource

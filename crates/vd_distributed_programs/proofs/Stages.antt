@@ -190,7 +190,7 @@ module _ (l : Lists) (start : State) (before now : Sessions) (ob on : SinkView) 
     waits = end_waits l peer.0 events m (before peer.0) (now peer.0) (told peer.0) d.0;
   }
 
-  pub progress : (result : Result Ended EngineFault) → IsCalm result → Drives (wants_with l) (next_with l) seen_at start before now ob on result → Progress l start come went result
+  progress : (result : Result Ended EngineFault) → IsCalm result → Drives (wants_with l) (next_with l) seen_at start before now ob on result → Progress l start come went result
   progress result calm d = progressed d.steps d.events d.machine result calm d.reached d.driven
 
 -- the same over links that agree with the sessions

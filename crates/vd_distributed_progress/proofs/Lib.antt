@@ -1,4 +1,4 @@
-pub mod Passing
-pub mod Driving
-pub mod Serving
-pub mod Stored
+mod Passing
+mod Driving
+mod Serving
+mod Stored

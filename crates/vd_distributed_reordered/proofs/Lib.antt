@@ -1,1 +1,1 @@
-pub mod Driven
+mod Driven

@@ -1,2 +1,2 @@
-pub mod Arrows
-pub mod Coming
+mod Arrows
+mod Coming

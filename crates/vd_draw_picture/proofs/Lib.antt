@@ -1,2 +1,2 @@
-pub mod Pictured
+mod Pictured
 mod RowSteps

@@ -1,4 +1,4 @@
-pub mod Terms
+mod Terms
 pub mod Sums
-pub mod Taking
-pub mod Blocks
+mod Taking
+mod Blocks

@@ -24,10 +24,10 @@ or_false true = refl
 or_false false = refl
 
 module _ (source : List ℕ) (p : NormalForm) (list : List Proto) where
-  pub drawn_if : (g : SlotId) (a b : List Stmt) (offset : ℕ) → drawn source p list (If g a b offset) ≡ drawn_step source p list (Stmt-F.If g (map (drawn source p list) a) (map (drawn source p list) b) offset)
+  drawn_if : (g : SlotId) (a b : List Stmt) (offset : ℕ) → drawn source p list (If g a b offset) ≡ drawn_step source p list (Stmt-F.If g (map (drawn source p list) a) (map (drawn source p list) b) offset)
   drawn_if g a b offset = search (rules, the_lemmas)
 
-  pub drawn_for : (count : ℕ) (body : List Stmt) → drawn source p list (For count body) ≡ drawn_step source p list (Stmt-F.For count (map (drawn source p list) body))
+  drawn_for : (count : ℕ) (body : List Stmt) → drawn source p list (For count body) ≡ drawn_step source p list (Stmt-F.For count (map (drawn source p list) body))
   drawn_for count body = search (rules, the_lemmas)
 
   -- the first statement, and those behind it
@@ -39,7 +39,7 @@ module _ (source : List ℕ) (p : NormalForm) (list : List Proto) where
       ∙ sym (part_of_both list 0 h (drawn source p list s).named (all_named rest) (drawn source p list s).told (all_told rest))
 
   -- a branch: its guard, and its blocks
-  pub part_if : (h : HostId) (g : SlotId) (a b : List Stmt) (offset : ℕ)
+  part_if : (h : HostId) (g : SlotId) (a b : List Stmt) (offset : ℕ)
       → part_of list h (drawn source p list (If g a b offset)) ≡ (kept_at list h g || (part_of_all list h (map (drawn source p list) a) || part_of_all list h (map (drawn source p list) b)))
   part_if h g a b offset =
       let first = map (drawn source p list) a in

@@ -1,1 +1,1 @@
-pub mod Escaped
+mod Escaped

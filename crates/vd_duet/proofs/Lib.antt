@@ -1,4 +1,4 @@
-pub mod Rooms
+mod Rooms
 pub mod Found
 pub mod Writes
 pub mod Leads

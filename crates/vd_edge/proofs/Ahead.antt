@@ -32,7 +32,7 @@ or_left true b is = refl
 or_left false b is = absurd (cc is)
 
 -- a name at which nothing was stored holds what was read there
-pub not_stored : (calls : List FilesCall) (stores : List (List ℕ × List ℕ)) (contents : Contents) (name : List ℕ)
+not_stored : (calls : List FilesCall) (stores : List (List ℕ × List ℕ)) (contents : Contents) (name : List ℕ)
     → stores_at name calls ≡ false → IsTrue (were_asked calls stores) → after_stores stores contents name ≡ contents name
 not_stored calls [] contents name none asked = refl
 not_stored calls (store ∷ stores) contents name none asked =

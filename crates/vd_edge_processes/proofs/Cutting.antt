@@ -86,7 +86,7 @@ cuts_known (Some rest) bytes handed end is =
     (all.0, all.1, ap (λ (l : List ℕ). Some l) (ap (λ (l : List ℕ). l ++ rest) (sym (behind_all bytes handed end)) ∙ all.2))
 
 -- a whole line is cut off
-pub cuts : {O : Type 0} (remaining : O → Option (List ℕ)) (output : Option O) (bytes : List ℕ) (handed end : ℕ)
+cuts : {O : Type 0} (remaining : O → Option (List ℕ)) (output : Option O) (bytes : List ℕ) (handed end : ℕ)
     → position (λ byte. nat_eq byte 10) (drop handed bytes) ≡ Some end
     → GivesLine (left remaining output bytes handed) (left remaining output bytes (handed + (end + 1))) (Some (take end (drop handed bytes)))
 cuts remaining None bytes handed end is =
@@ -96,7 +96,7 @@ cuts remaining None bytes handed end is =
 cuts remaining (Some output) bytes handed end is = cuts_known (remaining output) bytes handed end is
 
 -- what is left at the end of the output is the last line
-pub last : {O : Type 0} (remaining : O → Option (List ℕ)) (bytes : List ℕ) (handed : ℕ)
+last : {O : Type 0} (remaining : O → Option (List ℕ)) (bytes : List ℕ) (handed : ℕ)
     → 0 < length (drop handed bytes) → list_any (λ byte. nat_eq byte 10) (drop handed bytes) ≡ false
     → GivesLine (left remaining None bytes handed) (left remaining None bytes (length bytes)) (Some (drop handed bytes))
 last remaining bytes handed some none = (

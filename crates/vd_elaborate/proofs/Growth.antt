@@ -123,7 +123,7 @@ module _ (hosts : List (List ℕ)) (fs : List Function) (names : Named Spot) (he
       let second = expr_more hosts fs y names here (run x m).1 in
       omega arith
 
-  pub mux_second : (at : Span) (x y z : Expr) (m : Made) → size (run y (run x m).1).1 ≤ size (run (Mux at x y z) m).1
+  mux_second : (at : Span) (x y z : Expr) (m : Made) → size (run y (run x m).1).1 ≤ size (run (Mux at x y z) m).1
   mux_second at x y z m =
       let whole : lowering hosts (Mux at x y z) ≡ expr_lowering hosts (Expr-F.Mux at (lowering hosts x) (lowering hosts y) (lowering hosts z)) = search (rules, the_lemmas) in
       let same = ap (λ (l : Lowering). size (l.run (inlinings_of hosts fs) names here m).1) whole in

@@ -1,3 +1,3 @@
-pub mod Blocks
-pub mod Renamed
-pub mod Growth
+mod Blocks
+mod Renamed
+mod Growth

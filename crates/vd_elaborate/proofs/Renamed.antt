@@ -10,7 +10,7 @@ use Rattle.vd_anf.specs.Normal.{named_slot, renamed}
 abbrev pub anew : Slot → Ident → Option WrittenLabel → Slot
 anew s x label = let here : Here = record { offset = s.offset; block = s.block } in named_slot here x s.kind label
 
-pub renamed_within : (ss : List Slot) (k : ℕ) (d : Slot) (x : Ident) (label : Option WrittenLabel) → k < length ss → slice_set ss k (anew (get_or ss k d) x label) ≡ renamed ss k x label
+renamed_within : (ss : List Slot) (k : ℕ) (d : Slot) (x : Ident) (label : Option WrittenLabel) → k < length ss → slice_set ss k (anew (get_or ss k d) x label) ≡ renamed ss k x label
 renamed_within [] k d x label lt = absurd (omega arith)
 renamed_within (s ∷ ss) zero d x label lt = refl
 renamed_within (s ∷ ss) (suc k) d x label lt = ap (λ z. s ∷ z) (renamed_within ss k d x label (omega arith))

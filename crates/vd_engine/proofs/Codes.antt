@@ -65,7 +65,7 @@ item_met true s i j heard h = (refl, h)
 item_met false s i j heard h = absurd (short_is_unheard s i j heard h)
 
 -- where these words are what is wanted, the need is met
-pub met : (l : Lists) (c : Cursors) (n : Need) (heard : List ℕ) → IsHeard (want_of l c n) heard → IsMet l c heard n
+met : (l : Lists) (c : Cursors) (n : Need) (heard : List ℕ) → IsHeard (want_of l c n) heard → IsMet l c heard n
 met l c Nothing heard h = h
 met l c (Item s) heard h =
     let both = item_met (nat_lt (c s) (count_of l s)) s (c s) (count_of l s) heard h in

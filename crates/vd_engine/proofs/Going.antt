@@ -43,7 +43,7 @@ turn_falls view host after links later om on more goes =
     let is : weight (state_of after).pending ≡ weight (pending_after (state_of host).registers (state_of host).pending) = ap (λ (s : State). weight s.pending) goes.moved in
     omega (arith, less, is)
 
-pub goes_on : {L : Type 0} (view : L → LinkView) (start host after : Kept) (first links later : Links L) (ob om on : SinkView) (count more : ℕ) → more ≤ 1
+goes_on : {L : Type 0} (view : L → LinkView) (start host after : Kept) (first links later : Links L) (ob om on : SinkView) (count more : ℕ) → more ≤ 1
     → Going view start host first links ob om count → after.lists ≡ host.lists
     → Goes (wants_with host.lists) (next_with host.lists) seen_at (state_of host) (state_of after) (sessions_of view links) (sessions_of view later) om on more
     → Going view start after first later ob on (count + more)

@@ -1,8 +1,8 @@
 pub mod Codes
-pub mod Composing
-pub mod Driving
+mod Composing
+mod Driving
 pub mod Enough
-pub mod Going
-pub mod Turns
-pub mod WordLines
-pub mod Running
+mod Going
+mod Turns
+mod WordLines
+mod Running

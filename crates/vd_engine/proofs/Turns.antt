@@ -46,7 +46,7 @@ pub carries_none : (sessions : Sessions) → IsSound sessions → CarriesAll [] 
 carries_none sessions sound = λ host. quiet_at host [] (sessions host) refl refl (sound host)
 
 -- a word was printed and no packet came or went
-pub carries_printed : (word : ℕ) (sessions : Sessions) → IsSound sessions → CarriesAll (Printed word ∷ []) sessions sessions
+carries_printed : (word : ℕ) (sessions : Sessions) → IsSound sessions → CarriesAll (Printed word ∷ []) sessions sessions
 carries_printed word sessions sound = λ host. quiet_at host (Printed word ∷ []) (sessions host) refl refl (sound host)
 
 pub writes_none : (out : SinkView) → Writes [] out out
@@ -96,7 +96,7 @@ sent_at host other words (Some b) (Some n) same sound at = record {
 }
 
 -- a packet went out
-pub carries_sent : (host : ℕ) (words : List ℕ) (before now : Sessions) → IsSound before → Says {E = Failed} host words before now (Ok tt) → CarriesAll (Sent host words ∷ []) before now
+carries_sent : (host : ℕ) (words : List ℕ) (before now : Sessions) → IsSound before → Says {E = Failed} host words before now (Ok tt) → CarriesAll (Sent host words ∷ []) before now
 carries_sent host words before now sound says = λ other. choose_host host other (CarriesAt other (Sent host words ∷ []) (before other) (now other))
     (λ test is. sent_at host other words (before other) (now other) test (sound other) (subst (λ (h : ℕ). At (SaysOver {E = Failed} words (Ok tt)) (before h) (now h)) is says.at))
     (λ test differs. subst (λ (x : Option SessionView). CarriesAt other (Sent host words ∷ []) (before other) x) (sym (says.others other (λ is. differs (sym is)))) (quiet_at other (Sent host words ∷ []) (before other) refl (not_chosen (nat_eq host other) words test) (sound other)))
@@ -121,7 +121,7 @@ received_at host other count packet (Some b) (Some n) same at = record {
     size = (let c = at.0.count_is in let l = length_words (packet_words packet) in let s : 2 + 4 * count ≡ length (frame (packet_words packet)) = omega (arith, c, l) in s) ∙ sym (ap length framed)
 
 -- a packet came
-pub carries_received : (host count : ℕ) (packet : Packet) (before now : Sessions) → IsSound before → Hears host count before now (Ok packet) → CarriesAll (Received host (packet_words packet) ∷ []) before now
+carries_received : (host count : ℕ) (packet : Packet) (before now : Sessions) → IsSound before → Hears host count before now (Ok packet) → CarriesAll (Received host (packet_words packet) ∷ []) before now
 carries_received host count packet before now sound hears = λ other. choose_host host other (CarriesAt other (Received host (packet_words packet) ∷ []) (before other) (now other))
     (λ test is. received_at host other count packet (before other) (now other) test (subst (λ (h : ℕ). At (HearsOver count (Ok packet)) (before h) (now h)) is hears.at))
     (λ test differs. subst (λ (x : Option SessionView). CarriesAt other (Received host (packet_words packet) ∷ []) (before other) x) (sym (hears.others other (λ is. differs (sym is)))) (quiet_at other (Received host (packet_words packet) ∷ []) (before other) (not_chosen (nat_eq host other) (packet_words packet) test) refl (sound other)))
@@ -146,7 +146,7 @@ at_map holds later (Some b) (Some n) sound step at = step b n sound at
 at_map holds later (Some b) None sound step at = absurd at
 at_map holds later None y sound step at = absurd at
 
-pub not_heard : (host : HostId) (count : ℕ) (does : Deed) (before now : Sessions) (out : SinkView) (cause : LinkFault) → IsSound before → Hears host.0 count before now (Err cause)
+not_heard : (host : HostId) (count : ℕ) (does : Deed) (before now : Sessions) (out : SinkView) (cause : LinkFault) → IsSound before → Hears host.0 count before now (Err cause)
     → IsDriven [] (want.Words host count) does before now out out (Err (engine_fault host cause))
 unfolding breaks_of
 not_heard host count does before now out link_fault.Peer sound hears = (

@@ -27,7 +27,7 @@ use Rattle.vd_equivocation.proofs.Stored.{are_excused}
 module _ (p : NormalForm) (l : Labels) (protocols : List Proto) (of_two : IsOfTwo p l protocols) (h : HostId) (low : h.0 < 2) (first second : List (List ℕ)) (deals : List Deal) (asked : AreAsked first second deals)
     (walked : Walked) (has : HasWalked h (plan_of p protocols) first second deals walked) where
   -- what is short of the first run
-  pub short_is : walked.short ≡ short_kind (plan_of p protocols) first deals
+  short_is : walked.short ≡ short_kind (plan_of p protocols) first deals
   short_is =
       has.short ∙ ap (λ (b : Both). first_short deals b.first) (has.lead h.0 (tape_of first deals) (both_at_start (tape_of first deals) second))
 

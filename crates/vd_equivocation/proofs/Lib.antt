@@ -1,4 +1,4 @@
-pub mod Stepped
-pub mod Differing
-pub mod Stored
-pub mod Answered
+mod Stepped
+mod Differing
+mod Stored
+mod Answered

@@ -15,7 +15,7 @@ use Rattle.vd_views_programs.proofs.Steps.{Static}
 use Rattle.vd_views_programs.proofs.Theorem.{plan_is, static, dealt_zeros}
 use Rattle.vd_equivocation_steps.specs.Claims.{CanBeStepped}
 
-pub can_be_stepped : PairsAreReadOff → (program : NormalForm) (l : Labels) (protocols : List Proto) → IsOfTwo program l protocols → CanBeStepped (plan_of program protocols)
+can_be_stepped : PairsAreReadOff → (program : NormalForm) (l : Labels) (protocols : List Proto) → IsOfTwo program l protocols → CanBeStepped (plan_of program protocols)
 can_be_stepped read_off program l protocols of_two =
     let fixed : Static (plan_of program protocols) = subst Static (sym (plan_is program l protocols of_two)) (static program l protocols of_two [] _ dealt_zeros) in
     record { tidy = fixed.tidy; read_off = read_off program (proto_in protocols) of_two.free }

@@ -132,7 +132,7 @@ module _ (p : NormalForm) (l : Labels) (protocols : List Proto) (of_two : IsOfTw
         subst (λ (d : List Deal). AreFiles second d) (ap (λ (z : Tape). read_files x w z) (sym same) ∙ files_back x w v u stored.as_long second)
         (are_files x w y explained.deal second explained.inputs few (λ g s i not le. long.ends g s i not le) agree.words (enough.files.dealt 0 (file 0 x) refl) (enough.files.dealt 1 (file 1 w) refl))
 
-    pub two_explain : length second ≤ 2 → IsExcuse h.0 (plan_of p protocols) first second (file 0 x ∷ file 1 w ∷ []) (file 0 v ∷ file 1 u ∷ [])
+    two_explain : length second ≤ 2 → IsExcuse h.0 (plan_of p protocols) first second (file 0 x ∷ file 1 w ∷ []) (file 0 v ∷ file 1 u ∷ [])
     two_explain few = record {
       enough = record {
         files = files few;
@@ -145,14 +145,14 @@ module _ (p : NormalForm) (l : Labels) (protocols : List Proto) (of_two : IsOfTw
       explains = explains;
     }
 
-    pub two_are_these : file 0 v ∷ file 1 u ∷ [] ≡ excuse_files h.0 (plan_of p protocols) first second (file 0 x ∷ file 1 w ∷ [])
+    two_are_these : file 0 v ∷ file 1 u ∷ [] ≡ excuse_files h.0 (plan_of p protocols) first second (file 0 x ∷ file 1 w ∷ [])
     two_are_these = sym (files_back x w v u stored.as_long second) ∙ ap (λ (z : Tape). read_files x w z) same
 
   abbrev Gives : (List Deal → List Deal → Type 0) → List Deal → List Deal → Type 0
   Gives P deals stored = AreEnough (plan_of p protocols) first deals → AreExcused h.0 steps first second deals stored → P deals stored
 
   -- so of all files
-  pub of_files : (P : List Deal → List Deal → Type 0) → ((x w v u : Part) → Gives P (file 0 x ∷ file 1 w ∷ []) (file 0 v ∷ file 1 u ∷ [])) → (deals stored : List Deal) → Gives P deals stored
+  of_files : (P : List Deal → List Deal → Type 0) → ((x w v u : Part) → Gives P (file 0 x ∷ file 1 w ∷ []) (file 0 v ∷ file 1 u ∷ [])) → (deals stored : List Deal) → Gives P deals stored
   of_files P each deals stored enough walked =
       let one = are_two_files deals enough.two enough.files.dealt in
       let other = two_of stored walked.two walked.each in

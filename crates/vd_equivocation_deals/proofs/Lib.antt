@@ -1,3 +1,3 @@
-pub mod Strangers
+mod Strangers
 pub mod Short
 pub mod Excused

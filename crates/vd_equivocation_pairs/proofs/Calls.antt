@@ -27,7 +27,7 @@ AreUnpaired gs = Each IsUnpaired gs
 
 -- ---- hosts one after the other
 
-pub each_unpaired : (f : HostId → List ℕ → Made Reg) → ((k : HostId) (next : List ℕ) → AreUnpaired (f k next).gadgets) → (hs : List HostId) (next : List ℕ) → AreUnpaired (each_made f hs next).gadgets
+each_unpaired : (f : HostId → List ℕ → Made Reg) → ((k : HostId) (next : List ℕ) → AreUnpaired (f k next).gadgets) → (hs : List HostId) (next : List ℕ) → AreUnpaired (each_made f hs next).gadgets
 each_unpaired f q [] next = tt
 each_unpaired f q (k ∷ hs) next = each_append IsUnpaired (f k next).gadgets (each_made f hs (f k next).next).gadgets (q k next) (each_unpaired f q hs (f k next).next)
 
@@ -62,7 +62,7 @@ renewed_unpaired (q ∷ kept) x = (tt, renewed_unpaired kept x)
 
 -- ---- two hosts
 
-pub product_unpaired : (s : Sharing) (a b : HostId) (x y : Shares) (next : List ℕ) → AreUnpaired (product_shares s a b x y next).gadgets
+product_unpaired : (s : Sharing) (a b : HostId) (x y : Shares) (next : List ℕ) → AreUnpaired (product_shares s a b x y next).gadgets
 unfolding product_shares
 product_unpaired s a b x y next = (tt, (tt, (tt, (tt, (tt, (tt, (tt, (tt, (tt, (tt, (tt, (tt, (tt, (tt, (tt, tt)))))))))))))))
 

@@ -18,10 +18,10 @@ use Rattle.vd_equivocation_pairs.proofs.Calls.{literal_unpaired, apply_unpaired,
 use Rattle.vd_equivocation_pairs.proofs.Moves.{move_read}
 
 module _ (hosts : ℕ) (proto : ℕ → Proto) (free : (x : ℕ) → has_back_end (proto x) ≡ true) where
-  abbrev pub E : Type 0
+  abbrev E : Type 0
   E = Emitting (suite_calls hosts) proto
 
-  abbrev pub emits : Block → Emission (suite_calls hosts) proto
+  abbrev emits : Block → Emission (suite_calls hosts) proto
   emits b = in_turn (suite_calls hosts) proto (each (stmt_emission (suite_calls hosts) proto) b)
 
   delivered_read : (p : Proto) → has_back_end p ≡ true → (x : Parts) (ks : List HostId) (next : List ℕ) → AreReadOff (delivered (suite_calls hosts) proto p x ks next).acts
@@ -59,7 +59,7 @@ module _ (hosts : ℕ) (proto : ℕ → Proto) (free : (x : ℕ) → has_back_en
       (read_append index.acts got.acts (delivered_read (proto i.0) (free i.0) (parts_at (suite_calls hosts) proto e i) (hosts_of (suite_calls hosts) (proto v.0)) e.next) (all_read got.acts (get_unpaired (proto v.0) x index.given index.next)))
       (move_read hosts (proto v.0) q (free v.0) f got.given got.next)
 
-  pub plan_read : (b : Block) (e : E) → PlanIsReadOff ((emits b).emit e).tree
+  plan_read : (b : Block) (e : E) → PlanIsReadOff ((emits b).emit e).tree
   plan_read End e = tt
   plan_read (Let x right rest) e =
       let made = right_made (suite_calls hosts) proto (proto x.0) right e in

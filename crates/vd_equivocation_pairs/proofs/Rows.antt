@@ -31,7 +31,7 @@ pair_more p q xs ys r = record {
 }
 
 -- more may follow
-pub gadget_more : (g : Gadget) (xs ys : List Gadget) → GadgetIsReadOff g xs → GadgetIsReadOff g (xs ++ ys)
+gadget_more : (g : Gadget) (xs ys : List Gadget) → GadgetIsReadOff g xs → GadgetIsReadOff g (xs ++ ys)
 gadget_more (Alone h a) xs ys r = tt
 gadget_more (Tells a said b heard) xs ys r = tt
 gadget_more (Shares a x b heard) xs ys r = tt

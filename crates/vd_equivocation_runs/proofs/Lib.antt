@@ -1,3 +1,3 @@
-pub mod Digests
-pub mod Puts
-pub mod Changes
+mod Digests
+mod Puts
+mod Changes

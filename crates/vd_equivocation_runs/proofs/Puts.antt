@@ -6,7 +6,7 @@ use Rattle.vd_semantics.specs.Stores.{put}
 use Rattle.vd_equivocation_runs.specs.Registers.{put_each, cleared}
 
 -- the default may be written out
-pub put_past : {A : Type 0} (d : A) (s : List A) (k : ℕ) (x : A) → length s ≤ k → put d (s ++ d ∷ []) k x ≡ put d s k x
+put_past : {A : Type 0} (d : A) (s : List A) (k : ℕ) (x : A) → length s ≤ k → put d (s ++ d ∷ []) k x ≡ put d s k x
 put_past d [] zero x le = refl
 put_past d [] (suc k) x le = refl
 put_past d (y ∷ ys) zero x le = absurd (omega arith)
@@ -24,7 +24,7 @@ pub put_done : {A : Type 0} (d : A) (s : List A) (k : ℕ) (x : A) (e : List A) 
 put_done d s k x e lt h = sym (put_within d s k x lt) ∙ h
 
 -- the first default may be written out at a read too
-pub read_past : {A : Type 0} (d : A) (s : List A) (k : ℕ) → length s ≤ k → slice_index_or (s ++ d ∷ []) k d ≡ slice_index_or s k d
+read_past : {A : Type 0} (d : A) (s : List A) (k : ℕ) → length s ≤ k → slice_index_or (s ++ d ∷ []) k d ≡ slice_index_or s k d
 read_past d [] zero le = refl
 read_past d [] (suc k) le = refl
 read_past d (y ∷ ys) zero le = absurd (omega arith)

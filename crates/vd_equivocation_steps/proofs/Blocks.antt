@@ -47,7 +47,7 @@ another p ps h apart part =
     ]
 
 -- who takes part later is not among those that stood before, nor the next one
-abbrev pub AreLater : List Part → List Part → Type 0
+abbrev AreLater : List Part → List Part → Type 0
 AreLater done ps = (h : ℕ) → TakesPart ps h → takes_part h done ≡ false
 
 one_later : (done : List Part) (p : Part) (ps : List Part) → AreLater done (p ∷ ps) → (TakesPart ps p.0 → ⊥) → AreLater (done ++ p ∷ []) ps

@@ -39,7 +39,7 @@ reads_acts (a ∷ acts) behind steps bs =
 
 -- ---- single actions
 
-pub takes_none : (a : Action) (behind : List Line) → TakesNoPart a → hidden_before a behind ≡ None
+takes_none : (a : Action) (behind : List Line) → TakesNoPart a → hidden_before a behind ≡ None
 takes_none (action.Const r k) behind t = refl
 takes_none (action.Copy r x) behind t = refl
 takes_none (action.Apply o r x y) behind t = refl

@@ -1,6 +1,6 @@
-pub mod Backward
-pub mod Blocks
-pub mod Gadgets
-pub mod Nobody
-pub mod Trimmed
-pub mod Plans
+mod Backward
+mod Blocks
+mod Gadgets
+mod Nobody
+mod Trimmed
+mod Plans

@@ -11,7 +11,7 @@ use Rattle.vd_views.specs.Plans.{run_turn}
 use Rattle.vd_views.specs.Excused.{turns_again, excused}
 
 -- some host acts in a gadget
-pub somebody : {X : Type 0} (g : Gadget) → ActsAreWithin [] (acts_of_gadget g) → X
+somebody : {X : Type 0} (g : Gadget) → ActsAreWithin [] (acts_of_gadget g) → X
 somebody (Alone h a) w = absurd w.0
 somebody (Tells a said b heard) w = absurd w.0.0
 somebody (Shares a r b heard) w = absurd w.0

@@ -30,7 +30,7 @@ chosen_same false x y z q e f = f
 
 -- ---- the run
 
-pub same_run : (plan : Plan Gadget) → PlanIsTidy plan → (t : Tape) (w : Hosts) → joint t (joint_of (trimmed plan)) w ≡ joint t (joint_of plan) w
+same_run : (plan : Plan Gadget) → PlanIsTidy plan → (t : Tape) (w : Hosts) → joint t (joint_of (trimmed plan)) w ≡ joint t (joint_of plan) w
 same_run Ends tidy t w = refl
 same_run (Then g rest) tidy t w =
     runs_first t (acts_of_gadget g) (joint_of (trimmed rest)) w
@@ -81,7 +81,7 @@ again_same one two turn turn' other other' a b c (suc n) i u w v =
     (a i u w v) (b i w) (ap (λ (q : Tape). other q i v) (a i u w v) ∙ c (two i u w v) i v)
 
 module _ (h : ℕ) (t : Tape) where
-  pub same_deal : (plan : Plan Gadget) → PlanIsTidy plan → (u : Tape) (w v : Hosts) → excused h t (trimmed plan) u w v ≡ excused h t plan u w v
+  same_deal : (plan : Plan Gadget) → PlanIsTidy plan → (u : Tape) (w v : Hosts) → excused h t (trimmed plan) u w v ≡ excused h t plan u w v
   same_deal Ends tidy u w v = refl
   same_deal (Then g rest) tidy u w v =
       let y : Tape = item_again h t g u w v in same_deal rest tidy.1 y (run_acts t (acts_of_gadget g) w) (run_acts y (acts_of_gadget g) v)

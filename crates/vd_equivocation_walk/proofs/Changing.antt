@@ -98,7 +98,7 @@ module _ {X : Type 0} (words : X → List ℕ) (none new : X) (xs : List X) (u :
             ∙ sym (ap (word_there p j) is ∙ ap (λ o. words (if nat_eq p peer then unwrap_or o none else none)) (set_there xs pos j new ne)))
       ]
 
-  pub changed_items : (p j : ℕ) → j < (if nat_eq p peer then length changed else 0) → with_item u k (C h) i item k (C p) j ≡ word_there p j changed
+  changed_items : (p j : ℕ) → j < (if nat_eq p peer then length changed else 0) → with_item u k (C h) i item k (C p) j ≡ word_there p j changed
   changed_items p j there =
       elim (eqb_tells p peer) [
         | inr e ↦ none_shared p j changed e.0 there
@@ -132,7 +132,7 @@ module _ (h : HostId) (t : Tape) (n : ℕ → Source → ℕ) (start : List Side
   mine_item q i ne = is.looker q i ne ∙ ap (λ (l : Lists). supplies l q i) (sym is.mine)
 
   -- the host whose list is changed is not the one that looks
-  pub other_host : (k : ℕ) → (side_at d.second k).peer.0 ≡ h.0 → k ≢ h.0
+  other_host : (k : ℕ) → (side_at d.second k).peer.0 ≡ h.0 → k ≢ h.0
   other_host k e same = peer_apart (ap (λ y. (side_at d.second y).peer.0) (sym same) ∙ e)
 
   not_peer : (k : ℕ) → k ≡ h.0 → nat_eq h.0 (side_at d.second k).peer.0 ≡ false

@@ -207,7 +207,7 @@ module _ (first second : List (List ℕ)) (x y : Part) (few : length second ≤ 
       end_words g (BitTriples p) i = by_place g (BitTriples p) i (λ e. cc) (λ low. low)
       end_words g (Pairs p) i = by_place g (Pairs p) i (λ e. cc) (λ low. low)
 
-      pub deal_is : file_tape second (stored_deals 0 ended.second (file 0 x ∷ file 1 y ∷ [])) ≡ end.deal
+      deal_is : file_tape second (stored_deals 0 ended.second (file 0 x ∷ file 1 y ∷ [])) ≡ end.deal
       deal_is = fun_ext (λ g. fun_ext (λ s. fun_ext (λ i. tape_holds g s i ∙ sym (end_words g s i))))
 
     kept_at : (k : ℕ) → k < 2 → last k ≡ lists_of (side_at (dealt_sides 0 second (file 0 x ∷ file 1 y ∷ [])) k)
@@ -216,7 +216,7 @@ module _ (first second : List (List ℕ)) (x y : Part) (few : length second ≤ 
     kept_at (suc zero) lt e = ap (λ (l : Lists). Some (file 1 (part_of l))) e
     kept_at (suc (suc k)) lt e = refl
 
-    pub kept_is : slice_get (stored_deals 0 ended.second (file 0 x ∷ file 1 y ∷ [])) h.0 ≡ slice_get (file 0 x ∷ file 1 y ∷ []) h.0
+    kept_is : slice_get (stored_deals 0 ended.second (file 0 x ∷ file 1 y ∷ [])) h.0 ≡ slice_get (file 0 x ∷ file 1 y ∷ []) h.0
     kept_is = kept_at h.0 low follows_at_end.mine
 
     one_long : {X : Type 0} (xs ys : List X) → length xs ≡ length ys → map length (xs ∷ []) ≡ map length (ys ∷ [])
@@ -255,7 +255,7 @@ module _ (first second : List (List ℕ)) (x y : Part) (few : length second ≤ 
     each_shape (suc zero) d e p q = shape_of (file 1 y) (stored_deal (file 1 y) (side_at ended.second 1)) d e shape_one p q
     each_shape (suc (suc g)) d e p q = absurd cc
 
-    pub shapes_are : HaveSameShape (file 0 x ∷ file 1 y ∷ []) (stored_deals 0 ended.second (file 0 x ∷ file 1 y ∷ []))
+    shapes_are : HaveSameShape (file 0 x ∷ file 1 y ∷ []) (stored_deals 0 ended.second (file 0 x ∷ file 1 y ∷ []))
     shapes_are = record { two = refl; each = each_shape }
 
 -- ---- which lists are too short
@@ -296,7 +296,7 @@ module _ (first second : List (List ℕ)) (x y : Part) (few : length second ≤ 
   first_same p q [] same = refl
   first_same p q (kind ∷ kinds) same = ap (λ (b : Bool). if b then Some kind else first_of p kinds) (same kind) ∙ ap (λ (o : Option DealKind). if q kind then Some kind else o) (first_same p q kinds same)
 
-  pub short_is : first_taken at_end_too.first ≡ first_short (file 0 x ∷ file 1 y ∷ []) end_too.first
+  short_is : first_taken at_end_too.first ≡ first_short (file 0 x ∷ file 1 y ∷ []) end_too.first
   short_is = first_same (either_takes_more at_end_too.first) (is_short (file 0 x ∷ file 1 y ∷ []) end_too.first) (Own ∷ Mul ∷ And ∷ Pair ∷ []) (λ kind. ap₂ (λ (a b : Bool). a || b) (more_zero kind) (more_one kind))
 
 -- ---- of any two deals
@@ -314,7 +314,7 @@ short_so law h low steps first second few deals two l same run is =
     ap (λ (w : Walker). first_taken w.first) (is ∙ ap (λ (q : List Step). all_both (data_walks q) (walker_of h first second deals)) same)
     ∙ subst P (sym f.2) (short_is first second f.0 f.1 few law h low steps)
 
-pub ended_so : WalksAreFollowed → (h : HostId) → h.0 < 2 → (steps : List Step) (first second : List (List ℕ)) → length second ≤ 2 → (deals : List Deal) → AreOfTwo deals
+ended_so : WalksAreFollowed → (h : HostId) → h.0 < 2 → (steps : List Step) (first second : List (List ℕ)) → length second ≤ 2 → (deals : List Deal) → AreOfTwo deals
     → Ended h steps first second deals (stored_deals 0 (all_both (data_walks steps) (walker_of h first second deals)).second deals)
 ended_so law h low steps first second few deals two =
     let f = are_files deals two in

@@ -39,14 +39,14 @@ if_other : {X : Type 0} (b : Bool) (x y z : X) → b ≡ false → z ≡ y → z
 if_other true x y z e f = absurd cc
 if_other false x y z e f = f
 
-pub first_list : {X : Type 0} (xs : List X) (p : ℕ) → list_of (xs ∷ []) 0 p ≡ (if nat_eq p 1 then xs else [])
+first_list : {X : Type 0} (xs : List X) (p : ℕ) → list_of (xs ∷ []) 0 p ≡ (if nat_eq p 1 then xs else [])
 first_list xs zero = refl
 first_list xs (suc zero) = refl
 first_list xs (suc (suc p)) =
     let apart : nat_eq (suc (suc p)) 1 ≡ false = ne_eqb (suc (suc p)) 1 (λ e. omega (arith, e)) in
     if_other (nat_eq (suc (suc p)) 1) xs [] _ apart (none_there xs 0 (suc (suc p)) (inr (place_far 0 (suc (suc p)) (omega arith))))
 
-pub second_list : {X : Type 0} (xs : List X) (p : ℕ) → list_of (xs ∷ []) 1 p ≡ (if nat_eq p 0 then xs else [])
+second_list : {X : Type 0} (xs : List X) (p : ℕ) → list_of (xs ∷ []) 1 p ≡ (if nat_eq p 0 then xs else [])
 second_list xs zero = refl
 second_list xs (suc zero) = refl
 second_list xs (suc (suc p)) =

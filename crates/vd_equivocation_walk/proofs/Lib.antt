@@ -1,11 +1,11 @@
-pub mod Steps
-pub mod Words
-pub mod Held
-pub mod Stands
-pub mod Runs
-pub mod Going
-pub mod Follows
-pub mod Changing
-pub mod Along
-pub mod Hosts
-pub mod Ends
+mod Steps
+mod Words
+mod Held
+mod Stands
+mod Runs
+mod Going
+mod Follows
+mod Changing
+mod Along
+mod Hosts
+mod Ends

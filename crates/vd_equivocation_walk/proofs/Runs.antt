@@ -27,7 +27,7 @@ pub host_here : {A : Type 0} (w : ℕ → A) (h : ℕ) (x : A) (g : ℕ) → g �
 unfolding registers.put
 host_here {A = A} w h x g e = ap (λ (b : Bool). if b then x else w g) (eq-eqb g h e)
 
-pub host_there : {A : Type 0} (w : ℕ → A) (h : ℕ) (x : A) (g : ℕ) → g ≢ h → registers.put w h x g ≡ w g
+host_there : {A : Type 0} (w : ℕ → A) (h : ℕ) (x : A) (g : ℕ) → g ≢ h → registers.put w h x g ≡ w g
 unfolding registers.put
 host_there {A = A} w h x g ne = ap (λ (b : Bool). if b then x else w g) (ne_eqb g h ne)
 
@@ -149,7 +149,7 @@ begun_side (p ∷ ps) before turn run h =
         ∙ sym (ap₂ (λ (x y : Bool). if x then side_at run h else (if y then counted p.1 turn (side_at run h) else if_part ps h (λ x. counted x turn (side_at run h)) (side_at run h))) e f)
 
 -- each host as its counter is set
-pub begun_is : (ps : List Part) (turn : ℕ) (run : List Side) (h : ℕ) → side_at (begun ps turn run) h ≡ if_part ps h (λ c. counted c turn (side_at run h)) (side_at run h)
+begun_is : (ps : List Part) (turn : ℕ) (run : List Side) (h : ℕ) → side_at (begun ps turn run) h ≡ if_part ps h (λ c. counted c turn (side_at run h)) (side_at run h)
 begun_is ps turn run h = begun_side ps [] turn run h
 
 part_lists : (ps : List Part) (turn : ℕ) (s : Side) (h : ℕ) → lists_of (if_part ps h (λ c. counted c turn s) s) ≡ lists_of s

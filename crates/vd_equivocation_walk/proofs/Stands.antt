@@ -19,7 +19,7 @@ use Rattle.vd_equivocation_walk.proofs.Held.{held_stored}
 
 -- ---- a place that stays one past the end
 
-pub further_placed : (n c i : ℕ) → i ≡ placed c n → further n i ≡ placed (suc c) n
+further_placed : (n c i : ℕ) → i ≡ placed c n → further n i ≡ placed (suc c) n
 further_placed n c i e = grind (arith, nat_tests)
 
 get_at : {X : Type 0} (xs : List X) (c i : ℕ) → (i ≡ c) ⊎ ((length xs ≤ i) × (length xs ≤ c)) → slice_get xs i ≡ slice_get xs c
@@ -33,7 +33,7 @@ place_cases n c i e =
       | inr p ↦ inr (let h = p.1 in (omega (arith, h, e), omega (arith, h, e)))
     ]
 
-pub get_placed : {X : Type 0} (xs : List X) (c i : ℕ) → i ≡ placed c (length xs) → slice_get xs i ≡ slice_get xs c
+get_placed : {X : Type 0} (xs : List X) (c i : ℕ) → i ≡ placed c (length xs) → slice_get xs i ≡ slice_get xs c
 get_placed xs c i e = get_at xs c i (place_cases (length xs) c i e)
 
 -- a word of a list, by the element that is there
@@ -43,7 +43,7 @@ word_or_zero [] (suc i) = refl
 word_or_zero (x ∷ xs) zero = refl
 word_or_zero (x ∷ xs) (suc i) = word_or_zero xs i
 
-pub word_placed : (xs : List ℕ) (c i : ℕ) → i ≡ placed c (length xs) → slice_index xs i ≡ slice_index xs c
+word_placed : (xs : List ℕ) (c i : ℕ) → i ≡ placed c (length xs) → slice_index xs i ≡ slice_index xs c
 word_placed xs c i e = word_or_zero xs i ∙ ap (λ (o : Option ℕ). unwrap_or o 0) (get_placed xs c i e) ∙ sym (word_or_zero xs c)
 
 -- ---- the words that an action takes

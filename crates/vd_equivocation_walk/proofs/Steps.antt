@@ -10,7 +10,7 @@ use Rattle.vd_equivocation_runs.specs.Runs.{is_other}
 use Rattle.vd_equivocation_walk.specs.declared.walker.Choice.TheVariants as choice
 use Rattle.vd_equivocation_walk.specs.Data.{DataWalk, all_alone, either_alone, data_step, data_walk, data_walks}
 
-pub walk_branch : (ps : List Part) (first other : List Step) → data_walk (BranchStep ps first other) ≡ data_step (Step-F.Branch ps (data_walks first) (data_walks other))
+walk_branch : (ps : List Part) (first other : List Step) → data_walk (BranchStep ps first other) ≡ data_step (Step-F.Branch ps (data_walks first) (data_walks other))
 walk_branch ps first other = search (rules, the_lemmas)
 
 pub on_ok : {E : Type 0} {P Q : Type 0} (r : Result ⊤ E) → (P → Q) → OnOk r P → OnOk r Q
@@ -22,7 +22,7 @@ on_ok (Err e) leads holds = tt
 alone_is : (step one : Step) (x : DataWalk) (run : List Side) → step ≡ one → data_walk one ≡ x → x.alone run ≡ (data_walk step).alone run
 alone_is step one x run is e = sym (ap (λ (s : Step). (data_walk s).alone run) is ∙ ap (λ (z : DataWalk). z.alone run) e)
 
-pub alone_branch : (step : Step) (ps : List Part) (first other : List Step) (run : List Side) → step ≡ BranchStep ps first other
+alone_branch : (step : Step) (ps : List Part) (first other : List Step) (run : List Side) → step ≡ BranchStep ps first other
     → either_alone ps (data_walks first) (data_walks other) run ≡ (data_walk step).alone run
 alone_branch step ps first other run is = alone_is step (BranchStep ps first other) (data_step (Step-F.Branch ps (data_walks first) (data_walks other))) run is (walk_branch ps first other)
 

@@ -29,10 +29,10 @@ still_sound w v all same sound = record {
 
 -- both hosts took one item: of sums, of xors, or a pair
 module _ (m n : ℕ) (w v : Hosts) (all : AllAreWords v) (sound : IsSound w) where
-  abbrev pub Both : (ℕ → Source) → Type 0
+  abbrev Both : (ℕ → Source) → Type 0
   Both source = (a b c : Hosts) → Takes m (source n) w a → Keeps a b → Takes n (source m) b c → Keeps c v → IsSound v
 
-  pub triples_sound : Both Triples
+  triples_sound : Both Triples
   triples_sound a b c p q r z =
       let at = after_both m n Triples w a b c v p q r z in record {
         words = all;
@@ -41,7 +41,7 @@ module _ (m n : ℕ) (w v : Hosts) (all : AllAreWords v) (sound : IsSound w) whe
         pairs = λ g h. at g (Pairs h) refl ∙ not_both (nat_eq g n) (nat_eq g m) _ _ (sound.pairs g h) ∙ sym (at h (Pairs g) refl ∙ not_both (nat_eq h n) (nat_eq h m) _ _ refl);
       }
 
-  pub bits_sound : Both BitTriples
+  bits_sound : Both BitTriples
   bits_sound a b c p q r z =
       let at = after_both m n BitTriples w a b c v p q r z in record {
         words = all;
@@ -50,7 +50,7 @@ module _ (m n : ℕ) (w v : Hosts) (all : AllAreWords v) (sound : IsSound w) whe
         pairs = λ g h. at g (Pairs h) refl ∙ not_both (nat_eq g n) (nat_eq g m) _ _ (sound.pairs g h) ∙ sym (at h (Pairs g) refl ∙ not_both (nat_eq h n) (nat_eq h m) _ _ refl);
       }
 
-  pub pairs_sound : Both Pairs
+  pairs_sound : Both Pairs
   pairs_sound a b c p q r z =
       let at = after_both m n Pairs w a b c v p q r z in record {
         words = all;

@@ -54,7 +54,7 @@ said_grows l p q words =
       | inr ne ↦ prefix_same _ _ (sym (put_other l.sent p (l.sent p ++ words ∷ []) q ne))
     ]
 
-pub done_grows : (l : Local) (m : State) (d : Deed) → Grows l (done l m d)
+done_grows : (l : Local) (m : State) (d : Deed) → Grows l (done l m d)
 done_grows l m Quiet = record { printed = prefix_same _ _ refl; sent = λ p. prefix_same _ _ refl }
 done_grows l m (Said p words) = record { printed = prefix_same _ _ refl; sent = λ q. said_grows l p q words }
 done_grows l m (Heard p) = record { printed = prefix_same _ _ refl; sent = λ q. prefix_same _ _ refl }
@@ -74,7 +74,7 @@ front_later w g h k m p x grows e =
       | inr other ↦ ap (λ l. slice_get (l.sent h) (m.taken p)) (put_other w g k p other) ∙ e
     ]
 
-pub given_later : (s : Supply) (w : World) (g h : ℕ) (k m : Local) → Grows (w g) k → Below (given s w h m) (given s (put w g k) h m)
+given_later : (s : Supply) (w : World) (g h : ℕ) (k m : Local) → Grows (w g) k → Below (given s w h m) (given s (put w g k) h m)
 given_later s w g h k m grows = record {
   item = λ q i x e. e;
   front = λ p x e. front_later w g h k m p x grows e;

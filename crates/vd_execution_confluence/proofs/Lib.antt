@@ -3,13 +3,13 @@ pub mod Diamond
 pub mod Reached
 pub mod Parts
 pub mod Resting
-pub mod Order
+mod Order
 pub mod Compiled
 pub mod Reading
 pub mod Picks
-pub mod Queues
+mod Queues
 pub mod Taking
 pub mod Untouched
-pub mod Small
-pub mod Standing
+mod Small
+mod Standing
 pub mod Rounds

@@ -76,7 +76,7 @@ met : (g : Given) (items : Source → ℕ → List ℕ) (c : Cursors) (x y : ℕ
 met g items c x y true e = refl
 met g items c x y false e = absurd cc
 
-pub gets : (t : Tape) (v : World) (h : ℕ) (l : Local) (f : Registers) (c : Cursors) (a : Action) → Agrees f a
+gets : (t : Tape) (v : World) (h : ℕ) (l : Local) (f : Registers) (c : Cursors) (a : Action) → Agrees f a
     → answer (given (endless t) v h l) c (need_of_action f a) ≡ Some (supplied (t h) c (need_of_action f a))
 gets t v h l f c (action.Const r k) e = refl
 gets t v h l f c (action.Copy r x) e = refl

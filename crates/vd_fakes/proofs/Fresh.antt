@@ -46,14 +46,14 @@ choose f true x y = refl
 choose f false x y = refl
 
 -- the first link at an address tells what the first of the told ones is
-pub link_told : (address : List ℕ) (waiting : Waiting MemLinkState) → link_at address (map limited_link_at waiting) None ≡ option_map limited_link_view (link_at address waiting None)
+link_told : (address : List ℕ) (waiting : Waiting MemLinkState) → link_at address (map limited_link_at waiting) None ≡ option_map limited_link_view (link_at address waiting None)
 link_told address [] = refl
 link_told address (link ∷ links) =
     ap (λ rest. cond (bytes_eq link.0 address) (Some (limited_link_view link.1)) rest) (link_told address links)
     ∙ choose (option_map limited_link_view) (bytes_eq link.0 address) (Some link.1) (link_at address links None)
 
 -- the told links without the first at an address are those that are left
-pub rest_told : (address : List ℕ) (waiting : Waiting MemLinkState) → map limited_link_at (without_link_at address waiting) ≡ without_link_at address (map limited_link_at waiting)
+rest_told : (address : List ℕ) (waiting : Waiting MemLinkState) → map limited_link_at (without_link_at address waiting) ≡ without_link_at address (map limited_link_at waiting)
 rest_told address [] = refl
 rest_told address (link ∷ links) =
     sym (choose (map limited_link_at) (bytes_eq link.0 address) links (link ∷ without_link_at address links))

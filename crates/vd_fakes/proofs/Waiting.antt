@@ -11,14 +11,14 @@ choose f true x y = refl
 choose f false x y = refl
 
 -- the first link at an address tells what the first of the told ones is
-pub link_told : (address : List ℕ) (waiting : Waiting SureLinkState) (otherwise : SureLinkState) → link_at address (map link_view_at waiting) (Some (link_view otherwise)) ≡ option_map link_view (link_at address waiting (Some otherwise))
+link_told : (address : List ℕ) (waiting : Waiting SureLinkState) (otherwise : SureLinkState) → link_at address (map link_view_at waiting) (Some (link_view otherwise)) ≡ option_map link_view (link_at address waiting (Some otherwise))
 link_told address [] otherwise = refl
 link_told address (link ∷ links) otherwise =
     ap (λ rest. cond (bytes_eq link.0 address) (Some (link_view link.1)) rest) (link_told address links otherwise)
     ∙ choose (option_map link_view) (bytes_eq link.0 address) (Some link.1) (link_at address links (Some otherwise))
 
 -- the told links without the first at an address are those that are left
-pub rest_told : (address : List ℕ) (waiting : Waiting SureLinkState) → map link_view_at (without_link_at address waiting) ≡ without_link_at address (map link_view_at waiting)
+rest_told : (address : List ℕ) (waiting : Waiting SureLinkState) → map link_view_at (without_link_at address waiting) ≡ without_link_at address (map link_view_at waiting)
 rest_told address [] = refl
 rest_told address (link ∷ links) =
     sym (choose (map link_view_at) (bytes_eq link.0 address) links (link ∷ without_link_at address links))

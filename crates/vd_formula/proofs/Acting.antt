@@ -70,7 +70,7 @@ either_grows f g h names acts set low here =
     ])
 
 -- ---- the weakest formula whose conjunction with f acts for another
-pub names-implies : (f g : TruthTable) → (implies_of f g).names ≡ f.names
+names-implies : (f g : TruthTable) → (implies_of f g).names ≡ f.names
 unfolding implies_of
 names-implies f g = refl
 

@@ -20,11 +20,11 @@ same_formula n p q same =
     ap (table n) (same_words (2 ^ n) (word_where p (2 ^ n)) (word_where q (2 ^ n)) (word_where_lt p (2 ^ n)) (word_where_lt q (2 ^ n))
     (λ set h. has-word_where p (2 ^ n) set h ∙ same set h ∙ sym (has-word_where q (2 ^ n) set h)))
 
-pub both-formula_where : (n : ℕ) (p q : ℕ → Bool) → both_of (formula_where n p) (formula_where n q) ≡ formula_where n (λ set. p set && q set)
+both-formula_where : (n : ℕ) (p q : ℕ → Bool) → both_of (formula_where n p) (formula_where n q) ≡ formula_where n (λ set. p set && q set)
 unfolding both_of
 both-formula_where n p q = same_formula n _ _ (λ set h. ap (λ b. b && at (formula_where n q) set) (at-formula_where n p set h) ∙ ap (λ b. p set && b) (at-formula_where n q set h))
 
-pub either-formula_where : (n : ℕ) (p q : ℕ → Bool) → either_of (formula_where n p) (formula_where n q) ≡ formula_where n (λ set. p set || q set)
+either-formula_where : (n : ℕ) (p q : ℕ → Bool) → either_of (formula_where n p) (formula_where n q) ≡ formula_where n (λ set. p set || q set)
 unfolding either_of
 either-formula_where n p q = same_formula n _ _ (λ set h. ap (λ b. b || at (formula_where n q) set) (at-formula_where n p set h) ∙ ap (λ b. p set || b) (at-formula_where n q set h))
 

@@ -32,7 +32,7 @@ pub either_first : (names : List (List ℕ)) (parts : List Form) → length name
 unfolding never_of
 either_first names parts few = record { formula_is = refl; is_formula = is_formula-never (length names) few }
 
-pub names_joined : (together : ((List (List ℕ) → ℕ → Bool) → Bool) → List (List (List ℕ) → ℕ → Bool) → Bool) (names : List (List ℕ)) (parts : List Form) (count : ℕ) (f g : TruthTable) → Joined together names parts count f → g.names ≡ length names → f.names ≡ g.names
+names_joined : (together : ((List (List ℕ) → ℕ → Bool) → Bool) → List (List (List ℕ) → ℕ → Bool) → Bool) (names : List (List ℕ)) (parts : List Form) (count : ℕ) (f g : TruthTable) → Joined together names parts count f → g.names ≡ length names → f.names ≡ g.names
 names_joined together names parts count f g joined is = ap (λ t. t.names) joined.formula_is ∙ sym is
 
 module _ (names : List (List ℕ)) (parts : List Form) (i : ℕ) (f : TruthTable) (part : Form) (low : i < length parts) (here : part ≡ get_or parts i part) (g : TruthTable) (g_is : g ≡ formula_of part names) (g_valid : IsFormula g) (over : g.names ≡ length names) where

@@ -16,7 +16,7 @@ use Rattle.vd_formula.proofs.Closure.{IsClosedTo, closed_none, closed_sound, clo
 pub few_sets : (n : ℕ) → n ≤ 6 → 2 ^ n ≤ 64
 few_sets n few = pow-le-pow_right (omega arith) few
 
-pub word_of_few : (n word : ℕ) → n ≤ 6 → word < 2 ^ (2 ^ n) → word < 2 ^ 64
+word_of_few : (n word : ℕ) → n ≤ 6 → word < 2 ^ (2 ^ n) → word < 2 ^ 64
 word_of_few n word few small = let more : 2 ^ (2 ^ n) ≤ 2 ^ 64 = pow-le-pow_right (omega arith) (few_sets n few) in omega arith
 
 -- the word of the sets at which one is true and the other false

@@ -1,10 +1,10 @@
-pub mod Words
+mod Words
 pub mod Tables
 pub mod Closure
 pub mod Implies
 pub mod Acting
 pub mod FormSteps
-pub mod FormTruths
-pub mod FormNames
+mod FormTruths
+mod FormNames
 pub mod Antichains
 pub mod Grown

@@ -34,7 +34,7 @@ subset-has set larger name within had =
     let same : bit_and set larger ≡ set = eqb-true _ _ within in
     (and_parts _ _ (sym (has-and set larger name) ∙ ap (λ w. has w name) same ∙ had)).1
 
-pub subset_from_has : (n set larger : ℕ) → set < 2 ^ n → ((name : ℕ) → name < n → IsTrue (has set name) → IsTrue (has larger name)) → IsTrue (is_subset set larger)
+subset_from_has : (n set larger : ℕ) → set < 2 ^ n → ((name : ℕ) → name < n → IsTrue (has set name) → IsTrue (has larger name)) → IsTrue (is_subset set larger)
 subset_from_has n set larger small each =
     let smaller : bit_and set larger ≤ set = and_le_l set larger in
     let both_in : bit_and set larger < 2 ^ n = omega arith in
@@ -69,13 +69,13 @@ module _ (set name : ℕ) (lacks : has set name ≡ false) where
   apart : bit_and set (2 ^ name) ≡ 0
   apart = and_pow set name ∙ ap (λ b. b * 2 ^ name) no_bit ∙ omega arith
 
-  pub added : bit_or set (2 ^ name) ≡ set + 2 ^ name
+  added : bit_or set (2 ^ name) ≡ set + 2 ^ name
   added = or_disjoint set (2 ^ name) apart
 
   pub added_lt : (n : ℕ) → set < 2 ^ n → name < n → set + 2 ^ name < 2 ^ n
   added_lt n small low = subst (λ x. x < 2 ^ n) added (or_lt n set (2 ^ name) small (pow_below name n low))
 
-  pub has-added : (other : ℕ) → has (set + 2 ^ name) other ≡ (has set other || has (2 ^ name) other)
+  has-added : (other : ℕ) → has (set + 2 ^ name) other ≡ (has set other || has (2 ^ name) other)
   has-added other = ap (λ w. has w other) (sym added) ∙ has-or set (2 ^ name) other
 
   pub added_row : (set + 2 ^ name) / 2 ^ name ≡ set / 2 ^ name + 1

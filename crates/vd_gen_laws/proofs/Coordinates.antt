@@ -22,38 +22,38 @@ abbrev pub BodyOf : List ℕ → List Part → (Named Value → Type 0) → ℕ 
 BodyOf text ps P size = Holds text ps (λ ts. Body text ts P size)
 
 -- where P holds the name is new and what is needed is there, and Q holds where it is declared
-abbrev pub Declares : (P Q : Named Value → Type 0) → List ℕ → Kind → (Named Value → Type 0) → Type 0
+abbrev Declares : (P Q : Named Value → Type 0) → List ℕ → Kind → (Named Value → Type 0) → Type 0
 Declares P Q N K Needs = (env : Named Value) → P env → (at_name env N ≡ None) × Needs env × Q (env ++ (N, Constant K) ∷ [])
 
-pub input_more : (text : List ℕ) (b : ℕ) (bs : List ℕ) (c : ℕ) (cs : List ℕ) (rest : List Part) (size : ℕ) (P Q : Named Value → Type 0) → at_name scope.hosts (c ∷ cs) ≡ Some tt → BodyOf text rest Q size →
+input_more : (text : List ℕ) (b : ℕ) (bs : List ℕ) (c : ℕ) (cs : List ℕ) (rest : List Part) (size : ℕ) (P Q : Named Value → Type 0) → at_name scope.hosts (c ∷ cs) ≡ Some tt → BodyOf text rest Q size →
     Declares P Q (b ∷ bs) OfWord Nothing → BodyOf text (input_parts b bs c cs rest) P (1 + size)
 input_more text b bs c cs rest size P Q known body step =
     λ k hk n hn q hq i hi o ho h hh p hp s hs.
     holds_map text rest (λ us. Body text us Q size) (λ us. Body text (k ∷ n ∷ q ∷ i ∷ o ∷ h ∷ p ∷ s ∷ us) P (1 + size))
     (λ us after. more P Q (input_line hk.0 hn.0 hq.0 hi.0 ho.0 hh.0 hp.0 hs.0 hn.1 hh.1 known) after step) body
 
-pub minus_more : (text : List ℕ) (b : ℕ) (bs : List ℕ) (x : ℕ) (xs : List ℕ) (y : ℕ) (ys : List ℕ) (rest : List Part) (size : ℕ) (P Q : Named Value → Type 0) → BodyOf text rest Q size →
+minus_more : (text : List ℕ) (b : ℕ) (bs : List ℕ) (x : ℕ) (xs : List ℕ) (y : ℕ) (ys : List ℕ) (rest : List Part) (size : ℕ) (P Q : Named Value → Type 0) → BodyOf text rest Q size →
     Declares P Q (b ∷ bs) OfWord (AreWords (x ∷ xs) (y ∷ ys)) → BodyOf text (two_parts b bs kind.Minus 45 x xs y ys rest) P (1 + size)
 minus_more text b bs x xs y ys rest size P Q body step =
     λ k hk n hn q hq l hl o ho m hm s hs.
     holds_map text rest (λ us. Body text us Q size) (λ us. Body text (k ∷ n ∷ q ∷ l ∷ o ∷ m ∷ s ∷ us) P (1 + size))
     (λ us after. more P Q (minus_line hk.0 hn.0 hq.0 hl.0 ho.0 hm.0 hs.0 hn.1 hl.1 hm.1) after step) body
 
-pub star_more : (text : List ℕ) (b : ℕ) (bs : List ℕ) (x : ℕ) (xs : List ℕ) (y : ℕ) (ys : List ℕ) (rest : List Part) (size : ℕ) (P Q : Named Value → Type 0) → BodyOf text rest Q size →
+star_more : (text : List ℕ) (b : ℕ) (bs : List ℕ) (x : ℕ) (xs : List ℕ) (y : ℕ) (ys : List ℕ) (rest : List Part) (size : ℕ) (P Q : Named Value → Type 0) → BodyOf text rest Q size →
     Declares P Q (b ∷ bs) OfWord (AreWords (x ∷ xs) (y ∷ ys)) → BodyOf text (two_parts b bs kind.Star 42 x xs y ys rest) P (1 + size)
 star_more text b bs x xs y ys rest size P Q body step =
     λ k hk n hn q hq l hl o ho m hm s hs.
     holds_map text rest (λ us. Body text us Q size) (λ us. Body text (k ∷ n ∷ q ∷ l ∷ o ∷ m ∷ s ∷ us) P (1 + size))
     (λ us after. more P Q (star_line hk.0 hn.0 hq.0 hl.0 ho.0 hm.0 hs.0 hn.1 hl.1 hm.1) after step) body
 
-pub plus_more : (text : List ℕ) (b : ℕ) (bs : List ℕ) (x : ℕ) (xs : List ℕ) (y : ℕ) (ys : List ℕ) (rest : List Part) (size : ℕ) (P Q : Named Value → Type 0) → BodyOf text rest Q size →
+plus_more : (text : List ℕ) (b : ℕ) (bs : List ℕ) (x : ℕ) (xs : List ℕ) (y : ℕ) (ys : List ℕ) (rest : List Part) (size : ℕ) (P Q : Named Value → Type 0) → BodyOf text rest Q size →
     Declares P Q (b ∷ bs) OfWord (AreWords (x ∷ xs) (y ∷ ys)) → BodyOf text (two_parts b bs kind.Plus 43 x xs y ys rest) P (1 + size)
 plus_more text b bs x xs y ys rest size P Q body step =
     λ k hk n hn q hq l hl o ho m hm s hs.
     holds_map text rest (λ us. Body text us Q size) (λ us. Body text (k ∷ n ∷ q ∷ l ∷ o ∷ m ∷ s ∷ us) P (1 + size))
     (λ us after. more P Q (plus_line hk.0 hn.0 hq.0 hl.0 ho.0 hm.0 hs.0 hn.1 hl.1 hm.1) after step) body
 
-pub answer_more : (text : List ℕ) (e : ℕ) (es : List ℕ) (rest : List Part) (size : ℕ) (P Q : Named Value → Type 0) → BodyOf text rest Q size →
+answer_more : (text : List ℕ) (e : ℕ) (es : List ℕ) (rest : List Part) (size : ℕ) (P Q : Named Value → Type 0) → BodyOf text rest Q size →
     Declares P Q (114 ∷ []) Truth (IsWord (e ∷ es)) → BodyOf text (answer_parts e es rest) P (3 + size)
 answer_more text e es rest size P Q body step =
     λ k hk n hn q hq d hd o ho l hl c hc v hv x hx b hb f hf g hg h hh y hy z hz s hs.
@@ -72,7 +72,7 @@ result_more text c cs rest size known body =
 -- ---- names in sight
 
 -- words whose names are these letters with number k
-abbrev pub entries : ℕ → List ℕ → Named Value
+abbrev entries : ℕ → List ℕ → Named Value
 entries k [] = []
 entries k (c ∷ cs) = (c ∷ decimal k, Constant OfWord) ∷ entries k cs
 

@@ -1,10 +1,10 @@
-pub mod Words
-pub mod Names
-pub mod Script
-pub mod Trees
-pub mod Rules
-pub mod Lines
-pub mod Coordinates
+mod Words
+mod Names
+mod Script
+mod Trees
+mod Rules
+mod Lines
+mod Coordinates
 pub mod Sizes
-pub mod Whole
+mod Whole
 pub mod Read

@@ -15,7 +15,7 @@ use Rattle.vd_source_lexer.specs.declared.piece.Piece.TheVariants.{Blank, Lexeme
 use Rattle.vd_source_lexer.specs.declared.token.TokenKind.TheVariants as kind
 
 -- one digit or more
-pub record Digits (n : ℕ) (text : List ℕ) : Type 0 where
+record Digits (n : ℕ) (text : List ℕ) : Type 0 where
   pub first : ℕ
   pub behind : List ℕ
   pub are : text ≡ first ∷ behind
@@ -47,7 +47,7 @@ more_digits n ds h digits =
       digits = list_all-append is_word_byte ds ((48 + n % 10) ∷ []) ∙ and_from (list_all is_word_byte ds) (list_all is_word_byte ((48 + n % 10) ∷ [])) digits.digits (one_byte (48 + n % 10) last);
     }
 
-pub digits_of : (k : ℕ) → k < 100 → Digits k (decimal k)
+digits_of : (k : ℕ) → k < 100 → Digits k (decimal k)
 digits_of k h = decimal_by_steps Digits one_digit more_digits k (omega (arith, h))
 
 -- ---- a name at the front of a text

@@ -79,7 +79,7 @@ bor_of_sum r = bor_alone (bxor_alone (band_alone (shift_alone r)))
 bor_of_atom : {text : List ℕ} {ts rest : List Token} {v : Expr} → Reads (Sym ATOM) atom_of text ts rest v → Reads (Sym BOR) bor_of text ts rest v
 bor_of_atom r = bor_of_sum (sum_alone (prod_of_atom r))
 
-pub expr_of_sum : {text : List ℕ} {ts rest : List Token} {v : Expr} → Reads (Sym SUM) sum_of text ts rest v → Reads (Sym EXPR) expr_of text ts rest v
+expr_of_sum : {text : List ℕ} {ts rest : List Token} {v : Expr} → Reads (Sym SUM) sum_of text ts rest v → Reads (Sym EXPR) expr_of text ts rest v
 expr_of_sum r = expr_alone (bor_of_sum r)
 
 pub expr_of_atom : {text : List ℕ} {ts rest : List Token} {v : Expr} → Reads (Sym ATOM) atom_of text ts rest v → Reads (Sym EXPR) expr_of text ts rest v

@@ -51,7 +51,7 @@ same_next waiting otherwise (x ∷ xs) (y ∷ ys) nx ny same =
     λ i. first i ∷ rest i
 
 -- a host among the children
-pub record HostAt (child : Child) : Type 0 where
+record HostAt (child : Child) : Type 0 where
   words : List ℕ
   is : IsHost words child
 

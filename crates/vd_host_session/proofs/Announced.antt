@@ -37,11 +37,11 @@ unheard task start net now count place cause fault less is before call told = re
 }
 
 -- a host with no session has no link to hand back
-pub none_back : {L : Type 0} (view : L → LinkView) (links : Links L) (start now : NetView) (count : ℕ) → HandedBack (sessions_of view links) start count now → session_at links count ≡ None
+none_back : {L : Type 0} (view : L → LinkView) (links : Links L) (start now : NetView) (count : ℕ) → HandedBack (sessions_of view links) start count now → session_at links count ≡ None
     → HandedBack (sessions_of view links) start (count + 1) now
 none_back view links start now count back none = NoSession count now back (ap (option_map (session_view view)) none)
 
-pub one_back : {L : Type 0} (view : L → LinkView) (links : Links L) (session : Session L Greeted) (start net now : NetView) (count : ℕ) → HandedBack (sessions_of view links) start count net
+one_back : {L : Type 0} (view : L → LinkView) (links : Links L) (session : Session L Greeted) (start net now : NetView) (count : ℕ) → HandedBack (sessions_of view links) start count net
     → session_at links count ≡ Some session → HangsUp (view (link_of session)) net now → HandedBack (sessions_of view links) start (count + 1) now
 one_back view links session start net now count back stands hangs =
     OneBack count (view (link_of session)) (session_view view session).received (session_view view session).failed net now back (ap (option_map (session_view view)) stands) hangs

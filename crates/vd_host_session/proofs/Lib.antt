@@ -1,10 +1,10 @@
-pub mod Announced
+mod Announced
 pub mod Asking
 pub mod Causes
 pub mod ComingBack
-pub mod Courses
-pub mod Gathering
-pub mod Listeners
+mod Courses
+mod Gathering
+mod Listeners
 pub mod Numbers
 pub mod Others
-pub mod Refusals
+mod Refusals

@@ -4,11 +4,11 @@ use Rattle.std.proofs.lemmas.Bool.Decides.{nat_tests}
 use Rattle.vd_host_session.specs.Peers.{number_at}
 
 -- which number it is
-pub record IsNumber (me place number : ℕ) : Type 0 where
+record IsNumber (me place number : ℕ) : Type 0 where
   pub before : place < me → number ≡ place
   pub behind : me ≤ place → number ≡ suc place
 
-pub number_is : (me place : ℕ) → IsNumber me place (number_at me place)
+number_is : (me place : ℕ) → IsNumber me place (number_at me place)
 number_is me place = record { before = λ less. grind (arith, nat_tests); behind = λ least. grind (arith, nat_tests) }
 
 pub less_or_least : (place me : ℕ) → (place < me) ⊎ (me ≤ place)

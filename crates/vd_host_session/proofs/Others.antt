@@ -12,7 +12,7 @@ later_peer : (task : Task) (number : ℕ) → task.me.0 < number → number < le
 later_peer task zero later few = absurd (omega (arith, later))
 later_peer task (suc place) later few = (place, omega (arith, few), sym (later_number task.me.0 place (omega (arith, later))))
 
-pub other_is_peer : (task : Task) (number : ℕ) → task.me.0 ≤ length task.addresses → number < length task.addresses + 1 → number ≢ task.me.0 → IsPeerOf task number
+other_is_peer : (task : Task) (number : ℕ) → task.me.0 ≤ length task.addresses → number < length task.addresses + 1 → number ≢ task.me.0 → IsPeerOf task number
 other_is_peer task number own few apart =
     ⊎_elim (λ (less : number < task.me.0). (number, omega (arith, less, own), sym (earlier_number task.me.0 number less)))
     (λ (least : task.me.0 ≤ number).

@@ -1,3 +1,3 @@
-pub mod Lines
-pub mod Playing
-pub mod Trees
+mod Lines
+mod Playing
+mod Trees

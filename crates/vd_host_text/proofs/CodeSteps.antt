@@ -127,7 +127,7 @@ unfolding lines_at
 empty_stops front s (b ∷ bytes) left le e = absurd (omega (arith, le))
 empty_stops front s [] left le e = empty_by front s left (line_at s []) (line_exact s []) (sym (line_with_word s []) ∙ e)
 
-pub code_stops : (front : List Instr) (s : State) (bytes left : List ℕ) (total : Reading (List Instr)) → next_at s bytes ≡ Err left → CodeGoesOn front s bytes total → total ≡ Err left
+code_stops : (front : List Instr) (s : State) (bytes left : List ℕ) (total : Reading (List Instr)) → next_at s bytes ≡ Err left → CodeGoesOn front s bytes total → total ≡ Err left
 code_stops front s bytes left total e (zero, le, so_far) = sym so_far ∙ empty_stops front s bytes left le e
 code_stops front s bytes left total e (suc n, le, so_far) = sym so_far ∙ with_fuel front n s bytes ∙ stops_by front n s left (line_at s bytes) (sym (line_with_word s bytes) ∙ e)
 

@@ -177,7 +177,7 @@ picks_plan = record {
   break = λ p behind h k. tt;
 }
 
-pub plan_exact : (bytes : List ℕ) → IsExact IsAnything IsPlan plan_line bytes (plan_at bytes)
+plan_exact : (bytes : List ℕ) → IsExact IsAnything IsPlan plan_line bytes (plan_at bytes)
 unfolding plan_at
 plan_exact bytes =
     let some = some_bytes 32 in

@@ -1,13 +1,13 @@
-pub mod WordExact
-pub mod Many
-pub mod LinesExact
-pub mod NamesExact
-pub mod FileExact
-pub mod Steps
-pub mod AmongSteps
-pub mod OpenBlocks
-pub mod CodeSteps
-pub mod HostSteps
-pub mod NamesSteps
+mod WordExact
+mod Many
+mod LinesExact
+mod NamesExact
+mod FileExact
+mod Steps
+mod AmongSteps
+mod OpenBlocks
+mod CodeSteps
+mod HostSteps
+mod NamesSteps
 pub mod Programs
-pub mod Written
+mod Written

@@ -90,7 +90,7 @@ behind_counted w false counted mid is fits =
     (record { words = fits.1; enough = omega (arith, fits.0); exactly = λ _. fits.0 }, take_all (arity w) counted (omega (arith, fits.0)))
     (λ ns g. both_parts w ns counted [] g.1 (nothing_more w ns is g.0) ∙ append-nil counted))
 
-pub numbers_exact : (w : Word) (bytes : List ℕ) → IsExact IsLineEnd (HasNumbers w) texts bytes (numbers_at w bytes)
+numbers_exact : (w : Word) (bytes : List ℕ) → IsExact IsLineEnd (HasNumbers w) texts bytes (numbers_at w bytes)
 unfolding numbers_at
 numbers_exact w bytes =
     then_exact IsBreak (AreEach IsWord (arity w)) texts IsLineEnd (HasNumbers w) texts (λ ns. texts (more_of w ns)) (first_of w) (picks_counted w) bytes (each_at number_at (arity w) bytes)

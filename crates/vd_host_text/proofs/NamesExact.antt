@@ -127,10 +127,10 @@ longer_name earlier b bs letter words =
     let name : is_name (b ∷ (bs ++ more)) ≡ true = and_from (is_letter b && list_all is_word_byte (bs ++ more)) (not (is_keyword (b ∷ (bs ++ more)))) word (ap not none) in
     (more, and_from (is_name (b ∷ (bs ++ more))) (not (is_among earlier (b ∷ (bs ++ more)))) name (ap not new))
 
-abbrev pub IsNew : List (List ℕ) → List ℕ → Type 0
+abbrev IsNew : List (List ℕ) → List ℕ → Type 0
 IsNew earlier x = new_name earlier x ≡ true
 
-abbrev pub itself : List ℕ → List ℕ
+abbrev itself : List ℕ → List ℕ
 itself x = x
 
 -- ---- one name
@@ -205,20 +205,20 @@ name_by earlier bytes true true e f = new_run earlier bytes f
 name_by earlier [] true false e f = absurd (true≢false (sym e))
 name_by earlier (b ∷ bs) true false e f = old_run earlier b bs e f
 
-pub name_exact : (earlier : List (List ℕ)) (bytes : List ℕ) → IsExact IsBreak (IsNew earlier) itself bytes (name_at earlier bytes)
+name_exact : (earlier : List (List ℕ)) (bytes : List ℕ) → IsExact IsBreak (IsNew earlier) itself bytes (name_at earlier bytes)
 unfolding name_at
 name_exact earlier bytes = name_by earlier bytes (starts_letter bytes) (new_name earlier (take (word_run bytes) bytes)) refl refl
 
 some_name : (earlier : List (List ℕ)) → (x : List ℕ) × IsNew earlier x
 some_name earlier = let more = longer_name earlier 95 [] refl refl in (95 ∷ more.0, more.1)
 
-pub next_name_exact : (earlier : List (List ℕ)) (bytes : List ℕ) → IsExact IsBreak (IsNew earlier) name_field bytes (next_name_at earlier bytes)
+next_name_exact : (earlier : List (List ℕ)) (bytes : List ℕ) → IsExact IsBreak (IsNew earlier) name_field bytes (next_name_at earlier bytes)
 unfolding name_field
 next_name_exact earlier bytes = let some = some_name earlier in byte_exact IsBreak (IsNew earlier) itself 32 bytes some.0 (name_at earlier) some.1 (λ mid. name_exact earlier mid)
 
 -- ---- names, one behind the other
 
-abbrev pub NewNames : ℕ → List (List ℕ) → List (List ℕ) → Type 0
+abbrev NewNames : ℕ → List (List ℕ) → List (List ℕ) → Type 0
 NewNames n earlier xs = AreNew earlier xs × (length xs ≤ n)
 
 abbrev pub names_text : List (List ℕ) → List ℕ
@@ -266,7 +266,7 @@ others_exact n earlier a mid fits exact =
     (λ xs g. same_names a others xs g.0.0.1 g.0.1 g.1))
 
 -- a first name, and at most so many more
-pub some_exact : (n : ℕ) (earlier : List (List ℕ)) (bytes : List ℕ) → ((a mid : List ℕ) → IsNew earlier a → IsExact IsLineEnd (NewNames n (earlier ++ a ∷ [])) names_text mid (names_at n (earlier ++ a ∷ []) mid))
+some_exact : (n : ℕ) (earlier : List (List ℕ)) (bytes : List ℕ) → ((a mid : List ℕ) → IsNew earlier a → IsExact IsLineEnd (NewNames n (earlier ++ a ∷ [])) names_text mid (names_at n (earlier ++ a ∷ []) mid))
     → IsExact IsLineEnd (SomeNames n earlier) names_text bytes (next_name_at earlier bytes >>= λ x. (names_at n (earlier ++ x.0 ∷ []) x.1 >>= λ xs. Ok (x.0 ∷ xs.0, xs.1)))
 some_exact n earlier bytes rest =
     then_exact IsBreak (IsNew earlier) name_field IsLineEnd (SomeNames n earlier) names_text (λ xs. names_text (tail xs)) (head_or []) (picks_name n earlier) bytes (next_name_at earlier bytes)

@@ -91,7 +91,7 @@ by_version_word : (r : Reading (Unit {0})) → ((r >>= λ x. one_at version_of x
 by_version_word (Ok x) = by_version (one_at version_of x.1)
 by_version_word (Err left) = refl
 
-pub program_at_is : (bytes : List ℕ) → program_at bytes ≡ as_program (file_at bytes)
+program_at_is : (bytes : List ℕ) → program_at bytes ≡ as_program (file_at bytes)
 unfolding program_at version_at names_line_at me_at file_at
 program_at_is bytes = by_version_word (literal_at (codes "viaduct-host ") bytes)
 
@@ -108,7 +108,7 @@ outcome_as_program : (bytes : List ℕ) (r : Reading File) → outcome bytes (as
 outcome_as_program bytes (Ok f) = refl
 outcome_as_program bytes (Err left) = refl
 
-pub program_read_is : (bytes : List ℕ) → program_read bytes ≡ map_program (file_read bytes)
+program_read_is : (bytes : List ℕ) → program_read bytes ≡ map_program (file_read bytes)
 program_read_is bytes =
     ap (λ r. whole bytes r) (program_at_is bytes) ∙ ap (outcome bytes) (end_as_program (file_at bytes)) ∙ outcome_as_program bytes (to_the_end (file_at bytes))
 

@@ -1,5 +1,5 @@
-pub mod Nested
+mod Nested
 pub mod Fits
-pub mod First
-pub mod Counting
+mod First
+mod Counting
 pub mod Outcomes

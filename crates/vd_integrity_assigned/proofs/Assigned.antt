@@ -68,14 +68,14 @@ module _ (n : ℕ) (f g : HostId → Bool) (same : (k : ℕ) → k < n → f (ho
       by true more = ap₂ (λ (x y : Bool). x || y) (same a (omega (arith, fits))) more
       by false more = more
 
-  pub kept_same : (q : Proto) → HasHosts n q → is_kept f n q ≡ is_kept g n q
+  kept_same : (q : Proto) → HasHosts n q → is_kept f n q ≡ is_kept g n q
   kept_same (Local h) has = same h.0 has
   kept_same (Rep set) has = any_member set 0 n (omega arith)
   kept_same (Commit p v) has = ap₂ (λ (x y : Bool). x || y) (same p.0 has.0) (same v.0 has.1)
   kept_same (Add a b) has = ap₂ (λ (x y : Bool). x && y) (same a.0 has.0) (same b.0 has.1)
   kept_same (Xor a b) has = ap₂ (λ (x y : Bool). x && y) (same a.0 has.0) (same b.0 has.1)
 
-  pub seen_same : (q : Proto) → HasHosts n q → is_seen f n q ≡ is_seen g n q
+  seen_same : (q : Proto) → HasHosts n q → is_seen f n q ≡ is_seen g n q
   seen_same (Local h) has = same h.0 has
   seen_same (Rep set) has = any_member set 0 n (omega arith)
   seen_same (Commit p v) has = same p.0 has.0

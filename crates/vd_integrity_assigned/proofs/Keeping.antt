@@ -59,7 +59,7 @@ module _ (hosts : List Label) (over : AreOverSameNames hosts) (set : ℕ) (low :
   low_integ : (h : HostId) → h.0 < length hosts → set < 2 ^ (integ h).names
   low_integ h declared = subst (λ n. set < 2 ^ n) (sym (over_at h declared).integ) low
 
-  pub is_exact : (q : Proto) → HasHosts (length hosts) q → IsExact hosts set q
+  is_exact : (q : Proto) → HasHosts (length hosts) q → IsExact hosts set q
   is_exact (Local h) has = record { integrity = not_not (at (integ h) set); secrecy = refl }
   is_exact (Rep s) has =
       let hs = members (length hosts) s in

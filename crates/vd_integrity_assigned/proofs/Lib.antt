@@ -1,2 +1,2 @@
-pub mod Keeping
+mod Keeping
 pub mod Assigned

@@ -22,7 +22,7 @@ module _ (keeps : ℕ → Bool) where
   second_of_two : (h : ℕ) (a b : HostId) → h ≡ b.0 → is_either h a b ≡ true
   second_of_two h a b e = or_right (nat_eq h a.0) (nat_eq h b.0) (eq-eqb h b.0 e)
 
-  pub senders_keep : (gadgets : List Gadget) → ActorsKeep (acts_at gadgets) → AllSendersKeep keeps gadgets
+  senders_keep : (gadgets : List Gadget) → ActorsKeep (acts_at gadgets) → AllSendersKeep keeps gadgets
   senders_keep [] keep = tt
   senders_keep (g ∷ gadgets) keep =
       one g (λ h is. keep h (or_left (acts_in h g) (acts_at gadgets h) is)) (senders_keep gadgets (λ h is. keep h (or_right (acts_in h g) (acts_at gadgets h) is)))
@@ -64,7 +64,7 @@ module _ (keeps : ℕ → Bool) where
     of_some true h is = of_first h is
     of_some false h is = of_two h is
 
-    pub sums_are_kept : CallsAreKept keeps (add_calls a b)
+    sums_are_kept : CallsAreKept keeps (add_calls a b)
     sums_are_kept =
         let acts = add_acts a b in
         record {
@@ -78,7 +78,7 @@ module _ (keeps : ℕ → Bool) where
           apply = λ o serves xs next. senders_keep ((add_calls a b).apply o xs next).gadgets (λ h is. of_two h (sym (acts.apply o serves xs next h) ∙ is));
         }
 
-    pub xors_are_kept : ActsWhereItSays (circuit_calls a b) → CallsAreKept keeps (circuit_calls a b)
+    xors_are_kept : ActsWhereItSays (circuit_calls a b) → CallsAreKept keeps (circuit_calls a b)
     xors_are_kept acts = record {
       literal = λ v next. senders_keep ((circuit_calls a b).literal v next).gadgets (λ h is. of_holders h (sym (acts.literal v next h) ∙ is));
       share = λ from x next. senders_keep ((circuit_calls a b).share from x next).gadgets (λ h is. of_two h (sym (acts.share from x next h) ∙ is));
@@ -90,7 +90,7 @@ module _ (keeps : ℕ → Bool) where
       apply = λ o serves xs next. senders_keep ((circuit_calls a b).apply o xs next).gadgets (λ h is. of_some (is_negation o) h (sym (acts.apply o serves xs next h) ∙ is));
     }
 
-    pub conversions_are_kept : ConversionsAreKept keeps a b
+    conversions_are_kept : ConversionsAreKept keeps a b
     conversions_are_kept = record {
       to_bits = λ x next. senders_keep (to_xor_made a b x next).gadgets (λ h is. of_two h (sym (conversions_act.to_bits a b x next h) ∙ is));
       to_sums = λ x next. senders_keep (to_add_made a b x next).gadgets (λ h is. of_two h (sym (conversions_act.to_sums a b x next h) ∙ is));

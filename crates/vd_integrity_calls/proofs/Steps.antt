@@ -22,7 +22,7 @@ differ_of a b e f = grind (arith, rules)
 
 module _ (keeps : ℕ → Bool) (t : Tape) where
   -- acts behind others
-  pub runs_parts : (xs ys : List Act) (w w' : Hosts) → Runs keeps t (xs ++ ys) w w' → (m : Hosts) × (Runs keeps t xs w m × Runs keeps t ys m w')
+  runs_parts : (xs ys : List Act) (w w' : Hosts) → Runs keeps t (xs ++ ys) w w' → (m : Hosts) × (Runs keeps t xs w m × Runs keeps t ys m w')
   runs_parts [] ys w w' runs = (w, (refl, runs))
   runs_parts (act.Do h a ∷ xs) ys w w' runs =
       let more = runs_parts xs ys (after_do t h.0 a w) w' runs.1 in

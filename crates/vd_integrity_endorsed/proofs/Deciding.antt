@@ -26,7 +26,7 @@ use Rattle.vd_integrity_endorsed.proofs.Hiding.{hides, flows, run_of, hidden_sti
 
 module _ (k : Knowledge) (declassified : (x y : ℕ) → k.given.declassified x y ≡ false) where
   -- the same words are still to be endorsed, and what is kept agrees
-  pub record Alike (s t : Given) : Type 0 where
+  record Alike (s t : Given) : Type 0 where
     pub left : s.left ≡ t.left
     pub agree : Agree k s.state t.state
 
@@ -86,7 +86,7 @@ module _ (k : Knowledge) (declassified : (x y : ℕ) → k.given.declassified x 
   hidden_branch tb eb h1 h2 true turn s = let q = hidden_still k eb h2 turn s in (q.left, q.agree)
   hidden_branch tb eb h1 h2 false turn s = let q = hidden_still k tb h1 turn s in (q.left, q.agree)
 
-  pub block_alike : (b : Block) → flows k b ≡ true → (turn : ℕ) (s t : Given) → Alike s t → Alike (run_of k b turn s) (run_of k b turn t)
+  block_alike : (b : Block) → flows k b ≡ true → (turn : ℕ) (s t : Given) → Alike s t → Alike (run_of k b turn s) (run_of k b turn t)
   block_alike End flow turn s t a = a
   block_alike (Let x right rest) flow turn s t a =
       let parts = and_parts (right_flows k x right) (flows k rest) flow in

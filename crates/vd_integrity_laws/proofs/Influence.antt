@@ -36,7 +36,7 @@ out_alone true false off h = absurd (true≢false (sym h))
 out_alone false g off h = refl
 
 module _ (passed : Bool) (h : ℕ) (r : Reach) where
-  abbrev pub reached : Knowledge
+  abbrev reached : Knowledge
   reached = vouching r.slots (cut passed r) nothing r.hosts (λ k. nat_eq k h)
 
   abbrev around : List SlotId → Bool
@@ -160,7 +160,7 @@ module _ (passed : Bool) (h : ℕ) (r : Reach) where
   body_carries [] = λ guards c. (λ is. refl, λ off. refl)
   body_carries (s ∷ body) = more_carry (flow reached s) (map (flow reached) body) (influences passed h r s) (map (influences passed h r) body) (stmt_carries s) (body_carries body)
 
-pub closed_tells : (passed : Bool) (p : NormalForm) (h : HostId) (r : Reach) → IsClosed passed p h r → (first second : List (List ℕ)) → SameInputs r.hosts first second
+closed_tells : (passed : Bool) (p : NormalForm) (h : HostId) (r : Reach) → IsClosed passed p h r → (first second : List (List ℕ)) → SameInputs r.hosts first second
     → endorsed_words p (cut passed r) first ≡ endorsed_words p (cut passed r) second → outputs_to p h first ≡ outputs_to p h second
 closed_tells passed p h r closed first second inputs endorsed =
     let k = reached passed h.0 r in

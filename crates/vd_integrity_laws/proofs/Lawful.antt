@@ -115,7 +115,7 @@ module _ (p : NormalForm) (l : Labels) (T : TruthTable → Bool) (vouched freed 
       pub flows : (sight : Sight) → Shown sight → (see sight).all ≡ true → list_all V m.visible ≡ true → hidden_all m.hidden ≡ true → (f.flows ≡ true) × Shown (see sight).after
       pub hides : Over pc → trusts_at pc ≡ false → hidden_all m.visible ≡ true → hidden_all m.hidden ≡ true → f.hides ≡ true
 
-    abbrev pub Obeys : (NormalForm → Place → Constraints → Constraints) → Seeing → Makes → Flow → Bool → Type 0
+    abbrev Obeys : (NormalForm → Place → Constraints → Constraints) → Seeing → Makes → Flow → Bool → Type 0
     Obeys add see m f below = (pc : Place) (c : Constraints) → below ≡ true → Meets (add p pc c) → Lawful pc c see m f
 
     -- ---- right sides

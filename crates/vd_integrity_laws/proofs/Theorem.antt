@@ -108,13 +108,13 @@ module _ (p : NormalForm) (l : Labels) (well : IsWellMade p) (satisfies : Satisf
           (all_apart visible hidden (made_once (trusts_slot l T) p.body (length p.slots) well.in_order))).0
 
       module _ (shows : Showing) (first second : List (List ℕ)) (same : IsSameToTrust p l T first second) where
-        pub told_same : (h : HostId) → trusts_host p T h.0 ≡ true → outputs_to p h first ≡ outputs_to p h second
+        told_same : (h : HostId) → trusts_host p T h.0 ≡ true → outputs_to p h first ≡ outputs_to p h second
         told_same = outputs_same p (k T trust gains freed trust_view) program_flows shows first second same.inputs same.endorsed
 
-        pub held_same : shown_words p (λ x. trusts_slot l T x && trust_view x) shows first ≡ shown_words p (λ x. trusts_slot l T x && trust_view x) shows second
+        held_same : shown_words p (λ x. trusts_slot l T x && trust_view x) shows first ≡ shown_words p (λ x. trusts_slot l T x && trust_view x) shows second
         held_same = words_same p (k T trust gains freed trust_view) program_flows shows first second same.inputs same.endorsed
 
-        pub let_out_same : declassified_words p freed first ≡ declassified_words p freed second
+        let_out_same : declassified_words p freed first ≡ declassified_words p freed second
         let_out_same = freed_words_same p (k T trust gains freed trust_view) program_flows shows first second same.inputs same.endorsed
 
   nothing_frees : (T : TruthTable → Bool) (vouched : ℕ → ℕ → Bool) (V : ℕ → Bool) → FreesTrusted p l T vouched nothing V (length p.slots)

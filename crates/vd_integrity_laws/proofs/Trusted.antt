@@ -61,7 +61,7 @@ module _ (kept : ℕ → Bool) (vouched freed : ℕ → ℕ → Bool) (known hea
   k = vouching kept vouched freed known heard
 
   -- what is kept, and the hosts whose inputs are known
-  abbrev pub held : Reach
+  abbrev held : Reach
   held = record { slots = k.kept; hosts = k.known }
 
   abbrev around : List SlotId → Bool
@@ -168,7 +168,7 @@ module _ (kept : ℕ → Bool) (vouched freed : ℕ → ℕ → Bool) (known hea
   body_closes [] = λ guards. (λ is flows. refl, λ hides. refl)
   body_closes (s ∷ body) = more_close (flow k s) (map (flow k) body) (influences false h held s) (map (influences false h held) body) (stmt_closes s) (body_closes body)
 
-  pub flows_close : (body : List Stmt) → all_flow (map (flow k) body) ≡ true → all_close (map (influences false h held) body) [] ≡ true
+  flows_close : (body : List Stmt) → all_flow (map (flow k) body) ≡ true → all_close (map (influences false h held) body) [] ≡ true
   flows_close body flows = (body_closes body []).0 refl flows
 
 pub influences_trusted : (p : NormalForm) (l : Labels) (h : HostId) → IsWellMade p → Satisfies (system_of p) l → (hosts : ℕ → Bool) → AreInfluences false p h hosts → AreTrusted p h hosts

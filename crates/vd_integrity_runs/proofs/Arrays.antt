@@ -69,7 +69,7 @@ small_set (x ∷ vs) (suc i) v all small (suc j) = small_set vs i v (λ q. all (
 
 module _ (keeps : ℕ → Bool) where
   -- ---- a word at each host of some places, by their registers
-  pub right_of_each : (w : Hosts) (x : Places) (v : ℕ) → AreApart (hosts_of x) → ((h : ℕ) → IsHost (hosts_of x) h → keeps h ≡ true → (w h).registers (register_of x h).0 ≡ v) → AreRight keeps w x v
+  right_of_each : (w : Hosts) (x : Places) (v : ℕ) → AreApart (hosts_of x) → ((h : ℕ) → IsHost (hosts_of x) h → keeps h ≡ true → (w h).registers (register_of x h).0 ≡ v) → AreRight keeps w x v
   right_of_each w [] v apart each = tt
   right_of_each w (q ∷ x) v apart each = (
     λ is. ap (λ (b : Bool). (w q.0.0).registers (if b then q.1 else register_of x q.0.0).0) (sym (eq-eqb q.0.0 q.0.0 refl)) ∙ each q.0.0 (inl refl) is,
@@ -77,12 +77,12 @@ module _ (keeps : ℕ → Bool) where
         (λ h i is. ap (λ (b : Bool). (w h).registers (if b then q.1 else register_of x h).0) (sym (ne_eqb h q.0.0 (λ e. apart.0 (subst (λ z. IsHost (hosts_of x) z) e i)))) ∙ each h (inr i) is),
   )
 
-  pub to_cell : (w : Hosts) (j : ℕ) (x : Places) (v : ℕ) → AreApart (hosts_of x) → ((h : ℕ) → IsHost (hosts_of x) h → keeps h ≡ true → (w h).registers ((register_of x h).0 + j) ≡ v) → AreRight keeps w (cell j x) v
+  to_cell : (w : Hosts) (j : ℕ) (x : Places) (v : ℕ) → AreApart (hosts_of x) → ((h : ℕ) → IsHost (hosts_of x) h → keeps h ≡ true → (w h).registers ((register_of x h).0 + j) ≡ v) → AreRight keeps w (cell j x) v
   to_cell w j x v apart each =
       right_of_each w (cell j x) v (subst AreApart (sym (hosts_cell j x)) apart)
       (λ h i is. let there = subst (λ (l : List HostId). IsHost l h) (hosts_cell j x) i in ap (λ (r : Reg). (w h).registers r.0) (register_cell j x h there) ∙ each h there is)
 
-  pub from_cell : (w : Hosts) (j : ℕ) (x : Places) (v h : ℕ) → IsHost (hosts_of x) h → AreRight keeps w (cell j x) v → keeps h ≡ true → (w h).registers ((register_of x h).0 + j) ≡ v
+  from_cell : (w : Hosts) (j : ℕ) (x : Places) (v h : ℕ) → IsHost (hosts_of x) h → AreRight keeps w (cell j x) v → keeps h ≡ true → (w h).registers ((register_of x h).0 + j) ≡ v
   from_cell w j x v h i right is =
       ap (λ (r : Reg). (w h).registers r.0) (sym (register_cell j x h i)) ∙ right_register keeps w (cell j x) h v (subst (λ (l : List HostId). IsHost l h) (sym (hosts_cell j x)) i) right is
 

@@ -180,7 +180,7 @@ module _ (hosts : ℕ) (t : Tape) (deal : IsValidDeal t) (inputs : ℕ → List 
       same Array x is = ap Cells (a.arrays x is)
 
   -- ---- branches
-  pub picked_host : (test : ℕ → Bool) (from count h : ℕ) → from ≤ h → h < from + count → test h ≡ true → IsHost (picked from count test) h
+  picked_host : (test : ℕ → Bool) (from count h : ℕ) → from ≤ h → h < from + count → test h ≡ true → IsHost (picked from count test) h
   picked_host test from zero h low high is = absurd (omega (arith, low, high))
   picked_host test from (suc count) h low high is = by (λ d. picked_host test (from + 1) count h (higher d) (omega (arith, high)) is) (test from) refl
     where
@@ -201,7 +201,7 @@ module _ (hosts : ℕ) (t : Tape) (deal : IsValidDeal t) (inputs : ℕ → List 
     abbrev pub test : ℕ → Bool
     test g = (emits tb).takes_part g || (emits eb).takes_part g
 
-    abbrev pub from : Parts
+    abbrev from : Parts
     from = part_of hosts t inputs proto clear e.held x.0
 
     abbrev pub guard : Made Gadget (List (ℕ × ℕ))
@@ -213,7 +213,7 @@ module _ (hosts : ℕ) (t : Tape) (deal : IsValidDeal t) (inputs : ℕ → List 
     abbrev pub first : Emitted (suite_calls hosts) proto
     first = (emits tb).emit start
 
-    abbrev pub second : Emitted (suite_calls hosts) proto
+    abbrev second : Emitted (suite_calls hosts) proto
     second = (emits eb).emit first.state
 
     abbrev pub then_steps : List Doing
@@ -253,10 +253,10 @@ module _ (hosts : ℕ) (t : Tape) (deal : IsValidDeal t) (inputs : ℕ → List 
         loops.begins_at (machine t inputs) (suite t inputs hosts) proto theory declared o (sees tb o).after (sees eb o).after (emits tb) (emits eb) (each stmt_effect tb) (each stmt_effect eb) (length (slots tb)) (length (slots eb)) count
         (turns_at (machine t inputs) (suite t inputs hosts) proto tb) (turns_at (machine t inputs) (suite t inputs hosts) proto eb) comes1 comes2 x sees_x reaches (both_idle (machine t inputs) (suite t inputs hosts) proto theory declared tb eb) e w0 c0 turn has is covers1 covers2 small ties ts
 
-    pub after1 : After (machine t inputs) (suite t inputs hosts) proto o (sees tb o).after start first (length (slots tb)) w1 (effect_of tb turn c0)
+    after1 : After (machine t inputs) (suite t inputs hosts) proto o (sees tb o).after start first (length (slots tb)) w1 (effect_of tb turn c0)
     after1 = comes1 start w1 c0 turn has is covers1 small begins.0.0 begins.0.1
 
-    pub after2 : After (machine t inputs) (suite t inputs hosts) proto o (sees eb o).after first.state second (length (slots eb)) w1 (effect_of eb turn c0)
+    after2 : After (machine t inputs) (suite t inputs hosts) proto o (sees eb o).after first.state second (length (slots eb)) w1 (effect_of eb turn c0)
     after2 = comes2 first.state w1 c0 turn has begins.1.2 covers2 small begins.1.0 begins.1.1
 
     pub flow1 : flows k tb ≡ true
@@ -274,7 +274,7 @@ module _ (hosts : ℕ) (t : Tape) (deal : IsValidDeal t) (inputs : ℕ → List 
         by false f = hidden_flows k eb (and_parts (hides k tb) (hides k eb) f).1
 
     module _ (guard_run : RunsGadgets k.known t guard.acts w u) where
-      pub framed : IsFramed (Free e.next) w u
+      framed : IsFramed (Free e.next) w u
       framed = runs_framed (Free e.next) k.known t guard.acts w u fresh.touches guard_run
 
       pub trust1 : Right' o e.held u c
@@ -366,11 +366,11 @@ module _ (hosts : ℕ) (t : Tape) (deal : IsValidDeal t) (inputs : ℕ → List 
       }
 
       -- nothing in trust changes in either way
-      pub hidden_agrees : (b : Bool) → hides k tb ≡ true → hides k eb ≡ true → (words : List ℕ) (after : SlotState) → all_done (if b then else_steps else then_steps) turn (given c words) ≡ given after [] → Agree k c after
+      hidden_agrees : (b : Bool) → hides k tb ≡ true → hides k eb ≡ true → (words : List ℕ) (after : SlotState) → all_done (if b then else_steps else then_steps) turn (given c words) ≡ given after [] → Agree k c after
       hidden_agrees true h1 h2 words after run = subst (λ (z : Given). Agree k c z.state) run (hidden_still k eb h2 turn (given c words)).agree
       hidden_agrees false h1 h2 words after run = subst (λ (z : Given). Agree k c z.state) run (hidden_still k tb h1 turn (given c words)).agree
 
-      pub hidden_way : (b : Bool) → hides k tb ≡ true → hides k eb ≡ true → (more : List ℕ)
+      hidden_way : (b : Bool) → hides k tb ≡ true → hides k eb ≡ true → (more : List ℕ)
           → all_done (if b then else_steps else then_steps) turn (given c more) ≡ given (in_order (if b then each stmt_effect eb else each stmt_effect tb) turn c) more
       hidden_way true h1 h2 more = hidden_runs k eb h2 turn c more
       hidden_way false h1 h2 more = hidden_runs k tb h1 turn c more
@@ -442,7 +442,7 @@ module _ (hosts : ℕ) (t : Tape) (deal : IsValidDeal t) (inputs : ℕ → List 
         (turns_act (machine t inputs) (suite t inputs hosts) proto theory declared body) e w0 c0 is ties turns small
 
     -- a loop's registers are free ones
-    pub fresh_ones : (h r : ℕ) → r < slice_index e.next h → IsIn registers h r → ⊥
+    fresh_ones : (h r : ℕ) → r < slice_index e.next h → IsIn registers h r → ⊥
     fresh_ones h r less q =
         let p = loops.not_below repeat.acts_at 0 e.next h r q in
         let a = p.2 in

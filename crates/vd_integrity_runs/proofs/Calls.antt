@@ -63,7 +63,7 @@ module _ (keeps : ℕ → Bool) where
   abbrev pub IsKeptAt : Proto → Type 0
   IsKeptAt p = (some : ℕ) × (IsHost (holders p) some × (keeps some ≡ true))
 
-  pub some_keeps : (p : Proto) (x : Places) → hosts_of x ≡ holders p → IsKeptAt p → SomeKeeps keeps x
+  some_keeps : (p : Proto) (x : Places) → hosts_of x ≡ holders p → IsKeptAt p → SomeKeeps keeps x
   some_keeps p x at some = (some.0, (subst (λ (l : List HostId). IsHost l some.0) (sym at) some.1.0, some.1.1))
 
   pub operand_later : (p : Proto) (next next' : List ℕ) (w w' : Hosts) (x : Places) (v : ℕ) → ((h : ℕ) → slice_index next h ≤ slice_index next' h) → AreStill next w w'
@@ -136,7 +136,7 @@ module _ (keeps : ℕ → Bool) where
         let same : h.0 ≡ q.0.0 = sym (ap (λ (l : List HostId). (head_host l).0) at) in
         (ap (λ z. (w z).registers q.1.0) same ∙ right.0 (subst (λ z. keeps z ≡ true) same is), subst (λ z. q.1.0 < slice_index next z) (sym same) below.0)
 
-    pub shared_right : (h : HostId) (q : Proto) → IsInClear q → AreKnown (holders q) next → (x : Places) (v : ℕ) → IsOperand keeps (Local h) next w x v → keeps h.0 ≡ true → Right ((clear_calls q).share h (only x) next) v
+    shared_right : (h : HostId) (q : Proto) → IsInClear q → AreKnown (holders q) next → (x : Places) (v : ℕ) → IsOperand keeps (Local h) next w x v → keeps h.0 ≡ true → Right ((clear_calls q).share h (only x) next) v
     shared_right h q clear known x v o is w' run =
         let there = one_right x h v o.at o.right o.below is in
         subst (λ z. AreRight keeps w' ((clear_calls q).share h (only x) next).given z) there.0 ((copies_stay_right keeps q clear t next w known).share h (only x) there.1 is w' run).right

@@ -91,19 +91,19 @@ module _ (hosts : ℕ) (t : Tape) (deal : IsValidDeal t) (inputs : ℕ → List 
       joins : EachOf (λ g. (g.0 < hosts) × ((suite t inputs hosts).joins (proto i.0) (Local g) ≡ true)) (hosts_at (suite_calls hosts) (proto v.0))
       joins = picked_join _ (suite t inputs hosts) theory proto (proto i.0) (λ h. is_holder (proto v.0) (host h)) 0 hosts (λ g lt is. reaches g (within lt) is) (omega arith)
 
-      pub index_fresh : IsFresh e.next index.acts index.next
+      index_fresh : IsFresh e.next index.acts index.next
       index_fresh = delivered_fresh hosts t deal inputs dealt proto clear declared (proto i.0) (clear i.0) (part_of hosts t inputs proto clear e.held i.0) (hosts_at (suite_calls hosts) (proto v.0)) joins e.next ties.ready.known
 
-      pub index_framed : IsFramed (Free e.next) w m
+      index_framed : IsFramed (Free e.next) w m
       index_framed = runs_framed (Free e.next) k.known t index.acts w m index_fresh.touches run
 
       shadow : Reached (machine t inputs) (suite t inputs hosts) theory e.next w0 (hosts_at (suite_calls hosts) (proto v.0)) index (word_at c0 i)
       shadow = index_reached (machine t inputs) (suite t inputs hosts) proto theory declared o e.next e.held w0 c0 ties v i sees_i reaches
 
-      pub index_low : (h : ℕ) → IsHost (holders (proto v.0)) h → (index_of index.given h).0 < slice_index index.next h
+      index_low : (h : ℕ) → IsHost (holders (proto v.0)) h → (index_of index.given h).0 < slice_index index.next h
       index_low h j = (index_at t deal inputs hosts (proto v.0) (declared v.0) index.next shadow.between.reached index.given (word_at c0 i) shadow.there h j).1
 
-      pub index_there : k.kept i.0 ≡ true → (h : ℕ) → IsHost (holders (proto v.0)) h → k.known h ≡ true → (m h).registers (index_of index.given h).0 ≡ word_at c i
+      index_there : k.kept i.0 ≡ true → (h : ℕ) → IsHost (holders (proto v.0)) h → k.known h ≡ true → (m h).registers (index_of index.given h).0 ≡ word_at c i
       index_there is h j keep =
           index_right k.known m (word_at c i) index.given h
           (subst (In h) (sym (given_hosts hosts t deal inputs dealt proto clear declared (proto i.0) (part_of hosts t inputs proto clear e.held i.0) (hosts_at (suite_calls hosts) (proto v.0)) e.next))
@@ -116,13 +116,13 @@ module _ (hosts : ℕ) (t : Tape) (deal : IsValidDeal t) (inputs : ℕ → List 
       abbrev array : Parts
       array = part_of hosts t inputs proto clear e.held v.0
 
-      pub array_right : k.kept v.0 ≡ true → IsRightIn k.known m array (Cells (array_at c v))
+      array_right : k.kept v.0 ≡ true → IsRightIn k.known m array (Cells (array_at c v))
       array_right is = content_stays k.known w m array (Cells (array_at c v)) tt (λ h r n. still_of e.next w m index_framed h r (ties.below Array v.0 sees_v h r n)) (trust.right Array v.0 sees_v is)
 
-      pub array_below : (h r : ℕ) → Names array h r → r < slice_index index.next h
+      array_below : (h r : ℕ) → Names array h r → r < slice_index index.next h
       array_below h r n = let lt = ties.below Array v.0 sees_v h r n in let le = index_fresh.longer h in omega (arith, lt, le)
 
-      pub array_known : AreKnown (holders (proto v.0)) index.next
+      array_known : AreKnown (holders (proto v.0)) index.next
       array_known = known_at hosts t deal inputs dealt proto clear declared (proto v.0) (declared v.0) index.next (index_fresh.known ∙ ties.ready.known)
 
       -- the element is read, and moved on

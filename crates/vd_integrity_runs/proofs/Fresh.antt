@@ -126,7 +126,7 @@ each_fresh f one (h ∷ hs) next known =
     let next' = (f h next).next in
     fresh_on next next' (each_made f hs next').next (f h next).gadgets (each_made f hs next').gadgets first (each_fresh f one hs next' (known_later hs next next' first.known known.1))
 
-pub each_hosts : (f : HostId → List ℕ → Made Reg) (hs : List HostId) (next : List ℕ) → hosts_of (each_made f hs next).given ≡ hs
+each_hosts : (f : HostId → List ℕ → Made Reg) (hs : List HostId) (next : List ℕ) → hosts_of (each_made f hs next).given ≡ hs
 each_hosts f [] next = refl
 each_hosts f (h ∷ hs) next = ap (λ (l : List HostId). h ∷ l) (each_hosts f hs (f h next).next)
 

@@ -1,13 +1,13 @@
-pub mod Touching
-pub mod Fresh
-pub mod Calls
-pub mod Relation
-pub mod Rights
-pub mod Statements
-pub mod Guards
-pub mod Arrays
-pub mod Cells
-pub mod Blocks
-pub mod Stopping
-pub mod Theorem
+mod Touching
+mod Fresh
+mod Calls
+mod Relation
+mod Rights
+mod Statements
+mod Guards
+mod Arrays
+mod Cells
+mod Blocks
+mod Stopping
+mod Theorem
 pub mod Example

@@ -44,7 +44,7 @@ abbrev pub IsRightIn : (ℕ → Bool) → Hosts → Parts → Content → Type 0
 IsRightIn keeps w x (Word v) = AreRight keeps w x.at v
 IsRightIn keeps w x (Cells vs) = (x.size ≡ length vs) × ((i : ℕ) → i < x.size → AreRight keeps w (cell i x.at) (slice_index vs i))
 
-pub right_stays : (keeps : ℕ → Bool) (w w' : Hosts) (x : Places) (v : ℕ) → ((h r : ℕ) → IsIn x h r → (w' h).registers r ≡ (w h).registers r) → AreRight keeps w x v → AreRight keeps w' x v
+right_stays : (keeps : ℕ → Bool) (w w' : Hosts) (x : Places) (v : ℕ) → ((h r : ℕ) → IsIn x h r → (w' h).registers r ≡ (w h).registers r) → AreRight keeps w x v → AreRight keeps w' x v
 right_stays keeps w w' [] v same right = tt
 right_stays keeps w w' (q ∷ x) v same right = (λ is. same q.0.0 q.1.0 (inl (refl, refl)) ∙ right.0 is, right_stays keeps w w' x v (λ h r i. same h r (inr i)) right.1)
 
@@ -52,13 +52,13 @@ pub content_stays : (keeps : ℕ → Bool) (w w' : Hosts) (x : Parts) (c : Conte
 content_stays keeps w w' x (Word v) size same right = right_stays keeps w w' x.at v (λ h r i. same h r (in_names x h r size i)) right
 content_stays keeps w w' x (Cells vs) size same right = (right.0, λ i lt. right_stays keeps w w' (cell i x.at) (slice_index vs i) (λ h r j. same h r (i, lt, j)) (right.1 i lt))
 
-pub sized_by_use : (u : Use) (c c' : SlotState) (x : ℕ) (p : Parts) → IsSized p (content u c x) → IsSized p (content u c' x)
+sized_by_use : (u : Use) (c c' : SlotState) (x : ℕ) (p : Parts) → IsSized p (content u c x) → IsSized p (content u c' x)
 sized_by_use Binding c c' x p size = size
 sized_by_use Variable c c' x p size = size
 sized_by_use Array c c' x p size = size
 
 module _ (hosts : ℕ) (t : Tape) (inputs : ℕ → List ℕ) (proto : ℕ → Proto) (clear : (x : ℕ) → IsInClear (proto x)) where
-  abbrev pub s : Suite (machine t inputs)
+  abbrev s : Suite (machine t inputs)
   s = suite t inputs hosts
 
   abbrev pub part_of : List Parts → ℕ → Parts

@@ -63,7 +63,7 @@ module _ (hosts : ℕ) (t : Tape) (deal : IsValidDeal t) (inputs : ℕ → List 
   known_at q over next many = subst (λ n. Each (λ (h : HostId). h.0 < n) (holders q)) (sym many) over.known
 
   -- ---- fresh registers
-  pub all_moved_fresh : (q : Proto) → IsInClear q → (e : E) (ys : List SlotId) (next : List ℕ) → AreKnown (holders q) next
+  all_moved_fresh : (q : Proto) → IsInClear q → (e : E) (ys : List SlotId) (next : List ℕ) → AreKnown (holders q) next
       → IsFresh next (all_moved (suite_calls hosts) proto q e ys next).acts (all_moved (suite_calls hosts) proto q e ys next).next
   all_moved_fresh q cq e [] next known = fresh_none next
   all_moved_fresh q cq e (y ∷ ys) next known =

@@ -250,7 +250,7 @@ module _ (hosts : ℕ) (t : Tape) (deal : IsValidDeal t) (inputs : ℕ → List 
       pub known : AreKnown (holders q) (brought y q).next
       pub at : hosts_of (brought y q).given.at ≡ holders q
 
-    pub brings : (y : SlotId) (q : Proto) → IsInClear q → IsOver hosts q → Sees o Binding y.0 → (suite t inputs hosts).joins (proto y.0) q ≡ true → (u : Hosts) → RunsGadgets k.known t (brought y q).acts w u → Brought y q u
+    brings : (y : SlotId) (q : Proto) → IsInClear q → IsOver hosts q → Sees o Binding y.0 → (suite t inputs hosts).joins (proto y.0) q ≡ true → (u : Hosts) → RunsGadgets k.known t (brought y q).acts w u → Brought y q u
     brings y q cq dq sees joins u run =
         let many = ties.ready.known in
         let fresh = moved_fresh (proto y.0) q (clear y.0) cq (part_of hosts t inputs proto clear e.held y.0).at e.next (known_at hosts t deal inputs dealt proto clear declared q dq e.next many) in

@@ -46,10 +46,10 @@ use Rattle.vd_integrity_runs.proofs.Guards.{low_block, nobody_hides, way_is}
 use Rattle.vd_integrity_runs.proofs.Blocks as blocks
 
 -- ---- what is told grows
-pub begins_here : (xs : List ℕ) → Begins xs xs
+begins_here : (xs : List ℕ) → Begins xs xs
 begins_here xs = record { rest = []; is = sym (append-nil xs) }
 
-pub begins_on : (xs ys zs : List ℕ) → Begins xs ys → Begins ys zs → Begins xs zs
+begins_on : (xs ys zs : List ℕ) → Begins xs ys → Begins ys zs → Begins xs zs
 begins_on xs ys zs a b = record { rest = a.rest ++ b.rest; is = b.is ∙ ap (λ (l : List ℕ). l ++ b.rest) a.is ∙ append_assoc xs a.rest b.rest }
 
 told_more : (l : List (List ℕ)) (i w h : ℕ) → Begins (slice_index_or l h []) (slice_index_or (slice_set l i (slice_index_or l i [] ++ w ∷ [])) h [])
@@ -63,7 +63,7 @@ abbrev pub told_to : ℕ → Given → List ℕ
 told_to h s = slice_index_or s.state.world.outputs h []
 
 module _ (k : Knowledge) (h : ℕ) where
-  abbrev pub Grows : Given → Given → Type 0
+  abbrev Grows : Given → Given → Type 0
   Grows s t = Begins (told_to h s) (told_to h t)
 
   grows_here : (s : Given) → Grows s s
@@ -92,7 +92,7 @@ module _ (k : Knowledge) (h : ℕ) where
   turns_grow f one (suc n) s = grows_on s (turns n f s) (f n (turns n f s)) (turns_grow f one n s) (one n (turns n f s))
 
   -- turns that are still to come
-  pub later_turns : (f : Doing) → ((turn : ℕ) (s : Given) → Grows s (f turn s)) → (i n : ℕ) → i ≤ n → (s : Given) → Grows (turns i f s) (turns n f s)
+  later_turns : (f : Doing) → ((turn : ℕ) (s : Given) → Grows s (f turn s)) → (i n : ℕ) → i ≤ n → (s : Given) → Grows (turns i f s) (turns n f s)
   later_turns f one i zero le s = subst (λ z. Grows (turns z f s) s) (sym (none i le)) (grows_here s)
     where
       none : (i : ℕ) → i ≤ 0 → i ≡ 0
@@ -110,7 +110,7 @@ module _ (k : Knowledge) (h : ℕ) where
   branch_grows true ts es turn s first other = other
   branch_grows false ts es turn s first other = first
 
-  pub block_grows : (b : Block) (turn : ℕ) (s : Given) → Grows s (run_of k b turn s)
+  block_grows : (b : Block) (turn : ℕ) (s : Given) → Grows s (run_of k b turn s)
   block_grows End turn s = grows_here s
   block_grows (Let x right rest) turn s =
       let t = bound k.given.endorsed x right turn s in grows_on s t (run_of k rest turn t) (bound_tells x right turn s) (block_grows rest turn t)
@@ -257,7 +257,7 @@ module _ (hosts : ℕ) (t : Tape) (deal : IsValidDeal t) (inputs : ℕ → List 
         front = λ h keep. subst (λ (l : List ℕ). Begins (w' h).printed l) (sym (tells_nothing other h1 h2 a.words h keep) ∙ tells_nothing zero_test h1 h2 [] h keep) (a.front h keep);
       }
 
-      pub branch_stops : (other : Bool) → GoThisWay k.known other (blocks.guard hosts t deal inputs dealt proto clear declared k declassified stays heard n endorses closed alike tb eb (blocks.block_leads hosts t deal inputs dealt proto clear declared k declassified stays heard n endorses closed alike tb) (blocks.block_leads hosts t deal inputs dealt proto clear declared k declassified stays heard n endorses closed alike eb) x offset o count row1 row2 sees_x seen1 seen2 fits1 fits2 placed1 placed2 low1 low2 reaches flow e w0 c0 turn has is covers1 covers2 small ties ts w u w' c trust loop).given u → choice other (Into eb first.state u w') (Into tb start u w') → Whole
+      branch_stops : (other : Bool) → GoThisWay k.known other (blocks.guard hosts t deal inputs dealt proto clear declared k declassified stays heard n endorses closed alike tb eb (blocks.block_leads hosts t deal inputs dealt proto clear declared k declassified stays heard n endorses closed alike tb) (blocks.block_leads hosts t deal inputs dealt proto clear declared k declassified stays heard n endorses closed alike eb) x offset o count row1 row2 sees_x seen1 seen2 fits1 fits2 placed1 placed2 low1 low2 reaches flow e w0 c0 turn has is covers1 covers2 small ties ts w u w' c trust loop).given u → choice other (Into eb first.state u w') (Into tb start u w') → Whole
       branch_stops other ways run = by (k.kept x.0) refl (list_any (λ q. k.known q.0) (blocks.guard hosts t deal inputs dealt proto clear declared k declassified stays heard n endorses closed alike tb eb (blocks.block_leads hosts t deal inputs dealt proto clear declared k declassified stays heard n endorses closed alike tb) (blocks.block_leads hosts t deal inputs dealt proto clear declared k declassified stays heard n endorses closed alike eb) x offset o count row1 row2 sees_x seen1 seen2 fits1 fits2 placed1 placed2 low1 low2 reaches flow e w0 c0 turn has is covers1 covers2 small ties ts w u w' c trust loop).given) refl
         where
           by : (b : Bool) → k.kept x.0 ≡ b → (some : Bool) → list_any (λ q. k.known q.0) (blocks.guard hosts t deal inputs dealt proto clear declared k declassified stays heard n endorses closed alike tb eb (blocks.block_leads hosts t deal inputs dealt proto clear declared k declassified stays heard n endorses closed alike tb) (blocks.block_leads hosts t deal inputs dealt proto clear declared k declassified stays heard n endorses closed alike eb) x offset o count row1 row2 sees_x seen1 seen2 fits1 fits2 placed1 placed2 low1 low2 reaches flow e w0 c0 turn has is covers1 covers2 small ties ts w u w' c trust loop).given ≡ some → Whole
@@ -282,7 +282,7 @@ module _ (hosts : ℕ) (t : Tape) (deal : IsValidDeal t) (inputs : ℕ → List 
   module _ (body : Block) (stops : BlockStops body) (o : Sight) (count : ℕ) (row : InRow count (slots body)) (seen : (sees body o).all ≡ true) (fits : Fits hosts body) (placed : Placed (machine t inputs) (suite t inputs hosts) proto body)
       (low : low_block hosts t deal inputs dealt proto clear declared k declassified stays n body ≡ true) (flow : flows k body ≡ true) (e : Em) (w0 : Hosts) (c0 : SlotState) (is : length e.held ≡ count) (ties : Tie o e w0 c0)
       (w : Hosts) (c : SlotState) (trust : Right' o e.held w c) where
-    pub loop_stops : (often : ℕ) → often ≤ 2 ^ 32 → (i : ℕ) → i < often → (u w' : Hosts) → RunsTurns i (λ j v v'. Run body (blocks.inner hosts t deal inputs dealt proto clear declared k declassified stays heard n endorses closed alike body (blocks.block_leads hosts t deal inputs dealt proto clear declared k declassified stays heard n endorses closed alike body) o count row seen fits placed low flow e w0 c0 is ties w c trust) (turn_begun (blocks.registers hosts t deal inputs dealt proto clear declared k declassified stays heard n endorses closed alike body (blocks.block_leads hosts t deal inputs dealt proto clear declared k declassified stays heard n endorses closed alike body) o count row seen fits placed low flow e w0 c0 is ties w c trust) j v) v') w u → Into body (blocks.inner hosts t deal inputs dealt proto clear declared k declassified stays heard n endorses closed alike body (blocks.block_leads hosts t deal inputs dealt proto clear declared k declassified stays heard n endorses closed alike body) o count row seen fits placed low flow e w0 c0 is ties w c trust) (turn_begun (blocks.registers hosts t deal inputs dealt proto clear declared k declassified stays heard n endorses closed alike body (blocks.block_leads hosts t deal inputs dealt proto clear declared k declassified stays heard n endorses closed alike body) o count row seen fits placed low flow e w0 c0 is ties w c trust) i u) w'
+    loop_stops : (often : ℕ) → often ≤ 2 ^ 32 → (i : ℕ) → i < often → (u w' : Hosts) → RunsTurns i (λ j v v'. Run body (blocks.inner hosts t deal inputs dealt proto clear declared k declassified stays heard n endorses closed alike body (blocks.block_leads hosts t deal inputs dealt proto clear declared k declassified stays heard n endorses closed alike body) o count row seen fits placed low flow e w0 c0 is ties w c trust) (turn_begun (blocks.registers hosts t deal inputs dealt proto clear declared k declassified stays heard n endorses closed alike body (blocks.block_leads hosts t deal inputs dealt proto clear declared k declassified stays heard n endorses closed alike body) o count row seen fits placed low flow e w0 c0 is ties w c trust) j v) v') w u → Into body (blocks.inner hosts t deal inputs dealt proto clear declared k declassified stays heard n endorses closed alike body (blocks.block_leads hosts t deal inputs dealt proto clear declared k declassified stays heard n endorses closed alike body) o count row seen fits placed low flow e w0 c0 is ties w c trust) (turn_begun (blocks.registers hosts t deal inputs dealt proto clear declared k declassified stays heard n endorses closed alike body (blocks.block_leads hosts t deal inputs dealt proto clear declared k declassified stays heard n endorses closed alike body) o count row seen fits placed low flow e w0 c0 is ties w c trust) i u) w'
         → (turn : ℕ) → Stopped (given_step k.given.endorsed (Stmt-F.For often (each (given_step k.given.endorsed) body))) turn w' c
     loop_stops often small i less u w' run into turn =
         let before = blocks.all_turned hosts t deal inputs dealt proto clear declared k declassified stays heard n endorses closed alike body (blocks.block_leads hosts t deal inputs dealt proto clear declared k declassified stays heard n endorses closed alike body) o count row seen fits placed low flow e w0 c0 is ties w c trust i (omega (arith, small, less)) u run in

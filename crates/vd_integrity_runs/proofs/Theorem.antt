@@ -225,7 +225,7 @@ module _ (p : NormalForm) (l : Labels) (well : IsWellMade p) (satisfies : Satisf
         (λ g i. absurd (no_turns (machine t (inputs_of inputs)) (suite t (inputs_of inputs) n) proto p well g i)) (omega arith)
         (tied_at_start (machine t (inputs_of inputs)) (suite t (inputs_of inputs) n) proto n refl inputs fresh starts) (λ g lt i. absurd (true≢false (sym i))) fresh w (start p inputs) begins (λ h less i. absurd (true≢false (sym i))) run
 
-    pub explained : IsExplained p l protocols set inputs w
+    explained : IsExplained p l protocols set inputs w
     explained = record {
       words = leads.words ++ [];
       printed = λ h less keep.
@@ -247,7 +247,7 @@ module _ (p : NormalForm) (l : Labels) (well : IsWellMade p) (satisfies : Satisf
         (λ g i. absurd (no_turns (machine t (inputs_of inputs)) (suite t (inputs_of inputs) n) proto p well g i)) (omega arith)
         (tied_at_start (machine t (inputs_of inputs)) (suite t (inputs_of inputs) n) proto n refl inputs fresh starts) (λ g lt i. absurd (true≢false (sym i))) fresh w (start p inputs) begins (λ h less i. absurd (true≢false (sym i))) run
 
-    pub explained_so_far : IsExplainedSoFar p l set inputs w
+    explained_so_far : IsExplainedSoFar p l set inputs w
     explained_so_far = record {
       words = stopped.words;
       printed = λ h less keep.

@@ -57,14 +57,14 @@ module _ (P : Registered) where
     pub printed : (h : ℕ) → (w' h).printed ≡ (w h).printed
     pub inputs : (h : ℕ) → (w' h).cursors Inputs ≡ (w h).cursors Inputs
 
-  pub framed_here : (w w' : Hosts) → w' ≡ w → IsFramed w w'
+  framed_here : (w w' : Hosts) → w' ≡ w → IsFramed w w'
   framed_here w w' is = record {
     registers = λ h r n. ap (λ (u : Hosts). (u h).registers r) is;
     printed = λ h. ap (λ (u : Hosts). (u h).printed) is;
     inputs = λ h. ap (λ (u : Hosts). (u h).cursors Inputs) is;
   }
 
-  pub framed_on : (w u v : Hosts) → IsFramed w u → IsFramed u v → IsFramed w v
+  framed_on : (w u v : Hosts) → IsFramed w u → IsFramed u v → IsFramed w v
   framed_on w u v a b = record {
     registers = λ h r n. b.registers h r n ∙ a.registers h r n;
     printed = λ h. b.printed h ∙ a.printed h;

@@ -50,7 +50,7 @@ module _ (p : NormalForm) where
     blocks = omega arith;
   }
 
-  pub checks_fit : (checks : List Check) (s : Constraints) → Fits p s → FitChecks p s.blocks checks → Grown p s (with_checks checks s)
+  checks_fit : (checks : List Check) (s : Constraints) → Fits p s → FitChecks p s.blocks checks → Grown p s (with_checks checks s)
   checks_fit checks s fits more = record {
     fits = record {
       principals = fits.principals;

@@ -1,5 +1,5 @@
-pub mod Authorities
-pub mod Fitting
-pub mod Rights
-pub mod Walk
+mod Authorities
+mod Fitting
+mod Rights
+mod Walk
 pub mod Systems

@@ -6,7 +6,7 @@ use Rattle.vd_link.specs.Sessions.{Ends, Greeting, NamesWrong, wanted_greeting}
 use Rattle.vd_link.specs.declared.faults.GreetFault.TheVariants as greet_fault
 use Rattle.vd_link.proofs.Streams.{front_same}
 
-pub record SameParts (plan other : List ℕ) (from to peer me : ℕ) : Type 0 where
+record SameParts (plan other : List ℕ) (from to peer me : ℕ) : Type 0 where
   pub plans : plan ≡ other
   pub senders : from ≡ peer
   pub receivers : to ≡ me

@@ -1,5 +1,5 @@
-pub mod Filling
+mod Filling
 pub mod GreetingLaws
-pub mod Greetings
+mod Greetings
 pub mod Streams
-pub mod Words
+mod Words

@@ -25,7 +25,7 @@ word_same : (word other : ℕ) → word < 2 ^ 32 → other < 2 ^ 32 → to_be_by
 word_same word other fits other_fits is =
     sym (from_be_bytes-to_be_bytes_4 word fits) ∙ ap (from_be_bytes w32) is ∙ from_be_bytes-to_be_bytes_4 other other_fits
 
-pub words_same : (words others rest behind : List ℕ) → AreWords words → AreWords others → length words ≡ length others
+words_same : (words others rest behind : List ℕ) → AreWords words → AreWords others → length words ≡ length others
     → flat_map (to_be_bytes w32) words ++ rest ≡ flat_map (to_be_bytes w32) others ++ behind → (words ≡ others) × (rest ≡ behind)
 words_same [] [] rest behind fit other_fit same is = (refl, is)
 words_same [] (other ∷ others) rest behind fit other_fit same is = absurd (omega (arith, same))

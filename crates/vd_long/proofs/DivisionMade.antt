@@ -75,7 +75,7 @@ pub record TemplateLaw (t : Template) (o : Op) (k : ℕ) : Type 0 where
   pub count : (at : ℕ → ℕ) (offset block : ℕ) (m : Made) → (steps_made at offset block t.behind (looped at offset block t.turn (steps_made at offset block t.start m))).next ≡ m.next + k
   pub table : (at : ℕ → ℕ) (offset block : ℕ) (m : Made) → (steps_made at offset block t.behind (looped at offset block t.turn (steps_made at offset block t.start m))).table ≡ m.table
 
-pub quotient_law : TemplateLaw quotient_template Div 19
+quotient_law : TemplateLaw quotient_template Div 19
 quotient_law =
     record {
       plain_start = refl;
@@ -87,7 +87,7 @@ quotient_law =
       table = λ at offset block m. refl;
     }
 
-pub remainder_law : TemplateLaw remainder_template Rem 13
+remainder_law : TemplateLaw remainder_template Rem 13
 remainder_law =
     record {
       plain_start = refl;
@@ -136,7 +136,7 @@ module _ (t : Template) (o : Op) (k : ℕ) (law : TemplateLaw t o k) (old : List
       ∙ ap (λ (z : SlotState). run at (as_effects t.behind) turn z)
       (looped_state at offset block t.turn first turn s0 law.plain_turn ∙ ap (λ (z : SlotState). turns 32 (run at (as_effects t.turn)) z) (steps_state at offset block t.start m turn s0 law.plain_start)))
 
-  pub made_grown : Placed m.table m.next → Grown m made 1
+  made_grown : Placed m.table m.next → Grown m made 1
   made_grown p =
       let n = law.count at offset block m in
       let e = law.table at offset block m in
@@ -147,13 +147,13 @@ module _ (t : Template) (o : Op) (k : ℕ) (law : TemplateLaw t o k) (old : List
         kept = λ j h. ap (λ (z : List ℕ). slice_index (z ++ done.next ∷ []) j) e ∙ item_old m.table done.next j h;
       }
 
-  pub made_adds : (turn : ℕ) (s0 : SlotState) → Adds m.next (state m turn s0) (state made turn s0)
+  made_adds : (turn : ℕ) (s0 : SlotState) → Adds m.next (state m turn s0) (state made turn s0)
   made_adds turn s0 =
       let keeps = law.keeps at turn (state m turn s0) in
       subst (λ (z : SlotState). Adds m.next (state m turn s0) z) (sym (made_state turn s0))
       (record { world = keeps.world; arrays = keeps.arrays; below = λ j lt. keeps.words j (outside_at m.next a b j lt) })
 
-  pub made_word : a < m.next → b < m.next → (turn : ℕ) (s0 : SlotState) → word (state m turn s0) a < 2 ^ 32 → word (state made turn s0) (slice_index made.table (length m.table)) ≡ operation o (word (state m turn s0) a) (word (state m turn s0) b) 0
+  made_word : a < m.next → b < m.next → (turn : ℕ) (s0 : SlotState) → word (state m turn s0) a < 2 ^ 32 → word (state made turn s0) (slice_index made.table (length m.table)) ≡ operation o (word (state m turn s0) a) (word (state m turn s0) b) 0
   made_word la lb turn s0 lt =
       let e = law.table at offset block m in
       let there : slice_index made.table (length m.table) ≡ m.next + k = ap (λ (z : List ℕ). slice_index (z ++ done.next ∷ []) (length m.table)) e ∙ item_last m.table done.next ∙ law.count at offset block m in
@@ -171,7 +171,7 @@ pub record IsDivision (r : Right) : Type 0 where
   pub parts : parts_of r ≡ Some (record { template = template; dividend = a; divisor = b })
   pub which : (template ≡ quotient_template) ⊎ (template ≡ remainder_template)
 
-pub classify : (r : Right) → (parts_of r ≡ None) ⊎ IsDivision r
+classify : (r : Right) → (parts_of r ≡ None) ⊎ IsDivision r
 classify (right.Apply Div []) = inl refl
 classify (right.Apply Div (a ∷ [])) = inl refl
 classify (right.Apply Div (a ∷ b ∷ [])) = inr (record { template = quotient_template; op = Div; count = 19; law = quotient_law; a = a; b = b; is = refl; parts = refl; which = inl refl })
@@ -259,7 +259,7 @@ long_laws lengthens old =
           word = gives ∙ ap₂ (λ (y z : ℕ). operation d.op y z 0) same_a same_b ∙ ap (λ (z : Right). right_word z turn s) (sym d.is);
         }
 
-pub long_divisions_keep : (lengthens : SlotId → Bool) (program : NormalForm) → SlotsInOrder program → SlotsMadeBefore program → NumbersFit program → (inputs : List (List ℕ)) → AllWords inputs
+long_divisions_keep : (lengthens : SlotId → Bool) (program : NormalForm) → SlotsInOrder program → SlotsMadeBefore program → NumbersFit program → (inputs : List (List ℕ)) → AllWords inputs
     → program_outputs (with_long_divisions lengthens program) inputs ≡ program_outputs program inputs
 long_divisions_keep lengthens program order before fit inputs words =
     outputs_kept nothing_hidden (long_let lengthens program.slots) ⊥ IsWord Words numbers_fit (long_laws lengthens program.slots) program order before fit (omega arith) inputs (words_at_start (length program.hosts) inputs words)

@@ -47,7 +47,7 @@ step_keeps at turn (Stmt-F.Output x host offset) s p = absurd (true≢false (sym
 step_keeps at turn (Stmt-F.If guard a b offset) s p = absurd (true≢false (sym p))
 step_keeps at turn (Stmt-F.For count body) s p = absurd (true≢false (sym p))
 
-pub run_keeps : (at : ℕ → ℕ) (turn : ℕ) (xs : List (Stmt-F Effect)) (s : SlotState) → all_plain xs ≡ true → KeepsOthers at s (run at xs turn s)
+run_keeps : (at : ℕ → ℕ) (turn : ℕ) (xs : List (Stmt-F Effect)) (s : SlotState) → all_plain xs ≡ true → KeepsOthers at s (run at xs turn s)
 run_keeps at turn [] s p = keeps_self at s
 run_keeps at turn (x ∷ xs) s p =
     let both = and_parts (is_plain x) (all_plain xs) p in

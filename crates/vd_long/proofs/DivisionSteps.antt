@@ -37,23 +37,23 @@ View = ℕ → ℕ
 abbrev pub view : (ℕ → ℕ) → SlotState → View
 view at s p = slice_index s.words (at p)
 
-abbrev pub set : ℕ → ℕ → View → View
+abbrev set : ℕ → ℕ → View → View
 set p w seen j = if nat_eq p j then w else seen j
 
-abbrev pub seen_right : Right → View → ℕ
+abbrev seen_right : Right → View → ℕ
 seen_right (Lit n) seen = n
 seen_right (Copy x) seen = seen x.0
 seen_right (Apply op xs) seen = result_of op (map (λ (x : SlotId). seen x.0) xs)
 seen_right (Load v) seen = seen v.0
 seen_right other seen = 0
 
-abbrev pub seen_step : Stmt-F Effect → View → View
+abbrev seen_step : Stmt-F Effect → View → View
 seen_step (Stmt-F.Let x right) seen = set x.0 (seen_right right seen) seen
 seen_step (Stmt-F.NewVar v x) seen = set v.0 (seen x.0) seen
 seen_step (Stmt-F.Store v x) seen = set v.0 (seen x.0) seen
 seen_step other seen = seen
 
-abbrev pub seen_run : List (Stmt-F Effect) → View → View
+abbrev seen_run : List (Stmt-F Effect) → View → View
 seen_run [] seen = seen
 seen_run (s ∷ ss) seen = seen_run ss (seen_step s seen)
 
@@ -78,7 +78,7 @@ run at ss = in_order (map (λ (s : Stmt-F Effect). stmt_effect (placed at s)) ss
 abbrev pub IsApart : (ℕ → ℕ) → Type 0
 IsApart at = (p j : ℕ) → 2 ≤ p → at p ≡ at j → p ≡ j
 
-abbrev pub Shows : (ℕ → ℕ) → SlotState → View → Type 0
+abbrev Shows : (ℕ → ℕ) → SlotState → View → Type 0
 Shows at s seen = (j : ℕ) → view at s j ≡ seen j
 
 shows_set : (at : ℕ → ℕ) → IsApart at → (s : SlotState) (seen : View) (p w w' : ℕ) → 2 ≤ p → w ≡ w' → Shows at s seen → Shows at (with_word (slot (at p)) w s) (set p w' seen)
@@ -121,13 +121,13 @@ abbrev pub all_plain : List (Stmt-F Effect) → Bool
 all_plain [] = true
 all_plain (x ∷ xs) = is_plain x && all_plain xs
 
-pub run_shown : (at : ℕ → ℕ) → IsApart at → (turn : ℕ) (xs : List (Stmt-F Effect)) (s : SlotState) (seen : View) → all_plain xs ≡ true → Shows at s seen → Shows at (run at xs turn s) (seen_run xs seen)
+run_shown : (at : ℕ → ℕ) → IsApart at → (turn : ℕ) (xs : List (Stmt-F Effect)) (s : SlotState) (seen : View) → all_plain xs ≡ true → Shows at s seen → Shows at (run at xs turn s) (seen_run xs seen)
 run_shown at apart turn [] s seen p h = h
 run_shown at apart turn (x ∷ xs) s seen p h =
     let both = and_parts (is_plain x) (all_plain xs) p in
     run_shown at apart turn xs (stmt_effect (placed at x) turn s) (seen_step x seen) both.1 (step_shown at apart turn x s seen both.0 h)
 
-abbrev pub division_seen : View → Division
+abbrev division_seen : View → Division
 division_seen seen = record { left = seen 4; quotient = seen 5; rest = seen 6 }
 
 turn_seen : (seen : View) → division_seen (seen_run division_turn seen) ≡ divided_turn (seen 3) (division_seen seen)
@@ -139,7 +139,7 @@ record Looped (count : ℕ) (start : View) (seen : View) : Type 0 where
   pub divisor : seen 3 ≡ start 1
   pub none : seen 2 ≡ 0
 
-abbrev pub looped : ℕ → View → View
+abbrev looped : ℕ → View → View
 looped zero seen = seen
 looped (suc count) seen = seen_run division_turn (looped count seen)
 
@@ -182,7 +182,7 @@ record LoopedRest (count : ℕ) (start : View) (seen : View) : Type 0 where
   pub rest : seen 5 ≡ (divided (start 0) (start 1) count).rest
   pub divisor : seen 3 ≡ start 1
 
-abbrev pub looped_rest : ℕ → View → View
+abbrev looped_rest : ℕ → View → View
 looped_rest zero seen = seen
 looped_rest (suc count) seen = seen_run remainder_turn (looped_rest count seen)
 

@@ -418,7 +418,7 @@ pub fits_all : (principals : List (List ℕ)) (hosts : ℕ) (r : Right) → (d :
 fits_all principals hosts r d (inl e) = subst (λ (t : Template). Fits t principals hosts) (sym e) (quotient_fits principals hosts)
 fits_all principals hosts r d (inr e) = subst (λ (t : Template). Fits t principals hosts) (sym e) (remainder_fits principals hosts)
 
-pub long_fits : (lengthens : SlotId → Bool) (old : List Slot) (principals : List (List ℕ)) (hosts : ℕ) → list_all (entry_passes principals) old ≡ true → LetsFit (long_let lengthens old) principals hosts 1
+long_fits : (lengthens : SlotId → Bool) (old : List Slot) (principals : List (List ℕ)) (hosts : ℕ) → list_all (entry_passes principals) old ≡ true → LetsFit (long_let lengthens old) principals hosts 1
 long_fits lengthens old principals hosts pass =
     let kept = kept_fits old principals hosts pass in
     let fits : (r : Right) (d : IsDivision r) → Fits d.template principals hosts = λ r d. fits_all principals hosts r d d.which in

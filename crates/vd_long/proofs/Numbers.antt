@@ -44,7 +44,7 @@ choice_is : (b : Bool) (m n : ℕ) → IsWord m → IsWord n → IsWord (if b th
 choice_is true m n p q = p
 choice_is false m n p q = q
 
-pub operation_is : (o : Op) (x y z : ℕ) → IsWord x → IsWord y → IsWord z → IsWord (operation o x y z)
+operation_is : (o : Op) (x y z : ℕ) → IsWord x → IsWord y → IsWord z → IsWord (operation o x y z)
 operation_is Add x y z a b c = mod-lt (x + y) (omega arith)
 operation_is Sub x y z a b c = mod-lt (x + (2 ^ 32 - y)) (omega arith)
 operation_is Mul x y z a b c = mod-lt (x * y) (omega arith)
@@ -98,7 +98,7 @@ first_is : (xs : List ℕ) → AreWords xs → IsWord (first_word xs)
 first_is [] h = omega arith
 first_is (x ∷ xs) h = h zero
 
-pub right_is : (r : Right) (turn : ℕ) (s : SlotState) → number_fits r ≡ true → IsWord turn → Words s → IsWord (right_word r turn s)
+right_is : (r : Right) (turn : ℕ) (s : SlotState) → number_fits r ≡ true → IsWord turn → Words s → IsWord (right_word r turn s)
 right_is (Lit n) turn s fits t w = grind (arith, nat_tests)
 right_is Turn turn s fits t w = t
 right_is (Copy x) turn s fits t w = w.words x.0
@@ -141,7 +141,7 @@ word_kept s x w lt h = record { words = put_are s.words x.0 w lt h.words; arrays
 array_kept : (s : SlotState) (v : SlotId) (ws : List ℕ) → AreWords ws → Words s → Words (with_array v ws s)
 array_kept s v ws lt h = record { words = h.words; arrays = put_all s.arrays v.0 ws lt h.arrays; inputs = h.inputs }
 
-abbrev pub Keeps : Effect → Type 0
+abbrev Keeps : Effect → Type 0
 Keeps f = (turn : ℕ) (s : SlotState) → IsWord turn → Words s → Words (f turn s)
 
 abbrev test : Stmt-F Bool → Bool

@@ -1,16 +1,16 @@
-pub mod Writes
-pub mod Digests
+mod Writes
+mod Digests
 pub mod Items
-pub mod Taking
-pub mod Spans
-pub mod Framing
-pub mod Steps
-pub mod Resolving
-pub mod Whole
-pub mod Loading
-pub mod Places
-pub mod Rooms
-pub mod Packets
-pub mod Widths
+mod Taking
+mod Spans
+mod Framing
+mod Steps
+mod Resolving
+mod Whole
+mod Loading
+mod Places
+mod Rooms
+mod Packets
+mod Widths
 pub mod Weights
 pub mod Running

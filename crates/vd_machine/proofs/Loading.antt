@@ -72,7 +72,7 @@ load_peers lists taken hosts is n e f g = record {
 }
 
 -- what holds of each instruction of a code holds of each in its list
-abbrev pub EachFits : ℕ → List Op → Type 0
+abbrev EachFits : ℕ → List Op → Type 0
 EachFits hosts [] = Unit {0}
 EachFits hosts (i ∷ is) = PacketFits hosts i × EachFits hosts is
 

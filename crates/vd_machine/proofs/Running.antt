@@ -26,10 +26,10 @@ use Rattle.vd_machine.proofs.Rooms.{plain_room, turned_room}
 
 -- ---- steps in a row
 
-pub quietly_none : (l : Lists) (s t : State) → t ≡ s → Quietly l s t
+quietly_none : (l : Lists) (s t : State) → t ≡ s → Quietly l s t
 quietly_none l s t e = (zero, e)
 
-pub quietly_one : (l : Lists) (s t : State) → IsQuiet l s → t ≡ next s (words_for l s.cursors [] (need s)) → Quietly l s t
+quietly_one : (l : Lists) (s t : State) → IsQuiet l s → t ≡ next s (words_for l s.cursors [] (need s)) → Quietly l s t
 quietly_one l s t q e = (suc zero, (q, e))
 
 both : (n : ℕ) (l : Lists) (s t u : State) → QuietSteps l n s t → Quietly l t u → Quietly l s u
@@ -134,7 +134,7 @@ pub counters : (r : ℕ) (code : List Op) (below : List Frame) → All (λ f. Fr
 counters r code below h = λ k d less. counter r code (get_or below k d) (h k d less)
 
 -- it is one quiet step
-pub turn_steps : (code : List Op) (top top2 : Frame) (below below2 : List Frame) (regs regs2 : List ℕ) (l : Lists) (t : Taken)
+turn_steps : (code : List Op) (top top2 : Frame) (below below2 : List Frame) (regs regs2 : List ℕ) (l : Lists) (t : Taken)
     → IsOver top → TurnsInPlace below below2 top2 (held regs) (held regs2)
     → QuietSteps l (suc zero) (state_of (kept_as code top below regs l t)) (state_of (kept_as code top2 below2 regs2 l t))
 turn_steps code top top2 below below2 regs regs2 l t over p =

@@ -35,7 +35,7 @@ action_more n m (action.Put x count i s) h f = let a = f.0 in let b = f.1 in let
 registers_more : (n m : ℕ) (rs : List Reg) → n ≤ m → All (λ r. r.0 < n) rs → All (λ r. r.0 < m) rs
 registers_more n m rs h f = λ k d less. let a = f k d less in omega (arith, h, a)
 
-pub instr_more : (n m : ℕ) (i : Instr) → n ≤ m → InstrFits n i → InstrFits m i
+instr_more : (n m : ℕ) (i : Instr) → n ≤ m → InstrFits n i → InstrFits m i
 instr_more n m (instr.Do a) h f = action_more n m a h f
 instr_more n m (instr.Send p rs) h f = registers_more n m rs h f
 instr_more n m (instr.Recv p rs) h f = registers_more n m rs h f

@@ -27,7 +27,7 @@ turn_laws hides program =
       guard = λ u g a b offset met s holds. holds.words g met;
     }
 
-pub selections_keep : (hides : SlotId → Bool) (program : NormalForm) → SlotsInOrder program → SlotsMadeBefore program → HasBooleanGuards program → (inputs : List (List ℕ))
+selections_keep : (hides : SlotId → Bool) (program : NormalForm) → SlotsInOrder program → SlotsMadeBefore program → HasBooleanGuards program → (inputs : List (List ℕ))
     → program_outputs (with_selections hides program) inputs ≡ program_outputs program inputs
 selections_keep hides program order before truths inputs =
     let truth : SlotId → Bool = λ x. is_truth_slot program.slots x.0 in

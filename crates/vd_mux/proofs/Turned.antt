@@ -19,10 +19,10 @@ module _ (hides : SlotId → Bool) (program : NormalForm) where
   abbrev changed : Bool
   changed = some_changed (rewritings hides (kept_let program.slots) program.slots program.body)
 
-  pub turned_if : (b c : Bool) → changed ≡ b → is_within (with_selections hides program) ≡ c → turned hides program ≡ (if b && c then with_selections hides program else program)
+  turned_if : (b c : Bool) → changed ≡ b → is_within (with_selections hides program) ≡ c → turned hides program ≡ (if b && c then with_selections hides program else program)
   turned_if b c e e' = ap (λ (z : Bool). if z && is_within (with_selections hides program) then with_selections hides program else program) e ∙ ap (λ (z : Bool). if b && z then with_selections hides program else program) e'
 
-  pub not_within : (b : Bool) → changed ≡ b → is_within (with_selections hides program) ≡ false → turned hides program ≡ program
+  not_within : (b : Bool) → changed ≡ b → is_within (with_selections hides program) ≡ false → turned hides program ≡ program
   not_within true e e' = turned_if true false e e'
   not_within false e e' = turned_if false false e e'
 

@@ -16,10 +16,10 @@ use Rattle.vd_noninter.specs.Reached.{in_reach, holds, all_hold, IsWith, Follows
 use Rattle.vd_noninter.proofs.Closing.{and_true, and_swap}
 
 -- ---- reaches
-pub within_self : (r : Reach) → IsWithin r r
+within_self : (r : Reach) → IsWithin r r
 within_self r = record { slots = λ x is. is; hosts = λ k is. is }
 
-pub within_trans : (a b c : Reach) → IsWithin a b → IsWithin b c → IsWithin a c
+within_trans : (a b c : Reach) → IsWithin a b → IsWithin b c → IsWithin a c
 within_trans a b c first second = record { slots = λ x is. second.slots x (first.slots x is); hosts = λ k is. second.hosts k (first.hosts k is) }
 
 in_more : (old more : Reach) → IsWithin old more → (node : Node) → in_reach old node ≡ true → in_reach more node ≡ true
@@ -51,21 +51,21 @@ module _ (old more : ℕ → Bool) (at : ℕ) (is : (k : ℕ) → more k ≡ (na
   no_other other before there k h =
       or_parts (nat_eq k at) (old k) (other k ≡ true) (sym (is k) ∙ h) (λ same. subst (λ j. other j ≡ true) (sym (eqb-true k at same)) there) (before k)
 
-pub slot_added : (old more : Reach) (x : SlotId) → ((k : ℕ) → more.slots k ≡ (nat_eq k x.0 || old.slots k)) → ((k : ℕ) → more.hosts k ≡ old.hosts k) → IsWith (Slot x) old more
+slot_added : (old more : Reach) (x : SlotId) → ((k : ℕ) → more.slots k ≡ (nat_eq k x.0 || old.slots k)) → ((k : ℕ) → more.hosts k ≡ old.hosts k) → IsWith (Slot x) old more
 slot_added old more x slots hosts = record {
   kept = record { slots = still old.slots more.slots x.0 slots; hosts = λ k h. hosts k ∙ h };
   there = now_in old.slots more.slots x.0 slots;
   least = λ other is there. record { slots = no_other old.slots more.slots x.0 slots other.slots is.slots there; hosts = λ k h. is.hosts k (sym (hosts k) ∙ h) };
 }
 
-pub host_added : (old more : Reach) (host : HostId) → ((k : ℕ) → more.slots k ≡ old.slots k) → ((k : ℕ) → more.hosts k ≡ (nat_eq k host.0 || old.hosts k)) → IsWith (Inputs host) old more
+host_added : (old more : Reach) (host : HostId) → ((k : ℕ) → more.slots k ≡ old.slots k) → ((k : ℕ) → more.hosts k ≡ (nat_eq k host.0 || old.hosts k)) → IsWith (Inputs host) old more
 host_added old more host slots hosts = record {
   kept = record { slots = λ k h. slots k ∙ h; hosts = still old.hosts more.hosts host.0 hosts };
   there = now_in old.hosts more.hosts host.0 hosts;
   least = λ other is there. record { slots = λ k h. is.slots k (sym (slots k) ∙ h); hosts = no_other old.hosts more.hosts host.0 hosts other.hosts is.hosts there };
 }
 
-pub told_added : (old : Reach) → IsWith Told old old
+told_added : (old : Reach) → IsWith Told old old
 told_added old = record { kept = within_self old; there = refl; least = λ other is there. is }
 
 -- ---- one link

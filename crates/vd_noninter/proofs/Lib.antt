@@ -1,8 +1,8 @@
-pub mod Closing
-pub mod Marked
+mod Closing
+mod Marked
 pub mod Following
 pub mod Declared
 pub mod Hosts
 pub mod Answered
-pub mod Influencing
+mod Influencing
 pub mod Influenced

@@ -1,6 +1,6 @@
-pub mod Clear
+mod Clear
 pub mod Slots
 pub mod Places
-pub mod Words
+mod Words
 pub mod Theorem
 pub mod Examples

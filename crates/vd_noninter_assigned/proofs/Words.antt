@@ -73,7 +73,7 @@ module _ (protocols : List Proto) (h : HostId) (l : Labels) where
   run_step (Stmt-F.If g a b offset) = rw (runs_are a, runs_are b) refl
   run_step (Stmt-F.For count body) = rw (runs_are body) refl
 
-  pub heard_runs : (s : Stmt) → (heard protocols h l s).run ≡ effect s
+  heard_runs : (s : Stmt) → (heard protocols h l s).run ≡ effect s
   heard_runs = ind-Stmt (λ s. (heard protocols h l s).run ≡ effect s) (λ x y is. subst (λ z. (heard protocols h l (roll-Stmt z)).run ≡ effect (roll-Stmt z)) is (at_roll y))
     where
       at_roll : (y : Stmt-F R) → (heard protocols h l (roll-Stmt (run_layer y))).run ≡ effect (roll-Stmt (run_layer y))

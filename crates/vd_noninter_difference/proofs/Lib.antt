@@ -1,4 +1,4 @@
-pub mod Puts
-pub mod Runs
-pub mod Labels
+mod Puts
+mod Runs
+mod Labels
 pub mod Differences

@@ -3,13 +3,13 @@ use Rattle.std.proofs.Common.{◌≡◌, ℕ, zero, suc, ◌<◌, ◌≤◌, Lis
 use Rattle.vd_semantics.specs.Stores.{put}
 
 -- the default may be written out
-pub put_past : {A : Type 0} (d : A) (s : List A) (k : ℕ) (x : A) → length s ≤ k → put d (s ++ d ∷ []) k x ≡ put d s k x
+put_past : {A : Type 0} (d : A) (s : List A) (k : ℕ) (x : A) → length s ≤ k → put d (s ++ d ∷ []) k x ≡ put d s k x
 put_past d [] zero x le = refl
 put_past d [] (suc k) x le = refl
 put_past d (y ∷ ys) zero x le = absurd (omega arith)
 put_past d (y ∷ ys) (suc k) x le = ap (λ z. y ∷ z) (put_past d ys k x (omega arith))
 
-pub put_within : {A : Type 0} (d : A) (s : List A) (k : ℕ) (x : A) → k < length s → put d s k x ≡ slice_set s k x
+put_within : {A : Type 0} (d : A) (s : List A) (k : ℕ) (x : A) → k < length s → put d s k x ≡ slice_set s k x
 put_within d [] k x lt = absurd (omega arith)
 put_within d (y ∷ ys) zero x lt = refl
 put_within d (y ∷ ys) (suc k) x lt = ap (λ z. y ∷ z) (put_within d ys k x (omega arith))
@@ -21,7 +21,7 @@ pub put_done : {A : Type 0} (d : A) (s : List A) (k : ℕ) (x : A) (e : List A) 
 put_done d s k x e lt h = sym (put_within d s k x lt) ∙ h
 
 -- the default of a read within the length is not looked at
-pub read_within : {A : Type 0} (s : List A) (k : ℕ) (d d' : A) → k < length s → slice_index_or s k d ≡ slice_index_or s k d'
+read_within : {A : Type 0} (s : List A) (k : ℕ) (d d' : A) → k < length s → slice_index_or s k d ≡ slice_index_or s k d'
 read_within [] k d d' lt = absurd (omega arith)
 read_within (x ∷ xs) zero d d' lt = refl
 read_within (x ∷ xs) (suc k) d d' lt = read_within xs k d d' (omega arith)

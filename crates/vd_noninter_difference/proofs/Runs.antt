@@ -27,14 +27,14 @@ abbrev pub with_words : SlotState → List ℕ → HeardRun
 with_words s ws = record { state = s; words = ws }
 
 -- statements one after another
-pub all_after : (hs : List Heard) (turn : ℕ) (r : HeardRun) → after_all hs turn r ≡ with_words (in_order (map run_of hs) turn r.state) (r.words ++ heard_in_order hs turn r.state)
+all_after : (hs : List Heard) (turn : ℕ) (r : HeardRun) → after_all hs turn r ≡ with_words (in_order (map run_of hs) turn r.state) (r.words ++ heard_in_order hs turn r.state)
 all_after [] turn r = ap (with_words r.state) (sym (append-nil r.words))
 all_after (s ∷ more) turn r =
     all_after more turn (after s turn r)
     ∙ ap (with_words (in_order (map run_of more) turn (s.run turn r.state))) (append_assoc r.words (s.words turn r.state) (heard_in_order more turn (s.run turn r.state)))
 
 -- turns one after another
-pub turns_after : (n : ℕ) (hs : List Heard) (r : HeardRun) → turns n (after_all hs) r ≡ with_words (turns n (in_order (map run_of hs)) r.state) (r.words ++ heard_in_turns n hs r.state)
+turns_after : (n : ℕ) (hs : List Heard) (r : HeardRun) → turns n (after_all hs) r ≡ with_words (turns n (in_order (map run_of hs)) r.state) (r.words ++ heard_in_turns n hs r.state)
 turns_after zero hs r = ap (with_words r.state) (sym (append-nil r.words))
 turns_after (suc n) hs r =
     ap (after_all hs n) (turns_after n hs r)
@@ -64,19 +64,19 @@ branch_after x g first other offset turn r =
     chosen (nat_eq (word_at r.state g) 0) (all_heard x first) (all_heard x other) turn r (guard_heard x g (all_heard x first) (all_heard x other) r.state)
     ∙ ap (λ (s : Heard). after s turn r) (sym (heard_branch x g first other offset))
 
-pub other_after : (x : Hearer) (g : SlotId) (first other : List Stmt) (offset turn : ℕ) (r : HeardRun) → word_at r.state g ≡ 0
+other_after : (x : Hearer) (g : SlotId) (first other : List Stmt) (offset turn : ℕ) (r : HeardRun) → word_at r.state g ≡ 0
     → after_all (all_heard x other) turn (record r { words = r.words ++ guard_heard x g (all_heard x first) (all_heard x other) r.state }) ≡ after (heard_by x (If g first other offset)) turn r
 other_after x g first other offset turn r none =
     ap (λ (b : Bool). after_all (if b then all_heard x other else all_heard x first) turn (record r { words = r.words ++ guard_heard x g (all_heard x first) (all_heard x other) r.state })) (sym (eq-eqb (word_at r.state g) 0 none))
     ∙ branch_after x g first other offset turn r
 
-pub first_after : (x : Hearer) (g : SlotId) (first other : List Stmt) (offset turn : ℕ) (r : HeardRun) → word_at r.state g ≢ 0
+first_after : (x : Hearer) (g : SlotId) (first other : List Stmt) (offset turn : ℕ) (r : HeardRun) → word_at r.state g ≢ 0
     → after_all (all_heard x first) turn (record r { words = r.words ++ guard_heard x g (all_heard x first) (all_heard x other) r.state }) ≡ after (heard_by x (If g first other offset)) turn r
 first_after x g first other offset turn r more =
     ap (λ (b : Bool). after_all (if b then all_heard x other else all_heard x first) turn (record r { words = r.words ++ guard_heard x g (all_heard x first) (all_heard x other) r.state })) (sym (ne_eqb (word_at r.state g) 0 more))
     ∙ branch_after x g first other offset turn r
 
-pub loop_after : (x : Hearer) (count : ℕ) (body : List Stmt) (turn : ℕ) (r : HeardRun) → turns count (after_all (all_heard x body)) r ≡ after (heard_by x (For count body)) turn r
+loop_after : (x : Hearer) (count : ℕ) (body : List Stmt) (turn : ℕ) (r : HeardRun) → turns count (after_all (all_heard x body)) r ≡ after (heard_by x (For count body)) turn r
 loop_after x count body turn r = turns_after count (all_heard x body) r ∙ ap (λ (s : Heard). after s turn r) (sym (heard_loop x count body))
 
 -- what comes to the host where operands are moved
@@ -171,7 +171,7 @@ on_ok (Err e) leads holds = tt
 
 -- ---- the whole program
 
-pub heard_at_end : (x : Hearer) (body : List Stmt) (r r1 : HeardRun) (l : Labels) → r.words ≡ [] → r1 ≡ after_all (all_heard x body) 0 r
+heard_at_end : (x : Hearer) (body : List Stmt) (r r1 : HeardRun) (l : Labels) → r.words ≡ [] → r1 ≡ after_all (all_heard x body) 0 r
     → r1.words ≡ heard_in_order (map (heard x.protocols x.host l) body) 0 r.state
 heard_at_end x body r r1 l none is =
     ap (λ (q : HeardRun). q.words) (is ∙ all_after (all_heard x body) 0 r)

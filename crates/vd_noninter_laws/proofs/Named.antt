@@ -16,7 +16,7 @@ use Rattle.vd_noninter_laws.proofs.Lawful.{and_of, member}
 use Rattle.vd_noninter_laws.proofs.Members.{all_there}
 
 module _ (test V : ℕ → Bool) where
-  pub record Shown (sight : Sight) : Type 0 where
+  record Shown (sight : Sight) : Type 0 where
     pub bindings : list_all V sight.bindings ≡ true
     pub variables : list_all V sight.variables ≡ true
     pub arrays : list_all V sight.arrays ≡ true
@@ -130,7 +130,7 @@ module _ (test V : ℕ → Bool) where
       at_roll : (y : Stmt-F M) → StmtNames (roll-Stmt (layer y))
       at_roll y = rw (fold-roll-Stmt Seeing seeing_step (layer y), fold-roll-Stmt Makes (makes_step test) (layer y), fold-roll-Stmt Bool (stmt_names test V) (layer y)) (step y)
 
-  pub body_named : (body : List Stmt) → BlockNames body
+  body_named : (body : List Stmt) → BlockNames body
   body_named [] = λ sight shown saw vis. (refl, shown)
   body_named (s ∷ body) = stmt_more s body (stmt_named s) (body_named body)
 

@@ -90,7 +90,7 @@ module _ (given given' freed freed' : Downgrades) (kept : ℕ → Bool) (shows :
       by false = refl
   step (Stmt-F.For count body) turn t = loop_same count (statements body) (all_same body) t
 
-  pub stmt_same : (s : Stmt) → SameWords s
+  stmt_same : (s : Stmt) → SameWords s
   stmt_same = ind-Stmt SameWords (λ x y is. subst (λ z. SameWords (roll-Stmt z)) is (at_roll y))
     where
       at_roll : (y : Stmt-F M) → SameWords (roll-Stmt (layer y))

@@ -111,7 +111,7 @@ module _ (k : Knowledge) where
           ∙ sym (item_set_other [] t.world.outputs host i (slice_index_or t.world.outputs host [] ++ w' ∷ []) other)
 
   -- ---- the words of kept slots
-  pub operands_same : (s t : SlotState) (ys : List SlotId) → Agree k s t → list_all (λ y. k.kept y.0) ys ≡ true → map (word_at s) ys ≡ map (word_at t) ys
+  operands_same : (s t : SlotState) (ys : List SlotId) → Agree k s t → list_all (λ y. k.kept y.0) ys ≡ true → map (word_at s) ys ≡ map (word_at t) ys
   operands_same s t [] a all = refl
   operands_same s t (y ∷ ys) a all =
       let parts = and_parts (k.kept y.0) (list_all (λ z. k.kept z.0) ys) all in

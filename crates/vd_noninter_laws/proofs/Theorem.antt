@@ -61,14 +61,14 @@ module _ (p : NormalForm) (l : Labels) (h : HostId) (well : IsWellMade p) (satis
   given_all : (r : Reach) (x y : ℕ) → in_view p l h x ≡ true → (reads_slot p l h x || r.slots y) ≡ true
   given_all r x y is = rw (kept_read x is) refl
 
-  pub reach_flows : (r : Reach) → IsClosed p l h r → all_flow (map (flow (narrowed (in_view p l h) (reads_result p l h) (reads_host p h) h.0 r)) p.body) ≡ true
+  reach_flows : (r : Reach) → IsClosed p l h r → all_flow (map (flow (narrowed (in_view p l h) (reads_result p l h) (reads_host p h) h.0 r)) p.body) ≡ true
   reach_flows r closed = narrowed_flows (in_view p l h) (reads_result p l h) (reads_host p h) h.0 r (reads_slot p l h) kept_read (given_all r) p.body closed (program_flows (reads_result p l h) results)
 
-  pub reach_learns : (r : Reach) → IsClosed p l h r → LearnsOnly p h (reads_result p l h) (λ host. reads_host p h host && r.hosts host) (reached_in_view p l h r)
+  reach_learns : (r : Reach) → IsClosed p l h r → LearnsOnly p h (reads_result p l h) (λ host. reads_host p h host && r.hosts host) (reached_in_view p l h r)
   reach_learns r closed = flows_learns p h (reached_in_view p l h r) (reads_result p l h) (λ host. reads_host p h host && r.hosts host) (reach_flows r closed)
 
   -- what the host may read of it is closed
-  pub closed_readable : (r : Reach) → IsClosed p l h r → IsClosed p l h (readable (reads_slot p l h) view (reads_host p h) (reads_result p l h) h.0 r)
+  closed_readable : (r : Reach) → IsClosed p l h r → IsClosed p l h (readable (reads_slot p l h) view (reads_host p h) (reads_result p l h) h.0 r)
   closed_readable r closed =
       let visible = visible_slots (reads_slot p l h) p.body in
       let hidden = all_hidden (map (makes (reads_slot p l h)) p.body) in

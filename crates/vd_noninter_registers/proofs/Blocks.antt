@@ -137,7 +137,7 @@ module _ (m : Hosts) (s : Suite m) (protocols : List Proto) (h : HostId) (l : La
     comes2 : loops.Comes m s proto laws declared (emission_of m s proto eb) (effect_of eb) o (sees eb o).after (length (slots eb)) (turns_at m s proto eb) (k + length (slots tb))
     comes2 = means m s proto laws declared eb o (k + length (slots tb)) row2 seen2 fits2 placed2
 
-    pub after_branch : After m s proto o o e (if_made s.calls proto x (emission_of m s proto tb) (emission_of m s proto eb) e) (length (slots tb) + length (slots eb)) w
+    after_branch : After m s proto o o e (if_made s.calls proto x (emission_of m s proto tb) (emission_of m s proto eb) e) (length (slots tb) + length (slots eb)) w
         (in_order (if nat_eq (word_at c x) 0 then each stmt_effect eb else each stmt_effect tb) turn c)
     after_branch =
         loops.branch_after m s proto laws declared o (sees tb o).after (sees eb o).after (emission_of m s proto tb) (emission_of m s proto eb) (each stmt_effect tb) (each stmt_effect eb) (length (slots tb)) (length (slots eb)) k
@@ -165,7 +165,7 @@ module _ (m : Hosts) (s : Suite m) (protocols : List Proto) (h : HostId) (l : La
     nobody : length guard.given ≡ 0 → (g : ℕ) → g < s.calls.hosts → test g ≡ false
     nobody none g lt = loops.none_picked m s proto laws declared test 0 s.calls.hosts (no_hosts guard.given (picked 0 s.calls.hosts test) given.there.placed none) g (omega arith) (beyond lt)
 
-    pub branches_are : delivered_told m s.calls protocols h x e (picked 0 s.calls.hosts test) e.next w
+    branches_are : delivered_told m s.calls protocols h x e (picked 0 s.calls.hosts test) e.next w
         ++ branch m guard.given (run_acts m guard.acts w) [] (told m s.calls protocols h tb (record { next = guard.next; held = e.held; loop = e.loop }) (run_acts m guard.acts w))
         (told m s.calls protocols h eb ((emission_of m s proto tb).emit (record { next = guard.next; held = e.held; loop = e.loop })).state (run_acts m guard.acts w))
         ≡ word_if (is_part protocols h x (heards tb) (heards eb) && comes_alone protocols h x) (word_at c x) ++ heard_in_order (if nat_eq (word_at c x) 0 then heards eb else heards tb) turn c
@@ -211,10 +211,10 @@ module _ (m : Hosts) (s : Suite m) (protocols : List Proto) (h : HostId) (l : La
         (tells1 o k row seen fits placed low inner (m.begun registers n (turns n (λ j v. joint m (repeat.emit inner).tree (m.begun registers j v)) w)) (turns n (effect_of body) c) n repeat.acts_at is (turns_act m s proto laws declared body) (omega arith) begins turning
         ∙ ap (λ (fs : List Effect). heard_in_order (heards body) n (turns n (in_order fs) c)) (sym (runs_each protocols h l body)))
 
-    pub after_loop : (count : ℕ) → count ≤ 2 ^ 32 → After m s proto o o e (for_made s.calls proto count (emission_of m s proto body) e) (length (slots body)) w (turns count (effect_of body) c)
+    after_loop : (count : ℕ) → count ≤ 2 ^ 32 → After m s proto o o e (for_made s.calls proto count (emission_of m s proto body) e) (length (slots body)) w (turns count (effect_of body) c)
     after_loop count small = loops.loop_after m s proto laws declared o (sees body o).after repeat (effect_of body) (length (slots body)) k (turns_at m s proto body) comes_body (turns_act m s proto laws declared body) e w c is t count small
 
-    pub loop_is : (count : ℕ) → count ≤ 2 ^ 32
+    loop_is : (count : ℕ) → count ≤ 2 ^ 32
         → in_turns count (λ i. told m s.calls protocols h body inner (m.begun registers i (turns i (λ j v. joint m (repeat.emit inner).tree (m.begun registers j v)) w))) ≡ heard_in_turns count (heards body) c
     loop_is count small = turns_are count small
 

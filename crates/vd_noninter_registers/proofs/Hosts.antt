@@ -19,7 +19,7 @@ found_at f [] k e = absurd (true≢false (sym e))
 found_at f (x ∷ xs) zero e = e
 found_at f (x ∷ xs) (suc k) e = found_at f xs k e
 
-pub item_at : (f : Proto → Bool) (xs : List Proto) (k : ℕ) → k < length xs → option_map_or f (slice_get xs k) false ≡ f (proto_in xs k)
+item_at : (f : Proto → Bool) (xs : List Proto) (k : ℕ) → k < length xs → option_map_or f (slice_get xs k) false ≡ f (proto_in xs k)
 item_at f [] k low = absurd (omega (arith, low))
 item_at f (x ∷ xs) zero low = refl
 item_at f (x ∷ xs) (suc k) low = item_at f xs k (omega (arith, low))
@@ -35,7 +35,7 @@ same_turned a b = both (nat_eq a b) (nat_eq b a) refl refl
     both false true e f = absurd (true≢false (sym (eq-eqb a b (sym (eqb-true b a f))) ∙ e))
     both false false e f = refl
 
-pub holder_is : (q : Proto) (h : HostId) → is_holder q h ≡ is_holder q (host h.0)
+holder_is : (q : Proto) (h : HostId) → is_holder q h ≡ is_holder q (host h.0)
 holder_is (Local k) h = refl
 holder_is (Rep set) h = refl
 holder_is (Commit p v) h = refl

@@ -1,8 +1,8 @@
-pub mod Blocks
+mod Blocks
 pub mod Examples
 pub mod Fits
 pub mod Hosts
 pub mod InClear
-pub mod Moved
+mod Moved
 pub mod Takers
-pub mod Theorem
+mod Theorem

@@ -52,7 +52,7 @@ below n x e = lt_of x.0 n e
 
 module _ (protocols : List Proto) (h : HostId) (l : Labels) where
   -- what comes to the host is a walk with what a statement does, and with what is read of it
-  pub reads_each : (b : Block) → map read_of (each (heard_step protocols h l) b) ≡ each (read_step l) b
+  reads_each : (b : Block) → map read_of (each (heard_step protocols h l) b) ≡ each (read_step l) b
   reads_each End = refl
   reads_each (Let x right rest) = ap (λ (rs : List Read). read_step l (Stmt-F.Let x right) ∷ rs) (reads_each rest)
   reads_each (NewVar v y rest) = ap (λ (rs : List Read). read_step l (Stmt-F.NewVar v y) ∷ rs) (reads_each rest)

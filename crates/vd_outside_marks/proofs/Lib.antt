@@ -1,1 +1,1 @@
-pub mod Folders
+mod Folders

@@ -1,10 +1,10 @@
 pub mod Ready
-pub mod Steps
-pub mod Meanings
-pub mod Precedence
-pub mod Signs
-pub mod Progress
-pub mod Document
+mod Steps
+mod Meanings
+mod Precedence
+mod Signs
+mod Progress
+mod Document
 pub mod Scan
 pub mod Outcomes
 pub mod OutcomeLaws

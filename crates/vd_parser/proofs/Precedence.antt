@@ -164,7 +164,7 @@ firsts_op level.And c b h = h
 firsts_op level.Sum c b h = h
 firsts_op level.Product c b h = h
 
-pub infix_token : (l : Level) (us vs : List Token) (t : Token) (o : Infix) → infix_at l (kind_at us) ≡ Some o → us ≡ t ∷ vs → Gives language (ops_of l) token_of us vs t
+infix_token : (l : Level) (us vs : List Token) (t : Token) (o : Infix) → infix_at l (kind_at us) ≡ Some o → us ≡ t ∷ vs → Gives language (ops_of l) token_of us vs t
 infix_token l us vs t o e s = subst (λ xs. Gives language (ops_of l) token_of xs vs t) (sym s) (one_op l t vs (infix_has l t.kind o (ap (infix_at l) (sym (kind_of_first us vs t s)) ∙ e)))
 
 infix_known : (l : Level) (us vs : List Token) (t : Token) (o : Infix) → infix_at l (kind_at us) ≡ Some o → has (head language us) (first language.firsts (Seq (ops_of l) (Sym (operand_symbol l)))) ≡ true
@@ -183,7 +183,7 @@ link_more level.And text o x v e y = ap (λ z. link_of o z ∷ links_of level.An
 link_more level.Sum text o x v e y = ap (λ z. link_of o z ∷ links_of level.Sum text y) (sym e)
 link_more level.Product text o x v e y = ap (λ z. link_of o z ∷ links_of level.Product text y) (sym e)
 
-pub links_none : (l : Level) (text : List ℕ) → links_of l text Empty ≡ []
+links_none : (l : Level) (text : List ℕ) → links_of l text Empty ≡ []
 unfolding bor_links_of bxor_links_of band_links_of sum_links_of prod_links_of
 links_none level.Or text = refl
 links_none level.Xor text = refl

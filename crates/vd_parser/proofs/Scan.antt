@@ -165,7 +165,7 @@ none_in_front ts before rest all none = go (first_deep before) refl
         )
 
 -- the scan, step by step
-pub deep_next : (ts : List Token) (i n : ℕ) (d : Token) → i < length ts → is_too_deep (get_or ts i d).kind n ≡ false → first_deep_from i n (drop i ts) ≡ first_deep_from (i + 1) (open_behind (get_or ts i d).kind n) (drop (i + 1) ts)
+deep_next : (ts : List Token) (i n : ℕ) (d : Token) → i < length ts → is_too_deep (get_or ts i d).kind n ≡ false → first_deep_from i n (drop i ts) ≡ first_deep_from (i + 1) (open_behind (get_or ts i d).kind n) (drop (i + 1) ts)
 deep_next ts i n d h e =
     ap (first_deep_from i n) (drop-cons ts i d h) ∙ deep_step i n (get_or ts i d) (drop (suc i) ts) e
     ∙ ap (λ k. first_deep_from (i + 1) (open_behind (get_or ts i d).kind n) (drop k ts)) (sym (add-one i))
@@ -176,7 +176,7 @@ deep_found ts i n d h e = ap (first_deep_from i n) (drop-cons ts i d h) ∙ deep
 pub deep_over : (ts : List Token) (i n : ℕ) → length ts ≤ i → first_deep_from i n (drop i ts) ≡ None
 deep_over ts i n h = ap (first_deep_from i n) (drop_all i ts h) ∙ deep_none i n
 
-pub few_open : (k : TokenKind) (n : ℕ) → n ≤ 64 → is_too_deep k n ≡ false → open_behind k n ≤ 64
+few_open : (k : TokenKind) (n : ℕ) → n ≤ 64 → is_too_deep k n ≡ false → open_behind k n ≤ 64
 few_open k n h e = go (opens k) (closes k) e
   where
     go : (b c : Bool) → (b && nat_le 64 n) ≡ false → (if b then n + 1 else if c then n - 1 else n) ≤ 64

@@ -22,7 +22,7 @@ head_is [] = refl
 head_is (t ∷ ts) = refl
 
 -- tokens
-pub took : (k : TokenKind) (t : Token) (ts : List Token) → code_of t.kind ≡ code_of k → Gives language (tok k) token_of (t ∷ ts) ts t
+took : (k : TokenKind) (t : Token) (ts : List Token) → code_of t.kind ≡ code_of k → Gives language (tok k) token_of (t ∷ ts) ts t
 unfolding language
 took k t ts e = record { tree = Leaf t; read = readings.read_tok language E language_ll1 (code_of k) t ts e; value = refl }
 
@@ -71,7 +71,7 @@ unfolding language
 refused_last w r = record { stops = λ e. readings.stop_here language E language_ll1 w (r.stops e) }
 
 -- choices, by the next token
-pub known : (k : TokenKind) (ts : List Token) (b : Bool) (a : Ebnf Symbol) → nat_eq (next_kind ts) (code_of k) ≡ true → has (code_of k) (first F a) ≡ b → has (head language ts) (first language.firsts a) ≡ b
+known : (k : TokenKind) (ts : List Token) (b : Bool) (a : Ebnf Symbol) → nat_eq (next_kind ts) (code_of k) ≡ true → has (code_of k) (first F a) ≡ b → has (head language ts) (first language.firsts a) ≡ b
 unfolding language
 known k ts b a e h = subst (λ c. has c (first F a) ≡ b) (sym (head_is ts ∙ eqb-true _ _ e)) h
 
@@ -80,7 +80,7 @@ unfolding language
 into_left {a = a} {us = us} k w e h = readings.into_left language E language_ll1 w (known k us true a e h)
 
 -- the first begins with one kind, and the next token is of another
-pub unlike : (c : ℕ) (ts : List Token) → nat_eq (next_kind ts) c ≡ false → has (head language ts) (c ∷ []) ≡ false
+unlike : (c : ℕ) (ts : List Token) → nat_eq (next_kind ts) c ≡ false → has (head language ts) (c ∷ []) ≡ false
 unlike c ts h = or_from _ false (ap (λ d. nat_eq d c) (head_is ts) ∙ h) refl
 
 pub into_right : {e a b : Ebnf Symbol} {ts us : List Token} {up : Tree Token → Tree Token} (k : TokenKind) → Within language e ts (Alt a b) us up → nat_eq (next_kind us) (code_of k) ≡ false → first F a ≡ code_of k ∷ [] → nullable a ≡ false → Within language e ts b us (λ x. up (Second x))

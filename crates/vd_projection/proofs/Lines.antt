@@ -26,7 +26,7 @@ pub record IsServedAt (program : NormalForm) (hosts : ℕ) (protos : List Proto)
   pub stands : IsTrue (all_meet (stmt_stands (offer_of hosts) protos) program.body)
 
 module _ (program : NormalForm) (protocols : List Proto) where
-  pub protocols_served : IsWellMade program → NumbersFit program → IsRunnable program protocols → IsServed program protocols
+  protocols_served : IsWellMade program → NumbersFit program → IsRunnable program protocols → IsServed program protocols
   protocols_served made numbers runnable =
       let zeros = zero_deals_are_valid (inputs_of []) no_words in
       let can = program_can_run program protocols made numbers runnable [] no_words (zero_deal (inputs_of [])) zeros.0 zeros.1 in

@@ -40,7 +40,7 @@ abbrev pub bulk : List Gadget → ℕ
 bulk [] = 0
 bulk (g ∷ gs) = acts_bulk (acts_of_gadget g) + bulk gs
 
-pub bulk_both : (xs ys : List Gadget) → bulk (xs ++ ys) ≡ bulk xs + bulk ys
+bulk_both : (xs ys : List Gadget) → bulk (xs ++ ys) ≡ bulk xs + bulk ys
 bulk_both [] ys = omega arith
 bulk_both (x ∷ xs) ys = let e = bulk_both xs ys in next (acts_bulk (acts_of_gadget x)) (bulk (xs ++ ys)) (bulk xs) (bulk ys) e
   where

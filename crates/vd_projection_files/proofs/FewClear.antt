@@ -136,7 +136,7 @@ each_word p f law next =
       given = omega (arith, few, same);
     }
 
-pub renewed_few : (kept x : Places) → AreFew (length kept) (renewed kept x)
+renewed_few : (kept x : Places) → AreFew (length kept) (renewed kept x)
 renewed_few [] x = few_none 0
 renewed_few (q ∷ kept) x = let rest = renewed_few kept x in let few = rest.few in let all = rest.lines in record { small = (tt, rest.small); few = omega (arith, few); lines = omega (arith, all) }
 

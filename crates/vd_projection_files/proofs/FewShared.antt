@@ -24,7 +24,7 @@ use Rattle.vd_projection_files.proofs.FewClear.{most_gadgets, WordFew, CallsAreF
 -- ---- gates
 
 -- a gate shifts by less than 32 bits
-abbrev pub gate_fits : Gate → Bool
+abbrev gate_fits : Gate → Bool
 gate_fits (And x y) = true
 gate_fits (Xor x y) = true
 gate_fits (Shl k x) = nat_lt k 32

@@ -207,7 +207,7 @@ module _ (program : NormalForm) (protocols : List Proto) (plan : Digest) (h : �
   pub stands_in_a_file : StandsInAFile (stored_program program protocols plan h)
   stands_in_a_file = subst (λ (is : List Instr). StandsInAFile (with_code is)) (sym is_part) text_stands
 
-  pub is_short : length (flat_map name_field program.hosts) ≤ 65536 → length (program_text (stored_program program protocols plan h)) ≤ 67108864
+  is_short : length (flat_map name_field program.hosts) ≤ 65536 → length (program_text (stored_program program protocols plan h)) ≤ 67108864
   is_short names = subst (λ (is : List Instr). length (program_text (with_code is)) ≤ 67108864) (sym is_part) (text_is_short names)
 
 pub stored_programs_stand_in_files : StoredProgramsStandInFiles

@@ -1,7 +1,7 @@
 pub mod Numbers
 pub mod Few
 pub mod FewClear
-pub mod FewShared
+mod FewShared
 pub mod FewCalls
 pub mod Steps
 pub mod Bulk

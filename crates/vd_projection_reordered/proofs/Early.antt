@@ -33,7 +33,7 @@ use Rattle.vd_projection_reordered.proofs.Opened.{opened_there}
 both_tell : (t : Tape) (w : Hosts) (j i k : Joint) → TellsTheSame t w j i → TellsTheSame t w i k → TellsTheSame t w j k
 both_tell t w j i k x y = record { smooth = y.smooth; alike = λ h. x.alike h ∙ y.alike h }
 
-pub shared : (i : Joint) → IsTidy i → IsJoined most_packet_words i (joined_lines most_packet_words (flat i []))
+shared : (i : Joint) → IsTidy i → IsJoined most_packet_words i (joined_lines most_packet_words (flat i []))
 shared i tidy = joined_tells most_packet_words i tidy
 
 pub runs_alike : EarlyCodeRunsAlike

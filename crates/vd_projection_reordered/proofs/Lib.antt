@@ -1,2 +1,2 @@
-pub mod Opened
+mod Opened
 pub mod Early

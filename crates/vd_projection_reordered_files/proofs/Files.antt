@@ -120,7 +120,7 @@ module _ (program : NormalForm) (protocols : List Proto) (plan : Digest) (h : �
     early_stands : AllCanStand hosts h code
     early_stands = no_more.stands stands
 
-    pub is_part : IsCodeOf (text code []) code
+    is_part : IsCodeOf (text code []) code
     is_part = read_back code (unbegun h joint)
 
     few_blocks : depth code ≤ 512
@@ -135,7 +135,7 @@ module _ (program : NormalForm) (protocols : List Proto) (plan : Digest) (h : �
         bounded : (n m : ℕ) → n ≤ m → m ≤ 4294967295 → n ≤ 4294967295
         bounded n m le few = omega (arith, le, few)
 
-    pub program_stands : StandsInAFile (program_at program joint plan h)
+    program_stands : StandsInAFile (program_at program joint plan h)
     program_stands =
         let before = stands_in_a_file program protocols plan h can in
         record {
@@ -150,7 +150,7 @@ module _ (program : NormalForm) (protocols : List Proto) (plan : Digest) (h : �
           within = all_within hosts (host h) (text code []) code is_part (none_broken hosts h code early_stands few_blocks) no_more_steps;
         }
 
-    pub text_is_short : length (flat_map name_field program.hosts) ≤ 65536 → length (program_text (program_at program joint plan h)) ≤ 67108864
+    text_is_short : length (flat_map name_field program.hosts) ≤ 65536 → length (program_text (program_at program joint plan h)) ≤ 67108864
     text_is_short names =
         let lines = code_short hosts h code early_stands in
         let le = file_short (program_at program joint plan h) (51 * (2043 * 512)) can.digest.0 (own_word h hosts can.declared can.made.limits.hosts) names

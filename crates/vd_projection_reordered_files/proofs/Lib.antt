@@ -1,3 +1,3 @@
-pub mod Codes
-pub mod Shorter
-pub mod Files
+mod Codes
+mod Shorter
+mod Files

@@ -1,3 +1,3 @@
-pub mod Rows
-pub mod Members
+mod Rows
+mod Members
 pub mod Over

@@ -22,7 +22,7 @@ passing_more make test change n =
     last true = refl
     last false = refl
 
-pub hosts_more : (n : ℕ) → hosts (n + 1) ≡ hosts n ++ host n ∷ []
+hosts_more : (n : ℕ) → hosts (n + 1) ≡ hosts n ++ host n ∷ []
 hosts_more n = ap (map host) (range_more 0 n n (omega arith)) ∙ map-append host (range_with_len 0 n) (n ∷ [])
 
 pub rows_more : {B : Type 0} (row : HostId → List B) (n : ℕ) → flat_map row (hosts (n + 1)) ≡ flat_map row (hosts n) ++ row (host n)

@@ -8,7 +8,7 @@ use Rattle.vd_execution.specs.declared.instructions.Instr.{Instr}
 use Rattle.vd_execution.specs.declared.instructions.Instr.TheVariants as instr
 use Rattle.vd_reorder.specs.Packets.{touches, since, latest}
 
-pub last_first : (rest earlier : List Instr) (last : Instr) → rest ≡ earlier ++ last ∷ [] → reverse rest ≡ last ∷ reverse earlier
+last_first : (rest earlier : List Instr) (last : Instr) → rest ≡ earlier ++ last ∷ [] → reverse rest ≡ last ∷ reverse earlier
 last_first rest earlier last is = ap reverse is ∙ reverse-append earlier (last ∷ [])
 
 since_by : (r : Reg) (i : Instr) (before : List Instr) (b : Bool) → touches r i ≡ b → since r (i ∷ before) ≡ (if b then i ∷ before else since r before)

@@ -66,11 +66,11 @@ pub meet_turned : (xs ys : List Reg) → meet xs ys ≡ meet ys xs
 meet_turned xs [] = meet_none xs
 meet_turned xs (y ∷ ys) = meet_more xs y ys ∙ ap (λ b. has y xs || b) (meet_turned xs ys) ∙ sym (is_or (has y xs) (meet ys xs))
 
-pub meet_append : (xs ys zs : List Reg) → meet (xs ++ ys) zs ≡ (meet xs zs || meet ys zs)
+meet_append : (xs ys zs : List Reg) → meet (xs ++ ys) zs ≡ (meet xs zs || meet ys zs)
 meet_append [] ys zs = refl
 meet_append (x ∷ xs) ys zs = one_more (has x zs) (meet (xs ++ ys) zs) (meet xs zs) (meet ys zs) (meet_append xs ys zs)
 
-pub meet_append_right : (xs ys zs : List Reg) → meet xs (ys ++ zs) ≡ (meet xs ys || meet xs zs)
+meet_append_right : (xs ys zs : List Reg) → meet xs (ys ++ zs) ≡ (meet xs ys || meet xs zs)
 meet_append_right xs ys zs =
     meet_turned xs (ys ++ zs) ∙ meet_append ys zs xs ∙ ap (λ b. b || meet zs xs) (meet_turned ys xs) ∙ ap (λ b. meet xs ys || b) (meet_turned zs xs)
 

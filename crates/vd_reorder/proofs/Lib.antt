@@ -1,8 +1,8 @@
 pub mod InRows
-pub mod Tests
+mod Tests
 pub mod Texts
-pub mod Sinking
-pub mod Room
-pub mod Before
-pub mod Secrets
-pub mod Turns
+mod Sinking
+mod Room
+mod Before
+mod Secrets
+mod Turns

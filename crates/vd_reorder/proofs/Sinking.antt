@@ -11,7 +11,7 @@ use Rattle.vd_reorder.specs.Passing.{has_room, room_behind, depth_behind, if_ope
 -- ---- one instruction rises before others
 
 module _ (place : ℕ) (front : List Instr) (first : Instr) (at : length front ≡ place) where
-  pub swapped : (y : Instr) (rest : List Instr) → swap (front ++ first ∷ y ∷ rest) place (place + 1) ≡ (front ++ y ∷ []) ++ first ∷ rest
+  swapped : (y : Instr) (rest : List Instr) → swap (front ++ first ∷ y ∷ rest) place (place + 1) ≡ (front ++ y ∷ []) ++ first ∷ rest
   swapped y rest =
       let code = front ++ first ∷ y ∷ rest in
       let l = length-append front (first ∷ y ∷ rest) in
@@ -122,7 +122,7 @@ module _ (test : Piece → Piece → Bool) (goal : List Instr) (size : ℕ) (cod
   top_is : take behind code ≡ s.front ++ s.stretch
   top_is = ap (take behind) joined ∙ take_at (s.front ++ s.stretch) s.rest behind s.till
 
-  pub stretch_is : drop first (take behind code) ≡ s.stretch
+  stretch_is : drop first (take behind code) ≡ s.stretch
   stretch_is = ap (drop first) top_is ∙ drop_at s.front s.stretch first s.at
 
   stretch_there : take (behind - first) (drop first code) ≡ s.stretch

@@ -44,7 +44,7 @@ sent_put w h s e p =
       | inr other ↦ ap (λ x. x.sent) (put_other w h s p other)
     ]
 
-abbrev pub AllQuietly : Tape → List Part → (ℕ → Code) → Hosts → (ℕ → Code) → Hosts → Type 0
+abbrev AllQuietly : Tape → List Part → (ℕ → Code) → Hosts → (ℕ → Code) → Hosts → Type 0
 AllQuietly t ps code w kode v = Every ps (λ p. Quietly t (code p.0) (w p.0) (kode p.0) (v p.0))
 
 all_kept : (t : Tape) (ps : List Part) (h : ℕ) (code kode : ℕ → Code) (w v : Hosts) → (TakesPart ps h → ⊥) → AllQuietly t ps code w kode v
@@ -67,7 +67,7 @@ left_alone ps f g q e h n =
     ]
 
 -- each host that takes part steps once
-pub round : (t : Tape) (ps : List Part) (code kode : ℕ → Code) (w v : Hosts) → Apart ps → AllQuietly t ps code w kode v
+round : (t : Tape) (ps : List Part) (code kode : ℕ → Code) (w v : Hosts) → Apart ps → AllQuietly t ps code w kode v
     → ((h : ℕ) → (TakesPart ps h → ⊥) → code h ≡ kode h) → ((h : ℕ) → (TakesPart ps h → ⊥) → w h ≡ v h) → ((h : ℕ) → (v h).sent ≡ (w h).sent)
     → To t (hosts_of ps) (resting code w) (resting kode v)
 round t [] code kode w v apart a c s n = same_resting code kode w v (λ h. c h (λ x. x)) (λ h. s h (λ x. x))

@@ -87,7 +87,7 @@ sends_append (y ∷ ys) zs = let ih = sends_append ys zs in omega (arith, ih)
 pub at_itself : (l : Local) (c : Code) → l.state.pending ≡ c → at l c ≡ l
 at_itself l c e = ap (at l) (sym e)
 
-pub eager_moves : (items : Items) (y : Piece) (l : Local) (c d : Code) → eager items (at l (before y d)) ≡ at (eager items (at l (before y c))) d
+eager_moves : (items : Items) (y : Piece) (l : Local) (c d : Code) → eager items (at l (before y d)) ≡ at (eager items (at l (before y c))) d
 eager_moves items y l c d =
     ap (λ n. moved_on (at l (before y d)) (supplied items l.state.cursors n)) (piece_needs y l c d)
     ∙ piece_moves y l c d (supplied items l.state.cursors (need (at l (before y c)).state))

@@ -233,23 +233,23 @@ module _ (room : ℕ) (t : Tape) (v w : World) (all : AllHasty t (suc room) v w)
     -- ---- all that passes an instruction or a block is done, and then its first step
     module _ (ps : List Piece) (b : Code) (ps_free : AllFree ps) (few : sends ps ≤ suc room) (code_split : (all h).code ≡ ahead ps b) where
       -- where the host stands then
-      abbrev pub m : Local
+      abbrev m : Local
       m = eagerly (t h) ps (at (v h) (ahead ps b))
 
-      pub m_pending : m.state.pending ≡ b
+      m_pending : m.state.pending ≡ b
       m_pending = eagerly_leaves (t h) ps (v h) b
 
       m_taken : m.taken ≡ (v h).taken
       m_taken = all_take (t h) ps ps_free (v h) b
 
-      pub w1_taken : (p : ℕ) → (put w h m p).taken h ≡ (v p).taken h
+      w1_taken : (p : ℕ) → (put w h m p).taken h ≡ (v p).taken h
       w1_taken p =
           elim (same_or_not p h) [
             | inl here ↦ ap (λ j. (put w h m j).taken h) here ∙ ap (λ (f : Local). f.taken h) (put_same w h m) ∙ ap (λ (g : ℕ → ℕ). g h) m_taken ∙ ap (λ j. (v j).taken h) (sym here)
             | inr other ↦ ap (λ (f : Local). f.taken h) (put_other w h m p other) ∙ same_taken p h
           ]
 
-      pub goes_on : answer (given (endless t) v h (v h)) m.state.cursors (need m.state) ≡ Some a.words → has_room (suc room) (put w h m) h (deed m.state) ≡ true
+      goes_on : answer (given (endless t) v h (v h)) m.state.cursors (need m.state) ≡ Some a.words → has_room (suc room) (put w h m) h (deed m.state) ≡ true
           → (new rest : Code) → Passed (suc room) (moved_on (v h) a.words).state.pending new → new ≡ ahead ps rest → moved_on m a.words ≡ eagerly (t h) ps (at (moved_on (v h) a.words) new)
           → (left : List Piece) → ps ≡ (all h).early ++ left → (all h).rest ≡ ahead left b → Follows u
       goes_on m_gets fits_in new rest new_passed new_split new_stands left all_left rest_is =
@@ -430,7 +430,7 @@ module _ (room : ℕ) (t : Tape) (v w : World) (all : AllHasty t (suc room) v w)
           ap (λ c. has_room (suc room) (put w h k) h (deed_of k.state.registers c)) (m_pending ps b ps_free few code_split)
           ∙ ap (has_room (suc room) (put w h k) h) (quiet k.state.registers)
 
-      pub block_goes_on : (new rest : Code) → Passed (suc room) (moved_on (v h) a.words).state.pending new → new ≡ ahead ps rest
+      block_goes_on : (new rest : Code) → Passed (suc room) (moved_on (v h) a.words).state.pending new → new ≡ ahead ps rest
           → moved_on (m ps b ps_free few code_split) a.words ≡ eagerly (t h) ps (at (moved_on (v h) a.words) new) → Follows u
       block_goes_on new rest passed split stands =
           let n = block_due (all h).early ps (all h).rest b no_piece (sym (all h).split ∙ code_split) in
@@ -540,7 +540,7 @@ module _ (room : ℕ) (t : Tape) (v w : World) (all : AllHasty t (suc room) v w)
     by_code (InBranch g first other rest one two last e p q o s) is code_is = at_branch g first other rest one two last e is p q o s code_is
     by_code (InLoop r i n body rest one last e p o s) is code_is = at_loop r i n body rest one last e is p o s code_is
 
-  pub follow : (u : World) → step (endless t) h v ≡ Some u → Calm v h → Follows u
+  follow : (u : World) → step (endless t) h v ≡ Some u → Calm v h → Follows u
   follow u e calm = by_code u (stepped (endless t) h v u e) calm (all h).passed refl refl
 
 -- ---- all steps

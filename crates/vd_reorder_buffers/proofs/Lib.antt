@@ -1,6 +1,6 @@
-pub mod Calm
-pub mod Passed
-pub mod Early
-pub mod Beside
-pub mod Keeping
-pub mod Enough
+mod Calm
+mod Passed
+mod Early
+mod Beside
+mod Keeping
+mod Enough

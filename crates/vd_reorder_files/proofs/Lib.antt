@@ -1,5 +1,5 @@
-pub mod Reordered
-pub mod Lines
-pub mod Ranges
-pub mod Back
-pub mod Whole
+mod Reordered
+mod Lines
+mod Ranges
+mod Back
+mod Whole

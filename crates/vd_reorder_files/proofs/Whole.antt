@@ -109,7 +109,7 @@ module _ (bytes : List ℕ) (p : HostProgram) (is : IsOutcome bytes (Ok p)) wher
   has_text : HasText q
   has_text = (is_file_new, peers_kept reordered (have_peers (length p.hosts) p.me p.code few (within_none (length p.hosts) p.me p.code is.1)))
 
-  pub read_back : IsOutcome (program_text q) (Ok q)
+  read_back : IsOutcome (program_text q) (Ok q)
   read_back =
       let can = can_run bytes p is.0 is.1 in
       let h : IsHastenedText p.code (hastened_by p.code) can.nested = hastened_is p.code can.nested can.is_code in
@@ -119,7 +119,7 @@ module _ (bytes : List ℕ) (p : HostProgram) (is : IsOutcome bytes (Ok p)) wher
         all_within (length p.hosts) p.me (hastened_by p.code) (hastened_code p.code can.nested) h.nested none_new (omega (arith, same, old)),
       )
 
-  pub as_long : length (program_text q) ≡ length bytes
+  as_long : length (program_text q) ≡ length bytes
   as_long =
       ap length (text_is q)
       ∙ file_length file (file_of q) (ap (λ (f : File). f.hosts) heading) (ap (λ (f : File). f.me) heading) (ap (λ (f : File). f.plan) heading) arrays_are

@@ -290,7 +290,7 @@ one_at n holds t h stream l c d words le x goes linked =
 one_none : HoldsOne zero
 one_none t h stream l c d words le x goes linked = absurd (weighs x.place x.first (before x.second x.rest) (subst (λ k. weight k ≤ 0) x.old le))
 
-pub holds : (n : ℕ) → Holds n
+holds : (n : ℕ) → Holds n
 holds zero = many zero one_none
 holds (suc n) = many (suc n) (one_at n (holds n))
 

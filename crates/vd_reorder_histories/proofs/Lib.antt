@@ -1,6 +1,6 @@
 pub mod Standing
 pub mod Falling
-pub mod Later
-pub mod HeldUp
-pub mod Maximal
-pub mod Asking
+mod Later
+mod HeldUp
+mod Maximal
+mod Asking

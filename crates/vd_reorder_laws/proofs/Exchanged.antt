@@ -12,7 +12,7 @@ piece_not_finished (Acts a) c e = absurd cc
 piece_not_finished (Sends q rs) c e = absurd cc
 piece_not_finished (Awaits q rs) c e = absurd cc
 
-pub stretch_not_finished : (x : Stretch) (c : Code) → stretch_before x c ≡ Finished → ⊥
+stretch_not_finished : (x : Stretch) (c : Code) → stretch_before x c ≡ Finished → ⊥
 stretch_not_finished (One x) c e = piece_not_finished x c e
 stretch_not_finished (Branch g first other) c e = absurd cc
 stretch_not_finished (Loop r t n body) c e = absurd cc
@@ -138,7 +138,7 @@ SomeLead c d = (n : ℕ) × Exchanges n c d
 pub none_lead : (c : Code) → SomeLead c c
 none_lead c = (0, refl)
 
-pub one_leads : (c d : Code) → IsExchanged c d → SomeLead c d
+one_leads : (c d : Code) → IsExchanged c d → SomeLead c d
 one_leads c d e = (1, (d, e, refl))
 
 two_lead : (c d e : Code) → IsExchanged c d → IsExchanged d e → SomeLead c e

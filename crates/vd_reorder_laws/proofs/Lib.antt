@@ -1,6 +1,6 @@
 pub mod Turned
 pub mod Exchanged
-pub mod Ending
+mod Ending
 pub mod Hosts
 pub mod Instances
 pub mod Passing

@@ -22,7 +22,7 @@ behind_branch g first other = record { place = λ p. BehindBranch g first other 
 behind_loop : (r t n : ℕ) (body : Code) → Around (λ c. Repeat r t n body c)
 behind_loop r t n body = record { place = λ p. BehindLoop r t n body p; stands = λ p c. refl }
 
-pub through : (y : Piece) (a : Code) → MayPassAll y a → (rest : Code) → IsHastened (followed_by a (before y rest)) (before y (followed_by a rest))
+through : (y : Piece) (a : Code) → MayPassAll y a → (rest : Code) → IsHastened (followed_by a (before y rest)) (before y (followed_by a rest))
 through y Finished m rest = none _
 through y (Then a c) m rest =
     on _ (Then a (before y (followed_by c rest))) _ (lifted (before (Acts a)) (piece_first (Acts a)) (followed_by c (before y rest)) (before y (followed_by c rest)) (through y c m.1 rest))

@@ -1,3 +1,3 @@
-pub mod Ahead
-pub mod Leaving
-pub mod Masked
+mod Ahead
+mod Leaving
+mod Masked

@@ -1,12 +1,12 @@
-pub mod TokenSteps
-pub mod InputsSteps
-pub mod ScheduleSteps
-pub mod InputsLaw
-pub mod ScheduleLaw
-pub mod ScheduleFurther
+mod TokenSteps
+mod InputsSteps
+mod ScheduleSteps
+mod InputsLaw
+mod ScheduleLaw
+mod ScheduleFurther
 pub mod ScheduleFaults
-pub mod Outcomes
-pub mod FurtherHost
-pub mod InputsFurther
+mod Outcomes
+mod FurtherHost
+mod InputsFurther
 pub mod InputsFaults
-pub mod Members
+mod Members

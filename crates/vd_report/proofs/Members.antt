@@ -5,18 +5,18 @@ use Rattle.vd_formula.specs.TruthTable.{has}
 use Rattle.vd_report.specs.LabelLines.{all_behind, joined, members}
 
 -- a part that is put behind the text, and the parts that are still to come
-pub part_more : (separator part : List ℕ) (rest : List (List ℕ)) (first : Bool) (text : List ℕ)
+part_more : (separator part : List ℕ) (rest : List (List ℕ)) (first : Bool) (text : List ℕ)
     → (text ++ (if first then part else separator ++ part)) ++ all_behind separator rest ≡ text ++ (if first then joined separator (part ∷ rest) else all_behind separator (part ∷ rest))
 part_more separator part rest true text = append_assoc text part (all_behind separator rest)
 part_more separator part rest false text = append_assoc text (separator ++ part) (all_behind separator rest)
 
-pub member_here : (names : List (List ℕ)) (place set : ℕ) (d : List ℕ) → place < length names → has set place ≡ true
+member_here : (names : List (List ℕ)) (place set : ℕ) (d : List ℕ) → place < length names → has set place ≡ true
     → members place (drop place names) set ≡ get_or names place d ∷ members (place + 1) (drop (place + 1) names) set
 member_here names place set d lt e =
     ap (λ z. members place z set) (drop_more names place d lt)
     ∙ ap (λ b. if b then get_or names place d ∷ members (place + 1) (drop (place + 1) names) set else members (place + 1) (drop (place + 1) names) set) e
 
-pub member_not_here : (names : List (List ℕ)) (place set : ℕ) (d : List ℕ) → place < length names → has set place ≡ false
+member_not_here : (names : List (List ℕ)) (place set : ℕ) (d : List ℕ) → place < length names → has set place ≡ false
     → members place (drop place names) set ≡ members (place + 1) (drop (place + 1) names) set
 member_not_here names place set d lt e =
     ap (λ z. members place z set) (drop_more names place d lt)

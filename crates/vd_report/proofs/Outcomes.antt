@@ -92,7 +92,7 @@ module _ {X : Type 0} (said : Result X ReadFault) where
   fault_answer (UnknownHost at) ample e = sym e
   fault_answer Memory ample e = absurd (ample refl)
 
-  pub answer_is : (result : Result X ReadFault) → IfOk result (λ x. said ≡ Ok x) → IfErr result (λ fault. IsFaultOf said fault) → result ≢ Err Memory → result ≡ said
+  answer_is : (result : Result X ReadFault) → IfOk result (λ x. said ≡ Ok x) → IfErr result (λ fault. IsFaultOf said fault) → result ≢ Err Memory → result ≡ said
   answer_is (Ok x) ok err ample = sym ok
   answer_is (Err fault) ok err ample = fault_answer fault ample err
 

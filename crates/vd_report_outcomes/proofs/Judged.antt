@@ -56,7 +56,7 @@ module _ (deals : List Deal) where
       let numbers : (x.left, x.right) ≡ (y.left, y.right) = sym a.sides_are ∙ both ∙ b.sides_are in
       λ i. record { kind = kinds i; first = record { 0 = e.0 i }; second = record { 0 = e.1.0 i }; index = e.1.1.1 i; left = (numbers i).0; right = (numbers i).1 }
 
-  pub bads_agree : (x y : BadItem) → IsFirstBad deals x → IsFirstBad deals y → x ≡ y
+  bads_agree : (x y : BadItem) → IsFirstBad deals x → IsFirstBad deals y → x ≡ y
   bads_agree x y a b = elim (ordered (place_of x) (place_of y)) [
     | inl before ↦ absurd (not_before x y a b before)
     | inr rest ↦ elim rest [ inl same ↦ same_items x y a b same | inr behind ↦ absurd (not_before y x b a behind) ]

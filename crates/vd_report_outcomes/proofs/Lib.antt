@@ -1,3 +1,3 @@
 pub mod Judged
-pub mod Searching
+mod Searching
 pub mod Picked

@@ -1,7 +1,7 @@
-pub mod Capped
-pub mod Tables
-pub mod Lookups
-pub mod Sequences
-pub mod Told
-pub mod KindLists
-pub mod Limiting
+mod Capped
+mod Tables
+mod Lookups
+mod Sequences
+mod Told
+mod KindLists
+mod Limiting

@@ -20,7 +20,7 @@ is_above m n lt = grind arith
 pub is_not_above : (m n : ℕ) → n ≤ m → nat_lt m n ≡ false
 is_not_above m n le = grind arith
 
-pub within_capped : (which : Quantity) (limit count : ℕ) → limit < 4294967295 → within which limit (capped count) ≡ within which limit count
+within_capped : (which : Quantity) (limit count : ℕ) → limit < 4294967295 → within which limit (capped count) ≡ within which limit count
 unfolding within
 within_capped which limit count low = elim (cases_lt count (2 ^ 32)) [
   | inl small ↦ (let same : capped count ≡ count = omega arith in ap (λ n. if nat_lt limit n then Err (rule.Limit which (capped n)) else Ok tt) same)
@@ -31,7 +31,7 @@ within_capped which limit count low = elim (cases_lt count (2 ^ 32)) [
       rw (top, a, b) refl)
 ]
 
-pub limits_capped : (principals hosts : ℕ) (size : Size) → limits_check (capped principals) (capped hosts) (capped_size size) ≡ limits_check principals hosts size
+limits_capped : (principals hosts : ℕ) (size : Size) → limits_check (capped principals) (capped hosts) (capped_size size) ≡ limits_check principals hosts size
 unfolding capped_size
 limits_capped principals hosts size =
     rw (
@@ -44,7 +44,7 @@ limits_capped principals hosts size =
     ) refl
 
 -- the limits of a source, by its size as it was counted
-pub limits_are : (source : Source) (size : Size) (principals hosts : ℕ) (r : Result (Unit {0}) Fault) → IsCapped size (source_size source)
+limits_are : (source : Source) (size : Size) (principals hosts : ℕ) (r : Result (Unit {0}) Fault) → IsCapped size (source_size source)
     → principals ≡ length source.principals → hosts ≡ length source.hosts → limits_check (capped principals) (capped hosts) size ≡ r
     → limits_check (length source.principals) (length source.hosts) (source_size source) ≡ r
 unfolding IsCapped

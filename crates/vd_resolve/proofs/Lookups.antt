@@ -8,7 +8,7 @@ use Rattle.vd_base.specs.Names.{Named, at_name}
 use Rattle.vd_resolve.specs.Sizes.{is_true, is_variable, capped_size, IsCapped}
 use Rattle.vd_resolve.specs.Walks.{is_variable_symbol, variables, signatures, HaveSizes}
 
-pub at_name_map : {A B : Type 0} (f : A → B) (es : Named A) (x : List ℕ) → at_name (map {B = List ℕ × B} (λ e. (e.0, f e.1)) es) x ≡ option_map f (at_name es x)
+at_name_map : {A B : Type 0} (f : A → B) (es : Named A) (x : List ℕ) → at_name (map {B = List ℕ × B} (λ e. (e.0, f e.1)) es) x ≡ option_map f (at_name es x)
 at_name_map f [] x = refl
 at_name_map {A} {B} f (e ∷ es) x =
     elim (bytes_eq e.0 x) as (λ b. (if b then Some (f e.1) else at_name (map {B = List ℕ × B} (λ e. (e.0, f e.1)) es) x) ≡ option_map f (if b then Some e.1 else at_name es x)) [

@@ -13,7 +13,7 @@ use Rattle.vd_resolve.specs.Sizes.{IsCapped, capped_size, function_size, functio
 use Rattle.vd_resolve.specs.Rules.{Names, is_new, checking, block_check, function_check, functions_check, bodies_check, function_names, signature_of}
 use Rattle.vd_resolve.specs.Walks.{HaveSizes, IsFaultOf, signatures}
 
-pub sizes_next : (before : Named Size) (fs : List Function) (k : ℕ) (d : Function) → k < length fs
+sizes_next : (before : Named Size) (fs : List Function) (k : ℕ) (d : Function) → k < length fs
     → function_sizes before (take (k + 1) fs) ≡ function_sizes before (take k fs) ++ ((get_or fs k d).name.name, function_size (function_sizes before (take k fs)) (get_or fs k d)) ∷ []
 sizes_next before [] k d lt = absurd (omega arith)
 sizes_next before (f ∷ fs) zero d lt = refl
@@ -23,7 +23,7 @@ pub map_last : {A B : Type 0} (f : A → B) (xs : List A) (x : A) → map f (xs 
 map_last f [] x = refl
 map_last f (y ∷ ys) x = ap (λ z. f y ∷ z) (map_last f ys x)
 
-pub have_next : (callees : Named Callee) (sizes : Named Size) (name : List ℕ) (c : Callee) (s : Size) → HaveSizes callees sizes → IsCapped c.size s → HaveSizes (callees ++ (name, c) ∷ []) (sizes ++ (name, s) ∷ [])
+have_next : (callees : Named Callee) (sizes : Named Size) (name : List ℕ) (c : Callee) (s : Size) → HaveSizes callees sizes → IsCapped c.size s → HaveSizes (callees ++ (name, c) ∷ []) (sizes ++ (name, s) ∷ [])
 unfolding IsCapped
 have_next callees sizes name c s have is =
     map_last {B = List ℕ × Size} (λ (e : List ℕ × Callee). (e.0, e.1.size)) callees (name, c)

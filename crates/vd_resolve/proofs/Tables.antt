@@ -6,10 +6,10 @@ use Rattle.indexmap.specs.IndexMap.{insert_entry}
 use Rattle.vd_base.specs.Names.{Named, at_name}
 use Rattle.vd_base.specs.declared.ids.Span.{Span}
 
-pub nat_eq_sym : (m n : ℕ) → nat_eq m n ≡ nat_eq n m
+nat_eq_sym : (m n : ℕ) → nat_eq m n ≡ nat_eq n m
 nat_eq_sym m n = grind arith
 
-pub bytes_eq_sym : (xs ys : List ℕ) → bytes_eq xs ys ≡ bytes_eq ys xs
+bytes_eq_sym : (xs ys : List ℕ) → bytes_eq xs ys ≡ bytes_eq ys xs
 bytes_eq_sym [] [] = refl
 bytes_eq_sym [] (y ∷ ys) = refl
 bytes_eq_sym (x ∷ xs) [] = refl
@@ -22,7 +22,7 @@ Entries E = List (Bor (List ℕ) × E)
 abbrev pub named : {E A : Type 0} → (E → A) → Entries E → Named A
 named {E} {A} f es = map {B = List ℕ × A} (λ e. (e.0.now, f e.1)) es
 
-pub lookup_named : {E A : Type 0} (f : E → A) (es : Entries E) (name : List ℕ) → option_map f (lookup (λ k. bytes_eq name k.now) es) ≡ at_name (named f es) name
+lookup_named : {E A : Type 0} (f : E → A) (es : Entries E) (name : List ℕ) → option_map f (lookup (λ k. bytes_eq name k.now) es) ≡ at_name (named f es) name
 lookup_named f [] name = refl
 lookup_named {E} {A} f (e ∷ es) name =
     let P : Bool → Type 0 = λ b. option_map f (if b then Some e.1 else lookup (λ k. bytes_eq name k.now) es) ≡ (if b then Some (f e.1) else at_name (named f es) name) in
@@ -37,10 +37,10 @@ mapped_is_some f None = refl
 mapped_is_some f (Some a) = refl
 
 -- whether a name is here, by any part
-pub is_here : {E A : Type 0} (f : E → A) (es : Entries E) (name : List ℕ) → is_some (at_name (named f es) name) ≡ is_some (lookup (λ k. bytes_eq name k.now) es)
+is_here : {E A : Type 0} (f : E → A) (es : Entries E) (name : List ℕ) → is_some (at_name (named f es) name) ≡ is_some (lookup (λ k. bytes_eq name k.now) es)
 is_here f es name = ap is_some (sym (lookup_named f es name)) ∙ mapped_is_some f (lookup (λ k. bytes_eq name k.now) es)
 
-pub insert_named : {E A : Type 0} (f : E → A) (es : Entries E) (k : Bor (List ℕ)) (v : E) → is_some (lookup (λ j. bytes_eq k.now j.now) es) ≡ false
+insert_named : {E A : Type 0} (f : E → A) (es : Entries E) (k : Bor (List ℕ)) (v : E) → is_some (lookup (λ j. bytes_eq k.now j.now) es) ≡ false
     → named f (insert_entry (λ x y. bytes_eq x.now y.now) es k v) ≡ named f es ++ (k.now, f v) ∷ []
 insert_named f [] k v none = refl
 insert_named {E} {A} f (e ∷ es) k v none =
@@ -52,12 +52,12 @@ insert_named {E} {A} f (e ∷ es) k v none =
     ])
     none
 
-pub take_named : {E A : Type 0} (f : E → A) (n : ℕ) (es : Entries E) → named f (take n es) ≡ take n (named f es)
+take_named : {E A : Type 0} (f : E → A) (n : ℕ) (es : Entries E) → named f (take n es) ≡ take n (named f es)
 take_named f zero es = refl
 take_named f (suc n) [] = refl
 take_named f (suc n) (e ∷ es) = ap (λ z. (e.0.now, f e.1) ∷ z) (take_named f n es)
 
-pub length_named : {E A : Type 0} (f : E → A) (es : Entries E) → length (named f es) ≡ length es
+length_named : {E A : Type 0} (f : E → A) (es : Entries E) → length (named f es) ≡ length es
 length_named f [] = refl
 length_named f (e ∷ es) = grind (arith, length_named f es)
 

@@ -45,7 +45,7 @@ pub record Adds (next : ℕ) (s s' : SlotState) : Type 0 where
   pub arrays : s'.arrays ≡ s.arrays
   pub below : (j : ℕ) → j < next → word s' j ≡ word s j
 
-pub adds_both : (n n' : ℕ) (s s' s'' : SlotState) → n ≤ n' → Adds n s s' → Adds n' s' s'' → Adds n s s''
+adds_both : (n n' : ℕ) (s s' s'' : SlotState) → n ≤ n' → Adds n s s' → Adds n' s' s'' → Adds n s s''
 adds_both n n' s s' s'' le a b = record { world = b.world ∙ a.world; arrays = b.arrays ∙ a.arrays; below = λ j h. b.below j (omega arith) ∙ a.below j h }
 
 pub adds_word : (n k w : ℕ) (s : SlotState) → n ≤ k → Adds n s (with_word (slot k) w s)
@@ -72,7 +72,7 @@ pub record Selects (gs : List Guard) (y v : SlotId) (m : Made) (p : SlotId × Ma
   pub word : (turn : ℕ) (s : SlotState) → word (state p.1 turn s) p.0.0 ≡ (if all_wanted (state m turn s) gs then word (state m turn s) y.0 else word (state m turn s) v.0)
 
 -- a new slot
-pub fresh_state : (entry : Slot) (r : Right) (m : Made) (turn : ℕ) (s : SlotState) → state (with_fresh entry r m) turn s ≡ stmt_effect (Stmt-F.Let (slot m.next) r) turn (state m turn s)
+fresh_state : (entry : Slot) (r : Right) (m : Made) (turn : ℕ) (s : SlotState) → state (with_fresh entry r m) turn s ≡ stmt_effect (Stmt-F.Let (slot m.next) r) turn (state m turn s)
 fresh_state entry r m turn s = pushed m.body (Let (slot m.next) r) (stmt_effect (Stmt-F.Let (slot m.next) r)) (effect_let (slot m.next) r) turn s
 
 -- one guard more around what is selected so far

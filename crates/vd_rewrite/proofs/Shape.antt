@@ -22,7 +22,7 @@ slots_let x r = search (rules, the_lemmas)
 pub slots_var : (v x : SlotId) → slots_of (NewVar v x) ≡ v.0 ∷ []
 slots_var v x = search (rules, the_lemmas)
 
-pub slots_array : (v : SlotId) (n : ℕ) → slots_of (NewArray v n) ≡ v.0 ∷ []
+slots_array : (v : SlotId) (n : ℕ) → slots_of (NewArray v n) ≡ v.0 ∷ []
 slots_array v n = search (rules, the_lemmas)
 
 pub slots_store : (v x : SlotId) → slots_of (Store v x) ≡ []
@@ -179,7 +179,7 @@ module _ (pass : Slot → Bool) where
         few = let p = count_push m.body x in let q = some_count x in omega arith;
       }
 
-  pub makes_fresh : (m : Made) (entry : Slot) (r : Right) → pass entry ≡ true → Makes pass m (with_fresh entry r m) 0 0
+  makes_fresh : (m : Made) (entry : Slot) (r : Right) → pass entry ≡ true → Makes pass m (with_fresh entry r m) 0 0
   makes_fresh m entry r ok =
       let x = Let (slot m.next) r in
       let c = cells_let (slot m.next) r in
@@ -196,7 +196,7 @@ module _ (pass : Slot → Bool) where
         few = let p = count_push m.body x in let q = some_count x in omega arith;
       }
 
-  pub makes_same : (m m' : Made) (c d n k : ℕ) → c ≡ d → n ≡ k → Makes pass m m' c n → Makes pass m m' d k
+  makes_same : (m m' : Made) (c d n k : ℕ) → c ≡ d → n ≡ k → Makes pass m m' c n → Makes pass m m' d k
   makes_same m m' c d n k e f h = subst (λ z. Makes pass m m' z k) e (subst (λ z. Makes pass m m' c z) f h)
 
   pub makes_deeper : (m m' : Made) (c n k : ℕ) → n ≤ k → Makes pass m m' c n → Makes pass m m' c k
@@ -205,7 +205,7 @@ module _ (pass : Slot → Bool) where
       record { count = h.count; next = h.next; entries = h.entries; slots = h.slots; passes = h.passes; cells = h.cells; nest = omega arith; more = h.more; few = h.few }
 
   module _ (fresh_passes : (kind : Kind) (offset block : ℕ) → pass (fresh kind offset block) ≡ true) where
-    pub selected_makes : (kind : Kind) (block : ℕ) (v : SlotId) (gs : List Guard) (y : SlotId) (m : Made) → Makes pass m (selected kind block v gs y m).1 0 0
+    selected_makes : (kind : Kind) (block : ℕ) (v : SlotId) (gs : List Guard) (y : SlotId) (m : Made) → Makes pass m (selected kind block v gs y m).1 0 0
     selected_makes kind block v [] y m = makes_none m
     selected_makes kind block v (g ∷ gs) y m =
         let p = selected kind block v gs y m in
@@ -324,7 +324,7 @@ module _ (pass : Slot → Bool) where
           (subst (λ z. Shaped (rewriting_step hides lets old (map-Stmt Stmt Rewriting the y)) z (nesting_of (roll-Stmt y) + deep)) (sym (fold-roll-Stmt ℕ cells_step y))
           (subst (λ z. Shaped (rewriting_step hides lets old (map-Stmt Stmt Rewriting the y)) (cells_step (map-Stmt Stmt ℕ cells_of y)) (z + deep)) (sym (fold-roll-Stmt ℕ nesting_step y)) h))
 
-      pub stmt_makes : (s : Stmt) → Shaped (the s) (cells_of s) (nesting_of s + deep)
+      stmt_makes : (s : Stmt) → Shaped (the s) (cells_of s) (nesting_of s + deep)
       stmt_makes = ind-Stmt (λ s. Shaped (the s) (cells_of s) (nesting_of s + deep)) (λ x y is. subst (λ z. Shaped (the (roll-Stmt z)) (cells_of (roll-Stmt z)) (nesting_of (roll-Stmt z) + deep)) is (at_roll (layer y) (step y)))
 
       pub body_makes : (body : List Stmt) (gs : List Guard) (block : ℕ) (m : Made) → Makes pass m (run_all (map the body) gs block m) (cell_count body) (nesting body + deep)

@@ -143,7 +143,7 @@ pub adds_both : (m m1 m2 : Made) (start : Sight) → Adds m m1 start → Adds m1
 adds_both m m1 m2 start a b = record { all = b.all; more = more_both (sight m start).after (sight m1 start).after (sight m2 start).after a.more b.more }
 
 -- a new slot
-pub fresh_adds : (entry : Slot) (r : Right) (m : Made) (start : Sight) → (sight m start).all ≡ true → right_sees r (sight m start).after ≡ true
+fresh_adds : (entry : Slot) (r : Right) (m : Made) (start : Sight) → (sight m start).all ≡ true → right_sees r (sight m start).after ≡ true
     → Adds m (with_fresh entry r m) start × ((sight (with_fresh entry r m) start).after ≡ with_binding (slot m.next) (sight m start).after)
 fresh_adds entry r m start all ok = stmt_adds m (with_fresh entry r m) (Let (slot m.next) r) (seeing_step (Stmt-F.Let (slot m.next) r)) start refl (see_let (slot m.next) r) all ok (more_binding (slot m.next) (sight m start).after)
 
@@ -164,7 +164,7 @@ pub guards_push : (new : Sight) (gs : List Guard) (g : Guard) → is_binding new
 guards_push new [] g is h = (is, tt)
 guards_push new (g' ∷ gs) g is h = (h.0, guards_push new gs g is h.1)
 
-pub choice_sees : (new : Sight) (first : Bool) (g y o : SlotId) → is_binding new g ≡ true → is_binding new y ≡ true → is_binding new o ≡ true → right_sees (selection first g y o) new ≡ true
+choice_sees : (new : Sight) (first : Bool) (g y o : SlotId) → is_binding new g ≡ true → is_binding new y ≡ true → is_binding new o ≡ true → right_sees (selection first g y o) new ≡ true
 choice_sees new true g y o a b c = rw (a, b, c) refl
 choice_sees new false g y o a b c = rw (a, b, c) refl
 

@@ -30,7 +30,7 @@ module _ (hides : SlotId → Bool) (lets : Lets) (deep : ℕ) (lets_make : (x : 
     pub body_more : (body : List Stmt) (gs : List Guard) (block : ℕ) (m : Made) → size m ≤ size (run_all (map the body) gs block m)
     body_more body gs block m = (body_makes anything (λ k o b. refl) hides lets old (λ x b. refl) deep lets_make body gs block m).more
 
-    pub body_few : (body : List Stmt) (gs : List Guard) (block : ℕ) (m : Made) → size (run_all (map the body) gs block m) + statement_count m.body ≤ size m + statement_count (run_all (map the body) gs block m).body
+    body_few : (body : List Stmt) (gs : List Guard) (block : ℕ) (m : Made) → size (run_all (map the body) gs block m) + statement_count m.body ≤ size m + statement_count (run_all (map the body) gs block m).body
     body_few body gs block m = (body_makes anything (λ k o b. refl) hides lets old (λ x b. refl) deep lets_make body gs block m).few
 
   pub large_is_not_within : (program : NormalForm) → IsTooLarge (all_made hides lets program) → is_within (rewritten hides lets program) ≡ false

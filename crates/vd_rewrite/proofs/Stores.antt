@@ -33,7 +33,7 @@ pub length_push : {A : Type 0} (xs : List A) (y : A) → length (xs ++ y ∷ [])
 length_push [] y = refl
 length_push (x ∷ xs) y = let rest = length_push xs y in omega arith
 
-pub block_push : (xs : List Stmt) (x : Stmt) (turn : ℕ) (s : SlotState) → block_effect (xs ++ x ∷ []) turn s ≡ effect x turn (block_effect xs turn s)
+block_push : (xs : List Stmt) (x : Stmt) (turn : ℕ) (s : SlotState) → block_effect (xs ++ x ∷ []) turn s ≡ effect x turn (block_effect xs turn s)
 block_push [] x turn s = refl
 block_push (y ∷ ys) x turn s = block_push ys x turn (effect y turn s)
 

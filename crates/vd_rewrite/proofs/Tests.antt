@@ -48,19 +48,19 @@ module _ (test : Stmt-F Bool → Bool) (looks : Looks test) where
   pub test_var : (v x : SlotId) → tested (NewVar v x) ≡ test (Stmt-F.NewVar v x)
   test_var v x = search (rules, the_lemmas)
 
-  pub test_array : (v : SlotId) (n : ℕ) → tested (NewArray v n) ≡ test (Stmt-F.NewArray v n)
+  test_array : (v : SlotId) (n : ℕ) → tested (NewArray v n) ≡ test (Stmt-F.NewArray v n)
   test_array v n = search (rules, the_lemmas)
 
   pub test_store : (v x : SlotId) → tested (Store v x) ≡ test (Stmt-F.Store v x)
   test_store v x = search (rules, the_lemmas)
 
-  pub test_put : (v i x : SlotId) → tested (Put v i x) ≡ test (Stmt-F.Put v i x)
+  test_put : (v i x : SlotId) → tested (Put v i x) ≡ test (Stmt-F.Put v i x)
   test_put v i x = search (rules, the_lemmas)
 
-  pub test_output : (x : SlotId) (h : HostId) (offset : ℕ) → tested (Output x h offset) ≡ test (Stmt-F.Output x h offset)
+  test_output : (x : SlotId) (h : HostId) (offset : ℕ) → tested (Output x h offset) ≡ test (Stmt-F.Output x h offset)
   test_output x h offset = search (rules, the_lemmas)
 
-  pub test_if : (x : SlotId) (a b : List Stmt) (offset : ℕ) → tested (If x a b offset) ≡ test (Stmt-F.If x (map tested a) (map tested b) offset)
+  test_if : (x : SlotId) (a b : List Stmt) (offset : ℕ) → tested (If x a b offset) ≡ test (Stmt-F.If x (map tested a) (map tested b) offset)
   test_if x a b offset = search (rules, the_lemmas)
 
   pub test_for : (n : ℕ) (body : List Stmt) → tested (For n body) ≡ test (Stmt-F.For n (map tested body))
@@ -69,7 +69,7 @@ module _ (test : Stmt-F Bool → Bool) (looks : Looks test) where
   abbrev pub Keeps : Made → Made → Type 0
   Keeps m m' = all_tested m.body ≡ true → all_tested m'.body ≡ true
 
-  pub fresh_keeps : (entry : Slot) (r : Right) (m : Made) → test (Stmt-F.Let (slot m.next) r) ≡ true → Keeps m (with_fresh entry r m)
+  fresh_keeps : (entry : Slot) (r : Right) (m : Made) → test (Stmt-F.Let (slot m.next) r) ≡ true → Keeps m (with_fresh entry r m)
   fresh_keeps entry r m ok h = all_push tested m.body (Let (slot m.next) r) h (test_let (slot m.next) r ∙ ok)
 
   pub kept_keeps : (x : Stmt) (body : List Stmt) → tested x ≡ true → all_tested body ≡ true → all_tested (body ++ x ∷ []) ≡ true

@@ -34,7 +34,7 @@ with_true : (b : Bool) → b ≡ true → (b && true) ≡ true
 with_true true h = refl
 with_true false h = h
 
-pub looks_rights : (f : Right → Bool) → ((table : List ℕ) (r : Right) → f r ≡ true → f (moved_right table r) ≡ true) → ((v : SlotId) → f (Load v) ≡ true) → ((first : Bool) (g new old : SlotId) → f (selection first g new old) ≡ true)
+looks_rights : (f : Right → Bool) → ((table : List ℕ) (r : Right) → f r ≡ true → f (moved_right table r) ≡ true) → ((v : SlotId) → f (Load v) ≡ true) → ((first : Bool) (g new old : SlotId) → f (selection first g new old) ≡ true)
     → Looks (λ s. of_rights f s && blocks_meet s)
 looks_rights f moves load choice =
     record {

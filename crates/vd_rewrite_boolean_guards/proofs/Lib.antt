@@ -2,4 +2,4 @@ mod SlotKinds
 mod Beside
 mod Typed
 mod Walked
-pub mod Guards
+mod Guards

@@ -266,7 +266,7 @@ call_is at kinds false None kind e = absurd (err_is (fault.Unknown at) kind e)
 abbrev pub ExprTyped : Typing → Lowering → Type 0
 ExprTyped t l = (scope : Scope) (env : Named Symbol) (kind : Kind) → t scope env ≡ Ok kind → (is : Named Inlining) → Calls scope.functions is → (names : Named Spot) (here : Here) (m : Made) → Sound m → Shows m env names → Makes m (l.run is names here m) kind
 
-abbrev pub LinkTyped : LinkTyping → LinkLowering → Type 0
+abbrev LinkTyped : LinkTyping → LinkLowering → Type 0
 LinkTyped t l = (scope : Scope) (env : Named Symbol) (left kind : Kind) → t scope env left ≡ Ok kind → (is : Named Inlining) → Calls scope.functions is → (names : Named Spot) (here : Here) (x : ℕ) (m : Made) → Sound m → Shows m env names → Has m x left → Makes m (l is names here x m) kind
 
 infix_typed : (o : Infix) (at : Span) (t : Typing) (l : Lowering) → ExprTyped t l → (s : Option ℕ) → ((k : ℕ) → s ≡ Some k → (left given kind : Kind) → kind_or at (infix_kind o left given) ≡ Ok kind → Word ≡ kind) → LinkTyped (link_typing (Link-F.Infix o at t)) (link_made s o l)

@@ -89,7 +89,7 @@ module _ (p : NormalForm) (l : Labels) where
     pub slots : (k : ℕ) → k < m.next → f' k ≡ f k
     pub labels : (b : ℕ) → b < m.blocks → g' b ≡ g b
 
-  pub later_none : (m : Made) (f g : ℕ → Label) → Later m m f g f g
+  later_none : (m : Made) (f g : ℕ → Label) → Later m m f g f g
   later_none m f g = record { next = omega arith; blocks = omega arith; entries = λ k lt. refl; slots = λ k lt. refl; labels = λ b lt. refl }
 
   pub later_both : (m m1 m2 : Made) (f g f1 g1 f2 g2 : ℕ → Label) → Later m m1 f g f1 g1 → Later m1 m2 f1 g1 f2 g2 → Later m m2 f g f2 g2
@@ -217,7 +217,7 @@ module _ (p : NormalForm) (l : Labels) where
           subst (λ z. put f m.next (old (length m.table)) (slice_index (m.table ++ m.next ∷ []) z) ≡ old z) is (ap (put f m.next (old (length m.table))) (item_last m.table m.next) ∙ put_here f m.next (old (length m.table)))
 
   -- and one that makes a new slot, with the label a
-  pub fresh_labelled : (block : ℕ) (entry : Entry) (r : Right) (m : Made) (f g : ℕ → Label) (a : Label) → Tied m f g → Over a → Asked block m (with_fresh entry r m) (Let (slot m.next) r) (put f m.next a) g
+  fresh_labelled : (block : ℕ) (entry : Entry) (r : Right) (m : Made) (f g : ℕ → Label) (a : Label) → Tied m f g → Over a → Asked block m (with_fresh entry r m) (Let (slot m.next) r) (put f m.next a) g
       → Labelled block m (with_fresh entry r m) f g (put f m.next a) g
   fresh_labelled block entry r m f g a tied over asked =
       let sized = tied.sized in
@@ -255,7 +255,7 @@ module _ (p : NormalForm) (l : Labels) where
       ap written_in (is ∙ entry_last m (in_block block (entry_of p.slots x)) sized) ∙ sym (ap written_in (slice_get-get_or p.slots x.0 unnamed low))
 
   -- a new slot has none
-  pub written_none : (kind : Kind) (offset block : ℕ) (m last : Made) → length m.slots ≡ m.next → slice_get last.slots m.next ≡ slice_get (m.slots ++ fresh kind offset block ∷ []) m.next → written_at (with_made p last) (slot m.next) ≡ None
+  written_none : (kind : Kind) (offset block : ℕ) (m last : Made) → length m.slots ≡ m.next → slice_get last.slots m.next ≡ slice_get (m.slots ++ fresh kind offset block ∷ []) m.next → written_at (with_made p last) (slot m.next) ≡ None
   written_none kind offset block m last sized is = ap written_in (is ∙ entry_last m (fresh kind offset block) sized)
 
   -- ---- what one statement asks

@@ -1,4 +1,4 @@
 mod Asked
 mod Labelled
 mod Walked
-pub mod KeptLabels
+mod KeptLabels

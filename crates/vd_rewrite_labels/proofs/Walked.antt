@@ -163,7 +163,7 @@ module _ (hides : SlotId → Bool) (p : NormalForm) (l : Labels) (slots_over : (
   Walks r v xs w = (gs : List Guard) (block : ℕ) (m : Made) (f g : ℕ → Label) (seen : Sight) (pc : Place) (c : Constraints) → Placed m.table m.next → Known (length m.table) seen → Counts (length m.table) xs → length m.table + length xs ≤ length p.slots
       → (v seen).all ≡ true → Tied p l m f g → Inside gs block pc m f g → Old (w p pc c) → Result block m (r.run gs block m) f g
 
-  pub record Fact (r : Rewriting) (v : Seeing) (xs : List ℕ) (w : Step) : Type 0 where
+  record Fact (r : Rewriting) (v : Seeing) (xs : List ℕ) (w : Step) : Type 0 where
     pub drops : (pc : Place) (c : Constraints) → Old (w p pc c) → Old c
     pub walks : Walks r v xs w
 
@@ -384,19 +384,19 @@ module _ (hides : SlotId → Bool) (p : NormalForm) (l : Labels) (slots_over : (
       before : Final p l m f g last final
       before = final_back p l m (with_kept entry s m) f g (put f m.next label) g last final (later_kept p l entry s m f g label tied) h
 
-      pub table_same : (k : ℕ) → k < length m.table → slot_label final (slice_index m.table k) ≡ own k
+      table_same : (k : ℕ) → k < length m.table → slot_label final (slice_index m.table k) ≡ own k
       table_same k lt = before.slots (slice_index m.table k) (tied.low k lt) ∙ tied.same k lt
 
-      pub own_same : slot_label final m.next ≡ own x.0
+      own_same : slot_label final m.next ≡ own x.0
       own_same = h.slots m.next (omega arith) ∙ put_here f m.next label ∙ sym (ap own is)
 
-      pub block_same : label_at final (Block block) ≡ g block
+      block_same : label_at final (Block block) ≡ g block
       block_same = before.blocks block inside.low
 
-      pub written : OptionalFits (written_at p x) (own x.0) → OptionalFits (written_at (with_made p last) (slot m.next)) (slot_label final m.next)
+      written : OptionalFits (written_at p x) (own x.0) → OptionalFits (written_at (with_made p last) (slot m.next)) (slot_label final m.next)
       written w = subst₂ OptionalFits (sym (written_same p l block x m last tied.sized low (h.entries m.next (omega arith)))) (sym own_same) w
 
-      pub from_block : Flows (label_at l pc) (own x.0) → Flows (label_at final (Block block)) (slot_label final m.next)
+      from_block : Flows (label_at l pc) (own x.0) → Flows (label_at final (Block block)) (slot_label final m.next)
       from_block flow = subst₂ Flows (sym block_same) (sym own_same) (flows_on names (g block) (label_at l pc) (own x.0) (tied.blocks_over block inside.low) inside.over (slots_over x.0 low) inside.flow flow)
 
     let_walks : (r : Right) (seen : Sight) (c : Constraints) → Known (length m.table) seen → right_sees r seen ≡ true → Old (stmt_step (Stmt-F.Let x r) p pc c) → Result block m (kept_let p.slots x r block m) f g

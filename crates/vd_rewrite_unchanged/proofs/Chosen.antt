@@ -274,7 +274,7 @@ module _ (p : NormalForm) (l : Labels) (list : List ℕ) (well : IsWellMade p) (
   turned_same : turned hides p ≡ p
   turned_same = ap (λ b. if b && is_within (with_selections hides p) then with_selections hides p else p) body_unchanged
 
-  pub stays : turn_of p l ≡ p
+  stays : turn_of p l ≡ p
   stays = by (has_boolean_guards p)
     where
       by : (b : Bool) → (if b then turned hides p else p) ≡ p

@@ -104,7 +104,7 @@ module _ (p : NormalForm) (l : Labels) (list : List ℕ) (well : IsWellMade p) (
   none_in [] = refl
   none_in (s ∷ ss) = ap (λ b. if b then true else some_true (map is_long ss)) (none_long s) ∙ none_in ss
 
-  pub long_stays : lengthen_of p l ≡ p
+  long_stays : lengthen_of p l ≡ p
   long_stays = ap (λ b. if b && (is_within (with_long_divisions marks p) && nat_le (nesting (with_long_divisions marks p).body) most_nesting) then with_long_divisions marks p else p) (none_in p.body)
 
 pub divisions_stay : ChosenDivisionsStay

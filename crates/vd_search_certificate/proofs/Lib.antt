@@ -1,8 +1,8 @@
-pub mod Numbers
-pub mod Scans
-pub mod Three
-pub mod Whole
+mod Numbers
+mod Scans
+mod Three
+mod Whole
 pub mod Outcomes
-pub mod Steps
-pub mod Answers
-pub mod Forms
+mod Steps
+mod Answers
+mod Forms

@@ -11,10 +11,10 @@ use Rattle.vd_search_certificate.specs.Steps.{Said, ShiftMoves}
 use Rattle.vd_search_certificate.specs.Texts.{newline}
 use Rattle.vd_search_certificate.specs.Scan.{Scanner, word, scan_marks, certificate, at_end, mark_of, scan_shift, scan_shifts}
 
-pub here : (bytes : List ℕ) (at b : ℕ) → at < length bytes → b ≡ get_or bytes at 0 → drop at bytes ≡ b ∷ drop (at + 1) bytes
+here : (bytes : List ℕ) (at b : ℕ) → at < length bytes → b ≡ get_or bytes at 0 → drop at bytes ≡ b ∷ drop (at + 1) bytes
 here bytes at b low is = rw (add-one at, is) (drop-cons bytes at 0 low)
 
-pub gone : (bytes : List ℕ) (at : ℕ) → length bytes ≤ at → drop at bytes ≡ []
+gone : (bytes : List ℕ) (at : ℕ) → length bytes ≤ at → drop at bytes ≡ []
 gone bytes at high = drop_all at bytes high
 
 -- ---- words
@@ -26,7 +26,7 @@ word_ended expected bytes i at low high =
 -- ---- marks
 
 module _ (cost : Option ℕ) (linked : Bool) (shifts : List Shift) (marks : List Mark) (bytes : List ℕ) (at b : ℕ) (low : at < length bytes) (is : b ≡ get_or bytes at 0) where
-  pub mark_ends : b ≡ newline → scan_marks cost linked shifts marks (drop at bytes) ≡ at_end (certificate cost linked shifts marks) (drop (at + 1) bytes)
+  mark_ends : b ≡ newline → scan_marks cost linked shifts marks (drop at bytes) ≡ at_end (certificate cost linked shifts marks) (drop (at + 1) bytes)
   mark_ends same =
       ap (scan_marks cost linked shifts marks) (here bytes at b low is)
       ∙ ap (λ t. cond t (at_end (certificate cost linked shifts marks) (drop (at + 1) bytes)) (option_map_or (λ mark. scan_marks cost linked shifts (marks ++ mark ∷ []) (drop (at + 1) bytes)) (mark_of b) (Err (b ∷ drop (at + 1) bytes)))) (eq-eqb b newline same)

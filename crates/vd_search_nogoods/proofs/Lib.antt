@@ -1,2 +1,2 @@
-pub mod Ties
-pub mod Copies
+mod Ties
+mod Copies

@@ -176,7 +176,7 @@ all_named : (problem : Problem) (shifts : List Shift) → length (protocols prob
 all_named problem [] places all = tt
 all_named problem (shift ∷ shifts) places all = (names problem shift places all.0, all_named problem shifts places all.1)
 
-pub better : (problem : Problem) (shifts : List Shift) (tables : LinkedTables) → IsLabelled problem → AreLinkShifts problem shifts → 1 ≤ length shifts → AreLinkedTables problem tables → tables.shifts ≡ shifts → CanLink problem tables
+better : (problem : Problem) (shifts : List Shift) (tables : LinkedTables) → IsLabelled problem → AreLinkShifts problem shifts → 1 ≤ length shifts → AreLinkedTables problem tables → tables.shifts ≡ shifts → CanLink problem tables
 better problem shifts tables labelled are some tabled same = record {
   tabled = tabled;
   named = subst (AllByRecursion (NamesLink problem)) (sym same) (all_named problem shifts (few_in problem labelled) are.each);

@@ -1,9 +1,9 @@
-pub mod Chosen
+mod Chosen
 pub mod Once
 pub mod Accepted
-pub mod Named
-pub mod Answered
-pub mod ByLinks
+mod Named
+mod Answered
+mod ByLinks
 mod Floors
 mod Untied
 mod Passed

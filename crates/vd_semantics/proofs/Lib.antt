@@ -1,3 +1,3 @@
-pub mod Puts
+mod Puts
 pub mod Lookup
 pub mod Sizes

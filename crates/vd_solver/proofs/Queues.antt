@@ -27,7 +27,7 @@ in_rest flags queue rest rule low e listed r waits = elim (cases_eq r rule) [
 
 -- what waits after one more is put in
 module _ (flags : List Bool) (queue : List ℕ) (rule : ℕ) where
-  pub waits_still : (r : ℕ) → IsTrue (get_or flags r false) → IsTrue (get_or (set flags rule true) r false)
+  waits_still : (r : ℕ) → IsTrue (get_or flags r false) → IsTrue (get_or (set flags rule true) r false)
   waits_still r waits = elim (cases_eq r rule) [
     | inr differs ↦ get_or-set_other flags rule r true false differs ∙ waits
     | inl same ↦ ap (λ k. get_or (set flags rule true) k false) same ∙ get_or-set_same flags rule true false (below flags rule (sym (ap (λ k. get_or flags k false) same) ∙ waits))
@@ -38,7 +38,7 @@ module _ (flags : List Bool) (queue : List ℕ) (rule : ℕ) where
       below (x ∷ xs) zero waits = omega arith
       below (x ∷ xs) (suc k) waits = let rest = below xs k waits in omega (arith, rest)
 
-  pub in_longer : ((r : ℕ) → IsTrue (get_or flags r false) → Contains queue r) → (r : ℕ) → IsTrue (get_or (set flags rule true) r false) → Contains (queue ++ rule ∷ []) r
+  in_longer : ((r : ℕ) → IsTrue (get_or flags r false) → Contains queue r) → (r : ℕ) → IsTrue (get_or (set flags rule true) r false) → Contains (queue ++ rule ∷ []) r
   in_longer listed r waits = elim (cases_eq r rule) [
     | inl same ↦ subst (Contains (queue ++ rule ∷ [])) (sym same) (Contains-push queue rule)
     | inr differs ↦ Contains-append_left queue (rule ∷ []) r (listed r (sym (get_or-set_other flags rule r true false differs) ∙ waits))

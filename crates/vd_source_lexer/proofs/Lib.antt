@@ -1,4 +1,4 @@
 pub mod Pieces
-pub mod TokenSteps
+mod TokenSteps
 pub mod TokenLaws
 pub mod TokenFacts

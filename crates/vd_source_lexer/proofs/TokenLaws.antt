@@ -30,7 +30,7 @@ after_token {b = b} {i = i} {n = n} {value = value} {k = k} {bs = bs} e (lexes_t
 end_is : {i : ℕ} {us : List Token} → Lexes [] i us → token_at kind.End i 0 0 ∷ [] ≡ us
 end_is lexes_end = refl
 
-pub one_list : {bs : List ℕ} {i : ℕ} {ts : List Token} → Lexes bs i ts → (us : List Token) → Lexes bs i us → ts ≡ us
+one_list : {bs : List ℕ} {i : ℕ} {ts : List Token} → Lexes bs i ts → (us : List Token) → Lexes bs i us → ts ≡ us
 one_list lexes_end us m = end_is m
 one_list (lexes_blank e l) us m = one_list l us (after_blank e m)
 one_list (lexes_token {i = i} {n = n} {value = value} {k = k} e l) us m = let r = after_token e m in ap (λ ts. token_at k i n value ∷ ts) (one_list l r.rest r.lexes) ∙ r.is
@@ -54,12 +54,12 @@ bad_past_token e (bad_here e') = absurd cc
 bad_past_token e (bad_after_blank e' f) = absurd cc
 bad_past_token {b = b} {i = i} {n = n} {k = k} {bs = bs} e (bad_after_token {n = m} e' f) = let same : m ≡ n = cc in subst (λ x. FirstBad (drop x (b ∷ bs)) (i + x) k) same f
 
-pub apart : {bs : List ℕ} {i k : ℕ} {ts : List Token} → Lexes bs i ts → FirstBad bs i k → ⊥
+apart : {bs : List ℕ} {i k : ℕ} {ts : List Token} → Lexes bs i ts → FirstBad bs i k → ⊥
 apart lexes_end f = none_in_end f
 apart (lexes_blank e l) f = apart l (bad_past_blank e f)
 apart (lexes_token e l) f = apart l (bad_past_token e f)
 
-pub one_fault : {bs : List ℕ} {i j : ℕ} → FirstBad bs i j → (k : ℕ) → FirstBad bs i k → j ≡ k
+one_fault : {bs : List ℕ} {i j : ℕ} → FirstBad bs i j → (k : ℕ) → FirstBad bs i k → j ≡ k
 one_fault (bad_here e) k g = bad_is_here e g
 one_fault (bad_after_blank e f) k g = one_fault f k (bad_past_blank e g)
 one_fault (bad_after_token e f) k g = one_fault f k (bad_past_token e g)

@@ -37,7 +37,7 @@ chosen false x y z e = inr (refl, e)
 abbrev pub Apart : List ℕ → List ℕ → Type 0
 Apart xs ys = (t : ℕ) → has t xs ≡ true → has t ys ≡ true → ⊥
 
-pub apart-apart : (xs ys : List ℕ) → apart xs ys ≡ true → Apart xs ys
+apart-apart : (xs ys : List ℕ) → apart xs ys ≡ true → Apart xs ys
 apart-apart [] ys h t p q = true≢false (sym p)
 apart-apart (x ∷ xs) ys h t p q =
     let parts = and_parts (not (has x ys)) _ h in
@@ -143,7 +143,7 @@ module _ (S : Type 0) (rule : S → Ebnf S) (F E : S → List ℕ) (tables : Tab
   passed : (e : Ebnf S) (t : ℕ) (us : List ℕ) (ks : List (Ebnf S)) → has t (first F e) ≡ false → Q (e ∷ ks) (t ∷ us) → (nullable e ≡ true) × Q ks (t ∷ us)
   passed e t us ks n q = elim (model.head e t us ks q) [ inl h ↦ absurd (both_ways _ n h) | inr h ↦ h ]
 
-  pub after_exact : (t : ℕ) (us : List ℕ) (inside : S → List (Ebnf S) → Option (List (Ebnf S))) →
+  after_exact : (t : ℕ) (us : List ℕ) (inside : S → List (Ebnf S) → Option (List (Ebnf S))) →
       ((s : S) (ks ks' : List (Ebnf S)) → Fine S F E (Sym s ∷ ks) → has t (F s) ≡ true → inside s ks ≡ Some ks' → Exact t us (Sym s ∷ ks) ks') →
       (e : Ebnf S) (ks ks' : List (Ebnf S)) → Fine S F E (e ∷ ks) → has t (first F e) ≡ true → after F t inside e ks ≡ Some ks' → Exact t us (e ∷ ks) ks'
   after_exact t us inside good (Tok c) ks ks' f h e =
@@ -210,7 +210,7 @@ module _ (S : Type 0) (rule : S → Ebnf S) (F E : S → List ℕ) (tables : Tab
   pub fine_rule : (s : S) (ks : List (Ebnf S)) → Fine S F E (Sym s ∷ ks) → Fine S F E (rule s ∷ ks)
   fine_rule s ks f = (is_ll1-Ok S F E (rule s) (tables.ll1 s), (λ t p q. f.1 t (subst (λ x. has t x ≡ true) (tables.follow_lasts s) p) q), f.2)
 
-  pub enter_exact : (t : ℕ) (us : List ℕ) (n : ℕ) (s : S) (ks ks' : List (Ebnf S)) → Fine S F E (Sym s ∷ ks) → has t (F s) ≡ true → enter rule F t n s ks ≡ Some ks' → Exact t us (Sym s ∷ ks) ks'
+  enter_exact : (t : ℕ) (us : List ℕ) (n : ℕ) (s : S) (ks ks' : List (Ebnf S)) → Fine S F E (Sym s ∷ ks) → has t (F s) ≡ true → enter rule F t n s ks ≡ Some ks' → Exact t us (Sym s ∷ ks) ks'
   enter_exact t us zero s ks ks' f h e = absurd cc
   enter_exact t us (suc n) s ks ks' f h e =
       let x = after_exact t us (enter rule F t n) (enter_exact t us n) (rule s) ks ks' (fine_rule s ks f) (subst (λ x. has t x ≡ true) (sym (tables.firsts s)) h) e in

@@ -1,6 +1,6 @@
 pub mod Exact
-pub mod Models
-pub mod Runs
+mod Models
+mod Runs
 pub mod OneTree
 pub mod Extra
 pub mod Readings

@@ -102,7 +102,7 @@ module _ {S T : Type 0} (g : Grammar S T) (E : S → List ℕ) (ll1 : IsLL1 S g.
     shorter = omega arith;
   }
 
-  pub stops_wrong : (e : Ebnf S) (ts : List T) → has (head g ts) (first g.firsts e) ≡ false → nullable e ≡ false → Stops g e ts ts
+  stops_wrong : (e : Ebnf S) (ts : List T) → has (head g ts) (first g.firsts e) ≡ false → nullable e ≡ false → Stops g e ts ts
   stops_wrong e ts h m = record { runs = λ ks. no_step ts _ (step_wrong S g.rule g.firsts E g.bound ll1 (head g ts) ks e h m); shorter = omega arith }
 
   pub stops_tok : (c : ℕ) (ts : List T) → nat_eq (head g ts) c ≡ false → Stops g (Tok c) ts ts
@@ -152,7 +152,7 @@ module _ {S T : Type 0} (g : Grammar S T) (E : S → List ℕ) (ll1 : IsLL1 S g.
   last {up = up} w r e = record { tree = up r.tree; read = last_read w r.read; value = e }
 
   -- nothing
-  pub read_none : (ts : List T) → Read g Eps ts ts Empty
+  read_none : (ts : List T) → Read g Eps ts ts Empty
   read_none ts = record {
     runs = λ ks. same_step ts _ _ (step_past S g.rule g.firsts E g.bound ll1 (head g ts) ks Eps refl refl);
     makes = m-eps;

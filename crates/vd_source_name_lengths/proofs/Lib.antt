@@ -1,2 +1,2 @@
-pub mod Order
+mod Order
 pub mod Names

@@ -1,1 +1,1 @@
-pub mod SpelledLaws
+mod SpelledLaws

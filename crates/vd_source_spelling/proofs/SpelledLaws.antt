@@ -106,7 +106,7 @@ spelling (k ∷ ks) i none =
       are = ap (λ xs. code_of k ∷ xs) r.are;
     }
 
-pub has_kinds : (ks : List TokenKind) → HasNoEnd ks → HasKinds (spelled ks) ks
+has_kinds : (ks : List TokenKind) → HasNoEnd ks → HasKinds (spelled ks) ks
 has_kinds ks none = let r = spelling ks 0 none in record { tokens = r.tokens; lexes = r.lexes; are = r.are }
 
 pub given : (text : List ℕ) (ks : List TokenKind) → HasNoEnd ks → text ≡ spelled ks → HasKinds text ks

@@ -212,7 +212,7 @@ module _ (problem : Problem) (is : IsProblem problem) (list : List ℕ) (full : 
       let second = ap (λ q. total (use_shift at (here list u.source.0) q) shifts) (here_is list u.target.0 has.q has.second.decided) in
       omega (arith, ints, plain, mine, first, second)
 
-  pub uses_shifted_have : (at : ℕ) (us : List Use) → AllByRecursion (λ (u : Use). HasPair problem list (use_term problem u)) us → AllByRecursion (HasPair problem list) (shifted_uses problem shifts at us)
+  uses_shifted_have : (at : ℕ) (us : List Use) → AllByRecursion (λ (u : Use). HasPair problem list (use_term problem u)) us → AllByRecursion (HasPair problem list) (shifted_uses problem shifts at us)
   uses_shifted_have at [] each = tt
   uses_shifted_have at (u ∷ us) each = (use_shifted_has at u each.0, uses_shifted_have (at + 1) us each.1)
 

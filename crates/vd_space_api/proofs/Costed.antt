@@ -13,7 +13,7 @@ use Rattle.vd_space.proofs.Bounded.{low_whole}
 use Rattle.vd_space_api.specs.Places.{place_of, places_of, places_in, is_valid_list}
 
 module _ (problem : Problem) (list : List Proto) (valid : IsTrue (is_valid_list problem list)) where
-  pub whole_valid : IsTrue (is_valid problem (places_in problem list))
+  whole_valid : IsTrue (is_valid problem (places_in problem list))
   whole_valid = (and_parts (length list == length problem.slots) (is_valid problem (places_in problem list)) valid).1
 
   pub whole_cost : (p : Problem) (slice : List Proto) (n : ℕ) → p ≡ problem → slice ≡ protocols p → IsProblem problem → pos n ≡ low p (places_of slice list) → pos n ≡ cost problem (places_in problem list)

@@ -1,7 +1,7 @@
-pub mod Positions
-pub mod Kept
-pub mod Lows
-pub mod Smalls
-pub mod Costed
-pub mod Telling
-pub mod Along
+mod Positions
+mod Kept
+mod Lows
+mod Smalls
+mod Costed
+mod Telling
+mod Along

@@ -18,7 +18,7 @@ module _ (problem : Problem) (shifts : List Shift) (prefix : List ℕ) where
   shifted_is : shifted problem shifts prefix ≡ shifted_part problem shifts prefix +ℤ common_part problem prefix
   shifted_is = let split = total_append (least_pair problem prefix) (shifted_uses problem shifts 0 problem.uses) (map (index_term problem) problem.indexes) in omega (arith, ints, split)
 
-  pub high_is : high problem shifts prefix ≡ int_max (low_part problem prefix) (shifted_part problem shifts prefix) +ℤ common_part problem prefix
+  high_is : high problem shifts prefix ≡ int_max (low_part problem prefix) (shifted_part problem shifts prefix) +ℤ common_part problem prefix
   high_is =
       let first = low_is in
       let second = shifted_is in

@@ -1,10 +1,10 @@
 pub mod Fills
 pub mod Changes
 pub mod Found
-pub mod Choices
+mod Choices
 pub mod Paths
 pub mod Greater
 pub mod Numbering
 pub mod Placed
 pub mod Growing
-pub mod Joined
+mod Joined

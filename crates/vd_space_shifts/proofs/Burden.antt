@@ -16,7 +16,7 @@ heft_set f [] i x d low = absurd (omega arith)
 heft_set f (y ∷ ys) zero x d low = omega arith
 heft_set f (y ∷ ys) (suc i) x d low = let rest = heft_set f ys i x d (omega arith) in omega (arith, rest)
 
-pub heft_at : {X : Type 0} (f : X → ℕ) (xs : List X) (i : ℕ) (d : X) → i < length xs → f (get_or xs i d) ≤ heft f xs
+heft_at : {X : Type 0} (f : X → ℕ) (xs : List X) (i : ℕ) (d : X) → i < length xs → f (get_or xs i d) ≤ heft f xs
 heft_at f [] i d low = absurd (omega arith)
 heft_at f (y ∷ ys) zero d low = omega arith
 heft_at f (y ∷ ys) (suc i) d low = let rest = heft_at f ys i d (omega arith) in omega (arith, rest)
@@ -28,7 +28,7 @@ greatest_at [] p = omega arith
 greatest_at (o ∷ row) zero = omega arith
 greatest_at (o ∷ row) (suc p) = let rest = greatest_at row p in omega (arith, rest)
 
-pub greatest_low : (row : List (Option ℕ)) (most : ℕ) → ((p : ℕ) → p < length row → unwrap_or (get_or row p None) 0 ≤ most) → greatest row ≤ most
+greatest_low : (row : List (Option ℕ)) (most : ℕ) → ((p : ℕ) → p < length row → unwrap_or (get_or row p None) 0 ≤ most) → greatest row ≤ most
 greatest_low [] most each = omega arith
 greatest_low (o ∷ row) most each =
     let here = each 0 (omega arith) in

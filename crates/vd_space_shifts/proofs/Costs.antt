@@ -119,7 +119,7 @@ module _ (problem : Problem) where
           sum_low (weighed o.weight (told p)) (get_or row p None) (212 * o.weight) (greatest row) (weighed_low o.weight 212 (told p) (told_price problem few o.host p)) (greatest_at row p)) in
           omega (arith, light, change, here)
 
-    pub costs_next : (n : ℕ) (o : Output) (terms : List (List (Option ℕ))) → n < length problem.outputs → o ≡ get_or problem.outputs n o → o.slot.0 < length problem.slots → AreCosts problem (drop (n + 1) problem.outputs) terms
+    costs_next : (n : ℕ) (o : Output) (terms : List (List (Option ℕ))) → n < length problem.outputs → o ≡ get_or problem.outputs n o → o.slot.0 < length problem.slots → AreCosts problem (drop (n + 1) problem.outputs) terms
         → AreCosts problem (drop n problem.outputs) (set terms o.slot.0 (with_output (protocols problem) o (row_at terms o.slot.0)))
     costs_next n o terms within is low are =
         subst (λ outputs. AreCosts problem outputs (set terms o.slot.0 (with_output (protocols problem) o (row_at terms o.slot.0))))

@@ -1,12 +1,12 @@
-pub mod Loops
-pub mod Sums
+mod Loops
+mod Sums
 pub mod Numbers
-pub mod Burden
-pub mod Tables
-pub mod Steps
-pub mod Walk
-pub mod Costs
-pub mod Few
-pub mod Handing
-pub mod Rounds
-pub mod Amounts
+mod Burden
+mod Tables
+mod Steps
+mod Walk
+mod Costs
+mod Few
+mod Handing
+mod Rounds
+mod Amounts

@@ -30,11 +30,11 @@ module _ (problem : Problem) (holds : IsProblem problem) (labelled : IsLabelled 
   named : IsUse (length problem.slots) u
   named = each_at (IsUse (length problem.slots)) problem.uses at u holds.uses low read
 
-  pub round_given : AreSmall (given_by list candidates u ledger)
+  round_given : AreSmall (given_by list candidates u ledger)
   round_given = subst (λ l. AreSmall (given_by l candidates u ledger)) (sym listed)
       (next_small problem labelled.few_hosts candidates can at u found named.source named.target ledger (subst (λ k. IsHandedOn problem k ledger) one is))
 
-  pub round_next : (after : Ledger) → after ≡ handed_on list candidates at u ledger → IsHandedOn problem at after
+  round_next : (after : Ledger) → after ≡ handed_on list candidates at u ledger → IsHandedOn problem at after
   round_next after after_is =
       subst (IsHandedOn problem at) (sym (after_is ∙ ap (λ l. handed_on l candidates at u ledger) listed))
       (next problem labelled.few_hosts candidates can at u found named.source named.target ledger (subst (λ k. IsHandedOn problem k ledger) one is))

@@ -44,7 +44,7 @@ module _ (F : Shift → ℤ) (at side : ℕ) (add test : Bool) (p : ℕ) (is : (
   one_total q zero = sym (none_of add (test && (q == p)))
   one_total q (suc n) = let here = is q (suc n) in omega (arith, ints, here)
 
-  pub past_total : (amounts : List ℕ) (n : ℕ) → n ≤ p → total F (made at side add amounts n) ≡ pos 0
+  past_total : (amounts : List ℕ) (n : ℕ) → n ≤ p → total F (made at side add amounts n) ≡ pos 0
   past_total amounts zero past = refl
   past_total amounts (suc n) past =
       let split = total_append F (made at side add amounts n) (one_shift at side add n (get_or amounts n 0)) in
@@ -52,7 +52,7 @@ module _ (F : Shift → ℤ) (at side : ℕ) (add test : Bool) (p : ℕ) (is : (
       let last = one_total n (get_or amounts n 0) ∙ no_test test (n == p) (amount_of add (get_or amounts n 0)) (ne_eqb n p (λ same. absurd (omega (arith, same)))) in
       omega (arith, ints, split, front, last)
 
-  pub at_total : (amounts : List ℕ) (n : ℕ) → p < n → total F (made at side add amounts n) ≡ cond test (amount_of add (get_or amounts p 0)) (pos 0)
+  at_total : (amounts : List ℕ) (n : ℕ) → p < n → total F (made at side add amounts n) ≡ cond test (amount_of add (get_or amounts p 0)) (pos 0)
   at_total amounts zero low = absurd (omega arith)
   at_total amounts (suc n) low =
       let split = total_append F (made at side add amounts n) (one_shift at side add n (get_or amounts n 0)) in

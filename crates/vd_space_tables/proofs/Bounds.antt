@@ -50,11 +50,11 @@ charge_within : (most : ℕ) (charge : Charge) (item : Option ℕ) → IsCharge 
 charge_within most charge None is = is.free
 charge_within most charge (Some p) is = is.costs p
 
-pub one_within : (problem : Problem) (one : One) (prefix : List ℕ) (most : ℕ) → AreListed problem prefix → IsCharge most (charge_of problem one) → IsWithin most (least_one problem prefix one)
+one_within : (problem : Problem) (one : One) (prefix : List ℕ) (most : ℕ) → AreListed problem prefix → IsCharge most (charge_of problem one) → IsWithin most (least_one problem prefix one)
 one_within problem one prefix most listed is = subst (IsWithin most) (sym (one_under problem one prefix listed)) (charge_within most (charge_of problem one) (slice_get prefix one.slot) is)
 
 module _ (problem : Problem) (labelled : IsLabelled problem) (limits : IsWithinLimits problem) where
-  pub output_charge : (o : Output) → o.weight ≤ 65536 → IsCharge 1073741824 (charge_of problem (output_term problem o))
+  output_charge : (o : Output) → o.weight ≤ 65536 → IsCharge 1073741824 (charge_of problem (output_term problem o))
   output_charge o light = told_small problem labelled o.slot.0 o.weight o.host light
 
   pub output_charges : All (λ (o : Output). IsCharge 1073741824 (charge_of problem (output_term problem o))) problem.outputs

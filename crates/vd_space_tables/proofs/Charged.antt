@@ -21,7 +21,7 @@ range_same : {X : Type 0} (f g : ℕ → X) (first count : ℕ) → ((k : ℕ) �
 range_same f g first zero same = refl
 range_same f g first (suc count) same = ap₂ (λ x xs. x ∷ xs) (same first (omega arith)) (range_same f g (first + 1) count (λ k low. same k (omega arith)))
 
-pub place_same : {X : Type 0} (n : ℕ) (f g : ℕ → X) → ((k : ℕ) → k < n → f k ≡ g k) → by_place n f ≡ by_place n g
+place_same : {X : Type 0} (n : ℕ) (f g : ℕ → X) → ((k : ℕ) → k < n → f k ≡ g k) → by_place n f ≡ by_place n g
 place_same n f g same = range_same f g 0 n (λ k low. same k (omega arith))
 
 pub charge_is : (problem : Problem) (one : One) (values : List (Option ℤ)) (tests : List Bool) → values ≡ by_place (length (protocols problem)) one.value → tests ≡ by_place (length (protocols problem)) (is_candidate problem one.slot)

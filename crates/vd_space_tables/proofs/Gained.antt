@@ -18,7 +18,7 @@ use Rattle.vd_space_tables.specs.Charges.{charge_of, outputs_of}
 use Rattle.vd_space_tables.specs.Gains.{gain_by, gain_at_slot, gain_with}
 use Rattle.vd_space_tables.proofs.Charged.{one_under}
 
-pub total_minus : {X : Type 0} (f g : X → ℤ) (xs : List X) → total (λ x. f x -ℤ g x) xs ≡ total f xs -ℤ total g xs
+total_minus : {X : Type 0} (f g : X → ℤ) (xs : List X) → total (λ x. f x -ℤ g x) xs ≡ total f xs -ℤ total g xs
 total_minus f g [] = omega (arith, ints)
 total_minus f g (x ∷ xs) = let rest = total_minus f g xs in omega (arith, ints, rest)
 
@@ -68,7 +68,7 @@ module _ (problem : Problem) (prefix : List ℕ) (choice : ℕ) (listed : AreLis
           ∙ sym (cond-false (length prefix == s) (gain_by (charge_of problem (term s)) choice) (pos 0) (ne_eqb (length prefix) s other))
     ]
 
-    pub slots_grow : (n : ℕ) → length prefix < n → total after (map term (range_with_len 0 n)) -ℤ total before (map term (range_with_len 0 n)) ≡ gain_by (charge_of problem (term (length prefix))) choice
+    slots_grow : (n : ℕ) → length prefix < n → total after (map term (range_with_len 0 n)) -ℤ total before (map term (range_with_len 0 n)) ≡ gain_by (charge_of problem (term (length prefix))) choice
     slots_grow n low =
         let first = total_map after term (range_with_len 0 n) in
         let second = total_map before term (range_with_len 0 n) in

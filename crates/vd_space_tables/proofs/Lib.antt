@@ -1,9 +1,9 @@
 pub mod Small
-pub mod Charged
-pub mod Loops
-pub mod Told
-pub mod Gained
-pub mod Bounds
-pub mod Assembled
-pub mod Merged
-pub mod Finished
+mod Charged
+mod Loops
+mod Told
+mod Gained
+mod Bounds
+mod Assembled
+mod Merged
+mod Finished

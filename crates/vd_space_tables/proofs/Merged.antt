@@ -93,7 +93,7 @@ module _ (problem : Problem) (labelled : IsLabelled problem) (limits : IsWithinL
 
 -- ---- the empty prefix
 
-pub none_listed : (problem : Problem) → AreListed problem []
+none_listed : (problem : Problem) → AreListed problem []
 none_listed problem = All-nil (λ p. p < length (protocols problem))
 
 free_is : (problem : Problem) (one : One) → least_one problem [] one ≡ (charge_of problem one).free

@@ -82,7 +82,7 @@ charge_more less most charge more is = record {
 abbrev cost_of : One → ℕ → ℤ
 cost_of one p = unwrap_or (one.value p) nothing_left
 
-pub charge_small : (problem : Problem) (one : One) (most : ℕ) → 1000000000 ≤ most → ((p : ℕ) → p < length (protocols problem) → HasAtMost most (one.value p)) → IsCharge most (charge_of problem one)
+charge_small : (problem : Problem) (one : One) (most : ℕ) → 1000000000 ≤ most → ((p : ℕ) → p < length (protocols problem) → HasAtMost most (one.value p)) → IsCharge most (charge_of problem one)
 charge_small problem one most enough each = record {
   costs = λ p. elim (listed_or_not (length (protocols problem)) p) [
     | inl low ↦ subst (IsWithin most) (sym (at_place (length (protocols problem)) (cost_of one) p (pos 0) low)) (left_within most (one.value p) enough (each p low))

@@ -28,7 +28,7 @@ use Rattle.vd_space_tables.specs.Charges.{IsCharge, told_charge_of, telling_of}
 use Rattle.vd_space_tables.proofs.Small.{zero_within, told_small}
 use Rattle.vd_space_tables.proofs.Charged.{one_under}
 
-pub total_below : (n : ℕ) (f g : ℕ → ℤ) → ((k : ℕ) → k < n → f k ≡ g k) → total f (range_with_len 0 n) ≡ total g (range_with_len 0 n)
+total_below : (n : ℕ) (f g : ℕ → ℤ) → ((k : ℕ) → k < n → f k ≡ g k) → total f (range_with_len 0 n) ≡ total g (range_with_len 0 n)
 total_below n f g same = total_same (λ k. f k ≡ g k) f g (λ k is. is) (range_with_len 0 n) (each_below (λ k. f k ≡ g k) 0 n (λ k low. same k (subst (λ m. k < m) (omega arith) low)))
 
 module _ (problem : Problem) (guard : Guard) where

@@ -30,14 +30,14 @@ module _ (problem : Problem) where
   pub moves_size : length (moves_of (protocols problem)) ≡ length (protocols problem)
   moves_size = length-map (protocols problem) (λ from. map (move_at from) (protocols problem))
 
-  pub priced_moves : (p q : ℕ) → p < length (protocols problem) → q < length (protocols problem) → priced (moves_of (protocols problem)) p q ≡ move problem p q
+  priced_moves : (p q : ℕ) → p < length (protocols problem) → q < length (protocols problem) → priced (moves_of (protocols problem)) p q ≡ move problem p q
   priced_moves p q low low_q =
       let list = protocols problem in
       let d : Proto = Local (host 0) in
       ap (λ row. get_or row q None) (get_or-map (λ from. map (move_at from) list) list p d [] low)
       ∙ get_or-map (move_at (get_or list p d)) list q d None low_q
 
-  pub priced_tells : (p q : ℕ) → p < length (protocols problem) → q < length (protocols problem) → priced (tells_of problem) p q ≡ moves_to problem q (hosts_at problem p)
+  priced_tells : (p q : ℕ) → p < length (protocols problem) → q < length (protocols problem) → priced (tells_of problem) p q ≡ moves_to problem q (hosts_at problem p)
   priced_tells p q low low_q =
       let many = length (protocols problem) in
       ap (λ row. get_or row q None) (at_place many (λ a. by_place many (λ b. moves_to problem b (hosts_at problem a))) p [] low)

@@ -1,10 +1,10 @@
 pub mod Made
 pub mod Mapped
-pub mod Telling
+mod Telling
 pub mod Small
-pub mod Counting
-pub mod Cells
+mod Counting
+mod Cells
 pub mod Linking
-pub mod Placing
+mod Placing
 pub mod Few
-pub mod Stepping
+mod Stepping

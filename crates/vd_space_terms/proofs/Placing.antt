@@ -34,7 +34,7 @@ use Rattle.vd_space_terms.proofs.Linking.{candidates_at, linked_more, shifted_at
 
 -- ---- sums of shifts are small
 
-pub whole_within : (f : Shift → ℤ) (shifts : List Shift) → length shifts ≤ 131072 → AreSmallShifts shifts → ((shift : Shift) → IsWithin 4294967296 (signed shift) → IsWithin 4294967296 (f shift)) → IsWithin 562949953421312 (total f shifts)
+whole_within : (f : Shift → ℤ) (shifts : List Shift) → length shifts ≤ 131072 → AreSmallShifts shifts → ((shift : Shift) → IsWithin 4294967296 (signed shift) → IsWithin 4294967296 (f shift)) → IsWithin 562949953421312 (total f shifts)
 whole_within f shifts few small each =
     let within = total_within f shifts (λ k d low. each (get_or shifts k d) (small k d low)) in
     let low = within.low in
@@ -131,7 +131,7 @@ module _ (problem : Problem) (labelled : IsLabelled problem) where
     pub use_is_transfer : u.weight ≤ 65536 → IsTransfer (use_transfer u sources targets)
     use_is_transfer light = record { weight = light; taken = taken_within }
 
-    pub use_linked : (link : Link) → u.weight ≤ 65536 → IsUse (length problem.slots) u → link ≡ link_between (moves_of (protocols problem)) (use_transfer u sources targets) (candidates_of problem)
+    use_linked : (link : Link) → u.weight ≤ 65536 → IsUse (length problem.slots) u → link ≡ link_between (moves_of (protocols problem)) (use_transfer u sources targets) (candidates_of problem)
         → IsLink link × ((front : List ℕ) → AreListed problem front → under (moves_of (protocols problem)) link front ≡ least_pair problem front (shifted_use problem shifts k u))
     use_linked link light known is =
         let prices = moves_of (protocols problem) in
@@ -143,10 +143,10 @@ module _ (problem : Problem) (labelled : IsLabelled problem) where
 
   -- ---- an index
 
-  pub index_is_transfer : (i : Index) → i.weight ≤ 65536 → IsTransfer (index_transfer i)
+  index_is_transfer : (i : Index) → i.weight ≤ 65536 → IsTransfer (index_transfer i)
   index_is_transfer i light = record { weight = light; taken = λ p q. record { low = omega (arith, ints); high = omega (arith, ints) } }
 
-  pub index_linked : (i : Index) (link : Link) → i.weight ≤ 65536 → IsIndex (length problem.slots) i → link ≡ link_between (tells_of problem) (index_transfer i) (candidates_of problem)
+  index_linked : (i : Index) (link : Link) → i.weight ≤ 65536 → IsIndex (length problem.slots) i → link ≡ link_between (tells_of problem) (index_transfer i) (candidates_of problem)
       → IsLink link × ((front : List ℕ) → AreListed problem front → under (tells_of problem) link front ≡ least_pair problem front (index_term problem i))
   index_linked i link light known is =
       let prices = tells_of problem in

@@ -9,13 +9,13 @@ use Rattle.vd_space.specs.declared.problem.Problem.{Problem}
 use Rattle.vd_space.specs.Validity.{holds_at, move_to_host}
 use Rattle.vd_space.specs.Costs.{plus, moves_to}
 
-pub plus_together : (a b c : Option ℕ) → plus (plus a b) c ≡ plus a (plus b c)
+plus_together : (a b c : Option ℕ) → plus (plus a b) c ≡ plus a (plus b c)
 plus_together None b c = refl
 plus_together (Some a) None c = refl
 plus_together (Some a) (Some b) None = refl
 plus_together (Some a) (Some b) (Some c) = ap Some (omega arith)
 
-pub plus_nothing : (a : Option ℕ) → plus (Some 0) a ≡ a
+plus_nothing : (a : Option ℕ) → plus (Some 0) a ≡ a
 plus_nothing None = refl
 plus_nothing (Some a) = ap Some (omega arith)
 
@@ -45,7 +45,7 @@ module _ (problem : Problem) (q p : ℕ) where
         ∙ ap (λ a. plus a (moves_to problem q others)) (sym (cond-false (holds_at problem h p) (move_to_host problem h q) (Some 0) not_there))
   ]
 
-  pub rest_next : (h n : ℕ) → h < n → rest_from h n ≡ plus (told (host h)) (rest_from (h + 1) n)
+  rest_next : (h n : ℕ) → h < n → rest_from h n ≡ plus (told (host h)) (rest_from (h + 1) n)
   rest_next h n low =
       let one : n - h ≡ suc (n - (h + 1)) = omega arith in
       ap (λ k. moves_to problem q (filter (λ x. holds_at problem x p) (map host (range_with_len h k)))) one

@@ -15,7 +15,7 @@ each_lines : (ps : List Part) (mark : Part → Line) (behind : List Line) → ea
 each_lines [] mark behind = refl
 each_lines (p ∷ ps) mark behind = ap (λ (l : List Line). mark p ∷ l) (each_lines ps mark behind)
 
-pub flat_lines : (plan : Plan Gadget) (behind : List Line) → flat (joint_of plan) behind ≡ plan_lines plan ++ behind
+flat_lines : (plan : Plan Gadget) (behind : List Line) → flat (joint_of plan) behind ≡ plan_lines plan ++ behind
 flat_lines Ends behind = refl
 flat_lines (Then g rest) behind =
     flat_first (acts_of_gadget g) (joint_of rest) behind ∙ ap (λ (l : List Line). lines_of (acts_of_gadget g) ++ l) (flat_lines rest behind)

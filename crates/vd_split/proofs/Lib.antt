@@ -1,14 +1,14 @@
-pub mod ActPart
-pub mod Drops
-pub mod EachStatement
-pub mod Flat
-pub mod Onto
-pub mod Opening
+mod ActPart
+mod Drops
+mod EachStatement
+mod Flat
+mod Onto
+mod Opening
 pub mod Picked
-pub mod Picks
-pub mod Rooms
-pub mod Steps
-pub mod TakePart
-pub mod Turns
-pub mod Variants
-pub mod WellMade
+mod Picks
+mod Rooms
+mod Steps
+mod TakePart
+mod Turns
+mod Variants
+mod WellMade

@@ -22,12 +22,12 @@ use Rattle.vd_choreography.specs.Emission.{Emitting, Emitted, delivered, all_mov
 use Rattle.vd_split.specs.Lines.{called, with_more, plan_lines, if_lines, else_lines, end_lines, for_lines, emitted_onto}
 use Rattle.vd_split.specs.Places.{joined, state, stmt_onto, block_onto, put_onto, takers, acting, opened_loop}
 
-pub lines_append : (xs ys : List Act) → lines_of (xs ++ ys) ≡ lines_of xs ++ lines_of ys
+lines_append : (xs ys : List Act) → lines_of (xs ++ ys) ≡ lines_of xs ++ lines_of ys
 lines_append [] ys = refl
 lines_append (x ∷ xs) ys = ap (λ (l : List Line). line.Act x ∷ l) (lines_append xs ys)
 
 -- gadgets behind gadgets
-pub emitted_on : (l : List Line) (xs ys : List Gadget) → (l ++ emitted xs) ++ emitted ys ≡ l ++ emitted (xs ++ ys)
+emitted_on : (l : List Line) (xs ys : List Gadget) → (l ++ emitted xs) ++ emitted ys ≡ l ++ emitted (xs ++ ys)
 emitted_on l xs ys =
     append_assoc l (emitted xs) (emitted ys)
     ∙ ap (λ (k : List Line). l ++ k) (sym (ap lines_of (gadgets_append xs ys) ∙ lines_append (acts_of_gadgets xs) (acts_of_gadgets ys)))
@@ -56,22 +56,22 @@ module _ {P : Type 0} (s : Calls Gadget P) (proto : ℕ → Proto) where
       ∙ ap (λ (b : List Line). let r : Y × Builder = ((f one.given one.next).given, record { lines = b; next = (f one.given one.next).next }) in r) (emitted_on c.lines one.acts (f one.given one.next).acts)
 
   -- gadgets alone
-  pub lines_then : (xs : List Gadget) (j : Plan Gadget) → plan_lines (acts_then xs j) ≡ emitted xs ++ plan_lines j
+  lines_then : (xs : List Gadget) (j : Plan Gadget) → plan_lines (acts_then xs j) ≡ emitted xs ++ plan_lines j
   lines_then [] j = refl
   lines_then (x ∷ xs) j =
       ap (λ (l : List Line). lines_of (acts_of_gadget x) ++ l) (lines_then xs j) ∙ sym (append_assoc (lines_of (acts_of_gadget x)) (emitted xs) (plan_lines j))
       ∙ ap (λ (l : List Line). l ++ plan_lines j) (sym (lines_append (acts_of_gadget x) (acts_of_gadgets xs)))
 
-  pub lines_after : (j k : Plan Gadget) → plan_lines (and_then j k) ≡ plan_lines j ++ plan_lines k
+  lines_after : (j k : Plan Gadget) → plan_lines (and_then j k) ≡ plan_lines j ++ plan_lines k
   lines_after Ends k = refl
   lines_after (Then x r) k = ap (λ (l : List Line). lines_of (acts_of_gadget x) ++ l) (lines_after r k) ∙ sym (append_assoc (lines_of (acts_of_gadget x)) (plan_lines r) (plan_lines k))
   lines_after (Branch ps t e r) k = ap (λ (l : List Line). if_lines ps ++ plan_lines t ++ else_lines ps ++ plan_lines e ++ end_lines ps ++ l) (lines_after r k) ∙ simp append_assoc
   lines_after (Loop ps n b r) k = ap (λ (l : List Line). for_lines n ps ++ plan_lines b ++ end_lines ps ++ l) (lines_after r k) ∙ simp append_assoc
 
-  pub onto_parts : (made : Made Gadget P) (e : Emitting s proto) (c : Builder) → emitted_onto s proto (with_parts s proto made e) c ≡ ((called made c).1, e.held ++ made.given ∷ [])
+  onto_parts : (made : Made Gadget P) (e : Emitting s proto) (c : Builder) → emitted_onto s proto (with_parts s proto made e) c ≡ ((called made c).1, e.held ++ made.given ∷ [])
   onto_parts made e c = ap (λ (l : List Line). let r : Builder × List P = (record { lines = c.lines ++ l; next = made.next }, e.held ++ made.given ∷ []) in r) (lines_then made.acts Ends ∙ append-nil (emitted made.acts))
 
-  pub onto_acts : (acts : List Gadget) (next : List ℕ) (e : Emitting s proto) (c : Builder) → emitted_onto s proto (with_acts s proto acts next e) c ≡ (record { lines = c.lines ++ emitted acts; next = next }, e.held)
+  onto_acts : (acts : List Gadget) (next : List ℕ) (e : Emitting s proto) (c : Builder) → emitted_onto s proto (with_acts s proto acts next e) c ≡ (record { lines = c.lines ++ emitted acts; next = next }, e.held)
   onto_acts acts next e c = ap (λ (l : List Line). let r : Builder × List P = (record { lines = c.lines ++ l; next = next }, e.held) in r) (lines_then acts Ends ∙ append-nil (emitted acts))
 
   -- a slot more, of a call

@@ -72,7 +72,7 @@ module _ (has : ℕ → Bool) (count : ℕ) (start : Builder) (loops : List (ℕ
       tails : {x y : ℕ} {xs ys : List ℕ} → x ∷ xs ≡ y ∷ ys → xs ≡ ys
       tails e = cc
 
-  pub opening_yes : (loops' : List (ℕ × ℕ)) (to' : Builder) → number < length start.next → has number ≡ true → loops' ≡ loops ++ (number, r) ∷ []
+  opening_yes : (loops' : List (ℕ × ℕ)) (to' : Builder) → number < length start.next → has number ≡ true → loops' ≡ loops ++ (number, r) ∷ []
       → to' ≡ marked (line.For (host number) (register r) count) (record { lines = to.lines; next = slice_set to.next number (r + 1) }) → Opening has count start loops' to' (number + 1)
   opening_yes loops' to' lt is more marks =
       let c1 : Builder = marked (line.For (host number) (register r) count) (record { lines = to.lines; next = slice_set to.next number (r + 1) }) in
@@ -95,7 +95,7 @@ module _ (has : ℕ → Bool) (count : ℕ) (start : Builder) (loops : List (ℕ
       length_set (x ∷ xs) zero y = refl
       length_set (x ∷ xs) (suc n) y = ap suc (length_set xs n y)
 
-  pub opening_no : number < length start.next → has number ≡ false → Opening has count start loops to (number + 1)
+  opening_no : number < length start.next → has number ≡ false → Opening has count start loops to (number + 1)
   opening_no lt is = record {
     marked = ap (λ (l : List (ℕ × ℕ)). loops ++ l) (sym (registers false lt is)) ∙ o.marked;
     raised =

@@ -12,7 +12,7 @@ picked_none from test n le = ap (λ k. picked from k test) (gone n from le)
     gone : (n from : ℕ) → n ≤ from → n - from ≡ 0
     gone n from le = omega arith
 
-pub picked_more : (from : ℕ) (test : ℕ → Bool) (n : ℕ) → from < n
+picked_more : (from : ℕ) (test : ℕ → Bool) (n : ℕ) → from < n
     → picked from (n - from) test ≡ (if test from then host from ∷ picked (from + 1) (n - (from + 1)) test else picked (from + 1) (n - (from + 1)) test)
 picked_more from test n lt = ap (λ k. picked from k test) (one n from lt)
   where

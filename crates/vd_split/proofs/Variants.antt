@@ -71,7 +71,7 @@ module _ {P : Type 0} (s : Calls Gadget P) (protos : List Proto) where
   unfolding output_onto stmt_onto
   stmt_output x h o held turns c m is = is ∙ ap (λ (f : Emission s pr). onto f held turns c) (sym (output_e x h o))
 
-  pub stmt_if : (x : SlotId) (a b : List Stmt) (o : ℕ) (held : List P) (turns : List ℕ) (c : Builder) (m : Builder × List P) → m ≡ branch_onto s protos x a b held turns c → m ≡ stmt_onto s protos (If x a b o) held turns c
+  stmt_if : (x : SlotId) (a b : List Stmt) (o : ℕ) (held : List P) (turns : List ℕ) (c : Builder) (m : Builder × List P) → m ≡ branch_onto s protos x a b held turns c → m ≡ stmt_onto s protos (If x a b o) held turns c
   unfolding branch_onto stmt_onto
   stmt_if x a b o held turns c m is = is ∙ ap (λ (f : Emission s pr). onto f held turns c) (sym (if_e x a b o))
 
@@ -79,7 +79,7 @@ module _ {P : Type 0} (s : Calls Gadget P) (protos : List Proto) where
   unfolding loop_onto stmt_onto
   stmt_for n body held turns c m is = is ∙ ap (λ (f : Emission s pr). onto f held turns c) (sym (for_e n body))
 
-  pub branch_done : (x : SlotId) (t e : List Stmt) (held : List P) (turns : List ℕ) (c : Builder) (guard : List (ℕ × ℕ)) (c1 c2 c3 : Builder) (held1 : List P) (c4 c5 : Builder) (held2 : List P) (c6 : Builder)
+  branch_done : (x : SlotId) (t e : List Stmt) (held : List P) (turns : List ℕ) (c : Builder) (guard : List (ℕ × ℕ)) (c1 c2 c3 : Builder) (held1 : List P) (c4 c5 : Builder) (held2 : List P) (c6 : Builder)
       → (guard, c1) ≡ called (delivered s pr (pr x.0) (slice_index_or held x.0 s.nowhere) (picked 0 s.hosts (takers s protos t e)) c.next) c
       → c2 ≡ with_more (if_lines guard) c1 → (c3, held1) ≡ block_onto s protos t held turns c2 → c4 ≡ with_more (else_lines guard) c3 → (c5, held2) ≡ block_onto s protos e held1 turns c4
       → c6 ≡ with_more (end_lines guard) c5 → (c6, held2) ≡ branch_onto s protos x t e held turns c

@@ -37,7 +37,7 @@ abbrev sees : Block → Seeing
 sees b = seeing_all (each seeing_step b)
 
 -- what is in sight has parts
-pub record Known (n : ℕ) (o : Sight) : Type 0 where
+record Known (n : ℕ) (o : Sight) : Type 0 where
   pub bindings : (x : ℕ) → list_any (nat_eq x) o.bindings ≡ true → x < n
   pub variables : (x : ℕ) → list_any (nat_eq x) o.variables ≡ true → x < n
   pub arrays : (x : ℕ) → list_any (nat_eq x) o.arrays ≡ true → x < n
@@ -101,7 +101,7 @@ module _ {P : Type 0} (o : Offer P) (protos : List Proto) where
   abbrev fits : Block → Fitting
   fits b = fits_all (each (fit_step o protos) b)
 
-  pub record Emittable (b : Block) (n : ℕ) : Type 0 where
+  record Emittable (b : Block) (n : ℕ) : Type 0 where
     pub all : (fits b n).all ≡ true
     pub after : (fits b n).after ≡ n + length (slots b)
 
@@ -116,7 +116,7 @@ module _ {P : Type 0} (o : Offer P) (protos : List Proto) where
       (s : Sight) (n : ℕ) → Known n s → (sees b s).all ≡ true → InRow n (slots b) → holds (of_rights operands_fit) b ≡ true → holds (host_is_declared o.calls.hosts) b ≡ true → holds (stmt_stands o protos) b ≡ true
       → Emittable b n
 
-  pub emittable : (b : Block) → Fits b
+  emittable : (b : Block) → Fits b
   emittable End s n k a row p q r = record { all = refl; after = none n }
     where
       none : (n : ℕ) → n ≡ n + 0

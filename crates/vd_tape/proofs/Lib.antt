@@ -2,12 +2,12 @@ pub mod ShareLoop
 pub mod ItemsExact
 pub mod SharesExact
 pub mod DealExact
-pub mod Outcomes
+mod Outcomes
 pub mod SharesWritten
-pub mod TwoByTwo
-pub mod Streams
+mod TwoByTwo
+mod Streams
 pub mod Drawn
 pub mod MadeValid
 pub mod MadeWords
 pub mod EachHost
-pub mod Apart
+mod Apart

@@ -46,7 +46,7 @@ next_share me front count i bytes after s total lt h so_far =
     rw (k, h) (regroup front s (shares_at me (i + 1) (count - (i + 1)) after)) in
     sym here ∙ so_far
 
-pub no_share : (me : ℕ) (front : Shares) (count i : ℕ) (bytes left : List ℕ) (total : Reading Shares) → i < count → share_at (peer_at me i) bytes ≡ Err left
+no_share : (me : ℕ) (front : Shares) (count i : ℕ) (bytes left : List ℕ) (total : Reading Shares) → i < count → share_at (peer_at me i) bytes ≡ Err left
     → with_front front (shares_at me i (count - i) bytes) ≡ total → total ≡ Err left
 unfolding shares_at
 no_share me front count i bytes left total lt h so_far =

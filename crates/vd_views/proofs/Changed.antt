@@ -72,7 +72,7 @@ module _ (t : Tape) (k : ℕ) (s : Source) (i : ℕ) (item : List ℕ) where
   unfolding with_item
   changed_place g r j n = third (nat_eq g k) (same_source r s) (nat_eq j i) item (t g r j) (ne_eqb j i n)
 
-  pub changed_either : (Q : List ℕ → Type 0) (g : ℕ) (r : Source) (j : ℕ) → Q item → Q (t g r j) → Q (with_item t k s i item g r j)
+  changed_either : (Q : List ℕ → Type 0) (g : ℕ) (r : Source) (j : ℕ) → Q item → Q (t g r j) → Q (with_item t k s i item g r j)
   unfolding with_item
   changed_either Q g r j p q = either Q (nat_eq g k && (same_source r s && nat_eq j i)) item (t g r j) p q
 
@@ -115,7 +115,7 @@ module _ (t : Tape) (k h : ℕ) (apart : k ≢ h) (src : ℕ → Source) (tests 
   same_kind g q j ne (inl e) (inr f) _ (inr d) _ =
       subst₂ P (sym (changed_host t k (src h) i item g (src q) j f)) (sym (changed_host t k (src h) i item q (src g) j d)) (all g q j ne)
 
-  pub identities_kept : (g q j : ℕ) → g ≢ q → P (now g (src q) j) (now q (src g) j)
+  identities_kept : (g q j : ℕ) → g ≢ q → P (now g (src q) j) (now q (src g) j)
   identities_kept g q j ne = same_kind g q j ne (same_or_not j i) (same_or_not g k) (same_or_not q h) (same_or_not q k) (same_or_not g h)
 
 -- ---- valid deals

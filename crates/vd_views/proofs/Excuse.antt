@@ -100,13 +100,13 @@ module _ (h : ℕ) (t u : Tape) (deal_t : IsValidDeal t) (deal_u : IsValidDeal u
     abbrev place : ℕ
     place = (v k).cursors (source_of sharing h)
 
-    abbrev pub item : List ℕ
+    abbrev item : List ℕ
     item = item_for sharing (next_item t w k (source_of sharing h)) (u h (source_of sharing k) place) ((w k).registers m.x.0) ((v k).registers m.x.0) ((w k).registers m.y.0) ((v k).registers m.y.0)
 
-    abbrev pub masked_tape : Tape
+    abbrev masked_tape : Tape
     masked_tape = with_item u k (source_of sharing h) place item
 
-  pub masked_deal : (sharing : Sharing) (m : Masking) (other : m.host.0 ≢ h) → IsValidDeal (masked_tape sharing m other)
+  masked_deal : (sharing : Sharing) (m : Masking) (other : m.host.0 ≢ h) → IsValidDeal (masked_tape sharing m other)
   masked_deal BySums m other =
       let xs : List ℕ = next_item t w m.host.0 (Triples h) in
       let ys : List ℕ = u h (Triples m.host.0) ((v m.host.0).cursors (Triples h)) in
@@ -129,7 +129,7 @@ module _ (h : ℕ) (t u : Tape) (deal_t : IsValidDeal t) (deal_u : IsValidDeal u
       with_bits u deal_u m.host.0 h other _ _ (xors_fit xs ys _ _ _ _ f g a b c d) refl (xors_identity xs ys _ _ _ _ f g a b c d) (xors_flipped xs ys _ _ _ _ f g a b c d)
 
   -- whatever deal has this item at this place hides alike
-  pub masked_hides : (sharing : Sharing) (m : Masking) (other : m.host.0 ≢ h) (y : Tape) → next_item y v m.host.0 (source_of sharing h) ≡ item sharing m other → HidesAlike sharing m h t y w v
+  masked_hides : (sharing : Sharing) (m : Masking) (other : m.host.0 ≢ h) (y : Tape) → next_item y v m.host.0 (source_of sharing h) ≡ item sharing m other → HidesAlike sharing m h t y w v
   masked_hides BySums m other y e = (
     hides_difference _ _ _ (deal_t.words _ _ _ _) (sound_w.words _ _) (sound_v.words _ _) ∙ sym (ap (λ (xs : List ℕ). applied binary.Sub ((v m.host.0).registers m.x.0) (nth xs 0)) e),
     hides_difference _ _ _ (deal_t.words _ _ _ _) (sound_w.words _ _) (sound_v.words _ _) ∙ sym (ap (λ (xs : List ℕ). applied binary.Sub ((v m.host.0).registers m.y.0) (nth xs 1)) e),
@@ -204,7 +204,7 @@ no_own : (sharing : Sharing) (h : ℕ) → same_source OwnWords (source_of shari
 no_own BySums h = refl
 no_own ByXors h = refl
 
-pub masked_first : (t u : Tape) (dt : IsValidDeal t) (du : IsValidDeal u) (sharing : Sharing) (m n : Masking) (apart : m.host.0 ≢ n.host.0) (w v : Hosts) (sw : IsSound w) (sv : IsSound v) → ItemExcuse m.host.0 t u (Masked sharing m n) w v (with_item u n.host.0 (source_of sharing m.host.0) ((v n.host.0).cursors (source_of sharing m.host.0)) (item m.host.0 t u dt du w v sw sv sharing n (λ e. apart (sym e))))
+masked_first : (t u : Tape) (dt : IsValidDeal t) (du : IsValidDeal u) (sharing : Sharing) (m n : Masking) (apart : m.host.0 ≢ n.host.0) (w v : Hosts) (sw : IsSound w) (sv : IsSound v) → ItemExcuse m.host.0 t u (Masked sharing m n) w v (with_item u n.host.0 (source_of sharing m.host.0) ((v n.host.0).cursors (source_of sharing m.host.0)) (item m.host.0 t u dt du w v sw sv sharing n (λ e. apart (sym e))))
 masked_first t u dt du sharing m n apart w v sw sv =
     let h : ℕ = m.host.0 in
     let s : Source = source_of sharing h in
@@ -226,7 +226,7 @@ masked_first t u dt du sharing m n apart w v sw sv =
       );
     }
 
-pub masked_second : (t u : Tape) (dt : IsValidDeal t) (du : IsValidDeal u) (sharing : Sharing) (m n : Masking) (apart : m.host.0 ≢ n.host.0) (w v : Hosts) (sw : IsSound w) (sv : IsSound v) → ItemExcuse n.host.0 t u (Masked sharing m n) w v (with_item u m.host.0 (source_of sharing n.host.0) ((v m.host.0).cursors (source_of sharing n.host.0)) (item n.host.0 t u dt du w v sw sv sharing m apart))
+masked_second : (t u : Tape) (dt : IsValidDeal t) (du : IsValidDeal u) (sharing : Sharing) (m n : Masking) (apart : m.host.0 ≢ n.host.0) (w v : Hosts) (sw : IsSound w) (sv : IsSound v) → ItemExcuse n.host.0 t u (Masked sharing m n) w v (with_item u m.host.0 (source_of sharing n.host.0) ((v m.host.0).cursors (source_of sharing n.host.0)) (item n.host.0 t u dt du w v sw sv sharing m apart))
 masked_second t u dt du sharing m n apart w v sw sv =
     let h : ℕ = n.host.0 in
     let s : Source = source_of sharing h in
@@ -268,7 +268,7 @@ pair_takes t p q v apart = (
 )
 
 module _ (t u : Tape) (deal_t : IsValidDeal t) (deal_u : IsValidDeal u) (p q : Pairing) (apart : p.host.0 ≢ q.host.0) (w v : Hosts) (sound_w : IsSound w) (sound_v : IsSound v) where
-  abbrev pub d : ℕ
+  abbrev d : ℕ
   d = raised (pair_word p q t w) (converted p q w) (converted p q v)
 
   d_word : IsWord d
@@ -279,7 +279,7 @@ module _ (t u : Tape) (deal_t : IsValidDeal t) (deal_u : IsValidDeal u) (p q : P
       (xor_lt 32 _ _ (deal_t.words _ _ _ _) (deal_t.words _ _ _ _)) (xor_lt 32 _ _ (sound_w.words _ _) (sound_w.words _ _)) (xor_lt 32 _ _ (sound_v.words _ _) (sound_v.words _ _))
 
   -- the second host is the other one
-  pub paired_first : ItemExcuse p.host.0 t u (Paired p q) w v (with_item u q.host.0 (Pairs p.host.0) ((v q.host.0).cursors (Pairs p.host.0)) (pair_item d (u p.host.0 (Pairs q.host.0) ((v q.host.0).cursors (Pairs p.host.0)))))
+  paired_first : ItemExcuse p.host.0 t u (Paired p q) w v (with_item u q.host.0 (Pairs p.host.0) ((v q.host.0).cursors (Pairs p.host.0)) (pair_item d (u p.host.0 (Pairs q.host.0) ((v q.host.0).cursors (Pairs p.host.0)))))
   unfolding pair_item
   paired_first =
       let h : ℕ = p.host.0 in
@@ -308,7 +308,7 @@ module _ (t u : Tape) (deal_t : IsValidDeal t) (deal_u : IsValidDeal u) (p q : P
       }
 
   -- the first host is the other one
-  pub paired_second : ItemExcuse q.host.0 t u (Paired p q) w v (with_item u p.host.0 (Pairs q.host.0) ((v p.host.0).cursors (Pairs q.host.0)) (pair_item d (u q.host.0 (Pairs p.host.0) ((v p.host.0).cursors (Pairs q.host.0)))))
+  paired_second : ItemExcuse q.host.0 t u (Paired p q) w v (with_item u p.host.0 (Pairs q.host.0) ((v p.host.0).cursors (Pairs q.host.0)) (pair_item d (u q.host.0 (Pairs p.host.0) ((v p.host.0).cursors (Pairs q.host.0)))))
   unfolding pair_item
   paired_second =
       let h : ℕ = q.host.0 in

@@ -26,7 +26,7 @@ either_more : (b : Bool) (n : ℕ) → n ≤ (if b then suc n else n)
 either_more true n = omega arith
 either_more false n = omega arith
 
-pub advanced_grows : (c : Cursors) (n : Need) (s : Source) → c s ≤ advanced c n s
+advanced_grows : (c : Cursors) (n : Need) (s : Source) → c s ≤ advanced c n s
 advanced_grows c Nothing s = omega arith
 advanced_grows c (Item r) s = either_more (same_source s r) (c s)
 advanced_grows c (Packet p n) s = omega arith

@@ -33,17 +33,17 @@ module _ (f : Registers) (m : Masking) (fresh : IsFresh m) (o : ℕ → ℕ → 
   abbrev once : Registers
   once = put taken m.d.0 (o (taken m.x.0) (taken m.a.0))
 
-  abbrev pub twice : Registers
+  abbrev twice : Registers
   twice = put once m.e.0 (o (once m.y.0) (once m.b.0))
 
   past : (r : ℕ) → r ≢ m.a.0 → r ≢ m.b.0 → r ≢ m.c.0 → taken r ≡ f r
   past r a b c = put_other _ m.c.0 k r c ∙ put_other _ m.b.0 j r b ∙ put_other f m.a.0 i r a
 
-  pub reads_d : twice m.d.0 ≡ o (f m.x.0) i
+  reads_d : twice m.d.0 ≡ o (f m.x.0) i
   reads_d = put_other once m.e.0 _ m.d.0 fresh.d_e ∙ put_same taken m.d.0 _
       ∙ ap₂ o (past m.x.0 fresh.x_a fresh.x_b fresh.x_c) (put_other _ m.c.0 k m.a.0 fresh.a_c ∙ put_other _ m.b.0 j m.a.0 fresh.a_b ∙ put_same f m.a.0 i)
 
-  pub reads_e : twice m.e.0 ≡ o (f m.y.0) j
+  reads_e : twice m.e.0 ≡ o (f m.y.0) j
   reads_e = put_same once m.e.0 _
       ∙ ap₂ o (put_other taken m.d.0 _ m.y.0 fresh.y_d ∙ past m.y.0 fresh.y_a fresh.y_b fresh.y_c)
       (put_other taken m.d.0 _ m.b.0 fresh.b_d ∙ put_other _ m.c.0 k m.b.0 fresh.b_c ∙ put_same (put f m.a.0 i) m.b.0 j)
@@ -72,7 +72,7 @@ pub masking_keeps : (t : Tape) (sharing : Sharing) (m : Masking) (peer : HostId)
 masking_keeps t sharing m peer w g n = put_other _ m.host.0 _ g n ∙ put_other _ m.host.0 _ g n ∙ put_other w m.host.0 _ g n
 
 -- the masked operands
-abbrev pub hidden : Tape → Sharing → Masking → ℕ → Hosts → List ℕ
+abbrev hidden : Tape → Sharing → Masking → ℕ → Hosts → List ℕ
 hidden t sharing m peer w =
     applied (hide sharing) ((w m.host.0).registers m.x.0) (nth (next_item t w m.host.0 (source_of sharing peer)) 0)
     ∷ applied (hide sharing) ((w m.host.0).registers m.y.0) (nth (next_item t w m.host.0 (source_of sharing peer)) 1) ∷ []
@@ -80,7 +80,7 @@ hidden t sharing m peer w =
 abbrev both : ℕ → ℕ → List ℕ
 both a b = a ∷ b ∷ []
 
-pub masked_words : (t : Tape) (sharing : Sharing) (m : Masking) (peer : HostId) (w : Hosts) → IsFresh m → words_in (run_acts t (masking sharing m peer) w m.host.0).registers (m.d ∷ m.e ∷ []) ≡ hidden t sharing m peer.0 w
+masked_words : (t : Tape) (sharing : Sharing) (m : Masking) (peer : HostId) (w : Hosts) → IsFresh m → words_in (run_acts t (masking sharing m peer) w m.host.0).registers (m.d ∷ m.e ∷ []) ≡ hidden t sharing m peer.0 w
 masked_words t sharing m peer w fresh =
     let i : List ℕ = next_item t w m.host.0 (source_of sharing peer.0) in
     ap (λ (f : Registers). words_in f (m.d ∷ m.e ∷ [])) (masked_registers t sharing m peer w fresh)
@@ -179,7 +179,7 @@ gadget_tells h t u (Masked sharing m n) w v tidy sw sv l e f = (
 )
 gadget_tells h t u (Paired p q) w v tidy sw sv l e f = (tt, (tt, tt))
 
-pub gadget_acts_tidy : (r : Gadget) → GadgetIsTidy r → ActsAreTidy (acts_of_gadget r)
+gadget_acts_tidy : (r : Gadget) → GadgetIsTidy r → ActsAreTidy (acts_of_gadget r)
 gadget_acts_tidy (Alone g a) tidy = (tt, tt)
 gadget_acts_tidy (Tells a said b heard) tidy = (tidy, tt)
 gadget_acts_tidy (Shares a r b heard) tidy = (tt, ((tidy, refl), tt))

@@ -1,4 +1,4 @@
-pub mod Alike
+mod Alike
 pub mod Blocks
 pub mod Hiding
 pub mod Frames
@@ -7,8 +7,8 @@ pub mod Changed
 pub mod Excuse
 pub mod Joints
 pub mod Plans
-pub mod Unique
-pub mod Back
+mod Unique
+mod Back
 pub mod Contract
 pub mod InARow
 pub mod Counts

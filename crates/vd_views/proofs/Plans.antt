@@ -39,7 +39,7 @@ smooth_rest t (act.Msg p said q heard ∷ acts) j w a = smooth_rest t acts j (ru
 pub begun_cursors : (ps : List Part) (i : ℕ) (w : Hosts) (g : ℕ) (s : Source) → (turn_begun ps i w g).cursors s ≡ (w g).cursors s
 begun_cursors ps i w g s = part_keeps (λ (x : Host). x.cursors s ≡ (w g).cursors s) ps g (λ c. record (w g) { registers = put (w g).registers c i }) (w g) (λ r. refl) refl
 
-pub begun_sound : (ps : List Part) (i : ℕ) → i < 2 ^ 32 → (w : Hosts) → IsSound w → IsSound (turn_begun ps i w)
+begun_sound : (ps : List Part) (i : ℕ) → i < 2 ^ 32 → (w : Hosts) → IsSound w → IsSound (turn_begun ps i w)
 begun_sound ps i small w sound = record {
   words = λ g r. part_keeps (λ (x : Host). x.registers r < 2 ^ 32) ps g (λ c. record (w g) { registers = put (w g).registers c i }) (w g)
       (λ c. put_words (w g).registers c i (sound.words g) small r) (sound.words g r);
@@ -49,7 +49,7 @@ begun_sound ps i small w sound = record {
 }
 
 -- so does a turn
-abbrev pub TurnsKeepSound : List Part → ℕ → Plan Gadget → Type 0
+abbrev TurnsKeepSound : List Part → ℕ → Plan Gadget → Type 0
 TurnsKeepSound ps count body = (i : ℕ) → i < count → KeepsSound (λ t w. turn_begun ps i w) × KeepsSound (λ t w. run_turn ps body t i w)
 
 turn_sound : (ps : List Part) (count : ℕ) (body : Plan Gadget) → PlanIsTidy body → count ≤ 2 ^ 32 → TurnsKeepSound ps count body
@@ -60,10 +60,10 @@ turn_sound ps count body tidy few i less =
     )
 
 -- and a branch, and a loop
-pub branch_sound : (ps : List Part) (first other rest : Plan Gadget) → PlanIsTidy (Branch ps first other rest) → KeepsSound (run_branch ps first other)
+branch_sound : (ps : List Part) (first other rest : Plan Gadget) → PlanIsTidy (Branch ps first other rest) → KeepsSound (run_branch ps first other)
 branch_sound ps first other rest tidy t dt w sw = plan_sound t dt (Branch ps first other Ends) (tidy.0, (tidy.1.0, (tidy.1.1.0, tt))) w sw
 
-pub loop_sound : (ps : List Part) (count : ℕ) (body rest : Plan Gadget) → PlanIsTidy (Loop ps count body rest) → KeepsSound (λ t w. turns (run_turn ps body t) count 0 w)
+loop_sound : (ps : List Part) (count : ℕ) (body rest : Plan Gadget) → PlanIsTidy (Loop ps count body rest) → KeepsSound (λ t w. turns (run_turn ps body t) count 0 w)
 loop_sound ps count body rest tidy t dt w sw = plan_sound t dt (Loop ps count body Ends) (tidy.0, (tidy.1.0, (tidy.1.1.0, tt))) w sw
 
 -- after a branch, and after a loop, h looks alike
@@ -133,7 +133,7 @@ plan_tells h t u dt du same (Loop ps count body rest) tidy w v sw sv l mw mv a b
 
 -- ---- another deal
 
-pub another_after : (h : ℕ) (run : Tape → Hosts → Hosts) → Grows run → (u y z : Tape) (v : Hosts) → IsAnotherDeal h u v y → IsAnotherDeal h y (run y v) z → IsAnotherDeal h u v z
+another_after : (h : ℕ) (run : Tape → Hosts → Hosts) → Grows run → (u y z : Tape) (v : Hosts) → IsAnotherDeal h u v y → IsAnotherDeal h y (run y v) z → IsAnotherDeal h u v z
 another_after h run grows u y z v a b = record {
   deal = b.deal;
   part = b.part ∙ a.part;
@@ -143,7 +143,7 @@ another_after h run grows u y z v a b = record {
 }
 
 -- a deal by which what this run does next hides alike, and so does each later deal that keeps what was taken
-pub record RunExcuse (h : ℕ) (run : Tape → Hosts → Hosts) (Hiding : Tape → Type 0) (u : Tape) (v : Hosts) (y : Tape) : Type 0 where
+record RunExcuse (h : ℕ) (run : Tape → Hosts → Hosts) (Hiding : Tape → Type 0) (u : Tape) (v : Hosts) (y : Tape) : Type 0 where
   pub another : IsAnotherDeal h u v y
   pub past : (g : ℕ) (s : Source) (i : ℕ) → (run y v g).cursors s ≤ i → y g s i ≡ u g s i
   pub hides : (z : Tape) → TakenAlike (run y v) y z → Hiding z
@@ -203,7 +203,7 @@ run_branch_frame ps first other = branch_frame (λ v. is_other ps v) (λ t v. jo
 
 -- ---- the deal that is computed
 
-abbrev pub HasExcuses : ℕ → Tape → Plan Gadget → Type 0
+abbrev HasExcuses : ℕ → Tape → Plan Gadget → Type 0
 HasExcuses h t plan = (u : Tape) → IsValidDeal u → (w v : Hosts) → IsSound w → IsSound v → RunExcuse h (λ y x. joint y (joint_of plan) x) (λ y. Hides h t y plan w v) u v (excused h t plan u w v)
 
 module _ (h : ℕ) (t : Tape) (dt : IsValidDeal t) where
@@ -275,7 +275,7 @@ module _ (h : ℕ) (t : Tape) (dt : IsValidDeal t) where
       (λ y. refl) (λ y k _. k)
       (turns_excuse ps count body tidy few ih count 0 (omega arith) u du w v sw sv)
 
-  pub plan_excuse : (plan : Plan Gadget) → PlanIsTidy plan → HasExcuses h t plan
+  plan_excuse : (plan : Plan Gadget) → PlanIsTidy plan → HasExcuses h t plan
   plan_excuse Ends tidy u du w v sw sv = unchanged h (λ y x. x) (λ y. Unit {0}) u v du (λ y. tt)
   plan_excuse (Then g rest) tidy u du w v sw sv =
       let xs : List Act = acts_of_gadget g in

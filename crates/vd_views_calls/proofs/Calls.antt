@@ -28,7 +28,7 @@ AreQuiet gs = Each IsQuiet gs
 
 -- ---- hosts one after the other
 
-pub each_quiet : (f : HostId → List ℕ → Made Reg) → ((k : HostId) (next : List ℕ) → AreQuiet (f k next).gadgets) → (hs : List HostId) (next : List ℕ) → AreQuiet (each_made f hs next).gadgets
+each_quiet : (f : HostId → List ℕ → Made Reg) → ((k : HostId) (next : List ℕ) → AreQuiet (f k next).gadgets) → (hs : List HostId) (next : List ℕ) → AreQuiet (each_made f hs next).gadgets
 each_quiet f q [] next = tt
 each_quiet f q (k ∷ hs) next = each_append IsQuiet (f k next).gadgets (each_made f hs (f k next).next).gadgets (q k next) (each_quiet f q hs (f k next).next)
 
@@ -63,7 +63,7 @@ renewed_quiet (q ∷ kept) x = (tt, renewed_quiet kept x)
 
 -- ---- two hosts
 
-pub product_quiet : (s : Sharing) (a b : HostId) (x y : Shares) (next : List ℕ) → AreQuiet (product_shares s a b x y next).gadgets
+product_quiet : (s : Sharing) (a b : HostId) (x y : Shares) (next : List ℕ) → AreQuiet (product_shares s a b x y next).gadgets
 unfolding product_shares
 product_quiet s a b x y next = (tt, (tt, (tt, (tt, (tt, (tt, (tt, (tt, (tt, (tt, (tt, (tt, (tt, (tt, (tt, tt)))))))))))))))
 

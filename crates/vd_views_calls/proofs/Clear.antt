@@ -35,7 +35,7 @@ msg_other a said b heard w g n =
     at words (inr m) = ap (λ (s : Host). s.registers) (put_other w a (said_to b words (w a)) g m)
 
 -- all hosts but one keep their registers
-abbrev pub KeepsBut : ℕ → Hosts → Hosts → Type 0
+abbrev KeepsBut : ℕ → Hosts → Hosts → Type 0
 KeepsBut k w u = (g : ℕ) → g ≢ k → (u g).registers ≡ (w g).registers
 
 keeps_on : (k : ℕ) (w u x : Hosts) → KeepsBut k w u → KeepsBut k u x → KeepsBut k w x

@@ -40,12 +40,12 @@ HaveWord s a b x c w = joined s ((w a.0).registers x.first.0) ((w b.0).registers
 
 module _ (h : ℕ) (t y : Tape) (kin : AreKin h t y) (s : Sharing) (a b : HostId) (apart : a.0 ≢ b.0) (x : Shares) (c d : ℕ) where
   -- the first host's part to the second
-  pub first_opens : (w v : Hosts) → HaveWord s a b x c w → HaveWord s a b x d v → (b.0 ≡ h → c ≡ d) → b.0 ≡ h
+  first_opens : (w v : Hosts) → HaveWord s a b x c w → HaveWord s a b x d v → (b.0 ≡ h → c ≡ d) → b.0 ≡ h
       → opened s ((w a.0).registers x.first.0) ((w b.0).registers x.second.0) ≡ opened s ((v a.0).registers x.first.0) ((v b.0).registers x.second.0)
   first_opens w v e f same i = opened_joined s _ _ ∙ e ∙ same i ∙ sym f ∙ sym (opened_joined s _ _)
 
   -- and the second's to the first
-  pub second_opens : (w v : Hosts) → HaveWord s a b x c w → HaveWord s a b x d v → (a.0 ≡ h → c ≡ d) → a.0 ≡ h
+  second_opens : (w v : Hosts) → HaveWord s a b x c w → HaveWord s a b x d v → (a.0 ≡ h → c ≡ d) → a.0 ≡ h
       → opened s ((w b.0).registers x.second.0) ((w a.0).registers x.first.0) ≡ opened s ((v b.0).registers x.second.0) ((v a.0).registers x.first.0)
   second_opens w v e f same i = opened_turned s _ _ ∙ e ∙ same i ∙ sym f ∙ sym (opened_turned s _ _)
 

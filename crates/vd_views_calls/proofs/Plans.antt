@@ -25,7 +25,7 @@ use Rattle.vd_views_calls.specs.Sides.{AreKin, Both, IsPlainAction, IsPlain, Pla
 
 -- ---- h looks alike after a plan
 
-pub plan_alike : (h : ℕ) (t y : Tape) → AreKin h t y → (plan : Plan Gadget) → PlanIsTidy plan → (w v : Hosts) → Both h w v → IsSmooth t (joint_of plan) w → IsSmooth y (joint_of plan) v
+plan_alike : (h : ℕ) (t y : Tape) → AreKin h t y → (plan : Plan Gadget) → PlanIsTidy plan → (w v : Hosts) → Both h w v → IsSmooth t (joint_of plan) w → IsSmooth y (joint_of plan) v
     → PlanHides h t y plan w v → PlanKnows h t y plan w v → LooksAlike h (joint t (joint_of plan) w) (joint y (joint_of plan) v)
 plan_alike h t y kin plan tidy w v b sw sv hides knows =
     told_the_same h t y kin.part (joint_of plan) (plan_tidy plan tidy) w v sw sv b.looks

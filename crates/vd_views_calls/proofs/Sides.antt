@@ -24,11 +24,11 @@ pub each_append : {X : Type 0} (P : X → Type 0) (xs ys : List X) → Each P xs
 each_append P [] ys a b = b
 each_append P (x ∷ xs) ys a b = (a.0, each_append P xs ys a.1 b)
 
-pub tidy_split : (xs ys : List Gadget) → GadgetsAreTidy (xs ++ ys) → GadgetsAreTidy xs × GadgetsAreTidy ys
+tidy_split : (xs ys : List Gadget) → GadgetsAreTidy (xs ++ ys) → GadgetsAreTidy xs × GadgetsAreTidy ys
 tidy_split [] ys a = (tt, a)
 tidy_split (x ∷ xs) ys a = let rest = tidy_split xs ys a.1 in ((a.0, rest.0), rest.1)
 
-pub quiet_plain : (g : Gadget) → IsQuiet g → IsPlain g
+quiet_plain : (g : Gadget) → IsQuiet g → IsPlain g
 quiet_plain (Alone h a) q = q
 quiet_plain (Tells a said b heard) q = tt
 quiet_plain (Shares a r b heard) q = tt
@@ -42,11 +42,11 @@ all_plain [] e = tt
 all_plain (g ∷ gs) e = (quiet_plain g e.0, all_plain gs e.1)
 
 module _ (t y : Tape) (P : Gadget → Hosts → Hosts → Type 0) where
-  pub along_split : (xs ys : List Gadget) (w v : Hosts) → AlongGadgets P t y (xs ++ ys) w v → AlongGadgets P t y xs w v × AlongGadgets P t y ys (after t xs w) (after y xs v)
+  along_split : (xs ys : List Gadget) (w v : Hosts) → AlongGadgets P t y (xs ++ ys) w v → AlongGadgets P t y xs w v × AlongGadgets P t y ys (after t xs w) (after y xs v)
   along_split [] ys w v a = (tt, a)
   along_split (x ∷ xs) ys w v a = let rest = along_split xs ys (run_acts t (acts_of_gadget x) w) (run_acts y (acts_of_gadget x) v) a.1 in ((a.0, rest.0), rest.1)
 
-  pub along_on : (xs ys : List Gadget) (w v : Hosts) → AlongGadgets P t y xs w v → AlongGadgets P t y ys (after t xs w) (after y xs v) → AlongGadgets P t y (xs ++ ys) w v
+  along_on : (xs ys : List Gadget) (w v : Hosts) → AlongGadgets P t y xs w v → AlongGadgets P t y ys (after t xs w) (after y xs v) → AlongGadgets P t y (xs ++ ys) w v
   along_on [] ys w v a b = b
   along_on (x ∷ xs) ys w v a b = (a.0, along_on xs ys (run_acts t (acts_of_gadget x) w) (run_acts y (acts_of_gadget x) v) a.1 b)
 
@@ -64,7 +64,7 @@ module _ (h : ℕ) (t y : Tape) (kin : AreKin h t y) where
   both_all (g ∷ gs) w v tidy b hides knows =
       both_all gs (run_acts t (acts_of_gadget g) w) (run_acts y (acts_of_gadget g) v) tidy.1 (both_step g w v tidy.0 b hides.0 knows.0) hides.1 knows.1
 
-  pub quiet_known : (g : Gadget) (w v : Hosts) → IsQuiet g → Both h w v → GadgetKnows h t y g w v
+  quiet_known : (g : Gadget) (w v : Hosts) → IsQuiet g → Both h w v → GadgetKnows h t y g w v
   quiet_known (Alone k a) w v q b = tt
   quiet_known (Tells a said c heard) w v q b = absurd q
   quiet_known (Shares a r c heard) w v q b = λ e. kin.own_words a.0 ((w a.0).cursors OwnWords) ∙ ap (y a.0 OwnWords) (b.own a.0)

@@ -33,26 +33,26 @@ use Rattle.vd_views_calls.proofs.Calls.{gates_quiet}
 use Rattle.vd_views_calls.proofs.Pairs.{HaveWord, both_open}
 
 module _ (a b : HostId) (apart : a.0 ≢ b.0) (next : List ℕ) (x : Places) where
-  abbrev pub n : ℕ
+  abbrev n : ℕ
   n = slice_index next a.0
 
-  abbrev pub m : ℕ
+  abbrev m : ℕ
   m = slice_index (taken a 2 next) b.0
 
-  abbrev pub first : Pairing
+  abbrev first : Pairing
   first = pairing a (shares_of x).first n
 
-  abbrev pub second : Pairing
+  abbrev second : Pairing
   second = pairing b (shares_of x).second m
 
-  abbrev pub pair : Made (Shares × Shares)
+  abbrev pair : Made (Shares × Shares)
   pair = drawn a b (shares_of x) next
 
-  abbrev pub rest : Made Places
+  abbrev rest : Made Places
   rest = computed a b op.Sub (x ∷ places_at a b pair.given.1 ∷ []) pair.next
 
   -- what is left of the word, in one run
-  pub record Rest (t : Tape) (w : Hosts) (v : ℕ) : Type 0 where
+  record Rest (t : Tape) (w : Hosts) (v : ℕ) : Type 0 where
     pub reached : Hosts
     pub runs : after t rest.gadgets (run_acts t (acts_of_gadget (Paired first second)) w) ≡ reached
     pub word : HaveWord ByXors a b (shares_of rest.given) (applied binary.Sub (converted first second w) (pair_word first second t w)) reached
@@ -109,7 +109,7 @@ module _ (a b : HostId) (apart : a.0 ≢ b.0) (next : List ℕ) (x : Places) whe
     next_second : slice_index pair.next b.0 ≡ m + 2
     next_second = taken_there b 2 (taken a 2 next) known_later
 
-    pub left : Rest t w v
+    left : Rest t w v
     left =
         let sound : IsSound w1 = gadget_sound t ready.deal (Paired first second) apart w ready.sound in
         let size : length pair.next ≡ length next = taken_known b 2 (taken a 2 next) ∙ taken_known a 2 next in

@@ -116,10 +116,10 @@ module _ (p : NormalForm) (l : Labels) (protocols : List Proto) (of_two : IsOfTw
   -- ---- from a deal to files
 
   module _ (given : List (List ℕ)) (few : length given ≤ 2) (words : InputsAreWords given) (z : Tape) (deal : IsDealWith (input_words given) z) (long : IsLongEnough (counts_of (file 0 x ∷ file 1 w ∷ [])) plan z) where
-    pub again : tape_of given (read_files x w z) ≡ z
+    again : tape_of given (read_files x w z) ≡ z
     again = tape_again x w z deal.deal given deal.inputs few (λ g s i not le. long.ends g s i not le)
 
-    pub enough_again : AreEnough plan given (read_files x w z)
+    enough_again : AreEnough plan given (read_files x w z)
     enough_again = record {
       files = are_files x w z deal.deal given deal.inputs few (λ g s i not le. long.ends g s i not le) words one two;
       two = refl;
@@ -133,7 +133,7 @@ module _ (p : NormalForm) (l : Labels) (protocols : List Proto) (of_two : IsOfTw
   t_long : IsLongEnough (counts_of (file 0 x ∷ file 1 w ∷ [])) plan (tape_of first (file 0 x ∷ file 1 w ∷ []))
   t_long = long_enough plan deals first deals enough (λ g s. refl)
 
-  pub files_explained : (second : List (List ℕ)) → length second ≤ 2 → AgreeFor p l protocols h first second → (stored : List Deal) × IsExcuse h.0 plan first second (file 0 x ∷ file 1 w ∷ []) stored
+  files_explained : (second : List (List ℕ)) → length second ≤ 2 → AgreeFor p l protocols h first second → (stored : List Deal) × IsExcuse h.0 plan first second (file 0 x ∷ file 1 w ∷ []) stored
   files_explained second few agree =
       let y : Tape = excused h.0 t plan (with_inputs t (input_words second)) fresh fresh in
       let e : Explains h.0 plan t (input_words second) y = others_are_explained p l protocols of_two h low first second t (is_dealt first deals enough.files) agree in
@@ -151,7 +151,7 @@ module _ (p : NormalForm) (l : Labels) (protocols : List Proto) (of_two : IsOfTw
   -- ---- counted
 
   module _ (given : List (List ℕ)) (few : length given ≤ 2) (words : InputsAreWords given) (own : (i : ℕ) → input_words given h.0 i ≡ input_words first h.0 i) where
-    pub to_deal : (stored : List Deal) → ShowsTheSame h.0 plan first (file 0 x ∷ file 1 w ∷ []) given stored
+    to_deal : (stored : List Deal) → ShowsTheSame h.0 plan first (file 0 x ∷ file 1 w ∷ []) given stored
         → Shows h.0 plan (counts_of (file 0 x ∷ file 1 w ∷ [])) (tape_of first (file 0 x ∷ file 1 w ∷ [])) (input_words given) (tape_of given stored)
     to_deal stored s = record {
       deal = is_deal given stored s.enough.files;
@@ -162,7 +162,7 @@ module _ (p : NormalForm) (l : Labels) (protocols : List Proto) (of_two : IsOfTw
       };
     }
 
-    pub to_files : (z : Tape) → Shows h.0 plan (counts_of (file 0 x ∷ file 1 w ∷ [])) (tape_of first (file 0 x ∷ file 1 w ∷ [])) (input_words given) z
+    to_files : (z : Tape) → Shows h.0 plan (counts_of (file 0 x ∷ file 1 w ∷ [])) (tape_of first (file 0 x ∷ file 1 w ∷ [])) (input_words given) z
         → ShowsTheSame h.0 plan first (file 0 x ∷ file 1 w ∷ []) given (read_files x w z)
     to_files z s = record {
       enough = enough_again given few words z s.deal s.long;
@@ -171,7 +171,7 @@ module _ (p : NormalForm) (l : Labels) (protocols : List Proto) (of_two : IsOfTw
       view = subst (λ (y : Tape). LooksAlike h.0 (joint t (joint_of plan) fresh) (joint y (joint_of plan) fresh)) (sym (again given few words z s.deal s.long)) s.sees.view;
     }
 
-    pub files_again : (stored : List Deal) → ShowsTheSame h.0 plan first (file 0 x ∷ file 1 w ∷ []) given stored → read_files x w (tape_of given stored) ≡ stored
+    files_again : (stored : List Deal) → ShowsTheSame h.0 plan first (file 0 x ∷ file 1 w ∷ []) given stored → read_files x w (tape_of given stored) ≡ stored
     files_again stored s =
         let parts = are_two_files stored s.enough.two s.enough.files.dealt in
         let v : Part = parts.0 in
@@ -184,10 +184,10 @@ module _ (p : NormalForm) (l : Labels) (protocols : List Proto) (of_two : IsOfTw
         (first_back given x v u (record { own = sym (long 0 OwnWords); triples = sym (long 0 (Triples 1)); bits = sym (long 0 (BitTriples 1)); pairs = sym (long 0 (Pairs 1)) }))
         (second_back given w v u (record { own = sym (long 1 OwnWords); triples = sym (long 1 (Triples 0)); bits = sym (long 1 (BitTriples 0)); pairs = sym (long 1 (Pairs 0)) })))
 
-    pub deal_again : (z : Tape) → Shows h.0 plan (counts_of (file 0 x ∷ file 1 w ∷ [])) (tape_of first (file 0 x ∷ file 1 w ∷ [])) (input_words given) z → tape_of given (read_files x w z) ≡ z
+    deal_again : (z : Tape) → Shows h.0 plan (counts_of (file 0 x ∷ file 1 w ∷ [])) (tape_of first (file 0 x ∷ file 1 w ∷ [])) (input_words given) z → tape_of given (read_files x w z) ≡ z
     deal_again z s = again given few words z s.deal s.long
 
-  pub files_counted : (second : List (List ℕ)) → length first ≤ 2 → length second ≤ 2 → AgreeFor p l protocols h first second → AgreeFor p l protocols h second first
+  files_counted : (second : List (List ℕ)) → length first ≤ 2 → length second ≤ 2 → AgreeFor p l protocols h first second → AgreeFor p l protocols h second first
       → (all : List (List Deal)) → AreAll (ShowsTheSame h.0 plan first (file 0 x ∷ file 1 w ∷ []) first) all
       → (others : List (List Deal)) × (length others ≡ length all) × AreAll (ShowsTheSame h.0 plan first (file 0 x ∷ file 1 w ∷ []) second) others
   files_counted second few more there here all all_first =

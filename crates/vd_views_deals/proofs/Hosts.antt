@@ -142,7 +142,7 @@ module _ (inputs : List (List ℕ)) (x z : Part) (long : IsAsLong x z) where
   read_kind s make item same f xs count is e =
       ap (λ (n : ℕ). read_items make f n) e ∙ ap (λ (f : ℕ → List ℕ). read_items make f (length xs)) (fun_ext is) ∙ read_back s make item same xs
 
-  pub part_back : (f : Source → ℕ → List ℕ) (peer : ℕ) → ((i : ℕ) → f OwnWords i ≡ or_zeros OwnWords (item_or_none word_item (slice_get z.own i)))
+  part_back : (f : Source → ℕ → List ℕ) (peer : ℕ) → ((i : ℕ) → f OwnWords i ≡ or_zeros OwnWords (item_or_none word_item (slice_get z.own i)))
       → ((i : ℕ) → f (Triples peer) i ≡ or_zeros (Triples peer) (item_or_none triple_item (slice_get z.triples i)))
       → ((i : ℕ) → f (BitTriples peer) i ≡ or_zeros (BitTriples peer) (item_or_none triple_item (slice_get z.bits i)))
       → ((i : ℕ) → f (Pairs peer) i ≡ or_zeros (Pairs peer) (item_or_none pair_item (slice_get z.pairs i))) → read_part f peer x ≡ z
@@ -171,10 +171,10 @@ module _ {X : Type 0} (make : List ℕ → X) (item : X → List ℕ) (src : ℕ
   abbrev mine : List X
   mine = read_items make (z peer) (length xs)
 
-  pub ends_with_peer : (i : ℕ) → length xs ≤ i → z peer i ≡ zeros_of (src peer)
+  ends_with_peer : (i : ℕ) → length xs ≤ i → z peer i ≡ zeros_of (src peer)
   ends_with_peer i high = ends peer i (subst (λ (l : List X). length l ≤ i) (sym (peers_list me peer two xs)) high)
 
-  pub kind_is : (p i : ℕ) → or_zeros (src p) (item_or_none item (slice_get (list_of (mine ∷ []) me p) i)) ≡ z p i
+  kind_is : (p i : ℕ) → or_zeros (src p) (item_or_none item (slice_get (list_of (mine ∷ []) me p) i)) ≡ z p i
   kind_is p i = at (where_is me peer two p)
     where
       at : (p ≡ peer) ⊎ IsElsewhere me p → or_zeros (src p) (item_or_none item (slice_get (list_of (mine ∷ []) me p) i)) ≡ z p i
@@ -214,7 +214,7 @@ module _ (x y : Part) (z : Tape) (valid : IsValidDeal z) (given : List (List ℕ
   one_words : (g i : ℕ) → word_item (word_of (z g OwnWords i)) ≡ z g OwnWords i
   one_words g i = word_is (z g OwnWords i) (valid.lengths g OwnWords i)
 
-  pub tape_is : (g : ℕ) (s : Source) (i : ℕ) → tape_of given (read_files x y z) g s i ≡ z g s i
+  tape_is : (g : ℕ) (s : Source) (i : ℕ) → tape_of given (read_files x y z) g s i ≡ z g s i
   tape_is zero Inputs i = input_is (inputs_of given 0) i ∙ sym (has 0 i)
   tape_is zero OwnWords i = read_is word_of (z 0 OwnWords) (length x.own) OwnWords word_item (one_words 0) (λ i high. ends 0 OwnWords i (λ e. cc) high) i
   tape_is zero (Triples p) i =

@@ -1,4 +1,4 @@
 pub mod Lists
 pub mod Hosts
-pub mod Counted
-pub mod Files
+mod Counted
+mod Files

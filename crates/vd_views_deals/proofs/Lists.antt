@@ -14,7 +14,7 @@ use Rattle.vd_execution.specs.Step.{Source, Inputs}
 use Rattle.vd_execution.specs.World.{or_zeros, zeros_of}
 use Rattle.vd_machine.specs.Machines.{item_or_none, word_item, triple_item, pair_item}
 
-pub below_or_not : (i n : ℕ) → (i < n) ⊎ (n ≤ i)
+below_or_not : (i n : ℕ) → (i < n) ⊎ (n ≤ i)
 below_or_not i n = elim (leb_tells n i) [ inl p ↦ inr p.1 | inr p ↦ inl p.1 ]
 
 -- an item by its words
@@ -53,12 +53,12 @@ module _ {X : Type 0} (make : List ℕ → X) (z : ℕ → List ℕ) (count : �
   pub read_count : length (read_items make z count) ≡ count
   read_count = length-map-range_with_len (λ i. make (z i)) 0 count
 
-  pub read_within : (i : ℕ) → i < count → slice_get (read_items make z count) i ≡ Some (make (z i))
+  read_within : (i : ℕ) → i < count → slice_get (read_items make z count) i ≡ Some (make (z i))
   read_within i low =
       slice_get-get_or (read_items make z count) i (make (z i)) (subst (λ n. i < n) (sym read_count) low)
       ∙ ap (λ (x : X). Some x) (get_or-map-range_with_len (λ i. make (z i)) 0 count i i (make (z i)) low (omega arith))
 
-  pub read_past : (i : ℕ) → count ≤ i → slice_get (read_items make z count) i ≡ None
+  read_past : (i : ℕ) → count ≤ i → slice_get (read_items make z count) i ≡ None
   read_past i high = slice_get_past (read_items make z count) i (subst (λ n. n ≤ i) (sym read_count) high)
 
   pub read_all : (P : X → Type 0) → ((i : ℕ) → P (make (z i))) → All P (read_items make z count)

@@ -1,4 +1,4 @@
-pub mod Calls
-pub mod Product
-pub mod Deals
-pub mod Numbers
+mod Calls
+mod Product
+mod Deals
+mod Numbers

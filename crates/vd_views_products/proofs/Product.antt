@@ -97,7 +97,7 @@ module _ (h : ℕ) (t : Tape) (second : InputWords) (deal : IsValidDeal t) (othe
     shown_known : GadgetsKnow h t y shown.gadgets w v
     shown_known = ((λ e. first_opened), ((λ e. second_opened), (tt, (tt, tt))))
 
-    pub whole_known : GadgetsKnow h t y shared_product fresh fresh
+    whole_known : GadgetsKnow h t y shared_product fresh fresh
     whole_known =
         know_append h t y taken_in (multiplication ++ printed) fresh fresh (tt, (tt, tt))
         (know_append h t y multiplication printed (with_inputs_taken t) (with_inputs_taken y)

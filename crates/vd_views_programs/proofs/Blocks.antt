@@ -159,7 +159,7 @@ module _ (h : HostId) (few : h.0 < 8) (two : h.0 < 2) (t u : Tape) (kin : AreKin
   abbrev pub Ends' : Plan Gadget → Hosts → Hosts → List ℕ → List ℕ → Type 0
   Ends' plan w v xs ys = Concluded h.0 t u plan w v xs ys
 
-  abbrev pub Tells : List Gadget → Hosts → Hosts → Type 0
+  abbrev Tells : List Gadget → Hosts → Hosts → Type 0
   Tells gs w v = Telling h.0 t u gs w v
 
   -- what a block stands in, in both runs
@@ -249,13 +249,13 @@ module _ (h : HostId) (few : h.0 < 8) (two : h.0 < 2) (t u : Tape) (kin : AreKin
     comes2' : loops.Comes n s' proto laws' over (emits eb) (effect_of eb) o (sees eb o).after (length (slots eb)) (turns_at n s' proto eb) (k + length (slots tb))
     comes2' = means n s' proto laws' over eb o (k + length (slots tb)) fit2.row fit2.seen fit2.fits fit2.placed_too
 
-    pub after_first : After m s proto o o e (if_made (suite_calls hosts) proto x (emits tb) (emits eb) e) (length (slots tb) + length (slots eb)) w
+    after_first : After m s proto o o e (if_made (suite_calls hosts) proto x (emits tb) (emits eb) e) (length (slots tb) + length (slots eb)) w
         (in_order (if nat_eq (word_at c x) 0 then each stmt_effect eb else each stmt_effect tb) turn c)
     after_first =
         loops.branch_after m s proto laws over o (sees tb o).after (sees eb o).after (emits tb) (emits eb) (each stmt_effect tb) (each stmt_effect eb) (length (slots tb)) (length (slots eb)) k
         (turns_at m s proto tb) (turns_at m s proto eb) comes1 comes2 x sees_x reaches (both_idle m s proto laws over tb eb) e w c turn has is fit1.needs fit2.needs small st.first st.first_turn
 
-    pub after_second : After n s' proto o o e (if_made (suite_calls hosts) proto x (emits tb) (emits eb) e) (length (slots tb) + length (slots eb)) v
+    after_second : After n s' proto o o e (if_made (suite_calls hosts) proto x (emits tb) (emits eb) e) (length (slots tb) + length (slots eb)) v
         (in_order (if nat_eq (word_at d x) 0 then each stmt_effect eb else each stmt_effect tb) turn d)
     after_second =
         loops.branch_after n s' proto laws' over o (sees tb o).after (sees eb o).after (emits tb) (emits eb) (each stmt_effect tb) (each stmt_effect eb) (length (slots tb)) (length (slots eb)) k
@@ -336,11 +336,11 @@ module _ (h : HostId) (few : h.0 < 8) (two : h.0 < 2) (t u : Tape) (kin : AreKin
             rest = sym (ap (λ (z : List ℕ). z ++ xs) (quiet_block (nat_eq (word_at c x) 0) c off)) ∙ words ∙ ap (λ (z : List ℕ). z ++ ys) (quiet_block (nat_eq (word_at d x) 0) d off);
           }
 
-      pub inside : (b : Bool) → test h.0 ≡ b → Ends' (Branch guard.given first_tree other_tree Ends) w1 v1 xs ys
+      inside : (b : Bool) → test h.0 ≡ b → Ends' (Branch guard.given first_tree other_tree Ends) w1 v1 xs ys
       inside true on = takes on
       inside false off = absent off
 
-    pub branch_ends : Static whole → Hides h.0 t u whole w v → (xs ys : List ℕ)
+    branch_ends : Static whole → Hides h.0 t u whole w v → (xs ys : List ℕ)
         → (word_if (is_part protocols h x (heards tb) (heards eb) && comes_alone protocols h x) (word_at c x) ++ heard_in_order (if nat_eq (word_at c x) 0 then heards eb else heards tb) turn c) ++ xs
         ≡ (word_if (is_part protocols h x (heards tb) (heards eb) && comes_alone protocols h x) (word_at d x) ++ heard_in_order (if nat_eq (word_at d x) 0 then heards eb else heards tb) turn d) ++ ys
         → Ends' whole w v xs ys
@@ -406,10 +406,10 @@ module _ (h : HostId) (few : h.0 < 8) (two : h.0 < 2) (t u : Tape) (kin : AreKin
     comes_body' : loops.Comes n s' proto laws' over (emits body) (effect_of body) o (sees body o).after (length (slots body)) (turns_at n s' proto body) k
     comes_body' = means n s' proto laws' over body o k fit.row fit.seen fit.fits fit.placed_too
 
-    pub loop_first : (count : ℕ) → count ≤ 2 ^ 32 → After m s proto o o e (for_made (suite_calls hosts) proto count (emits body) e) (length (slots body)) w (turns count (effect_of body) c)
+    loop_first : (count : ℕ) → count ≤ 2 ^ 32 → After m s proto o o e (for_made (suite_calls hosts) proto count (emits body) e) (length (slots body)) w (turns count (effect_of body) c)
     loop_first count small = loops.loop_after m s proto laws over o (sees body o).after (emits body) (effect_of body) (length (slots body)) k (turns_at m s proto body) comes_body (turns_act m s proto laws over body) e w c is tied count small
 
-    pub loop_second : (count : ℕ) → count ≤ 2 ^ 32 → After n s' proto o o e (for_made (suite_calls hosts) proto count (emits body) e) (length (slots body)) v (turns count (effect_of body) d)
+    loop_second : (count : ℕ) → count ≤ 2 ^ 32 → After n s' proto o o e (for_made (suite_calls hosts) proto count (emits body) e) (length (slots body)) v (turns count (effect_of body) d)
     loop_second count small = loops.loop_after n s' proto laws' over o (sees body o).after (emits body) (effect_of body) (length (slots body)) k (turns_at n s' proto body) comes_body' (turns_act n s' proto laws' over body) e v d is tied' count small
 
     -- where a turn begins
@@ -470,7 +470,7 @@ module _ (h : HostId) (few : h.0 < 8) (two : h.0 < 2) (t u : Tape) (kin : AreKin
           at_last j i less (yes e) P before here = subst P (sym e) here
           at_last j i less (no d) P before here = before j (lower j i less d)
 
-    pub loop_ends : (count : ℕ) → count ≤ 2 ^ 32 → Static (Loop ps count tree Ends) → Hides h.0 t u (Loop ps count tree Ends) w v → (xs ys : List ℕ)
+    loop_ends : (count : ℕ) → count ≤ 2 ^ 32 → Static (Loop ps count tree Ends) → Hides h.0 t u (Loop ps count tree Ends) w v → (xs ys : List ℕ)
         → heard_in_turns count (heards body) c ++ xs ≡ heard_in_turns count (heards body) d ++ ys → Ends' (Loop ps count tree Ends) w v xs ys
     loop_ends count few_turns static hides xs ys words =
         let apart = static.tidy.0.0 in

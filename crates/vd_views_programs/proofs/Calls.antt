@@ -54,7 +54,7 @@ found f [] i e = cc
 found f (x ∷ l) zero e = e
 found f (x ∷ l) (suc i) e = found f l i e
 
-pub clear_of : (h : HostId) (q : Proto) → HasClear h.0 q → has_clear h q ≡ true
+clear_of : (h : HostId) (q : Proto) → HasClear h.0 q → has_clear h q ≡ true
 clear_of h (Local k) e = eq-eqb k.0 h.0 (sym e)
 clear_of h (Rep set) e = holder_at (Rep set) h.0 e
 clear_of h (Commit p v) e = absurd e
@@ -85,11 +85,11 @@ when_both false b i f e = cc
 -- ---- one run: what a variable or an array gives
 
 module _ (m : AnyHosts) (s : Suite m) (proto : ℕ → Proto) (laws : Laws m s) (declared : (x : ℕ) → s.Declared (proto x)) (o : Sight) (e : Emitting s.calls proto) (w : m.World) (c : SlotState) (t : Tied m s proto o e.next e.held w c) where
-  pub kept_gives : (v : SlotId) → Sees o Variable v.0 → s.holds VariableRow (proto v.0) ≡ true
+  kept_gives : (v : SlotId) → Sees o Variable v.0 → s.holds VariableRow (proto v.0) ≡ true
       → Gives m s e.next nothing (s.calls.keep (proto v.0) (part m s proto e.held v.0) e.next) w (proto v.0) (Word (word_at c v))
   kept_gives v sees holds = laws.keep_law (proto v.0) (declared v.0) holds (part m s proto e.held v.0) (word_at c v) e.next w t.ready (operand_of_variable m s proto laws declared o e.next e.held w c t v.0 sees)
 
-  pub got_gives : (v i : SlotId) → Sees o Array v.0 → Sees o Binding i.0 → s.holds VariableRow (proto v.0) ≡ true → Reaches m s proto i (λ k. is_holder (proto v.0) (host k))
+  got_gives : (v i : SlotId) → Sees o Array v.0 → Sees o Binding i.0 → s.holds VariableRow (proto v.0) ≡ true → Reaches m s proto i (λ k. is_holder (proto v.0) (host k))
       → let index = delivered s.calls proto (proto i.0) (part m s proto e.held i.0) (hosts_of s.calls (proto v.0)) e.next in
       let got = s.calls.get (proto v.0) (part m s proto e.held v.0) index.given index.next in
       Gives m s e.next nothing (record { given = got.given; acts = index.acts ++ got.acts; next = got.next }) w (proto v.0) (Word (slice_index (array_at c v) (word_at c i)))
@@ -137,7 +137,7 @@ module _ (h : HostId) (low : h.0 < 8) (t u : Tape) (kin : AreKin h.0 t u) (input
   in_both q p w v c d has same a b = sym (in_clear w h low q p c has a) ∙ ap (λ (k : Host). k.registers (register_of p.at h.0).0) same ∙ in_clear v h low q p d has b
 
   -- a word that is moved to where the host has it in clear
-  pub same_word : (y x : SlotId) → x.0 < length protocols → (p : Parts) (w v : Hosts) (c d : ℕ) → w h.0 ≡ v h.0 → slot_stands w (proto y.0) p (Word c) → slot_stands v (proto y.0) p (Word d)
+  same_word : (y x : SlotId) → x.0 < length protocols → (p : Parts) (w v : Hosts) (c d : ℕ) → w h.0 ≡ v h.0 → slot_stands w (proto y.0) p (Word c) → slot_stands v (proto y.0) p (Word d)
       → (comes protocols h y x ≡ true → c ≡ d) → HasClear h.0 (proto x.0) → c ≡ d
   same_word y x below p w v c d same a b agrees has = at (same_protocol (proto_in protocols y.0) (proto_in protocols x.0)) refl
     where
@@ -194,7 +194,7 @@ module _ (h : HostId) (low : h.0 < 8) (t u : Tape) (kin : AreKin h.0 t u) (input
   delivered_tells p f ov x a b ks joins next w v r1 r2 o1 o2 same both tidy hides = each_told p f ov x a b ks joins next w v r1 r2 o1 o2 (same both.looks.itself) both tidy hides
 
   -- operands, from left to right
-  pub operands_tell : (x : SlotId) → x.0 < length protocols → (e : Emitting (suite_calls hosts) proto) (f g : SlotId → ℕ) (source source' : ℕ → ℕ → Type 0) (ys : List SlotId) (next : List ℕ) (w v : Hosts)
+  operands_tell : (x : SlotId) → x.0 < length protocols → (e : Emitting (suite_calls hosts) proto) (f g : SlotId → ℕ) (source source' : ℕ → ℕ → Type 0) (ys : List SlotId) (next : List ℕ) (w v : Hosts)
       → Ready m s next w → Ready n s' next v
       → Each (λ y. Movable m s laws proto next w source (proto x.0) (proto y.0) (parts_at (suite_calls hosts) proto e y) (f y)) ys
       → Each (λ y. Movable n s' laws' proto next v source' (proto x.0) (proto y.0) (parts_at (suite_calls hosts) proto e y) (g y)) ys

@@ -32,7 +32,7 @@ module _ (p : NormalForm) (l : Labels) (protocols : List Proto) (of_two : IsOfTw
   same_counts second t y e g (BitTriples k) n = plan_counts h.0 t y (plan_of p protocols) fixed.tidy (fixed_with p l protocols of_two h low) (BitTriples k) refl fresh fresh e.chooses (λ q. refl) g
   same_counts second t y e g (Pairs k) n = plan_counts h.0 t y (plan_of p protocols) fixed.tidy (fixed_with p l protocols of_two h low) (Pairs k) refl fresh fresh e.chooses (λ q. refl) g
 
-  pub as_long : (second : InputWords) (t y : Tape) → Explains h.0 (plan_of p protocols) t second y → (n : Lengths) → IsLongEnough n (plan_of p protocols) t → IsLongEnough n (plan_of p protocols) y
+  as_long : (second : InputWords) (t y : Tape) → Explains h.0 (plan_of p protocols) t second y → (n : Lengths) → IsLongEnough n (plan_of p protocols) t → IsLongEnough n (plan_of p protocols) y
   as_long second t y e n long = record {
     ends = λ g s i not le.
         let c : (joint t (joint_of (plan_of p protocols)) fresh g).cursors s ≡ (joint y (joint_of (plan_of p protocols)) fresh g).cursors s = same_counts second t y e g s not in
@@ -84,7 +84,7 @@ module _ (p : NormalForm) (l : Labels) (protocols : List Proto) (of_two : IsOfTw
         inl (only p l protocols of_two h low first second there here t y z d e (subst (λ (x : Tape). Explains h.0 (plan_of p protocols) x (input_words second) z) same es.0))
     fellow t y d e (u ∷ ts) (z ∷ ys) es (inr i) = inr (fellow t y d e ts ys es.1 i)
 
-    pub equally_many : (ts : List Tape) → AreAll First ts → (ys : List Tape) × (length ys ≡ length ts) × AreAll Second ys
+    equally_many : (ts : List Tape) → AreAll First ts → (ys : List Tape) × (length ys ≡ length ts) × AreAll Second ys
     equally_many ts all_first =
         let many = as_many p l protocols of_two h low first second there here ts (each_deal ts all_first.each) all_first.different in
         let ys : List Tape = many.0 in (

@@ -1,15 +1,15 @@
-pub mod Compose
-pub mod Plain
-pub mod Words
-pub mod Calls
-pub mod Silent
-pub mod Turns
-pub mod Hiding
+mod Compose
+mod Plain
+mod Words
+mod Calls
+mod Silent
+mod Turns
+mod Hiding
 pub mod Steps
-pub mod Blocks
+mod Blocks
 pub mod Theorem
-pub mod PairUp
-pub mod AnyOrder
-pub mod Promise
+mod PairUp
+mod AnyOrder
+mod Promise
 pub mod Lengths
 pub mod Examples

@@ -34,7 +34,7 @@ module _ (p : NormalForm) (l : Labels) (protocols : List Proto) (of_two : IsOfTw
   dealt_of inputs other agree t d = record { words = agree.words; deal = d.deal; given = λ g i. ap (λ (xs : List ℕ). nth xs 0) (d.inputs g i) }
 
   -- what the plan is whatever the deals
-  pub fixed_tidy : PlanIsTidy (plan_of p protocols)
+  fixed_tidy : PlanIsTidy (plan_of p protocols)
   fixed_tidy = subst PlanIsTidy (sym (plan_is p l protocols of_two)) (static p l protocols of_two [] _ dealt_zeros).tidy
 
   pub fixed_with : PlanIsWith h.0 (plan_of p protocols)
@@ -70,7 +70,7 @@ module _ (p : NormalForm) (l : Labels) (protocols : List Proto) (of_two : IsOfTw
     rest t y d e g (BitTriples k) i n lt = shared_rest t y d e g (BitTriples k) i refl n lt
     rest t y d e g (Pairs k) i n lt = shared_rest t y d e g (Pairs k) i refl n lt
 
-    pub pair_up : PairUp h.0 (plan_of p protocols) (input_words first) (input_words second)
+    pair_up : PairUp h.0 (plan_of p protocols) (input_words first) (input_words second)
     pair_up = record { forth = explained first second there here; turned = turned; only = only; rest = rest }
 
   module _ (first second : List (List ℕ)) (there : AgreeFor p l protocols h first second) (here : AgreeFor p l protocols h second first) where

@@ -26,7 +26,7 @@ pub record Static (plan : Plan Gadget) : Type 0 where
   pub tidy : PlanIsTidy plan
   pub plain : PlanIsPlain plan
 
-pub static_split : (a b : Plan Gadget) → Static (and_then a b) → Static a × Static b
+static_split : (a b : Plan Gadget) → Static (and_then a b) → Static a × Static b
 static_split a b s =
     let i = within_split s.parts a b s.within in
     let d = tidy_split a b s.tidy in

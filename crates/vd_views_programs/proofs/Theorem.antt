@@ -114,19 +114,19 @@ module _ (p : NormalForm) (l : Labels) (protocols : List Proto) (of_two : IsOfTw
   -- ---- one run
 
   module _ (inputs : List (List ℕ)) (t : Tape) (dealt : IsDealt inputs t) where
-    pub can : CanRun p proto inputs t
+    can : CanRun p proto inputs t
     can = can_run p l protocols of_two.chosen inputs dealt.words t dealt.deal dealt.given
 
     pub runs : RunsAsToldBy p proto inputs t
     runs = assignments_tell_the_same p l protocols of_two.chosen inputs dealt.words t dealt.deal dealt.given
 
-    pub laws : Laws (machine t (inputs_of inputs)) (suite t (inputs_of inputs) (length p.hosts))
+    laws : Laws (machine t (inputs_of inputs)) (suite t (inputs_of inputs) (length p.hosts))
     laws = suite_laws t dealt.deal (inputs_of inputs) dealt.given (length p.hosts)
 
-    pub starts : Starts (machine t (inputs_of inputs)) inputs fresh
+    starts : Starts (machine t (inputs_of inputs)) inputs fresh
     starts = record { sound = fresh_sound; printed = λ g. refl; waiting = λ g. all_dropped (inputs_of inputs g); words = dealt.words }
 
-    pub smooth : IsSmooth t (joint_of tree) fresh
+    smooth : IsSmooth t (joint_of tree) fresh
     smooth = subst (λ (plan : Plan Gadget). IsSmooth t (joint_of plan) fresh) plan_is runs.smooth
 
     few : hosts ≤ 8
@@ -201,7 +201,7 @@ module _ (p : NormalForm) (l : Labels) (protocols : List Proto) (of_two : IsOfTw
           (ap (λ (hs : List Heard). heard_in_order hs 0 (start p first)) (sym (fold_each (heard_step protocols h l) p.body)) ∙ agree.heard
           ∙ ap (λ (hs : List Heard). heard_in_order hs 0 (start p second)) (fold_each (heard_step protocols h l) p.body))
 
-      pub concluded : Concluded h.0 t y tree fresh fresh [] []
+      concluded : Concluded h.0 t y tree fresh fresh [] []
       concluded =
           follows h low h_low t y kin (inputs_of first) (inputs_of second) hosts known protocols l (laws first t dealt) (laws second y dealt_too) (can first t dealt).over of_two.free b nothing_seen 0 (λ g. false) fitting
           begin fresh fresh (start p first) (start p second) 0 refl (omega arith)
@@ -225,7 +225,7 @@ module _ (p : NormalForm) (l : Labels) (protocols : List Proto) (of_two : IsOfTw
       knows = λ y another hidden. let c = concluded y another hidden in (c.chooses, c.knows);
     }
 
-    pub it_explains : IsExplained h.0 (plan_of p protocols) t (input_words second)
+    it_explains : IsExplained h.0 (plan_of p protocols) t (input_words second)
     it_explains = subst (λ (plan : Plan Gadget). IsExplained h.0 plan t (input_words second)) (sym plan_is) (explained h.0 tree t (input_words second) condition)
 
 pub others_are_explained : OthersAreExplained

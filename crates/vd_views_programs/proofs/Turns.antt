@@ -67,11 +67,11 @@ pub begun_is : (t : Tape) (inputs : ℕ → List ℕ) (ps : List Part) → Apart
 begun_is t inputs ps apart i v = fun_ext (λ h. begun_alike ps i h (v h) apart)
 
 module _ (t : Tape) (inputs : ℕ → List ℕ) (ps : List Part) (apart : Apart ps) (body : Plan Gadget) (tidy : PlanIsTidy body) where
-  pub one_turn : (i : ℕ) (v : Hosts) → joint (machine t inputs) body ((machine t inputs).begun ps i v) ≡ run_turn ps body t i v
+  one_turn : (i : ℕ) (v : Hosts) → joint (machine t inputs) body ((machine t inputs).begun ps i v) ≡ run_turn ps body t i v
   one_turn i v = runs_alike t inputs body ((machine t inputs).begun ps i v) tidy ∙ ap (run_code t (joint_of body)) (begun_is t inputs ps apart i v)
 
   -- where the loop stands before a turn
-  pub at_turn : (n : ℕ) (w : Hosts) → turns n (λ i v. joint (machine t inputs) body ((machine t inputs).begun ps i v)) w ≡ code_turns (run_turn ps body t) n 0 w
+  at_turn : (n : ℕ) (w : Hosts) → turns n (λ i v. joint (machine t inputs) body ((machine t inputs).begun ps i v)) w ≡ code_turns (run_turn ps body t) n 0 w
   at_turn n w =
       turns_alike (λ i v. joint (machine t inputs) body ((machine t inputs).begun ps i v)) n w
       ∙ ap (λ (f : ℕ → Hosts → Hosts). code_turns f n 0 w) (fun_ext (λ i. fun_ext (λ v. one_turn i v)))

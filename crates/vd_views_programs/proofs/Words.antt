@@ -23,7 +23,7 @@ one_off true p q xs ys e = let both = first_of p q xs ys e in ((λ i. both.0), b
 one_off false p q xs ys e = ((λ i. cc), e)
 
 -- words of slots
-pub many_off : (f g : SlotId → ℕ) (test : SlotId → Bool) (ss : List SlotId) (xs ys : List ℕ) → map f (filter test ss) ++ xs ≡ map g (filter test ss) ++ ys
+many_off : (f g : SlotId → ℕ) (test : SlotId → Bool) (ss : List SlotId) (xs ys : List ℕ) → map f (filter test ss) ++ xs ≡ map g (filter test ss) ++ ys
     → Each (λ s. test s ≡ true → f s ≡ g s) ss × (xs ≡ ys)
 many_off f g test [] xs ys e = (tt, e)
 many_off f g test (s ∷ ss) xs ys e = at (test s) e (many_off f g test ss)

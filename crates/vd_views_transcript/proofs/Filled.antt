@@ -40,7 +40,7 @@ same_word [] n i = zero_word n i
 same_word (w ∷ words) n zero = refl
 same_word (w ∷ words) n (suc i) = same_word words n i
 
-pub item_is : (words : List ℕ) (i : ℕ) → or_zeros Inputs (item_or_none word_item (slice_get words i)) ≡ slice_index words i ∷ []
+item_is : (words : List ℕ) (i : ℕ) → or_zeros Inputs (item_or_none word_item (slice_get words i)) ≡ slice_index words i ∷ []
 item_is [] i = refl
 item_is (w ∷ words) zero = refl
 item_is (w ∷ words) (suc i) = item_is words i
@@ -54,7 +54,7 @@ module _ (inputs : List (List ℕ)) (needs : List HostNeeds) where
   pub filled_count : length (filled inputs needs) ≡ length inputs
   filled_count = length-map-range_with_len (filled_at inputs needs) 0 (length inputs)
 
-  pub filled_is : (h : ℕ) → h < length inputs → inputs_of (filled inputs needs) h ≡ filled_at inputs needs h
+  filled_is : (h : ℕ) → h < length inputs → inputs_of (filled inputs needs) h ≡ filled_at inputs needs h
   filled_is h low =
       let there : slice_get (filled inputs needs) h ≡ Some (filled_at inputs needs h) =
       slice_get-get_or (filled inputs needs) h (filled_at inputs needs h) (let n = filled_count in omega (arith, low, n))

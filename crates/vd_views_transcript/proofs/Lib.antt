@@ -1,2 +1,2 @@
-pub mod Filled
-pub mod Link
+mod Filled
+mod Link

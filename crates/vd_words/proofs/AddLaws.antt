@@ -24,7 +24,7 @@ use Rattle.vd_backend_sharing.proofs.PairActs.{applied_acts, numbered_acts, prod
 use Rattle.vd_words.specs.AddCalls.{add_serves, add_apply, add_calls}
 
 -- dealt triples multiply
-pub triples_multiply : ItemsMultiply BySums
+triples_multiply : ItemsMultiply BySums
 triples_multiply x0 x1 y0 y1 a0 a1 b0 b1 c0 c1 p q r s u v item =
     word_product (record { x = x0; y = y0; item = record { a = a0; b = b0; c = c0 } }) (record { x = x1; y = y1; item = record { a = a1; b = b1; c = c1 } }) (p, r, u) (q, s, v) item
 

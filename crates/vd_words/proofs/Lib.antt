@@ -1,2 +1,2 @@
 pub mod AddLaws
-pub mod Numbers
+mod Numbers

@@ -36,7 +36,7 @@ drop_whole (x ∷ xs) zero e = absurd (omega (arith, e))
 drop_whole (x ∷ xs) (suc n) e = drop_whole xs n (omega (arith, e))
 
 -- one more packet
-pub cut_more : (start : ℕ) (ends words xs : List ℕ) (end : ℕ) → Rises start ends (length words) → end ≡ length words + length xs
+cut_more : (start : ℕ) (ends words xs : List ℕ) (end : ℕ) → Rises start ends (length words) → end ≡ length words + length xs
     → cut start (ends ++ end ∷ []) (words ++ xs) ≡ cut start ends words ++ xs ∷ []
 cut_more start [] words xs end r e =
     ap (λ l. take (end - start) l ∷ []) (drop_within start words xs (omega (arith, r)) ∙ ap (λ l. l ++ xs) (drop_whole words start r))
@@ -49,7 +49,7 @@ cut_more start (x ∷ ends) words xs end r e =
     (ap (take (x - start)) (drop_within start words xs (omega (arith, a, b))) ∙ take_within (x - start) (drop start words) xs (omega (arith, a, b, d)))
     (cut_more x ends words xs end r.1 e)
 
-pub rises_more : (start : ℕ) (ends : List ℕ) (all end : ℕ) → Rises start ends all → all ≤ end → Rises start (ends ++ end ∷ []) end
+rises_more : (start : ℕ) (ends : List ℕ) (all end : ℕ) → Rises start ends all → all ≤ end → Rises start (ends ++ end ∷ []) end
 rises_more start [] all end r h = (omega (arith, r, h), refl)
 rises_more start (x ∷ ends) all end r h = (r.0, rises_more x ends all end r.1 h)
 

@@ -1,9 +1,9 @@
-pub mod Cuts
-pub mod Packets
-pub mod Counting
-pub mod Noting
-pub mod Hearing
-pub mod Worlds
-pub mod Rounds
+mod Cuts
+mod Packets
+mod Counting
+mod Noting
+mod Hearing
+mod Worlds
+mod Rounds
 pub mod Starting
-pub mod Quieter
+mod Quieter

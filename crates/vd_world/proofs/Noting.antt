@@ -98,7 +98,7 @@ unheard l s w e = unheard_code l s.cursors s.registers s.pending w e
 
 -- ---- what was said
 
-pub seen_said : (d : Deed) (p : ℕ) (xs : List ℕ) → Said p xs ≡ seen d → d ≡ Said p xs
+seen_said : (d : Deed) (p : ℕ) (xs : List ℕ) → Said p xs ≡ seen d → d ≡ Said p xs
 seen_said Quiet p xs e = absurd cc
 seen_said (Said q ys) p xs e = sym e
 seen_said (Heard q) p xs e = absurd cc

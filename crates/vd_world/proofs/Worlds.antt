@@ -9,12 +9,12 @@ use Rattle.vd_execution.proofs.Puts.{put_same, put_other, same_or_not}
 use Rattle.vd_machine.specs.Machines.{items_of}
 use Rattle.vd_world.specs.Hosts.{HostKept, local_of, local_or_nobody, world_of, supply_of, lists_of, gets, given_words, gone_on}
 
-pub get_set_same : {X : Type 0} (w : List X) (h : ℕ) (l k : X) → slice_get w h ≡ Some l → slice_get (slice_set w h k) h ≡ Some k
+get_set_same : {X : Type 0} (w : List X) (h : ℕ) (l k : X) → slice_get w h ≡ Some l → slice_get (slice_set w h k) h ≡ Some k
 get_set_same [] h l k e = cc
 get_set_same (x ∷ w) zero l k e = refl
 get_set_same (x ∷ w) (suc h) l k e = get_set_same w h l k e
 
-pub get_set_other : {X : Type 0} (w : List X) (g h : ℕ) (k : X) → g ≢ h → slice_get (slice_set w h k) g ≡ slice_get w g
+get_set_other : {X : Type 0} (w : List X) (g h : ℕ) (k : X) → g ≢ h → slice_get (slice_set w h k) g ≡ slice_get w g
 get_set_other [] g h k ne = refl
 get_set_other (x ∷ w) zero zero k ne = absurd (ne refl)
 get_set_other (x ∷ w) zero (suc h) k ne = refl
@@ -46,7 +46,7 @@ supply_stays hosts h k new there e = fun_ext (stays_at hosts h k new there e)
 pub absent : (hosts : List HostKept) (h : ℕ) → slice_get hosts h ≡ None → step (supply_of hosts) h (world_of hosts) ≡ None
 absent hosts h there = ap (with_host (supply_of hosts) (world_of hosts) h) (ap local_or_nobody there)
 
-pub can : (hosts : List HostKept) (h : ℕ) (k : HostKept) (xs : List ℕ) (new : HostKept) → slice_get hosts h ≡ Some k → gets hosts h k ≡ Some xs → local_of new ≡ moved_on (local_of k) xs
+can : (hosts : List HostKept) (h : ℕ) (k : HostKept) (xs : List ℕ) (new : HostKept) → slice_get hosts h ≡ Some k → gets hosts h k ≡ Some xs → local_of new ≡ moved_on (local_of k) xs
     → step (supply_of hosts) h (world_of hosts) ≡ Some (world_of (slice_set hosts h new))
 can hosts h k xs new there e is =
     ap (with_host (supply_of hosts) (world_of hosts) h) (ap local_or_nobody there) ∙ ap (with_answer (world_of hosts) h (local_of k)) e

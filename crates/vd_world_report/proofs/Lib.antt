@@ -1,6 +1,6 @@
-pub mod Shared
+mod Shared
 pub mod Supplies
-pub mod Loaded
-pub mod Runs
+mod Loaded
+mod Runs
 pub mod Told
-pub mod Lists
+mod Lists

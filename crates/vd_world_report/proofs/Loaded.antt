@@ -64,7 +64,7 @@ module _ (codes : List (List Instr)) (inputs : List (List ℕ)) (deals : List De
       ap (λ (x : Deal). x.hosts) at.loads.dealt ∙ (are.are_deals.each k at.deal at.deal_is).2 ∙ sym count
 
   -- each before the code of its host
-  pub are_loaded : (j : Joint) → AreCodesOf codes j → AreLoaded machines j
+  are_loaded : (j : Joint) → AreCodesOf codes j → AreLoaded machines j
   are_loaded j of_joint = record {
     codes = λ h m is. let at = loads_at codes inputs deals machines all h m is in at.loads.pending _ (of_joint.each h at.code at.code_is);
     past = λ h le. let n = as_many codes inputs deals machines all in of_joint.all h (omega (arith, n, le));
@@ -120,7 +120,7 @@ one_more_loaded (y ∷ xs) (k ∷ machines) x m all one = (all.0, one_more_loade
 one_more_loaded [] (k ∷ machines) x m all one = absurd all
 one_more_loaded (y ∷ xs) [] x m all one = absurd all
 
-pub each_loads : (codes : List (List Instr)) (inputs : List (List ℕ)) (deals : List Deal) (machines : List Kept) → length inputs ≡ length codes → length deals ≡ length codes
+each_loads : (codes : List (List Instr)) (inputs : List (List ℕ)) (deals : List Deal) (machines : List Kept) → length inputs ≡ length codes → length deals ≡ length codes
     → AllLoaded (zip codes (zip inputs deals)) machines → EachLoads codes inputs deals machines
 each_loads [] [] [] [] e f all = tt
 each_loads [] [] [] (m ∷ machines) e f all = absurd all
@@ -140,13 +140,13 @@ zipped (code ∷ codes) (words ∷ inputs) [] i d lt = absurd (omega (arith, lt)
 zipped (code ∷ codes) (words ∷ inputs) (deal ∷ deals) zero d lt = (refl, refl)
 zipped (code ∷ codes) (words ∷ inputs) (deal ∷ deals) (suc i) d lt = zipped codes inputs deals i d (omega (arith, lt))
 
-pub can_load : (codes : List (List Instr)) (inputs : List (List ℕ)) (deals : List Deal) (i : ℕ) (x : Load) → AreForAll codes inputs deals → i < length (zip codes (zip inputs deals)) → x ≡ get_or (zip codes (zip inputs deals)) i x
+can_load : (codes : List (List Instr)) (inputs : List (List ℕ)) (deals : List Deal) (i : ℕ) (x : Load) → AreForAll codes inputs deals → i < length (zip codes (zip inputs deals)) → x ≡ get_or (zip codes (zip inputs deals)) i x
     → (slice_get codes i ≡ Some x.0) × (slice_get deals i ≡ Some x.1.1)
 can_load codes inputs deals i x are lt is =
     let at = zipped codes inputs deals i x lt in
     (at.0 ∙ ap (λ (y : Load). Some y.0) (sym is), at.1 ∙ ap (λ (y : Load). Some y.1.1) (sym is))
 
-pub has_range : (codes : List (List Instr)) (inputs : List (List ℕ)) (deals : List Deal) (i : ℕ) (code : List Instr) (deal : Deal) → AreForAll codes inputs deals → slice_get codes i ≡ Some code → slice_get deals i ≡ Some deal → CanLoad code deal
+has_range : (codes : List (List Instr)) (inputs : List (List ℕ)) (deals : List Deal) (i : ℕ) (code : List Instr) (deal : Deal) → AreForAll codes inputs deals → slice_get codes i ≡ Some code → slice_get deals i ≡ Some deal → CanLoad code deal
 has_range codes inputs deals i code deal are e f =
     let of_joint = are.are_codes.1 in
     let hosts : length codes ≡ deal.hosts = sym are.all_deals ∙ sym (are.are_deals.each i deal f).2 in

@@ -112,7 +112,7 @@ module _ (n : ℕ) (outputs : List (List ℕ)) (s : Supply) (j : Joint) (runs : 
       ap (λ (b : Bool). if b then then_all s n (run s entries (started j)) else run s entries (started j)) all in
       subst (λ (w : World). HaveEnded s n w) (sym (rounds ∙ rounds_end entries enough)) (have_ended s n (at_end (last_of s j)) (λ h. refl))
 
-  pub tells_under : (schedule : Schedule) → TellsUnder n outputs s j schedule
+  tells_under : (schedule : Schedule) → TellsUnder n outputs s j schedule
   tells_under schedule = record { told = told schedule; ends = ends schedule }
 
 -- ---- programs and sources
