@@ -28,7 +28,7 @@ use Rattle.vd_cost_network.proofs.Terms.{IsSettled, PointHas, LinkHas}
 
 -- ---- values
 
-plus_nothing : (o : Option ℤ) → option_map (λ v. v +ℤ pos 0) o ≡ o
+pub plus_nothing : (o : Option ℤ) → option_map (λ v. v +ℤ pos 0) o ≡ o
 plus_nothing None = refl
 plus_nothing (Some v) = ap Some (omega (arith, ints))
 
@@ -41,7 +41,7 @@ parts_some None is = absurd (true≢false (sym is))
 parts_some (Some c) is = refl
 
 -- what a switch stands at in a whole list
-abbrev setting_if : Bool → ℕ
+abbrev pub setting_if : Bool → ℕ
 setting_if takes = if takes then on else off
 
 two_settings : (takes : Bool) → IsTrue (nat_lt (setting_if takes) 2)
@@ -57,15 +57,15 @@ whole_state true all is = refl
 whole_state false true is = refl
 whole_state false false is = absurd (true≢false (sym is))
 
-switch_test : (takes may told : Bool) → IsTrue (not takes || told) → (IsTrue told → IsTrue may) → IsTrue (setting_if takes == off || may)
+pub switch_test : (takes may told : Bool) → IsTrue (not takes || told) → (IsTrue told → IsTrue may) → IsTrue (setting_if takes == off || may)
 switch_test true may told is leads = leads is
 switch_test false may told is leads = refl
 
-guard_value : (takes : Bool) (o : Option ℤ) (c : ℤ) → (IsTrue takes → o ≡ Some c) → (if setting_if takes == off then Some (pos 0) else o) ≡ Some (if takes then c else pos 0)
+pub guard_value : (takes : Bool) (o : Option ℤ) (c : ℤ) → (IsTrue takes → o ≡ Some c) → (if setting_if takes == off then Some (pos 0) else o) ≡ Some (if takes then c else pos 0)
 guard_value true o c is = is refl
 guard_value false o c is = refl
 
-member_value : (takes holds : Bool) → (IsTrue holds → IsTrue takes) → (if setting_if takes == off && holds then None else Some (pos 0)) ≡ Some (pos 0)
+pub member_value : (takes holds : Bool) → (IsTrue holds → IsTrue takes) → (if setting_if takes == off && holds then None else Some (pos 0)) ≡ Some (pos 0)
 member_value true holds leads = refl
 member_value false true leads = absurd (true≢false (sym (leads refl)))
 member_value false false leads = refl
@@ -85,7 +85,7 @@ pub record IsSwitch (problem : Problem) (list : List ℕ) (w : Switch) : Type 0 
 module _ (problem : Problem) (is : IsProblem problem) (list : List ℕ) (full : length list ≡ length problem.slots) (valid : IsTrue (is_valid problem list)) where
   -- ---- settled points
 
-  slot_settled : (slot p : ℕ) → IsAt problem list slot p → IsSettled problem list slot p
+  pub slot_settled : (slot p : ℕ) → IsAt problem list slot p → IsSettled problem list slot p
   slot_settled slot p at =
       let low = candidate_inside problem slot p at.candidate in
       let listed = is_listed problem list slot p at in
@@ -95,7 +95,7 @@ module _ (problem : Problem) (is : IsProblem problem) (list : List ℕ) (full : 
         within = omega (arith, listed);
       }
 
-  brought_in : (h : HostId) (slot : SlotId) → IsTrue (may_bring problem h slot) → slot.0 < length problem.slots
+  pub brought_in : (h : HostId) (slot : SlotId) → IsTrue (may_bring problem h slot) → slot.0 < length problem.slots
   brought_in h slot may =
       let found = any_held (λ p. is_candidate problem slot.0 p && holds_at problem h p) (range_with_len 0 (length (protocols problem))) may in
       candidate_inside problem slot.0 found.0 (and_parts (is_candidate problem slot.0 found.0) (holds_at problem h found.0) found.1).0
@@ -105,10 +105,10 @@ module _ (problem : Problem) (is : IsProblem problem) (list : List ℕ) (full : 
       all_filtered (may_bring problem w.host) (λ (slot : SlotId). is_some (slice_get list slot.0))
       (λ slot may. let low = brought_in w.host slot may in ap is_some (item_within list slot.0 (omega (arith, full, low))).1) w.guard.slots
 
-  abbrev setting_of : Switch → ℕ
+  abbrev pub setting_of : Switch → ℕ
   setting_of w = setting_if (takes_part problem list w.guard w.host)
 
-  switch_settled : (k : ℕ) (w : Switch) → slice_get (switches problem) k ≡ Some w → IsSettled problem list (length problem.slots + k) (setting_of w)
+  pub switch_settled : (k : ℕ) (w : Switch) → slice_get (switches problem) k ≡ Some w → IsSettled problem list (length problem.slots + k) (setting_of w)
   switch_settled k w at =
       let takes = takes_part problem list w.guard w.host in
       record {
@@ -133,7 +133,7 @@ module _ (problem : Problem) (is : IsProblem problem) (list : List ℕ) (full : 
 
   -- ---- terms of points
 
-  readable : (slot p : ℕ) → slice_get list slot ≡ Some p → (index : Index) → IsTrue (index_told problem list index) → IsTrue (index_readable problem slot p index)
+  pub readable : (slot p : ℕ) → slice_get list slot ≡ Some p → (index : Index) → IsTrue (index_told problem list index) → IsTrue (index_readable problem slot p index)
   readable slot p at index told = elim (cases_Bool (index.array.0 == slot)) [
     | inl mine ↦
         let here : slice_get list index.array.0 ≡ Some p = ap (slice_get list) (eqb-true index.array.0 slot mine) ∙ at in
@@ -202,7 +202,7 @@ module _ (problem : Problem) (is : IsProblem problem) (list : List ℕ) (full : 
   abbrev pub told_parts : Switch → ℕ → Option ℤ
   told_parts w p = parts (weigh w.guard.weight (move_to_host problem w.host p))
 
-  reached : (w : Switch) → IsSwitch problem list w → (p : ℕ) → slice_get list w.guard.slot.0 ≡ Some p → IsTrue (takes_part problem list w.guard w.host) → told_parts w p ≡ Some (unwrap_or (told_parts w p) (pos 0))
+  pub reached : (w : Switch) → IsSwitch problem list w → (p : ℕ) → slice_get list w.guard.slot.0 ≡ Some p → IsTrue (takes_part problem list w.guard w.host) → told_parts w p ≡ Some (unwrap_or (told_parts w p) (pos 0))
   reached w known p at takes =
       let told = unless_at (takes_part problem list w.guard w.host) (is_told problem list w.host w.guard.slot) known.told takes in
       let moved = and_parts (may_read problem w.host w.guard.slot.0) (option_map_or (λ q. is_some (move_to_host problem w.host q)) (slice_get list w.guard.slot.0) true) told in
