@@ -3,4 +3,4 @@ mod Fresh
 mod Pieces
 mod Places
 mod Receiving
-mod Waiting
+mod Given

@@ -106,7 +106,7 @@ impl SureNet {
 }
 
 /// Takes the first link that waits at an address, and where none does this one.
-#[tactic(auto, using(crate::proofs::Waiting::otherwise_given))]
+#[tactic(auto, using(crate::proofs::Given::otherwise_given))]
 fn take_or(waiting: &mut Items<(Text, SureLink)>, address: &str, otherwise: SureLink) -> SureLink
     ensures link { link_at address.now waiting.old (Some otherwise) ≡ Some result }
     ensures rest { waiting.new ≡ without_link_at address.now waiting.old }

@@ -1,5 +1,5 @@
 use Rattle.std.proofs.Common.{Some, sym, ◌∙◌}
-use Rattle.vd_fakes.proofs.Waiting.{first_given}
+use Rattle.vd_fakes.proofs.Given.{first_given}
 use Rattle.vd_fakes.proofs.sure_net.take_or.Goals as goal
 
 pub returns-in-Some-clause-link : goal.returns-in-Some-clause-link

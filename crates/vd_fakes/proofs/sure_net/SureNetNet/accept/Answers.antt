@@ -1,5 +1,5 @@
 use Rattle.std.proofs.Common.{◌≡◌, Some, slice_get, rules, refl, sym, ap, ◌∙◌}
-use Rattle.vd_fakes.proofs.Waiting.{gives_link}
+use Rattle.vd_fakes.proofs.Given.{gives_link}
 use Rattle.vd_fakes.proofs.sure_net.SureNetNet.accept.Goals as goal
 
 pub returns-clause-accepts : goal.returns-clause-accepts

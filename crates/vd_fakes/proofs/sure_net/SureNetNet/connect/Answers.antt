@@ -1,5 +1,5 @@
 use Rattle.std.proofs.Common.{rules, refl}
-use Rattle.vd_fakes.proofs.Waiting.{gives_link}
+use Rattle.vd_fakes.proofs.Given.{gives_link}
 use Rattle.vd_fakes.proofs.sure_net.SureNetNet.connect.Goals as goal
 
 pub returns : goal.returns
