@@ -129,7 +129,7 @@ module _ (p : NormalForm) (l : Labels) (h : HostId) (test : ℕ → ℕ → Bool
     kept_from : (x y : SlotId) → is_below slots x ≡ true → ActsFor (label_at l (Slot x)).conf (label_at l (Slot y)).conf → V y.0 ≡ true → (reads x.0 && V x.0) ≡ true → (reads y.0 && V y.0) ≡ true
     kept_from x y low rule seen is = and_of (reads y.0) (V y.0) (slot_through x (Slot y) low rule (and_parts (reads x.0) (V x.0) is).0) seen
 
-    record Shown (sight : Sight) : Type 0 where
+    pub record Shown (sight : Sight) : Type 0 where
       pub bindings : list_all V sight.bindings ≡ true
       pub variables : list_all V sight.variables ≡ true
       pub arrays : list_all V sight.arrays ≡ true
@@ -137,7 +137,7 @@ module _ (p : NormalForm) (l : Labels) (h : HostId) (test : ℕ → ℕ → Bool
     abbrev hidden_all : List ℕ → Bool
     hidden_all = list_all (λ x. not (V x))
 
-    record Lawful (pc : Place) (c : Constraints) (see : Seeing) (m : Makes) (f : Flow) : Type 0 where
+    pub record Lawful (pc : Place) (c : Constraints) (see : Seeing) (m : Makes) (f : Flow) : Type 0 where
       pub before : Meets c
       pub flows : (sight : Sight) → Shown sight → (see sight).all ≡ true → list_all V m.visible ≡ true → hidden_all m.hidden ≡ true → (f.flows ≡ true) × Shown (see sight).after
       pub hides : reads_at pc ≡ false → hidden_all m.visible ≡ true → hidden_all m.hidden ≡ true → f.hides ≡ true
