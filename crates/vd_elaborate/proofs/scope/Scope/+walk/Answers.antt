@@ -60,7 +60,7 @@ turn-returns-clause-names t c =
     let hosts = host_names c.args.self.now.hosts.now in
     let start : Place = record { names = c.add_name.new.names.items; made = c.add.new.self } in
     block_left hosts c.args.body.now (inlinings_of hosts c.args.self.now.functions.now) c.args.here.block start c.sequence.new.made c.args.names.now.items c.sequence.new.names.items c.truncate.new.self.items c.len-count.result
-    (search (rules, c.len-count.ensures)) c.truncate.ensures.items c.in_ok-sequence.ensures ((c.args.name.now.name, Binding c.in_ok-turn.turn) ∷ []) c.in_ok-add_name.ensures
+    (search (rules, c.len-count.ensures)) c.truncate.ensures.items c.in_ok-sequence.ensures ((c.as_slice.result.now, Binding c.in_ok-turn.turn) ∷ []) c.in_ok-add_name.ensures
 
 pub lower-lower-requires-in-Min : goal.lower-lower-requires-in-Min
 lower-lower-requires-in-Min t c =
