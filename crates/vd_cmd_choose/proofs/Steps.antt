@@ -44,7 +44,7 @@ module _ (source : Source) (budget : ℕ) (rest : Chosen → Contents → Plan) 
   Runs result = SomeSearch (λ choices search. (least : LabelOutcomes) (files : FilesView) → Executes true (run_choice_then least choices search budget source rest) files files result)
 
   pub run_then : (choice : Choice) (result : Result Answer Status) → ChoosesRun source budget (Ok choice) → ((files : FilesView) → Executes true (rest (chosen_of choice)) files files result) → Runs result
-  run_then choice result chooses then = (chooses.0, λ certificates choices least files. chooses.1 certificates choices least files rest files result (then files))
+  run_then choice result chooses runs = (chooses.0, λ certificates choices least files. chooses.1 certificates choices least files rest files result (runs files))
 
   pub run_refused : (status : Status) → ChoosesRun source budget (Err status) → Runs (Err status)
   run_refused status chooses = (chooses.0, λ certificates choices least files. chooses.1 certificates choices least files rest)
@@ -52,21 +52,21 @@ module _ (source : Source) (budget : ℕ) (rest : Chosen → Contents → Plan) 
 -- with its assignment, if there is one
 pub run_with : (source : Source) (budget : ℕ) (rest : NormalForm → Option Assignment → Contents → Plan) (choice : Choice) (o : Option Assignment) (result : Result Answer Status) → ChoosesRun source budget (Ok choice)
     → choice.assignment ≡ o → ((files : FilesView) → Executes true (rest choice.program o) files files result) → Runs source budget (λ c. rest c.program c.assignment) result
-run_with source budget rest choice o result chooses is then =
-    run_then source budget (λ c. rest c.program c.assignment) choice result chooses (λ files. subst (λ (a : Option Assignment). Executes true (rest choice.program a) files files result) (sym is) (then files))
+run_with source budget rest choice o result chooses is runs =
+    run_then source budget (λ c. rest c.program c.assignment) choice result chooses (λ files. subst (λ (a : Option Assignment). Executes true (rest choice.program a) files files result) (sym is) (runs files))
 
 -- and with its labels
 pub run_drawn : (source : Source) (budget : ℕ) (rest : NormalForm → Labels → Option Assignment → Contents → Plan) (choice : Choice) (o : Option Assignment) (result : Result Answer Status) → ChoosesRun source budget (Ok choice)
     → choice.assignment ≡ o → ((files : FilesView) → Executes true (rest choice.program choice.labels o) files files result) → Runs source budget (λ c. rest c.program c.labels c.assignment) result
-run_drawn source budget rest choice o result chooses is then =
-    run_then source budget (λ c. rest c.program c.labels c.assignment) choice result chooses (λ files. subst (λ (a : Option Assignment). Executes true (rest choice.program choice.labels a) files files result) (sym is) (then files))
+run_drawn source budget rest choice o result chooses is runs =
+    run_then source budget (λ c. rest c.program c.labels c.assignment) choice result chooses (λ files. subst (λ (a : Option Assignment). Executes true (rest choice.program choice.labels a) files files result) (sym is) (runs files))
 
 module _ (program : NormalForm) (budget : ℕ) (rest : Chosen → Contents → Plan) where
   abbrev pub RunsFor : Result Answer Status → Type 0
   RunsFor result = SomeSearch (λ choices search. (least : LabelOutcomes) (files : FilesView) → Executes true (choice_then least choices search budget program rest) files files result)
 
   choice_with : (choice : Choice) (result : Result Answer Status) → Chooses program budget (Ok choice) → ((files : FilesView) → Executes true (rest (chosen_of choice)) files files result) → RunsFor result
-  choice_with choice result chooses then = (chooses.0, λ certificates choices least files. chooses.1 certificates choices least files rest files result (then files))
+  choice_with choice result chooses runs = (chooses.0, λ certificates choices least files. chooses.1 certificates choices least files rest files result (runs files))
 
   pub choice_refused : (status : Status) → Chooses program budget (Err status) → RunsFor (Err status)
   choice_refused status chooses = (chooses.0, λ certificates choices least files. chooses.1 certificates choices least files rest)
@@ -74,8 +74,8 @@ module _ (program : NormalForm) (budget : ℕ) (rest : Chosen → Contents → P
 -- with its assignment, if there is one
 pub choice_which : (program : NormalForm) (budget : ℕ) (rest : NormalForm → Option Assignment → Contents → Plan) (choice : Choice) (o : Option Assignment) (result : Result Answer Status) → Chooses program budget (Ok choice)
     → choice.assignment ≡ o → ((files : FilesView) → Executes true (rest choice.program o) files files result) → RunsFor program budget (λ c. rest c.program c.assignment) result
-choice_which program budget rest choice o result chooses is then =
-    choice_with program budget (λ c. rest c.program c.assignment) choice result chooses (λ files. subst (λ (a : Option Assignment). Executes true (rest choice.program a) files files result) (sym is) (then files))
+choice_which program budget rest choice o result chooses is runs =
+    choice_with program budget (λ c. rest c.program c.assignment) choice result chooses (λ files. subst (λ (a : Option Assignment). Executes true (rest choice.program a) files files result) (sym is) (runs files))
 
 -- ---- a search that gives up wherever it may, beside any other
 
