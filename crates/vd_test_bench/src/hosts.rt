@@ -15,7 +15,7 @@ use vd_world::World;
 
 /// What a run made.
 #[derive(Clone, Copy)]
-struct Run {
+pub(crate) struct Run {
     /// How many steps the hosts took together.
     pub steps: u64,
     /// The word that was printed.
