@@ -41,6 +41,3 @@ returns-in-Err-Spent-clause-searches c =
     let spaced = c.in_ok-space.ensures {u = tt} in
     spent c.args.program c.args.labels c.args.budget (subst IsProblem spaced c.problem.ensures.holds)
     (subst (λ (p : Problem). IsOver p (usual p) c.args.budget) (c.problem.ensures.same ∙ spaced) (c.in-Err-Spent.ensures.spent (rw c.in-Err-Spent.field-0-is refl)))
-
-pub returns-in-Err-Memory-clause-searches : goal.returns-in-Err-Memory-clause-searches
-returns-in-Err-Memory-clause-searches c = no_memory c.args.program c.args.labels c.args.budget
