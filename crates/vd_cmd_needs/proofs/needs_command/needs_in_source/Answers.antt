@@ -30,10 +30,10 @@ pub returns-in-Some-clause-tells : goal.returns-in-Some-clause-tells
 returns-in-Some-clause-tells c =
     told_then c.args.words.now c.args.source.now c.in_ok-choice.choice.program c.needs_at.result (c.in_ok-choice.ensures {u = tt}).found.is_run c.needs_at.ensures.tells
 
-pub returns-in-None-clause-executes : goal.returns-in-None-clause-executes
-returns-in-None-clause-executes c =
+pub returns-clause-executes : goal.returns-clause-executes
+returns-clause-executes c =
     run_with c.args.source.now c.args.words.now.budget (choice_plan c.args.words.now.each) c.in_ok-choice.choice None _ (c.in_ok-choice.ensures {u = tt}).chooses c.in-None.is
     (λ files. answers no_list files _ (none_computes c.no_assignment.result c.no_assignment.ensures))
 
-pub returns-in-None-clause-tells : goal.returns-in-None-clause-tells
-returns-in-None-clause-tells c = none_told c.args.words.now c.args.source.now c.no_assignment.result c.no_assignment.ensures
+pub returns-clause-tells : goal.returns-clause-tells
+returns-clause-tells c = none_told c.args.words.now c.args.source.now c.no_assignment.result c.no_assignment.ensures
