@@ -18,7 +18,7 @@ returns-in-Some c =
     run_drawn c.args.source.now c.args.budget (choice_plan c.args.name.now c.args.text.now) choice (Some c.in-Some.assignment) c.draw_at.result (c.in_ok-choice.ensures {u = tt}).chooses c.in-Some.is
     (λ files. answers (drawn_answer c.args.name.now c.args.text.now choice.program choice.labels c.in-Some.assignment) files c.draw_at.result c.draw_at.ensures)
 
-pub returns-in-None : goal.returns-in-None
-returns-in-None c =
+pub returns : goal.returns
+returns c =
     run_drawn c.args.source.now c.args.budget (choice_plan c.args.name.now c.args.text.now) c.in_ok-choice.choice None _ (c.in_ok-choice.ensures {u = tt}).chooses c.in-None.is
     (λ files. answers no_drawing files _ (none_computes c.no_assignment.result c.no_assignment.ensures))
