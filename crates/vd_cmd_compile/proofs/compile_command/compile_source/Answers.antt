@@ -30,10 +30,10 @@ returns-in-Some-clause-tells c =
     let found = (c.in_ok-choice.ensures {u = tt}).found in
     run_told c.args.source.now c.in_ok-choice.choice.program c.args.text.now c.args.prefix.now c.compile_at.result found.is_run found.tells c.compile_at.ensures.tells
 
-pub returns-in-None-clause-executes : goal.returns-in-None-clause-executes
-returns-in-None-clause-executes c =
+pub returns-clause-executes : goal.returns-clause-executes
+returns-clause-executes c =
     run_with c.args.source.now c.args.budget (choice_plan c.args.text.now c.args.prefix.now) c.in_ok-choice.choice None _ (c.in_ok-choice.ensures {u = tt}).chooses c.in-None.is
     (λ files. answers no_list files _ (none_computes c.no_assignment.result c.no_assignment.ensures))
 
-pub returns-in-None-clause-tells : goal.returns-in-None-clause-tells
-returns-in-None-clause-tells c = none_told c.args.source.now c.args.text.now c.args.prefix.now c.no_assignment.result c.no_assignment.ensures
+pub returns-clause-tells : goal.returns-clause-tells
+returns-clause-tells c = none_told c.args.source.now c.args.text.now c.args.prefix.now c.no_assignment.result c.no_assignment.ensures
