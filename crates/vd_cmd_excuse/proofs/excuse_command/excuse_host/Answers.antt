@@ -40,10 +40,10 @@ returns-in-Some-clause-tells c =
     let tells_at = rw c.as_str.ensures at c.excuse_choice.ensures.tells in
     subst (λ (p : NormalForm). TellsAt c.args.host p c.args.words.now.out c.args.runs c.excuse_choice.result) (c.in_ok-choice.ensures {u = tt}).found.same tells_at
 
-pub returns-clause-executes : goal.returns-clause-executes
-returns-clause-executes c =
+pub returns-in-None-clause-executes : goal.returns-in-None-clause-executes
+returns-in-None-clause-executes c =
     with_choice c.args.words.now c.args.program c.args.host c.args.runs c.in_ok-choice.choice None _ (c.in_ok-choice.ensures {u = tt}).chooses c.in-None.is
     (λ outcomes files. answers no_list files _ (none_computes c.no_assignment.result c.no_assignment.ensures))
 
-pub returns-clause-tells : goal.returns-clause-tells
-returns-clause-tells c = none_told c.args.host c.args.program c.args.words.now.out c.args.runs c.no_assignment.result c.no_assignment.ensures
+pub returns-in-None-clause-tells : goal.returns-in-None-clause-tells
+returns-in-None-clause-tells c = none_told c.args.host c.args.program c.args.words.now.out c.args.runs c.no_assignment.result c.no_assignment.ensures
