@@ -36,13 +36,13 @@ pub returns-in-Some-clause-counts : goal.returns-in-Some-clause-counts
 returns-in-Some-clause-counts c =
     subst (λ (p : NormalForm). CountsOf p c.args.asked c.replay_choice.new.packets c.replay_choice.result) (c.in_ok-choice.ensures {u = tt}).found.same c.replay_choice.ensures.counts
 
-pub returns-clause-executes : goal.returns-clause-executes
-returns-clause-executes c =
+pub returns-in-None-clause-executes : goal.returns-in-None-clause-executes
+returns-in-None-clause-executes c =
     with_choice c.args.program c.args.asked c.args.budget c.in_ok-choice.choice None _ (c.in_ok-choice.ensures {u = tt}).chooses c.in-None.is
     (λ outcomes files. answers no_list files _ (none_computes c.no_assignment.result c.no_assignment.ensures))
 
-pub returns-clause-tells : goal.returns-clause-tells
-returns-clause-tells c = none_told c.args.program c.args.asked c.no_assignment.result c.no_assignment.ensures
+pub returns-in-None-clause-tells : goal.returns-in-None-clause-tells
+returns-in-None-clause-tells c = none_told c.args.program c.args.asked c.no_assignment.result c.no_assignment.ensures
 
-pub returns-clause-counts : goal.returns-clause-counts
-returns-clause-counts c = none_counted c.args.program c.args.asked c.args.packets.now c.no_assignment.result c.no_assignment.ensures
+pub returns-in-None-clause-counts : goal.returns-in-None-clause-counts
+returns-in-None-clause-counts c = none_counted c.args.program c.args.asked c.args.packets.now c.no_assignment.result c.no_assignment.ensures
