@@ -3,6 +3,7 @@ use Rattle.std.proofs.Common.{◌≡◌, ℕ, zero, suc, ◌+◌, ◌<◌, List,
 use Rattle.std.specs.Prelude.{slice_get, slice_index_or}
 use Rattle.std.proofs.lemmas.List.{append_cancel_left, append_cancel_right, length-map}
 use Rattle.std.proofs.lemmas.List.FromFn.{length-map-range_with_len}
+use Rattle.vd_base.specs.declared.protocols.Proto.{Proto}
 use Rattle.vd_core.specs.declared.source.Host.{Host}
 use Rattle.vd_core.specs.declared.source.Source.{Source}
 use Rattle.vd_core.specs.declared.normal.NormalForm.{NormalForm}
@@ -86,7 +87,7 @@ by_place (x ∷ xs) (y ∷ ys) e same =
     let rest : xs ≡ ys = by_place xs ys (omega (arith, e)) (λ h lt. same (suc h) (omega (arith, lt))) in
     λ i. first i ∷ rest i
 
-module _ (source : Source) (program : NormalForm) (list : List ℕ) (plan : Digest) (inputs : List (List ℕ)) (deals : List Deal) (run : ℕ → Run) (same : program_outputs program inputs ≡ source_outputs source inputs)
+module _ (source : Source) (program : NormalForm) (list : List Proto) (plan : Digest) (inputs : List (List ℕ)) (deals : List Deal) (run : ℕ → Run) (same : program_outputs program inputs ≡ source_outputs source inputs)
     (are : AreRunOverLinks program list plan inputs deals run) where
   abbrev n : ℕ
   n = length program.hosts
@@ -121,7 +122,7 @@ reported_lines [] printed outputs same = refl
 reported_lines (name ∷ names) printed outputs same = ap (ended_lines (name ∷ names)) (same (omega arith))
 
 module _ (words : RunWords) (before now : Outside) (tell : AllTell before now) (source : Source) (held : HoldsSource words.source before.files.contents source)
-    (program : NormalForm) (is_run : IsRunProgram source program) (tells : TellsAs source program) (list : List ℕ) (plan : Digest)
+    (program : NormalForm) (is_run : IsRunProgram source program) (tells : TellsAs source program) (list : List Proto) (plan : Digest)
     (inputs : List (List ℕ)) (deals : List Deal) (run : ℕ → Run) (are : AreRunOverLinks program list plan inputs deals run) (runs : AreRuns run (length source.hosts) before.spawner) where
   hosts_count : length (host_names source.hosts) ≡ length source.hosts
   hosts_count = length-map source.hosts (λ (h : Host). h.name.name)

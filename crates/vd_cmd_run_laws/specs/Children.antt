@@ -1,5 +1,6 @@
 -- All hosts of a source as children of one machine, and what is reported of them.
 use Rattle.std.specs.Prelude.{◌≡◌, ◌++◌, ℕ, IsTrue, List, length, flat_map, codes, slice_get, Some, Ok}
+use Rattle.vd_base.specs.declared.protocols.Proto.{Proto}
 use Rattle.vd_core.specs.declared.source.Source.{Source}
 use Rattle.vd_semantics.specs.SourceMeaning.{host_names, source_outputs}
 use Rattle.vd_core.specs.declared.normal.NormalForm.{NormalForm}
@@ -45,6 +46,6 @@ abbrev pub ChildrenTellTheSource : Type 0
 ChildrenTellTheSource = (words : RunWords) (before now : Outside) → Runs words before now Ended → AllTell before now
     → (source : Source) → HoldsSource words.source before.files.contents source
     → (program : NormalForm) → IsRunProgram source program → TellsAs source program
-    → (list : List ℕ) (plan : Digest) (inputs : List (List ℕ)) (deals : List Deal) (run : ℕ → Run)
+    → (list : List Proto) (plan : Digest) (inputs : List (List ℕ)) (deals : List Deal) (run : ℕ → Run)
     → AreRunOverLinks program list plan inputs deals run → AreRuns run (length source.hosts) before.spawner
     → now.out.taken ≡ before.out.taken ++ ended_lines (host_names source.hosts) (source_outputs source inputs)
