@@ -28,6 +28,17 @@ computes_it : (answer : Answer) (stores : List Stored) (printed : List ℕ) → 
 computes_it answer stores printed is =
     subst (λ (a : Answer). Computes (ended stores printed) (Ok a)) (sym is) (record { proper = (tt, refl); no_fault = λ file e. cc e; settled = refl })
 
+-- ---- with protocols as they are read
+
+module _ (p : NormalForm) (h : HostId) (runs : Runs) (protocols seen : List Proto) (same : seen ≡ protocols) where
+  -- the deal that explains is the same
+  pub checks_at : (l : Labels) (result : Result (List Deal) Status) → Checks (excused_for p l seen h runs) result → Checks (excused_for p l protocols h runs) result
+  checks_at l result = subst (λ (ps : List Proto). Checks (excused_for p l ps h runs) result) same
+
+  -- and so is the answer
+  pub answer_at : (out : List ℕ) (stored shown : List Deal) (answer : Answer) → shown ≡ stored → answer ≡ excuse_answer p seen h runs out shown → answer ≡ excuse_answer p protocols h runs out stored
+  answer_at out stored shown answer given is = is ∙ (λ i. excuse_answer p (same i) h runs out (given i))
+
 module _ (p : NormalForm) (h : HostId) (runs : Runs) (out : List ℕ) (l : Labels) where
   -- ---- with protocols
 

@@ -2,6 +2,7 @@
 use Rattle.std.proofs.Common.{◌≡◌, ◌≢◌, ℕ, ◌-◌, ◌<◌, ◌≤◌, true, List, Option, Some, None, length, refl, sym, ap, subst, ◌∙◌, arith}
 use Rattle.std.specs.Prelude.{slice_get}
 use Rattle.vd_base.specs.declared.ids.HostId.{HostId}
+use Rattle.vd_base.specs.declared.protocols.Proto.{Proto}
 use Rattle.vd_core.specs.declared.normal.NormalForm.{NormalForm}
 use Rattle.vd_core.specs.Facts.{IsWellMade}
 use Rattle.vd_constraints.specs.declared.labels.Labels.{Labels}
@@ -67,8 +68,12 @@ are_asked runs read consistent = record {
 
 module _ (program : NormalForm) (a : Assignment) (made : IsWellMade program) (numbers : NumbersFit program) (selected : IsSelected program a) (hosts : length program.hosts ≡ 2)
     (free : (x : ℕ) → has_back_end (proto_in a.protocols x) ≡ true) where
-  pub of_two : (l : Labels) → IsAssignment (problem_of program l) a.protocols → IsOfTwo program l a.protocols
+  of_two : (l : Labels) → IsAssignment (problem_of program l) a.protocols → IsOfTwo program l a.protocols
   of_two l valid = record { chosen = record { made = made; numbers = numbers; assignment = valid }; hosts = hosts; free = free }
+
+  -- and with protocols as they are read
+  pub seen_two : (l : Labels) → IsAssignment (problem_of program l) a.protocols → (seen : List Proto) → seen ≡ a.protocols → IsOfTwo program l seen
+  seen_two l valid seen same = subst (λ (ps : List Proto). IsOfTwo program l ps) (sym same) (of_two l valid)
 
   -- under the labels that the protocols are chosen under
   pub chosen_two : IsOfTwo program selected.labels a.protocols

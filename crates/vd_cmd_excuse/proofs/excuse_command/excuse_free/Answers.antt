@@ -1,11 +1,11 @@
-use Rattle.std.proofs.Common.{List, subst, sym}
+use Rattle.std.proofs.Common.{List, Ok, Err, subst, sym}
 use Rattle.std.proofs.lemmas.Result.{err_from_is_err_and}
 use Rattle.vd_base.specs.declared.protocols.Proto.{Proto}
 use Rattle.vd_cmd_plan.proofs.InSteps.{any_memory}
 use Rattle.vd_cmd_compile.proofs.Runnable.{runnable_of}
 use Rattle.vd_views_transcript.specs.Talk.{IsPlayable}
-use Rattle.vd_cmd_excuse.proofs.Explained.{are_asked, chosen_two, of_two, playable, told}
-use Rattle.vd_cmd_excuse.proofs.Answered.{explained, not_excused}
+use Rattle.vd_cmd_excuse.proofs.Explained.{are_asked, chosen_two, playable, seen_two, told}
+use Rattle.vd_cmd_excuse.proofs.Answered.{answer_at, checks_at, explained, not_excused}
 use Rattle.vd_cmd_excuse.proofs.excuse_command.excuse_free.Goals as goal
 
 pub excused-requires-clause-runnable : goal.excused-requires-clause-runnable
@@ -28,9 +28,10 @@ answer-requires-clause-playable c =
 pub returns-in_err-stored-clause-executes : goal.returns-in_err-stored-clause-executes
 returns-in_err-stored-clause-executes c = λ l valid files.
     let p = err_from_is_err_and c.from_residual.result c.from_residual.ensures.1 in
-    let two = of_two c.args.program.now c.args.assignment.now c.numbers_fit.ensures.well_made c.numbers_fit.ensures.fit c.requires.selected c.requires.hosts c.requires.free l valid in
-    let checks_at = rw c.as_slice-protocols.ensures at (c.in_err-stored.ensures {u = tt}).checks in
-    rw (p.1, p.2) (not_excused c.args.program.now c.args.host c.args.runs c.args.out.now l c.args.assignment.now.protocols c.in_err-stored.field-0.0 (checks_at l two) files)
+    let same = c.as_slice-protocols.ensures in
+    let two = seen_two c.args.program.now c.args.assignment.now c.numbers_fit.ensures.well_made c.numbers_fit.ensures.fit c.requires.selected c.requires.hosts c.requires.free l valid c.as_slice-protocols.result.now same in
+    let checks = checks_at c.args.program.now c.args.host c.args.runs c.args.assignment.now.protocols c.as_slice-protocols.result.now same l (Err c.in_err-stored.field-0.0) ((c.in_err-stored.ensures {u = tt}).checks l two) in
+    rw (p.1, p.2) (not_excused c.args.program.now c.args.host c.args.runs c.args.out.now l c.args.assignment.now.protocols c.in_err-stored.field-0.0 checks files)
 
 pub returns-in_err-answer-clause-executes : goal.returns-in_err-answer-clause-executes
 returns-in_err-answer-clause-executes c = λ l valid files.
@@ -38,14 +39,16 @@ returns-in_err-answer-clause-executes c = λ l valid files.
 
 pub returns-clause-executes : goal.returns-clause-executes
 returns-clause-executes c = λ l valid.
-    let two = of_two c.args.program.now c.args.assignment.now c.numbers_fit.ensures.well_made c.numbers_fit.ensures.fit c.requires.selected c.requires.hosts c.requires.free l valid in
-    let checks_at = rw c.as_slice-protocols.ensures at (c.in_ok-stored.ensures {u = tt}).checks in
-    explained c.args.program.now c.args.host c.args.runs c.args.out.now l c.args.assignment.now.protocols c.in_ok-stored.stored c.in_ok-answer.answer (checks_at l two)
-    (rw (c.as_slice-protocols.ensures, c.as_slice.ensures) at (c.in_ok-answer.ensures {u = tt}))
+    let same = c.as_slice-protocols.ensures in
+    let two = seen_two c.args.program.now c.args.assignment.now c.numbers_fit.ensures.well_made c.numbers_fit.ensures.fit c.requires.selected c.requires.hosts c.requires.free l valid c.as_slice-protocols.result.now same in
+    let checks = checks_at c.args.program.now c.args.host c.args.runs c.args.assignment.now.protocols c.as_slice-protocols.result.now same l (Ok c.in_ok-stored.stored) ((c.in_ok-stored.ensures {u = tt}).checks l two) in
+    explained c.args.program.now c.args.host c.args.runs c.args.out.now l c.args.assignment.now.protocols c.in_ok-stored.stored c.in_ok-answer.answer checks
+    (answer_at c.args.program.now c.args.host c.args.runs c.args.assignment.now.protocols c.as_slice-protocols.result.now same c.args.out.now c.in_ok-stored.stored c.as_slice.result.now c.in_ok-answer.answer c.as_slice.ensures (c.in_ok-answer.ensures {u = tt}))
 
 pub returns-clause-tells : goal.returns-clause-tells
 returns-clause-tells c = λ name named e.
     let two = chosen_two c.args.program.now c.args.assignment.now c.numbers_fit.ensures.well_made c.numbers_fit.ensures.fit c.requires.selected c.requires.hosts c.requires.free in
     let excused_at = rw c.as_slice-protocols.ensures at (c.in_ok-stored.ensures {u = tt}).excused in
     told c.args.program.now c.args.assignment.now c.numbers_fit.ensures.well_made c.numbers_fit.ensures.fit c.requires.selected c.requires.hosts c.requires.free c.args.host c.requires.host c.args.runs c.requires.read c.requires.consistent
-    c.in_ok-stored.stored (excused_at c.requires.selected.labels two) c.args.out.now name named c.in_ok-answer.answer (rw (c.as_slice-protocols.ensures, c.as_slice.ensures) at (c.in_ok-answer.ensures {u = tt}))
+    c.in_ok-stored.stored (excused_at c.requires.selected.labels two) c.args.out.now name named c.in_ok-answer.answer
+    (answer_at c.args.program.now c.args.host c.args.runs c.args.assignment.now.protocols c.as_slice-protocols.result.now c.as_slice-protocols.ensures c.args.out.now c.in_ok-stored.stored c.as_slice.result.now c.in_ok-answer.answer c.as_slice.ensures (c.in_ok-answer.ensures {u = tt}))
