@@ -18,20 +18,21 @@ use Rattle.vd_parser.specs.Outcomes.{IsParse}
 use Rattle.vd_parser.specs.declared.fault.ParseFault.{ParseFault}
 use Rattle.vd_parser.specs.declared.fault.ParseFault.TheVariants as parse_fault
 use Rattle.vd_resolve.specs.Limits.{resolution}
+use Rattle.vd_resolve.specs.Causes.{resolution_told}
 use Rattle.vd_resolve.specs.Faults.{Fault}
-use Rattle.vd_resolve.specs.Faults as name_fault
+use Rattle.vd_resolve.specs.declared.fault.NameFault.{NameFault}
+use Rattle.vd_resolve.specs.declared.fault.NameFault.TheVariants as name_fault
 use Rattle.vd_space.specs.declared.problem.Problem.{Problem}
 use Rattle.vd_space.specs.Reading.{problem_of}
 use Rattle.vd_labels_systems.proofs.Systems.{program_system}
 use Rattle.vd_cmd_plan.specs.Plans.{Plan, check_then, file_then}
+use Rattle.vd_cmd_plan.specs.Refusals.{rule_status}
 use Rattle.vd_cmd_plan.specs.declared.answer.Answer.{Answer}
 use Rattle.vd_cmd_plan.specs.declared.status.Status.{Status}
-use Rattle.vd_cmd_plan.specs.declared.status.Status.TheVariants.{Ended, Flow, Memory, Names, Syntax, TooLong}
-use Rattle.vd_cmd_plan.specs.declared.status.RuleFault.TheVariants.{Unknown, Twice, Recursive, Arity, Kind, Limit}
-use Rattle.vd_cmd_plan.specs.declared.status.SyntaxFault.TheVariants.{BadByte, Unexpected, Nesting}
+use Rattle.vd_cmd_plan.specs.declared.status.Status.TheVariants.{Ended}
 use Rattle.vd_cmd_frontend.specs.Labelling.{as_labels, labels_of}
 use Rattle.vd_cmd_frontend.specs.Outcomes.{LabelOutcomes, TextOutcomes}
-use Rattle.vd_cmd_frontend.specs.Sources.{HoldsSource, IsSourceText, as_resolved, as_source, resolved_of, rule_status, source_of, source_then, tree_then}
+use Rattle.vd_cmd_frontend.specs.Sources.{HoldsSource, IsSourceText, as_resolved, as_source, caused, resolved_of, source_of, source_then, text_status, tree_then}
 use Rattle.vd_cmd_frontend.proofs.Labelled.{labelled}
 use Rattle.vd_cmd_choose.specs.Problems.{IsProblemOf, as_problem, problem_for}
 use Rattle.vd_cmd_answers.proofs.Plans.{Ends, Leads, NeverEnds, check_came, check_leads, ends_as, file_came, held_leads}
@@ -42,34 +43,33 @@ use Rattle.vd_cmd_answers.proofs.Plans.{Ends, Leads, NeverEnds, check_came, chec
 pub same_status : {T : Type 0} (one other : Status) → ◌≡◌ {A = Result T Status} (Err one) (Err other) → one ≡ other
 same_status one other is = cc is
 
+text_ends : (name : List ℕ) (fault : ParseFault) → text_status name fault ≡ Ended → ⊥
+text_ends name (parse_fault.BadByte offset) is = cc is
+text_ends name (parse_fault.Unexpected token offset) is = cc is
+text_ends name (parse_fault.TooDeep offset) is = cc is
+text_ends name (parse_fault.TooLong length) is = cc is
+text_ends name parse_fault.Memory is = cc is
+
 source_never : (name : List ℕ) (said : Result Source ParseFault) → NeverEnds (as_source name said)
 source_never name (Ok source) status is ended = absurd (cc is)
-source_never name (Err (parse_fault.BadByte offset)) status is ended = let wrong : Syntax (BadByte offset) ≡ Ended = same_status _ _ is ∙ ended in absurd (cc wrong)
-source_never name (Err (parse_fault.Unexpected token offset)) status is ended = let wrong : Syntax (Unexpected offset) ≡ Ended = same_status _ _ is ∙ ended in absurd (cc wrong)
-source_never name (Err (parse_fault.TooDeep offset)) status is ended = let wrong : Syntax (Nesting offset) ≡ Ended = same_status _ _ is ∙ ended in absurd (cc wrong)
-source_never name (Err (parse_fault.TooLong length)) status is ended = let wrong : TooLong name most_source_bytes ≡ Ended = same_status _ _ is ∙ ended in absurd (cc wrong)
-source_never name (Err parse_fault.Memory) status is ended = let wrong : Memory ≡ Ended = same_status _ _ is ∙ ended in absurd (cc wrong)
+source_never name (Err fault) status is ended = text_ends name fault (same_status _ _ is ∙ ended)
 
 parsed_as : (name : List ℕ) (tree : Source) (said : Result Source ParseFault) → as_source name said ≡ Ok tree → said ≡ Ok tree
 parsed_as name tree (Ok source) is = let same : source ≡ tree = cc is in ap (λ (s : Source). Ok s) same
-parsed_as name tree (Err (parse_fault.BadByte offset)) is = absurd (cc is)
-parsed_as name tree (Err (parse_fault.Unexpected token offset)) is = absurd (cc is)
-parsed_as name tree (Err (parse_fault.TooDeep offset)) is = absurd (cc is)
-parsed_as name tree (Err (parse_fault.TooLong length)) is = absurd (cc is)
-parsed_as name tree (Err parse_fault.Memory) is = absurd (cc is)
+parsed_as name tree (Err fault) is = absurd (cc is)
 
-rule_ends : (fault : Fault) → rule_status fault ≡ Ended → ⊥
-rule_ends (name_fault.Unknown span) is = cc is
-rule_ends (name_fault.Twice span) is = cc is
-rule_ends (name_fault.Recursive span) is = cc is
-rule_ends (name_fault.Arity span) is = cc is
-rule_ends (name_fault.Kind span) is = cc is
+rule_ends : (fault : NameFault) → rule_status fault ≡ Ended → ⊥
+rule_ends (name_fault.Unknown at) is = cc is
+rule_ends (name_fault.Twice at first) is = cc is
+rule_ends (name_fault.Recursive at) is = cc is
+rule_ends (name_fault.Arity at) is = cc is
+rule_ends (name_fault.Kind at met) is = cc is
 rule_ends (name_fault.Limit which count) is = cc is
 rule_ends name_fault.Memory is = cc is
 
 resolved_never : (tree : Source) (said : Result (Unit {0}) Fault) → NeverEnds (as_resolved tree said)
 resolved_never tree (Ok done) status is ended = absurd (cc is)
-resolved_never tree (Err fault) status is ended = rule_ends fault (same_status _ _ is ∙ ended)
+resolved_never tree (Err fault) status is ended = rule_ends (caused fault (resolution_told tree)) (same_status _ _ is ∙ ended)
 
 resolved_as : (tree source : Source) (said : Result (Unit {0}) Fault) → resolution tree ≡ said → as_resolved tree said ≡ Ok source → (resolution tree ≡ Ok tt) × (tree ≡ source)
 resolved_as tree source (Ok done) is same = (is, cc same)
@@ -119,25 +119,25 @@ made_of name contents source held = well_made source held.holds.meets (names_are
 
 -- ---- labels
 
-labels_never_by : (system : Constraints) (said : Result Labels ℕ) → NeverEnds (as_labels system said)
-labels_never_by system (Ok labels) status is ended = absurd (cc is)
-labels_never_by system (Err check) status is ended = let wrong = same_status _ _ is ∙ ended in absurd (cc wrong)
+labels_never_by : (least : LabelOutcomes) (program : NormalForm) (said : Result Labels ℕ) → NeverEnds (as_labels least program said)
+labels_never_by least program (Ok labels) status is ended = absurd (cc is)
+labels_never_by least program (Err number) status is ended = let wrong = same_status _ _ is ∙ ended in absurd (cc wrong)
 
-labels_as : (system : Constraints) (labels : Labels) (said : Result Labels ℕ) → as_labels system said ≡ Ok labels → said ≡ Ok labels
-labels_as system labels (Ok other) is = let same : other ≡ labels = cc is in ap (λ (l : Labels). Ok l) same
-labels_as system labels (Err check) is = absurd (cc is)
+labels_as : (least : LabelOutcomes) (program : NormalForm) (labels : Labels) (said : Result Labels ℕ) → as_labels least program said ≡ Ok labels → said ≡ Ok labels
+labels_as least program labels (Ok other) is = let same : other ≡ labels = cc is in ap (λ (l : Labels). Ok l) same
+labels_as least program labels (Err number) is = absurd (cc is)
 
 module _ (least : LabelOutcomes) (program : NormalForm) (made : IsWellMade program) where
   pub labels_never : NeverEnds (labels_of least program)
-  labels_never = labels_never_by (system_of program) (least.label (system_of program))
+  labels_never = labels_never_by least program (least.label (system_of program))
 
   -- labels that were found are the least
   pub labels_are : (labels : Labels) → labels_of least program ≡ Ok labels → IsLeast (system_of program) labels
   labels_are labels is =
-      subst (IsLabelled (system_of program)) (labels_as (system_of program) labels (least.label (system_of program)) is) (least.label_is (system_of program) (program_system program made))
+      subst (IsLabelled (system_of program)) (labels_as least program labels (least.label (system_of program)) is) (least.label_is (system_of program) (program_system program made))
 
   labels_found : (labels : Labels) → IsLeast (system_of program) labels → labels_of least program ≡ Ok labels
-  labels_found labels is = labelled least (system_of program) (Ok labels) (program_system program made) is
+  labels_found labels is = labelled least program (Ok labels) (program_system program made) is
 
   -- ---- the problem
 

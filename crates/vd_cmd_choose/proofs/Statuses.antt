@@ -9,7 +9,8 @@ use Rattle.vd_bound.specs.declared.checking.Proved.{Proved}
 use Rattle.vd_cmd_plan.specs.Plans.{IsRefusal}
 use Rattle.vd_cmd_plan.specs.declared.status.Status.{Status}
 use Rattle.vd_cmd_plan.specs.declared.status.Status.TheVariants.{Ended, Memory, Usage, ReadFault, WriteFault, NoAssignment, Host, ChildFault}
-use Rattle.vd_cmd_choose.specs.Certifying.{as_proved, check_status}
+use Rattle.vd_cmd_plan.specs.Refusals.{check_status}
+use Rattle.vd_cmd_choose.specs.Certifying.{as_proved}
 use Rattle.vd_cmd_choose.specs.Problems.{as_problem}
 
 pub check_refusal : (wanted : Result Proved CheckFault) (fault : CheckFault) → (◌≢◌ {A = Result Proved CheckFault} (Err fault) (Err check_fault.Memory) → Err fault ≡ wanted) → IsRefusal (as_proved wanted) (check_status fault)

@@ -9,16 +9,15 @@ use Rattle.vd_anf.specs.Normal.{normal_form}
 use Rattle.vd_cmd_rewrite.specs.RunPrograms.{run_form}
 use Rattle.vd_search_certificate.specs.declared.certificate.Certificate.{Certificate}
 use Rattle.vd_bound.specs.declared.checking.CheckFault.{CheckFault}
-use Rattle.vd_bound.specs.declared.checking.CheckFault.TheVariants as check_fault
 use Rattle.vd_bound.specs.declared.checking.Proved.{Proved}
 use Rattle.vd_bound.specs.declared.checking.Proved.TheVariants.{Least, Empty}
 use Rattle.vd_space.specs.declared.problem.Problem.{Problem}
 use Rattle.vd_search_stages.specs.Confirming.{confirmed}
 use Rattle.vd_cmd_plan.specs.Plans.{Plan, Executes, ExecutesStep, file_then, check_then, answer_then, ended}
 use Rattle.vd_cmd_plan.specs.declared.answer.Answer.{Answer}
+use Rattle.vd_cmd_plan.specs.Refusals.{check_status}
 use Rattle.vd_cmd_plan.specs.declared.status.Status.{Status}
-use Rattle.vd_cmd_plan.specs.declared.status.Status.TheVariants.{Memory, CertificateText, CertificateRefused}
-use Rattle.vd_cmd_plan.specs.declared.status.CertificateFault.TheVariants.{Shift, Shape, BestInvalid, Cost, NotViolated, NotBounded}
+use Rattle.vd_cmd_plan.specs.declared.status.Status.TheVariants.{CertificateText}
 use Rattle.vd_cmd_frontend.specs.Outcomes.{TextOutcomes, LabelOutcomes}
 use Rattle.vd_cmd_frontend.specs.Sources.{source_then}
 use Rattle.vd_cmd_choose.specs.Outcomes.{CertificateOutcomes}
@@ -40,16 +39,6 @@ certificate_then certificates name rest = file_then name most_certificate_bytes 
 pub record IsFromFile (certificate : Certificate) : Type 0 where
   pub few_shifts : length certificate.shifts ≤ most_certificate_shifts
   pub few_marks : length certificate.marks < 4294967296
-
--- the status of a certificate that is not accepted
-abbrev pub check_status : CheckFault → Status
-check_status (check_fault.BadShift shift) = CertificateRefused (Shift shift)
-check_status (check_fault.Shape mark) = CertificateRefused (Shape mark)
-check_status check_fault.BestInvalid = CertificateRefused BestInvalid
-check_status (check_fault.CostWrong stated own) = CertificateRefused (Cost stated own)
-check_status (check_fault.NotViolated mark) = CertificateRefused (NotViolated mark)
-check_status (check_fault.NotBounded mark bound cost) = CertificateRefused (NotBounded mark bound cost)
-check_status check_fault.Memory = Memory
 
 abbrev pub as_proved : Result Proved CheckFault → Result Proved Status
 as_proved (Ok proved) = Ok proved

@@ -4,7 +4,7 @@ ghost use Rattle.std.specs.Prelude.{◌≡◌, ◌<◌, ◌++◌, true, [], code
 ghost use Rattle.vd_cost_network.specs.Links.{links};
 ghost use Rattle.vd_outside.specs.Files.{FilesView};
 ghost use Rattle.vd_cmd_plan.specs.Plans.{Checks, Computes, Executes, ended};
-ghost use Rattle.vd_cmd_choose.specs.Certifying.{ExecutesCertificate, ExecutesCertified, ExecutesCertify, IsFromFile, check_status, confirmed_plan, proved_of, proved_text};
+ghost use Rattle.vd_cmd_choose.specs.Certifying.{ExecutesCertificate, ExecutesCertified, ExecutesCertify, IsFromFile, confirmed_plan, proved_of, proved_text};
 
 use crate::certificates::load_certificate;
 use crate::spaces::least_space;
@@ -12,9 +12,9 @@ use itoa::Buffer;
 use std::alloc::{AllocError, Global};
 use vd_base::Bytes;
 use vd_base_lists::Items;
-use vd_bound::{CheckFault, Proved};
+use vd_bound::Proved;
 use vd_cmd_frontend::load_source;
-use vd_cmd_plan::{Answer, CertificateFault, Status};
+use vd_cmd_plan::{Answer, Status, check_status};
 use vd_cmd_rewrite::run_program;
 use vd_core::Program;
 use vd_outside::Files;
@@ -22,24 +22,6 @@ use vd_resolve::Resolved;
 use vd_search_certificate::Certificate;
 use vd_search_stages::confirm;
 use vd_space_api::Space;
-
-/// The status of a refusal.
-fn check_status(fault: CheckFault) -> Status
-    ensures { result ≡ check_status fault }
-{
-    let fault = match fault {
-        CheckFault::BadShift(shift) => CertificateFault::Shift(shift),
-        CheckFault::Shape(mark) => CertificateFault::Shape(mark),
-        CheckFault::BestInvalid => CertificateFault::BestInvalid,
-        CheckFault::CostWrong(stated, own) => CertificateFault::Cost(stated, own),
-        CheckFault::NotViolated(mark) => CertificateFault::NotViolated(mark),
-        CheckFault::NotBounded(mark, bound, cost) => {
-            CertificateFault::NotBounded(mark, bound, cost)
-        }
-        CheckFault::Memory => return Status::Memory,
-    };
-    Status::CertificateRefused(fault)
-}
 
 /// What a certificate shows of a space, or why it is not accepted.
 fn confirm_space(alloc: Global, space: &Space, certificate: &Certificate) -> Result<Proved, Status>

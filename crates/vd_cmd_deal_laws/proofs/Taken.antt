@@ -38,7 +38,7 @@ module _ (outcomes : ReplayOutcomes) (contents : Contents) (prefix : List ℕ) (
   unfolding deal_then
   deal_leads number name deal rest declared held =
       held_leads contents (file_name prefix number (codes ".deal")) most_deal_bytes (deal_of outcomes hosts number name) deal rest (rest deal contents).answer (λ bytes. IsDealIn hosts number bytes deal) held
-      (λ bytes is. ap (as_deal name) (outcomes_are_single.deals hosts number bytes few declared (outcomes.deal hosts number bytes) (Ok deal) (outcomes.deal_is hosts number bytes few declared) is)) refl
+      (λ bytes is. ap (as_deal name number) (outcomes_are_single.deals hosts number bytes few declared (outcomes.deal hosts number bytes) (Ok deal) (outcomes.deal_is hosts number bytes few declared) is)) refl
 
   -- the deals that are left, which are numbered from here on
   abbrev pub HoldLeft : ℕ → List Deal → Type 0

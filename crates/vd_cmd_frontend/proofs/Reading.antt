@@ -1,5 +1,5 @@
 -- The steps in which a command reads its texts.
-use Rattle.std.proofs.Common.{◌⊎◌, inl, inr, ◌≡◌, ℕ, List, Result, Ok, Err, refl, ap, subst}
+use Rattle.std.proofs.Common.{◌⊎◌, inl, inr, ◌≡◌, ◌≢◌, ◌≤◌, ℕ, List, length, Result, Ok, Err, refl, ap, ◌∙◌, subst, arith}
 use Rattle.vd_base.specs.Limits.{most_source_bytes, most_inputs_bytes}
 use Rattle.vd_outside.specs.Files.{FilesView}
 use Rattle.vd_core.specs.declared.source.Source.{Source}
@@ -9,17 +9,26 @@ use Rattle.vd_parser.specs.declared.fault.ParseFault.TheVariants as parse_fault
 use Rattle.vd_parser.proofs.OutcomeLaws.{parses_once}
 use Rattle.vd_parser.proofs.OutcomeTotal.{parses_somehow}
 use Rattle.vd_labels_least.proofs.Function.{labelling_of, labelling_is}
+use Rattle.vd_resolve.specs.Causes.{resolution_told}
+use Rattle.vd_resolve.specs.Faults.{Cause, bare, carried}
+use Rattle.vd_resolve.specs.Limits.{resolution}
+use Rattle.vd_resolve.specs.Walks.{IsCauseOf}
+use Rattle.vd_resolve.specs.declared.fault.NameFault.{NameFault}
+use Rattle.vd_resolve.specs.declared.fault.NameFault.TheVariants as name_fault
 use Rattle.vd_report.proofs.InputsFaults.{follows_grammar}
 use Rattle.vd_report.specs.Inputs.{inputs_read}
 use Rattle.vd_report.specs.InputsText.{InputsFollowGrammar}
 use Rattle.vd_report.specs.declared.fault.ReadFault.{ReadFault}
 use Rattle.vd_report.specs.declared.fault.ReadFault.TheVariants as read_fault
 use Rattle.vd_cmd_plan.specs.declared.status.Status.{Status}
-use Rattle.vd_cmd_plan.specs.Plans.{Checks, ExecutesStep, file_then, check_then}
+use Rattle.vd_cmd_plan.specs.declared.status.Status.TheVariants.{Syntax}
+use Rattle.vd_cmd_plan.specs.Plans.{Checks, ExecutesStep, IsRefusal, file_then, check_then}
+use Rattle.vd_cmd_plan.specs.Refusals.{rule_status}
 use Rattle.vd_cmd_plan.specs.Loads.{Loads}
 use Rattle.vd_cmd_frontend.specs.Outcomes.{TextOutcomes, LabelOutcomes, IsInputs}
-use Rattle.vd_cmd_frontend.specs.Sources.{as_source, source_of, tree_then, resolved_of, source_then}
+use Rattle.vd_cmd_frontend.specs.Sources.{as_resolved, as_source, caused, source_of, text_status, tree_then, resolved_of, source_then}
 use Rattle.vd_cmd_frontend.specs.Inputs.{words_of, inputs_then}
+use Rattle.vd_cmd_frontend.proofs.Labelled.{solution_is, solution_of}
 use Rattle.vd_cmd_plan.proofs.InSteps.{load_step, check_step, both_steps, first_step}
 
 pub tree_err : (texts : TextOutcomes) (name : List ℕ) (before now : FilesView) (status : Status) → Loads name most_source_bytes before now (Err status) → ExecutesStep {T = Source} (tree_then texts name) before now (Err status)
@@ -57,6 +66,54 @@ pub parsed : (texts : TextOutcomes) (name bytes : List ℕ) (result : Result Sou
 parsed texts name bytes result (inl memory) other = absurd (other memory)
 parsed texts name bytes result (inr is) other = ap (as_source name) (parses_once bytes (texts.parse bytes) result (texts.parse_is bytes) is)
 
+-- a text that is not too long is not refused for its length
+pub not_long : (bytes : List ℕ) (fault : ParseFault) → length bytes ≤ most_source_bytes → (◌≡◌ {A = Result Source ParseFault} (Err fault) (Err parse_fault.Memory)) ⊎ IsParse bytes (Err fault)
+    → (long : ℕ) → fault ≢ parse_fault.TooLong long
+not_long bytes fault short (inl memory) long e = let wrong : parse_fault.TooLong long ≡ parse_fault.Memory = cc (memory, e) in cc wrong
+not_long bytes fault short (inr is) long e = let more = subst (λ (f : ParseFault). IsParse bytes (Err f)) e is in let over = more.0 in omega (arith, short, over)
+
+-- a fault of bytes is the status of their refusal
+pub text_carried : (name : List ℕ) (fault : ParseFault) → ((long : ℕ) → fault ≢ parse_fault.TooLong long) → fault ≢ parse_fault.Memory → Syntax fault ≡ text_status name fault
+text_carried name (parse_fault.BadByte offset) short other = refl
+text_carried name (parse_fault.Unexpected number offset) short other = refl
+text_carried name (parse_fault.TooDeep offset) short other = refl
+text_carried name (parse_fault.TooLong long) short other = absurd (short long refl)
+text_carried name parse_fault.Memory short other = absurd (other refl)
+
+pub text_refusal : (texts : TextOutcomes) (name bytes : List ℕ) (fault : ParseFault) → ((long : ℕ) → fault ≢ parse_fault.TooLong long)
+    → (◌≡◌ {A = Result Source ParseFault} (Err fault) (Err parse_fault.Memory)) ⊎ IsParse bytes (Err fault) → IsRefusal (source_of texts name bytes) (text_status name fault)
+text_refusal texts name bytes (parse_fault.BadByte offset) short is = parsed texts name bytes (Err (parse_fault.BadByte offset)) is (λ e. cc e)
+text_refusal texts name bytes (parse_fault.Unexpected number offset) short is = parsed texts name bytes (Err (parse_fault.Unexpected number offset)) is (λ e. cc e)
+text_refusal texts name bytes (parse_fault.TooDeep offset) short is = parsed texts name bytes (Err (parse_fault.TooDeep offset)) is (λ e. cc e)
+text_refusal texts name bytes (parse_fault.TooLong long) short is = absurd (short long refl)
+text_refusal texts name bytes parse_fault.Memory short is = tt
+
+-- a fault of a rule, with what it carries, is the fault that was answered
+caused_is : (fault : NameFault) → caused (bare fault) (Err (carried fault)) ≡ fault
+caused_is (name_fault.Unknown at) = refl
+caused_is (name_fault.Twice at first) = refl
+caused_is (name_fault.Recursive at) = refl
+caused_is (name_fault.Arity at) = refl
+caused_is (name_fault.Kind at met) = refl
+caused_is (name_fault.Limit which count) = refl
+caused_is name_fault.Memory = refl
+
+broken : (source : Source) (fault : NameFault) → fault ≢ name_fault.Memory → (fault ≡ name_fault.Memory) ⊎ (resolution source ≡ Err (bare fault)) → IsCauseOf (resolution_told source) fault
+    → resolved_of source ≡ Err (rule_status fault)
+broken source fault other (inl memory) cause = absurd (other memory)
+broken source fault other (inr is) cause =
+    ap (as_resolved source) is ∙ ap (λ (told : Result (Unit {0}) Cause). Err (rule_status (caused (bare fault) told))) (cause other) ∙ ap (λ (f : NameFault). Err (rule_status f)) (caused_is fault)
+
+pub rule_refusal : (source : Source) (fault : NameFault) → (fault ≡ name_fault.Memory) ⊎ (resolution source ≡ Err (bare fault)) → IsCauseOf (resolution_told source) fault
+    → IsRefusal (resolved_of source) (rule_status fault)
+rule_refusal source (name_fault.Unknown at) is cause = broken source (name_fault.Unknown at) (λ e. cc e) is cause
+rule_refusal source (name_fault.Twice at first) is cause = broken source (name_fault.Twice at first) (λ e. cc e) is cause
+rule_refusal source (name_fault.Recursive at) is cause = broken source (name_fault.Recursive at) (λ e. cc e) is cause
+rule_refusal source (name_fault.Arity at) is cause = broken source (name_fault.Arity at) (λ e. cc e) is cause
+rule_refusal source (name_fault.Kind at met) is cause = broken source (name_fault.Kind at met) (λ e. cc e) is cause
+rule_refusal source (name_fault.Limit which count) is cause = broken source (name_fault.Limit which count) (λ e. cc e) is cause
+rule_refusal source name_fault.Memory is cause = tt
+
 -- what an inputs file says is its outcome
 is_read : (hosts : List (List ℕ)) (bytes : List ℕ) → InputsFollowGrammar hosts bytes → (said : Result (List (List ℕ)) ReadFault) → inputs_read hosts bytes ≡ said → IsInputs hosts bytes said
 is_read hosts bytes law (Ok inputs) e = (law.given inputs).0 e
@@ -71,6 +128,6 @@ some_texts = record {
   inputs_is = λ hosts bytes. is_read hosts bytes (follows_grammar hosts bytes) (inputs_read hosts bytes) refl;
 }
 
--- and one that gives each system its one outcome
+-- and ones that give each system its one outcome
 pub some_labels : LabelOutcomes
-some_labels = record { label = labelling_of; label_is = labelling_is }
+some_labels = record { label = labelling_of; label_is = labelling_is; solution = solution_of; solution_is = solution_is }

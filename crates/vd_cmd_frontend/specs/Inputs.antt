@@ -4,20 +4,13 @@ use Rattle.vd_base.specs.Limits.{most_inputs_bytes}
 use Rattle.vd_outside.specs.Files.{Contents}
 use Rattle.vd_report.specs.InputsText.{GivesInputs}
 use Rattle.vd_report.specs.declared.fault.ReadFault.{ReadFault}
-use Rattle.vd_report.specs.declared.fault.ReadFault.TheVariants as read_fault
 use Rattle.vd_cmd_plan.specs.Held.{IsHeld}
 use Rattle.vd_cmd_plan.specs.Plans.{Plan, file_then, check_then}
+use Rattle.vd_cmd_plan.specs.Refusals.{input_status}
 use Rattle.vd_cmd_plan.specs.declared.status.Status.{Status}
-use Rattle.vd_cmd_plan.specs.declared.status.Status.TheVariants.{Memory, InputText}
-use Rattle.vd_cmd_plan.specs.declared.status.TextFault.TheVariants.{Text, UnknownHost}
 use Rattle.vd_cmd_frontend.specs.Outcomes.{TextOutcomes}
 
--- the status of a refusal of inputs
-abbrev pub input_status : ReadFault → Status
-input_status (read_fault.Text offset) = InputText (Text offset)
-input_status (read_fault.UnknownHost offset) = InputText (UnknownHost offset)
-input_status read_fault.Memory = Memory
-
+-- the words, or the status of a refusal
 abbrev pub as_inputs : Result (List (List ℕ)) ReadFault → Result (List (List ℕ)) Status
 as_inputs (Ok inputs) = Ok inputs
 as_inputs (Err fault) = Err (input_status fault)

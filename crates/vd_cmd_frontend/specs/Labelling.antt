@@ -1,12 +1,14 @@
 -- The command `labels`.
-use Rattle.std.specs.Prelude.{ℕ, true, List, [], Result, Ok, Err, slice_get}
-use Rattle.std.specs.Option.{option_map_or}
+use Rattle.std.specs.Prelude.{ℕ, true, List, [], Result, Ok, Err, slice_index_or}
 use Rattle.vd_outside.specs.Files.{FilesView, Contents}
 use Rattle.vd_core.specs.declared.source.Source.{Source}
 use Rattle.vd_core.specs.declared.normal.NormalForm.{NormalForm}
 use Rattle.vd_anf.specs.Normal.{normal_form}
-use Rattle.vd_constraints.specs.Systems.{Constraints}
-use Rattle.vd_constraints.specs.Rules.{system_of}
+use Rattle.vd_formula.specs.TruthTable.{any_of}
+use Rattle.vd_constraints.specs.Rules.{check, conf, system_of}
+use Rattle.vd_constraints.specs.Satisfies.{formula_at}
+use Rattle.vd_constraints.specs.declared.origin.Origin.TheVariants.{Endorse}
+use Rattle.vd_constraints.specs.declared.system.Place.TheVariants.{Block}
 use Rattle.vd_constraints.specs.declared.labels.Labels.{Labels}
 use Rattle.vd_constraints.specs.declared.system.Check.{Check}
 use Rattle.vd_report.specs.LabelLines.{label_lines}
@@ -14,20 +16,33 @@ use Rattle.vd_cmd_plan.specs.Plans.{Plan, Executes, check_then, answer_then, end
 use Rattle.vd_cmd_frontend.specs.Outcomes.{TextOutcomes, LabelOutcomes}
 use Rattle.vd_cmd_frontend.specs.Sources.{source_then}
 use Rattle.vd_cmd_plan.specs.declared.answer.Answer.{Answer}
+use Rattle.vd_cmd_plan.specs.declared.status.FlowFault.{FlowFault}
 use Rattle.vd_cmd_plan.specs.declared.status.Status.{Status}
 use Rattle.vd_cmd_plan.specs.declared.status.Status.TheVariants.{Flow}
 
--- where in the source the statement of a check stands
-abbrev pub offset_at : List Check → ℕ → ℕ
-offset_at checks place = option_map_or (λ check. check.offset) (slice_get checks place) 0
+-- the check with this number; where there is none, one of nothing
+abbrev pub no_check : Check
+no_check = check (any_of 0) (conf (Block 0)) 0 Endorse
 
--- the labels of a system, or the status of its refusal
-abbrev pub as_labels : Constraints → Result Labels ℕ → Result Labels Status
-as_labels system (Ok labels) = Ok labels
-as_labels system (Err check) = Err (Flow check (offset_at system.checks check))
+abbrev pub check_at : List Check → (number : ℕ) → Check
+check_at checks number = slice_index_or checks number no_check
+
+-- what is carried of a check of a program, which fails at this solution of its rules
+abbrev pub fault_of : NormalForm → (solution : Labels) → (number : ℕ) → Check → FlowFault
+fault_of program solution number check =
+    record { number = number; check = check; asked = formula_at solution check.part; principals = program.principals; hosts = program.hosts }
+
+-- of the check with this number, at the least solution
+abbrev pub flow_fault : LabelOutcomes → NormalForm → (number : ℕ) → FlowFault
+flow_fault least program number = fault_of program (least.solution (system_of program)) number (check_at (system_of program).checks number)
+
+-- the labels of a program, or the status of its refusal
+abbrev pub as_labels : LabelOutcomes → NormalForm → Result Labels ℕ → Result Labels Status
+as_labels least program (Ok labels) = Ok labels
+as_labels least program (Err number) = Err (Flow (flow_fault least program number))
 
 abbrev pub labels_of : LabelOutcomes → NormalForm → Result Labels Status
-labels_of least program = as_labels (system_of program) (least.label (system_of program))
+labels_of least program = as_labels least program (least.label (system_of program))
 
 -- a line for each slot
 abbrev pub labels_text : NormalForm → Labels → List ℕ

@@ -8,6 +8,7 @@ use Rattle.vd_report.specs.Outcome.{FirstWrong}
 use Rattle.vd_report.specs.declared.fault.ReadFault.{ReadFault}
 use Rattle.vd_constraints.specs.Systems.{Constraints, IsSystem}
 use Rattle.vd_constraints.specs.Outcomes.{IsLabelled}
+use Rattle.vd_constraints.specs.Satisfies.{IsLeastSolution}
 use Rattle.vd_constraints.specs.declared.labels.Labels.{Labels}
 
 -- the one outcome of an inputs file: the words that it gives, or the fault of the first token that cannot stand
@@ -22,7 +23,10 @@ pub record TextOutcomes : Type 0 where
   pub inputs : List (List ℕ) → List ℕ → Result (List (List ℕ)) ReadFault
   pub inputs_is : (hosts : List (List ℕ)) (bytes : List ℕ) → IsInputs hosts bytes (inputs hosts bytes)
 
--- the function that gives each system of flow rules its least labelling, or the first check that fails
+-- the functions that give each system of flow rules its least labelling, or the first check that fails, and the least labelling at
+-- which its rules hold, whatever becomes of its checks
 pub record LabelOutcomes : Type 0 where
   pub label : Constraints → Result Labels ℕ
   pub label_is : (system : Constraints) → IsSystem system → IsLabelled system (label system)
+  pub solution : Constraints → Labels
+  pub solution_is : (system : Constraints) → IsSystem system → IsLeastSolution system (solution system)

@@ -7,41 +7,49 @@ use Rattle.vd_parser.specs.Outcomes.{IsParse}
 use Rattle.vd_parser.specs.declared.fault.ParseFault.{ParseFault}
 use Rattle.vd_parser.specs.declared.fault.ParseFault.TheVariants as parse_fault
 use Rattle.vd_resolve.specs.Limits.{resolution}
-use Rattle.vd_resolve.specs.Faults.{Fault}
-use Rattle.vd_resolve.specs.Faults as name_fault
+use Rattle.vd_resolve.specs.Causes.{resolution_told}
+use Rattle.vd_resolve.specs.Faults.{Fault, Cause, First, Kinds}
+use Rattle.vd_resolve.specs.Faults as rule
+use Rattle.vd_resolve.specs.declared.fault.NameFault.{NameFault}
+use Rattle.vd_resolve.specs.declared.fault.NameFault.TheVariants as name_fault
+use Rattle.vd_resolve.specs.declared.met.Met.TheVariants.{NoVariable}
 use Rattle.vd_cmd_plan.specs.Held.{IsHeld}
 use Rattle.vd_cmd_plan.specs.Plans.{Plan, file_then, check_then}
+use Rattle.vd_cmd_plan.specs.Refusals.{rule_status}
 use Rattle.vd_cmd_plan.specs.declared.status.Status.{Status}
-use Rattle.vd_cmd_plan.specs.declared.status.Status.TheVariants.{Memory, TooLong, Syntax, Names}
-use Rattle.vd_cmd_plan.specs.declared.status.RuleFault.TheVariants.{Unknown, Twice, Recursive, Arity, Kind, Limit}
-use Rattle.vd_cmd_plan.specs.declared.status.SyntaxFault.TheVariants.{BadByte, Unexpected, Nesting}
+use Rattle.vd_cmd_plan.specs.declared.status.Status.TheVariants.{Memory, TooLong, Syntax}
 use Rattle.vd_cmd_frontend.specs.Outcomes.{TextOutcomes}
+
+-- the status of a text that is no source
+abbrev pub text_status : List ℕ → ParseFault → Status
+text_status name (parse_fault.TooLong length) = TooLong name most_source_bytes
+text_status name parse_fault.Memory = Memory
+text_status name fault = Syntax fault
 
 -- the tree of a text, or the status of its refusal
 abbrev pub as_source : List ℕ → Result Source ParseFault → Result Source Status
 as_source name (Ok source) = Ok source
-as_source name (Err (parse_fault.BadByte offset)) = Err (Syntax (BadByte offset))
-as_source name (Err (parse_fault.Unexpected token offset)) = Err (Syntax (Unexpected offset))
-as_source name (Err (parse_fault.TooDeep offset)) = Err (Syntax (Nesting offset))
-as_source name (Err (parse_fault.TooLong length)) = Err (TooLong name most_source_bytes)
-as_source name (Err parse_fault.Memory) = Err Memory
+as_source name (Err fault) = Err (text_status name fault)
 
 abbrev pub source_of : TextOutcomes → List ℕ → List ℕ → Result Source Status
 source_of texts name bytes = as_source name (texts.parse bytes)
 
-abbrev pub rule_status : Fault → Status
-rule_status (name_fault.Unknown span) = Names (Unknown span.start)
-rule_status (name_fault.Twice span) = Names (Twice span.start)
-rule_status (name_fault.Recursive span) = Names (Recursive span.start)
-rule_status (name_fault.Arity span) = Names (Arity span.start)
-rule_status (name_fault.Kind span) = Names (Kind span.start)
-rule_status (name_fault.Limit which count) = Names (Limit which count)
-rule_status name_fault.Memory = Memory
+-- The fault of a rule with what it carries: what `bare` and `carried` take apart. A cause of another sort than the fault comes from no source.
+abbrev pub caused : Fault → Result (Unit {0}) Cause → NameFault
+caused (rule.Unknown at) cause = name_fault.Unknown at
+caused (rule.Twice at) (Err (First first)) = name_fault.Twice at first
+caused (rule.Twice at) other = name_fault.Twice at at
+caused (rule.Recursive at) cause = name_fault.Recursive at
+caused (rule.Arity at) cause = name_fault.Arity at
+caused (rule.Kind at) (Err (Kinds met)) = name_fault.Kind at met
+caused (rule.Kind at) other = name_fault.Kind at NoVariable
+caused (rule.Limit which count) cause = name_fault.Limit which count
+caused rule.Memory cause = name_fault.Memory
 
 -- the tree, where it meets every rule on names, kinds and limits, or the status of its refusal
 abbrev pub as_resolved : Source → Result (Unit {0}) Fault → Result Source Status
 as_resolved source (Ok done) = Ok source
-as_resolved source (Err fault) = Err (rule_status fault)
+as_resolved source (Err fault) = Err (rule_status (caused fault (resolution_told source)))
 
 abbrev pub resolved_of : Source → Result Source Status
 resolved_of source = as_resolved source (resolution source)

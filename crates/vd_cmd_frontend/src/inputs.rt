@@ -6,25 +6,14 @@ ghost use Rattle.vd_cmd_plan.specs.Held.{Finds};
 ghost use Rattle.vd_cmd_plan.specs.Plans.{Checks, ExecutesStep};
 ghost use Rattle.vd_report.specs.InputsText.{GivesInputs};
 ghost use Rattle.vd_cmd_frontend.specs.Outcomes.{TextOutcomes};
-ghost use Rattle.vd_cmd_frontend.specs.Inputs.{HoldsInputs, words_of, input_status, inputs_then};
+ghost use Rattle.vd_cmd_frontend.specs.Inputs.{HoldsInputs, words_of, inputs_then};
 
 use std::alloc::Global;
 use vd_base::limits::INPUTS_BYTES;
 use vd_base::{Inputs, Names};
-use vd_cmd_plan::{Status, TextFault, load};
+use vd_cmd_plan::{Status, input_status, load};
 use vd_outside::Files;
-use vd_report::{ReadFault, read_inputs};
-
-/// The status of a refusal.
-fn input_status(fault: ReadFault) -> Status
-    ensures { result ≡ input_status fault }
-{
-    match fault {
-        ReadFault::Text(offset) => Status::InputText(TextFault::Text(offset)),
-        ReadFault::UnknownHost(offset) => Status::InputText(TextFault::UnknownHost(offset)),
-        ReadFault::Memory => Status::Memory,
-    }
-}
+use vd_report::read_inputs;
 
 /// The words that a text hands in for these hosts, or why it does not.
 fn inputs_of(alloc: Global, bytes: &[u8], hosts: &Names) -> Result<Inputs, Status>

@@ -1,24 +1,25 @@
 //! The command `labels`.
 
-ghost use Rattle.std.specs.Prelude.{◌≡◌, true, [], IfOk};
+ghost use Rattle.std.specs.Prelude.{◌≡◌, ◌<◌, true, [], length, IfOk};
 ghost use Rattle.vd_constraints.specs.Rules.{system_of};
 ghost use Rattle.vd_constraints.specs.Satisfies.{IsLeast};
 ghost use Rattle.vd_outside.specs.Files.{FilesView};
 ghost use Rattle.vd_cmd_plan.specs.Plans.{Checks, Computes, Executes, ended};
 ghost use Rattle.vd_cmd_frontend.specs.Outcomes.{LabelOutcomes};
-ghost use Rattle.vd_cmd_frontend.specs.Labelling.{labels_of, offset_at, labels_text as text_of_labels, program_plan, labelled_plan, ExecutesLabels};
+ghost use Rattle.vd_cmd_frontend.specs.Labelling.{check_at, fault_of, labels_of, labels_text as text_of_labels, program_plan, labelled_plan, ExecutesLabels};
 
 use crate::sources::load_source;
-use std::alloc::Global;
+use std::alloc::{AllocError, Global};
+use vd_base::{Name, Names};
 use vd_base_lists::Items;
-use vd_cmd_plan::{Answer, Status};
+use vd_cmd_plan::{Answer, FlowFault, Status};
 use vd_constraints::{Check, Labels, constraints};
-use vd_core::Program;
+use vd_core::{NormalForm, Program};
 use vd_elaborate::elaborate;
 use vd_outside::Files;
 use vd_report::labels_text;
 use vd_resolve::Resolved;
-use vd_solver::solve;
+use vd_solver::{solve, solve_rules};
 
 /// The least labels of a program, or the first check that fails.
 pub fn least_labels(alloc: Global, program: &Program) -> Result<Labels, Status>
@@ -30,18 +31,47 @@ pub fn least_labels(alloc: Global, program: &Program) -> Result<Labels, Status>
     let solved = solve(alloc, &system)?;
     match solved {
         Ok(labels) => Ok(labels),
-        Err(check) => Err(Status::Flow(check, offset_at(checks, check))),
+        Err(number) => {
+            let solution = solve_rules(alloc, &system)?;
+            let fault = flow_fault(alloc, program.form(), checks, &solution, number)?;
+            Err(Status::Flow(fault))
+        }
     }
 }
 
-/// Where in the source the statement of a check stands.
-fn offset_at(checks: &[Check], place: u32) -> u32
-    ensures { result ≡ offset_at checks.now place }
+/// What is told of the check of a program with this number, which fails at this solution of the rules.
+fn flow_fault(
+    alloc: Global,
+    form: &NormalForm,
+    checks: &[Check],
+    solution: &Labels,
+    number: u32,
+) -> Result<FlowFault, AllocError>
+    requires { number < length checks.now }
+    ensures { IfOk result (λ fault. fault ≡ fault_of form.now solution.now number (check_at checks.now number)) }
 {
-    match checks.get(place as usize) {
-        Some(check) => check.offset,
-        None => 0,
+    let check = checks[number as usize];
+    let principals = copy_of(alloc, &form.principals)?;
+    let hosts = copy_of(alloc, &form.hosts)?;
+    Ok(FlowFault {
+        number,
+        check,
+        asked: solution.part(check.part),
+        principals,
+        hosts,
+    })
+}
+
+/// A copy of these names.
+fn copy_of(alloc: Global, names: &Names) -> Result<Names, AllocError>
+    ensures { IfOk result (λ copy. copy ≡ names.now) }
+{
+    let mut copy = Names::new(alloc);
+    for name in names.as_slice() {
+        let name = Name::from_slice(alloc, name.as_slice())?;
+        copy.push(name)?;
     }
+    Ok(copy)
 }
 
 /// Prints the labels of a program's slots.

@@ -1,24 +1,24 @@
 //! The source of a command.
 
-ghost use Rattle.std.specs.Prelude.{◌≡◌, ◌≤◌, ℕ, List, length, Ok, IfOk};
+ghost use Rattle.std.specs.Prelude.{◌≡◌, ◌≢◌, ◌≤◌, ℕ, List, length, Ok, IfOk};
 ghost use Rattle.vd_base.specs.Limits.{most_source_bytes};
 ghost use Rattle.vd_core.specs.Named.{HasNames};
 ghost use Rattle.vd_semantics.specs.SourceMeaning.{host_names};
 ghost use Rattle.vd_parser.specs.Outcomes.{IsParse};
-ghost use Rattle.vd_resolve.specs.Faults.{bare};
+ghost use Rattle.vd_parser.specs.declared.fault.ParseFault.TheVariants as parse_fault;
 ghost use Rattle.vd_cmd_plan.specs.Held.{Finds};
 ghost use Rattle.vd_cmd_plan.specs.Plans.{Checks, ExecutesStep};
 ghost use Rattle.vd_cmd_frontend.specs.Outcomes.{TextOutcomes};
-ghost use Rattle.vd_cmd_frontend.specs.Sources.{HoldsSource, HoldsTree, source_of, tree_then, resolved_of, rule_status, source_then};
+ghost use Rattle.vd_cmd_frontend.specs.Sources.{HoldsSource, HoldsTree, source_of, tree_then, resolved_of, source_then, text_status};
 
 use std::alloc::{AllocError, Global};
 use vd_base::limits::SOURCE_BYTES;
 use vd_base::{Name, Names};
-use vd_cmd_plan::{RuleFault, Status, SyntaxFault, load};
+use vd_cmd_plan::{Status, load, rule_status};
 use vd_core::Source;
 use vd_outside::Files;
 use vd_parser::{ParseFault, parse};
-use vd_resolve::{NameFault, Resolved, resolve};
+use vd_resolve::{Resolved, resolve};
 
 /// The tree of a text, or why it is no source.
 pub fn read_source(alloc: Global, bytes: &[u8]) -> Result<Source, Status>
@@ -29,13 +29,19 @@ pub fn read_source(alloc: Global, bytes: &[u8]) -> Result<Source, Status>
 {
     match parse(alloc, bytes) {
         Ok(source) => Ok(source),
-        Err(ParseFault::BadByte(offset)) => Err(Status::Syntax(SyntaxFault::BadByte(offset))),
-        Err(ParseFault::Unexpected(_, offset)) => Err(Status::Syntax(SyntaxFault::Unexpected(
-            offset,
-        ))),
-        Err(ParseFault::TooDeep(offset)) => Err(Status::Syntax(SyntaxFault::Nesting(offset))),
-        Err(ParseFault::TooLong(_)) => unreachable!(),
-        Err(ParseFault::Memory) => Err(Status::Memory),
+        Err(fault) => Err(text_status(fault)),
+    }
+}
+
+/// The status of a text that is no source, and is not too long for one.
+fn text_status(fault: ParseFault) -> Status
+    requires { (length : ℕ) → fault ≢ parse_fault.TooLong length }
+    ensures { (name : List ℕ) → result ≡ text_status name fault }
+{
+    match fault {
+        ParseFault::TooLong(_) => unreachable!(),
+        ParseFault::Memory => Status::Memory,
+        _ => Status::Syntax(fault),
     }
 }
 
@@ -47,21 +53,6 @@ fn load_tree<F: Files>(alloc: Global, files: &mut F, name: &str) -> Result<Sourc
 {
     let bytes = load(alloc, files, name, SOURCE_BYTES)?;
     read_source(alloc, bytes.as_slice())
-}
-
-/// The status of a refusal.
-fn rule_status(fault: NameFault) -> Status
-    ensures { result ≡ rule_status (bare fault) }
-{
-    match fault {
-        NameFault::Unknown(span) => Status::Names(RuleFault::Unknown(span.start)),
-        NameFault::Twice(span, _) => Status::Names(RuleFault::Twice(span.start)),
-        NameFault::Recursive(span) => Status::Names(RuleFault::Recursive(span.start)),
-        NameFault::Arity(span) => Status::Names(RuleFault::Arity(span.start)),
-        NameFault::Kind(span, _) => Status::Names(RuleFault::Kind(span.start)),
-        NameFault::Limit(which, count) => Status::Names(RuleFault::Limit(which, count)),
-        NameFault::Memory => Status::Memory,
-    }
 }
 
 /// The source, if it meets every rule on names, kinds and limits.

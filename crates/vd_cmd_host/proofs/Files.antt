@@ -13,7 +13,7 @@ use Rattle.vd_cmd_host.specs.Loading.{EndsLoading, IsDealEnd, IsFileCause, IsInp
 abbrev pub IsRead : Status → Type 0
 IsRead Memory = Unit {0}
 IsRead (InputText cause) = Unit {0}
-IsRead (DealText name offset) = Unit {0}
+IsRead (DealText name number offset) = Unit {0}
 IsRead (Host (host_status.ProgramText offset)) = Unit {0}
 IsRead (Host (host_status.ProgramRange number)) = Unit {0}
 IsRead other = ⊥
@@ -31,7 +31,7 @@ inputs_read hosts bytes other is = absurd is
 
 pub deal_read : (hosts : List (List ℕ)) (me : ℕ) (bytes : List ℕ) (status : Status) → IsDealEnd hosts me bytes status → IsRead status
 deal_read hosts me bytes Memory is = tt
-deal_read hosts me bytes (DealText name offset) is = tt
+deal_read hosts me bytes (DealText name number offset) is = tt
 deal_read hosts me bytes other is = absurd is
 
 module _ {T : Type 0} (name : List ℕ) (limit : ℕ) (Gives : List ℕ → T → Type 0) (IsEnd : List ℕ → Status → Type 0) (before now : FilesView) where
@@ -110,7 +110,7 @@ module _ {T : Type 0} (name : List ℕ) (limit : ℕ) (Gives : List ℕ → T �
     pub refused : (status : Status) → IsRead status → IsEnd bytes status → LoadsFile {T = T} name limit Gives IsEnd before now (Err status)
     refused Memory read is = refused_with Memory tt (λ file e. cc e) (λ t. tt)
     refused (InputText cause) read is = refused_with (InputText cause) tt (λ file e. cc e) (λ t. record { bytes = bytes; is_fetched = loads.given t; holds = is })
-    refused (DealText host offset) read is = refused_with (DealText host offset) tt (λ file e. cc e) (λ t. record { bytes = bytes; is_fetched = loads.given t; holds = is })
+    refused (DealText host number offset) read is = refused_with (DealText host number offset) tt (λ file e. cc e) (λ t. record { bytes = bytes; is_fetched = loads.given t; holds = is })
     refused (Host (host_status.ProgramText offset)) read is =
         refused_with (Host (host_status.ProgramText offset)) tt (λ file e. cc e) (λ t. record { bytes = bytes; is_fetched = loads.given t; holds = is })
     refused (Host (host_status.ProgramRange number)) read is =

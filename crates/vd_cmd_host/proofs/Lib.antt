@@ -4,5 +4,6 @@ mod InputLists
 mod Loadings
 pub mod Marked
 mod Named
+mod Refusals
 mod Running
 mod Runs

@@ -15,10 +15,8 @@ use Rattle.vd_cmd_plan.specs.Plans.{GrowsWithin, IsLast, fetch_calls}
 use Rattle.vd_cmd_plan.specs.declared.status.HostStatus.TheVariants as host_status
 use Rattle.vd_cmd_plan.specs.declared.status.Status.{Status}
 use Rattle.vd_cmd_plan.specs.declared.status.Status.TheVariants as status
-use Rattle.vd_cmd_plan.specs.declared.status.TextFault.TheVariants as text_fault
 use Rattle.vd_report.specs.InputsText.{GivesInputs, IsInputsText}
 use Rattle.vd_report.specs.Outcome.{FirstWrong}
-use Rattle.vd_report.specs.declared.fault.ReadFault.TheVariants as read_fault
 use Rattle.vd_deal_versions.specs.Outcome.{IsFirstWrong}
 use Rattle.vd_deal_versions.specs.Text.{IsDealtFile, IsDealtOf}
 use Rattle.vd_tape.specs.Text.{IsDealOf}
@@ -42,13 +40,12 @@ IsProgramEnd bytes other = ⊥
 
 abbrev pub IsInputsEnd : (hosts : List (List ℕ)) → List ℕ → Status → Type 0
 IsInputsEnd hosts bytes status.Memory = Unit {0}
-IsInputsEnd hosts bytes (status.InputText (text_fault.Text offset)) = FirstWrong IsInputsText hosts bytes (read_fault.Text offset)
-IsInputsEnd hosts bytes (status.InputText (text_fault.UnknownHost offset)) = FirstWrong IsInputsText hosts bytes (read_fault.UnknownHost offset)
+IsInputsEnd hosts bytes (status.InputText fault) = FirstWrong IsInputsText hosts bytes fault
 IsInputsEnd hosts bytes other = ⊥
 
 abbrev pub IsDealEnd : (hosts : List (List ℕ)) → (me : ℕ) → List ℕ → Status → Type 0
 IsDealEnd hosts me bytes status.Memory = Unit {0}
-IsDealEnd hosts me bytes (status.DealText name offset) = (slice_get hosts me ≡ Some name) × IsFirstWrong (length hosts) me bytes (file_fault.Text offset)
+IsDealEnd hosts me bytes (status.DealText name number offset) = (slice_get hosts me ≡ Some name) × (number ≡ me) × IsFirstWrong (length hosts) me bytes (file_fault.Text offset)
 IsDealEnd hosts me bytes other = ⊥
 
 -- ---- one file
@@ -68,7 +65,7 @@ EndsLoading status.Usage = Unit {0}
 EndsLoading (status.ReadFault name) = Unit {0}
 EndsLoading (status.TooLong name limit) = Unit {0}
 EndsLoading (status.InputText cause) = Unit {0}
-EndsLoading (status.DealText name offset) = Unit {0}
+EndsLoading (status.DealText name number offset) = Unit {0}
 EndsLoading (status.Host (host_status.ProgramText offset)) = Unit {0}
 EndsLoading (status.Host (host_status.ProgramRange number)) = Unit {0}
 EndsLoading other = ⊥

@@ -12,12 +12,12 @@ use std::alloc::{AllocError, Global};
 use vd_base::limits::{DEAL_BYTES, HOST_FILE_BYTES, INPUTS_BYTES};
 use vd_base::{FileFault, HostId, Inputs, Name, Names, Words};
 use vd_cmd::HostWords;
-use vd_cmd_plan::{HostStatus, Status, TextFault, load};
+use vd_cmd_plan::{HostStatus, Status, input_status, load};
 use vd_deal_versions::{Dealt, read_dealt};
 use vd_host_text::HostProgram;
 use vd_hostcode::{CodeFault, read};
 use vd_outside::Files;
-use vd_report::{ReadFault, read_inputs};
+use vd_report::read_inputs;
 
 /// What a host's files hold: its program, its inputs and its deal.
 #[derive(Drop)]
@@ -49,11 +49,7 @@ fn inputs_in(alloc: Global, bytes: &[u8], hosts: &Names) -> Result<Inputs, Statu
 {
     match read_inputs(alloc, bytes, hosts) {
         Ok(inputs) => Ok(inputs),
-        Err(ReadFault::Text(offset)) => Err(Status::InputText(TextFault::Text(offset))),
-        Err(ReadFault::UnknownHost(offset)) => Err(Status::InputText(TextFault::UnknownHost(
-            offset,
-        ))),
-        Err(ReadFault::Memory) => Err(Status::Memory),
+        Err(fault) => Err(input_status(fault)),
     }
 }
 
@@ -87,7 +83,7 @@ fn deal_in(alloc: Global, bytes: &[u8], hosts: &Names, me: HostId) -> Result<Dea
         Ok(dealt) => Ok(dealt),
         Err(FileFault::Text(offset)) => {
             let name = own_name(alloc, hosts, me)?;
-            Err(Status::DealText(name, offset))
+            Err(Status::DealText(name, me.0, offset))
         }
         Err(FileFault::Memory) => Err(Status::Memory),
     }

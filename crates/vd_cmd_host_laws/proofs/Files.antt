@@ -14,12 +14,10 @@ use Rattle.vd_cmd_plan.specs.Held.{IsHeld}
 use Rattle.vd_cmd_plan.specs.declared.status.HostStatus.TheVariants as host_status
 use Rattle.vd_cmd_plan.specs.declared.status.Status.{Status}
 use Rattle.vd_cmd_plan.specs.declared.status.Status.TheVariants.{DealText, Host, InputText, Memory, ReadFault, TooLong}
-use Rattle.vd_cmd_plan.specs.declared.status.TextFault.TheVariants as text_fault
 use Rattle.vd_report.specs.Inputs.{inputs_read}
 use Rattle.vd_report.specs.InputsText.{GivesInputs, IsInputsText}
 use Rattle.vd_report.specs.Outcome.{FirstWrong}
 use Rattle.vd_report.specs.declared.fault.ReadFault.{ReadFault as InputsFault}
-use Rattle.vd_report.specs.declared.fault.ReadFault.TheVariants as read_fault
 use Rattle.vd_report.proofs.InputsFaults.{follows_grammar}
 use Rattle.vd_deal_versions.specs.Reading.{dealt_read}
 use Rattle.vd_deal_versions.specs.Text.{IsDealtFile}
@@ -99,13 +97,12 @@ program_wrong program bytes other is wrong = absurd wrong
 
 inputs_wrong : (hosts : List (List ℕ)) (me : ℕ) (own bytes : List ℕ) (end : Status) → AreInputsOf hosts me bytes own → IsInputsEnd hosts bytes end → end ≡ Memory
 inputs_wrong hosts me own bytes Memory is wrong = refl
-inputs_wrong hosts me own bytes (InputText (text_fault.Text offset)) is wrong = absurd (no_inputs_fault hosts bytes is.0 (read_fault.Text offset) is.1 wrong)
-inputs_wrong hosts me own bytes (InputText (text_fault.UnknownHost offset)) is wrong = absurd (no_inputs_fault hosts bytes is.0 (read_fault.UnknownHost offset) is.1 wrong)
+inputs_wrong hosts me own bytes (InputText fault) is wrong = absurd (no_inputs_fault hosts bytes is.0 fault is.1 wrong)
 inputs_wrong hosts me own bytes other is wrong = absurd wrong
 
 deal_wrong : (hosts : List (List ℕ)) (me : ℕ) (deal : Dealt) (bytes : List ℕ) (end : Status) → IsDealtFile (length hosts) me bytes deal → IsDealEnd hosts me bytes end → end ≡ Memory
 deal_wrong hosts me deal bytes Memory is wrong = refl
-deal_wrong hosts me deal bytes (DealText name offset) is wrong = absurd (wrong.1.1.no_text (deal, is))
+deal_wrong hosts me deal bytes (DealText name number offset) is wrong = absurd (wrong.2.1.no_text (deal, is))
 deal_wrong hosts me deal bytes other is wrong = absurd wrong
 
 -- ---- a host

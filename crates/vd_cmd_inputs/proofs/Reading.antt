@@ -46,19 +46,19 @@ pub deal_given : (outcomes : ReplayOutcomes) (hosts me : ℕ) (name bytes : List
 deal_given outcomes hosts me name bytes deal few declared accepts refuses =
     at (outcomes.deal hosts me bytes) (deal_answered hosts me bytes (Ok deal) (λ e. cc e) accepts refuses (outcomes.deal hosts me bytes) (outcomes.deal_is hosts me bytes few declared))
   where
-    at : (said : Result Deal ℕ) → Ok deal ≡ as_read said → as_deal name said ≡ Ok deal
+    at : (said : Result Deal ℕ) → Ok deal ≡ as_read said → as_deal name me said ≡ Ok deal
     at (Ok other) e = let same : other ≡ deal = cc e in ap (λ (d : Deal). Ok d) same
     at (Err offset) e = absurd (cc e)
 
 pub deal_refused : (outcomes : ReplayOutcomes) (hosts me : ℕ) (name bytes : List ℕ) (offset : ℕ) → hosts ≤ most_hosts → me < hosts
-    → Accepts hosts me bytes (Err (file_fault.Text offset)) → Refuses hosts me bytes (Err (file_fault.Text offset)) → deal_of outcomes hosts me name bytes ≡ Err (DealText name offset)
+    → Accepts hosts me bytes (Err (file_fault.Text offset)) → Refuses hosts me bytes (Err (file_fault.Text offset)) → deal_of outcomes hosts me name bytes ≡ Err (DealText name me offset)
 deal_refused outcomes hosts me name bytes offset few declared accepts refuses =
     at (outcomes.deal hosts me bytes)
     (deal_answered hosts me bytes (Err (file_fault.Text offset)) (λ e. cc e) accepts refuses (outcomes.deal hosts me bytes) (outcomes.deal_is hosts me bytes few declared))
   where
-    at : (said : Result Deal ℕ) → Err (file_fault.Text offset) ≡ as_read said → as_deal name said ≡ Err (DealText name offset)
+    at : (said : Result Deal ℕ) → Err (file_fault.Text offset) ≡ as_read said → as_deal name me said ≡ Err (DealText name me offset)
     at (Ok other) e = absurd (cc e)
-    at (Err other) e = let same : capped other ≡ offset = cc e in ap (λ (n : ℕ). Err (DealText name n)) same
+    at (Err other) e = let same : capped other ≡ offset = cc e in ap (λ (n : ℕ). Err (DealText name me n)) same
 
 module _ (outcomes : ReplayOutcomes) (prefix : List ℕ) (hosts number : ℕ) (name : List ℕ) where
   pub deal_err : (file : List ℕ) (before now : FilesView) (status : Status) → file ≡ file_name prefix number (codes ".deal") → Loads file most_deal_bytes before now (Err status)

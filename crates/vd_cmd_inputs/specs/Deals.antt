@@ -13,13 +13,13 @@ use Rattle.vd_cmd_plan.specs.declared.status.Status.{Status}
 use Rattle.vd_cmd_plan.specs.declared.status.Status.TheVariants.{BadDeal, DealText}
 use Rattle.vd_report_outcomes.specs.Outcomes.{ReplayOutcomes}
 
-abbrev pub as_deal : List ℕ → Result Deal ℕ → Result Deal Status
-as_deal name (Ok deal) = Ok deal
-as_deal name (Err offset) = Err (DealText name (capped offset))
+abbrev pub as_deal : List ℕ → (number : ℕ) → Result Deal ℕ → Result Deal Status
+as_deal name number (Ok deal) = Ok deal
+as_deal name number (Err offset) = Err (DealText name number (capped offset))
 
 -- the deal of the host with this name and number, among so many, or the status of its refusal
 abbrev pub deal_of : ReplayOutcomes → (hosts number : ℕ) → List ℕ → List ℕ → Result Deal Status
-deal_of outcomes hosts number name bytes = as_deal name (outcomes.deal hosts number bytes)
+deal_of outcomes hosts number name bytes = as_deal name number (outcomes.deal hosts number bytes)
 
 -- fetch the deal of a host and go on with it
 unfoldable pub deal_then : ReplayOutcomes → (prefix : List ℕ) → (hosts number : ℕ) → (name : List ℕ) → (Deal → Contents → Plan) → Contents → Plan

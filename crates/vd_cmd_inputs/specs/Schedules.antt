@@ -3,22 +3,15 @@ use Rattle.std.specs.Prelude.{ℕ, List, Result, Ok, Err}
 use Rattle.vd_base.specs.Limits.{most_schedule_bytes}
 use Rattle.vd_outside.specs.Files.{FilesView, Contents}
 use Rattle.vd_report.specs.declared.fault.ReadFault.{ReadFault}
-use Rattle.vd_report.specs.declared.fault.ReadFault.TheVariants as read_fault
 use Rattle.vd_report.specs.declared.schedule.Schedule.{Schedule}
 use Rattle.vd_report.specs.ScheduleText.{GivesSchedule}
 use Rattle.vd_cmd_plan.specs.Held.{IsHeld}
 use Rattle.vd_cmd_plan.specs.Plans.{Plan, ExecutesStep, file_then, check_then}
+use Rattle.vd_cmd_plan.specs.Refusals.{schedule_status}
 use Rattle.vd_cmd_plan.specs.declared.status.Status.{Status}
-use Rattle.vd_cmd_plan.specs.declared.status.Status.TheVariants.{Memory, ScheduleText}
-use Rattle.vd_cmd_plan.specs.declared.status.TextFault.TheVariants.{Text, UnknownHost}
 use Rattle.vd_report_outcomes.specs.Outcomes.{ReplayOutcomes}
 
--- the status of a refusal of a schedule
-abbrev pub schedule_status : ReadFault → Status
-schedule_status (read_fault.Text offset) = ScheduleText (Text offset)
-schedule_status (read_fault.UnknownHost offset) = ScheduleText (UnknownHost offset)
-schedule_status read_fault.Memory = Memory
-
+-- the schedule, or the status of a refusal
 abbrev pub as_schedule : Result Schedule ReadFault → Result Schedule Status
 as_schedule (Ok schedule) = Ok schedule
 as_schedule (Err fault) = Err (schedule_status fault)

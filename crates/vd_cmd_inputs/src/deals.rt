@@ -30,7 +30,7 @@ fn deal_in(alloc: Global, bytes: &[u8], hosts: u8, number: u8, name: &Name) -> R
         Ok(deal) => Ok(deal),
         Err(FileFault::Text(offset)) => {
             let name = Name::from_slice(alloc, name.as_slice())?;
-            Err(Status::DealText(name, offset))
+            Err(Status::DealText(name, number, offset))
         }
         Err(FileFault::Memory) => Err(Status::Memory),
     }

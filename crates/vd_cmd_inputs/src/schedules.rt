@@ -6,25 +6,14 @@ ghost use Rattle.vd_cmd_plan.specs.Held.{Finds};
 ghost use Rattle.vd_cmd_plan.specs.Plans.{Checks};
 ghost use Rattle.vd_report.specs.ScheduleText.{GivesSchedule};
 ghost use Rattle.vd_report_outcomes.specs.Outcomes.{ReplayOutcomes};
-ghost use Rattle.vd_cmd_inputs.specs.Schedules.{HoldsSchedule, LoadsSchedule, schedule_of, schedule_status};
+ghost use Rattle.vd_cmd_inputs.specs.Schedules.{HoldsSchedule, LoadsSchedule, schedule_of};
 
 use std::alloc::Global;
 use vd_base::Names;
 use vd_base::limits::SCHEDULE_BYTES;
-use vd_cmd_plan::{Status, TextFault, load};
+use vd_cmd_plan::{Status, load, schedule_status};
 use vd_outside::Files;
-use vd_report::{ReadFault, Schedule, read_schedule};
-
-/// The status of a refusal.
-fn schedule_status(fault: ReadFault) -> Status
-    ensures { result ≡ schedule_status fault }
-{
-    match fault {
-        ReadFault::Text(offset) => Status::ScheduleText(TextFault::Text(offset)),
-        ReadFault::UnknownHost(offset) => Status::ScheduleText(TextFault::UnknownHost(offset)),
-        ReadFault::Memory => Status::Memory,
-    }
-}
+use vd_report::{Schedule, read_schedule};
 
 /// The schedule that a text gives for these hosts, or why it gives none.
 fn schedule_in(alloc: Global, bytes: &[u8], hosts: &Names) -> Result<Schedule, Status>

@@ -7,6 +7,7 @@ pub mod WholeRuns
 pub mod Numbering
 pub mod Following
 mod SignedLines
+mod Carried
 mod DealLines
 pub mod Finding
 mod ShownNames

@@ -4,5 +4,6 @@ pub mod Held
 pub mod Deliver
 pub mod Runs
 pub mod Lines
+pub mod Refusals
 pub mod Numbered
 pub mod Shown

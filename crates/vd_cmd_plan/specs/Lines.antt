@@ -4,19 +4,19 @@ use Rattle.std.specs.Fmt.{decimal, signed_decimal}
 use Rattle.vd_outside.specs.Causes.{Rose}
 use Rattle.vd_outside.specs.Sink.{SinkView}
 use Rattle.vd_cmd_plan.specs.Shown.{shown}
-use Rattle.vd_cmd_plan.specs.declared.status.SyntaxFault.{SyntaxFault}
-use Rattle.vd_cmd_plan.specs.declared.status.SyntaxFault.TheVariants.{BadByte, Unexpected, Nesting}
+use Rattle.vd_parser.specs.declared.fault.ParseFault.{ParseFault}
+use Rattle.vd_parser.specs.declared.fault.ParseFault.TheVariants as parse_fault
+use Rattle.vd_bound.specs.declared.checking.CheckFault.{CheckFault}
+use Rattle.vd_bound.specs.declared.checking.CheckFault.TheVariants as check_fault
+use Rattle.vd_report.specs.declared.fault.ReadFault.{ReadFault as TextFault}
+use Rattle.vd_report.specs.declared.fault.ReadFault.TheVariants as read_fault
 use Rattle.vd_deal_items.specs.declared.deal.BadItem.{BadItem}
 use Rattle.vd_deal_items.specs.declared.deal.DealKind.{DealKind}
 use Rattle.vd_deal_items.specs.declared.deal.DealKind.TheVariants as deal_kind
 use Rattle.vd_resolve.specs.declared.fault.Quantity.{Quantity}
 use Rattle.vd_resolve.specs.declared.fault.Quantity.TheVariants as quantity
-use Rattle.vd_cmd_plan.specs.declared.status.RuleFault.{RuleFault}
-use Rattle.vd_cmd_plan.specs.declared.status.RuleFault.TheVariants as rule
-use Rattle.vd_cmd_plan.specs.declared.status.TextFault.{TextFault}
-use Rattle.vd_cmd_plan.specs.declared.status.TextFault.TheVariants.{Text, UnknownHost}
-use Rattle.vd_cmd_plan.specs.declared.status.CertificateFault.{CertificateFault}
-use Rattle.vd_cmd_plan.specs.declared.status.CertificateFault.TheVariants as cert
+use Rattle.vd_resolve.specs.declared.fault.NameFault.{NameFault}
+use Rattle.vd_resolve.specs.declared.fault.NameFault.TheVariants as name_fault
 use Rattle.vd_cmd_plan.specs.declared.status.HostStatus.{HostStatus}
 use Rattle.vd_cmd_plan.specs.declared.status.HostStatus.TheVariants as host_status
 use Rattle.vd_cmd_plan.specs.declared.status.ChildCause.{ChildCause}
@@ -45,11 +45,11 @@ code_of WriteFault = 4
 code_of (TooLong name limit) = 5
 code_of (Syntax fault) = 6
 code_of (Names fault) = 7
-code_of (Flow check offset) = 8
+code_of (Flow fault) = 8
 code_of NoAssignment = 9
 code_of (Spent budget) = 10
 code_of (InputText fault) = 11
-code_of (DealText name offset) = 12
+code_of (DealText name number offset) = 12
 code_of (ScheduleText fault) = 13
 code_of (CertificateText offset) = 15
 code_of (BadDeal bad) = 16
@@ -68,10 +68,15 @@ code_of (ShortKey name length) = 34
 abbrev pub offset_line : List ℕ → ℕ → List ℕ
 offset_line text offset = text ++ (decimal offset ++ codes "\n")
 
-abbrev pub syntax_line : SyntaxFault → List ℕ
-syntax_line (BadByte offset) = offset_line (codes "viaduct: bad byte at ") offset
-syntax_line (Unexpected offset) = offset_line (codes "viaduct: unexpected token at ") offset
-syntax_line (Nesting offset) = offset_line (codes "viaduct: nesting at ") offset
+abbrev pub memory_line : List ℕ
+memory_line = codes "viaduct: memory\n"
+
+abbrev pub syntax_line : ParseFault → List ℕ
+syntax_line (parse_fault.BadByte offset) = offset_line (codes "viaduct: bad byte at ") offset
+syntax_line (parse_fault.Unexpected token offset) = offset_line (codes "viaduct: unexpected token at ") offset
+syntax_line (parse_fault.TooDeep offset) = offset_line (codes "viaduct: nesting at ") offset
+syntax_line (parse_fault.TooLong length) = codes "viaduct: too long\n"
+syntax_line parse_fault.Memory = memory_line
 
 abbrev pub quantity_name : Quantity → List ℕ
 quantity_name quantity.Principals = codes "principals"
@@ -81,24 +86,33 @@ quantity_name quantity.Statements = codes "statements"
 quantity_name quantity.Weights = codes "weights"
 quantity_name quantity.Cells = codes "cells"
 
-abbrev pub rule_line : RuleFault → List ℕ
-rule_line (rule.Unknown offset) = offset_line (codes "viaduct: unknown name at ") offset
-rule_line (rule.Twice offset) = offset_line (codes "viaduct: name twice at ") offset
-rule_line (rule.Recursive offset) = offset_line (codes "viaduct: recursive call at ") offset
-rule_line (rule.Arity offset) = offset_line (codes "viaduct: arity at ") offset
-rule_line (rule.Kind offset) = offset_line (codes "viaduct: kind at ") offset
-rule_line (rule.Limit which count) = codes "viaduct: limit " ++ (quantity_name which ++ (codes " " ++ (decimal count ++ codes "\n")))
+abbrev pub limit_line : Quantity → (count : ℕ) → List ℕ
+limit_line which count = codes "viaduct: limit " ++ (quantity_name which ++ (codes " " ++ (decimal count ++ codes "\n")))
+
+abbrev pub rule_line : NameFault → List ℕ
+rule_line (name_fault.Unknown at) = offset_line (codes "viaduct: unknown name at ") at.start
+rule_line (name_fault.Twice at first) = offset_line (codes "viaduct: name twice at ") at.start
+rule_line (name_fault.Recursive at) = offset_line (codes "viaduct: recursive call at ") at.start
+rule_line (name_fault.Arity at) = offset_line (codes "viaduct: arity at ") at.start
+rule_line (name_fault.Kind at met) = offset_line (codes "viaduct: kind at ") at.start
+rule_line (name_fault.Limit which count) = limit_line which count
+rule_line name_fault.Memory = memory_line
+
+abbrev pub flow_line : (check offset : ℕ) → List ℕ
+flow_line check offset = codes "viaduct: flow check " ++ (decimal check ++ (codes " at " ++ (decimal offset ++ codes "\n")))
 
 abbrev pub input_line : TextFault → List ℕ
-input_line (Text offset) = offset_line (codes "viaduct: input text at ") offset
-input_line (UnknownHost offset) = offset_line (codes "viaduct: input host at ") offset
+input_line (read_fault.Text offset) = offset_line (codes "viaduct: input text at ") offset
+input_line (read_fault.UnknownHost offset) = offset_line (codes "viaduct: input host at ") offset
+input_line read_fault.Memory = memory_line
 
 abbrev pub deal_line : List ℕ → ℕ → List ℕ
 deal_line name offset = codes "viaduct: deal text " ++ (shown name ++ offset_line (codes " at ") offset)
 
 abbrev pub schedule_line : TextFault → List ℕ
-schedule_line (Text offset) = offset_line (codes "viaduct: schedule text at ") offset
-schedule_line (UnknownHost offset) = offset_line (codes "viaduct: schedule host at ") offset
+schedule_line (read_fault.Text offset) = offset_line (codes "viaduct: schedule text at ") offset
+schedule_line (read_fault.UnknownHost offset) = offset_line (codes "viaduct: schedule host at ") offset
+schedule_line read_fault.Memory = memory_line
 
 abbrev pub kind_name : DealKind → List ℕ
 kind_name deal_kind.Own = codes "own"
@@ -123,13 +137,14 @@ abbrev pub bound_line : ℕ → ℤ → ℕ → List ℕ
 bound_line mark bound cost =
     codes "viaduct: cert refused not bounded " ++ (decimal mark ++ (codes " " ++ (signed_decimal bound ++ (codes " " ++ (decimal cost ++ codes "\n")))))
 
-abbrev pub certificate_line : CertificateFault → List ℕ
-certificate_line (cert.Shift shift) = offset_line (codes "viaduct: cert refused shift ") shift
-certificate_line (cert.Shape mark) = offset_line (codes "viaduct: cert refused shape ") mark
-certificate_line cert.BestInvalid = codes "viaduct: cert refused best invalid\n"
-certificate_line (cert.Cost stated own) = cost_line stated own
-certificate_line (cert.NotViolated mark) = offset_line (codes "viaduct: cert refused not violated ") mark
-certificate_line (cert.NotBounded mark bound cost) = bound_line mark bound cost
+abbrev pub certificate_line : CheckFault → List ℕ
+certificate_line (check_fault.BadShift shift) = offset_line (codes "viaduct: cert refused shift ") shift
+certificate_line (check_fault.Shape mark) = offset_line (codes "viaduct: cert refused shape ") mark
+certificate_line check_fault.BestInvalid = codes "viaduct: cert refused best invalid\n"
+certificate_line (check_fault.CostWrong stated own) = cost_line stated own
+certificate_line (check_fault.NotViolated mark) = offset_line (codes "viaduct: cert refused not violated ") mark
+certificate_line (check_fault.NotBounded mark bound cost) = bound_line mark bound cost
+certificate_line check_fault.Memory = memory_line
 
 -- a text that ends in a name, which is shown without control characters; with a number of bytes behind it; and one that ends in two numbers
 abbrev pub name_line : List ℕ → List ℕ → List ℕ
@@ -172,18 +187,18 @@ child_line name cause = codes "viaduct: child fault " ++ (shown name ++ cause_te
 -- Ended has no line.
 abbrev pub status_line : Status → List ℕ
 status_line Ended = []
-status_line Memory = codes "viaduct: memory\n"
+status_line Memory = memory_line
 status_line Usage = codes "viaduct: usage\n"
 status_line (ReadFault name) = name_line (codes "viaduct: read fault ") name
 status_line WriteFault = codes "viaduct: write fault\n"
 status_line (TooLong name limit) = sized_line (codes "viaduct: too long ") name limit
 status_line (Syntax fault) = syntax_line fault
 status_line (Names fault) = rule_line fault
-status_line (Flow check offset) = codes "viaduct: flow check " ++ (decimal check ++ (codes " at " ++ (decimal offset ++ codes "\n")))
+status_line (Flow fault) = flow_line fault.number fault.check.offset
 status_line NoAssignment = codes "viaduct: no assignment\n"
 status_line (Spent budget) = offset_line (codes "viaduct: budget spent ") budget
 status_line (InputText fault) = input_line fault
-status_line (DealText name offset) = deal_line name offset
+status_line (DealText name number offset) = deal_line name offset
 status_line (ScheduleText fault) = schedule_line fault
 status_line (BadDeal bad) = bad_deal_line bad
 status_line (CertificateText offset) = offset_line (codes "viaduct: cert text at ") offset

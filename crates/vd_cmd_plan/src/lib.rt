@@ -8,6 +8,7 @@ mod host_lines;
 mod lines;
 mod loading;
 mod numbered;
+mod refusals;
 mod shown;
 mod status;
 
@@ -17,7 +18,6 @@ pub use ending::{finish, print_text};
 pub use lines::tell;
 pub use loading::load;
 pub use numbered::file_name;
+pub use refusals::{check_status, input_status, rule_status, schedule_status};
 pub use shown::shown_byte;
-pub use status::{
-    CertificateFault, ChildCause, HostStatus, RuleFault, Status, SyntaxFault, TextFault,
-};
+pub use status::{ChildCause, FlowFault, HostStatus, Status};

@@ -2,20 +2,21 @@
 
 ghost use Rattle.std.specs.Prelude.{◌≡◌, IfSome};
 ghost use Rattle.vd_outside.specs.Sink.{WritesAll};
-ghost use Rattle.vd_cmd_plan.specs.declared.status.RuleFault.TheVariants as rule;
-ghost use Rattle.vd_cmd_plan.specs.declared.status.Status.TheVariants.{Flow};
-ghost use Rattle.vd_cmd_plan.specs.Lines.{Says, bad_deal_line, bound_line, certificate_line, child_line, cost_line, deal_line, kind_name, name_line, schedule_line, sized_line, status_line, syntax_line, rule_line, input_line, offset_line, quantity_name};
+ghost use Rattle.vd_cmd_plan.specs.Lines.{Says, bad_deal_line, bound_line, certificate_line, child_line, cost_line, deal_line, flow_line, kind_name, limit_line, memory_line, name_line, schedule_line, sized_line, status_line, syntax_line, rule_line, input_line, offset_line, quantity_name};
 
 use crate::deliver::write_parts;
 use crate::host_lines::write_host_status;
 use crate::shown::write_named;
-use crate::{CertificateFault, ChildCause, RuleFault, Status, SyntaxFault, TextFault};
+use crate::{ChildCause, Status};
 use itoa::Buffer;
 use std::alloc::Global;
 use vd_base::Failed;
+use vd_bound::CheckFault;
 use vd_deal_items::{BadItem, DealKind};
 use vd_outside::{Recorder, Sink, write_all};
-use vd_resolve::Quantity;
+use vd_parser::ParseFault;
+use vd_report::ReadFault;
+use vd_resolve::{NameFault, Quantity};
 
 /// The most bytes of a line that is put together before it is written: as many as a pipe takes whole.
 const LINE_BYTES: usize = 4_096;
@@ -46,7 +47,7 @@ fn write_status<E: Sink>(err: &mut E, status: &Status) -> Result<(), Failed>
 {
     match status {
         Status::Ended => Ok(()),
-        Status::Memory => write_parts(err, &[b"viaduct: memory\n"]),
+        Status::Memory => write_memory(err),
         Status::Usage => write_parts(err, &[b"viaduct: usage\n"]),
         Status::ReadFault(name) => {
             write_name(err, b"viaduct: read fault ", name.as_str().as_bytes())
@@ -57,11 +58,11 @@ fn write_status<E: Sink>(err: &mut E, status: &Status) -> Result<(), Failed>
         }
         Status::Syntax(fault) => write_syntax_fault(err, *fault),
         Status::Names(fault) => write_rule_fault(err, *fault),
-        Status::Flow(check, offset) => write_flow(err, *check, *offset),
+        Status::Flow(fault) => write_flow(err, fault.number, fault.check.offset),
         Status::NoAssignment => write_parts(err, &[b"viaduct: no assignment\n"]),
         Status::Spent(budget) => write_offset(err, b"viaduct: budget spent ", *budget),
         Status::InputText(fault) => write_text_fault(err, *fault),
-        Status::DealText(name, offset) => write_deal_fault(err, name.as_slice(), *offset),
+        Status::DealText(name, _, offset) => write_deal_fault(err, name.as_slice(), *offset),
         Status::ScheduleText(fault) => write_schedule_fault(err, *fault),
         Status::CertificateText(offset) => write_offset(err, b"viaduct: cert text at ", *offset),
         Status::BadDeal(bad) => write_bad_deal(err, *bad),
@@ -94,18 +95,27 @@ fn write_sized<E: Sink>(err: &mut E, text: &[u8], name: &[u8], size: u32) -> Res
     write_named(err, text, name, &[b" ", number, b"\n"])
 }
 
+/// Writes the line of want of memory.
+fn write_memory<E: Sink>(err: &mut E) -> Result<(), Failed>
+    ensures { WritesAll memory_line (E.view err.old) (E.view err.new) result }
+{
+    write_parts(err, &[b"viaduct: memory\n"])
+}
+
 /// Writes the line of a fault of a source's text.
-fn write_syntax_fault<E: Sink>(err: &mut E, fault: SyntaxFault) -> Result<(), Failed>
+fn write_syntax_fault<E: Sink>(err: &mut E, fault: ParseFault) -> Result<(), Failed>
     ensures { WritesAll (syntax_line fault) (E.view err.old) (E.view err.new) result }
 {
     match fault {
-        SyntaxFault::BadByte(offset) => write_offset(err, b"viaduct: bad byte at ", offset),
-        SyntaxFault::Unexpected(offset) => write_offset(
+        ParseFault::BadByte(offset) => write_offset(err, b"viaduct: bad byte at ", offset),
+        ParseFault::Unexpected(_, offset) => write_offset(
             err,
             b"viaduct: unexpected token at ",
             offset,
         ),
-        SyntaxFault::Nesting(offset) => write_offset(err, b"viaduct: nesting at ", offset),
+        ParseFault::TooDeep(offset) => write_offset(err, b"viaduct: nesting at ", offset),
+        ParseFault::TooLong(_) => write_parts(err, &[b"viaduct: too long\n"]),
+        ParseFault::Memory => write_memory(err),
     }
 }
 
@@ -124,22 +134,23 @@ fn quantity_name(quantity: Quantity) -> &'static [u8]
 }
 
 /// Writes the line of a broken rule on names, kinds or sizes.
-fn write_rule_fault<E: Sink>(err: &mut E, fault: RuleFault) -> Result<(), Failed>
+fn write_rule_fault<E: Sink>(err: &mut E, fault: NameFault) -> Result<(), Failed>
     ensures { WritesAll (rule_line fault) (E.view err.old) (E.view err.new) result }
 {
     match fault {
-        RuleFault::Unknown(offset) => write_offset(err, b"viaduct: unknown name at ", offset),
-        RuleFault::Twice(offset) => write_offset(err, b"viaduct: name twice at ", offset),
-        RuleFault::Recursive(offset) => write_offset(err, b"viaduct: recursive call at ", offset),
-        RuleFault::Arity(offset) => write_offset(err, b"viaduct: arity at ", offset),
-        RuleFault::Kind(offset) => write_offset(err, b"viaduct: kind at ", offset),
-        RuleFault::Limit(which, count) => write_limit(err, which, count),
+        NameFault::Unknown(at) => write_offset(err, b"viaduct: unknown name at ", at.start),
+        NameFault::Twice(at, _) => write_offset(err, b"viaduct: name twice at ", at.start),
+        NameFault::Recursive(at) => write_offset(err, b"viaduct: recursive call at ", at.start),
+        NameFault::Arity(at) => write_offset(err, b"viaduct: arity at ", at.start),
+        NameFault::Kind(at, _) => write_offset(err, b"viaduct: kind at ", at.start),
+        NameFault::Limit(which, count) => write_limit(err, which, count),
+        NameFault::Memory => write_memory(err),
     }
 }
 
 /// Writes the line of a quantity above its limit.
 fn write_limit<E: Sink>(err: &mut E, which: Quantity, count: u32) -> Result<(), Failed>
-    ensures { WritesAll (rule_line (rule.Limit which count)) (E.view err.old) (E.view err.new) result }
+    ensures { WritesAll (limit_line which count) (E.view err.old) (E.view err.new) result }
 {
     let mut buffer = Buffer::new();
     let number = buffer.format(count).as_bytes();
@@ -155,9 +166,9 @@ fn write_limit<E: Sink>(err: &mut E, which: Quantity, count: u32) -> Result<(), 
     )
 }
 
-/// Writes the line of a failed flow check.
+/// Writes the line of a failed flow check, of the statement at this offset.
 fn write_flow<E: Sink>(err: &mut E, check: u32, offset: u32) -> Result<(), Failed>
-    ensures { WritesAll (status_line (Flow check offset)) (E.view err.old) (E.view err.new) result }
+    ensures { WritesAll (flow_line check offset) (E.view err.old) (E.view err.new) result }
 {
     let mut check_buffer = Buffer::new();
     let check = check_buffer.format(check).as_bytes();
@@ -170,12 +181,13 @@ fn write_flow<E: Sink>(err: &mut E, check: u32, offset: u32) -> Result<(), Faile
 }
 
 /// Writes the line of a fault of a hand-written file.
-fn write_text_fault<E: Sink>(err: &mut E, fault: TextFault) -> Result<(), Failed>
+fn write_text_fault<E: Sink>(err: &mut E, fault: ReadFault) -> Result<(), Failed>
     ensures { WritesAll (input_line fault) (E.view err.old) (E.view err.new) result }
 {
     match fault {
-        TextFault::Text(offset) => write_offset(err, b"viaduct: input text at ", offset),
-        TextFault::UnknownHost(offset) => write_offset(err, b"viaduct: input host at ", offset),
+        ReadFault::Text(offset) => write_offset(err, b"viaduct: input text at ", offset),
+        ReadFault::UnknownHost(offset) => write_offset(err, b"viaduct: input host at ", offset),
+        ReadFault::Memory => write_memory(err),
     }
 }
 
@@ -189,12 +201,13 @@ fn write_deal_fault<E: Sink>(err: &mut E, name: &[u8], offset: u32) -> Result<()
 }
 
 /// Writes the line of a fault of a schedule.
-fn write_schedule_fault<E: Sink>(err: &mut E, fault: TextFault) -> Result<(), Failed>
+fn write_schedule_fault<E: Sink>(err: &mut E, fault: ReadFault) -> Result<(), Failed>
     ensures { WritesAll (schedule_line fault) (E.view err.old) (E.view err.new) result }
 {
     match fault {
-        TextFault::Text(offset) => write_offset(err, b"viaduct: schedule text at ", offset),
-        TextFault::UnknownHost(offset) => write_offset(err, b"viaduct: schedule host at ", offset),
+        ReadFault::Text(offset) => write_offset(err, b"viaduct: schedule text at ", offset),
+        ReadFault::UnknownHost(offset) => write_offset(err, b"viaduct: schedule host at ", offset),
+        ReadFault::Memory => write_memory(err),
     }
 }
 
@@ -260,24 +273,21 @@ fn write_bad_deal<E: Sink>(err: &mut E, bad: BadItem) -> Result<(), Failed>
 }
 
 /// Writes the line of a certificate that is not accepted.
-fn write_certificate_fault<E: Sink>(err: &mut E, fault: CertificateFault) -> Result<(), Failed>
+fn write_certificate_fault<E: Sink>(err: &mut E, fault: CheckFault) -> Result<(), Failed>
     ensures { WritesAll (certificate_line fault) (E.view err.old) (E.view err.new) result }
 {
     match fault {
-        CertificateFault::Shift(shift) => write_offset(err, b"viaduct: cert refused shift ", shift),
-        CertificateFault::Shape(mark) => write_offset(err, b"viaduct: cert refused shape ", mark),
-        CertificateFault::BestInvalid => {
-            write_parts(err, &[b"viaduct: cert refused best invalid\n"])
-        }
-        CertificateFault::Cost(stated, own) => write_cost_fault(err, stated, own),
-        CertificateFault::NotViolated(mark) => write_offset(
+        CheckFault::BadShift(shift) => write_offset(err, b"viaduct: cert refused shift ", shift),
+        CheckFault::Shape(mark) => write_offset(err, b"viaduct: cert refused shape ", mark),
+        CheckFault::BestInvalid => { write_parts(err, &[b"viaduct: cert refused best invalid\n"]) }
+        CheckFault::CostWrong(stated, own) => write_cost_fault(err, stated, own),
+        CheckFault::NotViolated(mark) => write_offset(
             err,
             b"viaduct: cert refused not violated ",
             mark,
         ),
-        CertificateFault::NotBounded(mark, bound, cost) => {
-            write_bound_fault(err, mark, bound, cost)
-        }
+        CheckFault::NotBounded(mark, bound, cost) => write_bound_fault(err, mark, bound, cost),
+        CheckFault::Memory => write_memory(err),
     }
 }
 

@@ -5,63 +5,28 @@ ghost use Rattle.vd_cmd_plan.specs.declared.status.Status.TheVariants.{Memory};
 ghost use Rattle.vd_cmd_plan.specs.Lines.{code_of, host_code};
 
 use std::alloc::AllocError;
-use vd_base::{Name, Text};
+use vd_base::{Name, Names, Text};
+use vd_bound::CheckFault;
+use vd_constraints::Check;
 use vd_deal_items::{BadItem, DealKind};
-use vd_resolve::Quantity;
+use vd_formula::Formula;
+use vd_parser::ParseFault;
+use vd_report::ReadFault;
+use vd_resolve::NameFault;
 
-/// What is wrong with a source's text, and the offset at which it is.
-#[derive(Clone, Copy, Debug, PartialEq, Eq)]
-pub enum SyntaxFault {
-    /// A byte that starts no token.
-    BadByte(u32),
-    /// The first token with which no source goes on.
-    Unexpected(u32),
-    /// A bracket that would be open besides as many as are allowed.
-    Nesting(u32),
-}
-
-/// What is wrong with the names, kinds or sizes of a source: the offset of the first fault, or a quantity above its limit
-/// with its count, which is 4294967295 where it would be larger.
-#[derive(Clone, Copy, Debug, PartialEq, Eq)]
-pub enum RuleFault {
-    /// A name that is not in sight.
-    Unknown(u32),
-    /// A name that is in sight already.
-    Twice(u32),
-    /// A call of the function itself or of a later one.
-    Recursive(u32),
-    /// A call with another number of arguments.
-    Arity(u32),
-    /// A value of the wrong kind, or a name that stands for no such thing.
-    Kind(u32),
-    /// A quantity above its limit.
-    Limit(Quantity, u32),
-}
-
-/// What is wrong with a hand-written file, and the offset at which it is.
-#[derive(Clone, Copy, Debug, PartialEq, Eq)]
-pub enum TextFault {
-    /// The first token that cannot stand there.
-    Text(u32),
-    /// A name that is no host of the source.
-    UnknownHost(u32),
-}
-
-/// Why a certificate is not accepted, in the order in which faults are looked for. Shifts and marks are counted from 0.
-#[derive(Clone, Copy, Debug, PartialEq, Eq)]
-pub enum CertificateFault {
-    /// The shift with this number names no use or no protocol.
-    Shift(u32),
-    /// The mark with this number cannot stand there, or the marks end before it.
-    Shape(u32),
-    /// The list with the mark of the best is not valid.
-    BestInvalid,
-    /// The stated cost, and that of the list with the mark of the best.
-    Cost(u32, i64),
-    /// The mark with this number says of a valid prefix that it is not.
-    NotViolated(u32),
-    /// The number of a mark, the bound of its prefix, and the stated cost, which is greater.
-    NotBounded(u32, i64, u32),
+/// Why no labelling satisfies the flow rules of a program, and what a person is told of it.
+#[derive(Debug, Drop)]
+pub struct FlowFault {
+    /// The number of the first check that fails at the least solution of the rules.
+    pub number: u32,
+    /// The check, whose constant does not act for its part.
+    pub check: Check,
+    /// The formula that its part has there.
+    pub asked: Formula,
+    /// The names that both formulas are over.
+    pub principals: Names,
+    /// The names of the hosts, of which the check may have one.
+    pub hosts: Names,
 }
 
 /// Why one host did not run to its end over a net, beside what may end any command. Offsets of bytes that came are counted
@@ -120,7 +85,8 @@ pub enum ChildCause {
     Status(u32),
 }
 
-/// How a run ended.
+/// How a run ended. A fault of a text is carried as the pass that found it gave it; where that wanted memory, or the text was too
+/// long for it, the status is `Memory` or `TooLong`.
 #[derive(Debug, Drop)]
 pub enum Status {
     /// The command was carried out.
@@ -136,27 +102,27 @@ pub enum Status {
     /// This file is longer than its limit in bytes.
     TooLong(Text, u32),
     /// The text of the source is not in the grammar.
-    Syntax(SyntaxFault),
+    Syntax(ParseFault),
     /// The source breaks a rule on names, kinds or sizes.
-    Names(RuleFault),
-    /// No labelling satisfies the flow rules: the number of the first check that fails, and the offset of its statement.
-    Flow(u32, u32),
+    Names(NameFault),
+    /// No labelling satisfies the flow rules.
+    Flow(FlowFault),
     /// The command was carried out, and came to this: no assignment of protocols is valid.
     NoAssignment,
     /// The search had this budget, and needs more.
     Spent(u32),
     /// The text of the inputs is refused.
-    InputText(TextFault),
-    /// The text of this host's deal is refused: no deal of its goes on at this offset as the file does.
-    DealText(Name, u32),
+    InputText(ReadFault),
+    /// The text of the deal of the host with this name and number is refused: no deal of its goes on at this offset as the file does.
+    DealText(Name, u8, u32),
     /// The text of the schedule is refused.
-    ScheduleText(TextFault),
+    ScheduleText(ReadFault),
     /// No certificate's text goes on at this offset as the file does.
     CertificateText(u32),
     /// The first item of the deals that breaks its identity.
     BadDeal(BadItem),
     /// The certificate is not accepted.
-    CertificateRefused(CertificateFault),
+    CertificateRefused(CheckFault),
     /// One host did not run to its end over a net.
     Host(HostStatus),
     /// The child that plays this host did not end well.
@@ -191,11 +157,11 @@ impl Status {
             Status::TooLong(_, _) => 5,
             Status::Syntax(_) => 6,
             Status::Names(_) => 7,
-            Status::Flow(_, _) => 8,
+            Status::Flow(_) => 8,
             Status::NoAssignment => 9,
             Status::Spent(_) => 10,
             Status::InputText(_) => 11,
-            Status::DealText(_, _) => 12,
+            Status::DealText(_, _, _) => 12,
             Status::ScheduleText(_) => 13,
             Status::CertificateText(_) => 15,
             Status::BadDeal(_) => 16,

@@ -105,6 +105,6 @@ module _ (words : ReplayWords) (contents : Contents) (accepted : IsAccepted word
         source_ends contents texts words.source source (source_plan texts outcomes least choices (sure_search choices) words) accepted.held.is_source
         (subst (λ (p : NormalForm). Ends contents (program_plan texts outcomes least choices (sure_search choices) words p)) (run_once source program source_made accepted.is_run least)
         (asked_ends contents outcomes texts words program.hosts accepted.held.asked (asked_plan outcomes least choices (sure_search choices) words.budget program) few are_asked
-        (check_ends contents (labels_of least program) accepted.selected.labels (λ l. search_then choices (sure_search choices) words.budget program l rest) (ap (λ (r : Result Labels ℕ). as_labels (system_of program) r) labelled)
+        (check_ends contents (labels_of least program) accepted.selected.labels (λ l. search_then choices (sure_search choices) words.budget program l rest) (ap (λ (r : Result Labels ℕ). as_labels least program r) labelled)
         (check_ends contents (sure_search choices problem words.budget) [] (λ (bytes : List ℕ). rest (chosen_by choices program accepted.selected.labels bytes)) (searched choices problem words.budget places choice accepted.enough) ends)))),
   )

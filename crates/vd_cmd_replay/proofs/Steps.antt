@@ -29,6 +29,7 @@ use Rattle.vd_cmd_plan.specs.declared.status.Status.{Status}
 use Rattle.vd_cmd_plan.specs.declared.status.Status.TheVariants.{Ended}
 use Rattle.vd_cmd_frontend.specs.Outcomes.{IsInputs, LabelOutcomes, TextOutcomes}
 use Rattle.vd_cmd_frontend.specs.Sources.{HoldsSource, IsSourceText, as_resolved, as_source, resolved_of, source_of, source_then, tree_then}
+use Rattle.vd_cmd_frontend.proofs.Labelled.{solution_is, solution_of}
 use Rattle.vd_cmd_frontend.specs.Inputs.{HoldsInputs, as_inputs, inputs_then, words_of}
 use Rattle.vd_report_outcomes.specs.Outcomes.{ReplayOutcomes}
 use Rattle.vd_report_outcomes.proofs.Picked.{outcomes_are_single}
@@ -54,7 +55,7 @@ labels_with_these labels s (inl is) least = labelled_once s (labelled_somehow s 
 labels_with_these labels s (inr none) least = refl
 
 abbrev pub labels_for : Labels → LabelOutcomes
-labels_for labels = record { label = λ s. labels_with labels s (system_or_not s); label_is = λ s is. labels_with_is labels s (system_or_not s) is }
+labels_for labels = record { label = λ s. labels_with labels s (system_or_not s); label_is = λ s is. labels_with_is labels s (system_or_not s) is; solution = solution_of; solution_is = solution_is }
 
 -- ---- steps
 
@@ -108,7 +109,7 @@ module _ (contents : Contents) where
       unfolding deal_then
       deal_ends number name deal rest declared held then =
           held_ends (file_name prefix number (codes ".deal")) most_deal_bytes (deal_of outcomes hosts number name) deal rest (λ bytes. IsDealIn hosts number bytes deal) held
-          (λ bytes is. ap (as_deal name) (outcomes_are_single.deals hosts number bytes few declared (outcomes.deal hosts number bytes) (Ok deal) (outcomes.deal_is hosts number bytes few declared) is)) then
+          (λ bytes is. ap (as_deal name number) (outcomes_are_single.deals hosts number bytes few declared (outcomes.deal hosts number bytes) (Ok deal) (outcomes.deal_is hosts number bytes few declared) is)) then
 
       -- the deals that are left, which are numbered from here on
       abbrev HoldLeft : ℕ → List Deal → Type 0

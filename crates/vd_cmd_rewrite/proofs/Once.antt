@@ -16,13 +16,13 @@ use Rattle.vd_cmd_rewrite.specs.RunPrograms.{Rewriting, HasNoLabels, IsLabelledO
 module _ (least : LabelOutcomes) where
   -- the labels of a program that has some
   labels_are : (p : NormalForm) (l : Labels) → IsSystem (system_of p) → IsLeast (system_of p) l → labels_of least p ≡ Ok l
-  labels_are p l system is = labelled least (system_of p) (Ok l) system is
+  labels_are p l system is = labelled least p (Ok l) system is
 
   -- and of one that has none
   labels_fail : (p : NormalForm) → IsSystem (system_of p) → HasNoLabels p → is_ok (labels_of least p) ≡ false
   labels_fail p system none = by (least.label (system_of p)) (least.label_is (system_of p) system)
     where
-      by : (r : Result Labels ℕ) → IsLabelled (system_of p) r → is_ok (as_labels (system_of p) r) ≡ false
+      by : (r : Result Labels ℕ) → IsLabelled (system_of p) r → is_ok (as_labels least p r) ≡ false
       by (Ok l) is = absurd (none l is.is)
       by (Err check) is = refl
 
@@ -54,13 +54,13 @@ module _ (least : LabelOutcomes) where
   chosen_is : (new old : NormalForm) → IsSystem (system_of new) → IsLabelledOr new old (if_labelled least new old)
   chosen_is new old system = by (least.label (system_of new)) (least.label_is (system_of new) system)
     where
-      by : (r : Result Labels ℕ) → IsLabelled (system_of new) r → IsLabelledOr new old (if is_ok (as_labels (system_of new) r) then new else old)
+      by : (r : Result Labels ℕ) → IsLabelled (system_of new) r → IsLabelledOr new old (if is_ok (as_labels least new r) then new else old)
       by (Ok l) is = New l is refl
       by (Err check) is = Old is.none refl
 
   pub rewritten_is : (change : Rewriting) (old : NormalForm) → IsSystem (system_of old) → ((l : Labels) → IsSystem (system_of (change old l))) → Rewrites change old (rewritten_by change least old)
   rewritten_is change old system systems = by (least.label (system_of old)) (least.label_is (system_of old) system)
     where
-      by : (r : Result Labels ℕ) → IsLabelled (system_of old) r → Rewrites change old (under change least old (as_labels (system_of old) r))
+      by : (r : Result Labels ℕ) → IsLabelled (system_of old) r → Rewrites change old (under change least old (as_labels least old r))
       by (Ok l) is = Under l is (chosen_is (change old l) old (systems l))
       by (Err check) is = Without is.none refl

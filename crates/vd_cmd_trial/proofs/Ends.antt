@@ -49,9 +49,9 @@ passed_ends {T = T} wanted value rest files is ends = subst (λ (r : Result T St
 -- ---- the choice of protocols for a program
 
 -- its labels, or the flow check that fails
-labels_end : (program : NormalForm) (found : Result Labels ℕ) → IfErr (as_labels (system_of program) found) EndsTrial
-labels_end program (Ok labels) = tt
-labels_end program (Err check) = tt
+labels_end : (least : LabelOutcomes) (program : NormalForm) (found : Result Labels ℕ) → IfErr (as_labels least program found) EndsTrial
+labels_end least program (Ok labels) = tt
+labels_end least program (Err number) = tt
 
 spent_ends : (budget : ℕ) (over : Bool) → IfErr {T = List ℕ} (if over then Err (Spent budget) else Err Memory) EndsTrial
 spent_ends budget true = tt
@@ -75,7 +75,7 @@ module _ (texts : TextOutcomes) (least : LabelOutcomes) (certificates : Certific
   program_ends program =
       let search = searched_by certificates choices searched in
       let rest : Chosen → Contents → Plan = λ c. choice_plan coordinates c.program c.assignment in
-      check_ends (labels_of least program) (λ l. search_then choices search most_search_budget program l rest) files (labels_end program (least.label (system_of program)))
+      check_ends (labels_of least program) (λ l. search_then choices search most_search_budget program l rest) files (labels_end least program (least.label (system_of program)))
       (λ l. check_ends (search (problem_of program l) most_search_budget) (λ bytes. rest (chosen_by choices program l bytes)) files
       (search_ends certificates choices searched (problem_of program l) most_search_budget) (λ bytes. choice_ends coordinates program (assignment_of choices (problem_of program l)) files))
 

@@ -65,7 +65,7 @@ abbrev pub EndsTrial : Status → Type 0
 EndsTrial Ended = Unit {0}
 EndsTrial Memory = Unit {0}
 EndsTrial WriteFault = Unit {0}
-EndsTrial (Flow check offset) = Unit {0}
+EndsTrial (Flow fault) = Unit {0}
 EndsTrial NoAssignment = Unit {0}
 EndsTrial (Spent budget) = Unit {0}
 EndsTrial status = ⊥

@@ -2,10 +2,10 @@
 -- `asked` the one that it would have to act for, that of the check's part.
 use Rattle.std.specs.Prelude.{ℕ, List, [], codes, slice_index_or}
 use Rattle.vd_base.specs.declared.ids.HostId.{HostId}
-use Rattle.vd_core.specs.declared.normal.NormalForm.{NormalForm}
 use Rattle.vd_formula.specs.TruthTable.{TruthTable}
 use Rattle.vd_report.specs.LabelLines.{formula_text}
 use Rattle.vd_diag.specs.Parts.{three}
+use Rattle.vd_constraints.specs.declared.system.Check.{Check}
 use Rattle.vd_constraints.specs.declared.origin.Origin.{Origin}
 use Rattle.vd_constraints.specs.declared.origin.Origin.TheVariants as origin
 use Rattle.vd_diag_flow.specs.Phrases.{guarded, vouched}
@@ -63,6 +63,6 @@ sentence_of hosts (origin.Told h) own asked = told_sentence (host_name hosts h) 
 sentence_of hosts origin.Readers own asked = readers_sentence own asked
 sentence_of hosts origin.Answerers own asked = answerers_sentence own asked
 
--- of formulas over the program's principals
-abbrev pub flow_sentence : NormalForm → Origin → TruthTable → TruthTable → List ℕ
-flow_sentence p o own asked = sentence_of p.hosts o (formula_text p.principals own) (formula_text p.principals asked)
+-- of formulas over these principals
+abbrev pub flow_sentence : (principals hosts : List (List ℕ)) → Check → (asked : TruthTable) → List ℕ
+flow_sentence principals hosts check asked = sentence_of hosts check.origin (formula_text principals check.constant) (formula_text principals asked)

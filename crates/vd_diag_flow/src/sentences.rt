@@ -6,9 +6,8 @@ ghost use Rattle.vd_diag_flow.specs.FlowSentences as sentences;
 
 use crate::phrases::{guarded, host_name, vouched};
 use std::alloc::{AllocError, Global};
-use vd_base::Bytes;
-use vd_constraints::Origin;
-use vd_core::NormalForm;
+use vd_base::{Bytes, Names};
+use vd_constraints::{Check, Origin};
 use vd_diag::three;
 use vd_formula::Formula;
 use vd_report::formula_text;
@@ -165,19 +164,19 @@ fn answerers_sentence(alloc: Global, own: &[u8], asked: &[u8]) -> Result<Bytes, 
 /// What is said of a check that fails: of what asks for it, of its constant and of its part's formula, both as text.
 fn sentence_of(
     alloc: Global,
-    form: &NormalForm,
+    hosts: &Names,
     origin: Origin,
     own: &[u8],
     asked: &[u8],
 ) -> Result<Bytes, AllocError>
-    ensures { IfOk result (λ text. text ≡ sentences.sentence_of form.now.hosts origin own.now asked.now) }
+    ensures { IfOk result (λ text. text ≡ sentences.sentence_of hosts.now origin own.now asked.now) }
 {
     match origin {
-        Origin::Input(host) => input_sentence(alloc, host_name(&form.hosts, host), asked),
-        Origin::Asked(host) => asked_sentence(alloc, host_name(&form.hosts, host), own, asked),
+        Origin::Input(host) => input_sentence(alloc, host_name(hosts, host), asked),
+        Origin::Asked(host) => asked_sentence(alloc, host_name(hosts, host), own, asked),
         Origin::Endorse => endorse_sentence(alloc, own, asked),
-        Origin::Output(host) => output_sentence(alloc, host_name(&form.hosts, host), own, asked),
-        Origin::Told(host) => told_sentence(alloc, host_name(&form.hosts, host), own, asked),
+        Origin::Output(host) => output_sentence(alloc, host_name(hosts, host), own, asked),
+        Origin::Told(host) => told_sentence(alloc, host_name(hosts, host), own, asked),
         Origin::Readers => readers_sentence(alloc, own, asked),
         Origin::Answerers => answerers_sentence(alloc, own, asked),
     }
@@ -186,14 +185,14 @@ fn sentence_of(
 /// What is said of a check that fails: of what asks for it, of its constant and of its part's formula.
 pub(crate) fn flow_sentence(
     alloc: Global,
-    form: &NormalForm,
-    origin: Origin,
-    own: &Formula,
+    principals: &Names,
+    hosts: &Names,
+    check: &Check,
     asked: &Formula,
 ) -> Result<Bytes, AllocError>
-    ensures { IfOk result (λ text. text ≡ sentences.flow_sentence form.now origin own.now asked.now) }
+    ensures { IfOk result (λ text. text ≡ sentences.flow_sentence principals.now hosts.now check.now asked.now) }
 {
-    let own = formula_text(alloc, &form.principals, own)?;
-    let asked = formula_text(alloc, &form.principals, asked)?;
-    sentence_of(alloc, form, origin, own.as_slice(), asked.as_slice())
+    let own = formula_text(alloc, principals, &check.constant)?;
+    let asked = formula_text(alloc, principals, asked)?;
+    sentence_of(alloc, hosts, check.origin, own.as_slice(), asked.as_slice())
 }

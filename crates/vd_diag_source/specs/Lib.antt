@@ -5,4 +5,3 @@ pub mod Rules
 pub mod Following
 pub mod Judging
 pub mod SyntaxRemarks
-pub mod SourceRemarks

@@ -1,8 +1,9 @@
 -- What is said of a text that is no source.
-use Rattle.std.specs.Prelude.{◌≡◌, ◌⊎◌, ℕ, List, [], ◌∷◌, ◌++◌, length, slice_index, Some}
+use Rattle.std.specs.Prelude.{◌≡◌, ◌⊎◌, ℕ, List, [], ◌∷◌, ◌++◌, length, slice_index, Option, Some, None, Err}
 use Rattle.vd_source_lexer.specs.Tokens.{Lexes}
 use Rattle.vd_source_lexer.specs.declared.token.Token.{Token}
 use Rattle.vd_source_lexer.specs.declared.token.TokenKind.{TokenKind}
+use Rattle.vd_parser.specs.Outcomes.{IsParse}
 use Rattle.vd_parser.specs.declared.fault.ParseFault.{ParseFault}
 use Rattle.vd_parser.specs.declared.fault.ParseFault.TheVariants as fault
 use Rattle.vd_diag_source.specs.Following.{following, IsTooLong}
@@ -34,3 +35,8 @@ IsSyntaxRemark bytes (fault.Unexpected number offset) remark = IsUnexpectedRemar
 IsSyntaxRemark bytes (fault.TooDeep offset) remark = remark ≡ at offset nesting_sentence
 IsSyntaxRemark bytes (fault.TooLong len) remark = remark ≡ of_file (long_sentence len)
 IsSyntaxRemark bytes fault.Memory remark = ⊥
+
+-- What is said of a fault where the bytes have it. Nothing is said only where they do not.
+abbrev pub SaysOfSyntax : List ℕ → ParseFault → Option Remark → Type 0
+SaysOfSyntax bytes fault None = IsParse bytes (Err fault) → ⊥
+SaysOfSyntax bytes fault (Some remark) = IsParse bytes (Err fault) → IsSyntaxRemark bytes fault remark

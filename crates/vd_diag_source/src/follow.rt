@@ -73,10 +73,8 @@ fn judge(came: Result<Source, ParseFault>, number: usize) -> Result<bool, Follow
 
 /// Whether a source goes on with a token of this kind.
 fn goes_on(alloc: Global, before: &[Token], kind: TokenKind) -> Result<bool, FollowFault>
-    requires no_end { NoEnd before.now }
-    requires begins { BeginSource before.now }
-    requires shallow { NoneTooDeep before.now }
-    ensures exact { IfOk result (λ yes. yes ≡ follow.goes_on before.now kind) }
+    requires { NoEnd before.now }
+    ensures exact { BeginSource before.now → NoneTooDeep before.now → IfOk result (λ yes. yes ≡ follow.goes_on before.now kind) }
     ensures long { IfErr result (λ fault. fault ≡ follow_fault.TooLong → follow.IsTooLong before.now kind) }
 {
     let kinds = through(alloc, before, kind)?;
@@ -84,14 +82,13 @@ fn goes_on(alloc: Global, before: &[Token], kind: TokenKind) -> Result<bool, Fol
     judge(parse(alloc, text.as_slice()), before.len())
 }
 
-/// The kinds of tokens with which a source goes on behind these tokens, and no other. The end is one of them.
+/// The kinds of tokens with which a source goes on behind these tokens, and no other, where they begin a source. The end is one of
+/// them.
 ///
 /// They are refused where the tokens, with a blank behind each, are longer than a source may be.
 pub(crate) fn following(alloc: Global, before: &[Token]) -> Result<Items<TokenKind>, FollowFault>
-    requires no_end { NoEnd before.now }
-    requires begins { BeginSource before.now }
-    requires shallow { NoneTooDeep before.now }
-    ensures exact { IfOk result (λ kinds. kinds ≡ follow.following before.now) }
+    requires { NoEnd before.now }
+    ensures exact { BeginSource before.now → NoneTooDeep before.now → IfOk result (λ kinds. kinds ≡ follow.following before.now) }
     ensures long { IfErr result (λ fault. fault ≡ follow_fault.TooLong → (k : AnyKind) × follow.IsTooLong before.now k) }
 {
     let mut found = Items::new(alloc);

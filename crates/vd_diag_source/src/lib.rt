@@ -7,9 +7,9 @@ mod laws;
 mod phrases;
 mod refusals;
 mod rules;
-mod sources;
 mod syntax;
 
 pub use follow::FollowFault;
 pub use laws::goes_on_is_exact;
-pub use sources::source_remark;
+pub use refusals::syntax_remark;
+pub use rules::rule_remark;

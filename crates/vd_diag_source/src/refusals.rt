@@ -1,11 +1,12 @@
 //! Remarks on texts that are no sources.
 
-ghost use Rattle.std.specs.Prelude.{◌≡◌, ◌⊎◌, ℕ, Err, slice_index, IfOk};
+ghost use Rattle.std.specs.Prelude.{◌≡◌, ◌<◌, ℕ, length, slice_index, IfOk};
 ghost use Rattle.vd_source_lexer.specs.Tokens.{EndsOnce, Lexes, kinds};
-ghost use Rattle.vd_parser.specs.Outcomes.{IsParse, IsUnexpected};
+ghost use Rattle.vd_parser.specs.Outcomes.{IsUnexpected};
 ghost use Rattle.vd_parser.specs.declared.fault.ParseFault.TheVariants as parse_fault;
 ghost use Rattle.vd_diag.specs.Remarks.{at as remark_at};
 ghost use Rattle.vd_diag_source.specs.SyntaxRemarks as remarks;
+ghost use Rattle.vd_diag_source.specs.SyntaxRemarks.{SaysOfSyntax};
 
 use crate::follow::{FollowFault, following};
 use crate::syntax::{
@@ -48,8 +49,8 @@ fn sentence_on(
 ) -> Result<Bytes, TellFault>
     requires lexes { Lexes bytes.now 0 found.now }
     requires ended { EndsOnce (kinds found.now) }
-    requires refused { (offset : ℕ) × IsUnexpected found.now number offset }
-    ensures { IfOk result (remarks.TellsNumber bytes.now number) }
+    requires within { number < length found.now }
+    ensures { (offset : ℕ) → IsUnexpected found.now number offset → IfOk result (remarks.TellsNumber bytes.now number) }
 {
     let token = found[number];
     match following(alloc, &found[..number]) {
@@ -65,57 +66,65 @@ fn sentence_on(
     }
 }
 
-/// The remark on the token of this number, which is refused at this offset.
+/// The remark on the token of this number, which is refused at this offset; none where there are not so many tokens.
+fn token_remark(
+    alloc: Global,
+    bytes: &[u8],
+    found: &[Token],
+    number: usize,
+    offset: u32,
+) -> Result<Option<Remark>, TellFault>
+    requires lexes { Lexes bytes.now 0 found.now }
+    requires ended { EndsOnce (kinds found.now) }
+    ensures { IfOk result (SaysOfSyntax bytes.now (parse_fault.Unexpected number offset)) }
+{
+    if number >= found.len() {
+        return Ok(None);
+    }
+    let sentence = sentence_on(alloc, bytes, found, number)?;
+    Ok(Some(at(offset, sentence)))
+}
+
+/// The same, of the tokens of these bytes; none where these have none.
 fn unexpected_remark(
     alloc: Global,
     bytes: &[u8],
     number: u32,
     offset: u32,
-) -> Result<Remark, TellFault>
-    requires { IsParse bytes.now (Err (parse_fault.Unexpected number offset)) }
-    ensures { IfOk result (remarks.IsUnexpectedRemark bytes.now number offset) }
+) -> Result<Option<Remark>, TellFault>
+    ensures { IfOk result (SaysOfSyntax bytes.now (parse_fault.Unexpected number offset)) }
 {
     match tokens(alloc, bytes) {
-        Ok(found) => {
-            let sentence = sentence_on(alloc, bytes, found.as_slice(), number as usize)?;
-            Ok(at(offset, sentence))
-        }
-        Err(LexFault::BadByte(_)) => {
-            let sentence = nesting_sentence(alloc)?;
-            Ok(at(offset, sentence))
-        }
+        Ok(found) => token_remark(alloc, bytes, found.as_slice(), number as usize, offset),
+        Err(LexFault::BadByte(_)) => Ok(None),
         Err(LexFault::Memory) => Err(TellFault::Memory),
     }
 }
 
-/// The remark on the fault that the parser answers for these bytes.
-pub(crate) fn syntax_remark(
+/// The remark on a fault that the parser answers for these bytes; none only where it does not answer this fault for them.
+pub fn syntax_remark(
     alloc: Global,
     bytes: &[u8],
     fault: ParseFault,
-) -> Result<Remark, TellFault>
-    requires { (fault ≡ parse_fault.Memory) ⊎ IsParse bytes.now (Err fault) }
-    ensures { IfOk result (remarks.IsSyntaxRemark bytes.now fault) }
+) -> Result<Option<Remark>, TellFault>
+    ensures { IfOk result (SaysOfSyntax bytes.now fault) }
 {
     match fault {
         ParseFault::BadByte(offset) => {
             let sentence = bad_byte_sentence(alloc, byte_at(bytes, offset))?;
-            Ok(at(offset, sentence))
+            Ok(Some(at(offset, sentence)))
         }
-        ParseFault::Unexpected(number, offset) => {
-            let remark = unexpected_remark(alloc, bytes, number, offset)?;
-            Ok(remark)
-        }
+        ParseFault::Unexpected(number, offset) => unexpected_remark(alloc, bytes, number, offset),
         ParseFault::TooDeep(offset) => {
             let sentence = nesting_sentence(alloc)?;
-            Ok(at(offset, sentence))
+            Ok(Some(at(offset, sentence)))
         }
         ParseFault::TooLong(len) => {
             let sentence = long_sentence(alloc, len)?;
-            Ok(Remark {
+            Ok(Some(Remark {
                 offset: None,
                 sentence,
-            })
+            }))
         }
         ParseFault::Memory => Err(TellFault::Memory),
     }

@@ -66,11 +66,7 @@ fn at_span(span: Span, sentence: Bytes) -> Remark
 
 /// What is said of a fault of names, kinds or sizes in these bytes. Of a fault of kinds it is said what met there, and of a name
 /// that is twice where it is declared.
-pub(crate) fn rule_remark(
-    alloc: Global,
-    bytes: &[u8],
-    fault: NameFault,
-) -> Result<Remark, TellFault>
+pub fn rule_remark(alloc: Global, bytes: &[u8], fault: NameFault) -> Result<Remark, TellFault>
     ensures { IfOk result (rules.IsRuleRemark bytes.now fault) }
 {
     match fault {

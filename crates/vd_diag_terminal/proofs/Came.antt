@@ -9,7 +9,6 @@ use Rattle.vd_resolve.specs.Faults.{bare}
 use Rattle.vd_resolve.specs.Limits.{resolution}
 use Rattle.vd_resolve.specs.declared.fault.NameFault.{NameFault}
 use Rattle.vd_resolve.specs.declared.fault.NameFault.TheVariants as name_fault
-use Rattle.vd_diag_terminal.specs.Deals.{host_number, IsHostNumber}
 use Rattle.vd_diag_terminal.specs.Programs.{IsProgramOfTree, IsProgramOf}
 
 -- the clause of parsing
@@ -33,9 +32,3 @@ no_program bytes f p other = (Err f, refused bytes f p other, refl)
 pub breaks_rule : (source : Source) (f : NameFault) → (f ≡ name_fault.Memory) ⊎ (resolution source ≡ Err (bare f)) → f ≢ name_fault.Memory → IsProgramOfTree source None
 breaks_rule source f (inl e) other = absurd (other e)
 breaks_rule source f (inr e) other = (bare f, e)
-
-pub number_is : (bytes host : List ℕ) (source : Source) (number : Option ℕ) → Parses bytes (Ok source) → number ≡ host_number (Ok source) host → IsHostNumber bytes host number
-number_is bytes host source number p e = (Ok source, parsed bytes source p, e)
-
-pub no_number : (bytes host : List ℕ) (f : ParseFault) → Parses bytes (Err f) → f ≢ parse_fault.Memory → IsHostNumber bytes host None
-no_number bytes host f p other = (Err f, refused bytes f p other, refl)

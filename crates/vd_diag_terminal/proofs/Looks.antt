@@ -8,8 +8,7 @@ use Rattle.vd_outside.specs.declared.faults.FetchFault.{FetchFault}
 use Rattle.vd_cmd_plan.specs.declared.status.Status.{Status}
 use Rattle.vd_cmd_plan.proofs.Written.{says}
 use Rattle.vd_diag.specs.declared.fault.TellFault.{TellFault}
-use Rattle.vd_diag_terminal.specs.Alone.{alone, of_whole, of_word}
-use Rattle.vd_diag_terminal.specs.Deals.{deal_text}
+use Rattle.vd_diag_terminal.specs.Alone.{alone, of_numbered, of_whole, of_word}
 use Rattle.vd_diag_terminal.specs.Files.{reading_of, word_at}
 use Rattle.vd_diag_terminal.specs.Said.{IsToldOf, IsSaidOfFile, IsSaidOfNamed, IsSaidBy, IsSaid}
 use Rattle.vd_diag_terminal.specs.Saying.{SaysMore}
@@ -21,26 +20,27 @@ module _ {E : Type 0} (words : List (List ℕ)) (place : ℕ) (result : Result (
   pub of_named : (name sentence : List ℕ) → Some name ≡ word_at words place → IfOk result (λ text. text ≡ of_whole name sentence) → IfOk result (λ text. text ≡ of_word words place sentence)
   of_named name sentence is said = subst (λ word. IfOk result (λ text. text ≡ option_map_or (λ n. of_whole n sentence) word [])) is said
 
-  pub of_prefixed : (name : List ℕ) (number offset : ℕ) → Some name ≡ word_at words place → IfOk result (λ text. text ≡ deal_text (Some number) (Some name) offset)
-      → IfOk result (λ text. text ≡ deal_text (Some number) (word_at words place) offset)
-  of_prefixed name number offset is said = subst (λ word. IfOk result (λ text. text ≡ deal_text (Some number) word offset)) is said
+  pub of_prefixed : (name : List ℕ) (number offset : ℕ) → Some name ≡ word_at words place → IfOk result (λ text. text ≡ of_numbered (Some name) number offset)
+      → IfOk result (λ text. text ≡ of_numbered (word_at words place) number offset)
+  of_prefixed name number offset is said = subst (λ word. IfOk result (λ text. text ≡ of_numbered word number offset)) is said
 
 -- ---- a file
 
-module _ (coloured : Bool) (words : List (List ℕ)) (s : Status) (before now : FilesView) (result : Result (List ℕ) TellFault) where
-  pub of_file : (name : List ℕ) (limit : ℕ) (came : Result (List ℕ) FetchFault) → Fetches name limit before now came → IfOk result (IsToldOf coloured words s name came) → IsSaidOfFile coloured words s name limit before now result
+module _ (coloured : Bool) (s : Status) (before now : FilesView) (result : Result (List ℕ) TellFault) where
+  pub of_file : (name : List ℕ) (limit : ℕ) (came : Result (List ℕ) FetchFault) → Fetches name limit before now came → IfOk result (IsToldOf coloured s name came) → IsSaidOfFile coloured s name limit before now result
   of_file name limit came fetches said = record { came = came; fetches = fetches; says = said }
 
-  pub by_name : (reading : Reading) (name : List ℕ) → Some name ≡ word_at words reading.word → IsSaidOfFile coloured words s name reading.limit before now result
+module _ (coloured : Bool) (words : List (List ℕ)) (s : Status) (before now : FilesView) (result : Result (List ℕ) TellFault) where
+  pub by_name : (reading : Reading) (name : List ℕ) → Some name ≡ word_at words reading.word → IsSaidOfFile coloured s name reading.limit before now result
       → IsSaidBy coloured words s (Some reading) before now result
-  by_name reading name is said = subst (λ word. IsSaidOfNamed coloured words s word reading.limit before now result) is said
+  by_name reading name is said = subst (λ word. IsSaidOfNamed coloured s word reading.limit before now result) is said
 
   pub by_reading : (reading : Reading) → Some reading ≡ reading_of words s → IsSaidBy coloured words s (Some reading) before now result → IsSaid coloured words s before now result
   by_reading reading is said = subst (λ read. IsSaidBy coloured words s read before now result) is said
 
 module _ (coloured : Bool) (words : List (List ℕ)) (s : Status) (files : FilesView) where
   pub by_no_name : (reading : Reading) (text : List ℕ) → None ≡ word_at words reading.word → text ≡ [] → IsSaidBy coloured words s (Some reading) files files (Ok text)
-  by_no_name reading text is empty = subst (λ word. IsSaidOfNamed coloured words s word reading.limit files files (Ok text)) is (record { still = refl; says = empty })
+  by_no_name reading text is empty = subst (λ word. IsSaidOfNamed coloured s word reading.limit files files (Ok text)) is (record { still = refl; says = empty })
 
   pub by_itself : (result : Result (List ℕ) TellFault) → None ≡ reading_of words s → IfOk result (λ text. text ≡ alone words s) → IsSaid coloured words s files files result
   by_itself result is said = subst (λ read. IsSaidBy coloured words s read files files result) is (record { still = refl; says = said })

@@ -1,38 +1,36 @@
 -- What holds of all other statuses and faults.
-use Rattle.std.proofs.Common.{◌≡◌, ◌≢◌, ℕ, Bool, List, [], Option, None, refl}
+use Rattle.std.proofs.Common.{◌≡◌, ◌≢◌, ℕ, List, [], Option, None, refl}
 use Rattle.vd_cmd_plan.specs.declared.status.HostStatus.{HostStatus}
 use Rattle.vd_cmd_plan.specs.declared.status.HostStatus.TheVariants as host_status
-use Rattle.vd_cmd_plan.specs.declared.status.RuleFault.{RuleFault}
 use Rattle.vd_cmd_plan.specs.declared.status.Status.{Status}
 use Rattle.vd_cmd_plan.specs.declared.status.Status.TheVariants as status
-use Rattle.vd_cmd_plan.specs.declared.status.SyntaxFault.{SyntaxFault}
-use Rattle.vd_cmd_plan.specs.declared.status.TextFault.{TextFault}
-use Rattle.vd_diag.specs.declared.remark.Remark.{Remark}
+use Rattle.vd_cmd_plan.specs.declared.status.FlowFault.{FlowFault}
+use Rattle.vd_parser.specs.declared.fault.ParseFault.{ParseFault}
+use Rattle.vd_report.specs.declared.fault.ReadFault.{ReadFault}
+use Rattle.vd_resolve.specs.declared.fault.NameFault.{NameFault}
 use Rattle.vd_diag_terminal.specs.Alone.{alone, of_host}
 use Rattle.vd_diag_terminal.specs.Files.{reading_of}
 use Rattle.vd_diag_terminal.specs.Remarks.{IsRemarkOn}
-use Rattle.vd_diag_terminal.specs.Said.{IsRemarkTold, IsTold}
 
 -- a status of which no file is read
-pub unread : (words : List (List ℕ)) (s : Status) → ((f : SyntaxFault) → s ≢ status.Syntax f) → ((f : RuleFault) → s ≢ status.Names f) → ((check offset : ℕ) → s ≢ status.Flow check offset) → s ≢ status.NoAssignment
-    → ((budget : ℕ) → s ≢ status.Spent budget) → ((f : TextFault) → s ≢ status.InputText f) → ((f : TextFault) → s ≢ status.ScheduleText f) → ((host : List ℕ) (offset : ℕ) → s ≢ status.DealText host offset)
+pub unread : (words : List (List ℕ)) (s : Status) → ((f : ParseFault) → s ≢ status.Syntax f) → ((f : NameFault) → s ≢ status.Names f) → ((f : FlowFault) → s ≢ status.Flow f) → s ≢ status.NoAssignment
+    → ((budget : ℕ) → s ≢ status.Spent budget) → ((f : ReadFault) → s ≢ status.InputText f) → ((f : ReadFault) → s ≢ status.ScheduleText f)
     → None ≡ reading_of words s
-unread words (status.Syntax f) a b c d e g h i = absurd (a f refl)
-unread words (status.Names f) a b c d e g h i = absurd (b f refl)
-unread words (status.Flow check offset) a b c d e g h i = absurd (c check offset refl)
-unread words status.NoAssignment a b c d e g h i = absurd (d refl)
-unread words (status.Spent budget) a b c d e g h i = absurd (e budget refl)
-unread words (status.InputText f) a b c d e g h i = absurd (g f refl)
-unread words (status.ScheduleText f) a b c d e g h i = absurd (h f refl)
-unread words (status.DealText host offset) a b c d e g h i = absurd (i host offset refl)
-unread words s a b c d e g h i = refl
+unread words (status.Syntax f) a b c d e g h = absurd (a f refl)
+unread words (status.Names f) a b c d e g h = absurd (b f refl)
+unread words (status.Flow f) a b c d e g h = absurd (c f refl)
+unread words status.NoAssignment a b c d e g h = absurd (d refl)
+unread words (status.Spent budget) a b c d e g h = absurd (e budget refl)
+unread words (status.InputText f) a b c d e g h = absurd (g f refl)
+unread words (status.ScheduleText f) a b c d e g h = absurd (h f refl)
+unread words s a b c d e g h = refl
 
 -- one of which there is no more to say
-pub unsaid : (words : List (List ℕ)) (s : Status) → s ≢ status.Usage → ((offset : ℕ) → s ≢ status.CertificateText offset) → ((host : List ℕ) (offset : ℕ) → s ≢ status.DealText host offset) → ((f : HostStatus) → s ≢ status.Host f)
+pub unsaid : (words : List (List ℕ)) (s : Status) → s ≢ status.Usage → ((offset : ℕ) → s ≢ status.CertificateText offset) → ((host : List ℕ) (number offset : ℕ) → s ≢ status.DealText host number offset) → ((f : HostStatus) → s ≢ status.Host f)
     → [] ≡ alone words s
 unsaid words status.Usage a b c d = absurd (a refl)
 unsaid words (status.CertificateText offset) a b c d = absurd (b offset refl)
-unsaid words (status.DealText host offset) a b c d = absurd (c host offset refl)
+unsaid words (status.DealText host number offset) a b c d = absurd (c host number offset refl)
 unsaid words (status.Host f) a b c d = absurd (d f refl)
 unsaid words s a b c d = refl
 
@@ -41,19 +39,13 @@ unsaid_of_host words (host_status.ProgramText offset) other = absurd (other offs
 unsaid_of_host words f other = refl
 
 -- one of which there is no remark
-pub unremarked : (bytes : List ℕ) (s : Status) → ((f : SyntaxFault) → s ≢ status.Syntax f) → ((f : RuleFault) → s ≢ status.Names f) → ((check offset : ℕ) → s ≢ status.Flow check offset) → s ≢ status.NoAssignment
-    → ((budget : ℕ) → s ≢ status.Spent budget) → ((f : TextFault) → s ≢ status.InputText f) → ((f : TextFault) → s ≢ status.ScheduleText f) → IsRemarkOn bytes s None
+pub unremarked : (bytes : List ℕ) (s : Status) → ((f : ParseFault) → s ≢ status.Syntax f) → ((f : NameFault) → s ≢ status.Names f) → ((f : FlowFault) → s ≢ status.Flow f) → s ≢ status.NoAssignment
+    → ((budget : ℕ) → s ≢ status.Spent budget) → ((f : ReadFault) → s ≢ status.InputText f) → ((f : ReadFault) → s ≢ status.ScheduleText f) → IsRemarkOn bytes s None
 unremarked bytes (status.Syntax f) a b c d e g h = absurd (a f refl)
 unremarked bytes (status.Names f) a b c d e g h = absurd (b f refl)
-unremarked bytes (status.Flow check offset) a b c d e g h = absurd (c check offset refl)
+unremarked bytes (status.Flow f) a b c d e g h = absurd (c f refl)
 unremarked bytes status.NoAssignment a b c d e g h = absurd (d refl)
 unremarked bytes (status.Spent budget) a b c d e g h = absurd (e budget refl)
 unremarked bytes (status.InputText f) a b c d e g h = absurd (g f refl)
 unremarked bytes (status.ScheduleText f) a b c d e g h = absurd (h f refl)
 unremarked bytes s a b c d e g h = refl
-
--- a status that is no fault of a deal's text
-pub of_bytes : (coloured : Bool) (words : List (List ℕ)) (s : Status) (name bytes text : List ℕ) → ((host : List ℕ) (offset : ℕ) → s ≢ status.DealText host offset)
-    → IsRemarkTold coloured s name bytes text → IsTold coloured words s name bytes text
-of_bytes coloured words (status.DealText host offset) name bytes text other is = absurd (other host offset refl)
-of_bytes coloured words s name bytes text other is = is

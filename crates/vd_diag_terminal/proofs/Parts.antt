@@ -8,7 +8,6 @@ use Rattle.vd_diag_branches.specs.Phrases.{IsBranchRemark}
 use Rattle.vd_cmd_plan.specs.declared.status.Status.{Status}
 use Rattle.vd_diag.specs.Remarks.{told}
 use Rattle.vd_diag.specs.declared.remark.Remark.{Remark}
-use Rattle.vd_diag_terminal.specs.Deals.{IsHostNumber, deal_text, IsDealTold}
 use Rattle.vd_diag_terminal.specs.Programs.{IsAssignmentRemark, IsProgramOf, IsOfProgram, IsOfSpace, IsSearchRemark, IsSlotRemark}
 use Rattle.vd_diag_terminal.specs.Remarks.{IsRemarkOn}
 use Rattle.vd_diag_terminal.specs.Said.{IsRemarkTold}
@@ -48,12 +47,3 @@ module _ (coloured : Bool) (status : Status) (name bytes : List ℕ) (found : Op
 
   pub of_no_remark : (text : List ℕ) → found ≡ None → IsRemarkOn bytes status found → text ≡ [] → IsRemarkTold coloured status name bytes text
   of_no_remark text same is printed = record { remark = None; is = subst (IsRemarkOn bytes status) same is; printed = printed }
-
--- ---- of a deal
-
-module _ (bytes : List ℕ) (prefix : Option (List ℕ)) (host : List ℕ) (offset : ℕ) (found : Option ℕ) where
-  pub of_number : (number : ℕ) (text : List ℕ) → found ≡ Some number → IsHostNumber bytes host found → text ≡ deal_text (Some number) prefix offset → IsDealTold bytes prefix host offset text
-  of_number number text same is printed = record { number = Some number; is = subst (IsHostNumber bytes host) same is; printed = printed }
-
-  pub of_no_number : (text : List ℕ) → found ≡ None → IsHostNumber bytes host found → text ≡ [] → IsDealTold bytes prefix host offset text
-  of_no_number text same is printed = record { number = None; is = subst (IsHostNumber bytes host) same is; printed = printed }

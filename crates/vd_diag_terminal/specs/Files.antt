@@ -36,21 +36,13 @@ source_unless other words = if bytes_eq (command words) other then None else Som
 abbrev pub inputs_of : List (List ℕ) → Option Reading
 inputs_of words = if bytes_eq (command words) (codes "excuse") then None else Some inputs
 
--- the source in which the number of a deal file's host stands; none of `excuse`, whose prefix is another word
-abbrev pub source_of_deals : List (List ℕ) → Option Reading
-source_of_deals words =
-    if bytes_eq (command words) (codes "excuse") then None
-    else if bytes_eq (command words) (codes "host-within") then None
-    else source_unless (codes "host") words
-
--- `trial` makes its source. A deal file is named by a prefix and its host's number in the source, but in the words of `host` and of `host-within`.
+-- `trial` makes its source
 abbrev pub reading_of : List (List ℕ) → Status → Option Reading
 reading_of words (status.Syntax fault) = source_unless (codes "trial") words
 reading_of words (status.Names fault) = source_unless (codes "trial") words
-reading_of words (status.Flow check offset) = source_unless (codes "trial") words
+reading_of words (status.Flow fault) = source_unless (codes "trial") words
 reading_of words status.NoAssignment = source_unless (codes "trial") words
 reading_of words (status.Spent budget) = source_unless (codes "trial") words
 reading_of words (status.InputText fault) = inputs_of words
 reading_of words (status.ScheduleText fault) = Some schedule
-reading_of words (status.DealText host offset) = source_of_deals words
 reading_of words status = None

@@ -1,30 +1,32 @@
 -- What is said of the bytes of the file that a status speaks of.
 use Rattle.std.specs.Prelude.{◌≡◌, ℕ, List, Option, Some, None}
-use Rattle.vd_diag_flow.specs.Flow.{SaysOfFlow}
+use Rattle.vd_diag_flow.specs.Flow.{flow_remark}
+use Rattle.vd_report.specs.declared.fault.ReadFault.{ReadFault}
+use Rattle.vd_report.specs.declared.fault.ReadFault.TheVariants as read_fault
 use Rattle.vd_cmd_plan.specs.declared.status.Status.{Status}
 use Rattle.vd_cmd_plan.specs.declared.status.Status.TheVariants as status
-use Rattle.vd_cmd_plan.specs.declared.status.TextFault.{TextFault}
-use Rattle.vd_cmd_plan.specs.declared.status.TextFault.TheVariants.{Text, UnknownHost}
 use Rattle.vd_diag.specs.Files.{host_sentence, inputs_sentence, name_at, schedule_sentence}
 use Rattle.vd_diag.specs.Remarks.{at}
 use Rattle.vd_diag.specs.declared.remark.Remark.{Remark}
-use Rattle.vd_diag_source.specs.SourceRemarks.{IsSourceRemark}
-use Rattle.vd_diag_terminal.specs.Programs.{IsOfProgram, IsAssignmentRemark, IsSearchRemark}
+use Rattle.vd_diag_source.specs.Rules.{IsRuleRemark}
+use Rattle.vd_diag_source.specs.SyntaxRemarks.{SaysOfSyntax}
+use Rattle.vd_diag_terminal.specs.Programs.{IsOfProgram, IsAssignmentRemark, IsSearchRemark, SaysOne}
 
--- ---- of inputs and schedules, which have names of hosts; `has` says what such a file has
+-- ---- of inputs and schedules, which have names of hosts; `has` says what such a file has; want of memory is no fault of theirs
 
-abbrev pub text_remark : List ℕ → List ℕ → TextFault → Remark
-text_remark bytes has (Text offset) = at offset has
-text_remark bytes has (UnknownHost offset) = at offset (host_sentence (name_at bytes offset))
+abbrev pub IsTextRemark : List ℕ → List ℕ → ReadFault → Remark → Type 0
+IsTextRemark bytes has (read_fault.Text offset) remark = remark ≡ at offset has
+IsTextRemark bytes has (read_fault.UnknownHost offset) remark = remark ≡ at offset (host_sentence (name_at bytes offset))
+IsTextRemark bytes has read_fault.Memory remark = ⊥
 
 -- ---- of any status
 
 abbrev pub IsRemarkOn : List ℕ → Status → Option Remark → Type 0
-IsRemarkOn bytes (status.Syntax fault) remark = IsSourceRemark bytes remark
-IsRemarkOn bytes (status.Names fault) remark = IsSourceRemark bytes remark
-IsRemarkOn bytes (status.Flow check offset) remark = IsOfProgram bytes SaysOfFlow remark
+IsRemarkOn bytes (status.Syntax fault) remark = SaysOfSyntax bytes fault remark
+IsRemarkOn bytes (status.Names fault) remark = SaysOne (IsRuleRemark bytes) fault remark
+IsRemarkOn bytes (status.Flow fault) remark = remark ≡ Some (flow_remark fault.principals fault.hosts fault.check fault.asked)
 IsRemarkOn bytes status.NoAssignment remark = IsOfProgram bytes IsAssignmentRemark remark
 IsRemarkOn bytes (status.Spent budget) remark = IsOfProgram bytes (IsSearchRemark budget) remark
-IsRemarkOn bytes (status.InputText fault) remark = remark ≡ Some (text_remark bytes inputs_sentence fault)
-IsRemarkOn bytes (status.ScheduleText fault) remark = remark ≡ Some (text_remark bytes schedule_sentence fault)
+IsRemarkOn bytes (status.InputText fault) remark = SaysOne (IsTextRemark bytes inputs_sentence) fault remark
+IsRemarkOn bytes (status.ScheduleText fault) remark = SaysOne (IsTextRemark bytes schedule_sentence) fault remark
 IsRemarkOn bytes status remark = remark ≡ None

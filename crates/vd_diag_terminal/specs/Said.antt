@@ -4,12 +4,10 @@ use Rattle.std.specs.Option.{option_map_or}
 use Rattle.vd_outside.specs.Files.{FilesView, Fetches}
 use Rattle.vd_outside.specs.declared.faults.FetchFault.{FetchFault}
 use Rattle.vd_cmd_plan.specs.declared.status.Status.{Status}
-use Rattle.vd_cmd_plan.specs.declared.status.Status.TheVariants as status
 use Rattle.vd_diag.specs.Remarks.{told}
 use Rattle.vd_diag.specs.declared.fault.TellFault.{TellFault}
 use Rattle.vd_diag.specs.declared.remark.Remark.{Remark}
 use Rattle.vd_diag_terminal.specs.Alone.{alone}
-use Rattle.vd_diag_terminal.specs.Deals.{IsDealTold}
 use Rattle.vd_diag_terminal.specs.Files.{reading_of, word_at}
 use Rattle.vd_diag_terminal.specs.Remarks.{IsRemarkOn}
 use Rattle.vd_diag_terminal.specs.declared.files.Reading.{Reading}
@@ -20,21 +18,16 @@ pub record IsRemarkTold (coloured : Bool) (status : Status) (name bytes text : L
   pub is : IsRemarkOn bytes status remark
   pub printed : text ≡ option_map_or (told coloured name bytes) remark []
 
--- what is said of a status when the file with this name holds these bytes
-abbrev pub IsTold : Bool → List (List ℕ) → Status → List ℕ → List ℕ → List ℕ → Type 0
-IsTold coloured words (status.DealText host offset) name bytes text = IsDealTold bytes (word_at words 3) host offset text
-IsTold coloured words status name bytes text = IsRemarkTold coloured status name bytes text
-
 -- by what its fetch gave: nothing where it gave no bytes
-abbrev pub IsToldOf : Bool → List (List ℕ) → Status → List ℕ → Result (List ℕ) FetchFault → List ℕ → Type 0
-IsToldOf coloured words status name (Ok bytes) text = IsTold coloured words status name bytes text
-IsToldOf coloured words status name (Err fault) text = text ≡ []
+abbrev pub IsToldOf : Bool → Status → List ℕ → Result (List ℕ) FetchFault → List ℕ → Type 0
+IsToldOf coloured status name (Ok bytes) text = IsRemarkTold coloured status name bytes text
+IsToldOf coloured status name (Err fault) text = text ≡ []
 
 -- The file with this name is fetched, and nothing else is asked of files. Want of memory may leave the text out.
-pub record IsSaidOfFile (coloured : Bool) (words : List (List ℕ)) (status : Status) (name : List ℕ) (limit : ℕ) (before now : FilesView) (result : Result (List ℕ) TellFault) : Type 0 where
+pub record IsSaidOfFile (coloured : Bool) (status : Status) (name : List ℕ) (limit : ℕ) (before now : FilesView) (result : Result (List ℕ) TellFault) : Type 0 where
   pub came : Result (List ℕ) FetchFault
   pub fetches : Fetches name limit before now came
-  pub says : IfOk result (IsToldOf coloured words status name came)
+  pub says : IfOk result (IsToldOf coloured status name came)
 
 -- Nothing is asked of files.
 pub record IsSaidAlone (said : List ℕ) (before now : FilesView) (result : Result (List ℕ) TellFault) : Type 0 where
@@ -42,13 +35,13 @@ pub record IsSaidAlone (said : List ℕ) (before now : FilesView) (result : Resu
   pub says : IfOk result (λ text. text ≡ said)
 
 -- nothing where there is no such word
-abbrev pub IsSaidOfNamed : Bool → List (List ℕ) → Status → Option (List ℕ) → ℕ → FilesView → FilesView → Result (List ℕ) TellFault → Type 0
-IsSaidOfNamed coloured words status None limit before now result = IsSaidAlone [] before now result
-IsSaidOfNamed coloured words status (Some name) limit before now result = IsSaidOfFile coloured words status name limit before now result
+abbrev pub IsSaidOfNamed : Bool → Status → Option (List ℕ) → ℕ → FilesView → FilesView → Result (List ℕ) TellFault → Type 0
+IsSaidOfNamed coloured status None limit before now result = IsSaidAlone [] before now result
+IsSaidOfNamed coloured status (Some name) limit before now result = IsSaidOfFile coloured status name limit before now result
 
 abbrev pub IsSaidBy : Bool → List (List ℕ) → Status → Option Reading → FilesView → FilesView → Result (List ℕ) TellFault → Type 0
 IsSaidBy coloured words status None before now result = IsSaidAlone (alone words status) before now result
-IsSaidBy coloured words status (Some reading) before now result = IsSaidOfNamed coloured words status (word_at words reading.word) reading.limit before now result
+IsSaidBy coloured words status (Some reading) before now result = IsSaidOfNamed coloured status (word_at words reading.word) reading.limit before now result
 
 abbrev pub IsSaid : Bool → List (List ℕ) → Status → FilesView → FilesView → Result (List ℕ) TellFault → Type 0
 IsSaid coloured words status before now result = IsSaidBy coloured words status (reading_of words status) before now result

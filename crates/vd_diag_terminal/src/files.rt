@@ -43,26 +43,14 @@ fn inputs_of(words: &Texts) -> Option<Reading>
     }
 }
 
-/// The source in which the number of a deal file's host stands; none of `excuse`, whose prefix is another word.
-fn source_of_deals(words: &Texts) -> Option<Reading>
-    ensures { result ≡ files.source_of_deals words.now }
-{
-    if is_command(words, b"excuse") || is_command(words, b"host-within") {
-        None
-    } else {
-        source_unless(b"host", words)
-    }
-}
-
-/// The file from whose bytes more is said of a status, if there is one. `trial` makes its source, and reads none. The words
-/// of `host` and of `host-within` name a deal file; else it is named by a prefix and by its host's number in the source.
+/// The file from whose bytes more is said of a status, if there is one. `trial` makes its source, and reads none.
 pub(crate) fn reading_of(words: &Texts, status: &Status) -> Option<Reading>
     ensures { result ≡ files.reading_of words.now status.now }
 {
     match status {
         Status::Syntax(_)
         | Status::Names(_)
-        | Status::Flow(_, _)
+        | Status::Flow(_)
         | Status::NoAssignment
         | Status::Spent(_) => source_unless(b"trial", words),
         Status::InputText(_) => inputs_of(words),
@@ -70,7 +58,6 @@ pub(crate) fn reading_of(words: &Texts, status: &Status) -> Option<Reading>
             word: SCHEDULE,
             limit: SCHEDULE_BYTES,
         }),
-        Status::DealText(_, _) => source_of_deals(words),
         _ => None,
     }
 }

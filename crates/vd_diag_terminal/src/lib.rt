@@ -2,7 +2,6 @@
 #![tactic(auto)]
 
 mod alone;
-mod deals;
 mod files;
 mod programs;
 mod remarks;

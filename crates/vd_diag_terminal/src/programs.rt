@@ -2,7 +2,6 @@
 
 ghost use Rattle.std.specs.Prelude.{◌≢◌, IfOk, OnOk};
 ghost use Rattle.vd_core.specs.Named.{HasNames};
-ghost use Rattle.vd_diag_flow.specs.Flow.{SaysOfFlow};
 ghost use Rattle.vd_parser.specs.declared.fault.ParseFault.TheVariants as parse_fault;
 ghost use Rattle.vd_resolve.specs.declared.fault.NameFault.TheVariants as name_fault;
 ghost use Rattle.vd_diag_terminal.specs.Programs as programs;
@@ -14,12 +13,11 @@ use vd_core::{Program, Source};
 use vd_diag::{Remark, TellFault};
 use vd_diag_branches::branch_remark;
 use vd_diag_choice::{no_assignment_remark, search_sentence, space_for};
-use vd_diag_flow::flow_remark;
 use vd_parser::{ParseFault, parse};
 use vd_resolve::{NameFault, resolve};
 
 /// Whether a fault of a text is one of its bytes, and not want of memory.
-pub(crate) fn of_bytes(fault: ParseFault) -> Result<(), TellFault>
+fn of_bytes(fault: ParseFault) -> Result<(), TellFault>
     ensures { OnOk result (fault ≢ parse_fault.Memory) }
 {
     match fault {
@@ -65,17 +63,6 @@ fn program_of(alloc: Global, bytes: &[u8]) -> Result<Option<Program>, TellFault>
             of_bytes(fault)?;
             Ok(None)
         }
-    }
-}
-
-/// The remark on the flow of a source.
-pub(crate) fn remark_on_flow(alloc: Global, bytes: &[u8]) -> Result<Option<Remark>, TellFault>
-    ensures { IfOk result (IsOfProgram bytes.now SaysOfFlow) }
-{
-    let found = program_of(alloc, bytes)?;
-    match found {
-        Some(program) => flow_remark(alloc, &program),
-        None => Ok(None),
     }
 }
 

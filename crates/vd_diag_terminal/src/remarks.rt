@@ -1,16 +1,21 @@
 //! The remark on the bytes of the file that a status speaks of.
 
 ghost use Rattle.std.specs.Prelude.{◌≡◌, IfOk, Some};
-ghost use Rattle.vd_diag.specs.Files as has;
 ghost use Rattle.vd_diag.specs.Remarks.{at as remark_at};
+ghost use Rattle.vd_diag_flow.specs.Flow.{flow_remark as remark_of_flow};
+ghost use Rattle.vd_diag_source.specs.Rules.{IsRuleRemark};
+ghost use Rattle.vd_diag_terminal.specs.Programs.{SaysOne};
 ghost use Rattle.vd_diag_terminal.specs.Remarks as remarks;
 
-use crate::programs::{remark_on_assignment, remark_on_budget, remark_on_flow};
-use std::alloc::{AllocError, Global};
+use crate::programs::{remark_on_assignment, remark_on_budget};
+use std::alloc::Global;
 use vd_base::Bytes;
-use vd_cmd_plan::{Status, TextFault};
+use vd_cmd_plan::{FlowFault, Status};
 use vd_diag::{Remark, TellFault, host_sentence, inputs_sentence, schedule_sentence};
-use vd_diag_source::source_remark;
+use vd_diag_flow::flow_remark;
+use vd_diag_source::{rule_remark, syntax_remark};
+use vd_report::ReadFault;
+use vd_resolve::NameFault;
 
 /// A sentence on what stands at this offset.
 fn at(offset: u32, sentence: Bytes) -> Remark
@@ -26,44 +31,47 @@ fn at(offset: u32, sentence: Bytes) -> Remark
 fn remark_on_text(
     alloc: Global,
     bytes: &[u8],
-    fault: TextFault,
+    fault: ReadFault,
     has: &str,
-) -> Result<Remark, AllocError>
-    ensures { IfOk result (λ remark. remark ≡ remarks.text_remark bytes.now has.now fault) }
+) -> Result<Option<Remark>, TellFault>
+    ensures { IfOk result (SaysOne (remarks.IsTextRemark bytes.now has.now) fault) }
 {
     match fault {
-        TextFault::Text(offset) => {
+        ReadFault::Text(offset) => {
             let sentence = Bytes::from_slice(alloc, has.as_bytes())?;
-            Ok(at(offset, sentence))
+            Ok(Some(at(offset, sentence)))
         }
-        TextFault::UnknownHost(offset) => {
+        ReadFault::UnknownHost(offset) => {
             let sentence = host_sentence(alloc, bytes, offset)?;
-            Ok(at(offset, sentence))
+            Ok(Some(at(offset, sentence)))
         }
+        ReadFault::Memory => Err(TellFault::Memory),
     }
 }
 
-/// The remark on inputs.
-fn remark_on_inputs(
+/// The remark on a fault of names, kinds or sizes.
+fn remark_on_rule(
     alloc: Global,
     bytes: &[u8],
-    fault: TextFault,
+    fault: NameFault,
 ) -> Result<Option<Remark>, TellFault>
-    ensures { IfOk result (λ remark. remark ≡ Some (remarks.text_remark bytes.now has.inputs_sentence fault)) }
+    ensures { IfOk result (SaysOne (IsRuleRemark bytes.now) fault) }
 {
-    let remark = remark_on_text(alloc, bytes, fault, inputs_sentence())?;
+    let remark = rule_remark(alloc, bytes, fault)?;
     Ok(Some(remark))
 }
 
-/// The remark on a schedule.
-fn remark_on_schedule(
-    alloc: Global,
-    bytes: &[u8],
-    fault: TextFault,
-) -> Result<Option<Remark>, TellFault>
-    ensures { IfOk result (λ remark. remark ≡ Some (remarks.text_remark bytes.now has.schedule_sentence fault)) }
+/// The remark on a flow that is not allowed.
+fn remark_on_flow(alloc: Global, fault: &FlowFault) -> Result<Option<Remark>, TellFault>
+    ensures { IfOk result (λ remark. remark ≡ Some (remark_of_flow fault.now.principals fault.now.hosts fault.now.check fault.now.asked)) }
 {
-    let remark = remark_on_text(alloc, bytes, fault, schedule_sentence())?;
+    let remark = flow_remark(
+        alloc,
+        &fault.principals,
+        &fault.hosts,
+        &fault.check,
+        &fault.asked,
+    )?;
     Ok(Some(remark))
 }
 
@@ -76,13 +84,13 @@ pub(crate) fn remark_on(
     ensures { IfOk result (remarks.IsRemarkOn bytes.now status.now) }
 {
     match status {
-        Status::Syntax(_) => source_remark(alloc, bytes),
-        Status::Names(_) => source_remark(alloc, bytes),
-        Status::Flow(_, _) => remark_on_flow(alloc, bytes),
+        Status::Syntax(fault) => syntax_remark(alloc, bytes, *fault),
+        Status::Names(fault) => remark_on_rule(alloc, bytes, *fault),
+        Status::Flow(fault) => remark_on_flow(alloc, fault),
         Status::NoAssignment => remark_on_assignment(alloc, bytes),
         Status::Spent(budget) => remark_on_budget(alloc, bytes, *budget),
-        Status::InputText(fault) => remark_on_inputs(alloc, bytes, *fault),
-        Status::ScheduleText(fault) => remark_on_schedule(alloc, bytes, *fault),
+        Status::InputText(fault) => remark_on_text(alloc, bytes, *fault, inputs_sentence()),
+        Status::ScheduleText(fault) => remark_on_text(alloc, bytes, *fault, schedule_sentence()),
         _ => Ok(None),
     }
 }

@@ -5,7 +5,6 @@ ghost use Rattle.vd_diag_terminal.specs.Said as texts;
 ghost use Rattle.vd_diag_terminal.specs.Saying.{SaysMore, SaysTo};
 
 use crate::alone::alone;
-use crate::deals::deal_told;
 use crate::files::{Reading, reading_of};
 use crate::remarks::remark_on;
 use crate::words::word_at;
@@ -44,25 +43,6 @@ fn remark_told(
     }
 }
 
-/// What is said of a status when the file with this name holds these bytes.
-fn told(
-    alloc: Global,
-    coloured: bool,
-    words: &Texts,
-    name: &str,
-    bytes: &[u8],
-    status: &Status,
-) -> Result<Bytes, TellFault>
-    ensures { IfOk result (texts.IsTold coloured words.now status.now name.now bytes.now) }
-{
-    match status {
-        Status::DealText(host, offset) => {
-            deal_told(alloc, words, bytes, host.as_slice(), *offset)
-        }
-        _ => remark_told(alloc, coloured, name, bytes, status),
-    }
-}
-
 /// What is said where a file is not given: nothing, unless there was no memory for it.
 fn said_of_fault(alloc: Global, fault: FetchFault) -> Result<Bytes, TellFault>
     ensures { IfOk result (λ text. text ≡ []) }
@@ -77,16 +57,15 @@ fn said_of_fault(alloc: Global, fault: FetchFault) -> Result<Bytes, TellFault>
 fn said_of_file<F: Files>(
     alloc: Global,
     coloured: bool,
-    words: &Texts,
     files: &mut F,
     name: &str,
     limit: u32,
     status: &Status,
 ) -> Result<Bytes, TellFault>
-    ensures { texts.IsSaidOfFile coloured words.now status.now name.now limit (F.view files.old) (F.view files.new) result }
+    ensures { texts.IsSaidOfFile coloured status.now name.now limit (F.view files.old) (F.view files.new) result }
 {
     match files.fetch(name, limit) {
-        Ok(bytes) => told(alloc, coloured, words, name, bytes.as_slice(), status),
+        Ok(bytes) => remark_told(alloc, coloured, name, bytes.as_slice(), status),
         Err(fault) => said_of_fault(alloc, fault),
     }
 }
@@ -103,7 +82,7 @@ fn said_by<F: Files>(
     ensures { texts.IsSaidBy coloured words.now status.now (Some reading) (F.view files.old) (F.view files.new) result }
 {
     match word_at(words, reading.word) {
-        Some(name) => said_of_file(alloc, coloured, words, files, name, reading.limit, status),
+        Some(name) => said_of_file(alloc, coloured, files, name, reading.limit, status),
         None => Ok(Bytes::new(alloc)),
     }
 }

@@ -2,8 +2,22 @@
 
 use std::alloc::Global;
 use std::io::Write;
-use vd_diag::tell;
-use vd_diag_source::source_remark;
+use vd_diag::{Remark, tell};
+use vd_diag_source::{rule_remark, syntax_remark};
+use vd_parser::parse;
+use vd_resolve::resolve;
+
+/// The remark on the fault of a source, if it has one: of its text, or of its names, kinds and sizes.
+fn source_remark(alloc: Global, bytes: &[u8]) -> anyhow::Result<Option<Remark>> {
+    let tree = match parse(alloc, bytes) {
+        Ok(tree) => tree,
+        Err(fault) => return Ok(syntax_remark(alloc, bytes, fault)?),
+    };
+    match resolve(alloc, tree) {
+        Ok(_resolved) => Ok(None),
+        Err(fault) => Ok(Some(rule_remark(alloc, bytes, fault)?)),
+    }
+}
 
 /// Prints a name, and what a person sees of a source; nothing more of one that has no fault.
 pub(crate) fn print<W: Write>(

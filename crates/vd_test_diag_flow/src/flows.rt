@@ -1,21 +1,40 @@
 //! Flow faults.
 
 use crate::programs::program_of;
+use anyhow::anyhow;
 use std::alloc::Global;
 use vd_base::Bytes;
-use vd_diag::{Remark, tell};
+use vd_cmd_frontend::least_labels;
+use vd_cmd_plan::{FlowFault, Status};
+use vd_diag::tell;
 use vd_diag_flow::flow_remark;
 
-/// What is remarked on the flow of a source; nothing where it has a labelling.
-fn remark_on(alloc: Global, source: &str) -> anyhow::Result<Option<Remark>> {
+/// Why a source has no labelling; nothing where it has one.
+fn fault_of(alloc: Global, source: &str) -> anyhow::Result<Option<FlowFault>> {
     let program = program_of(alloc, source)?;
-    Ok(flow_remark(alloc, &program)?)
+    match least_labels(alloc, &program) {
+        Ok(_labels) => Ok(None),
+        Err(Status::Flow(fault)) => Ok(Some(fault)),
+        Err(_) => Err(anyhow!("no labels")),
+    }
+}
+
+/// What a person sees of a fault of the flow of a source.
+fn told(alloc: Global, source: &str, fault: &FlowFault) -> anyhow::Result<Bytes> {
+    let remark = flow_remark(
+        alloc,
+        &fault.principals,
+        &fault.hosts,
+        &fault.check,
+        &fault.asked,
+    )?;
+    Ok(tell(alloc, false, "less.via", source.as_bytes(), &remark)?)
 }
 
 /// What a person sees of the flow of a source; nothing where it has a labelling.
 pub(crate) fn seen(alloc: Global, source: &str) -> anyhow::Result<Bytes> {
-    match remark_on(alloc, source)? {
-        Some(remark) => Ok(tell(alloc, false, "less.via", source.as_bytes(), &remark)?),
+    match fault_of(alloc, source)? {
+        Some(fault) => told(alloc, source, &fault),
         None => Ok(Bytes::new(alloc)),
     }
 }

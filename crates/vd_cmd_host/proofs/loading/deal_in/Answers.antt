@@ -8,4 +8,4 @@ returns-in-Ok-clause-given c = rw (← c.as_slice.ensures) ((c.in-Ok.ensures.giv
 pub returns-in_ok-name-in-Err-Text-clause-refused : goal.returns-in_ok-name-in-Err-Text-clause-refused
 returns-in_ok-name-in-Err-Text-clause-refused c =
     let refused = rw c.in-Err-Text.field-0-is at c.in-Err-Text.ensures.refused in
-    (c.in_ok-name-in-Err-Text.ensures {u = tt}, rw (← c.as_slice.ensures) ((refused (λ e. cc e) (file_fault.Text c.in-Err-Text.offset)).0 refl))
+    (c.in_ok-name-in-Err-Text.ensures {u = tt}, refl, rw (← c.as_slice.ensures) ((refused (λ e. cc e) (file_fault.Text c.in-Err-Text.offset)).0 refl))

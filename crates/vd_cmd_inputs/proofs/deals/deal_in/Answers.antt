@@ -14,7 +14,7 @@ returns-in_ok-name-in-Err-Text-clause-reads c = λ outcomes. record {
   ok = tt;
   err = deal_refused outcomes c.args.hosts c.args.number c.args.name.now c.args.bytes.now c.in-Err-Text.offset c.requires.few c.requires.declared
       (rw c.in-Err-Text.field-0-is at c.in-Err-Text.ensures.given) (rw c.in-Err-Text.field-0-is at c.in-Err-Text.ensures.refused)
-      ∙ ap (λ (n : List ℕ). Err (DealText n c.in-Err-Text.offset)) (sym (c.in_ok-name-in-Err-Text.ensures {u = tt} ∙ c.as_slice.ensures));
+      ∙ ap (λ (n : List ℕ). Err (DealText n c.args.number c.in-Err-Text.offset)) (sym (c.in_ok-name-in-Err-Text.ensures {u = tt} ∙ c.as_slice.ensures));
 }
 
 pub returns-in-Ok-clause-given : goal.returns-in-Ok-clause-given

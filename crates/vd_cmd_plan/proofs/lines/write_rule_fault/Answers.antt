@@ -14,3 +14,6 @@ returns-in-Arity g c = rw c.in-Arity.is c.write_offset-in-Arity.ensures
 
 pub returns-in-Kind : goal.returns-in-Kind
 returns-in-Kind g c = rw c.in-Kind.is c.write_offset-in-Kind.ensures
+
+pub returns-in-Memory : goal.returns-in-Memory
+returns-in-Memory g c = rw c.in-Memory.is c.write_memory.ensures

@@ -1,10 +1,10 @@
 use Rattle.vd_cmd_plan.proofs.lines.write_status.Goals as goal
 
 pub returns-in-Memory : goal.returns-in-Memory
-returns-in-Memory g c = rw c.in-Memory.is c.write_parts.ensures
+returns-in-Memory g c = rw c.in-Memory.is c.write_memory.ensures
 
 pub returns-in-Usage : goal.returns-in-Usage
-returns-in-Usage g c = rw c.in-Usage.is c.write_parts-in-Usage.ensures
+returns-in-Usage g c = rw c.in-Usage.is c.write_parts.ensures
 
 pub returns-in-ReadFault : goal.returns-in-ReadFault
 returns-in-ReadFault g c = rw (c.in-ReadFault.is, ← c.as_str.ensures, ← c.as_bytes.ensures.value) c.write_name.ensures

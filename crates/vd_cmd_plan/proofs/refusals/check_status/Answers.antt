@@ -1,0 +1,5 @@
+use Rattle.vd_cmd_plan.proofs.Carried.{check_carried}
+use Rattle.vd_cmd_plan.proofs.refusals.check_status.Goals as goal
+
+pub returns-in_default : goal.returns-in_default
+returns-in_default c = check_carried c.args.fault c.in_default.not-Memory

@@ -1,2 +1,0 @@
-mod Solutions
-mod Refused
