@@ -42,12 +42,12 @@ use Rattle.vd_cmd_plan.specs.Plans.{Plan, answer_then, check_then, ended}
 use Rattle.vd_cmd_plan.specs.declared.answer.Answer.{Answer}
 use Rattle.vd_cmd_plan.specs.declared.status.Status.{Status}
 use Rattle.vd_cmd_plan.specs.declared.status.Status.TheVariants.{Ended, Memory, NoAssignment, Spent}
-use Rattle.vd_cmd_frontend.specs.Outcomes.{LabelOutcomes}
+use Rattle.vd_cmd_frontend.specs.Outcomes.{LabelOutcomes, TextOutcomes}
 use Rattle.vd_cmd_frontend.specs.Labelling.{labels_of}
 use Rattle.vd_cmd_frontend.specs.Sources.{HoldsSource}
 use Rattle.vd_cmd_choose.specs.Certifying.{as_certificate, as_proved, certificate_of, certificate_plan, certificate_then, certified_plan, confirmed_plan, proved_of, proved_text}
-use Rattle.vd_cmd_choose.specs.Choice.{Chosen, assigned, assignment_of, choice_then, chosen_by, printed_at, search_then}
-use Rattle.vd_cmd_choose.specs.Choosing.{certificate_file, choice_answer, choose_plan, chosen_answer, selected_plan}
+use Rattle.vd_cmd_choose.specs.Choice.{Chosen, assigned, assignment_of, choice_then, chosen_by, printed_at, search_then, source_choice_then}
+use Rattle.vd_cmd_choose.specs.Choosing.{certificate_file, choice_answer, chosen_answer}
 use Rattle.vd_cmd_choose.specs.Searching.{Certified, GaveUp, Searched, is_accepted, searched_by}
 use Rattle.vd_cmd_choose.specs.Outcomes.{CertificateOutcomes}
 use Rattle.vd_cmd_choose.specs.Problems.{problem_for}
@@ -57,7 +57,7 @@ use Rattle.vd_cmd_answers.specs.Laws.{ChoicesTell}
 use Rattle.vd_cmd_answers.proofs.Plans.{Ends, Leads, NeverEnds, answered, check_came, check_leads, ends_as, file_leads}
 use Rattle.vd_cmd_answers.proofs.Proved.{Shown, confirmed_shows}
 use Rattle.vd_cmd_answers.proofs.Short.{marks_few, text_short}
-use Rattle.vd_cmd_answers.proofs.Sources.{labels_are, labels_never, made_of, problem_found, same_status, source_came, source_leads}
+use Rattle.vd_cmd_answers.proofs.Sources.{labels_are, labels_never, made_of, problem_found, program_leads, read_came, same_status}
 
 -- ---- what a search answered
 
@@ -198,9 +198,9 @@ module _ (name : List ℕ) (contents : Contents) (source : Source) (held : Holds
       let space : Leads after (certified_plan labelling program a.c) answer = check_leads after (problem_for labelling program) problem (confirmed_plan a.c) answer (problem_found labelling program made labels least) confirm in
       let program_there : Leads after (certified_plan labelling (run_form labelling (normal_form source)) a.c) answer =
       subst (λ (p : NormalForm). Leads after (certified_plan labelling p a.c) answer) (run_once source program (made_of name contents source held) is_run labelling) space in
-      let read : Leads after (certificate_plan labelling certificates (beside name bytes contents) source) answer =
+      let read : Leads after (certificate_plan labelling certificates (beside name bytes contents) (run_form labelling (normal_form source))) answer =
       certificate_leads after certificates (beside name bytes contents) bytes a.c (certified_plan labelling (run_form labelling (normal_form source))) answer (is_read name bytes contents (short bytes a)) a.text program_there in
-      source_leads after texts name source (certificate_plan labelling certificates (beside name bytes contents)) answer (still_held name bytes contents source held) read
+      program_leads after texts name labelling source (certificate_plan labelling certificates (beside name bytes contents)) answer (still_held name bytes contents source held) read
 
   -- what is printed of the choice
   abbrev pub tells : (list : List ℕ) → IsCheapest problem list → TellsAssignment name contents (printed_at program (assigned problem list))
@@ -247,18 +247,36 @@ module _ (contents : Contents) (certificates : CertificateOutcomes) (choices : C
       let found = check_came contents (search (problem_of program labels) budget) after (search_never certificates choices (problem_of program labels) budget searched) (ends_as contents step (searching labels) ends of.2) in
       record { labels = labels; is_least = labels_are least program made labels of.1; bytes = found.0; gives = found.1; leads = of.2 ∙ found.2 }
 
+module _ (contents : Contents) (certificates : CertificateOutcomes) (choices : ChoiceOutcomes) (searched : Searched) (texts : TextOutcomes) (least : LabelOutcomes) (name : List ℕ) (budget : ℕ) (rest : List ℕ → Chosen → Contents → Plan) where
+  abbrev whole : Contents → Plan
+  whole = source_choice_then texts least choices (searched_by certificates choices searched) name budget rest
+
+  -- the file holds a source that meets every rule, and the choice for the program that is run for it was gone on with
+  pub record CameOf : Type 0 where
+    pub source : Source
+    pub held : HoldsSource name contents source
+    pub program : NormalForm
+    pub is_run : IsRunProgram source program
+    pub step : Came contents certificates choices searched least budget program (rest held.bytes)
+    pub leads : Leads contents whole (rest held.bytes (chosen_by choices program step.labels step.bytes) contents).answer
+
+  pub source_choice_came : Ends contents whole → CameOf
+  source_choice_came ends =
+      let choosing : List ℕ → Source → Contents → Plan = λ text source. choice_then least choices (searched_by certificates choices searched) budget (run_form least (normal_form source)) (rest text) in
+      let file = read_came contents texts name choosing whole refl ends in
+      let source = file.0 in
+      let held : HoldsSource name contents source = file.1 in
+      let program : NormalForm = run_form least (normal_form source) in
+      let is_run = run_form_is least source (made_of name contents source held) in
+      let made = run_well_made source program (made_of name contents source held) is_run in
+      let step = choice_came contents certificates choices searched least budget program (rest held.bytes) made (ends_as contents whole (choosing held.bytes source) ends file.2) in
+      record { source = source; held = held; program = program; is_run = is_run; step = step; leads = file.2 ∙ step.leads }
+
 pub choices_tell : ChoicesTell
 choices_tell texts least certificates choices searched name budget contents low ends =
-    let search = searched_by certificates choices searched in
-    let whole = choose_plan texts least choices search name budget in
-    let file = source_came contents texts name (selected_plan least choices search name budget) ends in
-    let program : NormalForm = run_form least (normal_form file.0) in
-    let is_run = run_form_is least file.0 (made_of name contents file.0 file.1) in
-    let made = run_well_made file.0 program (made_of name contents file.0 file.1) is_run in
-    let rest : Chosen → Contents → Plan = λ c. answer_then (chosen_answer name c) in
-    let begun = ends_as contents whole (choice_then least choices search budget program rest) ends file.2 in
-    let came = choice_came contents certificates choices searched least budget program rest made begun in
-    let problem : Problem = problem_of program came.labels in
-    let a = is_answer problem budget came.bytes (certificates.read came.bytes) (certificates.read_is came.bytes) (search_gave certificates choices problem budget searched came.bytes came.gives) in
-    told name contents file.0 file.1 program is_run came.labels came.is_least budget low (choices.choose problem) (choices.choose_is problem) came.bytes a (whole contents).answer
-    (file.2 ∙ came.leads ∙ answered contents (choice_answer program (assignment_of choices problem) (certificate_file name came.bytes))) ends
+    let came = source_choice_came contents certificates choices searched texts least name budget (λ text c. answer_then (chosen_answer name c)) ends in
+    let step = came.step in
+    let problem : Problem = problem_of came.program step.labels in
+    let a = is_answer problem budget step.bytes (certificates.read step.bytes) (certificates.read_is step.bytes) (search_gave certificates choices problem budget searched step.bytes step.gives) in
+    told name contents came.source came.held came.program came.is_run step.labels step.is_least budget low (choices.choose problem) (choices.choose_is problem) step.bytes a _
+    (came.leads ∙ answered contents (choice_answer came.program (assignment_of choices problem) (certificate_file name step.bytes))) ends

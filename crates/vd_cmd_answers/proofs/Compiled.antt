@@ -13,9 +13,8 @@ use Rattle.vd_core.specs.declared.source.Source.{Source}
 use Rattle.vd_constraints.specs.Rules.{system_of}
 use Rattle.vd_constraints.specs.Satisfies.{IsLeast}
 use Rattle.vd_constraints.specs.declared.labels.Labels.{Labels}
-use Rattle.vd_anf.specs.Normal.{normal_form}
-use Rattle.vd_cmd_rewrite.specs.RunPrograms.{IsRunProgram, run_form}
-use Rattle.vd_cmd_rewrite.proofs.Made.{run_form_is, run_well_made}
+use Rattle.vd_cmd_rewrite.specs.RunPrograms.{IsRunProgram}
+use Rattle.vd_cmd_rewrite.proofs.Made.{run_well_made}
 use Rattle.vd_space_optimum.proofs.Cheapest.{cheapest}
 use Rattle.vd_execution.specs.declared.instructions.Instr.{Instr}
 use Rattle.vd_execution.specs.Joint.{code_of}
@@ -29,20 +28,18 @@ use Rattle.vd_space.specs.Reading.{problem_of}
 use Rattle.vd_space.proofs.Weighed.{is_problem}
 use Rattle.vd_cmd_plan.specs.Deliver.{stored}
 use Rattle.vd_cmd_plan.specs.Numbered.{file_name}
-use Rattle.vd_cmd_plan.specs.Plans.{Plan}
+use Rattle.vd_cmd_plan.specs.Plans.{answer_then}
 use Rattle.vd_cmd_plan.specs.declared.answer.Answer.{Answer}
 use Rattle.vd_cmd_plan.specs.declared.status.Status.TheVariants.{Ended, NoAssignment}
 use Rattle.vd_cmd_frontend.specs.Sources.{HoldsSource}
-use Rattle.vd_cmd_choose.specs.Searching.{searched_by}
-use Rattle.vd_cmd_choose.specs.Choice.{Chosen, assigned, printed_at}
-use Rattle.vd_cmd_compile.specs.Compiling.{choice_plan, compile_plan, compiled_at, host_file, host_files, plan_for, source_plan}
-use Rattle.vd_cmd_compile.specs.Selected.{no_list}
+use Rattle.vd_cmd_choose.specs.Choice.{assigned, assigned_answer, chosen_by, printed_at}
+use Rattle.vd_cmd_compile.specs.Compiling.{compiled_at, compiled_for, host_file, host_files, plan_for}
 use Rattle.vd_cmd_compile.proofs.Runnable.{code_count}
 use Rattle.vd_cmd_answers.specs.Answers.{Stands, TellsCompiled}
 use Rattle.vd_cmd_answers.specs.Laws.{CompiledTell}
-use Rattle.vd_cmd_answers.proofs.Plans.{answered, ends_as}
-use Rattle.vd_cmd_answers.proofs.Choices.{choice_came, tells}
-use Rattle.vd_cmd_answers.proofs.Sources.{made_of, read_came}
+use Rattle.vd_cmd_answers.proofs.Plans.{answered}
+use Rattle.vd_cmd_answers.proofs.Choices.{source_choice_came, tells}
+use Rattle.vd_cmd_answers.proofs.Sources.{made_of}
 use Rattle.vd_cmd_answers.proofs.Standing.{files_from, standing}
 
 -- ---- the files
@@ -70,31 +67,23 @@ module _ (name prefix : List ℕ) (contents : Contents) (source : Source) (held 
   abbrev problem : Problem
   problem = problem_of program labels
 
-  told : (choice : Option (List ℕ)) → IsChosen problem choice → (answer : Answer) → (choice_plan held.bytes prefix program (option_map (assigned problem) choice) contents).answer ≡ answer → answer.status ≡ Ended
+  told : (choice : Option (List ℕ)) → IsChosen problem choice → (answer : Answer) → answer ≡ assigned_answer (λ a. compiled_at program a held.bytes prefix) (option_map (assigned problem) choice) → answer.status ≡ Ended
       → TellsCompiled name prefix contents (stored answer.stores contents) answer.printed
-  told None chosen answer is ends = let wrong : NoAssignment ≡ Ended = ap (λ (x : Answer). x.status) (sym (answered contents no_list) ∙ is) ∙ ends in absurd (cc wrong)
+  told None chosen answer is ends = let wrong : NoAssignment ≡ Ended = sym (ap (λ (x : Answer). x.status) is) ∙ ends in absurd (cc wrong)
   told (Some list) chosen answer is ends =
       let made = run_well_made source program (made_of name contents source held) is_run in
       let few : length program.hosts ≤ 4 = let limit = made.limits.hosts in omega (arith, limit) in
       let a = assigned problem list in
       let plan = plan_for held.bytes (printed_at program a) in
-      subst (λ (x : Answer). TellsCompiled name prefix contents (stored x.stores contents) x.printed) (sym (answered contents (compiled_at program a held.bytes prefix)) ∙ is) (record {
+      subst (λ (x : Answer). TellsCompiled name prefix contents (stored x.stores contents) x.printed) (sym is) (record {
         choice = tells name contents source held program is_run labels least most_search_budget (omega arith) list (cheapest problem list (is_problem program labels made) chosen);
         files = λ h low. stands program a.protocols plan prefix contents few h low;
       })
 
 pub compiled_tell : CompiledTell
 compiled_tell texts least certificates choices searched name prefix budget contents ends =
-    let search = searched_by certificates choices searched in
-    let whole = compile_plan texts least choices search name prefix budget in
-    let then : List ℕ → Source → Contents → Plan = λ bytes. source_plan least choices search bytes prefix budget in
-    let file = read_came contents texts name then whole refl ends in
-    let source = file.0 in
-    let held : HoldsSource name contents source = file.1 in
-    let program : NormalForm = run_form least (normal_form source) in
-    let is_run = run_form_is least source (made_of name contents source held) in
-    let made = run_well_made source program (made_of name contents source held) is_run in
-    let rest : Chosen → Contents → Plan = λ c. choice_plan held.bytes prefix c.program c.assignment in
-    let came = choice_came contents certificates choices searched least budget program rest made (ends_as contents whole (then held.bytes source) ends file.2) in
-    let problem : Problem = problem_of program came.labels in
-    told name prefix contents source held program is_run came.labels came.is_least (choices.choose problem) (choices.choose_is problem) (whole contents).answer (sym (file.2 ∙ came.leads)) ends
+    let came = source_choice_came contents certificates choices searched texts least name budget (λ text c. answer_then (compiled_for text prefix c)) ends in
+    let step = came.step in
+    let problem : Problem = problem_of came.program step.labels in
+    told name prefix contents came.source came.held came.program came.is_run step.labels step.is_least (choices.choose problem) (choices.choose_is problem) _
+    (came.leads ∙ answered contents (compiled_for came.held.bytes prefix (chosen_by choices came.program step.labels step.bytes))) ends

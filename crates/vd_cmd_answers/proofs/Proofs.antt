@@ -28,7 +28,7 @@ use Rattle.vd_cmd_answers.specs.Laws.{ProofsTell}
 use Rattle.vd_cmd_plan.specs.Refusals.{check_status}
 use Rattle.vd_cmd_answers.proofs.Plans.{Ends, Leads, NeverEnds, answered, check_came, ends_as, file_came}
 use Rattle.vd_cmd_answers.proofs.Proved.{Shown, confirmed_shows}
-use Rattle.vd_cmd_answers.proofs.Sources.{made_of, problem_is, problem_never, same_status, source_came}
+use Rattle.vd_cmd_answers.proofs.Sources.{made_of, problem_is, problem_never, read_came, same_status}
 
 certificate_never_by : (said : Result Certificate ℕ) → NeverEnds (as_certificate said)
 certificate_never_by (Ok certificate) status is ended = absurd (cc is)
@@ -69,12 +69,12 @@ module _ (contents : Contents) (certificates : CertificateOutcomes) (name : List
 pub proofs_tell : ProofsTell
 proofs_tell texts least certificates name certificate contents ends =
     let whole = certify_plan texts least certificates name certificate in
-    let file = source_came contents texts name (certificate_plan least certificates certificate) ends in
+    let file = read_came contents texts name (λ text source. certificate_plan least certificates certificate (run_form least (normal_form source))) whole refl ends in
     let program : NormalForm = run_form least (normal_form file.0) in
     let is_run = run_form_is least file.0 (made_of name contents file.0 file.1) in
     let made = run_well_made file.0 program (made_of name contents file.0 file.1) is_run in
     let certified = certified_plan least program in
-    let read = certificate_came contents certificates certificate certified (ends_as contents whole (certificate_plan least certificates certificate file.0) ends file.2) in
+    let read = certificate_came contents certificates certificate certified (ends_as contents whole (certificate_plan least certificates certificate program) ends file.2) in
     let upto = file.2 ∙ read.1 in
     let space = check_came contents (problem_for least program) (confirmed_plan read.0) (problem_never least program made) (ends_as contents whole (certified read.0) ends upto) in
     let problem : Problem = space.0 in

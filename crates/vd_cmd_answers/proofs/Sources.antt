@@ -35,6 +35,8 @@ use Rattle.vd_cmd_frontend.specs.Outcomes.{LabelOutcomes, TextOutcomes}
 use Rattle.vd_cmd_frontend.specs.Sources.{HoldsSource, IsSourceText, as_resolved, as_source, caused, resolved_of, source_of, source_then, text_status, tree_then}
 use Rattle.vd_cmd_frontend.proofs.Labelled.{labelled}
 use Rattle.vd_cmd_choose.specs.Problems.{IsProblemOf, as_problem, problem_for}
+use Rattle.vd_cmd_choose.specs.Programs.{program_then}
+use Rattle.vd_cmd_rewrite.specs.RunPrograms.{run_form}
 use Rattle.vd_cmd_answers.proofs.Plans.{Ends, Leads, NeverEnds, check_came, check_leads, ends_as, file_came, held_leads}
 
 -- ---- texts
@@ -106,13 +108,14 @@ module _ (contents : Contents) (texts : TextOutcomes) (name : List ℕ) where
   unfolding source_then tree_then
   source_came rest ends = let found = read_came (λ bytes. rest) (source_then texts name rest) refl ends in (found.0, found.1, found.2)
 
-  -- and where it holds this source, it is done with this one
-  pub source_leads : (source : Source) (rest : Source → Contents → Plan) (answer : Answer) → HoldsSource name contents source → Leads contents (rest source) answer → Leads contents (source_then texts name rest) answer
-  unfolding source_then tree_then
-  source_leads source rest answer held then =
-      held_leads contents name most_source_bytes (source_of texts name) source (λ tree. check_then (resolved_of tree) rest) answer (IsSourceText source) held
+  -- and where it holds this source, it is done with the program that is run for this one
+  pub program_leads : (least : LabelOutcomes) (source : Source) (rest : NormalForm → Contents → Plan) (answer : Answer) → HoldsSource name contents source → Leads contents (rest (run_form least (normal_form source))) answer
+      → Leads contents (program_then texts least name rest) answer
+  program_leads least source rest answer held then =
+      let with_source : Source → Contents → Plan = λ s. rest (run_form least (normal_form s)) in
+      held_leads contents name most_source_bytes (source_of texts name) source (λ tree. check_then (resolved_of tree) with_source) answer (IsSourceText source) held
       (λ bytes is. ap (as_source name) (parses_once bytes (texts.parse bytes) (Ok source) (texts.parse_is bytes) is.parsed))
-      (check_leads contents (resolved_of source) source rest answer (ap (as_resolved source) held.holds.meets) then)
+      (check_leads contents (resolved_of source) source with_source answer (ap (as_resolved source) held.holds.meets) then)
 
 pub made_of : (name : List ℕ) (contents : Contents) (source : Source) → HoldsSource name contents source → IsWellMade (normal_form source)
 made_of name contents source held = well_made source held.holds.meets (names_are_names held.bytes source held.holds.parsed)

@@ -1,37 +1,25 @@
 -- What follows the step that finds a choice.
 use Rattle.std.proofs.Common.{◌≡◌, inl, inr, ℕ, Bool, true, false, if◌then◌else◌, Option, List, [], Result, Ok, Err, refl, sym, ◌∙◌, subst}
-use Rattle.std.specs.Prelude.{IfOk, IfSome, Some, nat_lt}
+use Rattle.std.specs.Prelude.{IfSome, Some, nat_lt}
 use Rattle.vd_outside.specs.Files.{Contents, FilesView}
 use Rattle.vd_core.specs.declared.normal.NormalForm.{NormalForm}
-use Rattle.vd_core.specs.declared.source.Source.{Source}
 use Rattle.vd_constraints.specs.declared.labels.Labels.{Labels}
-use Rattle.vd_cmd_rewrite.specs.RunPrograms.{IsRunProgram, TellsAs}
 use Rattle.vd_space.specs.declared.problem.Problem.{Problem}
 use Rattle.vd_space.specs.Reading.{problem_of}
 use Rattle.vd_search_stages.specs.Choices.{ChoiceOutcomes, needed}
-use Rattle.vd_cmd_plan.specs.Plans.{Executes, Plan, check_then}
+use Rattle.vd_cmd_plan.specs.Plans.{Computes, Executes, Plan, check_then}
 use Rattle.vd_cmd_plan.specs.declared.answer.Answer.{Answer}
 use Rattle.vd_cmd_plan.specs.declared.status.Status.{Status}
 use Rattle.vd_cmd_plan.specs.declared.status.Status.TheVariants.{Ended, Memory, Spent}
 use Rattle.vd_cmd_plan.proofs.Following.{Follows, check_follows}
 use Rattle.vd_cmd_frontend.specs.Labelling.{labels_of}
-use Rattle.vd_cmd_frontend.specs.Outcomes.{LabelOutcomes}
-use Rattle.vd_cmd_choose.specs.Choice.{Chosen, Chooses, ChoosesRun, IsChoiceFor, IsRunChoice, choice_then, chosen_by, chosen_of, run_choice_then, search_then}
+use Rattle.vd_cmd_frontend.specs.Outcomes.{LabelOutcomes, TextOutcomes}
+use Rattle.vd_cmd_choose.specs.Choice.{Chosen, Chooses, ChoosesIn, ChoosesOf, assigned_answer, choice_then, chosen_by, chosen_of, no_list, search_then, source_choice_then, text_choice_then}
 use Rattle.vd_cmd_choose.specs.Outcomes.{CertificateOutcomes}
 use Rattle.vd_cmd_choose.specs.Searching.{Certified, GaveUp, Searched, SomeSearch, is_accepted, searched_by, sure_search}
 use Rattle.vd_cmd_choose.specs.declared.choice.Assignment.{Assignment}
 use Rattle.vd_cmd_choose.specs.declared.choice.Choice.{Choice}
-
--- ---- what is known of it
-
--- a choice for the program that is run
-pub run_choice : (source : Source) (program : NormalForm) (result : Result Choice Status) → IsRunProgram source program → TellsAs source program → IfOk result (IsChoiceFor program) → IfOk result (IsRunChoice source)
-run_choice source program (Ok choice) is_run tells is = record {
-  is_run = subst (IsRunProgram source) (sym is.same) is_run;
-  tells = subst (TellsAs source) (sym is.same) tells;
-  selected = is.selected;
-}
-run_choice source program (Err status) is_run tells is = tt
+use Rattle.vd_cmd_choose.specs.declared.choice.ChosenSource.{ChosenSource}
 
 -- what there is of an assignment, if it is there
 pub which_is : (P : Assignment → Type 0) (o : Option Assignment) (a : Assignment) → o ≡ Some a → IfSome o P → P a
@@ -39,27 +27,33 @@ which_is P o a is has = subst (λ (x : Option Assignment). IfSome x P) is has
 
 -- ---- what a command goes on with
 
-module _ (source : Source) (budget : ℕ) (rest : Chosen → Contents → Plan) where
-  abbrev pub Runs : Result Answer Status → Type 0
-  Runs result = SomeSearch (λ choices search. (least : LabelOutcomes) (files : FilesView) → Executes true (run_choice_then least choices search budget source rest) files files result)
+-- no assignment is valid
+pub none_computes : (answer : Answer) → answer ≡ no_list → Computes no_list (Ok answer)
+none_computes answer is = subst (λ (a : Answer). Computes no_list (Ok a)) (sym is) (record { proper = (refl, refl); no_fault = λ file e. cc e; settled = refl })
 
-  pub run_then : (choice : Choice) (result : Result Answer Status) → ChoosesRun source budget (Ok choice) → ((files : FilesView) → Executes true (rest (chosen_of choice)) files files result) → Runs result
-  run_then choice result chooses runs = (chooses.0, λ certificates choices least files. chooses.1 certificates choices least files rest files result (runs files))
+-- the answer of an assignment, if this is what there is
+pub assigned_computes : (answer : Assignment → Answer) (o other : Option Assignment) (result : Result Answer Status) → o ≡ other → Computes (assigned_answer answer other) result → Computes (assigned_answer answer o) result
+assigned_computes answer o other result is computes = subst (λ (x : Option Assignment). Computes (assigned_answer answer x) result) (sym is) computes
 
-  pub run_refused : (status : Status) → ChoosesRun source budget (Err status) → Runs (Err status)
-  run_refused status chooses = (chooses.0, λ certificates choices least files. chooses.1 certificates choices least files rest)
+module _ (name : List ℕ) (budget : ℕ) (rest : List ℕ → Chosen → Contents → Plan) (before now : FilesView) where
+  abbrev pub RunsOf : Result Answer Status → Type 0
+  RunsOf result = SomeSearch (λ choices search. (texts : TextOutcomes) (least : LabelOutcomes) → Executes true (source_choice_then texts least choices search name budget rest) before now result)
 
--- with its assignment, if there is one
-pub run_with : (source : Source) (budget : ℕ) (rest : NormalForm → Option Assignment → Contents → Plan) (choice : Choice) (o : Option Assignment) (result : Result Answer Status) → ChoosesRun source budget (Ok choice)
-    → choice.assignment ≡ o → ((files : FilesView) → Executes true (rest choice.program o) files files result) → Runs source budget (λ c. rest c.program c.assignment) result
-run_with source budget rest choice o result chooses is runs =
-    run_then source budget (λ c. rest c.program c.assignment) choice result chooses (λ files. subst (λ (a : Option Assignment). Executes true (rest choice.program a) files files result) (sym is) (runs files))
+  pub source_then : (found : ChosenSource) (result : Result Answer Status) → ChoosesOf name budget before now (Ok found) → Executes true (rest found.text (chosen_of found.choice)) now now result → RunsOf result
+  source_then found result chooses runs = (chooses.0, λ certificates choices texts least. chooses.1 certificates choices texts least (λ x. rest x.0 x.1) now result runs)
 
--- and with its labels
-pub run_drawn : (source : Source) (budget : ℕ) (rest : NormalForm → Labels → Option Assignment → Contents → Plan) (choice : Choice) (o : Option Assignment) (result : Result Answer Status) → ChoosesRun source budget (Ok choice)
-    → choice.assignment ≡ o → ((files : FilesView) → Executes true (rest choice.program choice.labels o) files files result) → Runs source budget (λ c. rest c.program c.labels c.assignment) result
-run_drawn source budget rest choice o result chooses is runs =
-    run_then source budget (λ c. rest c.program c.labels c.assignment) choice result chooses (λ files. subst (λ (a : Option Assignment). Executes true (rest choice.program choice.labels a) files files result) (sym is) (runs files))
+  pub source_refused : (status : Status) → ChoosesOf name budget before now (Err status) → RunsOf (Err status)
+  source_refused status chooses = (chooses.0, λ certificates choices texts least. chooses.1 certificates choices texts least (λ x. rest x.0 x.1))
+
+module _ (name text : List ℕ) (budget : ℕ) (rest : Chosen → Contents → Plan) where
+  abbrev pub RunsIn : Result Answer Status → Type 0
+  RunsIn result = SomeSearch (λ choices search. (texts : TextOutcomes) (least : LabelOutcomes) (files : FilesView) → Executes true (text_choice_then texts least choices search name budget text rest) files files result)
+
+  pub text_then : (choice : Choice) (result : Result Answer Status) → ChoosesIn text budget (Ok choice) → ((files : FilesView) → Executes true (rest (chosen_of choice)) files files result) → RunsIn result
+  text_then choice result chooses runs = (chooses.0, λ certificates choices texts least files. chooses.1 certificates choices texts least name files rest files result (runs files))
+
+  pub text_refused : (status : Status) → ChoosesIn text budget (Err status) → RunsIn (Err status)
+  text_refused status chooses = (chooses.0, λ certificates choices texts least files. chooses.1 certificates choices texts least name files rest)
 
 module _ (program : NormalForm) (budget : ℕ) (rest : Chosen → Contents → Plan) where
   abbrev pub RunsFor : Result Answer Status → Type 0

@@ -13,23 +13,41 @@ use Rattle.vd_cmd_plan.specs.Plans.{Plan, check_then, answer_then}
 use Rattle.vd_cmd_plan.specs.declared.answer.Answer.{Answer}
 use Rattle.vd_cmd_plan.proofs.Following.{Follows, file_follows, check_follows}
 use Rattle.vd_cmd_frontend.specs.Outcomes.{TextOutcomes, LabelOutcomes}
-use Rattle.vd_cmd_frontend.specs.Sources.{source_of, resolved_of, tree_then, source_then}
+use Rattle.vd_cmd_frontend.specs.Sources.{source_of, resolved_of}
 use Rattle.vd_cmd_choose.specs.Outcomes.{CertificateOutcomes}
-use Rattle.vd_cmd_choose.specs.Choice.{assignment_of}
-use Rattle.vd_cmd_choose.specs.Choosing.{certificate_file, choice_answer, chosen_answer, selected_plan, choose_plan}
+use Rattle.vd_cmd_choose.specs.Choice.{Chosen, assignment_of, choice_then, source_choice_then, text_choice_then}
+use Rattle.vd_cmd_choose.specs.Programs.{program_then, text_program_then}
+use Rattle.vd_cmd_choose.specs.Choosing.{certificate_file, choice_answer, chosen_answer, choose_plan}
 use Rattle.vd_cmd_choose.specs.Searching.{Searched, searched_by, sure_search}
 use Rattle.vd_cmd_choose.specs.declared.choice.Assignment.{Assignment}
 use Rattle.vd_cmd_choose.proofs.Steps.{GoesByChoice, choice_follows}
 
-tree_follows : (texts : TextOutcomes) (name : List ℕ) (sure plan : Source → Contents → Plan) (files : Contents) → ((tree : Source) → Follows (sure tree files) (plan tree files)) → Follows (tree_then texts name sure files) (tree_then texts name plan files)
-unfolding tree_then
-tree_follows texts name sure plan files each =
-    file_follows name most_source_bytes (λ bytes. check_then (source_of texts name bytes) sure) (λ bytes. check_then (source_of texts name bytes) plan) files (λ bytes. check_follows (source_of texts name bytes) sure plan files each)
+module _ (texts : TextOutcomes) (least : LabelOutcomes) (name : List ℕ) (sure plan : NormalForm → Contents → Plan) (files : Contents) (each : (program : NormalForm) → Follows (sure program files) (plan program files)) where
+  text_follows : (text : List ℕ) → Follows (text_program_then texts least name text sure files) (text_program_then texts least name text plan files)
+  text_follows text =
+      let with_source : (NormalForm → Contents → Plan) → Source → Contents → Plan = λ rest source. rest (run_form least (normal_form source)) in
+      check_follows (source_of texts name text) (λ tree. check_then (resolved_of tree) (with_source sure)) (λ tree. check_then (resolved_of tree) (with_source plan)) files
+      (λ tree. check_follows (resolved_of tree) (with_source sure) (with_source plan) files (λ source. each (run_form least (normal_form source))))
 
-pub source_follows : (texts : TextOutcomes) (name : List ℕ) (sure plan : Source → Contents → Plan) (files : Contents) → ((tree : Source) → Follows (sure tree files) (plan tree files)) → Follows (source_then texts name sure files) (source_then texts name plan files)
-unfolding source_then
-source_follows texts name sure plan files each =
-    tree_follows texts name (λ tree. check_then (resolved_of tree) sure) (λ tree. check_then (resolved_of tree) plan) files (λ tree. check_follows (resolved_of tree) sure plan files each)
+  pub program_follows : Follows (program_then texts least name sure files) (program_then texts least name plan files)
+  program_follows = file_follows name most_source_bytes (λ text. text_program_then texts least name text sure) (λ text. text_program_then texts least name text plan) files text_follows
+
+module _ (texts : TextOutcomes) (least : LabelOutcomes) (certificates : CertificateOutcomes) (choices : ChoiceOutcomes) (searched : Searched) (name : List ℕ) (budget : ℕ) (files : Contents) where
+  -- of a choice that is gone on with so
+  abbrev pub GoesOn : (Chosen → Contents → Plan) → Type 0
+  GoesOn rest = (program : NormalForm) → GoesByChoice program budget certificates choices rest files
+
+  pub text_choice_follows : (text : List ℕ) (rest : Chosen → Contents → Plan) → GoesOn rest
+      → Follows (text_choice_then texts least choices (sure_search choices) name budget text rest files) (text_choice_then texts least choices (searched_by certificates choices searched) name budget text rest files)
+  text_choice_follows text rest goes =
+      text_follows texts least name (λ program. choice_then least choices (sure_search choices) budget program rest) (λ program. choice_then least choices (searched_by certificates choices searched) budget program rest) files
+      (λ program. choice_follows program budget certificates choices rest files (goes program) least searched) text
+
+  pub source_choice_follows : (rest : List ℕ → Chosen → Contents → Plan) → ((text : List ℕ) → GoesOn (rest text))
+      → Follows (source_choice_then texts least choices (sure_search choices) name budget rest files) (source_choice_then texts least choices (searched_by certificates choices searched) name budget rest files)
+  source_choice_follows rest goes =
+      file_follows name most_source_bytes (λ text. text_choice_then texts least choices (sure_search choices) name budget text (rest text)) (λ text. text_choice_then texts least choices (searched_by certificates choices searched) name budget text (rest text)) files
+      (λ text. text_choice_follows text (rest text) (goes text))
 
 -- the status does not go by the file that is stored
 same_status : (program : NormalForm) (choice : Option Assignment) (a b : Stored) → (choice_answer program choice a).status ≡ (choice_answer program choice b).status
@@ -51,6 +69,4 @@ same_after choices source program budget certificates files l one other =
 pub choose_follows : (texts : TextOutcomes) (least : LabelOutcomes) (certificates : CertificateOutcomes) (choices : ChoiceOutcomes) (searched : Searched) (source : List ℕ) (budget : ℕ) (files : Contents)
     → Follows (choose_plan texts least choices (sure_search choices) source budget files) (choose_plan texts least choices (searched_by certificates choices searched) source budget files)
 choose_follows texts least certificates choices searched source budget files =
-    source_follows texts source (selected_plan least choices (sure_search choices) source budget) (selected_plan least choices (searched_by certificates choices searched) source budget) files
-    (λ tree. let program : NormalForm = run_form least (normal_form tree) in
-    choice_follows program budget certificates choices (λ c. answer_then (chosen_answer source c)) files (same_after choices source program budget certificates files) least searched)
+    source_choice_follows texts least certificates choices searched source budget files (λ text c. answer_then (chosen_answer source c)) (λ text program. same_after choices source program budget certificates files)

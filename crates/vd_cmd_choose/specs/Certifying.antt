@@ -4,9 +4,6 @@ use Rattle.std.specs.Fmt.{decimal}
 use Rattle.vd_base.specs.Limits.{most_certificate_bytes, most_certificate_shifts}
 use Rattle.vd_outside.specs.Files.{FilesView, Contents}
 use Rattle.vd_core.specs.declared.normal.NormalForm.{NormalForm}
-use Rattle.vd_core.specs.declared.source.Source.{Source}
-use Rattle.vd_anf.specs.Normal.{normal_form}
-use Rattle.vd_cmd_rewrite.specs.RunPrograms.{run_form}
 use Rattle.vd_search_certificate.specs.declared.certificate.Certificate.{Certificate}
 use Rattle.vd_bound.specs.declared.checking.CheckFault.{CheckFault}
 use Rattle.vd_bound.specs.declared.checking.Proved.{Proved}
@@ -19,9 +16,9 @@ use Rattle.vd_cmd_plan.specs.Refusals.{check_status}
 use Rattle.vd_cmd_plan.specs.declared.status.Status.{Status}
 use Rattle.vd_cmd_plan.specs.declared.status.Status.TheVariants.{CertificateText}
 use Rattle.vd_cmd_frontend.specs.Outcomes.{TextOutcomes, LabelOutcomes}
-use Rattle.vd_cmd_frontend.specs.Sources.{source_then}
 use Rattle.vd_cmd_choose.specs.Outcomes.{CertificateOutcomes}
 use Rattle.vd_cmd_choose.specs.Problems.{problem_for}
+use Rattle.vd_cmd_choose.specs.Programs.{program_then}
 
 abbrev pub as_certificate : Result Certificate ℕ → Result Certificate Status
 as_certificate (Ok certificate) = Ok certificate
@@ -59,12 +56,12 @@ confirmed_plan certificate problem = check_then (proved_of problem certificate) 
 abbrev pub certified_plan : LabelOutcomes → NormalForm → Certificate → Contents → Plan
 certified_plan least program certificate = check_then (problem_for least program) (confirmed_plan certificate)
 
--- what it does with a source that meets every rule
-abbrev pub certificate_plan : LabelOutcomes → CertificateOutcomes → List ℕ → Source → Contents → Plan
-certificate_plan least certificates name source = certificate_then certificates name (certified_plan least (run_form least (normal_form source)))
+-- what it does with the program that is run for a source
+abbrev pub certificate_plan : LabelOutcomes → CertificateOutcomes → List ℕ → NormalForm → Contents → Plan
+certificate_plan least certificates name program = certificate_then certificates name (certified_plan least program)
 
 abbrev pub certify_plan : TextOutcomes → LabelOutcomes → CertificateOutcomes → List ℕ → List ℕ → Contents → Plan
-certify_plan texts least certificates source name = source_then texts source (certificate_plan least certificates name)
+certify_plan texts least certificates source name = program_then texts least source (certificate_plan least certificates name)
 
 -- ---- what the parts of the command do, whatever functions pick outcomes
 
@@ -73,9 +70,6 @@ LoadsCertificate name before now result = (certificates : CertificateOutcomes) �
 
 abbrev pub ExecutesCertified : NormalForm → Certificate → Result Answer Status → Type 0
 ExecutesCertified program certificate result = (least : LabelOutcomes) (files : FilesView) → Executes true (certified_plan least program certificate) files files result
-
-abbrev pub ExecutesCertificate : List ℕ → Source → FilesView → FilesView → Result Answer Status → Type 0
-ExecutesCertificate name source before now result = (least : LabelOutcomes) (certificates : CertificateOutcomes) → Executes true (certificate_plan least certificates name source) before now result
 
 abbrev pub ExecutesCertify : List ℕ → List ℕ → FilesView → FilesView → Result Answer Status → Type 0
 ExecutesCertify source name before now result =

@@ -1,10 +1,8 @@
 -- The choice of protocols for a program, and the step that finds it.
-use Rattle.std.specs.Prelude.{◌≡◌, ℕ, Option, option_map, List, map, Result, Ok, Err, IfSome}
-use Rattle.vd_outside.specs.Files.{Contents, FilesView}
+use Rattle.std.specs.Prelude.{◌≡◌, ℕ, Option, Some, None, option_map, List, [], map, Result, Ok, Err, IfSome}
+use Rattle.vd_base.specs.Limits.{most_source_bytes}
+use Rattle.vd_outside.specs.Files.{Contents, FilesView, fetched}
 use Rattle.vd_core.specs.declared.normal.NormalForm.{NormalForm}
-use Rattle.vd_core.specs.declared.source.Source.{Source}
-use Rattle.vd_anf.specs.Normal.{normal_form}
-use Rattle.vd_cmd_rewrite.specs.RunPrograms.{IsRunProgram, TellsAs, run_form}
 use Rattle.vd_report.specs.ChoiceLines.{choice_lines}
 use Rattle.vd_constraints.specs.Rules.{system_of}
 use Rattle.vd_constraints.specs.Satisfies.{IsLeast}
@@ -17,13 +15,17 @@ use Rattle.vd_space.specs.Reading.{problem_of}
 use Rattle.vd_space.specs.Validity.{protocol}
 use Rattle.vd_space_optimum.specs.Cheapest.{IsAssignment, IsCheapest}
 use Rattle.vd_search_stages.specs.Choices.{ChoiceOutcomes}
-use Rattle.vd_cmd_plan.specs.Plans.{ExecutesStep, Plan, check_then}
+use Rattle.vd_cmd_plan.specs.Plans.{ExecutesStep, Plan, check_then, file_then}
+use Rattle.vd_cmd_plan.specs.declared.answer.Answer.{Answer}
 use Rattle.vd_cmd_plan.specs.declared.status.Status.{Status}
-use Rattle.vd_cmd_frontend.specs.Outcomes.{LabelOutcomes}
+use Rattle.vd_cmd_plan.specs.declared.status.Status.TheVariants.{NoAssignment}
+use Rattle.vd_cmd_frontend.specs.Outcomes.{LabelOutcomes, TextOutcomes}
 use Rattle.vd_cmd_frontend.specs.Labelling.{labels_of}
 use Rattle.vd_cmd_choose.specs.Searching.{Search, SomeSearch}
 use Rattle.vd_cmd_choose.specs.declared.choice.Assignment.{Assignment}
+use Rattle.vd_cmd_choose.specs.Programs.{IsProgramOf, text_program_then}
 use Rattle.vd_cmd_choose.specs.declared.choice.Choice.{Choice}
+use Rattle.vd_cmd_choose.specs.declared.choice.ChosenSource.{ChosenSource}
 
 -- the protocols at these places of the list of all, and what they cost together
 abbrev pub assigned : Problem → List ℕ → Assignment
@@ -65,9 +67,26 @@ search_then choices search budget program l rest = check_then (search (problem_o
 abbrev pub choice_then : LabelOutcomes → ChoiceOutcomes → Search → (budget : ℕ) → NormalForm → (Chosen → Contents → Plan) → Contents → Plan
 choice_then least choices search budget program rest = check_then (labels_of least program) (λ l. search_then choices search budget program l rest)
 
--- and for the program that is run for a source
-abbrev pub run_choice_then : LabelOutcomes → ChoiceOutcomes → Search → (budget : ℕ) → Source → (Chosen → Contents → Plan) → Contents → Plan
-run_choice_then least choices search budget source rest = choice_then least choices search budget (run_form least (normal_form source)) rest
+-- for the program that is run for the source with this text, which goes by this name
+abbrev pub text_choice_then : TextOutcomes → LabelOutcomes → ChoiceOutcomes → Search → (name : List ℕ) → (budget : ℕ) → (text : List ℕ) → (Chosen → Contents → Plan) → Contents → Plan
+text_choice_then texts least choices search name budget text rest =
+    text_program_then texts least name text (λ program. choice_then least choices search budget program rest)
+
+-- and for the source in a file, whose text is kept
+abbrev pub source_choice_then : TextOutcomes → LabelOutcomes → ChoiceOutcomes → Search → (name : List ℕ) → (budget : ℕ) → (List ℕ → Chosen → Contents → Plan) → Contents → Plan
+source_choice_then texts least choices search name budget rest =
+    file_then name most_source_bytes (λ text. text_choice_then texts least choices search name budget text (rest text))
+
+-- ---- the answer to it
+
+-- where no assignment is valid
+abbrev pub no_list : Answer
+no_list = record { status = NoAssignment; stores = []; printed = [] }
+
+-- this one of an assignment, if there is one
+abbrev pub assigned_answer : (Assignment → Answer) → Option Assignment → Answer
+assigned_answer answer None = no_list
+assigned_answer answer (Some a) = answer a
 
 -- ---- what its parts do, whatever functions pick outcomes
 
@@ -86,9 +105,22 @@ abbrev pub Chooses : NormalForm → (budget : ℕ) → Result Choice Status → 
 Chooses program budget result =
     SomeSearch (λ choices search. (least : LabelOutcomes) (files : FilesView) → ExecutesStep (choice_then least choices search budget program) files files (chosen_in result))
 
-abbrev pub ChoosesRun : Source → (budget : ℕ) → Result Choice Status → Type 0
-ChoosesRun source budget result =
-    SomeSearch (λ choices search. (least : LabelOutcomes) (files : FilesView) → ExecutesStep (run_choice_then least choices search budget source) files files (chosen_in result))
+abbrev pub ChoosesIn : (text : List ℕ) → (budget : ℕ) → Result Choice Status → Type 0
+ChoosesIn text budget result =
+    SomeSearch (λ choices search. (texts : TextOutcomes) (least : LabelOutcomes) (name : List ℕ) (files : FilesView)
+    → ExecutesStep (text_choice_then texts least choices search name budget text) files files (chosen_in result))
+
+-- the text, and what was found
+abbrev pub found_in : Result ChosenSource Status → Result (List ℕ × Chosen) Status
+found_in (Ok found) = Ok (found.text, chosen_of found.choice)
+found_in (Err status) = Err status
+
+abbrev pub ChoosesOf : (name : List ℕ) → (budget : ℕ) → FilesView → FilesView → Result ChosenSource Status → Type 0
+ChoosesOf name budget before now result =
+    SomeSearch (λ choices search. (texts : TextOutcomes) (least : LabelOutcomes)
+    → ExecutesStep {T = List ℕ × Chosen} (λ rest. source_choice_then texts least choices search name budget (λ text c. rest (text, c))) before now (found_in result))
+
+-- ---- what they find
 
 -- what was found for a program
 pub record IsChoiceFor (program : NormalForm) (choice : Choice) : Type 0 where
@@ -96,8 +128,11 @@ pub record IsChoiceFor (program : NormalForm) (choice : Choice) : Type 0 where
   pub selected : IfSome choice.assignment (IsSelected choice.program)
   pub valid : IfSome choice.assignment (λ a. IsAssignment (problem_of choice.program choice.labels) a.protocols)
 
--- and for the program that is run for a source
-pub record IsRunChoice (source : Source) (choice : Choice) : Type 0 where
-  pub is_run : IsRunProgram source choice.program
-  pub tells : TellsAs source choice.program
+-- what was found for the source with this text
+pub record IsChoiceIn (text : List ℕ) (choice : Choice) : Type 0 where
+  pub of : IsProgramOf text choice.program
   pub selected : IfSome choice.assignment (IsSelected choice.program)
+
+-- the file of this name has the text of what was found
+abbrev pub HasText : (name : List ℕ) → Contents → ChosenSource → Type 0
+HasText name contents found = fetched (contents name) most_source_bytes ≡ Ok found.text

@@ -3,15 +3,13 @@ use Rattle.std.specs.Prelude.{ℕ, true, Option, Some, None, List, [], ◌∷◌
 use Rattle.vd_outside.specs.Files.{FilesView, Contents}
 use Rattle.vd_outside.specs.declared.stored.Stored.{Stored}
 use Rattle.vd_core.specs.declared.normal.NormalForm.{NormalForm}
-use Rattle.vd_core.specs.declared.source.Source.{Source}
 use Rattle.vd_search_stages.specs.Choices.{ChoiceOutcomes}
 use Rattle.vd_cmd_plan.specs.Plans.{Plan, Executes, answer_then, ended}
 use Rattle.vd_cmd_plan.specs.declared.answer.Answer.{Answer}
 use Rattle.vd_cmd_plan.specs.declared.status.Status.{Status}
 use Rattle.vd_cmd_plan.specs.declared.status.Status.TheVariants.{NoAssignment}
 use Rattle.vd_cmd_frontend.specs.Outcomes.{TextOutcomes, LabelOutcomes}
-use Rattle.vd_cmd_frontend.specs.Sources.{source_then}
-use Rattle.vd_cmd_choose.specs.Choice.{Chosen, printed_at, run_choice_then}
+use Rattle.vd_cmd_choose.specs.Choice.{Chosen, printed_at, source_choice_then}
 use Rattle.vd_cmd_choose.specs.Searching.{Search, SomeSearch}
 use Rattle.vd_cmd_choose.specs.declared.choice.Assignment.{Assignment}
 
@@ -28,16 +26,9 @@ choice_answer program None file = record { status = NoAssignment; stores = file 
 abbrev pub chosen_answer : List ℕ → Chosen → Answer
 chosen_answer source c = choice_answer c.program c.assignment (certificate_file source c.certificate)
 
--- what `choose` does with a source that meets every rule: it is the program that is run that it chooses for
-abbrev pub selected_plan : LabelOutcomes → ChoiceOutcomes → Search → List ℕ → ℕ → Source → Contents → Plan
-selected_plan least choices search source budget tree = run_choice_then least choices search budget tree (λ c. answer_then (chosen_answer source c))
-
+-- what `choose` does with a file: it is the program that is run for the source that it chooses for
 abbrev pub choose_plan : TextOutcomes → LabelOutcomes → ChoiceOutcomes → Search → List ℕ → ℕ → Contents → Plan
-choose_plan texts least choices search source budget = source_then texts source (selected_plan least choices search source budget)
-
-abbrev pub ExecutesTree : Source → List ℕ → ℕ → Result Answer Status → Type 0
-ExecutesTree tree source budget result =
-    SomeSearch (λ choices search. (least : LabelOutcomes) (files : FilesView) → Executes true (selected_plan least choices search source budget tree) files files result)
+choose_plan texts least choices search source budget = source_choice_then texts least choices search source budget (λ text c. answer_then (chosen_answer source c))
 
 abbrev pub ExecutesChoose : List ℕ → ℕ → FilesView → FilesView → Result Answer Status → Type 0
 ExecutesChoose source budget before now result =

@@ -4,21 +4,19 @@ ghost use Rattle.std.specs.Prelude.{◌≡◌, ◌<◌, ◌++◌, true, [], code
 ghost use Rattle.vd_cost_network.specs.Links.{links};
 ghost use Rattle.vd_outside.specs.Files.{FilesView};
 ghost use Rattle.vd_cmd_plan.specs.Plans.{Checks, Computes, Executes, ended};
-ghost use Rattle.vd_cmd_choose.specs.Certifying.{ExecutesCertificate, ExecutesCertified, ExecutesCertify, IsFromFile, confirmed_plan, proved_of, proved_text};
+ghost use Rattle.vd_cmd_choose.specs.Certifying.{ExecutesCertified, ExecutesCertify, IsFromFile, confirmed_plan, proved_of, proved_text};
 
 use crate::certificates::load_certificate;
+use crate::programs::load_program;
 use crate::spaces::least_space;
 use itoa::Buffer;
 use std::alloc::{AllocError, Global};
 use vd_base::Bytes;
 use vd_base_lists::Items;
 use vd_bound::Proved;
-use vd_cmd_frontend::load_source;
 use vd_cmd_plan::{Answer, Status, check_status};
-use vd_cmd_rewrite::run_program;
 use vd_core::Program;
 use vd_outside::Files;
-use vd_resolve::Resolved;
 use vd_search_certificate::Certificate;
 use vd_search_stages::confirm;
 use vd_space_api::Space;
@@ -86,20 +84,6 @@ fn certify_program(
     certify_space(alloc, &space, certificate)
 }
 
-/// What `certify` does with a source that meets every rule.
-fn certify_source<F: Files>(
-    alloc: Global,
-    files: &mut F,
-    source: &Resolved,
-    name: &str,
-) -> Result<Answer, Status>
-    ensures { ExecutesCertificate name.now source.now (F.view files.old) (F.view files.new) result }
-{
-    let certificate = load_certificate(alloc, files, name)?;
-    let program = run_program(alloc, source)?;
-    certify_program(alloc, &program, &certificate)
-}
-
 /// The command `certify`: what a certificate shows of the choice of protocols for a source.
 pub fn certify<F: Files>(
     alloc: Global,
@@ -109,6 +93,7 @@ pub fn certify<F: Files>(
 ) -> Result<Answer, Status>
     ensures { ExecutesCertify source.now name.now (F.view files.old) (F.view files.new) result }
 {
-    let resolved = load_source(alloc, files, source)?;
-    certify_source(alloc, files, &resolved, name)
+    let program = load_program(alloc, files, source)?;
+    let certificate = load_certificate(alloc, files, name)?;
+    certify_program(alloc, &program, &certificate)
 }

@@ -1,22 +1,24 @@
 //! The choice of protocols for a program.
 
-ghost use Rattle.std.specs.Prelude.{◌≡◌, ◌≤◌, Some, map, IfErr, IfOk};
-ghost use Rattle.vd_base.specs.Limits.{most_search_budget};
+ghost use Rattle.std.specs.Prelude.{◌≡◌, ◌≤◌, Some, length, map, IfErr, IfOk};
+ghost use Rattle.vd_base.specs.Limits.{most_search_budget, most_source_bytes};
 ghost use Rattle.vd_constraints.specs.Rules.{system_of};
 ghost use Rattle.vd_constraints.specs.Satisfies.{IsLeast};
+ghost use Rattle.vd_cmd_plan.specs.Held.{Finds};
 ghost use Rattle.vd_cmd_plan.specs.declared.status.Status.TheVariants.{Memory};
 ghost use Rattle.vd_space.specs.Validity.{protocol};
-ghost use Rattle.vd_cmd_choose.specs.Choice.{Chooses, ChoosesRun, IsChoiceFor, IsRunChoice, Searches};
+ghost use Rattle.vd_cmd_choose.specs.Choice.{Chooses, ChoosesIn, ChoosesOf, HasText, IsChoiceFor, IsChoiceIn, Searches, no_list};
 
+use crate::programs::program_of;
 use std::alloc::{AllocError, Global};
-use vd_base::Proto;
+use vd_base::limits::SOURCE_BYTES;
+use vd_base::{Bytes, Proto};
 use vd_base_lists::Items;
 use vd_cmd_frontend::least_labels;
-use vd_cmd_plan::Status;
-use vd_cmd_rewrite::run_program;
+use vd_cmd_plan::{Answer, Status, load};
 use vd_constraints::Labels;
 use vd_core::Program;
-use vd_resolve::Resolved;
+use vd_outside::Files;
 use vd_search_certificate::Certificate;
 use vd_search_stages::{SelectFault, Selection, Sweeps, select};
 use vd_space::protocol_at;
@@ -40,6 +42,13 @@ pub struct Choice {
     pub assignment: Option<Assignment>,
     /// The checker accepts it.
     pub certificate: Certificate,
+}
+
+/// A source that was fetched, and the choice for the program that is run for it.
+#[derive(Drop)]
+pub struct ChosenSource {
+    pub text: Bytes,
+    pub choice: Choice,
 }
 
 /// The protocols at these places of a space's list.
@@ -125,12 +134,41 @@ pub fn choice_for(alloc: Global, program: Program, budget: u32) -> Result<Choice
     choice_under(alloc, program, labels, budget)
 }
 
-/// The choice for the program that is run for a source that meets every rule.
-pub fn choice_of(alloc: Global, source: &Resolved, budget: u32) -> Result<Choice, Status>
-    requires { budget ≤ most_search_budget }
-    ensures chooses { ChoosesRun source.now budget result }
-    ensures found { IfOk result (IsRunChoice source.now) }
+/// The choice for the program that is run for the source with this text.
+pub fn choice_in(alloc: Global, text: &[u8], budget: u32) -> Result<Choice, Status>
+    requires text { length text.now ≤ most_source_bytes }
+    requires budget { budget ≤ most_search_budget }
+    ensures chooses { ChoosesIn text.now budget result }
+    ensures found { IfOk result (IsChoiceIn text.now) }
 {
-    let program = run_program(alloc, source)?;
+    let program = program_of(alloc, text)?;
     choice_for(alloc, program, budget)
+}
+
+/// The choice for the source in a file, found with a search of at most so many prefixes.
+pub fn choice_of<F: Files>(
+    alloc: Global,
+    files: &mut F,
+    source: &str,
+    budget: u32,
+) -> Result<ChosenSource, Status>
+    requires { budget ≤ most_search_budget }
+    ensures chooses { ChoosesOf source.now budget (F.view files.old) (F.view files.new) result }
+    ensures found { IfOk result (λ found. IsChoiceIn found.text found.choice) }
+    ensures given { Finds (F.view files.old) result (HasText source.now) }
+{
+    let text = load(alloc, files, source, SOURCE_BYTES)?;
+    let choice = choice_in(alloc, text.as_slice(), budget)?;
+    Ok(ChosenSource { text, choice })
+}
+
+/// The answer where no assignment is valid.
+pub fn no_assignment(alloc: Global) -> Answer
+    ensures { result ≡ no_list }
+{
+    Answer {
+        status: Status::NoAssignment,
+        stores: Items::new(alloc),
+        printed: Bytes::new(alloc),
+    }
 }

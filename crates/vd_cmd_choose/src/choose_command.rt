@@ -5,18 +5,16 @@ ghost use Rattle.vd_base.specs.Limits.{most_search_budget};
 ghost use Rattle.vd_search_certificate.specs.Texts.{text_of};
 ghost use Rattle.vd_cmd_plan.specs.Plans.{Computes};
 ghost use Rattle.vd_cmd_choose.specs.Choice.{chosen_of, printed_at};
-ghost use Rattle.vd_cmd_choose.specs.Choosing.{ExecutesChoose, ExecutesTree, certificate_file, chosen_answer};
+ghost use Rattle.vd_cmd_choose.specs.Choosing.{ExecutesChoose, certificate_file, chosen_answer};
 
 use crate::choice::{Assignment, Choice, choice_of};
 use std::alloc::{AllocError, Global};
 use vd_base::{Bytes, Text};
 use vd_base_lists::Items;
-use vd_cmd_frontend::load_source;
 use vd_cmd_plan::{Answer, Status};
 use vd_core::Program;
 use vd_outside::{Files, Stored};
 use vd_report::choice_text;
-use vd_resolve::Resolved;
 use vd_search_certificate::Certificate;
 
 /// The lines that tell an assignment and its cost.
@@ -68,20 +66,6 @@ fn answer_choice(alloc: Global, source: &str, choice: &Choice) -> Result<Answer,
     }
 }
 
-/// What `choose` does with a source that meets every rule.
-fn choose_for_source(
-    alloc: Global,
-    source: &Resolved,
-    name: &str,
-    budget: u32,
-) -> Result<Answer, Status>
-    requires { budget ≤ most_search_budget }
-    ensures { ExecutesTree source.now name.now budget result }
-{
-    let choice = choice_of(alloc, source, budget)?;
-    answer_choice(alloc, name, &choice)
-}
-
 /// The command `choose`: the choice of protocols for a source, found with a search of at most so many prefixes.
 pub fn choose<F: Files>(
     alloc: Global,
@@ -92,6 +76,6 @@ pub fn choose<F: Files>(
     requires { budget ≤ most_search_budget }
     ensures { ExecutesChoose source.now budget (F.view files.old) (F.view files.new) result }
 {
-    let resolved = load_source(alloc, files, source)?;
-    choose_for_source(alloc, &resolved, source, budget)
+    let found = choice_of(alloc, files, source, budget)?;
+    answer_choice(alloc, source, &found.choice)
 }

@@ -8,12 +8,16 @@ mod certify_command;
 mod choice;
 mod choose_command;
 mod gen_command;
+mod programs;
 mod spaces;
 
 pub use certify_command::certify;
-pub use choice::{Assignment, Choice, choice_for, choice_of};
+pub use choice::{
+    Assignment, Choice, ChosenSource, choice_for, choice_in, choice_of, no_assignment,
+};
 pub use choose_command::{assignment_text, choose};
 pub use gen_command::generate_source;
+pub use programs::load_program;
 pub use spaces::least_space;
 
 /// Each certificate file has an outcome, so there is a function for the clauses to speak of.

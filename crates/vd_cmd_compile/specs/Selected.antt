@@ -1,5 +1,5 @@
 -- Programs at their chosen protocols.
-use Rattle.std.specs.Prelude.{◌<◌, List, [], length, map}
+use Rattle.std.specs.Prelude.{◌<◌, List, length, map}
 use Rattle.vd_base.specs.declared.ids.SlotId.{SlotId}
 use Rattle.vd_base.specs.declared.protocols.Proto.{Proto}
 use Rattle.vd_base.specs.Holders.{proto_in}
@@ -11,8 +11,6 @@ use Rattle.vd_constraints.specs.Rules.{label}
 use Rattle.vd_constraints.specs.Satisfies.{label_at}
 use Rattle.vd_constraints.specs.declared.labels.Labels.{Labels}
 use Rattle.vd_constraints.specs.declared.system.Place.TheVariants.{Slot}
-use Rattle.vd_cmd_plan.specs.declared.answer.Answer.{Answer}
-use Rattle.vd_cmd_plan.specs.declared.status.Status.TheVariants.{NoAssignment}
 
 -- both parts of an authority act for the same part of a label
 pub record Covers (authority covered : Label) : Type 0 where
@@ -23,7 +21,3 @@ pub record Covers (authority covered : Label) : Type 0 where
 abbrev pub AreCovered : NormalForm → Labels → List Proto → Type 0
 AreCovered program labels protocols = (x : SlotId) → x.0 < length program.slots
     → Covers (authority_of (proto_in protocols x.0) (map (label program) program.labels)) (label_at labels (Slot x))
-
--- the answer where no list of protocols is valid
-abbrev pub no_list : Answer
-no_list = record { status = NoAssignment; stores = []; printed = [] }

@@ -28,11 +28,6 @@ pub record StoresPrograms (program : NormalForm) (text prefix : List ℕ) (answe
 abbrev pub TellsPrograms : NormalForm → (text prefix : List ℕ) → Result Answer Status → Type 0
 TellsPrograms program text prefix result = IfOk result (λ answer. answer.status ≡ Ended → StoresPrograms program text prefix answer)
 
--- so does an answer of the program that is run for a source that ended
-abbrev pub TellsTree : Source → (text prefix : List ℕ) → Result Answer Status → Type 0
-TellsTree source text prefix result =
-    IfOk result (λ answer. answer.status ≡ Ended → (program : NormalForm) × IsRunProgram source program × TellsAs source program × StoresPrograms program text prefix answer)
-
 -- the text is that of a source that meets every rule, and the programs of its hosts are stored
 pub record CompilesText (text prefix : List ℕ) (answer : Answer) : Type 0 where
   pub source : Source
@@ -41,6 +36,10 @@ pub record CompilesText (text prefix : List ℕ) (answer : Answer) : Type 0 wher
   pub is_run : IsRunProgram source program
   pub tells : TellsAs source program
   pub programs : StoresPrograms program text prefix answer
+
+-- so does an answer to this text that ended
+abbrev pub TellsText : (text prefix : List ℕ) → Result Answer Status → Type 0
+TellsText text prefix result = IfOk result (λ answer. answer.status ≡ Ended → CompilesText text prefix answer)
 
 -- Where the files tell what they hold, and the answer ended, the file of this name holds such a text.
 abbrev pub TellsSource : (source prefix : List ℕ) → FilesView → Result Answer Status → Type 0

@@ -3,24 +3,20 @@
 ghost use Rattle.std.specs.Prelude.{◌≡◌, ◌≤◌, length, IfOk};
 ghost use Rattle.vd_base.specs.Limits.{most_hosts, most_search_budget};
 ghost use Rattle.vd_cmd_plan.specs.Plans.{Computes};
-ghost use Rattle.vd_cmd_choose.specs.Choice.{IsSelected};
-ghost use Rattle.vd_cmd_compile.specs.Compiling.{ExecutesCompile, ExecutesSource, compiled_at, host_file, host_files};
-ghost use Rattle.vd_cmd_compile.specs.Telling.{TellsPrograms, TellsSource, TellsTree};
+ghost use Rattle.vd_cmd_choose.specs.Choice.{IsChoiceIn, IsSelected, chosen_of};
+ghost use Rattle.vd_cmd_compile.specs.Compiling.{ExecutesCompile, compiled_at, compiled_for, host_file, host_files};
+ghost use Rattle.vd_cmd_compile.specs.Telling.{TellsPrograms, TellsSource, TellsText};
 
-use crate::checks::no_assignment;
 use std::alloc::{AllocError, Global};
-use vd_base::limits::SOURCE_BYTES;
 use vd_base::{HostId, Names};
 use vd_base_lists::Items;
-use vd_cmd_choose::{Assignment, assignment_text, choice_of};
-use vd_cmd_frontend::{read_source, resolve_source};
-use vd_cmd_plan::{Answer, Status, file_name, load};
+use vd_cmd_choose::{Assignment, ChosenSource, assignment_text, choice_of, no_assignment};
+use vd_cmd_plan::{Answer, Status, file_name};
 use vd_core::Program;
 use vd_execution::Instr;
 use vd_host_text::{Digest, host_file, plan_of};
 use vd_outside::{Files, Stored};
 use vd_projection::split;
-use vd_resolve::Resolved;
 
 /// The file of a host's program, `PREFIX.i.host` for host i, where these are the names of all hosts.
 fn file_of(
@@ -85,21 +81,20 @@ fn compile_at(
     })
 }
 
-/// What `compile` does with a source that meets every rule, whose text this is.
-pub fn compile_source(
-    alloc: Global,
-    source: &Resolved,
-    text: &[u8],
-    prefix: &str,
-    budget: u32,
-) -> Result<Answer, Status>
-    requires { budget ≤ most_search_budget }
-    ensures executes { ExecutesSource source.now text.now prefix.now budget result }
-    ensures tells { TellsTree source.now text.now prefix.now result }
+/// What `compile` comes to with what was found for a source.
+pub fn compile_choice(alloc: Global, found: &ChosenSource, prefix: &str) -> Result<Answer, Status>
+    requires { IsChoiceIn found.now.text found.now.choice }
+    ensures computes { Computes (compiled_for found.now.text prefix.now (chosen_of found.now.choice)) result }
+    ensures tells { TellsText found.now.text prefix.now result }
 {
-    let choice = choice_of(alloc, source, budget)?;
-    match &choice.assignment {
-        Some(assignment) => compile_at(alloc, &choice.program, assignment, text, prefix),
+    match &found.choice.assignment {
+        Some(assignment) => compile_at(
+            alloc,
+            &found.choice.program,
+            assignment,
+            found.text.as_slice(),
+            prefix,
+        ),
         None => Ok(no_assignment(alloc)),
     }
 }
@@ -117,8 +112,6 @@ pub fn compile<F: Files>(
     ensures executes { ExecutesCompile source.now prefix.now budget (F.view files.old) (F.view files.new) result }
     ensures tells { TellsSource source.now prefix.now (F.view files.old) result }
 {
-    let text = load(alloc, files, source, SOURCE_BYTES)?;
-    let tree = read_source(alloc, text.as_slice())?;
-    let resolved = resolve_source(alloc, tree)?;
-    compile_source(alloc, &resolved, text.as_slice(), prefix, budget)
+    let found = choice_of(alloc, files, source, budget)?;
+    compile_choice(alloc, &found, prefix)
 }

@@ -1,35 +1,24 @@
 -- What a choice of protocols comes to in an order that waits less, whatever functions pick the outcomes.
-use Rattle.std.proofs.Common.{◌≡◌, ℕ, ◌≤◌, true, List, [], ◌++◌, length, codes, Result, Ok, Err, refl, ap, ◌∙◌, subst, arith}
+use Rattle.std.proofs.Common.{◌≡◌, ℕ, ◌≤◌, List, [], ◌++◌, length, codes, Ok, refl, ap, ◌∙◌, arith}
 use Rattle.sha2.specs.Sha256.{sha256}
 use Rattle.vd_base.specs.declared.protocols.Proto.{Proto}
-use Rattle.vd_base.specs.Limits.{most_source_bytes, most_hosts}
-use Rattle.vd_outside.specs.Files.{FilesView, Contents}
+use Rattle.vd_base.specs.Limits.{most_hosts}
 use Rattle.vd_outside.specs.declared.stored.Stored.{Stored}
 use Rattle.vd_core.specs.declared.normal.NormalForm.{NormalForm}
-use Rattle.vd_core.specs.declared.source.Source.{Source}
 use Rattle.vd_execution.specs.declared.instructions.Instr.{Instr}
 use Rattle.vd_host_text.specs.declared.program.Digest.{Digest}
 use Rattle.vd_execution.specs.Joint.{Joint, code_of}
 use Rattle.vd_execution.specs.Text.{text}
 use Rattle.vd_core.specs.Facts.{IsWellMade}
 use Rattle.std.proofs.lemmas.List.FromFn.{length-map-range_with_len}
-use Rattle.vd_search_stages.specs.Choices.{ChoiceOutcomes}
-use Rattle.vd_cmd_plan.specs.Loads.{Loads}
-use Rattle.vd_cmd_plan.specs.Plans.{Plan, Checks, Computes, Executes, check_then}
+use Rattle.vd_cmd_plan.specs.Plans.{Computes}
 use Rattle.vd_cmd_plan.specs.declared.answer.Answer.{Answer}
-use Rattle.vd_cmd_plan.specs.declared.status.Status.{Status}
 use Rattle.vd_cmd_plan.specs.declared.status.Status.TheVariants.{Ended}
-use Rattle.vd_cmd_plan.proofs.InSteps.{check_step, load_step}
-use Rattle.vd_cmd_frontend.specs.Outcomes.{TextOutcomes, LabelOutcomes}
-use Rattle.vd_cmd_frontend.specs.Sources.{source_of, resolved_of}
-use Rattle.vd_cmd_choose.specs.Searching.{Search}
 use Rattle.vd_cmd_choose.specs.Choice.{printed_at}
 use Rattle.vd_cmd_choose.specs.declared.choice.Assignment.{Assignment}
 use Rattle.vd_cmd_compile.specs.Compiling.{host_files}
 use Rattle.vd_projection_reordered.specs.Early.{AreEarlyCodes, each_code}
-use Rattle.vd_cmd_compile_early.specs.Compiling.{early_at, early_plan, early_plan_for, source_plan, text_plan}
-
--- ---- answers
+use Rattle.vd_cmd_compile_early.specs.Compiling.{early_at, early_plan_for}
 
 abbrev made : List Stored → List ℕ → Answer
 made stores printed = record { status = Ended; stores = stores; printed = printed }
@@ -52,33 +41,3 @@ few_codes program list codes made are =
     ap (λ (cs : List (List Instr)). length cs) are.codes_are ∙ length-map-range_with_len (λ h. text (code_of h are.joint) []) 0 (length program.hosts) in
     let limit = made.limits.hosts in
     omega (arith, count, limit)
-
--- ---- with the bytes of a source
-
-module _ (texts : TextOutcomes) (least : LabelOutcomes) (choices : ChoiceOutcomes) (search : Search) (joint : Joint) (source prefix : List ℕ) (budget : ℕ) where
-  abbrev tree_plan : List ℕ → Source → Contents → Plan
-  tree_plan text tree = check_then (resolved_of tree) (source_plan least choices search joint text prefix budget)
-
-  pub fetch_refused : (before now : FilesView) (status : Status) → Loads source most_source_bytes before now (Err status) → Executes true (early_plan texts least choices search joint source prefix budget) before now (Err status)
-  fetch_refused before now status loads = load_step source most_source_bytes before now (Err status) loads (text_plan texts least choices search joint source prefix budget)
-
-  pub fetched_then : (before now last : FilesView) (text : List ℕ) (result : Result Answer Status) → Loads source most_source_bytes before now (Ok text)
-      → Executes true (text_plan texts least choices search joint source prefix budget text) now last result → Executes true (early_plan texts least choices search joint source prefix budget) before last result
-  fetched_then before now last text result loads then = load_step source most_source_bytes before now (Ok text) loads (text_plan texts least choices search joint source prefix budget) last result then
-
-  pub tree_refused : (files : FilesView) (text seen : List ℕ) (status : Status) → seen ≡ text → Checks {T = Source} (source_of texts source seen) (Err status)
-      → Executes true (text_plan texts least choices search joint source prefix budget text) files files (Err status)
-  tree_refused files text seen status same checks =
-      check_step (source_of texts source text) files (Err status) (subst (λ (t : List ℕ). Checks {T = Source} (source_of texts source t) (Err status)) same checks) (tree_plan text)
-
-  pub tree_then : (files last : FilesView) (text seen : List ℕ) (tree : Source) (result : Result Answer Status) → seen ≡ text → Checks (source_of texts source seen) (Ok tree)
-      → Executes true (tree_plan text tree) files last result → Executes true (text_plan texts least choices search joint source prefix budget text) files last result
-  tree_then files last text seen tree result same checks then =
-      check_step (source_of texts source text) files (Ok tree) (subst (λ (t : List ℕ). Checks (source_of texts source t) (Ok tree)) same checks) (tree_plan text) last result then
-
-  pub rules_refused : (files : FilesView) (text : List ℕ) (tree : Source) (status : Status) → Checks {T = Source} (resolved_of tree) (Err status) → Executes true (tree_plan text tree) files files (Err status)
-  rules_refused files text tree status checks = check_step (resolved_of tree) files (Err status) checks (source_plan least choices search joint text prefix budget)
-
-  pub rules_then : (files last : FilesView) (text : List ℕ) (tree resolved : Source) (result : Result Answer Status) → Checks (resolved_of tree) (Ok resolved)
-      → Executes true (source_plan least choices search joint text prefix budget resolved) files last result → Executes true (tree_plan text tree) files last result
-  rules_then files last text tree resolved result checks then = check_step (resolved_of tree) files (Ok resolved) checks (source_plan least choices search joint text prefix budget) last result then

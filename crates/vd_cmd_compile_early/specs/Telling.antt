@@ -34,11 +34,6 @@ pub record StoresEarly (program : NormalForm) (text prefix : List ℕ) (answer :
 abbrev pub TellsPrograms : NormalForm → (text prefix : List ℕ) → Result Answer Status → Type 0
 TellsPrograms program text prefix result = IfOk result (λ answer. answer.status ≡ Ended → StoresEarly program text prefix answer)
 
--- so does an answer of the program that is run for a source that ended
-abbrev pub TellsTree : Source → (text prefix : List ℕ) → Result Answer Status → Type 0
-TellsTree source text prefix result =
-    IfOk result (λ answer. answer.status ≡ Ended → (program : NormalForm) × IsRunProgram source program × TellsAs source program × StoresEarly program text prefix answer)
-
 -- the text is that of a source that meets every rule, and the programs of its hosts are stored
 pub record CompilesEarly (text prefix : List ℕ) (answer : Answer) : Type 0 where
   pub source : Source
@@ -47,6 +42,10 @@ pub record CompilesEarly (text prefix : List ℕ) (answer : Answer) : Type 0 whe
   pub is_run : IsRunProgram source program
   pub tells : TellsAs source program
   pub programs : StoresEarly program text prefix answer
+
+-- so does an answer to this text that ended
+abbrev pub TellsText : (text prefix : List ℕ) → Result Answer Status → Type 0
+TellsText text prefix result = IfOk result (λ answer. answer.status ≡ Ended → CompilesEarly text prefix answer)
 
 -- Where the files tell what they hold, and the answer ended, the file of this name holds such a text.
 abbrev pub TellsSource : (source prefix : List ℕ) → FilesView → Result Answer Status → Type 0

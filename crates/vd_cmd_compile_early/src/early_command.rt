@@ -3,25 +3,22 @@
 ghost use Rattle.std.specs.Prelude.{◌≡◌, ◌≤◌, ◌++◌, codes, IfOk};
 ghost use Rattle.vd_base.specs.Limits.{most_search_budget};
 ghost use Rattle.vd_cmd_plan.specs.Plans.{Computes};
-ghost use Rattle.vd_cmd_choose.specs.Choice.{IsSelected};
-ghost use Rattle.vd_cmd_compile_early.specs.Compiling.{ExecutesEarly, ExecutesSource, SomeOrder, early_at};
+ghost use Rattle.vd_cmd_choose.specs.Choice.{IsChoiceIn, IsSelected, chosen_of};
+ghost use Rattle.vd_cmd_compile_early.specs.Compiling.{ExecutesEarly, SomeOrder, early_at, early_for};
 ghost use Rattle.vd_cmd.specs.Commands.{IsBudget};
 ghost use Rattle.vd_cmd_compile_early.specs.Running.{KeepsOrder, RunsEarly};
-ghost use Rattle.vd_cmd_compile_early.specs.Telling.{TellsPrograms, TellsSource, TellsTree};
+ghost use Rattle.vd_cmd_compile_early.specs.Telling.{TellsPrograms, TellsSource, TellsText};
 
 use std::alloc::{AllocError, Global};
 use vd_base::Bytes;
-use vd_base::limits::SOURCE_BYTES;
 use vd_cmd::EarlyWords;
-use vd_cmd_choose::{Assignment, assignment_text, choice_of};
-use vd_cmd_compile::{files_of, no_assignment};
-use vd_cmd_frontend::{read_source, resolve_source};
-use vd_cmd_plan::{Answer, Status, finish, load};
+use vd_cmd_choose::{Assignment, ChosenSource, assignment_text, choice_of, no_assignment};
+use vd_cmd_compile::files_of;
+use vd_cmd_plan::{Answer, Status, finish};
 use vd_core::Program;
 use vd_host_text::plan_of;
 use vd_outside::{Files, Sink};
 use vd_projection_reordered::split_early;
-use vd_resolve::Resolved;
 
 /// What is printed, with the word for this order behind it.
 fn marked(alloc: Global, printed: &[u8]) -> Result<Bytes, AllocError>
@@ -59,21 +56,20 @@ fn compile_at(
     })
 }
 
-/// What `compile early` does with a source that meets every rule, whose text this is.
-fn compile_source(
-    alloc: Global,
-    source: &Resolved,
-    text: &[u8],
-    prefix: &str,
-    budget: u32,
-) -> Result<Answer, Status>
-    requires { budget ≤ most_search_budget }
-    ensures executes { ExecutesSource source.now text.now prefix.now budget result }
-    ensures tells { TellsTree source.now text.now prefix.now result }
+/// What `compile early` comes to with what was found for a source.
+fn compile_choice(alloc: Global, found: &ChosenSource, prefix: &str) -> Result<Answer, Status>
+    requires { IsChoiceIn found.now.text found.now.choice }
+    ensures computes { SomeOrder (λ joint. Computes (early_for joint found.now.text prefix.now (chosen_of found.now.choice)) result) }
+    ensures tells { TellsText found.now.text prefix.now result }
 {
-    let choice = choice_of(alloc, source, budget)?;
-    match &choice.assignment {
-        Some(assignment) => compile_at(alloc, &choice.program, assignment, text, prefix),
+    match &found.choice.assignment {
+        Some(assignment) => compile_at(
+            alloc,
+            &found.choice.program,
+            assignment,
+            found.text.as_slice(),
+            prefix,
+        ),
         None => Ok(no_assignment(alloc)),
     }
 }
@@ -91,10 +87,8 @@ fn compile_early<F: Files>(
     ensures executes { ExecutesEarly source.now prefix.now budget (F.view files.old) (F.view files.new) result }
     ensures tells { TellsSource source.now prefix.now (F.view files.old) result }
 {
-    let text = load(alloc, files, source, SOURCE_BYTES)?;
-    let tree = read_source(alloc, text.as_slice())?;
-    let resolved = resolve_source(alloc, tree)?;
-    compile_source(alloc, &resolved, text.as_slice(), prefix, budget)
+    let found = choice_of(alloc, files, source, budget)?;
+    compile_choice(alloc, &found, prefix)
 }
 
 /// Runs `compile SOURCE PREFIX early`: it stores the programs of all hosts in an order that waits less, and prints the choice.

@@ -1,4 +1,3 @@
-mod Drawn
 mod Printed
 pub mod Sure
 pub mod Telling

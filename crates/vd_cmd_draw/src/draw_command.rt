@@ -1,31 +1,17 @@
 //! The command `draw`.
 
-ghost use Rattle.std.specs.Prelude.{◌≡◌, ◌≤◌};
+ghost use Rattle.std.specs.Prelude.{◌≤◌};
 ghost use Rattle.vd_base.specs.Limits.{most_search_budget};
 ghost use Rattle.vd_cmd_plan.specs.Plans.{Computes};
-ghost use Rattle.vd_cmd_draw.specs.Drawing.{ExecutesDraw, ExecutesSource, drawn_answer, no_drawing};
+ghost use Rattle.vd_cmd_choose.specs.Choice.{chosen_of};
+ghost use Rattle.vd_cmd_draw.specs.Drawing.{ExecutesDraw, drawn_answer, drawn_for};
 
 use std::alloc::Global;
-use vd_base::Bytes;
-use vd_base::limits::SOURCE_BYTES;
 use vd_base_lists::Items;
-use vd_cmd_choose::{Assignment, Choice, choice_of};
-use vd_cmd_frontend::{read_source, resolve_source};
-use vd_cmd_plan::{Answer, Status, load};
+use vd_cmd_choose::{Assignment, Choice, ChosenSource, choice_of, no_assignment};
+use vd_cmd_plan::{Answer, Status};
 use vd_draw_picture::drawing;
 use vd_outside::Files;
-use vd_resolve::Resolved;
-
-/// The answer where no list of protocols is valid.
-fn no_assignment(alloc: Global) -> Answer
-    ensures { result ≡ no_drawing }
-{
-    Answer {
-        status: Status::NoAssignment,
-        stores: Items::new(alloc),
-        printed: Bytes::new(alloc),
-    }
-}
 
 /// Prints the drawing of an assignment of protocols.
 fn draw_at(
@@ -53,20 +39,18 @@ fn draw_at(
     })
 }
 
-/// What `draw` does with a source that meets every rule, whose text this is.
-fn draw_source(
-    alloc: Global,
-    source: &Resolved,
-    name: &str,
-    text: &[u8],
-    budget: u32,
-) -> Result<Answer, Status>
-    requires { budget ≤ most_search_budget }
-    ensures { ExecutesSource source.now name.now text.now budget result }
+/// What `draw` comes to with what was found for a source.
+fn draw_choice(alloc: Global, name: &str, found: &ChosenSource) -> Result<Answer, Status>
+    ensures { Computes (drawn_for name.now found.now.text (chosen_of found.now.choice)) result }
 {
-    let choice = choice_of(alloc, source, budget)?;
-    match &choice.assignment {
-        Some(assignment) => draw_at(alloc, &choice, assignment, name, text),
+    match &found.choice.assignment {
+        Some(assignment) => draw_at(
+            alloc,
+            &found.choice,
+            assignment,
+            name,
+            found.text.as_slice(),
+        ),
         None => Ok(no_assignment(alloc)),
     }
 }
@@ -82,8 +66,6 @@ pub fn draw<F: Files>(
     requires { budget ≤ most_search_budget }
     ensures { ExecutesDraw source.now budget (F.view files.old) (F.view files.new) result }
 {
-    let text = load(alloc, files, source, SOURCE_BYTES)?;
-    let tree = read_source(alloc, text.as_slice())?;
-    let resolved = resolve_source(alloc, tree)?;
-    draw_source(alloc, &resolved, source, text.as_slice(), budget)
+    let found = choice_of(alloc, files, source, budget)?;
+    draw_choice(alloc, source, &found)
 }

@@ -12,13 +12,12 @@ use Rattle.vd_cmd_plan.specs.declared.answer.Answer.{Answer}
 use Rattle.vd_cmd_plan.specs.declared.status.Status.{Status}
 use Rattle.vd_cmd_plan.specs.declared.status.Status.TheVariants.{Ended, NoAssignment}
 use Rattle.vd_cmd_plan.proofs.InSteps.{answers, check_step}
-use Rattle.vd_cmd_compile.specs.Selected.{no_list}
 use Rattle.vd_report_outcomes.specs.Outcomes.{ReplayOutcomes}
 use Rattle.vd_cmd_inputs.specs.Deals.{as_consistent}
 use Rattle.vd_cmd_excuse.specs.declared.runs.Runs.{Runs}
 use Rattle.vd_cmd_excuse.specs.Excusing.{ExecutesExcused, as_free, choice_plan, commitment_in, excuse_answer, excused_for, excused_plan, ExecutesChoice, ExecutesHost}
 use Rattle.vd_cmd_excuse.specs.Telling.{TellsAt}
-use Rattle.vd_cmd_choose.specs.Choice.{Chooses}
+use Rattle.vd_cmd_choose.specs.Choice.{Chooses, no_list}
 use Rattle.vd_cmd_choose.specs.declared.choice.Assignment.{Assignment}
 use Rattle.vd_cmd_choose.specs.declared.choice.Choice.{Choice}
 use Rattle.vd_cmd.specs.declared.command.ExcuseWords.{ExcuseWords}

@@ -2,19 +2,15 @@
 use Rattle.std.proofs.Common.{◌≡◌, IsTrue, Result, Ok, Err, subst}
 use Rattle.vd_outside.specs.Files.{FilesView, Contents}
 use Rattle.vd_core.specs.declared.normal.NormalForm.{NormalForm}
-use Rattle.vd_core.specs.declared.source.Source.{Source}
-use Rattle.vd_cmd_rewrite.specs.RunPrograms.{IsRunProgram}
 use Rattle.vd_cmd.specs.declared.command.ExcuseWords.{ExcuseWords}
-use Rattle.vd_cmd_plan.specs.Plans.{ExecutesStep}
 use Rattle.vd_cmd_plan.specs.declared.answer.Answer.{Answer}
 use Rattle.vd_cmd_plan.specs.declared.status.Status.{Status}
 use Rattle.vd_cmd_plan.proofs.Finding.{step_keeps, step_tells}
-use Rattle.vd_cmd_frontend.specs.Outcomes.{TextOutcomes}
-use Rattle.vd_cmd_frontend.specs.Sources.{HoldsSource, source_then}
-use Rattle.vd_cmd_frontend.proofs.Reading.{some_texts}
+use Rattle.vd_cmd_frontend.proofs.Reading.{some_labels, some_texts}
+use Rattle.vd_cmd_choose.specs.Programs.{HoldsProgram, LoadsProgram, program_then}
 use Rattle.vd_cmd_excuse.specs.declared.runs.Runs.{Runs}
 use Rattle.vd_cmd_excuse.specs.Runs.{HoldRuns}
-use Rattle.vd_cmd_excuse.specs.Telling.{IsExcuseIn, TellsExcuse, TellsOf, TellsProgram, TellsSource}
+use Rattle.vd_cmd_excuse.specs.Telling.{IsExcuseIn, TellsExcuse, TellsOf, TellsProgram}
 
 module _ (words : ExcuseWords) (before : FilesView) where
   pub program_told : (program form : NormalForm) (runs : Runs) (result : Result Answer Status) → form ≡ program → (IsTrue before.told → HoldRuns words form.hosts before.contents runs)
@@ -26,22 +22,18 @@ module _ (words : ExcuseWords) (before : FilesView) where
   }
   program_told program form runs (Err status) same held tells = λ t. tt
 
-  -- the program is the one that is run for a source
-  pub source_told : (source : Source) (program : NormalForm) (result : Result Answer Status) → IsRunProgram source program → TellsProgram words program before result → TellsSource words source before result
-  source_told source program (Ok answer) is tells = λ t e. (program, is, tells t e)
-  source_told source program (Err status) is tells = λ t. tt
-
-  -- the files say the same after the source was fetched
-  pub excuse_told : (mid : FilesView) (source : Source) (result : Result Answer Status) → ((texts : TextOutcomes) → ExecutesStep (source_then texts words.source) before mid (Ok source))
-      → (IsTrue before.told → HoldsSource words.source before.contents source) → TellsSource words source mid result → TellsExcuse words before result
-  excuse_told mid source (Ok answer) loads held tells = λ t e.
-      let step = source_then some_texts words.source in
-      let r = tells (step_tells step before mid source (loads some_texts) t) e in
+  -- the program is the one that is run for a source, and the files say the same after that was fetched
+  pub excuse_told : (mid : FilesView) (program : NormalForm) (result : Result Answer Status) → LoadsProgram words.source before mid (Ok program)
+      → (IsTrue before.told → HoldsProgram words.source before.contents program) → TellsProgram words program mid result → TellsExcuse words before result
+  excuse_told mid program (Ok answer) loads held tells = λ t e.
+      let step = program_then some_texts some_labels words.source in
+      let is = held t in
       record {
-        source = source;
-        is_source = held t;
-        program = r.0;
-        is_run = r.1;
-        excuse = subst (λ (files : Contents). IsExcuseIn words r.0 files answer.stores answer.printed) (step_keeps step before mid source (loads some_texts) t) r.2;
+        source = is.holds.source;
+        is_source = record { bytes = is.bytes; is_fetched = is.is_fetched; holds = is.holds.read };
+        program = program;
+        is_run = is.holds.is_run;
+        excuse = subst (λ (files : Contents). IsExcuseIn words program files answer.stores answer.printed) (step_keeps step before mid program (loads some_texts some_labels) t)
+            (tells (step_tells step before mid program (loads some_texts some_labels) t) e);
       }
-  excuse_told mid source (Err status) loads held tells = λ t. tt
+  excuse_told mid program (Err status) loads held tells = λ t. tt

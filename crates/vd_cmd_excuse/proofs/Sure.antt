@@ -4,9 +4,6 @@ use Rattle.vd_base.specs.Limits.{most_deal_bytes, most_inputs_bytes}
 use Rattle.vd_base.specs.declared.ids.HostId.{HostId}
 use Rattle.vd_outside.specs.Files.{Contents}
 use Rattle.vd_core.specs.declared.normal.NormalForm.{NormalForm}
-use Rattle.vd_core.specs.declared.source.Source.{Source}
-use Rattle.vd_anf.specs.Normal.{normal_form}
-use Rattle.vd_cmd_rewrite.specs.RunPrograms.{run_form}
 use Rattle.vd_cmd.specs.declared.command.ExcuseWords.{ExcuseWords}
 use Rattle.vd_deal_items.specs.declared.deal.Deal.{Deal}
 use Rattle.vd_search_stages.specs.Choices.{ChoiceOutcomes}
@@ -15,7 +12,7 @@ use Rattle.vd_cmd_plan.specs.Plans.{Plan, check_then}
 use Rattle.vd_cmd_plan.proofs.Following.{Follows, check_follows, file_follows}
 use Rattle.vd_cmd_frontend.specs.Outcomes.{TextOutcomes, LabelOutcomes}
 use Rattle.vd_cmd_frontend.specs.Inputs.{inputs_then, words_of}
-use Rattle.vd_cmd_choose.proofs.Sure.{source_follows}
+use Rattle.vd_cmd_choose.proofs.Sure.{program_follows}
 use Rattle.vd_cmd_depends.specs.Depending.{as_host}
 use Rattle.vd_cmd_choose.specs.Outcomes.{CertificateOutcomes}
 use Rattle.vd_cmd_choose.specs.Searching.{Searched, searched_by, sure_search}
@@ -24,7 +21,7 @@ use Rattle.vd_report_outcomes.specs.Outcomes.{ReplayOutcomes}
 use Rattle.vd_cmd_inputs.specs.Deals.{deal_of, deal_then, deals_from}
 use Rattle.vd_cmd_excuse.specs.declared.runs.Runs.{Runs}
 use Rattle.vd_cmd_excuse.specs.Runs.{runs_of}
-use Rattle.vd_cmd_excuse.specs.Excusing.{as_two, choice_plan, excuse_plan, host_plan, runs_plan, source_plan}
+use Rattle.vd_cmd_excuse.specs.Excusing.{as_two, choice_plan, excuse_plan, host_plan, program_plan, runs_plan}
 
 module _ (files : Contents) where
   abbrev Each : {X : Type 0} → (X → Contents → Plan) → (X → Contents → Plan) → Type 0
@@ -64,13 +61,12 @@ module _ (texts : TextOutcomes) (outcomes : ReplayOutcomes) (least : LabelOutcom
       (λ h. check_follows (as_two p.hosts) (λ two. host_plan outcomes least choices (sure_search choices) words p h runs)
       (λ two. host_plan outcomes least choices (searched_by certificates choices searched) words p h runs) files (λ two. host_follows p h runs))
 
-  tree_goes : (tree : Source) → Follows (source_plan texts outcomes least choices (sure_search choices) words tree files) (source_plan texts outcomes least choices (searched_by certificates choices searched) words tree files)
-  tree_goes tree =
-      inputs_follow files texts words.inputs (run_form least (normal_form tree)).hosts _ _ (λ first.
-      inputs_follow files texts words.second (run_form least (normal_form tree)).hosts _ _ (λ second.
-      deals_follow files outcomes words.prefix (length (run_form least (normal_form tree)).hosts) 0 (run_form least (normal_form tree)).hosts [] _ _ (λ deals.
-      runs_follow (run_form least (normal_form tree)) (runs_of first second deals))))
+  program_goes : (p : NormalForm) → Follows (program_plan texts outcomes least choices (sure_search choices) words p files) (program_plan texts outcomes least choices (searched_by certificates choices searched) words p files)
+  program_goes p =
+      inputs_follow files texts words.inputs p.hosts _ _ (λ first.
+      inputs_follow files texts words.second p.hosts _ _ (λ second.
+      deals_follow files outcomes words.prefix (length p.hosts) 0 p.hosts [] _ _ (λ deals. runs_follow p (runs_of first second deals))))
 
   pub excuse_follows : Follows (excuse_plan texts outcomes least choices (sure_search choices) words files) (excuse_plan texts outcomes least choices (searched_by certificates choices searched) words files)
   excuse_follows =
-      source_follows texts words.source (source_plan texts outcomes least choices (sure_search choices) words) (source_plan texts outcomes least choices (searched_by certificates choices searched) words) files tree_goes
+      program_follows texts least words.source (program_plan texts outcomes least choices (sure_search choices) words) (program_plan texts outcomes least choices (searched_by certificates choices searched) words) files program_goes

@@ -5,9 +5,6 @@ use Rattle.vd_base.specs.declared.ids.HostId.{HostId}
 use Rattle.vd_base.specs.declared.protocols.Proto.{Proto}
 use Rattle.vd_outside.specs.Files.{FilesView, Contents}
 use Rattle.vd_core.specs.declared.normal.NormalForm.{NormalForm}
-use Rattle.vd_core.specs.declared.source.Source.{Source}
-use Rattle.vd_anf.specs.Normal.{normal_form}
-use Rattle.vd_cmd_rewrite.specs.RunPrograms.{run_form}
 use Rattle.vd_constraints.specs.declared.labels.Labels.{Labels}
 use Rattle.vd_backend_laws.specs.Parts.{has_back_end}
 use Rattle.vd_cmd.specs.declared.command.ExcuseWords.{ExcuseWords}
@@ -20,12 +17,11 @@ use Rattle.vd_cmd_plan.specs.declared.status.Status.{Status}
 use Rattle.vd_cmd_plan.specs.declared.status.Status.TheVariants.{Memory, NotTwo, HasCommit, DealShort, ViewDiffers}
 use Rattle.vd_cmd_deal.specs.Dealing.{deal_files}
 use Rattle.vd_cmd_frontend.specs.Outcomes.{TextOutcomes, LabelOutcomes}
-use Rattle.vd_cmd_frontend.specs.Sources.{source_then}
+use Rattle.vd_cmd_choose.specs.Programs.{program_then}
 use Rattle.vd_cmd_depends.specs.Depending.{as_host}
 use Rattle.vd_cmd_choose.specs.Searching.{Search, SomeSearch}
-use Rattle.vd_cmd_choose.specs.Choice.{choice_then}
+use Rattle.vd_cmd_choose.specs.Choice.{choice_then, no_list}
 use Rattle.vd_cmd_choose.specs.declared.choice.Assignment.{Assignment}
-use Rattle.vd_cmd_compile.specs.Selected.{no_list}
 use Rattle.vd_report_outcomes.specs.Outcomes.{ReplayOutcomes}
 use Rattle.vd_cmd_inputs.specs.Deals.{as_consistent}
 use Rattle.vd_views_programs.specs.Explained.{plan_of}
@@ -100,15 +96,12 @@ runs_plan outcomes least choices search words p runs =
     check_then (as_host p.hosts words.host) (λ h.
     check_then (as_two p.hosts) (λ two. host_plan outcomes least choices search words p h runs))
 
--- with a program, and with a source that meets every rule
+-- with a program, and with the one that is run for a source
 abbrev pub program_plan : TextOutcomes → ReplayOutcomes → LabelOutcomes → ChoiceOutcomes → Search → ExcuseWords → NormalForm → Contents → Plan
 program_plan texts outcomes least choices search words p = runs_then texts outcomes words p.hosts (runs_plan outcomes least choices search words p)
 
-abbrev pub source_plan : TextOutcomes → ReplayOutcomes → LabelOutcomes → ChoiceOutcomes → Search → ExcuseWords → Source → Contents → Plan
-source_plan texts outcomes least choices search words source = program_plan texts outcomes least choices search words (run_form least (normal_form source))
-
 abbrev pub excuse_plan : TextOutcomes → ReplayOutcomes → LabelOutcomes → ChoiceOutcomes → Search → ExcuseWords → Contents → Plan
-excuse_plan texts outcomes least choices search words = source_then texts words.source (source_plan texts outcomes least choices search words)
+excuse_plan texts outcomes least choices search words = program_then texts least words.source (program_plan texts outcomes least choices search words)
 
 -- ---- what the parts of the command do, whatever functions pick outcomes
 
@@ -133,11 +126,6 @@ abbrev pub ExecutesProgram : ExcuseWords → NormalForm → FilesView → FilesV
 ExecutesProgram words p before now result =
     SomeSearch (λ choices search. (texts : TextOutcomes) (outcomes : ReplayOutcomes) (least : LabelOutcomes)
     → Executes true (program_plan texts outcomes least choices search words p) before now result)
-
-abbrev pub ExecutesSource : ExcuseWords → Source → FilesView → FilesView → Result Answer Status → Type 0
-ExecutesSource words source before now result =
-    SomeSearch (λ choices search. (texts : TextOutcomes) (outcomes : ReplayOutcomes) (least : LabelOutcomes)
-    → Executes true (source_plan texts outcomes least choices search words source) before now result)
 
 abbrev pub ExecutesExcuse : ExcuseWords → FilesView → FilesView → Result Answer Status → Type 0
 ExecutesExcuse words before now result =

@@ -67,9 +67,5 @@ TellsAt h p out runs result = (name : List ℕ) → host_of p.hosts name ≡ Som
 abbrev pub TellsProgram : ExcuseWords → NormalForm → FilesView → Result Answer Status → Type 0
 TellsProgram words p before result = Finds before result (λ contents answer. answer.status ≡ Ended → IsExcuseIn words p contents answer.stores answer.printed)
 
-abbrev pub TellsSource : ExcuseWords → Source → FilesView → Result Answer Status → Type 0
-TellsSource words source before result =
-    Finds before result (λ contents answer. answer.status ≡ Ended → (p : NormalForm) × IsRunProgram source p × IsExcuseIn words p contents answer.stores answer.printed)
-
 abbrev pub TellsExcuse : ExcuseWords → FilesView → Result Answer Status → Type 0
 TellsExcuse words before result = Finds before result (λ contents answer. answer.status ≡ Ended → IsExcuseBy words contents answer.stores answer.printed)

@@ -9,9 +9,9 @@ ghost use Rattle.vd_space_optimum.specs.Cheapest.{IsAssignment};
 ghost use Rattle.vd_cmd_choose.specs.Choice.{IsSelected};
 ghost use Rattle.vd_space.specs.Reading.{problem_of};
 ghost use Rattle.vd_backend_laws.specs.Parts.{has_back_end};
-ghost use Rattle.vd_cmd_excuse.specs.Excusing.{ExecutesChoice, ExecutesExcuse, ExecutesExcused, ExecutesHost, ExecutesProgram, ExecutesRuns, ExecutesSource};
+ghost use Rattle.vd_cmd_excuse.specs.Excusing.{ExecutesChoice, ExecutesExcuse, ExecutesExcused, ExecutesHost, ExecutesProgram, ExecutesRuns};
 ghost use Rattle.vd_cmd_excuse.specs.Runs.{AreRead};
-ghost use Rattle.vd_cmd_excuse.specs.Telling.{TellsAt, TellsExcuse, TellsOf, TellsProgram, TellsSource};
+ghost use Rattle.vd_cmd_excuse.specs.Telling.{TellsAt, TellsExcuse, TellsOf, TellsProgram};
 
 use crate::answer::answer;
 use crate::checks::{excused, expect_free, expect_two};
@@ -19,16 +19,12 @@ use crate::runs::{Runs, load_runs};
 use std::alloc::Global;
 use vd_base::HostId;
 use vd_cmd::ExcuseWords;
-use vd_cmd_choose::{Assignment, choice_for};
-use vd_cmd_compile::no_assignment;
+use vd_cmd_choose::{Assignment, choice_for, load_program, no_assignment};
 use vd_cmd_depends::host_named;
-use vd_cmd_frontend::load_source;
 use vd_cmd_inputs::expect_consistent;
 use vd_cmd_plan::{Answer, Status};
-use vd_cmd_rewrite::run_program;
 use vd_core::Program;
 use vd_outside::Files;
-use vd_resolve::Resolved;
 
 /// Explains the second inputs at the choice of protocols, none of them a commitment.
 fn excuse_free(
@@ -154,21 +150,6 @@ fn excuse_program<F: Files>(
     excuse_runs(alloc, words, program, runs)
 }
 
-/// What `excuse` does with a source that meets every rule.
-fn excuse_source<F: Files>(
-    alloc: Global,
-    files: &mut F,
-    words: &ExcuseWords,
-    source: &Resolved,
-) -> Result<Answer, Status>
-    requires { words.now.budget ≤ most_search_budget }
-    ensures executes { ExecutesSource words.now source.now (F.view files.old) (F.view files.new) result }
-    ensures tells { TellsSource words.now source.now (F.view files.old) result }
-{
-    let program = run_program(alloc, source)?;
-    excuse_program(alloc, files, words, program)
-}
-
 /// The command `excuse`: deals by which a host of a source of two hosts sees of the second inputs what it saw of the first by the deals
 /// that are there, and what the other host sends it in both runs.
 ///
@@ -179,6 +160,6 @@ pub fn excuse<F: Files>(alloc: Global, files: &mut F, words: &ExcuseWords) -> Re
     ensures executes { ExecutesExcuse words.now (F.view files.old) (F.view files.new) result }
     ensures tells { TellsExcuse words.now (F.view files.old) result }
 {
-    let source = load_source(alloc, files, words.source.as_str())?;
-    excuse_source(alloc, files, words, &source)
+    let program = load_program(alloc, files, words.source.as_str())?;
+    excuse_program(alloc, files, words, program)
 }

@@ -28,7 +28,7 @@ tree_found name bytes seen before now (Ok tree) loads same is t = loaded_is name
 tree_found name bytes seen before now (Err status) loads same is t = tt
 
 -- a tree that is resolved meets every rule
-meets : (tree source : Source) (said : Result (Unit {0}) Fault) → resolution tree ≡ said → as_resolved tree said ≡ Ok source → (tree ≡ source) × (resolution tree ≡ Ok tt)
+pub meets : (tree source : Source) (said : Result (Unit {0}) Fault) → resolution tree ≡ said → as_resolved tree said ≡ Ok source → (tree ≡ source) × (resolution tree ≡ Ok tt)
 meets tree source (Ok done) is e = (cc e, is)
 meets tree source (Err fault) is e = absurd (cc e)
 

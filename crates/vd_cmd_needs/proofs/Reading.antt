@@ -1,10 +1,8 @@
 -- What is read of a file: the program of a host, or a source.
-use Rattle.std.proofs.Common.{◌≡◌, ◌≢◌, inr, ◌<◌, ℕ, List, length, Result, Ok, Err, refl, sym, ap, ◌∙◌}
+use Rattle.std.proofs.Common.{◌≡◌, ◌≢◌, inr, ◌<◌, ℕ, List, length, Result, Err, refl, sym, ap, ◌∙◌}
 use Rattle.vd_base.specs.Limits.{most_source_bytes}
 use Rattle.vd_core.specs.declared.source.Source.{Source}
 use Rattle.vd_parser.specs.declared.fault.ParseFault.TheVariants as parse_fault
-use Rattle.vd_resolve.specs.Limits.{resolution}
-use Rattle.vd_resolve.specs.Faults.{Fault}
 use Rattle.vd_host_text.specs.declared.program.HostProgram.{HostProgram}
 use Rattle.vd_hostcode.specs.Outcome.{Answers}
 use Rattle.vd_hostcode.specs.declared.fault.CodeFault.{CodeFault}
@@ -12,7 +10,7 @@ use Rattle.vd_hostcode.specs.declared.fault.CodeFault.TheVariants.{Memory}
 use Rattle.vd_cmd_plan.specs.Plans.{Checks}
 use Rattle.vd_cmd_plan.specs.declared.status.Status.TheVariants.{TooLong}
 use Rattle.vd_cmd_frontend.specs.Outcomes.{TextOutcomes}
-use Rattle.vd_cmd_frontend.specs.Sources.{as_resolved, resolved_of, source_of}
+use Rattle.vd_cmd_frontend.specs.Sources.{source_of}
 use Rattle.vd_cmd_frontend.proofs.Reading.{parsed}
 use Rattle.vd_cmd_needs.specs.Needing.{as_program, program_in}
 use Rattle.vd_cmd_needs.specs.Outcomes.{ProgramOutcomes}
@@ -25,11 +23,3 @@ program_read outcomes bytes r answers some = ap as_program (sym ((answers some (
 pub too_long : (texts : TextOutcomes) (name bytes copy : List ℕ) → most_source_bytes < length bytes → copy ≡ name → Checks {T = Source} (source_of texts name bytes) (Err (TooLong copy most_source_bytes))
 too_long texts name bytes copy long same =
     record { ok = tt; err = parsed texts name bytes (Err (parse_fault.TooLong (length bytes))) (inr (long, refl)) (λ e. cc e) ∙ ap (λ (n : List ℕ). Err (TooLong n most_source_bytes)) (sym same) }
-
--- a tree that is resolved meets every rule
-meets_by : (tree source : Source) (said : Result (Unit {0}) Fault) → resolution tree ≡ said → as_resolved tree said ≡ Ok source → (tree ≡ source) × (resolution tree ≡ Ok tt)
-meets_by tree source (Ok done) is e = (cc e, is)
-meets_by tree source (Err fault) is e = absurd (cc e)
-
-pub meets : (tree source : Source) → Checks (resolved_of tree) (Ok source) → (tree ≡ source) × (resolution tree ≡ Ok tt)
-meets tree source checks = meets_by tree source (resolution tree) (λ i. resolution tree) checks.ok

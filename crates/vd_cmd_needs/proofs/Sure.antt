@@ -2,18 +2,15 @@
 use Rattle.std.proofs.Common.{inl, ℕ, Bool, true, false, if◌then◌else◌, List, refl}
 use Rattle.vd_base.specs.Limits.{most_host_file_bytes}
 use Rattle.vd_outside.specs.Files.{Contents}
-use Rattle.vd_anf.specs.Normal.{normal_form}
-use Rattle.vd_cmd_rewrite.specs.RunPrograms.{run_form}
 use Rattle.vd_search_stages.specs.Choices.{ChoiceOutcomes}
 use Rattle.vd_cmd.specs.declared.command.NeedsWords.{NeedsWords}
-use Rattle.vd_cmd_plan.specs.Plans.{Plan}
-use Rattle.vd_cmd_plan.proofs.Following.{Follows, file_follows, check_follows}
+use Rattle.vd_cmd_plan.specs.Plans.{Plan, answer_then}
+use Rattle.vd_cmd_plan.proofs.Following.{Follows, file_follows}
 use Rattle.vd_cmd_frontend.specs.Outcomes.{TextOutcomes, LabelOutcomes}
-use Rattle.vd_cmd_frontend.specs.Sources.{source_of, resolved_of}
 use Rattle.vd_cmd_choose.specs.Outcomes.{CertificateOutcomes}
 use Rattle.vd_cmd_choose.specs.Searching.{Searched, searched_by, sure_search}
-use Rattle.vd_cmd_choose.proofs.Steps.{choice_follows}
-use Rattle.vd_cmd_needs.specs.Needing.{bytes_plan, choice_plan, host_plan, is_program_text, needs_plan, source_plan, text_plan, tree_plan}
+use Rattle.vd_cmd_choose.proofs.Sure.{text_choice_follows}
+use Rattle.vd_cmd_needs.specs.Needing.{bytes_plan, host_plan, is_program_text, needs_for, needs_plan, text_plan}
 use Rattle.vd_cmd_needs.specs.Outcomes.{ProgramOutcomes}
 
 either_follows : (b : Bool) (host sure plan : Contents → Plan) (files : Contents) → Follows (sure files) (plan files) → Follows ((if b then host else sure) files) ((if b then host else plan) files)
@@ -23,9 +20,7 @@ either_follows false host sure plan files follows = follows
 module _ (texts : TextOutcomes) (programs : ProgramOutcomes) (least : LabelOutcomes) (certificates : CertificateOutcomes) (choices : ChoiceOutcomes) (searched : Searched) (words : NeedsWords) (files : Contents) where
   text_follows : (bytes : List ℕ) → Follows (text_plan texts least choices (sure_search choices) words bytes files) (text_plan texts least choices (searched_by certificates choices searched) words bytes files)
   text_follows bytes =
-      check_follows (source_of texts words.file bytes) (tree_plan least choices (sure_search choices) words) (tree_plan least choices (searched_by certificates choices searched) words) files
-      (λ tree. check_follows (resolved_of tree) (source_plan least choices (sure_search choices) words) (source_plan least choices (searched_by certificates choices searched) words) files
-      (λ resolved. choice_follows (run_form least (normal_form resolved)) words.budget certificates choices (λ c. choice_plan words.each c.program c.assignment) files (λ l one other. refl) least searched))
+      text_choice_follows texts least certificates choices searched words.file words.budget files bytes (λ c. answer_then (needs_for words.each c)) (λ program l one other. refl)
 
   pub needs_follows : Follows (needs_plan texts programs least choices (sure_search choices) words files) (needs_plan texts programs least choices (searched_by certificates choices searched) words files)
   needs_follows =

@@ -4,11 +4,8 @@ use Rattle.vd_base.specs.declared.protocols.Proto.{Proto}
 use Rattle.vd_base.specs.Limits.{most_host_file_bytes}
 use Rattle.vd_outside.specs.Files.{FilesView}
 use Rattle.vd_core.specs.declared.normal.NormalForm.{NormalForm}
-use Rattle.vd_core.specs.declared.source.Source.{Source}
 use Rattle.vd_core.specs.Facts.{IsWellMade}
-use Rattle.vd_cmd_rewrite.specs.RunPrograms.{IsRunProgram}
 use Rattle.vd_core.specs.Numbers.{NumbersFit}
-use Rattle.vd_parser.specs.Outcomes.{IsParse}
 use Rattle.vd_execution.specs.Code.{Code}
 use Rattle.vd_execution.specs.Joint.{Joint, IsTidy, code_of}
 use Rattle.vd_execution.specs.Step.{Source as Listed}
@@ -24,20 +21,18 @@ use Rattle.vd_deal_needs_programs.proofs.Enough.{sizes_are_enough, sizes_are_lea
 use Rattle.vd_deal_needs_programs.proofs.Made.{deals_have_their_sizes}
 use Rattle.vd_cmd.specs.declared.command.NeedsWords.{NeedsWords}
 use Rattle.vd_cmd_plan.specs.Loads.{Loads}
-use Rattle.vd_cmd_plan.specs.Plans.{Checks, Computes, ended}
+use Rattle.vd_cmd_plan.specs.Plans.{Computes, ended}
 use Rattle.vd_cmd_plan.specs.declared.answer.Answer.{Answer}
 use Rattle.vd_cmd_plan.specs.declared.status.Status.{Status}
 use Rattle.vd_cmd_plan.specs.declared.status.Status.TheVariants.{Ended, NoAssignment}
 use Rattle.vd_cmd_plan.proofs.Finding.{loaded_is}
-use Rattle.vd_cmd_frontend.specs.Sources.{IsSourceText, resolved_of}
-use Rattle.vd_cmd_choose.specs.Choice.{IsSelected}
+use Rattle.vd_cmd_choose.specs.Choice.{IsSelected, no_list}
 use Rattle.vd_cmd_choose.specs.declared.choice.Assignment.{Assignment}
-use Rattle.vd_cmd_compile.specs.Selected.{no_list}
+use Rattle.vd_cmd_choose.specs.Programs.{IsProgramOf}
 use Rattle.vd_cmd_compile.proofs.Runnable.{runnable_of}
 use Rattle.vd_cmd_needs.specs.Lines.{program_lines}
 use Rattle.vd_cmd_needs.specs.Needing.{needs_text}
-use Rattle.vd_cmd_needs.specs.Telling.{IsNeedsOf, IsNeedsOfBytes, IsNeedsOfHost, OfHost, OfSource, TellsBytes, TellsHost, TellsNeeds, TellsSource, TellsText}
-use Rattle.vd_cmd_needs.proofs.Reading.{meets}
+use Rattle.vd_cmd_needs.specs.Telling.{IsNeedsOf, IsNeedsOfBytes, IsNeedsOfHost, OfHost, OfSource, TellsBytes, TellsHost, TellsNeeds, TellsProgram, TellsText}
 
 -- ---- with a list of protocols
 
@@ -64,27 +59,20 @@ pub prints : (answer : Answer) (printed wanted : List ℕ) → answer ≡ ended 
 prints answer printed wanted is same =
     subst (λ (a : Answer). Computes (ended [] wanted) (Ok a)) (sym (is ∙ ap (λ (t : List ℕ). ended [] t) same)) (record { proper = (tt, refl); no_fault = λ file e. cc e; settled = refl })
 
--- it is told of the source, whatever the status
-pub told_then : (words : NeedsWords) (source : Source) (program : NormalForm) (result : Result Answer Status) → IsRunProgram source program → IfOk result (λ answer. IsNeedsOf words.each program answer.printed)
-    → TellsSource words source result
-told_then words source program (Ok answer) is_run is = λ e. (program, is_run, is)
-told_then words source program (Err status) is_run is = tt
+-- it is told of the program, whatever the status
+pub told_then : (each : Bool) (program : NormalForm) (result : Result Answer Status) → IfOk result (λ answer. IsNeedsOf each program answer.printed) → TellsProgram each program result
+told_then each program (Ok answer) is = λ e. is
+told_then each program (Err status) is = tt
 
 -- where no list is valid, nothing is told
-pub none_told : (words : NeedsWords) (source : Source) (answer : Answer) → answer ≡ no_list → TellsSource words source (Ok answer)
-none_told words source answer is = λ e. let wrong : NoAssignment ≡ Ended = sym (ap (λ (a : Answer). a.status) is) ∙ e in absurd (cc wrong)
+pub none_told : (each : Bool) (program : NormalForm) (answer : Answer) → answer ≡ no_list → TellsProgram each program (Ok answer)
+none_told each program answer is = λ e. let wrong : NoAssignment ≡ Ended = sym (ap (λ (a : Answer). a.status) is) ∙ e in absurd (cc wrong)
 
 -- ---- with the text of a source
 
-source_text : (bytes : List ℕ) (tree source : Source) → IsParse bytes (Ok tree) → Checks (resolved_of tree) (Ok source) → IsSourceText source bytes
-source_text bytes tree source parsed checks =
-    let m = meets tree source checks in
-    subst (λ (s : Source). IsSourceText s bytes) m.0 (record { parsed = parsed; meets = m.1 })
-
-pub text_told : (words : NeedsWords) (bytes : List ℕ) (tree source : Source) (result : Result Answer Status) → IsParse bytes (Ok tree) → Checks (resolved_of tree) (Ok source)
-    → TellsSource words source result → TellsText words bytes result
-text_told words bytes tree source (Ok answer) parsed checks tells = λ e. let run = tells e in record { source = source; text = source_text bytes tree source parsed checks; program = run.0; is_run = run.1; needs = run.2 }
-text_told words bytes tree source (Err status) parsed checks tells = tt
+pub text_told : (words : NeedsWords) (bytes : List ℕ) (program : NormalForm) (result : Result Answer Status) → IsProgramOf bytes program → TellsProgram words.each program result → TellsText words bytes result
+text_told words bytes program (Ok answer) of tells = λ e. record { source = of.source; text = of.read; program = program; is_run = of.is_run; needs = tells e }
+text_told words bytes program (Err status) of tells = tt
 
 -- ---- with the program of a host
 

@@ -1,5 +1,5 @@
 -- The command `needs`.
-use Rattle.std.specs.Prelude.{ℕ, nat_eq, Bool, true, if◌then◌else◌, Option, Some, None, List, [], Result, Ok, Err, codes}
+use Rattle.std.specs.Prelude.{ℕ, nat_eq, Bool, true, if◌then◌else◌, List, [], Result, Ok, Err, codes}
 use Rattle.std.specs.List.{starts_with}
 use Rattle.vd_base.specs.declared.protocols.Proto.{Proto}
 use Rattle.vd_base.specs.Limits.{most_host_file_bytes}
@@ -12,17 +12,15 @@ use Rattle.vd_hostcode.specs.declared.fault.CodeFault.{CodeFault}
 use Rattle.vd_hostcode.specs.declared.fault.CodeFault.TheVariants.{Text, Range, Memory}
 use Rattle.vd_search_stages.specs.Choices.{ChoiceOutcomes}
 use Rattle.vd_cmd.specs.declared.command.NeedsWords.{NeedsWords}
-use Rattle.vd_cmd_plan.specs.Plans.{Plan, Executes, answer_then, check_then, ended, file_then}
+use Rattle.vd_cmd_plan.specs.Plans.{Checks, Plan, Executes, answer_then, check_then, ended, file_then}
 use Rattle.vd_cmd_plan.specs.declared.answer.Answer.{Answer}
 use Rattle.vd_cmd_plan.specs.declared.status.Status.{Status}
 use Rattle.vd_cmd_plan.specs.declared.status.Status.TheVariants.{Host, Memory as OutOfMemory}
 use Rattle.vd_cmd_plan.specs.declared.status.HostStatus.TheVariants.{ProgramText, ProgramRange}
 use Rattle.vd_cmd_frontend.specs.Outcomes.{TextOutcomes, LabelOutcomes}
-use Rattle.vd_cmd_frontend.specs.Sources.{source_of, resolved_of}
+use Rattle.vd_cmd_frontend.specs.Sources.{source_of}
 use Rattle.vd_cmd_choose.specs.Searching.{Search, SomeSearch}
-use Rattle.vd_cmd_choose.specs.Choice.{run_choice_then}
-use Rattle.vd_cmd_choose.specs.declared.choice.Assignment.{Assignment}
-use Rattle.vd_cmd_compile.specs.Selected.{no_list}
+use Rattle.vd_cmd_choose.specs.Choice.{Chosen, assigned_answer, text_choice_then}
 use Rattle.vd_cmd_needs.specs.Lines.{each_lines, program_lines, sizes_line}
 use Rattle.vd_deal_needs_programs.specs.Enough.{needs_for}
 use Rattle.vd_cmd_needs.specs.Outcomes.{ProgramOutcomes}
@@ -33,25 +31,17 @@ use Rattle.vd_cmd_needs.specs.Outcomes.{ProgramOutcomes}
 abbrev pub needs_text : (each : Bool) → NormalForm → List Proto → List ℕ
 needs_text each program protocols = if each then each_lines program.hosts (needs_for program protocols) else sizes_line (sizes_of (needs_for program protocols))
 
--- with the choice for a program, if there is one
-abbrev pub choice_plan : (each : Bool) → NormalForm → Option Assignment → Contents → Plan
-choice_plan each program None = answer_then no_list
-choice_plan each program (Some a) = answer_then (ended [] (needs_text each program a.protocols))
+-- with what was found for a source
+abbrev pub needs_for : (each : Bool) → Chosen → Answer
+needs_for each c = assigned_answer (λ a. ended [] (needs_text each c.program a.protocols)) c.assignment
 
--- with a source that meets every rule
-abbrev pub source_plan : LabelOutcomes → ChoiceOutcomes → Search → NeedsWords → Source → Contents → Plan
-source_plan least choices search words source = run_choice_then least choices search words.budget source (λ c. choice_plan words.each c.program c.assignment)
-
-abbrev pub ExecutesSource : NeedsWords → Source → Result Answer Status → Type 0
-ExecutesSource words source result =
-    SomeSearch (λ choices search. (least : LabelOutcomes) (files : FilesView) → Executes true (source_plan least choices search words source) files files result)
-
--- with the tree, and with the bytes of a source
-abbrev pub tree_plan : LabelOutcomes → ChoiceOutcomes → Search → NeedsWords → Source → Contents → Plan
-tree_plan least choices search words tree = check_then (resolved_of tree) (source_plan least choices search words)
-
+-- with the bytes of a source
 abbrev pub text_plan : TextOutcomes → LabelOutcomes → ChoiceOutcomes → Search → NeedsWords → List ℕ → Contents → Plan
-text_plan texts least choices search words bytes = check_then (source_of texts words.file bytes) (tree_plan least choices search words)
+text_plan texts least choices search words bytes = text_choice_then texts least choices search words.file words.budget bytes (λ c. answer_then (needs_for words.each c))
+
+-- the bytes are no source, and are refused for it with this status
+abbrev pub IsNoSource : (name bytes : List ℕ) → Status → Type 0
+IsNoSource name bytes status = (texts : TextOutcomes) → Checks {T = Source} (source_of texts name bytes) (Err status)
 
 -- ---- the program of a host
 

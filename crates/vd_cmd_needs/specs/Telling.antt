@@ -60,8 +60,8 @@ IsNeeds words contents printed = IsHeld words.file most_host_file_bytes contents
 
 -- ---- where the command ended well, what is printed is that
 
-abbrev pub TellsSource : NeedsWords → Source → Result Answer Status → Type 0
-TellsSource words source result = IfOk result (λ answer. answer.status ≡ Ended → (program : NormalForm) × IsRunProgram source program × IsNeedsOf words.each program answer.printed)
+abbrev pub TellsProgram : (each : Bool) → NormalForm → Result Answer Status → Type 0
+TellsProgram each program result = IfOk result (λ answer. answer.status ≡ Ended → IsNeedsOf each program answer.printed)
 
 abbrev pub TellsText : NeedsWords → List ℕ → Result Answer Status → Type 0
 TellsText words bytes result = IfOk result (λ answer. answer.status ≡ Ended → IsNeedsOfSource words.each bytes answer.printed)

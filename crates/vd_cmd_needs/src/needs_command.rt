@@ -1,16 +1,12 @@
 //! The command `needs`.
 
-ghost use Rattle.std.specs.Prelude.{◌≡◌, ◌≤◌, [], Ok, IfOk};
-ghost use Rattle.vd_base.specs.Limits.{most_search_budget};
-ghost use Rattle.vd_core.specs.Named.{HasNames};
-ghost use Rattle.vd_parser.specs.Outcomes.{IsParse};
-ghost use Rattle.vd_cmd_plan.specs.Plans.{Checks, Computes, ended};
-ghost use Rattle.vd_cmd_frontend.specs.Outcomes.{TextOutcomes};
-ghost use Rattle.vd_cmd_frontend.specs.Sources.{source_of};
+ghost use Rattle.std.specs.Prelude.{◌≡◌, ◌≤◌, [], length, IfErr, IfOk, IfSome};
+ghost use Rattle.vd_base.specs.Limits.{most_search_budget, most_source_bytes};
+ghost use Rattle.vd_cmd_plan.specs.Plans.{Computes, ended};
 ghost use Rattle.vd_projection.specs.Programs.{IsRunnable};
-ghost use Rattle.vd_cmd_choose.specs.Choice.{IsSelected};
-ghost use Rattle.vd_cmd_needs.specs.Needing.{ExecutesBytes, ExecutesNeeds, ExecutesSource, ExecutesText, needs_text};
-ghost use Rattle.vd_cmd_needs.specs.Telling.{IsNeedsOf, TellsBytes, TellsNeeds, TellsSource, TellsText};
+ghost use Rattle.vd_cmd_choose.specs.Choice.{IsSelected, chosen_of};
+ghost use Rattle.vd_cmd_needs.specs.Needing.{ExecutesBytes, ExecutesNeeds, ExecutesText, IsNoSource, needs_for, needs_text};
+ghost use Rattle.vd_cmd_needs.specs.Telling.{IsNeedsOf, TellsBytes, TellsNeeds, TellsProgram, TellsText};
 
 use crate::lines::{each_text, sizes_text};
 use crate::program::{is_program, needs_in_host};
@@ -19,15 +15,12 @@ use vd_base::limits::{HOST_FILE_BYTES, SOURCE_BYTES};
 use vd_base::{Bytes, Proto, Text};
 use vd_base_lists::Items;
 use vd_cmd::NeedsWords;
-use vd_cmd_choose::{Assignment, choice_of};
-use vd_cmd_compile::no_assignment;
-use vd_cmd_frontend::{read_source, resolve_source};
+use vd_cmd_choose::{Assignment, Choice, choice_in, no_assignment};
 use vd_cmd_plan::{Answer, Status, load};
-use vd_core::{Program, Source};
+use vd_core::Program;
 use vd_deal_needs::sizes;
 use vd_deal_needs_programs::needs_of_program;
 use vd_outside::Files;
-use vd_resolve::Resolved;
 
 /// The answer that prints this and stores nothing.
 pub(crate) fn printing(alloc: Global, printed: Bytes) -> Answer
@@ -76,30 +69,28 @@ fn needs_at(
     Ok(printing(alloc, printed))
 }
 
-/// What `needs` does with a source that meets every rule.
-fn needs_in_source(alloc: Global, words: &NeedsWords, source: &Resolved) -> Result<Answer, Status>
-    requires { words.now.budget ≤ most_search_budget }
-    ensures executes { ExecutesSource words.now source.now result }
-    ensures tells { TellsSource words.now source.now result }
+/// What `needs` comes to with what was found for a source.
+fn needs_choice(alloc: Global, choice: &Choice, each: bool) -> Result<Answer, Status>
+    requires { IfSome choice.now.assignment (IsSelected choice.now.program) }
+    ensures computes { Computes (needs_for each (chosen_of choice.now)) result }
+    ensures tells { TellsProgram each choice.now.program result }
 {
-    let choice = choice_of(alloc, source, words.budget)?;
     match &choice.assignment {
-        Some(assignment) => needs_at(alloc, &choice.program, assignment, words.each),
+        Some(assignment) => needs_at(alloc, &choice.program, assignment, each),
         None => Ok(no_assignment(alloc)),
     }
 }
 
-/// The tree of a text. A host's program may be longer than a source, so it is seen here whether the text is too long for one.
-fn tree_in(alloc: Global, name: &str, bytes: &[u8]) -> Result<Source, Status>
-    ensures reads { (texts : TextOutcomes) → Checks (source_of texts name.now bytes.now) result }
-    ensures parsed { IfOk result (λ source. IsParse bytes.now (Ok source)) }
-    ensures named { IfOk result HasNames }
+/// Refuses a text that is too long for a source: the program of a host may be longer.
+fn expect_short(alloc: Global, name: &str, bytes: &[u8]) -> Result<(), Status>
+    ensures refused { IfErr result (IsNoSource name.now bytes.now) }
+    ensures short { IfOk result (λ done. length bytes.now ≤ most_source_bytes) }
 {
     if bytes.len() > SOURCE_BYTES as usize {
         let name = Text::copy_of(alloc, name)?;
         return Err(Status::TooLong(name, SOURCE_BYTES));
     }
-    read_source(alloc, bytes)
+    Ok(())
 }
 
 /// What `needs` does with the text of a source.
@@ -108,9 +99,9 @@ fn needs_in_text(alloc: Global, words: &NeedsWords, bytes: &[u8]) -> Result<Answ
     ensures executes { ExecutesText words.now bytes.now result }
     ensures tells { TellsText words.now bytes.now result }
 {
-    let tree = tree_in(alloc, words.file.as_str(), bytes)?;
-    let source = resolve_source(alloc, tree)?;
-    needs_in_source(alloc, words, &source)
+    expect_short(alloc, words.file.as_str(), bytes)?;
+    let choice = choice_in(alloc, bytes, words.budget)?;
+    needs_choice(alloc, &choice, words.each)
 }
 
 /// What `needs` does with the bytes of a file.

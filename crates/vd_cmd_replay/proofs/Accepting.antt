@@ -36,8 +36,8 @@ use Rattle.vd_report_outcomes.proofs.Judged.{judged_once}
 use Rattle.vd_cmd_replay.specs.Accepting.{EndsWell, IsAccepted}
 use Rattle.vd_cmd_inputs.specs.Asking.{HoldAsked}
 use Rattle.vd_cmd_inputs.specs.Deals.{as_consistent}
-use Rattle.vd_cmd_replay.specs.Replaying.{asked_plan, assignment_plan, choice_plan, program_plan, report_for, source_plan}
-use Rattle.vd_cmd_replay.proofs.Steps.{Ends, answer_ends, asked_ends, check_ends, labels_for, labels_with_these, source_ends}
+use Rattle.vd_cmd_replay.specs.Replaying.{asked_plan, assignment_plan, choice_plan, program_plan, report_for}
+use Rattle.vd_cmd_replay.proofs.Steps.{Ends, answer_ends, asked_ends, check_ends, labels_for, labels_with_these, program_ends}
 
 -- ---- the choice
 
@@ -102,7 +102,7 @@ module _ (words : ReplayWords) (contents : Contents) (accepted : IsAccepted word
         check_ends contents (as_consistent (outcomes.judge accepted.held.asked.deals)) tt _ (ap as_consistent judged) (answer_ends contents (report_for program a.protocols accepted.held.asked)) in
         let ends : Ends contents (choice_plan outcomes accepted.held.asked program (assignment_of choices problem)) =
         subst (λ (o : Option (List ℕ)). Ends contents (choice_plan outcomes accepted.held.asked program (option_map (assigned problem) o))) (sym choice) listed in
-        source_ends contents texts words.source source (source_plan texts outcomes least choices (sure_search choices) words) accepted.held.is_source
+        program_ends contents texts least words.source source (program_plan texts outcomes least choices (sure_search choices) words) accepted.held.is_source
         (subst (λ (p : NormalForm). Ends contents (program_plan texts outcomes least choices (sure_search choices) words p)) (run_once source program source_made accepted.is_run least)
         (asked_ends contents outcomes texts words program.hosts accepted.held.asked (asked_plan outcomes least choices (sure_search choices) words.budget program) few are_asked
         (check_ends contents (labels_of least program) accepted.selected.labels (λ l. search_then choices (sure_search choices) words.budget program l rest) (ap (λ (r : Result Labels ℕ). as_labels least program r) labelled)

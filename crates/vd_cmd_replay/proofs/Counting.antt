@@ -2,23 +2,18 @@
 use Rattle.std.proofs.Common.{◌≡◌, ℕ, IsTrue, Option, Some, Result, Ok, Err, OnOk, sym, ap, ◌∙◌, subst}
 use Rattle.vd_outside.specs.Files.{FilesView, Contents}
 use Rattle.vd_core.specs.declared.normal.NormalForm.{NormalForm}
-use Rattle.vd_core.specs.declared.source.Source.{Source}
-use Rattle.vd_cmd_rewrite.specs.RunPrograms.{IsRunProgram}
 use Rattle.vd_cmd.specs.declared.command.ReplayWords.{ReplayWords}
-use Rattle.vd_cmd_plan.specs.Plans.{ExecutesStep}
 use Rattle.vd_cmd_plan.specs.declared.answer.Answer.{Answer}
 use Rattle.vd_cmd_plan.specs.declared.status.Status.{Status}
 use Rattle.vd_cmd_plan.specs.declared.status.Status.TheVariants.{Ended, NoAssignment}
 use Rattle.vd_cmd_plan.proofs.Finding.{step_keeps, step_tells}
-use Rattle.vd_cmd_frontend.specs.Outcomes.{TextOutcomes}
-use Rattle.vd_cmd_frontend.specs.Sources.{HoldsSource, source_then}
-use Rattle.vd_cmd_frontend.proofs.Reading.{some_texts}
-use Rattle.vd_cmd_choose.specs.Choice.{IsSelected}
+use Rattle.vd_cmd_frontend.proofs.Reading.{some_labels, some_texts}
+use Rattle.vd_cmd_choose.specs.Programs.{HoldsProgram, LoadsProgram, program_then}
+use Rattle.vd_cmd_choose.specs.Choice.{IsSelected, no_list}
 use Rattle.vd_cmd_choose.specs.declared.choice.Assignment.{Assignment}
-use Rattle.vd_cmd_compile.specs.Selected.{no_list}
 use Rattle.vd_cmd_inputs.specs.declared.asked.Asked.{Asked}
 use Rattle.vd_cmd_inputs.specs.Asking.{HoldAsked}
-use Rattle.vd_cmd_replay.specs.Counting.{CountsOf, CountsProgram, CountsReplay, CountsSource, IsCountFor, packets_for}
+use Rattle.vd_cmd_replay.specs.Counting.{CountsOf, CountsProgram, CountsReplay, IsCountOf, packets_for}
 
 -- at the choice of protocols
 pub choice_counted : (program : NormalForm) (a : Assignment) (asked : Asked) (packets : Option ℕ) (result : Result Answer Status) → IsSelected program a
@@ -40,19 +35,18 @@ module _ (words : ReplayWords) (before : FilesView) (packets : Option ℕ) where
   }
   program_counted program form asked (Err status) same held counts = λ t. tt
 
-  pub source_counted : (source : Source) (program : NormalForm) (result : Result Answer Status) → IsRunProgram source program → CountsProgram words program before packets result → CountsSource words source before packets result
-  source_counted source program (Ok answer) is counts = λ t e. record { program = program; is_run = is; count = counts t e }
-  source_counted source program (Err status) is counts = λ t. tt
-
   -- the files say the same after the source was fetched
-  pub replay_counted : (mid : FilesView) (source : Source) (result : Result Answer Status) → ((texts : TextOutcomes) → ExecutesStep (source_then texts words.source) before mid (Ok source))
-      → (IsTrue before.told → HoldsSource words.source before.contents source) → CountsSource words source mid packets result → CountsReplay words before packets result
-  replay_counted mid source (Ok answer) loads held counts = λ t e.
-      let step = source_then some_texts words.source in
+  pub replay_counted : (mid : FilesView) (program : NormalForm) (result : Result Answer Status) → LoadsProgram words.source before mid (Ok program)
+      → (IsTrue before.told → HoldsProgram words.source before.contents program) → CountsProgram words program mid packets result → CountsReplay words before packets result
+  replay_counted mid program (Ok answer) loads held counts = λ t e.
+      let step = program_then some_texts some_labels words.source in
+      let is = held t in
       record {
-        source = source;
-        is_source = held t;
-        count = subst (λ (files : Contents). IsCountFor words source files packets) (step_keeps step before mid source (loads some_texts) t)
-            (counts (step_tells step before mid source (loads some_texts) t) e);
+        source = is.holds.source;
+        is_source = record { bytes = is.bytes; is_fetched = is.is_fetched; holds = is.holds.read };
+        program = program;
+        is_run = is.holds.is_run;
+        count = subst (λ (files : Contents). IsCountOf words program files packets) (step_keeps step before mid program (loads some_texts some_labels) t)
+            (counts (step_tells step before mid program (loads some_texts some_labels) t) e);
       }
-  replay_counted mid source (Err status) loads held counts = λ t. tt
+  replay_counted mid program (Err status) loads held counts = λ t. tt

@@ -4,7 +4,10 @@ use Rattle.std.specs.Prelude.{slice_get}
 use Rattle.std.proofs.lemmas.List.{append-nil}
 use Rattle.vd_base.specs.Limits.{most_deal_bytes, most_hosts, most_inputs_bytes, most_schedule_bytes, most_source_bytes}
 use Rattle.vd_outside.specs.Files.{Contents, fetched}
+use Rattle.vd_core.specs.declared.normal.NormalForm.{NormalForm}
 use Rattle.vd_core.specs.declared.source.Source.{Source}
+use Rattle.vd_anf.specs.Normal.{normal_form}
+use Rattle.vd_cmd_rewrite.specs.RunPrograms.{run_form}
 use Rattle.vd_parser.proofs.OutcomeLaws.{parses_once}
 use Rattle.vd_cmd.specs.declared.command.ReplayWords.{ReplayWords}
 use Rattle.vd_constraints.specs.Outcomes.{IsLabelled}
@@ -28,8 +31,9 @@ use Rattle.vd_cmd_plan.specs.Plans.{Plan, answer_then, check_then, ended, file_t
 use Rattle.vd_cmd_plan.specs.declared.status.Status.{Status}
 use Rattle.vd_cmd_plan.specs.declared.status.Status.TheVariants.{Ended}
 use Rattle.vd_cmd_frontend.specs.Outcomes.{IsInputs, LabelOutcomes, TextOutcomes}
-use Rattle.vd_cmd_frontend.specs.Sources.{HoldsSource, IsSourceText, as_resolved, as_source, resolved_of, source_of, source_then, tree_then}
+use Rattle.vd_cmd_frontend.specs.Sources.{HoldsSource, IsSourceText, as_resolved, as_source, resolved_of, source_of}
 use Rattle.vd_cmd_frontend.proofs.Labelled.{solution_is, solution_of}
+use Rattle.vd_cmd_choose.specs.Programs.{program_then}
 use Rattle.vd_cmd_frontend.specs.Inputs.{HoldsInputs, as_inputs, inputs_then, words_of}
 use Rattle.vd_report_outcomes.specs.Outcomes.{ReplayOutcomes}
 use Rattle.vd_report_outcomes.proofs.Picked.{outcomes_are_single}
@@ -80,12 +84,13 @@ module _ (contents : Contents) where
   held_ends name limit wanted value rest Is held is then =
       file_ends name limit held.bytes (λ bytes. check_then (wanted bytes) rest) held.is_fetched (check_ends (wanted held.bytes) value rest (is held.bytes held.holds) then)
 
-  pub source_ends : (texts : TextOutcomes) (name : List ℕ) (source : Source) (rest : Source → Contents → Plan) → HoldsSource name contents source → Ends (rest source) → Ends (source_then texts name rest)
-  unfolding source_then tree_then
-  source_ends texts name source rest held then =
-      held_ends name most_source_bytes (source_of texts name) source (λ tree. check_then (resolved_of tree) rest) (IsSourceText source) held
+  pub program_ends : (texts : TextOutcomes) (least : LabelOutcomes) (name : List ℕ) (source : Source) (rest : NormalForm → Contents → Plan) → HoldsSource name contents source → Ends (rest (run_form least (normal_form source)))
+      → Ends (program_then texts least name rest)
+  program_ends texts least name source rest held then =
+      let with_source : Source → Contents → Plan = λ s. rest (run_form least (normal_form s)) in
+      held_ends name most_source_bytes (source_of texts name) source (λ tree. check_then (resolved_of tree) with_source) (IsSourceText source) held
       (λ bytes is. ap (as_source name) (parses_once bytes (texts.parse bytes) (Ok source) (texts.parse_is bytes) is.parsed))
-      (check_ends (resolved_of source) source rest (ap (as_resolved source) held.holds.meets) then)
+      (check_ends (resolved_of source) source with_source (ap (as_resolved source) held.holds.meets) then)
 
   inputs_ends : (texts : TextOutcomes) (name : List ℕ) (hosts inputs : List (List ℕ)) (rest : List (List ℕ) → Contents → Plan) → HoldsInputs name hosts contents inputs → Ends (rest inputs) → Ends (inputs_then texts name hosts rest)
   unfolding inputs_then

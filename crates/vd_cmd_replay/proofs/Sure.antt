@@ -3,9 +3,6 @@ use Rattle.std.proofs.Common.{ℕ, ◌+◌, List, [], ◌∷◌, ◌++◌, lengt
 use Rattle.vd_base.specs.Limits.{most_deal_bytes, most_inputs_bytes, most_schedule_bytes}
 use Rattle.vd_outside.specs.Files.{Contents}
 use Rattle.vd_core.specs.declared.normal.NormalForm.{NormalForm}
-use Rattle.vd_core.specs.declared.source.Source.{Source}
-use Rattle.vd_anf.specs.Normal.{normal_form}
-use Rattle.vd_cmd_rewrite.specs.RunPrograms.{run_form}
 use Rattle.vd_deal_items.specs.declared.deal.Deal.{Deal}
 use Rattle.vd_cmd.specs.declared.command.ReplayWords.{ReplayWords}
 use Rattle.vd_report.specs.declared.schedule.Schedule.{Schedule}
@@ -18,12 +15,12 @@ use Rattle.vd_cmd_frontend.specs.Inputs.{words_of, inputs_then}
 use Rattle.vd_cmd_choose.specs.Outcomes.{CertificateOutcomes}
 use Rattle.vd_cmd_choose.specs.Searching.{Searched, searched_by, sure_search}
 use Rattle.vd_cmd_choose.proofs.Steps.{choice_follows}
-use Rattle.vd_cmd_choose.proofs.Sure.{source_follows}
+use Rattle.vd_cmd_choose.proofs.Sure.{program_follows}
 use Rattle.vd_report_outcomes.specs.Outcomes.{ReplayOutcomes}
 use Rattle.vd_cmd_inputs.specs.declared.asked.Asked.{Asked}
 use Rattle.vd_cmd_inputs.specs.Asking.{asked_of}
 use Rattle.vd_cmd_inputs.specs.Deals.{deal_of, deal_then, deals_from}
-use Rattle.vd_cmd_replay.specs.Replaying.{asked_plan, choice_plan, replay_plan, source_plan}
+use Rattle.vd_cmd_replay.specs.Replaying.{asked_plan, choice_plan, program_plan, replay_plan}
 use Rattle.vd_cmd_inputs.specs.Schedules.{schedule_of, schedule_then}
 
 module _ (files : Contents) where
@@ -60,13 +57,12 @@ module _ (texts : TextOutcomes) (outcomes : ReplayOutcomes) (least : LabelOutcom
       → Follows (asked_plan outcomes least choices (sure_search choices) words.budget program asked files) (asked_plan outcomes least choices (searched_by certificates choices searched) words.budget program asked files)
   asked_follows program asked = choice_follows program words.budget certificates choices (λ c. choice_plan outcomes asked c.program c.assignment) files (λ l one other. refl) least searched
 
-  tree_goes : (tree : Source) → Follows (source_plan texts outcomes least choices (sure_search choices) words tree files) (source_plan texts outcomes least choices (searched_by certificates choices searched) words tree files)
-  tree_goes tree =
-      inputs_follow files texts words.inputs (run_form least (normal_form tree)).hosts _ _ (λ inputs.
-      deals_follow files outcomes words.prefix (length (run_form least (normal_form tree)).hosts) 0 (run_form least (normal_form tree)).hosts [] _ _ (λ deals.
-      schedule_follows files outcomes words.schedule (run_form least (normal_form tree)).hosts _ _ (λ schedule.
-      asked_follows (run_form least (normal_form tree)) (asked_of words inputs deals schedule))))
+  program_goes : (program : NormalForm) → Follows (program_plan texts outcomes least choices (sure_search choices) words program files) (program_plan texts outcomes least choices (searched_by certificates choices searched) words program files)
+  program_goes program =
+      inputs_follow files texts words.inputs program.hosts _ _ (λ inputs.
+      deals_follow files outcomes words.prefix (length program.hosts) 0 program.hosts [] _ _ (λ deals.
+      schedule_follows files outcomes words.schedule program.hosts _ _ (λ schedule. asked_follows program (asked_of words inputs deals schedule))))
 
   pub replay_follows : Follows (replay_plan texts outcomes least choices (sure_search choices) words files) (replay_plan texts outcomes least choices (searched_by certificates choices searched) words files)
   replay_follows =
-      source_follows texts words.source (source_plan texts outcomes least choices (sure_search choices) words) (source_plan texts outcomes least choices (searched_by certificates choices searched) words) files tree_goes
+      program_follows texts least words.source (program_plan texts outcomes least choices (sure_search choices) words) (program_plan texts outcomes least choices (searched_by certificates choices searched) words) files program_goes

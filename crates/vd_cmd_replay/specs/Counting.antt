@@ -34,17 +34,13 @@ pub record IsCountOf (words : ReplayWords) (program : NormalForm) (contents : Co
   pub held : HoldAsked words program.hosts contents asked
   pub count : IsCount program asked packets
 
--- of the program that is run for a source
-pub record IsCountFor (words : ReplayWords) (source : Source) (contents : Contents) (packets : Option ℕ) : Type 0 where
-  pub program : NormalForm
-  pub is_run : IsRunProgram source program
-  pub count : IsCountOf words program contents packets
-
--- and of the source that they hold
+-- and of the program that is run for the source that they hold
 pub record IsReplayCount (words : ReplayWords) (contents : Contents) (packets : Option ℕ) : Type 0 where
   pub source : Source
   pub is_source : HoldsSource words.source contents source
-  pub count : IsCountFor words source contents packets
+  pub program : NormalForm
+  pub is_run : IsRunProgram source program
+  pub count : IsCountOf words program contents packets
 
 -- ---- where a program was run, so many packets are counted
 
@@ -53,9 +49,6 @@ CountsOf program asked packets result = IfOk result (λ answer. answer.status �
 
 abbrev pub CountsProgram : ReplayWords → NormalForm → FilesView → Option ℕ → Result Answer Status → Type 0
 CountsProgram words program before packets result = Finds before result (λ contents answer. answer.status ≡ Ended → IsCountOf words program contents packets)
-
-abbrev pub CountsSource : ReplayWords → Source → FilesView → Option ℕ → Result Answer Status → Type 0
-CountsSource words source before packets result = Finds before result (λ contents answer. answer.status ≡ Ended → IsCountFor words source contents packets)
 
 abbrev pub CountsReplay : ReplayWords → FilesView → Option ℕ → Result Answer Status → Type 0
 CountsReplay words before packets result = Finds before result (λ contents answer. answer.status ≡ Ended → IsReplayCount words contents packets)

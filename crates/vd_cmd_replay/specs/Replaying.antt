@@ -3,9 +3,6 @@ use Rattle.std.specs.Prelude.{ℕ, true, Option, Some, None, List, [], length, R
 use Rattle.vd_base.specs.declared.protocols.Proto.{Proto}
 use Rattle.vd_outside.specs.Files.{FilesView, Contents}
 use Rattle.vd_core.specs.declared.normal.NormalForm.{NormalForm}
-use Rattle.vd_core.specs.declared.source.Source.{Source}
-use Rattle.vd_anf.specs.Normal.{normal_form}
-use Rattle.vd_cmd_rewrite.specs.RunPrograms.{run_form}
 use Rattle.vd_cmd.specs.declared.command.ReplayWords.{ReplayWords}
 use Rattle.vd_execution.specs.Joint.{started}
 use Rattle.vd_execution.specs.World.{World}
@@ -18,11 +15,10 @@ use Rattle.vd_cmd_plan.specs.Plans.{Plan, Executes, check_then, answer_then, end
 use Rattle.vd_cmd_plan.specs.declared.answer.Answer.{Answer}
 use Rattle.vd_cmd_plan.specs.declared.status.Status.{Status}
 use Rattle.vd_cmd_frontend.specs.Outcomes.{TextOutcomes, LabelOutcomes}
-use Rattle.vd_cmd_frontend.specs.Sources.{source_then}
+use Rattle.vd_cmd_choose.specs.Programs.{program_then}
 use Rattle.vd_cmd_choose.specs.Searching.{Search, SomeSearch}
-use Rattle.vd_cmd_choose.specs.Choice.{choice_then}
+use Rattle.vd_cmd_choose.specs.Choice.{choice_then, no_list}
 use Rattle.vd_cmd_choose.specs.declared.choice.Assignment.{Assignment}
-use Rattle.vd_cmd_compile.specs.Selected.{no_list}
 use Rattle.vd_report_outcomes.specs.Outcomes.{ReplayOutcomes}
 use Rattle.vd_cmd_inputs.specs.declared.asked.Asked.{Asked}
 use Rattle.vd_cmd_inputs.specs.Asking.{asked_then}
@@ -56,17 +52,14 @@ choice_plan outcomes asked program (Some a) = assignment_plan outcomes asked pro
 abbrev pub asked_plan : ReplayOutcomes → LabelOutcomes → ChoiceOutcomes → Search → (budget : ℕ) → NormalForm → Asked → Contents → Plan
 asked_plan outcomes least choices search budget program asked = choice_then least choices search budget program (λ c. choice_plan outcomes asked c.program c.assignment)
 
--- with a program, and with a source that meets every rule
+-- with a program, and with the one that is run for a source
 abbrev pub program_plan : TextOutcomes → ReplayOutcomes → LabelOutcomes → ChoiceOutcomes → Search → ReplayWords → NormalForm → Contents → Plan
 program_plan texts outcomes least choices search words program =
     asked_then texts outcomes words program.hosts (asked_plan outcomes least choices search words.budget program)
 
-abbrev pub source_plan : TextOutcomes → ReplayOutcomes → LabelOutcomes → ChoiceOutcomes → Search → ReplayWords → Source → Contents → Plan
-source_plan texts outcomes least choices search words source = program_plan texts outcomes least choices search words (run_form least (normal_form source))
-
 abbrev pub replay_plan : TextOutcomes → ReplayOutcomes → LabelOutcomes → ChoiceOutcomes → Search → ReplayWords → Contents → Plan
 replay_plan texts outcomes least choices search words =
-    source_then texts words.source (source_plan texts outcomes least choices search words)
+    program_then texts least words.source (program_plan texts outcomes least choices search words)
 
 -- ---- what the parts of the command do, whatever functions pick outcomes
 
@@ -82,11 +75,6 @@ abbrev pub ExecutesProgram : ReplayWords → NormalForm → FilesView → FilesV
 ExecutesProgram words program before now result =
     SomeSearch (λ choices search. (texts : TextOutcomes) (outcomes : ReplayOutcomes) (least : LabelOutcomes)
     → Executes true (program_plan texts outcomes least choices search words program) before now result)
-
-abbrev pub ExecutesSource : ReplayWords → Source → FilesView → FilesView → Result Answer Status → Type 0
-ExecutesSource words source before now result =
-    SomeSearch (λ choices search. (texts : TextOutcomes) (outcomes : ReplayOutcomes) (least : LabelOutcomes)
-    → Executes true (source_plan texts outcomes least choices search words source) before now result)
 
 abbrev pub ExecutesReplay : ReplayWords → FilesView → FilesView → Result Answer Status → Type 0
 ExecutesReplay words before now result =

@@ -71,12 +71,6 @@ pub record IsReplay (words : ReplayWords) (program : NormalForm) (outputs : List
   pub are_words : InputsAreWords asked.inputs
   pub report : IsReport program (outputs asked.inputs) asked printed
 
--- The report of the program that is run for a source.
-pub record IsReplayOf (words : ReplayWords) (source : Source) (contents : Contents) (printed : List ℕ) : Type 0 where
-  pub program : NormalForm
-  pub is_run : IsRunProgram source program
-  pub replay : IsReplay words program (source_outputs source) contents printed
-
 -- ---- the headline
 
 -- What the files hold that the words name: the first is the text of a source that meets every rule, and the others give inputs,
@@ -106,10 +100,6 @@ TellsOf program asked result = IfOk result (λ answer. answer.status ≡ Ended �
 abbrev pub TellsProgram : ReplayWords → NormalForm → FilesView → Result Answer Status → Type 0
 TellsProgram words program before result =
     Finds before result (λ contents answer. answer.status ≡ Ended → IsReplay words program (program_outputs program) contents answer.printed)
-
-abbrev pub TellsSource : ReplayWords → Source → FilesView → Result Answer Status → Type 0
-TellsSource words source before result =
-    Finds before result (λ contents answer. answer.status ≡ Ended → IsReplayOf words source contents answer.printed)
 
 abbrev pub TellsHeadline : ReplayWords → FilesView → Result Answer Status → Type 0
 TellsHeadline words before result = Finds before result (λ contents answer. answer.status ≡ Ended → IsHeadline words contents answer.printed)

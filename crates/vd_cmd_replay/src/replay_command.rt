@@ -7,24 +7,20 @@ ghost use Rattle.vd_semantics.specs.ProgramMeaning.{program_outputs};
 ghost use Rattle.vd_cmd_plan.specs.Plans.{Computes, ended};
 ghost use Rattle.vd_cmd_choose.specs.Choice.{IsSelected};
 ghost use Rattle.vd_cmd_inputs.specs.Asking.{AreAsked};
-ghost use Rattle.vd_cmd_replay.specs.Counting.{CountsOf, CountsProgram, CountsReplay, CountsSource, packets_for};
-ghost use Rattle.vd_cmd_replay.specs.Replaying.{ExecutesAsked, ExecutesChoice, ExecutesProgram, ExecutesReplay, ExecutesSource, report_for};
-ghost use Rattle.vd_cmd_replay.specs.Telling.{IsReport, TellsHeadline, TellsOf, TellsProgram, TellsSource};
+ghost use Rattle.vd_cmd_replay.specs.Counting.{CountsOf, CountsProgram, CountsReplay, packets_for};
+ghost use Rattle.vd_cmd_replay.specs.Replaying.{ExecutesAsked, ExecutesChoice, ExecutesProgram, ExecutesReplay, report_for};
+ghost use Rattle.vd_cmd_replay.specs.Telling.{IsReport, TellsHeadline, TellsOf, TellsProgram};
 
 use std::alloc::Global;
 use vd_base::Bytes;
 use vd_base_lists::Items;
 use vd_cmd::ReplayWords;
-use vd_cmd_choose::{Assignment, choice_for};
-use vd_cmd_compile::no_assignment;
-use vd_cmd_frontend::load_source;
+use vd_cmd_choose::{Assignment, choice_for, load_program, no_assignment};
 use vd_cmd_inputs::{Asked, expect_consistent, load_asked};
 use vd_cmd_plan::{Answer, Status};
-use vd_cmd_rewrite::run_program;
 use vd_core::Program;
 use vd_outside::Files;
 use vd_projection::split;
-use vd_resolve::Resolved;
 use vd_world_report::{play, report};
 
 /// The answer that prints this and stores nothing.
@@ -141,23 +137,6 @@ fn replay_program<F: Files>(
     replay_asked(alloc, program, asked, words.budget, packets)
 }
 
-/// What `replay` does with a source that meets every rule.
-fn replay_source<F: Files>(
-    alloc: Global,
-    files: &mut F,
-    words: &ReplayWords,
-    source: &Resolved,
-    packets: &mut Option<u64>,
-) -> Result<Answer, Status>
-    requires { words.now.budget ≤ most_search_budget }
-    ensures executes { ExecutesSource words.now source.now (F.view files.old) (F.view files.new) result }
-    ensures tells { TellsSource words.now source.now (F.view files.old) result }
-    ensures counts { CountsSource words.now source.now (F.view files.old) packets.new result }
-{
-    let program = run_program(alloc, source)?;
-    replay_program(alloc, files, words, program, packets)
-}
-
 /// The command `replay`: all hosts of a source run over a schedule, and how each stands then. Where they ran, it is kept how many
 /// packets they sent to one another.
 pub fn replay<F: Files>(
@@ -171,6 +150,6 @@ pub fn replay<F: Files>(
     ensures tells { TellsHeadline words.now (F.view files.old) result }
     ensures counts { CountsReplay words.now (F.view files.old) packets.new result }
 {
-    let source = load_source(alloc, files, words.source.as_str())?;
-    replay_source(alloc, files, words, &source, packets)
+    let program = load_program(alloc, files, words.source.as_str())?;
+    replay_program(alloc, files, words, program, packets)
 }

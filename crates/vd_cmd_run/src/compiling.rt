@@ -1,18 +1,33 @@
 //! The hosts of a source, and what compiling it comes to.
 
-ghost use Rattle.std.specs.Prelude.{◌≤◌, length, IfOk};
+ghost use Rattle.std.specs.Prelude.{◌≡◌, ◌≤◌, length, IfOk};
 ghost use Rattle.vd_base.specs.Limits.{most_hosts};
 ghost use Rattle.vd_cmd_plan.specs.Held.{Finds};
 ghost use Rattle.vd_cmd_plan.specs.Plans.{IsGiven};
 ghost use Rattle.vd_cmd_run.specs.Compiled.{AreHostsOf, CompilesFor};
 
 use crate::compiled::Compiled;
-use std::alloc::Global;
-use vd_base::limits::{SEARCH_BUDGET, SOURCE_BYTES};
-use vd_cmd_compile::compile_source;
-use vd_cmd_frontend::{names_of_hosts, read_source, resolve_source};
-use vd_cmd_plan::{Status, load};
+use std::alloc::{AllocError, Global};
+use vd_base::limits::SEARCH_BUDGET;
+use vd_base::{Name, Names};
+use vd_cmd_choose::choice_of;
+use vd_cmd_compile::compile_choice;
+use vd_cmd_plan::Status;
+use vd_core::Program;
 use vd_outside::Files;
+
+/// The names of a program's hosts, in order.
+fn names_of(alloc: Global, program: &Program) -> Result<Names, AllocError>
+    ensures same { IfOk result (λ names. names ≡ program.now.hosts) }
+    ensures few { IfOk result (λ names. length names ≤ most_hosts) }
+{
+    let hosts = &program.form().hosts;
+    let mut names = Names::new(alloc);
+    for host in hosts.as_slice() {
+        names.push(Name::from_slice(alloc, host.as_slice())?)?;
+    }
+    Ok(names)
+}
 
 /// Fetches a source, and compiles it with the greatest budget of the search.
 pub(crate) fn compile_for<F: Files>(
@@ -26,10 +41,8 @@ pub(crate) fn compile_for<F: Files>(
     ensures few { IfOk result (λ compiled. length compiled.names ≤ most_hosts) }
     ensures given { IfOk result (λ compiled. IsGiven compiled.answer.status compiled.answer.printed) }
 {
-    let text = load(alloc, files, source, SOURCE_BYTES)?;
-    let tree = read_source(alloc, text.as_slice())?;
-    let resolved = resolve_source(alloc, tree)?;
-    let names = names_of_hosts(alloc, resolved.source())?;
-    let answer = compile_source(alloc, &resolved, text.as_slice(), prefix, SEARCH_BUDGET)?;
+    let found = choice_of(alloc, files, source, SEARCH_BUDGET)?;
+    let names = names_of(alloc, &found.choice.program)?;
+    let answer = compile_choice(alloc, &found, prefix)?;
     Ok(Compiled { names, answer })
 }

@@ -38,9 +38,8 @@ use Rattle.vd_cmd_plan.specs.declared.answer.Answer.{Answer}
 use Rattle.vd_cmd_plan.specs.declared.status.Status.{Status}
 use Rattle.vd_cmd_plan.specs.declared.status.Status.TheVariants.{Ended, NoAssignment}
 use Rattle.vd_cmd_frontend.specs.Sources.{as_resolved, resolved_of}
-use Rattle.vd_cmd_choose.specs.Choice.{IsSelected, assigned}
+use Rattle.vd_cmd_choose.specs.Choice.{IsSelected, assigned, no_list}
 use Rattle.vd_cmd_choose.specs.declared.choice.Assignment.{Assignment}
-use Rattle.vd_cmd_compile.specs.Selected.{no_list}
 use Rattle.vd_cmd_inputs.specs.declared.asked.Asked.{Asked}
 use Rattle.vd_cmd_replay.specs.Telling.{IsReport}
 use Rattle.vd_cmd_trial.specs.Trial.{Suffice, headed_by, trial_asked}

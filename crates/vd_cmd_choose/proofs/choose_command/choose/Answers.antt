@@ -1,20 +1,18 @@
 use Rattle.std.proofs.lemmas.Result.{err_from_is_err_and}
-use Rattle.vd_cmd_choose.specs.Choosing.{selected_plan}
-use Rattle.vd_cmd_choose.specs.Searching.{GaveUp, searched_by}
+use Rattle.vd_cmd_plan.specs.Plans.{answer_then}
+use Rattle.vd_cmd_plan.proofs.InSteps.{answers}
+use Rattle.vd_cmd_choose.specs.Choice.{chosen_of}
+use Rattle.vd_cmd_choose.specs.Choosing.{chosen_answer}
+use Rattle.vd_cmd_choose.proofs.Steps.{source_refused, source_then}
 use Rattle.vd_cmd_choose.proofs.choose_command.choose.Goals as goal
 
-pub returns-in_err-resolved : goal.returns-in_err-resolved
-returns-in_err-resolved g c = (
-  GaveUp,
-  λ certificates choices texts least.
-      let p = err_from_is_err_and c.from_residual.result c.from_residual.ensures.1 in
-      rw (p.1, p.2) ((c.in_err-resolved.ensures {u = tt}).loads texts (selected_plan least choices (searched_by certificates choices GaveUp) c.args.source.now c.args.budget)),
-)
+pub returns-in_err-found : goal.returns-in_err-found
+returns-in_err-found g c =
+    let p = err_from_is_err_and c.from_residual.result c.from_residual.ensures.1 in
+    rw (p.1, p.2)
+    (source_refused c.args.source.now c.args.budget (λ text x. answer_then (chosen_answer c.args.source.now x)) _ _ c.in_err-found.field-0.0 (c.in_err-found.ensures {u = tt}).chooses)
 
 pub returns : goal.returns
 returns g c =
-    let s = c.choose_for_source.ensures in (
-      s.0,
-      λ certificates choices texts least.
-          (c.in_ok-resolved.ensures {u = tt}).loads texts (selected_plan least choices (searched_by certificates choices s.0) c.args.source.now c.args.budget) _ _ (s.1 certificates choices least _),
-    )
+    source_then c.args.source.now c.args.budget (λ text x. answer_then (chosen_answer c.args.source.now x)) _ _ c.in_ok-found.found c.answer_choice.result (c.in_ok-found.ensures {u = tt}).chooses
+    (answers (chosen_answer c.args.source.now (chosen_of c.in_ok-found.found.choice)) _ c.answer_choice.result c.answer_choice.ensures)

@@ -1,53 +1,27 @@
 use Rattle.std.proofs.lemmas.Result.{err_from_is_err_and}
-use Rattle.vd_cmd_choose.specs.Searching.{GaveUp, searched_by}
-use Rattle.vd_cmd_compile.proofs.Compiled.{fetch_refused, fetched_then, rules_refused, rules_then, tree_refused, tree_then}
+use Rattle.vd_cmd_plan.specs.Plans.{answer_then}
+use Rattle.vd_cmd_plan.proofs.InSteps.{answers}
+use Rattle.vd_cmd_choose.specs.Choice.{chosen_of}
+use Rattle.vd_cmd_choose.proofs.Steps.{source_refused, source_then}
+use Rattle.vd_cmd_compile.specs.Compiling.{compiled_for}
 use Rattle.vd_cmd_compile.proofs.Telling.{source_stored}
 use Rattle.vd_cmd_compile.proofs.compile_command.compile.Goals as goal
 
-pub returns-in_err-text-clause-executes : goal.returns-in_err-text-clause-executes
-returns-in_err-text-clause-executes g c = (
-  GaveUp,
-  λ certificates choices texts least.
-      let p = err_from_is_err_and c.from_residual.result c.from_residual.ensures.1 in
-      rw (p.1, p.2)
-      (fetch_refused texts least choices (searched_by certificates choices GaveUp) c.args.source.now c.args.prefix.now c.args.budget _ _ c.in_err-text.field-0.0 (c.in_err-text.ensures {u = tt}).loads),
-)
+pub compile_choice-requires : goal.compile_choice-requires
+compile_choice-requires g c = (c.in_ok-found.ensures {u = tt}).found
 
-pub returns-in_err-tree-clause-executes : goal.returns-in_err-tree-clause-executes
-returns-in_err-tree-clause-executes g c = (
-  GaveUp,
-  λ certificates choices texts least.
-      let p = err_from_is_err_and c.from_residual-in_err-tree.result c.from_residual-in_err-tree.ensures.1 in
-      let search = searched_by certificates choices GaveUp in
-      rw (p.1, p.2)
-      (fetched_then texts least choices search c.args.source.now c.args.prefix.now c.args.budget _ _ _ c.in_ok-text.text _ (c.in_ok-text.ensures {u = tt}).loads
-      (tree_refused texts least choices search c.args.source.now c.args.prefix.now c.args.budget _ c.in_ok-text.text c.as_slice.result.now c.in_err-tree.field-0.0 c.as_slice.ensures ((c.in_err-tree.ensures {u = tt}).reads texts c.args.source.now))),
-)
-
-pub returns-in_err-resolved-clause-executes : goal.returns-in_err-resolved-clause-executes
-returns-in_err-resolved-clause-executes g c = (
-  GaveUp,
-  λ certificates choices texts least.
-      let p = err_from_is_err_and c.from_residual-in_err-resolved.result c.from_residual-in_err-resolved.ensures.1 in
-      let search = searched_by certificates choices GaveUp in
-      rw (p.1, p.2)
-      (fetched_then texts least choices search c.args.source.now c.args.prefix.now c.args.budget _ _ _ c.in_ok-text.text _ (c.in_ok-text.ensures {u = tt}).loads
-      (tree_then texts least choices search c.args.source.now c.args.prefix.now c.args.budget _ _ c.in_ok-text.text c.as_slice.result.now c.in_ok-tree.tree _ c.as_slice.ensures ((c.in_ok-tree.ensures {u = tt}).reads texts c.args.source.now)
-      (rules_refused texts least choices search c.args.source.now c.args.prefix.now c.args.budget _ c.in_ok-text.text c.in_ok-tree.tree c.in_err-resolved.field-0.0 (c.in_err-resolved.ensures {u = tt})))),
-)
+pub returns-in_err-found-clause-executes : goal.returns-in_err-found-clause-executes
+returns-in_err-found-clause-executes g c =
+    let p = err_from_is_err_and c.from_residual.result c.from_residual.ensures.1 in
+    rw (p.1, p.2)
+    (source_refused c.args.source.now c.args.budget (λ text x. answer_then (compiled_for text c.args.prefix.now x)) _ _ c.in_err-found.field-0.0 (c.in_err-found.ensures {u = tt}).chooses)
 
 pub returns-clause-executes : goal.returns-clause-executes
 returns-clause-executes g c =
-    let s = rw c.as_slice-2.ensures at c.compile_source.ensures.executes in (
-      s.0,
-      λ certificates choices texts least.
-          let search = searched_by certificates choices s.0 in
-          fetched_then texts least choices search c.args.source.now c.args.prefix.now c.args.budget _ _ _ c.in_ok-text.text _ (c.in_ok-text.ensures {u = tt}).loads
-          (tree_then texts least choices search c.args.source.now c.args.prefix.now c.args.budget _ _ c.in_ok-text.text c.as_slice.result.now c.in_ok-tree.tree _ c.as_slice.ensures ((c.in_ok-tree.ensures {u = tt}).reads texts c.args.source.now)
-          (rules_then texts least choices search c.args.source.now c.args.prefix.now c.args.budget _ _ c.in_ok-text.text c.in_ok-tree.tree c.in_ok-resolved.resolved _ (c.in_ok-resolved.ensures {u = tt}) (s.1 certificates choices least _))),
-    )
+    let found = c.in_ok-found.found in
+    source_then c.args.source.now c.args.budget (λ text x. answer_then (compiled_for text c.args.prefix.now x)) _ _ found c.compile_choice.result (c.in_ok-found.ensures {u = tt}).chooses
+    (answers (compiled_for found.text c.args.prefix.now (chosen_of found.choice)) _ c.compile_choice.result c.compile_choice.ensures.computes)
 
 pub returns-clause-tells : goal.returns-clause-tells
 returns-clause-tells g c =
-    source_stored c.args.source.now c.args.prefix.now c.in_ok-text.text c.as_slice.result.now c.as_slice-2.result.now (g.F.Files.view c.args.files.now) _ c.in_ok-tree.tree c.in_ok-resolved.resolved
-    c.compile_source.result (c.in_ok-text.ensures {u = tt}).loads c.as_slice.ensures c.as_slice-2.ensures (c.in_ok-tree.ensures {u = tt}).parsed (c.in_ok-resolved.ensures {u = tt}) c.compile_source.ensures.tells
+    source_stored c.args.source.now c.args.prefix.now (g.F.Files.view c.args.files.now) c.in_ok-found.found c.compile_choice.result (c.in_ok-found.ensures {u = tt}).given c.compile_choice.ensures.tells

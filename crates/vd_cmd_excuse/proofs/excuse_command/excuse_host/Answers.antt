@@ -4,11 +4,9 @@ use Rattle.vd_core.specs.declared.normal.NormalForm.{NormalForm}
 use Rattle.vd_space.specs.Reading.{problem_of}
 use Rattle.vd_space_optimum.specs.Cheapest.{IsAssignment}
 use Rattle.vd_cmd_plan.proofs.InSteps.{answers}
-use Rattle.vd_cmd_choose.specs.Choice.{IsSelected}
+use Rattle.vd_cmd_choose.specs.Choice.{IsSelected, no_list}
 use Rattle.vd_cmd_choose.specs.declared.choice.Assignment.{Assignment}
-use Rattle.vd_cmd_choose.proofs.Steps.{which_is}
-use Rattle.vd_cmd_compile.specs.Selected.{no_list}
-use Rattle.vd_cmd_compile.proofs.Compiled.{none_computes}
+use Rattle.vd_cmd_choose.proofs.Steps.{none_computes, which_is}
 use Rattle.vd_cmd_excuse.specs.Telling.{TellsAt}
 use Rattle.vd_cmd_excuse.proofs.Answered.{host_refused, none_told, with_choice}
 use Rattle.vd_cmd_excuse.proofs.excuse_command.excuse_host.Goals as goal

@@ -1,44 +1,46 @@
-use Rattle.std.proofs.Common.{Ok, Err}
 use Rattle.std.proofs.lemmas.Result.{err_from_is_err_and}
-use Rattle.vd_cmd_plan.proofs.InSteps.{check_step}
-use Rattle.vd_cmd_frontend.specs.Sources.{resolved_of, source_of}
+use Rattle.vd_cmd_plan.specs.Plans.{answer_then}
+use Rattle.vd_cmd_plan.proofs.InSteps.{answers}
+use Rattle.vd_cmd_choose.specs.Choice.{choice_then, chosen_of}
 use Rattle.vd_cmd_choose.specs.Searching.{GaveUp, searched_by}
-use Rattle.vd_cmd_needs.specs.Needing.{source_plan, tree_plan}
+use Rattle.vd_cmd_choose.proofs.ReadPrograms.{tree_refused}
+use Rattle.vd_cmd_choose.proofs.Steps.{text_refused, text_then}
+use Rattle.vd_cmd_needs.specs.Needing.{needs_for}
 use Rattle.vd_cmd_needs.proofs.Told.{text_told}
 use Rattle.vd_cmd_needs.proofs.needs_command.needs_in_text.Goals as goal
 
-pub returns-in_err-tree-clause-executes : goal.returns-in_err-tree-clause-executes
-returns-in_err-tree-clause-executes c = (
+pub choice_in-requires-clause-text : goal.choice_in-requires-clause-text
+choice_in-requires-clause-text c = (c.in_ok-expect_short.ensures {u = tt}).short
+
+pub needs_choice-requires : goal.needs_choice-requires
+needs_choice-requires c = (c.in_ok-choice.ensures {u = tt}).found.selected
+
+pub returns-in_err-expect_short-clause-executes : goal.returns-in_err-expect_short-clause-executes
+returns-in_err-expect_short-clause-executes c = (
   GaveUp,
   λ certificates choices texts least files.
       let p = err_from_is_err_and c.from_residual.result c.from_residual.ensures.1 in
-      let reads = rw c.as_str.ensures at ((c.in_err-tree.ensures {u = tt}).reads texts) in
-      rw (p.1, p.2) (check_step (source_of texts c.args.words.now.file c.args.bytes.now) files (Err c.in_err-tree.field-0.0) reads (tree_plan least choices (searched_by certificates choices GaveUp) c.args.words.now)),
+      let words = c.args.words.now in
+      let refused = rw c.as_str.ensures at ((c.in_err-expect_short.ensures {u = tt}).refused texts) in
+      rw (p.1, p.2)
+      (tree_refused texts least words.file c.args.bytes.now files c.in_err-expect_short.field-0.0 refused
+      (λ program. choice_then least choices (searched_by certificates choices GaveUp) words.budget program (λ x. answer_then (needs_for words.each x)))),
 )
 
-pub returns-in_err-source-clause-executes : goal.returns-in_err-source-clause-executes
-returns-in_err-source-clause-executes c = (
-  GaveUp,
-  λ certificates choices texts least files.
-      let p = err_from_is_err_and c.from_residual-in_err-source.result c.from_residual-in_err-source.ensures.1 in
-      let search = searched_by certificates choices GaveUp in
-      let reads = rw c.as_str.ensures at ((c.in_ok-tree.ensures {u = tt}).reads texts) in
-      rw (p.1, p.2)
-      (check_step (source_of texts c.args.words.now.file c.args.bytes.now) files (Ok c.in_ok-tree.tree) reads (tree_plan least choices search c.args.words.now) files _
-      (check_step (resolved_of c.in_ok-tree.tree) files (Err c.in_err-source.field-0.0) (c.in_err-source.ensures {u = tt}) (source_plan least choices search c.args.words.now))),
-)
+pub returns-in_err-choice-clause-executes : goal.returns-in_err-choice-clause-executes
+returns-in_err-choice-clause-executes c =
+    let p = err_from_is_err_and c.from_residual-in_err-choice.result c.from_residual-in_err-choice.ensures.1 in
+    let words = c.args.words.now in
+    rw (p.1, p.2)
+    (text_refused words.file c.args.bytes.now words.budget (λ x. answer_then (needs_for words.each x)) c.in_err-choice.field-0.0 (c.in_err-choice.ensures {u = tt}).chooses)
 
 pub returns-clause-executes : goal.returns-clause-executes
 returns-clause-executes c =
-    let s = c.needs_in_source.ensures.executes in (
-      s.0,
-      λ certificates choices texts least files.
-          let search = searched_by certificates choices s.0 in
-          let reads = rw c.as_str.ensures at ((c.in_ok-tree.ensures {u = tt}).reads texts) in
-          check_step (source_of texts c.args.words.now.file c.args.bytes.now) files (Ok c.in_ok-tree.tree) reads (tree_plan least choices search c.args.words.now) files _
-          (check_step (resolved_of c.in_ok-tree.tree) files (Ok c.in_ok-source.source) (c.in_ok-source.ensures {u = tt}) (source_plan least choices search c.args.words.now) files _ (s.1 certificates choices least files)),
-    )
+    let words = c.args.words.now in
+    let choice = c.in_ok-choice.choice in
+    text_then words.file c.args.bytes.now words.budget (λ x. answer_then (needs_for words.each x)) choice c.needs_choice.result (c.in_ok-choice.ensures {u = tt}).chooses
+    (λ files. answers (needs_for words.each (chosen_of choice)) files c.needs_choice.result c.needs_choice.ensures.computes)
 
 pub returns-clause-tells : goal.returns-clause-tells
 returns-clause-tells c =
-    text_told c.args.words.now c.args.bytes.now c.in_ok-tree.tree c.in_ok-source.source c.needs_in_source.result (c.in_ok-tree.ensures {u = tt}).parsed (c.in_ok-source.ensures {u = tt}) c.needs_in_source.ensures.tells
+    text_told c.args.words.now c.args.bytes.now c.in_ok-choice.choice.program c.needs_choice.result (c.in_ok-choice.ensures {u = tt}).found.of c.needs_choice.ensures.tells

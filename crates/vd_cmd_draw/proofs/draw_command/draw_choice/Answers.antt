@@ -1,0 +1,16 @@
+use Rattle.std.proofs.Common.{Some, None}
+use Rattle.vd_cmd_choose.proofs.Steps.{assigned_computes, none_computes}
+use Rattle.vd_cmd_draw.specs.Drawing.{drawn_answer}
+use Rattle.vd_cmd_draw.proofs.draw_command.draw_choice.Goals as goal
+
+pub returns-in-Some : goal.returns-in-Some
+returns-in-Some c =
+    let found = c.args.found.now in
+    assigned_computes (drawn_answer c.args.name.now found.text found.choice.program found.choice.labels) found.choice.assignment (Some c.in-Some.assignment) c.draw_at.result c.in-Some.is
+    (rw c.as_slice.ensures at c.draw_at.ensures)
+
+pub returns : goal.returns
+returns c =
+    let found = c.args.found.now in
+    assigned_computes (drawn_answer c.args.name.now found.text found.choice.program found.choice.labels) found.choice.assignment None _ c.in-None.is
+    (none_computes c.no_assignment.result c.no_assignment.ensures)

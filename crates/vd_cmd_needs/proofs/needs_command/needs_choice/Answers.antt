@@ -1,0 +1,28 @@
+use Rattle.std.proofs.Common.{Some, None, []}
+use Rattle.vd_cmd_plan.specs.Plans.{ended}
+use Rattle.vd_cmd_choose.specs.Choice.{IsSelected}
+use Rattle.vd_cmd_choose.specs.declared.choice.Assignment.{Assignment}
+use Rattle.vd_cmd_choose.proofs.Steps.{assigned_computes, none_computes, which_is}
+use Rattle.vd_cmd_needs.specs.Needing.{needs_text}
+use Rattle.vd_cmd_needs.proofs.Told.{none_told, told_then}
+use Rattle.vd_cmd_needs.proofs.needs_command.needs_choice.Goals as goal
+
+pub needs_at-requires : goal.needs_at-requires
+needs_at-requires c = which_is (IsSelected c.args.choice.now.program) c.args.choice.now.assignment c.in-Some.assignment c.in-Some.is c.requires
+
+pub returns-in-Some-clause-computes : goal.returns-in-Some-clause-computes
+returns-in-Some-clause-computes c =
+    let choice = c.args.choice.now in
+    assigned_computes (λ (a : Assignment). ended [] (needs_text c.args.each choice.program a.protocols)) choice.assignment (Some c.in-Some.assignment) c.needs_at.result c.in-Some.is c.needs_at.ensures.computes
+
+pub returns-in-Some-clause-tells : goal.returns-in-Some-clause-tells
+returns-in-Some-clause-tells c = told_then c.args.each c.args.choice.now.program c.needs_at.result c.needs_at.ensures.tells
+
+pub returns-clause-computes : goal.returns-clause-computes
+returns-clause-computes c =
+    let choice = c.args.choice.now in
+    assigned_computes (λ (a : Assignment). ended [] (needs_text c.args.each choice.program a.protocols)) choice.assignment None _ c.in-None.is
+    (none_computes c.no_assignment.result c.no_assignment.ensures)
+
+pub returns-clause-tells : goal.returns-clause-tells
+returns-clause-tells c = none_told c.args.each c.args.choice.now.program c.no_assignment.result c.no_assignment.ensures
