@@ -74,6 +74,7 @@ labels_in (Ok labels) = labels
 labels_in (Err number) = record { slots = []; blocks = [] }
 
 solved : (s : Constraints) (result : Result Labels ℕ) → IsLabelled (without_checks s) result → IsLeastSolution s (labels_in result)
+unfolding labels_in
 solved s (Ok labels) least = of_rules s labels least
 solved s (Err number) refused = let low = slice_get_within [] number refused.first.item refused.first.there in absurd (omega (arith, low))
 

@@ -14,6 +14,7 @@ use crate::syntax::{
 };
 use std::alloc::Global;
 use vd_base::Bytes;
+use vd_base::limits::SOURCE_BYTES;
 use vd_diag::{Remark, TellFault};
 use vd_parser::ParseFault;
 use vd_source_lexer::{LexFault, Token, tokens};
@@ -85,7 +86,7 @@ fn token_remark(
     Ok(Some(at(offset, sentence)))
 }
 
-/// The same, of the tokens of these bytes; none where these have none.
+/// The same, of the tokens of these bytes; none where these have none, or are too many for a source.
 fn unexpected_remark(
     alloc: Global,
     bytes: &[u8],
@@ -94,6 +95,11 @@ fn unexpected_remark(
 ) -> Result<Option<Remark>, TellFault>
     ensures { IfOk result (SaysOfSyntax bytes.now (parse_fault.Unexpected number offset)) }
 {
+    let length = bytes.len();
+    let most = SOURCE_BYTES as usize;
+    if length > most {
+        return Ok(None);
+    }
     match tokens(alloc, bytes) {
         Ok(found) => token_remark(alloc, bytes, found.as_slice(), number as usize, offset),
         Err(LexFault::BadByte(_)) => Ok(None),
