@@ -9,13 +9,12 @@ use vd_resolve::resolve;
 
 /// The remark on the fault of a source, if it has one: of its text, or of its names, kinds and sizes.
 fn source_remark(alloc: Global, bytes: &[u8]) -> anyhow::Result<Option<Remark>> {
-    let tree = match parse(alloc, bytes) {
-        Ok(tree) => tree,
-        Err(fault) => return Ok(syntax_remark(alloc, bytes, fault)?),
-    };
-    match resolve(alloc, tree) {
-        Ok(_resolved) => Ok(None),
-        Err(fault) => Ok(Some(rule_remark(alloc, bytes, fault)?)),
+    match parse(alloc, bytes) {
+        Ok(tree) => match resolve(alloc, tree) {
+            Ok(_resolved) => Ok(None),
+            Err(fault) => Ok(Some(rule_remark(alloc, bytes, fault)?)),
+        },
+        Err(fault) => Ok(syntax_remark(alloc, bytes, fault)?),
     }
 }
 
