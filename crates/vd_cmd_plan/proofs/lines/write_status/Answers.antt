@@ -38,3 +38,9 @@ returns-in-DealUsed g c = rw (c.in-DealUsed.is, ← c.as_str-in-DealUsed.ensures
 
 pub returns-in-ShortKey : goal.returns-in-ShortKey
 returns-in-ShortKey g c = rw (c.in-ShortKey.is, ← c.as_str-in-ShortKey.ensures, ← c.as_bytes-in-ShortKey.ensures.value) c.write_sized-in-ShortKey.ensures
+
+pub returns-in-Spent : goal.returns-in-Spent
+returns-in-Spent g c = rw c.in-Spent.is c.write_offset.ensures
+
+pub returns-in-ViewDiffers : goal.returns-in-ViewDiffers
+returns-in-ViewDiffers g c = rw c.in-ViewDiffers.is c.write_place-in-ViewDiffers.ensures
