@@ -9,8 +9,8 @@ returns-in-Some c =
     assigned_computes (drawn_answer c.args.name.now found.text found.choice.program found.choice.labels) found.choice.assignment (Some c.in-Some.assignment) c.draw_at.result c.in-Some.is
     (rw c.as_slice.ensures at c.draw_at.ensures)
 
-pub returns : goal.returns
-returns c =
+pub returns-in-None : goal.returns-in-None
+returns-in-None c =
     let found = c.args.found.now in
     assigned_computes (drawn_answer c.args.name.now found.text found.choice.program found.choice.labels) found.choice.assignment None _ c.in-None.is
     (none_computes c.no_assignment.result c.no_assignment.ensures)
