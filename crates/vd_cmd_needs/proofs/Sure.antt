@@ -10,7 +10,7 @@ use Rattle.vd_cmd_frontend.specs.Outcomes.{TextOutcomes, LabelOutcomes}
 use Rattle.vd_cmd_choose.specs.Outcomes.{CertificateOutcomes}
 use Rattle.vd_cmd_choose.specs.Searching.{Searched, searched_by, sure_search}
 use Rattle.vd_cmd_choose.proofs.Sure.{text_choice_follows}
-use Rattle.vd_cmd_needs.specs.Needing.{bytes_plan, host_plan, is_program_text, needs_for, needs_plan, text_plan}
+use Rattle.vd_cmd_needs.specs.Needing.{bytes_plan, host_plan, is_program_text, needs_answer, needs_plan, text_plan}
 use Rattle.vd_cmd_needs.specs.Outcomes.{ProgramOutcomes}
 
 either_follows : (b : Bool) (host sure plan : Contents → Plan) (files : Contents) → Follows (sure files) (plan files) → Follows ((if b then host else sure) files) ((if b then host else plan) files)
@@ -20,7 +20,7 @@ either_follows false host sure plan files follows = follows
 module _ (texts : TextOutcomes) (programs : ProgramOutcomes) (least : LabelOutcomes) (certificates : CertificateOutcomes) (choices : ChoiceOutcomes) (searched : Searched) (words : NeedsWords) (files : Contents) where
   text_follows : (bytes : List ℕ) → Follows (text_plan texts least choices (sure_search choices) words bytes files) (text_plan texts least choices (searched_by certificates choices searched) words bytes files)
   text_follows bytes =
-      text_choice_follows texts least certificates choices searched words.file words.budget files bytes (λ c. answer_then (needs_for words.each c)) (λ program l one other. refl)
+      text_choice_follows texts least certificates choices searched words.file words.budget files bytes (λ c. answer_then (needs_answer words.each c)) (λ program l one other. refl)
 
   pub needs_follows : Follows (needs_plan texts programs least choices (sure_search choices) words files) (needs_plan texts programs least choices (searched_by certificates choices searched) words files)
   needs_follows =

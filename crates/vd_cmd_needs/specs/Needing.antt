@@ -32,12 +32,12 @@ abbrev pub needs_text : (each : Bool) → NormalForm → List Proto → List ℕ
 needs_text each program protocols = if each then each_lines program.hosts (needs_for program protocols) else sizes_line (sizes_of (needs_for program protocols))
 
 -- with what was found for a source
-abbrev pub needs_for : (each : Bool) → Chosen → Answer
-needs_for each c = assigned_answer (λ a. ended [] (needs_text each c.program a.protocols)) c.assignment
+abbrev pub needs_answer : (each : Bool) → Chosen → Answer
+needs_answer each c = assigned_answer (λ a. ended [] (needs_text each c.program a.protocols)) c.assignment
 
 -- with the bytes of a source
 abbrev pub text_plan : TextOutcomes → LabelOutcomes → ChoiceOutcomes → Search → NeedsWords → List ℕ → Contents → Plan
-text_plan texts least choices search words bytes = text_choice_then texts least choices search words.file words.budget bytes (λ c. answer_then (needs_for words.each c))
+text_plan texts least choices search words bytes = text_choice_then texts least choices search words.file words.budget bytes (λ c. answer_then (needs_answer words.each c))
 
 -- the bytes are no source, and are refused for it with this status
 abbrev pub IsNoSource : (name bytes : List ℕ) → Status → Type 0

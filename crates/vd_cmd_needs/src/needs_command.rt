@@ -5,7 +5,7 @@ ghost use Rattle.vd_base.specs.Limits.{most_search_budget, most_source_bytes};
 ghost use Rattle.vd_cmd_plan.specs.Plans.{Computes, ended};
 ghost use Rattle.vd_projection.specs.Programs.{IsRunnable};
 ghost use Rattle.vd_cmd_choose.specs.Choice.{IsSelected, chosen_of};
-ghost use Rattle.vd_cmd_needs.specs.Needing.{ExecutesBytes, ExecutesNeeds, ExecutesText, IsNoSource, needs_for, needs_text};
+ghost use Rattle.vd_cmd_needs.specs.Needing.{ExecutesBytes, ExecutesNeeds, ExecutesText, IsNoSource, needs_answer, needs_text};
 ghost use Rattle.vd_cmd_needs.specs.Telling.{IsNeedsOf, TellsBytes, TellsNeeds, TellsProgram, TellsText};
 
 use crate::lines::{each_text, sizes_text};
@@ -72,7 +72,7 @@ fn needs_at(
 /// What `needs` comes to with what was found for a source.
 fn needs_choice(alloc: Global, choice: &Choice, each: bool) -> Result<Answer, Status>
     requires { IfSome choice.now.assignment (IsSelected choice.now.program) }
-    ensures computes { Computes (needs_for each (chosen_of choice.now)) result }
+    ensures computes { Computes (needs_answer each (chosen_of choice.now)) result }
     ensures tells { TellsProgram each choice.now.program result }
 {
     match &choice.assignment {

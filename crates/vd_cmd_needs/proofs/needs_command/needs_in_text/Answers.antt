@@ -5,7 +5,7 @@ use Rattle.vd_cmd_choose.specs.Choice.{choice_then, chosen_of}
 use Rattle.vd_cmd_choose.specs.Searching.{GaveUp, searched_by}
 use Rattle.vd_cmd_choose.proofs.ReadPrograms.{tree_refused}
 use Rattle.vd_cmd_choose.proofs.Steps.{text_refused, text_then}
-use Rattle.vd_cmd_needs.specs.Needing.{needs_for}
+use Rattle.vd_cmd_needs.specs.Needing.{needs_answer}
 use Rattle.vd_cmd_needs.proofs.Told.{text_told}
 use Rattle.vd_cmd_needs.proofs.needs_command.needs_in_text.Goals as goal
 
@@ -24,7 +24,7 @@ returns-in_err-expect_short-clause-executes c = (
       let refused = rw c.as_str.ensures at ((c.in_err-expect_short.ensures {u = tt}).refused texts) in
       rw (p.1, p.2)
       (tree_refused texts least words.file c.args.bytes.now files c.in_err-expect_short.field-0.0 refused
-      (λ program. choice_then least choices (searched_by certificates choices GaveUp) words.budget program (λ x. answer_then (needs_for words.each x)))),
+      (λ program. choice_then least choices (searched_by certificates choices GaveUp) words.budget program (λ x. answer_then (needs_answer words.each x)))),
 )
 
 pub returns-in_err-choice-clause-executes : goal.returns-in_err-choice-clause-executes
@@ -32,14 +32,14 @@ returns-in_err-choice-clause-executes c =
     let p = err_from_is_err_and c.from_residual-in_err-choice.result c.from_residual-in_err-choice.ensures.1 in
     let words = c.args.words.now in
     rw (p.1, p.2)
-    (text_refused words.file c.args.bytes.now words.budget (λ x. answer_then (needs_for words.each x)) c.in_err-choice.field-0.0 (c.in_err-choice.ensures {u = tt}).chooses)
+    (text_refused words.file c.args.bytes.now words.budget (λ x. answer_then (needs_answer words.each x)) c.in_err-choice.field-0.0 (c.in_err-choice.ensures {u = tt}).chooses)
 
 pub returns-clause-executes : goal.returns-clause-executes
 returns-clause-executes c =
     let words = c.args.words.now in
     let choice = c.in_ok-choice.choice in
-    text_then words.file c.args.bytes.now words.budget (λ x. answer_then (needs_for words.each x)) choice c.needs_choice.result (c.in_ok-choice.ensures {u = tt}).chooses
-    (λ files. answers (needs_for words.each (chosen_of choice)) files c.needs_choice.result c.needs_choice.ensures.computes)
+    text_then words.file c.args.bytes.now words.budget (λ x. answer_then (needs_answer words.each x)) choice c.needs_choice.result (c.in_ok-choice.ensures {u = tt}).chooses
+    (λ files. answers (needs_answer words.each (chosen_of choice)) files c.needs_choice.result c.needs_choice.ensures.computes)
 
 pub returns-clause-tells : goal.returns-clause-tells
 returns-clause-tells c =
