@@ -1,4 +1,5 @@
-use Rattle.std.proofs.Common.{Some, None}
+use Rattle.std.proofs.Common.{Some, None, subst}
+use Rattle.vd_cmd_plan.specs.Plans.{Computes}
 use Rattle.vd_cmd_choose.proofs.Steps.{assigned_computes, none_computes}
 use Rattle.vd_cmd_draw.specs.Drawing.{drawn_answer}
 use Rattle.vd_cmd_draw.proofs.draw_command.draw_choice.Goals as goal
@@ -7,7 +8,7 @@ pub returns-in-Some : goal.returns-in-Some
 returns-in-Some c =
     let found = c.args.found.now in
     assigned_computes (drawn_answer c.args.name.now found.text found.choice.program found.choice.labels) found.choice.assignment (Some c.in-Some.assignment) c.draw_at.result c.in-Some.is
-    (rw c.as_slice.ensures at c.draw_at.ensures)
+    (subst (λ text. Computes (drawn_answer c.args.name.now text found.choice.program found.choice.labels c.in-Some.assignment) c.draw_at.result) c.as_slice.ensures c.draw_at.ensures)
 
 pub returns-in-None : goal.returns-in-None
 returns-in-None c =
