@@ -29,6 +29,8 @@ use Rattle.vd_space_optimum.proofs.Cheapest.{cheapest}
 use Rattle.vd_search.specs.Answers.{nat_or_zero}
 use Rattle.vd_search_stages.specs.Choices.{ChoiceOutcomes, IsChosen, needed}
 use Rattle.vd_search_stages.specs.Confirming.{confirmed}
+use Rattle.vd_search_stages.specs.declared.selecting.SelectFault.{SelectFault}
+use Rattle.vd_search_stages.specs.declared.selecting.SelectFault.TheVariants as select_fault
 use Rattle.vd_space.specs.declared.problem.Problem.{Problem}
 use Rattle.vd_space.specs.Costs.{cost}
 use Rattle.vd_space.specs.Reading.{problem_of}
@@ -46,7 +48,7 @@ use Rattle.vd_cmd_frontend.specs.Outcomes.{LabelOutcomes, TextOutcomes}
 use Rattle.vd_cmd_frontend.specs.Labelling.{labels_of}
 use Rattle.vd_cmd_frontend.specs.Sources.{HoldsSource}
 use Rattle.vd_cmd_choose.specs.Certifying.{as_certificate, as_proved, certificate_of, certificate_plan, certificate_then, certified_plan, confirmed_plan, proved_of, proved_text}
-use Rattle.vd_cmd_choose.specs.Choice.{Chosen, assigned, assignment_of, choice_then, chosen_by, printed_at, search_then, source_choice_then}
+use Rattle.vd_cmd_choose.specs.Choice.{Chosen, as_searched, assigned, assignment_of, choice_then, chosen_by, printed_at, search_then, source_choice_then}
 use Rattle.vd_cmd_choose.specs.Choosing.{certificate_file, choice_answer, chosen_answer}
 use Rattle.vd_cmd_choose.specs.Searching.{Certified, GaveUp, Searched, is_accepted, searched_by}
 use Rattle.vd_cmd_choose.specs.Outcomes.{CertificateOutcomes}
@@ -61,29 +63,28 @@ use Rattle.vd_cmd_answers.proofs.Sources.{labels_are, labels_never, made_of, pro
 
 -- ---- what a search answered
 
-gave_up_never : (b : Bool) (budget : ℕ) (status : Status) → ◌≡◌ {A = Result (List ℕ) Status} (if b then Err (Spent budget) else Err Memory) (Err status) → status ≡ Ended → ⊥
-gave_up_never true budget status is ended = let wrong : Spent budget ≡ Ended = same_status _ _ is ∙ ended in cc wrong
-gave_up_never false budget status is ended = let wrong : Memory ≡ Ended = same_status _ _ is ∙ ended in cc wrong
+module _ (budget : ℕ) (program : NormalForm) where
+  searched_never : (said : Result (List ℕ) SelectFault) → NeverEnds (as_searched budget program said)
+  searched_never (Ok bytes) status is ended = cc is
+  searched_never (Err select_fault.Spent) status is ended = let wrong : Spent budget program ≡ Ended = same_status _ _ is ∙ ended in cc wrong
+  searched_never (Err select_fault.Memory) status is ended = let wrong : Memory ≡ Ended = same_status _ _ is ∙ ended in cc wrong
 
-certified_never : (b : Bool) (bytes : List ℕ) (status : Status) → ◌≡◌ {A = Result (List ℕ) Status} (if b then Ok bytes else Err Memory) (Err status) → status ≡ Ended → ⊥
-certified_never true bytes status is ended = cc is
-certified_never false bytes status is ended = let wrong : Memory ≡ Ended = same_status _ _ is ∙ ended in cc wrong
+  searched_gave : (said : Result (List ℕ) SelectFault) (bytes : List ℕ) → as_searched budget program said ≡ Ok bytes → said ≡ Ok bytes
+  searched_gave (Ok given) bytes is = let same : given ≡ bytes = cc is in ap (λ (l : List ℕ). Ok l) same
+  searched_gave (Err select_fault.Spent) bytes is = absurd (cc is)
+  searched_gave (Err select_fault.Memory) bytes is = absurd (cc is)
 
-gave_nothing : (b : Bool) (budget : ℕ) (bytes : List ℕ) → ◌≡◌ {A = Result (List ℕ) Status} (if b then Err (Spent budget) else Err Memory) (Ok bytes) → ⊥
-gave_nothing true budget bytes is = cc is
-gave_nothing false budget bytes is = cc is
+gave_nothing : (b : Bool) (bytes : List ℕ) → ◌≡◌ {A = Result (List ℕ) SelectFault} (if b then Err select_fault.Spent else Err select_fault.Memory) (Ok bytes) → ⊥
+gave_nothing true bytes is = cc is
+gave_nothing false bytes is = cc is
 
-gave : (b : Bool) (given bytes : List ℕ) → ◌≡◌ {A = Result (List ℕ) Status} (if b then Ok given else Err Memory) (Ok bytes) → (b ≡ true) × (given ≡ bytes)
+gave : (b : Bool) (given bytes : List ℕ) → ◌≡◌ {A = Result (List ℕ) SelectFault} (if b then Ok given else Err select_fault.Memory) (Ok bytes) → (b ≡ true) × (given ≡ bytes)
 gave true given bytes is = (refl, cc is)
 gave false given bytes is = absurd (cc is)
 
 module _ (certificates : CertificateOutcomes) (choices : ChoiceOutcomes) (problem : Problem) (budget : ℕ) where
-  search_never : (searched : Searched) → NeverEnds (searched_by certificates choices searched problem budget)
-  search_never GaveUp status is ended = gave_up_never (nat_lt budget (needed problem (choices.choose problem))) budget status is ended
-  search_never (Certified bytes) status is ended = certified_never (is_accepted problem budget (certificates.read bytes)) bytes status is ended
-
   search_gave : (searched : Searched) (bytes : List ℕ) → searched_by certificates choices searched problem budget ≡ Ok bytes → is_accepted problem budget (certificates.read bytes) ≡ true
-  search_gave GaveUp bytes is = absurd (gave_nothing (nat_lt budget (needed problem (choices.choose problem))) budget bytes is)
+  search_gave GaveUp bytes is = absurd (gave_nothing (nat_lt budget (needed problem (choices.choose problem))) bytes is)
   search_gave (Certified given) bytes is =
       let found = gave (is_accepted problem budget (certificates.read given)) given bytes is in
       subst (λ (l : List ℕ). is_accepted problem budget (certificates.read l) ≡ true) found.1 found.0
@@ -218,7 +219,7 @@ module _ (name : List ℕ) (contents : Contents) (source : Source) (held : Holds
   -- the answer to a choice
   told : (choice : Option (List ℕ)) → IsChosen problem choice → (bytes : List ℕ) → IsAnswer problem budget bytes → (answer : Answer) → answer ≡ choice_answer program (option_map (assigned problem) choice) (certificate_file name bytes)
       → answer.status ≡ Ended → TellsChoice name contents (stored answer.stores contents) answer.printed
-  told None chosen bytes a answer is ends = let wrong : NoAssignment ≡ Ended = sym (ap (λ (x : Answer). x.status) is) ∙ ends in absurd (cc wrong)
+  told None chosen bytes a answer is ends = let wrong : NoAssignment program ≡ Ended = sym (ap (λ (x : Answer). x.status) is) ∙ ends in absurd (cc wrong)
   told (Some list) chosen bytes a answer is ends =
       let best = cheapest problem list holds chosen in
       subst (λ (x : Answer). TellsChoice name contents (stored x.stores contents) x.printed) (sym is) (record { choice = tells list best; certified = certified list bytes best a })
@@ -244,8 +245,9 @@ module _ (contents : Contents) (certificates : CertificateOutcomes) (choices : C
       let of = check_came contents (labels_of least program) searching (labels_never least program made) ends in
       let labels : Labels = of.0 in
       let after : List ℕ → Contents → Plan = λ bytes. rest (chosen_by choices program labels bytes) in
-      let found = check_came contents (search (problem_of program labels) budget) after (search_never certificates choices (problem_of program labels) budget searched) (ends_as contents step (searching labels) ends of.2) in
-      record { labels = labels; is_least = labels_are least program made labels of.1; bytes = found.0; gives = found.1; leads = of.2 ∙ found.2 }
+      let said = search (problem_of program labels) budget in
+      let found = check_came contents (as_searched budget program said) after (searched_never budget program said) (ends_as contents step (searching labels) ends of.2) in
+      record { labels = labels; is_least = labels_are least program made labels of.1; bytes = found.0; gives = searched_gave budget program said found.0 found.1; leads = of.2 ∙ found.2 }
 
 module _ (contents : Contents) (certificates : CertificateOutcomes) (choices : ChoiceOutcomes) (searched : Searched) (texts : TextOutcomes) (least : LabelOutcomes) (name : List ℕ) (budget : ℕ) (rest : List ℕ → Chosen → Contents → Plan) where
   abbrev whole : Contents → Plan

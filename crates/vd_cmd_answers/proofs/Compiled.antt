@@ -67,9 +67,9 @@ module _ (name prefix : List ℕ) (contents : Contents) (source : Source) (held 
   abbrev problem : Problem
   problem = problem_of program labels
 
-  told : (choice : Option (List ℕ)) → IsChosen problem choice → (answer : Answer) → answer ≡ assigned_answer (λ a. compiled_at program a held.bytes prefix) (option_map (assigned problem) choice) → answer.status ≡ Ended
+  told : (choice : Option (List ℕ)) → IsChosen problem choice → (answer : Answer) → answer ≡ assigned_answer program (λ a. compiled_at program a held.bytes prefix) (option_map (assigned problem) choice) → answer.status ≡ Ended
       → TellsCompiled name prefix contents (stored answer.stores contents) answer.printed
-  told None chosen answer is ends = let wrong : NoAssignment ≡ Ended = sym (ap (λ (x : Answer). x.status) is) ∙ ends in absurd (cc wrong)
+  told None chosen answer is ends = let wrong : NoAssignment program ≡ Ended = sym (ap (λ (x : Answer). x.status) is) ∙ ends in absurd (cc wrong)
   told (Some list) chosen answer is ends =
       let made = run_well_made source program (made_of name contents source held) is_run in
       let few : length program.hosts ≤ 4 = let limit = made.limits.hosts in omega (arith, limit) in

@@ -7,15 +7,15 @@ use Rattle.vd_cmd_plan.specs.Plans.{Executes, Plan, Settles, refused}
 use Rattle.vd_cmd_plan.specs.Runs.{Finishes, IsAnswered}
 use Rattle.vd_cmd_plan.specs.declared.answer.Answer.{Answer}
 use Rattle.vd_cmd_plan.specs.declared.status.Status.{Status}
-use Rattle.vd_cmd_plan.specs.declared.status.Status.TheVariants.{Ended, Memory, NoAssignment, ReadFault}
+use Rattle.vd_cmd_plan.specs.declared.status.Status.TheVariants.{Ended, Memory, ReadFault, Usage}
 
 module _ (plan : Contents → Plan) (before mid now : FilesView) (out_before out_now : SinkView) where
   -- the same fetches, and another answer
   abbrev other_plan : Contents → Plan
-  other_plan files = record { fetches = (plan files).fetches; answer = refused NoAssignment }
+  other_plan files = record { fetches = (plan files).fetches; answer = refused Usage }
 
   -- where nothing settles the answer, any other is as good
-  unsettled : (status : Status) → Settles (refused NoAssignment) (Err status) → Executes true plan before mid (Err status) → Executes true other_plan before mid (Err status)
+  unsettled : (status : Status) → Settles (refused Usage) (Err status) → Executes true plan before mid (Err status) → Executes true other_plan before mid (Err status)
   unsettled status any w = record {
     later = w.later;
     proper = w.proper;

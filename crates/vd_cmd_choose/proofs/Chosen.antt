@@ -22,6 +22,7 @@ use Rattle.vd_space_optimum.specs.Cheapest.{IsAssignment}
 use Rattle.vd_search_stages.specs.Choices.{ChoiceOutcomes, IsChosen, needed}
 use Rattle.vd_search_stages.specs.Confirming.{confirmed}
 use Rattle.vd_search_stages.specs.Selecting.{IsAccepted, IsOver, Selects}
+use Rattle.vd_search_stages.specs.declared.selecting.SelectFault.TheVariants as select_fault
 use Rattle.vd_search_stages.specs.declared.selecting.Selection.TheVariants.{Found, NoAssignment}
 use Rattle.vd_search_stages.proofs.Accepted.{spent_needs}
 use Rattle.vd_search_stages.proofs.Once.{chosen_once}
@@ -29,7 +30,7 @@ use Rattle.vd_cmd_plan.specs.Plans.{Executes}
 use Rattle.vd_cmd_plan.specs.declared.status.Status.{Status}
 use Rattle.vd_cmd_plan.specs.declared.status.Status.TheVariants.{Memory, Spent}
 use Rattle.vd_cmd_plan.proofs.InSteps.{any_memory, check_step}
-use Rattle.vd_cmd_choose.specs.Choice.{IsChoiceFor, IsSelected, Searches, assigned, chosen_by, chosen_of}
+use Rattle.vd_cmd_choose.specs.Choice.{IsChoiceFor, IsSelected, Searches, as_searched, assigned, chosen_by, chosen_of}
 use Rattle.vd_cmd_choose.specs.Outcomes.{CertificateOutcomes}
 use Rattle.vd_cmd_choose.specs.Searching.{GaveUp, Certified, is_accepted, searched_by}
 use Rattle.vd_cmd_choose.specs.declared.choice.Assignment.{Assignment}
@@ -43,7 +44,7 @@ reads_back certificates problem budget c is = outcome_once (text_of c) (Ok c) (c
 accepted : (certificates : CertificateOutcomes) (choices : ChoiceOutcomes) (problem : Problem) (budget : ℕ) (c : Certificate) → IsAccepted problem budget c → searched_by certificates choices (Certified (text_of c)) problem budget ≡ Ok (text_of c)
 accepted certificates choices problem budget c is =
     let yes : is_accepted problem budget (Ok c) ≡ true = and_from (is_ok (confirmed problem c)) (nat_le (count_of is_expanded c.marks) budget) (ap is_ok is.accepted) (le-leb _ _ is.within) in
-    cond-true (is_accepted problem budget (certificates.read (text_of c))) (Ok (text_of c)) (Err Memory) (ap (is_accepted problem budget) (reads_back certificates problem budget c is) ∙ yes)
+    cond-true (is_accepted problem budget (certificates.read (text_of c))) (Ok (text_of c)) (Err select_fault.Memory) (ap (is_accepted problem budget) (reads_back certificates problem budget c is) ∙ yes)
 
 -- what was found, where this is the certificate
 abbrev pub given : NormalForm → Labels → Option Assignment → Certificate → Choice
@@ -60,7 +61,8 @@ module _ (program : NormalForm) (l : Labels) (budget : ℕ) where
     Certified (text_of c),
     λ certificates choices files rest last result runs.
         let same : choices.choose problem ≡ choice = chosen_once problem (choices.choose problem) choice (choices.choose_is problem) chosen in
-        check_step (searched_by certificates choices (Certified (text_of c)) problem budget) files (Ok (text_of c)) (record { ok = accepted certificates choices problem budget c is; err = tt })
+        check_step (as_searched budget program (searched_by certificates choices (Certified (text_of c)) problem budget)) files (Ok (text_of c))
+        (record { ok = ap (as_searched budget program) (accepted certificates choices problem budget c is); err = tt })
         (λ bytes. rest (chosen_by choices program l bytes)) last result
         (subst (λ (o : Option (List ℕ)). Executes true (rest (chosen_of (given program l (option_map (assigned problem) o) c))) files last result) (sym same) runs),
   )
@@ -108,11 +110,15 @@ module _ (program : NormalForm) (l : Labels) (budget : ℕ) where
   none_found c is = searched c None is.1 is.0
 
   -- a search that gave up does so where its budget may not do
-  pub spent : IsProblem problem → IsOver problem (usual problem) budget → Searches program l budget (Err (Spent budget))
+  pub spent : IsProblem problem → IsOver problem (usual problem) budget → Searches program l budget (Err (Spent budget program))
   spent holds over = (
     GaveUp,
     λ certificates choices files rest.
-        check_step (searched_by certificates choices GaveUp problem budget) files (Err (Spent budget))
-        (record { ok = tt; err = cond-true (nat_lt budget (needed problem (choices.choose problem))) (Err (Spent budget)) (Err Memory) (lt-ltb _ _ (spent_needs problem holds budget (choices.choose problem) over (choices.choose_is problem))) })
+        let is : searched_by certificates choices GaveUp problem budget ≡ Err select_fault.Spent =
+        cond-true (nat_lt budget (needed problem (choices.choose problem))) (Err select_fault.Spent) (Err select_fault.Memory)
+        (lt-ltb _ _ (spent_needs problem holds budget (choices.choose problem) over (choices.choose_is problem)))
+        in
+        check_step (as_searched budget program (searched_by certificates choices GaveUp problem budget)) files (Err (Spent budget program))
+        (record { ok = tt; err = ap (as_searched budget program) is })
         (λ bytes. rest (chosen_by choices program l bytes)),
   )

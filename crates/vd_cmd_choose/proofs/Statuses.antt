@@ -24,7 +24,7 @@ check_refusal wanted check_fault.Memory is = tt
 
 pub problem_refusal : (program : NormalForm) (wanted : Result Labels Status) (status : Status) → IsRefusal wanted status → IsRefusal (as_problem program wanted) status
 problem_refusal program wanted Ended is = is
-problem_refusal program wanted NoAssignment is = is
+problem_refusal program wanted (NoAssignment other) is = is
 problem_refusal program wanted Memory is = is
 problem_refusal program wanted Usage is = is
 problem_refusal program wanted (ReadFault name) is = is

@@ -7,6 +7,8 @@ use Rattle.vd_constraints.specs.declared.labels.Labels.{Labels}
 use Rattle.vd_space.specs.declared.problem.Problem.{Problem}
 use Rattle.vd_space.specs.Reading.{problem_of}
 use Rattle.vd_search_stages.specs.Choices.{ChoiceOutcomes, needed}
+use Rattle.vd_search_stages.specs.declared.selecting.SelectFault.{SelectFault}
+use Rattle.vd_search_stages.specs.declared.selecting.SelectFault.TheVariants as select_fault
 use Rattle.vd_cmd_plan.specs.Plans.{Computes, Executes, Plan, check_then}
 use Rattle.vd_cmd_plan.specs.declared.answer.Answer.{Answer}
 use Rattle.vd_cmd_plan.specs.declared.status.Status.{Status}
@@ -14,7 +16,7 @@ use Rattle.vd_cmd_plan.specs.declared.status.Status.TheVariants.{Ended, Memory, 
 use Rattle.vd_cmd_plan.proofs.Following.{Follows, check_follows}
 use Rattle.vd_cmd_frontend.specs.Labelling.{labels_of}
 use Rattle.vd_cmd_frontend.specs.Outcomes.{LabelOutcomes, TextOutcomes}
-use Rattle.vd_cmd_choose.specs.Choice.{Chosen, Chooses, ChoosesIn, ChoosesOf, assigned_answer, choice_then, chosen_by, chosen_of, no_list, search_then, source_choice_then, text_choice_then}
+use Rattle.vd_cmd_choose.specs.Choice.{Chosen, Chooses, ChoosesIn, ChoosesOf, as_searched, assigned_answer, choice_then, chosen_by, chosen_of, no_list, search_then, source_choice_then, text_choice_then}
 use Rattle.vd_cmd_choose.specs.Outcomes.{CertificateOutcomes}
 use Rattle.vd_cmd_choose.specs.Searching.{Certified, GaveUp, Searched, SomeSearch, is_accepted, searched_by, sure_search}
 use Rattle.vd_cmd_choose.specs.declared.choice.Assignment.{Assignment}
@@ -28,12 +30,13 @@ which_is P o a is has = subst (λ (x : Option Assignment). IfSome x P) is has
 -- ---- what a command goes on with
 
 -- no assignment is valid
-pub none_computes : (answer : Answer) → answer ≡ no_list → Computes no_list (Ok answer)
-none_computes answer is = subst (λ (a : Answer). Computes no_list (Ok a)) (sym is) (record { proper = (refl, refl); no_fault = λ file e. cc e; settled = refl })
+pub none_computes : (program : NormalForm) (answer : Answer) → answer ≡ no_list program → Computes (no_list program) (Ok answer)
+none_computes program answer is = subst (λ (a : Answer). Computes (no_list program) (Ok a)) (sym is) (record { proper = (refl, refl); no_fault = λ file e. cc e; settled = refl })
 
 -- the answer of an assignment, if this is what there is
-pub assigned_computes : (answer : Assignment → Answer) (o other : Option Assignment) (result : Result Answer Status) → o ≡ other → Computes (assigned_answer answer other) result → Computes (assigned_answer answer o) result
-assigned_computes answer o other result is computes = subst (λ (x : Option Assignment). Computes (assigned_answer answer x) result) (sym is) computes
+pub assigned_computes : (program : NormalForm) (answer : Assignment → Answer) (o other : Option Assignment) (result : Result Answer Status) → o ≡ other → Computes (assigned_answer program answer other) result
+    → Computes (assigned_answer program answer o) result
+assigned_computes program answer o other result is computes = subst (λ (x : Option Assignment). Computes (assigned_answer program answer x) result) (sym is) computes
 
 module _ (name : List ℕ) (budget : ℕ) (rest : List ℕ → Chosen → Contents → Plan) (before now : FilesView) where
   abbrev pub RunsOf : Result Answer Status → Type 0
@@ -82,29 +85,33 @@ module _ (program : NormalForm) (budget : ℕ) (certificates : CertificateOutcom
     abbrev problem : Problem
     problem = problem_of program l
 
-    abbrev after : Result (List ℕ) Status → Plan
-    after answer = check_then answer (λ bytes. rest (chosen_by choices program l bytes)) files
+    abbrev after : Result (List ℕ) SelectFault → Plan
+    after answer = check_then (as_searched budget program answer) (λ bytes. rest (chosen_by choices program l bytes)) files
 
     status_after : (bytes : List ℕ) → (after (Ok bytes)).answer.status ≡ (rest (chosen_by choices program l bytes) files).answer.status
     unfolding check_then
     status_after bytes = refl
 
-    refused_after : (status : Status) → (after (Err status)).answer.status ≡ status
+    spent_after : (after (Err select_fault.Spent)).answer.status ≡ Spent budget program
     unfolding check_then
-    refused_after status = refl
+    spent_after = refl
+
+    memory_after : (after (Err select_fault.Memory)).answer.status ≡ Memory
+    unfolding check_then
+    memory_after = refl
 
     found_follows : GoesByChoice → (sure bytes : List ℕ) → Follows (after (Ok sure)) (after (Ok bytes))
     found_follows same sure bytes e = inl (status_after bytes ∙ same l bytes sure ∙ sym (status_after sure) ∙ e)
 
-    memory_follows : (sure : Plan) → Follows sure (after (Err Memory))
-    memory_follows sure e = inr (refused_after Memory)
+    memory_follows : (sure : Plan) → Follows sure (after (Err select_fault.Memory))
+    memory_follows sure e = inr memory_after
 
-    spent_follows : (over : Bool) → Follows (after (if over then Err (Spent budget) else Ok [])) (after (if over then Err (Spent budget) else Err Memory))
+    spent_follows : (over : Bool) → Follows (after (if over then Err select_fault.Spent else Ok [])) (after (if over then Err select_fault.Spent else Err select_fault.Memory))
     spent_follows true e = inl e
     spent_follows false e = memory_follows (after (Ok [])) e
 
-    accepted_follows : GoesByChoice → (over passes : Bool) (bytes : List ℕ) → Follows (after (if over then Err (Spent budget) else Ok [])) (after (if passes then Ok bytes else Err Memory))
-    accepted_follows same true passes bytes e = let is : Spent budget ≡ Ended = sym (refused_after (Spent budget)) ∙ e in absurd (cc is)
+    accepted_follows : GoesByChoice → (over passes : Bool) (bytes : List ℕ) → Follows (after (if over then Err select_fault.Spent else Ok [])) (after (if passes then Ok bytes else Err select_fault.Memory))
+    accepted_follows same true passes bytes e = let is : Spent budget program ≡ Ended = sym spent_after ∙ e in absurd (cc is)
     accepted_follows same false true bytes e = found_follows same [] bytes e
     accepted_follows same false false bytes e = memory_follows (after (Ok [])) e
 

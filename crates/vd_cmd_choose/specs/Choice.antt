@@ -15,10 +15,12 @@ use Rattle.vd_space.specs.Reading.{problem_of}
 use Rattle.vd_space.specs.Validity.{protocol}
 use Rattle.vd_space_optimum.specs.Cheapest.{IsAssignment, IsCheapest}
 use Rattle.vd_search_stages.specs.Choices.{ChoiceOutcomes}
+use Rattle.vd_search_stages.specs.declared.selecting.SelectFault.{SelectFault}
+use Rattle.vd_search_stages.specs.declared.selecting.SelectFault.TheVariants as select_fault
 use Rattle.vd_cmd_plan.specs.Plans.{ExecutesStep, Plan, check_then, file_then}
 use Rattle.vd_cmd_plan.specs.declared.answer.Answer.{Answer}
 use Rattle.vd_cmd_plan.specs.declared.status.Status.{Status}
-use Rattle.vd_cmd_plan.specs.declared.status.Status.TheVariants.{NoAssignment}
+use Rattle.vd_cmd_plan.specs.declared.status.Status.TheVariants.{Memory, NoAssignment, Spent}
 use Rattle.vd_cmd_frontend.specs.Outcomes.{LabelOutcomes, TextOutcomes}
 use Rattle.vd_cmd_frontend.specs.Labelling.{labels_of}
 use Rattle.vd_cmd_choose.specs.Searching.{Search, SomeSearch}
@@ -59,9 +61,15 @@ pub record Chosen : Type 0 where
 abbrev pub chosen_by : ChoiceOutcomes → NormalForm → Labels → List ℕ → Chosen
 chosen_by choices program l bytes = record { program = program; labels = l; assignment = assignment_of choices (problem_of program l); certificate = bytes }
 
+-- what a search with this budget for a program came to: where the budget is spent, the status carries the program
+abbrev pub as_searched : (budget : ℕ) → NormalForm → Result (List ℕ) SelectFault → Result (List ℕ) Status
+as_searched budget program (Ok bytes) = Ok bytes
+as_searched budget program (Err select_fault.Spent) = Err (Spent budget program)
+as_searched budget program (Err select_fault.Memory) = Err Memory
+
 -- search with a budget under these labels of a program, and go on with what is found
 abbrev pub search_then : ChoiceOutcomes → Search → (budget : ℕ) → NormalForm → Labels → (Chosen → Contents → Plan) → Contents → Plan
-search_then choices search budget program l rest = check_then (search (problem_of program l) budget) (λ bytes. rest (chosen_by choices program l bytes))
+search_then choices search budget program l rest = check_then (as_searched budget program (search (problem_of program l) budget)) (λ bytes. rest (chosen_by choices program l bytes))
 
 -- the same under its least labels
 abbrev pub choice_then : LabelOutcomes → ChoiceOutcomes → Search → (budget : ℕ) → NormalForm → (Chosen → Contents → Plan) → Contents → Plan
@@ -79,14 +87,14 @@ source_choice_then texts least choices search name budget rest =
 
 -- ---- the answer to it
 
--- where no assignment is valid
-abbrev pub no_list : Answer
-no_list = record { status = NoAssignment; stores = []; printed = [] }
+-- where no assignment is valid for a program: the status carries it
+abbrev pub no_list : NormalForm → Answer
+no_list program = record { status = NoAssignment program; stores = []; printed = [] }
 
--- this one of an assignment, if there is one
-abbrev pub assigned_answer : (Assignment → Answer) → Option Assignment → Answer
-assigned_answer answer None = no_list
-assigned_answer answer (Some a) = answer a
+-- this one of an assignment for a program, if there is one
+abbrev pub assigned_answer : NormalForm → (Assignment → Answer) → Option Assignment → Answer
+assigned_answer program answer None = no_list program
+assigned_answer program answer (Some a) = answer a
 
 -- ---- what its parts do, whatever functions pick outcomes
 

@@ -17,10 +17,10 @@ use Rattle.vd_cmd_choose.specs.declared.choice.Assignment.{Assignment}
 abbrev pub certificate_file : List ℕ → List ℕ → Stored
 certificate_file source bytes = record { name = source ++ codes ".cert"; content = bytes }
 
--- the certificate is stored, and the choice printed with its cost, if there is one
+-- the certificate is stored, and the choice for the program printed with its cost, if there is one
 abbrev pub choice_answer : NormalForm → Option Assignment → Stored → Answer
 choice_answer program (Some a) file = ended (file ∷ []) (printed_at program a)
-choice_answer program None file = record { status = NoAssignment; stores = file ∷ []; printed = [] }
+choice_answer program None file = record { status = NoAssignment program; stores = file ∷ []; printed = [] }
 
 -- the answer to what was found
 abbrev pub chosen_answer : List ℕ → Chosen → Answer

@@ -119,7 +119,7 @@ fn choice_under(
             assignment: None,
             certificate,
         }),
-        Err(SelectFault::Spent) => Err(Status::Spent(budget)),
+        Err(SelectFault::Spent) => Err(Status::Spent(budget, program)),
         Err(SelectFault::Memory) => Err(Status::Memory),
     }
 }
@@ -162,12 +162,12 @@ pub fn choice_of<F: Files>(
     Ok(ChosenSource { text, choice })
 }
 
-/// The answer where no assignment is valid.
-pub fn no_assignment(alloc: Global) -> Answer
-    ensures { result ≡ no_list }
+/// The answer where no assignment is valid for a program.
+pub fn no_assignment(alloc: Global, program: Program) -> Answer
+    ensures { result ≡ no_list program }
 {
     Answer {
-        status: Status::NoAssignment,
+        status: Status::NoAssignment(program),
         stores: Items::new(alloc),
         printed: Bytes::new(alloc),
     }

@@ -46,21 +46,19 @@ fn certificate_files(
 }
 
 /// Stores the certificate, and prints the choice, if there is one.
-fn answer_choice(alloc: Global, source: &str, choice: &Choice) -> Result<Answer, Status>
-    ensures { Computes (chosen_answer source.now (chosen_of choice.now)) result }
+fn answer_choice(alloc: Global, source: &str, choice: Choice) -> Result<Answer, Status>
+    ensures { Computes (chosen_answer source.now (chosen_of choice)) result }
 {
+    let stores = certificate_files(alloc, source, &choice.certificate)?;
     match &choice.assignment {
-        Some(assignment) => {
-            let printed = assignment_text(alloc, &choice.program, assignment)?;
-            Ok(Answer {
-                status: Status::Ended,
-                stores: certificate_files(alloc, source, &choice.certificate)?,
-                printed,
-            })
-        }
+        Some(assignment) => Ok(Answer {
+            status: Status::Ended,
+            stores,
+            printed: assignment_text(alloc, &choice.program, assignment)?,
+        }),
         None => Ok(Answer {
-            status: Status::NoAssignment,
-            stores: certificate_files(alloc, source, &choice.certificate)?,
+            status: Status::NoAssignment(choice.program),
+            stores,
             printed: Bytes::new(alloc),
         }),
     }
@@ -77,5 +75,5 @@ pub fn choose<F: Files>(
     ensures { ExecutesChoose source.now budget (F.view files.old) (F.view files.new) result }
 {
     let found = choice_of(alloc, files, source, budget)?;
-    answer_choice(alloc, source, &found.choice)
+    answer_choice(alloc, source, found.choice)
 }

@@ -39,8 +39,8 @@ module _ (program : NormalForm) (text prefix : List ℕ) where
       }
 
 -- where no assignment is valid, nothing is stored
-pub none_told : (text prefix : List ℕ) (answer : Answer) → answer ≡ no_list → TellsText text prefix (Ok answer)
-none_told text prefix answer none e = let status = ap (λ (a : Answer). a.status) none in absurd (cc status)
+pub none_told : (text prefix : List ℕ) (program : NormalForm) (answer : Answer) → answer ≡ no_list program → TellsText text prefix (Ok answer)
+none_told text prefix program answer none e = let status = ap (λ (a : Answer). a.status) none in absurd (cc status)
 
 -- what is stored of the program that is run is stored of the text
 pub run_told : (text prefix : List ℕ) (program : NormalForm) (result : Result Answer Status) → IsProgramOf text program → TellsPrograms program text prefix result → TellsText text prefix result

@@ -51,7 +51,7 @@ IsStoredFor program a h code = (text prefix : List ℕ)
 
 -- with what was found for the source with this text
 abbrev pub compiled_for : (text prefix : List ℕ) → Chosen → Answer
-compiled_for text prefix c = assigned_answer (λ a. compiled_at c.program a text prefix) c.assignment
+compiled_for text prefix c = assigned_answer c.program (λ a. compiled_at c.program a text prefix) c.assignment
 
 abbrev pub compile_plan : TextOutcomes → LabelOutcomes → ChoiceOutcomes → Search → (source prefix : List ℕ) → (budget : ℕ) → Contents → Plan
 compile_plan texts least choices search source prefix budget = source_choice_then texts least choices search source budget (λ text c. answer_then (compiled_for text prefix c))

@@ -82,20 +82,21 @@ fn compile_at(
 }
 
 /// What `compile` comes to with what was found for a source.
-pub fn compile_choice(alloc: Global, found: &ChosenSource, prefix: &str) -> Result<Answer, Status>
-    requires { IsChoiceIn found.now.text found.now.choice }
-    ensures computes { Computes (compiled_for found.now.text prefix.now (chosen_of found.now.choice)) result }
-    ensures tells { TellsText found.now.text prefix.now result }
+pub fn compile_choice(alloc: Global, found: ChosenSource, prefix: &str) -> Result<Answer, Status>
+    requires { IsChoiceIn found.text found.choice }
+    ensures computes { Computes (compiled_for found.text prefix.now (chosen_of found.choice)) result }
+    ensures tells { TellsText found.text prefix.now result }
 {
-    match &found.choice.assignment {
+    let ChosenSource { text, choice } = found;
+    match &choice.assignment {
         Some(assignment) => compile_at(
             alloc,
-            &found.choice.program,
+            &choice.program,
             assignment,
-            found.text.as_slice(),
+            text.as_slice(),
             prefix,
         ),
-        None => Ok(no_assignment(alloc)),
+        None => Ok(no_assignment(alloc, choice.program)),
     }
 }
 
@@ -113,5 +114,5 @@ pub fn compile<F: Files>(
     ensures tells { TellsSource source.now prefix.now (F.view files.old) result }
 {
     let found = choice_of(alloc, files, source, budget)?;
-    compile_choice(alloc, &found, prefix)
+    compile_choice(alloc, found, prefix)
 }

@@ -30,7 +30,7 @@ early_at program joint a text prefix =
 
 -- with what was found for the source with this text
 abbrev pub early_for : Joint → (text prefix : List ℕ) → Chosen → Answer
-early_for joint text prefix c = assigned_answer (λ a. early_at c.program joint a text prefix) c.assignment
+early_for joint text prefix c = assigned_answer c.program (λ a. early_at c.program joint a text prefix) c.assignment
 
 -- the plan, where the search has found this order
 abbrev pub early_plan : TextOutcomes → LabelOutcomes → ChoiceOutcomes → Search → Joint → (source prefix : List ℕ) → (budget : ℕ) → Contents → Plan

@@ -32,9 +32,9 @@ module _ (name : List ℕ) (contents : Contents) (source : Source) (held : Holds
   abbrev problem : Problem
   problem = problem_of program labels
 
-  told : (choice : Option (List ℕ)) → IsChosen problem choice → (answer : Answer) → answer ≡ assigned_answer (drawn_answer name held.bytes program labels) (option_map (assigned problem) choice) → answer.status ≡ Ended
+  told : (choice : Option (List ℕ)) → IsChosen problem choice → (answer : Answer) → answer ≡ assigned_answer program (drawn_answer name held.bytes program labels) (option_map (assigned problem) choice) → answer.status ≡ Ended
       → TellsDrawing name contents answer.printed
-  told None chosen answer is ends = let wrong : NoAssignment ≡ Ended = sym (ap (λ (x : Answer). x.status) is) ∙ ends in absurd (cc wrong)
+  told None chosen answer is ends = let wrong : NoAssignment program ≡ Ended = sym (ap (λ (x : Answer). x.status) is) ∙ ends in absurd (cc wrong)
   told (Some list) chosen answer is ends =
       let made : IsWellMade program = run_well_made source program (made_of name contents source held) is_run in
       let best = cheapest problem list (is_problem program labels made) chosen in

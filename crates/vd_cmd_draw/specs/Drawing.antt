@@ -21,7 +21,7 @@ drawn_answer name text program l a = ended [] (pictures.drawn name text program 
 
 -- with what was found for the source with this text
 abbrev pub drawn_for : (name text : List ℕ) → Chosen → Answer
-drawn_for name text c = assigned_answer (drawn_answer name text c.program c.labels) c.assignment
+drawn_for name text c = assigned_answer c.program (drawn_answer name text c.program c.labels) c.assignment
 
 abbrev pub draw_plan : TextOutcomes → LabelOutcomes → ChoiceOutcomes → Search → (name : List ℕ) → (budget : ℕ) → Contents → Plan
 draw_plan texts least choices search name budget = source_choice_then texts least choices search name budget (λ text c. answer_then (drawn_for name text c))

@@ -40,18 +40,13 @@ fn draw_at(
 }
 
 /// What `draw` comes to with what was found for a source.
-fn draw_choice(alloc: Global, name: &str, found: &ChosenSource) -> Result<Answer, Status>
-    ensures { Computes (drawn_for name.now found.now.text (chosen_of found.now.choice)) result }
+fn draw_choice(alloc: Global, name: &str, found: ChosenSource) -> Result<Answer, Status>
+    ensures { Computes (drawn_for name.now found.text (chosen_of found.choice)) result }
 {
-    match &found.choice.assignment {
-        Some(assignment) => draw_at(
-            alloc,
-            &found.choice,
-            assignment,
-            name,
-            found.text.as_slice(),
-        ),
-        None => Ok(no_assignment(alloc)),
+    let ChosenSource { text, choice } = found;
+    match &choice.assignment {
+        Some(assignment) => draw_at(alloc, &choice, assignment, name, text.as_slice()),
+        None => Ok(no_assignment(alloc, choice.program)),
     }
 }
 
@@ -67,5 +62,5 @@ pub fn draw<F: Files>(
     ensures { ExecutesDraw source.now budget (F.view files.old) (F.view files.new) result }
 {
     let found = choice_of(alloc, files, source, budget)?;
-    draw_choice(alloc, source, &found)
+    draw_choice(alloc, source, found)
 }

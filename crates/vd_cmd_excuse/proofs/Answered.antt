@@ -91,5 +91,5 @@ module _ (words : ExcuseWords) (p : NormalForm) (h : HostId) (runs : Runs) where
   )
 
 -- where no assignment is valid, nothing is told
-pub none_told : (h : HostId) (p : NormalForm) (out : List ℕ) (runs : Runs) (answer : Answer) → answer ≡ no_list → TellsAt h p out runs (Ok answer)
-none_told h p out runs answer is = λ name named e. let wrong : NoAssignment ≡ Ended = sym (ap (λ (a : Answer). a.status) is) ∙ e in absurd (cc wrong)
+pub none_told : (h : HostId) (p : NormalForm) (out : List ℕ) (runs : Runs) (found : NormalForm) (answer : Answer) → answer ≡ no_list found → TellsAt h p out runs (Ok answer)
+none_told h p out runs found answer is = λ name named e. let wrong : NoAssignment found ≡ Ended = sym (ap (λ (a : Answer). a.status) is) ∙ e in absurd (cc wrong)

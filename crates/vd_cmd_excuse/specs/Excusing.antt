@@ -82,7 +82,7 @@ assignment_plan outcomes p l h runs out a =
 
 -- if there is one
 abbrev pub choice_plan : ReplayOutcomes → HostId → Runs → (out : List ℕ) → NormalForm → Labels → Option Assignment → Contents → Plan
-choice_plan outcomes h runs out p l None = answer_then no_list
+choice_plan outcomes h runs out p l None = answer_then (no_list p)
 choice_plan outcomes h runs out p l (Some a) = assignment_plan outcomes p l h runs out a
 
 -- with a program, one of its two hosts, and both runs

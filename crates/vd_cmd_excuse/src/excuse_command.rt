@@ -113,7 +113,7 @@ fn excuse_host(
             runs,
             words.out.as_str(),
         ),
-        None => Ok(no_assignment(alloc)),
+        None => Ok(no_assignment(alloc, choice.program)),
     }
 }
 

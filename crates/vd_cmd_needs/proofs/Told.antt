@@ -65,8 +65,8 @@ told_then each program (Ok answer) is = λ e. is
 told_then each program (Err status) is = tt
 
 -- where no list is valid, nothing is told
-pub none_told : (each : Bool) (program : NormalForm) (answer : Answer) → answer ≡ no_list → TellsProgram each program (Ok answer)
-none_told each program answer is = λ e. let wrong : NoAssignment ≡ Ended = sym (ap (λ (a : Answer). a.status) is) ∙ e in absurd (cc wrong)
+pub none_told : (each : Bool) (program : NormalForm) (answer : Answer) → answer ≡ no_list program → TellsProgram each program (Ok answer)
+none_told each program answer is = λ e. let wrong : NoAssignment program ≡ Ended = sym (ap (λ (a : Answer). a.status) is) ∙ e in absurd (cc wrong)
 
 -- ---- with the text of a source
 

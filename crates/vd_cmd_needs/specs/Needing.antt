@@ -33,7 +33,7 @@ needs_text each program protocols = if each then each_lines program.hosts (needs
 
 -- with what was found for a source
 abbrev pub needs_answer : (each : Bool) → Chosen → Answer
-needs_answer each c = assigned_answer (λ a. ended [] (needs_text each c.program a.protocols)) c.assignment
+needs_answer each c = assigned_answer c.program (λ a. ended [] (needs_text each c.program a.protocols)) c.assignment
 
 -- with the bytes of a source
 abbrev pub text_plan : TextOutcomes → LabelOutcomes → ChoiceOutcomes → Search → NeedsWords → List ℕ → Contents → Plan

@@ -70,14 +70,14 @@ fn needs_at(
 }
 
 /// What `needs` comes to with what was found for a source.
-fn needs_choice(alloc: Global, choice: &Choice, each: bool) -> Result<Answer, Status>
-    requires { IfSome choice.now.assignment (IsSelected choice.now.program) }
-    ensures computes { Computes (needs_answer each (chosen_of choice.now)) result }
-    ensures tells { TellsProgram each choice.now.program result }
+fn needs_choice(alloc: Global, choice: Choice, each: bool) -> Result<Answer, Status>
+    requires { IfSome choice.assignment (IsSelected choice.program) }
+    ensures computes { Computes (needs_answer each (chosen_of choice)) result }
+    ensures tells { TellsProgram each choice.program result }
 {
     match &choice.assignment {
         Some(assignment) => needs_at(alloc, &choice.program, assignment, each),
-        None => Ok(no_assignment(alloc)),
+        None => Ok(no_assignment(alloc, choice.program)),
     }
 }
 
@@ -101,7 +101,7 @@ fn needs_in_text(alloc: Global, words: &NeedsWords, bytes: &[u8]) -> Result<Answ
 {
     expect_short(alloc, words.file.as_str(), bytes)?;
     let choice = choice_in(alloc, bytes, words.budget)?;
-    needs_choice(alloc, &choice, words.each)
+    needs_choice(alloc, choice, words.each)
 }
 
 /// What `needs` does with the bytes of a file.

@@ -8,6 +8,7 @@ use std::alloc::AllocError;
 use vd_base::{Name, Names, Text};
 use vd_bound::CheckFault;
 use vd_constraints::Check;
+use vd_core::Program;
 use vd_deal_items::{BadItem, DealKind};
 use vd_formula::Formula;
 use vd_parser::ParseFault;
@@ -86,7 +87,7 @@ pub enum ChildCause {
 }
 
 /// How a run ended. A fault of a text is carried as the pass that found it gave it; where that wanted memory, or the text was too
-/// long for it, the status is `Memory` or `TooLong`.
+/// long for it, the status is `Memory` or `TooLong`. A search that found no assignment gives back the program that it was made for.
 #[derive(Debug, Drop)]
 pub enum Status {
     /// The command was carried out.
@@ -107,10 +108,10 @@ pub enum Status {
     Names(NameFault),
     /// No labelling satisfies the flow rules.
     Flow(FlowFault),
-    /// The command was carried out, and came to this: no assignment of protocols is valid.
-    NoAssignment,
-    /// The search had this budget, and needs more.
-    Spent(u32),
+    /// The command was carried out, and came to this: no assignment of protocols is valid for this program.
+    NoAssignment(Program),
+    /// The search had this budget, and needs more for this program.
+    Spent(u32, Program),
     /// The text of the inputs is refused.
     InputText(ReadFault),
     /// The text of the deal of the host with this name and number is refused: no deal of its goes on at this offset as the file does.
@@ -158,8 +159,8 @@ impl Status {
             Status::Syntax(_) => 6,
             Status::Names(_) => 7,
             Status::Flow(_) => 8,
-            Status::NoAssignment => 9,
-            Status::Spent(_) => 10,
+            Status::NoAssignment(_) => 9,
+            Status::Spent(_, _) => 10,
             Status::InputText(_) => 11,
             Status::DealText(_, _, _) => 12,
             Status::ScheduleText(_) => 13,

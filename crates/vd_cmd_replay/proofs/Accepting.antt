@@ -28,7 +28,7 @@ use Rattle.vd_space_optimum.proofs.Cheapest.{back}
 use Rattle.vd_search_stages.specs.Choices.{ChoiceOutcomes, IsChosen, needed}
 use Rattle.vd_search_stages.proofs.Once.{chosen_once}
 use Rattle.vd_cmd_frontend.specs.Labelling.{as_labels, labels_of}
-use Rattle.vd_cmd_choose.specs.Choice.{Chosen, assigned, assignment_of, chosen_by, search_then}
+use Rattle.vd_cmd_choose.specs.Choice.{Chosen, as_searched, assigned, assignment_of, chosen_by, search_then}
 use Rattle.vd_cmd_choose.specs.Searching.{sure_search}
 use Rattle.vd_cmd_choose.specs.declared.choice.Assignment.{Assignment}
 use Rattle.vd_cmd_plan.specs.Plans.{Plan}
@@ -106,5 +106,6 @@ module _ (words : ReplayWords) (contents : Contents) (accepted : IsAccepted word
         (subst (λ (p : NormalForm). Ends contents (program_plan texts outcomes least choices (sure_search choices) words p)) (run_once source program source_made accepted.is_run least)
         (asked_ends contents outcomes texts words program.hosts accepted.held.asked (asked_plan outcomes least choices (sure_search choices) words.budget program) few are_asked
         (check_ends contents (labels_of least program) accepted.selected.labels (λ l. search_then choices (sure_search choices) words.budget program l rest) (ap (λ (r : Result Labels ℕ). as_labels least program r) labelled)
-        (check_ends contents (sure_search choices problem words.budget) [] (λ (bytes : List ℕ). rest (chosen_by choices program accepted.selected.labels bytes)) (searched choices problem words.budget places choice accepted.enough) ends)))),
+        (check_ends contents (as_searched words.budget program (sure_search choices problem words.budget)) [] (λ (bytes : List ℕ). rest (chosen_by choices program accepted.selected.labels bytes))
+        (ap (as_searched words.budget program) (searched choices problem words.budget places choice accepted.enough)) ends)))),
   )

@@ -22,8 +22,8 @@ choice_counted program a asked packets (Ok answer) selected is = λ e. record { 
 choice_counted program a asked packets (Err status) selected is = tt
 
 -- where no list is valid, nothing is counted
-pub none_counted : (program : NormalForm) (asked : Asked) (packets : Option ℕ) (answer : Answer) → answer ≡ no_list → CountsOf program asked packets (Ok answer)
-none_counted program asked packets answer is = λ e. let wrong : NoAssignment ≡ Ended = sym (ap (λ (a : Answer). a.status) is) ∙ e in absurd (cc wrong)
+pub none_counted : (program : NormalForm) (asked : Asked) (packets : Option ℕ) (found : NormalForm) (answer : Answer) → answer ≡ no_list found → CountsOf program asked packets (Ok answer)
+none_counted program asked packets found answer is = λ e. let wrong : NoAssignment found ≡ Ended = sym (ap (λ (a : Answer). a.status) is) ∙ e in absurd (cc wrong)
 
 module _ (words : ReplayWords) (before : FilesView) (packets : Option ℕ) where
   pub program_counted : (program form : NormalForm) (asked : Asked) (result : Result Answer Status) → form ≡ program → (IsTrue before.told → HoldAsked words form.hosts before.contents asked)

@@ -47,5 +47,5 @@ module _ (program : NormalForm) (asked : Asked) where
         (chooses.0, λ certificates choices outcomes least files. chooses.1 certificates choices least files (λ c. choice_plan outcomes asked c.program c.assignment))
 
 -- where no list is valid, nothing is told
-pub none_told : (program : NormalForm) (asked : Asked) (answer : Answer) → answer ≡ no_list → TellsOf program asked (Ok answer)
-none_told program asked answer is = λ e. let wrong : NoAssignment ≡ Ended = sym (ap (λ (a : Answer). a.status) is) ∙ e in absurd (cc wrong)
+pub none_told : (program : NormalForm) (asked : Asked) (found : NormalForm) (answer : Answer) → answer ≡ no_list found → TellsOf program asked (Ok answer)
+none_told program asked found answer is = λ e. let wrong : NoAssignment found ≡ Ended = sym (ap (λ (a : Answer). a.status) is) ∙ e in absurd (cc wrong)

@@ -45,7 +45,7 @@ assignment_plan outcomes asked program a =
 
 -- if there is one
 abbrev pub choice_plan : ReplayOutcomes → Asked → NormalForm → Option Assignment → Contents → Plan
-choice_plan outcomes asked program None = answer_then no_list
+choice_plan outcomes asked program None = answer_then (no_list program)
 choice_plan outcomes asked program (Some a) = assignment_plan outcomes asked program a
 
 -- with a program, and all that it is to run on

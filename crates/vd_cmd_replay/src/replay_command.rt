@@ -116,7 +116,7 @@ fn replay_asked(
     let choice = choice_for(alloc, program, budget)?;
     match &choice.assignment {
         Some(assignment) => replay_choice(alloc, &choice.program, assignment, asked, packets),
-        None => Ok(no_assignment(alloc)),
+        None => Ok(no_assignment(alloc, choice.program)),
     }
 }
 

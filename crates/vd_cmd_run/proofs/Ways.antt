@@ -5,6 +5,7 @@ use Rattle.vd_base.specs.declared.faults.Failed.{Failed}
 use Rattle.vd_base.specs.Limits.{most_hosts}
 use Rattle.vd_host_children.specs.Runs.{RunsChildren}
 use Rattle.vd_cmd.specs.declared.command.RunWords.{RunWords}
+use Rattle.vd_core.specs.declared.normal.NormalForm.{NormalForm}
 use Rattle.vd_outside.specs.Files.{Contents, FilesView}
 use Rattle.vd_outside.specs.declared.stored.Stored.{Stored}
 use Rattle.vd_outside.specs.Sink.{WritesAll}
@@ -60,15 +61,15 @@ played words names before now answer stores program lines result ended same_stor
     (subst (λ (l : List (List (List ℕ))). RunsHosts stores names program l before now result) same_lines runs)))
 
 -- an answer that is given and did not end well came where no assignment is valid
-unassigned : (status : Status) (printed : List ℕ) → IsGiven status printed → (status ≡ Ended → ⊥) → status ≡ NoAssignment
+unassigned : (status : Status) (printed : List ℕ) → IsGiven status printed → (status ≡ Ended → ⊥) → (program : NormalForm) × (status ≡ NoAssignment program)
 unassigned Ended printed given other = absurd (other refl)
-unassigned NoAssignment printed given other = refl
+unassigned (NoAssignment program) printed given other = (program, refl)
 unassigned status printed given other = absurd given
 
 pub not_played : (words : RunWords) (names : List (List ℕ)) (at : Outside) (answer : Answer) → IsGiven answer.status answer.printed → (answer.status ≡ Ended → ⊥) → Plays words names at at (Ok answer) answer.status
 not_played words names at answer given other =
-    let is : answer.status ≡ NoAssignment = unassigned answer.status answer.printed given other in
-    subst (λ (s : Status). Plays words names at at (Ok answer) s) (sym is) (Unassigned answer is refl)
+    let is = unassigned answer.status answer.printed given other in
+    subst (λ (s : Status). Plays words names at at (Ok answer) s) (sym is.1) (Unassigned answer is.0 is.1 refl)
 
 -- ---- what was compiled, for the words of the command line
 

@@ -43,6 +43,6 @@ pub(crate) fn compile_for<F: Files>(
 {
     let found = choice_of(alloc, files, source, SEARCH_BUDGET)?;
     let names = names_of(alloc, &found.choice.program)?;
-    let answer = compile_choice(alloc, &found, prefix)?;
+    let answer = compile_choice(alloc, found, prefix)?;
     Ok(Compiled { names, answer })
 }

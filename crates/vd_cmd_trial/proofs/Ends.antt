@@ -12,17 +12,18 @@ use Rattle.vd_gen.specs.Source.{generated}
 use Rattle.vd_space.specs.declared.problem.Problem.{Problem}
 use Rattle.vd_space.specs.Reading.{problem_of}
 use Rattle.vd_search_stages.specs.Choices.{ChoiceOutcomes, needed}
+use Rattle.vd_search_stages.specs.declared.selecting.SelectFault.TheVariants as select_fault
 use Rattle.vd_search_stages.proofs.Once.{some_choices}
 use Rattle.vd_cmd_plan.specs.Plans.{Plan, Executes, check_then, answer_then}
 use Rattle.vd_cmd_plan.specs.declared.answer.Answer.{Answer}
 use Rattle.vd_cmd_plan.specs.declared.status.Status.{Status}
-use Rattle.vd_cmd_plan.specs.declared.status.Status.TheVariants.{Memory, ReadFault, Spent}
+use Rattle.vd_cmd_plan.specs.declared.status.Status.TheVariants.{Memory, ReadFault}
 use Rattle.vd_cmd_frontend.specs.Labelling.{as_labels, labels_of}
 use Rattle.vd_cmd_frontend.specs.Outcomes.{TextOutcomes, LabelOutcomes}
 use Rattle.vd_cmd_frontend.specs.Sources.{source_of, resolved_of}
 use Rattle.vd_cmd_frontend.proofs.Reading.{some_labels, some_texts}
 use Rattle.vd_gen_laws.proofs.Read.{is_read}
-use Rattle.vd_cmd_choose.specs.Choice.{Chosen, assignment_of, chosen_by, search_then}
+use Rattle.vd_cmd_choose.specs.Choice.{Chosen, as_searched, assignment_of, chosen_by, search_then}
 use Rattle.vd_cmd_choose.specs.declared.choice.Assignment.{Assignment}
 use Rattle.vd_cmd_choose.specs.Searching.{Searched, GaveUp, Certified, is_accepted, searched_by}
 use Rattle.vd_cmd_choose.specs.Outcomes.{CertificateOutcomes}
@@ -53,17 +54,18 @@ labels_end : (least : LabelOutcomes) (program : NormalForm) (found : Result Labe
 labels_end least program (Ok labels) = tt
 labels_end least program (Err number) = tt
 
-spent_ends : (budget : ℕ) (over : Bool) → IfErr {T = List ℕ} (if over then Err (Spent budget) else Err Memory) EndsTrial
-spent_ends budget true = tt
-spent_ends budget false = tt
+module _ (program : NormalForm) (budget : ℕ) where
+  spent_ends : (over : Bool) → IfErr (as_searched budget program (if over then Err select_fault.Spent else Err select_fault.Memory)) EndsTrial
+  spent_ends true = tt
+  spent_ends false = tt
 
-accepted_ends : (bytes : List ℕ) (passes : Bool) → IfErr (if passes then Ok bytes else Err Memory) EndsTrial
-accepted_ends bytes true = tt
-accepted_ends bytes false = tt
+  accepted_ends : (bytes : List ℕ) (passes : Bool) → IfErr (as_searched budget program (if passes then Ok bytes else Err select_fault.Memory)) EndsTrial
+  accepted_ends bytes true = tt
+  accepted_ends bytes false = tt
 
-search_ends : (certificates : CertificateOutcomes) (choices : ChoiceOutcomes) (searched : Searched) (problem : Problem) (budget : ℕ) → IfErr (searched_by certificates choices searched problem budget) EndsTrial
-search_ends certificates choices GaveUp problem budget = spent_ends budget (nat_lt budget (needed problem (choices.choose problem)))
-search_ends certificates choices (Certified bytes) problem budget = accepted_ends bytes (is_accepted problem budget (certificates.read bytes))
+  search_ends : (certificates : CertificateOutcomes) (choices : ChoiceOutcomes) (searched : Searched) (problem : Problem) → IfErr (as_searched budget program (searched_by certificates choices searched problem budget)) EndsTrial
+  search_ends certificates choices GaveUp problem = spent_ends (nat_lt budget (needed problem (choices.choose problem)))
+  search_ends certificates choices (Certified bytes) problem = accepted_ends bytes (is_accepted problem budget (certificates.read bytes))
 
 choice_ends : (coordinates : ℕ) (program : NormalForm) (choice : Option Assignment) (files : Contents) → Ends (choice_plan coordinates program choice files)
 unfolding answer_then
@@ -76,8 +78,8 @@ module _ (texts : TextOutcomes) (least : LabelOutcomes) (certificates : Certific
       let search = searched_by certificates choices searched in
       let rest : Chosen → Contents → Plan = λ c. choice_plan coordinates c.program c.assignment in
       check_ends (labels_of least program) (λ l. search_then choices search most_search_budget program l rest) files (labels_end least program (least.label (system_of program)))
-      (λ l. check_ends (search (problem_of program l) most_search_budget) (λ bytes. rest (chosen_by choices program l bytes)) files
-      (search_ends certificates choices searched (problem_of program l) most_search_budget) (λ bytes. choice_ends coordinates program (assignment_of choices (problem_of program l)) files))
+      (λ l. check_ends (as_searched most_search_budget program (search (problem_of program l) most_search_budget)) (λ bytes. rest (chosen_by choices program l bytes)) files
+      (search_ends program most_search_budget certificates choices searched (problem_of program l)) (λ bytes. choice_ends coordinates program (assignment_of choices (problem_of program l)) files))
 
   -- ---- the generated source, which is read and meets every rule
 

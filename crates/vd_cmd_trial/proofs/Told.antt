@@ -109,8 +109,8 @@ module _ (coordinates : ℕ) (program : NormalForm) where
       }
 
   -- where no list is valid, nothing is told
-  pub none_told : (answer : Answer) → answer ≡ no_list → TellsProgram coordinates program (Ok answer)
-  none_told answer is = λ e. let wrong : NoAssignment ≡ Ended = sym (ap (λ (a : Answer). a.status) is) ∙ e in absurd (cc wrong)
+  pub none_told : (found : NormalForm) (answer : Answer) → answer ≡ no_list found → TellsProgram coordinates program (Ok answer)
+  none_told found answer is = λ e. let wrong : NoAssignment found ≡ Ended = sym (ap (λ (a : Answer). a.status) is) ∙ e in absurd (cc wrong)
 
 -- ---- the source
 

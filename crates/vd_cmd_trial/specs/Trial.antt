@@ -79,7 +79,7 @@ trial_text coordinates program a = cost_line a.cost ++ report_for program a.prot
 
 -- with the choice for a program, if there is one
 abbrev pub choice_plan : (coordinates : ℕ) → NormalForm → Option Assignment → Contents → Plan
-choice_plan coordinates program None = answer_then no_list
+choice_plan coordinates program None = answer_then (no_list program)
 choice_plan coordinates program (Some a) = answer_then (ended [] (trial_text coordinates program a))
 
 -- with a program, and with a source that meets every rule

@@ -1,4 +1,3 @@
-mod Came
 mod Parts
 mod Others
 mod Looks

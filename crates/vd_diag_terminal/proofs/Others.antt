@@ -1,5 +1,6 @@
 -- What holds of all other statuses and faults.
 use Rattle.std.proofs.Common.{◌≡◌, ◌≢◌, ℕ, List, [], Option, None, refl}
+use Rattle.vd_core.specs.declared.normal.NormalForm.{NormalForm}
 use Rattle.vd_cmd_plan.specs.declared.status.HostStatus.{HostStatus}
 use Rattle.vd_cmd_plan.specs.declared.status.HostStatus.TheVariants as host_status
 use Rattle.vd_cmd_plan.specs.declared.status.Status.{Status}
@@ -13,14 +14,14 @@ use Rattle.vd_diag_terminal.specs.Files.{reading_of}
 use Rattle.vd_diag_terminal.specs.Remarks.{IsRemarkOn}
 
 -- a status of which no file is read
-pub unread : (words : List (List ℕ)) (s : Status) → ((f : ParseFault) → s ≢ status.Syntax f) → ((f : NameFault) → s ≢ status.Names f) → ((f : FlowFault) → s ≢ status.Flow f) → s ≢ status.NoAssignment
-    → ((budget : ℕ) → s ≢ status.Spent budget) → ((f : ReadFault) → s ≢ status.InputText f) → ((f : ReadFault) → s ≢ status.ScheduleText f)
+pub unread : (words : List (List ℕ)) (s : Status) → ((f : ParseFault) → s ≢ status.Syntax f) → ((f : NameFault) → s ≢ status.Names f) → ((f : FlowFault) → s ≢ status.Flow f) → ((p : NormalForm) → s ≢ status.NoAssignment p)
+    → ((budget : ℕ) (p : NormalForm) → s ≢ status.Spent budget p) → ((f : ReadFault) → s ≢ status.InputText f) → ((f : ReadFault) → s ≢ status.ScheduleText f)
     → None ≡ reading_of words s
 unread words (status.Syntax f) a b c d e g h = absurd (a f refl)
 unread words (status.Names f) a b c d e g h = absurd (b f refl)
 unread words (status.Flow f) a b c d e g h = absurd (c f refl)
-unread words status.NoAssignment a b c d e g h = absurd (d refl)
-unread words (status.Spent budget) a b c d e g h = absurd (e budget refl)
+unread words (status.NoAssignment p) a b c d e g h = absurd (d p refl)
+unread words (status.Spent budget p) a b c d e g h = absurd (e budget p refl)
 unread words (status.InputText f) a b c d e g h = absurd (g f refl)
 unread words (status.ScheduleText f) a b c d e g h = absurd (h f refl)
 unread words s a b c d e g h = refl
@@ -39,13 +40,13 @@ unsaid_of_host words (host_status.ProgramText offset) other = absurd (other offs
 unsaid_of_host words f other = refl
 
 -- one of which there is no remark
-pub unremarked : (bytes : List ℕ) (s : Status) → ((f : ParseFault) → s ≢ status.Syntax f) → ((f : NameFault) → s ≢ status.Names f) → ((f : FlowFault) → s ≢ status.Flow f) → s ≢ status.NoAssignment
-    → ((budget : ℕ) → s ≢ status.Spent budget) → ((f : ReadFault) → s ≢ status.InputText f) → ((f : ReadFault) → s ≢ status.ScheduleText f) → IsRemarkOn bytes s None
+pub unremarked : (bytes : List ℕ) (s : Status) → ((f : ParseFault) → s ≢ status.Syntax f) → ((f : NameFault) → s ≢ status.Names f) → ((f : FlowFault) → s ≢ status.Flow f) → ((p : NormalForm) → s ≢ status.NoAssignment p)
+    → ((budget : ℕ) (p : NormalForm) → s ≢ status.Spent budget p) → ((f : ReadFault) → s ≢ status.InputText f) → ((f : ReadFault) → s ≢ status.ScheduleText f) → IsRemarkOn bytes s None
 unremarked bytes (status.Syntax f) a b c d e g h = absurd (a f refl)
 unremarked bytes (status.Names f) a b c d e g h = absurd (b f refl)
 unremarked bytes (status.Flow f) a b c d e g h = absurd (c f refl)
-unremarked bytes status.NoAssignment a b c d e g h = absurd (d refl)
-unremarked bytes (status.Spent budget) a b c d e g h = absurd (e budget refl)
+unremarked bytes (status.NoAssignment p) a b c d e g h = absurd (d p refl)
+unremarked bytes (status.Spent budget p) a b c d e g h = absurd (e budget p refl)
 unremarked bytes (status.InputText f) a b c d e g h = absurd (g f refl)
 unremarked bytes (status.ScheduleText f) a b c d e g h = absurd (h f refl)
 unremarked bytes s a b c d e g h = refl

@@ -8,18 +8,11 @@ use Rattle.vd_diag_branches.specs.Phrases.{IsBranchRemark}
 use Rattle.vd_cmd_plan.specs.declared.status.Status.{Status}
 use Rattle.vd_diag.specs.Remarks.{told}
 use Rattle.vd_diag.specs.declared.remark.Remark.{Remark}
-use Rattle.vd_diag_terminal.specs.Programs.{IsAssignmentRemark, IsProgramOf, IsOfProgram, IsOfSpace, IsSearchRemark, IsSlotRemark}
+use Rattle.vd_diag_terminal.specs.Programs.{IsAssignmentRemark, IsOfSpace, IsSearchRemark, IsSlotRemark}
 use Rattle.vd_diag_terminal.specs.Remarks.{IsRemarkOn}
 use Rattle.vd_diag_terminal.specs.Said.{IsRemarkTold}
 
 -- ---- of a program, and of its space
-
-module _ (bytes : List ℕ) (Says : NormalForm → Option Remark → Type 0) (form : Option NormalForm) where
-  pub of_program : (p : NormalForm) (remark : Option Remark) → form ≡ Some p → IsProgramOf bytes form → Says p remark → IsOfProgram bytes Says remark
-  of_program p remark same is says = record { form = Some p; is = subst (IsProgramOf bytes) same is; says = says }
-
-  pub of_no_program : form ≡ None → IsProgramOf bytes form → IsOfProgram bytes Says None
-  of_no_program same is = record { form = None; is = subst (IsProgramOf bytes) same is; says = refl }
 
 module _ (Says : Problem → Remark → Type 0) (form : NormalForm) (space : Option Problem) where
   pub of_space : (q : Problem) (remark : Remark) → space ≡ Some q → IsSpaceFor form space → Says q remark → IsOfSpace Says form (Some remark)

@@ -1,12 +1,6 @@
--- What is said of the program of a source that is run.
-use Rattle.std.specs.Prelude.{◌≡◌, ℕ, List, Option, Some, None, Result, Ok, Err}
-use Rattle.vd_core.specs.declared.source.Source.{Source}
+-- What is said of a program for which a search found no protocols.
+use Rattle.std.specs.Prelude.{◌≡◌, ℕ, Option, Some, None}
 use Rattle.vd_core.specs.declared.normal.NormalForm.{NormalForm}
-use Rattle.vd_parser.specs.Outcomes.{IsParse}
-use Rattle.vd_parser.specs.declared.fault.ParseFault.{ParseFault}
-use Rattle.vd_resolve.specs.Limits.{resolution, IsResolved}
-use Rattle.vd_resolve.specs.Faults.{Fault}
-use Rattle.vd_cmd_rewrite.specs.RunPrograms.{IsRunProgram}
 use Rattle.vd_space.specs.declared.problem.Problem.{Problem}
 use Rattle.vd_diag_branches.specs.Phrases.{IsBranchRemark}
 use Rattle.vd_diag.specs.declared.remark.Remark.{Remark}
@@ -14,28 +8,10 @@ use Rattle.vd_diag_choice.specs.Remarks.{IsNoAssignmentRemark}
 use Rattle.vd_diag_choice.specs.Spaces.{IsSpaceFor}
 use Rattle.vd_diag_choice.specs.Spent.{TellsSearch}
 
--- the program that is run of a source that meets every rule
-abbrev pub IsProgramOfTree : Source → Option NormalForm → Type 0
-IsProgramOfTree source None = (fault : Fault) × (resolution source ≡ Err fault)
-IsProgramOfTree source (Some form) = IsResolved source × IsRunProgram source form
-
--- the same of bytes; none where they are no source
-abbrev pub IsProgramOfOutcome : Result Source ParseFault → Option NormalForm → Type 0
-IsProgramOfOutcome (Ok source) form = IsProgramOfTree source form
-IsProgramOfOutcome (Err fault) form = form ≡ None
-
-abbrev pub IsProgramOf : List ℕ → Option NormalForm → Type 0
-IsProgramOf bytes form = (outcome : Result Source ParseFault) × IsParse bytes outcome × IsProgramOfOutcome outcome form
-
 -- of nothing nothing is said
 abbrev pub SaysIfSome : {A : Type 0} → (A → Option Remark → Type 0) → Option A → Option Remark → Type 0
 SaysIfSome Says None remark = remark ≡ None
 SaysIfSome Says (Some a) remark = Says a remark
-
-pub record IsOfProgram (bytes : List ℕ) (Says : NormalForm → Option Remark → Type 0) (remark : Option Remark) : Type 0 where
-  pub form : Option NormalForm
-  pub is : IsProgramOf bytes form
-  pub says : SaysIfSome Says form remark
 
 -- ---- of its space of choices, where it has a labelling
 

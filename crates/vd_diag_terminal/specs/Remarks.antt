@@ -1,4 +1,4 @@
--- What is said of the bytes of the file that a status speaks of.
+-- What is said of a status that speaks of the file with these bytes.
 use Rattle.std.specs.Prelude.{◌≡◌, ℕ, List, Option, Some, None}
 use Rattle.vd_diag_flow.specs.Flow.{flow_remark}
 use Rattle.vd_report.specs.declared.fault.ReadFault.{ReadFault}
@@ -10,7 +10,7 @@ use Rattle.vd_diag.specs.Remarks.{at}
 use Rattle.vd_diag.specs.declared.remark.Remark.{Remark}
 use Rattle.vd_diag_source.specs.Rules.{IsRuleRemark}
 use Rattle.vd_diag_source.specs.SyntaxRemarks.{SaysOfSyntax}
-use Rattle.vd_diag_terminal.specs.Programs.{IsOfProgram, IsAssignmentRemark, IsSearchRemark, SaysOne}
+use Rattle.vd_diag_terminal.specs.Programs.{IsAssignmentRemark, IsSearchRemark, SaysOne}
 
 -- ---- of inputs and schedules, which have names of hosts; `has` says what such a file has; want of memory is no fault of theirs
 
@@ -25,8 +25,8 @@ abbrev pub IsRemarkOn : List ℕ → Status → Option Remark → Type 0
 IsRemarkOn bytes (status.Syntax fault) remark = SaysOfSyntax bytes fault remark
 IsRemarkOn bytes (status.Names fault) remark = SaysOne (IsRuleRemark bytes) fault remark
 IsRemarkOn bytes (status.Flow fault) remark = remark ≡ Some (flow_remark fault.principals fault.hosts fault.check fault.asked)
-IsRemarkOn bytes status.NoAssignment remark = IsOfProgram bytes IsAssignmentRemark remark
-IsRemarkOn bytes (status.Spent budget) remark = IsOfProgram bytes (IsSearchRemark budget) remark
+IsRemarkOn bytes (status.NoAssignment program) remark = IsAssignmentRemark program remark
+IsRemarkOn bytes (status.Spent budget program) remark = IsSearchRemark budget program remark
 IsRemarkOn bytes (status.InputText fault) remark = SaysOne (IsTextRemark bytes inputs_sentence) fault remark
 IsRemarkOn bytes (status.ScheduleText fault) remark = SaysOne (IsTextRemark bytes schedule_sentence) fault remark
 IsRemarkOn bytes status remark = remark ≡ None

@@ -51,8 +51,8 @@ pub(crate) fn reading_of(words: &Texts, status: &Status) -> Option<Reading>
         Status::Syntax(_)
         | Status::Names(_)
         | Status::Flow(_)
-        | Status::NoAssignment
-        | Status::Spent(_) => source_unless(b"trial", words),
+        | Status::NoAssignment(_)
+        | Status::Spent(_, _) => source_unless(b"trial", words),
         Status::InputText(_) => inputs_of(words),
         Status::ScheduleText(_) => Some(Reading {
             word: SCHEDULE,

@@ -1,4 +1,4 @@
-//! The remark on the bytes of the file that a status speaks of.
+//! The remark on a status that speaks of a file, made of what the status carries and of the bytes of that file.
 
 ghost use Rattle.std.specs.Prelude.{◌≡◌, IfOk, Some};
 ghost use Rattle.vd_diag.specs.Remarks.{at as remark_at};
@@ -7,7 +7,7 @@ ghost use Rattle.vd_diag_source.specs.Rules.{IsRuleRemark};
 ghost use Rattle.vd_diag_terminal.specs.Programs.{SaysOne};
 ghost use Rattle.vd_diag_terminal.specs.Remarks as remarks;
 
-use crate::programs::{remark_on_assignment, remark_on_budget};
+use crate::programs::{remark_on_assignment, remark_on_search};
 use std::alloc::Global;
 use vd_base::Bytes;
 use vd_cmd_plan::{FlowFault, Status};
@@ -75,7 +75,7 @@ fn remark_on_flow(alloc: Global, fault: &FlowFault) -> Result<Option<Remark>, Te
     Ok(Some(remark))
 }
 
-/// The remark on the bytes of the file that a status speaks of, if there is one.
+/// The remark on a status that speaks of the file with these bytes, if there is one.
 pub(crate) fn remark_on(
     alloc: Global,
     bytes: &[u8],
@@ -87,8 +87,8 @@ pub(crate) fn remark_on(
         Status::Syntax(fault) => syntax_remark(alloc, bytes, *fault),
         Status::Names(fault) => remark_on_rule(alloc, bytes, *fault),
         Status::Flow(fault) => remark_on_flow(alloc, fault),
-        Status::NoAssignment => remark_on_assignment(alloc, bytes),
-        Status::Spent(budget) => remark_on_budget(alloc, bytes, *budget),
+        Status::NoAssignment(program) => remark_on_assignment(alloc, program),
+        Status::Spent(budget, program) => remark_on_search(alloc, program, *budget),
         Status::InputText(fault) => remark_on_text(alloc, bytes, *fault, inputs_sentence()),
         Status::ScheduleText(fault) => remark_on_text(alloc, bytes, *fault, schedule_sentence()),
         _ => Ok(None),

@@ -9,29 +9,29 @@ use Rattle.vd_cmd_compile_early.proofs.early_command.compile_choice.Goals as goa
 
 pub compile_at-requires : goal.compile_at-requires
 compile_at-requires c =
-    let choice = c.args.found.now.choice in
+    let choice = c.args.found.choice in
     which_is (IsSelected choice.program) choice.assignment c.in-Some.assignment c.in-Some.is c.requires.selected
 
 pub returns-in-Some-clause-computes : goal.returns-in-Some-clause-computes
 returns-in-Some-clause-computes c =
-    let found = c.args.found.now in
+    let found = c.args.found in
     let o = rw c.as_slice.ensures at c.compile_at.ensures.computes in (
       o.0,
-      assigned_computes (λ (a : Assignment). early_at found.choice.program o.0 a found.text c.args.prefix.now) found.choice.assignment (Some c.in-Some.assignment) c.compile_at.result c.in-Some.is o.1,
+      assigned_computes found.choice.program (λ (a : Assignment). early_at found.choice.program o.0 a found.text c.args.prefix.now) found.choice.assignment (Some c.in-Some.assignment) c.compile_at.result c.in-Some.is o.1,
     )
 
 pub returns-in-Some-clause-tells : goal.returns-in-Some-clause-tells
 returns-in-Some-clause-tells c =
-    let found = c.args.found.now in
+    let found = c.args.found in
     run_told found.text c.args.prefix.now found.choice.program c.compile_at.result c.requires.of (rw c.as_slice.ensures at c.compile_at.ensures.tells)
 
 pub returns-in-None-clause-computes : goal.returns-in-None-clause-computes
 returns-in-None-clause-computes c =
-    let found = c.args.found.now in (
+    let found = c.args.found in (
       Done,
-      assigned_computes (λ (a : Assignment). early_at found.choice.program Done a found.text c.args.prefix.now) found.choice.assignment None _ c.in-None.is
-          (none_computes c.no_assignment.result c.no_assignment.ensures),
+      assigned_computes found.choice.program (λ (a : Assignment). early_at found.choice.program Done a found.text c.args.prefix.now) found.choice.assignment None _ c.in-None.is
+          (none_computes found.choice.program c.no_assignment.result c.no_assignment.ensures),
     )
 
 pub returns-in-None-clause-tells : goal.returns-in-None-clause-tells
-returns-in-None-clause-tells c = none_told c.args.found.now.text c.args.prefix.now c.no_assignment.result c.no_assignment.ensures
+returns-in-None-clause-tells c = none_told c.args.found.text c.args.prefix.now c.args.found.choice.program c.no_assignment.result c.no_assignment.ensures

@@ -41,7 +41,7 @@ returns-in-Some-clause-tells c =
 pub returns-in-None-clause-executes : goal.returns-in-None-clause-executes
 returns-in-None-clause-executes c =
     with_choice c.args.words.now c.args.program c.args.host c.args.runs c.in_ok-choice.choice None _ (c.in_ok-choice.ensures {u = tt}).chooses c.in-None.is
-    (λ outcomes files. answers no_list files _ (none_computes c.no_assignment.result c.no_assignment.ensures))
+    (λ outcomes files. answers (no_list c.in_ok-choice.choice.program) files _ (none_computes c.in_ok-choice.choice.program c.no_assignment.result c.no_assignment.ensures))
 
 pub returns-in-None-clause-tells : goal.returns-in-None-clause-tells
-returns-in-None-clause-tells c = none_told c.args.host c.args.program c.args.words.now.out c.args.runs c.no_assignment.result c.no_assignment.ensures
+returns-in-None-clause-tells c = none_told c.args.host c.args.program c.args.words.now.out c.args.runs c.in_ok-choice.choice.program c.no_assignment.result c.no_assignment.ensures

@@ -37,10 +37,10 @@ returns-in-Some-clause-counts c =
 pub returns-in-None-clause-executes : goal.returns-in-None-clause-executes
 returns-in-None-clause-executes c =
     with_choice c.args.program c.args.asked c.args.budget c.in_ok-choice.choice None _ (c.in_ok-choice.ensures {u = tt}).chooses c.in-None.is
-    (λ outcomes files. answers no_list files _ (none_computes c.no_assignment.result c.no_assignment.ensures))
+    (λ outcomes files. answers (no_list c.in_ok-choice.choice.program) files _ (none_computes c.in_ok-choice.choice.program c.no_assignment.result c.no_assignment.ensures))
 
 pub returns-in-None-clause-tells : goal.returns-in-None-clause-tells
-returns-in-None-clause-tells c = none_told c.args.program c.args.asked c.no_assignment.result c.no_assignment.ensures
+returns-in-None-clause-tells c = none_told c.args.program c.args.asked c.in_ok-choice.choice.program c.no_assignment.result c.no_assignment.ensures
 
 pub returns-in-None-clause-counts : goal.returns-in-None-clause-counts
-returns-in-None-clause-counts c = none_counted c.args.program c.args.asked c.args.packets.now c.no_assignment.result c.no_assignment.ensures
+returns-in-None-clause-counts c = none_counted c.args.program c.args.asked c.args.packets.now c.in_ok-choice.choice.program c.no_assignment.result c.no_assignment.ensures

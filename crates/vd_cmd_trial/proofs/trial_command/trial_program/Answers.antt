@@ -37,7 +37,7 @@ returns-in-Some-clause-tells c = subst (λ (p : NormalForm). TellsProgram c.args
 pub returns-clause-executes : goal.returns-clause-executes
 returns-clause-executes c =
     choice_which c.args.program most_search_budget (choice_plan c.args.coordinates) c.in_ok-choice.choice None _ (c.in_ok-choice.ensures {u = tt}).chooses c.in-None.is
-    (λ files. answers no_list files _ (none_computes c.no_assignment.result c.no_assignment.ensures))
+    (λ files. answers (no_list c.in_ok-choice.choice.program) files _ (none_computes c.in_ok-choice.choice.program c.no_assignment.result c.no_assignment.ensures))
 
 pub returns-clause-tells : goal.returns-clause-tells
-returns-clause-tells c = none_told c.args.coordinates c.args.program c.no_assignment.result c.no_assignment.ensures
+returns-clause-tells c = none_told c.args.coordinates c.args.program c.in_ok-choice.choice.program c.no_assignment.result c.no_assignment.ensures

@@ -1,12 +1,12 @@
 use Rattle.std.proofs.lemmas.Result.{IfOk-weaker}
-use Rattle.vd_diag_terminal.specs.Programs.{IsOfProgram, IsAssignmentRemark}
-use Rattle.vd_diag_terminal.proofs.Parts.{of_program, of_no_program}
+use Rattle.vd_diag_terminal.specs.Programs.{IsAssignmentRemark, IsSlotRemark}
+use Rattle.vd_diag_terminal.proofs.Parts.{of_branch, of_slots}
 use Rattle.vd_diag_terminal.proofs.programs.remark_on_assignment.Goals as goal
 
 pub returns-in-Some : goal.returns-in-Some
-returns-in-Some c =
-    IfOk-weaker c.remark_on_space.result (IsAssignmentRemark c.in-Some.program) (IsOfProgram c.args.bytes.now (IsAssignmentRemark))
-    (λ remark says. of_program c.args.bytes.now (IsAssignmentRemark) c.in_ok-found.found c.in-Some.program remark c.in-Some.is (c.in_ok-found.ensures {u = tt}) says) c.remark_on_space.ensures
+returns-in-Some c = of_branch c.args.program.now c.in_ok-hidden.hidden c.in-Some.remark c.in-Some.is (c.in_ok-hidden.ensures {u = tt})
 
 pub returns-in-None : goal.returns-in-None
-returns-in-None c = of_no_program c.args.bytes.now (IsAssignmentRemark) c.in_ok-found.found c.in-None.is (c.in_ok-found.ensures {u = tt})
+returns-in-None c =
+    IfOk-weaker c.remark_on_slots.result (IsSlotRemark c.args.program.now) (IsAssignmentRemark c.args.program.now)
+    (λ remark says. of_slots c.args.program.now c.in_ok-hidden.hidden remark c.in-None.is (c.in_ok-hidden.ensures {u = tt}) says) c.remark_on_slots.ensures

@@ -14,7 +14,7 @@ pub returns-in-NoAssignment : goal.returns-in-NoAssignment
 returns-in-NoAssignment c = rw c.in-NoAssignment.is c.remark_on_assignment.ensures
 
 pub returns-in-Spent : goal.returns-in-Spent
-returns-in-Spent c = rw c.in-Spent.is c.remark_on_budget.ensures
+returns-in-Spent c = rw c.in-Spent.is c.remark_on_search.ensures
 
 pub returns-in-InputText : goal.returns-in-InputText
 returns-in-InputText c = rw c.in-InputText.is (rw c.inputs_sentence.ensures at c.remark_on_text.ensures)
