@@ -22,11 +22,11 @@ returns-in-Some-clause-tells c =
     let found = c.args.found in
     run_told found.text c.args.prefix.now found.choice.program c.compile_at.result c.requires.of (rw c.as_slice.ensures at c.compile_at.ensures.tells)
 
-pub returns-in-None-clause-computes : goal.returns-in-None-clause-computes
-returns-in-None-clause-computes c =
+pub returns-clause-computes : goal.returns-clause-computes
+returns-clause-computes c =
     let found = c.args.found in
     assigned_computes found.choice.program (λ (a : Assignment). compiled_at found.choice.program a found.text c.args.prefix.now) found.choice.assignment None _ c.in-None.is
     (none_computes found.choice.program c.no_assignment.result c.no_assignment.ensures)
 
-pub returns-in-None-clause-tells : goal.returns-in-None-clause-tells
-returns-in-None-clause-tells c = none_told c.args.found.text c.args.prefix.now c.args.found.choice.program c.no_assignment.result c.no_assignment.ensures
+pub returns-clause-tells : goal.returns-clause-tells
+returns-clause-tells c = none_told c.args.found.text c.args.prefix.now c.args.found.choice.program c.no_assignment.result c.no_assignment.ensures

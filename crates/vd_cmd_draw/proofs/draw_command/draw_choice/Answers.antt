@@ -10,8 +10,8 @@ returns-in-Some c =
     assigned_computes found.choice.program (drawn_answer c.args.name.now found.text found.choice.program found.choice.labels) found.choice.assignment (Some c.in-Some.assignment) c.draw_at.result c.in-Some.is
     (subst (λ text. Computes (drawn_answer c.args.name.now text found.choice.program found.choice.labels c.in-Some.assignment) c.draw_at.result) c.as_slice.ensures c.draw_at.ensures)
 
-pub returns-in-None : goal.returns-in-None
-returns-in-None c =
+pub returns : goal.returns
+returns c =
     let found = c.args.found in
     assigned_computes found.choice.program (drawn_answer c.args.name.now found.text found.choice.program found.choice.labels) found.choice.assignment None _ c.in-None.is
     (none_computes found.choice.program c.no_assignment.result c.no_assignment.ensures)
