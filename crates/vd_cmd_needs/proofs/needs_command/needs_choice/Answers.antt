@@ -18,11 +18,11 @@ returns-in-Some-clause-computes c =
 pub returns-in-Some-clause-tells : goal.returns-in-Some-clause-tells
 returns-in-Some-clause-tells c = told_then c.args.each c.args.choice.program c.needs_at.result c.needs_at.ensures.tells
 
-pub returns-clause-computes : goal.returns-clause-computes
-returns-clause-computes c =
+pub returns-in-None-clause-computes : goal.returns-in-None-clause-computes
+returns-in-None-clause-computes c =
     let choice = c.args.choice in
     assigned_computes choice.program (λ (a : Assignment). ended [] (needs_text c.args.each choice.program a.protocols)) choice.assignment None _ c.in-None.is
     (none_computes choice.program c.no_assignment.result c.no_assignment.ensures)
 
-pub returns-clause-tells : goal.returns-clause-tells
-returns-clause-tells c = none_told c.args.each c.args.choice.program c.no_assignment.result c.no_assignment.ensures
+pub returns-in-None-clause-tells : goal.returns-in-None-clause-tells
+returns-in-None-clause-tells c = none_told c.args.each c.args.choice.program c.no_assignment.result c.no_assignment.ensures
