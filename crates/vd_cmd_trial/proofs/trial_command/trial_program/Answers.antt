@@ -34,10 +34,10 @@ returns-in-Some-clause-executes c =
 pub returns-in-Some-clause-tells : goal.returns-in-Some-clause-tells
 returns-in-Some-clause-tells c = subst (λ (p : NormalForm). TellsProgram c.args.coordinates p c.trial_at.result) (c.in_ok-choice.ensures {u = tt}).found.same c.trial_at.ensures.tells
 
-pub returns-clause-executes : goal.returns-clause-executes
-returns-clause-executes c =
+pub returns-in-None-clause-executes : goal.returns-in-None-clause-executes
+returns-in-None-clause-executes c =
     choice_which c.args.program most_search_budget (choice_plan c.args.coordinates) c.in_ok-choice.choice None _ (c.in_ok-choice.ensures {u = tt}).chooses c.in-None.is
     (λ files. answers (no_list c.in_ok-choice.choice.program) files _ (none_computes c.in_ok-choice.choice.program c.no_assignment.result c.no_assignment.ensures))
 
-pub returns-clause-tells : goal.returns-clause-tells
-returns-clause-tells c = none_told c.args.coordinates c.args.program c.in_ok-choice.choice.program c.no_assignment.result c.no_assignment.ensures
+pub returns-in-None-clause-tells : goal.returns-in-None-clause-tells
+returns-in-None-clause-tells c = none_told c.args.coordinates c.args.program c.in_ok-choice.choice.program c.no_assignment.result c.no_assignment.ensures
