@@ -46,8 +46,7 @@ impl Ascent {
         problem: &Problem,
         tables: &LinkedTables,
     ) -> Result<Option<Items<Shift>>, AllocError>
-        requires labelled { IsLabelled problem.now }
-        requires tables { AreLinkedTables problem.now tables.now }
+        requires { AreLinkedTables problem.now tables.now }
         ensures { IfOk result (λ found. IfSome found (AreLinkShifts problem.now)) }
     {
         let nets = self.climb.lifted(alloc, tables.links.as_slice())?;
@@ -64,7 +63,6 @@ fn linked_shifts(
     list: &[Proto],
     nets: &Nets,
 ) -> Result<Option<Items<Shift>>, AllocError>
-    requires labelled { IsLabelled problem.now }
     requires tables { AreLinkedTables problem.now tables.now }
     requires list { list.now ≡ protocols_of problem.now }
     ensures { IfOk result (λ found. IfSome found (AreLinkShifts problem.now)) }

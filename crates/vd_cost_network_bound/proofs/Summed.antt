@@ -6,8 +6,7 @@ use Rattle.vd_base.specs.declared.protocols.Proto.{Proto}
 use Rattle.vd_search_tree.specs.declared.shift.Shift.{Shift}
 use Rattle.vd_space.specs.declared.problem.Problem.{Problem}
 use Rattle.vd_space.specs.Costs.{total}
-use Rattle.vd_space.specs.Labelled.{IsLabelled}
-use Rattle.vd_space.specs.Sizes.{IsWithinLimits}
+use Rattle.vd_space.specs.WellFormed.{IsWellFormed}
 use Rattle.vd_space_prefix.specs.Tables.{AreListed}
 use Rattle.vd_space_prefix.proofs.Placed.{size_by_place}
 use Rattle.vd_cost_network.specs.Links.{links}
@@ -37,7 +36,7 @@ module _ (problem : Problem) (bound : LinkedBound) (is : IsBoundOf problem bound
 pub settings_decided : (problem : Problem) (prefix : List ℕ) (states : List (Option ℕ)) → AreListed problem prefix → states ≡ states_of problem prefix → AreSettings problem (as_states states)
 settings_decided problem prefix states listed written = subst (AreSettings problem) (sym (ap as_states written ∙ states_are problem prefix)) (are_settings problem prefix listed)
 
-module _ (problem : Problem) (labelled : IsLabelled problem) (limits : IsWithinLimits problem) (shifts : List Shift) (few : length shifts ≤ 131072) (amounts : AreSmallShifts shifts) where
+module _ (problem : Problem) (formed : IsWellFormed problem) (shifts : List Shift) (few : length shifts ≤ 131072) (amounts : AreSmallShifts shifts) where
   pub bound_is : (switches : List SwitchTable) → AreSwitchTables problem switches → (prefix : List ℕ) → AreListed problem prefix → (states : List (Option ℕ)) → states ≡ states_of problem prefix → (first second : ℤ)
       → first ≡ total (point_part (point_tables_of problem shifts) (as_states states)) (range_with_len 0 (count_of_points problem))
       → second ≡ total (link_part (link_tables_of problem shifts) (as_states states)) (range_with_len 0 (length (links problem)))
@@ -46,11 +45,12 @@ module _ (problem : Problem) (labelled : IsLabelled problem) (limits : IsWithinL
       let tables : LinkedTables = record { shifts = shifts; points = point_tables_of problem shifts; links = link_tables_of problem shifts; switches = switches } in
       let are : AreLinkedTables problem tables =
       record {
+        well_formed = formed;
         points = point_tables_are problem shifts (point_tables_of problem shifts) refl;
         links = link_tables_are problem shifts (link_tables_of problem shifts) refl;
         switches = switched;
-        small_points = point_tables_small problem labelled limits shifts few amounts;
-        small_links = link_tables_small problem shifts few amounts labelled limits;
+        small_points = point_tables_small problem formed.labelled formed.limits shifts few amounts;
+        small_links = link_tables_small problem shifts few amounts formed.labelled formed.limits;
       } in
       let points_sum : first ≡ total (point_part tables.points (as_states states)) (range_with_len 0 (length tables.points)) =
       first_is ∙ ap (λ n. total (point_part tables.points (as_states states)) (range_with_len 0 n)) (sym are.points.size) in

@@ -2,6 +2,7 @@
 use Rattle.std.specs.Prelude.{◌≡◌, ℕ, Option, List, map, ℤ}
 use Rattle.vd_space.specs.declared.problem.Problem.{Problem}
 use Rattle.vd_space.specs.Validity.{protocols}
+use Rattle.vd_space.specs.WellFormed.{IsWellFormed}
 use Rattle.vd_space_prefix.specs.Transfers.{by_place}
 use Rattle.vd_cost_network.specs.Links.{links, point_value}
 use Rattle.vd_cost_network_prefix.specs.States.{count_of_points, settings}
@@ -18,6 +19,7 @@ abbrev pub free_at : Problem → ℕ → List ℕ
 free_at problem point = passing (tests_of problem point)
 
 pub record IsBoundOf (problem : Problem) (bound : LinkedBound) : Type 0 where
+  pub well_formed : IsWellFormed problem
   pub list : bound.list ≡ protocols problem
   pub switches : bound.switches ≡ switch_tables_from problem 0 problem.guards
   pub links : bound.links ≡ map (raw_link problem) (links problem)

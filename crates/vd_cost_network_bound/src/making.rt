@@ -3,16 +3,15 @@
 ghost use Rattle.std.specs.Prelude.{◌≡◌, ◌<◌, ◌++◌, ◌∷◌, ℕ, [], IfOk, OnOk, if◌then◌else◌, length, map, slice_index_or};
 ghost use Rattle.vd_cost_network_bound.specs.Bounds.{IsBoundOf};
 ghost use Rattle.vd_cost_network_bound.specs.Least.{passing};
-ghost use Rattle.vd_space.specs.Labelled.{IsLabelled};
-ghost use Rattle.vd_space.specs.Sizes.{IsWithinLimits};
-ghost use Rattle.vd_space.specs.Spaces.{IsProblem};
+ghost use Rattle.vd_space.specs.WellFormed.{IsWellFormed};
 
 use crate::made::LinkedBound;
 use crate::values::point_values;
 use std::alloc::{AllocError, Global};
 use vd_base_lists::Items;
-use vd_cost_network_tables::{all_links, all_protocols, settings, switch_tables};
+use vd_cost_network_tables::{all_links, settings, switch_tables};
 use vd_space::Problem;
+use vd_space_tables::all_protocols;
 use vd_space_terms::candidates;
 
 /// Puts the setting at the end, where the test passes.
@@ -49,9 +48,7 @@ fn all_passing(alloc: Global, settings: &[Items<bool>]) -> Result<Items<Items<u3
 impl LinkedBound {
     /// What the bounds of a problem's prefixes are made of.
     pub fn new(alloc: Global, problem: &Problem) -> Result<LinkedBound, AllocError>
-        requires holds { IsProblem problem.now }
-        requires labelled { IsLabelled problem.now }
-        requires limits { IsWithinLimits problem.now }
+        requires { IsWellFormed problem.now }
         ensures { IfOk result (IsBoundOf problem.now) }
     {
         let list = all_protocols(alloc, problem)?;

@@ -12,9 +12,6 @@ ghost use Rattle.vd_cost_network_tables.specs.Tables.{link_tables_of, point_tabl
 ghost use Rattle.vd_space_prefix.specs.Tables.{AreListed};
 ghost use Rattle.vd_space_prefix.specs.Transfers.{IsWithin};
 ghost use Rattle.vd_space.specs.Costs.{total};
-ghost use Rattle.vd_space.specs.Labelled.{IsLabelled};
-ghost use Rattle.vd_space.specs.Sizes.{IsWithinLimits};
-ghost use Rattle.vd_space.specs.Spaces.{IsProblem};
 
 use crate::least::{least_of_link, least_of_point, settings_at};
 use crate::made::LinkedBound;
@@ -33,8 +30,6 @@ impl LinkedBound {
         states: &[Option<u32>],
         shifts: &[Shift],
     ) -> Result<i128, AllocError>
-        requires labelled { IsLabelled problem.now }
-        requires limits { IsWithinLimits problem.now }
         requires bound { IsBoundOf problem.now self.now }
         requires states { AreSettings problem.now (as_states states.now) }
         requires few { length shifts.now ≤ most_certificate_shifts }
@@ -70,8 +65,6 @@ impl LinkedBound {
         states: &[Option<u32>],
         shifts: &[Shift],
     ) -> Result<i128, AllocError>
-        requires labelled { IsLabelled problem.now }
-        requires limits { IsWithinLimits problem.now }
         requires bound { IsBoundOf problem.now self.now }
         requires states { AreSettings problem.now (as_states states.now) }
         requires few { length shifts.now ≤ most_certificate_shifts }
@@ -104,9 +97,6 @@ impl LinkedBound {
         shifts: &[Shift],
         prefix: &[u32],
     ) -> Result<i64, AllocError>
-        requires holds { IsProblem problem.now }
-        requires labelled { IsLabelled problem.now }
-        requires limits { IsWithinLimits problem.now }
         requires bound { IsBoundOf problem.now self.now }
         requires prefix { AreListed problem.now prefix.now }
         requires few { length shifts.now ≤ most_certificate_shifts }

@@ -10,7 +10,7 @@ ghost use Rattle.vd_space_prefix.specs.Transfers.{by_place};
 ghost use Rattle.vd_space.specs.Labelled.{IsLabelled};
 ghost use Rattle.vd_space.specs.Sizes.{IsWithinLimits};
 ghost use Rattle.vd_space.specs.Spaces.{IsProblem};
-ghost use Rattle.vd_space.specs.Validity.{protocols};
+ghost use Rattle.vd_space.specs.WellFormed.{AreProtocols, IsWellFormed};
 
 use std::alloc::{AllocError, Global};
 use vd_base::{HostId, Proto};
@@ -27,8 +27,7 @@ fn slot_values(
     list: &[Proto],
     slot: usize,
 ) -> Result<Items<Option<i64>>, AllocError>
-    requires list { list.now ≡ protocols problem.now }
-    requires labelled { IsLabelled problem.now }
+    requires list { AreProtocols problem.now list.now }
     requires limits { IsWithinLimits problem.now }
     requires slot { slot < length problem.now.slots }
     ensures { IfOk result (λ values. values ≡ values_at problem.now slot) }
@@ -62,8 +61,7 @@ fn all_slot_values(
     problem: &Problem,
     list: &[Proto],
 ) -> Result<Items<Items<Option<i64>>>, AllocError>
-    requires list { list.now ≡ protocols problem.now }
-    requires labelled { IsLabelled problem.now }
+    requires list { AreProtocols problem.now list.now }
     requires limits { IsWithinLimits problem.now }
     ensures { IfOk result (λ values. values ≡ by_place (length problem.now.slots) (values_at problem.now)) }
 {
@@ -103,10 +101,8 @@ pub(crate) fn point_values(
     list: &[Proto],
     switches: &[SwitchTable],
 ) -> Result<Items<Items<Option<i64>>>, AllocError>
-    requires holds { IsProblem problem.now }
-    requires labelled { IsLabelled problem.now }
-    requires limits { IsWithinLimits problem.now }
-    requires list { list.now ≡ protocols problem.now }
+    requires well_formed { IsWellFormed problem.now }
+    requires list { AreProtocols problem.now list.now }
     requires switches { switches.now ≡ switch_tables_from problem.now 0 problem.now.guards }
     ensures { IfOk result (λ values. values ≡ by_place (count_of_points problem.now) (values_at problem.now)) }
 {

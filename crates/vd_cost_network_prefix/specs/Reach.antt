@@ -1,14 +1,16 @@
 -- What a choice may change: the points that a slot may decide, and the links that a point has.
-use Rattle.std.specs.Prelude.{◌≡◌, ℕ, ◌-◌, ◌||◌, ◌==◌, nat_lt, if◌then◌else◌, Bool, false, Option, List, filter, length, slice_get}
+use Rattle.std.specs.Prelude.{◌≡◌, ℕ, ◌-◌, ◌||◌, ◌==◌, nat_lt, if◌then◌else◌, Bool, false, Option, List, filter, length, slice_get, ℤ}
 use Rattle.std.specs.List.{list_any, range_with_len}
 use Rattle.std.specs.Option.{option_map_or}
 use Rattle.vd_base.specs.declared.ids.SlotId.{SlotId}
+use Rattle.vd_base.specs.declared.protocols.Proto.{Proto}
 use Rattle.vd_space.specs.declared.problem.Problem.{Problem}
 use Rattle.vd_space.specs.declared.problem.Guard.{Guard}
+use Rattle.vd_space.specs.Validity.{protocols}
 use Rattle.vd_space_prefix.specs.Naming.{numbers_from}
 use Rattle.vd_space_prefix.specs.Transfers.{by_place}
 use Rattle.vd_cost_network.specs.Points.{decided}
-use Rattle.vd_cost_network_prefix.specs.States.{as_states}
+use Rattle.vd_cost_network_prefix.specs.States.{AreSmallTables, AreSwitchTables, as_states, count_of_points, parts_by}
 use Rattle.vd_cost_network_prefix.specs.declared.made.LinkTable.{LinkTable}
 use Rattle.vd_cost_network_prefix.specs.declared.made.SwitchTable.{SwitchTable}
 use Rattle.vd_cost_network_prefix.specs.declared.made.LinkedTables.{LinkedTables}
@@ -44,3 +46,16 @@ pub record IsReach (problem : Problem) (tables : LinkedTables) (reach : Reach) :
 -- each point that the slot may not change stands as the prefix decides it
 abbrev pub AreDecidedBeside : Problem → List SwitchTable → List ℕ → ℕ → List (Option ℕ) → Type 0
 AreDecidedBeside problem tables prefix slot states = (point : ℕ) → may_change problem tables slot point ≡ false → as_states states point ≡ decided problem prefix point
+
+-- by what the points that a slot may change are decided anew: small tables with a row for each point, and what may change
+pub record CanDecide (problem : Problem) (list : List Proto) (tables : LinkedTables) (reach : Reach) : Type 0 where
+  pub all : list ≡ protocols problem
+  pub switches : AreSwitchTables problem tables.switches
+  pub small : AreSmallTables tables
+  pub points : length tables.points ≡ count_of_points problem
+  pub reached : IsReach problem tables reach
+
+-- what is decided of each point, and what all points and links come to by that
+pub record ComeTo (tables : LinkedTables) (states : List (Option ℕ)) (parts : ℤ) : Type 0 where
+  pub size : length tables.points ≡ length states
+  pub sum : parts ≡ parts_by tables (as_states states)

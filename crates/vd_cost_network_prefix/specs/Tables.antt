@@ -2,11 +2,13 @@
 use Rattle.std.specs.Prelude.{◌≡◌, ◌≤◌, ℕ, IsTrue, List, Option, length, take}
 use Rattle.vd_space.specs.declared.problem.Problem.{Problem}
 use Rattle.vd_space.specs.Validity.{is_valid}
+use Rattle.vd_space.specs.WellFormed.{IsWellFormed}
 use Rattle.vd_space_prefix.specs.Tables.{AreListed}
 use Rattle.vd_cost_network_prefix.specs.declared.made.LinkedTables.{LinkedTables}
 use Rattle.vd_cost_network_prefix.specs.States.{AreLinkTables, ArePointTables, AreSwitchTables, AreSmallLinks, AreSmallPoints, states_of}
 
 pub record AreLinkedTables (problem : Problem) (tables : LinkedTables) : Type 0 where
+  pub well_formed : IsWellFormed problem
   pub points : ArePointTables problem tables.shifts tables.points
   pub links : AreLinkTables problem tables.shifts tables.links
   pub switches : AreSwitchTables problem tables.switches

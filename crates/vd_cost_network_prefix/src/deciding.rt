@@ -1,9 +1,8 @@
 //! What is decided, kept from choice to choice with what all points and links come to.
 
 ghost use Rattle.std.specs.Prelude.{◌≡◌, ◌==◌, ◌<◌, ℕ, [], IsTrue, false, if◌then◌else◌, length, slice_index_or, slice_set, true};
-ghost use Rattle.vd_cost_network_prefix.specs.Reach.{AreDecidedBeside, IsReach, links_at};
-ghost use Rattle.vd_cost_network_prefix.specs.States.{AreSmallTables, AreSwitchTables, as_states, count_of_points, parts_by, states_of};
-ghost use Rattle.vd_space.specs.Validity.{protocols};
+ghost use Rattle.vd_cost_network_prefix.specs.Reach.{AreDecidedBeside, CanDecide, ComeTo, links_at};
+ghost use Rattle.vd_cost_network_prefix.specs.States.{AreSmallTables, as_states, parts_by, states_of};
 
 use crate::made::LinkedTables;
 use crate::reach::Reach;
@@ -64,10 +63,9 @@ fn put(
     parts: i128,
 ) -> i128
     requires small { AreSmallTables tables.now }
-    requires points { length tables.now.points ≡ length states.old }
     requires point { point < length states.old }
     requires links { links.now ≡ links_at tables.now.links point }
-    requires parts { parts ≡ parts_by tables.now (as_states states.old) }
+    requires parts { ComeTo tables.now states.old parts }
     ensures states { states.new ≡ slice_set states.old point state }
     ensures parts { result ≡ parts_by tables.now (as_states states.new) }
 {
@@ -87,9 +85,8 @@ fn change(
     parts: i128,
 ) -> i128
     requires small { AreSmallTables tables.now }
-    requires points { length tables.now.points ≡ length states.old }
     requires links { point < length states.old → links.now ≡ links_at tables.now.links point }
-    requires parts { parts ≡ parts_by tables.now (as_states states.old) }
+    requires parts { ComeTo tables.now states.old parts }
     ensures size { length states.new ≡ length states.old }
     ensures here { point < length states.old → as_states states.new point ≡ state }
     ensures others { (other : ℕ) → (other == point) ≡ false → as_states states.new other ≡ as_states states.old other }
@@ -114,15 +111,10 @@ fn decide_slot(
     slot: usize,
     parts: i128,
 ) -> i128
-    requires list { list.now ≡ protocols problem.now }
-    requires switches { AreSwitchTables problem.now tables.now.switches }
-    requires small { AreSmallTables tables.now }
-    requires points { length tables.now.points ≡ count_of_points problem.now }
-    requires reach { IsReach problem.now tables.now reach.now }
+    requires tables { CanDecide problem.now list.now tables.now reach.now }
     requires slot { slot < length problem.now.slots }
-    requires room { length states.old ≡ count_of_points problem.now }
     requires beside { AreDecidedBeside problem.now tables.now.switches prefix.now slot states.old }
-    requires parts { parts ≡ parts_by tables.now (as_states states.old) }
+    requires parts { ComeTo tables.now states.old parts }
     ensures states { states.new ≡ states_of problem.now prefix.now }
     ensures parts { result ≡ parts_by tables.now (as_states states.new) }
 {
@@ -148,15 +140,10 @@ pub(crate) fn decide_if(
     prefix: &[u32],
     slot: usize,
 )
-    requires list { list.now ≡ protocols problem.now }
-    requires switches { AreSwitchTables problem.now tables.now.switches }
-    requires small { AreSmallTables tables.now }
-    requires points { length tables.now.points ≡ count_of_points problem.now }
-    requires reach { IsReach problem.now tables.now reach.now }
+    requires tables { CanDecide problem.now list.now tables.now reach.now }
     requires slot { slot < length problem.now.slots }
-    requires room { length known.old.states ≡ count_of_points problem.now }
     requires beside { IsTrue wanted → AreDecidedBeside problem.now tables.now.switches prefix.now slot known.old.states }
-    requires parts { known.old.parts ≡ parts_by tables.now (as_states known.old.states) }
+    requires parts { ComeTo tables.now known.old.states known.old.parts }
     ensures states { known.new.states ≡ (if wanted then states_of problem.now prefix.now else known.old.states) }
     ensures parts { known.new.parts ≡ parts_by tables.now (as_states known.new.states) }
     ensures told { known.new.told ≡ (if wanted then length prefix.now else known.old.told) }

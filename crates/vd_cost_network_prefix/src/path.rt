@@ -1,15 +1,13 @@
 //! A path from the empty prefix down, whose prefixes are bounded by links too.
 
-ghost use Rattle.std.specs.Prelude.{◌≡◌, ◌<◌, [], length, take, IfOk};
+ghost use Rattle.std.specs.Prelude.{◌≡◌, [], length, take, IfOk};
 ghost use Rattle.std.proofs.Props.{props};
 ghost use Rattle.vd_cost_network.specs.Linked.{linked_tree};
 ghost use Rattle.vd_cost_network_prefix.specs.Reach.{IsReach};
 ghost use Rattle.vd_cost_network_prefix.specs.States.{AreSmallTables, as_states, parts_by};
 ghost use Rattle.vd_cost_network_prefix.specs.Tables.{AreLinkedTables, IsLinkedPath};
 ghost use Rattle.vd_space_prefix.specs.Tables.{AreTables};
-ghost use Rattle.vd_space.specs.Labelled.{IsLabelled};
 ghost use Rattle.vd_space.specs.Spaces.{IsProblem, tree_of};
-ghost use Rattle.vd_space.specs.Validity.{protocols};
 
 use crate::deciding::{Known, decide_if};
 use crate::made::LinkedTables;
@@ -121,8 +119,6 @@ impl<'a> LinkedPath<'a> {
         tables: &'a Tables,
         linked: &'a LinkedTables,
     ) -> Result<LinkedPath<'a>, AllocError>
-        requires holds { IsProblem problem.now }
-        requires labelled { IsLabelled problem.now }
         requires tables { AreTables problem.now tables.now }
         requires plain { tables.now.shifts ≡ [] }
         requires linked { AreLinkedTables problem.now linked.now }

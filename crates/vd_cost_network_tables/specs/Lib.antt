@@ -1,3 +1,4 @@
 pub mod Tables
 pub mod Raws
 pub mod Sums
+pub mod Sources

@@ -1,15 +1,13 @@
 //! The tables of links, put together.
 
-ghost use Rattle.std.specs.Prelude.{◌≡◌, ◌≤◌, ◌∷◌, ◌++◌, ℕ, [], IfOk, length, map, replicate, slice_index_or, true};
+ghost use Rattle.std.specs.Prelude.{◌≡◌, ◌≤◌, ◌∷◌, ◌++◌, [], IfOk, length, map, replicate, slice_index_or, true};
 ghost use Rattle.vd_base.specs.Limits.{most_certificate_shifts};
 ghost use Rattle.vd_cost_network.specs.Links.{links};
-ghost use Rattle.vd_cost_network_prefix.specs.States.{AreSmallLinks, settings as settings_of};
+ghost use Rattle.vd_cost_network_prefix.specs.States.{AreSmallLinks};
 ghost use Rattle.vd_cost_network_prefix.specs.Tables.{AreLinkedTables};
-ghost use Rattle.vd_cost_network_tables.specs.Tables.{link_tables_of, raw_link, switch_tables_from, tests_of};
-ghost use Rattle.vd_space.specs.Labelled.{IsLabelled};
-ghost use Rattle.vd_space.specs.Sizes.{IsWithinLimits};
-ghost use Rattle.vd_space.specs.Spaces.{IsProblem};
-ghost use Rattle.vd_space.specs.Validity.{protocols as protocols_of_problem};
+ghost use Rattle.vd_cost_network_tables.specs.Tables.{link_tables_of, raw_link, switch_tables_from};
+ghost use Rattle.vd_space.specs.WellFormed.{AreProtocols, IsWellFormed};
+ghost use Rattle.vd_cost_network_tables.specs.Sources.{AreSettingsOf};
 
 use crate::cells::{link_table, shifted};
 use crate::links::raw_links;
@@ -21,9 +19,9 @@ use std::alloc::{AllocError, Global};
 use vd_base::Proto;
 use vd_base_lists::Items;
 use vd_cost_network_prefix::{LinkTable, LinkedTables, SwitchTable};
-use vd_protocol::protocols;
 use vd_search_tree::Shift;
 use vd_space::Problem;
+use vd_space_tables::all_protocols;
 use vd_space_terms::{candidates, index_prices, move_prices};
 
 /// Which settings each point may be at: a slot at its candidates, and a switch off or on.
@@ -60,11 +58,9 @@ fn link_tables(
     most: usize,
     shifts: &[Shift],
 ) -> Result<Items<LinkTable>, AllocError>
-    requires labelled { IsLabelled problem.now }
-    requires limits { IsWithinLimits problem.now }
+    requires well_formed { IsWellFormed problem.now }
     requires raws { raws.now ≡ map (raw_link problem.now) (links problem.now) }
-    requires settings { (point : ℕ) → slice_index_or settings.now point [] ≡ tests_of problem.now point }
-    requires most { (point : ℕ) → settings_of problem.now point ≤ most }
+    requires settings { AreSettingsOf problem.now settings.now most }
     requires few { length shifts.now ≤ most_certificate_shifts }
     ensures tables { IfOk result (λ tables. tables ≡ link_tables_of problem.now shifts.now) }
     ensures small { IfOk result AreSmallLinks }
@@ -84,15 +80,6 @@ fn link_tables(
     Ok(tables)
 }
 
-/// The list of protocols.
-pub fn all_protocols(alloc: Global, problem: &Problem) -> Result<Items<Proto>, AllocError>
-    requires { IsLabelled problem.now }
-    ensures list { IfOk result (λ list. list ≡ protocols_of_problem problem.now) }
-    ensures few { IfOk result (λ list. length list ≤ 64) }
-{
-    protocols(alloc, problem.hosts.as_slice().len() as u8)
-}
-
 /// All links, without shifts.
 pub fn all_links(
     alloc: Global,
@@ -100,10 +87,8 @@ pub fn all_links(
     list: &[Proto],
     switches: &[SwitchTable],
 ) -> Result<Items<RawLink>, AllocError>
-    requires holds { IsProblem problem.now }
-    requires labelled { IsLabelled problem.now }
-    requires limits { IsWithinLimits problem.now }
-    requires list { list.now ≡ protocols_of_problem problem.now }
+    requires well_formed { IsWellFormed problem.now }
+    requires list { AreProtocols problem.now list.now }
     requires switches { switches.now ≡ switch_tables_from problem.now 0 problem.now.guards }
     ensures { IfOk result (λ raws. raws ≡ map (raw_link problem.now) (links problem.now)) }
 {
@@ -133,9 +118,7 @@ pub fn linked_tables(
     problem: &Problem,
     shifts: Items<Shift>,
 ) -> Result<LinkedTables, AllocError>
-    requires holds { IsProblem problem.now }
-    requires labelled { IsLabelled problem.now }
-    requires limits { IsWithinLimits problem.now }
+    requires well_formed { IsWellFormed problem.now }
     requires few { length shifts ≤ most_certificate_shifts }
     ensures tables { IfOk result (AreLinkedTables problem.now) }
     ensures shifts { IfOk result (λ tables. tables.shifts ≡ shifts) }

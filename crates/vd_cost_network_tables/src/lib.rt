@@ -9,7 +9,7 @@ mod raw;
 mod sums;
 mod switches;
 
-pub use assembly::{all_links, all_protocols, linked_tables, most_settings, settings};
+pub use assembly::{all_links, linked_tables, most_settings, settings};
 pub use cells::{less, taken, value_at};
 pub use points::{can_read, slot_costs};
 pub use raw::RawLink;

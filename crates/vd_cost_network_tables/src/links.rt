@@ -10,11 +10,11 @@ ghost use Rattle.vd_cost_network.specs.Links.{parts};
 ghost use Rattle.vd_cost_network_tables.specs.Raws.{guard_cells, index_raw, member_cells, member_raw, raws_by, scaled_cells, switch_raws, use_raw};
 ghost use Rattle.vd_space_prefix.specs.Transfers.{ArePrices};
 ghost use Rattle.vd_space.specs.Costs.{weigh};
-ghost use Rattle.vd_space.specs.Labelled.{IsLabelled};
 ghost use Rattle.vd_space.specs.Sizes.{IsWithinLimits};
-ghost use Rattle.vd_space.specs.Validity.{protocols};
 ghost use Rattle.vd_space.specs.declared.problem.Use.{Use as Uses};
 ghost use Rattle.vd_space.specs.declared.problem.Index.{Index as Indexes};
+ghost use Rattle.vd_space.specs.WellFormed.{AreProtocols};
+ghost use Rattle.vd_cost_network_tables.specs.Sources.{AreBothPrices};
 
 use crate::raw::RawLink;
 use std::alloc::{AllocError, Global};
@@ -221,9 +221,8 @@ fn links_of_switch(
     point: u32,
     switch: &SwitchTable,
 ) -> Result<Items<RawLink>, AllocError>
-    requires labelled { IsLabelled problem.now }
     requires limits { IsWithinLimits problem.now }
-    requires list { list.now ≡ protocols problem.now }
+    requires list { AreProtocols problem.now list.now }
     ensures { IfOk result (λ links. links ≡ option_map_or (switch_raws list.now point switch.now)
         (slice_get problem.now.guards switch.now.guard) []) }
 {
@@ -242,11 +241,9 @@ pub(crate) fn raw_links(
     tells: &[Items<Option<u32>>],
     switches: &[SwitchTable],
 ) -> Result<Items<RawLink>, AllocError>
-    requires labelled { IsLabelled problem.now }
     requires limits { IsWithinLimits problem.now }
-    requires list { list.now ≡ protocols problem.now }
-    requires moves { ArePrices moves.now }
-    requires tells { ArePrices tells.now }
+    requires list { AreProtocols problem.now list.now }
+    requires prices { AreBothPrices moves.now tells.now }
     requires points { length problem.now.slots + length switches.now < 4294967296 }
     ensures { IfOk result (λ raws. raws ≡ raws_by problem.now list.now moves.now tells.now switches.now) }
 {

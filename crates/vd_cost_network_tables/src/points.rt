@@ -1,19 +1,19 @@
 //! The tables of all points: of the slots, and of the switches behind them.
 
-ghost use Rattle.std.specs.Prelude.{◌≡◌, ◌||◌, ◌<◌, ◌≤◌, ◌+ℤ◌, ◌∷◌, ℕ, None, [], IfOk, OnOk, length, map, not, option_map, pos, slice_index_or, true, unwrap_or};
+ghost use Rattle.std.specs.Prelude.{◌≡◌, ◌||◌, ◌<◌, ◌≤◌, ◌+ℤ◌, ◌∷◌, ℕ, None, [], IfOk, OnOk, length, not, option_map, pos, slice_index_or, true, unwrap_or};
 ghost use Rattle.std.specs.List.{list_all};
 ghost use Rattle.vd_base.specs.Limits.{most_certificate_shifts};
-ghost use Rattle.vd_cost_network.specs.Links.{index_readable, links, parts, slot_value};
+ghost use Rattle.vd_cost_network.specs.Links.{index_readable, parts, slot_value};
 ghost use Rattle.vd_cost_network.specs.Points.{switch_of};
-ghost use Rattle.vd_cost_network_prefix.specs.States.{AreSmallPoints, count_of_points, settings as settings_of};
-ghost use Rattle.vd_cost_network_tables.specs.Sums.{AreSmallSums};
-ghost use Rattle.vd_cost_network_tables.specs.Tables.{own_value, point_tables_of, raw_link, switch_tables_from, switch_values, table_by, table_of_values, tests_of};
+ghost use Rattle.vd_cost_network_prefix.specs.States.{AreSmallPoints, count_of_points};
+ghost use Rattle.vd_cost_network_tables.specs.Tables.{own_value, point_tables_of, switch_tables_from, switch_values, table_by, table_of_values, tests_of};
 ghost use Rattle.vd_space_prefix.specs.Transfers.{IsWithin, by_place};
 ghost use Rattle.vd_space.specs.Bounds.{only_if};
 ghost use Rattle.vd_space.specs.Labelled.{IsLabelled};
 ghost use Rattle.vd_space.specs.Sizes.{IsWithinLimits};
-ghost use Rattle.vd_space.specs.Spaces.{IsProblem};
 ghost use Rattle.vd_space.specs.Validity.{acts_for, all_hosts, holds_at, may_read, protocols};
+ghost use Rattle.vd_space.specs.WellFormed.{AreProtocols, IsWellFormed};
+ghost use Rattle.vd_cost_network_tables.specs.Sources.{AreSettingsOf, AreSumsByPoint, IsNetworkOf};
 
 use crate::cells::{point_table, value_at};
 use crate::raw::RawLink;
@@ -56,8 +56,7 @@ pub fn can_read(problem: &Problem, host: HostId, slot: SlotId) -> bool
 
 /// Whether the place is not kept at the host, or the host may read the index.
 fn can_host_read(problem: &Problem, list: &[Proto], place: u32, host: HostId, index: SlotId) -> bool
-    requires list { list.now ≡ protocols problem.now }
-    requires labelled { IsLabelled problem.now }
+    requires list { AreProtocols problem.now list.now }
     requires host { host.0 < length problem.now.hosts }
     ensures { result ≡ (not (holds_at problem.now host place) || may_read problem.now host index.0) }
 {
@@ -66,8 +65,7 @@ fn can_host_read(problem: &Problem, list: &[Proto], place: u32, host: HostId, in
 
 /// Whether each host at which an array would be kept may read the index.
 fn can_hosts_read(problem: &Problem, list: &[Proto], place: u32, index: SlotId) -> bool
-    requires list { list.now ≡ protocols problem.now }
-    requires labelled { IsLabelled problem.now }
+    requires { AreProtocols problem.now list.now }
     ensures { result ≡ list_all (λ h. not (holds_at problem.now h place) || may_read problem.now h index.0) (all_hosts problem.now) }
 {
     let hosts = problem.hosts.as_slice().len() as u8;
@@ -81,8 +79,7 @@ fn can_hosts_read(problem: &Problem, list: &[Proto], place: u32, index: SlotId) 
 
 /// Whether the index is none of the slot's, or can be read where the slot would be kept.
 fn is_readable(problem: &Problem, list: &[Proto], slot: usize, place: u32, index: &Index) -> bool
-    requires list { list.now ≡ protocols problem.now }
-    requires labelled { IsLabelled problem.now }
+    requires { AreProtocols problem.now list.now }
     ensures { result ≡ index_readable problem.now slot place index.now }
 {
     usize::from(index.array.0) != slot || can_hosts_read(problem, list, place, index.index)
@@ -90,8 +87,7 @@ fn is_readable(problem: &Problem, list: &[Proto], slot: usize, place: u32, index
 
 /// Whether each host at which the slot would be kept may read each of its indexes.
 fn can_read_indexes(problem: &Problem, list: &[Proto], slot: usize, place: u32) -> bool
-    requires list { list.now ≡ protocols problem.now }
-    requires labelled { IsLabelled problem.now }
+    requires { AreProtocols problem.now list.now }
     ensures { result ≡ list_all (index_readable problem.now slot place) problem.now.indexes }
 {
     for index in problem.indexes.as_slice() {
@@ -123,8 +119,7 @@ pub fn slot_costs(
     values: &[Option<i64>],
     amounts: &[i64],
 ) -> Result<Items<Option<i64>>, AllocError>
-    requires list { list.now ≡ protocols problem.now }
-    requires labelled { IsLabelled problem.now }
+    requires list { AreProtocols problem.now list.now }
     requires values { (p : ℕ) → IsWithin 2199023255552 (unwrap_or (slice_index_or values.now p None) (pos 0)) }
     requires amounts { (p : ℕ) → IsWithin 562949953421312 (slice_index_or amounts.now p (pos 0)) }
     ensures { IfOk result (λ costs. costs ≡ by_place (length list.now) (own_value problem.now slot values.now amounts.now)) }
@@ -146,8 +141,7 @@ fn slot_table(
     tests: &[bool],
     amounts: &[i64],
 ) -> Result<PointTable, AllocError>
-    requires list { list.now ≡ protocols problem.now }
-    requires labelled { IsLabelled problem.now }
+    requires list { AreProtocols problem.now list.now }
     requires limits { IsWithinLimits problem.now }
     requires slot { slot < length problem.now.slots }
     requires amounts { (p : ℕ) → IsWithin 562949953421312 (slice_index_or amounts.now p (pos 0)) }
@@ -188,12 +182,10 @@ fn slot_tables(
     settings: &[Items<bool>],
     sums: &[Items<i64>],
 ) -> Result<Items<PointTable>, AllocError>
-    requires list { list.now ≡ protocols problem.now }
-    requires labelled { IsLabelled problem.now }
+    requires list { AreProtocols problem.now list.now }
     requires limits { IsWithinLimits problem.now }
     requires settings { settings.now ≡ by_place (count_of_points problem.now) (tests_of problem.now) }
-    requires size { length sums.now ≡ count_of_points problem.now }
-    requires sums { AreSmallSums sums.now }
+    requires sums { AreSumsByPoint problem.now sums.now }
     ensures { IfOk result (λ tables. tables ≡ by_place (length problem.now.slots) (table_by problem.now sums.now)) }
 {
     let mut tables = Items::new(alloc);
@@ -213,12 +205,9 @@ fn push_switch_tables(
     sums: &[Items<i64>],
     tables: &mut Items<PointTable>,
 ) -> Result<(), AllocError>
-    requires holds { IsProblem problem.now }
-    requires labelled { IsLabelled problem.now }
+    requires well_formed { IsWellFormed problem.now }
     requires switches { switches.now ≡ switch_tables_from problem.now 0 problem.now.guards }
-    requires few { count_of_points problem.now < 4294967296 }
-    requires size { length sums.now ≡ count_of_points problem.now }
-    requires sums { AreSmallSums sums.now }
+    requires sums { AreSumsByPoint problem.now sums.now }
     requires slots { tables.old ≡ by_place (length problem.now.slots) (table_by problem.now sums.now) }
     ensures { OnOk result (tables.new ≡ by_place (count_of_points problem.now) (table_by problem.now sums.now)) }
 {
@@ -244,15 +233,9 @@ pub(crate) fn point_tables(
     most: usize,
     shifts: &[Shift],
 ) -> Result<Items<PointTable>, AllocError>
-    requires holds { IsProblem problem.now }
-    requires labelled { IsLabelled problem.now }
-    requires limits { IsWithinLimits problem.now }
-    requires list { list.now ≡ protocols problem.now }
-    requires switches { switches.now ≡ switch_tables_from problem.now 0 problem.now.guards }
-    requires raws { raws.now ≡ map (raw_link problem.now) (links problem.now) }
-    requires settings { settings.now ≡ by_place (count_of_points problem.now) (tests_of problem.now) }
-    requires most { (point : ℕ) → settings_of problem.now point ≤ most }
-    requires points { count_of_points problem.now < 4294967296 }
+    requires well_formed { IsWellFormed problem.now }
+    requires network { IsNetworkOf problem.now list.now switches.now raws.now }
+    requires settings { AreSettingsOf problem.now settings.now most }
     requires few { length shifts.now ≤ most_certificate_shifts }
     ensures tables { IfOk result (λ tables. tables ≡ point_tables_of problem.now shifts.now) }
     ensures small { IfOk result AreSmallPoints }

@@ -5,8 +5,7 @@ ghost use Rattle.std.specs.List.{list_any, range_with_len};
 ghost use Rattle.vd_cost_network.specs.Points.{may_bring};
 ghost use Rattle.vd_cost_network_tables.specs.Tables.{is_kept, switch_tables_at, switch_tables_from};
 ghost use Rattle.vd_space_terms.specs.Prices.{candidates_of};
-ghost use Rattle.vd_space.specs.Labelled.{IsLabelled};
-ghost use Rattle.vd_space.specs.Validity.{protocols};
+ghost use Rattle.vd_space.specs.WellFormed.{AreProtocols};
 
 use std::alloc::{AllocError, Global};
 use vd_base::{HostId, Proto, SlotId, is_holder};
@@ -46,8 +45,7 @@ fn can_bring(
     host: HostId,
     slot: SlotId,
 ) -> bool
-    requires list { list.now ≡ protocols problem.now }
-    requires labelled { IsLabelled problem.now }
+    requires list { AreProtocols problem.now list.now }
     requires candidates { candidates.now ≡ candidates_of problem.now }
     ensures { result ≡ may_bring problem.now host slot }
 {
@@ -80,8 +78,7 @@ fn members_of(
     host: HostId,
     slots: &[SlotId],
 ) -> Result<Items<SlotId>, AllocError>
-    requires list { list.now ≡ protocols problem.now }
-    requires labelled { IsLabelled problem.now }
+    requires list { AreProtocols problem.now list.now }
     requires candidates { candidates.now ≡ candidates_of problem.now }
     ensures { IfOk result (λ members. members ≡ filter (may_bring problem.now host) slots.now) }
 {
@@ -103,9 +100,8 @@ fn push_switches(
     guard: &Guard,
     switches: &mut Items<SwitchTable>,
 ) -> Result<(), AllocError>
-    requires list { list.now ≡ protocols problem.now }
+    requires list { AreProtocols problem.now list.now }
     requires candidates { candidates.now ≡ candidates_of problem.now }
-    requires labelled { IsLabelled problem.now }
     ensures { OnOk result (switches.new ≡ switches.old ++ switch_tables_at problem.now number guard.now) }
 {
     let hosts = problem.hosts.as_slice().len() as u8;
@@ -134,9 +130,8 @@ pub fn switch_tables(
     list: &[Proto],
     candidates: &[Items<bool>],
 ) -> Result<Items<SwitchTable>, AllocError>
-    requires list { list.now ≡ protocols problem.now }
+    requires list { AreProtocols problem.now list.now }
     requires candidates { candidates.now ≡ candidates_of problem.now }
-    requires labelled { IsLabelled problem.now }
     requires few { length problem.now.guards < 4294967296 }
     ensures { IfOk result (λ switches. switches ≡ switch_tables_from problem.now 0 problem.now.guards) }
 {

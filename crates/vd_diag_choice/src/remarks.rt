@@ -2,8 +2,7 @@
 
 ghost use Rattle.std.specs.Prelude.{◌≡◌, IfOk};
 ghost use Rattle.vd_diag_choice.specs.Remarks as remarks;
-ghost use Rattle.vd_space.specs.Labelled.{IsLabelled};
-ghost use Rattle.vd_space.specs.Validity.{protocols};
+ghost use Rattle.vd_space.specs.WellFormed.{AreProtocols};
 
 use crate::bare::first_bare;
 use crate::texts::{bare_sentence, slot_name, slot_offset};
@@ -34,8 +33,7 @@ fn remark_on(
     problem: &Problem,
     list: &[Proto],
 ) -> Result<Remark, AllocError>
-    requires list { list.now ≡ protocols problem.now }
-    requires labelled { IsLabelled problem.now }
+    requires { AreProtocols problem.now list.now }
     ensures { IfOk result (remarks.IsNoAssignmentRemark form.now problem.now) }
 {
     match first_bare(problem, list) {

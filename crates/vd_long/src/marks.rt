@@ -3,9 +3,9 @@
 ghost use Rattle.std.specs.Prelude.{◌≡◌, IfOk};
 ghost use Rattle.std.specs.Option.{MatchOption};
 ghost use Rattle.vd_long.specs.Marks.{long_marks, lengthen_of};
-ghost use Rattle.vd_space.specs.Labelled.{HasLabels, IsLabelled};
+ghost use Rattle.vd_space.specs.Labelled.{HasLabels};
 ghost use Rattle.vd_space.specs.Reading.{problem_of};
-ghost use Rattle.vd_space.specs.Validity.{protocols as protocols_in};
+ghost use Rattle.vd_space.specs.WellFormed.{AreProtocols};
 
 use crate::lengthening::lengthen;
 use std::alloc::{AllocError, Global};
@@ -18,8 +18,7 @@ use vd_space::{Problem, has_candidate};
 
 /// Of each slot whether it has no candidate. `list` has all protocols.
 fn marks_of(alloc: Global, problem: &Problem, list: &[Proto]) -> Result<Items<bool>, AllocError>
-    requires list { list.now ≡ protocols_in problem.now }
-    requires labelled { IsLabelled problem.now }
+    requires { AreProtocols problem.now list.now }
     ensures { IfOk result (λ marks. marks ≡ long_marks problem.now) }
 {
     let mut marks = Items::new(alloc);

@@ -1,5 +1,6 @@
 -- What a checker answers of a certificate for a problem.
-use Rattle.std.specs.Prelude.{◌≡◌, ◌≢◌, ℕ, if◌then◌else◌, Result, Err, IfOk, length}
+use Rattle.std.specs.Prelude.{◌≡◌, ◌≢◌, ◌<◌, ◌≤◌, ℕ, if◌then◌else◌, Result, Err, IfOk, IsFalse, IsTrue, [], length}
+use Rattle.vd_base.specs.Limits.{most_certificate_shifts}
 use Rattle.vd_search_tree.specs.Trees.{Tree}
 use Rattle.vd_search_certificate.specs.declared.certificate.Certificate.{Certificate}
 use Rattle.vd_bound.specs.declared.checking.CheckFault.{CheckFault}
@@ -9,6 +10,10 @@ use Rattle.vd_bound.specs.Checking.{Proves}
 use Rattle.vd_bound.specs.Shifts.{certificate_checked}
 use Rattle.vd_cost_network.specs.Links.{links}
 use Rattle.vd_cost_network.specs.Linked.{linked_tree}
+use Rattle.vd_cost_network_prefix.specs.declared.made.LinkedTables.{LinkedTables}
+use Rattle.vd_cost_network_prefix.specs.Tables.{AreLinkedTables}
+use Rattle.vd_space_prefix.specs.declared.tables.Tables.{Tables}
+use Rattle.vd_space_prefix.specs.Tables.{AreTables}
 use Rattle.vd_space.specs.declared.problem.Problem.{Problem}
 use Rattle.vd_space.specs.Spaces.{tree_of}
 
@@ -26,3 +31,24 @@ confirmed problem c = certificate_checked (names_by problem c) (tree_by problem 
 pub record Confirms (problem : Problem) (c : Certificate) (result : Result Proved CheckFault) : Type 0 where
   pub exact : result ≢ Err Memory → result ≡ confirmed problem c
   pub proved : IfOk result (Proves (tree_by problem c))
+
+-- ---- what a checker is given
+
+-- few enough shifts and marks
+pub record IsSmallCertificate (c : Certificate) : Type 0 where
+  pub few_shifts : length c.shifts ≤ most_certificate_shifts
+  pub few_marks : length c.marks < 4294967296
+
+-- the tables of the certificate's shifts, which name uses
+pub record AreTablesFor (problem : Problem) (tables : Tables) (c : Certificate) : Type 0 where
+  pub tabled : AreTables problem tables
+  pub shifts : tables.shifts ≡ c.shifts
+  pub by_uses : IsFalse c.linked
+
+-- the tables without shifts, and those of the certificate's shifts, which name links
+pub record AreLinkedTablesFor (problem : Problem) (tables : Tables) (linked : LinkedTables) (c : Certificate) : Type 0 where
+  pub tabled : AreTables problem tables
+  pub plain : tables.shifts ≡ []
+  pub link_tabled : AreLinkedTables problem linked
+  pub shifts : linked.shifts ≡ c.shifts
+  pub by_links : IsTrue c.linked

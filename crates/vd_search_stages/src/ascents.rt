@@ -9,7 +9,6 @@ ghost use Rattle.vd_search_tree.specs.declared.shift.Shift.{Shift as Shifts};
 ghost use Rattle.vd_search_stages.specs.Linking.{IsBeyond};
 ghost use Rattle.vd_space.specs.Labelled.{IsLabelled};
 ghost use Rattle.vd_space.specs.Sizes.{IsWithinLimits};
-ghost use Rattle.vd_space.specs.Spaces.{IsProblem};
 ghost use Rattle.vd_space.specs.declared.problem.Problem.{Problem as Problems};
 
 use crate::passing::walked;
@@ -58,9 +57,7 @@ pub trait Ascents {
         problem: &Problem,
         without: &LinkedTables,
     ) -> Result<Option<LinkAscent>, AllocError>
-        requires labelled { IsLabelled problem.now }
-        requires limits { IsWithinLimits problem.now }
-        requires without { AreLinkedTables problem.now without.now }
+        requires { AreLinkedTables problem.now without.now }
         ensures gives { IfOk result (λ found. links_give self.now problem.now (option_map (λ a. a.shifts) found)) }
         ensures shifts { IfOk result (λ found. IfSome found (λ a. AreLinkShifts problem.now a.shifts)) }
         ensures some { IfOk result (λ found. IfSome found (λ a. 1 ≤ length a.shifts)) };
@@ -76,9 +73,6 @@ pub trait Ascents {
         ascent: Ascent,
         most: u32,
     ) -> Result<Option<Items<Items<u32>>>, AllocError>
-        requires holds { IsProblem problem.now }
-        requires labelled { IsLabelled problem.now }
-        requires limits { IsWithinLimits problem.now }
         requires without { AreLinkedTables problem.now without.now }
         requires path { path.problem.now ≡ problem.now }
         ensures gives { IfOk result (walks_give self.now problem.now most) }

@@ -1,14 +1,9 @@
 //! The check of a certificate for a problem.
 
-ghost use Rattle.std.specs.Prelude.{◌≡◌, ◌≤◌, ◌<◌, [], IsFalse, IsTrue, length};
-ghost use Rattle.vd_base.specs.Limits.{most_certificate_shifts};
+ghost use Rattle.std.specs.Prelude.{◌<◌, length};
 ghost use Rattle.vd_cost_network.specs.Links.{links};
-ghost use Rattle.vd_cost_network_prefix.specs.Tables.{AreLinkedTables};
-ghost use Rattle.vd_space_prefix.specs.Tables.{AreTables};
-ghost use Rattle.vd_search_stages.specs.Confirming.{Confirms};
-ghost use Rattle.vd_space.specs.Labelled.{IsLabelled};
-ghost use Rattle.vd_space.specs.Sizes.{IsWithinLimits};
-ghost use Rattle.vd_space.specs.Spaces.{IsProblem};
+ghost use Rattle.vd_search_stages.specs.Confirming.{AreLinkedTablesFor, AreTablesFor, Confirms, IsSmallCertificate};
+ghost use Rattle.vd_space.specs.WellFormed.{IsWellFormed};
 
 use std::alloc::Global;
 use vd_base_lists::Items;
@@ -27,13 +22,8 @@ fn confirm_by(
     tables: &Tables,
     certificate: &Certificate,
 ) -> Result<Proved, CheckFault>
-    requires holds { IsProblem problem.now }
-    requires labelled { IsLabelled problem.now }
-    requires tables { AreTables problem.now tables.now }
-    requires shifts { tables.now.shifts ≡ certificate.now.shifts }
-    requires plain { IsFalse certificate.now.linked }
-    requires few_shifts { length certificate.now.shifts ≤ most_certificate_shifts }
-    requires few_marks { length certificate.now.marks < 4294967296 }
+    requires tables { AreTablesFor problem.now tables.now certificate.now }
+    requires small { IsSmallCertificate certificate.now }
     requires few_uses { length problem.now.uses < 4294967296 }
     ensures { Confirms problem.now certificate.now result }
 {
@@ -50,16 +40,9 @@ fn confirm_by_links(
     linked: &LinkedTables,
     certificate: &Certificate,
 ) -> Result<Proved, CheckFault>
-    requires holds { IsProblem problem.now }
-    requires labelled { IsLabelled problem.now }
-    requires tables { AreTables problem.now tables.now }
-    requires plain { tables.now.shifts ≡ [] }
-    requires linked_tables { AreLinkedTables problem.now linked.now }
+    requires tables { AreLinkedTablesFor problem.now tables.now linked.now certificate.now }
+    requires small { IsSmallCertificate certificate.now }
     requires few_links { length (links problem.now) < 4294967296 }
-    requires shifts { linked.now.shifts ≡ certificate.now.shifts }
-    requires linked { IsTrue certificate.now.linked }
-    requires few_shifts { length certificate.now.shifts ≤ most_certificate_shifts }
-    requires few_marks { length certificate.now.marks < 4294967296 }
     ensures { Confirms problem.now certificate.now result }
 {
     let mut path = LinkedPath::new(alloc, problem, tables, linked)?;
@@ -73,11 +56,8 @@ pub fn confirm(
     problem: &Problem,
     certificate: &Certificate,
 ) -> Result<Proved, CheckFault>
-    requires holds { IsProblem problem.now }
-    requires labelled { IsLabelled problem.now }
-    requires limits { IsWithinLimits problem.now }
-    requires few_shifts { length certificate.now.shifts ≤ most_certificate_shifts }
-    requires few_marks { length certificate.now.marks < 4294967296 }
+    requires well_formed { IsWellFormed problem.now }
+    requires small { IsSmallCertificate certificate.now }
     requires few_links { length (links problem.now) < 4294967296 }
     ensures { Confirms problem.now certificate.now result }
 {

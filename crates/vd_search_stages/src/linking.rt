@@ -1,18 +1,15 @@
 //! The search by links.
 
-ghost use Rattle.std.specs.Prelude.{◌≡◌, ◌≢◌, ◌<◌, ◌≤◌, [], IfNone, IfOk, IfSome, Err, length, true};
-ghost use Rattle.vd_cost_network_shifts.specs.Shifts.{AreLinkShifts};
+ghost use Rattle.std.specs.Prelude.{◌≡◌, ◌≢◌, ◌<◌, [], IfNone, IfOk, IfSome, Err, true};
 ghost use Rattle.vd_cost_network.specs.Linked.{linked_tree};
 ghost use Rattle.vd_cost_network_prefix.specs.Tables.{AreLinkedTables};
 ghost use Rattle.vd_space_prefix.specs.Tables.{AreTables};
-ghost use Rattle.vd_search_stages.specs.Linking.{CanLink, Tells};
+ghost use Rattle.vd_search_stages.specs.Linking.{CanLink, CanSelectByLinks, HasLinkShifts, Tells};
 ghost use Rattle.vd_search_stages.specs.Selecting.{CostsAtLeast, Selects};
 ghost use Rattle.vd_search_stages.specs.Spending.{GivesOnly, HasNoRootBound, IfUnended, IsOverBy, IsOverByLinks, IsRootBound, IsSpentByLinks, linked_part};
 ghost use Rattle.vd_search_stages.specs.Stages.{CanSelect, Tries};
 ghost use Rattle.vd_search_stages.specs.declared.selecting.SelectFault.TheVariants as select_fault;
-ghost use Rattle.vd_space.specs.Labelled.{IsLabelled};
-ghost use Rattle.vd_space.specs.Sizes.{IsWithinLimits};
-ghost use Rattle.vd_space.specs.Spaces.{IsProblem};
+ghost use Rattle.vd_space.specs.WellFormed.{IsWellFormed};
 
 use crate::ascents::{Ascents, LinkAscent};
 use crate::selecting::{SelectFault, Selection};
@@ -79,11 +76,7 @@ fn select_by_links(
     linked: &LinkedTables,
     budget: u32,
 ) -> Result<Option<Selection>, SelectFault>
-    requires holds { IsProblem problem.now }
-    requires labelled { IsLabelled problem.now }
-    requires tables { AreTables problem.now tables.now }
-    requires plain { tables.now.shifts ≡ [] }
-    requires linked { CanLink problem.now linked.now }
+    requires tables { CanSelectByLinks problem.now tables.now linked.now }
     requires budget { budget < 4294967295 }
     ensures selects { IfOk result (λ found. IfSome found (Selects problem.now budget)) }
     ensures over { IfOk result (λ found. IfNone found (IsOverByLinks problem.now linked.now.shifts budget)) }
@@ -112,13 +105,8 @@ fn select_linked<A: Ascents>(
     ascent: Ascent,
     budget: u32,
 ) -> Result<Option<Selection>, SelectFault>
-    requires holds { IsProblem problem.now }
-    requires labelled { IsLabelled problem.now }
-    requires limits { IsWithinLimits problem.now }
-    requires tables { AreTables problem.now tables.now }
-    requires plain { tables.now.shifts ≡ [] }
+    requires tables { CanSelectByLinks problem.now tables.now linked.now }
     requires without { AreLinkedTables problem.now without.now }
-    requires linked { CanLink problem.now linked.now }
     requires budget { budget < 4294967295 }
     ensures selects { IfOk result (λ found. IfSome found (Selects problem.now budget)) }
     ensures spent { IfOk result (λ found. IfNone found
@@ -155,8 +143,6 @@ fn floor_by_links(
     tables: &Tables,
     linked: &LinkedTables,
 ) -> Result<u32, AllocError>
-    requires holds { IsProblem problem.now }
-    requires labelled { IsLabelled problem.now }
     requires tables { AreTables problem.now tables.now }
     requires plain { tables.now.shifts ≡ [] }
     requires linked { AreLinkedTables problem.now linked.now }
@@ -182,9 +168,6 @@ fn try_linked<A: Ascents>(
     ascent: Ascent,
     budget: u32,
 ) -> Result<Tried, SelectFault>
-    requires holds { IsProblem problem.now }
-    requires labelled { IsLabelled problem.now }
-    requires limits { IsWithinLimits problem.now }
     requires better { IfSome better.now (CanSelect problem.now) }
     requires without { AreLinkedTables problem.now without.now }
     requires linked { CanLink problem.now linked.now }
@@ -216,11 +199,8 @@ fn tables_of(
     problem: &Problem,
     shifts: Items<Shift>,
 ) -> Result<LinkedTables, AllocError>
-    requires holds { IsProblem problem.now }
-    requires labelled { IsLabelled problem.now }
-    requires limits { IsWithinLimits problem.now }
-    requires shifts { AreLinkShifts problem.now shifts }
-    requires some { 1 ≤ length shifts }
+    requires well_formed { IsWellFormed problem.now }
+    requires shifts { HasLinkShifts problem.now shifts }
     ensures tables { IfOk result (CanLink problem.now) }
     ensures shifts { IfOk result (λ linked. linked.shifts ≡ shifts) }
 {
@@ -237,13 +217,9 @@ fn try_ascent<A: Ascents>(
     found: LinkAscent,
     budget: u32,
 ) -> Result<Tried, SelectFault>
-    requires holds { IsProblem problem.now }
-    requires labelled { IsLabelled problem.now }
-    requires limits { IsWithinLimits problem.now }
     requires better { IfSome better.now (CanSelect problem.now) }
     requires without { AreLinkedTables problem.now without.now }
-    requires shifts { AreLinkShifts problem.now found.shifts }
-    requires some { 1 ≤ length found.shifts }
+    requires shifts { HasLinkShifts problem.now found.shifts }
     requires budget { budget < 4294967295 }
     ensures tries { IfOk result (Tries problem.now budget) }
     ensures over { IfOk result (IfUnended (IsOverBy problem.now better.now budget)) }
@@ -267,9 +243,7 @@ pub(crate) fn try_links<A: Ascents>(
     better: &Option<Tables>,
     budget: u32,
 ) -> Result<Tried, SelectFault>
-    requires holds { IsProblem problem.now }
-    requires labelled { IsLabelled problem.now }
-    requires limits { IsWithinLimits problem.now }
+    requires well_formed { IsWellFormed problem.now }
     requires better { IfSome better.now (CanSelect problem.now) }
     requires budget { budget < 4294967295 }
     ensures tries { IfOk result (Tries problem.now budget) }

@@ -7,9 +7,6 @@ ghost use Rattle.vd_cost_network_shifts.specs.Shifts.{AreLinkShifts};
 ghost use Rattle.vd_cost_network_bound.specs.Bounds.{IsBoundOf};
 ghost use Rattle.vd_cost_network_prefix.specs.Tables.{AreLinkedTables};
 ghost use Rattle.vd_search_stages.specs.Linking.{IsBeyond};
-ghost use Rattle.vd_space.specs.Labelled.{IsLabelled};
-ghost use Rattle.vd_space.specs.Sizes.{IsWithinLimits};
-ghost use Rattle.vd_space.specs.Spaces.{IsProblem};
 
 use std::alloc::{AllocError, Global};
 use vd_base_lists::Items;
@@ -43,9 +40,6 @@ fn is_beyond(
     prefix: &[u32],
     most: u32,
 ) -> Result<bool, AllocError>
-    requires holds { IsProblem problem.now }
-    requires labelled { IsLabelled problem.now }
-    requires limits { IsWithinLimits problem.now }
     requires bound { IsBoundOf problem.now bound.now }
     requires shifts { AreLinkShifts problem.now shifts.now }
     ensures { IfOk result (λ beyond. beyond ≡ true → IsBeyond problem.now most prefix.now) }
@@ -66,9 +60,6 @@ fn pass_over(
     most: u32,
     passed: &mut Items<Items<u32>>,
 ) -> Result<(), AllocError>
-    requires holds { IsProblem problem.now }
-    requires labelled { IsLabelled problem.now }
-    requires limits { IsWithinLimits problem.now }
     requires bound { IsBoundOf problem.now bound.now }
     requires shifts { AreLinkShifts problem.now found.shifts }
     requires passed { All (IsBeyond problem.now most) passed.old }
@@ -90,9 +81,6 @@ fn passed_over(
     walk: &mut Walk,
     most: u32,
 ) -> Result<Items<Items<u32>>, AllocError>
-    requires holds { IsProblem problem.now }
-    requires labelled { IsLabelled problem.now }
-    requires limits { IsWithinLimits problem.now }
     requires bound { IsBoundOf problem.now bound.now }
     requires walk { walk.old.problem.now ≡ problem.now }
     ensures passed { IfOk result (All (IsBeyond problem.now most)) }
@@ -116,9 +104,6 @@ fn passed_to_whole(
     walk: &mut Walk,
     most: u32,
 ) -> Result<Option<Items<Items<u32>>>, AllocError>
-    requires holds { IsProblem problem.now }
-    requires labelled { IsLabelled problem.now }
-    requires limits { IsWithinLimits problem.now }
     requires bound { IsBoundOf problem.now bound.now }
     requires walk { walk.old.problem.now ≡ problem.now }
     ensures passed { IfOk result (λ found. IfSome found (All (IsBeyond problem.now most))) }
@@ -140,9 +125,6 @@ pub(crate) fn walked(
     ascent: Ascent,
     most: u32,
 ) -> Result<Option<Items<Items<u32>>>, AllocError>
-    requires holds { IsProblem problem.now }
-    requires labelled { IsLabelled problem.now }
-    requires limits { IsWithinLimits problem.now }
     requires without { AreLinkedTables problem.now without.now }
     requires path { path.problem.now ≡ problem.now }
     ensures { IfOk result (λ found. IfSome found (All (IsBeyond problem.now most))) }

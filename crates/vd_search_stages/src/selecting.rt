@@ -7,10 +7,9 @@ ghost use Rattle.vd_space_prefix.specs.Tables.{AreTables};
 ghost use Rattle.vd_search_stages.specs.Naming.{NamesUse};
 ghost use Rattle.vd_search_stages.specs.Selecting.{CostsAtLeast, IsOver, Selects};
 ghost use Rattle.vd_search_stages.specs.declared.selecting.SelectFault.TheVariants as select_fault;
-ghost use Rattle.vd_space.specs.Labelled.{IsLabelled};
-ghost use Rattle.vd_space.specs.Sizes.{IsWithinLimits};
-ghost use Rattle.vd_space.specs.Spaces.{IsProblem};
 ghost use Rattle.vd_space.specs.Usual.{usual as usual_shifts};
+ghost use Rattle.vd_space.specs.WellFormed.{IsWellFormed};
+ghost use Rattle.vd_search_stages.specs.Stages.{CanSelect};
 
 use std::alloc::{AllocError, Global};
 use std::error::Error;
@@ -70,8 +69,6 @@ fn is_over(
     floor: u32,
     budget: u32,
 ) -> Result<bool, AllocError>
-    requires holds { IsProblem problem.now }
-    requires labelled { IsLabelled problem.now }
     requires tables { AreTables problem.now tables.now }
     requires floor { CostsAtLeast problem.now floor }
     requires budget { budget < 4294967295 }
@@ -92,11 +89,7 @@ pub(crate) fn select_by(
     floor: u32,
     budget: u32,
 ) -> Result<Selection, SelectFault>
-    requires holds { IsProblem problem.now }
-    requires labelled { IsLabelled problem.now }
-    requires tables { AreTables problem.now tables.now }
-    requires named { AllByRecursion (NamesUse problem.now) tables.now.shifts }
-    requires few { length tables.now.shifts ≤ most_certificate_shifts }
+    requires tables { CanSelect problem.now tables.now }
     requires floor { CostsAtLeast problem.now floor }
     requires budget { budget < 4294967295 }
     ensures selects { IfOk result (Selects problem.now budget) }
@@ -142,9 +135,7 @@ fn least_certificate(
 
 /// The tables of the usual shifts.
 pub(crate) fn usual_tables(alloc: Global, problem: &Problem) -> Result<Tables, AllocError>
-    requires holds { IsProblem problem.now }
-    requires labelled { IsLabelled problem.now }
-    requires limits { IsWithinLimits problem.now }
+    requires { IsWellFormed problem.now }
     ensures tables { IfOk result (AreTables problem.now) }
     ensures usual { IfOk result (λ tables. tables.shifts ≡ usual_shifts problem.now) }
     ensures few { IfOk result (λ tables. length tables.shifts ≤ most_certificate_shifts) }

@@ -9,10 +9,10 @@ ghost use Rattle.vd_space_prefix.specs.Tables.{AreTables};
 ghost use Rattle.vd_search_stages.specs.Spending.{GivesOnly, IfUnended, IsOverBy, IsOverTwice, IsRootBound, IsSpent, IsSpentByLinks, early_part, late_part, linked_part};
 ghost use Rattle.vd_search_stages.specs.Stages.{CanSelect, Tries};
 ghost use Rattle.vd_search_stages.specs.declared.selecting.SelectFault.TheVariants as select_fault;
-ghost use Rattle.vd_space.specs.Labelled.{IsLabelled};
 ghost use Rattle.vd_space.specs.Sizes.{IsWithinLimits};
-ghost use Rattle.vd_space.specs.Spaces.{IsProblem, tree_of};
+ghost use Rattle.vd_space.specs.Spaces.{tree_of};
 ghost use Rattle.vd_space.specs.Usual.{usual as usual_shifts};
+ghost use Rattle.vd_space.specs.WellFormed.{IsWellFormed};
 
 use crate::ascents::Ascents;
 use crate::linking::try_links;
@@ -72,8 +72,6 @@ fn try_by(
     floor: u32,
     budget: u32,
 ) -> Result<Option<Selection>, SelectFault>
-    requires holds { IsProblem problem.now }
-    requires labelled { IsLabelled problem.now }
     requires tables { CanSelect problem.now tables.now }
     requires floor { CostsAtLeast problem.now floor }
     requires budget { budget < 4294967295 }
@@ -94,9 +92,7 @@ fn better_tables<A: Ascents>(
     ascents: &A,
     problem: &Problem,
 ) -> Result<Option<Tables>, AllocError>
-    requires holds { IsProblem problem.now }
-    requires labelled { IsLabelled problem.now }
-    requires limits { IsWithinLimits problem.now }
+    requires { IsWellFormed problem.now }
     ensures tables { IfOk result (λ found. IfSome found (CanSelect problem.now)) }
     ensures gives { IfOk result (λ found. A.uses_give ascents.now problem.now (option_map (λ t. t.shifts) found)) }
 {
@@ -115,8 +111,6 @@ pub(crate) fn try_some(
     floor: u32,
     budget: u32,
 ) -> Result<Option<Selection>, SelectFault>
-    requires holds { IsProblem problem.now }
-    requires labelled { IsLabelled problem.now }
     requires tables { IfSome tables.now (CanSelect problem.now) }
     requires floor { CostsAtLeast problem.now floor }
     requires budget { budget < 4294967295 }
@@ -146,9 +140,7 @@ fn bound_of_all(path: &Path) -> Option<u32>
 
 /// What each valid list costs at least, by these tables; 0 where they say nothing of it.
 fn floor_of(alloc: Global, problem: &Problem, tables: &Tables) -> Result<u32, AllocError>
-    requires holds { IsProblem problem.now }
-    requires labelled { IsLabelled problem.now }
-    requires tables { AreTables problem.now tables.now }
+    requires { AreTables problem.now tables.now }
     ensures { IfOk result (CostsAtLeast problem.now) }
 {
     let path = Path::new(alloc, problem, tables)?;
@@ -160,8 +152,7 @@ fn floor_of(alloc: Global, problem: &Problem, tables: &Tables) -> Result<u32, Al
 
 /// The same, 0 also where there are no tables.
 fn floor_by(alloc: Global, problem: &Problem, tables: &Option<Tables>) -> Result<u32, AllocError>
-    requires holds { IsProblem problem.now }
-    requires labelled { IsLabelled problem.now }
+    requires well_formed { IsWellFormed problem.now }
     requires tables { IfSome tables.now (CanSelect problem.now) }
     ensures { IfOk result (CostsAtLeast problem.now) }
 {
@@ -180,9 +171,7 @@ fn try_few<A: Ascents>(
     tables: &Option<Tables>,
     budget: u32,
 ) -> Result<Tried, SelectFault>
-    requires holds { IsProblem problem.now }
-    requires labelled { IsLabelled problem.now }
-    requires limits { IsWithinLimits problem.now }
+    requires well_formed { IsWellFormed problem.now }
     requires tables { IfSome tables.now (CanSelect problem.now) }
     requires budget { budget < 4294967295 }
     ensures tries { IfOk result (Tries problem.now budget) }
@@ -207,9 +196,6 @@ fn try_small<A: Ascents>(
     tables: &Option<Tables>,
     budget: u32,
 ) -> Result<Tried, SelectFault>
-    requires holds { IsProblem problem.now }
-    requires labelled { IsLabelled problem.now }
-    requires limits { IsWithinLimits problem.now }
     requires usual { CanSelect problem.now usual.now }
     requires tables { IfSome tables.now (CanSelect problem.now) }
     requires budget { budget < 4294967295 }
@@ -235,8 +221,6 @@ fn try_above(
     floor: u32,
     budget: u32,
 ) -> Result<Tried, SelectFault>
-    requires holds { IsProblem problem.now }
-    requires labelled { IsLabelled problem.now }
     requires tables { IfSome tables.now (CanSelect problem.now) }
     requires floor { CostsAtLeast problem.now floor }
     requires budget { budget < 4294967295 }
@@ -259,9 +243,6 @@ fn try_better<A: Ascents>(
     usual: &Tables,
     budget: u32,
 ) -> Result<Tried, SelectFault>
-    requires holds { IsProblem problem.now }
-    requires labelled { IsLabelled problem.now }
-    requires limits { IsWithinLimits problem.now }
     requires usual { CanSelect problem.now usual.now }
     requires budget { budget < 4294967295 }
     ensures tries { IfOk result (Tries problem.now budget) }
@@ -293,9 +274,6 @@ fn try_early<A: Ascents>(
     usual: &Tables,
     budget: u32,
 ) -> Result<Tried, SelectFault>
-    requires holds { IsProblem problem.now }
-    requires labelled { IsLabelled problem.now }
-    requires limits { IsWithinLimits problem.now }
     requires usual { CanSelect problem.now usual.now }
     requires budget { budget < 4294967295 }
     ensures tries { IfOk result (Tries problem.now budget) }
@@ -319,9 +297,7 @@ pub fn select<A: Ascents>(
     problem: &Problem,
     budget: u32,
 ) -> Result<Selection, SelectFault>
-    requires holds { IsProblem problem.now }
-    requires labelled { IsLabelled problem.now }
-    requires limits { IsWithinLimits problem.now }
+    requires well_formed { IsWellFormed problem.now }
     requires budget { budget < 4294967295 }
     ensures selects { IfOk result (Selects problem.now budget) }
     ensures spent { result ≡ Err select_fault.Spent → IsOver problem.now (usual_shifts problem.now) budget }

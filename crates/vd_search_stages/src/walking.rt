@@ -1,17 +1,13 @@
 //! The search by links where ties at the bound of the root are broken by a walk.
 
-ghost use Rattle.std.specs.Prelude.{◌≡◌, ◌≢◌, ◌<◌, [], IfNone, IfOk, IfSome, Err};
+ghost use Rattle.std.specs.Prelude.{◌≡◌, ◌≢◌, ◌<◌, IfNone, IfOk, IfSome, Err};
 ghost use Rattle.std.specs.List.{All};
 ghost use Rattle.vd_cost_network.specs.Linked.{linked_tree};
 ghost use Rattle.vd_cost_network_prefix.specs.Tables.{AreLinkedTables};
-ghost use Rattle.vd_space_prefix.specs.Tables.{AreTables};
-ghost use Rattle.vd_search_stages.specs.Linking.{CanLink, IsBeyond};
+ghost use Rattle.vd_search_stages.specs.Linking.{CanSelectByLinks, IsBeyond};
 ghost use Rattle.vd_search_stages.specs.Selecting.{Selects};
 ghost use Rattle.vd_search_stages.specs.Spending.{GivesOnly, IsOverByWalk};
 ghost use Rattle.vd_search_stages.specs.declared.selecting.SelectFault.TheVariants as select_fault;
-ghost use Rattle.vd_space.specs.Labelled.{IsLabelled};
-ghost use Rattle.vd_space.specs.Sizes.{IsWithinLimits};
-ghost use Rattle.vd_space.specs.Spaces.{IsProblem};
 ghost use Rattle.vd_search_nogoods.specs.Untied.{WhySpent};
 
 use crate::ascents::Ascents;
@@ -37,11 +33,7 @@ fn select_untied(
     most: u32,
     budget: u32,
 ) -> Result<Option<Selection>, SelectFault>
-    requires holds { IsProblem problem.now }
-    requires labelled { IsLabelled problem.now }
-    requires tables { AreTables problem.now tables.now }
-    requires plain { tables.now.shifts ≡ [] }
-    requires linked { CanLink problem.now linked.now }
+    requires tables { CanSelectByLinks problem.now tables.now linked.now }
     requires passed { All (IsBeyond problem.now most) passed }
     requires budget { budget < 4294967295 }
     ensures selects { IfOk result (λ found. IfSome found (Selects problem.now budget)) }
@@ -73,13 +65,8 @@ fn select_at<A: Ascents>(
     most: u32,
     budget: u32,
 ) -> Result<Option<Selection>, SelectFault>
-    requires holds { IsProblem problem.now }
-    requires labelled { IsLabelled problem.now }
-    requires limits { IsWithinLimits problem.now }
-    requires tables { AreTables problem.now tables.now }
-    requires plain { tables.now.shifts ≡ [] }
+    requires tables { CanSelectByLinks problem.now tables.now linked.now }
     requires without { AreLinkedTables problem.now without.now }
-    requires linked { CanLink problem.now linked.now }
     requires path { path.problem.now ≡ problem.now }
     requires budget { budget < 4294967295 }
     ensures selects { IfOk result (λ found. IfSome found (Selects problem.now budget)) }
@@ -105,13 +92,8 @@ pub(crate) fn select_by_walk<A: Ascents>(
     ascent: Ascent,
     budget: u32,
 ) -> Result<Option<Selection>, SelectFault>
-    requires holds { IsProblem problem.now }
-    requires labelled { IsLabelled problem.now }
-    requires limits { IsWithinLimits problem.now }
-    requires tables { AreTables problem.now tables.now }
-    requires plain { tables.now.shifts ≡ [] }
+    requires tables { CanSelectByLinks problem.now tables.now linked.now }
     requires without { AreLinkedTables problem.now without.now }
-    requires linked { CanLink problem.now linked.now }
     requires budget { budget < 4294967295 }
     ensures selects { IfOk result (λ found. IfSome found (Selects problem.now budget)) }
     ensures over { IfOk result (λ found. IfNone found

@@ -9,3 +9,4 @@ pub mod Laws
 pub mod Steps
 pub mod Labelled
 pub mod Sizes
+pub mod WellFormed

@@ -14,23 +14,16 @@ use Rattle.vd_constraints.specs.Rules.{label}
 use Rattle.vd_space.specs.Reading.{problem_of}
 use Rattle.vd_space.specs.declared.problem.Problem.{Problem}
 use Rattle.vd_space.specs.Validity.{protocols}
-use Rattle.vd_space.specs.Labelled.{HasLabels, IsLabelled}
-use Rattle.vd_space.specs.Sizes.{IsWithinLimits}
-use Rattle.vd_space.specs.Spaces.{IsProblem}
+use Rattle.vd_space.specs.Labelled.{HasLabels}
+use Rattle.vd_space.specs.WellFormed.{IsWellFormed}
 use Rattle.vd_space.proofs.Programs.{is_labelled}
 use Rattle.vd_space.proofs.Sized.{is_within_limits}
 use Rattle.vd_space.proofs.Weighed.{is_problem}
 use Rattle.vd_space_api.specs.Places.{IsSpace}
 
 module _ (problem : Problem) (list : List Proto) (kept : ∥ IsSpace problem list ∥₁) where
-  pub holds : IsProblem problem
-  holds = ∥∥₁_elim kept (hlevel props) (λ k. k.holds)
-
-  pub labelled : IsLabelled problem
-  labelled = ∥∥₁_elim kept (hlevel props) (λ k. k.labelled)
-
-  pub limits : IsWithinLimits problem
-  limits = ∥∥₁_elim kept (hlevel props) (λ k. k.limits)
+  pub well_formed : IsWellFormed problem
+  well_formed = ∥∥₁_elim kept (hlevel props) (λ k. k.well_formed)
 
   pub listed : list ≡ protocols problem
   listed =
@@ -41,9 +34,7 @@ pub made : (p : NormalForm) (l : Labels) (problem : Problem) (list : List Proto)
 made p l problem list well has is listed_ =
     let hosts = length-map p.labels (label p) in
     let of_program : IsSpace (problem_of p l) list = record {
-      holds = is_problem p l well;
-      labelled = is_labelled p l well has;
-      limits = is_within_limits p l well;
+      well_formed = record { holds = is_problem p l well; labelled = is_labelled p l well has; limits = is_within_limits p l well };
       listed = listed_ ∙ sym (ap protocols_of hosts);
     } in
     ∣ subst (λ x. IsSpace x list) (sym is) of_program ∣₁

@@ -5,9 +5,7 @@ use Rattle.vd_base.specs.declared.protocols.Proto.{Proto}
 use Rattle.vd_base.specs.Holders.{same_protocol}
 use Rattle.vd_space.specs.declared.problem.Problem.{Problem}
 use Rattle.vd_space.specs.Validity.{protocols, is_valid}
-use Rattle.vd_space.specs.Spaces.{IsProblem}
-use Rattle.vd_space.specs.Labelled.{IsLabelled}
-use Rattle.vd_space.specs.Sizes.{IsWithinLimits}
+use Rattle.vd_space.specs.WellFormed.{IsWellFormed}
 
 -- the place of a protocol, and the length of the list where it is not there
 abbrev pub place_of : List Proto → Proto → ℕ
@@ -25,7 +23,5 @@ is_valid_list problem list = (length list == length problem.slots) && is_valid p
 
 -- what a space keeps
 pub record IsSpace (problem : Problem) (list : List Proto) : Type 0 where
-  pub holds : IsProblem problem
-  pub labelled : IsLabelled problem
-  pub limits : IsWithinLimits problem
+  pub well_formed : IsWellFormed problem
   pub listed : list ≡ protocols problem

@@ -1,12 +1,11 @@
 //! The bound of a prefix: the sum of the least of each term.
 
-ghost use Rattle.std.specs.Prelude.{◌≡◌, ◌*◌, ◌<◌, ◌≤◌, length, pos};
+ghost use Rattle.std.specs.Prelude.{◌≡◌, ◌*◌, ◌≤◌, length, pos};
 ghost use Rattle.vd_base.specs.Limits.{most_weights};
 ghost use Rattle.vd_space.specs.Bounds.{low};
 ghost use Rattle.vd_space.specs.Costs.{slots_of};
-ghost use Rattle.vd_space.specs.Labelled.{IsLabelled};
 ghost use Rattle.vd_space.specs.Sizes.{IsWithinLimits, heft};
-ghost use Rattle.vd_space.specs.Validity.{protocols};
+ghost use Rattle.vd_space.specs.WellFormed.{AreProtocols};
 ghost use Rattle.vd_space_api.specs.Low.{guard_number, least_guard, least_index, least_operation, least_output, least_use};
 
 use crate::least::{least_index, least_operation, least_told, least_use};
@@ -15,9 +14,7 @@ use vd_space::{Guard, Problem, is_part};
 
 /// The sum of the least that the operations can cost.
 fn operations_sum(problem: &Problem, list: &[Proto], prefix: &[u32]) -> u64
-    requires list { list.now ≡ protocols problem.now }
-    requires few { length list.now < 256 }
-    requires labelled { IsLabelled problem.now }
+    requires list { AreProtocols problem.now list.now }
     requires limits { IsWithinLimits problem.now }
     ensures sum { result ≡ heft (least_operation problem.now prefix.now) (slots_of problem.now) }
     ensures small { result ≤ 1000000000 * length problem.now.slots }
@@ -31,9 +28,7 @@ fn operations_sum(problem: &Problem, list: &[Proto], prefix: &[u32]) -> u64
 
 /// The sum of the least that the outputs can cost.
 fn outputs_sum(problem: &Problem, list: &[Proto], prefix: &[u32]) -> u64
-    requires list { list.now ≡ protocols problem.now }
-    requires few { length list.now < 256 }
-    requires labelled { IsLabelled problem.now }
+    requires list { AreProtocols problem.now list.now }
     requires limits { IsWithinLimits problem.now }
     ensures sum { result ≡ heft (least_output problem.now prefix.now) problem.now.outputs }
     ensures small { result ≤ 1000000000 * length problem.now.outputs }
@@ -56,9 +51,7 @@ fn outputs_sum(problem: &Problem, list: &[Proto], prefix: &[u32]) -> u64
 
 /// The sum of the least that the uses can cost.
 fn uses_sum(problem: &Problem, list: &[Proto], prefix: &[u32]) -> u64
-    requires list { list.now ≡ protocols problem.now }
-    requires few { length list.now < 256 }
-    requires labelled { IsLabelled problem.now }
+    requires list { AreProtocols problem.now list.now }
     requires limits { IsWithinLimits problem.now }
     ensures sum { result ≡ heft (least_use problem.now prefix.now) problem.now.uses }
     ensures small { result ≤ 1000000000 * length problem.now.uses }
@@ -73,9 +66,7 @@ fn uses_sum(problem: &Problem, list: &[Proto], prefix: &[u32]) -> u64
 
 /// The sum of the least that the indexes can cost.
 fn indexes_sum(problem: &Problem, list: &[Proto], prefix: &[u32]) -> u64
-    requires list { list.now ≡ protocols problem.now }
-    requires few { length list.now < 256 }
-    requires labelled { IsLabelled problem.now }
+    requires list { AreProtocols problem.now list.now }
     requires limits { IsWithinLimits problem.now }
     ensures sum { result ≡ heft (least_index problem.now prefix.now) problem.now.indexes }
     ensures small { result ≤ 1000000000 * length problem.now.indexes }
@@ -90,9 +81,7 @@ fn indexes_sum(problem: &Problem, list: &[Proto], prefix: &[u32]) -> u64
 
 /// The least that it can cost to tell a host the guard, where the host is known to take part.
 fn guard_told(problem: &Problem, list: &[Proto], prefix: &[u32], guard: &Guard, host: HostId) -> u64
-    requires list { list.now ≡ protocols problem.now }
-    requires few { length list.now < 256 }
-    requires labelled { IsLabelled problem.now }
+    requires list { AreProtocols problem.now list.now }
     requires weight { guard.now.weight ≤ most_weights }
     ensures told { result ≡ guard_number problem.now prefix.now guard.now host }
     ensures small { result ≤ 1000000000 }
@@ -113,9 +102,7 @@ fn guard_told(problem: &Problem, list: &[Proto], prefix: &[u32], guard: &Guard, 
 
 /// The sum of that over the hosts.
 fn guard_sum(problem: &Problem, list: &[Proto], prefix: &[u32], guard: &Guard) -> u64
-    requires list { list.now ≡ protocols problem.now }
-    requires few { length list.now < 256 }
-    requires labelled { IsLabelled problem.now }
+    requires list { AreProtocols problem.now list.now }
     requires weight { guard.now.weight ≤ most_weights }
     ensures sum { result ≡ least_guard problem.now prefix.now guard.now }
     ensures small { result ≤ 4000000000 }
@@ -130,9 +117,7 @@ fn guard_sum(problem: &Problem, list: &[Proto], prefix: &[u32], guard: &Guard) -
 
 /// The sum of the least that the guards can cost.
 fn guards_sum(problem: &Problem, list: &[Proto], prefix: &[u32]) -> u64
-    requires list { list.now ≡ protocols problem.now }
-    requires few { length list.now < 256 }
-    requires labelled { IsLabelled problem.now }
+    requires list { AreProtocols problem.now list.now }
     requires limits { IsWithinLimits problem.now }
     ensures sum { result ≡ heft (least_guard problem.now prefix.now) problem.now.guards }
     ensures small { result ≤ 4000000000 * length problem.now.guards }
@@ -147,9 +132,7 @@ fn guards_sum(problem: &Problem, list: &[Proto], prefix: &[u32]) -> u64
 
 /// The bound of a prefix.
 pub(crate) fn lower_bound(problem: &Problem, list: &[Proto], prefix: &[u32]) -> u64
-    requires list { list.now ≡ protocols problem.now }
-    requires few { length list.now < 256 }
-    requires labelled { IsLabelled problem.now }
+    requires list { AreProtocols problem.now list.now }
     requires limits { IsWithinLimits problem.now }
     ensures { pos result ≡ low problem.now prefix.now }
 {

@@ -3,7 +3,6 @@
 ghost use Rattle.std.specs.Prelude.{◌≡◌, IsTrue};
 ghost use Rattle.vd_space_prefix.specs.Tables.{AreTables};
 ghost use Rattle.vd_space.specs.Bounds.{high};
-ghost use Rattle.vd_space.specs.Labelled.{IsLabelled};
 ghost use Rattle.vd_space.specs.Validity.{is_valid};
 
 use vd_space::Problem;
@@ -11,7 +10,6 @@ use vd_space_prefix::{Tables, grown};
 
 /// The bound of a valid prefix under shifts, by their tables.
 pub(crate) fn high_bound(problem: &Problem, tables: &Tables, prefix: &[u32]) -> i64
-    requires labelled { IsLabelled problem.now }
     requires tables { AreTables problem.now tables.now }
     requires valid { IsTrue (is_valid problem.now prefix.now) }
     ensures { result ≡ high problem.now tables.now.shifts prefix.now }

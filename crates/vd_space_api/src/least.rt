@@ -4,8 +4,8 @@ ghost use Rattle.std.specs.Prelude.{◌≡◌, ◌+◌, ◌<◌, ◌≤◌, leng
 ghost use Rattle.vd_base.specs.Limits.{most_weights};
 ghost use Rattle.vd_space.specs.Bounds.{may_stand};
 ghost use Rattle.vd_space.specs.Costs.{hosts_at, moves_to};
-ghost use Rattle.vd_space.specs.Labelled.{IsLabelled};
 ghost use Rattle.vd_space.specs.Validity.{is_candidate, protocols};
+ghost use Rattle.vd_space.specs.WellFormed.{AreProtocols};
 ghost use Rattle.vd_space_api.specs.Low.{with_price, index_number, least_index, least_operation, least_place, least_told, least_use, number_left, operation_number, told_number, use_number};
 ghost use Rattle.vd_space_shifts.specs.Rows.{if_passes};
 
@@ -41,9 +41,7 @@ fn decided(prefix: &[u32], slot: usize) -> Option<u32>
 
 /// Whether the place is a candidate of the slot.
 fn is_candidate(problem: &Problem, list: &[Proto], slot: usize, place: usize) -> bool
-    requires list { list.now ≡ protocols problem.now }
-    requires labelled { IsLabelled problem.now }
-    requires few { length list.now < 256 }
+    requires list { AreProtocols problem.now list.now }
     requires place { place < length list.now }
     ensures { result ≡ is_candidate problem.now slot place }
 {
@@ -56,9 +54,7 @@ fn is_candidate(problem: &Problem, list: &[Proto], slot: usize, place: usize) ->
 
 /// Whether the slot may stand at the place: its own where it is decided, and each candidate where it is not.
 fn may_stand(problem: &Problem, list: &[Proto], prefix: &[u32], slot: usize, place: usize) -> bool
-    requires list { list.now ≡ protocols problem.now }
-    requires labelled { IsLabelled problem.now }
-    requires few { length list.now < 256 }
+    requires list { AreProtocols problem.now list.now }
     requires place { place < length list.now }
     ensures { result ≡ may_stand problem.now prefix.now slot place }
 {
@@ -83,9 +79,7 @@ fn operation_at(problem: &Problem, list: &[Proto], slot: usize, place: usize) ->
 
 /// The least that the slot's operation can cost.
 pub(crate) fn least_operation(problem: &Problem, list: &[Proto], prefix: &[u32], slot: usize) -> u64
-    requires list { list.now ≡ protocols problem.now }
-    requires labelled { IsLabelled problem.now }
-    requires few { length list.now < 256 }
+    requires { AreProtocols problem.now list.now }
     ensures { result ≡ least_operation problem.now prefix.now slot }
 {
     let mut least = None;
@@ -121,9 +115,7 @@ pub(crate) fn least_told(
     weight: u32,
     host: HostId,
 ) -> u64
-    requires list { list.now ≡ protocols problem.now }
-    requires labelled { IsLabelled problem.now }
-    requires few { length list.now < 256 }
+    requires { AreProtocols problem.now list.now }
     ensures { result ≡ least_told problem.now prefix.now slot weight host }
 {
     let mut least = None;
@@ -153,9 +145,7 @@ fn least_use_from(
     u: &Use,
     from: usize,
 ) -> Option<u64>
-    requires list { list.now ≡ protocols problem.now }
-    requires labelled { IsLabelled problem.now }
-    requires few { length list.now < 256 }
+    requires list { AreProtocols problem.now list.now }
     requires from { from < length list.now }
     ensures { result ≡ least_place problem.now prefix.now u.now.target.0 (use_number problem.now u.now from) }
 {
@@ -170,9 +160,7 @@ fn least_use_from(
 
 /// The least that a use can cost.
 pub(crate) fn least_use(problem: &Problem, list: &[Proto], prefix: &[u32], u: &Use) -> u64
-    requires list { list.now ≡ protocols problem.now }
-    requires labelled { IsLabelled problem.now }
-    requires few { length list.now < 256 }
+    requires { AreProtocols problem.now list.now }
     ensures { result ≡ least_use problem.now prefix.now u.now }
 {
     let mut least = None;
@@ -212,8 +200,7 @@ fn with_price(
 
 /// What it costs to tell an index, which stands at a place, to each host of its array, which stands at another.
 fn index_price(problem: &Problem, list: &[Proto], array: usize, index: usize) -> Option<u64>
-    requires list { list.now ≡ protocols problem.now }
-    requires labelled { IsLabelled problem.now }
+    requires list { AreProtocols problem.now list.now }
     requires array { array < length list.now }
     requires index { index < length list.now }
     ensures value { result ≡ moves_to problem.now index (hosts_at problem.now array) }
@@ -229,8 +216,7 @@ fn index_price(problem: &Problem, list: &[Proto], array: usize, index: usize) ->
 
 /// So often the price of an index between two places, if each host of the array is reached.
 fn index_at(problem: &Problem, list: &[Proto], index: &Index, from: usize, to: usize) -> Option<u64>
-    requires list { list.now ≡ protocols problem.now }
-    requires labelled { IsLabelled problem.now }
+    requires list { AreProtocols problem.now list.now }
     requires weight { index.now.weight ≤ most_weights }
     requires from { from < length list.now }
     requires to { to < length list.now }
@@ -250,9 +236,7 @@ fn least_index_from(
     index: &Index,
     from: usize,
 ) -> Option<u64>
-    requires list { list.now ≡ protocols problem.now }
-    requires labelled { IsLabelled problem.now }
-    requires few { length list.now < 256 }
+    requires list { AreProtocols problem.now list.now }
     requires weight { index.now.weight ≤ most_weights }
     requires from { from < length list.now }
     ensures { result ≡ least_place problem.now prefix.now index.now.index.0 (index_number problem.now index.now from) }
@@ -268,9 +252,7 @@ fn least_index_from(
 
 /// The least that an index can cost.
 pub(crate) fn least_index(problem: &Problem, list: &[Proto], prefix: &[u32], index: &Index) -> u64
-    requires list { list.now ≡ protocols problem.now }
-    requires labelled { IsLabelled problem.now }
-    requires few { length list.now < 256 }
+    requires list { AreProtocols problem.now list.now }
     requires weight { index.now.weight ≤ most_weights }
     ensures { result ≡ least_index problem.now prefix.now index.now }
 {

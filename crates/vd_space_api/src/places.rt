@@ -3,9 +3,9 @@
 ghost use Rattle.std.specs.Prelude.{◌≡◌, ◌<◌, ◌≤◌, IsTrue, length, pos, take};
 ghost use Rattle.vd_space_prefix.specs.Tables.{AreTables};
 ghost use Rattle.vd_space.specs.Bounds.{high, low};
-ghost use Rattle.vd_space.specs.Labelled.{IsLabelled};
 ghost use Rattle.vd_space.specs.Sizes.{IsWithinLimits};
-ghost use Rattle.vd_space.specs.Validity.{is_valid, protocols};
+ghost use Rattle.vd_space.specs.Validity.{is_valid};
+ghost use Rattle.vd_space.specs.WellFormed.{AreProtocols};
 ghost use Rattle.vd_space_api.specs.Places.{place_of, places_of};
 
 use crate::bound::lower_bound;
@@ -43,9 +43,7 @@ fn fill_places(list: &[Proto], prefix: &[Proto], room: &mut [u32])
 
 /// Whether the prefix is valid.
 pub(crate) fn is_valid_prefix(problem: &Problem, list: &[Proto], prefix: &[Proto]) -> bool
-    requires list { list.now ≡ protocols problem.now }
-    requires few { length list.now < 256 }
-    requires labelled { IsLabelled problem.now }
+    requires list { AreProtocols problem.now list.now }
     requires limits { IsWithinLimits problem.now }
     ensures { result ≡ is_valid problem.now (places_of list.now prefix.now) }
 {
@@ -59,9 +57,7 @@ pub(crate) fn is_valid_prefix(problem: &Problem, list: &[Proto], prefix: &[Proto
 
 /// The bound of a valid prefix.
 pub(crate) fn bound_of_prefix(problem: &Problem, list: &[Proto], prefix: &[Proto]) -> u64
-    requires list { list.now ≡ protocols problem.now }
-    requires few { length list.now < 256 }
-    requires labelled { IsLabelled problem.now }
+    requires list { AreProtocols problem.now list.now }
     requires limits { IsWithinLimits problem.now }
     requires valid { IsTrue (is_valid problem.now (places_of list.now prefix.now)) }
     ensures { pos result ≡ low problem.now (places_of list.now prefix.now) }
@@ -78,10 +74,7 @@ pub(crate) fn high_of_prefix(
     tables: &Tables,
     prefix: &[Proto],
 ) -> i64
-    requires list { list.now ≡ protocols problem.now }
-    requires few { length list.now < 256 }
-    requires labelled { IsLabelled problem.now }
-    requires limits { IsWithinLimits problem.now }
+    requires list { AreProtocols problem.now list.now }
     requires tables { AreTables problem.now tables.now }
     requires valid { IsTrue (is_valid problem.now (places_of list.now prefix.now)) }
     ensures { result ≡ high problem.now tables.now.shifts (places_of list.now prefix.now) }

@@ -1,16 +1,15 @@
 //! The space of lists of protocols.
 
-ghost use Rattle.std.specs.Prelude.{◌≡◌, ◌<◌, ◌≤◌, IfOk, IsTrue, length, pos};
+ghost use Rattle.std.specs.Prelude.{◌≡◌, ◌≤◌, IfOk, IsTrue, length, pos};
 ghost use Rattle.vd_base.specs.Limits.{most_certificate_shifts};
 ghost use Rattle.vd_space_prefix.specs.Tables.{AreTables};
 ghost use Rattle.vd_space.specs.Bounds.{high, low};
 ghost use Rattle.vd_space.specs.Costs.{cost};
-ghost use Rattle.vd_space.specs.Labelled.{HasLabels, IsLabelled};
+ghost use Rattle.vd_space.specs.Labelled.{HasLabels};
 ghost use Rattle.vd_space.specs.Reading.{problem_of};
-ghost use Rattle.vd_space.specs.Sizes.{IsWithinLimits};
-ghost use Rattle.vd_space.specs.Spaces.{IsProblem};
 ghost use Rattle.vd_space.specs.Usual.{usual};
-ghost use Rattle.vd_space.specs.Validity.{is_valid, protocols};
+ghost use Rattle.vd_space.specs.Validity.{is_valid};
+ghost use Rattle.vd_space.specs.WellFormed.{AreProtocols, IsWellFormed};
 ghost use Rattle.vd_space_api.specs.Places.{is_valid_list, places_in};
 
 use crate::places::{bound_of_prefix, high_of_prefix, is_valid_prefix};
@@ -63,17 +62,14 @@ impl Space {
     /// What the choice must know of the program.
     pub fn problem(&self) -> &Problem
         ensures same { result.now ≡ self.now }
-        ensures holds { IsProblem self.now }
-        ensures labelled { IsLabelled self.now }
-        ensures limits { IsWithinLimits self.now }
+        ensures well_formed { IsWellFormed self.now }
     {
         &self.problem
     }
 
     /// The protocols, in order.
     pub fn list(&self) -> &[Proto]
-        ensures list { result.now ≡ protocols self.now }
-        ensures few { length result.now < 256 }
+        ensures { AreProtocols self.now result.now }
     {
         self.list.as_slice()
     }

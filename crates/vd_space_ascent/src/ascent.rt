@@ -1,10 +1,10 @@
 //! The ascent over the slots and uses of a problem.
 
-ghost use Rattle.std.specs.Prelude.{◌≡◌, IfOk, IfSome};
+ghost use Rattle.std.specs.Prelude.{IfOk, IfSome};
 ghost use Rattle.vd_space_ascent.specs.Shifts.{AreUseShifts};
 ghost use Rattle.vd_space.specs.Labelled.{IsLabelled};
 ghost use Rattle.vd_space.specs.Sizes.{IsWithinLimits};
-ghost use Rattle.vd_space.specs.Validity.{protocols as protocols_of};
+ghost use Rattle.vd_space.specs.WellFormed.{AreProtocols};
 
 use crate::climbing::climbed;
 use crate::home::send_home;
@@ -16,9 +16,9 @@ use vd_base::Proto;
 use vd_base_lists::Items;
 use vd_cost_network_shifts::shifts_of;
 use vd_cost_network_sweeps::Nets;
-use vd_protocol::protocols;
 use vd_search_tree::Shift;
 use vd_space::Problem;
+use vd_space_tables::all_protocols;
 
 /// Shifts of uses under which the bounds of a problem are greater than under most others. There are none where a slot has no
 /// protocol left, since then no list is valid; or where an amount became too great for a shift, or shifts too many for a certificate.
@@ -27,7 +27,7 @@ pub fn plain_shifts(alloc: Global, problem: &Problem) -> Result<Option<Items<Shi
     requires limits { IsWithinLimits problem.now }
     ensures { IfOk result (λ found. IfSome found (AreUseShifts problem.now)) }
 {
-    let list = protocols(alloc, problem.hosts.as_slice().len() as u8)?;
+    let list = all_protocols(alloc, problem)?;
     let Some(plain) = Plain::of(alloc, problem, list.as_slice())? else {
         return Ok(None);
     };
@@ -66,8 +66,7 @@ fn use_shifts(
     list: &[Proto],
     nets: &Nets,
 ) -> Result<Option<Items<Shift>>, AllocError>
-    requires labelled { IsLabelled problem.now }
-    requires list { list.now ≡ protocols_of problem.now }
+    requires { AreProtocols problem.now list.now }
     ensures { IfOk result (λ found. IfSome found (AreUseShifts problem.now)) }
 {
     let count = problem.uses.as_slice().len();

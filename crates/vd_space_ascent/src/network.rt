@@ -1,9 +1,7 @@
 //! The network of slots and uses alone: each slot is a point, and each use a link.
 
-ghost use Rattle.std.specs.Prelude.{◌≡◌};
-ghost use Rattle.vd_space.specs.Labelled.{IsLabelled};
 ghost use Rattle.vd_space.specs.Sizes.{IsWithinLimits};
-ghost use Rattle.vd_space.specs.Validity.{protocols as protocols_of};
+ghost use Rattle.vd_space.specs.WellFormed.{AreProtocols};
 
 use crate::tables::plain_tables;
 use std::alloc::{AllocError, Global};
@@ -30,8 +28,7 @@ pub struct Plain {
 impl Plain {
     /// None where a slot has no protocol left, since then no list is valid.
     pub fn of(alloc: Global, problem: &Problem, list: &[Proto]) -> Result<Option<Plain>, AllocError>
-        requires list { list.now ≡ protocols_of problem.now }
-        requires labelled { IsLabelled problem.now }
+        requires list { AreProtocols problem.now list.now }
         requires limits { IsWithinLimits problem.now }
     {
         let candidates = candidates(alloc, problem, list)?;

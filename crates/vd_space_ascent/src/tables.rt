@@ -1,9 +1,7 @@
 //! What slots and uses cost alone.
 
-ghost use Rattle.std.specs.Prelude.{◌≡◌};
-ghost use Rattle.vd_space.specs.Labelled.{IsLabelled};
 ghost use Rattle.vd_space.specs.Sizes.{IsWithinLimits};
-ghost use Rattle.vd_space.specs.Validity.{protocols};
+ghost use Rattle.vd_space.specs.WellFormed.{AreProtocols};
 
 use std::alloc::{AllocError, Global};
 use vd_base::{Proto, SlotId};
@@ -27,8 +25,7 @@ pub(crate) fn plain_tables(
     list: &[Proto],
     candidates: &[Items<bool>],
 ) -> Result<LinkedTables, AllocError>
-    requires list { list.now ≡ protocols problem.now }
-    requires labelled { IsLabelled problem.now }
+    requires list { AreProtocols problem.now list.now }
     requires limits { IsWithinLimits problem.now }
 {
     Ok(LinkedTables {
@@ -41,8 +38,7 @@ pub(crate) fn plain_tables(
 
 /// What each slot costs.
 fn points(alloc: Global, problem: &Problem, list: &[Proto]) -> Result<Items<PointTable>, AllocError>
-    requires list { list.now ≡ protocols problem.now }
-    requires labelled { IsLabelled problem.now }
+    requires list { AreProtocols problem.now list.now }
     requires limits { IsWithinLimits problem.now }
 {
     let mut points = Items::new(alloc);

@@ -1,5 +1,5 @@
 -- What names a slot, by number.
-use Rattle.std.specs.Prelude.{ℕ, ◌+◌, ◌<◌, length, Bool, true, ◌&&◌, if◌then◌else◌, slice_get, List, [], ◌∷◌}
+use Rattle.std.specs.Prelude.{◌≡◌, ℕ, ◌+◌, ◌<◌, ◌≤◌, length, Bool, true, ◌&&◌, if◌then◌else◌, slice_get, List, [], ◌∷◌}
 use Rattle.std.specs.List.{list_all}
 use Rattle.std.specs.Option.{option_map_or}
 use Rattle.vd_space.specs.declared.problem.Problem.{Problem}
@@ -32,6 +32,11 @@ allows problem naming slot choice prefix =
     && all_at (output_joins problem prefix) problem.outputs naming.outputs
     && all_at (guard_told problem prefix) problem.guards naming.guards
     && all_at (index_told problem prefix) problem.indexes naming.indexes
+
+-- the numbers of guards that name the slot behind the prefix, which are few
+pub record AreNamingNext (problem : Problem) (prefix numbers : List ℕ) : Type 0 where
+  pub few : length numbers ≤ 2048
+  pub named : all_at (guard_names (length prefix)) problem.guards numbers ≡ true
 
 -- numbers of 32 bits are enough
 pub record AreCountable (problem : Problem) : Type 0 where

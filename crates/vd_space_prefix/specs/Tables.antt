@@ -6,6 +6,7 @@ use Rattle.vd_space.specs.Validity.{protocols, is_valid}
 use Rattle.vd_space.specs.Costs.{total, use_term, index_term, ones, guards_total}
 use Rattle.vd_space.specs.Bounds.{least_one, least_pair, shifted_ones, shifted_uses}
 use Rattle.vd_space.specs.Growth.{extends, guard_names, with_choice}
+use Rattle.vd_space.specs.WellFormed.{IsWellFormed}
 use Rattle.vd_space_prefix.specs.declared.naming.Naming.{Naming}
 use Rattle.vd_space_prefix.specs.declared.tables.Tables.{Tables}
 use Rattle.vd_space_prefix.specs.declared.tables.Sums.{Sums}
@@ -73,6 +74,7 @@ pub record IsFew (naming : Naming) : Type 0 where
   pub indexes : length naming.indexes ≤ 2048
 
 pub record AreTables (problem : Problem) (tables : Tables) : Type 0 where
+  pub well_formed : IsWellFormed problem
   pub list : tables.list ≡ protocols problem
   pub few_protocols : length tables.list ≤ 64
   pub few_slots : length problem.slots ≤ 2048

@@ -1,14 +1,14 @@
 //! What it costs to tell guards to the hosts that take part, under a prefix.
 
-ghost use Rattle.std.specs.Prelude.{◌≡◌, ◌==◌, ◌≤◌, ◌<◌, ◌&&◌, ◌||◌, ◌-ℤ◌, not, length, slice_get, slice_index_or, pos, [], if◌then◌else◌, true};
+ghost use Rattle.std.specs.Prelude.{◌≡◌, ◌==◌, ◌||◌, ◌-ℤ◌, length, slice_get, slice_index_or, pos, [], true};
 ghost use Rattle.std.specs.Option.{option_map_or};
 ghost use Rattle.vd_base.specs.HostSets.{host as host_at};
 ghost use Rattle.vd_space_prefix.specs.Guards.{AreTellings, IsTelling, guard_change, guard_changes, guard_under, change_of_guard, is_joining, joined_if, joined_under, told_if, told_under};
-ghost use Rattle.vd_space_prefix.specs.Naming.{all_at};
+ghost use Rattle.vd_space_prefix.specs.Naming.{AreNamingNext};
 ghost use Rattle.vd_space_prefix.specs.Transfers.{IsWithin};
 ghost use Rattle.vd_space.specs.Growth.{guard_names, with_choice};
-ghost use Rattle.vd_space.specs.Labelled.{IsLabelled};
 ghost use Rattle.vd_space.specs.Validity.{protocols};
+ghost use Rattle.vd_space.specs.WellFormed.{AreProtocols};
 
 use crate::steps::decided;
 use crate::transfers::amount_at;
@@ -75,8 +75,7 @@ pub fn guard_cost(
     telling: &Telling,
     prefix: &[u32],
 ) -> i64
-    requires list { list.now ≡ protocols problem.now }
-    requires labelled { IsLabelled problem.now }
+    requires list { AreProtocols problem.now list.now }
     requires telling { IsTelling telling.now }
     ensures cost { result ≡ guard_under problem.now prefix.now guard.now telling.now }
     ensures within { IsWithin 4294967296 result }
@@ -136,8 +135,7 @@ fn joining_cost(
     choice: u32,
     prefix: &[u32],
 ) -> i64
-    requires list { list.now ≡ protocols problem.now }
-    requires labelled { IsLabelled problem.now }
+    requires list { AreProtocols problem.now list.now }
     requires telling { IsTelling telling.now }
     ensures cost { result ≡ joined_under problem.now prefix.now guard.now telling.now choice }
     ensures within { IsWithin 4294967296 result }
@@ -168,8 +166,7 @@ fn growth_of_guard(
     before: &[u32],
     after: &[u32],
 ) -> i64
-    requires list { list.now ≡ protocols problem.now }
-    requires labelled { IsLabelled problem.now }
+    requires list { AreProtocols problem.now list.now }
     requires telling { IsTelling telling.now }
     requires grown { after.now ≡ with_choice before.now choice }
     requires named { guard_names (length before.now) guard.now ≡ true }
@@ -196,8 +193,7 @@ fn change_of(
     before: &[u32],
     after: &[u32],
 ) -> i64
-    requires list { list.now ≡ protocols problem.now }
-    requires labelled { IsLabelled problem.now }
+    requires list { AreProtocols problem.now list.now }
     requires tellings { AreTellings tellings.now }
     requires grown { after.now ≡ with_choice before.now choice }
     requires named { guard_names (length before.now) guard.now ≡ true }
@@ -220,8 +216,7 @@ fn change_at(
     before: &[u32],
     after: &[u32],
 ) -> i64
-    requires list { list.now ≡ protocols problem.now }
-    requires labelled { IsLabelled problem.now }
+    requires list { AreProtocols problem.now list.now }
     requires tellings { AreTellings tellings.now }
     requires grown { after.now ≡ with_choice before.now choice }
     requires named { option_map_or (guard_names (length before.now)) (slice_get problem.now.guards number) true ≡ true }
@@ -246,12 +241,10 @@ pub(crate) fn growth_of_guards(
     before: &[u32],
     after: &[u32],
 ) -> i64
-    requires list { list.now ≡ protocols problem.now }
-    requires labelled { IsLabelled problem.now }
+    requires list { AreProtocols problem.now list.now }
     requires tellings { AreTellings tellings.now }
-    requires few { length numbers.now ≤ 2048 }
+    requires numbers { AreNamingNext problem.now before.now numbers.now }
     requires grown { after.now ≡ with_choice before.now choice }
-    requires named { all_at (guard_names (length before.now)) problem.now.guards numbers.now ≡ true }
     ensures growth { result ≡ guard_changes problem.now tellings.now numbers.now before.now after.now }
     ensures within { IsWithin 17592186044416 result }
 {

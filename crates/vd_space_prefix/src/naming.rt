@@ -1,12 +1,11 @@
 //! What names a slot, and whether it allows a further choice.
 
-ghost use Rattle.std.specs.Prelude.{◌≡◌, ◌&&◌, true, slice_get, slice_index_or, length};
-ghost use Rattle.std.specs.List.{list_all};
+ghost use Rattle.std.specs.Prelude.{◌≡◌, true, slice_get, length};
 ghost use Rattle.std.specs.Option.{option_map_or};
 ghost use Rattle.vd_space_prefix.specs.Naming.{all_at, allows};
 ghost use Rattle.vd_space.specs.Growth.{guard_names, with_choice};
-ghost use Rattle.vd_space.specs.Labelled.{IsLabelled};
 ghost use Rattle.vd_space.specs.Validity.{guard_told, index_told, is_candidate, is_valid, output_joins, protocols, use_joins};
+ghost use Rattle.vd_space.specs.WellFormed.{AreProtocols};
 
 use vd_base::Proto;
 use vd_base_lists::Items;
@@ -33,8 +32,7 @@ pub(crate) fn is_allowed(
     before: &[u32],
     after: &[u32],
 ) -> bool
-    requires list { list.now ≡ protocols problem.now }
-    requires labelled { IsLabelled problem.now }
+    requires list { AreProtocols problem.now list.now }
     requires grown { after.now ≡ with_choice before.now choice }
     requires valid { is_valid problem.now before.now ≡ true }
     requires named { all_at (guard_names (length before.now)) problem.now.guards naming.now.guards ≡ true }
@@ -56,8 +54,7 @@ pub(crate) fn is_allowed(
 
 /// Whether the place is a candidate of the slot.
 fn can_choose(problem: &Problem, list: &[Proto], slot: usize, choice: u32) -> bool
-    requires list { list.now ≡ protocols problem.now }
-    requires labelled { IsLabelled problem.now }
+    requires { AreProtocols problem.now list.now }
     ensures { result ≡ is_candidate problem.now slot choice }
 {
     let makings = problem.slots.as_slice();
@@ -119,8 +116,7 @@ fn are_guards_told(
     before: &[u32],
     after: &[u32],
 ) -> bool
-    requires list { list.now ≡ protocols problem.now }
-    requires labelled { IsLabelled problem.now }
+    requires list { AreProtocols problem.now list.now }
     requires grown { after.now ≡ with_choice before.now choice }
     requires valid { is_valid problem.now before.now ≡ true }
     requires named { all_at (guard_names (length before.now)) problem.now.guards numbers.now ≡ true }
@@ -142,8 +138,7 @@ fn is_guard_told_at(
     before: &[u32],
     after: &[u32],
 ) -> bool
-    requires list { list.now ≡ protocols problem.now }
-    requires labelled { IsLabelled problem.now }
+    requires list { AreProtocols problem.now list.now }
     requires grown { after.now ≡ with_choice before.now choice }
     requires valid { is_valid problem.now before.now ≡ true }
     requires named { option_map_or (guard_names (length before.now)) (slice_get problem.now.guards number) true ≡ true }
@@ -165,8 +160,7 @@ fn is_guard_still_told(
     before: &[u32],
     after: &[u32],
 ) -> bool
-    requires list { list.now ≡ protocols problem.now }
-    requires labelled { IsLabelled problem.now }
+    requires list { AreProtocols problem.now list.now }
     requires grown { after.now ≡ with_choice before.now choice }
     requires told { guard_told problem.now before.now guard.now ≡ true }
     requires named { guard_names (length before.now) guard.now ≡ true }
@@ -180,8 +174,7 @@ fn is_guard_still_told(
 }
 
 fn are_indexes_told(problem: &Problem, list: &[Proto], prefix: &[u32], numbers: &[u32]) -> bool
-    requires list { list.now ≡ protocols problem.now }
-    requires labelled { IsLabelled problem.now }
+    requires { AreProtocols problem.now list.now }
     ensures { result ≡ all_at (index_told problem.now prefix.now) problem.now.indexes numbers.now }
 {
     for number in numbers {
@@ -193,8 +186,7 @@ fn are_indexes_told(problem: &Problem, list: &[Proto], prefix: &[u32], numbers: 
 }
 
 fn is_index_told_at(problem: &Problem, list: &[Proto], prefix: &[u32], number: u32) -> bool
-    requires list { list.now ≡ protocols problem.now }
-    requires labelled { IsLabelled problem.now }
+    requires { AreProtocols problem.now list.now }
     ensures { result ≡ option_map_or (index_told problem.now prefix.now) (slice_get problem.now.indexes number) true }
 {
     match problem.indexes.as_slice().get(number as usize) {

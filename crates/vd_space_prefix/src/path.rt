@@ -94,9 +94,7 @@ impl<'a> Path<'a> {
         problem: &'a Problem,
         tables: &'a Tables,
     ) -> Result<Path<'a>, AllocError>
-        requires holds { IsProblem problem.now }
-        requires labelled { IsLabelled problem.now }
-        requires tables { AreTables problem.now tables.now }
+        requires { AreTables problem.now tables.now }
         ensures problem { IfOk result (λ path. path.problem.now ≡ problem.now) }
         ensures tables { IfOk result (λ path. path.tables.now ≡ tables.now) }
         ensures empty { IfOk result (λ path. path.depth ≡ 0) }
@@ -155,7 +153,6 @@ fn next_sums(
     valid: usize,
 ) -> Option<Sums>
     requires tables { AreTables problem.now tables.now }
-    requires labelled { IsLabelled problem.now }
     requires path { IsPath problem.now tables.now room.now sums.now depth valid }
     requires room { depth < length problem.now.slots }
     requires choice { slice_index_or room.now depth 0 < length (protocols problem.now) }

@@ -1,9 +1,8 @@
 //! The tables by which the bound of a prefix grows with a further choice.
 
-ghost use Rattle.std.specs.Prelude.{◌≡◌, ◌<◌, [], length, slice_index_or, pos, true};
+ghost use Rattle.std.specs.Prelude.{◌≡◌, ◌<◌, length, true};
 ghost use Rattle.vd_space_prefix.specs.Tables.{AreSumsOf, AreTables, IsStep, common_part, gain_at, low_part, naming_at, shifted_part};
 ghost use Rattle.vd_space.specs.Growth.{extends};
-ghost use Rattle.vd_space.specs.Labelled.{IsLabelled};
 ghost use Rattle.vd_space.specs.Validity.{is_valid};
 
 use crate::guards::{Telling, growth_of_guards};
@@ -130,7 +129,6 @@ fn grown_common(
     after: &[u32],
 ) -> i64
     requires tables { AreTables problem.now tables.now }
-    requires labelled { IsLabelled problem.now }
     requires step { IsStep problem.now before.now choice after.now }
     requires common { common ≡ common_part problem.now before.now }
     ensures { result ≡ common_part problem.now after.now }
@@ -165,7 +163,6 @@ pub fn grown(
     after: &[u32],
 ) -> Sums
     requires tables { AreTables problem.now tables.now }
-    requires labelled { IsLabelled problem.now }
     requires step { IsStep problem.now before.now choice after.now }
     requires sums { AreSumsOf problem.now tables.now.shifts before.now sums.now }
     ensures { AreSumsOf problem.now tables.now.shifts after.now result }
@@ -186,7 +183,6 @@ pub(crate) fn can_grow(
     after: &[u32],
 ) -> bool
     requires tables { AreTables problem.now tables.now }
-    requires labelled { IsLabelled problem.now }
     requires step { IsStep problem.now before.now choice after.now }
     requires valid { is_valid problem.now before.now ≡ true }
     ensures { result ≡ extends problem.now before.now choice }

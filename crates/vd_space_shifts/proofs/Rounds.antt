@@ -2,7 +2,7 @@
 use Rattle.std.proofs.Common.{◌≡◌, ℕ, ◌+◌, ◌-◌, ◌<◌, ◌≤◌, ◌*◌, Bool, Option, Some, List, [], length, get_or, map, refl, sym, ap, ◌∙◌, subst, arith, slice_get}
 use Rattle.std.specs.List.{AllByRecursion}
 use Rattle.std.proofs.lemmas.Option.{slice_get_read}
-use Rattle.std.proofs.lemmas.List.{drop_all, take_all, get_or_default}
+use Rattle.std.proofs.lemmas.List.{drop_all, length-map, take_all, get_or_default}
 use Rattle.vd_base.specs.declared.protocols.Proto.{Proto}
 use Rattle.vd_space.specs.declared.problem.Problem.{Problem}
 use Rattle.vd_space.specs.declared.problem.Use.{Use}
@@ -16,11 +16,11 @@ use Rattle.vd_space.specs.Bounds.{use_shift}
 use Rattle.vd_space.specs.Sizes.{heft, IsWithinLimits}
 use Rattle.vd_space.specs.Usual.{usual_from}
 use Rattle.vd_space_shifts.specs.Terms.{candidates_of, IsTable, terms_after, AreCosts}
-use Rattle.vd_space_shifts.specs.Ledger.{AreSmall, places_at, given_by, handed_on, IsHandedOn, IsSmallShift}
+use Rattle.vd_space_shifts.specs.Ledger.{AreSmall, places_at, given_by, handed_on, IsHandedOn, IsOverPlaces, IsSmallShift}
 use Rattle.vd_space_shifts.proofs.Costs.{each_at}
 use Rattle.vd_space_shifts.proofs.Tables.{no_shifts}
 use Rattle.vd_space_shifts.proofs.Steps.{places_size}
-use Rattle.vd_space_shifts.proofs.Walk.{next, next_small}
+use Rattle.vd_space_shifts.proofs.Walk.{are_small, next, next_small}
 
 module _ (problem : Problem) (holds : IsProblem problem) (labelled : IsLabelled problem) (list : List Proto) (listed : list ≡ protocols problem) (candidates : List (List Bool)) (can : candidates ≡ map (candidates_of problem) problem.slots)
     (ledger : Ledger) (n at : ℕ) (one : n ≡ at + 1) (u : Use) (low : at < length problem.uses) (read : u ≡ get_or problem.uses at u) (is : IsHandedOn problem n ledger) where
@@ -40,8 +40,17 @@ module _ (problem : Problem) (holds : IsProblem problem) (labelled : IsLabelled 
       (next problem labelled.few_hosts candidates can at u found named.source named.target ledger (subst (λ k. IsHandedOn problem k ledger) one is))
 
 module _ (problem : Problem) (list : List Proto) (listed : list ≡ protocols problem) (candidates : List (List Bool)) (can : candidates ≡ map (candidates_of problem) problem.slots) (ledger : Ledger) (n : ℕ) (is : IsHandedOn problem n ledger) where
-  pub round_places : (slot : ℕ) → slot < length ledger.terms → length (places_at candidates slot) ≡ length list
+  round_places : (slot : ℕ) → slot < length ledger.terms → length (places_at candidates slot) ≡ length list
   round_places slot low = let slots = is.terms.slots in places_size problem candidates slot can (omega (arith, slots, low)) ∙ sym (ap length listed)
+
+  pub over_places : length list ≤ 64 → IsOverPlaces list candidates ledger
+  over_places few = record {
+    few = omega (arith, few);
+    slots = ap length can ∙ length-map problem.slots (candidates_of problem) ∙ sym is.terms.slots;
+    places = round_places;
+    rows = λ slot low. let slots = is.terms.slots in is.terms.places slot (omega (arith, slots, low)) ∙ sym (ap length listed);
+    small = are_small problem n ledger is;
+  }
 
 abbrev no_use : Use
 no_use = record { source = record { 0 = 0 }; target = record { 0 = 0 }; weight = 0 }

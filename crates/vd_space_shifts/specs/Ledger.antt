@@ -71,3 +71,11 @@ AreSmall amounts = (p : ℕ) → slice_index_or amounts p 0 < 4294967296
 
 abbrev pub AreSmallTerms : List (List (Option ℕ)) → Type 0
 AreSmallTerms terms = (slot p : ℕ) → unwrap_or (slice_index_or (row_at terms slot) p None) 0 < 4294967296
+
+-- by slot, the candidates and what the slot must cost are by place of the list, and what it must cost are numbers of 32 bits
+pub record IsOverPlaces (list : List Proto) (candidates : List (List Bool)) (ledger : Ledger) : Type 0 where
+  pub few : length list < 256
+  pub slots : length candidates ≡ length ledger.terms
+  pub places : (slot : ℕ) → slot < length ledger.terms → length (places_at candidates slot) ≡ length list
+  pub rows : (slot : ℕ) → slot < length ledger.terms → length (row_at ledger.terms slot) ≡ length list
+  pub small : AreSmallTerms ledger.terms

@@ -3,11 +3,8 @@
 ghost use Rattle.std.specs.Prelude.{◌≡◌, ◌++◌, ◌<◌, ◌≤◌, length, map, IfOk, OnOk};
 ghost use Rattle.std.specs.List.{AllByRecursion};
 ghost use Rattle.vd_base.specs.Limits.{most_certificate_shifts};
-ghost use Rattle.vd_space.specs.Labelled.{IsLabelled};
-ghost use Rattle.vd_space.specs.Sizes.{IsWithinLimits};
-ghost use Rattle.vd_space.specs.Spaces.{IsProblem};
 ghost use Rattle.vd_space.specs.Usual.{usual};
-ghost use Rattle.vd_space.specs.Validity.{protocols};
+ghost use Rattle.vd_space.specs.WellFormed.{AreProtocols, IsWellFormed};
 ghost use Rattle.vd_space_shifts.specs.Ledger.{AreSmall, IsHandedOn, IsSmallShift, made, one_shift};
 ghost use Rattle.vd_space_shifts.specs.Terms.{candidates_of};
 
@@ -71,8 +68,7 @@ fn push_shifts(
 }
 
 impl Ledger {
-    ghost use Rattle.std.specs.Prelude.{ℕ};
-    ghost use Rattle.vd_space_shifts.specs.Ledger.{AreSmallTerms, given_by, handed_on, places_at, with_given, with_taken};
+    ghost use Rattle.vd_space_shifts.specs.Ledger.{AreSmallTerms, IsOverPlaces, given_by, handed_on, with_given, with_taken};
     ghost use Rattle.vd_space_shifts.specs.Rows.{amounts_of};
     ghost use Rattle.vd_space_shifts.specs.Terms.{row_at};
 
@@ -123,11 +119,7 @@ impl Ledger {
     ) -> Result<(), AllocError>
         requires source { u.now.source.0 < length self.old.terms }
         requires target { u.now.target.0 < length self.old.terms }
-        requires slots { length candidates.now ≡ length self.old.terms }
-        requires places { (slot : ℕ) → slot < length self.old.terms → length (places_at candidates.now slot) ≡ length list.now }
-        requires rows { (slot : ℕ) → slot < length self.old.terms → length (row_at self.old.terms slot) ≡ length list.now }
-        requires few { length list.now < 256 }
-        requires small { AreSmallTerms self.old.terms }
+        requires ledger { IsOverPlaces list.now candidates.now self.old }
         requires given { AreSmall (given_by list.now candidates.now u.now self.old) }
         ensures { OnOk result (self.new ≡ handed_on list.now candidates.now at u.now self.old) }
     {
@@ -154,11 +146,8 @@ fn hand_all_on(
     candidates: &[Items<bool>],
     ledger: &mut Ledger,
 ) -> Result<(), AllocError>
-    requires list { list.now ≡ protocols problem.now }
-    requires few { length list.now < 256 }
-    requires holds { IsProblem problem.now }
-    requires labelled { IsLabelled problem.now }
-    requires limits { IsWithinLimits problem.now }
+    requires list { AreProtocols problem.now list.now }
+    requires well_formed { IsWellFormed problem.now }
     requires candidates { candidates.now ≡ map (candidates_of problem.now) problem.now.slots }
     requires ledger { IsHandedOn problem.now (length problem.now.uses) ledger.old }
     ensures shifts { OnOk result (ledger.new.shifts ≡ usual problem.now) }
@@ -174,9 +163,7 @@ fn hand_all_on(
 /// The usual shifts. From the last use to the first, what its target must cost at a candidate goes on the use, and then
 /// what the use must cost from a candidate of its source, whatever its target stands at, goes on the source.
 pub fn usual(alloc: Global, problem: &Problem) -> Result<Items<Shift>, AllocError>
-    requires holds { IsProblem problem.now }
-    requires labelled { IsLabelled problem.now }
-    requires limits { IsWithinLimits problem.now }
+    requires { IsWellFormed problem.now }
     ensures usual { IfOk result (λ shifts. shifts ≡ usual problem.now) }
     ensures few { IfOk result (λ shifts. length shifts ≤ most_certificate_shifts) }
     ensures small { IfOk result (AllByRecursion IsSmallShift) }

@@ -6,10 +6,7 @@ ghost use Rattle.vd_base.specs.Moves.{move_at};
 ghost use Rattle.vd_base.specs.declared.protocols.Proto.TheVariants.{Local as local};
 ghost use Rattle.vd_base.specs.Holders.{proto_in};
 ghost use Rattle.vd_protocol.specs.Authority.{IsOver, names_of};
-ghost use Rattle.vd_space.specs.Labelled.{IsLabelled};
-ghost use Rattle.vd_space.specs.Sizes.{IsWithinLimits};
-ghost use Rattle.vd_space.specs.Spaces.{IsProblem};
-ghost use Rattle.vd_space.specs.Validity.{can_stand, protocols};
+ghost use Rattle.vd_space.specs.WellFormed.{AreProtocols, IsWellFormed};
 ghost use Rattle.vd_space_shifts.specs.Rows.{weighed};
 ghost use Rattle.vd_space_shifts.specs.Terms.{AreCosts, candidates_of, operation_at, operations_of, row_at, sum_of, terms_with, with_output};
 
@@ -28,10 +25,8 @@ fn candidates_of(
     list: &[Proto],
     making: &Making,
 ) -> Result<Items<bool>, AllocError>
-    requires list { list.now ≡ protocols problem.now }
-    requires labelled { IsLabelled problem.now }
+    requires list { AreProtocols problem.now list.now }
     requires making { IsOver (names_of problem.now.hosts) making.now.label }
-    requires few { length list.now < 256 }
     ensures { IfOk result (λ candidates. candidates ≡ candidates_of problem.now making.now) }
 {
     let mut candidates = Items::new(alloc);
@@ -47,9 +42,7 @@ pub(crate) fn all_candidates(
     problem: &Problem,
     list: &[Proto],
 ) -> Result<Items<Items<bool>>, AllocError>
-    requires list { list.now ≡ protocols problem.now }
-    requires labelled { IsLabelled problem.now }
-    requires few { length list.now < 256 }
+    requires { AreProtocols problem.now list.now }
     ensures { IfOk result (λ candidates. candidates ≡ map (candidates_of problem.now) problem.now.slots) }
 {
     let mut candidates = Items::new(alloc);
@@ -82,10 +75,8 @@ pub fn weighed_cost(making: &Making, at: Proto) -> Option<u64>
 
 /// What the slot's operation costs at a place, if that is a candidate.
 fn operation_at(problem: &Problem, list: &[Proto], making: &Making, place: usize) -> Option<u64>
-    requires list { list.now ≡ protocols problem.now }
-    requires labelled { IsLabelled problem.now }
+    requires list { AreProtocols problem.now list.now }
     requires making { IsOver (names_of problem.now.hosts) making.now.label }
-    requires few { length list.now < 256 }
     requires place { place < length list.now }
     ensures { result ≡ operation_at problem.now making.now place }
 {
@@ -103,10 +94,8 @@ fn operations_of(
     list: &[Proto],
     making: &Making,
 ) -> Result<Items<Option<u64>>, AllocError>
-    requires list { list.now ≡ protocols problem.now }
-    requires labelled { IsLabelled problem.now }
+    requires list { AreProtocols problem.now list.now }
     requires making { IsOver (names_of problem.now.hosts) making.now.label }
-    requires few { length list.now < 256 }
     ensures { IfOk result (λ row. row ≡ operations_of problem.now making.now) }
 {
     let mut row = Items::new(alloc);
@@ -122,9 +111,7 @@ fn all_operations(
     problem: &Problem,
     list: &[Proto],
 ) -> Result<Items<Items<Option<u64>>>, AllocError>
-    requires list { list.now ≡ protocols problem.now }
-    requires labelled { IsLabelled problem.now }
-    requires few { length list.now < 256 }
+    requires { AreProtocols problem.now list.now }
     ensures { IfOk result (λ terms. terms ≡ map (operations_of problem.now) problem.now.slots) }
 {
     let mut terms = Items::new(alloc);
@@ -198,11 +185,8 @@ pub(crate) fn all_terms(
     problem: &Problem,
     list: &[Proto],
 ) -> Result<Items<Items<Option<u64>>>, AllocError>
-    requires list { list.now ≡ protocols problem.now }
-    requires few { length list.now < 256 }
-    requires holds { IsProblem problem.now }
-    requires labelled { IsLabelled problem.now }
-    requires limits { IsWithinLimits problem.now }
+    requires list { AreProtocols problem.now list.now }
+    requires well_formed { IsWellFormed problem.now }
     ensures { IfOk result (AreCosts problem.now problem.now.outputs) }
 {
     let mut terms = all_operations(alloc, problem, list)?;

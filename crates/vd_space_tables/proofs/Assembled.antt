@@ -16,6 +16,7 @@ use Rattle.vd_space.specs.Bounds.{nothing_left, least_one, least_pair, shifted_o
 use Rattle.vd_space.specs.Growth.{with_choice, use_names, index_names, guard_names, pair_names}
 use Rattle.vd_space.specs.Labelled.{IsLabelled}
 use Rattle.vd_space.specs.Sizes.{IsWithinLimits}
+use Rattle.vd_space.specs.WellFormed.{IsWellFormed}
 use Rattle.vd_space.proofs.Priced.{listed_or_not}
 use Rattle.vd_space.proofs.Totals.{total_map}
 use Rattle.vd_space_prefix.specs.declared.naming.Naming.{Naming}
@@ -229,10 +230,11 @@ module _ (problem : Problem) (labelled : IsLabelled problem) (limits : IsWithinL
       common = common_grows;
     }
 
-  pub tables_are : AreTables problem tables
-  tables_are =
+  pub tables_are : IsWellFormed problem → AreTables problem tables
+  tables_are formed =
       let count = limits.count in
       record {
+        well_formed = formed;
         list = parts.list;
         few_protocols = parts.few;
         few_slots = omega (arith, count);

@@ -1,5 +1,5 @@
 -- Tables that are put together from parts as they are made.
-use Rattle.std.proofs.Common.{◌≡◌, ℕ, ◌+◌, ◌≤◌, List, [], ◌∷◌, length, map, refl, sym, ap, ap₂, ◌∙◌, subst, arith}
+use Rattle.std.proofs.Common.{ℕ, ◌+◌, List, [], ◌∷◌, length, map, refl, sym, ap, ap₂, ◌∙◌, subst, arith}
 use Rattle.std.specs.Prelude.{All}
 use Rattle.std.proofs.lemmas.Int.{ints}
 use Rattle.std.proofs.lemmas.List.{length-map}
@@ -8,11 +8,11 @@ use Rattle.vd_search_tree.specs.declared.shift.Shift.{Shift}
 use Rattle.vd_space.specs.declared.problem.Problem.{Problem}
 use Rattle.vd_space.specs.declared.problem.Use.{Use}
 use Rattle.vd_space.specs.declared.problem.Output.{Output}
-use Rattle.vd_space.specs.Validity.{protocols}
 use Rattle.vd_space.specs.Costs.{operation_term, use_term, index_term, output_term}
 use Rattle.vd_space.specs.Bounds.{shifted_one, shifted_uses}
 use Rattle.vd_space.specs.Labelled.{IsLabelled}
 use Rattle.vd_space.specs.Sizes.{IsWithinLimits}
+use Rattle.vd_space.specs.WellFormed.{AreProtocols, IsWellFormed}
 use Rattle.vd_space_prefix.specs.Tables.{AreTables, AreSumsOf}
 use Rattle.vd_space_prefix.proofs.Placed.{size_by_place}
 use Rattle.vd_space_tables.specs.declared.made.Moved.{Moved}
@@ -76,12 +76,12 @@ module _ (problem : Problem) (labelled : IsLabelled problem) (limits : IsWithinL
           common = omega (arith, ints, indexes);
         }
 
-    pub tables_made : (list : List Proto) (k : Kept) → AreSmallOnSlots problem shifts → AreKept problem c m k → list ≡ protocols problem → length list ≤ 64 → AreTables problem (tables_of list shifts m k)
-    tables_made list k small kept list_is few =
+    pub tables_made : (list : List Proto) (k : Kept) → AreSmallOnSlots problem shifts → AreKept problem c m k → AreProtocols problem list → IsWellFormed problem → AreTables problem (tables_of list shifts m k)
+    tables_made list k small kept listed formed =
         tables_are problem labelled limits (tables_of list shifts m k)
         (record {
-          list = list_is;
-          few = few;
+          list = listed.all;
+          few = listed.few;
           moves = moved.moves;
           tells = moved.tells;
           links = moved.links;
@@ -92,4 +92,4 @@ module _ (problem : Problem) (labelled : IsLabelled problem) (limits : IsWithinL
           shifted_gains = kept.shifted_gains ∙ ap (map (gains_with [])) charges.merged;
           naming = kept.naming;
           start = subst (AreSumsOf problem shifts []) (sym kept.start) start_is;
-        }) small
+        }) small formed

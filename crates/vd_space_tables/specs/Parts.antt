@@ -72,6 +72,10 @@ pub record AreSmallCharges (c : Charges) : Type 0 where
   pub merged : All (IsCharge 1125899906842624) c.merged
   pub few_merged : length c.merged ≤ 2048
 
+pub record AreSmallParts (c : Charges) (m : Moved) : Type 0 where
+  pub charges : AreSmallCharges c
+  pub moved : AreSmallMoved m
+
 -- the sums of the empty prefix
 abbrev pub start_of : Problem → Charges → Moved → Sums
 start_of problem c m = record {

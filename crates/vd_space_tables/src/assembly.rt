@@ -5,9 +5,7 @@ ghost use Rattle.vd_base.specs.Limits.{most_certificate_shifts};
 ghost use Rattle.vd_space_terms.specs.Prices.{candidates_of};
 ghost use Rattle.vd_space_prefix.specs.Tables.{AreTables};
 ghost use Rattle.vd_space.specs.Labelled.{IsLabelled};
-ghost use Rattle.vd_space.specs.Sizes.{IsWithinLimits};
-ghost use Rattle.vd_space.specs.Spaces.{IsProblem};
-ghost use Rattle.vd_space.specs.Validity.{protocols};
+ghost use Rattle.vd_space.specs.WellFormed.{AreProtocols, IsWellFormed};
 ghost use Rattle.vd_space_tables.specs.Charges.{AreCandidates};
 
 use crate::parts::{kept_parts, moved_values, slot_charges};
@@ -22,9 +20,7 @@ use vd_space_terms::candidates;
 
 /// The tables of a problem and shifts.
 pub fn tables(alloc: Global, problem: &Problem, shifts: Items<Shift>) -> Result<Tables, AllocError>
-    requires holds { IsProblem problem.now }
-    requires labelled { IsLabelled problem.now }
-    requires limits { IsWithinLimits problem.now }
+    requires well_formed { IsWellFormed problem.now }
     requires few { length shifts ≤ most_certificate_shifts }
     ensures tables { IfOk result (AreTables problem.now) }
     ensures shifts { IfOk result (λ tables. tables.shifts ≡ shifts) }
@@ -69,11 +65,10 @@ pub fn tables(alloc: Global, problem: &Problem, shifts: Items<Shift>) -> Result<
     })
 }
 
-/// The list of protocols.
-fn all_protocols(alloc: Global, problem: &Problem) -> Result<Items<Proto>, AllocError>
+/// All protocols over the hosts of a problem, in order.
+pub fn all_protocols(alloc: Global, problem: &Problem) -> Result<Items<Proto>, AllocError>
     requires { IsLabelled problem.now }
-    ensures list { IfOk result (λ list. list ≡ protocols problem.now) }
-    ensures few { IfOk result (λ list. length list ≤ 64) }
+    ensures { IfOk result (AreProtocols problem.now) }
 {
     protocols(alloc, problem.hosts.as_slice().len() as u8)
 }
@@ -84,8 +79,7 @@ fn all_candidates(
     problem: &Problem,
     list: &[Proto],
 ) -> Result<Items<Items<bool>>, AllocError>
-    requires list { list.now ≡ protocols problem.now }
-    requires labelled { IsLabelled problem.now }
+    requires { AreProtocols problem.now list.now }
     ensures candidates { IfOk result (λ candidates. candidates ≡ candidates_of problem.now) }
     ensures rows { IfOk result (AreCandidates problem.now) }
 {

@@ -7,7 +7,7 @@ ghost use Rattle.vd_space.specs.Bounds.{nothing_left, only_if};
 ghost use Rattle.vd_space.specs.Costs.{operation_term};
 ghost use Rattle.vd_space.specs.Sizes.{IsWithinLimits};
 ghost use Rattle.vd_space.specs.Spaces.{IsProblem};
-ghost use Rattle.vd_space.specs.Validity.{protocols};
+ghost use Rattle.vd_space.specs.WellFormed.{AreProtocols};
 ghost use Rattle.vd_space_tables.specs.Charges.{AreCandidates, charge_from, charge_of, operations_of, outputs_of, told_term};
 
 use crate::values::{operation_values, told_values};
@@ -85,8 +85,7 @@ pub(crate) fn operation_charges(
     list: &[Proto],
     candidates: &[Items<bool>],
 ) -> Result<Items<Charge>, AllocError>
-    requires list { list.now ≡ protocols problem.now }
-    requires few { length list.now ≤ 64 }
+    requires list { AreProtocols problem.now list.now }
     requires limits { IsWithinLimits problem.now }
     requires candidates { AreCandidates problem.now candidates.now }
     ensures { IfOk result (λ charges. charges ≡ operations_of problem.now) }
@@ -106,8 +105,7 @@ fn operation_charge(
     candidates: &[Items<bool>],
     slot: usize,
 ) -> Result<Charge, AllocError>
-    requires list { list.now ≡ protocols problem.now }
-    requires few { length list.now ≤ 64 }
+    requires list { AreProtocols problem.now list.now }
     requires limits { IsWithinLimits problem.now }
     requires candidates { AreCandidates problem.now candidates.now }
     requires slot { slot < length problem.now.slots }
@@ -125,8 +123,7 @@ pub(crate) fn output_charges(
     list: &[Proto],
     candidates: &[Items<bool>],
 ) -> Result<Items<Charge>, AllocError>
-    requires list { list.now ≡ protocols problem.now }
-    requires few { length list.now ≤ 64 }
+    requires list { AreProtocols problem.now list.now }
     requires holds { IsProblem problem.now }
     requires limits { IsWithinLimits problem.now }
     requires candidates { AreCandidates problem.now candidates.now }
@@ -158,8 +155,7 @@ pub(crate) fn told_charge(
     weight: u32,
     host: HostId,
 ) -> Result<Charge, AllocError>
-    requires list { list.now ≡ protocols problem.now }
-    requires few { length list.now ≤ 64 }
+    requires list { AreProtocols problem.now list.now }
     requires candidates { AreCandidates problem.now candidates.now }
     requires slot { slot.0 < length problem.now.slots }
     requires weight { weight ≤ most_weights }

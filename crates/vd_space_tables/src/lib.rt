@@ -11,5 +11,5 @@ mod start;
 mod tellings;
 mod values;
 
-pub use assembly::tables;
+pub use assembly::{all_protocols, tables};
 pub use values::merged_values;

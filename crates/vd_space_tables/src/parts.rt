@@ -3,12 +3,10 @@
 ghost use Rattle.std.specs.Prelude.{◌≡◌, ◌≤◌, IfOk, length, map};
 ghost use Rattle.vd_base.specs.Limits.{most_certificate_shifts};
 ghost use Rattle.vd_space_terms.specs.Prices.{candidates_of};
-ghost use Rattle.vd_space.specs.Labelled.{IsLabelled};
 ghost use Rattle.vd_space.specs.Sizes.{IsWithinLimits};
-ghost use Rattle.vd_space.specs.Spaces.{IsProblem};
-ghost use Rattle.vd_space.specs.Validity.{protocols};
+ghost use Rattle.vd_space.specs.WellFormed.{AreProtocols, IsWellFormed};
 ghost use Rattle.vd_space_tables.specs.Charges.{AreCandidates, telling_of};
-ghost use Rattle.vd_space_tables.specs.Parts.{AreCharges, AreKept, AreMoved, AreSmallCharges, AreSmallMoved, AreSmallOnSlots, start_of};
+ghost use Rattle.vd_space_tables.specs.Parts.{AreCharges, AreKept, AreMoved, AreSmallOnSlots, AreSmallParts, start_of};
 
 use crate::charges::{Charge, operation_charges, output_charges};
 use crate::gains::gains_by_slot;
@@ -32,10 +30,8 @@ pub(crate) fn moved_values(
     candidates: &[Items<bool>],
     shifts: &[Shift],
 ) -> Result<Moved, AllocError>
-    requires list { list.now ≡ protocols problem.now }
-    requires holds { IsProblem problem.now }
-    requires labelled { IsLabelled problem.now }
-    requires limits { IsWithinLimits problem.now }
+    requires list { AreProtocols problem.now list.now }
+    requires well_formed { IsWellFormed problem.now }
     requires candidates { candidates.now ≡ candidates_of problem.now }
     requires few { length shifts.now ≤ most_certificate_shifts }
     ensures { IfOk result (AreMoved problem.now shifts.now) }
@@ -62,11 +58,8 @@ pub(crate) fn slot_charges(
     candidates: &[Items<bool>],
     shifts: &[Shift],
 ) -> Result<Charges, AllocError>
-    requires list { list.now ≡ protocols problem.now }
-    requires few { length list.now ≤ 64 }
-    requires holds { IsProblem problem.now }
-    requires labelled { IsLabelled problem.now }
-    requires limits { IsWithinLimits problem.now }
+    requires list { AreProtocols problem.now list.now }
+    requires well_formed { IsWellFormed problem.now }
     requires candidates { AreCandidates problem.now candidates.now }
     requires shifts { length shifts.now ≤ most_certificate_shifts }
     ensures charges { IfOk result (AreCharges problem.now shifts.now) }
@@ -88,14 +81,10 @@ pub(crate) fn kept_parts(
     charges: &Charges,
     moved: &Moved,
 ) -> Result<Kept, AllocError>
-    requires list { list.now ≡ protocols problem.now }
-    requires few { length list.now ≤ 64 }
-    requires holds { IsProblem problem.now }
-    requires labelled { IsLabelled problem.now }
-    requires limits { IsWithinLimits problem.now }
+    requires list { AreProtocols problem.now list.now }
+    requires well_formed { IsWellFormed problem.now }
     requires candidates { AreCandidates problem.now candidates.now }
-    requires charges { AreSmallCharges charges.now }
-    requires moved { AreSmallMoved moved.now }
+    requires parts { AreSmallParts charges.now moved.now }
     ensures { IfOk result (AreKept problem.now charges.now moved.now) }
 {
     let tellings = tellings_by_guard(alloc, problem, list, candidates)?;
@@ -121,21 +110,15 @@ fn start(
     moved: &Moved,
     tellings: &[Telling],
 ) -> Sums
-    requires list { list.now ≡ protocols problem.now }
-    requires labelled { IsLabelled problem.now }
+    requires list { AreProtocols problem.now list.now }
     requires limits { IsWithinLimits problem.now }
-    requires charges { AreSmallCharges charges.now }
-    requires moved { AreSmallMoved moved.now }
+    requires parts { AreSmallParts charges.now moved.now }
     requires tellings { tellings.now ≡ map (telling_of problem.now) problem.now.guards }
     ensures { result ≡ start_of problem.now charges.now moved.now }
 {
     Sums {
-        low: low_start(
-            charges.operations.as_slice(),
-            charges.outputs.as_slice(),
-            moved.links.as_slice(),
-        ),
-        shifted: shifted_start(charges.merged.as_slice(), moved.shifted_links.as_slice()),
-        common: common_start(problem, list, moved.index_links.as_slice(), tellings),
+        low: low_start(charges, moved),
+        shifted: shifted_start(charges, moved),
+        common: common_start(problem, list, moved, tellings),
     }
 }

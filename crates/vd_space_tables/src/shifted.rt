@@ -4,7 +4,7 @@ ghost use Rattle.std.specs.Prelude.{◌≡◌, ◌≤◌, ◌<◌, [], IfOk, len
 ghost use Rattle.vd_base.specs.Limits.{most_certificate_shifts};
 ghost use Rattle.vd_space_terms.specs.Sums.{AreSmallSums};
 ghost use Rattle.vd_space.specs.Sizes.{IsWithinLimits};
-ghost use Rattle.vd_space.specs.Validity.{protocols};
+ghost use Rattle.vd_space.specs.WellFormed.{AreProtocols};
 ghost use Rattle.vd_space_tables.specs.Charges.{AreCandidates, merged_charge_of, merged_of};
 ghost use Rattle.vd_space_tables.specs.Parts.{AreSmallOnSlots};
 
@@ -25,8 +25,7 @@ pub(crate) fn merged_charges(
     candidates: &[Items<bool>],
     shifts: &[Shift],
 ) -> Result<Items<Charge>, AllocError>
-    requires list { list.now ≡ protocols problem.now }
-    requires few { length list.now ≤ 64 }
+    requires list { AreProtocols problem.now list.now }
     requires limits { IsWithinLimits problem.now }
     requires candidates { AreCandidates problem.now candidates.now }
     requires shifts { length shifts.now ≤ most_certificate_shifts }
@@ -51,8 +50,7 @@ fn merged_charge(
     slot: usize,
     sums: &[Items<i64>],
 ) -> Result<Charge, AllocError>
-    requires list { list.now ≡ protocols problem.now }
-    requires few { length list.now ≤ 64 }
+    requires list { AreProtocols problem.now list.now }
     requires limits { IsWithinLimits problem.now }
     requires slot { slot < length problem.now.slots }
     requires sums { AreSmallSums sums.now }

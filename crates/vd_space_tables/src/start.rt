@@ -9,13 +9,14 @@ ghost use Rattle.vd_space_prefix.specs.declared.transfers.Link.{Link as Links};
 ghost use Rattle.vd_space.specs.Bounds.{least_one};
 ghost use Rattle.vd_space.specs.Costs.{guards_total};
 ghost use Rattle.vd_space.specs.Growth.{guard_sum};
-ghost use Rattle.vd_space.specs.Labelled.{IsLabelled};
 ghost use Rattle.vd_space.specs.Sizes.{IsWithinLimits};
-ghost use Rattle.vd_space.specs.Validity.{protocols};
+ghost use Rattle.vd_space.specs.WellFormed.{AreProtocols};
 ghost use Rattle.vd_space_tables.specs.Charges.{IsCharge, telling_of};
+ghost use Rattle.vd_space_tables.specs.Parts.{AreSmallMoved, AreSmallParts};
 ghost use Rattle.vd_space_tables.specs.Start.{both_total, free_total};
 
 use crate::charges::Charge;
+use crate::made::{Charges, Moved};
 use vd_base::Proto;
 use vd_space::{Guard, Problem};
 use vd_space_prefix::{Link, Telling, guard_cost};
@@ -70,8 +71,7 @@ fn both_of(links: &[Link], number: usize) -> i64
 
 /// What it costs to tell the guards to the hosts that take part already where no slot is decided.
 fn told_sum(problem: &Problem, list: &[Proto], tellings: &[Telling]) -> i64
-    requires list { list.now ≡ protocols problem.now }
-    requires labelled { IsLabelled problem.now }
+    requires list { AreProtocols problem.now list.now }
     requires limits { IsWithinLimits problem.now }
     requires tellings { tellings.now ≡ map (telling_of problem.now) problem.now.guards }
     ensures sum { result ≡ guards_total problem.now (least_one problem.now []) [] }
@@ -87,8 +87,7 @@ fn told_sum(problem: &Problem, list: &[Proto], tellings: &[Telling]) -> i64
 
 /// What it costs to tell the guard to the hosts that take part already where no slot is decided.
 fn told_cost(problem: &Problem, list: &[Proto], guard: &Guard, telling: &Telling) -> i64
-    requires list { list.now ≡ protocols problem.now }
-    requires labelled { IsLabelled problem.now }
+    requires list { AreProtocols problem.now list.now }
     requires weight { guard.now.weight ≤ most_weights }
     requires telling { telling.now ≡ telling_of problem.now guard.now }
     ensures cost { result ≡ guard_sum problem.now [] guard.now }
@@ -98,43 +97,35 @@ fn told_cost(problem: &Problem, list: &[Proto], guard: &Guard, telling: &Telling
 }
 
 /// The terms of slots and uses where no slot is decided.
-pub(crate) fn low_start(operations: &[Charge], outputs: &[Charge], links: &[Link]) -> i64
-    requires operations { All (IsCharge 1125899906842624) operations.now }
-    requires few_operations { length operations.now ≤ 2048 }
-    requires outputs { All (IsCharge 1125899906842624) outputs.now }
-    requires few_outputs { length outputs.now ≤ 2048 }
-    requires links { AreLinks links.now }
-    requires few_links { length links.now ≤ 2048 }
-    ensures { result ≡ free_total operations.now +ℤ free_total outputs.now +ℤ both_total links.now }
+pub(crate) fn low_start(charges: &Charges, moved: &Moved) -> i64
+    requires { AreSmallParts charges.now moved.now }
+    ensures { result ≡ free_total charges.now.operations +ℤ free_total charges.now.outputs +ℤ both_total moved.now.links }
 {
-    free_sum(operations) + free_sum(outputs) + both_sum(links)
+    free_sum(charges.operations.as_slice())
+        + free_sum(charges.outputs.as_slice())
+        + both_sum(moved.links.as_slice())
 }
 
 /// The same under shifts.
-pub(crate) fn shifted_start(merged: &[Charge], links: &[Link]) -> i64
-    requires merged { All (IsCharge 1125899906842624) merged.now }
-    requires few_merged { length merged.now ≤ 2048 }
-    requires links { AreLinks links.now }
-    requires few_links { length links.now ≤ 2048 }
-    ensures { result ≡ free_total merged.now +ℤ both_total links.now }
+pub(crate) fn shifted_start(charges: &Charges, moved: &Moved) -> i64
+    requires { AreSmallParts charges.now moved.now }
+    ensures { result ≡ free_total charges.now.merged +ℤ both_total moved.now.shifted_links }
 {
-    free_sum(merged) + both_sum(links)
+    free_sum(charges.merged.as_slice()) + both_sum(moved.shifted_links.as_slice())
 }
 
 /// The terms of indexes and guards where no slot is decided.
 pub(crate) fn common_start(
     problem: &Problem,
     list: &[Proto],
-    links: &[Link],
+    moved: &Moved,
     tellings: &[Telling],
 ) -> i64
-    requires list { list.now ≡ protocols problem.now }
-    requires labelled { IsLabelled problem.now }
+    requires list { AreProtocols problem.now list.now }
     requires limits { IsWithinLimits problem.now }
-    requires links { AreLinks links.now }
-    requires few_links { length links.now ≤ 2048 }
+    requires moved { AreSmallMoved moved.now }
     requires tellings { tellings.now ≡ map (telling_of problem.now) problem.now.guards }
-    ensures { result ≡ both_total links.now +ℤ guards_total problem.now (least_one problem.now []) [] }
+    ensures { result ≡ both_total moved.now.index_links +ℤ guards_total problem.now (least_one problem.now []) [] }
 {
-    both_sum(links) + told_sum(problem, list, tellings)
+    both_sum(moved.index_links.as_slice()) + told_sum(problem, list, tellings)
 }

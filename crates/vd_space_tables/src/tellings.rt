@@ -2,11 +2,8 @@
 
 ghost use Rattle.std.specs.Prelude.{◌≡◌, ◌≤◌, ◌<◌, IfOk, length, map};
 ghost use Rattle.vd_base.specs.Limits.{most_weights};
-ghost use Rattle.vd_space.specs.Labelled.{IsLabelled};
-ghost use Rattle.vd_space.specs.Sizes.{IsWithinLimits};
-ghost use Rattle.vd_space.specs.Spaces.{IsProblem};
-ghost use Rattle.vd_space.specs.Validity.{protocols};
 ghost use Rattle.vd_space_tables.specs.Charges.{AreCandidates, telling_of};
+ghost use Rattle.vd_space.specs.WellFormed.{AreProtocols, IsWellFormed};
 
 use crate::charges::told_charge;
 use std::alloc::{AllocError, Global};
@@ -22,11 +19,8 @@ pub(crate) fn tellings_by_guard(
     list: &[Proto],
     candidates: &[Items<bool>],
 ) -> Result<Items<Telling>, AllocError>
-    requires list { list.now ≡ protocols problem.now }
-    requires few { length list.now ≤ 64 }
-    requires holds { IsProblem problem.now }
-    requires labelled { IsLabelled problem.now }
-    requires limits { IsWithinLimits problem.now }
+    requires list { AreProtocols problem.now list.now }
+    requires well_formed { IsWellFormed problem.now }
     requires candidates { AreCandidates problem.now candidates.now }
     ensures { IfOk result (λ tellings. tellings ≡ map (telling_of problem.now) problem.now.guards) }
 {
@@ -45,9 +39,7 @@ fn telling(
     candidates: &[Items<bool>],
     guard: &Guard,
 ) -> Result<Telling, AllocError>
-    requires list { list.now ≡ protocols problem.now }
-    requires few { length list.now ≤ 64 }
-    requires labelled { IsLabelled problem.now }
+    requires list { AreProtocols problem.now list.now }
     requires candidates { AreCandidates problem.now candidates.now }
     requires slot { guard.now.slot.0 < length problem.now.slots }
     requires weight { guard.now.weight ≤ most_weights }

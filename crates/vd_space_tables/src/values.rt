@@ -1,6 +1,6 @@
 //! What the terms of one slot cost, by the place where the slot stands.
 
-ghost use Rattle.std.specs.Prelude.{◌≡◌, ℕ, ◌+◌, ◌≤◌, ◌<◌, if◌then◌else◌, IfOk, length, slice_index_or};
+ghost use Rattle.std.specs.Prelude.{◌≡◌, ℕ, ◌+◌, ◌≤◌, ◌<◌, if◌then◌else◌, IfOk, length};
 ghost use Rattle.vd_base.specs.Costs.{cost_at};
 ghost use Rattle.vd_base.specs.Limits.{most_weights};
 ghost use Rattle.vd_base.specs.Moves.{move_at};
@@ -11,6 +11,7 @@ ghost use Rattle.vd_space.specs.Costs.{operation_value, output_value, weigh};
 ghost use Rattle.vd_space.specs.Growth.{output_names};
 ghost use Rattle.vd_space.specs.Sizes.{IsWithinLimits};
 ghost use Rattle.vd_space.specs.Validity.{move_to_host, protocols};
+ghost use Rattle.vd_space.specs.WellFormed.{AreProtocols};
 ghost use Rattle.vd_space_tables.specs.Values.{AreSmall, HasRoom, merged_value, together, with_shift};
 
 use std::alloc::{AllocError, Global};
@@ -31,8 +32,7 @@ pub(crate) fn operation_values(
     list: &[Proto],
     slot: usize,
 ) -> Result<Values, AllocError>
-    requires list { list.now ≡ protocols problem.now }
-    requires few { length list.now ≤ 64 }
+    requires list { AreProtocols problem.now list.now }
     requires limits { IsWithinLimits problem.now }
     ensures { IfOk result (λ values. values ≡ by_place (length list.now) (operation_value problem.now slot)) }
 {
@@ -51,8 +51,7 @@ pub(crate) fn told_values(
     weight: u32,
     host: HostId,
 ) -> Result<Values, AllocError>
-    requires list { list.now ≡ protocols problem.now }
-    requires few { length list.now ≤ 64 }
+    requires list { AreProtocols problem.now list.now }
     requires weight { weight ≤ most_weights }
     ensures { IfOk result (λ values. values ≡ by_place (length list.now) (λ p. weigh weight (move_to_host problem.now host p))) }
 {
@@ -71,8 +70,7 @@ pub fn merged_values(
     slot: usize,
     shifted: &[i64],
 ) -> Result<Values, AllocError>
-    requires list { list.now ≡ protocols problem.now }
-    requires few { length list.now ≤ 64 }
+    requires list { AreProtocols problem.now list.now }
     requires limits { IsWithinLimits problem.now }
     requires shifted { AreSmall 562949953421312 shifted.now }
     ensures { IfOk result (λ values. values ≡ by_place (length list.now) (merged_value problem.now slot shifted.now)) }

@@ -7,10 +7,8 @@ ghost use Rattle.vd_space_terms.specs.Prices.{candidates_of, moves_of, tells_of}
 ghost use Rattle.vd_space_prefix.specs.Transfers.{ArePrices, IsTransfer};
 ghost use Rattle.vd_space.specs.Bounds.{shifted_uses};
 ghost use Rattle.vd_space.specs.Costs.{index_term, use_term};
-ghost use Rattle.vd_space.specs.Labelled.{IsLabelled};
-ghost use Rattle.vd_space.specs.Sizes.{IsWithinLimits};
-ghost use Rattle.vd_space.specs.Spaces.{IsProblem};
 ghost use Rattle.vd_space.specs.Validity.{protocols};
+ghost use Rattle.vd_space.specs.WellFormed.{IsWellFormed};
 
 use crate::sums::{Rows, shift_sums};
 use std::alloc::{AllocError, Global};
@@ -26,9 +24,7 @@ pub fn use_links(
     moves: &[Items<Option<u32>>],
     candidates: &[Items<bool>],
 ) -> Result<Items<Link>, AllocError>
-    requires holds { IsProblem problem.now }
-    requires labelled { IsLabelled problem.now }
-    requires limits { IsWithinLimits problem.now }
+    requires well_formed { IsWellFormed problem.now }
     requires moves { moves.now ≡ moves_of (protocols problem.now) }
     requires candidates { candidates.now ≡ candidates_of problem.now }
     ensures { IfOk result (AreLinksOf problem.now moves.now (map (use_term problem.now) problem.now.uses)) }
@@ -44,9 +40,7 @@ pub fn shifted_use_links(
     candidates: &[Items<bool>],
     shifts: &[Shift],
 ) -> Result<Items<Link>, AllocError>
-    requires holds { IsProblem problem.now }
-    requires labelled { IsLabelled problem.now }
-    requires limits { IsWithinLimits problem.now }
+    requires well_formed { IsWellFormed problem.now }
     requires moves { moves.now ≡ moves_of (protocols problem.now) }
     requires candidates { candidates.now ≡ candidates_of problem.now }
     requires few { length shifts.now ≤ most_certificate_shifts }
@@ -71,9 +65,7 @@ pub fn index_links(
     tells: &[Items<Option<u32>>],
     candidates: &[Items<bool>],
 ) -> Result<Items<Link>, AllocError>
-    requires holds { IsProblem problem.now }
-    requires labelled { IsLabelled problem.now }
-    requires limits { IsWithinLimits problem.now }
+    requires well_formed { IsWellFormed problem.now }
     requires tells { tells.now ≡ tells_of problem.now }
     requires candidates { candidates.now ≡ candidates_of problem.now }
     ensures { IfOk result (AreLinksOf problem.now tells.now (map (index_term problem.now) problem.now.indexes)) }

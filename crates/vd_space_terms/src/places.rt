@@ -4,8 +4,8 @@ ghost use Rattle.std.specs.Prelude.{◌≡◌, IfOk, length};
 ghost use Rattle.vd_space_terms.specs.Prices.{candidates_of};
 ghost use Rattle.vd_space_prefix.specs.Transfers.{by_place};
 ghost use Rattle.vd_protocol.specs.Authority.{IsOver, names_of};
-ghost use Rattle.vd_space.specs.Labelled.{IsLabelled};
 ghost use Rattle.vd_space.specs.Validity.{can_stand, protocols};
+ghost use Rattle.vd_space.specs.WellFormed.{AreProtocols};
 
 use std::alloc::{AllocError, Global};
 use vd_base::Proto;
@@ -18,8 +18,7 @@ pub fn candidates(
     problem: &Problem,
     list: &[Proto],
 ) -> Result<Items<Items<bool>>, AllocError>
-    requires list { list.now ≡ protocols problem.now }
-    requires labelled { IsLabelled problem.now }
+    requires { AreProtocols problem.now list.now }
     ensures { IfOk result (λ candidates. candidates ≡ candidates_of problem.now) }
 {
     let mut candidates = Items::new(alloc);
@@ -36,8 +35,7 @@ fn candidates_at(
     list: &[Proto],
     making: &Making,
 ) -> Result<Items<bool>, AllocError>
-    requires list { list.now ≡ protocols problem.now }
-    requires labelled { IsLabelled problem.now }
+    requires list { AreProtocols problem.now list.now }
     requires making { IsOver (names_of problem.now.hosts) making.now.label }
     ensures { IfOk result (λ candidates. candidates ≡ by_place (length (protocols problem.now)) (can_stand problem.now making.now)) }
 {

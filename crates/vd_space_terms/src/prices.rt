@@ -8,6 +8,7 @@ ghost use Rattle.vd_space.specs.Costs.{hosts_at, moves_to, plus};
 ghost use Rattle.vd_space.specs.Labelled.{IsLabelled};
 ghost use Rattle.vd_space.specs.Validity.{holds_at, move_to_host, protocols};
 ghost use Rattle.vd_space.specs.declared.problem.Problem.{Problem as Problems};
+ghost use Rattle.vd_space.specs.WellFormed.{AreProtocols};
 
 use std::alloc::{AllocError, Global};
 use vd_base::{HostId, Proto, is_holder};
@@ -57,8 +58,7 @@ pub fn index_prices(
     problem: &Problem,
     list: &[Proto],
 ) -> Result<Items<Items<Option<u32>>>, AllocError>
-    requires list { list.now ≡ protocols problem.now }
-    requires labelled { IsLabelled problem.now }
+    requires { AreProtocols problem.now list.now }
     ensures prices { IfOk result (λ prices. prices ≡ tells_of problem.now) }
     ensures small { IfOk result ArePrices }
 {
@@ -76,8 +76,7 @@ fn prices_of_array(
     list: &[Proto],
     array: u32,
 ) -> Result<Items<Option<u32>>, AllocError>
-    requires list { list.now ≡ protocols problem.now }
-    requires labelled { IsLabelled problem.now }
+    requires { AreProtocols problem.now list.now }
     ensures { IfOk result (λ prices. prices ≡ tells_from problem.now array) }
 {
     let mut prices = Items::new(alloc);
@@ -89,8 +88,7 @@ fn prices_of_array(
 
 /// What it costs to tell an index that stands at a place to each host of an array that stands at another.
 fn index_price(problem: &Problem, list: &[Proto], array: u32, index: u32) -> Option<u32>
-    requires list { list.now ≡ protocols problem.now }
-    requires labelled { IsLabelled problem.now }
+    requires { AreProtocols problem.now list.now }
     ensures { result ≡ moves_to problem.now index (hosts_at problem.now array) }
 {
     let hosts = problem.hosts.as_slice().len() as u8;

@@ -1,8 +1,6 @@
 //! The settings at which each point of a problem may be: protocols, by their place in the list, or off and on.
 
-ghost use Rattle.std.specs.Prelude.{◌≡◌};
-ghost use Rattle.vd_space.specs.Labelled.{IsLabelled};
-ghost use Rattle.vd_space.specs.Validity.{protocols};
+ghost use Rattle.vd_space.specs.WellFormed.{AreProtocols};
 
 use std::alloc::{AllocError, Global};
 use vd_base::Proto;
@@ -31,8 +29,7 @@ impl Settings {
         list: &[Proto],
         tables: &LinkedTables,
     ) -> Result<Settings, AllocError>
-        requires list { list.now ≡ protocols problem.now }
-        requires labelled { IsLabelled problem.now }
+        requires { AreProtocols problem.now list.now }
     {
         let candidates = candidates(alloc, problem, list)?;
         let slots = candidates.as_slice();

@@ -27,7 +27,7 @@ pub returns-in-Ok-Found-clause-found : goal.returns-in-Ok-Found-clause-found
 returns-in-Ok-Found-clause-found c =
     let spaced = c.in_ok-space.ensures {u = tt} in
     let selects = rw c.in-Ok-Found.field-0-is at (rw (c.problem.ensures.same ∙ spaced) at c.in-Ok-Found.ensures.selects) in
-    found_is c.args.program c.args.labels c.args.budget (subst IsProblem spaced c.problem.ensures.holds) c.requires.least c.in-Ok-Found.places c.in-Ok-Found.cost c.in-Ok-Found.certificate selects
+    found_is c.args.program c.args.labels c.args.budget (subst IsProblem spaced c.problem.ensures.well_formed.holds) c.requires.least c.in-Ok-Found.places c.in-Ok-Found.cost c.in-Ok-Found.certificate selects
     c.as_slice.result.now c.in_ok-space.space c.as_slice.ensures spaced c.found.result c.found.ensures.found
 
 pub returns-in-Ok-NoAssignment-clause-searches : goal.returns-in-Ok-NoAssignment-clause-searches
@@ -39,5 +39,5 @@ returns-in-Ok-NoAssignment-clause-searches c =
 pub returns-in-Err-Spent-clause-searches : goal.returns-in-Err-Spent-clause-searches
 returns-in-Err-Spent-clause-searches c =
     let spaced = c.in_ok-space.ensures {u = tt} in
-    spent c.args.program c.args.labels c.args.budget (subst IsProblem spaced c.problem.ensures.holds)
+    spent c.args.program c.args.labels c.args.budget (subst IsProblem spaced c.problem.ensures.well_formed.holds)
     (subst (λ (p : Problem). IsOver p (usual p) c.args.budget) (c.problem.ensures.same ∙ spaced) (c.in-Err-Spent.ensures.spent (rw c.in-Err-Spent.field-0-is refl)))

@@ -10,8 +10,8 @@ overflow_add-result c =
     let tables = c.args.tables.now in
     let links = c.args.links.now in
     let come_to = λ (list : List (Option ℕ)). point_part tables.points (as_states list) c.args.point +ℤ total (link_part tables.links (as_states list)) links in
-    let moves = put_moves tables c.args.states.now c.set.new.self links c.args.point c.args.state c.sum_of_parts_at-before.result c.sum_of_parts_at-after.result c.args.parts c.requires.small c.requires.points c.requires.point c.requires.links c.set.ensures
-    (c.sum_of_parts_at-before.ensures.sum ∙ ap come_to c.as_slice.ensures) (c.sum_of_parts_at-after.ensures.sum ∙ ap come_to c.as_slice-2.ensures) c.requires.parts in
+    let moves = put_moves tables c.args.states.now c.set.new.self links c.args.point c.args.state c.sum_of_parts_at-before.result c.sum_of_parts_at-after.result c.args.parts c.requires.small c.requires.parts.size c.requires.point c.requires.links c.set.ensures
+    (c.sum_of_parts_at-before.ensures.sum ∙ ap come_to c.as_slice.ensures) (c.sum_of_parts_at-after.ensures.sum ∙ ap come_to c.as_slice-2.ensures) c.requires.parts.sum in
     let moved = moves.0 in
     let first_low = moves.1.low in
     let first_high = moves.1.high in
@@ -24,8 +24,8 @@ returns-clause-parts c =
     let tables = c.args.tables.now in
     let links = c.args.links.now in
     let come_to = λ (list : List (Option ℕ)). point_part tables.points (as_states list) c.args.point +ℤ total (link_part tables.links (as_states list)) links in
-    let moves = put_moves tables c.args.states.now c.set.new.self links c.args.point c.args.state c.sum_of_parts_at-before.result c.sum_of_parts_at-after.result c.args.parts c.requires.small c.requires.points c.requires.point c.requires.links c.set.ensures
-    (c.sum_of_parts_at-before.ensures.sum ∙ ap come_to c.as_slice.ensures) (c.sum_of_parts_at-after.ensures.sum ∙ ap come_to c.as_slice-2.ensures) c.requires.parts in
+    let moves = put_moves tables c.args.states.now c.set.new.self links c.args.point c.args.state c.sum_of_parts_at-before.result c.sum_of_parts_at-after.result c.args.parts c.requires.small c.requires.parts.size c.requires.point c.requires.links c.set.ensures
+    (c.sum_of_parts_at-before.ensures.sum ∙ ap come_to c.as_slice.ensures) (c.sum_of_parts_at-after.ensures.sum ∙ ap come_to c.as_slice-2.ensures) c.requires.parts.sum in
     let moved = moves.0 in
     let first_low = moves.1.low in
     let first_high = moves.1.high in

@@ -11,13 +11,13 @@ use Rattle.vd_cost_network_tables.proofs.assembly.all_links.Goals as goal
 pub raw_links-requires-clause-points : goal.raw_links-requires-clause-points
 raw_links-requires-clause-points c =
     let problem = c.args.problem.now in
-    subst (λ (switches : List SwitchTable). length problem.slots + length switches < 4294967296) (sym c.requires.switches) (few_switches problem c.requires.labelled c.requires.limits)
+    subst (λ (switches : List SwitchTable). length problem.slots + length switches < 4294967296) (sym c.requires.switches) (few_switches problem c.requires.well_formed.labelled c.requires.well_formed.limits)
 
 pub returns : goal.returns
 returns c =
     let problem = c.args.problem.now in
-    let moves = c.as_slice.ensures ∙ c.in_ok-moves.ensures.prices ∙ ap moves_of c.requires.list in
+    let moves = c.as_slice.ensures ∙ c.in_ok-moves.ensures.prices ∙ ap moves_of c.requires.list.all in
     let tells = c.as_slice-2.ensures ∙ c.in_ok-tells.ensures.prices in
     subst (λ (links : List RawLink). IfOk c.raw_links.result (λ (raws : List RawLink). raws ≡ links))
-    ((λ i. raws_by problem (c.requires.list i) (moves i) (tells i) (c.requires.switches i)) ∙ raws_are problem c.requires.holds)
+    ((λ i. raws_by problem (c.requires.list.all i) (moves i) (tells i) (c.requires.switches i)) ∙ raws_are problem c.requires.well_formed.holds)
     c.raw_links.ensures

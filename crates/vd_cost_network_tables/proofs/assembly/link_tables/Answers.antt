@@ -12,6 +12,7 @@ use Rattle.vd_cost_network_prefix.proofs.Summing.{pairs_size}
 use Rattle.vd_cost_network_tables.specs.declared.sums.Rows.TheVariants.{Firsts, Seconds}
 use Rattle.vd_cost_network_tables.specs.Sums.{part}
 use Rattle.vd_cost_network_tables.specs.Tables.{link_table, raw_link, shifted_cells}
+use Rattle.vd_cost_network_tables.proofs.Assembling.{tests_found}
 use Rattle.vd_cost_network_tables.proofs.Placing.{row_is, row_small}
 use Rattle.vd_cost_network_tables.proofs.Ranging.{link_tables_small, raw_light}
 use Rattle.vd_cost_network_tables.proofs.Shifting.{next_table}
@@ -39,7 +40,7 @@ shifted-requires-clause-cells c v w =
     let raws = c.args.raws.now in
     let n = c.loop-number.number in
     subst (λ (cells : List (List (Option ℤ))). IsWithin 562949953421312 (unwrap_or (get_or (get_or cells v []) w None) (pos 0))) (sym c.as_slice.ensures)
-    (raw_light c.args.problem.now c.requires.labelled c.requires.limits raws c.index-raws-number.result n c.requires.raws c.loop-number-test.true c.index-raws-number.is v w)
+    (raw_light c.args.problem.now c.requires.well_formed.labelled c.requires.well_formed.limits raws c.index-raws-number.result n c.requires.raws c.loop-number-test.true c.index-raws-number.is v w)
 
 pub shifted-requires-clause-from : goal.shifted-requires-clause-from
 shifted-requires-clause-from c v =
@@ -68,7 +69,7 @@ loop-number-preserved c =
     let cells : c.in_ok-cells.cells ≡ shifted_cells raw.cells c.as_slice-from.result.now c.as_slice-to.result.now =
     c.in_ok-cells.ensures ∙ ap (λ (list : List (List (Option ℤ))). shifted_cells list c.as_slice-from.result.now c.as_slice-to.result.now) c.as_slice.ensures in
     let item = next_table problem shifts c.args.most n raws raw none c.as_slice-from.result.now c.as_slice-to.result.now c.tests_at-firsts.result.now c.tests_at-seconds.result.now c.in_ok-cells.cells c.in_ok-link_table.field-0
-    c.requires.raws c.loop-number-test.true c.index-raws-number.is from_is to_is c.requires.most (c.tests_at-firsts.ensures ∙ c.requires.settings raw.first) (c.tests_at-seconds.ensures ∙ c.requires.settings raw.second) cells c.in_ok-link_table.ensures in
+    c.requires.raws c.loop-number-test.true c.index-raws-number.is from_is to_is c.requires.settings.few (c.tests_at-firsts.ensures ∙ tests_found problem c.args.settings.now c.requires.settings.are raw.first) (c.tests_at-seconds.ensures ∙ tests_found problem c.args.settings.now c.requires.settings.are raw.second) cells c.in_ok-link_table.ensures in
     let size = ap length c.requires.raws ∙ length-map (links problem) (raw_link problem) in
     let many = pairs_size shifts 0 (links problem) in
     let low : n < length pairs = omega (arith, size, many) in
@@ -91,4 +92,4 @@ returns-clause-small c =
     let many = pairs_size shifts 0 (links problem) in
     let past = c.loop-number-test.false in
     let same = c.loop-number.invariant ∙ ap (map (link_table problem)) (take_all c.loop-number.number (linked_pairs shifts 0 (links problem)) (omega (arith, size, many, past))) in
-    subst AreSmallLinks (sym same) (link_tables_small problem shifts c.requires.few c.in_ok-from.ensures.small c.requires.labelled c.requires.limits)
+    subst AreSmallLinks (sym same) (link_tables_small problem shifts c.requires.few c.in_ok-from.ensures.small c.requires.well_formed.labelled c.requires.well_formed.limits)

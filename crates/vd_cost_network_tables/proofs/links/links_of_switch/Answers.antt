@@ -8,6 +8,6 @@ use Rattle.vd_cost_network_tables.proofs.links.links_of_switch.Goals as goal
 
 pub switch_links-requires-clause-prices : goal.switch_links-requires-clause-prices
 switch_links-requires-clause-prices c p =
-    let low = told_price c.args.problem.now c.requires.labelled.few_hosts c.args.switch.now.host p in
-    let same = ap (λ list. unwrap_or (move_at (get_or list p (Local (host 0))) (Local c.args.switch.now.host)) 0) c.requires.list in
+    let low = told_price c.args.problem.now c.requires.list.labelled.few_hosts c.args.switch.now.host p in
+    let same = ap (λ list. unwrap_or (move_at (get_or list p (Local (host 0))) (Local c.args.switch.now.host)) 0) c.requires.list.all in
     omega (arith, low, same)

@@ -14,4 +14,4 @@ loop-place-preserved c =
     (c.own_cost.ensures ∙ (λ i. option_map (λ z. z +ℤ amount i) (only_if (c.can_read_indexes-readable.ensures i) (parts (c.value_at.ensures i))))) c.in_ok-push.ensures.ok
 
 pub overflow_cast-place : goal.overflow_cast-place
-overflow_cast-place c = let few = few_slice c.args.problem.now c.requires.labelled c.args.list.now c.requires.list in omega (arith, few)
+overflow_cast-place c = let few = few_slice c.args.problem.now c.requires.list.labelled c.args.list.now c.requires.list.all in omega (arith, few)

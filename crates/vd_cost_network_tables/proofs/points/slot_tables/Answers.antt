@@ -17,7 +17,7 @@ bounds-settings-slot c =
 pub bounds-sums-slot : goal.bounds-sums-slot
 bounds-sums-slot c =
     let slots = ap length c.as_slice-slot-end.ensures in
-    let size = c.requires.size in
+    let size = c.requires.sums.size in
     omega (arith, size, slots)
 
 pub slot_table-requires-clause-slot : goal.slot_table-requires-clause-slot
@@ -28,9 +28,9 @@ slot_table-requires-clause-amounts c =
     let sums = c.args.sums.now in
     let slot = c.loop-slot.slot in
     let slots = ap length c.as_slice-slot-end.ensures in
-    let size = c.requires.size in
+    let size = c.requires.sums.size in
     let low : slot < length sums = omega (arith, size, slots) in
-    line_small sums slot c.as_slice-amounts.result.now c.requires.sums (c.as_slice-amounts.ensures ∙ row_found sums slot c.index-sums-slot.result low c.index-sums-slot.is)
+    line_small sums slot c.as_slice-amounts.result.now c.requires.sums.small (c.as_slice-amounts.ensures ∙ row_found sums slot c.index-sums-slot.result low c.index-sums-slot.is)
 
 pub loop-slot-preserved : goal.loop-slot-preserved
 loop-slot-preserved c =
@@ -38,7 +38,7 @@ loop-slot-preserved c =
     let sums = c.args.sums.now in
     let slot = c.loop-slot.slot in
     let slots = ap length c.as_slice-slot-end.ensures in
-    let size = c.requires.size in
+    let size = c.requires.sums.size in
     let low : slot < length problem.slots = omega (arith, slots) in
     let low_point : slot < count_of_points problem = omega (arith, slots) in
     let low_sums : slot < length sums = omega (arith, size, slots) in

@@ -9,7 +9,7 @@ use Rattle.vd_cost_network_tables.proofs.Bringing.{members_same}
 use Rattle.vd_cost_network_tables.proofs.switches.push_switches.Goals as goal
 
 pub overflow_cast-hosts : goal.overflow_cast-hosts
-overflow_cast-hosts c = let few = c.requires.labelled.few_hosts in let same = ap length c.as_slice.ensures in omega (arith, few, same)
+overflow_cast-hosts c = let few = c.requires.list.labelled.few_hosts in let same = ap length c.as_slice.ensures in omega (arith, few, same)
 
 pub loop-at-preserved : goal.loop-at-preserved
 loop-at-preserved c =

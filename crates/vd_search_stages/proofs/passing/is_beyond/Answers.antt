@@ -9,4 +9,4 @@ bound-requires-clause-prefix c =
     all_among c.args.prefix.now (length c.as_slice.result.now) (length (protocols c.args.problem.now)) (ap length (c.as_slice.ensures ∙ c.requires.bound.list)) (sym c.are_among.ensures ∙ c.if-not-are_among.false)
 
 pub returns : goal.returns
-returns c = λ above. beyond_by c.args.problem.now c.args.shifts.now c.args.most c.args.prefix.now c.in_ok-least.least c.requires.holds c.in_ok-least.ensures (omega (arith, ints, above))
+returns c = λ above. beyond_by c.args.problem.now c.args.shifts.now c.args.most c.args.prefix.now c.in_ok-least.least c.requires.bound.well_formed.holds c.in_ok-least.ensures (omega (arith, ints, above))

@@ -10,7 +10,7 @@ search_untied-requires-clause-passed c =
 pub returns-in_ok-selection-in-Ok-clause-selects : goal.returns-in_ok-selection-in-Ok-clause-selects
 returns-in_ok-selection-in-Ok-clause-selects c =
     selected c.args.problem.now c.in_ok-root.root.problem.now c.args.linked.now c.in_ok-root.root.linked.now c.args.budget c.in-Ok.answer c.in_ok-selection-in-Ok.selection c.in_ok-root.ensures.problem c.in_ok-root.ensures.linked
-    c.requires.holds c.requires.linked c.in-Ok.ensures.answers c.in_ok-selection-in-Ok.ensures
+    c.requires.tables.tabled.well_formed.holds c.requires.tables.can_link c.in-Ok.ensures.answers c.in_ok-selection-in-Ok.ensures
 
 pub returns-in-Err-Spent-clause-over : goal.returns-in-Err-Spent-clause-over
 returns-in-Err-Spent-clause-over c =

@@ -6,11 +6,11 @@ use Rattle.vd_space.proofs.validity.has_candidate.Goals as goal
 
 pub overflow_cast-place : goal.overflow_cast-place
 overflow_cast-place c =
-    let few = few_slice c.args.problem.now c.requires.labelled c.args.list.now c.requires.list in
+    let few = few_slice c.args.problem.now c.requires.list.labelled c.args.list.now c.requires.list.all in
     omega (arith, few)
 
 pub loop-place-preserved : goal.loop-place-preserved
 loop-place-preserved c =
     let problem = c.args.problem.now in
-    let same = ap length c.requires.list in
+    let same = ap length c.requires.list.all in
     sym (place_passed (can_stand problem c.args.making.now) c.loop-place.place (length (protocols problem)) (omega (arith, same, c.loop-place-test.true)) (sym c.is_candidate_at.ensures ∙ c.if-is_candidate_at.false)) ∙ c.loop-place.invariant

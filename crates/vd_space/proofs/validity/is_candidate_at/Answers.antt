@@ -5,4 +5,4 @@ use Rattle.vd_space.proofs.Listed.{has_hosts_in}
 use Rattle.vd_space.proofs.validity.is_candidate_at.Goals as goal
 
 pub authority-requires-clause-declared : goal.authority-requires-clause-declared
-authority-requires-clause-declared c = has_hosts_in c.args.list.now (length c.args.problem.now.hosts) c.args.place (Local (host 0)) c.requires.list c.if-place-list.false
+authority-requires-clause-declared c = has_hosts_in c.args.list.now (length c.args.problem.now.hosts) c.args.place (Local (host 0)) c.requires.list.all c.if-place-list.false

@@ -12,7 +12,7 @@ loop-host-init c = no_sum (guard_number c.args.problem.now c.args.prefix.now c.a
 pub overflow_add-sum : goal.overflow_add-sum
 overflow_add-sum c =
     let size = ap length c.as_slice.ensures in
-    let few = c.requires.labelled.few_hosts in
+    let few = c.requires.list.labelled.few_hosts in
     let so_far = c.loop-host.invariant.small_sum in
     let test = c.loop-host-test.true in
     omega (arith, size, few, c.guard_told-sum.ensures.small, so_far, test)
@@ -40,7 +40,7 @@ returns-clause-sum c =
 pub returns-clause-small : goal.returns-clause-small
 returns-clause-small c =
     let size = ap length c.as_slice.ensures in
-    let few = c.requires.labelled.few_hosts in
+    let few = c.requires.list.labelled.few_hosts in
     let so_far = c.loop-host.invariant.small_sum in
     let end = c.loop-host.auto.host-end in
     omega (arith, size, few, so_far, end)

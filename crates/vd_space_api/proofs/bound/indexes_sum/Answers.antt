@@ -9,7 +9,7 @@ loop-at-init c = no_sum (least_index c.args.problem.now c.args.prefix.now) c.arg
 pub overflow_add-sum : goal.overflow_add-sum
 overflow_add-sum c =
     let size = ap length c.as_slice-indexes.ensures in
-    let item = index_small c.args.problem.now c.requires.labelled.few_hosts c.args.prefix.now (get_or c.as_slice-indexes.result.now c.loop-at.at no_index) (weight_in (λ i. i.weight) c.args.problem.now.indexes c.as_slice-indexes.result.now no_index c.loop-at.at c.as_slice-indexes.ensures c.loop-at-test.true c.requires.limits.indexes) in
+    let item = index_small c.args.problem.now c.requires.list.labelled.few_hosts c.args.prefix.now (get_or c.as_slice-indexes.result.now c.loop-at.at no_index) (weight_in (λ i. i.weight) c.args.problem.now.indexes c.as_slice-indexes.result.now no_index c.loop-at.at c.as_slice-indexes.ensures c.loop-at-test.true c.requires.limits.indexes) in
     let so_far = c.loop-at.invariant.small_sum in
     let test = c.loop-at-test.true in
     let count = c.requires.limits.count in
@@ -17,7 +17,7 @@ overflow_add-sum c =
 
 pub loop-at-preserved : goal.loop-at-preserved
 loop-at-preserved c =
-    let item = index_small c.args.problem.now c.requires.labelled.few_hosts c.args.prefix.now (get_or c.as_slice-indexes.result.now c.loop-at.at no_index) (weight_in (λ i. i.weight) c.args.problem.now.indexes c.as_slice-indexes.result.now no_index c.loop-at.at c.as_slice-indexes.ensures c.loop-at-test.true c.requires.limits.indexes) in
+    let item = index_small c.args.problem.now c.requires.list.labelled.few_hosts c.args.prefix.now (get_or c.as_slice-indexes.result.now c.loop-at.at no_index) (weight_in (λ i. i.weight) c.args.problem.now.indexes c.as_slice-indexes.result.now no_index c.loop-at.at c.as_slice-indexes.ensures c.loop-at-test.true c.requires.limits.indexes) in
     next_sum (least_index c.args.problem.now c.args.prefix.now) c.args.problem.now.indexes c.as_slice-indexes.result.now no_index 1000000000 c.loop-at.at c.loop-at.sum c.least_index-sum.result c.as_slice-indexes.ensures c.loop-at-test.true c.loop-at.invariant c.least_index-sum.ensures (omega (arith, item, c.least_index-sum.ensures))
 
 pub returns-clause-sum : goal.returns-clause-sum

@@ -11,7 +11,7 @@ loop-slot-init c = no_sum (least_operation c.args.problem.now c.args.prefix.now)
 pub overflow_add-sum : goal.overflow_add-sum
 overflow_add-sum c =
     let size = ap length c.as_slice-slot-end.ensures in
-    let item = operation_small c.args.problem.now c.requires.labelled.few_hosts c.args.prefix.now c.requires.limits c.loop-slot.slot in
+    let item = operation_small c.args.problem.now c.requires.list.labelled.few_hosts c.args.prefix.now c.requires.limits c.loop-slot.slot in
     let so_far = c.loop-slot.invariant.small_sum in
     let test = c.loop-slot-test.true in
     let count = c.requires.limits.count in
@@ -25,7 +25,7 @@ loop-slot-preserved c =
     let range = length-range_with_len 0 n in
     let test = c.loop-slot-test.true in
     let here : get_or (slots_of problem) c.loop-slot.slot 0 ≡ c.loop-slot.slot = get_or-range_with_len 0 n c.loop-slot.slot 0 (omega (arith, size, test)) ∙ omega arith in
-    let item = operation_small problem c.requires.labelled.few_hosts c.args.prefix.now c.requires.limits c.loop-slot.slot in
+    let item = operation_small problem c.requires.list.labelled.few_hosts c.args.prefix.now c.requires.limits c.loop-slot.slot in
     next_sum (least_operation problem c.args.prefix.now) (slots_of problem) (slots_of problem) 0 1000000000 c.loop-slot.slot c.loop-slot.sum c.least_operation-sum.result refl (omega (arith, size, test, range)) c.loop-slot.invariant
     (c.least_operation-sum.ensures ∙ ap (least_operation problem c.args.prefix.now) (sym here)) (omega (arith, item, c.least_operation-sum.ensures))
 

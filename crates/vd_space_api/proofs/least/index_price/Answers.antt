@@ -9,7 +9,7 @@ loop-host-init c =
 
 pub with_price-sum-requires-clause-sum : goal.with_price-sum-requires-clause-sum
 with_price-sum-requires-clause-sum c =
-    let few = c.requires.labelled.few_hosts in
+    let few = c.requires.list.labelled.few_hosts in
     let small = c.loop-host.invariant.small in
     omega (arith, few, small)
 
@@ -21,7 +21,7 @@ loop-host-preserved c =
     let small = c.loop-host.invariant.small in
     let more = c.with_price-sum.ensures.small in
     record {
-      sum = told_next c.args.problem.now c.args.index c.args.array c.args.list.now c.requires.list (c.loop-host.host - 1) c.loop-host.host c.loop-host.sum c.with_price-sum.result (omega (arith, test)) (omega (arith, size, test, within)) c.loop-host.invariant.sum c.with_price-sum.ensures.value;
+      sum = told_next c.args.problem.now c.args.index c.args.array c.args.list.now c.requires.list.all (c.loop-host.host - 1) c.loop-host.host c.loop-host.sum c.with_price-sum.result (omega (arith, test)) (omega (arith, size, test, within)) c.loop-host.invariant.sum c.with_price-sum.ensures.value;
       small = omega (arith, size, test, within, small, more);
     }
 
@@ -32,6 +32,6 @@ returns-clause-value c =
 
 pub returns-clause-small : goal.returns-clause-small
 returns-clause-small c =
-    let few = c.requires.labelled.few_hosts in
+    let few = c.requires.list.labelled.few_hosts in
     let small = c.loop-host.invariant.small in
     omega (arith, few, small)

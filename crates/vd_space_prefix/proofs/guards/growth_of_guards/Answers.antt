@@ -16,7 +16,7 @@ loop-number-preserved c =
     let here = c.change_at-sum.ensures.change in
     let here_low = c.change_at-sum.ensures.within.low in
     let here_high = c.change_at-sum.ensures.within.high in
-    let few = c.requires.few in
+    let few = c.requires.numbers.few in
     record {
       sum = omega (arith, ints, more, so_far, low, high, here, here_low, here_high, few);
       within = record { low = omega (arith, ints, low, high, here_low, here_high, few); high = omega (arith, ints, low, high, here_low, here_high, few) };

@@ -1,10 +1,23 @@
-use Rattle.std.proofs.Common.{ap, ap₂, ◌∙◌, ◌+ℤ◌}
+use Rattle.std.proofs.Common.{◌≤◌, length, sym, ap, ap₂, ◌∙◌, subst, ◌+ℤ◌}
+use Rattle.vd_space.specs.Growth.{guard_names}
 use Rattle.vd_space_prefix.specs.declared.naming.Naming.{Naming}
 use Rattle.vd_space_prefix.specs.Steps.{changes}
 use Rattle.vd_space_prefix.specs.Guards.{guard_changes}
+use Rattle.vd_space_prefix.specs.Naming.{all_at}
 use Rattle.vd_space_prefix.specs.Tables.{common_part}
-use Rattle.vd_space_prefix.proofs.Choices.{listed_after, common_grows, small_sum_turned}
+use Rattle.vd_space_prefix.proofs.Choices.{listed_after, common_grows, guards_named, small_sum_turned}
 use Rattle.vd_space_prefix.proofs.tables.grown_common.Goals as goal
+
+pub growth_of_guards-guards-requires-clause-numbers : goal.growth_of_guards-guards-requires-clause-numbers
+growth_of_guards-guards-requires-clause-numbers c =
+    let before = c.args.before.now in
+    let problem = c.args.problem.now in
+    let tables = c.args.tables.now in
+    let guards_are = c.as_slice-6.ensures ∙ ap (λ (n : Naming). n.guards) c.naming_of-naming.ensures in
+    record {
+      few = subst (λ numbers. length numbers ≤ 2048) (sym guards_are) (c.requires.tables.few (length before)).guards;
+      named = ap (all_at (guard_names (length before)) problem.guards) guards_are ∙ guards_named problem tables before c.args.choice c.args.after.now c.requires.tables c.requires.step;
+    }
 
 pub overflow_add-result-2 : goal.overflow_add-result-2
 overflow_add-result-2 c =

@@ -1,18 +1,18 @@
 use Rattle.std.proofs.Common.{◌≤◌, sym, ap, ◌∙◌, subst, length}
 use Rattle.vd_base.specs.Protocols.{protocols_of}
-use Rattle.vd_space.proofs.Few.{few_slice}
+use Rattle.vd_space.proofs.Few.{are_protocols}
 use Rattle.vd_space_shifts.proofs.Few.{usual_few}
 use Rattle.vd_space_shifts.proofs.Rounds.{first_ledger}
 use Rattle.vd_space_shifts.proofs.ledger.usual.Goals as goal
 
-pub all_candidates-requires-clause-few : goal.all_candidates-requires-clause-few
-all_candidates-requires-clause-few c = few_slice c.args.problem.now c.requires.labelled c.as_slice-2.result.now (c.as_slice-2.ensures ∙ c.in_ok-list.ensures ∙ ap (λ hosts. protocols_of (length hosts)) c.as_slice.ensures)
+pub all_candidates-requires : goal.all_candidates-requires
+all_candidates-requires c = are_protocols c.args.problem.now c.requires.labelled c.as_slice-2.result.now (c.as_slice-2.ensures ∙ c.in_ok-list.ensures ∙ ap (λ hosts. protocols_of (length hosts)) c.as_slice.ensures)
 
-pub all_terms-requires-clause-few : goal.all_terms-requires-clause-few
-all_terms-requires-clause-few c = few_slice c.args.problem.now c.requires.labelled c.as_slice-3.result.now (c.as_slice-3.ensures ∙ c.in_ok-list.ensures ∙ ap (λ hosts. protocols_of (length hosts)) c.as_slice.ensures)
+pub all_terms-requires-clause-list : goal.all_terms-requires-clause-list
+all_terms-requires-clause-list c = are_protocols c.args.problem.now c.requires.labelled c.as_slice-3.result.now (c.as_slice-3.ensures ∙ c.in_ok-list.ensures ∙ ap (λ hosts. protocols_of (length hosts)) c.as_slice.ensures)
 
-pub hand_all_on-requires-clause-few : goal.hand_all_on-requires-clause-few
-hand_all_on-requires-clause-few c = few_slice c.args.problem.now c.requires.labelled c.as_slice-4.result.now (c.as_slice-4.ensures ∙ c.in_ok-list.ensures ∙ ap (λ hosts. protocols_of (length hosts)) c.as_slice.ensures)
+pub hand_all_on-requires-clause-list : goal.hand_all_on-requires-clause-list
+hand_all_on-requires-clause-list c = are_protocols c.args.problem.now c.requires.labelled c.as_slice-4.result.now (c.as_slice-4.ensures ∙ c.in_ok-list.ensures ∙ ap (λ hosts. protocols_of (length hosts)) c.as_slice.ensures)
 
 pub hand_all_on-requires-clause-ledger : goal.hand_all_on-requires-clause-ledger
 hand_all_on-requires-clause-ledger c = first_ledger c.args.problem.now c.requires.limits c.in_ok-terms.terms c.new.result c.in_ok-terms.ensures c.new.ensures

@@ -1,13 +1,12 @@
-use Rattle.std.proofs.Common.{◌≡◌, ◌≤◌, length, sym, ap, subst, arith}
+use Rattle.std.proofs.Common.{◌≡◌, ◌∙◌, length, ap}
 use Rattle.std.proofs.lemmas.Result.{IfOk-weaker}
 use Rattle.vd_base.specs.Protocols.{protocols_of}
-use Rattle.vd_space_terms.proofs.Few.{few_protocols}
+use Rattle.vd_space.specs.WellFormed.{AreProtocols}
+use Rattle.vd_space.proofs.Few.{are_protocols}
 use Rattle.vd_space_tables.proofs.assembly.all_protocols.Goals as goal
 
-pub returns-clause-few : goal.returns-clause-few
-returns-clause-few c =
+pub returns : goal.returns
+returns c =
+    let problem = c.args.problem.now in
     let hosts = length c.as_slice.result.now in
-    let same = ap length c.as_slice.ensures in
-    let few = c.requires.few_hosts in
-    let low : hosts ≤ 4 = omega (arith, same, few) in
-    IfOk-weaker c.protocols.result (λ list. list ≡ protocols_of hosts) (λ list. length list ≤ 64) (λ list is. subst (λ n. n ≤ 64) (sym (ap length is)) (few_protocols hosts low)) c.protocols.ensures
+    IfOk-weaker c.protocols.result (λ list. list ≡ protocols_of hosts) (AreProtocols problem) (λ list is. are_protocols problem c.requires list (is ∙ ap (λ hosts. protocols_of (length hosts)) c.as_slice.ensures)) c.protocols.ensures

@@ -9,5 +9,5 @@ returns c =
     let problem = c.args.problem.now in
     let term = told_term problem c.args.slot.0 c.args.weight c.args.host in
     IfOk-weaker c.of.result (λ charge. charge ≡ charge_from c.args.slot.0 c.as_slice.result.now c.tests_at-tests.result.now) (λ charge. charge ≡ charge_of problem term)
-    (λ charge is. is ∙ charged problem term c.args.list.now c.args.candidates.now c.in_ok-values.values c.as_slice.result.now c.tests_at-tests.result.now c.requires.list c.requires.candidates c.requires.slot c.as_slice.ensures c.in_ok-values.ensures c.tests_at-tests.ensures)
+    (λ charge is. is ∙ charged problem term c.args.list.now c.args.candidates.now c.in_ok-values.values c.as_slice.result.now c.tests_at-tests.result.now c.requires.list.all c.requires.candidates c.requires.slot c.as_slice.ensures c.in_ok-values.ensures c.tests_at-tests.ensures)
     c.of.ensures

@@ -7,7 +7,7 @@ use Rattle.vd_space_tables.proofs.Told.{guard_is, telling_small}
 use Rattle.vd_space_tables.proofs.start.told_cost.Goals as goal
 
 pub guard_cost-requires-clause-telling : goal.guard_cost-requires-clause-telling
-guard_cost-requires-clause-telling c = subst IsTelling (sym c.requires.telling) (telling_small c.args.problem.now c.args.guard.now c.requires.labelled c.requires.weight)
+guard_cost-requires-clause-telling c = subst IsTelling (sym c.requires.telling) (telling_small c.args.problem.now c.args.guard.now c.requires.list.labelled c.requires.weight)
 
 pub returns-clause-cost : goal.returns-clause-cost
 returns-clause-cost c =

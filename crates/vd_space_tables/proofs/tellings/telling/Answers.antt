@@ -13,7 +13,7 @@ loop-host-preserved c =
     let guard = c.args.guard.now in
     let h = c.loop-host.host in
     let free_is = ap (λ (charge : Charge). charge.free) c.in_ok-charge.ensures in
-    let small = (told_small problem c.requires.labelled guard.slot.0 guard.weight (host h) c.requires.weight).free in
+    let small = (told_small problem c.requires.list.labelled guard.slot.0 guard.weight (host h) c.requires.weight).free in
     record {
       free = grows (λ k. (told_charge_of problem guard k).free) h c.loop-host.free c.push.new.self c.in_ok-charge.charge.free c.loop-host.invariant.free free_is
           (c.in_ok-push.ensures.ok ∙ ap (λ z. c.loop-host.free ++ z ∷ []) (kept c.in_ok-charge.charge.free (more_within 1073741824 1125899906842624 c.in_ok-charge.charge.free (omega arith) (subst (IsWithin 1073741824) (sym free_is) small))));

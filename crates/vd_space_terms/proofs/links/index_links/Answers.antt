@@ -9,9 +9,9 @@ abbrev none : Index
 none = record { array = record { 0 = 0 }; index = record { 0 = 0 }; weight = 0 }
 
 pub index_link-requires-clause-tells : goal.index_link-requires-clause-tells
-index_link-requires-clause-tells c = subst ArePrices (sym c.requires.tells) (tells_small c.args.problem.now c.requires.labelled)
+index_link-requires-clause-tells c = subst ArePrices (sym c.requires.tells) (tells_small c.args.problem.now c.requires.well_formed.labelled)
 
 pub loop-index-preserved : goal.loop-index-preserved
 loop-index-preserved c =
-    index_next c.args.problem.now c.requires.labelled c.requires.limits c.requires.holds c.args.candidates.now c.requires.candidates c.args.tells.now c.requires.tells c.as_slice-index-items.result.now c.as_slice-index-items.ensures
+    index_next c.args.problem.now c.requires.well_formed.labelled c.requires.well_formed.limits c.requires.well_formed.holds c.args.candidates.now c.requires.candidates c.args.tells.now c.requires.tells c.as_slice-index-items.result.now c.as_slice-index-items.ensures
     c.loop-index.index-index none c.loop-index.links c.push.new.self c.in_ok-index_link.field-0 c.loop-index-test.true c.loop-index.invariant c.in_ok-index_link.ensures c.in_ok-push.ensures.ok

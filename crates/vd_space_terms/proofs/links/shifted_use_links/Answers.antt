@@ -27,7 +27,7 @@ index-requires-in-loop-number c =
     omega (arith, same, size)
 
 pub use_link-requires-clause-moves : goal.use_link-requires-clause-moves
-use_link-requires-clause-moves c = subst ArePrices (sym c.requires.moves) (moves_small c.args.problem.now c.requires.labelled)
+use_link-requires-clause-moves c = subst ArePrices (sym c.requires.moves) (moves_small c.args.problem.now c.requires.well_formed.labelled)
 
 abbrev none : Use
 none = record { source = record { 0 = 0 }; target = record { 0 = 0 }; weight = 0 }
@@ -44,7 +44,7 @@ use_link-requires-clause-transfer c =
     c.as_slice-uses.ensures c.in_ok-from.ensures.sums c.loop-number-test.true same (c.as_slice-from.ensures ∙ c.index.ensures) in
     let to = row_is uses problem.uses Targets (length uses) (length c.args.moves.now) many shifts c.in_ok-to.to.items n c.as_slice-to.result.now c.index-in-loop-number.result.now
     c.as_slice-uses.ensures c.in_ok-to.ensures.sums c.loop-number-test.true same (c.as_slice-to.ensures ∙ c.index-in-loop-number.ensures) in
-    use_transfer_is problem c.requires.labelled c.requires.limits shifts c.requires.few c.in_ok-from.ensures.small uses n none c.as_slice-from.result.now c.as_slice-to.result.now c.as_slice-uses.ensures c.loop-number-test.true from to
+    use_transfer_is problem c.requires.well_formed.labelled c.requires.well_formed.limits shifts c.requires.few c.in_ok-from.ensures.small uses n none c.as_slice-from.result.now c.as_slice-to.result.now c.as_slice-uses.ensures c.loop-number-test.true from to
 
 pub loop-number-preserved : goal.loop-number-preserved
 loop-number-preserved c =
@@ -58,7 +58,7 @@ loop-number-preserved c =
     c.as_slice-uses.ensures c.in_ok-from.ensures.sums c.loop-number-test.true same (c.as_slice-from.ensures ∙ c.index.ensures) in
     let to = row_is uses problem.uses Targets (length uses) (length c.args.moves.now) many shifts c.in_ok-to.to.items n c.as_slice-to.result.now c.index-in-loop-number.result.now
     c.as_slice-uses.ensures c.in_ok-to.ensures.sums c.loop-number-test.true same (c.as_slice-to.ensures ∙ c.index-in-loop-number.ensures) in
-    use_next problem c.requires.labelled c.requires.limits c.requires.holds c.args.candidates.now c.requires.candidates c.args.moves.now c.requires.moves shifts c.requires.few c.in_ok-from.ensures.small uses c.as_slice-uses.ensures
+    use_next problem c.requires.well_formed.labelled c.requires.well_formed.limits c.requires.well_formed.holds c.args.candidates.now c.requires.candidates c.args.moves.now c.requires.moves shifts c.requires.few c.in_ok-from.ensures.small uses c.as_slice-uses.ensures
     n none c.as_slice-from.result.now c.as_slice-to.result.now c.loop-number.links c.push.new.self c.in_ok-use_link.field-0 c.loop-number-test.true from to c.loop-number.invariant c.in_ok-use_link.ensures c.in_ok-push.ensures.ok
 
 pub returns : goal.returns

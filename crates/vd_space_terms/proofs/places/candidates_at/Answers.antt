@@ -6,8 +6,8 @@ use Rattle.vd_space_terms.proofs.places.candidates_at.Goals as goal
 
 pub overflow_cast-place : goal.overflow_cast-place
 overflow_cast-place c =
-    let few = few_protocols (length c.args.problem.now.hosts) c.requires.labelled.few_hosts in
-    let same = ap length c.requires.list in
+    let few = few_protocols (length c.args.problem.now.hosts) c.requires.list.labelled.few_hosts in
+    let same = ap length c.requires.list.all in
     omega (arith, few, same)
 
 pub loop-place-preserved : goal.loop-place-preserved

@@ -10,7 +10,7 @@ use Rattle.vd_space_terms.proofs.prices.index_prices.Goals as goal
 pub overflow_cast-array : goal.overflow_cast-array
 overflow_cast-array c =
     let few = few_protocols (length c.args.problem.now.hosts) c.requires.labelled.few_hosts in
-    let same = ap length c.requires.list in
+    let same = ap length c.requires.all in
     omega (arith, few, same)
 
 pub loop-array-preserved : goal.loop-array-preserved
@@ -21,7 +21,7 @@ loop-array-preserved c =
 pub returns-clause-small : goal.returns-clause-small
 returns-clause-small c =
     let problem = c.args.problem.now in
-    let same = ap length c.requires.list in
+    let same = ap length c.requires.all in
     let all : c.loop-array.array ≡ length (protocols problem) = omega (arith, same) in
     let line : ℕ → List (Option ℕ) = λ p. by_place (length (protocols problem)) (λ q. moves_to problem q (hosts_at problem p)) in
     subst ArePrices (sym (c.loop-array.invariant ∙ ap (λ n. by_place n line) all)) (tells_small problem c.requires.labelled)

@@ -7,7 +7,7 @@ use Rattle.vd_space_terms.proofs.prices.prices_of_array.Goals as goal
 pub overflow_cast-index : goal.overflow_cast-index
 overflow_cast-index c =
     let few = few_protocols (length c.args.problem.now.hosts) c.requires.labelled.few_hosts in
-    let same = ap length c.requires.list in
+    let same = ap length c.requires.all in
     omega (arith, few, same)
 
 pub loop-index-preserved : goal.loop-index-preserved

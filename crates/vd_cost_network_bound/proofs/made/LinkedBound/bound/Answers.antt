@@ -32,7 +32,7 @@ returns c =
     let second = c.in_ok-links.links in
     let points_are = c.in_ok-points.ensures.sum ∙ ap (λ (states : List (Option ℕ)). total (point_part (point_tables_of problem shifts) (as_states states)) (range_with_len 0 (count_of_points problem))) c.as_slice-4.ensures in
     let links_are = c.in_ok-links.ensures.sum ∙ ap (λ (states : List (Option ℕ)). total (link_part (link_tables_of problem shifts) (as_states states)) (range_with_len 0 (length (links problem)))) c.as_slice-5.ensures in
-    let sum = bound_is problem c.requires.labelled c.requires.limits shifts c.requires.few c.in_ok-points.ensures.small
+    let sum = bound_is problem c.requires.bound.well_formed shifts c.requires.few c.in_ok-points.ensures.small
     c.as_slice-3.result.now (switch_tables_are problem c.as_slice-3.result.now (c.as_slice-3.ensures ∙ c.requires.bound.switches))
     prefix c.requires.prefix c.decide.new.states c.decide.ensures first second points_are links_are in
     let first_low = c.in_ok-points.ensures.within.low in

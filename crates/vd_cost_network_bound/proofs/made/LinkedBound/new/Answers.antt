@@ -20,7 +20,7 @@ all_passing-requires c point =
     let are = settings_are problem c.in_ok-settings.settings count (c.in_ok-settings.ensures ∙ ap (λ (front : List (List Bool)). front ++ replicate count (true ∷ true ∷ [])) c.in_ok-candidates.ensures) many in
     let row = tests_found problem c.as_slice-7.result.now (c.as_slice-7.ensures ∙ are) point in
     let size = ap length row ∙ tests_size problem point in
-    let places : length (protocols problem) ≤ 64 = subst (λ (list : List Proto). length list ≤ 64) c.in_ok-list.ensures.list c.in_ok-list.ensures.few in
+    let places : length (protocols problem) ≤ 64 = subst (λ (list : List Proto). length list ≤ 64) c.in_ok-list.ensures.all c.in_ok-list.ensures.few in
     let few = few_settings problem 64 point places (omega arith) in
     omega (arith, size, few)
 
@@ -31,7 +31,8 @@ returns c =
     let many = ap length c.as_slice-6.ensures ∙ switches_size problem c.requires.holds c.in_ok-switches.switches c.in_ok-switches.ensures in
     let are = settings_are problem c.in_ok-settings.settings count (c.in_ok-settings.ensures ∙ ap (λ (front : List (List Bool)). front ++ replicate count (true ∷ true ∷ [])) c.in_ok-candidates.ensures) many in
     record {
-      list = c.in_ok-list.ensures.list;
+      well_formed = c.requires;
+      list = c.in_ok-list.ensures.all;
       switches = c.in_ok-switches.ensures;
       links = c.in_ok-links.ensures;
       free = c.in_ok-free.ensures ∙ ap (map passing) (c.as_slice-7.ensures ∙ are) ∙ map_map passing (tests_of problem) (range_with_len 0 (count_of_points problem));

@@ -34,7 +34,7 @@ pub least_of_link-requires-clause-cells : goal.least_of_link-requires-clause-cel
 least_of_link-requires-clause-cells c v w =
     let raws = c.as_slice-links.result.now in
     subst (λ (cells : List (List (Option ℤ))). IsWithin 562949953421312 (unwrap_or (get_or (get_or cells v []) w None) (pos 0))) (sym c.as_slice-cells.ensures)
-    (raw_light c.args.problem.now c.requires.labelled c.requires.limits raws c.index-links-number.result c.loop-number.number (c.as_slice-links.ensures ∙ c.requires.bound.links) c.loop-number-test.true c.index-links-number.is v w)
+    (raw_light c.args.problem.now c.requires.bound.well_formed.labelled c.requires.bound.well_formed.limits raws c.index-links-number.result c.loop-number.number (c.as_slice-links.ensures ∙ c.requires.bound.links) c.loop-number-test.true c.index-links-number.is v w)
 
 pub least_of_link-requires-clause-from : goal.least_of_link-requires-clause-from
 least_of_link-requires-clause-from c v =
@@ -67,7 +67,7 @@ loop-number-preserved c =
     let firsts = c.settings_at-firsts.ensures ∙ ap (λ (free : List (List ℕ)). settings_at free states raw.first) c.as_slice-in-loop-number.ensures in
     let seconds = c.settings_at-seconds.ensures ∙ ap (λ (free : List (List ℕ)). settings_at free states raw.second) c.as_slice-in-loop-number-2.ensures in
     let few = few_at problem bound c.requires.bound c.as_slice.result.now most c.as_slice.ensures c.most_settings-most.ensures.places c.most_settings-most.ensures.switches in
-    let is = part_is problem c.requires.labelled c.requires.limits shifts c.requires.few c.in_ok-from.ensures.small most few states c.requires.states bound.free c.requires.bound.free
+    let is = part_is problem c.requires.bound.well_formed.labelled c.requires.bound.well_formed.limits shifts c.requires.few c.in_ok-from.ensures.small most few states c.requires.states bound.free c.requires.bound.free
     raws n raw c.as_slice-from.result.now c.as_slice-to.result.now c.settings_at-firsts.result.now c.settings_at-seconds.result.now c.as_slice-cells.result.now c.least_of_link.result
     (c.as_slice-links.ensures ∙ c.requires.bound.links) c.loop-number-test.true c.index-links-number.is from_is to_is firsts seconds c.as_slice-cells.ensures c.least_of_link.ensures in
     let more = total_range_more (link_part (link_tables_of problem shifts) (as_states states)) n in

@@ -32,7 +32,7 @@ least_of_point-requires-clause-values c v =
     let low : point < count_of_points problem = omega (arith, count) in
     let own = c.index-as_slice-point.result in
     let values = c.as_slice-values.ensures ∙ c.index-as_slice-point.is ∙ ap (λ (rows : List (List (Option ℤ))). get_or rows point own) all ∙ at_place (count_of_points problem) (values_at problem) point own low in
-    values_light problem c.requires.labelled c.requires.limits point c.as_slice-values.result.now values v
+    values_light problem c.requires.bound.well_formed.labelled c.requires.bound.well_formed.limits point c.as_slice-values.result.now values v
 
 pub least_of_point-requires-clause-amounts : goal.least_of_point-requires-clause-amounts
 least_of_point-requires-clause-amounts c v =
@@ -66,7 +66,7 @@ loop-point-preserved c =
     let all = c.as_slice-in-loop-point-2.ensures ∙ c.requires.bound.values in
     let values = c.as_slice-values.ensures ∙ c.index-as_slice-point.is ∙ ap (λ (rows : List (List (Option ℤ))). get_or rows point own) all ∙ at_place (count_of_points problem) (values_at problem) point own low in
     let few = few_at problem bound c.requires.bound c.as_slice.result.now most c.as_slice.ensures c.most_settings-most.ensures.places c.most_settings-most.ensures.switches in
-    let is = point_is problem c.requires.labelled c.requires.limits shifts c.requires.few c.in_ok-sums.ensures.small most few states c.requires.states
+    let is = point_is problem c.requires.bound.well_formed.labelled c.requires.bound.well_formed.limits shifts c.requires.few c.in_ok-sums.ensures.small most few states c.requires.states
     c.as_slice-in-loop-point.result.now (c.as_slice-in-loop-point.ensures ∙ c.requires.bound.free)
     raws point sums line c.as_slice-values.result.now c.settings_at-settings.result.now c.least_of_point.result
     (c.as_slice-2.ensures ∙ c.requires.bound.links) sums_are low line_is values c.settings_at-settings.ensures c.least_of_point.ensures in

@@ -9,10 +9,18 @@ use Rattle.vd_cost_network_prefix.specs.States.{count_of_points, states_of}
 use Rattle.vd_cost_network_prefix.proofs.Steps.{with_more, entered, entering}
 use Rattle.vd_cost_network_prefix.proofs.path.LinkedPathPrefixes.enter.Goals as goal
 
-pub decide_if-requires-clause-room : goal.decide_if-requires-clause-room
-decide_if-requires-clause-room c =
+pub decide_if-requires-clause-tables : goal.decide_if-requires-clause-tables
+decide_if-requires-clause-tables c =
     let p = c.args.self.now in
-    ap length p.kept.states ∙ size_by_place (count_of_points p.problem.now) (decided p.problem.now (take p.known.told p.room))
+    record { all = c.as_slice.ensures ∙ p.tabled.list; switches = p.linkable.switches; small = p.small; points = p.linkable.points.size; reached = p.reached }
+
+pub decide_if-requires-clause-parts : goal.decide_if-requires-clause-parts
+decide_if-requires-clause-parts c =
+    let p = c.args.self.now in
+    record {
+      size = p.linkable.points.size ∙ sym (ap length p.kept.states ∙ size_by_place (count_of_points p.problem.now) (decided p.problem.now (take p.known.told p.room)));
+      sum = p.summed;
+    }
 
 pub decide_if-requires-clause-beside : goal.decide_if-requires-clause-beside
 decide_if-requires-clause-beside c =

@@ -5,4 +5,4 @@ use Rattle.vd_space_api.proofs.space.Space.cost.Goals as goal
 
 pub returns : goal.returns
 returns c =
-    whole_cost c.args.self.now c.args.list.now c.requires c.problem.result.now c.list.result.now c.bound_of_prefix.result c.problem.ensures.same (c.list.ensures.list ∙ ap protocols (sym c.problem.ensures.same)) c.problem.ensures.holds c.bound_of_prefix.ensures
+    whole_cost c.args.self.now c.args.list.now c.requires c.problem.result.now c.list.result.now c.bound_of_prefix.result c.problem.ensures.same (c.list.ensures.all ∙ ap protocols (sym c.problem.ensures.same)) c.problem.ensures.well_formed.holds c.bound_of_prefix.ensures

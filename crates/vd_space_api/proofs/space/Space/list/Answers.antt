@@ -1,11 +1,13 @@
-use Rattle.std.proofs.Common.{ap, ◌∙◌}
-use Rattle.vd_space.specs.Validity.{protocols}
-use Rattle.vd_space.proofs.Few.{few_slice}
-use Rattle.vd_space_api.proofs.Kept.{labelled, listed}
+use Rattle.std.proofs.Common.{◌∙◌, subst}
+use Rattle.vd_space.specs.declared.problem.Problem.{Problem}
+use Rattle.vd_space.specs.WellFormed.{AreProtocols}
+use Rattle.vd_space.proofs.Few.{are_protocols}
+use Rattle.vd_space_api.proofs.Kept.{listed, well_formed}
 use Rattle.vd_space_api.proofs.space.Space.list.Goals as goal
 
-pub returns-clause-list : goal.returns-clause-list
-returns-clause-list c = c.as_slice.ensures ∙ listed c.self.inside.problem c.self.inside.list c.self.invariant ∙ ap protocols c.self.view_is
-
-pub returns-clause-few : goal.returns-clause-few
-returns-clause-few c = few_slice c.self.inside.problem (labelled c.self.inside.problem c.self.inside.list c.self.invariant) c.as_slice.result.now (c.as_slice.ensures ∙ listed c.self.inside.problem c.self.inside.list c.self.invariant)
+pub returns : goal.returns
+returns c =
+    let problem = c.self.inside.problem in
+    let list = c.self.inside.list in
+    subst (λ (p : Problem). AreProtocols p c.as_slice.result.now) c.self.view_is
+    (are_protocols problem (well_formed problem list c.self.invariant).labelled c.as_slice.result.now (c.as_slice.ensures ∙ listed problem list c.self.invariant))
