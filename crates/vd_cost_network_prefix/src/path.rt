@@ -1,6 +1,6 @@
 //! A path from the empty prefix down, whose prefixes are bounded by links too.
 
-ghost use Rattle.std.specs.Prelude.{◌≡◌, [], length, take, IfOk};
+ghost use Rattle.std.specs.Prelude.{◌≡◌, [], take, IfOk};
 ghost use Rattle.std.proofs.Props.{props};
 ghost use Rattle.vd_cost_network.specs.Linked.{linked_tree};
 ghost use Rattle.vd_cost_network_prefix.specs.Reach.{IsReach};
@@ -17,7 +17,7 @@ use crate::sums::sum_of_parts;
 use crate::units::whole_units;
 use std::alloc::{AllocError, Global};
 use vd_base_lists::Items;
-use vd_search_tree::Prefixes;
+use vd_search_tree::{Prefixes, no_choices};
 use vd_space::Problem;
 use vd_space_prefix::{Path, Tables};
 
@@ -145,15 +145,4 @@ impl<'a> LinkedPath<'a> {
             depth: 0,
         })
     }
-}
-
-/// Room for so many choices.
-fn no_choices(alloc: Global, slots: usize) -> Result<Items<u32>, AllocError>
-    ensures { IfOk result (λ room. length room ≡ slots) }
-{
-    let mut room = Items::new(alloc);
-    for _ in 0..slots {
-        room.push(0)?;
-    }
-    Ok(room)
 }

@@ -8,7 +8,7 @@ ghost use Rattle.vd_search_nogoods.specs.Untied.{is_among, untied};
 
 use std::alloc::{AllocError, Global};
 use vd_base_lists::Items;
-use vd_search_tree::Prefixes;
+use vd_search_tree::{Prefixes, no_choices};
 
 /// A prefix whose bound is one more than `most` where it is `most` and the prefix is one of those that are passed over: each
 /// whole list that these begin costs more than `most`.
@@ -107,15 +107,4 @@ fn is_among(prefixes: &[Items<u32>], prefix: &[u32]) -> bool
     ensures { result ≡ is_among prefixes.now prefix.now }
 {
     prefixes.iter().any(|other| other.as_slice() == prefix)
-}
-
-/// Room for so many choices.
-fn no_choices(alloc: Global, slots: usize) -> Result<Items<u32>, AllocError>
-    ensures { IfOk result (λ room. length room ≡ slots) }
-{
-    let mut room = Items::new(alloc);
-    for _ in 0..slots {
-        room.push(0)?;
-    }
-    Ok(room)
 }

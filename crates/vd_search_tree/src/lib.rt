@@ -3,7 +3,9 @@
 #![tactic(auto)]
 
 mod prefixes;
+mod room;
 mod shift;
 
 pub use prefixes::Prefixes;
+pub use room::no_choices;
 pub use shift::Shift;

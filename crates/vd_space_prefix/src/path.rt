@@ -11,7 +11,7 @@ ghost use Rattle.vd_space.specs.Spaces.{IsProblem, tree_of};
 use crate::tables::{Sums, Tables, can_grow, grown};
 use std::alloc::{AllocError, Global};
 use vd_base_lists::Items;
-use vd_search_tree::Prefixes;
+use vd_search_tree::{Prefixes, no_choices};
 use vd_space::Problem;
 
 /// A prefix of a problem's lists, which grows by a choice and gives it back. A further choice costs about as much as there
@@ -117,17 +117,6 @@ fn one_if(is_valid: bool) -> usize
     ensures { result ≡ (if is_valid then 1 else 0) }
 {
     if is_valid { 1 } else { 0 }
-}
-
-/// Room for so many choices.
-fn no_choices(alloc: Global, slots: usize) -> Result<Items<u32>, AllocError>
-    ensures { IfOk result (λ room. length room ≡ slots) }
-{
-    let mut room = Items::new(alloc);
-    for _ in 0..slots {
-        room.push(0)?;
-    }
-    Ok(room)
 }
 
 /// The sums of the empty prefix, and room for those of so many longer ones.
