@@ -7,22 +7,10 @@ ghost use Rattle.vd_space_prefix.specs.Transfers.{IsWithin};
 
 use std::slice::from_ref;
 use vd_base_lists::Items;
+use vd_cost_network_prefix::number_of;
 use vd_cost_network_tables::{less, value_at};
 use vd_space::lesser_of;
 use vd_space_prefix::amount_at;
-
-/// A term with nothing left, in parts.
-const NOTHING_LEFT: i64 = 256_000_000_000;
-
-/// The number, or what a term with nothing left counts.
-fn number_of(least: Option<i64>) -> i64
-    ensures { result ≡ unwrap_or least no_parts_left }
-{
-    match least {
-        Some(number) => number,
-        None => NOTHING_LEFT,
-    }
-}
 
 /// The settings at which a point may be where nothing is decided.
 fn free_at(free: &[Items<u32>], point: usize) -> &[u32]

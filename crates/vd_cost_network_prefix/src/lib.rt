@@ -13,4 +13,5 @@ mod units;
 pub use made::{LinkTable, LinkedTables, PointTable, SwitchTable};
 pub use path::LinkedPath;
 pub use states::{decide, undecided};
+pub use sums::number_of;
 pub use units::whole_units;

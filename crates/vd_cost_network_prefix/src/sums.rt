@@ -37,7 +37,7 @@ fn point_cost(table: &PointTable, state: Option<u32>) -> i64
 }
 
 /// The number, or what a term with nothing left counts.
-fn number_of(cost: Option<i64>) -> i64
+pub fn number_of(cost: Option<i64>) -> i64
     ensures { result ≡ unwrap_or cost no_parts_left }
 {
     match cost {

@@ -8,22 +8,9 @@ ghost use Rattle.vd_space.specs.Bounds.{only_if};
 
 use std::alloc::{AllocError, Global};
 use vd_base_lists::Items;
-use vd_cost_network_prefix::{LinkTable, PointTable};
+use vd_cost_network_prefix::{LinkTable, PointTable, number_of};
 use vd_space::lesser_of;
 use vd_space_prefix::amount_at;
-
-/// A term with nothing left, in parts.
-const NOTHING_LEFT: i64 = 256_000_000_000;
-
-/// The number, or what a term with nothing left counts.
-fn number_of(least: Option<i64>) -> i64
-    ensures { result ≡ unwrap_or least no_parts_left }
-{
-    match least {
-        Some(number) => number,
-        None => NOTHING_LEFT,
-    }
-}
 
 /// The value, where the test passes.
 fn value_if(test: bool, value: Option<i64>) -> Option<i64>
