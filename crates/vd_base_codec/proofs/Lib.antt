@@ -3,3 +3,5 @@ pub mod Numbers
 pub mod Whole
 mod Steps
 pub mod Loops
+pub mod Exact
+mod KeySteps

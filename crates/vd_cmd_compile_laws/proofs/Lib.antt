@@ -1,3 +1,5 @@
 mod Files
 mod Texts
 pub mod Holding
+mod Order
+pub mod Names

@@ -1,4 +1,5 @@
 ghost use Rattle.vd_cmd_compile_laws.specs.Compiled.{CompiledFilesAreReadBack, CompiledFilesAreShort, CompiledFilesCanBeRead};
+ghost use Rattle.vd_cmd_compile_laws.specs.Sizes.{HostNamesFit};
 
 use vd_core::Program;
 
@@ -18,3 +19,8 @@ pub fn compiled_files_can_be_read(program: &Program)
 {
     program.numbers_fit();
 }
+
+/// The names of the hosts of a source, each with one byte before it, take no more bytes than the text of the source has.
+pub fn host_names_fit()
+    ensures { HostNamesFit }
+{}

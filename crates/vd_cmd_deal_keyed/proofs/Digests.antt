@@ -5,7 +5,7 @@ use Rattle.std.specs.Int.{byte_at, w32, to_be_bytes}
 use Rattle.std.specs.List.{AllByRecursion}
 use Rattle.sha2.specs.Sha256.{sha256, digest_bytes, final_hash, initial_hash_256}
 use Rattle.sha2.proofs.Facts256.{length-sha256}
-use Rattle.vd_base_hex.specs.Digits.{IsByte, IsKey}
+use Rattle.vd_base_codec.specs.Digits.{IsByte, IsKey}
 use Rattle.vd_channel_crypto.specs.Codes.{derived}
 
 both_small : (xs ys : List ℕ) → AllByRecursion IsByte xs → AllByRecursion IsByte ys → AllByRecursion IsByte (xs ++ ys)

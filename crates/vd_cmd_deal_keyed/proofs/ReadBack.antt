@@ -7,7 +7,7 @@ use Rattle.std.proofs.lemmas.Option.{slice_get_within}
 use Rattle.vd_deal_items.specs.declared.deal.Counts.{Counts}
 use Rattle.vd_deal_items.specs.declared.deal.Deal.{Deal}
 use Rattle.vd_deal_items.specs.Validity.{AreDeals, peer_at}
-use Rattle.vd_base_hex.specs.Digits.{IsKey}
+use Rattle.vd_base_codec.specs.Digits.{IsKey}
 use Rattle.vd_deal_keys.specs.declared.secrets.LinkKey.{LinkKey}
 use Rattle.vd_deal_keys.specs.Keys.{id_info, items_key, link_between, link_info, salt}
 use Rattle.vd_deal_keys.specs.Secrets.{secrets_of}

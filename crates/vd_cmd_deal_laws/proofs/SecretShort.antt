@@ -8,7 +8,7 @@ use Rattle.vd_base_codec.specs.Reading.{field}
 use Rattle.vd_deal_items.specs.declared.items.PairItem.{PairItem}
 use Rattle.vd_deal_items.specs.declared.items.Triple.{Triple}
 use Rattle.vd_deal_items.specs.Validity.{ArePairWords, AreTripleWords, AreWithin, peer_at}
-use Rattle.vd_base_hex.specs.Digits.{IsByte, IsKey, hex_byte, key_text}
+use Rattle.vd_base_codec.specs.Digits.{IsByte, IsKey, hex_byte, key_text}
 use Rattle.vd_deal_keys.specs.declared.secrets.LinkKey.{LinkKey}
 use Rattle.vd_tape.specs.Text.{list_text, share_text}
 use Rattle.vd_deal_versions.specs.Text.{front_text, link_text, linked_text}

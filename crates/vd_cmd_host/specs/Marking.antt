@@ -3,7 +3,7 @@ use Rattle.std.specs.Prelude.{◌≡◌, ◌≤◌, ◌≢◌, ℕ, Bool, true, 
 use Rattle.std.specs.Fmt.{decimal}
 use Rattle.vd_base.specs.declared.faults.CallFault.{CallFault}
 use Rattle.vd_base_codec.specs.Reading.{field}
-use Rattle.vd_base_hex.specs.Digits.{key_text}
+use Rattle.vd_base_codec.specs.Digits.{key_text}
 use Rattle.vd_outside.specs.Causes.{Rose}
 use Rattle.vd_outside_marks.specs.Marks.{MarksView, Releases}
 use Rattle.vd_outside_marks.specs.Places.{mark_at}

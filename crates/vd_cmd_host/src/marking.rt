@@ -6,8 +6,7 @@ ghost use Rattle.vd_cmd_host.specs.Marking.{Claims, Leaves, mark_name, mark_text
 use itoa::Buffer;
 use std::alloc::{AllocError, Global};
 use vd_base::{Bytes, CallFault, HostId, Text};
-use vd_base_codec::push_field;
-use vd_base_hex::push_key;
+use vd_base_codec::{push_field, push_key};
 use vd_cmd::HostWords;
 use vd_cmd_plan::Status;
 use vd_host_text::HostProgram;

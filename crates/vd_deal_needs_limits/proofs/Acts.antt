@@ -10,7 +10,7 @@ use Rattle.vd_execution.specs.Plans.{Plan, Ends, Then, Branch, Loop, joint_of}
 use Rattle.vd_execution.specs.Step.{Source, same_source}
 use Rattle.vd_choreography.specs.Joint.{acts_then, and_then}
 use Rattle.vd_deal_needs_laws.specs.Needs.{greater, one_of, source_of, takes}
-use Rattle.vd_code_lengths.specs.Statements.{instructions}
+use Rattle.vd_code_sizes.specs.Statements.{instructions}
 
 module _ (h : ℕ) (r : Source) where
   -- an action takes one item, or none

@@ -17,7 +17,7 @@ use Rattle.vd_choreography.specs.Suite.{Calls, Made, hosts_of, picked}
 use Rattle.vd_choreography.specs.Emission.{Emitted, and_on, delivered, for_made, if_made, in_turn, parts_at, right_made}
 use Rattle.vd_deal_needs_laws.specs.Needs.{greater, takes}
 use Rattle.vd_backend_laws.specs.Parts.{Parts, suite_calls}
-use Rattle.vd_code_lengths.specs.Statements.{EachMakesFew, Making, State, all_of, alone, emptied, in_branch, in_loop, instructions, made_by, statements}
+use Rattle.vd_code_sizes.specs.Statements.{EachMakesFew, Making, State, all_of, alone, emptied, in_branch, in_loop, instructions, made_by, statements}
 use Rattle.vd_deal_needs_limits.proofs.Acts.{gadgets_few, gadgets_take, plans_take}
 
 -- how often its statements are executed, where it is begun so often

@@ -13,8 +13,8 @@ use Rattle.vd_choreography.proofs.Folds.{fold_each}
 use Rattle.vd_deal_needs_laws.specs.Needs.{takes}
 use Rattle.vd_backend_laws.specs.Parts.{suite_calls}
 use Rattle.vd_projection.proofs.HostCodes.{proto_over, runnable_over}
-use Rattle.vd_code_lengths.specs.Statements.{all_of}
-use Rattle.vd_code_lengths.proofs.Programs.{statements_make_few}
+use Rattle.vd_code_sizes.specs.Statements.{all_of}
+use Rattle.vd_code_sizes.proofs.ProgramLengths.{statements_make_few}
 use Rattle.vd_deal_needs_programs.specs.Enough.{CanBeSplit}
 use Rattle.vd_deal_needs_programs.proofs.Sizes.{count_needs, counted, own_below, shared_below, taken}
 use Rattle.vd_deal_needs_limits.specs.Items.{ItemsAreFew, SmallProgramsCanBeDealt, most_executed, most_items}

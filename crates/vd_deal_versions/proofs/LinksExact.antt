@@ -8,8 +8,8 @@ use Rattle.vd_base_codec.proofs.Parts.{done_exact, byte_exact, Picks, then_exact
 use Rattle.vd_deal_items.specs.declared.items.Triple.{Triple}
 use Rattle.vd_deal_items.specs.declared.items.PairItem.{PairItem}
 use Rattle.vd_deal_items.specs.Validity.{AreTripleWords, ArePairWords, peer_at}
-use Rattle.vd_base_hex.specs.Digits.{IsKey, key_at, key_text}
-use Rattle.vd_base_hex.proofs.Exact.{some_key, key_exact}
+use Rattle.vd_base_codec.specs.Digits.{IsKey, key_at, key_text}
+use Rattle.vd_base_codec.proofs.Exact.{some_key, key_exact}
 use Rattle.vd_deal_keys.specs.declared.secrets.LinkKey.{LinkKey}
 use Rattle.vd_tape.specs.declared.reading.Share.{Share}
 use Rattle.vd_tape.specs.declared.reading.Shares.{Shares}

@@ -7,8 +7,8 @@ use Rattle.vd_base_codec.specs.Reading.{◌>>=◌, literal_at, field}
 use Rattle.vd_base_codec.specs.Exact.{IsAnything, IsExact}
 use Rattle.vd_base_codec.proofs.Parts.{done_exact, literal_exact, Picks, then_exact, AreEach, exact_as, exact_for}
 use Rattle.vd_base.specs.Words.{IsWord}
-use Rattle.vd_base_hex.specs.Digits.{IsKey, key_at, key_text}
-use Rattle.vd_base_hex.proofs.Exact.{some_key, key_exact}
+use Rattle.vd_base_codec.specs.Digits.{IsKey, key_at, key_text}
+use Rattle.vd_base_codec.proofs.Exact.{some_key, key_exact}
 use Rattle.vd_tape.specs.Text.{list_text, IsDealOf}
 use Rattle.vd_tape.specs.Reading.{word_at, list_at}
 use Rattle.vd_tape.proofs.ItemsExact.{FitsList}

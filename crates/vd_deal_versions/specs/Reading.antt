@@ -3,7 +3,7 @@ use Rattle.std.specs.Prelude.{ℕ, zero, suc, ◌+◌, ◌-◌, ◌==◌, Bool, 
 use Rattle.vd_base_codec.specs.Reading.{Reading, ◌>>=◌, byte_at, literal_at, field}
 use Rattle.vd_base_codec.specs.Exact.{whole}
 use Rattle.vd_deal_items.specs.Validity.{peer_at}
-use Rattle.vd_base_hex.specs.Digits.{key_at}
+use Rattle.vd_base_codec.specs.Digits.{key_at}
 use Rattle.vd_deal_keys.specs.declared.secrets.LinkKey.{LinkKey}
 use Rattle.vd_tape.specs.Reading.{word_at, list_at, heading_at, share_at, deal_at}
 use Rattle.vd_deal_versions.specs.declared.dealt.SecretDeal.{SecretDeal}

@@ -6,7 +6,7 @@ use Rattle.vd_deal_items.specs.declared.items.Triple.{Triple}
 use Rattle.vd_deal_items.specs.declared.items.PairItem.{PairItem}
 use Rattle.vd_deal_items.specs.declared.deal.Deal.{Deal}
 use Rattle.vd_deal_items.specs.Validity.{peer_at}
-use Rattle.vd_base_hex.specs.Digits.{IsKey, key_text}
+use Rattle.vd_base_codec.specs.Digits.{IsKey, key_text}
 use Rattle.vd_deal_keys.specs.declared.secrets.LinkKey.{LinkKey}
 use Rattle.vd_deal_keys.specs.declared.secrets.Secrets.{Secrets}
 use Rattle.vd_tape.specs.Text.{list_text, share_text, deal_text, IsDealOf}

@@ -7,8 +7,7 @@ ghost use Rattle.vd_deal_versions.specs.Reading.{dealt_at, is_second, front_at, 
 use crate::dealt::{Dealt, SecretDeal};
 use std::alloc::Global;
 use vd_base::HostId;
-use vd_base_codec::{Cursor, ReadFault, Stopped};
-use vd_base_hex::read_key;
+use vd_base_codec::{Cursor, ReadFault, Stopped, read_key};
 use vd_base_lists::Items;
 use vd_deal_items::{Deal, PairItem, Triple};
 use vd_deal_keys::{LinkKey, Secrets};

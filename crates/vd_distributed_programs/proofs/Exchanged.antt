@@ -2,7 +2,7 @@
 use Rattle.std.proofs.Common.{◌≡◌, ℕ, zero, suc, ap, sym, subst}
 use Rattle.vd_execution.specs.Code.{Code, Choose, Repeat}
 use Rattle.vd_reorder_laws.specs.Hastening.{Piece, Acts, Sends, Awaits, before, Stretch, One, Branch, Loop, stretch_before, Place, Here, Behind, InFirst, InOther, InBody, BehindBranch, BehindLoop, with_code, IsExchanged, Exchanges, IsHastened}
-use Rattle.vd_distributed_links.specs.Linked.{NumberIsWord, NumbersAreWords}
+use Rattle.vd_distributed_hosts.specs.Linked.{NumberIsWord, NumbersAreWords}
 
 abbrev PieceIsSmall : Piece → Type 0
 PieceIsSmall (Acts a) = NumberIsWord a

@@ -9,7 +9,7 @@ use Rattle.vd_execution.specs.Code.{Code}
 use Rattle.vd_execution.specs.Text.{IsCodeOf, Open, AfterEnd, AfterElse, Reading, read, read_before, with_instr, at_else, at_if, at_for}
 use Rattle.vd_host_text.specs.Lines.{Leads, State, after, line_of}
 use Rattle.vd_host_text.specs.Words.{operands}
-use Rattle.vd_distributed_links.specs.Linked.{NumberIsWord, NumbersAreWords}
+use Rattle.vd_distributed_hosts.specs.Linked.{NumberIsWord, NumbersAreWords}
 
 -- the numbers of an instruction are words
 abbrev IsSmall : Instr → Type 0

@@ -15,9 +15,9 @@ use Rattle.vd_machine.specs.Machines.{or_empty}
 use Rattle.vd_base.specs.Words.{AreWords}
 use Rattle.vd_engine.specs.Events.{Event, Reached, AtStart, OneMore, received_in, shown, word_of, printed}
 use Rattle.vd_engine.specs.Hosts.{wants_with, next_with, seen_at}
-use Rattle.vd_distributed_links.specs.Linked.{NumbersAreWords}
-use Rattle.vd_distributed_links.proofs.Fronts.{flat_both}
-use Rattle.vd_distributed_links.proofs.Words.{AreItems, sound_from}
+use Rattle.vd_distributed_hosts.specs.Linked.{NumbersAreWords}
+use Rattle.vd_distributed_hosts.proofs.Fronts.{flat_both}
+use Rattle.vd_distributed_hosts.proofs.Words.{AreItems, sound_from}
 
 abbrev HoldWords : Registers → Type 0
 HoldWords f = (r : ℕ) → f r < 2 ^ 32

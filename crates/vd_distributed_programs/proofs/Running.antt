@@ -64,11 +64,11 @@ use Rattle.vd_reorder_histories.proofs.Standing.{reached_from}
 use Rattle.vd_distributed_hosts.specs.AllHosts.{AreDriven, AreTold, WaitsFor}
 use Rattle.vd_distributed_hosts.proofs.Steps.{Trace}
 use Rattle.vd_distributed_hosts.proofs.Told.{all_traced, waiting_ended}
-use Rattle.vd_distributed_links.specs.Linked.{AreHosts, NumbersAreWords}
-use Rattle.vd_distributed_links.proofs.Driven.{Made}
-use Rattle.vd_distributed_links.proofs.Fronts.{flat_front, front_both, front_same, front_trans, next_there, packets_front}
-use Rattle.vd_distributed_links.proofs.Joined.{driven, never_bad, sound, tells}
-use Rattle.vd_distributed_links.proofs.Words.{AreItems, AreSound}
+use Rattle.vd_distributed_hosts.specs.Linked.{AreHosts, NumbersAreWords}
+use Rattle.vd_distributed_hosts.proofs.Driven.{Made}
+use Rattle.vd_distributed_hosts.proofs.Fronts.{flat_front, front_both, front_same, front_trans, next_there, packets_front}
+use Rattle.vd_distributed_hosts.proofs.Joined.{driven, never_bad, sound, tells}
+use Rattle.vd_distributed_hosts.proofs.Words.{AreItems, AreSound}
 use Rattle.vd_distributed_programs.specs.Ending.{GoesThrough, RunningHostsEnd}
 use Rattle.vd_distributed_programs.specs.Links.{Used, bytes_that_came, bytes_that_went, link_to, used_by, used_in, used_or}
 use Rattle.vd_distributed_programs.specs.Running.{AreRunOverLinks, BlamesNobody, Run, RunningHostsTellTheSource, WritesUpTo, WritesWhatItIsTold, text_of}

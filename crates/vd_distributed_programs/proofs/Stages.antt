@@ -38,9 +38,9 @@ use Rattle.vd_host_session.specs.declared.fault.HostFault.{HostFault}
 use Rattle.vd_host_session.specs.declared.fault.HostFault.TheVariants as fault
 use Rattle.vd_host_session.specs.declared.task.Task.{Task}
 use Rattle.vd_host_session.proofs.Numbers.{numbers_differ}
-use Rattle.vd_distributed_links.specs.Linked.{bytes_sent, bytes_to_come}
-use Rattle.vd_distributed_links.proofs.Driven.{BothStand, Grown, WasTold, ended_pending, grown, takes_need, was_told}
-use Rattle.vd_distributed_links.proofs.Fronts.{added, front_same}
+use Rattle.vd_distributed_hosts.specs.Linked.{bytes_sent, bytes_to_come}
+use Rattle.vd_distributed_hosts.proofs.Driven.{BothStand, Grown, WasTold, ended_pending, grown, takes_need, was_told}
+use Rattle.vd_distributed_hosts.proofs.Fronts.{added, front_same}
 use Rattle.vd_distributed_programs.specs.Ending.{IsUndisturbed}
 use Rattle.vd_distributed_programs.specs.Links.{TellsBytes, Used, bytes_that_came, bytes_that_went, link_to, used_by, used_in, used_or}
 use Rattle.vd_distributed_programs.specs.Running.{BlamesNobody}

@@ -24,9 +24,9 @@ use Rattle.vd_base.specs.Words.{AreWords}
 use Rattle.vd_link.specs.Laws.{ArePackets}
 use Rattle.vd_engine.specs.Events.{Event, Reached, AtStart, OneMore, IsHeard, received_in, shown, packet_to, sent_to}
 use Rattle.vd_engine.specs.Hosts.{wants_with, next_with, seen_at}
-use Rattle.vd_distributed_links.specs.Linked.{AreOwnHosts}
-use Rattle.vd_distributed_links.proofs.Fronts.{flat_both}
-use Rattle.vd_distributed_links.proofs.Words.{AreItems, sound_from}
+use Rattle.vd_distributed_hosts.specs.Linked.{AreOwnHosts}
+use Rattle.vd_distributed_hosts.proofs.Fronts.{flat_both}
+use Rattle.vd_distributed_hosts.proofs.Words.{AreItems, sound_from}
 use Rattle.vd_distributed_progress.proofs.Passing.{of_that_length}
 
 -- ---- items that are there

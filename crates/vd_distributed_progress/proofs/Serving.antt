@@ -22,9 +22,9 @@ use Rattle.vd_engine.specs.Events.{Event, Reached, received_from}
 use Rattle.vd_engine.specs.Hosts.{wants_with, next_with, seen_at}
 use Rattle.vd_execution_histories.specs.Histories.{GetsFor, Goes, gone, IsLinked, TakesSent}
 use Rattle.vd_distributed_hosts.proofs.Steps.{traced}
-use Rattle.vd_distributed_links.specs.Linked.{AreOwnHosts}
-use Rattle.vd_distributed_links.proofs.Fronts.{packets_front}
-use Rattle.vd_distributed_links.proofs.Words.{sound_from}
+use Rattle.vd_distributed_hosts.specs.Linked.{AreOwnHosts}
+use Rattle.vd_distributed_hosts.proofs.Fronts.{packets_front}
+use Rattle.vd_distributed_hosts.proofs.Words.{sound_from}
 use Rattle.vd_distributed_progress.specs.Serving.{Brings, IsSentAll, OthersSendEnough}
 use Rattle.vd_distributed_progress.proofs.Passing.{passed}
 use Rattle.vd_distributed_progress.proofs.Driving.{all_driven, items, packets, wants_nothing}

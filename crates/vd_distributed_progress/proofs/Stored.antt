@@ -24,8 +24,8 @@ use Rattle.vd_world_report.specs.Supplies.{AreFiles, items_for, lists_for, suppl
 use Rattle.vd_world_report.proofs.Supplies.{files_are_valid}
 use Rattle.vd_projection_files.specs.Stored.{CanBeStored, stored_program}
 use Rattle.vd_projection_files.proofs.Files.{stored_programs_stand_in_files}
-use Rattle.vd_distributed_links.specs.Linked.{AreOwnHosts, NumbersAreWords}
-use Rattle.vd_distributed_links.proofs.Joined.{own_codes}
+use Rattle.vd_distributed_hosts.specs.Linked.{AreOwnHosts, NumbersAreWords}
+use Rattle.vd_distributed_hosts.proofs.Joined.{own_codes}
 use Rattle.vd_distributed_programs.proofs.Numbers.{numbers_small}
 use Rattle.vd_distributed_programs.proofs.Running.{no_items, nothing_dealt}
 use Rattle.vd_distributed_progress.specs.Serving.{StoredHostsAreServed}

@@ -18,7 +18,7 @@ use Rattle.vd_engine.specs.Enough.{IsEnough}
 use Rattle.vd_projection.specs.Programs.{joint_of}
 use Rattle.vd_host_text.specs.declared.program.Digest.{Digest}
 use Rattle.vd_world_report.specs.Supplies.{AreFiles, lists_for, supply_of_files}
-use Rattle.vd_distributed_links.specs.Linked.{AreOwnHosts}
+use Rattle.vd_distributed_hosts.specs.Linked.{AreOwnHosts}
 use Rattle.vd_projection_files.specs.Stored.{CanBeStored, stored_program}
 
 -- these packets come on a session, and nothing else; where there is no session there are none

@@ -12,8 +12,8 @@ use Rattle.vd_engine.specs.Drives.{Sessions, lines}
 use Rattle.vd_engine.specs.declared.engine.Ended.{Ended}
 use Rattle.vd_engine.specs.declared.fault.EngineFault.{EngineFault}
 use Rattle.vd_distributed_hosts.proofs.Told.{waiting_ended}
-use Rattle.vd_distributed_links.specs.Linked.{AreHosts, TakesUpTo, TellTheSame}
-use Rattle.vd_distributed_links.proofs.Joined.{linked_hosts_tell_the_same}
+use Rattle.vd_distributed_hosts.specs.Linked.{AreHosts, TakesUpTo, TellTheSame}
+use Rattle.vd_distributed_hosts.proofs.Joined.{linked_hosts_tell_the_same}
 use Rattle.vd_projection_reordered.proofs.Early.{runs_alike}
 use Rattle.vd_distributed_reordered.specs.Driven.{AreEarlyHosts, EarlyHostsTellTheSame, EarlyHostsHaveEnded}
 

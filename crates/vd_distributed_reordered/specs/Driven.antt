@@ -14,7 +14,7 @@ use Rattle.vd_engine.specs.Events.{Event}
 use Rattle.vd_engine.specs.declared.engine.Ended.{Ended}
 use Rattle.vd_engine.specs.declared.fault.EngineFault.{EngineFault}
 use Rattle.vd_distributed_hosts.specs.AllHosts.{AreDriven, WaitsFor}
-use Rattle.vd_distributed_links.specs.Linked.{AreLinked, NumbersAreWords, TellTheSame}
+use Rattle.vd_distributed_hosts.specs.Linked.{AreLinked, NumbersAreWords, TellTheSame}
 use Rattle.vd_projection_reordered.specs.Early.{IsEarly}
 
 -- The joint code runs well on the lists, which hold a valid deal. The codes are those of an order of it that waits less, of which any of the

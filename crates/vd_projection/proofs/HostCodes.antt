@@ -30,7 +30,7 @@ use Rattle.vd_backend_laws.proofs.Given.{listed_protocols_are_over, zero_deals_a
 use Rattle.vd_backend_laws.proofs.Whole.{code_tells_the_same, code_runs_well}
 use Rattle.vd_choreography_validity.specs.Assignments.{IsChosen}
 use Rattle.vd_choreography_validity.proofs.Chosen.{can_run}
-use Rattle.vd_code_ranges.proofs.Programs.{code_is_in_range}
+use Rattle.vd_code_sizes.proofs.Programs.{code_is_in_range}
 use Rattle.vd_projection.specs.Programs.{IsRunnable, AreOver, joint_of, host_codes, CodesCanBeLoaded, CodesRunAsTold, CodesRunWell}
 
 or_default : {X : Type 0} (P : X → Type 0) (xs : List X) (d : X) → All P xs → P d → (k : ℕ) → P (slice_index_or xs k d)

@@ -15,8 +15,8 @@ use Rattle.vd_execution.specs.Plans.{Plan, Ends, Then, Branch, Loop, joint_of, P
 use Rattle.vd_execution.specs.Ranges.{ActionFits}
 use Rattle.vd_execution.proofs.Puts.{same_or_not}
 use Rattle.vd_duet.specs.Laws.{Each}
-use Rattle.vd_backend_sizes.specs.Fits.{PacketFits, ActFits, GadgetFits}
-use Rattle.vd_code_ranges.proofs.Fits.{PlanFits}
+use Rattle.vd_code_sizes.specs.Fits.{PacketFits, ActFits, GadgetFits}
+use Rattle.vd_code_sizes.proofs.Fits.{PlanFits}
 use Rattle.vd_projection_files.proofs.Few.{GadgetIsSmall}
 use Rattle.vd_projection_files.proofs.FewBlocks.{PlanIsSmall}
 use Rattle.vd_projection_files.proofs.Registers.{bound}

@@ -25,7 +25,7 @@ use Rattle.vd_choreography.specs.Emission.{Emitting, Emitted, Emission, parts_at
 use Rattle.vd_choreography.proofs.Lists.{and_left, and_right}
 use Rattle.vd_split.proofs.Picked.{picked_few}
 use Rattle.vd_backend_laws.specs.Parts.{Parts, suite_calls}
-use Rattle.vd_code_ranges.proofs.Blocks.{holds}
+use Rattle.vd_code_sizes.proofs.Blocks.{holds}
 use Rattle.vd_core.specs.Numbers.{number_fits, numbers_fit}
 use Rattle.vd_projection_files.proofs.Numbers.{below}
 use Rattle.vd_projection_files.proofs.Few.{GadgetIsSmall, AreFew, few_none, few_more, few_both, bulk}

@@ -14,7 +14,7 @@ use Rattle.vd_execution.specs.declared.instructions.Instr.TheVariants as instr
 use Rattle.vd_execution.specs.Code.{Code, Finished, Then, Send, Recv, Choose, Repeat}
 use Rattle.vd_execution.specs.Ranges.{ActionFits}
 use Rattle.vd_execution.specs.Text.{register}
-use Rattle.vd_backend_sizes.specs.Fits.{PacketFits}
+use Rattle.vd_code_sizes.specs.Fits.{PacketFits}
 use Rattle.vd_host_text.specs.Words.{word_of, action_word, operands, action_operands}
 use Rattle.vd_host_text.specs.Lines.{arity, IsWord, HasNumbers}
 use Rattle.vd_hostcode.specs.Ranges.{is_register, are_registers, is_array, is_peer, is_within, action_is_within, packet_is_within}

@@ -13,9 +13,9 @@ use Rattle.vd_choreography.proofs.Folds.{fold_each}
 use Rattle.vd_backend_laws.specs.Parts.{suite_calls}
 use Rattle.vd_backend_laws.specs.Suite.{IsOver}
 use Rattle.vd_backend_laws.specs.Whole.{plan_at}
-use Rattle.vd_backend_sizes.specs.Fits.{IsLow}
-use Rattle.vd_code_ranges.proofs.Blocks.{cost, size, holds, BlockFits, StateFits, emission_of, block_fits}
-use Rattle.vd_code_ranges.proofs.Fits.{PlanFits}
+use Rattle.vd_code_sizes.specs.Fits.{IsLow}
+use Rattle.vd_code_sizes.proofs.Blocks.{cost, size, holds, BlockFits, StateFits, emission_of, block_fits}
+use Rattle.vd_code_sizes.proofs.Fits.{PlanFits}
 
 list_all_map : {A : Type 0} (f : A → Bool) (xs : List A) → list_all f xs ≡ list_all (λ x. x) (map f xs)
 list_all_map f [] = refl

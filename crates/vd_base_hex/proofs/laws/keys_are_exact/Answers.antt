@@ -1,5 +1,0 @@
-use Rattle.vd_base_hex.proofs.Exact.{key_exact}
-use Rattle.vd_base_hex.proofs.laws.keys_are_exact.Goals as goal
-
-pub returns : goal.returns
-returns c = key_exact

@@ -1,6 +1,0 @@
-pub mod Blocks
-mod Commitments
-pub mod Calls
-pub mod Fits
-mod Loading
-pub mod Programs

@@ -1,0 +1,4 @@
+pub mod Ranges
+pub mod Fits
+pub mod Sizes
+pub mod Statements

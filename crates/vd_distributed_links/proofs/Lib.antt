@@ -1,4 +1,0 @@
-pub mod Fronts
-pub mod Words
-pub mod Driven
-pub mod Joined

@@ -1,2 +1,0 @@
-mod Arrows
-mod Coming

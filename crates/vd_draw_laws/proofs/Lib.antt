@@ -1,0 +1,3 @@
+mod Adding
+mod Arrows
+mod Coming

@@ -1,0 +1,21 @@
+//! Laws of drawings. The functions here do nothing: their contracts are laws.
+
+ghost use Rattle.vd_draw_laws.specs.Together.{DrawnCostsAddUp};
+ghost use Rattle.vd_draw_laws.specs.Showing.{ArrowsShow, ToldWordsCome};
+
+/// The costs of the rows of a drawing, of which each stands for all rows that are drawn as one, add up to what all rows cost.
+pub fn drawn_costs_add_up()
+    ensures { DrawnCostsAddUp }
+{}
+
+/// A move of a word is drawn as an arrow to a host that is in clear, in clear from each copy, opened or revealed, exactly where
+/// the host has the word in clear at the end of the move, and not where it begins.
+pub fn arrows_show_what_is_told()
+    ensures { ArrowsShow }
+{}
+
+/// Of the clear words that come to a host at a valid assignment, those that it did not have where they come from are exactly
+/// the words that moves tell it. An arrow shows the host each of them.
+pub fn told_words_come()
+    ensures { ToldWordsCome }
+{}

@@ -1,0 +1,7 @@
+//! What is true of every drawing: the costs of its rows add up, and what it shows a host is what the host can read. Nothing is
+//! computed here: the clauses of the functions are laws.
+#![tactic(auto)]
+
+mod laws;
+
+pub use laws::{arrows_show_what_is_told, drawn_costs_add_up, told_words_come};
