@@ -23,10 +23,10 @@ def anyone(hosts):
     return "{" + " | ".join(PRINCIPALS[:hosts]) + "}"
 
 
-def chain(links, hosts):
+def chain(segments, hosts):
     """A word to which numbers are added one after the other; each host may read all."""
     head = ["principals P;", *(f"host {host} {{P ; P}};" for host in HOSTS[:hosts]), "main {"]
-    total = " + ".join(map(str, range(links)))
+    total = " + ".join(map(str, range(segments)))
     return "\n".join([*head, "  let x = input(alice);", f"  output x + {total} to bob;", "}"]) + "\n"
 
 
@@ -174,9 +174,9 @@ def folder_sources():
 
 def sized_sources():
     """Sources of growing size: their names and texts."""
-    for links in (10, 50, 100):
+    for segments in (10, 50, 100):
         for hosts in (2, 3):
-            yield f"chain of {links} sums, {hosts} hosts", chain(links, hosts)
+            yield f"chain of {segments} sums, {hosts} hosts", chain(segments, hosts)
     for length in (8, 32):
         yield f"product of vectors of {length}", dot(length)
     for points, dimensions in ((2, 2), (8, 2), (16, 2), (20, 3)):

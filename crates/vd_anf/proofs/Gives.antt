@@ -20,16 +20,16 @@ use Rattle.vd_core.specs.declared.source.Infix.{Infix}
 use Rattle.vd_core.specs.declared.source.Infix.TheVariants as infix'
 use Rattle.vd_core.specs.declared.source.Direction.{Direction}
 use Rattle.vd_core.specs.declared.source.Direction.TheVariants as direction
-use Rattle.vd_core.specs.declared.source.Expr.TheOpen.{Expr-F, Link-F}
+use Rattle.vd_core.specs.declared.source.Expr.TheOpen.{Expr-F, Segment-F}
 use Rattle.vd_semantics.specs.declared.held.Held.{Held}
 use Rattle.vd_semantics.specs.World.{World}
 use Rattle.vd_base.specs.Names.{Named, at_name}
 use Rattle.vd_semantics.specs.ProgramMeaning.{SlotState, Effect, word_at, in_world, right_word, after_right, stmt_effect, effect, block_effect}
-use Rattle.vd_semantics.specs.SourceMeaning.{Callee, Evaluation, LinkEvaluation, held_word, held_element, called, applied, prefix_word, prefixes_word, infix_word, shift_word, chain_evaluation, evaluations, expr_evaluation, link_evaluation}
+use Rattle.vd_semantics.specs.SourceMeaning.{Callee, Evaluation, SegmentEvaluation, held_word, held_element, called, applied, prefix_word, prefixes_word, infix_word, shift_word, chain_evaluation, evaluations, expr_evaluation, segment_evaluation}
 use Rattle.vd_anf.specs.declared.spot.Spot.{Spot}
 use Rattle.vd_anf.specs.declared.spot.Spot.TheVariants.{Binding, Variable, Array}
 use Rattle.vd_anf.specs.declared.here.Here.{Here}
-use Rattle.vd_anf.specs.Normal.{Made, slot, host_id, form_of, emitted, kind_at, Inlining, Lowering, LinkLowering, chain_made, all_made, operation_made, infix_right, infix_kind, prefix_op, prefix_kind, prefixes_made, prefixes_plain, shift_op, link_made, name_made, name_plain, get_made, call_made, chain_plain, truth_right, expr_lowering, link_lowering}
+use Rattle.vd_anf.specs.Normal.{Made, slot, host_id, form_of, emitted, kind_at, Inlining, Lowering, SegmentLowering, chain_made, all_made, operation_made, infix_right, infix_kind, prefix_op, prefix_kind, prefixes_made, prefixes_plain, shift_op, segment_made, name_made, name_plain, get_made, call_made, chain_plain, truth_right, expr_lowering, segment_lowering}
 use Rattle.vd_anf.proofs.Slots.{item_put, word, array, put_word, word_other, word_same, Content, Same, slot_of, shown_one, Good, good_more, held, held_same, at_held, at_below, none_is, some_is}
 
 -- the state after the statements that are made
@@ -134,8 +134,8 @@ pub record Means (w : Evaluation) (l : Lowering) : Type 0 where
   pub runs : Runs w l
   pub bare : (k : ℕ) → l.bare ≡ Some k → (gs : Named Callee) (env : Named Held) (u : World) → w gs env u ≡ (k, u)
 
-abbrev pub LinkMeans : LinkEvaluation → LinkLowering → Type 0
-LinkMeans w l =
+abbrev pub SegmentMeans : SegmentEvaluation → SegmentLowering → Type 0
+SegmentMeans w l =
     (gs : Named Callee) (is : Named Inlining) → Sights gs is → (names : Named Spot) (here : Here) (x : ℕ) (m : Made) (turn : ℕ) (s0 : SlotState) → Good names m.next → x < m.next
     → Gives m.next false (ran m turn s0) (ran (l is names here x m).1 turn s0) (l is names here x m).0 (l is names here x m).1.next (w gs (held (ran m turn s0) names) (word (ran m turn s0) x) (ran m turn s0).world)
 
@@ -275,11 +275,11 @@ unary_means hosts w l signs x = record {
   bare = λ k e gs env u. not_some k e;
 }
 
-chain_false : (ls : List LinkLowering) → chain_plain ls false ≡ false
+chain_false : (ls : List SegmentLowering) → chain_plain ls false ≡ false
 chain_false [] = refl
 chain_false (l ∷ ls) = refl
 
-chain_gives : (ws : List LinkEvaluation) (ls : List LinkLowering) → Both LinkMeans ws ls
+chain_gives : (ws : List SegmentEvaluation) (ls : List SegmentLowering) → Both SegmentMeans ws ls
     → (gs : Named Callee) (is : Named Inlining) → Sights gs is → (names : Named Spot) (here : Here) (n : ℕ) (b : Bool) (s : SlotState) (x : ℕ) (m : Made) (turn : ℕ) (s0 : SlotState) (q : ℕ × World) → Good names n
     → Gives n b s (ran m turn s0) x m.next q
     → Gives n (chain_plain ls b) s (ran (chain_made ls is names here x m).1 turn s0) (chain_made ls is names here x m).0 (chain_made ls is names here x m).1.next (chain_evaluation ws gs (held s names) q.0 q.1)
@@ -296,7 +296,7 @@ chain_gives (w ∷ ws) (l ∷ ls) both gs is h names here n b s x m turn s0 q go
     let rest = chain_gives ws ls both.1 gs is h names here n false s p.0 p.1 turn s0 (w gs (held s names) q.0 q.1) good two in
     rw (chain_false ls) at rest
 
-pub chain_means : (hosts : List (List ℕ)) (w : Evaluation) (l : Lowering) (ws : List LinkEvaluation) (ls : List LinkLowering) → Means w l → Both LinkMeans ws ls
+pub chain_means : (hosts : List (List ℕ)) (w : Evaluation) (l : Lowering) (ws : List SegmentEvaluation) (ls : List SegmentLowering) → Means w l → Both SegmentMeans ws ls
     → Means (expr_evaluation hosts (Expr-F.Chain w ws)) (expr_lowering hosts (Expr-F.Chain l ls))
 chain_means hosts w l ws ls first both = record {
   runs = λ gs is h names here m turn s0 good.
@@ -446,7 +446,7 @@ infix_value infix'.Mul x y turn s = refl
 infix_value infix'.Div x y turn s = refl
 infix_value infix'.Rem x y turn s = refl
 
-two_means : (o : Infix) (at : Span) (w : Evaluation) (l : Lowering) → Means w l → LinkMeans (link_evaluation (Link-F.Infix o at w)) (link_made None o l)
+two_means : (o : Infix) (at : Span) (w : Evaluation) (l : Lowering) → Means w l → SegmentMeans (segment_evaluation (Segment-F.Infix o at w)) (segment_made None o l)
 two_means o at w l right gs is h names here x m turn s0 good lt =
     let s = ran m turn s0 in
     let p = l.run is names here m in
@@ -458,16 +458,16 @@ two_means o at w l right gs is h names here x m turn s0 good lt =
     let two = rw (infix_value o x p.0 turn s1, one.value, one.world, word_same s s1 x (one.same x lt)) at emit in
     then_gives m.next (l.plain names) false s s1 (ran (emitted here kind (infix_right o x p.0) p.1).1 turn s0) p.0 p.1.next p.1.next (p.1.next + 1) q (infix_word o (word s x) q.0, q.1) one two
 
-scale_means : (k : ℕ) (at : Span) (w : Evaluation) (l : Lowering) → Means w l → l.bare ≡ Some k → LinkMeans (link_evaluation (Link-F.Infix infix'.Mul at w)) (link_made (Some k) infix'.Mul l)
+scale_means : (k : ℕ) (at : Span) (w : Evaluation) (l : Lowering) → Means w l → l.bare ≡ Some k → SegmentMeans (segment_evaluation (Segment-F.Infix infix'.Mul at w)) (segment_made (Some k) infix'.Mul l)
 scale_means k at w l right e gs is h names here x m turn s0 good lt =
     let s = ran m turn s0 in
     rw (right.bare k e gs (held s names) s.world) (emit_gives false here Word (Apply (op.Scale k) (slot x ∷ [])) m turn s0)
 
-mul_means : (at : Span) (w : Evaluation) (l : Lowering) (b : Option ℕ) → Means w l → l.bare ≡ b → LinkMeans (link_evaluation (Link-F.Infix infix'.Mul at w)) (link_made b infix'.Mul l)
+mul_means : (at : Span) (w : Evaluation) (l : Lowering) (b : Option ℕ) → Means w l → l.bare ≡ b → SegmentMeans (segment_evaluation (Segment-F.Infix infix'.Mul at w)) (segment_made b infix'.Mul l)
 mul_means at w l None right e = two_means infix'.Mul at w l right
 mul_means at w l (Some k) right e = scale_means k at w l right e
 
-pub infix_means : (o : Infix) (at : Span) (w : Evaluation) (l : Lowering) → Means w l → LinkMeans (link_evaluation (Link-F.Infix o at w)) (link_lowering (Link-F.Infix o at l))
+pub infix_means : (o : Infix) (at : Span) (w : Evaluation) (l : Lowering) → Means w l → SegmentMeans (segment_evaluation (Segment-F.Infix o at w)) (segment_lowering (Segment-F.Infix o at l))
 infix_means infix'.Equal at w l right = two_means infix'.Equal at w l right
 infix_means infix'.NotEqual at w l right = two_means infix'.NotEqual at w l right
 infix_means infix'.Less at w l right = two_means infix'.Less at w l right
@@ -487,7 +487,7 @@ shift_value : (towards : Direction) (bits x turn : ℕ) (s : SlotState) → ◌�
 shift_value direction.Left bits x turn s = refl
 shift_value direction.Right bits x turn s = refl
 
-pub shift_means : (towards : Direction) (at : Span) (bits : ℕ) → LinkMeans (link_evaluation (Link-F.Shift towards at bits)) (link_lowering (Link-F.Shift towards at bits))
+pub shift_means : (towards : Direction) (at : Span) (bits : ℕ) → SegmentMeans (segment_evaluation (Segment-F.Shift towards at bits)) (segment_lowering (Segment-F.Shift towards at bits))
 shift_means towards at bits gs is h names here x m turn s0 good lt =
     let s = ran m turn s0 in
     let emit = emit_gives false here Word (Apply (shift_op towards bits) (slot x ∷ [])) m turn s0 in

@@ -28,9 +28,9 @@ use Rattle.vd_core.specs.declared.source.Infix.TheVariants as infix'
 use Rattle.vd_core.specs.declared.source.Direction.{Direction}
 use Rattle.vd_core.specs.declared.source.Direction.TheVariants as direction
 use Rattle.vd_core.specs.declared.source.Expr.{Expr}
-use Rattle.vd_core.specs.declared.source.Expr.TheOpen.{Expr-F, Link-F}
-use Rattle.vd_core.specs.declared.source.Expr.TheFolds.{fold-Expr, fold-Link}
-use Rattle.vd_core.specs.declared.source.Link.{Link}
+use Rattle.vd_core.specs.declared.source.Expr.TheOpen.{Expr-F, Segment-F}
+use Rattle.vd_core.specs.declared.source.Expr.TheFolds.{fold-Expr, fold-Segment}
+use Rattle.vd_core.specs.declared.source.Segment.{Segment}
 use Rattle.vd_core.specs.declared.source.Statement.{Statement}
 use Rattle.vd_core.specs.declared.source.Statement.TheOpen.{Statement-F}
 use Rattle.vd_core.specs.declared.source.Statement.TheFolds.{fold-Statement}
@@ -111,10 +111,10 @@ pub record Lowering : Type 0 where
   pub run : Named Inlining → Named Spot → Here → Made → ℕ × Made
 
 -- the same of one step of a chain, from the slot so far
-abbrev pub LinkLowering : Type 0
-LinkLowering = Named Inlining → Named Spot → Here → ℕ → Made → ℕ × Made
+abbrev pub SegmentLowering : Type 0
+SegmentLowering = Named Inlining → Named Spot → Here → ℕ → Made → ℕ × Made
 
-abbrev pub chain_made : List LinkLowering → LinkLowering
+abbrev pub chain_made : List SegmentLowering → SegmentLowering
 chain_made [] is names here x m = (x, m)
 chain_made (l ∷ ls) is names here x m = let p = l is names here x m in chain_made ls is names here p.0 p.1
 
@@ -206,9 +206,9 @@ prefixes_plain [] b = b
 prefixes_plain (s ∷ ss) b = false
 
 -- a bare number right of * becomes a Scale
-abbrev pub link_made : Option ℕ → Infix → Lowering → LinkLowering
-link_made (Some k) o l is names here x m = emitted here Word (right.Apply (op.Scale k) (slot x ∷ [])) m
-link_made None o l is names here x m = let p = l.run is names here m in emitted here (infix_kind o (kind_at p.1 x)) (infix_right o x p.0) p.1
+abbrev pub segment_made : Option ℕ → Infix → Lowering → SegmentLowering
+segment_made (Some k) o l is names here x m = emitted here Word (right.Apply (op.Scale k) (slot x ∷ [])) m
+segment_made None o l is names here x m = let p = l.run is names here m in emitted here (infix_kind o (kind_at p.1 x)) (infix_right o x p.0) p.1
 
 -- a name that is not in sight stands for 0
 abbrev pub name_made : Option Spot → Here → Made → ℕ × Made
@@ -234,14 +234,14 @@ abbrev pub call_made : Option Inlining → Here → List ℕ × Made → ℕ × 
 call_made None here p = emitted here Word (right.Lit 0) p.1
 call_made (Some i) here p = i here p.0 p.1
 
-abbrev pub chain_plain : List LinkLowering → Bool → Bool
+abbrev pub chain_plain : List SegmentLowering → Bool → Bool
 chain_plain [] b = b
 chain_plain (l ∷ ls) b = false
 
 abbrev pub truth_right : Bool → Right
 truth_right b = right.Lit (if b then 1 else 0)
 
-abbrev pub expr_lowering : List (List ℕ) → Expr-F Lowering LinkLowering → Lowering
+abbrev pub expr_lowering : List (List ℕ) → Expr-F Lowering SegmentLowering → Lowering
 expr_lowering hosts (Expr-F.Number n) = record { bare = Some n; plain = λ names. false; run = λ is names here m. emitted here Word (right.Lit n) m }
 expr_lowering hosts (Expr-F.Truth b) = record { bare = None; plain = λ names. false; run = λ is names here m. emitted here Truth (truth_right b) m }
 expr_lowering hosts (Expr-F.Value x) = record { bare = None; plain = λ names. name_plain (at_name names x.name); run = λ is names here m. name_made (at_name names x.name) here m }
@@ -261,19 +261,19 @@ expr_lowering hosts (Expr-F.Endorse x to) =
     record { bare = None; plain = λ names. false; run = λ is names here m. let p = x.run is names here m in emitted here (kind_at p.1 p.0) (right.Endorse (slot p.0) (form_of to)) p.1 }
 expr_lowering hosts (Expr-F.Unary x signs) =
     record { bare = None; plain = λ names. prefixes_plain signs (x.plain names); run = λ is names here m. let p = x.run is names here m in prefixes_made signs here p.0 p.1 }
-expr_lowering hosts (Expr-F.Chain first links) =
-    record { bare = None; plain = λ names. chain_plain links (first.plain names); run = λ is names here m. let p = first.run is names here m in chain_made links is names here p.0 p.1 }
+expr_lowering hosts (Expr-F.Chain first segments) =
+    record { bare = None; plain = λ names. chain_plain segments (first.plain names); run = λ is names here m. let p = first.run is names here m in chain_made segments is names here p.0 p.1 }
 expr_lowering hosts (Expr-F.Brackets x) = record { bare = None; plain = x.plain; run = x.run }
 
-abbrev pub link_lowering : Link-F Lowering LinkLowering → LinkLowering
-link_lowering (Link-F.Infix o at r) = link_made (scale_of o r.bare) o r
-link_lowering (Link-F.Shift towards at bits) = λ is names here x m. emitted here Word (right.Apply (shift_op towards bits) (slot x ∷ [])) m
+abbrev pub segment_lowering : Segment-F Lowering SegmentLowering → SegmentLowering
+segment_lowering (Segment-F.Infix o at r) = segment_made (scale_of o r.bare) o r
+segment_lowering (Segment-F.Shift towards at bits) = λ is names here x m. emitted here Word (right.Apply (shift_op towards bits) (slot x ∷ [])) m
 
 abbrev pub lowering : List (List ℕ) → Expr → Lowering
-lowering hosts = fold-Expr Lowering LinkLowering (expr_lowering hosts) link_lowering
+lowering hosts = fold-Expr Lowering SegmentLowering (expr_lowering hosts) segment_lowering
 
-abbrev pub lowering_of_link : List (List ℕ) → Link → LinkLowering
-lowering_of_link hosts = fold-Link Lowering LinkLowering (expr_lowering hosts) link_lowering
+abbrev pub lowering_of_segment : List (List ℕ) → Segment → SegmentLowering
+lowering_of_segment hosts = fold-Segment Lowering SegmentLowering (expr_lowering hosts) segment_lowering
 
 -- where a walk over statements stands: the names in sight, and what is made
 pub record Place : Type 0 where

@@ -11,23 +11,23 @@ use Rattle.vd_core.specs.declared.normal.Stmt.{Stmt, Let}
 use Rattle.vd_core.specs.declared.source.Infix.{Infix}
 use Rattle.vd_core.specs.declared.source.Infix.TheVariants as infix'
 use Rattle.vd_core.specs.declared.source.Sign.{Sign}
-use Rattle.vd_core.specs.declared.source.Link.{Link}
+use Rattle.vd_core.specs.declared.source.Segment.{Segment}
 use Rattle.vd_core.specs.declared.source.Expr.{Expr, roll-Expr}
-use Rattle.vd_core.specs.declared.source.Expr.TheOpen.{Expr-F, Link-F}
-use Rattle.vd_core.specs.declared.source.Expr.TheFolds.{map-Expr, map-Link, ind-Expr, fold-roll-Expr, fold-roll-Link}
-use Rattle.vd_core.specs.declared.source.Expr.TheViews.{roll-Link}
+use Rattle.vd_core.specs.declared.source.Expr.TheOpen.{Expr-F, Segment-F}
+use Rattle.vd_core.specs.declared.source.Expr.TheFolds.{map-Expr, map-Segment, ind-Expr, fold-roll-Expr, fold-roll-Segment}
+use Rattle.vd_core.specs.declared.source.Expr.TheViews.{roll-Segment}
 use Rattle.vd_anf.specs.declared.here.Here.{Here}
 use Rattle.vd_anf.specs.declared.spot.Spot.{Spot}
 use Rattle.vd_anf.specs.declared.spot.Spot.TheVariants as spot
-use Rattle.vd_anf.specs.Normal.{Made, slot, emitted, kind_at, Inlining, Lowering, LinkLowering, chain_made, all_made, infix_right, infix_kind as made_kind, scale_of, shift_op, prefix_op, prefix_kind, prefixes_made, prefixes_plain, link_made, name_made, name_plain, get_made, call_made, chain_plain, truth_right, form_of, host_id, expr_lowering, link_lowering, lowering, lowering_of_link}
+use Rattle.vd_anf.specs.Normal.{Made, slot, emitted, kind_at, Inlining, Lowering, SegmentLowering, chain_made, all_made, infix_right, infix_kind as made_kind, scale_of, shift_op, prefix_op, prefix_kind, prefixes_made, prefixes_plain, segment_made, name_made, name_plain, get_made, call_made, chain_plain, truth_right, form_of, host_id, expr_lowering, segment_lowering, lowering, lowering_of_segment}
 use Rattle.vd_resolve.specs.Faults as fault
 use Rattle.vd_resolve.specs.declared.symbol.Symbol.{Symbol}
 use Rattle.vd_resolve.specs.declared.symbol.Symbol.TheVariants as symbol
 use Rattle.vd_resolve.specs.declared.symbol.Signature.{Signature}
 use Rattle.vd_resolve.specs.declared.size.Size.{Size}
-use Rattle.vd_resolve.specs.Rules.{Scope, and_then, kind_or, of_words, mux_kind, infix_kind, kinds_eq, value_kind, element_kind, call_kind, form_check, Typing, LinkTyping, typings, chain_typing, signs_typing, expr_typing, link_typing, typing, typing_of_link}
-use Rattle.vd_resolve.specs.Sizes.{nothing, one, also, Variables, is_true, Sizing, LinkSizing, plain_alone, sizes_after, links_after, signs_after, call_size, expr_sizing, is_scale, link_sizing, sizing, sizing_of_link}
-use Rattle.vd_anf_wellformed.specs.Calls.{Calls, total, with_call, expr_calls, link_calls, calls, calls_of_link}
+use Rattle.vd_resolve.specs.Rules.{Scope, and_then, kind_or, of_words, mux_kind, infix_kind, kinds_eq, value_kind, element_kind, call_kind, form_check, Typing, SegmentTyping, typings, chain_typing, signs_typing, expr_typing, segment_typing, typing, typing_of_segment}
+use Rattle.vd_resolve.specs.Sizes.{nothing, one, also, Variables, is_true, Sizing, SegmentSizing, plain_alone, sizes_after, segments_after, signs_after, call_size, expr_sizing, is_scale, segment_sizing, sizing, sizing_of_segment}
+use Rattle.vd_anf_wellformed.specs.Calls.{Calls, total, with_call, expr_calls, segment_calls, calls, calls_of_segment}
 use Rattle.vd_anf_wellformed.proofs.Steps.{passed, accepted, err_is, ok_is}
 use Rattle.vd_anf_wellformed.proofs.Counts.{let_one}
 use Rattle.vd_anf_wellformed.proofs.Fits.{Fits, fits_none, fits_same, fits_then, fits_next, fits_inlined, fits_one}
@@ -51,8 +51,8 @@ pub record ExprFits (t : Typing) (z : Sizing) (l : Lowering) (c : Calls) : Type 
   pub plain : (scope : Scope) (env : Named Symbol) (kind : Kind) → t scope env ≡ Ok kind → (names : Named Spot) (vars : Variables) → Alike env names vars → l.plain names ≡ z.plain vars
   pub fits : PartFits t z.size l.run c
 
-abbrev LinkFits : LinkTyping → LinkSizing → LinkLowering → Calls → Type 0
-LinkFits t z l c = (scope : Scope) (env : Named Symbol) (left kind : Kind) → t scope env left ≡ Ok kind → (is : Named Inlining) (sizes : Named Size) (inside : Named ℕ) → Callees scope.functions is sizes inside
+abbrev SegmentFits : SegmentTyping → SegmentSizing → SegmentLowering → Calls → Type 0
+SegmentFits t z l c = (scope : Scope) (env : Named Symbol) (left kind : Kind) → t scope env left ≡ Ok kind → (is : Named Inlining) (sizes : Named Size) (inside : Named ℕ) → Callees scope.functions is sizes inside
     → (names : Named Spot) (vars : Variables) → Alike env names vars → (here : Here) (x : ℕ) (m : Made) → Fits m.body (l is names here x m).1.body (z sizes vars) (c inside)
 
 never : false ≡ true → ⊥
@@ -138,7 +138,7 @@ scale_none infix'.Div b c h e = absurd (never e)
 scale_none infix'.Rem b c h e = absurd (never e)
 
 infix_fits : (s : Option ℕ) (b : Bool) → is_some s ≡ b → (o : Infix) (l : Lowering) (z : Size) (c : ℕ) → (b ≡ true → c ≡ 0) → (is : Named Inlining) (names : Named Spot) (here : Here) (x : ℕ) (m : Made)
-    → Fits m.body (l.run is names here m).1.body z c → Fits m.body (link_made s o l is names here x m).1.body (if b then one else also z one) c
+    → Fits m.body (l.run is names here m).1.body z c → Fits m.body (segment_made s o l is names here x m).1.body (if b then one else also z one) c
 infix_fits (Some k) b e o l z c none is names here x m f =
     let r = right'.Apply (op.Scale k) (slot x ∷ []) in
     rw (← e) (fits_same m.body (emitted here Word r m).1.body one 0 c (sym (none (sym e))) (emit_fits here Word r m))
@@ -150,20 +150,20 @@ module _ (hosts : List (List ℕ)) where
   abbrev IsFit : Expr → Type 0
   IsFit e = ExprFits (typing e) (sizing e) (lowering hosts e) (calls e)
 
-  abbrev IsLinkFit : Link → Type 0
-  IsLinkFit l = LinkFits (typing_of_link l) (sizing_of_link l) (lowering_of_link hosts l) (calls_of_link l)
+  abbrev IsSegmentFit : Segment → Type 0
+  IsSegmentFit l = SegmentFits (typing_of_segment l) (sizing_of_segment l) (lowering_of_segment hosts l) (calls_of_segment l)
 
   abbrev E : Type 0
   E = (e : Expr) × IsFit e
 
   abbrev L : Type 0
-  L = (l : Link) × IsLinkFit l
+  L = (l : Segment) × IsSegmentFit l
 
   abbrev exprs_of : List E → List Expr
   exprs_of es = map (λ (e : E). e.0) es
 
-  abbrev links_of : List L → List Link
-  links_of ls = map (λ (l : L). l.0) ls
+  abbrev segments_of : List L → List Segment
+  segments_of ls = map (λ (l : L). l.0) ls
 
   -- operands, after what has a size
   all_fit : (es : List E) (scope : Scope) (env : Named Symbol) (before kinds : List Kind) → typings before (map typing (exprs_of es)) scope env ≡ Ok kinds
@@ -205,50 +205,50 @@ module _ (hosts : List (List ℕ)) where
       let pushed = length_push before t.0 in
       omega arith
 
-  chain_fits : (ls : List L) (scope : Scope) (env : Named Symbol) (left kind : Kind) → chain_typing (map typing_of_link (links_of ls)) scope env left ≡ Ok kind
+  chain_fits : (ls : List L) (scope : Scope) (env : Named Symbol) (left kind : Kind) → chain_typing (map typing_of_segment (segments_of ls)) scope env left ≡ Ok kind
       → (is : Named Inlining) (sizes : Named Size) (inside : Named ℕ) → Callees scope.functions is sizes inside → (names : Named Spot) (vars : Variables) → Alike env names vars
       → (here : Here) (x : ℕ) (xs : List Stmt) (m : Made) (s : Size) (c : ℕ) → Fits xs m.body s c
-      → Fits xs (chain_made (map (lowering_of_link hosts) (links_of ls)) is names here x m).1.body (links_after s (map sizing_of_link (links_of ls)) sizes vars) (c + total (map calls_of_link (links_of ls)) inside)
+      → Fits xs (chain_made (map (lowering_of_segment hosts) (segments_of ls)) is names here x m).1.body (segments_after s (map sizing_of_segment (segments_of ls)) sizes vars) (c + total (map calls_of_segment (segments_of ls)) inside)
   chain_fits [] scope env left kind p is sizes inside h names vars alike here x xs m s c f = fits_same xs m.body s c (c + 0) (omega arith) f
   chain_fits (l ∷ ls) scope env left kind p is sizes inside h names vars alike here x xs m s c f =
-      let t = passed (typing_of_link l.0 scope env left) (λ next. chain_typing (map typing_of_link (links_of ls)) scope env next) kind p in
-      let q = lowering_of_link hosts l.0 is names here x m in
-      let first = calls_of_link l.0 inside in
-      let rest = total (map calls_of_link (links_of ls)) inside in
-      fits_same xs (chain_made (map (lowering_of_link hosts) (links_of ls)) is names here q.0 q.1).1.body (links_after (also s (sizing_of_link l.0 sizes vars)) (map sizing_of_link (links_of ls)) sizes vars) (c + first + rest) (c + (first + rest)) (omega arith)
-      (chain_fits ls scope env t.0 kind t.2 is sizes inside h names vars alike here q.0 xs q.1 (also s (sizing_of_link l.0 sizes vars)) (c + first)
-      (fits_then xs m.body q.1.body s (sizing_of_link l.0 sizes vars) c first f (l.1 scope env left t.0 t.1 is sizes inside h names vars alike here x m)))
+      let t = passed (typing_of_segment l.0 scope env left) (λ next. chain_typing (map typing_of_segment (segments_of ls)) scope env next) kind p in
+      let q = lowering_of_segment hosts l.0 is names here x m in
+      let first = calls_of_segment l.0 inside in
+      let rest = total (map calls_of_segment (segments_of ls)) inside in
+      fits_same xs (chain_made (map (lowering_of_segment hosts) (segments_of ls)) is names here q.0 q.1).1.body (segments_after (also s (sizing_of_segment l.0 sizes vars)) (map sizing_of_segment (segments_of ls)) sizes vars) (c + first + rest) (c + (first + rest)) (omega arith)
+      (chain_fits ls scope env t.0 kind t.2 is sizes inside h names vars alike here q.0 xs q.1 (also s (sizing_of_segment l.0 sizes vars)) (c + first)
+      (fits_then xs m.body q.1.body s (sizing_of_segment l.0 sizes vars) c first f (l.1 scope env left t.0 t.1 is sizes inside h names vars alike here x m)))
 
   -- steps, from none
-  links_fit : (ls : List L) (scope : Scope) (env : Named Symbol) (left kind : Kind) → chain_typing (map typing_of_link (links_of ls)) scope env left ≡ Ok kind
+  segments_fit : (ls : List L) (scope : Scope) (env : Named Symbol) (left kind : Kind) → chain_typing (map typing_of_segment (segments_of ls)) scope env left ≡ Ok kind
       → (is : Named Inlining) (sizes : Named Size) (inside : Named ℕ) → Callees scope.functions is sizes inside → (names : Named Spot) (vars : Variables) → Alike env names vars
-      → (here : Here) (x : ℕ) (m : Made) → Fits m.body (chain_made (map (lowering_of_link hosts) (links_of ls)) is names here x m).1.body (links_after nothing (map sizing_of_link (links_of ls)) sizes vars) (total (map calls_of_link (links_of ls)) inside)
-  links_fit ls scope env left kind p is sizes inside h names vars alike here x m =
-      let many = total (map calls_of_link (links_of ls)) inside in
-      fits_same m.body (chain_made (map (lowering_of_link hosts) (links_of ls)) is names here x m).1.body (links_after nothing (map sizing_of_link (links_of ls)) sizes vars) (0 + many) many (omega arith)
+      → (here : Here) (x : ℕ) (m : Made) → Fits m.body (chain_made (map (lowering_of_segment hosts) (segments_of ls)) is names here x m).1.body (segments_after nothing (map sizing_of_segment (segments_of ls)) sizes vars) (total (map calls_of_segment (segments_of ls)) inside)
+  segments_fit ls scope env left kind p is sizes inside h names vars alike here x m =
+      let many = total (map calls_of_segment (segments_of ls)) inside in
+      fits_same m.body (chain_made (map (lowering_of_segment hosts) (segments_of ls)) is names here x m).1.body (segments_after nothing (map sizing_of_segment (segments_of ls)) sizes vars) (0 + many) many (omega arith)
       (chain_fits ls scope env left kind p is sizes inside h names vars alike here x m.body m nothing 0 (fits_none m.body))
 
-  chain_is_plain : (ls : List L) (a b : Bool) → a ≡ b → chain_plain (map (lowering_of_link hosts) (links_of ls)) a ≡ plain_alone (map sizing_of_link (links_of ls)) b
+  chain_is_plain : (ls : List L) (a b : Bool) → a ≡ b → chain_plain (map (lowering_of_segment hosts) (segments_of ls)) a ≡ plain_alone (map sizing_of_segment (segments_of ls)) b
   chain_is_plain [] a b h = h
   chain_is_plain (l ∷ ls) a b h = refl
 
-  abbrev expr_layer : Expr-F E L → Expr-F Expr Link
-  expr_layer = map-Expr E L Expr Link (λ e. e.0) (λ l. l.0)
+  abbrev expr_layer : Expr-F E L → Expr-F Expr Segment
+  expr_layer = map-Expr E L Expr Segment (λ e. e.0) (λ l. l.0)
 
-  abbrev link_layer : Link-F E L → Link-F Expr Link
-  link_layer = map-Link E L Expr Link (λ e. e.0) (λ l. l.0)
+  abbrev segment_layer : Segment-F E L → Segment-F Expr Segment
+  segment_layer = map-Segment E L Expr Segment (λ e. e.0) (λ l. l.0)
 
   abbrev typed_step : Expr-F E L → Typing
-  typed_step y = expr_typing (map-Expr Expr Link Typing LinkTyping typing typing_of_link (expr_layer y))
+  typed_step y = expr_typing (map-Expr Expr Segment Typing SegmentTyping typing typing_of_segment (expr_layer y))
 
   abbrev sized_step : Expr-F E L → Sizing
-  sized_step y = expr_sizing (map-Expr Expr Link Sizing LinkSizing sizing sizing_of_link (expr_layer y))
+  sized_step y = expr_sizing (map-Expr Expr Segment Sizing SegmentSizing sizing sizing_of_segment (expr_layer y))
 
   abbrev made_step : Expr-F E L → Lowering
-  made_step y = expr_lowering hosts (map-Expr Expr Link Lowering LinkLowering (lowering hosts) (lowering_of_link hosts) (expr_layer y))
+  made_step y = expr_lowering hosts (map-Expr Expr Segment Lowering SegmentLowering (lowering hosts) (lowering_of_segment hosts) (expr_layer y))
 
   abbrev called_step : Expr-F E L → Calls
-  called_step y = expr_calls (map-Expr Expr Link Calls Calls calls calls_of_link (expr_layer y))
+  called_step y = expr_calls (map-Expr Expr Segment Calls Calls calls calls_of_segment (expr_layer y))
 
   step_bare : (y : Expr-F E L) → is_some (made_step y).bare ≡ (sized_step y).bare
   step_bare (Expr-F.Number n) = refl
@@ -299,7 +299,7 @@ module _ (hosts : List (List ℕ)) where
       let s = passed (typing x.0 scope env) (λ given. signs_typing signs given) kind p in
       prefixes_are_plain signs ((lowering hosts x.0).plain names) ((sizing x.0).plain vars) (x.1.plain scope env s.0 s.1 names vars alike)
   step_plain (Expr-F.Chain x ls) scope env kind p names vars alike =
-      let s = passed (typing x.0 scope env) (λ given. chain_typing (map typing_of_link (links_of ls)) scope env given) kind p in
+      let s = passed (typing x.0 scope env) (λ given. chain_typing (map typing_of_segment (segments_of ls)) scope env given) kind p in
       chain_is_plain ls ((lowering hosts x.0).plain names) ((sizing x.0).plain vars) (x.1.plain scope env s.0 s.1 names vars alike)
   step_plain (Expr-F.Brackets x) scope env kind p names vars alike = x.1.plain scope env kind p names vars alike
 
@@ -365,38 +365,38 @@ module _ (hosts : List (List ℕ)) where
       let q = (lowering hosts x.0).run is names here m in
       prefixes_fit signs here m.body q.0 q.1 ((sizing x.0).size sizes vars) (calls x.0 inside) (x.1.fits scope env s.0 s.1 is sizes inside h names vars alike here m)
   step_fits (Expr-F.Chain x ls) scope env kind p is sizes inside h names vars alike here m =
-      let s = passed (typing x.0 scope env) (λ given. chain_typing (map typing_of_link (links_of ls)) scope env given) kind p in
+      let s = passed (typing x.0 scope env) (λ given. chain_typing (map typing_of_segment (segments_of ls)) scope env given) kind p in
       let q = (lowering hosts x.0).run is names here m in
-      fits_then m.body q.1.body (chain_made (map (lowering_of_link hosts) (links_of ls)) is names here q.0 q.1).1.body ((sizing x.0).size sizes vars) (links_after nothing (map sizing_of_link (links_of ls)) sizes vars) (calls x.0 inside) (total (map calls_of_link (links_of ls)) inside)
+      fits_then m.body q.1.body (chain_made (map (lowering_of_segment hosts) (segments_of ls)) is names here q.0 q.1).1.body ((sizing x.0).size sizes vars) (segments_after nothing (map sizing_of_segment (segments_of ls)) sizes vars) (calls x.0 inside) (total (map calls_of_segment (segments_of ls)) inside)
       (x.1.fits scope env s.0 s.1 is sizes inside h names vars alike here m)
-      (links_fit ls scope env s.0 kind s.2 is sizes inside h names vars alike here q.0 q.1)
+      (segments_fit ls scope env s.0 kind s.2 is sizes inside h names vars alike here q.0 q.1)
   step_fits (Expr-F.Brackets x) scope env kind p is sizes inside h names vars alike here m = x.1.fits scope env kind p is sizes inside h names vars alike here m
 
   step : (y : Expr-F E L) → ExprFits (typed_step y) (sized_step y) (made_step y) (called_step y)
   step y = record { bare = step_bare y; none = step_none y; plain = step_plain y; fits = step_fits y }
 
-  link_step : (y : Link-F E L) → LinkFits (link_typing (map-Link Expr Link Typing LinkTyping typing typing_of_link (link_layer y)))
-      (link_sizing (map-Link Expr Link Sizing LinkSizing sizing sizing_of_link (link_layer y)))
-      (link_lowering (map-Link Expr Link Lowering LinkLowering (lowering hosts) (lowering_of_link hosts) (link_layer y)))
-      (link_calls (map-Link Expr Link Calls Calls calls calls_of_link (link_layer y)))
-  link_step (Link-F.Infix o at r) scope env left kind p is sizes inside h names vars alike here x m =
+  segment_step : (y : Segment-F E L) → SegmentFits (segment_typing (map-Segment Expr Segment Typing SegmentTyping typing typing_of_segment (segment_layer y)))
+      (segment_sizing (map-Segment Expr Segment Sizing SegmentSizing sizing sizing_of_segment (segment_layer y)))
+      (segment_lowering (map-Segment Expr Segment Lowering SegmentLowering (lowering hosts) (lowering_of_segment hosts) (segment_layer y)))
+      (segment_calls (map-Segment Expr Segment Calls Calls calls calls_of_segment (segment_layer y)))
+  segment_step (Segment-F.Infix o at r) scope env left kind p is sizes inside h names vars alike here x m =
       let s = passed (typing r.0 scope env) (λ given. kind_or at (infix_kind o left given)) kind p in
       infix_fits (scale_of o (lowering hosts r.0).bare) (is_scale o (sizing r.0).bare) (scale_same o (lowering hosts r.0).bare (sizing r.0).bare r.1.bare) o (lowering hosts r.0) ((sizing r.0).size sizes vars)
       (calls r.0 inside) (scale_none o (sizing r.0).bare (calls r.0 inside) (r.1.none inside)) is names here x m
       (r.1.fits scope env s.0 s.1 is sizes inside h names vars alike here m)
-  link_step (Link-F.Shift towards at bits) scope env left kind p is sizes inside h names vars alike here x m = emit_fits here Word (right'.Apply (shift_op towards bits) (slot x ∷ [])) m
+  segment_step (Segment-F.Shift towards at bits) scope env left kind p is sizes inside h names vars alike here x m = emit_fits here Word (right'.Apply (shift_op towards bits) (slot x ∷ [])) m
 
   at_roll : (y : Expr-F E L) → IsFit (roll-Expr (expr_layer y))
-  at_roll y = subst (λ t. ExprFits t (sizing (roll-Expr (expr_layer y))) (lowering hosts (roll-Expr (expr_layer y))) (calls (roll-Expr (expr_layer y)))) (sym (fold-roll-Expr Typing LinkTyping expr_typing link_typing (expr_layer y)))
-      (subst (λ c. ExprFits (typed_step y) (sizing (roll-Expr (expr_layer y))) (lowering hosts (roll-Expr (expr_layer y))) c) (sym (fold-roll-Expr Calls Calls expr_calls link_calls (expr_layer y)))
-      (subst₂ (λ z l. ExprFits (typed_step y) z l (called_step y)) (sym (fold-roll-Expr Sizing LinkSizing expr_sizing link_sizing (expr_layer y)))
-      (sym (fold-roll-Expr Lowering LinkLowering (expr_lowering hosts) link_lowering (expr_layer y))) (step y)))
+  at_roll y = subst (λ t. ExprFits t (sizing (roll-Expr (expr_layer y))) (lowering hosts (roll-Expr (expr_layer y))) (calls (roll-Expr (expr_layer y)))) (sym (fold-roll-Expr Typing SegmentTyping expr_typing segment_typing (expr_layer y)))
+      (subst (λ c. ExprFits (typed_step y) (sizing (roll-Expr (expr_layer y))) (lowering hosts (roll-Expr (expr_layer y))) c) (sym (fold-roll-Expr Calls Calls expr_calls segment_calls (expr_layer y)))
+      (subst₂ (λ z l. ExprFits (typed_step y) z l (called_step y)) (sym (fold-roll-Expr Sizing SegmentSizing expr_sizing segment_sizing (expr_layer y)))
+      (sym (fold-roll-Expr Lowering SegmentLowering (expr_lowering hosts) segment_lowering (expr_layer y))) (step y)))
 
-  at_link_roll : (y : Link-F E L) → IsLinkFit (roll-Link (link_layer y))
-  at_link_roll y = subst (λ t. LinkFits t (sizing_of_link (roll-Link (link_layer y))) (lowering_of_link hosts (roll-Link (link_layer y))) (calls_of_link (roll-Link (link_layer y)))) (sym (fold-roll-Link Typing LinkTyping expr_typing link_typing (link_layer y)))
-      (subst (λ c. LinkFits (link_typing (map-Link Expr Link Typing LinkTyping typing typing_of_link (link_layer y))) (sizing_of_link (roll-Link (link_layer y))) (lowering_of_link hosts (roll-Link (link_layer y))) c) (sym (fold-roll-Link Calls Calls expr_calls link_calls (link_layer y)))
-      (subst₂ (λ z l. LinkFits (link_typing (map-Link Expr Link Typing LinkTyping typing typing_of_link (link_layer y))) z l (link_calls (map-Link Expr Link Calls Calls calls calls_of_link (link_layer y)))) (sym (fold-roll-Link Sizing LinkSizing expr_sizing link_sizing (link_layer y)))
-      (sym (fold-roll-Link Lowering LinkLowering (expr_lowering hosts) link_lowering (link_layer y))) (link_step y)))
+  at_segment_roll : (y : Segment-F E L) → IsSegmentFit (roll-Segment (segment_layer y))
+  at_segment_roll y = subst (λ t. SegmentFits t (sizing_of_segment (roll-Segment (segment_layer y))) (lowering_of_segment hosts (roll-Segment (segment_layer y))) (calls_of_segment (roll-Segment (segment_layer y)))) (sym (fold-roll-Segment Typing SegmentTyping expr_typing segment_typing (segment_layer y)))
+      (subst (λ c. SegmentFits (segment_typing (map-Segment Expr Segment Typing SegmentTyping typing typing_of_segment (segment_layer y))) (sizing_of_segment (roll-Segment (segment_layer y))) (lowering_of_segment hosts (roll-Segment (segment_layer y))) c) (sym (fold-roll-Segment Calls Calls expr_calls segment_calls (segment_layer y)))
+      (subst₂ (λ z l. SegmentFits (segment_typing (map-Segment Expr Segment Typing SegmentTyping typing typing_of_segment (segment_layer y))) z l (segment_calls (map-Segment Expr Segment Calls Calls calls calls_of_segment (segment_layer y)))) (sym (fold-roll-Segment Sizing SegmentSizing expr_sizing segment_sizing (segment_layer y)))
+      (sym (fold-roll-Segment Lowering SegmentLowering (expr_lowering hosts) segment_lowering (segment_layer y))) (segment_step y)))
 
   pub expr_fits : (e : Expr) → ExprFits (typing e) (sizing e) (lowering hosts e) (calls e)
-  expr_fits = ind-Expr IsFit IsLinkFit (λ x y is. subst (λ z. IsFit (roll-Expr z)) is (at_roll y)) (λ x y is. subst (λ z. IsLinkFit (roll-Link z)) is (at_link_roll y))
+  expr_fits = ind-Expr IsFit IsSegmentFit (λ x y is. subst (λ z. IsFit (roll-Expr z)) is (at_roll y)) (λ x y is. subst (λ z. IsSegmentFit (roll-Segment z)) is (at_segment_roll y))

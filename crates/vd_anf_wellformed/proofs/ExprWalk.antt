@@ -15,16 +15,16 @@ use Rattle.vd_core.specs.declared.source.Infix.TheVariants as infix'
 use Rattle.vd_core.specs.declared.source.Direction.{Direction}
 use Rattle.vd_core.specs.declared.source.Direction.TheVariants as direction
 use Rattle.vd_core.specs.declared.source.Sign.{Sign}
-use Rattle.vd_core.specs.declared.source.Link.{Link}
+use Rattle.vd_core.specs.declared.source.Segment.{Segment}
 use Rattle.vd_core.specs.declared.source.Expr.{Expr, roll-Expr}
-use Rattle.vd_core.specs.declared.source.Expr.TheOpen.{Expr-F, Link-F}
-use Rattle.vd_core.specs.declared.source.Expr.TheFolds.{map-Expr, map-Link, ind-Expr, ind-Link, fold-roll-Expr, fold-roll-Link}
-use Rattle.vd_core.specs.declared.source.Expr.TheViews.{roll-Link}
+use Rattle.vd_core.specs.declared.source.Expr.TheOpen.{Expr-F, Segment-F}
+use Rattle.vd_core.specs.declared.source.Expr.TheFolds.{map-Expr, map-Segment, ind-Expr, ind-Segment, fold-roll-Expr, fold-roll-Segment}
+use Rattle.vd_core.specs.declared.source.Expr.TheViews.{roll-Segment}
 use Rattle.vd_anf.specs.declared.here.Here.{Here}
 use Rattle.vd_anf.specs.declared.spot.Spot.{Spot}
 use Rattle.vd_anf.specs.declared.spot.Spot.TheVariants.{Binding, Variable, Array}
-use Rattle.vd_anf.specs.Normal.{Made, slot, nameless, emitted, kind_at, Inlining, Lowering, LinkLowering, chain_made, all_made, operation_made, infix_right, infix_kind, scale_of, shift_op, prefix_op, prefix_kind, prefixes_made, link_made, name_made, get_made, call_made, truth_right, form_of, expr_lowering, link_lowering, lowering, lowering_of_link}
-use Rattle.vd_anf_wellformed.proofs.Tests.{Tests, all_true, expr_passes, link_passes, passes, passes_link}
+use Rattle.vd_anf.specs.Normal.{Made, slot, nameless, emitted, kind_at, Inlining, Lowering, SegmentLowering, chain_made, all_made, operation_made, infix_right, infix_kind, scale_of, shift_op, prefix_op, prefix_kind, prefixes_made, segment_made, name_made, get_made, call_made, truth_right, form_of, expr_lowering, segment_lowering, lowering, lowering_of_segment}
+use Rattle.vd_anf_wellformed.proofs.Tests.{Tests, all_true, expr_passes, segment_passes, passes, passes_segment}
 use Rattle.vd_anf_wellformed.proofs.Laws.{op_passes, AllHere, IsFine, Laws}
 
 pub left : (a b : Bool) → (a && b) ≡ true → a ≡ true
@@ -87,8 +87,8 @@ module _ (hosts : List (List ℕ)) (tests : Tests) (W : Type 0) (Keeps : W → M
   abbrev pub ExprKeeps : Lowering → Type 0
   ExprKeeps l = (is : Named Inlining) → Calls is → (names : Named Spot) (here : Here) (w : W) (m : Made) → Shown w m names → Makes w m (l.run is names here m)
 
-  abbrev pub LinkKeeps : LinkLowering → Type 0
-  LinkKeeps l = (is : Named Inlining) → Calls is → (names : Named Spot) (here : Here) (w : W) (x : ℕ) (m : Made) → Shown w m names → At w m (Binding x) → Makes w m (l is names here x m)
+  abbrev pub SegmentKeeps : SegmentLowering → Type 0
+  SegmentKeeps l = (is : Named Inlining) → Calls is → (names : Named Spot) (here : Here) (w : W) (x : ℕ) (m : Made) → Shown w m names → At w m (Binding x) → Makes w m (l is names here x m)
 
   name_makes : (o : Option Spot) (here : Here) (w : W) (m : Made) → ((p : Spot) → o ≡ Some p → At w m p) → Makes w m (name_made o here m)
   name_makes None here w m h = emit_makes w m here Word (Lit 0) tt
@@ -145,7 +145,7 @@ module _ (hosts : List (List ℕ)) (tests : Tests) (W : Type 0) (Keeps : W → M
   infix_fine w m infix'.Div x y a b = (refl, refl, (a, (b, tt)))
   infix_fine w m infix'.Rem x y a b = (refl, refl, (a, (b, tt)))
 
-  infix_makes : (s : Option ℕ) (o : Infix) (l : Lowering) → ExprKeeps l → LinkKeeps (link_made s o l)
+  infix_makes : (s : Option ℕ) (o : Infix) (l : Lowering) → ExprKeeps l → SegmentKeeps (segment_made s o l)
   infix_makes (Some k) o l e is h names here w x m shown at = emit_makes w m here Word (Apply (op.Scale k) (slot x ∷ [])) (refl, refl, (at, tt))
   infix_makes None o l e is h names here w x m shown at =
       let p = l.run is names here m in
@@ -161,22 +161,22 @@ module _ (hosts : List (List ℕ)) (tests : Tests) (W : Type 0) (Keeps : W → M
   E = (e : Expr) × (passes hosts tests e ≡ true → ExprKeeps (lowering hosts e))
 
   abbrev L : Type 0
-  L = (l : Link) × (passes_link hosts tests l ≡ true → LinkKeeps (lowering_of_link hosts l))
+  L = (l : Segment) × (passes_segment hosts tests l ≡ true → SegmentKeeps (lowering_of_segment hosts l))
 
   abbrev lowered : List E → List Lowering
   lowered es = map (lowering hosts) (map (λ (e : E). e.0) es)
 
-  abbrev linked : List L → List LinkLowering
-  linked ls = map (lowering_of_link hosts) (map (λ (l : L). l.0) ls)
+  abbrev appended : List L → List SegmentLowering
+  appended ls = map (lowering_of_segment hosts) (map (λ (l : L). l.0) ls)
 
-  chain_makes : (ls : List L) → all_true (map (passes_link hosts tests) (map (λ (l : L). l.0) ls)) ≡ true → LinkKeeps (chain_made (linked ls))
+  chain_makes : (ls : List L) → all_true (map (passes_segment hosts tests) (map (λ (l : L). l.0) ls)) ≡ true → SegmentKeeps (chain_made (appended ls))
   chain_makes [] ok is h names here w x m shown at = (laws.none w m, at)
   chain_makes (l ∷ ls) ok is h names here w x m shown at =
-      let p = lowering_of_link hosts l.0 is names here x m in
-      let rest = all_true (map (passes_link hosts tests) (map (λ (l : L). l.0) ls)) in
-      let one = l.1 (left (passes_link hosts tests l.0) rest ok) is h names here w x m shown at in
-      then_makes w m p.1 (chain_made (linked ls) is names here p.0 p.1) one.0
-      (chain_makes ls (right (passes_link hosts tests l.0) rest ok) is h names here w p.0 p.1 (shown_stay w m p.1 names one.0 shown) one.1)
+      let p = lowering_of_segment hosts l.0 is names here x m in
+      let rest = all_true (map (passes_segment hosts tests) (map (λ (l : L). l.0) ls)) in
+      let one = l.1 (left (passes_segment hosts tests l.0) rest ok) is h names here w x m shown at in
+      then_makes w m p.1 (chain_made (appended ls) is names here p.0 p.1) one.0
+      (chain_makes ls (right (passes_segment hosts tests l.0) rest ok) is h names here w p.0 p.1 (shown_stay w m p.1 names one.0 shown) one.1)
 
   -- operands
   abbrev AllMake : W → Made → List ℕ × Made → Type 0
@@ -199,18 +199,18 @@ module _ (hosts : List (List ℕ)) (tests : Tests) (W : Type 0) (Keeps : W → M
   operation_makes : (o : Op) (kind : Kind) (here : Here) (w : W) (m : Made) (p : List ℕ × Made) → nat_eq (length (map slot p.0)) (arity o) ≡ true → op_passes tests o ≡ true → AllMake w m p → Makes w m (operation_made o kind here p)
   operation_makes o kind here w m p fits ok a = then_makes w m p.1 (operation_made o kind here p) a.0 (emit_makes w p.1 here kind (Apply o (map slot p.0)) (fits, ok, all_slots w p.1 p.0 a.1))
 
-  abbrev expr_layer : Expr-F E L → Expr-F Expr Link
-  expr_layer = map-Expr E L Expr Link (λ e. e.0) (λ l. l.0)
+  abbrev expr_layer : Expr-F E L → Expr-F Expr Segment
+  expr_layer = map-Expr E L Expr Segment (λ e. e.0) (λ l. l.0)
 
-  abbrev link_layer : Link-F E L → Link-F Expr Link
-  link_layer = map-Link E L Expr Link (λ e. e.0) (λ l. l.0)
+  abbrev segment_layer : Segment-F E L → Segment-F Expr Segment
+  segment_layer = map-Segment E L Expr Segment (λ e. e.0) (λ l. l.0)
 
   truth_fine : (w : W) (m : Made) (b : Bool) → IsFine tests (At w m) (truth_right b)
   truth_fine w m true = tt
   truth_fine w m false = tt
 
-  step : (y : Expr-F E L) → expr_passes hosts tests (map-Expr Expr Link Bool Bool (passes hosts tests) (passes_link hosts tests) (expr_layer y)) ≡ true
-      → ExprKeeps (expr_lowering hosts (map-Expr Expr Link Lowering LinkLowering (lowering hosts) (lowering_of_link hosts) (expr_layer y)))
+  step : (y : Expr-F E L) → expr_passes hosts tests (map-Expr Expr Segment Bool Bool (passes hosts tests) (passes_segment hosts tests) (expr_layer y)) ≡ true
+      → ExprKeeps (expr_lowering hosts (map-Expr Expr Segment Lowering SegmentLowering (lowering hosts) (lowering_of_segment hosts) (expr_layer y)))
   step (Expr-F.Number n) ok is h names here w m shown = emit_makes w m here Word (Lit n) tt
   step (Expr-F.Truth b) ok is h names here w m shown = emit_makes w m here Truth (truth_right b) (truth_fine w m b)
   step (Expr-F.Value x) ok is h names here w m shown = name_makes (at_name names x.name) here w m (λ p e. at_shown w m names x.name p shown e)
@@ -256,33 +256,33 @@ module _ (hosts : List (List ℕ)) (tests : Tests) (W : Type 0) (Keeps : W → M
       then_makes w m p.1 (prefixes_made signs here p.0 p.1) one.0 (prefixes_make signs here w p.0 p.1 one.1)
   step (Expr-F.Chain x ls) ok is h names here w m shown =
       let p = (lowering hosts x.0).run is names here m in
-      let rest = all_true (map (passes_link hosts tests) (map (λ (l : L). l.0) ls)) in
+      let rest = all_true (map (passes_segment hosts tests) (map (λ (l : L). l.0) ls)) in
       let one = x.1 (left (passes hosts tests x.0) rest ok) is h names here w m shown in
-      then_makes w m p.1 (chain_made (linked ls) is names here p.0 p.1) one.0
+      then_makes w m p.1 (chain_made (appended ls) is names here p.0 p.1) one.0
       (chain_makes ls (right (passes hosts tests x.0) rest ok) is h names here w p.0 p.1 (shown_stay w m p.1 names one.0 shown) one.1)
   step (Expr-F.Brackets x) ok is h names here w m shown = x.1 ok is h names here w m shown
 
-  link_step : (y : Link-F E L) → link_passes tests (map-Link Expr Link Bool Bool (passes hosts tests) (passes_link hosts tests) (link_layer y)) ≡ true
-      → LinkKeeps (link_lowering (map-Link Expr Link Lowering LinkLowering (lowering hosts) (lowering_of_link hosts) (link_layer y)))
-  link_step (Link-F.Infix o at r) ok is h names here w x m shown known = infix_makes (scale_of o (lowering hosts r.0).bare) o (lowering hosts r.0) (r.1 ok) is h names here w x m shown known
-  link_step (Link-F.Shift towards at bits) ok is h names here w x m shown known = emit_makes w m here Word (Apply (shift_op towards bits) (slot x ∷ [])) (shift_fine w m towards bits x ok known)
+  segment_step : (y : Segment-F E L) → segment_passes tests (map-Segment Expr Segment Bool Bool (passes hosts tests) (passes_segment hosts tests) (segment_layer y)) ≡ true
+      → SegmentKeeps (segment_lowering (map-Segment Expr Segment Lowering SegmentLowering (lowering hosts) (lowering_of_segment hosts) (segment_layer y)))
+  segment_step (Segment-F.Infix o at r) ok is h names here w x m shown known = infix_makes (scale_of o (lowering hosts r.0).bare) o (lowering hosts r.0) (r.1 ok) is h names here w x m shown known
+  segment_step (Segment-F.Shift towards at bits) ok is h names here w x m shown known = emit_makes w m here Word (Apply (shift_op towards bits) (slot x ∷ [])) (shift_fine w m towards bits x ok known)
 
   at_roll : (y : Expr-F E L) → passes hosts tests (roll-Expr (expr_layer y)) ≡ true → ExprKeeps (lowering hosts (roll-Expr (expr_layer y)))
   at_roll y = subst₂ (λ (b : Bool) (l : Lowering). b ≡ true → ExprKeeps l)
-      (sym (fold-roll-Expr Bool Bool (expr_passes hosts tests) (link_passes tests) (expr_layer y)))
-      (sym (fold-roll-Expr Lowering LinkLowering (expr_lowering hosts) link_lowering (expr_layer y))) (step y)
+      (sym (fold-roll-Expr Bool Bool (expr_passes hosts tests) (segment_passes tests) (expr_layer y)))
+      (sym (fold-roll-Expr Lowering SegmentLowering (expr_lowering hosts) segment_lowering (expr_layer y))) (step y)
 
-  at_link_roll : (y : Link-F E L) → passes_link hosts tests (roll-Link (link_layer y)) ≡ true → LinkKeeps (lowering_of_link hosts (roll-Link (link_layer y)))
-  at_link_roll y = subst₂ (λ (b : Bool) (l : LinkLowering). b ≡ true → LinkKeeps l)
-      (sym (fold-roll-Link Bool Bool (expr_passes hosts tests) (link_passes tests) (link_layer y)))
-      (sym (fold-roll-Link Lowering LinkLowering (expr_lowering hosts) link_lowering (link_layer y))) (link_step y)
+  at_segment_roll : (y : Segment-F E L) → passes_segment hosts tests (roll-Segment (segment_layer y)) ≡ true → SegmentKeeps (lowering_of_segment hosts (roll-Segment (segment_layer y)))
+  at_segment_roll y = subst₂ (λ (b : Bool) (l : SegmentLowering). b ≡ true → SegmentKeeps l)
+      (sym (fold-roll-Segment Bool Bool (expr_passes hosts tests) (segment_passes tests) (segment_layer y)))
+      (sym (fold-roll-Segment Lowering SegmentLowering (expr_lowering hosts) segment_lowering (segment_layer y))) (segment_step y)
 
   pub expr_keeps : (e : Expr) → passes hosts tests e ≡ true → ExprKeeps (lowering hosts e)
-  expr_keeps = ind-Expr (λ e. passes hosts tests e ≡ true → ExprKeeps (lowering hosts e)) (λ l. passes_link hosts tests l ≡ true → LinkKeeps (lowering_of_link hosts l))
+  expr_keeps = ind-Expr (λ e. passes hosts tests e ≡ true → ExprKeeps (lowering hosts e)) (λ l. passes_segment hosts tests l ≡ true → SegmentKeeps (lowering_of_segment hosts l))
       (λ x y is. subst (λ z. passes hosts tests (roll-Expr z) ≡ true → ExprKeeps (lowering hosts (roll-Expr z))) is (at_roll y))
-      (λ x y is. subst (λ z. passes_link hosts tests (roll-Link z) ≡ true → LinkKeeps (lowering_of_link hosts (roll-Link z))) is (at_link_roll y))
+      (λ x y is. subst (λ z. passes_segment hosts tests (roll-Segment z) ≡ true → SegmentKeeps (lowering_of_segment hosts (roll-Segment z))) is (at_segment_roll y))
 
-  pub link_keeps : (l : Link) → passes_link hosts tests l ≡ true → LinkKeeps (lowering_of_link hosts l)
-  link_keeps = ind-Link (λ e. passes hosts tests e ≡ true → ExprKeeps (lowering hosts e)) (λ l. passes_link hosts tests l ≡ true → LinkKeeps (lowering_of_link hosts l))
+  pub segment_keeps : (l : Segment) → passes_segment hosts tests l ≡ true → SegmentKeeps (lowering_of_segment hosts l)
+  segment_keeps = ind-Segment (λ e. passes hosts tests e ≡ true → ExprKeeps (lowering hosts e)) (λ l. passes_segment hosts tests l ≡ true → SegmentKeeps (lowering_of_segment hosts l))
       (λ x y is. subst (λ z. passes hosts tests (roll-Expr z) ≡ true → ExprKeeps (lowering hosts (roll-Expr z))) is (at_roll y))
-      (λ x y is. subst (λ z. passes_link hosts tests (roll-Link z) ≡ true → LinkKeeps (lowering_of_link hosts (roll-Link z))) is (at_link_roll y))
+      (λ x y is. subst (λ z. passes_segment hosts tests (roll-Segment z) ≡ true → SegmentKeeps (lowering_of_segment hosts (roll-Segment z))) is (at_segment_roll y))

@@ -5,19 +5,19 @@ use Rattle.vd_core.specs.declared.normal.Stmt.{Stmt, Let, NewVar, NewArray, Stor
 use Rattle.vd_core.specs.declared.normal.Right.TheVariants.{Turn}
 use Rattle.vd_core.specs.declared.normal.Slot.{Slot}
 use Rattle.vd_core.specs.declared.source.Expr.{Expr}
-use Rattle.vd_core.specs.declared.source.Link.{Link}
+use Rattle.vd_core.specs.declared.source.Segment.{Segment}
 use Rattle.vd_core.specs.declared.source.Statement.{Statement}
 use Rattle.vd_core.specs.declared.source.Function.{Function}
 use Rattle.vd_core.specs.declared.source.Source.{Source}
 use Rattle.vd_core.specs.Facts.{count_of, statement_count}
 use Rattle.vd_anf.specs.declared.here.Here.{Here}
 use Rattle.vd_anf.specs.declared.spot.Spot.{Spot}
-use Rattle.vd_anf.specs.Normal.{Made, slot, with_slot, with_stmt, emptied, for_made, lowering, lowering_of_link, chain_made, all_made, call_made, lowering_of, statements_made, inlinings_of, Place, main_made}
+use Rattle.vd_anf.specs.Normal.{Made, slot, with_slot, with_stmt, emptied, for_made, lowering, lowering_of_segment, chain_made, all_made, call_made, lowering_of, statements_made, inlinings_of, Place, main_made}
 use Rattle.vd_anf_wellformed.proofs.Laws.{with_if, block_more, turned, Laws}
 use Rattle.vd_anf_wellformed.proofs.Counts.{count_push, let_one, var_one, array_is, store_one, put_one, output_one, if_is, for_is}
-use Rattle.vd_anf_wellformed.proofs.ExprWalk.{Bindings, Shown, Calls, at_calls, call_makes, expr_keeps, link_keeps}
+use Rattle.vd_anf_wellformed.proofs.ExprWalk.{Bindings, Shown, Calls, at_calls, call_makes, expr_keeps, segment_keeps}
 use Rattle.vd_anf_wellformed.proofs.Walk.{statement_keeps, all_calls, main_keeps}
-use Rattle.vd_anf_wellformed.proofs.Plain.{always, source_always, expr_always, link_always, statement_always, functions_always}
+use Rattle.vd_anf_wellformed.proofs.Plain.{always, source_always, expr_always, segment_always, statement_always, functions_always}
 
 -- slots and blocks together
 abbrev pub size : Made → ℕ
@@ -118,17 +118,17 @@ module _ (hosts : List (List ℕ)) where
     pub expr_more : (e : Expr) (names : Named Spot) (here : Here) (m : Made) → size m ≤ size ((lowering hosts e).run (inlinings_of hosts functions) names here m).1
     expr_more e names here m = (expr_keeps hosts always W Keeps Here' inside laws e (expr_always hosts e) (inlinings_of hosts functions) kept names here tt m (shown m names)).0.more
 
-    link_more : (l : Link) (names : Named Spot) (here : Here) (x : ℕ) (m : Made) → size m ≤ size (lowering_of_link hosts l (inlinings_of hosts functions) names here x m).1
-    link_more l names here x m = (link_keeps hosts always W Keeps Here' inside laws l (link_always hosts l) (inlinings_of hosts functions) kept names here tt x m (shown m names) tt).0.more
+    segment_more : (l : Segment) (names : Named Spot) (here : Here) (x : ℕ) (m : Made) → size m ≤ size (lowering_of_segment hosts l (inlinings_of hosts functions) names here x m).1
+    segment_more l names here x m = (segment_keeps hosts always W Keeps Here' inside laws l (segment_always hosts l) (inlinings_of hosts functions) kept names here tt x m (shown m names) tt).0.more
 
     statement_more : (s : Statement) (block : ℕ) (p : Place) → size p.made ≤ size (lowering_of hosts s (inlinings_of hosts functions) block p).made
     statement_more s block p = (statement_keeps hosts always W Keeps Here' inside laws s (statement_always hosts s) (inlinings_of hosts functions) kept block tt p (shown p.made p.names)).0.more
 
-    pub chain_more : (ls : List Link) (names : Named Spot) (here : Here) (x : ℕ) (m : Made) → size m ≤ size (chain_made (map (lowering_of_link hosts) ls) (inlinings_of hosts functions) names here x m).1
+    pub chain_more : (ls : List Segment) (names : Named Spot) (here : Here) (x : ℕ) (m : Made) → size m ≤ size (chain_made (map (lowering_of_segment hosts) ls) (inlinings_of hosts functions) names here x m).1
     chain_more [] names here x m = omega arith
     chain_more (l ∷ ls) names here x m =
-        let p = lowering_of_link hosts l (inlinings_of hosts functions) names here x m in
-        let one = link_more l names here x m in
+        let p = lowering_of_segment hosts l (inlinings_of hosts functions) names here x m in
+        let one = segment_more l names here x m in
         let rest = chain_more ls names here p.0 p.1 in
         omega arith
 

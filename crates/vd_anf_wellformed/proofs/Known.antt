@@ -7,11 +7,11 @@ use Rattle.vd_base.specs.Names.{Named, at_name, place_of, is_among}
 use Rattle.vd_core.specs.declared.source.Ident.{Ident}
 use Rattle.vd_core.specs.declared.source.WrittenLabel.{WrittenLabel}
 use Rattle.vd_core.specs.declared.source.WrittenForm.{WrittenForm}
-use Rattle.vd_core.specs.declared.source.Link.{Link}
+use Rattle.vd_core.specs.declared.source.Segment.{Segment}
 use Rattle.vd_core.specs.declared.source.Expr.{Expr, roll-Expr}
-use Rattle.vd_core.specs.declared.source.Expr.TheOpen.{Expr-F, Link-F}
-use Rattle.vd_core.specs.declared.source.Expr.TheFolds.{map-Expr, map-Link, ind-Expr, fold-roll-Expr, fold-roll-Link}
-use Rattle.vd_core.specs.declared.source.Expr.TheViews.{roll-Link}
+use Rattle.vd_core.specs.declared.source.Expr.TheOpen.{Expr-F, Segment-F}
+use Rattle.vd_core.specs.declared.source.Expr.TheFolds.{map-Expr, map-Segment, ind-Expr, fold-roll-Expr, fold-roll-Segment}
+use Rattle.vd_core.specs.declared.source.Expr.TheViews.{roll-Segment}
 use Rattle.vd_core.specs.declared.source.Statement.{Statement, roll-Statement, map-Statement, ind-Statement}
 use Rattle.vd_core.specs.declared.source.Statement.TheOpen.{Statement-F}
 use Rattle.vd_core.specs.declared.source.Statement.TheFolds.{fold-roll-Statement}
@@ -22,8 +22,8 @@ use Rattle.vd_resolve.specs.Faults as fault
 use Rattle.vd_resolve.specs.declared.symbol.Symbol.{Symbol}
 use Rattle.vd_resolve.specs.declared.symbol.Symbol.TheVariants.{Constant, Variable, Array}
 use Rattle.vd_resolve.specs.declared.symbol.Signature.{Signature}
-use Rattle.vd_resolve.specs.Rules.{Names, Scope, and_then, kind_or, of_words, mux_kind, shift_kind, infix_kind, element_kind, call_kind, declared, is_new, known, form_check, label_check, written_label_check, Typing, LinkTyping, typings, chain_typing, signs_typing, expr_typing, link_typing, typing, typing_of_link, Checking, is_stored, is_put, in_sequence, block_check, is_kind, statement_check, checking, parameters_check, signature_of, function_names, function_check, functions_check, bodies_check}
-use Rattle.vd_anf_wellformed.proofs.Tests.{Tests, all_true, label_passes, expr_passes, link_passes, passes, passes_link, statement_passes, passes_statement, passes_function, functions_pass}
+use Rattle.vd_resolve.specs.Rules.{Names, Scope, and_then, kind_or, of_words, mux_kind, shift_kind, infix_kind, element_kind, call_kind, declared, is_new, known, form_check, label_check, written_label_check, Typing, SegmentTyping, typings, chain_typing, signs_typing, expr_typing, segment_typing, typing, typing_of_segment, Checking, is_stored, is_put, in_sequence, block_check, is_kind, statement_check, checking, parameters_check, signature_of, function_names, function_check, functions_check, bodies_check}
+use Rattle.vd_anf_wellformed.proofs.Tests.{Tests, all_true, label_passes, expr_passes, segment_passes, passes, passes_segment, statement_passes, passes_statement, passes_function, functions_pass}
 use Rattle.vd_anf_wellformed.proofs.Steps.{passed, known_is, err_is}
 use Rattle.vd_anf_wellformed.proofs.Distinct.{tagged, place_below}
 use Rattle.vd_anf_wellformed.proofs.Forms.{form_declared, label_declared}
@@ -66,14 +66,14 @@ module _ (principals hosts : List (List ℕ)) where
   abbrev IsKnown : Typing → Bool → Type 0
   IsKnown t b = (scope : Scope) → IsIn scope → (env : Named Symbol) (kind : Kind) → t scope env ≡ Ok kind → b ≡ true
 
-  abbrev IsLinkKnown : LinkTyping → Bool → Type 0
-  IsLinkKnown t b = (scope : Scope) → IsIn scope → (env : Named Symbol) (left kind : Kind) → t scope env left ≡ Ok kind → b ≡ true
+  abbrev IsSegmentKnown : SegmentTyping → Bool → Type 0
+  IsSegmentKnown t b = (scope : Scope) → IsIn scope → (env : Named Symbol) (left kind : Kind) → t scope env left ≡ Ok kind → b ≡ true
 
   abbrev E : Type 0
   E = (e : Expr) × IsKnown (typing e) (passes hosts tests e)
 
   abbrev L : Type 0
-  L = (l : Link) × IsLinkKnown (typing_of_link l) (passes_link hosts tests l)
+  L = (l : Segment) × IsSegmentKnown (typing_of_segment l) (passes_segment hosts tests l)
 
   abbrev typed : List E → List Typing
   typed es = map typing (map (λ (e : E). e.0) es)
@@ -85,21 +85,21 @@ module _ (principals hosts : List (List ℕ)) where
       let s = passed (typing e.0 scope env) (λ kind. typings (before ++ kind ∷ []) (typed es) scope env) kinds p in
       rw (e.1 scope i env s.0 s.1, all_typed es scope i env (before ++ s.0 ∷ []) kinds s.2) refl
 
-  all_linked : (ls : List L) (scope : Scope) → IsIn scope → (env : Named Symbol) (left kind : Kind) → chain_typing (map typing_of_link (map (λ (l : L). l.0) ls)) scope env left ≡ Ok kind
-      → all_true (map (passes_link hosts tests) (map (λ (l : L). l.0) ls)) ≡ true
-  all_linked [] scope i env left kind p = refl
-  all_linked (l ∷ ls) scope i env left kind p =
-      let s = passed (typing_of_link l.0 scope env left) (λ next. chain_typing (map typing_of_link (map (λ (l : L). l.0) ls)) scope env next) kind p in
-      rw (l.1 scope i env left s.0 s.1, all_linked ls scope i env s.0 kind s.2) refl
+  all_segments : (ls : List L) (scope : Scope) → IsIn scope → (env : Named Symbol) (left kind : Kind) → chain_typing (map typing_of_segment (map (λ (l : L). l.0) ls)) scope env left ≡ Ok kind
+      → all_true (map (passes_segment hosts tests) (map (λ (l : L). l.0) ls)) ≡ true
+  all_segments [] scope i env left kind p = refl
+  all_segments (l ∷ ls) scope i env left kind p =
+      let s = passed (typing_of_segment l.0 scope env left) (λ next. chain_typing (map typing_of_segment (map (λ (l : L). l.0) ls)) scope env next) kind p in
+      rw (l.1 scope i env left s.0 s.1, all_segments ls scope i env s.0 kind s.2) refl
 
-  abbrev expr_layer : Expr-F E L → Expr-F Expr Link
-  expr_layer = map-Expr E L Expr Link (λ e. e.0) (λ l. l.0)
+  abbrev expr_layer : Expr-F E L → Expr-F Expr Segment
+  expr_layer = map-Expr E L Expr Segment (λ e. e.0) (λ l. l.0)
 
-  abbrev link_layer : Link-F E L → Link-F Expr Link
-  link_layer = map-Link E L Expr Link (λ e. e.0) (λ l. l.0)
+  abbrev segment_layer : Segment-F E L → Segment-F Expr Segment
+  segment_layer = map-Segment E L Expr Segment (λ e. e.0) (λ l. l.0)
 
-  step : (y : Expr-F E L) → IsKnown (expr_typing (map-Expr Expr Link Typing LinkTyping typing typing_of_link (expr_layer y)))
-      (expr_passes hosts tests (map-Expr Expr Link Bool Bool (passes hosts tests) (passes_link hosts tests) (expr_layer y)))
+  step : (y : Expr-F E L) → IsKnown (expr_typing (map-Expr Expr Segment Typing SegmentTyping typing typing_of_segment (expr_layer y)))
+      (expr_passes hosts tests (map-Expr Expr Segment Bool Bool (passes hosts tests) (passes_segment hosts tests) (expr_layer y)))
   step (Expr-F.Number n) scope i env kind p = refl
   step (Expr-F.Truth b) scope i env kind p = refl
   step (Expr-F.Value x) scope i env kind p = refl
@@ -137,27 +137,27 @@ module _ (principals hosts : List (List ℕ)) where
       let s = passed (typing x.0 scope env) (λ given. signs_typing signs given) kind p in
       x.1 scope i env s.0 s.1
   step (Expr-F.Chain x ls) scope i env kind p =
-      let s = passed (typing x.0 scope env) (λ given. chain_typing (map typing_of_link (map (λ (l : L). l.0) ls)) scope env given) kind p in
-      rw (x.1 scope i env s.0 s.1, all_linked ls scope i env s.0 kind s.2) refl
+      let s = passed (typing x.0 scope env) (λ given. chain_typing (map typing_of_segment (map (λ (l : L). l.0) ls)) scope env given) kind p in
+      rw (x.1 scope i env s.0 s.1, all_segments ls scope i env s.0 kind s.2) refl
   step (Expr-F.Brackets x) scope i env kind p = x.1 scope i env kind p
 
-  link_step : (y : Link-F E L) → IsLinkKnown (link_typing (map-Link Expr Link Typing LinkTyping typing typing_of_link (link_layer y)))
-      (link_passes tests (map-Link Expr Link Bool Bool (passes hosts tests) (passes_link hosts tests) (link_layer y)))
-  link_step (Link-F.Infix o at r) scope i env left kind p =
+  segment_step : (y : Segment-F E L) → IsSegmentKnown (segment_typing (map-Segment Expr Segment Typing SegmentTyping typing typing_of_segment (segment_layer y)))
+      (segment_passes tests (map-Segment Expr Segment Bool Bool (passes hosts tests) (passes_segment hosts tests) (segment_layer y)))
+  segment_step (Segment-F.Infix o at r) scope i env left kind p =
       let s = passed (typing r.0 scope env) (λ given. kind_or at (infix_kind o left given)) kind p in
       r.1 scope i env s.0 s.1
-  link_step (Link-F.Shift towards at bits) scope i env left kind p = shift_is at left bits kind p
+  segment_step (Segment-F.Shift towards at bits) scope i env left kind p = shift_is at left bits kind p
 
   at_roll : (y : Expr-F E L) → IsKnown (typing (roll-Expr (expr_layer y))) (passes hosts tests (roll-Expr (expr_layer y)))
-  at_roll y = subst₂ IsKnown (sym (fold-roll-Expr Typing LinkTyping expr_typing link_typing (expr_layer y))) (sym (fold-roll-Expr Bool Bool (expr_passes hosts tests) (link_passes tests) (expr_layer y))) (step y)
+  at_roll y = subst₂ IsKnown (sym (fold-roll-Expr Typing SegmentTyping expr_typing segment_typing (expr_layer y))) (sym (fold-roll-Expr Bool Bool (expr_passes hosts tests) (segment_passes tests) (expr_layer y))) (step y)
 
-  at_link_roll : (y : Link-F E L) → IsLinkKnown (typing_of_link (roll-Link (link_layer y))) (passes_link hosts tests (roll-Link (link_layer y)))
-  at_link_roll y = subst₂ IsLinkKnown (sym (fold-roll-Link Typing LinkTyping expr_typing link_typing (link_layer y))) (sym (fold-roll-Link Bool Bool (expr_passes hosts tests) (link_passes tests) (link_layer y))) (link_step y)
+  at_segment_roll : (y : Segment-F E L) → IsSegmentKnown (typing_of_segment (roll-Segment (segment_layer y))) (passes_segment hosts tests (roll-Segment (segment_layer y)))
+  at_segment_roll y = subst₂ IsSegmentKnown (sym (fold-roll-Segment Typing SegmentTyping expr_typing segment_typing (segment_layer y))) (sym (fold-roll-Segment Bool Bool (expr_passes hosts tests) (segment_passes tests) (segment_layer y))) (segment_step y)
 
   expr_known : (e : Expr) → IsKnown (typing e) (passes hosts tests e)
-  expr_known = ind-Expr (λ e. IsKnown (typing e) (passes hosts tests e)) (λ l. IsLinkKnown (typing_of_link l) (passes_link hosts tests l))
+  expr_known = ind-Expr (λ e. IsKnown (typing e) (passes hosts tests e)) (λ l. IsSegmentKnown (typing_of_segment l) (passes_segment hosts tests l))
       (λ x y is. subst (λ z. IsKnown (typing (roll-Expr z)) (passes hosts tests (roll-Expr z))) is (at_roll y))
-      (λ x y is. subst (λ z. IsLinkKnown (typing_of_link (roll-Link z)) (passes_link hosts tests (roll-Link z))) is (at_link_roll y))
+      (λ x y is. subst (λ z. IsSegmentKnown (typing_of_segment (roll-Segment z)) (passes_segment hosts tests (roll-Segment z))) is (at_segment_roll y))
 
   abbrev IsChecked : Checking → Bool → Type 0
   IsChecked c b = (scope : Scope) → IsIn scope → (env after : Named Symbol) → c scope env ≡ Ok after → b ≡ true

@@ -1,10 +1,10 @@
 -- Every source passes tests that are always true.
 use Rattle.std.proofs.Common.{◌≡◌, Bool, true, List, [], ◌∷◌, map, Option, Some, None, refl, sym, subst, ℕ}
-use Rattle.vd_core.specs.declared.source.Link.{Link}
+use Rattle.vd_core.specs.declared.source.Segment.{Segment}
 use Rattle.vd_core.specs.declared.source.Expr.{Expr, roll-Expr}
-use Rattle.vd_core.specs.declared.source.Expr.TheOpen.{Expr-F, Link-F}
-use Rattle.vd_core.specs.declared.source.Expr.TheFolds.{map-Expr, map-Link, ind-Expr, ind-Link, fold-roll-Expr, fold-roll-Link}
-use Rattle.vd_core.specs.declared.source.Expr.TheViews.{roll-Link}
+use Rattle.vd_core.specs.declared.source.Expr.TheOpen.{Expr-F, Segment-F}
+use Rattle.vd_core.specs.declared.source.Expr.TheFolds.{map-Expr, map-Segment, ind-Expr, ind-Segment, fold-roll-Expr, fold-roll-Segment}
+use Rattle.vd_core.specs.declared.source.Expr.TheViews.{roll-Segment}
 use Rattle.vd_core.specs.declared.source.WrittenLabel.{WrittenLabel}
 use Rattle.vd_core.specs.declared.source.Statement.{Statement, roll-Statement, map-Statement, ind-Statement}
 use Rattle.vd_core.specs.declared.source.Statement.TheOpen.{Statement-F}
@@ -12,7 +12,7 @@ use Rattle.vd_core.specs.declared.source.Statement.TheFolds.{fold-roll-Statement
 use Rattle.vd_core.specs.declared.source.Function.{Function}
 use Rattle.vd_core.specs.declared.source.Source.{Source}
 use Rattle.vd_semantics.specs.SourceMeaning.{host_names}
-use Rattle.vd_anf_wellformed.proofs.Tests.{Tests, all_true, label_passes, expr_passes, link_passes, passes, passes_link, statement_passes, passes_statement, functions_pass}
+use Rattle.vd_anf_wellformed.proofs.Tests.{Tests, all_true, label_passes, expr_passes, segment_passes, passes, passes_segment, statement_passes, passes_statement, functions_pass}
 use Rattle.vd_anf_wellformed.proofs.Walk.{source_passes}
 
 abbrev pub always : Tests
@@ -27,23 +27,23 @@ module _ (hosts : List (List ℕ)) where
   E = (e : Expr) × (passes hosts always e ≡ true)
 
   abbrev L : Type 0
-  L = (l : Link) × (passes_link hosts always l ≡ true)
+  L = (l : Segment) × (passes_segment hosts always l ≡ true)
 
   exprs : (es : List E) → all_true (map (passes hosts always) (map (λ (e : E). e.0) es)) ≡ true
   exprs [] = refl
   exprs (e ∷ es) = rw (e.1, exprs es) refl
 
-  links : (ls : List L) → all_true (map (passes_link hosts always) (map (λ (l : L). l.0) ls)) ≡ true
-  links [] = refl
-  links (l ∷ ls) = rw (l.1, links ls) refl
+  segments : (ls : List L) → all_true (map (passes_segment hosts always) (map (λ (l : L). l.0) ls)) ≡ true
+  segments [] = refl
+  segments (l ∷ ls) = rw (l.1, segments ls) refl
 
-  abbrev expr_layer : Expr-F E L → Expr-F Expr Link
-  expr_layer = map-Expr E L Expr Link (λ e. e.0) (λ l. l.0)
+  abbrev expr_layer : Expr-F E L → Expr-F Expr Segment
+  expr_layer = map-Expr E L Expr Segment (λ e. e.0) (λ l. l.0)
 
-  abbrev link_layer : Link-F E L → Link-F Expr Link
-  link_layer = map-Link E L Expr Link (λ e. e.0) (λ l. l.0)
+  abbrev segment_layer : Segment-F E L → Segment-F Expr Segment
+  segment_layer = map-Segment E L Expr Segment (λ e. e.0) (λ l. l.0)
 
-  step : (y : Expr-F E L) → expr_passes hosts always (map-Expr Expr Link Bool Bool (passes hosts always) (passes_link hosts always) (expr_layer y)) ≡ true
+  step : (y : Expr-F E L) → expr_passes hosts always (map-Expr Expr Segment Bool Bool (passes hosts always) (passes_segment hosts always) (expr_layer y)) ≡ true
   step (Expr-F.Number n) = refl
   step (Expr-F.Truth b) = refl
   step (Expr-F.Value x) = refl
@@ -56,28 +56,28 @@ module _ (hosts : List (List ℕ)) where
   step (Expr-F.Declassify x to) = rw x.1 refl
   step (Expr-F.Endorse x to) = rw x.1 refl
   step (Expr-F.Unary x signs) = x.1
-  step (Expr-F.Chain x ls) = rw (x.1, links ls) refl
+  step (Expr-F.Chain x ls) = rw (x.1, segments ls) refl
   step (Expr-F.Brackets x) = x.1
 
-  link_step : (y : Link-F E L) → link_passes always (map-Link Expr Link Bool Bool (passes hosts always) (passes_link hosts always) (link_layer y)) ≡ true
-  link_step (Link-F.Infix o at r) = r.1
-  link_step (Link-F.Shift towards at bits) = refl
+  segment_step : (y : Segment-F E L) → segment_passes always (map-Segment Expr Segment Bool Bool (passes hosts always) (passes_segment hosts always) (segment_layer y)) ≡ true
+  segment_step (Segment-F.Infix o at r) = r.1
+  segment_step (Segment-F.Shift towards at bits) = refl
 
   at_roll : (y : Expr-F E L) → passes hosts always (roll-Expr (expr_layer y)) ≡ true
-  at_roll y = subst (λ (b : Bool). b ≡ true) (sym (fold-roll-Expr Bool Bool (expr_passes hosts always) (link_passes always) (expr_layer y))) (step y)
+  at_roll y = subst (λ (b : Bool). b ≡ true) (sym (fold-roll-Expr Bool Bool (expr_passes hosts always) (segment_passes always) (expr_layer y))) (step y)
 
-  at_link_roll : (y : Link-F E L) → passes_link hosts always (roll-Link (link_layer y)) ≡ true
-  at_link_roll y = subst (λ (b : Bool). b ≡ true) (sym (fold-roll-Link Bool Bool (expr_passes hosts always) (link_passes always) (link_layer y))) (link_step y)
+  at_segment_roll : (y : Segment-F E L) → passes_segment hosts always (roll-Segment (segment_layer y)) ≡ true
+  at_segment_roll y = subst (λ (b : Bool). b ≡ true) (sym (fold-roll-Segment Bool Bool (expr_passes hosts always) (segment_passes always) (segment_layer y))) (segment_step y)
 
   pub expr_always : (e : Expr) → passes hosts always e ≡ true
-  expr_always = ind-Expr (λ e. passes hosts always e ≡ true) (λ l. passes_link hosts always l ≡ true)
+  expr_always = ind-Expr (λ e. passes hosts always e ≡ true) (λ l. passes_segment hosts always l ≡ true)
       (λ x y is. subst (λ z. passes hosts always (roll-Expr z) ≡ true) is (at_roll y))
-      (λ x y is. subst (λ z. passes_link hosts always (roll-Link z) ≡ true) is (at_link_roll y))
+      (λ x y is. subst (λ z. passes_segment hosts always (roll-Segment z) ≡ true) is (at_segment_roll y))
 
-  pub link_always : (l : Link) → passes_link hosts always l ≡ true
-  link_always = ind-Link (λ e. passes hosts always e ≡ true) (λ l. passes_link hosts always l ≡ true)
+  pub segment_always : (l : Segment) → passes_segment hosts always l ≡ true
+  segment_always = ind-Segment (λ e. passes hosts always e ≡ true) (λ l. passes_segment hosts always l ≡ true)
       (λ x y is. subst (λ z. passes hosts always (roll-Expr z) ≡ true) is (at_roll y))
-      (λ x y is. subst (λ z. passes_link hosts always (roll-Link z) ≡ true) is (at_link_roll y))
+      (λ x y is. subst (λ z. passes_segment hosts always (roll-Segment z) ≡ true) is (at_segment_roll y))
 
   abbrev M : Type 0
   M = (s : Statement) × (passes_statement hosts always s ≡ true)

@@ -4,9 +4,9 @@ use Rattle.std.specs.List.{list_all}
 use Rattle.vd_base.specs.declared.form.Form.{Form}
 use Rattle.vd_base.specs.Names.{place_of}
 use Rattle.vd_core.specs.declared.source.Expr.{Expr}
-use Rattle.vd_core.specs.declared.source.Expr.TheOpen.{Expr-F, Link-F}
-use Rattle.vd_core.specs.declared.source.Expr.TheFolds.{fold-Expr, fold-Link}
-use Rattle.vd_core.specs.declared.source.Link.{Link}
+use Rattle.vd_core.specs.declared.source.Expr.TheOpen.{Expr-F, Segment-F}
+use Rattle.vd_core.specs.declared.source.Expr.TheFolds.{fold-Expr, fold-Segment}
+use Rattle.vd_core.specs.declared.source.Segment.{Segment}
 use Rattle.vd_core.specs.declared.source.Statement.{Statement}
 use Rattle.vd_core.specs.declared.source.Statement.TheOpen.{Statement-F}
 use Rattle.vd_core.specs.declared.source.Statement.TheFolds.{fold-Statement}
@@ -40,18 +40,18 @@ expr_passes hosts tests (Expr-F.Mux at x y z) = x && (y && z)
 expr_passes hosts tests (Expr-F.Declassify x to) = x && tests.form (form_of to)
 expr_passes hosts tests (Expr-F.Endorse x to) = x && tests.form (form_of to)
 expr_passes hosts tests (Expr-F.Unary x signs) = x
-expr_passes hosts tests (Expr-F.Chain x links) = x && all_true links
+expr_passes hosts tests (Expr-F.Chain x segments) = x && all_true segments
 expr_passes hosts tests (Expr-F.Brackets x) = x
 
-abbrev pub link_passes : Tests → Link-F Bool Bool → Bool
-link_passes tests (Link-F.Infix o at right) = right
-link_passes tests (Link-F.Shift towards at bits) = tests.shift bits
+abbrev pub segment_passes : Tests → Segment-F Bool Bool → Bool
+segment_passes tests (Segment-F.Infix o at right) = right
+segment_passes tests (Segment-F.Shift towards at bits) = tests.shift bits
 
 abbrev pub passes : List (List ℕ) → Tests → Expr → Bool
-passes hosts tests = fold-Expr Bool Bool (expr_passes hosts tests) (link_passes tests)
+passes hosts tests = fold-Expr Bool Bool (expr_passes hosts tests) (segment_passes tests)
 
-abbrev pub passes_link : List (List ℕ) → Tests → Link → Bool
-passes_link hosts tests = fold-Link Bool Bool (expr_passes hosts tests) (link_passes tests)
+abbrev pub passes_segment : List (List ℕ) → Tests → Segment → Bool
+passes_segment hosts tests = fold-Segment Bool Bool (expr_passes hosts tests) (segment_passes tests)
 
 abbrev pub statement_passes : List (List ℕ) → Tests → Statement-F Bool → Bool
 statement_passes hosts tests (Statement-F.Let at x label value) = passes hosts tests value && label_passes tests label

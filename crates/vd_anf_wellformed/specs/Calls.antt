@@ -3,9 +3,9 @@
 use Rattle.std.specs.Prelude.{ℕ, ◌+◌, List, [], ◌∷◌, map, Option, Some, None}
 use Rattle.vd_base.specs.Names.{Named, at_name}
 use Rattle.vd_core.specs.declared.source.Expr.{Expr}
-use Rattle.vd_core.specs.declared.source.Expr.TheOpen.{Expr-F, Link-F}
-use Rattle.vd_core.specs.declared.source.Expr.TheFolds.{fold-Expr, fold-Link}
-use Rattle.vd_core.specs.declared.source.Link.{Link}
+use Rattle.vd_core.specs.declared.source.Expr.TheOpen.{Expr-F, Segment-F}
+use Rattle.vd_core.specs.declared.source.Expr.TheFolds.{fold-Expr, fold-Segment}
+use Rattle.vd_core.specs.declared.source.Segment.{Segment}
 use Rattle.vd_core.specs.declared.source.Statement.{Statement}
 use Rattle.vd_core.specs.declared.source.Statement.TheOpen.{Statement-F}
 use Rattle.vd_core.specs.declared.source.Statement.TheFolds.{fold-Statement}
@@ -41,18 +41,18 @@ expr_calls (Expr-F.Mux at c x y) inside = c inside + x inside + y inside
 expr_calls (Expr-F.Declassify x to) inside = x inside
 expr_calls (Expr-F.Endorse x to) inside = x inside
 expr_calls (Expr-F.Unary x signs) inside = x inside
-expr_calls (Expr-F.Chain x links) inside = x inside + total links inside
+expr_calls (Expr-F.Chain x segments) inside = x inside + total segments inside
 expr_calls (Expr-F.Brackets x) inside = x inside
 
-abbrev pub link_calls : Link-F Calls Calls → Calls
-link_calls (Link-F.Infix o at right) inside = right inside
-link_calls (Link-F.Shift towards at bits) inside = 0
+abbrev pub segment_calls : Segment-F Calls Calls → Calls
+segment_calls (Segment-F.Infix o at right) inside = right inside
+segment_calls (Segment-F.Shift towards at bits) inside = 0
 
 abbrev pub calls : Expr → Calls
-calls = fold-Expr Calls Calls expr_calls link_calls
+calls = fold-Expr Calls Calls expr_calls segment_calls
 
-abbrev pub calls_of_link : Link → Calls
-calls_of_link = fold-Link Calls Calls expr_calls link_calls
+abbrev pub calls_of_segment : Segment → Calls
+calls_of_segment = fold-Segment Calls Calls expr_calls segment_calls
 
 abbrev pub statement_calls : Statement-F Calls → Calls
 statement_calls (Statement-F.Let at x label value) inside = calls value inside

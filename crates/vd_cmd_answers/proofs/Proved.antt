@@ -10,8 +10,8 @@ use Rattle.vd_bound.specs.declared.checking.Proved.TheVariants.{Empty, Least}
 use Rattle.vd_bound.proofs.Answered.{checked_proves}
 use Rattle.vd_search_certificate.specs.declared.certificate.Certificate.{Certificate}
 use Rattle.vd_space_optimum.specs.Cheapest.{IsValid}
-use Rattle.vd_cost_network.specs.Linked.{linked_tree}
-use Rattle.vd_cost_network.proofs.Bounded.{linked_high_whole, linked_tree_bounded}
+use Rattle.vd_cost_network.specs.Network.{network_tree}
+use Rattle.vd_cost_network.proofs.Bounded.{network_high_whole, network_tree_bounded}
 use Rattle.vd_search_tree.specs.Trees.{IsWhole, Tree}
 use Rattle.vd_search_tree.specs.declared.shift.Shift.{Shift}
 use Rattle.vd_search_stages.specs.Confirming.{confirmed, names_by, tree_by}
@@ -47,11 +47,11 @@ module _ (problem : Problem) (holds : IsProblem problem) where
     costs = λ list v. high_whole problem holds shifts list v.whole v.valid;
   }
 
-  by_links : (shifts : List Shift) → IsTreeFor problem (linked_tree problem shifts)
-  by_links shifts = record {
+  with_arcs : (shifts : List Shift) → IsTreeFor problem (network_tree problem shifts)
+  with_arcs shifts = record {
     whole = λ list v. record { full = v.whole; valid = v.valid };
     valid = λ list w. record { whole = w.full; valid = w.valid };
-    costs = λ list v. linked_high_whole problem holds shifts list v.whole v.valid;
+    costs = λ list v. network_high_whole problem holds shifts list v.whole v.valid;
   }
 
   shown_by : (tree : Tree) (proved : Proved) → IsTreeFor problem tree → Proves tree proved → Shown problem proved
@@ -62,10 +62,10 @@ module _ (problem : Problem) (holds : IsProblem problem) where
 
   -- a certificate that is accepted shows what its yes says
   pub confirmed_shows : (c : Certificate) (proved : Proved) → confirmed problem c ≡ Ok proved → Shown problem proved
-  confirmed_shows c proved is = by c.linked (unshifted (names_by problem c) (tree_by problem c) c proved is)
+  confirmed_shows c proved is = by c.by_arcs (unshifted (names_by problem c) (tree_by problem c) c proved is)
     where
-      by : (linked : Bool) → checked (if linked then linked_tree problem c.shifts else tree_of problem c.shifts) c.cost c.marks ≡ Ok proved → Shown problem proved
+      by : (by_arcs : Bool) → checked (if by_arcs then network_tree problem c.shifts else tree_of problem c.shifts) c.cost c.marks ≡ Ok proved → Shown problem proved
       by true accepted =
-          shown_by (linked_tree problem c.shifts) proved (by_links c.shifts) (checked_proves (linked_tree problem c.shifts) (linked_tree_bounded problem holds c.shifts) c.marks proved c.cost accepted)
+          shown_by (network_tree problem c.shifts) proved (with_arcs c.shifts) (checked_proves (network_tree problem c.shifts) (network_tree_bounded problem holds c.shifts) c.marks proved c.cost accepted)
       by false accepted =
           shown_by (tree_of problem c.shifts) proved (by_uses c.shifts) (checked_proves (tree_of problem c.shifts) (tree_bounded problem holds c.shifts) c.marks proved c.cost accepted)

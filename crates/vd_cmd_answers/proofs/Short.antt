@@ -16,7 +16,7 @@ use Rattle.vd_search_certificate.specs.declared.certificate.Certificate.{Certifi
 use Rattle.vd_search_certificate.specs.declared.certificate.Mark.{Mark}
 use Rattle.vd_search_certificate.specs.declared.certificate.Mark.TheVariants.{Best, Bounded, Expanded, Violated}
 use Rattle.vd_search_certificate.specs.Texts.{CostFits, IsCertificate, IsShift, claim_text, cost_text, heading, letter, marks_text, most_number, shift_text, shifts_text, sign, text_of}
-use Rattle.vd_cost_network.specs.Linked.{linked_tree}
+use Rattle.vd_cost_network.specs.Network.{network_tree}
 use Rattle.vd_search_tree.specs.Trees.{Tree}
 use Rattle.vd_search_tree.specs.declared.shift.Shift.{Shift}
 use Rattle.vd_search_stages.specs.Confirming.{confirmed, names_by, tree_by}
@@ -80,10 +80,10 @@ marks_few_in tree stated marks proved budget few accepted opened low =
 
 pub marks_few : (problem : Problem) (c : Certificate) (proved : Proved) (budget : ℕ) → length (protocols problem) ≤ 42 → confirmed problem c ≡ Ok proved → count_of is_expanded c.marks ≤ budget → budget ≤ most_search_budget
     → length c.marks ≤ 8400001
-marks_few problem c proved budget few is opened low = by c.linked (unshifted (names_by problem c) (tree_by problem c) c proved is)
+marks_few problem c proved budget few is opened low = by c.by_arcs (unshifted (names_by problem c) (tree_by problem c) c proved is)
   where
-    by : (linked : Bool) → checked (if linked then linked_tree problem c.shifts else tree_of problem c.shifts) c.cost c.marks ≡ Ok proved → length c.marks ≤ 8400001
-    by true accepted = marks_few_in (linked_tree problem c.shifts) c.cost c.marks proved budget few accepted opened low
+    by : (by_arcs : Bool) → checked (if by_arcs then network_tree problem c.shifts else tree_of problem c.shifts) c.cost c.marks ≡ Ok proved → length c.marks ≤ 8400001
+    by true accepted = marks_few_in (network_tree problem c.shifts) c.cost c.marks proved budget few accepted opened low
     by false accepted = marks_few_in (tree_of problem c.shifts) c.cost c.marks proved budget few accepted opened low
 
 -- ---- text
@@ -116,7 +116,7 @@ shifts_short (shift ∷ shifts) all = sums _ _ _ _ (ap length (flat_map-cons shi
 cost_short : (number : ℕ) → number ≤ most_number → length (cost_text number) ≤ 16
 cost_short number fits = both_short (codes "cost " ++ decimal number) (codes "\n") 15 1 (both_short (codes "cost ") (decimal number) 5 10 (lit≤ tt) (number_short number fits)) (lit≤ tt)
 
-heading_short : (linked : Bool) → length (heading linked) ≤ 15
+heading_short : (by_arcs : Bool) → length (heading by_arcs) ≤ 15
 heading_short true = lit≤ tt
 heading_short false = lit≤ tt
 
@@ -127,20 +127,20 @@ listed_short shifts all few =
     both_short (codes "shifts " ++ decimal (length shifts) ++ codes "\n") (flat_map shift_text shifts) 18 6029312
     (both_short (codes "shifts " ++ decimal (length shifts)) (codes "\n") 17 1 count (lit≤ tt)) lines
 
-claim_short : (cost : Option ℕ) (linked : Bool) (shifts : List Shift) → CostFits cost → AllByRecursion IsShift shifts → length shifts ≤ 131072 → length (claim_text cost linked shifts) ≤ 6100000
-claim_short None linked shifts fits all few = lit≤ tt
-claim_short (Some number) linked [] fits all few =
+claim_short : (cost : Option ℕ) (by_arcs : Bool) (shifts : List Shift) → CostFits cost → AllByRecursion IsShift shifts → length shifts ≤ 131072 → length (claim_text cost by_arcs shifts) ≤ 6100000
+claim_short None by_arcs shifts fits all few = lit≤ tt
+claim_short (Some number) by_arcs [] fits all few =
     let text = both_short (codes "viaduct-cert 1\n") (cost_text number) 15 16 (lit≤ tt) (cost_short number fits) in
     omega (arith, text)
-claim_short (Some number) linked (shift ∷ shifts) fits all few =
-    let head = both_short (heading linked) (cost_text number) 15 16 (heading_short linked) (cost_short number fits) in
-    let text = both_short (heading linked ++ cost_text number) (shifts_text (shift ∷ shifts)) 31 6029330 head (listed_short (shift ∷ shifts) all few) in
+claim_short (Some number) by_arcs (shift ∷ shifts) fits all few =
+    let head = both_short (heading by_arcs) (cost_text number) 15 16 (heading_short by_arcs) (cost_short number fits) in
+    let text = both_short (heading by_arcs ++ cost_text number) (shifts_text (shift ∷ shifts)) 31 6029330 head (listed_short (shift ∷ shifts) all few) in
     omega (arith, text)
 
 pub text_short : (c : Certificate) → IsCertificate c → length c.marks ≤ 8400001 → length (text_of c) ≤ most_certificate_bytes
 text_short c is few =
-    let claim = claim_short c.cost c.linked c.shifts is.cost is.shifts is.few in
+    let claim = claim_short c.cost c.by_arcs c.shifts is.cost is.shifts is.few in
     let letters = length-map c.marks letter in
     let line = length-append (map letter c.marks) (codes "\n") in
-    let whole = length-append (claim_text c.cost c.linked c.shifts) (marks_text c.marks) in
+    let whole = length-append (claim_text c.cost c.by_arcs c.shifts) (marks_text c.marks) in
     omega (arith, claim, letters, line, whole, few)

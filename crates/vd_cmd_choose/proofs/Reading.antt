@@ -32,7 +32,7 @@ from_file c bytes is few = record { few_shifts = is.is.few; few_marks = marks }
     marks : length c.marks < 4294967296
     marks =
         let whole = ap (λ (b : List ℕ). length b) is.text in
-        let one = length-append (claim_text c.cost c.linked c.shifts) (marks_text c.marks) in
+        let one = length-append (claim_text c.cost c.by_arcs c.shifts) (marks_text c.marks) in
         let two = length-append (map letter c.marks) (10 ∷ []) in
         let three = length-map c.marks letter in
         omega (arith, whole, one, two, three)

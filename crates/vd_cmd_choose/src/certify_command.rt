@@ -1,7 +1,7 @@
 //! The command `certify`.
 
 ghost use Rattle.std.specs.Prelude.{◌≡◌, ◌<◌, ◌++◌, true, [], codes, length, IfOk};
-ghost use Rattle.vd_cost_network.specs.Links.{links};
+ghost use Rattle.vd_cost_network.specs.Arcs.{arcs};
 ghost use Rattle.vd_outside.specs.Files.{FilesView};
 ghost use Rattle.vd_cmd_plan.specs.Plans.{Checks, Computes, Executes, ended};
 ghost use Rattle.vd_cmd_choose.specs.Certifying.{ExecutesCertified, ExecutesCertify, IsFromFile, confirmed_plan, proved_of, proved_text};
@@ -24,7 +24,7 @@ use vd_space_api::Space;
 /// What a certificate shows of a space, or why it is not accepted.
 fn confirm_space(alloc: Global, space: &Space, certificate: &Certificate) -> Result<Proved, Status>
     requires from_file { IsFromFile certificate.now }
-    requires few_links { length (links space.now) < 4294967296 }
+    requires few_arcs { length (arcs space.now) < 4294967296 }
     ensures { Checks (proved_of space.now certificate.now) result }
 {
     match confirm(alloc, space.problem(), certificate) {
@@ -64,7 +64,7 @@ fn shown_answer(alloc: Global, proved: &Proved) -> Result<Answer, Status>
 /// What `certify` does with the space of a program.
 fn certify_space(alloc: Global, space: &Space, certificate: &Certificate) -> Result<Answer, Status>
     requires from_file { IsFromFile certificate.now }
-    requires few_links { length (links space.now) < 4294967296 }
+    requires few_arcs { length (arcs space.now) < 4294967296 }
     ensures { (files : FilesView) → Executes true (confirmed_plan certificate.now space.now) files files result }
 {
     let proved = confirm_space(alloc, space, certificate)?;

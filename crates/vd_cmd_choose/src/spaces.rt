@@ -3,7 +3,7 @@
 ghost use Rattle.std.specs.Prelude.{◌<◌, IfOk, length};
 ghost use Rattle.vd_constraints.specs.declared.labels.Labels.{Labels as Labellings};
 ghost use Rattle.vd_cmd_frontend.specs.Outcomes.{LabelOutcomes};
-ghost use Rattle.vd_cost_network.specs.Links.{links};
+ghost use Rattle.vd_cost_network.specs.Arcs.{arcs};
 ghost use Rattle.vd_cmd_plan.specs.Plans.{Checks};
 ghost use Rattle.vd_cmd_choose.specs.Problems.{IsProblemOf, problem_for};
 ghost use Rattle.vd_space.specs.Labelled.{HasLabels};
@@ -19,16 +19,16 @@ use vd_space_api::Space;
 pub fn least_space(alloc: Global, program: &Program) -> Result<Space, Status>
     ensures checks { (least : LabelOutcomes) → Checks (problem_for least program.now) result }
     ensures least { IfOk result (IsProblemOf program.now) }
-    ensures few_links { IfOk result (λ space. length (links space) < 4294967296) }
+    ensures few_arcs { IfOk result (λ space. length (arcs space) < 4294967296) }
 {
     let labels = least_labels(alloc, program)?;
-    links_are_few(program);
+    arcs_are_few(program);
     Ok(Space::of(alloc, program, &labels)?)
 }
 
-/// Whatever the labels of a program are, its problem has few links.
-fn links_are_few(program: &Program)
-    ensures { (labels : Labellings) → HasLabels program.now labels → length (links (problem_of program.now labels)) < 4294967296 }
+/// Whatever the labels of a program are, its problem has few arcs.
+fn arcs_are_few(program: &Program)
+    ensures { (labels : Labellings) → HasLabels program.now labels → length (arcs (problem_of program.now labels)) < 4294967296 }
 {
     program.form();
 }

@@ -6,15 +6,15 @@ use Rattle.vd_base.specs.HostSets.{host_set}
 use Rattle.vd_core.specs.declared.normal.NormalForm.{NormalForm}
 use Rattle.vd_constraints.specs.declared.labels.Labels.{Labels}
 use Rattle.vd_noninter_laws.specs.Dependence.{Reach}
-use Rattle.vd_noninter.specs.declared.link.Link.{Link}
+use Rattle.vd_noninter.specs.declared.edge.Edge.{Edge}
 use Rattle.vd_noninter.specs.declared.reader.Reader.{Reader}
 use Rattle.vd_noninter.specs.Hosts.{members, members_with}
-use Rattle.vd_noninter.specs.Links.{links_of, readable, reads_in}
+use Rattle.vd_noninter.specs.Edges.{edges_of, readable, reads_in}
 use Rattle.vd_noninter.specs.Reached.{IsReachOf}
 use Rattle.vd_noninter.proofs.Answered.{answers}
 use Rattle.vd_noninter.proofs.Following.{least_reach}
 use Rattle.vd_noninter.proofs.Hosts.{host_more, host_step, none_first}
-use Rattle.vd_noninter.specs.InfluenceLinks.{influence_links_of}
+use Rattle.vd_noninter.specs.InfluenceEdges.{influence_edges_of}
 use Rattle.vd_noninter.proofs.Influenced.{are_influences}
 use Rattle.vd_cmd_depends.specs.Outcomes.{DependenceOutcomes}
 use Rattle.vd_cmd_depends.specs.Influencing.{InfluenceOutcomes}
@@ -46,11 +46,11 @@ set_members marks (suc n) few k =
 abbrev reader_of : NormalForm → Labels → HostId → Reader
 reader_of p l h = record { slots = readable p h l.slots; host = h }
 
-abbrev links_at : NormalForm → Labels → HostId → List Link
-links_at p l h = links_of (reads_in (reader_of p l h)) h.0 p.body
+abbrev edges_at : NormalForm → Labels → HostId → List Edge
+edges_at p l h = edges_of (reads_in (reader_of p l h)) h.0 p.body
 
-reached_at : (p : NormalForm) (l : Labels) (h : HostId) → (r : Reach) × IsReachOf (links_at p l h) r
-reached_at p l h = least_reach (links_at p l h)
+reached_at : (p : NormalForm) (l : Labels) (h : HostId) → (r : Reach) × IsReachOf (edges_at p l h) r
+reached_at p l h = least_reach (edges_at p l h)
 
 hosts_of : NormalForm → Labels → HostId → HostSet
 hosts_of p l h = set_of (reached_at p l h).0.hosts 8
@@ -63,13 +63,13 @@ pub some_dependences : DependenceOutcomes
 some_dependences = record {
   hosts = hosts_of;
   hosts_are = λ p l h well satisfies.
-      answers p l h well satisfies (reader_of p l h) (links_at p l h) (reached_at p l h).0 (members (hosts_of p l h)) refl refl refl (reached_at p l h).1 (hosts_of_members p l h);
+      answers p l h well satisfies (reader_of p l h) (edges_at p l h) (reached_at p l h).0 (members (hosts_of p l h)) refl refl refl (reached_at p l h).1 (hosts_of_members p l h);
 }
 
 -- ---- the hosts whose inputs bear on what a host is told
 
-influence_at : (passed : Bool) (p : NormalForm) (h : HostId) → (r : Reach) × IsReachOf (influence_links_of passed h.0 p.body) r
-influence_at passed p h = least_reach (influence_links_of passed h.0 p.body)
+influence_at : (passed : Bool) (p : NormalForm) (h : HostId) → (r : Reach) × IsReachOf (influence_edges_of passed h.0 p.body) r
+influence_at passed p h = least_reach (influence_edges_of passed h.0 p.body)
 
 bearing_hosts : Bool → NormalForm → HostId → HostSet
 bearing_hosts passed p h = set_of (influence_at passed p h).0.hosts 8

@@ -11,6 +11,6 @@ pub use named::has_names;
 pub use normal::{NormalForm, Right, Slot, Stmt, Written};
 pub use program::Program;
 pub use source::{
-    Direction, Expr, Function, Host, Ident, Infix, Link, Parameter, Prefix, Sign, Source,
+    Direction, Expr, Function, Host, Ident, Infix, Parameter, Prefix, Segment, Sign, Source,
     Statement, WrittenForm, WrittenLabel,
 };

@@ -110,16 +110,16 @@ pub enum Expr {
     /// An operand, and the operators before it, of which there is at least one: the nearest first, which is the last in
     /// the text and the first to be applied.
     Unary(Boxed<Expr>, Items<Sign>),
-    /// An operand, and what is then done to it, from the left. It has at least one link, and the links are of one
+    /// An operand, and what is then done to it, from the left. It has at least one segment, and the segments are of one
     /// level of precedence.
-    Chain(Boxed<Expr>, Items<Link>),
+    Chain(Boxed<Expr>, Items<Segment>),
     Brackets(Boxed<Expr>),
 }
 
 /// One step of a chain. The span is that of the operator.
 #[cycle(expr)]
 #[derive(PartialEq, Eq, Debug, Drop)]
-pub enum Link {
+pub enum Segment {
     /// An operator with its right operand.
     Infix(Infix, Span, Expr),
     /// A shift by a literal number of bits.

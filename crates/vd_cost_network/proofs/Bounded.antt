@@ -1,4 +1,4 @@
--- The bound by links is at most the cost of each valid list that a prefix begins, and is the cost at a whole one.
+-- The bound by arcs is at most the cost of each valid list that a prefix begins, and is the cost at a whole one.
 use Rattle.std.proofs.Common.{◌≡◌, ℕ, ◌*◌, ◌<◌, ◌≤◌, min, List, [], ◌++◌, length, map, refl, sym, ap, ◌∙◌, subst, arith, ℤ, pos, negsuc, ◌*ℤ◌, ◌≤ℤ◌, ◌<ℤ◌}
 use Rattle.std.proofs.lemmas.Int.{ints}
 use Rattle.std.specs.Prelude.{IsTrue}
@@ -14,9 +14,9 @@ use Rattle.vd_space.proofs.Kept.{valid_kept, valid_listed}
 use Rattle.vd_space.proofs.Least.{max_above, max_same}
 use Rattle.vd_space.proofs.Bounded.{high_below, high_whole}
 use Rattle.vd_cost_network.specs.Points.{points}
-use Rattle.vd_cost_network.specs.Links.{links}
-use Rattle.vd_cost_network.specs.Linked.{linked_one, linked_pairs, linked, units, linked_high, linked_tree}
-use Rattle.vd_cost_network.proofs.Terms.{linked_least, sum_low, sum_same}
+use Rattle.vd_cost_network.specs.Arcs.{arcs}
+use Rattle.vd_cost_network.specs.Network.{network_one, network_pairs, by_arcs, units, network_high, network_tree}
+use Rattle.vd_cost_network.proofs.Terms.{network_least, sum_low, sum_same}
 use Rattle.vd_cost_network.proofs.Shifted.{all_have, shifts_cancel}
 use Rattle.vd_cost_network.proofs.Summed.{plain_sum}
 
@@ -43,46 +43,46 @@ units_same z c small same =
 
 module _ (problem : Problem) (is : IsProblem problem) (shifts : List Shift) where
   -- in parts
-  linked_below : (prefix rest : List ℕ) → length (prefix ++ rest) ≡ length problem.slots → IsTrue (is_valid problem (prefix ++ rest)) → linked problem shifts prefix ≤ℤ (cost problem (prefix ++ rest) *ℤ pos 256)
-  unfolding linked_least
-  linked_below prefix rest full valid =
+  network_below : (prefix rest : List ℕ) → length (prefix ++ rest) ≡ length problem.slots → IsTrue (is_valid problem (prefix ++ rest)) → by_arcs problem shifts prefix ≤ℤ (cost problem (prefix ++ rest) *ℤ pos 256)
+  unfolding network_least
+  network_below prefix rest full valid =
       let list = prefix ++ rest in
-      let least = sum_low problem (map (linked_one problem shifts) (points problem)) (linked_pairs shifts 0 (links problem)) prefix rest valid (all_have problem is list full valid shifts) in
-      subst (λ c. linked problem shifts prefix ≤ℤ c) (shifts_cancel problem is list full valid shifts ∙ plain_sum problem is list full valid) least
+      let least = sum_low problem (map (network_one problem shifts) (points problem)) (network_pairs shifts 0 (arcs problem)) prefix rest valid (all_have problem is list full valid shifts) in
+      subst (λ c. by_arcs problem shifts prefix ≤ℤ c) (shifts_cancel problem is list full valid shifts ∙ plain_sum problem is list full valid) least
 
-  linked_whole : (list : List ℕ) → length list ≡ length problem.slots → IsTrue (is_valid problem list) → linked problem shifts list ≡ cost problem list *ℤ pos 256
-  unfolding linked_least
-  linked_whole list full valid =
-      sum_same problem (map (linked_one problem shifts) (points problem)) (linked_pairs shifts 0 (links problem)) list valid (all_have problem is list full valid shifts)
+  network_whole : (list : List ℕ) → length list ≡ length problem.slots → IsTrue (is_valid problem list) → by_arcs problem shifts list ≡ cost problem list *ℤ pos 256
+  unfolding network_least
+  network_whole list full valid =
+      sum_same problem (map (network_one problem shifts) (points problem)) (network_pairs shifts 0 (arcs problem)) list valid (all_have problem is list full valid shifts)
       ∙ shifts_cancel problem is list full valid shifts
       ∙ plain_sum problem is list full valid
 
   -- in units
-  pub units_below : (prefix rest : List ℕ) → length (prefix ++ rest) ≡ length problem.slots → IsTrue (is_valid problem (prefix ++ rest)) → units (linked problem shifts prefix) ≤ℤ cost problem (prefix ++ rest)
+  pub units_below : (prefix rest : List ℕ) → length (prefix ++ rest) ≡ length problem.slots → IsTrue (is_valid problem (prefix ++ rest)) → units (by_arcs problem shifts prefix) ≤ℤ cost problem (prefix ++ rest)
   units_below prefix rest full valid =
       let small = is.fits (prefix ++ rest) full valid in
       let fits = number_of (cost problem (prefix ++ rest)) small.0 small.1 in
-      let least = subst (λ c. linked problem shifts prefix ≤ℤ (c *ℤ pos 256)) fits.2 (linked_below prefix rest full valid) in
-      subst (λ c. units (linked problem shifts prefix) ≤ℤ c) (sym fits.2) (units_low (linked problem shifts prefix) fits.0 least)
+      let least = subst (λ c. by_arcs problem shifts prefix ≤ℤ (c *ℤ pos 256)) fits.2 (network_below prefix rest full valid) in
+      subst (λ c. units (by_arcs problem shifts prefix) ≤ℤ c) (sym fits.2) (units_low (by_arcs problem shifts prefix) fits.0 least)
 
-  pub units_whole : (list : List ℕ) → length list ≡ length problem.slots → IsTrue (is_valid problem list) → units (linked problem shifts list) ≡ cost problem list
+  pub units_whole : (list : List ℕ) → length list ≡ length problem.slots → IsTrue (is_valid problem list) → units (by_arcs problem shifts list) ≡ cost problem list
   units_whole list full valid =
       let small = is.fits list full valid in
       let fits = number_of (cost problem list) small.0 small.1 in
-      units_same (linked problem shifts list) fits.0 fits.1 (linked_whole list full valid ∙ ap (λ c. c *ℤ pos 256) fits.2) ∙ sym fits.2
+      units_same (by_arcs problem shifts list) fits.0 fits.1 (network_whole list full valid ∙ ap (λ c. c *ℤ pos 256) fits.2) ∙ sym fits.2
 
-  pub linked_high_below : (prefix rest : List ℕ) → length (prefix ++ rest) ≡ length problem.slots → IsTrue (is_valid problem (prefix ++ rest)) → linked_high problem shifts prefix ≤ℤ cost problem (prefix ++ rest)
-  linked_high_below prefix rest full valid =
-      max_above (high problem [] prefix) (units (linked problem shifts prefix)) (cost problem (prefix ++ rest)) (high_below problem is [] prefix rest full valid) (units_below prefix rest full valid)
+  pub network_high_below : (prefix rest : List ℕ) → length (prefix ++ rest) ≡ length problem.slots → IsTrue (is_valid problem (prefix ++ rest)) → network_high problem shifts prefix ≤ℤ cost problem (prefix ++ rest)
+  network_high_below prefix rest full valid =
+      max_above (high problem [] prefix) (units (by_arcs problem shifts prefix)) (cost problem (prefix ++ rest)) (high_below problem is [] prefix rest full valid) (units_below prefix rest full valid)
 
-  pub linked_high_whole : (list : List ℕ) → length list ≡ length problem.slots → IsTrue (is_valid problem list) → linked_high problem shifts list ≡ cost problem list
-  linked_high_whole list full valid =
-      max_same (high problem [] list) (units (linked problem shifts list)) (cost problem list) (high_whole problem is [] list full valid) (units_whole list full valid)
+  pub network_high_whole : (list : List ℕ) → length list ≡ length problem.slots → IsTrue (is_valid problem list) → network_high problem shifts list ≡ cost problem list
+  network_high_whole list full valid =
+      max_same (high problem [] list) (units (by_arcs problem shifts list)) (cost problem list) (high_whole problem is [] list full valid) (units_whole list full valid)
 
-  pub linked_tree_bounded : IsBounded (linked_tree problem shifts)
-  linked_tree_bounded = record {
+  pub network_tree_bounded : IsBounded (network_tree problem shifts)
+  network_tree_bounded = record {
     closed = valid_kept problem;
     listed = valid_listed problem;
-    below = λ prefix rest whole. subst (λ c. linked_high problem shifts prefix ≤ℤ c) (sym (linked_high_whole (prefix ++ rest) whole.full whole.valid)) (linked_high_below prefix rest whole.full whole.valid);
-    fits = λ list whole. let small = is.fits list whole.full whole.valid in let fits = number_of (cost problem list) small.0 small.1 in (fits.0, fits.1, linked_high_whole list whole.full whole.valid ∙ fits.2);
+    below = λ prefix rest whole. subst (λ c. network_high problem shifts prefix ≤ℤ c) (sym (network_high_whole (prefix ++ rest) whole.full whole.valid)) (network_high_below prefix rest whole.full whole.valid);
+    fits = λ list whole. let small = is.fits list whole.full whole.valid in let fits = number_of (cost problem list) small.0 small.1 in (fits.0, fits.1, network_high_whole list whole.full whole.valid ∙ fits.2);
   }

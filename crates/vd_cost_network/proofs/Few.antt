@@ -1,4 +1,4 @@
--- The problem of a program has few links: the branches of its guards name few slots.
+-- The problem of a program has few arcs: the branches of its guards name few slots.
 use Rattle.std.proofs.Common.{◌≡◌, ℕ, suc, ◌+◌, ◌*◌, ◌<◌, ◌≤◌, Bool, true, ◌&&◌, List, [], ◌∷◌, ◌++◌, map, filter, flat_map, length, refl, sym, ap, ◌∙◌, subst, subst₂, arith, length-append, inl, inr}
 use Rattle.std.specs.Prelude.{sum}
 use Rattle.std.specs.List.{AllByRecursion, list_all, range_with_len}
@@ -30,7 +30,7 @@ use Rattle.vd_space.proofs.Sized.{is_within_limits}
 use Rattle.vd_space.proofs.Valued.{each_map}
 use Rattle.vd_space.proofs.Tests.{each_leads}
 use Rattle.vd_cost_network.specs.Points.{Switch, switch_of, switches, may_bring, members}
-use Rattle.vd_cost_network.specs.Links.{in_parts, links, links_from, member_link, switch_links}
+use Rattle.vd_cost_network.specs.Arcs.{in_parts, arcs, arcs_from, member_arc, switch_arcs}
 use Rattle.vd_cost_network.proofs.Items.{each_flat}
 
 -- ---- the branches of guards name few slots
@@ -160,7 +160,7 @@ module _ (l : Labels) where
       let parts = and_parts (fits_stmt s) (all_meet (of_rights operands_fit) body) fits in
       next_few (read_stmt l s) (count_of s) (map (read_stmt l) body) (map count_of body) weight (stmt_few s parts.0 weight) (body_few body parts.1 weight)
 
--- ---- so there are few links
+-- ---- so there are few arcs
 
 no_more : {X : Type 0} (keep : X → Bool) (xs : List X) → length (filter keep xs) ≤ length xs
 no_more keep [] = omega arith
@@ -185,14 +185,14 @@ module _ (problem : Problem) where
   abbrev FewMembers : Switch → Type 0
   FewMembers w = length w.guard.slots ≤ 2048
 
-  links_from_size : (point : ℕ) (ws : List Switch) → AllByRecursion FewMembers ws → length (links_from problem point ws) ≤ 2049 * length ws
-  links_from_size point [] few = omega arith
-  links_from_size point (w ∷ ws) few =
-      let size = length-append (switch_links problem point w) (links_from problem (point + 1) ws) in
-      let own = length-map (members problem w) (member_link problem point w.host) in
+  arcs_from_size : (point : ℕ) (ws : List Switch) → AllByRecursion FewMembers ws → length (arcs_from problem point ws) ≤ 2049 * length ws
+  arcs_from_size point [] few = omega arith
+  arcs_from_size point (w ∷ ws) few =
+      let size = length-append (switch_arcs problem point w) (arcs_from problem (point + 1) ws) in
+      let own = length-map (members problem w) (member_arc problem point w.host) in
       let fewer = no_more (may_bring problem w.host) w.guard.slots in
       let here = few.0 in
-      let rest = links_from_size (point + 1) ws few.1 in
+      let rest = arcs_from_size (point + 1) ws few.1 in
       omega (arith, size, own, fewer, here, rest)
 
   switches_size : length problem.hosts ≤ 4 → length (switches problem) ≤ 4 * length problem.guards
@@ -201,17 +201,17 @@ module _ (problem : Problem) where
       hosts_size : length (all_hosts problem) ≡ length problem.hosts
       hosts_size = length-map (range_with_len 0 (length problem.hosts)) host ∙ length-range_with_len 0 (length problem.hosts)
 
-  links_size : length problem.hosts ≤ 4 → IsWithinLimits problem → AllByRecursion (λ (guard : Guard). length guard.slots ≤ 2048) problem.guards → length (links problem) < 4294967296
-  links_size few limits named =
+  arcs_size : length problem.hosts ≤ 4 → IsWithinLimits problem → AllByRecursion (λ (guard : Guard). length guard.slots ≤ 2048) problem.guards → length (arcs problem) < 4294967296
+  arcs_size few limits named =
       let uses = length-map problem.uses (use_term problem) in
       let indexes = length-map problem.indexes (index_term problem) in
       let both_pairs = length-append (map (use_term problem) problem.uses) (map (index_term problem) problem.indexes) in
       let scaled = length-map (pairs problem) in_parts in
-      let whole = length-append (map in_parts (pairs problem)) (links_from problem (length problem.slots) (switches problem)) in
+      let whole = length-append (map in_parts (pairs problem)) (arcs_from problem (length problem.slots) (switches problem)) in
       let each = each_flat FewMembers (λ guard. map (switch_of guard) (all_hosts problem)) problem.guards
       (each_leads (λ (guard : Guard). length guard.slots ≤ 2048) (λ guard. AllByRecursion FewMembers (map (switch_of guard) (all_hosts problem)))
       (λ guard low. each_map FewMembers (switch_of guard) (all_hosts problem) (every (λ (h : HostId). length guard.slots ≤ 2048) (λ h. low) (all_hosts problem))) problem.guards named) in
-      let from = links_from_size (length problem.slots) (switches problem) each in
+      let from = arcs_from_size (length problem.slots) (switches problem) each in
       let switches_few = switches_size few in
       let count = limits.count in
       omega (arith, uses, indexes, both_pairs, scaled, whole, from, switches_few, count)
@@ -220,9 +220,9 @@ module _ (problem : Problem) where
       every P holds [] = tt
       every P holds (x ∷ xs) = (holds x, every P holds xs)
 
-pub few_links : (p : NormalForm) (l : Labels) → IsWellMade p → IsLabelled (problem_of p l) → length (links (problem_of p l)) < 4294967296
-few_links p l is labelled =
+pub few_arcs : (p : NormalForm) (l : Labels) → IsWellMade p → IsLabelled (problem_of p l) → length (arcs (problem_of p l)) < 4294967296
+few_arcs p l is labelled =
     let few = body_few l p.body is.operands 1 in
     let statements_few = is.limits.statements in
-    links_size (problem_of p l) labelled.few_hosts (is_within_limits p l is)
+    arcs_size (problem_of p l) labelled.few_hosts (is_within_limits p l is)
     (each_leads (λ (guard : Guard). length guard.slots ≤ 4 * statement_count p.body) (λ (guard : Guard). length guard.slots ≤ 2048) (λ guard low. omega (arith, low, statements_few)) (problem_of p l).guards few.each)

@@ -1,4 +1,4 @@
--- Without shifts, all points and links of a whole valid list come to its cost.
+-- Without shifts, all points and arcs of a whole valid list come to its cost.
 use Rattle.std.proofs.Common.{◌≡◌, ℕ, ◌+◌, ◌-◌, ◌<◌, ◌≤◌, Bool, true, false, cond, Option, Some, None, List, [], ◌∷◌, map, length, refl, ap, ◌∙◌, subst, arith, ℤ, pos, ◌-ℤ◌, ◌*ℤ◌, option_map, slice_get}
 use Rattle.std.specs.Prelude.{IsTrue, if◌then◌else◌, unwrap_or}
 use Rattle.std.specs.List.{range_with_len}
@@ -16,10 +16,10 @@ use Rattle.vd_space.proofs.Totals.{total_append, total_map, total_ext, total_zer
 use Rattle.vd_space.proofs.Valued.{decided, each_below, terms_have}
 use Rattle.vd_space.proofs.Shifted.{shifted_has, shifted_sum}
 use Rattle.vd_cost_network.specs.Points.{Switch, switch_of, switches, points, may_bring, members}
-use Rattle.vd_cost_network.specs.Links.{parts, in_parts, guard_link, member_link, switch_links, links_from, links}
+use Rattle.vd_cost_network.specs.Arcs.{parts, in_parts, guard_arc, member_arc, switch_arcs, arcs_from, arcs}
 use Rattle.vd_cost_network.proofs.Items.{within, each_filtered, each_in_range, total_flat, total_times, total_split}
-use Rattle.vd_cost_network.proofs.Terms.{point_at, link_at, point_is, link_is, linked_sum_at}
-use Rattle.vd_cost_network.proofs.Valued.{plain_one, slot_has, switch_has, pair_has, told_parts, guard_link_has, Brings, each_brings, member_link_has, Continues, first_switch, later_switches, all_switches, one_on, none_on, switch_is}
+use Rattle.vd_cost_network.proofs.Terms.{point_at, arc_at, point_is, arc_is, network_sum_at}
+use Rattle.vd_cost_network.proofs.Valued.{plain_one, slot_has, switch_has, pair_has, told_parts, guard_arc_has, Brings, each_brings, member_arc_has, Continues, first_switch, later_switches, all_switches, one_on, none_on, switch_is}
 
 minus_nothing : (o : Option ℤ) → option_map (λ v. v -ℤ pos 0) o ≡ o
 minus_nothing None = refl
@@ -94,23 +94,23 @@ module _ (problem : Problem) (is : IsProblem problem) (list : List ℕ) (full : 
       let base = total_map (one_at list) (shifted_one problem []) (slots_of problem) in
       omega (arith, ints, mapped, split, front, times, back, nothing, base)
 
-  -- ---- links of uses and indexes
+  -- ---- arcs of uses and indexes
 
-  pair_is_parts : (pair : Pair) → HasPair problem list pair → link_at problem list (in_parts pair) ≡ pair_at list pair *ℤ pos 256
+  pair_is_parts : (pair : Pair) → HasPair problem list pair → arc_at problem list (in_parts pair) ≡ pair_at list pair *ℤ pos 256
   unfolding pair_has
   pair_is_parts pair has =
-      let first = link_is problem list (in_parts pair) (pair_has problem is list full valid pair has) in
+      let first = arc_is problem list (in_parts pair) (pair_has problem is list full valid pair has) in
       let second = pair_is problem list pair has in
       omega (arith, ints, first, second)
 
-  pairs_total : total (link_at problem list) (map in_parts (pairs problem)) ≡ total (pair_at list) (pairs problem) *ℤ pos 256
+  pairs_total : total (arc_at problem list) (map in_parts (pairs problem)) ≡ total (pair_at list) (pairs problem) *ℤ pos 256
   pairs_total =
-      let mapped = total_map (link_at problem list) in_parts (pairs problem) in
-      let each = total_same (HasPair problem list) (λ pair. link_at problem list (in_parts pair)) (λ pair. pair_at list pair *ℤ pos 256) pair_is_parts (pairs problem) (terms_have problem is list full valid).pair in
+      let mapped = total_map (arc_at problem list) in_parts (pairs problem) in
+      let each = total_same (HasPair problem list) (λ pair. arc_at problem list (in_parts pair)) (λ pair. pair_at list pair *ℤ pos 256) pair_is_parts (pairs problem) (terms_have problem is list full valid).pair in
       let times = total_times (pair_at list) (pairs problem) in
       omega (arith, ints, mapped, each, times)
 
-  -- ---- links of switches
+  -- ---- arcs of switches
 
   guard_cost : Switch → ℤ
   guard_cost w = if takes_part problem list w.guard w.host then one_at list (guard_term problem w.guard w.host) else pos 0
@@ -118,41 +118,41 @@ module _ (problem : Problem) (is : IsProblem problem) (list : List ℕ) (full : 
   guard_term_is : (w : Switch) (p : ℕ) → slice_get list w.guard.slot.0 ≡ Some p → one_at list (guard_term problem w.guard w.host) ≡ unwrap_or (weigh w.guard.weight (move_to_host problem w.host p)) (pos 0)
   guard_term_is w p at = ap (λ o. unwrap_or (option_and_then (λ q. weigh w.guard.weight (move_to_host problem w.host q)) o) (pos 0)) at
 
-  guard_link_is : (k : ℕ) (w : Switch) → slice_get (switches problem) k ≡ Some w → link_at problem list (guard_link problem (length problem.slots + k) w) ≡ guard_cost w *ℤ pos 256
-  unfolding guard_link_has guard_cost
-  guard_link_is k w at =
+  guard_arc_is : (k : ℕ) (w : Switch) → slice_get (switches problem) k ≡ Some w → arc_at problem list (guard_arc problem (length problem.slots + k) w) ≡ guard_cost w *ℤ pos 256
+  unfolding guard_arc_has guard_cost
+  guard_arc_is k w at =
       let known = switch_is problem is list full valid k w at in
       let place = decided problem is list full valid w.guard.slot.0 known.slot in
       let term = guard_term_is w place.0 place.1.decided in
       let scaled = parts_times (weigh w.guard.weight (move_to_host problem w.host place.0)) in
-      link_is problem list (guard_link problem (length problem.slots + k) w) (guard_link_has problem is list full valid k w at)
+      arc_is problem list (guard_arc problem (length problem.slots + k) w) (guard_arc_has problem is list full valid k w at)
       ∙ if_times (takes_part problem list w.guard w.host) (unwrap_or (told_parts problem is list full valid w place.0) (pos 0)) (one_at list (guard_term problem w.guard w.host)) (omega (arith, ints, term, scaled))
 
-  member_link_is : (k : ℕ) (w : Switch) → slice_get (switches problem) k ≡ Some w → (slot : SlotId) → IsTrue (may_bring problem w.host slot) → Brings problem is list full valid w slot
-      → link_at problem list (member_link problem (length problem.slots + k) w.host slot) ≡ pos 0
-  unfolding member_link_has
-  member_link_is k w at slot may brings = link_is problem list (member_link problem (length problem.slots + k) w.host slot) (member_link_has problem is list full valid k w at slot may brings)
+  member_arc_is : (k : ℕ) (w : Switch) → slice_get (switches problem) k ≡ Some w → (slot : SlotId) → IsTrue (may_bring problem w.host slot) → Brings problem is list full valid w slot
+      → arc_at problem list (member_arc problem (length problem.slots + k) w.host slot) ≡ pos 0
+  unfolding member_arc_has
+  member_arc_is k w at slot may brings = arc_is problem list (member_arc problem (length problem.slots + k) w.host slot) (member_arc_has problem is list full valid k w at slot may brings)
 
-  members_total : (k : ℕ) (w : Switch) → slice_get (switches problem) k ≡ Some w → total (link_at problem list) (map (member_link problem (length problem.slots + k) w.host) (members problem w)) ≡ pos 0
+  members_total : (k : ℕ) (w : Switch) → slice_get (switches problem) k ≡ Some w → total (arc_at problem list) (map (member_arc problem (length problem.slots + k) w.host) (members problem w)) ≡ pos 0
   members_total k w at =
-      let link : SlotId → Pair = member_link problem (length problem.slots + k) w.host in
-      let mapped = total_map (link_at problem list) link (members problem w) in
-      let each = each_filtered (may_bring problem w.host) (Brings problem is list full valid w) (λ slot. link_at problem list (link slot) ≡ pos 0) (member_link_is k w at) w.guard.slots (each_brings problem is list full valid w) in
-      let same = total_same (λ slot. link_at problem list (link slot) ≡ pos 0) (λ slot. link_at problem list (link slot)) (λ slot. pos 0) (λ slot none. none) (members problem w) each in
+      let arc : SlotId → Pair = member_arc problem (length problem.slots + k) w.host in
+      let mapped = total_map (arc_at problem list) arc (members problem w) in
+      let each = each_filtered (may_bring problem w.host) (Brings problem is list full valid w) (λ slot. arc_at problem list (arc slot) ≡ pos 0) (member_arc_is k w at) w.guard.slots (each_brings problem is list full valid w) in
+      let same = total_same (λ slot. arc_at problem list (arc slot) ≡ pos 0) (λ slot. arc_at problem list (arc slot)) (λ slot. pos 0) (λ slot none. none) (members problem w) each in
       let nothing = total_zero (λ (slot : SlotId). pos 0) (λ slot. refl) (members problem w) in
       omega (arith, ints, mapped, same, nothing)
 
-  switch_links_total : (k : ℕ) (w : Switch) → slice_get (switches problem) k ≡ Some w → total (link_at problem list) (switch_links problem (length problem.slots + k) w) ≡ guard_cost w *ℤ pos 256
-  switch_links_total k w at = let first = guard_link_is k w at in let rest = members_total k w at in omega (arith, ints, first, rest)
+  switch_arcs_total : (k : ℕ) (w : Switch) → slice_get (switches problem) k ≡ Some w → total (arc_at problem list) (switch_arcs problem (length problem.slots + k) w) ≡ guard_cost w *ℤ pos 256
+  switch_arcs_total k w at = let first = guard_arc_is k w at in let rest = members_total k w at in omega (arith, ints, first, rest)
 
-  links_from_total : (k : ℕ) (ws : List Switch) → Continues problem is list full valid k ws → total (link_at problem list) (links_from problem (length problem.slots + k) ws) ≡ total guard_cost ws *ℤ pos 256
-  links_from_total k [] goes = refl
-  links_from_total k (w ∷ ws) goes =
+  arcs_from_total : (k : ℕ) (ws : List Switch) → Continues problem is list full valid k ws → total (arc_at problem list) (arcs_from problem (length problem.slots + k) ws) ≡ total guard_cost ws *ℤ pos 256
+  arcs_from_total k [] goes = refl
+  arcs_from_total k (w ∷ ws) goes =
       let n = length problem.slots in
-      let split = total_append (link_at problem list) (switch_links problem (n + k) w) (links_from problem (n + k + 1) ws) in
-      let first = switch_links_total k w (first_switch problem is list full valid k w ws goes) in
-      let rest = links_from_total (k + 1) ws (later_switches problem is list full valid k w ws goes) in
-      let same = ap (λ m. total (link_at problem list) (links_from problem m ws)) (one_on problem is list full valid k) in
+      let split = total_append (arc_at problem list) (switch_arcs problem (n + k) w) (arcs_from problem (n + k + 1) ws) in
+      let first = switch_arcs_total k w (first_switch problem is list full valid k w ws goes) in
+      let rest = arcs_from_total (k + 1) ws (later_switches problem is list full valid k w ws goes) in
+      let same = ap (λ m. total (arc_at problem list) (arcs_from problem m ws)) (one_on problem is list full valid k) in
       omega (arith, ints, split, first, rest, same)
 
   guards_are : total guard_cost (switches problem) ≡ guards_total problem (one_at list) list
@@ -164,14 +164,14 @@ module _ (problem : Problem) (is : IsProblem problem) (list : List ℕ) (full : 
 
   -- ---- together
 
-  pub plain_sum : linked_sum_at problem (map (plain_one problem) (points problem)) (links problem) list ≡ cost problem list *ℤ pos 256
-  unfolding linked_sum_at sum_at
+  pub plain_sum : network_sum_at problem (map (plain_one problem) (points problem)) (arcs problem) list ≡ cost problem list *ℤ pos 256
+  unfolding network_sum_at sum_at
   plain_sum =
       let first = points_total in
-      let split = total_append (link_at problem list) (map in_parts (pairs problem)) (links_from problem (length problem.slots) (switches problem)) in
+      let split = total_append (arc_at problem list) (map in_parts (pairs problem)) (arcs_from problem (length problem.slots) (switches problem)) in
       let second = pairs_total in
-      let third = links_from_total 0 (switches problem) (all_switches problem is list full valid) in
-      let start = ap (λ m. total (link_at problem list) (links_from problem m (switches problem))) (none_on problem is list full valid) in
+      let third = arcs_from_total 0 (switches problem) (all_switches problem is list full valid) in
+      let start = ap (λ m. total (arc_at problem list) (arcs_from problem m (switches problem))) (none_on problem is list full valid) in
       let guards = guards_are in
       let base = shifted_sum problem is list full valid [] in
       let same = plain_pairs problem list in

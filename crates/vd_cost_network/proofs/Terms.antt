@@ -12,7 +12,7 @@ use Rattle.vd_space.specs.Bounds.{only_if}
 use Rattle.vd_space.proofs.Least.{AtMost, AtLeast, least_low, least_high, only_low, only_high, low_some, high_some, found_low, found_high}
 use Rattle.vd_space.proofs.Terms.{total_low, total_same}
 use Rattle.vd_cost_network.specs.Points.{is_setting, most_settings, decided, may_be, least_over}
-use Rattle.vd_cost_network.specs.Linked.{no_parts_left, least_point, least_link}
+use Rattle.vd_cost_network.specs.Network.{no_parts_left, least_point, least_arc}
 use Rattle.vd_cost_network.proofs.Kept.{point_kept}
 
 -- a point of a list, at one of its settings
@@ -52,8 +52,8 @@ module _ (problem : Problem) (list : List ℕ) where
 abbrev pub point_at : Problem → List ℕ → One → ℤ
 point_at problem list one = unwrap_or (option_and_then one.value (decided problem list one.slot)) (pos 0)
 
-abbrev pub link_at : Problem → List ℕ → Pair → ℤ
-link_at problem list link = unwrap_or (option_and_then (λ v. option_and_then (link.value v) (decided problem list link.second)) (decided problem list link.first)) (pos 0)
+abbrev pub arc_at : Problem → List ℕ → Pair → ℤ
+arc_at problem list arc = unwrap_or (option_and_then (λ v. option_and_then (arc.value v) (decided problem list arc.second)) (decided problem list arc.first)) (pos 0)
 
 pub record PointHas (problem : Problem) (list : List ℕ) (one : One) : Type 0 where
   pub v : ℕ
@@ -61,21 +61,21 @@ pub record PointHas (problem : Problem) (list : List ℕ) (one : One) : Type 0 w
   pub c : ℤ
   pub value : one.value v ≡ Some c
 
-pub record LinkHas (problem : Problem) (list : List ℕ) (link : Pair) : Type 0 where
+pub record ArcHas (problem : Problem) (list : List ℕ) (arc : Pair) : Type 0 where
   pub v : ℕ
-  pub first : IsSettled problem list link.first v
+  pub first : IsSettled problem list arc.first v
   pub w : ℕ
-  pub second : IsSettled problem list link.second w
+  pub second : IsSettled problem list arc.second w
   pub c : ℤ
-  pub value : link.value v w ≡ Some c
+  pub value : arc.value v w ≡ Some c
 
 pub point_is : (problem : Problem) (list : List ℕ) (one : One) → (has : PointHas problem list one) → point_at problem list one ≡ has.c
 point_is problem list one has = ap (λ o. unwrap_or (option_and_then one.value o) (pos 0)) has.at.is ∙ ap (λ o. unwrap_or o (pos 0)) has.value
 
-pub link_is : (problem : Problem) (list : List ℕ) (link : Pair) → (has : LinkHas problem list link) → link_at problem list link ≡ has.c
-link_is problem list link has =
-    ap (λ o. unwrap_or (option_and_then (λ v. option_and_then (link.value v) (decided problem list link.second)) o) (pos 0)) has.first.is
-    ∙ ap (λ o. unwrap_or (option_and_then (link.value has.v) o) (pos 0)) has.second.is
+pub arc_is : (problem : Problem) (list : List ℕ) (arc : Pair) → (has : ArcHas problem list arc) → arc_at problem list arc ≡ has.c
+arc_is problem list arc has =
+    ap (λ o. unwrap_or (option_and_then (λ v. option_and_then (arc.value v) (decided problem list arc.second)) o) (pos 0)) has.first.is
+    ∙ ap (λ o. unwrap_or (option_and_then (arc.value has.v) o) (pos 0)) has.second.is
     ∙ ap (λ o. unwrap_or o (pos 0)) has.value
 
 some_low : (o : Option ℤ) (c : ℤ) → o ≡ Some c → AtMost o c
@@ -91,12 +91,12 @@ module _ (problem : Problem) (prefix rest : List ℕ) (valid : IsTrue (is_valid 
       (least_over_low problem prefix rest valid one.slot has.v one.value has.c has.at (some_low (one.value has.v) has.c has.value)) in
       subst (λ c. least_point problem (decided problem prefix) one ≤ℤ c) (sym (point_is problem (prefix ++ rest) one has)) least
 
-  link_low : (link : Pair) → LinkHas problem (prefix ++ rest) link → least_link problem (decided problem prefix) link ≤ℤ link_at problem (prefix ++ rest) link
-  link_low link has =
-      let inner = least_over_low problem prefix rest valid link.second has.w (link.value has.v) has.c has.second (some_low (link.value has.v has.w) has.c has.value) in
-      let least = found_low (least_over problem (decided problem prefix) link.first (λ v. least_over problem (decided problem prefix) link.second (link.value v))) has.c no_parts_left
-      (least_over_low problem prefix rest valid link.first has.v (λ v. least_over problem (decided problem prefix) link.second (link.value v)) has.c has.first inner) in
-      subst (λ c. least_link problem (decided problem prefix) link ≤ℤ c) (sym (link_is problem (prefix ++ rest) link has)) least
+  arc_low : (arc : Pair) → ArcHas problem (prefix ++ rest) arc → least_arc problem (decided problem prefix) arc ≤ℤ arc_at problem (prefix ++ rest) arc
+  arc_low arc has =
+      let inner = least_over_low problem prefix rest valid arc.second has.w (arc.value has.v) has.c has.second (some_low (arc.value has.v has.w) has.c has.value) in
+      let least = found_low (least_over problem (decided problem prefix) arc.first (λ v. least_over problem (decided problem prefix) arc.second (arc.value v))) has.c no_parts_left
+      (least_over_low problem prefix rest valid arc.first has.v (λ v. least_over problem (decided problem prefix) arc.second (arc.value v)) has.c has.first inner) in
+      subst (λ c. least_arc problem (decided problem prefix) arc ≤ℤ c) (sym (arc_is problem (prefix ++ rest) arc has)) least
 
 module _ (problem : Problem) (list : List ℕ) (valid : IsTrue (is_valid problem list)) where
   same_list : list ++ [] ≡ list
@@ -115,39 +115,39 @@ module _ (problem : Problem) (list : List ℕ) (valid : IsTrue (is_valid problem
       (least_over_high problem list one.slot has.v one.value has.c has.at (some_high (one.value has.v) has.c has.value))
       ∙ sym (point_is problem list one has)
 
-  link_same : (link : Pair) → LinkHas problem list link → least_link problem (decided problem list) link ≡ link_at problem list link
-  link_same link has =
-      let inner_low = least_over_low problem list [] again_valid link.second has.w (link.value has.v) has.c (again link.second has.w has.second) (some_low (link.value has.v has.w) has.c has.value) in
-      let inner_high = least_over_high problem list link.second has.w (link.value has.v) has.c has.second (some_high (link.value has.v has.w) has.c has.value) in
-      found_high (least_over problem (decided problem list) link.first (λ v. least_over problem (decided problem list) link.second (link.value v))) has.c no_parts_left
-      (least_over_low problem list [] again_valid link.first has.v (λ v. least_over problem (decided problem list) link.second (link.value v)) has.c (again link.first has.v has.first) inner_low)
-      (least_over_high problem list link.first has.v (λ v. least_over problem (decided problem list) link.second (link.value v)) has.c has.first inner_high)
-      ∙ sym (link_is problem list link has)
+  arc_same : (arc : Pair) → ArcHas problem list arc → least_arc problem (decided problem list) arc ≡ arc_at problem list arc
+  arc_same arc has =
+      let inner_low = least_over_low problem list [] again_valid arc.second has.w (arc.value has.v) has.c (again arc.second has.w has.second) (some_low (arc.value has.v has.w) has.c has.value) in
+      let inner_high = least_over_high problem list arc.second has.w (arc.value has.v) has.c has.second (some_high (arc.value has.v has.w) has.c has.value) in
+      found_high (least_over problem (decided problem list) arc.first (λ v. least_over problem (decided problem list) arc.second (arc.value v))) has.c no_parts_left
+      (least_over_low problem list [] again_valid arc.first has.v (λ v. least_over problem (decided problem list) arc.second (arc.value v)) has.c (again arc.first has.v has.first) inner_low)
+      (least_over_high problem list arc.first has.v (λ v. least_over problem (decided problem list) arc.second (arc.value v)) has.c has.first inner_high)
+      ∙ sym (arc_is problem list arc has)
 
 -- ---- sums
 
-unfoldable pub linked_sum_at : Problem → List One → List Pair → List ℕ → ℤ
-linked_sum_at problem ones links list = total (point_at problem list) ones +ℤ total (link_at problem list) links
+unfoldable pub network_sum_at : Problem → List One → List Pair → List ℕ → ℤ
+network_sum_at problem ones arcs list = total (point_at problem list) ones +ℤ total (arc_at problem list) arcs
 
-unfoldable pub linked_least : Problem → List One → List Pair → List ℕ → ℤ
-linked_least problem ones links prefix = total (least_point problem (decided problem prefix)) ones +ℤ total (least_link problem (decided problem prefix)) links
+unfoldable pub network_least : Problem → List One → List Pair → List ℕ → ℤ
+network_least problem ones arcs prefix = total (least_point problem (decided problem prefix)) ones +ℤ total (least_arc problem (decided problem prefix)) arcs
 
-pub record HaveAll (problem : Problem) (ones : List One) (links : List Pair) (list : List ℕ) : Type 0 where
+pub record HaveAll (problem : Problem) (ones : List One) (arcs : List Pair) (list : List ℕ) : Type 0 where
   pub one : AllByRecursion (PointHas problem list) ones
-  pub link : AllByRecursion (LinkHas problem list) links
+  pub arc : AllByRecursion (ArcHas problem list) arcs
 
-pub sum_low : (problem : Problem) (ones : List One) (links : List Pair) (prefix rest : List ℕ) → IsTrue (is_valid problem (prefix ++ rest)) → HaveAll problem ones links (prefix ++ rest)
-    → linked_least problem ones links prefix ≤ℤ linked_sum_at problem ones links (prefix ++ rest)
-unfolding linked_sum_at linked_least
-sum_low problem ones links prefix rest valid has =
+pub sum_low : (problem : Problem) (ones : List One) (arcs : List Pair) (prefix rest : List ℕ) → IsTrue (is_valid problem (prefix ++ rest)) → HaveAll problem ones arcs (prefix ++ rest)
+    → network_least problem ones arcs prefix ≤ℤ network_sum_at problem ones arcs (prefix ++ rest)
+unfolding network_sum_at network_least
+sum_low problem ones arcs prefix rest valid has =
     let first = total_low (PointHas problem (prefix ++ rest)) (least_point problem (decided problem prefix)) (point_at problem (prefix ++ rest)) (point_low problem prefix rest valid) ones has.one in
-    let second = total_low (LinkHas problem (prefix ++ rest)) (least_link problem (decided problem prefix)) (link_at problem (prefix ++ rest)) (link_low problem prefix rest valid) links has.link in
+    let second = total_low (ArcHas problem (prefix ++ rest)) (least_arc problem (decided problem prefix)) (arc_at problem (prefix ++ rest)) (arc_low problem prefix rest valid) arcs has.arc in
     omega (arith, ints, first, second)
 
-pub sum_same : (problem : Problem) (ones : List One) (links : List Pair) (list : List ℕ) → IsTrue (is_valid problem list) → HaveAll problem ones links list
-    → linked_least problem ones links list ≡ linked_sum_at problem ones links list
-unfolding linked_sum_at linked_least
-sum_same problem ones links list valid has =
+pub sum_same : (problem : Problem) (ones : List One) (arcs : List Pair) (list : List ℕ) → IsTrue (is_valid problem list) → HaveAll problem ones arcs list
+    → network_least problem ones arcs list ≡ network_sum_at problem ones arcs list
+unfolding network_sum_at network_least
+sum_same problem ones arcs list valid has =
     let first = total_same (PointHas problem list) (least_point problem (decided problem list)) (point_at problem list) (point_same problem list valid) ones has.one in
-    let second = total_same (LinkHas problem list) (least_link problem (decided problem list)) (link_at problem list) (link_same problem list valid) links has.link in
+    let second = total_same (ArcHas problem list) (least_arc problem (decided problem list)) (arc_at problem list) (arc_same problem list valid) arcs has.arc in
     omega (arith, ints, first, second)

@@ -21,10 +21,10 @@ use Rattle.vd_space.proofs.Terms.{IsAt, HasPair, is_listed}
 use Rattle.vd_space.proofs.Valued.{decided, weigh_some, each_map, each_append, terms_have}
 use Rattle.vd_space.proofs.Shifted.{shifted_has, each_at}
 use Rattle.vd_cost_network.specs.Points.{Switch, switch_of, switches, off, on, may_bring, members, switched}
-use Rattle.vd_cost_network.specs.Links.{parts, index_readable, slot_value, switch_value, point_value, in_parts, guard_link, member_link, switch_links, links_from, links}
+use Rattle.vd_cost_network.specs.Arcs.{parts, index_readable, slot_value, switch_value, point_value, in_parts, guard_arc, member_arc, switch_arcs, arcs_from, arcs}
 use Rattle.vd_cost_network.proofs.Items.{within, any_held, all_filtered, each_filtered, each_makes_any, each_flat}
 use Rattle.vd_cost_network.proofs.Points.{at_slot, at_switch, candidate_inside}
-use Rattle.vd_cost_network.proofs.Terms.{IsSettled, PointHas, LinkHas}
+use Rattle.vd_cost_network.proofs.Terms.{IsSettled, PointHas, ArcHas}
 
 -- ---- values
 
@@ -186,9 +186,9 @@ module _ (problem : Problem) (is : IsProblem problem) (list : List ℕ) (full : 
         subst (λ j. PointHas problem list (plain_one problem j)) same (switch_has k w.0 w.1)
   ]
 
-  -- ---- links
+  -- ---- arcs
 
-  unfoldable pub pair_has : (pair : Pair) → HasPair problem list pair → LinkHas problem list (in_parts pair)
+  unfoldable pub pair_has : (pair : Pair) → HasPair problem list pair → ArcHas problem list (in_parts pair)
   pair_has pair has = record {
     v = has.p;
     first = slot_settled pair.first has.p has.first;
@@ -209,8 +209,8 @@ module _ (problem : Problem) (is : IsProblem problem) (list : List ℕ) (full : 
       let joins = passes_at (λ q. is_some (move_to_host problem w.host q)) (slice_get list w.guard.slot.0) p at moved.1 in
       is_its_own (told_parts w p) (parts_some (weigh w.guard.weight (move_to_host problem w.host p)) (ap is_some (weigh_some w.guard.weight (move_to_host problem w.host p) joins).1))
 
-  unfoldable pub guard_link_has : (k : ℕ) (w : Switch) → slice_get (switches problem) k ≡ Some w → LinkHas problem list (guard_link problem (length problem.slots + k) w)
-  guard_link_has k w at =
+  unfoldable pub guard_arc_has : (k : ℕ) (w : Switch) → slice_get (switches problem) k ≡ Some w → ArcHas problem list (guard_arc problem (length problem.slots + k) w)
+  guard_arc_has k w at =
       let known = switch_is k w at in
       let here = decided problem is list full valid w.guard.slot.0 known.slot in
       let takes = takes_part problem list w.guard w.host in
@@ -234,8 +234,8 @@ module _ (problem : Problem) (is : IsProblem problem) (list : List ℕ) (full : 
       each_leads (λ slot. IsTrue (held slot) → IsTrue (list_any held w.guard.slots)) (Brings w)
       (λ slot leads holds. or_right (list_any (same_host w.host) w.guard.hosts) (list_any held w.guard.slots) (leads holds)) w.guard.slots (each_makes_any held w.guard.slots)
 
-  unfoldable pub member_link_has : (k : ℕ) (w : Switch) → slice_get (switches problem) k ≡ Some w → (slot : SlotId) → IsTrue (may_bring problem w.host slot) → Brings w slot → LinkHas problem list (member_link problem (length problem.slots + k) w.host slot)
-  member_link_has k w at slot may brings =
+  unfoldable pub member_arc_has : (k : ℕ) (w : Switch) → slice_get (switches problem) k ≡ Some w → (slot : SlotId) → IsTrue (may_bring problem w.host slot) → Brings w slot → ArcHas problem list (member_arc problem (length problem.slots + k) w.host slot)
+  member_arc_has k w at slot may brings =
       let here = decided problem is list full valid slot.0 (brought_in w.host slot may) in
       record {
         v = here.0;
@@ -247,11 +247,11 @@ module _ (problem : Problem) (is : IsProblem problem) (list : List ℕ) (full : 
             (λ holds. brings (ap (λ o. option_map_or (holds_at problem w.host) o false) here.1.decided ∙ holds));
       }
 
-  switch_links_have : (k : ℕ) (w : Switch) → slice_get (switches problem) k ≡ Some w → AllByRecursion (LinkHas problem list) (switch_links problem (length problem.slots + k) w)
-  switch_links_have k w at = (
-    guard_link_has k w at,
-    each_map (LinkHas problem list) (member_link problem (length problem.slots + k) w.host) (members problem w)
-        (each_filtered (may_bring problem w.host) (Brings w) (λ slot. LinkHas problem list (member_link problem (length problem.slots + k) w.host slot)) (member_link_has k w at) w.guard.slots (each_brings w)),
+  switch_arcs_have : (k : ℕ) (w : Switch) → slice_get (switches problem) k ≡ Some w → AllByRecursion (ArcHas problem list) (switch_arcs problem (length problem.slots + k) w)
+  switch_arcs_have k w at = (
+    guard_arc_has k w at,
+    each_map (ArcHas problem list) (member_arc problem (length problem.slots + k) w.host) (members problem w)
+        (each_filtered (may_bring problem w.host) (Brings w) (λ slot. ArcHas problem list (member_arc problem (length problem.slots + k) w.host slot)) (member_arc_has k w at) w.guard.slots (each_brings w)),
   )
 
   -- these are the switches from the k-th one on
@@ -270,18 +270,18 @@ module _ (problem : Problem) (is : IsProblem problem) (list : List ℕ) (full : 
   pub none_on : length problem.slots + 0 ≡ length problem.slots
   none_on = omega arith
 
-  links_from_have : (k : ℕ) (ws : List Switch) → Continues k ws → AllByRecursion (LinkHas problem list) (links_from problem (length problem.slots + k) ws)
-  links_from_have k [] goes = tt
-  links_from_have k (w ∷ ws) goes =
-      each_append (LinkHas problem list) (switch_links problem (length problem.slots + k) w) (links_from problem (length problem.slots + k + 1) ws)
-      (switch_links_have k w (first_switch k w ws goes))
-      (subst (λ m. AllByRecursion (LinkHas problem list) (links_from problem m ws)) (one_on k) (links_from_have (k + 1) ws (later_switches k w ws goes)))
+  arcs_from_have : (k : ℕ) (ws : List Switch) → Continues k ws → AllByRecursion (ArcHas problem list) (arcs_from problem (length problem.slots + k) ws)
+  arcs_from_have k [] goes = tt
+  arcs_from_have k (w ∷ ws) goes =
+      each_append (ArcHas problem list) (switch_arcs problem (length problem.slots + k) w) (arcs_from problem (length problem.slots + k + 1) ws)
+      (switch_arcs_have k w (first_switch k w ws goes))
+      (subst (λ m. AllByRecursion (ArcHas problem list) (arcs_from problem m ws)) (one_on k) (arcs_from_have (k + 1) ws (later_switches k w ws goes)))
 
   pub all_switches : Continues 0 (switches problem)
   all_switches i w at = let same : 0 + i ≡ i = omega arith in ap (slice_get (switches problem)) same ∙ at
 
-  pub links_have : AllByRecursion (LinkHas problem list) (links problem)
-  links_have =
-      each_append (LinkHas problem list) (map in_parts (pairs problem)) (links_from problem (length problem.slots) (switches problem))
-      (each_map (LinkHas problem list) in_parts (pairs problem) (each_leads (HasPair problem list) (λ pair. LinkHas problem list (in_parts pair)) pair_has (pairs problem) (terms_have problem is list full valid).pair))
-      (subst (λ m. AllByRecursion (LinkHas problem list) (links_from problem m (switches problem))) none_on (links_from_have 0 (switches problem) all_switches))
+  pub arcs_have : AllByRecursion (ArcHas problem list) (arcs problem)
+  arcs_have =
+      each_append (ArcHas problem list) (map in_parts (pairs problem)) (arcs_from problem (length problem.slots) (switches problem))
+      (each_map (ArcHas problem list) in_parts (pairs problem) (each_leads (HasPair problem list) (λ pair. ArcHas problem list (in_parts pair)) pair_has (pairs problem) (terms_have problem is list full valid).pair))
+      (subst (λ m. AllByRecursion (ArcHas problem list) (arcs_from problem m (switches problem))) none_on (arcs_from_have 0 (switches problem) all_switches))

@@ -1,3 +1,3 @@
 pub mod Points
-pub mod Links
-pub mod Linked
+pub mod Arcs
+pub mod Network

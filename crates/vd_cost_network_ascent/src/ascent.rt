@@ -1,8 +1,8 @@
-//! The ascent over the points and links of a problem.
+//! The ascent over the points and arcs of a problem.
 
 ghost use Rattle.std.specs.Prelude.{◌≡◌, IfOk, IfSome};
-ghost use Rattle.vd_cost_network_shifts.specs.Shifts.{AreLinkShifts};
-ghost use Rattle.vd_cost_network_prefix.specs.Tables.{AreLinkedTables};
+ghost use Rattle.vd_cost_network_shifts.specs.Shifts.{AreArcShifts};
+ghost use Rattle.vd_cost_network_prefix.specs.Tables.{AreNetworkTables};
 ghost use Rattle.vd_space.specs.Labelled.{IsLabelled};
 ghost use Rattle.vd_space.specs.Validity.{protocols as protocols_of};
 
@@ -10,14 +10,14 @@ use crate::climbing::Climb;
 use std::alloc::{AllocError, Global};
 use vd_base::Proto;
 use vd_base_lists::Items;
-use vd_cost_network_prefix::LinkedTables;
+use vd_cost_network_prefix::NetworkTables;
 use vd_cost_network_shifts::shifts_of;
 use vd_cost_network_sweeps::Nets;
 use vd_protocol::protocols;
 use vd_search_tree::Shift;
 use vd_space::Problem;
 
-/// Sweeps over the points and links of a problem, after which shifts of links come to much.
+/// Sweeps over the points and arcs of a problem, after which shifts of arcs come to much.
 #[derive(Drop)]
 pub struct Ascent {
     pub(crate) climb: Climb,
@@ -28,7 +28,7 @@ impl Ascent {
     pub fn of(
         alloc: Global,
         problem: &Problem,
-        tables: &LinkedTables,
+        tables: &NetworkTables,
     ) -> Result<Option<Ascent>, AllocError>
         requires { IsLabelled problem.now }
     {
@@ -38,35 +38,35 @@ impl Ascent {
         }
     }
 
-    /// Shifts of links under which the bounds by links of the problem are greater than under most others, by the tables without
+    /// Shifts of arcs under which the bounds by arcs of the problem are greater than under most others, by the tables without
     /// shifts. There are none where an amount became too great for a shift, or shifts too many for a certificate.
     pub fn shifts(
         &self,
         alloc: Global,
         problem: &Problem,
-        tables: &LinkedTables,
+        tables: &NetworkTables,
     ) -> Result<Option<Items<Shift>>, AllocError>
-        requires { AreLinkedTables problem.now tables.now }
-        ensures { IfOk result (λ found. IfSome found (AreLinkShifts problem.now)) }
+        requires { AreNetworkTables problem.now tables.now }
+        ensures { IfOk result (λ found. IfSome found (AreArcShifts problem.now)) }
     {
-        let nets = self.climb.lifted(alloc, tables.links.as_slice())?;
+        let nets = self.climb.lifted(alloc, tables.arcs.as_slice())?;
         let list = protocols(alloc, problem.hosts.as_slice().len() as u8)?;
-        linked_shifts(alloc, problem, tables, list.as_slice(), &nets)
+        network_shifts(alloc, problem, tables, list.as_slice(), &nets)
     }
 }
 
-/// The shifts of the problem's links that come to these amounts, if shifts can have them.
-fn linked_shifts(
+/// The shifts of the problem's arcs that come to these amounts, if shifts can have them.
+fn network_shifts(
     alloc: Global,
     problem: &Problem,
-    tables: &LinkedTables,
+    tables: &NetworkTables,
     list: &[Proto],
     nets: &Nets,
 ) -> Result<Option<Items<Shift>>, AllocError>
-    requires tables { AreLinkedTables problem.now tables.now }
+    requires tables { AreNetworkTables problem.now tables.now }
     requires list { list.now ≡ protocols_of problem.now }
-    ensures { IfOk result (λ found. IfSome found (AreLinkShifts problem.now)) }
+    ensures { IfOk result (λ found. IfSome found (AreArcShifts problem.now)) }
 {
-    let count = tables.links.as_slice().len();
+    let count = tables.arcs.as_slice().len();
     shifts_of(alloc, count, list.len(), nets)
 }

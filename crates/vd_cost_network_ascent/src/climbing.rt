@@ -1,4 +1,4 @@
-//! The climb over the points and links of a problem.
+//! The climb over the points and arcs of a problem.
 
 ghost use Rattle.vd_space.specs.Labelled.{IsLabelled};
 
@@ -6,7 +6,7 @@ use crate::lifting::Lifting;
 use std::alloc::{AllocError, Global};
 use vd_base_lists::Items;
 use vd_cost_network_dominance::Thinned;
-use vd_cost_network_prefix::{LinkTable, LinkedTables};
+use vd_cost_network_prefix::{ArcTable, NetworkTables};
 use vd_cost_network_sweeps::{Ending, Left, Nets, Network, Order, Reach, State, Tables, Witness};
 use vd_protocol::protocols;
 use vd_space::Problem;
@@ -36,11 +36,11 @@ const LAST: Reach = Reach {
     pause: 3,
 };
 
-/// The walk behind an ascent ends when so many prices of links were looked at in both, where other work counts as long as it
+/// The walk behind an ascent ends when so many prices of arcs were looked at in both, where other work counts as long as it
 /// takes: both together take some three quarters of a second at most.
 pub(crate) const WORK: u64 = 805_306_368;
 
-/// The points and links of a problem, and what sweeps over them came to.
+/// The points and arcs of a problem, and what sweeps over them came to.
 #[derive(Drop)]
 pub struct Climb {
     pub order: Order,
@@ -63,30 +63,30 @@ impl Climb {
     pub fn of(
         alloc: Global,
         problem: &Problem,
-        linked: &LinkedTables,
+        by_arcs: &NetworkTables,
     ) -> Result<Option<Climb>, AllocError>
         requires { IsLabelled problem.now }
     {
         let list = protocols(alloc, problem.hosts.as_slice().len() as u8)?;
         let places = candidates(alloc, problem, list.as_slice())?;
-        Climb::from_candidates(alloc, problem, linked, places.as_slice())
+        Climb::from_candidates(alloc, problem, by_arcs, places.as_slice())
     }
 
     /// The same, where these are the places at which the slots may stand.
     fn from_candidates(
         alloc: Global,
         problem: &Problem,
-        linked: &LinkedTables,
+        by_arcs: &NetworkTables,
         candidates: &[Items<bool>],
     ) -> Result<Option<Climb>, AllocError> {
-        let order = Order::of(alloc, problem, linked.switches.as_slice())?;
-        let network = Network::of(alloc, linked.links.as_slice(), &order)?;
-        let left = Left::of(alloc, problem, linked, candidates, &network, &order)?;
+        let order = Order::of(alloc, problem, by_arcs.switches.as_slice())?;
+        let network = Network::of(alloc, by_arcs.arcs.as_slice(), &order)?;
+        let left = Left::of(alloc, problem, by_arcs, candidates, &network, &order)?;
         let Some(settings) = left.settings(alloc)? else {
             return Ok(None);
         };
         let counts = left.counts(alloc)?;
-        let tables = Tables::of(alloc, linked, &network, &order, settings.as_slice())?;
+        let tables = Tables::of(alloc, by_arcs, &network, &order, settings.as_slice())?;
         let state = State::of(alloc, &tables, &network, left.most)?;
         let mut climb = Climb {
             order,
@@ -99,7 +99,7 @@ impl Climb {
             witness: Witness::none(alloc),
         };
         if climb.sweep(alloc, FIRST)? == Ending::Cut {
-            climb.go_on(alloc, linked)?;
+            climb.go_on(alloc, by_arcs)?;
         }
         climb.state.send_home(&climb.tables, &climb.network);
         Ok(Some(climb))
@@ -113,11 +113,11 @@ impl Climb {
     }
 
     /// Goes on where the first sweeps did not do: over fewer settings, and then over all again.
-    fn go_on(&mut self, alloc: Global, linked: &LinkedTables) -> Result<(), AllocError> {
+    fn go_on(&mut self, alloc: Global, by_arcs: &NetworkTables) -> Result<(), AllocError> {
         let settings = self.settings.as_slice();
         let thinned = Thinned::of(alloc, &self.tables, &self.network, settings)?;
         self.state.come_back(&self.tables, &self.network);
-        let nets = self.thinned_nets(alloc, linked, &thinned)?;
+        let nets = self.thinned_nets(alloc, by_arcs, &thinned)?;
         let work = self.state.work();
         self.state = self.state_from(alloc, &nets)?;
         self.state.count(work);
@@ -136,7 +136,7 @@ impl Climb {
     fn thinned_nets(
         &mut self,
         alloc: Global,
-        linked: &LinkedTables,
+        by_arcs: &NetworkTables,
         thinned: &Thinned,
     ) -> Result<Nets, AllocError> {
         let network = &self.network;
@@ -149,21 +149,21 @@ impl Climb {
             counts,
         )?;
         let few = thinned.settings.as_slice();
-        let tables = Tables::of(alloc, linked, network, &self.order, few)?;
+        let tables = Tables::of(alloc, by_arcs, network, &self.order, few)?;
         let mut state = State::from_nets(alloc, &tables, network, self.left.most, few, &nets)?;
         let mut witness = Witness::none(alloc);
         state.climb(alloc, &tables, network, THINNED, &mut witness)?;
         state.come_back(&tables, network);
         self.state.count(state.work());
         let mut nets = state.nets(alloc, &tables, network, few, counts)?;
-        thinned.extend(alloc, linked.links.as_slice(), network, counts, &mut nets)?;
+        thinned.extend(alloc, by_arcs.arcs.as_slice(), network, counts, &mut nets)?;
         Ok(nets)
     }
 
     /// What the shifts come to by all settings, where those that are not left are lifted.
-    pub(crate) fn lifted(&self, alloc: Global, links: &[LinkTable]) -> Result<Nets, AllocError> {
+    pub(crate) fn lifted(&self, alloc: Global, arcs: &[ArcTable]) -> Result<Nets, AllocError> {
         let mut lifting = self.lifting(alloc)?;
-        self.lift(links, &[], &mut lifting);
+        self.lift(arcs, &[], &mut lifting);
         Ok(lifting.into_nets())
     }
 
@@ -175,7 +175,7 @@ impl Climb {
     }
 
     /// Writes down what the shifts come to where points are fixed so, by all settings at which these may be.
-    pub(crate) fn lift(&self, links: &[LinkTable], fixed: &[Option<usize>], lifting: &mut Lifting) {
+    pub(crate) fn lift(&self, arcs: &[ArcTable], fixed: &[Option<usize>], lifting: &mut Lifting) {
         let settings = self.settings.as_slice();
         self.state.write_nets(
             &self.tables,
@@ -184,15 +184,15 @@ impl Climb {
             fixed,
             &mut lifting.nets,
         );
-        lifting.lift(links, &self.network, &self.left, fixed);
+        lifting.lift(arcs, &self.network, &self.left, fixed);
     }
 
     /// What it takes to have the amounts as shifts, and the bound of a prefix under these: so many prices are looked at.
     pub(crate) fn work_of_shifts(&self) -> u64 {
         let mut work: u64 = 0;
         for death in &self.left.deaths {
-            let links = self.network.of_point(death.point).len() as u64;
-            work = work.saturating_add(links.saturating_mul(self.left.most as u64));
+            let arcs = self.network.of_point(death.point).len() as u64;
+            work = work.saturating_add(arcs.saturating_mul(self.left.most as u64));
         }
         for first in &self.network.firsts {
             let here = self.tables.rows(*first).len() as u64;

@@ -1,9 +1,9 @@
 //! Lifts what is not left. A setting that went can stand in no valid list, but bounds count it. So it gets a greater cost at
-//! its point, which is taken from the link where it has no partner left: no two that are left lose by that. At its other links it
+//! its point, which is taken from the arc where it has no partner left: no two that are left lose by that. At its other arcs it
 //! costs more only as far as it would cost too little there.
 
 use std::alloc::{AllocError, Global};
-use vd_cost_network_prefix::LinkTable;
+use vd_cost_network_prefix::ArcTable;
 use vd_cost_network_sweeps::{
     Death, End, FAR, Left, Nets, Network, fixed_at, number_at, settings_at,
 };
@@ -52,7 +52,7 @@ impl Lifting {
     /// fixed is at none of them, so these need not be.
     pub(crate) fn lift(
         &mut self,
-        links: &[LinkTable],
+        arcs: &[ArcTable],
         network: &Network,
         left: &Left,
         fixed: &[Option<usize>],
@@ -62,7 +62,7 @@ impl Lifting {
         }
         for death in left.deaths.iter().rev() {
             if fixed_at(fixed, death.point).is_none() {
-                self.lift_one(links, network, death);
+                self.lift_one(arcs, network, death);
             }
         }
     }
@@ -76,11 +76,11 @@ impl Lifting {
     }
 
     /// Lifts one, where the later ones were lifted. One that a point alone cannot have costs enough there already.
-    fn lift_one(&mut self, links: &[LinkTable], network: &Network, death: &Death) {
+    fn lift_one(&mut self, arcs: &[ArcTable], network: &Network, death: &Death) {
         let mut sum = LIFT;
         for end in network.of_point(death.point) {
             if !is_at(death, *end) {
-                let need = self.needed(links, *end, death.setting);
+                let need = self.needed(arcs, *end, death.setting);
                 self.nets
                     .put(*end, death.setting, 0i64.saturating_sub(need));
                 sum = sum.saturating_add(need);
@@ -92,10 +92,10 @@ impl Lifting {
         }
     }
 
-    /// What a link must cost more at a setting, so that it costs enough with each partner that was lifted at the link, and with
+    /// What an arc must cost more at a setting, so that it costs enough with each partner that was lifted at the arc, and with
     /// the others no less than nothing. No price is less than nothing, so that of a partner which asks for no more need not be
     /// looked at.
-    fn needed(&self, links: &[LinkTable], end: End, setting: usize) -> i64 {
+    fn needed(&self, arcs: &[ArcTable], end: End, setting: usize) -> i64 {
         let there = end.turned();
         let amounts = self.nets.row(there);
         let lifts = self.lifts.row(there);
@@ -109,7 +109,7 @@ impl Lifting {
                 number_at(amounts, *partner)
             };
             if asked > most {
-                let price = end.price(links, setting, *partner);
+                let price = end.price(arcs, setting, *partner);
                 if price < FAR {
                     most = most.max(if is_lifted {
                         asked
@@ -145,7 +145,7 @@ fn known_settings(
     Ok(known)
 }
 
-/// Whether it went at this end of a link.
+/// Whether it went at this end of an arc.
 fn is_at(death: &Death, end: End) -> bool {
     match death.end {
         Some(own) => own.at == end.at && own.side == end.side,

@@ -3,7 +3,7 @@
 use vd_base_lists::Items;
 use vd_search_tree::Shift;
 
-/// A prefix, and shifts of links under which each list that it begins seems to cost more than the walk's aim. Nothing of that is
+/// A prefix, and shifts of arcs under which each list that it begins seems to cost more than the walk's aim. Nothing of that is
 /// promised: the bound of the prefix under these shifts says what is so.
 #[derive(PartialEq, Eq, Debug, Drop)]
 pub struct Refutation {

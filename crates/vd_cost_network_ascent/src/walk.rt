@@ -2,8 +2,8 @@
 
 ghost use Rattle.std.specs.Prelude.{◌≡◌, ◌==◌, ◌<◌, ◌≤◌, IfOk, IfSome, length};
 ghost use Rattle.vd_cost_network_ascent.specs.Walking.{IsRefutation, TestsLast, can_enter, entered, made, tree};
-ghost use Rattle.vd_cost_network.specs.Links.{links};
-ghost use Rattle.vd_cost_network_prefix.specs.Tables.{AreLinkedTables};
+ghost use Rattle.vd_cost_network.specs.Arcs.{arcs};
+ghost use Rattle.vd_cost_network_prefix.specs.Tables.{AreNetworkTables};
 ghost use Rattle.vd_space.specs.Labelled.{IsLabelled};
 ghost use Rattle.vd_space.specs.Validity.{protocols as protocols_of};
 
@@ -11,7 +11,7 @@ use crate::ascent::Ascent;
 use crate::refutation::Refutation;
 use crate::walker::{Candidate, Verdict, Walker};
 use std::alloc::{AllocError, Global};
-use vd_cost_network_prefix::{LinkedPath, LinkedTables};
+use vd_cost_network_prefix::{NetworkPath, NetworkTables};
 use vd_cost_network_shifts::shifts_of;
 use vd_search_tree::Prefixes;
 use vd_space::Problem;
@@ -34,8 +34,8 @@ pub(crate) enum Tested {
 pub struct Walk<'a> {
     problem: &'a Problem,
     /// Without shifts.
-    tables: &'a LinkedTables,
-    path: LinkedPath<'a>,
+    tables: &'a NetworkTables,
+    path: NetworkPath<'a>,
     walker: Walker,
     /// The aim, in units.
     most: i64,
@@ -45,7 +45,7 @@ pub struct Walk<'a> {
     ghost choices: { length (protocols_of path.problem.now) ≡ length (protocols_of problem.now) },
     ghost few: { places ≤ 256 },
     ghost placed: { places ≡ length (protocols_of problem.now) },
-    ghost linked: { length tables.now.links ≡ length (links problem.now) },
+    ghost by_arcs: { length tables.now.arcs ≡ length (arcs problem.now) },
 }
 
 impl<'a> Walk<'a> {
@@ -54,12 +54,12 @@ impl<'a> Walk<'a> {
     pub fn new(
         alloc: Global,
         problem: &'a Problem,
-        tables: &'a LinkedTables,
-        path: LinkedPath<'a>,
+        tables: &'a NetworkTables,
+        path: NetworkPath<'a>,
         ascent: Ascent,
         most: u32,
     ) -> Result<Walk<'a>, AllocError>
-        requires tables { AreLinkedTables problem.now tables.now }
+        requires tables { AreNetworkTables problem.now tables.now }
         requires path { path.problem.now ≡ problem.now }
         ensures { IfOk result (λ walk. walk.problem.now ≡ problem.now) }
     {
@@ -163,7 +163,7 @@ impl<'a> Walk<'a> {
                 Ok(Tested::Open)
             }
             Verdict::Refuted => {
-                self.walker.lift(self.tables.links.as_slice(), candidate);
+                self.walker.lift(self.tables.arcs.as_slice(), candidate);
                 let refutation = self.refutation(alloc)?;
                 self.walker.take_back(candidate);
                 self.path.leave();
@@ -177,8 +177,8 @@ impl<'a> Walk<'a> {
         requires { 0 < length (made self.now.path) }
         ensures { IfOk result (λ found. IfSome found (IsRefutation self.now.problem.now)) }
     {
-        let links = self.tables.links.as_slice();
-        match shifts_of(alloc, links.len(), self.places, self.walker.nets())? {
+        let arcs = self.tables.arcs.as_slice();
+        match shifts_of(alloc, arcs.len(), self.places, self.walker.nets())? {
             Some(shifts) => {
                 if shifts.as_slice().len() == 0 {
                     return Ok(None);

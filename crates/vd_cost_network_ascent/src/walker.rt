@@ -4,7 +4,7 @@
 use crate::climbing::{Climb, WORK};
 use crate::lifting::Lifting;
 use std::alloc::{AllocError, Global};
-use vd_cost_network_prefix::LinkTable;
+use vd_cost_network_prefix::ArcTable;
 use vd_cost_network_sweeps::{Nets, Witness, settings_at};
 
 /// So many sweeps forward are made for one candidate at most, and as many backward.
@@ -118,14 +118,14 @@ impl Walker {
     }
 
     /// Writes down what the shifts come to by the prefix with a candidate that is refuted; once for all that are refuted together.
-    pub(crate) fn lift(&mut self, links: &[LinkTable], candidate: Candidate) {
+    pub(crate) fn lift(&mut self, arcs: &[ArcTable], candidate: Candidate) {
         if candidate.number >= self.refuted {
-            self.write(links);
+            self.write(arcs);
         } else if !self.is_written {
             let point = candidate.point;
             self.raise_outside(candidate, PENALTY);
             self.visit(point);
-            self.write(links);
+            self.write(arcs);
             self.raise_outside(candidate, 0i32.saturating_sub(PENALTY));
             self.visit(point);
             self.is_written = true;
@@ -133,9 +133,9 @@ impl Walker {
     }
 
     /// Writes down what the shifts come to.
-    fn write(&mut self, links: &[LinkTable]) {
+    fn write(&mut self, arcs: &[ArcTable]) {
         self.climb
-            .lift(links, self.fixed.as_slice(), &mut self.lifting);
+            .lift(arcs, self.fixed.as_slice(), &mut self.lifting);
     }
 
     /// What the shifts came to when it was written down last.

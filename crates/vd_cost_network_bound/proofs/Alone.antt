@@ -12,15 +12,15 @@ use Rattle.vd_space.specs.Sizes.{IsWithinLimits}
 use Rattle.vd_space.proofs.Priced.{listed_or_not}
 use Rattle.vd_space_prefix.specs.Transfers.{IsWithin, by_place}
 use Rattle.vd_space_prefix.proofs.Placed.{at_place, size_by_place}
-use Rattle.vd_cost_network.specs.Links.{links, point_value}
-use Rattle.vd_cost_network.specs.Linked.{linked_one, no_parts_left}
+use Rattle.vd_cost_network.specs.Arcs.{arcs, point_value}
+use Rattle.vd_cost_network.specs.Network.{network_one, no_parts_left}
 use Rattle.vd_cost_network.specs.Points.{points}
 use Rattle.vd_cost_network_prefix.specs.declared.made.PointTable.{PointTable}
 use Rattle.vd_cost_network_prefix.specs.States.{AreSettings, IsSmallPoint, as_states, count_of_points, point_at, point_part, settings}
-use Rattle.vd_cost_network_tables.specs.declared.raw.RawLink.{RawLink}
+use Rattle.vd_cost_network_tables.specs.declared.raw.RawArc.{RawArc}
 use Rattle.vd_cost_network_tables.specs.declared.sums.Rows.TheVariants.{Points}
 use Rattle.vd_cost_network_tables.specs.Sums.{AreSmallShifts, sums_of}
-use Rattle.vd_cost_network_tables.specs.Tables.{point_table, point_tables_of, raw_link, tests_of}
+use Rattle.vd_cost_network_tables.specs.Tables.{point_table, point_tables_of, raw_arc, tests_of}
 use Rattle.vd_cost_network_tables.proofs.Costs.{map_map}
 use Rattle.vd_cost_network_tables.proofs.Placed.{tests_size}
 use Rattle.vd_cost_network_tables.proofs.Pointing.{gain_is, point_light, point_tables_small}
@@ -56,8 +56,8 @@ values_light problem labelled limits point values are v =
 module _ (problem : Problem) (labelled : IsLabelled problem) (limits : IsWithinLimits problem) (shifts : List Shift) (few_shifts : length shifts ≤ 131072) (amounts : AreSmallShifts shifts)
     (most : ℕ) (few : (point : ℕ) → settings problem point ≤ most) (states : List (Option ℕ)) (are : AreSettings problem (as_states states))
     (free : List (List ℕ)) (free_are : free ≡ by_place (count_of_points problem) (free_at problem)) where
-  pub point_is : (raws : List RawLink) (k : ℕ) (sums : List (List ℤ)) (line : List ℤ) (values : List (Option ℤ)) (own : List ℕ) (result : ℤ)
-      → raws ≡ map (raw_link problem) (links problem) → sums ≡ sums_of raws Points (count_of_points problem) most shifts → k < count_of_points problem
+  pub point_is : (raws : List RawArc) (k : ℕ) (sums : List (List ℤ)) (line : List ℤ) (values : List (Option ℤ)) (own : List ℕ) (result : ℤ)
+      → raws ≡ map (raw_arc problem) (arcs problem) → sums ≡ sums_of raws Points (count_of_points problem) most shifts → k < count_of_points problem
       → line ≡ get_or sums k [] → values ≡ values_at problem k → own ≡ settings_at free states k
       → result ≡ unwrap_or (least_among own (value_with values line)) no_parts_left
       → IsPart (point_part (point_tables_of problem shifts) (as_states states) k) result
@@ -65,21 +65,21 @@ module _ (problem : Problem) (labelled : IsLabelled problem) (limits : IsWithinL
       let tests = tests_of problem k in
       let n = settings problem k in
       let state = as_states states k in
-      let value : ℕ → Option ℤ = (linked_one problem shifts k).value in
+      let value : ℕ → Option ℤ = (network_one problem shifts k).value in
       let inside = in_tests problem states are k in
       let own_settings : own ≡ settings_by tests state = own_are ∙ settings_found problem free states free_are k in
       let each : (v : ℕ) → v < length tests → value_with (values_at problem k) (get_or sums k []) v ≡ value v =
       λ v low_v.
       let low_n : v < n = subst (λ m. v < m) (tests_size problem k) low_v in
       ap₂ (λ (o : Option ℤ) (z : ℤ). option_map (λ c. c +ℤ z) o) (at_place n (point_value problem k) v None low_n) (gain_is problem shifts raws most sums raws_are sums_are few k v low low_n) in
-      let table : PointTable = point_table problem (linked_one problem shifts k) in
+      let table : PointTable = point_table problem (network_one problem shifts k) in
       let tables = point_tables_of problem shifts in
-      let made : tables ≡ by_place (count_of_points problem) (λ point. point_table problem (linked_one problem shifts point)) = map_map (point_table problem) (linked_one problem shifts) (points problem) in
-      let size : length tables ≡ count_of_points problem = ap length made ∙ size_by_place (count_of_points problem) (λ point. point_table problem (linked_one problem shifts point)) in
+      let made : tables ≡ by_place (count_of_points problem) (λ point. point_table problem (network_one problem shifts point)) = map_map (point_table problem) (network_one problem shifts) (points problem) in
+      let size : length tables ≡ count_of_points problem = ap length made ∙ size_by_place (count_of_points problem) (λ point. point_table problem (network_one problem shifts point)) in
       let low_table : k < length tables = subst (λ m. k < m) (sym size) low in
       let found : slice_get tables k ≡ Some table =
       slice_get-get_or tables k table low_table
-      ∙ ap Some (ap (λ (list : List PointTable). get_or list k table) made ∙ at_place (count_of_points problem) (λ point. point_table problem (linked_one problem shifts point)) k table low) in
+      ∙ ap Some (ap (λ (list : List PointTable). get_or list k table) made ∙ at_place (count_of_points problem) (λ point. point_table problem (network_one problem shifts point)) k table low) in
       let is : result ≡ point_at table state =
       result_is
       ∙ (λ i. unwrap_or (least_among (own_settings i) (value_with (values_are i) (line_is i))) no_parts_left)

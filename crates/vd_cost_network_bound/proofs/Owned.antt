@@ -7,7 +7,7 @@ use Rattle.vd_space_prefix.specs.Transfers.{by_place}
 use Rattle.vd_space_terms.proofs.Made.{same_by_place}
 use Rattle.vd_space_tables.specs.Values.{merged_value}
 use Rattle.vd_cost_network.specs.Points.{Switch, switches}
-use Rattle.vd_cost_network.specs.Links.{point_value, slot_value, switch_value}
+use Rattle.vd_cost_network.specs.Arcs.{point_value, slot_value, switch_value}
 use Rattle.vd_cost_network.proofs.Points.{at_slot, at_switch}
 use Rattle.vd_cost_network_tables.specs.Tables.{own_value}
 use Rattle.vd_cost_network_tables.proofs.Owning.{nothing_shifted, own_is}

@@ -8,9 +8,9 @@ use Rattle.std.proofs.lemmas.List.Elements.{filter-append}
 use Rattle.vd_space.specs.Bounds.{lesser, least_below, only_if}
 use Rattle.vd_space_prefix.specs.Transfers.{by_place, least_where}
 use Rattle.vd_space_prefix.proofs.Placed.{at_place, same_least}
-use Rattle.vd_cost_network_prefix.specs.States.{link_at, point_at}
-use Rattle.vd_cost_network.specs.Linked.{no_parts_left}
-use Rattle.vd_cost_network_tables.specs.Tables.{link_table_of, point_table_of}
+use Rattle.vd_cost_network_prefix.specs.States.{arc_at, point_at}
+use Rattle.vd_cost_network.specs.Network.{no_parts_left}
+use Rattle.vd_cost_network_tables.specs.Tables.{arc_table_of, point_table_of}
 use Rattle.vd_cost_network_tables.proofs.Placed.{least_where_same}
 use Rattle.vd_cost_network_bound.specs.Least.{least_among, passing}
 
@@ -82,11 +82,11 @@ pub point_table_gives : (tests : List Bool) (state : Option ℕ) (value : ℕ �
 point_table_gives tests None value inside = refl
 point_table_gives tests (Some v) value inside = sym (at_place (length tests) (λ w. number (value w)) v (pos 0) (inside v refl))
 
-pub link_table_gives : (i j : ℕ) (firsts seconds : List Bool) (first second : Option ℕ) (value : ℕ → ℕ → Option ℤ) → IsIn firsts first → IsIn seconds second
-    → number (least_by firsts first (λ v. least_by seconds second (value v))) ≡ link_at (link_table_of i j firsts seconds value) first second
-link_table_gives i j firsts seconds None None value inside inside_too = refl
-link_table_gives i j firsts seconds (Some v) None value inside inside_too = sym (at_place (length firsts) (λ r. number (least_where seconds (value r))) v (pos 0) (inside v refl))
-link_table_gives i j firsts seconds None (Some w) value inside inside_too = sym (at_place (length seconds) (λ r. number (least_where firsts (λ v. value v r))) w (pos 0) (inside_too w refl))
-link_table_gives i j firsts seconds (Some v) (Some w) value inside inside_too =
+pub arc_table_gives : (i j : ℕ) (firsts seconds : List Bool) (first second : Option ℕ) (value : ℕ → ℕ → Option ℤ) → IsIn firsts first → IsIn seconds second
+    → number (least_by firsts first (λ v. least_by seconds second (value v))) ≡ arc_at (arc_table_of i j firsts seconds value) first second
+arc_table_gives i j firsts seconds None None value inside inside_too = refl
+arc_table_gives i j firsts seconds (Some v) None value inside inside_too = sym (at_place (length firsts) (λ r. number (least_where seconds (value r))) v (pos 0) (inside v refl))
+arc_table_gives i j firsts seconds None (Some w) value inside inside_too = sym (at_place (length seconds) (λ r. number (least_where firsts (λ v. value v r))) w (pos 0) (inside_too w refl))
+arc_table_gives i j firsts seconds (Some v) (Some w) value inside inside_too =
     sym (ap (λ row. number (get_or row w None)) (at_place (length firsts) (λ r. by_place (length seconds) (value r)) v [] (inside v refl))
     ∙ ap number (at_place (length seconds) (value v) w None (inside_too w refl)))

@@ -1,4 +1,4 @@
--- What points and links come to under shifts is the bound by links.
+-- What points and arcs come to under shifts is the bound by arcs.
 use Rattle.std.proofs.Common.{◌≡◌, ℕ, ◌≤◌, Option, List, length, refl, sym, ap, ◌∙◌, subst, arith, ℤ, ◌+ℤ◌}
 use Rattle.std.specs.List.{range_with_len}
 use Rattle.std.proofs.lemmas.Int.{ints}
@@ -9,24 +9,24 @@ use Rattle.vd_space.specs.Costs.{total}
 use Rattle.vd_space.specs.WellFormed.{IsWellFormed}
 use Rattle.vd_space_prefix.specs.Tables.{AreListed}
 use Rattle.vd_space_prefix.proofs.Placed.{size_by_place}
-use Rattle.vd_cost_network.specs.Links.{links}
-use Rattle.vd_cost_network.specs.Linked.{linked}
-use Rattle.vd_cost_network_prefix.specs.declared.made.LinkedTables.{LinkedTables}
+use Rattle.vd_cost_network.specs.Arcs.{arcs}
+use Rattle.vd_cost_network.specs.Network.{by_arcs}
+use Rattle.vd_cost_network_prefix.specs.declared.made.NetworkTables.{NetworkTables}
 use Rattle.vd_cost_network_prefix.specs.declared.made.SwitchTable.{SwitchTable}
-use Rattle.vd_cost_network_prefix.specs.States.{AreSettings, AreSwitchTables, as_states, count_of_points, link_part, point_part, settings, states_of}
-use Rattle.vd_cost_network_prefix.specs.Tables.{AreLinkedTables}
+use Rattle.vd_cost_network_prefix.specs.States.{AreSettings, AreSwitchTables, as_states, count_of_points, arc_part, point_part, settings, states_of}
+use Rattle.vd_cost_network_prefix.specs.Tables.{AreNetworkTables}
 use Rattle.vd_cost_network_prefix.proofs.Decided.{are_settings, states_are}
 use Rattle.vd_cost_network_prefix.proofs.Summing.{parts_are}
 use Rattle.vd_cost_network_tables.specs.Sums.{AreSmallShifts}
-use Rattle.vd_cost_network_tables.specs.Tables.{link_tables_of, point_tables_of}
-use Rattle.vd_cost_network_tables.proofs.Placed.{link_tables_are, point_tables_are}
+use Rattle.vd_cost_network_tables.specs.Tables.{arc_tables_of, point_tables_of}
+use Rattle.vd_cost_network_tables.proofs.Placed.{arc_tables_are, point_tables_are}
 use Rattle.vd_cost_network_tables.proofs.Pointing.{point_tables_small}
-use Rattle.vd_cost_network_tables.proofs.Ranging.{link_tables_small}
+use Rattle.vd_cost_network_tables.proofs.Ranging.{arc_tables_small}
 use Rattle.vd_cost_network_tables.proofs.Shifting.{few_settings}
-use Rattle.vd_cost_network_bound.specs.declared.made.LinkedBound.{LinkedBound}
+use Rattle.vd_cost_network_bound.specs.declared.made.NetworkBound.{NetworkBound}
 use Rattle.vd_cost_network_bound.specs.Bounds.{IsBoundOf, values_at}
 
-module _ (problem : Problem) (bound : LinkedBound) (is : IsBoundOf problem bound) where
+module _ (problem : Problem) (bound : NetworkBound) (is : IsBoundOf problem bound) where
   pub few_at : (list : List Proto) (most : ℕ) → list ≡ bound.list → length list ≤ most → 2 ≤ most → (point : ℕ) → settings problem point ≤ most
   few_at list most same places two point = few_settings problem most point (subst (λ (l : List Proto). length l ≤ most) (same ∙ is.list) places) two
 
@@ -39,22 +39,22 @@ settings_decided problem prefix states listed written = subst (AreSettings probl
 module _ (problem : Problem) (formed : IsWellFormed problem) (shifts : List Shift) (few : length shifts ≤ 131072) (amounts : AreSmallShifts shifts) where
   pub bound_is : (switches : List SwitchTable) → AreSwitchTables problem switches → (prefix : List ℕ) → AreListed problem prefix → (states : List (Option ℕ)) → states ≡ states_of problem prefix → (first second : ℤ)
       → first ≡ total (point_part (point_tables_of problem shifts) (as_states states)) (range_with_len 0 (count_of_points problem))
-      → second ≡ total (link_part (link_tables_of problem shifts) (as_states states)) (range_with_len 0 (length (links problem)))
-      → first +ℤ second ≡ linked problem shifts prefix
+      → second ≡ total (arc_part (arc_tables_of problem shifts) (as_states states)) (range_with_len 0 (length (arcs problem)))
+      → first +ℤ second ≡ by_arcs problem shifts prefix
   bound_is switches switched prefix listed states written first second first_is second_is =
-      let tables : LinkedTables = record { shifts = shifts; points = point_tables_of problem shifts; links = link_tables_of problem shifts; switches = switches } in
-      let are : AreLinkedTables problem tables =
+      let tables : NetworkTables = record { shifts = shifts; points = point_tables_of problem shifts; arcs = arc_tables_of problem shifts; switches = switches } in
+      let are : AreNetworkTables problem tables =
       record {
         well_formed = formed;
         points = point_tables_are problem shifts (point_tables_of problem shifts) refl;
-        links = link_tables_are problem shifts (link_tables_of problem shifts) refl;
+        arcs = arc_tables_are problem shifts (arc_tables_of problem shifts) refl;
         switches = switched;
         small_points = point_tables_small problem formed.labelled formed.limits shifts few amounts;
-        small_links = link_tables_small problem shifts few amounts formed.labelled formed.limits;
+        small_arcs = arc_tables_small problem shifts few amounts formed.labelled formed.limits;
       } in
       let points_sum : first ≡ total (point_part tables.points (as_states states)) (range_with_len 0 (length tables.points)) =
       first_is ∙ ap (λ n. total (point_part tables.points (as_states states)) (range_with_len 0 n)) (sym are.points.size) in
-      let links_sum : second ≡ total (link_part tables.links (as_states states)) (range_with_len 0 (length tables.links)) =
-      second_is ∙ ap (λ n. total (link_part tables.links (as_states states)) (range_with_len 0 n)) (sym are.links.size) in
+      let arcs_sum : second ≡ total (arc_part tables.arcs (as_states states)) (range_with_len 0 (length tables.arcs)) =
+      second_is ∙ ap (λ n. total (arc_part tables.arcs (as_states states)) (range_with_len 0 n)) (sym are.arcs.size) in
       let whole = parts_are problem tables prefix states are listed written in
-      omega (arith, ints, points_sum, links_sum, whole)
+      omega (arith, ints, points_sum, arcs_sum, whole)

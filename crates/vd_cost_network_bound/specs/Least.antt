@@ -23,7 +23,7 @@ least_among settings value = least_below (length settings) (λ k. value (slice_i
 abbrev pub value_with : List (Option ℤ) → List ℤ → ℕ → Option ℤ
 value_with values amounts v = option_map (λ c. c +ℤ slice_index_or amounts v (pos 0)) (slice_index_or values v None)
 
--- less what shifts take from a link on its first side, and on its second
+-- less what shifts take from an arc on its first side, and on its second
 abbrev pub cell_less : List (Option ℤ) → ℤ → List ℤ → ℕ → Option ℤ
 cell_less row from to w = option_map (λ c. c -ℤ (from +ℤ slice_index_or to w (pos 0))) (slice_index_or row w None)
 

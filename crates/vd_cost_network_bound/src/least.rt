@@ -1,7 +1,7 @@
-//! The least of what a point or a link costs, over the settings at which points may be.
+//! The least of what a point or an arc costs, over the settings at which points may be.
 
 ghost use Rattle.std.specs.Prelude.{◌≡◌, ℕ, None, [], pos, slice_index_or, unwrap_or};
-ghost use Rattle.vd_cost_network.specs.Linked.{no_parts_left};
+ghost use Rattle.vd_cost_network.specs.Network.{no_parts_left};
 ghost use Rattle.vd_cost_network_bound.specs.Least.{cell_less, least_among, least_of_cells, least_of_row, settings_at, value_with};
 ghost use Rattle.vd_space_prefix.specs.Transfers.{IsWithin};
 
@@ -64,7 +64,7 @@ pub(crate) fn least_of_point(settings: &[u32], values: &[Option<i64>], amounts: 
     number_of(least)
 }
 
-/// What a link costs at a setting of its second point, less what shifts take.
+/// What an arc costs at a setting of its second point, less what shifts take.
 fn cell_less(row: &[Option<i64>], from: i64, to: &[i64], setting: u32) -> Option<i64>
     requires row { (w : ℕ) → IsWithin 562949953421312 (unwrap_or (slice_index_or row.now w None) (pos 0)) }
     requires from { IsWithin 562949953421312 from }
@@ -75,7 +75,7 @@ fn cell_less(row: &[Option<i64>], from: i64, to: &[i64], setting: u32) -> Option
     less(value_at(row, setting as usize), taken)
 }
 
-/// What a link costs at least at one setting of its first point.
+/// What an arc costs at least at one setting of its first point.
 fn least_of_row(seconds: &[u32], row: &[Option<i64>], from: i64, to: &[i64]) -> Option<i64>
     requires row { (w : ℕ) → IsWithin 562949953421312 (unwrap_or (slice_index_or row.now w None) (pos 0)) }
     requires from { IsWithin 562949953421312 from }
@@ -99,8 +99,8 @@ fn row_at(cells: &[Items<Option<i64>>], setting: u32) -> &[Option<i64>]
     }
 }
 
-/// What a link costs at least.
-pub(crate) fn least_of_link(
+/// What an arc costs at least.
+pub(crate) fn least_of_arc(
     firsts: &[u32],
     seconds: &[u32],
     cells: &[Items<Option<i64>>],

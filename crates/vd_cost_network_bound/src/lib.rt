@@ -1,4 +1,4 @@
-//! The bound by links of one prefix under shifts, without tables of these shifts: what does not depend on shifts is made once,
+//! The bound by arcs of one prefix under shifts, without tables of these shifts: what does not depend on shifts is made once,
 //! and then each bound costs about as much as the cells that the prefix leaves open.
 #![tactic(auto)]
 
@@ -8,4 +8,4 @@ mod making;
 mod summing;
 mod values;
 
-pub use made::LinkedBound;
+pub use made::NetworkBound;

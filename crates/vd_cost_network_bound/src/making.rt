@@ -5,11 +5,11 @@ ghost use Rattle.vd_cost_network_bound.specs.Bounds.{IsBoundOf};
 ghost use Rattle.vd_cost_network_bound.specs.Least.{passing};
 ghost use Rattle.vd_space.specs.WellFormed.{IsWellFormed};
 
-use crate::made::LinkedBound;
+use crate::made::NetworkBound;
 use crate::values::point_values;
 use std::alloc::{AllocError, Global};
 use vd_base_lists::Items;
-use vd_cost_network_tables::{all_links, settings, switch_tables};
+use vd_cost_network_tables::{all_arcs, settings, switch_tables};
 use vd_space::Problem;
 use vd_space_tables::all_protocols;
 use vd_space_terms::candidates;
@@ -45,23 +45,23 @@ fn all_passing(alloc: Global, settings: &[Items<bool>]) -> Result<Items<Items<u3
     Ok(free)
 }
 
-impl LinkedBound {
+impl NetworkBound {
     /// What the bounds of a problem's prefixes are made of.
-    pub fn new(alloc: Global, problem: &Problem) -> Result<LinkedBound, AllocError>
+    pub fn new(alloc: Global, problem: &Problem) -> Result<NetworkBound, AllocError>
         requires { IsWellFormed problem.now }
         ensures { IfOk result (IsBoundOf problem.now) }
     {
         let list = all_protocols(alloc, problem)?;
         let candidates = candidates(alloc, problem, list.as_slice())?;
         let switches = switch_tables(alloc, problem, list.as_slice(), candidates.as_slice())?;
-        let links = all_links(alloc, problem, list.as_slice(), switches.as_slice())?;
+        let arcs = all_arcs(alloc, problem, list.as_slice(), switches.as_slice())?;
         let settings = settings(alloc, candidates, switches.as_slice().len())?;
         let free = all_passing(alloc, settings.as_slice())?;
         let values = point_values(alloc, problem, list.as_slice(), switches.as_slice())?;
-        Ok(LinkedBound {
+        Ok(NetworkBound {
             list,
             switches,
-            links,
+            arcs,
             free,
             values,
         })

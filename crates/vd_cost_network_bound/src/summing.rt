@@ -3,25 +3,25 @@
 ghost use Rattle.std.specs.Prelude.{◌≡◌, ◌≤◌, IfOk, length};
 ghost use Rattle.std.specs.List.{range_with_len};
 ghost use Rattle.vd_base.specs.Limits.{most_certificate_shifts};
-ghost use Rattle.vd_cost_network.specs.Linked.{linked, units};
-ghost use Rattle.vd_cost_network.specs.Links.{links};
+ghost use Rattle.vd_cost_network.specs.Network.{by_arcs, units};
+ghost use Rattle.vd_cost_network.specs.Arcs.{arcs};
 ghost use Rattle.vd_cost_network_bound.specs.Bounds.{IsBoundOf};
-ghost use Rattle.vd_cost_network_prefix.specs.States.{AreSettings, as_states, count_of_points, link_part, point_part};
+ghost use Rattle.vd_cost_network_prefix.specs.States.{AreSettings, as_states, count_of_points, arc_part, point_part};
 ghost use Rattle.vd_cost_network_tables.specs.Sums.{AreSmallShifts};
-ghost use Rattle.vd_cost_network_tables.specs.Tables.{link_tables_of, point_tables_of};
+ghost use Rattle.vd_cost_network_tables.specs.Tables.{arc_tables_of, point_tables_of};
 ghost use Rattle.vd_space_prefix.specs.Tables.{AreListed};
 ghost use Rattle.vd_space_prefix.specs.Transfers.{IsWithin};
 ghost use Rattle.vd_space.specs.Costs.{total};
 
-use crate::least::{least_of_link, least_of_point, settings_at};
-use crate::made::LinkedBound;
+use crate::least::{least_of_arc, least_of_point, settings_at};
+use crate::made::NetworkBound;
 use std::alloc::{AllocError, Global};
 use vd_cost_network_prefix::{decide, undecided, whole_units};
 use vd_cost_network_tables::{Rows, most_settings, shift_sums};
 use vd_search_tree::Shift;
 use vd_space::Problem;
 
-impl LinkedBound {
+impl NetworkBound {
     /// What all points come to, each alone, by what is decided of each.
     fn sum_of_points(
         &self,
@@ -42,7 +42,7 @@ impl LinkedBound {
         let most = most_settings(self.list.as_slice());
         let sums = shift_sums(
             alloc,
-            self.links.as_slice(),
+            self.arcs.as_slice(),
             Rows::Points,
             count,
             most,
@@ -57,8 +57,8 @@ impl LinkedBound {
         Ok(sum)
     }
 
-    /// What all links come to, by what is decided of each point.
-    fn sum_of_links(
+    /// What all arcs come to, by what is decided of each point.
+    fn sum_of_arcs(
         &self,
         alloc: Global,
         problem: &Problem,
@@ -68,28 +68,28 @@ impl LinkedBound {
         requires bound { IsBoundOf problem.now self.now }
         requires states { AreSettings problem.now (as_states states.now) }
         requires few { length shifts.now ≤ most_certificate_shifts }
-        ensures sum { IfOk result (λ sum. sum ≡ total (link_part (link_tables_of problem.now shifts.now) (as_states states.now))
-            (range_with_len 0 (length (links problem.now)))) }
+        ensures sum { IfOk result (λ sum. sum ≡ total (arc_part (arc_tables_of problem.now shifts.now) (as_states states.now))
+            (range_with_len 0 (length (arcs problem.now)))) }
         ensures within { IfOk result (IsWithin 20769187434139310514121985316880384) }
     {
-        let links = self.links.as_slice();
+        let arcs = self.arcs.as_slice();
         let most = most_settings(self.list.as_slice());
-        let from = shift_sums(alloc, links, Rows::Firsts, links.len(), most, shifts)?;
-        let to = shift_sums(alloc, links, Rows::Seconds, links.len(), most, shifts)?;
+        let from = shift_sums(alloc, arcs, Rows::Firsts, arcs.len(), most, shifts)?;
+        let to = shift_sums(alloc, arcs, Rows::Seconds, arcs.len(), most, shifts)?;
         let mut sum = 0;
-        for number in 0..links.len() {
-            let link = &links[number];
-            let firsts = settings_at(self.free.as_slice(), states, link.first as usize);
-            let seconds = settings_at(self.free.as_slice(), states, link.second as usize);
-            let cells = link.cells.as_slice();
+        for number in 0..arcs.len() {
+            let arc = &arcs[number];
+            let firsts = settings_at(self.free.as_slice(), states, arc.first as usize);
+            let seconds = settings_at(self.free.as_slice(), states, arc.second as usize);
+            let cells = arc.cells.as_slice();
             let from = from[number].as_slice();
             let to = to[number].as_slice();
-            sum += i128::from(least_of_link(firsts, seconds, cells, from, to));
+            sum += i128::from(least_of_arc(firsts, seconds, cells, from, to));
         }
         Ok(sum)
     }
 
-    /// The bound by links of a prefix of protocols that there are, in units of cost, under these shifts of links.
+    /// The bound by arcs of a prefix of protocols that there are, in units of cost, under these shifts of arcs.
     pub fn bound(
         &self,
         alloc: Global,
@@ -100,7 +100,7 @@ impl LinkedBound {
         requires bound { IsBoundOf problem.now self.now }
         requires prefix { AreListed problem.now prefix.now }
         requires few { length shifts.now ≤ most_certificate_shifts }
-        ensures { IfOk result (λ bound. bound ≡ units (linked problem.now shifts.now prefix.now)) }
+        ensures { IfOk result (λ bound. bound ≡ units (by_arcs problem.now shifts.now prefix.now)) }
     {
         let mut states = undecided(alloc, self.values.as_slice().len())?;
         decide(
@@ -111,7 +111,7 @@ impl LinkedBound {
             prefix,
         );
         let points = self.sum_of_points(alloc, problem, states.as_slice(), shifts)?;
-        let links = self.sum_of_links(alloc, problem, states.as_slice(), shifts)?;
-        Ok(whole_units(points + links))
+        let arcs = self.sum_of_arcs(alloc, problem, states.as_slice(), shifts)?;
+        Ok(whole_units(points + arcs))
     }
 }

@@ -1,7 +1,7 @@
 //! What points cost alone, without shifts.
 
 ghost use Rattle.std.specs.Prelude.{◌≡◌, ◌<◌, IfOk, OnOk, length};
-ghost use Rattle.vd_cost_network.specs.Links.{switch_value};
+ghost use Rattle.vd_cost_network.specs.Arcs.{switch_value};
 ghost use Rattle.vd_cost_network.specs.Points.{switch_of};
 ghost use Rattle.vd_cost_network_bound.specs.Bounds.{values_at};
 ghost use Rattle.vd_cost_network_prefix.specs.States.{count_of_points};

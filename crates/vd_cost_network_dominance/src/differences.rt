@@ -14,7 +14,7 @@ const NEVER: i64 = -1_125_899_906_842_624;
 pub(crate) struct Differences {
     /// By setting and other setting.
     rows: Vec<Vec<i64>>,
-    /// What a link costs at a setting; `i32::MAX` where that cannot be done, or the partner's setting is not left.
+    /// What an arc costs at a setting; `i32::MAX` where that cannot be done, or the partner's setting is not left.
     room: Vec<i32>,
 }
 
@@ -35,7 +35,7 @@ impl Differences {
         })
     }
 
-    /// Adds the least differences over a link, between settings that are left, by the settings of the other point that are.
+    /// Adds the least differences over an arc, between settings that are left, by the settings of the other point that are.
     pub(crate) fn add(
         &mut self,
         tables: &Tables,
@@ -62,7 +62,7 @@ impl Differences {
     }
 }
 
-/// Fills the room with what a link costs at a setting, by the partner's.
+/// Fills the room with what an arc costs at a setting, by the partner's.
 fn fill(room: &mut Vec<i32>, prices: &[i32], partners: &[bool]) -> Result<(), AllocError> {
     room.truncate(0);
     for (price, is_left) in prices.iter().zip(partners) {

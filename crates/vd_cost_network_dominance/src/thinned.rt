@@ -2,7 +2,7 @@
 
 use crate::costlier::{Costlier, Thinning};
 use std::alloc::{AllocError, Global};
-use vd_cost_network_prefix::LinkTable;
+use vd_cost_network_prefix::ArcTable;
 use vd_cost_network_sweeps::{End, FAR, Nets, Network, Tables, number_at, settings_at};
 
 /// A setting that is not left, among all that its point has.
@@ -52,12 +52,12 @@ impl Thinned {
     }
 
     /// Gives shifts to those that went, where each point has so many settings: from the last to the first each takes from each of
-    /// its links what this costs at least with the partners that have shifts. So no bound is less by them: such a setting then
+    /// its arcs what this costs at least with the partners that have shifts. So no bound is less by them: such a setting then
     /// costs no less than the one for which it went.
     pub fn extend(
         &self,
         alloc: Global,
-        links: &[LinkTable],
+        arcs: &[ArcTable],
         network: &Network,
         counts: &[usize],
         nets: &mut Nets,
@@ -68,7 +68,7 @@ impl Thinned {
         }
         for gone in self.gone.iter().rev() {
             for end in network.of_point(gone.point) {
-                let least = least_after(links, *end, gone.setting, &has_shifts, nets);
+                let least = least_after(arcs, *end, gone.setting, &has_shifts, nets);
                 nets.add(*end, gone.setting, least);
             }
             mark(&mut has_shifts, gone.point, gone.setting);
@@ -120,10 +120,10 @@ fn set(marks: &mut Vec<bool>, place: usize) {
     }
 }
 
-/// What a link costs at least where this end is at a setting, less what was taken from it, over the partners that have shifts;
+/// What an arc costs at least where this end is at a setting, less what was taken from it, over the partners that have shifts;
 /// nothing where there is no such partner.
 fn least_after(
-    links: &[LinkTable],
+    arcs: &[ArcTable],
     end: End,
     setting: usize,
     has_shifts: &Vec<Vec<bool>>,
@@ -135,7 +135,7 @@ fn least_after(
     if let Some(marks) = has_shifts.get(there.point) {
         for (partner, has_one) in marks.iter().enumerate() {
             if *has_one {
-                let price = end.price(links, setting, partner);
+                let price = end.price(arcs, setting, partner);
                 if price < FAR {
                     least = least.min(price.saturating_sub(number_at(amounts, partner)));
                 }

@@ -8,26 +8,26 @@ use Rattle.std.proofs.lemmas.List.{drop_more}
 use Rattle.vd_space.specs.declared.problem.Problem.{Problem}
 use Rattle.vd_space_prefix.proofs.Placed.{at_place}
 use Rattle.vd_cost_network.specs.Points.{decided}
-use Rattle.vd_cost_network_prefix.specs.declared.made.LinkedTables.{LinkedTables}
+use Rattle.vd_cost_network_prefix.specs.declared.made.NetworkTables.{NetworkTables}
 use Rattle.vd_cost_network_prefix.specs.declared.reach.Reach.{Reach}
-use Rattle.vd_cost_network_prefix.specs.Reach.{AreDecidedBeside, IsReach, changed_by, links_at, may_change}
+use Rattle.vd_cost_network_prefix.specs.Reach.{AreDecidedBeside, IsReach, changed_by, arcs_at, may_change}
 use Rattle.vd_cost_network_prefix.specs.States.{as_states, count_of_points, states_of}
 use Rattle.vd_cost_network_prefix.proofs.Decided.{all_written}
 use Rattle.vd_cost_network_prefix.proofs.Reaching.{unlisted}
 
-module _ (problem : Problem) (tables : LinkedTables) (reach : Reach) (are : IsReach problem tables reach) where
+module _ (problem : Problem) (tables : NetworkTables) (reach : Reach) (are : IsReach problem tables reach) where
   pub points_are : (slot : ℕ) → slot < length problem.slots → get_or reach.points slot [] ≡ changed_by problem tables slot
   points_are slot low = ap (λ rows. get_or rows slot []) are.points ∙ at_place (length problem.slots) (changed_by problem tables) slot [] low
 
-  pub links_are : (point : ℕ) → point < length tables.points → get_or reach.links point [] ≡ links_at tables.links point
-  links_are point low = ap (λ rows. get_or rows point []) are.links ∙ at_place (length tables.points) (links_at tables.links) point [] low
+  pub arcs_are : (point : ℕ) → point < length tables.points → get_or reach.arcs point [] ≡ arcs_at tables.arcs point
+  arcs_are point low = ap (λ rows. get_or rows point []) are.arcs ∙ at_place (length tables.points) (arcs_at tables.arcs) point [] low
 
 module _ (problem : Problem) (prefix : List ℕ) where
   -- all points stand as the prefix decides them, but for those of the rest
   abbrev pub AreWrittenBut : List ℕ → List (Option ℕ) → Type 0
   AreWrittenBut rest states = (k : ℕ) → list_any (λ changed. k == changed) rest ≡ false → k < count_of_points problem → as_states states k ≡ decided problem prefix k
 
-  pub begun : (tables : LinkedTables) (slot : ℕ) (row : List ℕ) (states : List (Option ℕ)) → length tables.points ≡ count_of_points problem → AreDecidedBeside problem tables.switches prefix slot states → row ≡ changed_by problem tables slot → AreWrittenBut row states
+  pub begun : (tables : NetworkTables) (slot : ℕ) (row : List ℕ) (states : List (Option ℕ)) → length tables.points ≡ count_of_points problem → AreDecidedBeside problem tables.switches prefix slot states → row ≡ changed_by problem tables slot → AreWrittenBut row states
   begun tables slot row states size beside is k none low =
       beside k (unlisted (may_change problem tables.switches slot) k (length tables.points) (omega (arith, size, low)) (sym (ap (list_any (λ changed. k == changed)) is) ∙ none))
 

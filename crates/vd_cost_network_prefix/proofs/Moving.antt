@@ -1,4 +1,4 @@
--- What all points and links come to, where one point is decided anew.
+-- What all points and arcs come to, where one point is decided anew.
 use Rattle.std.proofs.Common.{◌≡◌, ℕ, zero, suc, ◌+◌, ◌*◌, ◌<◌, ◌≤◌, Bool, false, Option, Some, None, List, [], ◌∷◌, length, set, get_or, get_or-set_other, refl, sym, ap, ap₂, ◌∙◌, subst, arith, ℤ, pos, ◌+ℤ◌, ◌-ℤ◌, inl, inr, slice_get}
 use Rattle.std.specs.Prelude.{IfSome, ◌==◌}
 use Rattle.std.specs.List.{range_with_len}
@@ -10,10 +10,10 @@ use Rattle.vd_space_prefix.specs.Naming.{numbers_from}
 use Rattle.vd_space_prefix.specs.Transfers.{IsWithin}
 use Rattle.vd_cost_network.specs.Points.{States}
 use Rattle.vd_cost_network_prefix.specs.declared.made.PointTable.{PointTable}
-use Rattle.vd_cost_network_prefix.specs.declared.made.LinkTable.{LinkTable}
-use Rattle.vd_cost_network_prefix.specs.declared.made.LinkedTables.{LinkedTables}
-use Rattle.vd_cost_network_prefix.specs.Reach.{has_end, links_at}
-use Rattle.vd_cost_network_prefix.specs.States.{AreSmallTables, IsSmallLink, IsSmallPoint, as_states, link_at, link_part, parts_by, point_at, point_part}
+use Rattle.vd_cost_network_prefix.specs.declared.made.ArcTable.{ArcTable}
+use Rattle.vd_cost_network_prefix.specs.declared.made.NetworkTables.{NetworkTables}
+use Rattle.vd_cost_network_prefix.specs.Reach.{has_end, arcs_at}
+use Rattle.vd_cost_network_prefix.specs.States.{AreSmallTables, IsSmallArc, IsSmallPoint, as_states, arc_at, arc_part, parts_by, point_at, point_part}
 
 -- ---- sums of two functions that differ at few numbers
 
@@ -60,27 +60,27 @@ module _ {X : Type 0} (test : X → Bool) (f g : ℕ → ℤ) where
 
 -- ---- a point that is decided anew
 
-module _ (tables : LinkedTables) (old new : States) (point : ℕ) (same : (k : ℕ) → (k == point) ≡ false → new k ≡ old k) where
+module _ (tables : NetworkTables) (old new : States) (point : ℕ) (same : (k : ℕ) → (k == point) ≡ false → new k ≡ old k) where
   same_point : (k : ℕ) → (k == point) ≡ false → point_part tables.points new k ≡ point_part tables.points old k
   same_point k other = ap (λ state. option_map_or (λ (table : PointTable). point_at table state) (slice_get tables.points k) (pos 0)) (same k other)
 
-  same_link : (k : ℕ) (table : LinkTable) → slice_get tables.links k ≡ Some table → has_end point table ≡ false → link_part tables.links new k ≡ link_part tables.links old k
-  same_link k table at other =
+  same_arc : (k : ℕ) (table : ArcTable) → slice_get tables.arcs k ≡ Some table → has_end point table ≡ false → arc_part tables.arcs new k ≡ arc_part tables.arcs old k
+  same_arc k table at other =
       let parts = or_parts (table.first == point) (table.second == point) other in
-      ap (λ o. option_map_or (λ (t : LinkTable). link_at t (new t.first) (new t.second)) o (pos 0)) at
-      ∙ ap₂ (link_at table) (same table.first parts.0) (same table.second parts.1)
-      ∙ sym (ap (λ o. option_map_or (λ (t : LinkTable). link_at t (old t.first) (old t.second)) o (pos 0)) at)
+      ap (λ o. option_map_or (λ (t : ArcTable). arc_at t (new t.first) (new t.second)) o (pos 0)) at
+      ∙ ap₂ (arc_at table) (same table.first parts.0) (same table.second parts.1)
+      ∙ sym (ap (λ o. option_map_or (λ (t : ArcTable). arc_at t (old t.first) (old t.second)) o (pos 0)) at)
 
-  -- what the point and its links come to is what the sum changes by
+  -- what the point and its arcs come to is what the sum changes by
   parts_move : point < length tables.points → parts_by tables new
-      ≡ parts_by tables old +ℤ ((point_part tables.points new point +ℤ total (link_part tables.links new) (links_at tables.links point)) -ℤ (point_part tables.points old point +ℤ total (link_part tables.links old) (links_at tables.links point)))
+      ≡ parts_by tables old +ℤ ((point_part tables.points new point +ℤ total (arc_part tables.arcs new) (arcs_at tables.arcs point)) -ℤ (point_part tables.points old point +ℤ total (arc_part tables.arcs old) (arcs_at tables.arcs point)))
   parts_move low =
       let points = one_changes (point_part tables.points new) (point_part tables.points old) point same_point 0 (length tables.points) (omega arith) (omega (arith, low)) in
       let start : (k : ℕ) → k ≡ 0 + k = λ k. omega arith in
-      let each : (k : ℕ) (table : LinkTable) → slice_get tables.links k ≡ Some table → has_end point table ≡ false → link_part tables.links new (0 + k) ≡ link_part tables.links old (0 + k) =
-      λ k table at other. subst (λ j. link_part tables.links new j ≡ link_part tables.links old j) (start k) (same_link k table at other) in
-      let links = some_change (has_end point) (link_part tables.links new) (link_part tables.links old) 0 tables.links each in
-      omega (arith, ints, points, links)
+      let each : (k : ℕ) (table : ArcTable) → slice_get tables.arcs k ≡ Some table → has_end point table ≡ false → arc_part tables.arcs new (0 + k) ≡ arc_part tables.arcs old (0 + k) =
+      λ k table at other. subst (λ j. arc_part tables.arcs new j ≡ arc_part tables.arcs old j) (start k) (same_arc k table at other) in
+      let arcs = some_change (has_end point) (arc_part tables.arcs new) (arc_part tables.arcs old) 0 tables.arcs each in
+      omega (arith, ints, points, arcs)
 
 -- ---- small numbers
 
@@ -102,43 +102,43 @@ small_point None small state = nothing_small
 small_point (Some table) small None = small.free
 small_point (Some table) small (Some v) = small.costs v
 
-small_ends : (table : LinkTable) → IsSmallLink table → (first second : Option ℕ) → IsWithin 1125899906842624 (link_at table first second)
+small_ends : (table : ArcTable) → IsSmallArc table → (first second : Option ℕ) → IsWithin 1125899906842624 (arc_at table first second)
 small_ends table small None None = small.both
 small_ends table small (Some v) None = small.rows v
 small_ends table small None (Some w) = small.columns w
 small_ends table small (Some v) (Some w) = small.cells v w
 
-small_link : (item : Option LinkTable) → IfSome item IsSmallLink → (states : States) → IsWithin 1125899906842624 (option_map_or (λ (table : LinkTable). link_at table (states table.first) (states table.second)) item (pos 0))
-small_link None small states = nothing_small
-small_link (Some table) small states = small_ends table small (states table.first) (states table.second)
+small_arc : (item : Option ArcTable) → IfSome item IsSmallArc → (states : States) → IsWithin 1125899906842624 (option_map_or (λ (table : ArcTable). arc_at table (states table.first) (states table.second)) item (pos 0))
+small_arc None small states = nothing_small
+small_arc (Some table) small states = small_ends table small (states table.first) (states table.second)
 
--- of all points and links: 2^116
-pub parts_small : (tables : LinkedTables) (states : States) → AreSmallTables tables → IsWithin 83076749736557242056487941267521536 (parts_by tables states)
+-- of all points and arcs: 2^116
+pub parts_small : (tables : NetworkTables) (states : States) → AreSmallTables tables → IsWithin 83076749736557242056487941267521536 (parts_by tables states)
 parts_small tables states are =
     let points = small_sum (point_part tables.points states) (λ k. small_point (slice_get tables.points k) (are.points k) (states k)) 0 (length tables.points) in
-    let links = small_sum (link_part tables.links states) (λ k. small_link (slice_get tables.links k) (are.links k) states) 0 (length tables.links) in
+    let arcs = small_sum (arc_part tables.arcs states) (λ k. small_arc (slice_get tables.arcs k) (are.arcs k) states) 0 (length tables.arcs) in
     let points_low = points.low in
     let points_high = points.high in
-    let links_low = links.low in
-    let links_high = links.high in
+    let arcs_low = arcs.low in
+    let arcs_high = arcs.high in
     let few_points = are.few_points in
-    let few_links = are.few_links in
-    record { low = omega (arith, ints, points_low, links_low, few_points, few_links); high = omega (arith, ints, points_high, links_high, few_points, few_links) }
+    let few_arcs = are.few_arcs in
+    record { low = omega (arith, ints, points_low, arcs_low, few_points, few_arcs); high = omega (arith, ints, points_high, arcs_high, few_points, few_arcs) }
 
--- the sum moves by what the point and its links come to, and all that is small
-pub put_moves : (tables : LinkedTables) (old new : List (Option ℕ)) (links : List ℕ) (point : ℕ) (state : Option ℕ) (before after parts : ℤ) → AreSmallTables tables → length tables.points ≡ length old → point < length old
-    → links ≡ links_at tables.links point → new ≡ set old point state
-    → before ≡ point_part tables.points (as_states old) point +ℤ total (link_part tables.links (as_states old)) links
-    → after ≡ point_part tables.points (as_states new) point +ℤ total (link_part tables.links (as_states new)) links
+-- the sum moves by what the point and its arcs come to, and all that is small
+pub put_moves : (tables : NetworkTables) (old new : List (Option ℕ)) (arcs : List ℕ) (point : ℕ) (state : Option ℕ) (before after parts : ℤ) → AreSmallTables tables → length tables.points ≡ length old → point < length old
+    → arcs ≡ arcs_at tables.arcs point → new ≡ set old point state
+    → before ≡ point_part tables.points (as_states old) point +ℤ total (arc_part tables.arcs (as_states old)) arcs
+    → after ≡ point_part tables.points (as_states new) point +ℤ total (arc_part tables.arcs (as_states new)) arcs
     → parts ≡ parts_by tables (as_states old)
     → (parts_by tables (as_states new) ≡ parts +ℤ (after -ℤ before)) × IsWithin 83076749736557242056487941267521536 parts × IsWithin 83076749736557242056487941267521536 (parts_by tables (as_states new))
-put_moves tables old new links point state before after parts are size low named written was is sum =
+put_moves tables old new arcs point state before after parts are size low named written was is sum =
     let others : (k : ℕ) → (k == point) ≡ false → as_states new k ≡ as_states old k =
     λ k other. ap (λ list. get_or list k None) written ∙ get_or-set_other old point k state None (eqb-false k point other) in
     let here : point < length tables.points = omega (arith, size, low) in
     let moved = parts_move tables (as_states old) (as_states new) point others here in
-    let first = was ∙ ap (λ numbers. point_part tables.points (as_states old) point +ℤ total (link_part tables.links (as_states old)) numbers) named in
-    let second = is ∙ ap (λ numbers. point_part tables.points (as_states new) point +ℤ total (link_part tables.links (as_states new)) numbers) named in (
+    let first = was ∙ ap (λ numbers. point_part tables.points (as_states old) point +ℤ total (arc_part tables.arcs (as_states old)) numbers) named in
+    let second = is ∙ ap (λ numbers. point_part tables.points (as_states new) point +ℤ total (arc_part tables.arcs (as_states new)) numbers) named in (
       omega (arith, ints, moved, first, second, sum),
       subst (IsWithin 83076749736557242056487941267521536) (sym sum) (parts_small tables (as_states old) are),
       parts_small tables (as_states new) are,

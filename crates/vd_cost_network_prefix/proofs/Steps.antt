@@ -12,7 +12,7 @@ use Rattle.vd_space_prefix.specs.Tables.{AreListed}
 use Rattle.vd_cost_network_prefix.specs.declared.made.SwitchTable.{SwitchTable}
 use Rattle.vd_cost_network_prefix.specs.Reach.{AreDecidedBeside}
 use Rattle.vd_cost_network_prefix.specs.States.{AreSwitchTables, states_of}
-use Rattle.vd_cost_network_prefix.specs.Tables.{IsLinkedPath}
+use Rattle.vd_cost_network_prefix.specs.Tables.{IsNetworkPath}
 use Rattle.vd_cost_network_prefix.proofs.Turning.{beside_after, beside_before}
 
 -- a choice that is written down behind those that are made
@@ -28,8 +28,8 @@ last_of room made some low =
     ap (λ n. take n room) same ∙ take_more room (made - 1) 0 (omega (arith, some, low))
 
 module _ (problem : Problem) where
-  pub entered : (room new : List ℕ) (states next : List (Option ℕ)) (made told now choice : ℕ) (wanted : Bool) → IsLinkedPath problem room states made told → made < length problem.slots → choice < length (protocols problem)
-      → new ≡ set room made choice → wanted ≡ is_valid problem (take (made + 1) new) → next ≡ cond wanted (states_of problem (take (made + 1) new)) states → now ≡ cond wanted (made + 1) told → IsLinkedPath problem new next (made + 1) now
+  pub entered : (room new : List ℕ) (states next : List (Option ℕ)) (made told now choice : ℕ) (wanted : Bool) → IsNetworkPath problem room states made told → made < length problem.slots → choice < length (protocols problem)
+      → new ≡ set room made choice → wanted ≡ is_valid problem (take (made + 1) new) → next ≡ cond wanted (states_of problem (take (made + 1) new)) states → now ≡ cond wanted (made + 1) told → IsNetworkPath problem new next (made + 1) now
   entered room new states next made told now choice wanted is low listed written valid decided counted = record {
     room = ap length written ∙ length-set room made choice ∙ is.room;
     depth = omega (arith, low);
@@ -66,8 +66,8 @@ module _ (problem : Problem) where
             omega (arith, count, le)
       ]
 
-  pub left : (room : List ℕ) (states next : List (Option ℕ)) (made told now : ℕ) (wanted : Bool) → IsLinkedPath problem room states made told → wanted ≡ nat_lt (made - 1) told
-      → next ≡ cond wanted (states_of problem (take (made - 1) room)) states → now ≡ cond wanted (made - 1) told → IsLinkedPath problem room next (made - 1) now
+  pub left : (room : List ℕ) (states next : List (Option ℕ)) (made told now : ℕ) (wanted : Bool) → IsNetworkPath problem room states made told → wanted ≡ nat_lt (made - 1) told
+      → next ≡ cond wanted (states_of problem (take (made - 1) room)) states → now ≡ cond wanted (made - 1) told → IsNetworkPath problem room next (made - 1) now
   left room states next made told now wanted is more decided counted =
       let deep = is.depth in
       record {
@@ -92,7 +92,7 @@ module _ (problem : Problem) where
       reached false count k within le = omega (arith, count, le)
 
   -- where the prefix is valid, all choices are told
-  pub all_told : (room : List ℕ) (states : List (Option ℕ)) (made told : ℕ) → IsLinkedPath problem room states made told → IsTrue (is_valid problem (take made room)) → states ≡ states_of problem (take made room)
+  pub all_told : (room : List ℕ) (states : List (Option ℕ)) (made told : ℕ) → IsNetworkPath problem room states made told → IsTrue (is_valid problem (take made room)) → states ≡ states_of problem (take made room)
   all_told room states made told is valid =
       let low = is.valid made (omega arith) valid in
       let high = is.within in
@@ -100,7 +100,7 @@ module _ (problem : Problem) where
       is.states ∙ ap (λ n. states_of problem (take n room)) same
 
   -- what stands there is right but for the slot of a choice that makes a valid prefix
-  pub entering : (tables : List SwitchTable) (room new : List ℕ) (states : List (Option ℕ)) (made told choice : ℕ) → AreSwitchTables problem tables → IsLinkedPath problem room states made told → made < length problem.slots
+  pub entering : (tables : List SwitchTable) (room new : List ℕ) (states : List (Option ℕ)) (made told choice : ℕ) → AreSwitchTables problem tables → IsNetworkPath problem room states made told → made < length problem.slots
       → new ≡ set room made choice → IsTrue (is_valid problem (take (made + 1) new)) → AreDecidedBeside problem tables (take (made + 1) new) made states
   entering tables room new states made told choice are is low written valid =
       let size = is.room in
@@ -112,7 +112,7 @@ module _ (problem : Problem) where
       (subst (λ list. AreDecidedBeside problem tables list (length (take made room)) states) (sym more) beside)
 
   -- and but for that of a choice that is given back
-  pub leaving : (tables : List SwitchTable) (room : List ℕ) (states : List (Option ℕ)) (made told : ℕ) → AreSwitchTables problem tables → IsLinkedPath problem room states made told → 0 < made → made - 1 < told
+  pub leaving : (tables : List SwitchTable) (room : List ℕ) (states : List (Option ℕ)) (made told : ℕ) → AreSwitchTables problem tables → IsNetworkPath problem room states made told → 0 < made → made - 1 < told
       → AreDecidedBeside problem tables (take (made - 1) room) (made - 1) states
   leaving tables room states made told are is some more =
       let size = is.room in

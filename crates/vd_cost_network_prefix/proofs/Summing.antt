@@ -1,4 +1,4 @@
--- The sum of what tables give is the bound by links.
+-- The sum of what tables give is the bound by arcs.
 use Rattle.std.proofs.Common.{◌≡◌, ℕ, suc, ◌+◌, ◌<◌, Option, Some, List, [], ◌∷◌, length, map, refl, sym, ap, ◌∙◌, arith, ℤ, slice_get}
 use Rattle.std.specs.List.{range_with_len}
 use Rattle.std.proofs.lemmas.Int.{ints}
@@ -9,12 +9,12 @@ use Rattle.vd_space.proofs.Totals.{total_map}
 use Rattle.vd_space.proofs.Terms.{total_same}
 use Rattle.vd_space_prefix.specs.Tables.{AreListed}
 use Rattle.vd_cost_network.specs.Points.{States, decided, points}
-use Rattle.vd_cost_network.specs.Links.{links}
-use Rattle.vd_cost_network.specs.Linked.{least_link, least_point, linked, linked_one, linked_pairs}
+use Rattle.vd_cost_network.specs.Arcs.{arcs}
+use Rattle.vd_cost_network.specs.Network.{least_arc, least_point, by_arcs, network_one, network_pairs}
 use Rattle.vd_cost_network.proofs.Items.{each_in_range}
-use Rattle.vd_cost_network_prefix.specs.declared.made.LinkedTables.{LinkedTables}
-use Rattle.vd_cost_network_prefix.specs.States.{AreSettings, as_states, count_of_points, link_part, parts_by, point_part, states_of}
-use Rattle.vd_cost_network_prefix.specs.Tables.{AreLinkedTables}
+use Rattle.vd_cost_network_prefix.specs.declared.made.NetworkTables.{NetworkTables}
+use Rattle.vd_cost_network_prefix.specs.States.{AreSettings, as_states, count_of_points, arc_part, parts_by, point_part, states_of}
+use Rattle.vd_cost_network_prefix.specs.Tables.{AreNetworkTables}
 use Rattle.vd_cost_network_prefix.proofs.Decided.{states_are, are_settings}
 
 -- a sum over a list, by numbers
@@ -26,28 +26,28 @@ total_by_number g f (x ∷ xs) first each =
     let rest = total_by_number g f xs (first + 1) (λ k y at. let next : first + 1 + k ≡ first + suc k = omega arith in ap f next ∙ each (suc k) y at) in
     omega (arith, ints, here, rest)
 
-pub pairs_size : (shifts : List Shift) (at : ℕ) (links : List Pair) → length (linked_pairs shifts at links) ≡ length links
+pub pairs_size : (shifts : List Shift) (at : ℕ) (arcs : List Pair) → length (network_pairs shifts at arcs) ≡ length arcs
 pairs_size shifts at [] = refl
-pairs_size shifts at (link ∷ links) = ap suc (pairs_size shifts (at + 1) links)
+pairs_size shifts at (arc ∷ arcs) = ap suc (pairs_size shifts (at + 1) arcs)
 
-module _ (problem : Problem) (tables : LinkedTables) (are : AreLinkedTables problem tables) (states : States) (settings : AreSettings problem states) where
-  points_are : total (point_part tables.points states) (range_with_len 0 (length tables.points)) ≡ total (least_point problem states) (map (linked_one problem tables.shifts) (points problem))
+module _ (problem : Problem) (tables : NetworkTables) (are : AreNetworkTables problem tables) (states : States) (settings : AreSettings problem states) where
+  points_are : total (point_part tables.points states) (range_with_len 0 (length tables.points)) ≡ total (least_point problem states) (map (network_one problem tables.shifts) (points problem))
   points_are =
       ap (λ n. total (point_part tables.points states) (range_with_len 0 n)) are.points.size
-      ∙ total_same (λ point. point < count_of_points problem) (point_part tables.points states) (λ point. least_point problem states (linked_one problem tables.shifts point)) (are.points.least states settings) (points problem)
+      ∙ total_same (λ point. point < count_of_points problem) (point_part tables.points states) (λ point. least_point problem states (network_one problem tables.shifts point)) (are.points.least states settings) (points problem)
       (each_in_range (λ point. point < count_of_points problem) 0 (count_of_points problem) (λ point low high. omega (arith, high)))
-      ∙ sym (total_map (least_point problem states) (linked_one problem tables.shifts) (points problem))
+      ∙ sym (total_map (least_point problem states) (network_one problem tables.shifts) (points problem))
 
-  links_are : total (link_part tables.links states) (range_with_len 0 (length tables.links)) ≡ total (least_link problem states) (linked_pairs tables.shifts 0 (links problem))
-  links_are =
-      ap (λ n. total (link_part tables.links states) (range_with_len 0 n)) (are.links.size ∙ sym (pairs_size tables.shifts 0 (links problem)))
-      ∙ total_by_number (least_link problem states) (link_part tables.links states) (linked_pairs tables.shifts 0 (links problem)) 0
-      (λ k link at. let start : 0 + k ≡ k = omega arith in ap (link_part tables.links states) start ∙ are.links.least states settings k link at)
+  arcs_are : total (arc_part tables.arcs states) (range_with_len 0 (length tables.arcs)) ≡ total (least_arc problem states) (network_pairs tables.shifts 0 (arcs problem))
+  arcs_are =
+      ap (λ n. total (arc_part tables.arcs states) (range_with_len 0 n)) (are.arcs.size ∙ sym (pairs_size tables.shifts 0 (arcs problem)))
+      ∙ total_by_number (least_arc problem states) (arc_part tables.arcs states) (network_pairs tables.shifts 0 (arcs problem)) 0
+      (λ k arc at. let start : 0 + k ≡ k = omega arith in ap (arc_part tables.arcs states) start ∙ are.arcs.least states settings k arc at)
 
-pub parts_are : (problem : Problem) (tables : LinkedTables) (prefix : List ℕ) (states : List (Option ℕ)) → AreLinkedTables problem tables → AreListed problem prefix → states ≡ states_of problem prefix → parts_by tables (as_states states) ≡ linked problem tables.shifts prefix
+pub parts_are : (problem : Problem) (tables : NetworkTables) (prefix : List ℕ) (states : List (Option ℕ)) → AreNetworkTables problem tables → AreListed problem prefix → states ≡ states_of problem prefix → parts_by tables (as_states states) ≡ by_arcs problem tables.shifts prefix
 parts_are problem tables prefix states are listed written =
     let settings = are_settings problem prefix listed in
     let first = points_are problem tables are (decided problem prefix) settings in
-    let second = links_are problem tables are (decided problem prefix) settings in
-    let whole : parts_by tables (decided problem prefix) ≡ linked problem tables.shifts prefix = omega (arith, ints, first, second) in
+    let second = arcs_are problem tables are (decided problem prefix) settings in
+    let whole : parts_by tables (decided problem prefix) ≡ by_arcs problem tables.shifts prefix = omega (arith, ints, first, second) in
     ap (λ list. parts_by tables (as_states list)) written ∙ ap (parts_by tables) (states_are problem prefix) ∙ whole

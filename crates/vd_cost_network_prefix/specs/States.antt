@@ -1,4 +1,4 @@
--- What is decided of points, and what points and links cost by that, read off tables.
+-- What is decided of points, and what points and arcs cost by that, read off tables.
 use Rattle.std.specs.Prelude.{◌≡◌, ℕ, ◌+◌, ◌<◌, Option, Some, None, IfSome, is_some, unwrap_or, if◌then◌else◌, List, [], length, slice_get, slice_index_or, ℤ, pos, ◌+ℤ◌}
 use Rattle.std.specs.List.{list_all, range_with_len}
 use Rattle.std.specs.Option.{option_map_or}
@@ -9,12 +9,12 @@ use Rattle.vd_space.specs.Validity.{protocols, takes_part}
 use Rattle.vd_space.specs.Costs.{Pair, total}
 use Rattle.vd_space_prefix.specs.Transfers.{IsWithin, by_place}
 use Rattle.vd_cost_network.specs.Points.{States, at_point, decided, off, on, switched, switches}
-use Rattle.vd_cost_network.specs.Links.{links}
-use Rattle.vd_cost_network.specs.Linked.{least_link, least_point, linked_one, linked_pairs, no_parts_left}
+use Rattle.vd_cost_network.specs.Arcs.{arcs}
+use Rattle.vd_cost_network.specs.Network.{least_arc, least_point, network_one, network_pairs, no_parts_left}
 use Rattle.vd_cost_network_prefix.specs.declared.made.PointTable.{PointTable}
-use Rattle.vd_cost_network_prefix.specs.declared.made.LinkTable.{LinkTable}
+use Rattle.vd_cost_network_prefix.specs.declared.made.ArcTable.{ArcTable}
 use Rattle.vd_cost_network_prefix.specs.declared.made.SwitchTable.{SwitchTable}
-use Rattle.vd_cost_network_prefix.specs.declared.made.LinkedTables.{LinkedTables}
+use Rattle.vd_cost_network_prefix.specs.declared.made.NetworkTables.{NetworkTables}
 
 -- ---- states
 
@@ -43,23 +43,23 @@ table_state problem prefix table = option_map_or (guard_state problem prefix tab
 abbrev pub point_at : PointTable → Option ℕ → ℤ
 point_at table state = option_map_or (λ v. slice_index_or table.costs v (pos 0)) state table.free
 
-abbrev pub link_at : LinkTable → Option ℕ → Option ℕ → ℤ
-link_at table None None = table.both
-link_at table (Some v) None = slice_index_or table.rows v (pos 0)
-link_at table None (Some w) = slice_index_or table.columns w (pos 0)
-link_at table (Some v) (Some w) = unwrap_or (slice_index_or (slice_index_or table.cells v []) w None) no_parts_left
+abbrev pub arc_at : ArcTable → Option ℕ → Option ℕ → ℤ
+arc_at table None None = table.both
+arc_at table (Some v) None = slice_index_or table.rows v (pos 0)
+arc_at table None (Some w) = slice_index_or table.columns w (pos 0)
+arc_at table (Some v) (Some w) = unwrap_or (slice_index_or (slice_index_or table.cells v []) w None) no_parts_left
 
--- of the point with that number, and of the link
+-- of the point with that number, and of the arc
 abbrev pub point_part : List PointTable → States → ℕ → ℤ
 point_part tables states k = option_map_or (λ table. point_at table (states k)) (slice_get tables k) (pos 0)
 
-abbrev pub link_part : List LinkTable → States → ℕ → ℤ
-link_part tables states k = option_map_or (λ table. link_at table (states table.first) (states table.second)) (slice_get tables k) (pos 0)
+abbrev pub arc_part : List ArcTable → States → ℕ → ℤ
+arc_part tables states k = option_map_or (λ table. arc_at table (states table.first) (states table.second)) (slice_get tables k) (pos 0)
 
 -- of all together
-abbrev pub parts_by : LinkedTables → States → ℤ
+abbrev pub parts_by : NetworkTables → States → ℤ
 parts_by tables states =
-    total (point_part tables.points states) (range_with_len 0 (length tables.points)) +ℤ total (link_part tables.links states) (range_with_len 0 (length tables.links))
+    total (point_part tables.points states) (range_with_len 0 (length tables.points)) +ℤ total (arc_part tables.arcs states) (range_with_len 0 (length tables.arcs))
 
 -- ---- what tables are for
 
@@ -74,12 +74,12 @@ AreSettings problem states = (point v : ℕ) → states point ≡ Some v → v <
 -- by point: under all states the table gives the least of its term
 pub record ArePointTables (problem : Problem) (shifts : List Shift) (tables : List PointTable) : Type 0 where
   pub size : length tables ≡ count_of_points problem
-  pub least : (states : States) → AreSettings problem states → (point : ℕ) → point < count_of_points problem → point_part tables states point ≡ least_point problem states (linked_one problem shifts point)
+  pub least : (states : States) → AreSettings problem states → (point : ℕ) → point < count_of_points problem → point_part tables states point ≡ least_point problem states (network_one problem shifts point)
 
--- by number: the same of links
-pub record AreLinkTables (problem : Problem) (shifts : List Shift) (tables : List LinkTable) : Type 0 where
-  pub size : length tables ≡ length (links problem)
-  pub least : (states : States) → AreSettings problem states → (number : ℕ) (link : Pair) → slice_get (linked_pairs shifts 0 (links problem)) number ≡ Some link → link_part tables states number ≡ least_link problem states link
+-- by number: the same of arcs
+pub record AreArcTables (problem : Problem) (shifts : List Shift) (tables : List ArcTable) : Type 0 where
+  pub size : length tables ≡ length (arcs problem)
+  pub least : (states : States) → AreSettings problem states → (number : ℕ) (arc : Pair) → slice_get (network_pairs shifts 0 (arcs problem)) number ≡ Some arc → arc_part tables states number ≡ least_arc problem states arc
 
 -- by switch: under each prefix the table gives its state
 abbrev pub AreSwitchTables : Problem → List SwitchTable → Type 0
@@ -93,7 +93,7 @@ pub record IsSmallPoint (table : PointTable) : Type 0 where
   pub costs : (v : ℕ) → IsWithin 1125899906842624 (slice_index_or table.costs v (pos 0))
   pub free : IsWithin 1125899906842624 table.free
 
-pub record IsSmallLink (table : LinkTable) : Type 0 where
+pub record IsSmallArc (table : ArcTable) : Type 0 where
   pub cells : (v w : ℕ) → IsWithin 1125899906842624 (unwrap_or (slice_index_or (slice_index_or table.cells v []) w None) no_parts_left)
   pub rows : (v : ℕ) → IsWithin 1125899906842624 (slice_index_or table.rows v (pos 0))
   pub columns : (w : ℕ) → IsWithin 1125899906842624 (slice_index_or table.columns w (pos 0))
@@ -102,12 +102,12 @@ pub record IsSmallLink (table : LinkTable) : Type 0 where
 abbrev pub AreSmallPoints : List PointTable → Type 0
 AreSmallPoints tables = (number : ℕ) → IfSome (slice_get tables number) IsSmallPoint
 
-abbrev pub AreSmallLinks : List LinkTable → Type 0
-AreSmallLinks tables = (number : ℕ) → IfSome (slice_get tables number) IsSmallLink
+abbrev pub AreSmallArcs : List ArcTable → Type 0
+AreSmallArcs tables = (number : ℕ) → IfSome (slice_get tables number) IsSmallArc
 
 -- and they are not more than a machine can have
-pub record AreSmallTables (tables : LinkedTables) : Type 0 where
+pub record AreSmallTables (tables : NetworkTables) : Type 0 where
   pub points : AreSmallPoints tables.points
-  pub links : AreSmallLinks tables.links
+  pub arcs : AreSmallArcs tables.arcs
   pub few_points : length tables.points < 18446744073709551616
-  pub few_links : length tables.links < 18446744073709551616
+  pub few_arcs : length tables.arcs < 18446744073709551616

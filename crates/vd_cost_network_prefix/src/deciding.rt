@@ -1,10 +1,10 @@
-//! What is decided, kept from choice to choice with what all points and links come to.
+//! What is decided, kept from choice to choice with what all points and arcs come to.
 
 ghost use Rattle.std.specs.Prelude.{◌≡◌, ◌==◌, ◌<◌, ℕ, [], IsTrue, false, if◌then◌else◌, length, slice_index_or, slice_set, true};
-ghost use Rattle.vd_cost_network_prefix.specs.Reach.{AreDecidedBeside, CanDecide, ComeTo, links_at};
+ghost use Rattle.vd_cost_network_prefix.specs.Reach.{AreDecidedBeside, CanDecide, ComeTo, arcs_at};
 ghost use Rattle.vd_cost_network_prefix.specs.States.{AreSmallTables, as_states, parts_by, states_of};
 
-use crate::made::LinkedTables;
+use crate::made::NetworkTables;
 use crate::reach::Reach;
 use crate::states::point_state;
 use crate::sums::{state_at, sum_of_parts_at};
@@ -12,7 +12,7 @@ use vd_base::Proto;
 use vd_base_lists::Items;
 use vd_space::Problem;
 
-/// What the first choices decide of each point, and what all points and links come to by that.
+/// What the first choices decide of each point, and what all points and arcs come to by that.
 #[derive(PartialEq, Eq, Debug, Drop)]
 pub(crate) struct Known {
     /// By point.
@@ -52,40 +52,40 @@ fn stands(states: &[Option<u32>], point: usize, state: Option<u32>) -> bool
     point >= states.len() || are_same(state_at(states, point), state)
 }
 
-/// Decides a point, whose links are those with these numbers. Answers what all points and links come to then, where they came to
+/// Decides a point, whose arcs are those with these numbers. Answers what all points and arcs come to then, where they came to
 /// so much before.
 fn put(
     states: &mut Items<Option<u32>>,
-    tables: &LinkedTables,
-    links: &[usize],
+    tables: &NetworkTables,
+    arcs: &[usize],
     point: usize,
     state: Option<u32>,
     parts: i128,
 ) -> i128
     requires small { AreSmallTables tables.now }
     requires point { point < length states.old }
-    requires links { links.now ≡ links_at tables.now.links point }
+    requires arcs { arcs.now ≡ arcs_at tables.now.arcs point }
     requires parts { ComeTo tables.now states.old parts }
     ensures states { states.new ≡ slice_set states.old point state }
     ensures parts { result ≡ parts_by tables.now (as_states states.new) }
 {
-    let before = sum_of_parts_at(tables, states.as_slice(), point, links);
+    let before = sum_of_parts_at(tables, states.as_slice(), point, arcs);
     states.set(point, state);
-    let after = sum_of_parts_at(tables, states.as_slice(), point, links);
+    let after = sum_of_parts_at(tables, states.as_slice(), point, arcs);
     parts + (after - before)
 }
 
 /// The same where the point is there and stands otherwise.
 fn change(
     states: &mut Items<Option<u32>>,
-    tables: &LinkedTables,
-    links: &[usize],
+    tables: &NetworkTables,
+    arcs: &[usize],
     point: usize,
     state: Option<u32>,
     parts: i128,
 ) -> i128
     requires small { AreSmallTables tables.now }
-    requires links { point < length states.old → links.now ≡ links_at tables.now.links point }
+    requires arcs { point < length states.old → arcs.now ≡ arcs_at tables.now.arcs point }
     requires parts { ComeTo tables.now states.old parts }
     ensures size { length states.new ≡ length states.old }
     ensures here { point < length states.old → as_states states.new point ≡ state }
@@ -95,17 +95,17 @@ fn change(
     if stands(states.as_slice(), point, state) {
         parts
     } else {
-        put(states, tables, links, point, state, parts)
+        put(states, tables, arcs, point, state, parts)
     }
 }
 
-/// Decides anew the points that a slot may change, by a prefix by which all others are decided. Answers what all points and links
+/// Decides anew the points that a slot may change, by a prefix by which all others are decided. Answers what all points and arcs
 /// come to then, where they came to so much before.
 fn decide_slot(
     states: &mut Items<Option<u32>>,
     problem: &Problem,
     list: &[Proto],
-    tables: &LinkedTables,
+    tables: &NetworkTables,
     reach: &Reach,
     prefix: &[u32],
     slot: usize,
@@ -122,9 +122,9 @@ fn decide_slot(
     let changed = row_at(reach.points.as_slice(), slot);
     let mut sum = parts;
     for point in changed {
-        let links = row_at(reach.links.as_slice(), *point);
+        let arcs = row_at(reach.arcs.as_slice(), *point);
         let state = point_state(problem, list, switches, prefix, *point);
-        sum = change(states, tables, links, *point, state, sum);
+        sum = change(states, tables, arcs, *point, state, sum);
     }
     sum
 }
@@ -135,7 +135,7 @@ pub(crate) fn decide_if(
     known: &mut Known,
     problem: &Problem,
     list: &[Proto],
-    tables: &LinkedTables,
+    tables: &NetworkTables,
     reach: &Reach,
     prefix: &[u32],
     slot: usize,

@@ -1,4 +1,4 @@
-//! The tables by which points and links are bounded. All amounts are in parts of a unit.
+//! The tables by which points and arcs are bounded. All amounts are in parts of a unit.
 
 use vd_base::{HostId, SlotId};
 use vd_base_lists::Items;
@@ -11,10 +11,10 @@ pub struct PointTable {
     pub free: i64,
 }
 
-/// What a link costs, by the settings of its two points, where these join; and at least by the setting of the first where
+/// What an arc costs, by the settings of its two points, where these join; and at least by the setting of the first where
 /// the second is not decided, by that of the second where the first is not, and where neither is.
 #[derive(PartialEq, Eq, Debug, Drop)]
-pub struct LinkTable {
+pub struct ArcTable {
     pub first: u32,
     pub second: u32,
     pub cells: Items<Items<Option<i64>>>,
@@ -31,14 +31,14 @@ pub struct SwitchTable {
     pub members: Items<SlotId>,
 }
 
-/// The tables of a problem and of shifts that name links.
+/// The tables of a problem and of shifts that name arcs.
 #[derive(PartialEq, Eq, Debug, Drop)]
-pub struct LinkedTables {
+pub struct NetworkTables {
     pub shifts: Items<Shift>,
     /// By point: the slots, then the switches.
     pub points: Items<PointTable>,
     /// By number.
-    pub links: Items<LinkTable>,
+    pub arcs: Items<ArcTable>,
     /// By guard, and then by host.
     pub switches: Items<SwitchTable>,
 }

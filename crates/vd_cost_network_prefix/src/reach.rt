@@ -1,12 +1,12 @@
-//! What a choice may change: the points that a slot may decide, and the links that a point has.
+//! What a choice may change: the points that a slot may decide, and the arcs that a point has.
 
 ghost use Rattle.std.specs.Prelude.{◌≡◌, ◌∷◌, ◌++◌, [], IfOk, OnOk, if◌then◌else◌, false, length, slice_get};
 ghost use Rattle.std.specs.Option.{option_map_or};
 ghost use Rattle.vd_space.specs.declared.problem.Guard.{Guard as Guards};
-ghost use Rattle.vd_cost_network_prefix.specs.Reach.{IsReach, changed_by, has_end, links_at, may_change, may_turn, names_slot};
+ghost use Rattle.vd_cost_network_prefix.specs.Reach.{IsReach, changed_by, has_end, arcs_at, may_change, may_turn, names_slot};
 ghost use Rattle.vd_space_prefix.specs.Transfers.{by_place};
 
-use crate::made::{LinkTable, LinkedTables, SwitchTable};
+use crate::made::{ArcTable, NetworkTables, SwitchTable};
 use std::alloc::{AllocError, Global};
 use vd_base::SlotId;
 use vd_base_lists::Items;
@@ -17,8 +17,8 @@ use vd_space::Problem;
 pub(crate) struct Reach {
     /// By slot: the points that it may change.
     pub points: Items<Items<usize>>,
-    /// By point: the links that have it at an end.
-    pub links: Items<Items<usize>>,
+    /// By point: the arcs that have it at an end.
+    pub arcs: Items<Items<usize>>,
 }
 
 /// Whether the slot is one of these.
@@ -83,7 +83,7 @@ fn push_if(numbers: &mut Items<usize>, number: usize, test: bool) -> Result<(), 
 fn changed_by(
     alloc: Global,
     problem: &Problem,
-    tables: &LinkedTables,
+    tables: &NetworkTables,
     slot: usize,
 ) -> Result<Items<usize>, AllocError>
     ensures { IfOk result (λ changed. changed ≡ changed_by problem.now tables.now slot) }
@@ -101,20 +101,20 @@ fn changed_by(
     Ok(changed)
 }
 
-/// Whether the point is at an end of the link.
-fn has_end(link: &LinkTable, point: usize) -> bool
-    ensures { result ≡ has_end point link.now }
+/// Whether the point is at an end of the arc.
+fn has_end(arc: &ArcTable, point: usize) -> bool
+    ensures { result ≡ has_end point arc.now }
 {
-    link.first as usize == point || link.second as usize == point
+    arc.first as usize == point || arc.second as usize == point
 }
 
-/// The numbers of the links that have the point at an end.
-fn links_at(alloc: Global, links: &[LinkTable], point: usize) -> Result<Items<usize>, AllocError>
-    ensures { IfOk result (λ numbers. numbers ≡ links_at links.now point) }
+/// The numbers of the arcs that have the point at an end.
+fn arcs_at(alloc: Global, arcs: &[ArcTable], point: usize) -> Result<Items<usize>, AllocError>
+    ensures { IfOk result (λ numbers. numbers ≡ arcs_at arcs.now point) }
 {
     let mut numbers = Items::new(alloc);
-    for (number, link) in links.iter().enumerate() {
-        if has_end(link, point) {
+    for (number, arc) in arcs.iter().enumerate() {
+        if has_end(arc, point) {
             numbers.push(number)?;
         }
     }
@@ -125,7 +125,7 @@ fn links_at(alloc: Global, links: &[LinkTable], point: usize) -> Result<Items<us
 fn points_by_slot(
     alloc: Global,
     problem: &Problem,
-    tables: &LinkedTables,
+    tables: &NetworkTables,
     slots: usize,
 ) -> Result<Items<Items<usize>>, AllocError>
     ensures { IfOk result (λ rows. rows ≡ by_place slots (changed_by problem.now tables.now)) }
@@ -137,31 +137,31 @@ fn points_by_slot(
     Ok(rows)
 }
 
-/// The links of each of so many points.
-fn links_by_point(
+/// The arcs of each of so many points.
+fn arcs_by_point(
     alloc: Global,
-    links: &[LinkTable],
+    arcs: &[ArcTable],
     points: usize,
 ) -> Result<Items<Items<usize>>, AllocError>
-    ensures { IfOk result (λ rows. rows ≡ by_place points (links_at links.now)) }
+    ensures { IfOk result (λ rows. rows ≡ by_place points (arcs_at arcs.now)) }
 {
     let mut rows = Items::new(alloc);
     for point in 0..points {
-        rows.push(links_at(alloc, links, point)?)?;
+        rows.push(arcs_at(alloc, arcs, point)?)?;
     }
     Ok(rows)
 }
 
 impl Reach {
     /// What choices may change by the tables of a problem.
-    pub fn of(alloc: Global, problem: &Problem, tables: &LinkedTables) -> Result<Reach, AllocError>
+    pub fn of(alloc: Global, problem: &Problem, tables: &NetworkTables) -> Result<Reach, AllocError>
         ensures { IfOk result (IsReach problem.now tables.now) }
     {
         let slots = problem.slots.as_slice().len();
         let points = tables.points.as_slice().len();
         Ok(Reach {
             points: points_by_slot(alloc, problem, tables, slots)?,
-            links: links_by_point(alloc, tables.links.as_slice(), points)?,
+            arcs: arcs_by_point(alloc, tables.arcs.as_slice(), points)?,
         })
     }
 }

@@ -1,13 +1,13 @@
-//! What points and links cost at least by what is decided, and the sum of all.
+//! What points and arcs cost at least by what is decided, and the sum of all.
 
 ghost use Rattle.std.specs.Prelude.{◌≡◌, ◌+◌, ◌*◌, ◌<◌, ◌+ℤ◌, None, [], length, slice_index_or, unwrap_or};
 ghost use Rattle.std.specs.List.{range_with_len};
-ghost use Rattle.vd_cost_network.specs.Linked.{no_parts_left};
-ghost use Rattle.vd_cost_network_prefix.specs.States.{AreSmallLinks, AreSmallPoints, AreSmallTables, IsSmallLink, IsSmallPoint, as_states, link_at, link_part, parts_by, point_at, point_part};
+ghost use Rattle.vd_cost_network.specs.Network.{no_parts_left};
+ghost use Rattle.vd_cost_network_prefix.specs.States.{AreSmallArcs, AreSmallPoints, AreSmallTables, IsSmallArc, IsSmallPoint, as_states, arc_at, arc_part, parts_by, point_at, point_part};
 ghost use Rattle.vd_space_prefix.specs.Transfers.{IsWithin};
 ghost use Rattle.vd_space.specs.Costs.{total};
 
-use crate::made::{LinkTable, LinkedTables, PointTable};
+use crate::made::{ArcTable, NetworkTables, PointTable};
 use vd_base_lists::Items;
 use vd_space_prefix::amount_at;
 
@@ -46,7 +46,7 @@ pub fn number_of(cost: Option<i64>) -> i64
     }
 }
 
-/// What a link costs where both its points are decided.
+/// What an arc costs where both its points are decided.
 fn cell_cost(cells: &[Items<Option<i64>>], first: u32, second: u32) -> i64
     ensures { result ≡ unwrap_or (slice_index_or (slice_index_or cells.now first []) second None) no_parts_left }
 {
@@ -59,10 +59,10 @@ fn cell_cost(cells: &[Items<Option<i64>>], first: u32, second: u32) -> i64
     }
 }
 
-/// What a link costs at least.
-fn link_cost(table: &LinkTable, first: Option<u32>, second: Option<u32>) -> i64
-    requires { IsSmallLink table.now }
-    ensures cost { result ≡ link_at table.now first second }
+/// What an arc costs at least.
+fn arc_cost(table: &ArcTable, first: Option<u32>, second: Option<u32>) -> i64
+    requires { IsSmallArc table.now }
+    ensures cost { result ≡ arc_at table.now first second }
     ensures within { IsWithin 1125899906842624 result }
 {
     match (first, second) {
@@ -99,72 +99,72 @@ fn sum_of_points(tables: &[PointTable], states: &[Option<u32>]) -> i128
     sum
 }
 
-/// What the link with that number comes to.
-fn part_of_link(tables: &[LinkTable], states: &[Option<u32>], number: usize) -> i64
-    requires { AreSmallLinks tables.now }
-    ensures part { result ≡ link_part tables.now (as_states states.now) number }
+/// What the arc with that number comes to.
+fn part_of_arc(tables: &[ArcTable], states: &[Option<u32>], number: usize) -> i64
+    requires { AreSmallArcs tables.now }
+    ensures part { result ≡ arc_part tables.now (as_states states.now) number }
     ensures within { IsWithin 1125899906842624 result }
 {
     match tables.get(number) {
         Some(table) => {
             let first = state_at(states, table.first as usize);
             let second = state_at(states, table.second as usize);
-            link_cost(table, first, second)
+            arc_cost(table, first, second)
         }
         None => 0,
     }
 }
 
-/// What all links come to.
-fn sum_of_links(tables: &[LinkTable], states: &[Option<u32>]) -> i128
-    requires { AreSmallLinks tables.now }
-    ensures sum { result ≡ total (link_part tables.now (as_states states.now)) (range_with_len 0 (length tables.now)) }
+/// What all arcs come to.
+fn sum_of_arcs(tables: &[ArcTable], states: &[Option<u32>]) -> i128
+    requires { AreSmallArcs tables.now }
+    ensures sum { result ≡ total (arc_part tables.now (as_states states.now)) (range_with_len 0 (length tables.now)) }
     ensures within { IsWithin (1125899906842624 * length tables.now) result }
     ensures few { length tables.now < 18446744073709551616 }
 {
     let mut sum = 0;
     for number in 0..tables.len() {
-        sum += i128::from(part_of_link(tables, states, number));
+        sum += i128::from(part_of_arc(tables, states, number));
     }
     sum
 }
 
-/// What all points and links come to, by what is decided of each point.
-pub(crate) fn sum_of_parts(tables: &LinkedTables, states: &[Option<u32>]) -> i128
+/// What all points and arcs come to, by what is decided of each point.
+pub(crate) fn sum_of_parts(tables: &NetworkTables, states: &[Option<u32>]) -> i128
     requires points { AreSmallPoints tables.now.points }
-    requires links { AreSmallLinks tables.now.links }
+    requires arcs { AreSmallArcs tables.now.arcs }
     ensures sum { result ≡ parts_by tables.now (as_states states.now) }
     ensures small { AreSmallTables tables.now }
 {
-    sum_of_points(tables.points.as_slice(), states) + sum_of_links(tables.links.as_slice(), states)
+    sum_of_points(tables.points.as_slice(), states) + sum_of_arcs(tables.arcs.as_slice(), states)
 }
 
-/// What the links with these numbers come to.
-fn sum_of_some(tables: &[LinkTable], states: &[Option<u32>], numbers: &[usize]) -> i128
-    requires { AreSmallLinks tables.now }
-    ensures sum { result ≡ total (link_part tables.now (as_states states.now)) numbers.now }
+/// What the arcs with these numbers come to.
+fn sum_of_some(tables: &[ArcTable], states: &[Option<u32>], numbers: &[usize]) -> i128
+    requires { AreSmallArcs tables.now }
+    ensures sum { result ≡ total (arc_part tables.now (as_states states.now)) numbers.now }
     ensures within { IsWithin (1125899906842624 * length numbers.now) result }
 {
     let mut sum = 0;
     for number in numbers {
-        sum += i128::from(part_of_link(tables, states, *number));
+        sum += i128::from(part_of_arc(tables, states, *number));
     }
     sum
 }
 
-/// What a point and the links with these numbers come to.
+/// What a point and the arcs with these numbers come to.
 pub(crate) fn sum_of_parts_at(
-    tables: &LinkedTables,
+    tables: &NetworkTables,
     states: &[Option<u32>],
     point: usize,
     numbers: &[usize],
 ) -> i128
     requires points { AreSmallPoints tables.now.points }
-    requires links { AreSmallLinks tables.now.links }
+    requires arcs { AreSmallArcs tables.now.arcs }
     ensures sum { result ≡ point_part tables.now.points (as_states states.now) point
-        +ℤ total (link_part tables.now.links (as_states states.now)) numbers.now }
+        +ℤ total (arc_part tables.now.arcs (as_states states.now)) numbers.now }
     ensures within { IsWithin (1125899906842624 * (length numbers.now + 1)) result }
 {
     i128::from(part_of_point(tables.points.as_slice(), states, point))
-        + sum_of_some(tables.links.as_slice(), states, numbers)
+        + sum_of_some(tables.arcs.as_slice(), states, numbers)
 }

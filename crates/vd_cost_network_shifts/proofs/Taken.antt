@@ -1,4 +1,4 @@
--- What the shifts that come to amounts take from links.
+-- What the shifts that come to amounts take from arcs.
 use Rattle.std.proofs.Common.{◌≡◌, ℕ, zero, suc, ◌+◌, add-one, ◌<◌, Bool, true, false, ◌&&◌, List, get_or, inl, inr, refl, sym, ap, ◌∙◌, arith, ℤ, pos, negsuc, ◌+ℤ◌}
 use Rattle.std.specs.Prelude.{◌==◌, ◌≢◌, if◌then◌else◌}
 use Rattle.std.specs.List.{flat_map, range_with_len}
@@ -8,7 +8,7 @@ use Rattle.vd_search_tree.specs.declared.shift.Shift.{Shift}
 use Rattle.vd_space.specs.Bounds.{use_shift}
 use Rattle.vd_space.specs.Costs.{total}
 use Rattle.vd_space.proofs.Totals.{total_append}
-use Rattle.vd_cost_network_shifts.specs.Shifts.{link_shifts, net_shifts, row_shifts, shift_to}
+use Rattle.vd_cost_network_shifts.specs.Shifts.{arc_shifts, net_shifts, row_shifts, shift_to}
 use Rattle.vd_cost_network_shifts.proofs.Making.{flat_more}
 
 -- ---- of lists by number one alone counts
@@ -69,18 +69,18 @@ module _ (at v w : ℕ) where
       none (use_shift at v w) (λ place. shift_to k side place (get_or row place (pos 0))) places
       (λ place low. miss k side place (get_or row place (pos 0)) (ap (λ b. b && place == (if side == 0 then v else w)) (ne_eqb k at other)))
 
-  -- ---- all links
+  -- ---- all arcs
 
-  pub taken : (firsts seconds : ℕ → List ℤ) (places links : ℕ) → at < links → v < places → w < places
-      → total (use_shift at v w) (net_shifts firsts seconds places links) ≡ get_or (firsts at) v (pos 0) +ℤ get_or (seconds at) w (pos 0)
-  taken firsts seconds places links low first second =
-      let all = alone (use_shift at v w) (link_shifts firsts seconds places) at links others low in
+  pub taken : (firsts seconds : ℕ → List ℤ) (places arcs : ℕ) → at < arcs → v < places → w < places
+      → total (use_shift at v w) (net_shifts firsts seconds places arcs) ≡ get_or (firsts at) v (pos 0) +ℤ get_or (seconds at) w (pos 0)
+  taken firsts seconds places arcs low first second =
+      let all = alone (use_shift at v w) (arc_shifts firsts seconds places) at arcs others low in
       let both = total_append (use_shift at v w) (row_shifts at 0 (firsts at) places) (row_shifts at 1 (seconds at) places) in
       let one = this_row 0 (firsts at) places v refl first in
       let two = this_row 1 (seconds at) places w refl second in
       omega (arith, ints, all, both, one, two)
     where
-      others : (k : ℕ) → k ≢ at → total (use_shift at v w) (link_shifts firsts seconds places k) ≡ pos 0
+      others : (k : ℕ) → k ≢ at → total (use_shift at v w) (arc_shifts firsts seconds places k) ≡ pos 0
       others k other =
           let both = total_append (use_shift at v w) (row_shifts k 0 (firsts k) places) (row_shifts k 1 (seconds k) places) in
           let one = other_row k 0 (firsts k) places other in

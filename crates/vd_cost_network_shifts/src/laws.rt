@@ -6,9 +6,9 @@ ghost use Rattle.vd_cost_network_sweeps.specs.declared.nets.Nets.{Nets as Amount
 ghost use Rattle.vd_space.specs.Bounds.{use_shift};
 ghost use Rattle.vd_space.specs.Costs.{total};
 
-/// The shifts that come to amounts take from each link, at settings of its two points, the amounts at its first end and at its
+/// The shifts that come to amounts take from each arc, at settings of its two points, the amounts at its first end and at its
 /// second together.
 pub fn shifts_take_the_amounts()
-    ensures { (nets : Amounts) (places links at v w : ℕ) → at < links → v < places → w < places →
-        total (use_shift at v w) (shifts_by nets places links) ≡ amount_in nets.firsts at v +ℤ amount_in nets.seconds at w }
+    ensures { (nets : Amounts) (places arcs at v w : ℕ) → at < arcs → v < places → w < places →
+        total (use_shift at v w) (shifts_by nets places arcs) ≡ amount_in nets.firsts at v +ℤ amount_in nets.seconds at w }
 {}

@@ -2,7 +2,7 @@
 
 ghost use Rattle.std.specs.Prelude.{◌≡◌, ◌<◌, ◌≤◌, IfOk, IfSome, OnOk};
 ghost use Rattle.vd_cost_network_sweeps.specs.Rows.{row_of};
-ghost use Rattle.vd_cost_network_shifts.specs.Shifts.{Adds, AreShiftsOf, Puts, PutsRow, link_shifts, row_shifts, shift_to, shifts_by};
+ghost use Rattle.vd_cost_network_shifts.specs.Shifts.{Adds, AreShiftsOf, Puts, PutsRow, arc_shifts, row_shifts, shift_to, shifts_by};
 
 use std::alloc::{AllocError, Global};
 use vd_base::limits;
@@ -44,7 +44,7 @@ fn put_shift(
     Ok(true)
 }
 
-/// Adds the shifts at one end of a link, by the settings of a row. Answers whether shifts can have all the amounts.
+/// Adds the shifts at one end of an arc, by the settings of a row. Answers whether shifts can have all the amounts.
 fn put_row(
     shifts: &mut Items<Shift>,
     at: u32,
@@ -65,8 +65,8 @@ fn put_row(
     Ok(true)
 }
 
-/// Adds the shifts of a link, at so many places of each end. Answers whether shifts can have all the amounts.
-fn put_link(
+/// Adds the shifts of an arc, at so many places of each end. Answers whether shifts can have all the amounts.
+fn put_arc(
     shifts: &mut Items<Shift>,
     at: u32,
     places: usize,
@@ -74,7 +74,7 @@ fn put_link(
 ) -> Result<bool, AllocError>
     requires places { places ≤ 256 }
     ensures puts { OnOk result (PutsRow at places shifts.old shifts.new) }
-    ensures adds { IfOk result (Adds (link_shifts (row_of nets.now.firsts) (row_of nets.now.seconds) places at)
+    ensures adds { IfOk result (Adds (arc_shifts (row_of nets.now.firsts) (row_of nets.now.seconds) places at)
         shifts.old shifts.new) }
 {
     let firsts = row_at(nets.firsts.as_slice(), at as usize);
@@ -85,41 +85,41 @@ fn put_link(
     put_row(shifts, at, 1, places, seconds)
 }
 
-/// The shifts of so many links, at so many places of each end, that come to these amounts; none where an amount is too great for a
+/// The shifts of so many arcs, at so many places of each end, that come to these amounts; none where an amount is too great for a
 /// shift, or they are too many for a certificate.
 fn shifts_of_few(
     alloc: Global,
-    links: usize,
+    arcs: usize,
     places: usize,
     nets: &Nets,
 ) -> Result<Option<Items<Shift>>, AllocError>
-    requires links { links ≤ 4294967295 }
+    requires arcs { arcs ≤ 4294967295 }
     requires places { places ≤ 256 }
-    ensures shifts { IfOk result (λ found. IfSome found (AreShiftsOf links places)) }
-    ensures amounts { IfOk result (λ found. IfSome found (λ shifts. shifts ≡ shifts_by nets.now places links)) }
+    ensures shifts { IfOk result (λ found. IfSome found (AreShiftsOf arcs places)) }
+    ensures amounts { IfOk result (λ found. IfSome found (λ shifts. shifts ≡ shifts_by nets.now places arcs)) }
 {
     let mut shifts = Items::new(alloc);
-    for at in 0..links {
-        if !put_link(&mut shifts, at as u32, places, nets)? {
+    for at in 0..arcs {
+        if !put_arc(&mut shifts, at as u32, places, nets)? {
             return Ok(None);
         }
     }
     Ok(Some(shifts))
 }
 
-/// The same of any number of links; none too where the number of a link is too great for a shift.
+/// The same of any number of arcs; none too where the number of an arc is too great for a shift.
 pub fn shifts_of(
     alloc: Global,
-    links: usize,
+    arcs: usize,
     places: usize,
     nets: &Nets,
 ) -> Result<Option<Items<Shift>>, AllocError>
     requires places { places ≤ 256 }
-    ensures shifts { IfOk result (λ found. IfSome found (AreShiftsOf links places)) }
-    ensures amounts { IfOk result (λ found. IfSome found (λ shifts. shifts ≡ shifts_by nets.now places links)) }
+    ensures shifts { IfOk result (λ found. IfSome found (AreShiftsOf arcs places)) }
+    ensures amounts { IfOk result (λ found. IfSome found (λ shifts. shifts ≡ shifts_by nets.now places arcs)) }
 {
-    if links > u32::MAX as usize {
+    if arcs > u32::MAX as usize {
         return Ok(None);
     }
-    shifts_of_few(alloc, links, places, nets)
+    shifts_of_few(alloc, arcs, places, nets)
 }

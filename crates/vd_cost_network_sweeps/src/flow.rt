@@ -1,4 +1,4 @@
-//! What sweeps one way carry over the links.
+//! What sweeps one way carry over the arcs.
 
 use crate::network::{End, Network};
 use crate::numbers::{
@@ -8,12 +8,12 @@ use crate::shares::{Shares, share_of};
 use crate::tables::Tables;
 use std::alloc::{AllocError, Global};
 
-/// What sweeps one way carry over a link, from the point on the near side of it to the one on the far side.
+/// What sweeps one way carry over an arc, from the point on the near side of it to the one on the far side.
 #[derive(Drop)]
 struct Carried {
-    /// What is put on the near point and taken from the link, by the settings of that point.
+    /// What is put on the near point and taken from the arc, by the settings of that point.
     held: Vec<i32>,
-    /// What the link then costs at least, by the settings of the far point.
+    /// What the arc then costs at least, by the settings of the far point.
     told: Vec<i32>,
 }
 
@@ -26,12 +26,12 @@ impl Carried {
         })
     }
 
-    /// How many prices the link has.
+    /// How many prices the arc has.
     fn prices(&self) -> u64 {
         self.held.len().saturating_mul(self.told.len()) as u64
     }
 
-    /// Holds what the link costs at least by the settings of the near point, less the share of a turn. Answers whether that is
+    /// Holds what the arc costs at least by the settings of the near point, less the share of a turn. Answers whether that is
     /// another amount than before at some setting.
     fn hold(&mut self, costs: &[i32], shares: &Shares, turn: i32) -> bool {
         let mut changes = 0;
@@ -56,7 +56,7 @@ impl Carried {
         changes != 0
     }
 
-    /// Computes what is told of what is held, where the far point is at this end of the link, and changes by that what all links
+    /// Computes what is told of what is held, where the far point is at this end of the arc, and changes by that what all arcs
     /// tell that point. Answers whether it is another amount than before at some setting.
     fn tell(&mut self, tables: &Tables, end: End, sums: &mut Vec<i32>) -> bool {
         let by_near = tables.rows(end.turned());
@@ -67,7 +67,7 @@ impl Carried {
         }
     }
 
-    /// The same by what the link costs from either of the two settings of the near point.
+    /// The same by what the arc costs from either of the two settings of the near point.
     fn tell_of_two(&mut self, first: &[i32], second: &[i32], sums: &mut Vec<i32>) -> bool {
         let from_first = small_at(self.held.as_slice(), 0);
         let from_second = small_at(self.held.as_slice(), 1);
@@ -85,7 +85,7 @@ impl Carried {
         changes != 0
     }
 
-    /// The same by what the link costs, with a row for each setting of the far point.
+    /// The same by what the arc costs, with a row for each setting of the far point.
     fn tell_of_all(&mut self, rows: &[Vec<i32>], sums: &mut Vec<i32>) -> bool {
         let mut changes = 0;
         for (place, (told, prices)) in self.told.iter_mut().zip(rows).enumerate() {
@@ -108,17 +108,17 @@ fn least_after(prices: &[i32], held: &[i32]) -> i32 {
     least
 }
 
-/// What sweeps one way carry over all links.
+/// What sweeps one way carry over all arcs.
 #[derive(Drop)]
 pub struct Flow {
-    links: Vec<Carried>,
-    /// By point, and then by its settings: what all links tell it together.
+    arcs: Vec<Carried>,
+    /// By point, and then by its settings: what all arcs tell it together.
     sums: Vec<Vec<i32>>,
     /// By point: the least that it costs with what it is told and what it holds.
     leasts: Vec<i32>,
     /// The sum of these. No list costs less.
     pub bound: i64,
-    /// How much was computed: a price of a link that is looked at counts 1.
+    /// How much was computed: a price of an arc that is looked at counts 1.
     pub work: u64,
     /// By point: whether what it costs or is told has changed since it was visited.
     is_waiting: Vec<bool>,
@@ -132,7 +132,7 @@ impl Flow {
         network: &Network,
         forward: bool,
     ) -> Result<Flow, AllocError> {
-        let mut links = Vec::with_capacity(alloc, network.firsts.len())?;
+        let mut arcs = Vec::with_capacity(alloc, network.firsts.len())?;
         let mut sums = Vec::with_capacity(alloc, tables.costs.len())?;
         for costs in &tables.costs {
             sums.push(small_zeros(alloc, costs.len())?)?;
@@ -150,11 +150,11 @@ impl Flow {
             if far.point < sums.len() {
                 carried.tell(tables, far, &mut sums[far.point]);
             }
-            links.push(carried)?;
+            arcs.push(carried)?;
         }
         let points = network.by_point.len();
         Ok(Flow {
-            links,
+            arcs,
             sums,
             leasts: small_zeros(alloc, points)?,
             bound: 0,
@@ -181,28 +181,28 @@ impl Flow {
         }
     }
 
-    /// What all links tell a point together, by its settings.
+    /// What all arcs tell a point together, by its settings.
     pub(crate) fn sums(&self, point: usize) -> &[i32] {
         small_row_at(self.sums.as_slice(), point)
     }
 
-    /// What is told over a link, by the settings of its far point.
+    /// What is told over an arc, by the settings of its far point.
     pub(crate) fn told(&self, at: usize) -> &[i32] {
-        match self.links.get(at) {
+        match self.arcs.get(at) {
             Some(carried) => carried.told.as_slice(),
             None => &[],
         }
     }
 
-    /// What is held of a link, by the settings of its near point.
+    /// What is held of an arc, by the settings of its near point.
     pub(crate) fn held(&self, at: usize) -> &[i32] {
-        match self.links.get(at) {
+        match self.arcs.get(at) {
             Some(carried) => carried.held.as_slice(),
             None => &[],
         }
     }
 
-    /// Holds these amounts at the near end of a link, by the settings of its point, where those in the tables have these places.
+    /// Holds these amounts at the near end of an arc, by the settings of its point, where those in the tables have these places.
     pub(crate) fn hold_all(
         &mut self,
         tables: &Tables,
@@ -210,8 +210,8 @@ impl Flow {
         amounts: &[i64],
         places: &[usize],
     ) {
-        if near.at < self.links.len() && near.other < self.sums.len() {
-            let carried = &mut self.links[near.at];
+        if near.at < self.arcs.len() && near.other < self.sums.len() {
+            let carried = &mut self.arcs[near.at];
             for (held, place) in carried.held.iter_mut().zip(places) {
                 *held = nearest_small(number_at(amounts, *place).wrapping_shr(tables.bits));
             }
@@ -232,7 +232,7 @@ impl Flow {
         self.bound = self.bound.saturating_add(change);
     }
 
-    /// Gives the share of a turn to the link of an end, whose point is the near one, where the link costs so much at least by
+    /// Gives the share of a turn to the arc of an end, whose point is the near one, where the arc costs so much at least by
     /// the settings of that point. Answers whether what is told over it is another amount than before.
     pub(crate) fn give(
         &mut self,
@@ -242,8 +242,8 @@ impl Flow {
         shares: &Shares,
         turn: i32,
     ) -> bool {
-        if end.at < self.links.len() && end.other < self.sums.len() {
-            let carried = &mut self.links[end.at];
+        if end.at < self.arcs.len() && end.other < self.sums.len() {
+            let carried = &mut self.arcs[end.at];
             if !carried.hold(costs, shares, turn) {
                 return false;
             }
@@ -255,7 +255,7 @@ impl Flow {
         false
     }
 
-    /// Gives the share of a turn of what is held of the link of an end to the link.
+    /// Gives the share of a turn of what is held of the arc of an end to the arc.
     pub(crate) fn give_back(
         &mut self,
         tables: &Tables,
@@ -263,8 +263,8 @@ impl Flow {
         shares: &Shares,
         turn: i32,
     ) -> bool {
-        if end.at < self.links.len() && end.other < self.sums.len() {
-            let carried = &mut self.links[end.at];
+        if end.at < self.arcs.len() && end.other < self.sums.len() {
+            let carried = &mut self.arcs[end.at];
             if !carried.lower(shares, turn) {
                 return false;
             }

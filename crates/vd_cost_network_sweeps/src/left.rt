@@ -1,4 +1,4 @@
-//! Which settings are left, where those go that can stand in no valid list: each that has no partner at one of its links.
+//! Which settings are left, where those go that can stand in no valid list: each that has no partner at one of its arcs.
 
 use crate::network::{End, Network};
 use crate::numbers::FAR;
@@ -6,7 +6,7 @@ use crate::order::Order;
 use std::alloc::{AllocError, Global};
 use std::collections::VecDeque;
 use vd_base_lists::Items;
-use vd_cost_network_prefix::{LinkTable, LinkedTables, PointTable, SwitchTable};
+use vd_cost_network_prefix::{ArcTable, NetworkTables, PointTable, SwitchTable};
 use vd_space::Problem;
 
 /// What a point costs that cannot be at a setting, in parts.
@@ -37,7 +37,7 @@ impl Left {
     pub fn of(
         alloc: Global,
         problem: &Problem,
-        tables: &LinkedTables,
+        tables: &NetworkTables,
         candidates: &[Items<bool>],
         network: &Network,
         order: &Order,
@@ -60,7 +60,7 @@ impl Left {
                 }
             }
         }
-        left.prune_all(alloc, tables.links.as_slice(), network)?;
+        left.prune_all(alloc, tables.arcs.as_slice(), network)?;
         Ok(left)
     }
 
@@ -89,12 +89,12 @@ impl Left {
         Ok(())
     }
 
-    /// Prunes until nothing changes: at first the links of each point, and again those of a point that lost a setting. No point
+    /// Prunes until nothing changes: at first the arcs of each point, and again those of a point that lost a setting. No point
     /// loses more than it has, so the turns suffice.
     fn prune_all(
         &mut self,
         alloc: Global,
-        links: &[LinkTable],
+        arcs: &[ArcTable],
         network: &Network,
     ) -> Result<(), AllocError> {
         let points = self.live.len();
@@ -105,7 +105,7 @@ impl Left {
             };
             for end in network.of_point(point) {
                 let end = end.turned();
-                if self.prune(links, end)? {
+                if self.prune(arcs, end)? {
                     queue.put(end.point)?;
                 }
             }
@@ -113,11 +113,11 @@ impl Left {
         Ok(())
     }
 
-    /// Lets each setting of the point go that has no partner at the link. Answers whether one went.
-    fn prune(&mut self, links: &[LinkTable], end: End) -> Result<bool, AllocError> {
+    /// Lets each setting of the point go that has no partner at the arc. Answers whether one went.
+    fn prune(&mut self, arcs: &[ArcTable], end: End) -> Result<bool, AllocError> {
         let mut has_changed = false;
         for setting in 0..self.most {
-            if self.is_live(end.point, setting) && !self.has_partner(links, end, setting) {
+            if self.is_live(end.point, setting) && !self.has_partner(arcs, end, setting) {
                 self.kill(end, setting)?;
                 has_changed = true;
             }
@@ -134,9 +134,9 @@ impl Left {
     }
 
     /// Whether a setting that is left for the other point joins the setting.
-    fn has_partner(&self, links: &[LinkTable], end: End, setting: usize) -> bool {
+    fn has_partner(&self, arcs: &[ArcTable], end: End, setting: usize) -> bool {
         for partner in 0..self.most {
-            if self.is_live(end.other, partner) && end.price(links, setting, partner) < FAR {
+            if self.is_live(end.other, partner) && end.price(arcs, setting, partner) < FAR {
                 return true;
             }
         }

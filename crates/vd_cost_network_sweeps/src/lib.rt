@@ -1,4 +1,4 @@
-//! Sweeps over the points and links of a problem: amounts go to and fro between the terms of points and links, so that the sum
+//! Sweeps over the points and arcs of a problem: amounts go to and fro between the terms of points and arcs, so that the sum
 //! of their least values rises. Nothing is promised of the amounts.
 #![tactic(auto)]
 

@@ -4,7 +4,7 @@ use crate::network::{End, Side};
 use crate::numbers::{add_at, put_at, row_at, settings_at, zeros};
 use std::alloc::{AllocError, Global};
 
-/// For each link, by setting, what is put on the point at either end and taken from the link.
+/// For each arc, by setting, what is put on the point at either end and taken from the arc.
 #[derive(Drop)]
 pub struct Nets {
     pub firsts: Vec<Vec<i64>>,
@@ -12,13 +12,13 @@ pub struct Nets {
 }
 
 impl Nets {
-    /// Nothing, with so many settings for the points at either end of each link.
-    pub fn none(alloc: Global, links: &[End], counts: &[usize]) -> Result<Nets, AllocError> {
+    /// Nothing, with so many settings for the points at either end of each arc.
+    pub fn none(alloc: Global, arcs: &[End], counts: &[usize]) -> Result<Nets, AllocError> {
         let mut nets = Nets {
             firsts: Vec::new(alloc),
             seconds: Vec::new(alloc),
         };
-        for first in links {
+        for first in arcs {
             nets.firsts
                 .push(zeros(alloc, count_at(counts, first.point))?)?;
             nets.seconds

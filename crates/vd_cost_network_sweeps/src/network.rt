@@ -1,9 +1,9 @@
-//! Points and the links between them, as points see them. Each point is named by its place in the order of sweeps.
+//! Points and the arcs between them, as points see them. Each point is named by its place in the order of sweeps.
 
 use crate::numbers::FAR;
 use crate::order::Order;
 use std::alloc::{AllocError, Global};
-use vd_cost_network_prefix::LinkTable;
+use vd_cost_network_prefix::ArcTable;
 
 #[derive(Clone, Copy, PartialEq, Eq, Debug)]
 pub enum Side {
@@ -11,10 +11,10 @@ pub enum Side {
     Second,
 }
 
-/// One end of a link.
+/// One end of an arc.
 #[derive(Clone, Copy, PartialEq, Eq, Debug)]
 pub struct End {
-    /// The number of the link.
+    /// The number of the arc.
     pub at: usize,
     pub side: Side,
     /// The point at this end.
@@ -43,21 +43,21 @@ impl End {
         (self.other > self.point) == forward
     }
 
-    /// What the link costs where this end is at one setting and the other at another; `FAR` where these do not join.
-    pub fn price(self, links: &[LinkTable], here: usize, there: usize) -> i64 {
-        match links.get(self.at) {
-            Some(link) => match self.side {
-                Side::First => cell(link, here, there),
-                Side::Second => cell(link, there, here),
+    /// What the arc costs where this end is at one setting and the other at another; `FAR` where these do not join.
+    pub fn price(self, arcs: &[ArcTable], here: usize, there: usize) -> i64 {
+        match arcs.get(self.at) {
+            Some(arc) => match self.side {
+                Side::First => cell(arc, here, there),
+                Side::Second => cell(arc, there, here),
             },
             None => FAR,
         }
     }
 }
 
-/// What a link costs at these settings; `FAR` where they do not join.
-fn cell(link: &LinkTable, first: usize, second: usize) -> i64 {
-    match link.cells.as_slice().get(first) {
+/// What an arc costs at these settings; `FAR` where they do not join.
+fn cell(arc: &ArcTable, first: usize, second: usize) -> i64 {
+    match arc.cells.as_slice().get(first) {
         Some(row) => match row.as_slice().get(second) {
             Some(Some(cost)) => *cost,
             _ => FAR,
@@ -66,31 +66,31 @@ fn cell(link: &LinkTable, first: usize, second: usize) -> i64 {
     }
 }
 
-/// The links: the first ends of all, and for each point its ends of them, by number.
+/// The arcs: the first ends of all, and for each point its ends of them, by number.
 #[derive(Drop)]
 pub struct Network {
     pub firsts: Vec<End>,
     pub by_point: Vec<Vec<End>>,
-    /// Of these the ends of links to points that come earlier, and those to points that come later.
+    /// Of these the ends of arcs to points that come earlier, and those to points that come later.
     earlier: Vec<Vec<End>>,
     later: Vec<Vec<End>>,
 }
 
 impl Network {
-    pub fn of(alloc: Global, links: &[LinkTable], order: &Order) -> Result<Network, AllocError> {
+    pub fn of(alloc: Global, arcs: &[ArcTable], order: &Order) -> Result<Network, AllocError> {
         let points = order.points.len();
         let mut network = Network {
-            firsts: Vec::with_capacity(alloc, links.len())?,
+            firsts: Vec::with_capacity(alloc, arcs.len())?,
             by_point: no_ends(alloc, points)?,
             earlier: no_ends(alloc, points)?,
             later: no_ends(alloc, points)?,
         };
-        for (at, link) in links.iter().enumerate() {
+        for (at, arc) in arcs.iter().enumerate() {
             let first = End {
                 at,
                 side: Side::First,
-                point: order.rank(link.first),
-                other: order.rank(link.second),
+                point: order.rank(arc.first),
+                other: order.rank(arc.second),
             };
             network.firsts.push(first)?;
             network.put(first)?;
@@ -99,7 +99,7 @@ impl Network {
         Ok(network)
     }
 
-    /// Puts an end of a link to those of its point.
+    /// Puts an end of an arc to those of its point.
     fn put(&mut self, end: End) -> Result<(), AllocError> {
         push_at(&mut self.by_point, end)?;
         if end.is_ahead(true) {
@@ -109,12 +109,12 @@ impl Network {
         }
     }
 
-    /// The ends of links that a point has.
+    /// The ends of arcs that a point has.
     pub fn of_point(&self, point: usize) -> &[End] {
         ends_at(self.by_point.as_slice(), point)
     }
 
-    /// Those of links to points that come later on the way.
+    /// Those of arcs to points that come later on the way.
     pub(crate) fn ahead(&self, point: usize, forward: bool) -> &[End] {
         if forward {
             ends_at(self.later.as_slice(), point)

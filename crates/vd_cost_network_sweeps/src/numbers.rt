@@ -8,7 +8,7 @@ use std::alloc::{AllocError, Global};
 /// More than any sum of costs in parts: what it would cost to do what cannot be done.
 pub const FAR: i64 = 1125899906842624;
 
-/// All that points and links cost together is no greater, in steps.
+/// All that points and arcs cost together is no greater, in steps.
 pub(crate) const SMALL: i64 = 536_870_912;
 
 /// More than any such sum: what it would cost to do what cannot be done, in steps.

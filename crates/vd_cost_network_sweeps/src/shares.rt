@@ -1,10 +1,10 @@
-//! What a point costs by its settings, and how what is above the least is split over its links.
+//! What a point costs by its settings, and how what is above the least is split over its arcs.
 
 use crate::network::Network;
 use crate::numbers::{SMALL_FAR, number_at, put, small_at, small_zeros, zeros};
 use std::alloc::{AllocError, Global};
 
-/// How what a point gives is split over the links that are ahead: in equal parts for all of them, and for as many behind.
+/// How what a point gives is split over the arcs that are ahead: in equal parts for all of them, and for as many behind.
 #[derive(Clone, Copy, PartialEq, Eq, Debug)]
 pub struct Split {
     ahead: u32,
@@ -15,7 +15,7 @@ pub struct Split {
 }
 
 impl Split {
-    /// Of so many links ahead and behind; none where no link is ahead.
+    /// Of so many arcs ahead and behind; none where no arc is ahead.
     pub fn of(ahead: usize, behind: usize) -> Option<Split> {
         if ahead == 0 {
             return None;
@@ -23,12 +23,12 @@ impl Split {
         Some(Split::in_parts(nearest_count(ahead), nearest_count(ahead.max(behind))))
     }
 
-    /// All for one link.
+    /// All for one arc.
     pub fn whole() -> Split {
         Split::in_parts(1, 1)
     }
 
-    /// For so many links ahead, where so many parts are made. The factor is great enough for all numbers below 2^31.
+    /// For so many arcs ahead, where so many parts are made. The factor is great enough for all numbers below 2^31.
     fn in_parts(ahead: u32, parts: u32) -> Split {
         let bits = 63u32.saturating_sub(parts.saturating_sub(1).leading_zeros());
         let factor = (1u64.wrapping_shl(bits) / u64::from(parts).max(1)).wrapping_add(1);
@@ -49,7 +49,7 @@ impl Split {
         )
     }
 
-    /// How many links ahead get one more, where so much is left over: their part of it, rounded up.
+    /// How many arcs ahead get one more, where so much is left over: their part of it, rounded up.
     fn shared(self, left_over: u32) -> u32 {
         if self.ahead == self.parts {
             return left_over;
@@ -83,21 +83,21 @@ pub(crate) fn split_at(splits: &[Option<Split>], point: usize) -> Option<Split> 
     }
 }
 
-/// What a point costs by its settings, and what of it goes to its links.
+/// What a point costs by its settings, and what of it goes to its arcs.
 #[derive(Drop)]
 pub struct Shares {
     /// How many settings the point has.
     count: usize,
     totals: Vec<i32>,
-    /// What each link gets at least, by setting.
+    /// What each arc gets at least, by setting.
     pub parts: Vec<i32>,
-    /// As many links, the first ones, get one more there.
+    /// As many arcs, the first ones, get one more there.
     pub more: Vec<i32>,
     /// Room for sums in which a price may be that of what cannot be done.
     sums: Vec<i64>,
-    /// So many links get something.
-    links: u32,
-    /// The number of the sweep, by which the links take turns with what is left over.
+    /// So many arcs get something.
+    arcs: u32,
+    /// The number of the sweep, by which the arcs take turns with what is left over.
     turn: u32,
 }
 
@@ -110,7 +110,7 @@ impl Shares {
             parts: small_zeros(alloc, most)?,
             more: small_zeros(alloc, most)?,
             sums: zeros(alloc, most)?,
-            links: 0,
+            arcs: 0,
             turn: 0,
         })
     }
@@ -125,7 +125,7 @@ impl Shares {
         self.turn = self.turn.wrapping_add(1);
     }
 
-    /// Begins with what a point costs alone, and what its links tell it in sweeps either way.
+    /// Begins with what a point costs alone, and what its arcs tell it in sweeps either way.
     pub(crate) fn sum_up(&mut self, costs: &[i32], told: &[i32], told_back: &[i32]) {
         self.count = costs.len();
         let amounts = costs.iter().zip(told).zip(told_back);
@@ -207,7 +207,7 @@ impl Shares {
 
     /// Splits what the point costs above its least.
     pub(crate) fn split(&mut self, split: Split, least: i32) {
-        self.links = split.ahead;
+        self.arcs = split.ahead;
         for setting in 0..self.count {
             let above = small_at(self.totals.as_slice(), setting).saturating_sub(least);
             let above = above.max(0) as u32;
@@ -218,26 +218,22 @@ impl Shares {
         }
     }
 
-    /// Whose turn the first of the links is in this sweep; none where no link gets anything.
+    /// Whose turn the first of the arcs is in this sweep; none where no arc gets anything.
     pub(crate) fn first_turn(&self) -> Option<i32> {
-        if self.links == 0 {
+        if self.arcs == 0 {
             return None;
         }
-        Some(number_of(self.turn % self.links))
+        Some(number_of(self.turn % self.arcs))
     }
 
-    /// Whose turn the link behind one with that turn is.
+    /// Whose turn the arc behind one with that turn is.
     pub(crate) fn turn_after(&self, turn: i32) -> i32 {
         let next = turn.saturating_add(1);
-        if next < number_of(self.links) {
-            next
-        } else {
-            0
-        }
+        if next < number_of(self.arcs) { next } else { 0 }
     }
 }
 
-/// What a link with a turn gets, where each gets this part, and as many links, the first ones, get one more.
+/// What an arc with a turn gets, where each gets this part, and as many arcs, the first ones, get one more.
 pub(crate) fn share_of(part: i32, more: i32, turn: i32) -> i32 {
     part.wrapping_sub(minus_one_below(turn, more))
 }

@@ -1,5 +1,5 @@
-//! Sweeps over the points. Each point is told by its links what these cost at least from each of its settings, and gives what it
-//! then has above its least to the links that are ahead. A sweep visits a point again only where something changed that it is
+//! Sweeps over the points. Each point is told by its arcs what these cost at least from each of its settings, and gives what it
+//! then has above its least to the arcs that are ahead. A sweep visits a point again only where something changed that it is
 //! told, or that it costs.
 
 use crate::flow::Flow;
@@ -105,7 +105,7 @@ impl State {
         Ok(state)
     }
 
-    /// Holds these amounts at the near ends of all links, as a sweep that way.
+    /// Holds these amounts at the near ends of all arcs, as a sweep that way.
     fn hold_all(
         &mut self,
         tables: &Tables,
@@ -160,7 +160,7 @@ impl State {
         i64::from(total).saturating_sub(self.last().least(point))
     }
 
-    /// How much was computed so far, where to look at a price of a link counts 1.
+    /// How much was computed so far, where to look at a price of an arc counts 1.
     pub fn work(&self) -> u64 {
         self.forward
             .work
@@ -271,7 +271,7 @@ impl State {
         }
     }
 
-    /// A sweep backward over all points, in which each gives all that it has above its least to its link to the nearest point
+    /// A sweep backward over all points, in which each gives all that it has above its least to its arc to the nearest point
     /// before it.
     pub fn send_home(&mut self, tables: &Tables, network: &Network) {
         self.come_back(tables, network);
@@ -290,7 +290,7 @@ impl State {
         }
     }
 
-    /// The list that puts each point that is not fixed, in order, where it costs least together with its links to the points
+    /// The list that puts each point that is not fixed, in order, where it costs least together with its arcs to the points
     /// before it, and with what those to the points behind it tell it; behind a sweep forward, with what it holds of these.
     pub fn decoded(
         &mut self,
@@ -315,7 +315,7 @@ impl State {
         Ok(Witness::of(list, cost))
     }
 
-    /// The first setting at which a point costs least, as it was summed up, and with what its links to the points behind it tell
+    /// The first setting at which a point costs least, as it was summed up, and with what its arcs to the points behind it tell
     /// it; behind a sweep forward, with what it holds of these.
     fn best_setting(&mut self, network: &Network, point: usize) -> usize {
         if !self.is_forward {
@@ -328,7 +328,7 @@ impl State {
         self.shares.best_with_more()
     }
 
-    /// Sums up what a point costs by its settings together with its links to the points before it, which stand in a list.
+    /// Sums up what a point costs by its settings together with its arcs to the points before it, which stand in a list.
     fn sum_prices(&mut self, tables: &Tables, ends: &[End], point: usize, list: &[usize]) {
         self.shares
             .begin_sums(small_row_at(tables.costs.as_slice(), point));
@@ -395,15 +395,14 @@ fn work_of_all(tables: &Tables, network: &Network) -> u64 {
     work
 }
 
-/// What it takes to sum up what a point costs, and to split it over its links.
+/// What it takes to sum up what a point costs, and to split it over its arcs.
 fn work_of(costs: &[i32], ends: &[End]) -> u64 {
-    let links = ends.len() as u64;
-    links
-        .saturating_add(SPLIT)
+    let arcs = ends.len() as u64;
+    arcs.saturating_add(SPLIT)
         .saturating_mul(costs.len() as u64)
 }
 
-/// What a sweep does at a point, which has these ends of links ahead.
+/// What a sweep does at a point, which has these ends of arcs ahead.
 fn visit(
     shares: &mut Shares,
     here: &mut Flow,
@@ -424,7 +423,7 @@ fn visit(
     }
 }
 
-/// Gives their shares to the links that are ahead.
+/// Gives their shares to the arcs that are ahead.
 fn give_all(shares: &Shares, here: &mut Flow, back: &mut Flow, tables: &Tables, ahead: &[End]) {
     let Some(mut turn) = shares.first_turn() else {
         return;
@@ -435,7 +434,7 @@ fn give_all(shares: &Shares, here: &mut Flow, back: &mut Flow, tables: &Tables, 
     }
 }
 
-/// The same, where all goes to the link to the nearest point before it.
+/// The same, where all goes to the arc to the nearest point before it.
 fn send_back(
     shares: &mut Shares,
     here: &mut Flow,
@@ -469,7 +468,7 @@ fn send_back(
     }
 }
 
-/// Gives the share of a turn to the link of an end, and wakes the other point where it is told something else by that.
+/// Gives the share of a turn to the arc of an end, and wakes the other point where it is told something else by that.
 fn give(shares: &Shares, here: &mut Flow, back: &mut Flow, tables: &Tables, end: End, turn: i32) {
     if here.give(tables, end, back.told(end.at), shares, turn) {
         here.wake(end.other);
@@ -477,7 +476,7 @@ fn give(shares: &Shares, here: &mut Flow, back: &mut Flow, tables: &Tables, end:
     }
 }
 
-/// The end of a link whose other point is before this one, and of these the last; the first of equals.
+/// The end of an arc whose other point is before this one, and of these the last; the first of equals.
 pub fn nearest_before(ends: &[End]) -> Option<End> {
     let mut nearest: Option<End> = None;
     for end in ends {

@@ -1,15 +1,15 @@
-//! What points and links cost by the settings that are left, in steps: parts of a unit, or so many bits more where costs are great.
+//! What points and arcs cost by the settings that are left, in steps: parts of a unit, or so many bits more where costs are great.
 
 use crate::network::{End, Network, Side};
 use crate::numbers::{FAR, SMALL, SMALL_FAR, add_small, nearest_small, settings_at};
 use crate::order::Order;
 use std::alloc::{AllocError, Global};
-use vd_cost_network_prefix::{LinkTable, LinkedTables, PointTable};
+use vd_cost_network_prefix::{ArcTable, NetworkTables, PointTable};
 
 /// A step has at most so many bits more than a part of a unit: more than the limits of sources ever ask for.
 const MOST_BITS: u32 = 32;
 
-/// What a link costs by the settings that are left at both ends: a row for each setting at one end, with `SMALL_FAR` where two
+/// What an arc costs by the settings that are left at both ends: a row for each setting at one end, with `SMALL_FAR` where two
 /// settings do not join.
 #[derive(Drop)]
 struct Prices {
@@ -38,9 +38,9 @@ pub struct Tables {
     pub bits: u32,
     /// By point and setting.
     pub costs: Vec<Vec<i32>>,
-    /// What links cost, each once.
+    /// What arcs cost, each once.
     prices: Vec<Prices>,
-    /// By link: the number of its prices.
+    /// By arc: the number of its prices.
     kinds: Vec<usize>,
 }
 
@@ -48,7 +48,7 @@ impl Tables {
     /// The tables for the settings that are left for each point, by those without shifts.
     pub fn of(
         alloc: Global,
-        tables: &LinkedTables,
+        tables: &NetworkTables,
         network: &Network,
         order: &Order,
         settings: &[Vec<usize>],
@@ -59,15 +59,15 @@ impl Tables {
     /// The same, where a step is at least so many bits more than a part.
     pub fn in_steps(
         alloc: Global,
-        tables: &LinkedTables,
+        tables: &NetworkTables,
         network: &Network,
         order: &Order,
         settings: &[Vec<usize>],
         least_bits: u32,
     ) -> Result<Tables, AllocError> {
         let points = tables.points.as_slice();
-        let links = tables.links.as_slice();
-        let bits = bits_of(greatest_sum(points, links, network, order, settings)).max(least_bits);
+        let arcs = tables.arcs.as_slice();
+        let bits = bits_of(greatest_sum(points, arcs, network, order, settings)).max(least_bits);
         let mut costs = Vec::new(alloc);
         for (point, left) in order.points.iter().zip(settings) {
             costs.push(costs_of(alloc, points, *point, left.as_slice(), bits)?)?;
@@ -75,8 +75,8 @@ impl Tables {
         let mut prices = Vec::new(alloc);
         let mut kinds = Vec::new(alloc);
         for first in &network.firsts {
-            let by_first = rows_of(alloc, links, *first, settings, bits)?;
-            let by_second = rows_of(alloc, links, first.turned(), settings, bits)?;
+            let by_first = rows_of(alloc, arcs, *first, settings, bits)?;
+            let by_second = rows_of(alloc, arcs, first.turned(), settings, bits)?;
             kinds.push(kind_of(&mut prices, by_first, by_second)?)?;
         }
         Ok(Tables {
@@ -94,7 +94,7 @@ impl Tables {
         }
     }
 
-    /// What a link costs, with a row for each setting at this end.
+    /// What an arc costs, with a row for each setting at this end.
     pub fn rows(&self, end: End) -> &[Vec<i32>] {
         match self.prices_of(end) {
             Some(prices) => prices.rows(end.side),
@@ -102,7 +102,7 @@ impl Tables {
         }
     }
 
-    /// The prices of a link.
+    /// The prices of an arc.
     fn prices_of(&self, end: End) -> Option<&Prices> {
         self.prices.get(*self.kinds.get(end.at)?)
     }
@@ -136,10 +136,10 @@ fn bits_of(greatest: i64) -> u32 {
     MOST_BITS
 }
 
-/// The sum of what each point and each link costs at most where it can be.
+/// The sum of what each point and each arc costs at most where it can be.
 fn greatest_sum(
     points: &[PointTable],
-    links: &[LinkTable],
+    arcs: &[ArcTable],
     network: &Network,
     order: &Order,
     settings: &[Vec<usize>],
@@ -149,7 +149,7 @@ fn greatest_sum(
         sum = sum.saturating_add(greatest_cost(points, *point, left.as_slice()));
     }
     for first in &network.firsts {
-        sum = sum.saturating_add(greatest_price(links, *first, settings));
+        sum = sum.saturating_add(greatest_price(arcs, *first, settings));
     }
     sum
 }
@@ -166,13 +166,13 @@ fn greatest_cost(points: &[PointTable], point: usize, left: &[usize]) -> i64 {
     greatest
 }
 
-/// What a link costs at most at settings that are left and join.
-fn greatest_price(links: &[LinkTable], end: End, settings: &[Vec<usize>]) -> i64 {
+/// What an arc costs at most at settings that are left and join.
+fn greatest_price(arcs: &[ArcTable], end: End, settings: &[Vec<usize>]) -> i64 {
     let partners = settings_at(settings, end.other);
     let mut greatest = 0;
     for here in settings_at(settings, end.point) {
         for there in partners {
-            let price = end.price(links, *here, *there);
+            let price = end.price(arcs, *here, *there);
             if price < FAR {
                 greatest = price.max(greatest);
             }
@@ -216,10 +216,10 @@ fn costs_of(
     Ok(costs)
 }
 
-/// What a link costs, with a row for each setting at this end.
+/// What an arc costs, with a row for each setting at this end.
 fn rows_of(
     alloc: Global,
-    links: &[LinkTable],
+    arcs: &[ArcTable],
     end: End,
     settings: &[Vec<usize>],
     bits: u32,
@@ -227,15 +227,15 @@ fn rows_of(
     let partners = settings_at(settings, end.other);
     let mut rows = Vec::new(alloc);
     for here in settings_at(settings, end.point) {
-        rows.push(row_from(alloc, links, end, *here, partners, bits)?)?;
+        rows.push(row_from(alloc, arcs, end, *here, partners, bits)?)?;
     }
     Ok(rows)
 }
 
-/// What a link costs from a setting at this end to those at the other.
+/// What an arc costs from a setting at this end to those at the other.
 fn row_from(
     alloc: Global,
-    links: &[LinkTable],
+    arcs: &[ArcTable],
     end: End,
     here: usize,
     partners: &[usize],
@@ -243,7 +243,7 @@ fn row_from(
 ) -> Result<Vec<i32>, AllocError> {
     let mut row = Vec::with_capacity(alloc, partners.len())?;
     for there in partners {
-        row.push(in_steps(end.price(links, here, *there), bits))?;
+        row.push(in_steps(end.price(arcs, here, *there), bits))?;
     }
     Ok(row)
 }

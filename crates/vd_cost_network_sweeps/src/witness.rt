@@ -3,7 +3,7 @@
 use crate::numbers::SMALL_FAR;
 use std::alloc::Global;
 
-/// A list of settings, one for each point, and what it costs in steps: `i64::MAX` where a link does not join.
+/// A list of settings, one for each point, and what it costs in steps: `i64::MAX` where an arc does not join.
 #[derive(Drop)]
 pub struct Witness {
     pub settings: Vec<usize>,
@@ -19,7 +19,7 @@ impl Witness {
         }
     }
 
-    /// A list, with what it costs: no list where that is too much for links that join.
+    /// A list, with what it costs: no list where that is too much for arcs that join.
     pub fn of(settings: Vec<usize>, cost: i64) -> Witness {
         let joins = cost < i64::from(SMALL_FAR);
         Witness {

@@ -17,7 +17,7 @@ use Rattle.vd_space.specs.Validity.{protocols, all_hosts, can_stand, is_candidat
 use Rattle.vd_space_prefix.specs.Transfers.{by_place}
 use Rattle.vd_space_prefix.proofs.Placed.{at_place, size_by_place}
 use Rattle.vd_space_terms.specs.Prices.{candidates_of}
-use Rattle.vd_space_terms.proofs.Linking.{candidates_at}
+use Rattle.vd_space_terms.proofs.Network.{candidates_at}
 use Rattle.vd_cost_network.specs.Points.{Switch, switches}
 use Rattle.vd_cost_network.proofs.Items.{within}
 use Rattle.vd_cost_network.proofs.Points.{at_either, at_slot, at_switch}

@@ -1,4 +1,4 @@
--- What links cost by the settings of their points.
+-- What arcs cost by the settings of their points.
 use Rattle.std.proofs.Common.{◌≡◌, ℕ, ◌+◌, ◌<◌, Option, Some, None, List, [], ◌∷◌, map, length, get_or, refl, sym, ap, ap₂, ◌∙◌, ℤ, pos, slice_get}
 use Rattle.std.specs.Prelude.{if◌then◌else◌}
 use Rattle.std.specs.List.{range_with_len}
@@ -19,7 +19,7 @@ use Rattle.vd_space.specs.Costs.{weigh, use_term, index_term, moves_to, hosts_at
 use Rattle.vd_space_prefix.specs.Transfers.{by_place}
 use Rattle.vd_space_terms.specs.Prices.{moves_of, tells_of}
 use Rattle.vd_cost_network.specs.Points.{Switch, switches}
-use Rattle.vd_cost_network.specs.Links.{parts, in_parts, guard_link, member_link}
+use Rattle.vd_cost_network.specs.Arcs.{parts, in_parts, guard_arc, member_arc}
 use Rattle.vd_cost_network.proofs.Points.{at_slot, at_switch}
 use Rattle.vd_cost_network_prefix.specs.States.{settings}
 use Rattle.vd_cost_network_tables.specs.Tables.{cells_of}
@@ -64,18 +64,18 @@ module _ (problem : Problem) where
       ∙ ap (λ f. by_place many f) (λ j p. map_map (λ price. parts (weigh i.weight price)) (λ q. moves_to problem q (hosts_at problem p)) (range_with_len 0 many) j)
       ∙ ap₂ (λ n m. by_place n (λ p. by_place m (λ q. parts (weigh i.weight (moves_to problem q (hosts_at problem p)))))) (sym (settings_at_slot i.array.0 is.array)) (sym (settings_at_slot i.index.0 is.index))
 
-  -- ---- links of a switch
+  -- ---- arcs of a switch
 
   module _ (k : ℕ) (w : Switch) (at : slice_get (switches problem) k ≡ Some w) where
     abbrev point : ℕ
     point = length problem.slots + k
 
-    pub guard_cells_are : w.guard.slot.0 < length problem.slots → guard_cells (protocols problem) w.guard.weight w.host ≡ cells_of problem (guard_link problem point w)
+    pub guard_cells_are : w.guard.slot.0 < length problem.slots → guard_cells (protocols problem) w.guard.weight w.host ≡ cells_of problem (guard_arc problem point w)
     guard_cells_are low =
         mapped_by_place (λ p. Some (pos 0) ∷ parts (weigh w.guard.weight (move_at p (Local w.host))) ∷ []) (protocols problem) d
-        ∙ ap₂ (λ n m. by_place n (λ p. by_place m ((guard_link problem point w).value p))) (sym (settings_at_slot w.guard.slot.0 low)) (sym (settings_at_switch k w at))
+        ∙ ap₂ (λ n m. by_place n (λ p. by_place m ((guard_arc problem point w).value p))) (sym (settings_at_slot w.guard.slot.0 low)) (sym (settings_at_switch k w at))
 
-    pub member_cells_are : (slot : SlotId) → slot.0 < length problem.slots → member_cells (protocols problem) w.host ≡ cells_of problem (member_link problem point w.host slot)
+    pub member_cells_are : (slot : SlotId) → slot.0 < length problem.slots → member_cells (protocols problem) w.host ≡ cells_of problem (member_arc problem point w.host slot)
     member_cells_are slot low =
         mapped_by_place (λ p. (if is_holder p w.host then None else Some (pos 0)) ∷ Some (pos 0) ∷ []) (protocols problem) d
-        ∙ ap₂ (λ n m. by_place n (λ p. by_place m ((member_link problem point w.host slot).value p))) (sym (settings_at_slot slot.0 low)) (sym (settings_at_switch k w at))
+        ∙ ap₂ (λ n m. by_place n (λ p. by_place m ((member_arc problem point w.host slot).value p))) (sym (settings_at_slot slot.0 low)) (sym (settings_at_switch k w at))

@@ -16,14 +16,14 @@ use Rattle.vd_space_prefix.specs.Transfers.{by_place, least_where}
 use Rattle.vd_space_prefix.proofs.Placed.{same_least, size_by_place, at_place}
 use Rattle.vd_search_tree.specs.declared.shift.Shift.{Shift}
 use Rattle.vd_cost_network.specs.Points.{Switch, States, at_point, is_setting, least_over, most_settings, points, switches}
-use Rattle.vd_cost_network.specs.Links.{links}
-use Rattle.vd_cost_network.specs.Linked.{least_link, least_point, linked_one, linked_pairs, no_parts_left}
+use Rattle.vd_cost_network.specs.Arcs.{arcs}
+use Rattle.vd_cost_network.specs.Network.{least_arc, least_point, network_one, network_pairs, no_parts_left}
 use Rattle.vd_cost_network.proofs.Items.{held}
-use Rattle.vd_cost_network_prefix.specs.declared.made.LinkTable.{LinkTable}
+use Rattle.vd_cost_network_prefix.specs.declared.made.ArcTable.{ArcTable}
 use Rattle.vd_cost_network_prefix.specs.declared.made.PointTable.{PointTable}
-use Rattle.vd_cost_network_prefix.specs.States.{AreLinkTables, ArePointTables, AreSettings, count_of_points, link_at, link_part, point_at, point_part, settings}
+use Rattle.vd_cost_network_prefix.specs.States.{AreArcTables, ArePointTables, AreSettings, count_of_points, arc_at, arc_part, point_at, point_part, settings}
 use Rattle.vd_cost_network_prefix.proofs.Summing.{pairs_size}
-use Rattle.vd_cost_network_tables.specs.Tables.{link_table, link_tables_of, point_table, point_tables_of, tests_of}
+use Rattle.vd_cost_network_tables.specs.Tables.{arc_table, arc_tables_of, point_table, point_tables_of, tests_of}
 
 -- ---- least numbers
 
@@ -171,35 +171,35 @@ module _ (problem : Problem) (states : States) (are : AreSettings problem states
       at_place (length (tests_of problem one.slot)) (λ w. unwrap_or (one.value w) no_parts_left) v (pos 0) (omega (arith, low, size))
       ∙ ap (λ o. unwrap_or o no_parts_left) (sym (least_at problem states one.slot one.value v is low))
 
-  link_by : (link : Pair) (first second : Option ℕ) → states link.first ≡ first → states link.second ≡ second → link_at (link_table problem link) first second ≡ least_link problem states link
-  link_by link None None is there =
+  arc_by : (arc : Pair) (first second : Option ℕ) → states arc.first ≡ first → states arc.second ≡ second → arc_at (arc_table problem arc) first second ≡ least_arc problem states arc
+  arc_by arc None None is there =
       ap (λ o. unwrap_or o no_parts_left)
-      (least_free problem states link.first (λ v. least_over problem states link.second (link.value v)) (λ v. least_where (tests_of problem link.second) (link.value v)) is
-      (λ v low. least_free problem states link.second (link.value v) (link.value v) there (λ w low_w. refl)))
-  link_by link (Some v) None is there =
-      let low = are link.first v is in
-      let size = (has_tests problem link.first).size in
-      at_place (length (tests_of problem link.first)) (λ r. unwrap_or (least_where (tests_of problem link.second) (link.value r)) no_parts_left) v (pos 0) (omega (arith, low, size))
+      (least_free problem states arc.first (λ v. least_over problem states arc.second (arc.value v)) (λ v. least_where (tests_of problem arc.second) (arc.value v)) is
+      (λ v low. least_free problem states arc.second (arc.value v) (arc.value v) there (λ w low_w. refl)))
+  arc_by arc (Some v) None is there =
+      let low = are arc.first v is in
+      let size = (has_tests problem arc.first).size in
+      at_place (length (tests_of problem arc.first)) (λ r. unwrap_or (least_where (tests_of problem arc.second) (arc.value r)) no_parts_left) v (pos 0) (omega (arith, low, size))
       ∙ ap (λ o. unwrap_or o no_parts_left)
-      (least_free problem states link.second (link.value v) (link.value v) there (λ w low_w. refl)
-      ∙ sym (least_at problem states link.first (λ r. least_over problem states link.second (link.value r)) v is low))
-  link_by link None (Some w) is there =
-      let low = are link.second w there in
-      let size = (has_tests problem link.second).size in
-      at_place (length (tests_of problem link.second)) (λ q. unwrap_or (least_where (tests_of problem link.first) (λ r. link.value r q)) no_parts_left) w (pos 0) (omega (arith, low, size))
+      (least_free problem states arc.second (arc.value v) (arc.value v) there (λ w low_w. refl)
+      ∙ sym (least_at problem states arc.first (λ r. least_over problem states arc.second (arc.value r)) v is low))
+  arc_by arc None (Some w) is there =
+      let low = are arc.second w there in
+      let size = (has_tests problem arc.second).size in
+      at_place (length (tests_of problem arc.second)) (λ q. unwrap_or (least_where (tests_of problem arc.first) (λ r. arc.value r q)) no_parts_left) w (pos 0) (omega (arith, low, size))
       ∙ ap (λ o. unwrap_or o no_parts_left)
-      (least_free problem states link.first (λ r. least_over problem states link.second (link.value r)) (λ r. link.value r w) is (λ r low_r. sym (least_at problem states link.second (link.value r) w there low)))
-  link_by link (Some v) (Some w) is there =
-      let low = are link.first v is in
-      let low_w = are link.second w there in
-      let size = (has_tests problem link.first).size in
-      let size_w = (has_tests problem link.second).size in
+      (least_free problem states arc.first (λ r. least_over problem states arc.second (arc.value r)) (λ r. arc.value r w) is (λ r low_r. sym (least_at problem states arc.second (arc.value r) w there low)))
+  arc_by arc (Some v) (Some w) is there =
+      let low = are arc.first v is in
+      let low_w = are arc.second w there in
+      let size = (has_tests problem arc.first).size in
+      let size_w = (has_tests problem arc.second).size in
       ap (λ row. unwrap_or (get_or row w None) no_parts_left)
-      (at_place (length (tests_of problem link.first)) (λ r. by_place (length (tests_of problem link.second)) (link.value r)) v [] (omega (arith, low, size)))
+      (at_place (length (tests_of problem arc.first)) (λ r. by_place (length (tests_of problem arc.second)) (arc.value r)) v [] (omega (arith, low, size)))
       ∙ ap (λ o. unwrap_or o no_parts_left)
-      (at_place (length (tests_of problem link.second)) (link.value v) w None (omega (arith, low_w, size_w))
-      ∙ sym (least_at problem states link.second (link.value v) w there low_w)
-      ∙ sym (least_at problem states link.first (λ r. least_over problem states link.second (link.value r)) v is low))
+      (at_place (length (tests_of problem arc.second)) (arc.value v) w None (omega (arith, low_w, size_w))
+      ∙ sym (least_at problem states arc.second (arc.value v) w there low_w)
+      ∙ sym (least_at problem states arc.first (λ r. least_over problem states arc.second (arc.value r)) v is low))
 
 -- ---- all tables
 
@@ -208,15 +208,15 @@ got_map f [] k x is = cc
 got_map f (y ∷ xs) zero x is = let same : y ≡ x = cc in ap (λ z. Some (f z)) same
 got_map f (y ∷ xs) (suc k) x is = got_map f xs k x is
 
-pub link_tables_are : (problem : Problem) (shifts : List Shift) (tables : List LinkTable) → tables ≡ link_tables_of problem shifts → AreLinkTables problem shifts tables
-link_tables_are problem shifts tables same =
-    let pairs = linked_pairs shifts 0 (links problem) in
+pub arc_tables_are : (problem : Problem) (shifts : List Shift) (tables : List ArcTable) → tables ≡ arc_tables_of problem shifts → AreArcTables problem shifts tables
+arc_tables_are problem shifts tables same =
+    let pairs = network_pairs shifts 0 (arcs problem) in
     record {
-      size = ap length same ∙ length-map pairs (link_table problem) ∙ pairs_size shifts 0 (links problem);
-      least = λ states are number link at.
-          ap (λ list. link_part list states number) same
-          ∙ ap (λ o. option_map_or (λ (table : LinkTable). link_at table (states table.first) (states table.second)) o (pos 0)) (got_map (link_table problem) pairs number link at)
-          ∙ link_by problem states are link (states link.first) (states link.second) refl refl;
+      size = ap length same ∙ length-map pairs (arc_table problem) ∙ pairs_size shifts 0 (arcs problem);
+      least = λ states are number arc at.
+          ap (λ list. arc_part list states number) same
+          ∙ ap (λ o. option_map_or (λ (table : ArcTable). arc_at table (states table.first) (states table.second)) o (pos 0)) (got_map (arc_table problem) pairs number arc at)
+          ∙ arc_by problem states are arc (states arc.first) (states arc.second) refl refl;
     }
 
 number_at : (first count k : ℕ) → k < count → slice_get (range_with_len first count) k ≡ Some (first + k)
@@ -226,15 +226,15 @@ number_at first (suc count) (suc k) low = number_at (first + 1) count k (omega (
 
 pub point_tables_are : (problem : Problem) (shifts : List Shift) (tables : List PointTable) → tables ≡ point_tables_of problem shifts → ArePointTables problem shifts tables
 point_tables_are problem shifts tables same =
-    let ones = map (linked_one problem shifts) (points problem) in
+    let ones = map (network_one problem shifts) (points problem) in
     record {
-      size = ap length same ∙ length-map ones (point_table problem) ∙ length-map (points problem) (linked_one problem shifts) ∙ length-range_with_len 0 (count_of_points problem);
+      size = ap length same ∙ length-map ones (point_table problem) ∙ length-map (points problem) (network_one problem shifts) ∙ length-range_with_len 0 (count_of_points problem);
       least = λ states are point low.
-          let one = linked_one problem shifts point in
+          let one = network_one problem shifts point in
           let zero_on : 0 + point ≡ point = omega arith in
           let at : slice_get (points problem) point ≡ Some point = number_at 0 (count_of_points problem) point low ∙ ap Some zero_on in
           ap (λ list. point_part list states point) same
-          ∙ ap (λ o. option_map_or (λ (table : PointTable). point_at table (states point)) o (pos 0)) (got_map (point_table problem) ones point one (got_map (linked_one problem shifts) (points problem) point point at))
+          ∙ ap (λ o. option_map_or (λ (table : PointTable). point_at table (states point)) o (pos 0)) (got_map (point_table problem) ones point one (got_map (network_one problem shifts) (points problem) point point at))
           ∙ point_by problem states are one (states point) refl;
     }
 

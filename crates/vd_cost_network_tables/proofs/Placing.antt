@@ -9,7 +9,7 @@ use Rattle.vd_space.proofs.Priced.{listed_or_not}
 use Rattle.vd_space_prefix.specs.Transfers.{IsWithin, by_place}
 use Rattle.vd_space_prefix.proofs.Placed.{at_place, size_by_place}
 use Rattle.vd_space_terms.proofs.Small.{place_within}
-use Rattle.vd_cost_network_tables.specs.declared.raw.RawLink.{RawLink}
+use Rattle.vd_cost_network_tables.specs.declared.raw.RawArc.{RawArc}
 use Rattle.vd_cost_network_tables.specs.declared.sums.Rows.{Rows}
 use Rattle.vd_cost_network_tables.specs.Sums.{AreSmallShifts, AreSmallSums, part, sums_of}
 use Rattle.vd_cost_network_tables.proofs.Counting.{total_within, no_longer, part_within}
@@ -24,34 +24,34 @@ whole_within f shifts few small each =
     record { low = omega (arith, ints, low, few); high = omega (arith, ints, high, few) }
 
 -- an entry of it, in the loop over shifts
-pub here_within : (links : List RawLink) (rows : Rows) (count places i : ℕ) (shifts : List Shift) (sums : List (List ℤ)) (row place : ℕ) (line : List ℤ) → length shifts ≤ 131072 → AreSmallShifts (take i shifts)
-    → sums ≡ sums_of links rows count places (take i shifts) → row < count → place < places → line ≡ get_or sums row line → IsWithin 562949953421312 (get_or line place (pos 0))
-here_within links rows count places i shifts sums row place line few small are low_row low_place at =
-    let line_is : line ≡ by_place places (λ p. total (part links rows row p) (take i shifts)) =
-    at ∙ ap (λ xs. get_or xs row line) are ∙ at_place count (λ r. by_place places (λ p. total (part links rows r p) (take i shifts))) row line low_row in
-    let is = ap (λ xs. get_or xs place (pos 0)) line_is ∙ at_place places (λ p. total (part links rows row p) (take i shifts)) place (pos 0) low_place in
-    subst (IsWithin 562949953421312) (sym is) (whole_within (part links rows row place) (take i shifts) (let shorter = no_longer i shifts in omega (arith, shorter, few)) small (part_within links rows row place))
+pub here_within : (arcs : List RawArc) (rows : Rows) (count places i : ℕ) (shifts : List Shift) (sums : List (List ℤ)) (row place : ℕ) (line : List ℤ) → length shifts ≤ 131072 → AreSmallShifts (take i shifts)
+    → sums ≡ sums_of arcs rows count places (take i shifts) → row < count → place < places → line ≡ get_or sums row line → IsWithin 562949953421312 (get_or line place (pos 0))
+here_within arcs rows count places i shifts sums row place line few small are low_row low_place at =
+    let line_is : line ≡ by_place places (λ p. total (part arcs rows row p) (take i shifts)) =
+    at ∙ ap (λ xs. get_or xs row line) are ∙ at_place count (λ r. by_place places (λ p. total (part arcs rows r p) (take i shifts))) row line low_row in
+    let is = ap (λ xs. get_or xs place (pos 0)) line_is ∙ at_place places (λ p. total (part arcs rows row p) (take i shifts)) place (pos 0) low_place in
+    subst (IsWithin 562949953421312) (sym is) (whole_within (part arcs rows row place) (take i shifts) (let shorter = no_longer i shifts in omega (arith, shorter, few)) small (part_within arcs rows row place))
 
-pub sums_small : (links : List RawLink) (rows : Rows) (count places : ℕ) (shifts : List Shift) → length shifts ≤ 131072 → AreSmallShifts shifts → AreSmallSums (sums_of links rows count places shifts)
-sums_small links rows count places shifts few small row place =
-    let line : ℕ → List ℤ = λ r. by_place places (λ p. total (part links rows r p) shifts) in
+pub sums_small : (arcs : List RawArc) (rows : Rows) (count places : ℕ) (shifts : List Shift) → length shifts ≤ 131072 → AreSmallShifts shifts → AreSmallSums (sums_of arcs rows count places shifts)
+sums_small arcs rows count places shifts few small row place =
+    let line : ℕ → List ℤ = λ r. by_place places (λ p. total (part arcs rows r p) shifts) in
     elim (listed_or_not count row) [
       | inl low ↦
           subst (λ xs. IsWithin 562949953421312 (get_or xs place (pos 0))) (sym (at_place count line row [] low))
-          (place_within 562949953421312 places (λ p. total (part links rows row p) shifts) place (λ p low_p. whole_within (part links rows row p) shifts few small (part_within links rows row p)))
+          (place_within 562949953421312 places (λ p. total (part arcs rows row p) shifts) place (λ p low_p. whole_within (part arcs rows row p) shifts few small (part_within arcs rows row p)))
       | inr past ↦
           subst (λ xs. IsWithin 562949953421312 (get_or xs place (pos 0))) (sym (get_or_past (by_place count line) row [] (subst (λ n. n ≤ row) (sym (size_by_place count line)) past)))
           (record { low = omega (arith, ints); high = omega (arith, ints) })
     ]
 
 -- a row of the table of sums, and its amounts
-pub row_is : (links : List RawLink) (rows : Rows) (count places : ℕ) (shifts : List Shift) (sums : List (List ℤ)) (r : ℕ) (line d : List ℤ) → sums ≡ sums_of links rows count places shifts → r < count → line ≡ get_or sums r d
-    → line ≡ by_place places (λ place. total (part links rows r place) shifts)
-row_is links rows count places shifts sums r line d are low at =
-    at ∙ ap (λ xs. get_or xs r d) are ∙ at_place count (λ row. by_place places (λ place. total (part links rows row place) shifts)) r d low
+pub row_is : (arcs : List RawArc) (rows : Rows) (count places : ℕ) (shifts : List Shift) (sums : List (List ℤ)) (r : ℕ) (line d : List ℤ) → sums ≡ sums_of arcs rows count places shifts → r < count → line ≡ get_or sums r d
+    → line ≡ by_place places (λ place. total (part arcs rows r place) shifts)
+row_is arcs rows count places shifts sums r line d are low at =
+    at ∙ ap (λ xs. get_or xs r d) are ∙ at_place count (λ row. by_place places (λ place. total (part arcs rows row place) shifts)) r d low
 
-pub row_small : (links : List RawLink) (rows : Rows) (places : ℕ) (shifts : List Shift) (r : ℕ) (line : List ℤ) → length shifts ≤ 131072 → AreSmallShifts shifts → line ≡ by_place places (λ place. total (part links rows r place) shifts)
+pub row_small : (arcs : List RawArc) (rows : Rows) (places : ℕ) (shifts : List Shift) (r : ℕ) (line : List ℤ) → length shifts ≤ 131072 → AreSmallShifts shifts → line ≡ by_place places (λ place. total (part arcs rows r place) shifts)
     → (v : ℕ) → IsWithin 562949953421312 (get_or line v (pos 0))
-row_small links rows places shifts r line few small is v =
+row_small arcs rows places shifts r line few small is v =
     subst (λ (xs : List ℤ). IsWithin 562949953421312 (get_or xs v (pos 0))) (sym is)
-    (place_within 562949953421312 places (λ place. total (part links rows r place) shifts) v (λ place low. whole_within (part links rows r place) shifts few small (part_within links rows r place)))
+    (place_within 562949953421312 places (λ place. total (part arcs rows r place) shifts) v (λ place low. whole_within (part arcs rows r place) shifts few small (part_within arcs rows r place)))

@@ -22,15 +22,15 @@ use Rattle.vd_space_terms.proofs.Made.{get_or_any, same_by_place}
 use Rattle.vd_space_tables.specs.Values.{merged_value, together}
 use Rattle.vd_space_tables.proofs.Small.{HasAtMost, add_within, more_within, operation_value_small, outputs_value_small}
 use Rattle.vd_cost_network.specs.Points.{Switch, off, points, switches}
-use Rattle.vd_cost_network.specs.Links.{index_readable, links, parts, point_value, slot_value, switch_value}
-use Rattle.vd_cost_network.specs.Linked.{linked_one, point_shift, end_of}
+use Rattle.vd_cost_network.specs.Arcs.{index_readable, arcs, parts, point_value, slot_value, switch_value}
+use Rattle.vd_cost_network.specs.Network.{network_one, point_shift, end_of}
 use Rattle.vd_cost_network.proofs.Points.{at_either, at_slot, at_switch}
 use Rattle.vd_cost_network_prefix.specs.declared.made.PointTable.{PointTable}
 use Rattle.vd_cost_network_prefix.specs.States.{AreSmallPoints, IsSmallPoint, count_of_points, settings}
-use Rattle.vd_cost_network_tables.specs.declared.raw.RawLink.{RawLink}
+use Rattle.vd_cost_network_tables.specs.declared.raw.RawArc.{RawArc}
 use Rattle.vd_cost_network_tables.specs.declared.sums.Rows.TheVariants.{Points}
 use Rattle.vd_cost_network_tables.specs.Sums.{AreSmallShifts, AreSmallSums, part, sums_of}
-use Rattle.vd_cost_network_tables.specs.Tables.{point_table, point_tables_of, raw_link, switch_values, table_at, table_by, table_of_values, tests_of}
+use Rattle.vd_cost_network_tables.specs.Tables.{point_table, point_tables_of, raw_arc, switch_values, table_at, table_by, table_of_values, tests_of}
 use Rattle.vd_cost_network_tables.proofs.Costs.{map_map}
 use Rattle.vd_cost_network_tables.proofs.Counting.{if_within, points_shifted}
 use Rattle.vd_cost_network_tables.proofs.Owning.{nothing_shifted}
@@ -91,29 +91,29 @@ module _ (problem : Problem) (sums : List (List ℤ)) where
 
 -- ---- all tables
 
-module _ (problem : Problem) (shifts : List Shift) (raws : List RawLink) (most : ℕ) (sums : List (List ℤ)) (raws_are : raws ≡ map (raw_link problem) (links problem))
+module _ (problem : Problem) (shifts : List Shift) (raws : List RawArc) (most : ℕ) (sums : List (List ℤ)) (raws_are : raws ≡ map (raw_arc problem) (arcs problem))
     (sums_are : sums ≡ sums_of raws Points (count_of_points problem) most shifts) (few : (point : ℕ) → settings problem point ≤ most) where
-  pub gain_is : (point v : ℕ) → point < count_of_points problem → v < settings problem point → gain_at sums point v ≡ total (point_shift (links problem) point v) shifts
+  pub gain_is : (point v : ℕ) → point < count_of_points problem → v < settings problem point → gain_at sums point v ≡ total (point_shift (arcs problem) point v) shifts
   gain_is point v low low_v =
       let room = few point in
       let row : ℕ → List ℤ = λ r. by_place most (λ place. total (part raws Points r place) shifts) in
       ap (λ xs. gain_at xs point v) sums_are
       ∙ ap (λ line. get_or line v (pos 0)) (at_place (count_of_points problem) row point [] low)
       ∙ at_place most (λ place. total (part raws Points point place) shifts) v (pos 0) (omega (arith, room, low_v))
-      ∙ ap (λ (rs : List RawLink). total (part rs Points point v) shifts) raws_are
-      ∙ points_shifted problem (links problem) point v shifts
+      ∙ ap (λ (rs : List RawArc). total (part rs Points point v) shifts) raws_are
+      ∙ points_shifted problem (arcs problem) point v shifts
 
   table_is : (point : ℕ) → point < count_of_points problem → table_by problem sums point ≡ table_at problem shifts point
   table_is point low =
       ap (table_of_values (tests_of problem point))
-      (same_by_place (settings problem point) (λ v. option_map (λ c. c +ℤ gain_at sums point v) (point_value problem point v)) (linked_one problem shifts point).value
+      (same_by_place (settings problem point) (λ v. option_map (λ c. c +ℤ gain_at sums point v) (point_value problem point v)) (network_one problem shifts point).value
       (λ v low_v. ap (λ z. option_map (λ c. c +ℤ z) (point_value problem point v)) (gain_is point v low low_v))
-      ∙ ap (λ n. by_place n (linked_one problem shifts point).value) (sym (tests_size problem point)))
-      ∙ values_table (tests_of problem point) (linked_one problem shifts point).value
+      ∙ ap (λ n. by_place n (network_one problem shifts point).value) (sym (tests_size problem point)))
+      ∙ values_table (tests_of problem point) (network_one problem shifts point).value
 
   pub point_tables_made : by_place (count_of_points problem) (table_by problem sums) ≡ point_tables_of problem shifts
   point_tables_made =
-      same_by_place (count_of_points problem) (table_by problem sums) (table_at problem shifts) table_is ∙ sym (map_map (point_table problem) (linked_one problem shifts) (points problem))
+      same_by_place (count_of_points problem) (table_by problem sums) (table_at problem shifts) table_is ∙ sym (map_map (point_table problem) (network_one problem shifts) (points problem))
 
 -- ---- small numbers
 
@@ -171,19 +171,19 @@ module _ (problem : Problem) (labelled : IsLabelled problem) (limits : IsWithinL
   ]
 
   module _ (shifts : List Shift) (few : length shifts ≤ 131072) (amounts : AreSmallShifts shifts) where
-    put_within : (point v : ℕ) (shift : Shift) → IsWithin 4294967296 (signed shift) → IsWithin 4294967296 (point_shift (links problem) point v shift)
-    put_within point v shift low = item_within (slice_get (links problem) shift.at)
+    put_within : (point v : ℕ) (shift : Shift) → IsWithin 4294967296 (signed shift) → IsWithin 4294967296 (point_shift (arcs problem) point v shift)
+    put_within point v shift low = item_within (slice_get (arcs problem) shift.at)
       where
-        item_within : (item : Option Pair) → IsWithin 4294967296 (option_map_or (λ (link : Pair). cond (end_of link shift.side == point && shift.proto == v) (signed shift) (pos 0)) item (pos 0))
+        item_within : (item : Option Pair) → IsWithin 4294967296 (option_map_or (λ (arc : Pair). cond (end_of arc shift.side == point && shift.proto == v) (signed shift) (pos 0)) item (pos 0))
         item_within None = record { low = omega (arith, ints); high = omega (arith, ints) }
-        item_within (Some link) = if_within (end_of link shift.side == point && shift.proto == v) (signed shift) low
+        item_within (Some arc) = if_within (end_of arc shift.side == point && shift.proto == v) (signed shift) low
 
-    point_small : (point : ℕ) → IsSmallPoint (point_table problem (linked_one problem shifts point))
+    point_small : (point : ℕ) → IsSmallPoint (point_table problem (network_one problem shifts point))
     point_small point =
-        point_table_small (tests_of problem point) (linked_one problem shifts point).value
-        (λ v. more_small (point_value problem point v) (total (point_shift (links problem) point v) shifts) (point_light point v) (whole_within (point_shift (links problem) point v) shifts few amounts (put_within point v)))
+        point_table_small (tests_of problem point) (network_one problem shifts point).value
+        (λ v. more_small (point_value problem point v) (total (point_shift (arcs problem) point v) shifts) (point_light point v) (whole_within (point_shift (arcs problem) point v) shifts few amounts (put_within point v)))
 
     pub point_tables_small : AreSmallPoints (point_tables_of problem shifts)
     point_tables_small =
-        subst AreSmallPoints (sym (map_map (point_table problem) (linked_one problem shifts) (points problem)))
-        (each_mapped IsSmallPoint (λ point. point_table problem (linked_one problem shifts point)) point_small (points problem))
+        subst AreSmallPoints (sym (map_map (point_table problem) (network_one problem shifts) (points problem)))
+        (each_mapped IsSmallPoint (λ point. point_table problem (network_one problem shifts point)) point_small (points problem))

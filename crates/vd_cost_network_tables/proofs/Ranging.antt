@@ -25,13 +25,13 @@ use Rattle.vd_space_prefix.specs.Transfers.{IsWithin, by_place, least_where}
 use Rattle.vd_space_prefix.proofs.Placed.{size_by_place, at_place}
 use Rattle.vd_space_terms.proofs.Small.{place_within}
 use Rattle.vd_cost_network.specs.Points.{Switch, switch_of, switches, members, off}
-use Rattle.vd_cost_network.specs.Links.{parts, in_parts, member_link, switch_links, links_from, links}
-use Rattle.vd_cost_network.specs.Linked.{linked_pair, linked_pairs, no_parts_left}
+use Rattle.vd_cost_network.specs.Arcs.{parts, in_parts, member_arc, switch_arcs, arcs_from, arcs}
+use Rattle.vd_cost_network.specs.Network.{network_pair, network_pairs, no_parts_left}
 use Rattle.vd_cost_network.proofs.Items.{each_flat}
-use Rattle.vd_cost_network_prefix.specs.States.{AreSmallLinks, IsSmallLink, IsSmallPoint, settings}
-use Rattle.vd_cost_network_tables.specs.declared.raw.RawLink.{RawLink}
+use Rattle.vd_cost_network_prefix.specs.States.{AreSmallArcs, IsSmallArc, IsSmallPoint, settings}
+use Rattle.vd_cost_network_tables.specs.declared.raw.RawArc.{RawArc}
 use Rattle.vd_cost_network_tables.specs.Sums.{AreSmallShifts}
-use Rattle.vd_cost_network_tables.specs.Tables.{link_table, link_table_of, link_tables_of, point_table_of, raw_link, tests_of}
+use Rattle.vd_cost_network_tables.specs.Tables.{arc_table, arc_table_of, arc_tables_of, point_table_of, raw_arc, tests_of}
 use Rattle.vd_cost_network_tables.proofs.Counting.{if_within}
 use Rattle.vd_cost_network_tables.proofs.Placing.{whole_within}
 
@@ -73,8 +73,8 @@ cell_small n m value each v w = elim (listed_or_not n v) [
   | inr past ↦ subst IsSmall (sym (ap (λ row. get_or row w None) (get_or_past (by_place n (λ r. by_place m (value r))) v [] (subst (λ k. k ≤ v) (sym (size_by_place n (λ r. by_place m (value r)))) past)))) tt
 ]
 
-link_table_small : (first second : ℕ) (firsts seconds : List Bool) (value : ℕ → ℕ → Option ℤ) → ((v w : ℕ) → IsSmall (value v w)) → IsSmallLink (link_table_of first second firsts seconds value)
-link_table_small first second firsts seconds value each =
+arc_table_small : (first second : ℕ) (firsts seconds : List Bool) (value : ℕ → ℕ → Option ℤ) → ((v w : ℕ) → IsSmall (value v w)) → IsSmallArc (arc_table_of first second firsts seconds value)
+arc_table_small first second firsts seconds value each =
     let row : (v : ℕ) → IsSmall (least_where seconds (value v)) = λ v. where_small seconds (value v) (each v) in
     let column : (w : ℕ) → IsSmall (least_where firsts (λ v. value v w)) = λ w. where_small firsts (λ v. value v w) (λ v. each v w) in
     let square : IsSmall (least_where firsts (λ v. least_where seconds (value v))) = where_small firsts (λ v. least_where seconds (value v)) row in
@@ -91,11 +91,11 @@ point_table_small tests value each = record {
   free = number_small (least_where tests value) (where_small tests value each);
 }
 
--- ---- links without shifts
+-- ---- arcs without shifts
 
 -- 2^49, so that there is room for shifts
 abbrev IsLight : Pair → Type 0
-IsLight link = (v w : ℕ) → IfSome (link.value v w) (IsWithin 562949953421312)
+IsLight arc = (v w : ℕ) → IfSome (arc.value v w) (IsWithin 562949953421312)
 
 scaled_light : (weight : ℕ) (price : Option ℕ) → weight ≤ 65536 → unwrap_or price 0 ≤ 848 → IfSome (parts (weigh weight price)) (IsWithin 562949953421312)
 scaled_light weight None light cheap = tt
@@ -134,15 +134,15 @@ module _ (problem : Problem) (labelled : IsLabelled problem) (limits : IsWithinL
       (each_map (λ pair. IsLight (in_parts pair)) (use_term problem) problem.uses (each_leads (λ (u : Use). u.weight ≤ 65536) (λ u. IsLight (in_parts (use_term problem u))) use_light problem.uses (recursion_from_All (λ (u : Use). u.weight ≤ 65536) problem.uses limits.uses)))
       (each_map (λ pair. IsLight (in_parts pair)) (index_term problem) problem.indexes (each_leads (λ (i : Index). i.weight ≤ 65536) (λ i. IsLight (in_parts (index_term problem i))) index_light problem.indexes (recursion_from_All (λ (i : Index). i.weight ≤ 65536) problem.indexes limits.indexes))))
 
-  switch_light : (point : ℕ) (w : Switch) → w.guard.weight ≤ 65536 → AllByRecursion IsLight (switch_links problem point w)
+  switch_light : (point : ℕ) (w : Switch) → w.guard.weight ≤ 65536 → AllByRecursion IsLight (switch_arcs problem point w)
   switch_light point w light = (
     λ p v. off_or (v == off) (parts (weigh w.guard.weight (move_to_host problem w.host p))) (let price = told_price problem labelled.few_hosts w.host p in scaled_light w.guard.weight (move_to_host problem w.host p) light (omega (arith, price))),
-    each_map IsLight (member_link problem point w.host) (members problem w) (every (λ (slot : SlotId). IsLight (member_link problem point w.host slot)) (λ slot p v. none_or (v == off && holds_at problem w.host p)) (members problem w)),
+    each_map IsLight (member_arc problem point w.host) (members problem w) (every (λ (slot : SlotId). IsLight (member_arc problem point w.host slot)) (λ slot p v. none_or (v == off && holds_at problem w.host p)) (members problem w)),
   )
 
-  from_light : (point : ℕ) (ws : List Switch) → AllByRecursion (λ (w : Switch). w.guard.weight ≤ 65536) ws → AllByRecursion IsLight (links_from problem point ws)
+  from_light : (point : ℕ) (ws : List Switch) → AllByRecursion (λ (w : Switch). w.guard.weight ≤ 65536) ws → AllByRecursion IsLight (arcs_from problem point ws)
   from_light point [] each = tt
-  from_light point (w ∷ ws) each = each_append IsLight (switch_links problem point w) (links_from problem (point + 1) ws) (switch_light point w each.0) (from_light (point + 1) ws each.1)
+  from_light point (w ∷ ws) each = each_append IsLight (switch_arcs problem point w) (arcs_from problem (point + 1) ws) (switch_light point w each.0) (from_light (point + 1) ws each.1)
 
   switches_light : AllByRecursion (λ (w : Switch). w.guard.weight ≤ 65536) (switches problem)
   switches_light =
@@ -151,10 +151,10 @@ module _ (problem : Problem) (labelled : IsLabelled problem) (limits : IsWithinL
       (λ guard light. each_map (λ (w : Switch). w.guard.weight ≤ 65536) (switch_of guard) (all_hosts problem) (every (λ h. guard.weight ≤ 65536) (λ h. light) (all_hosts problem)))
       problem.guards (recursion_from_All (λ (guard : Guard). guard.weight ≤ 65536) problem.guards limits.guards))
 
-  links_light : AllByRecursion IsLight (links problem)
-  links_light = each_append IsLight (map in_parts (pairs problem)) (links_from problem (length problem.slots) (switches problem)) pairs_light (from_light (length problem.slots) (switches problem) switches_light)
+  arcs_light : AllByRecursion IsLight (arcs problem)
+  arcs_light = each_append IsLight (map in_parts (pairs problem)) (arcs_from problem (length problem.slots) (switches problem)) pairs_light (from_light (length problem.slots) (switches problem) switches_light)
 
--- ---- links under shifts
+-- ---- arcs under shifts
 
 less_small : (o : Option ℤ) (z : ℤ) → IfSome o (IsWithin 562949953421312) → IsWithin 562949953421312 z → IsSmall (option_map (λ c. c -ℤ z) o)
 less_small None z light small = tt
@@ -166,21 +166,21 @@ less_small (Some c) z light small =
     record { low = omega (arith, ints, low, small_high); high = omega (arith, ints, high, small_low) }
 
 module _ (problem : Problem) (shifts : List Shift) (few : length shifts ≤ 131072) (amounts : AreSmallShifts shifts) where
-  shifted_small : (at : ℕ) (link : Pair) → IsLight link → (v w : ℕ) → IsSmall ((linked_pair shifts at link).value v w)
-  shifted_small at link light v w =
-      less_small (link.value v w) (total (use_shift at v w) shifts) (light v w)
+  shifted_small : (at : ℕ) (arc : Pair) → IsLight arc → (v w : ℕ) → IsSmall ((network_pair shifts at arc).value v w)
+  shifted_small at arc light v w =
+      less_small (arc.value v w) (total (use_shift at v w) shifts) (light v w)
       (whole_within (use_shift at v w) shifts few amounts (λ shift low. if_within (shift.at == at && shift.proto == cond (shift.side == 0) v w) (signed shift) low))
 
-  tables_small : (at : ℕ) (links : List Pair) → AllByRecursion IsLight links → (number : ℕ) → IfSome (slice_get (map (link_table problem) (linked_pairs shifts at links)) number) IsSmallLink
+  tables_small : (at : ℕ) (arcs : List Pair) → AllByRecursion IsLight arcs → (number : ℕ) → IfSome (slice_get (map (arc_table problem) (network_pairs shifts at arcs)) number) IsSmallArc
   tables_small at [] light number = tt
-  tables_small at (link ∷ links) light zero =
-      link_table_small link.first link.second (tests_of problem link.first) (tests_of problem link.second) (linked_pair shifts at link).value (shifted_small at link light.0)
-  tables_small at (link ∷ links) light (suc number) = tables_small (at + 1) links light.1 number
+  tables_small at (arc ∷ arcs) light zero =
+      arc_table_small arc.first arc.second (tests_of problem arc.first) (tests_of problem arc.second) (network_pair shifts at arc).value (shifted_small at arc light.0)
+  tables_small at (arc ∷ arcs) light (suc number) = tables_small (at + 1) arcs light.1 number
 
-  pub link_tables_small : IsLabelled problem → IsWithinLimits problem → AreSmallLinks (link_tables_of problem shifts)
-  link_tables_small labelled limits = tables_small 0 (links problem) (links_light problem labelled limits)
+  pub arc_tables_small : IsLabelled problem → IsWithinLimits problem → AreSmallArcs (arc_tables_of problem shifts)
+  arc_tables_small labelled limits = tables_small 0 (arcs problem) (arcs_light problem labelled limits)
 
--- ---- links without shifts, as they are made
+-- ---- arcs without shifts, as they are made
 
 abbrev Fits49 : Option ℤ → Type 0
 Fits49 o = IsWithin 562949953421312 (unwrap_or o (pos 0))
@@ -198,16 +198,16 @@ cell_light n m value each v w = elim (listed_or_not n v) [
   | inr past ↦ subst Fits49 (sym (ap (λ row. get_or row w None) (get_or_past (by_place n (λ r. by_place m (value r))) v [] (subst (λ k. k ≤ v) (sym (size_by_place n (λ r. by_place m (value r)))) past)))) zero_light
 ]
 
-pub raw_light : (problem : Problem) → IsLabelled problem → IsWithinLimits problem → (raws : List RawLink) (raw : RawLink) (k : ℕ) → raws ≡ map (raw_link problem) (links problem) → k < length raws → raw ≡ get_or raws k raw
+pub raw_light : (problem : Problem) → IsLabelled problem → IsWithinLimits problem → (raws : List RawArc) (raw : RawArc) (k : ℕ) → raws ≡ map (raw_arc problem) (arcs problem) → k < length raws → raw ≡ get_or raws k raw
     → (v w : ℕ) → IsWithin 562949953421312 (unwrap_or (get_or (get_or raw.cells v []) w None) (pos 0))
 raw_light problem labelled limits raws raw k are low is v w =
-    let size = ap length are ∙ length-map (links problem) (raw_link problem) in
-    let low_link : k < length (links problem) = omega (arith, size, low) in
-    let link : Pair = get_or (links problem) k none in
-    let raw_is : raw ≡ raw_link problem link = is ∙ ap (λ (rs : List RawLink). get_or rs k raw) are ∙ get_or-map (raw_link problem) (links problem) k none raw low_link in
-    let at : slice_get (links problem) k ≡ Some link = slice_get_at (links problem) k none low_link in
-    subst (λ (r : RawLink). Fits49 (get_or (get_or r.cells v []) w None)) (sym raw_is)
-    (cell_light (settings problem link.first) (settings problem link.second) link.value (each_at IsLight (links problem) k link at (links_light problem labelled limits)) v w)
+    let size = ap length are ∙ length-map (arcs problem) (raw_arc problem) in
+    let low_arc : k < length (arcs problem) = omega (arith, size, low) in
+    let arc : Pair = get_or (arcs problem) k none in
+    let raw_is : raw ≡ raw_arc problem arc = is ∙ ap (λ (rs : List RawArc). get_or rs k raw) are ∙ get_or-map (raw_arc problem) (arcs problem) k none raw low_arc in
+    let at : slice_get (arcs problem) k ≡ Some arc = slice_get_at (arcs problem) k none low_arc in
+    subst (λ (r : RawArc). Fits49 (get_or (get_or r.cells v []) w None)) (sym raw_is)
+    (cell_light (settings problem arc.first) (settings problem arc.second) arc.value (each_at IsLight (arcs problem) k arc at (arcs_light problem labelled limits)) v w)
   where
     none : Pair
     none = record { first = 0; second = 0; value = λ p q. None }

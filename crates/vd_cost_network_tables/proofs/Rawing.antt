@@ -1,4 +1,4 @@
--- The links as they are made are the links of the problem.
+-- The arcs as they are made are the arcs of the problem.
 use Rattle.std.proofs.Common.{◌≡◌, ℕ, zero, suc, ◌+◌, ◌<◌, Some, List, [], ◌∷◌, ◌++◌, length, map, filter, flat_map, drop, ◌&&◌, refl, sym, ap, ap₂, ◌∙◌, subst, arith, add-one, get_or, slice_get}
 use Rattle.std.specs.Option.{option_map_or}
 use Rattle.std.specs.Prelude.{IsTrue}
@@ -17,11 +17,11 @@ use Rattle.vd_space.specs.Costs.{pairs, use_term, index_term}
 use Rattle.vd_space_terms.specs.Prices.{moves_of, tells_of}
 use Rattle.vd_space.proofs.Valued.{each_map}
 use Rattle.vd_cost_network.specs.Points.{Switch, switch_of, switches, may_bring, members}
-use Rattle.vd_cost_network.specs.Links.{in_parts, member_link, switch_links, links_from, links}
+use Rattle.vd_cost_network.specs.Arcs.{in_parts, member_arc, switch_arcs, arcs_from, arcs}
 use Rattle.vd_cost_network.proofs.Items.{any_held, each_filtered}
 use Rattle.vd_cost_network.proofs.Points.{candidate_inside}
 use Rattle.vd_cost_network_prefix.specs.declared.made.SwitchTable.{SwitchTable}
-use Rattle.vd_cost_network_tables.specs.Tables.{raw_link, switch_table, switch_tables_at, switch_tables_from}
+use Rattle.vd_cost_network_tables.specs.Tables.{raw_arc, switch_table, switch_tables_at, switch_tables_from}
 use Rattle.vd_cost_network_tables.specs.Raws.{guard_raw, index_raw, member_raw, raws_by, raws_from, switch_raws, use_raw}
 use Rattle.vd_cost_network_tables.proofs.Costs.{use_cells, index_cells, guard_cells_are, member_cells_are}
 use Rattle.vd_cost_network_tables.proofs.Switching.{at_start, map_append}
@@ -34,12 +34,12 @@ drop_at (y ∷ xs) zero x rest is = let same : y ≡ x = cc in let after : xs �
 drop_at (y ∷ xs) (suc k) x rest is = drop_at xs k x rest is
 
 module _ (problem : Problem) (is : IsProblem problem) where
-  uses_are : (us : List Use) → AllByRecursion (IsUse (length problem.slots)) us → map (use_raw (moves_of (protocols problem))) us ≡ map (raw_link problem) (map in_parts (map (use_term problem) us))
+  uses_are : (us : List Use) → AllByRecursion (IsUse (length problem.slots)) us → map (use_raw (moves_of (protocols problem))) us ≡ map (raw_arc problem) (map in_parts (map (use_term problem) us))
   uses_are [] each = refl
   uses_are (u ∷ us) each =
       ap₂ (λ x xs. x ∷ xs) (λ i. record { first = u.source.0; second = u.target.0; cells = use_cells problem u each.0 i }) (uses_are us each.1)
 
-  indexes_are : (is_ : List Index) → AllByRecursion (IsIndex (length problem.slots)) is_ → map (index_raw (tells_of problem)) is_ ≡ map (raw_link problem) (map in_parts (map (index_term problem) is_))
+  indexes_are : (is_ : List Index) → AllByRecursion (IsIndex (length problem.slots)) is_ → map (index_raw (tells_of problem)) is_ ≡ map (raw_arc problem) (map in_parts (map (index_term problem) is_))
   indexes_are [] each = refl
   indexes_are (i ∷ is_) each =
       ap₂ (λ x xs. x ∷ xs) (λ j. record { first = i.array.0; second = i.index.0; cells = index_cells problem i each.0 j }) (indexes_are is_ each.1)
@@ -113,10 +113,10 @@ module _ (problem : Problem) (is : IsProblem problem) where
   pub switches_size : (ts : List SwitchTable) → ts ≡ switch_tables_from problem 0 problem.guards → length ts ≡ length (switches problem)
   switches_size ts are = aligned_size ts (switches problem) (subst (λ list. Aligned list (switches problem)) (sym are) (aligned_all 0 problem.guards refl is.guards))
 
-  -- ---- their links
+  -- ---- their arcs
 
   members_raw : (k : ℕ) (w : Switch) → slice_get (switches problem) k ≡ Some w → (slots : List SlotId) → AllByRecursion (λ (slot : SlotId). slot.0 < length problem.slots) slots
-      → map (member_raw (protocols problem) (length problem.slots + k) w.host) slots ≡ map (raw_link problem) (map (member_link problem (length problem.slots + k) w.host) slots)
+      → map (member_raw (protocols problem) (length problem.slots + k) w.host) slots ≡ map (raw_arc problem) (map (member_arc problem (length problem.slots + k) w.host) slots)
   members_raw k w at [] low = refl
   members_raw k w at (slot ∷ slots) low =
       ap₂ (λ x xs. x ∷ xs) (λ i. record { first = slot.0; second = length problem.slots + k; cells = member_cells_are problem k w at slot low.0 i }) (members_raw k w at slots low.1)
@@ -134,7 +134,7 @@ module _ (problem : Problem) (is : IsProblem problem) where
       nothing (x ∷ xs) = (tt, nothing xs)
 
   switch_is : (k : ℕ) (t : SwitchTable) (w : Switch) → IsTableOf t w → slice_get (switches problem) k ≡ Some w
-      → option_map_or (switch_raws (protocols problem) (length problem.slots + k) t) (slice_get problem.guards t.guard) [] ≡ map (raw_link problem) (switch_links problem (length problem.slots + k) w)
+      → option_map_or (switch_raws (protocols problem) (length problem.slots + k) t) (slice_get problem.guards t.guard) [] ≡ map (raw_arc problem) (switch_arcs problem (length problem.slots + k) w)
   switch_is k t w table at =
       let list = protocols problem in
       let point = length problem.slots + k in
@@ -142,7 +142,7 @@ module _ (problem : Problem) (is : IsProblem problem) where
       ∙ ap₂ (λ h slots. guard_raw list point h w.guard ∷ map (member_raw list point h) slots) table.host table.members_are
       ∙ ap₂ (λ x xs. x ∷ xs) (λ i. record { first = w.guard.slot.0; second = point; cells = guard_cells_are problem k w at table.slot i }) (members_raw k w at (members problem w) (each_inside w.host w.guard.slots))
 
-  from_are : (k : ℕ) (ts : List SwitchTable) (ws : List Switch) → Aligned ts ws → drop k (switches problem) ≡ ws → raws_from problem (protocols problem) (length problem.slots + k) ts ≡ map (raw_link problem) (links_from problem (length problem.slots + k) ws)
+  from_are : (k : ℕ) (ts : List SwitchTable) (ws : List Switch) → Aligned ts ws → drop k (switches problem) ≡ ws → raws_from problem (protocols problem) (length problem.slots + k) ts ≡ map (raw_arc problem) (arcs_from problem (length problem.slots + k) ws)
   unfolding Aligned
   from_are k [] [] aligned rest = refl
   from_are k [] (w ∷ ws) aligned rest = absurd aligned
@@ -153,10 +153,10 @@ module _ (problem : Problem) (is : IsProblem problem) where
       let one : n + k + 1 ≡ n + (k + 1) = omega arith in
       let later = from_are (k + 1) ts ws aligned.1 (ap (λ n. drop n (switches problem)) (add-one k) ∙ at.1) in
       ap₂ (λ front back. front ++ back) (switch_is k t w aligned.0 at.0)
-      (ap (λ m. raws_from problem (protocols problem) m ts) one ∙ later ∙ ap (λ m. map (raw_link problem) (links_from problem m ws)) (sym one))
-      ∙ sym (map_append (raw_link problem) (switch_links problem (n + k) w) (links_from problem (n + k + 1) ws))
+      (ap (λ m. raws_from problem (protocols problem) m ts) one ∙ later ∙ ap (λ m. map (raw_arc problem) (arcs_from problem m ws)) (sym one))
+      ∙ sym (map_append (raw_arc problem) (switch_arcs problem (n + k) w) (arcs_from problem (n + k + 1) ws))
 
-  pub raws_are : raws_by problem (protocols problem) (moves_of (protocols problem)) (tells_of problem) (switch_tables_from problem 0 problem.guards) ≡ map (raw_link problem) (links problem)
+  pub raws_are : raws_by problem (protocols problem) (moves_of (protocols problem)) (tells_of problem) (switch_tables_from problem 0 problem.guards) ≡ map (raw_arc problem) (arcs problem)
   raws_are =
       let n = length problem.slots in
       let start : n ≡ n + 0 = omega arith in
@@ -164,7 +164,7 @@ module _ (problem : Problem) (is : IsProblem problem) where
       let us = map (use_term problem) problem.uses in
       let is_ = map (index_term problem) problem.indexes in
       ap₂ (λ a b. a ++ b ++ raws_from problem (protocols problem) n tables) (uses_are problem.uses is.uses) (indexes_are problem.indexes is.indexes)
-      ∙ ap (λ front. front ++ raws_from problem (protocols problem) n tables) (sym (map_append (raw_link problem) (map in_parts us) (map in_parts is_)) ∙ ap (map (raw_link problem)) (sym (map_append in_parts us is_)))
-      ∙ ap (λ back. map (raw_link problem) (map in_parts (pairs problem)) ++ back)
-      (ap (λ m. raws_from problem (protocols problem) m tables) start ∙ from_are 0 tables (switches problem) (aligned_all 0 problem.guards refl is.guards) refl ∙ ap (λ m. map (raw_link problem) (links_from problem m (switches problem))) (sym start))
-      ∙ sym (map_append (raw_link problem) (map in_parts (pairs problem)) (links_from problem n (switches problem)))
+      ∙ ap (λ front. front ++ raws_from problem (protocols problem) n tables) (sym (map_append (raw_arc problem) (map in_parts us) (map in_parts is_)) ∙ ap (map (raw_arc problem)) (sym (map_append in_parts us is_)))
+      ∙ ap (λ back. map (raw_arc problem) (map in_parts (pairs problem)) ++ back)
+      (ap (λ m. raws_from problem (protocols problem) m tables) start ∙ from_are 0 tables (switches problem) (aligned_all 0 problem.guards refl is.guards) refl ∙ ap (λ m. map (raw_arc problem) (arcs_from problem m (switches problem))) (sym start))
+      ∙ sym (map_append (raw_arc problem) (map in_parts (pairs problem)) (arcs_from problem n (switches problem)))

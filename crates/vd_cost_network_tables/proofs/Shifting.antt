@@ -1,4 +1,4 @@
--- The cells of links under shifts.
+-- The cells of arcs under shifts.
 use Rattle.std.proofs.Common.{◌≡◌, ℕ, zero, suc, ◌+◌, ◌-◌, ◌<◌, ◌≤◌, Bool, Option, Some, None, List, [], ◌∷◌, length, map, get_or, sym, ap, ap₂, ◌∙◌, subst, arith, inl, inr, slice_get, ℤ, pos, ◌+ℤ◌, ◌-ℤ◌, option_map}
 use Rattle.std.specs.Option.{option_map_or}
 use Rattle.std.proofs.lemmas.Int.{ints}
@@ -12,15 +12,15 @@ use Rattle.vd_space_prefix.proofs.Placed.{at_place, size_by_place}
 use Rattle.vd_space_terms.proofs.Made.{same_by_place}
 use Rattle.vd_space.specs.Validity.{protocols}
 use Rattle.vd_cost_network.specs.Points.{Switch, switches}
-use Rattle.vd_cost_network.specs.Links.{links}
-use Rattle.vd_cost_network.specs.Linked.{linked_pair, linked_pairs}
+use Rattle.vd_cost_network.specs.Arcs.{arcs}
+use Rattle.vd_cost_network.specs.Network.{network_pair, network_pairs}
 use Rattle.vd_cost_network.proofs.Points.{at_either}
-use Rattle.vd_cost_network_prefix.specs.declared.made.LinkTable.{LinkTable}
+use Rattle.vd_cost_network_prefix.specs.declared.made.ArcTable.{ArcTable}
 use Rattle.vd_cost_network_prefix.specs.States.{settings}
-use Rattle.vd_cost_network_tables.specs.declared.raw.RawLink.{RawLink}
+use Rattle.vd_cost_network_tables.specs.declared.raw.RawArc.{RawArc}
 use Rattle.vd_cost_network_tables.specs.declared.sums.Rows.TheVariants.{Firsts, Seconds}
 use Rattle.vd_cost_network_tables.specs.Sums.{part}
-use Rattle.vd_cost_network_tables.specs.Tables.{cells_of, link_table, raw_link, shifted_cells, shifted_row, table_of_cells, tests_of}
+use Rattle.vd_cost_network_tables.specs.Tables.{cells_of, arc_table, raw_arc, shifted_cells, shifted_row, table_of_cells, tests_of}
 use Rattle.vd_cost_network_tables.proofs.Counting.{sides_together}
 use Rattle.vd_cost_network_tables.proofs.Placed.{tests_size}
 use Rattle.vd_cost_network_tables.proofs.Tabled.{cells_table}
@@ -32,61 +32,61 @@ row_shifted m f g from to same =
     ∙ same_by_place m (λ w. option_map (λ c. c -ℤ (from +ℤ get_or to w (pos 0))) (get_or (by_place m f) w None)) g
     (λ w low. ap (option_map (λ c. c -ℤ (from +ℤ get_or to w (pos 0)))) (at_place m f w None low) ∙ same w low)
 
-module _ (problem : Problem) (raws : List RawLink) (shifts : List Shift) (k most : ℕ) (link : Pair) (from to : List ℤ)
+module _ (problem : Problem) (raws : List RawArc) (shifts : List Shift) (k most : ℕ) (arc : Pair) (from to : List ℤ)
     (from_is : from ≡ by_place most (λ v. total (part raws Firsts k v) shifts)) (to_is : to ≡ by_place most (λ w. total (part raws Seconds k w) shifts))
-    (few : settings problem link.first ≤ most) (few_too : settings problem link.second ≤ most) where
-  pub taken : (v w : ℕ) → v < settings problem link.first → w < settings problem link.second → get_or from v (pos 0) +ℤ get_or to w (pos 0) ≡ total (use_shift k v w) shifts
+    (few : settings problem arc.first ≤ most) (few_too : settings problem arc.second ≤ most) where
+  pub taken : (v w : ℕ) → v < settings problem arc.first → w < settings problem arc.second → get_or from v (pos 0) +ℤ get_or to w (pos 0) ≡ total (use_shift k v w) shifts
   taken v w low low_w =
       let first = ap (λ list. get_or list v (pos 0)) from_is ∙ at_place most (λ r. total (part raws Firsts k r) shifts) v (pos 0) (omega (arith, low, few)) in
       let second = ap (λ list. get_or list w (pos 0)) to_is ∙ at_place most (λ r. total (part raws Seconds k r) shifts) w (pos 0) (omega (arith, low_w, few_too)) in
       let both = sides_together raws k v w shifts in
       omega (arith, ints, first, second, both)
 
-  cells_shifted : shifted_cells (cells_of problem link) from to ≡ by_place (settings problem link.first) (λ v. by_place (settings problem link.second) ((linked_pair shifts k link).value v))
+  cells_shifted : shifted_cells (cells_of problem arc) from to ≡ by_place (settings problem arc.first) (λ v. by_place (settings problem arc.second) ((network_pair shifts k arc).value v))
   cells_shifted =
-      let n = settings problem link.first in
-      let m = settings problem link.second in
-      let row : ℕ → List (Option ℤ) = λ v. by_place m (link.value v) in
+      let n = settings problem arc.first in
+      let m = settings problem arc.second in
+      let row : ℕ → List (Option ℤ) = λ v. by_place m (arc.value v) in
       ap (λ count. by_place count (λ v. shifted_row (get_or (by_place n row) v []) (get_or from v (pos 0)) to)) (size_by_place n row)
-      ∙ same_by_place n (λ v. shifted_row (get_or (by_place n row) v []) (get_or from v (pos 0)) to) (λ v. by_place m ((linked_pair shifts k link).value v))
+      ∙ same_by_place n (λ v. shifted_row (get_or (by_place n row) v []) (get_or from v (pos 0)) to) (λ v. by_place m ((network_pair shifts k arc).value v))
       (λ v low. ap (λ list. shifted_row list (get_or from v (pos 0)) to) (at_place n row v [] low)
-      ∙ row_shifted m (link.value v) ((linked_pair shifts k link).value v) (get_or from v (pos 0)) to
-      (λ w low_w. ap (λ z. option_map (λ c. c -ℤ z) (link.value v w)) (taken v w low low_w)))
+      ∙ row_shifted m (arc.value v) ((network_pair shifts k arc).value v) (get_or from v (pos 0)) to
+      (λ w low_w. ap (λ z. option_map (λ c. c -ℤ z) (arc.value v w)) (taken v w low low_w)))
 
-  table_is : table_of_cells link.first link.second (tests_of problem link.first) (tests_of problem link.second) (shifted_cells (cells_of problem link) from to) ≡ link_table problem (linked_pair shifts k link)
+  table_is : table_of_cells arc.first arc.second (tests_of problem arc.first) (tests_of problem arc.second) (shifted_cells (cells_of problem arc) from to) ≡ arc_table problem (network_pair shifts k arc)
   table_is =
-      ap (table_of_cells link.first link.second (tests_of problem link.first) (tests_of problem link.second))
-      (cells_shifted ∙ ap₂ (λ n m. by_place n (λ v. by_place m ((linked_pair shifts k link).value v))) (sym (tests_size problem link.first)) (sym (tests_size problem link.second)))
-      ∙ cells_table (tests_of problem link.first) (tests_of problem link.second) (linked_pair shifts k link).value link.first link.second
+      ap (table_of_cells arc.first arc.second (tests_of problem arc.first) (tests_of problem arc.second))
+      (cells_shifted ∙ ap₂ (λ n m. by_place n (λ v. by_place m ((network_pair shifts k arc).value v))) (sym (tests_size problem arc.first)) (sym (tests_size problem arc.second)))
+      ∙ cells_table (tests_of problem arc.first) (tests_of problem arc.second) (network_pair shifts k arc).value arc.first arc.second
 
--- the link with a number
-pub pair_at : (shifts : List Shift) (first i : ℕ) (links : List Pair) (d e : Pair) → i < length links → get_or (linked_pairs shifts first links) i d ≡ linked_pair shifts (first + i) (get_or links i e)
+-- the arc with a number
+pub pair_at : (shifts : List Shift) (first i : ℕ) (arcs : List Pair) (d e : Pair) → i < length arcs → get_or (network_pairs shifts first arcs) i d ≡ network_pair shifts (first + i) (get_or arcs i e)
 pair_at shifts first i [] d e low = absurd (omega (arith, low))
-pair_at shifts first zero (link ∷ links) d e low = let same : first ≡ first + 0 = omega arith in ap (λ k. linked_pair shifts k link) same
-pair_at shifts first (suc i) (link ∷ links) d e low =
+pair_at shifts first zero (arc ∷ arcs) d e low = let same : first ≡ first + 0 = omega arith in ap (λ k. network_pair shifts k arc) same
+pair_at shifts first (suc i) (arc ∷ arcs) d e low =
     let next : first + 1 + i ≡ first + suc i = omega arith in
-    pair_at shifts (first + 1) i links d e (omega (arith, low)) ∙ ap (λ k. linked_pair shifts k (get_or links i e)) next
+    pair_at shifts (first + 1) i arcs d e (omega (arith, low)) ∙ ap (λ k. network_pair shifts k (get_or arcs i e)) next
 
--- one step of the loop over links
-pub next_table : (problem : Problem) (shifts : List Shift) (most k : ℕ) (raws : List RawLink) (raw : RawLink) (d : Pair) (from to : List ℤ) (firsts seconds : List Bool) (cells : List (List (Option ℤ))) (item : LinkTable)
-    → raws ≡ map (raw_link problem) (links problem) → k < length raws → raw ≡ get_or raws k raw
+-- one step of the loop over arcs
+pub next_table : (problem : Problem) (shifts : List Shift) (most k : ℕ) (raws : List RawArc) (raw : RawArc) (d : Pair) (from to : List ℤ) (firsts seconds : List Bool) (cells : List (List (Option ℤ))) (item : ArcTable)
+    → raws ≡ map (raw_arc problem) (arcs problem) → k < length raws → raw ≡ get_or raws k raw
     → from ≡ by_place most (λ v. total (part raws Firsts k v) shifts) → to ≡ by_place most (λ w. total (part raws Seconds k w) shifts) → ((point : ℕ) → settings problem point ≤ most)
     → firsts ≡ tests_of problem raw.first → seconds ≡ tests_of problem raw.second → cells ≡ shifted_cells raw.cells from to → item ≡ table_of_cells raw.first raw.second firsts seconds cells
-    → item ≡ link_table problem (get_or (linked_pairs shifts 0 (links problem)) k d)
+    → item ≡ arc_table problem (get_or (network_pairs shifts 0 (arcs problem)) k d)
 next_table problem shifts most k raws raw d from to firsts seconds cells item are low is from_is to_is few firsts_are seconds_are cells_are item_is =
-    let size = ap length are ∙ length-map (links problem) (raw_link problem) in
-    let low_link : k < length (links problem) = omega (arith, size, low) in
-    let link : Pair = get_or (links problem) k d in
-    let raw_is : raw ≡ raw_link problem link = is ∙ ap (λ (rs : List RawLink). get_or rs k raw) are ∙ get_or-map (raw_link problem) (links problem) k d raw low_link in
-    let first_tests : firsts ≡ tests_of problem link.first = firsts_are ∙ ap (λ (r : RawLink). tests_of problem r.first) raw_is in
-    let second_tests : seconds ≡ tests_of problem link.second = seconds_are ∙ ap (λ (r : RawLink). tests_of problem r.second) raw_is in
-    let shifted : cells ≡ shifted_cells (cells_of problem link) from to = cells_are ∙ ap (λ (r : RawLink). shifted_cells r.cells from to) raw_is in
+    let size = ap length are ∙ length-map (arcs problem) (raw_arc problem) in
+    let low_arc : k < length (arcs problem) = omega (arith, size, low) in
+    let arc : Pair = get_or (arcs problem) k d in
+    let raw_is : raw ≡ raw_arc problem arc = is ∙ ap (λ (rs : List RawArc). get_or rs k raw) are ∙ get_or-map (raw_arc problem) (arcs problem) k d raw low_arc in
+    let first_tests : firsts ≡ tests_of problem arc.first = firsts_are ∙ ap (λ (r : RawArc). tests_of problem r.first) raw_is in
+    let second_tests : seconds ≡ tests_of problem arc.second = seconds_are ∙ ap (λ (r : RawArc). tests_of problem r.second) raw_is in
+    let shifted : cells ≡ shifted_cells (cells_of problem arc) from to = cells_are ∙ ap (λ (r : RawArc). shifted_cells r.cells from to) raw_is in
     let number : k ≡ 0 + k = omega arith in
     item_is
     ∙ (λ i. table_of_cells (raw_is i).first (raw_is i).second (first_tests i) (second_tests i) (shifted i))
-    ∙ table_is problem raws shifts k most link from to from_is to_is (few link.first) (few link.second)
-    ∙ ap (λ n. link_table problem (linked_pair shifts n link)) number
-    ∙ ap (link_table problem) (sym (pair_at shifts 0 k (links problem) d d low_link))
+    ∙ table_is problem raws shifts k most arc from to from_is to_is (few arc.first) (few arc.second)
+    ∙ ap (λ n. arc_table problem (network_pair shifts n arc)) number
+    ∙ ap (arc_table problem) (sym (pair_at shifts 0 k (arcs problem) d d low_arc))
 
 pub few_settings : (problem : Problem) (most point : ℕ) → length (protocols problem) ≤ most → 2 ≤ most → settings problem point ≤ most
 few_settings problem most point many two = elim (at_either problem (λ slot. length (protocols problem)) (λ switch. 2) 0 point) [

@@ -5,8 +5,8 @@ use Rattle.std.specs.List.{range_with_len}
 use Rattle.vd_space_prefix.specs.Transfers.{by_place, least_where}
 use Rattle.vd_space_prefix.proofs.Placed.{at_place}
 use Rattle.vd_space_terms.proofs.Made.{same_by_place}
-use Rattle.vd_cost_network.specs.Linked.{no_parts_left}
-use Rattle.vd_cost_network_tables.specs.Tables.{least_column, least_row, link_table_of, point_table_of, table_of_cells, table_of_values}
+use Rattle.vd_cost_network.specs.Network.{no_parts_left}
+use Rattle.vd_cost_network_tables.specs.Tables.{least_column, least_row, arc_table_of, point_table_of, table_of_cells, table_of_values}
 use Rattle.vd_cost_network_tables.proofs.Placed.{least_where_same}
 use Rattle.vd_cost_network_tables.proofs.Costs.{map_map}
 
@@ -50,7 +50,7 @@ module _ (firsts seconds : List Bool) (value : ℕ → ℕ → Option ℤ) where
       ap number (least_where_same firsts (λ v. get_or (map (least_row seconds) cells) v None) (λ v. least_where seconds (value v))
       (λ v low. at_map (least_row seconds) (length firsts) row v None low ∙ row_is v))
 
-  pub cells_table : (first second : ℕ) → table_of_cells first second firsts seconds cells ≡ link_table_of first second firsts seconds value
+  pub cells_table : (first second : ℕ) → table_of_cells first second firsts seconds cells ≡ arc_table_of first second firsts seconds value
   cells_table first second = λ i. record {
     first = first;
     second = second;

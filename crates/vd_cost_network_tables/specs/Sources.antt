@@ -4,18 +4,18 @@ use Rattle.vd_base.specs.declared.protocols.Proto.{Proto}
 use Rattle.vd_space.specs.declared.problem.Problem.{Problem}
 use Rattle.vd_space.specs.WellFormed.{AreProtocols}
 use Rattle.vd_space_prefix.specs.Transfers.{ArePrices, by_place}
-use Rattle.vd_cost_network.specs.Links.{links}
+use Rattle.vd_cost_network.specs.Arcs.{arcs}
 use Rattle.vd_cost_network_prefix.specs.declared.made.SwitchTable.{SwitchTable}
 use Rattle.vd_cost_network_prefix.specs.States.{count_of_points, settings}
-use Rattle.vd_cost_network_tables.specs.declared.raw.RawLink.{RawLink}
+use Rattle.vd_cost_network_tables.specs.declared.raw.RawArc.{RawArc}
 use Rattle.vd_cost_network_tables.specs.Sums.{AreSmallSums}
-use Rattle.vd_cost_network_tables.specs.Tables.{raw_link, switch_tables_from, tests_of}
+use Rattle.vd_cost_network_tables.specs.Tables.{raw_arc, switch_tables_from, tests_of}
 
--- the protocols, the switches by guard and host, and the links without shifts
-pub record IsNetworkOf (problem : Problem) (list : List Proto) (switches : List SwitchTable) (raws : List RawLink) : Type 0 where
+-- the protocols, the switches by guard and host, and the arcs without shifts
+pub record IsNetworkOf (problem : Problem) (list : List Proto) (switches : List SwitchTable) (raws : List RawArc) : Type 0 where
   pub listed : AreProtocols problem list
   pub switched : switches ≡ switch_tables_from problem 0 problem.guards
-  pub linked : raws ≡ map (raw_link problem) (links problem)
+  pub by_arcs : raws ≡ map (raw_arc problem) (arcs problem)
 
 -- at which settings each point may be, and so many settings as no point has more
 pub record AreSettingsOf (problem : Problem) (tests : List (List Bool)) (most : ℕ) : Type 0 where

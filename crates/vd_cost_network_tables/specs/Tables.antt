@@ -1,4 +1,4 @@
--- The parts of linked tables, as plain lists.
+-- The parts of network tables, as plain lists.
 use Rattle.std.specs.Prelude.{ℕ, ◌+◌, ◌&&◌, Bool, true, false, Option, None, option_map, unwrap_or, List, [], ◌∷◌, ◌++◌, map, length, slice_index_or, ℤ, pos, ◌+ℤ◌, ◌-ℤ◌}
 use Rattle.std.specs.List.{list_all}
 use Rattle.vd_base.specs.declared.ids.HostId.{HostId}
@@ -15,13 +15,13 @@ use Rattle.vd_space.specs.Bounds.{only_if}
 use Rattle.vd_space_prefix.specs.Tables.{gain_at}
 use Rattle.vd_space_prefix.specs.Transfers.{by_place, least_where}
 use Rattle.vd_cost_network.specs.Points.{Switch, at_point, members, points, switch_of}
-use Rattle.vd_cost_network.specs.Links.{index_readable, links, parts, point_value, switch_value}
-use Rattle.vd_cost_network.specs.Linked.{linked_one, linked_pairs, no_parts_left}
-use Rattle.vd_cost_network_prefix.specs.declared.made.LinkTable.{LinkTable}
+use Rattle.vd_cost_network.specs.Arcs.{index_readable, arcs, parts, point_value, switch_value}
+use Rattle.vd_cost_network.specs.Network.{network_one, network_pairs, no_parts_left}
+use Rattle.vd_cost_network_prefix.specs.declared.made.ArcTable.{ArcTable}
 use Rattle.vd_cost_network_prefix.specs.declared.made.PointTable.{PointTable}
 use Rattle.vd_cost_network_prefix.specs.declared.made.SwitchTable.{SwitchTable}
 use Rattle.vd_cost_network_prefix.specs.States.{settings}
-use Rattle.vd_cost_network_tables.specs.declared.raw.RawLink.{RawLink}
+use Rattle.vd_cost_network_tables.specs.declared.raw.RawArc.{RawArc}
 
 -- ---- switches
 
@@ -41,14 +41,14 @@ abbrev pub switch_tables_from : Problem → ℕ → List Guard → List SwitchTa
 switch_tables_from problem number [] = []
 switch_tables_from problem number (guard ∷ rest) = switch_tables_at problem number guard ++ switch_tables_from problem (number + 1) rest
 
--- ---- links without shifts, and points
+-- ---- arcs without shifts, and points
 
--- what a link costs at the settings of its points
+-- what an arc costs at the settings of its points
 abbrev pub cells_of : Problem → Pair → List (List (Option ℤ))
-cells_of problem link = by_place (settings problem link.first) (λ v. by_place (settings problem link.second) (link.value v))
+cells_of problem arc = by_place (settings problem arc.first) (λ v. by_place (settings problem arc.second) (arc.value v))
 
-abbrev pub raw_link : Problem → Pair → RawLink
-raw_link problem link = record { first = link.first; second = link.second; cells = cells_of problem link }
+abbrev pub raw_arc : Problem → Pair → RawArc
+raw_arc problem arc = record { first = arc.first; second = arc.second; cells = cells_of problem arc }
 
 -- less what shifts take at the settings of either side
 abbrev pub shifted_row : List (Option ℤ) → ℤ → List ℤ → List (Option ℤ)
@@ -74,7 +74,7 @@ least_row seconds row = least_where seconds (λ w. slice_index_or row w None)
 abbrev pub least_column : List Bool → List (List (Option ℤ)) → ℕ → Option ℤ
 least_column firsts cells w = least_row firsts (map (λ row. slice_index_or row w None) cells)
 
-abbrev pub table_of_cells : ℕ → ℕ → List Bool → List Bool → List (List (Option ℤ)) → LinkTable
+abbrev pub table_of_cells : ℕ → ℕ → List Bool → List Bool → List (List (Option ℤ)) → ArcTable
 table_of_cells first second firsts seconds cells = record {
   first = first;
   second = second;
@@ -97,8 +97,8 @@ abbrev pub tests_of : Problem → ℕ → List Bool
 tests_of problem point = at_point problem (λ slot. by_place (length (protocols problem)) (is_candidate problem slot)) (λ switch. true ∷ true ∷ []) [] point
 
 -- over the settings that pass
-abbrev pub link_table_of : ℕ → ℕ → List Bool → List Bool → (ℕ → ℕ → Option ℤ) → LinkTable
-link_table_of first second firsts seconds value = record {
+abbrev pub arc_table_of : ℕ → ℕ → List Bool → List Bool → (ℕ → ℕ → Option ℤ) → ArcTable
+arc_table_of first second firsts seconds value = record {
   first = first;
   second = second;
   cells = by_place (length firsts) (λ v. by_place (length seconds) (value v));
@@ -113,18 +113,18 @@ point_table_of tests value = record {
   free = unwrap_or (least_where tests value) no_parts_left;
 }
 
--- of a problem's links and points under shifts, by number
-abbrev pub link_table : Problem → Pair → LinkTable
-link_table problem link = link_table_of link.first link.second (tests_of problem link.first) (tests_of problem link.second) link.value
+-- of a problem's arcs and points under shifts, by number
+abbrev pub arc_table : Problem → Pair → ArcTable
+arc_table problem arc = arc_table_of arc.first arc.second (tests_of problem arc.first) (tests_of problem arc.second) arc.value
 
-abbrev pub link_tables_of : Problem → List Shift → List LinkTable
-link_tables_of problem shifts = map (link_table problem) (linked_pairs shifts 0 (links problem))
+abbrev pub arc_tables_of : Problem → List Shift → List ArcTable
+arc_tables_of problem shifts = map (arc_table problem) (network_pairs shifts 0 (arcs problem))
 
 abbrev pub point_table : Problem → One → PointTable
 point_table problem one = point_table_of (tests_of problem one.slot) one.value
 
 abbrev pub point_tables_of : Problem → List Shift → List PointTable
-point_tables_of problem shifts = map (point_table problem) (map (linked_one problem shifts) (points problem))
+point_tables_of problem shifts = map (point_table problem) (map (network_one problem shifts) (points problem))
 
 -- by what shifts put on each point, by setting
 abbrev pub table_by : Problem → List (List ℤ) → ℕ → PointTable
@@ -132,4 +132,4 @@ table_by problem sums point =
     table_of_values (tests_of problem point) (by_place (settings problem point) (λ v. option_map (λ c. c +ℤ gain_at sums point v) (point_value problem point v)))
 
 abbrev pub table_at : Problem → List Shift → ℕ → PointTable
-table_at problem shifts point = point_table problem (linked_one problem shifts point)
+table_at problem shifts point = point_table problem (network_one problem shifts point)

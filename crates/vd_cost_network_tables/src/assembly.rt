@@ -1,24 +1,24 @@
-//! The tables of links, put together.
+//! The tables of arcs, put together.
 
 ghost use Rattle.std.specs.Prelude.{◌≡◌, ◌≤◌, ◌∷◌, ◌++◌, [], IfOk, length, map, replicate, slice_index_or, true};
 ghost use Rattle.vd_base.specs.Limits.{most_certificate_shifts};
-ghost use Rattle.vd_cost_network.specs.Links.{links};
-ghost use Rattle.vd_cost_network_prefix.specs.States.{AreSmallLinks};
-ghost use Rattle.vd_cost_network_prefix.specs.Tables.{AreLinkedTables};
-ghost use Rattle.vd_cost_network_tables.specs.Tables.{link_tables_of, raw_link, switch_tables_from};
+ghost use Rattle.vd_cost_network.specs.Arcs.{arcs};
+ghost use Rattle.vd_cost_network_prefix.specs.States.{AreSmallArcs};
+ghost use Rattle.vd_cost_network_prefix.specs.Tables.{AreNetworkTables};
+ghost use Rattle.vd_cost_network_tables.specs.Tables.{arc_tables_of, raw_arc, switch_tables_from};
 ghost use Rattle.vd_space.specs.WellFormed.{AreProtocols, IsWellFormed};
 ghost use Rattle.vd_cost_network_tables.specs.Sources.{AreSettingsOf};
 
-use crate::cells::{link_table, shifted};
-use crate::links::raw_links;
+use crate::arcs::raw_arcs;
+use crate::cells::{arc_table, shifted};
 use crate::points::point_tables;
-use crate::raw::RawLink;
+use crate::raw::RawArc;
 use crate::sums::{Rows, shift_sums};
 use crate::switches::switch_tables;
 use std::alloc::{AllocError, Global};
 use vd_base::Proto;
 use vd_base_lists::Items;
-use vd_cost_network_prefix::{LinkTable, LinkedTables, SwitchTable};
+use vd_cost_network_prefix::{ArcTable, NetworkTables, SwitchTable};
 use vd_search_tree::Shift;
 use vd_space::Problem;
 use vd_space_tables::all_protocols;
@@ -49,21 +49,21 @@ fn tests_at(settings: &[Items<bool>], point: u32) -> &[bool]
     }
 }
 
-/// The tables of all links, under shifts.
-fn link_tables(
+/// The tables of all arcs, under shifts.
+fn arc_tables(
     alloc: Global,
     problem: &Problem,
-    raws: &[RawLink],
+    raws: &[RawArc],
     settings: &[Items<bool>],
     most: usize,
     shifts: &[Shift],
-) -> Result<Items<LinkTable>, AllocError>
+) -> Result<Items<ArcTable>, AllocError>
     requires well_formed { IsWellFormed problem.now }
-    requires raws { raws.now ≡ map (raw_link problem.now) (links problem.now) }
+    requires raws { raws.now ≡ map (raw_arc problem.now) (arcs problem.now) }
     requires settings { AreSettingsOf problem.now settings.now most }
     requires few { length shifts.now ≤ most_certificate_shifts }
-    ensures tables { IfOk result (λ tables. tables ≡ link_tables_of problem.now shifts.now) }
-    ensures small { IfOk result AreSmallLinks }
+    ensures tables { IfOk result (λ tables. tables ≡ arc_tables_of problem.now shifts.now) }
+    ensures small { IfOk result AreSmallArcs }
 {
     let from = shift_sums(alloc, raws, Rows::Firsts, raws.len(), most, shifts)?;
     let to = shift_sums(alloc, raws, Rows::Seconds, raws.len(), most, shifts)?;
@@ -75,26 +75,26 @@ fn link_tables(
         let cells = shifted(alloc, raw.cells.as_slice(), from, to)?;
         let firsts = tests_at(settings, raw.first);
         let seconds = tests_at(settings, raw.second);
-        tables.push(link_table(alloc, (raw.first, raw.second), firsts, seconds, cells)?)?;
+        tables.push(arc_table(alloc, (raw.first, raw.second), firsts, seconds, cells)?)?;
     }
     Ok(tables)
 }
 
-/// All links, without shifts.
-pub fn all_links(
+/// All arcs, without shifts.
+pub fn all_arcs(
     alloc: Global,
     problem: &Problem,
     list: &[Proto],
     switches: &[SwitchTable],
-) -> Result<Items<RawLink>, AllocError>
+) -> Result<Items<RawArc>, AllocError>
     requires well_formed { IsWellFormed problem.now }
     requires list { AreProtocols problem.now list.now }
     requires switches { switches.now ≡ switch_tables_from problem.now 0 problem.now.guards }
-    ensures { IfOk result (λ raws. raws ≡ map (raw_link problem.now) (links problem.now)) }
+    ensures { IfOk result (λ raws. raws ≡ map (raw_arc problem.now) (arcs problem.now)) }
 {
     let moves = move_prices(alloc, list)?;
     let tells = index_prices(alloc, problem, list)?;
-    raw_links(
+    raw_arcs(
         alloc,
         problem,
         list,
@@ -112,25 +112,25 @@ pub fn most_settings(list: &[Proto]) -> usize
     list.len().max(2)
 }
 
-/// The tables of a problem and of shifts that name its links.
-pub fn linked_tables(
+/// The tables of a problem and of shifts that name its arcs.
+pub fn network_tables(
     alloc: Global,
     problem: &Problem,
     shifts: Items<Shift>,
-) -> Result<LinkedTables, AllocError>
+) -> Result<NetworkTables, AllocError>
     requires well_formed { IsWellFormed problem.now }
     requires few { length shifts ≤ most_certificate_shifts }
-    ensures tables { IfOk result (AreLinkedTables problem.now) }
+    ensures tables { IfOk result (AreNetworkTables problem.now) }
     ensures shifts { IfOk result (λ tables. tables.shifts ≡ shifts) }
 {
     let list = all_protocols(alloc, problem)?;
     let list = list.as_slice();
     let candidates = candidates(alloc, problem, list)?;
     let switches = switch_tables(alloc, problem, list, candidates.as_slice())?;
-    let raws = all_links(alloc, problem, list, switches.as_slice())?;
+    let raws = all_arcs(alloc, problem, list, switches.as_slice())?;
     let settings = settings(alloc, candidates, switches.as_slice().len())?;
     let most = most_settings(list);
-    let links = link_tables(
+    let arcs = arc_tables(
         alloc,
         problem,
         raws.as_slice(),
@@ -148,10 +148,10 @@ pub fn linked_tables(
         most,
         shifts.as_slice(),
     )?;
-    Ok(LinkedTables {
+    Ok(NetworkTables {
         shifts,
         points,
-        links,
+        arcs,
         switches,
     })
 }

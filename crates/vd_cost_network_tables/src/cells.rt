@@ -1,14 +1,14 @@
 //! Tables of terms of one point and of two, over the settings at which these may be.
 
 ghost use Rattle.std.specs.Prelude.{◌≡◌, ℕ, None, [], IfOk, length, map, option_map, pos, slice_index_or, unwrap_or, ◌+ℤ◌, ◌-ℤ◌};
-ghost use Rattle.vd_cost_network.specs.Linked.{no_parts_left};
+ghost use Rattle.vd_cost_network.specs.Network.{no_parts_left};
 ghost use Rattle.vd_cost_network_tables.specs.Tables.{least_column, least_row, shifted_cells, shifted_row, table_of_cells, table_of_values};
 ghost use Rattle.vd_space_prefix.specs.Transfers.{IsWithin, by_place, least_where};
 ghost use Rattle.vd_space.specs.Bounds.{only_if};
 
 use std::alloc::{AllocError, Global};
 use vd_base_lists::Items;
-use vd_cost_network_prefix::{LinkTable, PointTable, number_of};
+use vd_cost_network_prefix::{ArcTable, PointTable, number_of};
 use vd_space::lesser_of;
 use vd_space_prefix::amount_at;
 
@@ -183,19 +183,19 @@ pub(crate) fn point_table(
     })
 }
 
-/// The table of a link between two points whose costs by their settings are these.
-pub(crate) fn link_table(
+/// The table of an arc between two points whose costs by their settings are these.
+pub(crate) fn arc_table(
     alloc: Global,
     ends: (u32, u32),
     firsts: &[bool],
     seconds: &[bool],
     cells: Items<Items<Option<i64>>>,
-) -> Result<LinkTable, AllocError>
+) -> Result<ArcTable, AllocError>
     ensures { IfOk result (λ table. table ≡ table_of_cells ends.0 ends.1 firsts.now seconds.now cells) }
 {
     let leasts = least_rows(alloc, seconds, cells.as_slice())?;
     let columns = least_columns(alloc, firsts, cells.as_slice(), seconds.len())?;
-    Ok(LinkTable {
+    Ok(ArcTable {
         first: ends.0,
         second: ends.1,
         rows: numbers_of(alloc, leasts.as_slice())?,

@@ -3,7 +3,7 @@
 ghost use Rattle.std.specs.Prelude.{◌≡◌, ◌||◌, ◌<◌, ◌≤◌, ◌+ℤ◌, ◌∷◌, ℕ, None, [], IfOk, OnOk, length, not, option_map, pos, slice_index_or, true, unwrap_or};
 ghost use Rattle.std.specs.List.{list_all};
 ghost use Rattle.vd_base.specs.Limits.{most_certificate_shifts};
-ghost use Rattle.vd_cost_network.specs.Links.{index_readable, parts, slot_value};
+ghost use Rattle.vd_cost_network.specs.Arcs.{index_readable, parts, slot_value};
 ghost use Rattle.vd_cost_network.specs.Points.{switch_of};
 ghost use Rattle.vd_cost_network_prefix.specs.States.{AreSmallPoints, count_of_points};
 ghost use Rattle.vd_cost_network_tables.specs.Tables.{own_value, point_tables_of, switch_tables_from, switch_values, table_by, table_of_values, tests_of};
@@ -16,7 +16,7 @@ ghost use Rattle.vd_space.specs.WellFormed.{AreProtocols, IsWellFormed};
 ghost use Rattle.vd_cost_network_tables.specs.Sources.{AreSettingsOf, AreSumsByPoint, IsNetworkOf};
 
 use crate::cells::{point_table, value_at};
-use crate::raw::RawLink;
+use crate::raw::RawArc;
 use crate::sums::{Rows, shift_sums};
 use std::alloc::{AllocError, Global};
 use vd_base::{HostId, Proto, SlotId, is_holder};
@@ -222,13 +222,13 @@ fn push_switch_tables(
     Ok(())
 }
 
-/// The tables of all points, under shifts that name these links.
+/// The tables of all points, under shifts that name these arcs.
 pub(crate) fn point_tables(
     alloc: Global,
     problem: &Problem,
     list: &[Proto],
     switches: &[SwitchTable],
-    raws: &[RawLink],
+    raws: &[RawArc],
     settings: &[Items<bool>],
     most: usize,
     shifts: &[Shift],

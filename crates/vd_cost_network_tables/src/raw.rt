@@ -1,10 +1,10 @@
-//! Links without shifts.
+//! Arcs without shifts.
 
 use vd_base_lists::Items;
 
-/// What a link costs without shifts, by the settings of its two points, where these join. In parts of a unit.
+/// What an arc costs without shifts, by the settings of its two points, where these join. In parts of a unit.
 #[derive(PartialEq, Eq, Debug, Drop)]
-pub struct RawLink {
+pub struct RawArc {
     pub first: u32,
     pub second: u32,
     pub cells: Items<Items<Option<i64>>>,

@@ -1,4 +1,4 @@
-//! What shifts come to, all together: what they take from each link at a setting of an end of it, and what they put on each
+//! What shifts come to, all together: what they take from each arc at a setting of an end of it, and what they put on each
 //! point at a setting.
 
 ghost use Rattle.std.specs.Prelude.{◌≡◌, ◌+ℤ◌, ◌≤◌, ◌<◌, IfOk, length, pos, replicate, slice_index_or, slice_set};
@@ -7,13 +7,13 @@ ghost use Rattle.vd_cost_network_tables.specs.Sums.{AreSmallShifts, row_of, side
 ghost use Rattle.vd_space_prefix.specs.Transfers.{IsWithin};
 ghost use Rattle.vd_space.specs.Bounds.{signed};
 
-use crate::raw::RawLink;
+use crate::raw::RawArc;
 use std::alloc::{AllocError, Global};
 use vd_base_lists::Items;
 use vd_search_tree::Shift;
 
-/// The rows of a table of sums: for each link what is shifted at its first end, the same at its second, or for each point
-/// what is shifted at the links that it is an end of.
+/// The rows of a table of sums: for each arc what is shifted at its first end, the same at its second, or for each point
+/// what is shifted at the arcs that it is an end of.
 #[derive(Clone, Copy, PartialEq, Eq, Debug)]
 pub enum Rows {
     Firsts,
@@ -24,20 +24,20 @@ pub enum Rows {
 /// What the shifts come to in each of so many rows and settings.
 pub fn shift_sums(
     alloc: Global,
-    links: &[RawLink],
+    arcs: &[RawArc],
     rows: Rows,
     count: usize,
     places: usize,
     shifts: &[Shift],
 ) -> Result<Vec<Items<i64>>, AllocError>
     requires few { length shifts.now ≤ most_certificate_shifts }
-    ensures sums { IfOk result (λ sums. sums.items ≡ sums_of links.now rows count places shifts.now) }
+    ensures sums { IfOk result (λ sums. sums.items ≡ sums_of arcs.now rows count places shifts.now) }
     ensures small { IfOk result (λ sums. AreSmallShifts shifts.now) }
 {
     let mut sums = zeros(alloc, count, places)?;
     for shift in shifts {
         let amount = amount_of(shift);
-        if let Some(row) = row_number(links, rows, shift) {
+        if let Some(row) = row_number(arcs, rows, shift) {
             let place = usize::from(shift.proto);
             if row < count && place < places {
                 add_at(&mut sums[row], place, amount);
@@ -48,25 +48,25 @@ pub fn shift_sums(
 }
 
 /// The row in which a shift counts.
-fn row_number(links: &[RawLink], rows: Rows, shift: &Shift) -> Option<usize>
-    ensures { result ≡ row_of links.now rows shift.now }
+fn row_number(arcs: &[RawArc], rows: Rows, shift: &Shift) -> Option<usize>
+    ensures { result ≡ row_of arcs.now rows shift.now }
 {
     let at = shift.at as usize;
     match rows {
         Rows::Firsts => if shift.side == 0 { Some(at) } else { None },
         Rows::Seconds => if shift.side == 0 { None } else { Some(at) },
-        Rows::Points => links.get(at).map(|link| point_on(link, shift.side)),
+        Rows::Points => arcs.get(at).map(|arc| point_on(arc, shift.side)),
     }
 }
 
-/// The point on a side of a link.
-fn point_on(link: &RawLink, side: u8) -> usize
-    ensures { result ≡ side_of link.now side }
+/// The point on a side of an arc.
+fn point_on(arc: &RawArc, side: u8) -> usize
+    ensures { result ≡ side_of arc.now side }
 {
     if side == 0 {
-        link.first as usize
+        arc.first as usize
     } else {
-        link.second as usize
+        arc.second as usize
     }
 }
 

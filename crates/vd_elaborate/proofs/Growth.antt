@@ -12,7 +12,7 @@ use Rattle.vd_core.specs.declared.source.Expr.{Expr}
 use Rattle.vd_core.specs.declared.source.Expr.TheVariants.{Min, Max, Mux, Unary, Chain, Call}
 use Rattle.vd_core.specs.declared.source.Expr.TheOpen.{Expr-F}
 use Rattle.vd_core.specs.declared.source.Expr.TheFolds.{the_lemmas}
-use Rattle.vd_core.specs.declared.source.Link.{Link}
+use Rattle.vd_core.specs.declared.source.Segment.{Segment}
 use Rattle.vd_core.specs.declared.source.Statement.{Statement}
 use Rattle.vd_core.specs.declared.source.Statement.TheVariants.{Put, If}
 use Rattle.vd_core.specs.declared.source.Statement.TheOpen.{Statement-F}
@@ -22,7 +22,7 @@ use Rattle.vd_semantics.specs.SourceMeaning.{host_names, parameter_names}
 use Rattle.vd_anf.specs.declared.here.Here.{Here}
 use Rattle.vd_anf.specs.declared.spot.Spot.{Spot}
 use Rattle.vd_anf.specs.declared.spot.Spot.TheVariants.{Binding, Variable, Array}
-use Rattle.vd_anf.specs.Normal.{Made, Place, Lowering, StatementLowering, lowering, expr_lowering, lowering_of_link, chain_made, all_made, lowering_of, statement_lowering, statements_made, inner_made, loop_made, inlining_of, inlinings_of, prefixes_made, put_made, emitted, emptied, with_slot, named_slot, slot, prefix_op, prefix_kind}
+use Rattle.vd_anf.specs.Normal.{Made, Place, Lowering, StatementLowering, lowering, expr_lowering, lowering_of_segment, chain_made, all_made, lowering_of, statement_lowering, statements_made, inner_made, loop_made, inlining_of, inlinings_of, prefixes_made, put_made, emitted, emptied, with_slot, named_slot, slot, prefix_op, prefix_kind}
 use Rattle.vd_anf_wellformed.proofs.Growth.{size, chain_more, expr_more, exprs_more, statements_more, call_more}
 use Rattle.vd_elaborate.specs.Scopes.{Fits}
 
@@ -44,14 +44,14 @@ prefix_within (s ∷ ss) (suc k) here x m low = prefix_within ss k here x m (ome
 
 -- one step of a chain, one of several expressions, one of several statements
 module _ (hosts : List (List ℕ)) (fs : List Function) where
-  pub link_within : (ls : List Link) (k : ℕ) (l : Link) (names : Named Spot) (here : Here) (x : ℕ) (m : Made) → k < length ls → l ≡ get_or ls k l
-      → size (lowering_of_link hosts l (inlinings_of hosts fs) names here x m).1 ≤ size (chain_made (map (lowering_of_link hosts) (drop k ls)) (inlinings_of hosts fs) names here x m).1
-  link_within [] k l names here x m low is = absurd (omega arith)
-  link_within (y ∷ ls) zero l names here x m low is =
-      let p = lowering_of_link hosts y (inlinings_of hosts fs) names here x m in
-      subst (λ (z : Link). size (lowering_of_link hosts z (inlinings_of hosts fs) names here x m).1 ≤ size (chain_made (map (lowering_of_link hosts) (y ∷ ls)) (inlinings_of hosts fs) names here x m).1) (sym is)
+  pub segment_within : (ls : List Segment) (k : ℕ) (l : Segment) (names : Named Spot) (here : Here) (x : ℕ) (m : Made) → k < length ls → l ≡ get_or ls k l
+      → size (lowering_of_segment hosts l (inlinings_of hosts fs) names here x m).1 ≤ size (chain_made (map (lowering_of_segment hosts) (drop k ls)) (inlinings_of hosts fs) names here x m).1
+  segment_within [] k l names here x m low is = absurd (omega arith)
+  segment_within (y ∷ ls) zero l names here x m low is =
+      let p = lowering_of_segment hosts y (inlinings_of hosts fs) names here x m in
+      subst (λ (z : Segment). size (lowering_of_segment hosts z (inlinings_of hosts fs) names here x m).1 ≤ size (chain_made (map (lowering_of_segment hosts) (y ∷ ls)) (inlinings_of hosts fs) names here x m).1) (sym is)
       (chain_more hosts fs ls names here p.0 p.1)
-  link_within (y ∷ ls) (suc k) l names here x m low is = link_within ls k l names here x m (omega arith) is
+  segment_within (y ∷ ls) (suc k) l names here x m low is = segment_within ls k l names here x m (omega arith) is
 
   pub expr_within : (es : List Expr) (k : ℕ) (e : Expr) (names : Named Spot) (here : Here) (m : Made) → k < length es → e ≡ get_or es k e
       → size ((lowering hosts e).run (inlinings_of hosts fs) names here m).1 ≤ size (all_made (map (lowering hosts) (drop k es)) (inlinings_of hosts fs) names here m).1
@@ -74,21 +74,21 @@ module _ (hosts : List (List ℕ)) (fs : List Function) (names : Named Spot) (he
   abbrev pub run : Expr → Made → ℕ × Made
   run e m = (lowering hosts e).run (inlinings_of hosts fs) names here m
 
-  abbrev chained : List Link → ℕ → Made → ℕ × Made
-  chained ls x m = chain_made (map (lowering_of_link hosts) ls) (inlinings_of hosts fs) names here x m
+  abbrev chained : List Segment → ℕ → Made → ℕ × Made
+  chained ls x m = chain_made (map (lowering_of_segment hosts) ls) (inlinings_of hosts fs) names here x m
 
   abbrev all_run : List Expr → Made → List ℕ × Made
   all_run es m = all_made (map (lowering hosts) es) (inlinings_of hosts fs) names here m
 
-  chain_next : (ls : List Link) (k : ℕ) (l : Link) (x : ℕ) (m : Made) (r : ℕ × Made) → k < length ls → l ≡ get_or ls k l
-      → r ≡ lowering_of_link hosts l (inlinings_of hosts fs) names here x m → chained (drop (suc k) ls) r.0 r.1 ≡ chained (drop k ls) x m
+  chain_next : (ls : List Segment) (k : ℕ) (l : Segment) (x : ℕ) (m : Made) (r : ℕ × Made) → k < length ls → l ≡ get_or ls k l
+      → r ≡ lowering_of_segment hosts l (inlinings_of hosts fs) names here x m → chained (drop (suc k) ls) r.0 r.1 ≡ chained (drop k ls) x m
   chain_next [] k l x m r low is made = absurd (omega arith)
   chain_next (y ∷ ls) zero l x m r low is made =
-      ap (λ (q : ℕ × Made). chained ls q.0 q.1) (made ∙ ap (λ (z : Link). lowering_of_link hosts z (inlinings_of hosts fs) names here x m) is)
+      ap (λ (q : ℕ × Made). chained ls q.0 q.1) (made ∙ ap (λ (z : Segment). lowering_of_segment hosts z (inlinings_of hosts fs) names here x m) is)
   chain_next (y ∷ ls) (suc k) l x m r low is made = chain_next ls k l x m r (omega arith) is made
 
-  pub chain_step : (ls : List Link) (k : ℕ) (l : Link) (x : ℕ) (m : Made) (r : ℕ × Made) → k < length ls → l ≡ get_or ls k l
-      → r ≡ lowering_of_link hosts l (inlinings_of hosts fs) names here x m → chained (drop (k + 1) ls) r.0 r.1 ≡ chained (drop k ls) x m
+  pub chain_step : (ls : List Segment) (k : ℕ) (l : Segment) (x : ℕ) (m : Made) (r : ℕ × Made) → k < length ls → l ≡ get_or ls k l
+      → r ≡ lowering_of_segment hosts l (inlinings_of hosts fs) names here x m → chained (drop (k + 1) ls) r.0 r.1 ≡ chained (drop k ls) x m
   chain_step ls k l x m r low is made = ap (λ j. chained (drop j ls) r.0 r.1) (add-one k) ∙ chain_next ls k l x m r low is made
 
   exprs_next : (es : List Expr) (k : ℕ) (e : Expr) (m : Made) (r : ℕ × Made) → k < length es → e ≡ get_or es k e → r ≡ run e m
@@ -143,11 +143,11 @@ module _ (hosts : List (List ℕ)) (fs : List Function) (names : Named Spot) (he
       let rest = prefixes_more signs here (run x m).0 (run x m).1 in
       omega arith
 
-  pub chain_operand : (x : Expr) (links : List Link) → Part x (Chain x links)
-  chain_operand x links m =
-      let whole : lowering hosts (Chain x links) ≡ expr_lowering hosts (Expr-F.Chain (lowering hosts x) (map (lowering_of_link hosts) links)) = search (rules, the_lemmas) in
+  pub chain_operand : (x : Expr) (segments : List Segment) → Part x (Chain x segments)
+  chain_operand x segments m =
+      let whole : lowering hosts (Chain x segments) ≡ expr_lowering hosts (Expr-F.Chain (lowering hosts x) (map (lowering_of_segment hosts) segments)) = search (rules, the_lemmas) in
       let same = ap (λ (l : Lowering). size (l.run (inlinings_of hosts fs) names here m).1) whole in
-      let rest = chain_more hosts fs links names here (run x m).0 (run x m).1 in
+      let rest = chain_more hosts fs segments names here (run x m).0 (run x m).1 in
       omega arith
 
   pub call_arguments : (f : Ident) (arguments : List Expr) (m : Made) → size (all_run arguments m).1 ≤ size (run (Call f arguments) m).1

@@ -4,13 +4,13 @@ use Rattle.std.specs.Prelude.{◌≡◌, ℕ, ◌+◌, ◌^◌, ◌<◌, List, m
 use Rattle.vd_base.specs.Names.{Named, at_name}
 use Rattle.vd_core.specs.declared.source.Ident.{Ident}
 use Rattle.vd_core.specs.declared.source.Expr.{Expr}
-use Rattle.vd_core.specs.declared.source.Link.{Link}
+use Rattle.vd_core.specs.declared.source.Segment.{Segment}
 use Rattle.vd_core.specs.declared.source.Statement.{Statement}
 use Rattle.vd_core.specs.declared.source.Function.{Function}
 use Rattle.vd_semantics.specs.SourceMeaning.{host_names}
 use Rattle.vd_anf.specs.declared.here.Here.{Here}
 use Rattle.vd_anf.specs.declared.spot.Spot.{Spot}
-use Rattle.vd_anf.specs.Normal.{Made, Place, Inlining, lowering, lowering_of_link, chain_made, all_made, call_made, lowering_of, statements_made, with_body, inner_made, loop_made, inlining_of, inlinings_of}
+use Rattle.vd_anf.specs.Normal.{Made, Place, Inlining, lowering, lowering_of_segment, chain_made, all_made, call_made, lowering_of, statements_made, with_body, inner_made, loop_made, inlining_of, inlinings_of}
 use Rattle.vd_elaborate.specs.declared.scope.Scope.{Scope}
 
 -- 16 bits number all slots, and all blocks
@@ -35,11 +35,11 @@ abbrev pub all_lowered : Scope → Named Spot → Here → List Expr → Made �
 all_lowered s names here es = all_made (map (lowering (hosts_of s)) es) (calls_of s) names here
 
 -- one step of a chain, and all its steps, from the slot so far
-abbrev pub linked : Scope → Named Spot → Here → Link → ℕ → Made → ℕ × Made
-linked s names here l = lowering_of_link (hosts_of s) l (calls_of s) names here
+abbrev pub appended : Scope → Named Spot → Here → Segment → ℕ → Made → ℕ × Made
+appended s names here l = lowering_of_segment (hosts_of s) l (calls_of s) names here
 
-abbrev pub chained : Scope → Named Spot → Here → List Link → ℕ → Made → ℕ × Made
-chained s names here ls = chain_made (map (lowering_of_link (hosts_of s)) ls) (calls_of s) names here
+abbrev pub chained : Scope → Named Spot → Here → List Segment → ℕ → Made → ℕ × Made
+chained s names here ls = chain_made (map (lowering_of_segment (hosts_of s)) ls) (calls_of s) names here
 
 -- a call of a name, and what a function makes at a call, from the slots of the arguments
 abbrev pub called : Scope → Here → List ℕ → List ℕ → Made → ℕ × Made

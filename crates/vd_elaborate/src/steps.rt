@@ -220,7 +220,8 @@ pub(crate) fn is_plain(hosts: &[Host], names: &[(Name, Spot)], expr: &Expr) -> b
             find_name(names, name.name.as_slice()),
             Some(Spot::Binding(_))
         ),
-        Expr::Chain(first, links) => links.as_slice().is_empty() && is_plain(hosts, names, first),
+        Expr::Chain(first, segments) => segments.as_slice().is_empty()
+            && is_plain(hosts, names, first),
         Expr::Call(_, _) => true,
         Expr::Brackets(x) => is_plain(hosts, names, x),
         Expr::Unary(x, signs) => signs.as_slice().is_empty() && is_plain(hosts, names, x),

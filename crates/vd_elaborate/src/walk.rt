@@ -5,7 +5,7 @@ ghost use Rattle.vd_base.specs.Limits.{most_hosts};
 ghost use Rattle.vd_semantics.specs.SourceMeaning.{host_names};
 ghost use Rattle.vd_anf.specs.Normal.{main_made, host_id, normal_form, written};
 ghost use Rattle.vd_elaborate.specs.Outputs.{KeepsOutputs};
-ghost use Rattle.vd_elaborate.specs.Scopes.{Fits, Gives, lowered, all_lowered, linked, chained, called, entered, place as at, stated, sequenced, inside, both, branched, in_turn, around};
+ghost use Rattle.vd_elaborate.specs.Scopes.{Fits, Gives, lowered, all_lowered, appended, chained, called, entered, place as at, stated, sequenced, inside, both, branched, in_turn, around};
 
 use crate::forms::{copy_form, copy_label, copy_name};
 use crate::made::{Made, slot_of_name};
@@ -20,7 +20,8 @@ use vd_anf::{Here, Spot};
 use vd_base::{HostId, Kind, Name, Names, Op, SlotId, add_name, find_name};
 use vd_base_lists::Items;
 use vd_core::{
-    Expr, Function, Host, Ident, Link, NormalForm, Program, Right, Source, Statement, Stmt, Written,
+    Expr, Function, Host, Ident, NormalForm, Program, Right, Segment, Source, Statement, Stmt,
+    Written,
 };
 use vd_resolve::Resolved;
 use vd_semantics::hosts::place;
@@ -124,9 +125,9 @@ impl<'a> Scope<'a> {
                 let x = self.lower(names, made, here, x)?;
                 prefixes(self.alloc, made, here, x, signs.as_slice())
             }
-            Expr::Chain(first, links) => {
+            Expr::Chain(first, segments) => {
                 let x = self.lower(names, made, here, first)?;
-                self.chain(names, made, here, x, links.as_slice())
+                self.chain(names, made, here, x, segments.as_slice())
             }
             Expr::Brackets(x) => self.lower(names, made, here, x),
         }
@@ -140,33 +141,33 @@ impl<'a> Scope<'a> {
         made: &mut Made,
         here: Here,
         first: u16,
-        links: &[Link],
+        segments: &[Segment],
     ) -> Result<u16, AllocError>
-        requires { Fits (chained self.now names.now here links.now first made.old).1 }
-        ensures { Gives result made.new (chained self.now names.now here links.now first made.old) }
+        requires { Fits (chained self.now names.now here segments.now first made.old).1 }
+        ensures { Gives result made.new (chained self.now names.now here segments.now first made.old) }
     {
         let mut x = first;
-        for link in links {
-            x = self.link(names, made, here, x, link)?;
+        for segment in segments {
+            x = self.segment(names, made, here, x, segment)?;
         }
         Ok(x)
     }
 
     /// Makes one step of a chain.
     #[cycle(walk)]
-    fn link(
+    fn segment(
         &self,
         names: &[(Name, Spot)],
         made: &mut Made,
         here: Here,
         x: u16,
-        link: &Link,
+        segment: &Segment,
     ) -> Result<u16, AllocError>
-        requires { Fits (linked self.now names.now here link.now x made.old).1 }
-        ensures { Gives result made.new (linked self.now names.now here link.now x made.old) }
+        requires { Fits (appended self.now names.now here segment.now x made.old).1 }
+        ensures { Gives result made.new (appended self.now names.now here segment.now x made.old) }
     {
-        match link {
-            Link::Infix(op, _, right) => match factor(self.hosts, *op, right) {
+        match segment {
+            Segment::Infix(op, _, right) => match factor(self.hosts, *op, right) {
                 Some(number) => {
                     operation(
                         self.alloc,
@@ -184,7 +185,7 @@ impl<'a> Scope<'a> {
                     made.emit(self.alloc, here, kind, right)
                 }
             },
-            Link::Shift(direction, _, bits) => {
+            Segment::Shift(direction, _, bits) => {
                 operation(
                     self.alloc,
                     made,

@@ -15,10 +15,10 @@ use Rattle.vd_core.specs.declared.source.Infix.{Infix}
 use Rattle.vd_core.specs.declared.source.Infix.TheVariants as op
 use Rattle.vd_core.specs.declared.source.Expr.{Expr}
 use Rattle.vd_core.specs.declared.source.Expr.TheVariants as expr
-use Rattle.vd_core.specs.declared.source.Expr.TheOpen.{Expr-F, Link-F}
+use Rattle.vd_core.specs.declared.source.Expr.TheOpen.{Expr-F, Segment-F}
 use Rattle.vd_core.specs.declared.source.Expr.TheFolds.{the_lemmas as expr_lemmas}
-use Rattle.vd_core.specs.declared.source.Link.{Link}
-use Rattle.vd_core.specs.declared.source.Link.TheVariants as link
+use Rattle.vd_core.specs.declared.source.Segment.{Segment}
+use Rattle.vd_core.specs.declared.source.Segment.TheVariants as segment
 use Rattle.vd_core.specs.declared.source.Statement.{Statement}
 use Rattle.vd_core.specs.declared.source.Statement.TheVariants as stmt
 use Rattle.vd_core.specs.declared.source.Statement.TheOpen.{Statement-F}
@@ -26,8 +26,8 @@ use Rattle.vd_core.specs.declared.source.Statement.TheFolds.{the_lemmas as state
 use Rattle.vd_resolve.specs.declared.symbol.Symbol.{Symbol}
 use Rattle.vd_resolve.specs.declared.symbol.Symbol.TheVariants.{Constant}
 use Rattle.vd_resolve.specs.declared.size.Size.{Size}
-use Rattle.vd_resolve.specs.Rules.{Scope, form_check, form_known, label_check, infix_kind, expr_typing, link_typing, typing, typing_of_link, statement_check, checking, in_sequence}
-use Rattle.vd_resolve.specs.Sizes.{also, nothing, Variables, is_variable, Sizing, LinkSizing, StatementSizing, expr_sizing, link_sizing, sizing, sizing_of_link, is_scale, statement_sizing, statement_size, statements_after}
+use Rattle.vd_resolve.specs.Rules.{Scope, form_check, form_known, label_check, infix_kind, expr_typing, segment_typing, typing, typing_of_segment, statement_check, checking, in_sequence}
+use Rattle.vd_resolve.specs.Sizes.{also, nothing, Variables, is_variable, Sizing, SegmentSizing, StatementSizing, expr_sizing, segment_sizing, sizing, sizing_of_segment, is_scale, statement_sizing, statement_size, statements_after}
 use Rattle.vd_resolve.specs.Limits.{within, resolution}
 use Rattle.vd_gen_laws.proofs.Trees.{named, two}
 
@@ -42,10 +42,10 @@ typing_value x = search (rules, expr_lemmas)
 typing_number : (n : ℕ) → typing (expr.Number n) ≡ expr_typing (Expr-F.Number n)
 typing_number n = search (rules, expr_lemmas)
 
-typing_link : (o : Infix) (at : Span) (y : Expr) → typing_of_link (link.Infix o at y) ≡ link_typing (Link-F.Infix o at (typing y))
-typing_link o at y = search (rules, expr_lemmas)
+typing_segment : (o : Infix) (at : Span) (y : Expr) → typing_of_segment (segment.Infix o at y) ≡ segment_typing (Segment-F.Infix o at (typing y))
+typing_segment o at y = search (rules, expr_lemmas)
 
-typing_chain : (x : Expr) (l : Link) → typing (expr.Chain x (l ∷ [])) ≡ expr_typing (Expr-F.Chain (typing x) (typing_of_link l ∷ []))
+typing_chain : (x : Expr) (l : Segment) → typing (expr.Chain x (l ∷ [])) ≡ expr_typing (Expr-F.Chain (typing x) (typing_of_segment l ∷ []))
 typing_chain x l = search (rules, expr_lemmas)
 
 typing_declassify : (x : Expr) (f : WrittenForm) → typing (expr.Declassify x f) ≡ expr_typing (Expr-F.Declassify (typing x) f)
@@ -75,10 +75,10 @@ sizing_value x = search (rules, expr_lemmas)
 sizing_number : (n : ℕ) → sizing (expr.Number n) ≡ expr_sizing (Expr-F.Number n)
 sizing_number n = search (rules, expr_lemmas)
 
-sizing_link : (o : Infix) (at : Span) (y : Expr) → sizing_of_link (link.Infix o at y) ≡ link_sizing (Link-F.Infix o at (sizing y))
-sizing_link o at y = search (rules, expr_lemmas)
+sizing_segment : (o : Infix) (at : Span) (y : Expr) → sizing_of_segment (segment.Infix o at y) ≡ segment_sizing (Segment-F.Infix o at (sizing y))
+sizing_segment o at y = search (rules, expr_lemmas)
 
-sizing_chain : (x : Expr) (l : Link) → sizing (expr.Chain x (l ∷ [])) ≡ expr_sizing (Expr-F.Chain (sizing x) (sizing_of_link l ∷ []))
+sizing_chain : (x : Expr) (l : Segment) → sizing (expr.Chain x (l ∷ [])) ≡ expr_sizing (Expr-F.Chain (sizing x) (sizing_of_segment l ∷ []))
 sizing_chain x l = search (rules, expr_lemmas)
 
 sizing_declassify : (x : Expr) (f : WrittenForm) → sizing (expr.Declassify x f) ≡ expr_sizing (Expr-F.Declassify (sizing x) f)
@@ -113,12 +113,12 @@ types_value N s env k found = ap (λ t. t scope env) (typing_value (named N s)) 
 types_number : (n : ℕ) (env : Named Symbol) → Types (expr.Number n) env Word
 types_number n env = ap (λ t. t scope env) (typing_number n)
 
-link_types : (o : Infix) (at : Span) (y : Expr) (env : Named Symbol) (left right k : Kind) → Types y env right → infix_kind o left right ≡ Some k → typing_of_link (link.Infix o at y) scope env left ≡ Ok k
-link_types o at y env left right k ty is = ap (λ t. t scope env left) (typing_link o at y) ∙ rw (ty, is) refl
+segment_types : (o : Infix) (at : Span) (y : Expr) (env : Named Symbol) (left right k : Kind) → Types y env right → infix_kind o left right ≡ Some k → typing_of_segment (segment.Infix o at y) scope env left ≡ Ok k
+segment_types o at y env left right k ty is = ap (λ t. t scope env left) (typing_segment o at y) ∙ rw (ty, is) refl
 
 types_two : (o : Infix) (at : Span) (x y : Expr) (env : Named Symbol) (left right k : Kind) → Types x env left → Types y env right → infix_kind o left right ≡ Some k → Types (two o at x y) env k
 types_two o at x y env left right k tx ty is =
-    ap (λ t. t scope env) (typing_chain x (link.Infix o at y)) ∙ rw (tx, link_types o at y env left right k ty is) refl
+    ap (λ t. t scope env) (typing_chain x (segment.Infix o at y)) ∙ rw (tx, segment_types o at y env left right k ty is) refl
 
 pub types_names : (o : Infix) (at : Span) (M N : List ℕ) (s t : Span) (env : Named Symbol) → at_name env M ≡ Some (Constant Word) → at_name env N ≡ Some (Constant Word) → infix_kind o Word Word ≡ Some Word →
     Types (two o at (expr.Value (named M s)) (expr.Value (named N t))) env Word
@@ -179,13 +179,13 @@ made_input H s vars = record {
   plain = ap (λ (z : Sizing). z.plain vars) (sizing_input (named H s));
 }
 
-link_size : (o : Infix) (at : Span) (y : Expr) (vars : Variables) (n : ℕ) → (sizing y).size [] vars ≡ count n → is_scale o (sizing y).bare ≡ false → sizing_of_link (link.Infix o at y) [] vars ≡ count (n + 1)
-link_size o at y vars n sy scale = ap (λ (z : LinkSizing). z [] vars) (sizing_link o at y) ∙ rw (scale, sy) (also_count n 1)
+segment_size : (o : Infix) (at : Span) (y : Expr) (vars : Variables) (n : ℕ) → (sizing y).size [] vars ≡ count n → is_scale o (sizing y).bare ≡ false → sizing_of_segment (segment.Infix o at y) [] vars ≡ count (n + 1)
+segment_size o at y vars n sy scale = ap (λ (z : SegmentSizing). z [] vars) (sizing_segment o at y) ∙ rw (scale, sy) (also_count n 1)
 
 made_two : (o : Infix) (at : Span) (x y : Expr) (vars : Variables) (m n : ℕ) → (sizing x).size [] vars ≡ count m → (sizing y).size [] vars ≡ count n → is_scale o (sizing y).bare ≡ false → IsMade (two o at x y) vars (m + (n + 1))
 made_two o at x y vars m n sx sy scale = record {
-  size = ap (λ (z : Sizing). z.size [] vars) (sizing_chain x (link.Infix o at y)) ∙ rw (sx, link_size o at y vars n sy scale) (ap (also (count m)) (also_count 0 (n + 1)) ∙ also_zero m (n + 1));
-  plain = ap (λ (z : Sizing). z.plain vars) (sizing_chain x (link.Infix o at y));
+  size = ap (λ (z : Sizing). z.size [] vars) (sizing_chain x (segment.Infix o at y)) ∙ rw (sx, segment_size o at y vars n sy scale) (ap (also (count m)) (also_count 0 (n + 1)) ∙ also_zero m (n + 1));
+  plain = ap (λ (z : Sizing). z.plain vars) (sizing_chain x (segment.Infix o at y));
 }
   where
     also_zero : (m k : ℕ) → also (count m) (count (0 + k)) ≡ count (m + k)

@@ -12,7 +12,7 @@ use Rattle.vd_core.specs.declared.source.Infix.{Infix}
 use Rattle.vd_core.specs.declared.source.Infix.TheVariants as op
 use Rattle.vd_core.specs.declared.source.Expr.{Expr}
 use Rattle.vd_core.specs.declared.source.Expr.TheVariants as expr
-use Rattle.vd_core.specs.declared.source.Link.TheVariants as link
+use Rattle.vd_core.specs.declared.source.Segment.TheVariants as segment
 use Rattle.vd_core.specs.declared.source.Statement.{Statement}
 use Rattle.vd_core.specs.declared.source.Statement.TheVariants as stmt
 use Rattle.vd_core.specs.declared.source.Source.{Source}
@@ -21,7 +21,7 @@ use Rattle.vd_source_lexer.specs.declared.token.Token.{Token}
 use Rattle.vd_source_lexer.specs.declared.token.TokenKind.{TokenKind}
 use Rattle.vd_source_lexer.specs.declared.token.TokenKind.TheVariants as kind
 use Rattle.vd_parser.specs.Language.{Symbol, rule, SOURCE, HOST, LABEL, FORM, CONJ, FATOM, STMT, EXPR, BOR, BXOR, BAND, SHIFT, SUM, PROD, UNARY, ATOM}
-use Rattle.vd_parser.specs.Syntax.{word_at, infix_of, form_of, conj_of, conjs_of, fatom_of, fatoms_of, label_of, label_option_of, host_of, host_name_of, new_form_of, prefixes_of, expr_of, bor_of, bor_links_of, bxor_of, bxor_links_of, band_of, band_links_of, shift_of, shift_links_of, sum_of, sum_links_of, prod_of, prod_links_of, unary_of, atom_of, word_atom_of, other_atom_of, named_of, first_of, let_of, output_of, statement_of, statements_of, source_of, principals_of, idents_of, more_idents_of, host_list_of, hosts_of, functions_of, block_of}
+use Rattle.vd_parser.specs.Syntax.{word_at, infix_of, form_of, conj_of, conjs_of, fatom_of, fatoms_of, label_of, label_option_of, host_of, host_name_of, new_form_of, prefixes_of, expr_of, bor_of, bor_segments_of, bxor_of, bxor_segments_of, band_of, band_segments_of, shift_of, shift_segments_of, sum_of, sum_segments_of, prod_of, prod_segments_of, unary_of, atom_of, word_atom_of, other_atom_of, named_of, first_of, let_of, output_of, statement_of, statements_of, source_of, principals_of, idents_of, more_idents_of, host_list_of, hosts_of, functions_of, block_of}
 
 -- a name with its place
 abbrev pub named : List ℕ → Span → Ident
@@ -43,27 +43,27 @@ unfolding unary_of prefixes_of
 unary_alone r = record { tree = Both Empty r.tree; makes = m-sym (m-seq m-stop r.makes); stands = r.stands }
 
 prod_alone : {text : List ℕ} {ts rest : List Token} {v : Expr} → Reads (Sym UNARY) unary_of text ts rest v → Reads (Sym PROD) prod_of text ts rest v
-unfolding prod_of prod_links_of
+unfolding prod_of prod_segments_of
 prod_alone r = record { tree = Both r.tree Empty; makes = m-sym (m-seq r.makes m-stop); stands = r.stands }
 
 sum_alone : {text : List ℕ} {ts rest : List Token} {v : Expr} → Reads (Sym PROD) prod_of text ts rest v → Reads (Sym SUM) sum_of text ts rest v
-unfolding sum_of sum_links_of
+unfolding sum_of sum_segments_of
 sum_alone r = record { tree = Both r.tree Empty; makes = m-sym (m-seq r.makes m-stop); stands = r.stands }
 
 shift_alone : {text : List ℕ} {ts rest : List Token} {v : Expr} → Reads (Sym SUM) sum_of text ts rest v → Reads (Sym SHIFT) shift_of text ts rest v
-unfolding shift_of shift_links_of
+unfolding shift_of shift_segments_of
 shift_alone r = record { tree = Both r.tree Empty; makes = m-sym (m-seq r.makes m-stop); stands = r.stands }
 
 band_alone : {text : List ℕ} {ts rest : List Token} {v : Expr} → Reads (Sym SHIFT) shift_of text ts rest v → Reads (Sym BAND) band_of text ts rest v
-unfolding band_of band_links_of
+unfolding band_of band_segments_of
 band_alone r = record { tree = Both r.tree Empty; makes = m-sym (m-seq r.makes m-stop); stands = r.stands }
 
 bxor_alone : {text : List ℕ} {ts rest : List Token} {v : Expr} → Reads (Sym BAND) band_of text ts rest v → Reads (Sym BXOR) bxor_of text ts rest v
-unfolding bxor_of bxor_links_of
+unfolding bxor_of bxor_segments_of
 bxor_alone r = record { tree = Both r.tree Empty; makes = m-sym (m-seq r.makes m-stop); stands = r.stands }
 
 bor_alone : {text : List ℕ} {ts rest : List Token} {v : Expr} → Reads (Sym BXOR) bxor_of text ts rest v → Reads (Sym BOR) bor_of text ts rest v
-unfolding bor_of bor_links_of
+unfolding bor_of bor_segments_of
 bor_alone r = record { tree = Both r.tree Empty; makes = m-sym (m-seq r.makes m-stop); stands = r.stands }
 
 expr_alone : {text : List ℕ} {ts rest : List Token} {v : Expr} → Reads (Sym BOR) bor_of text ts rest v → Reads (Sym EXPR) expr_of text ts rest v
@@ -87,11 +87,11 @@ expr_of_atom r = expr_alone (bor_of_atom r)
 
 -- two operands
 abbrev pub two : Infix → Span → Expr → Expr → Expr
-two o at x y = expr.Chain x (link.Infix o at y ∷ [])
+two o at x y = expr.Chain x (segment.Infix o at y ∷ [])
 
 pub star : {text : List ℕ} {ts us rest : List Token} {o : Token} {x y : Expr} → Reads (Sym ATOM) atom_of text ts (o ∷ us) x → IsKind o kind.Star → Reads (Sym ATOM) atom_of text us rest y →
     Reads (Sym EXPR) expr_of text ts rest (two op.Mul o.span x y)
-unfolding prod_of prod_links_of
+unfolding prod_of prod_segments_of
 star {text = text} {o = o} {x = x} {y = y} a k b =
     let l = unary_alone a in
     let r = unary_alone b in
@@ -103,7 +103,7 @@ star {text = text} {o = o} {x = x} {y = y} a k b =
 
 pub plus : {text : List ℕ} {ts us rest : List Token} {o : Token} {x y : Expr} → Reads (Sym ATOM) atom_of text ts (o ∷ us) x → IsKind o kind.Plus → Reads (Sym ATOM) atom_of text us rest y →
     Reads (Sym EXPR) expr_of text ts rest (two op.Add o.span x y)
-unfolding sum_of sum_links_of
+unfolding sum_of sum_segments_of
 plus {text = text} {o = o} {x = x} {y = y} a k b =
     let l = prod_of_atom a in
     let r = prod_of_atom b in
@@ -115,7 +115,7 @@ plus {text = text} {o = o} {x = x} {y = y} a k b =
 
 pub minus : {text : List ℕ} {ts us rest : List Token} {o : Token} {x y : Expr} → Reads (Sym ATOM) atom_of text ts (o ∷ us) x → IsKind o kind.Minus → Reads (Sym ATOM) atom_of text us rest y →
     Reads (Sym EXPR) expr_of text ts rest (two op.Sub o.span x y)
-unfolding sum_of sum_links_of
+unfolding sum_of sum_segments_of
 minus {text = text} {o = o} {x = x} {y = y} a k b =
     let l = prod_of_atom a in
     let r = prod_of_atom b in

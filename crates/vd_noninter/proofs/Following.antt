@@ -1,4 +1,4 @@
--- Links that are followed one by one, and in passes.
+-- Edges that are followed one by one, and in passes.
 use Rattle.std.proofs.Common.{◌≡◌, ℕ, zero, suc, ◌+◌, ◌≤◌, Bool, true, false, true≢false, ◌&&◌, ◌||◌, List, [], ◌∷◌, ◌++◌, length, refl, sym, ap, ◌∙◌, subst, arith, nat_eq, inl, inr, ◌⊎◌}
 use Rattle.std.proofs.lemmas.Bool.{and_parts, eq-eqb, eqb-true, cases_eq}
 use Rattle.std.proofs.lemmas.List.{length-append}
@@ -9,9 +9,9 @@ use Rattle.vd_noninter_laws.specs.Flowing.{only_with}
 use Rattle.vd_noninter_laws.specs.Dependence.{Reach, IsWithin}
 use Rattle.vd_noninter_laws.proofs.Statements.{only}
 use Rattle.vd_noninter_laws.proofs.Lawful.{then_only, and_of}
-use Rattle.vd_noninter.specs.declared.link.Node.{Node}
-use Rattle.vd_noninter.specs.declared.link.Node.TheVariants.{Told, Slot, Inputs}
-use Rattle.vd_noninter.specs.declared.link.Link.{Link}
+use Rattle.vd_noninter.specs.declared.edge.Node.{Node}
+use Rattle.vd_noninter.specs.declared.edge.Node.TheVariants.{Told, Slot, Inputs}
+use Rattle.vd_noninter.specs.declared.edge.Edge.{Edge}
 use Rattle.vd_noninter.specs.Reached.{in_reach, holds, all_hold, IsWith, FollowsOne, Follows, IsReachOf}
 use Rattle.vd_noninter.proofs.Closing.{and_true, and_swap}
 
@@ -68,33 +68,33 @@ host_added old more host slots hosts = record {
 told_added : (old : Reach) → IsWith Told old old
 told_added old = record { kept = within_self old; there = refl; least = λ other is there. is }
 
--- ---- one link
--- the whole list has the link besides the part
-record Splits (whole part : List Link) (link : Link) : Type 0 where
-  pub all : (other : Reach) → all_hold other whole ≡ (all_hold other part && holds other link)
+-- ---- one edge
+-- the whole list has the edge besides the part
+record Splits (whole part : List Edge) (edge : Edge) : Type 0 where
+  pub all : (other : Reach) → all_hold other whole ≡ (all_hold other part && holds other edge)
   pub size : length whole ≡ length part + 1
 
-snoc_splits : (part : List Link) (link : Link) → Splits (part ++ link ∷ []) part link
-snoc_splits part link = record {
-  all = λ other. list_all-append (holds other) part (link ∷ []) ∙ ap (λ b. all_hold other part && b) (and_true (holds other link));
-  size = length-append part (link ∷ []);
+snoc_splits : (part : List Edge) (edge : Edge) → Splits (part ++ edge ∷ []) part edge
+snoc_splits part edge = record {
+  all = λ other. list_all-append (holds other) part (edge ∷ []) ∙ ap (λ b. all_hold other part && b) (and_true (holds other edge));
+  size = length-append part (edge ∷ []);
 }
 
-cons_splits : (part : List Link) (link : Link) → Splits (link ∷ part) part link
-cons_splits part link = record { all = λ other. and_swap (holds other link) (all_hold other part); size = omega arith }
+cons_splits : (part : List Edge) (edge : Edge) → Splits (edge ∷ part) part edge
+cons_splits part edge = record { all = λ other. and_swap (holds other edge) (all_hold other part); size = omega arith }
 
--- Of the links some have been followed, some wait and some are left.
-pub record SoFar (old now : Reach) (links waiting left : List Link) : Type 0 where
+-- Of the edges some have been followed, some wait and some are left.
+pub record SoFar (old now : Reach) (edges waiting left : List Edge) : Type 0 where
   pub kept : IsWithin old now
-  pub least : (other : Reach) → IsWithin old other → all_hold other links ≡ true → IsWithin now other
-  pub waits : (other : Reach) → all_hold other links ≡ true → all_hold other waiting ≡ true
-  pub rest : (other : Reach) → all_hold other links ≡ true → all_hold other left ≡ true
-  pub enough : (other : Reach) → IsWithin now other → all_hold other waiting ≡ true → all_hold other left ≡ true → all_hold other links ≡ true
-  pub fewer : length waiting + length left ≤ length links
-  pub ends : length waiting + length left ≡ length links → all_hold now left ≡ true
+  pub least : (other : Reach) → IsWithin old other → all_hold other edges ≡ true → IsWithin now other
+  pub waits : (other : Reach) → all_hold other edges ≡ true → all_hold other waiting ≡ true
+  pub rest : (other : Reach) → all_hold other edges ≡ true → all_hold other left ≡ true
+  pub enough : (other : Reach) → IsWithin now other → all_hold other waiting ≡ true → all_hold other left ≡ true → all_hold other edges ≡ true
+  pub fewer : length waiting + length left ≤ length edges
+  pub ends : length waiting + length left ≡ length edges → all_hold now left ≡ true
 
-pub starts : (old : Reach) (links : List Link) → SoFar old old links links []
-starts old links = record {
+pub starts : (old : Reach) (edges : List Edge) → SoFar old old edges edges []
+starts old edges = record {
   kept = within_self old;
   least = λ other is h. is;
   waits = λ other h. h;
@@ -104,8 +104,8 @@ starts old links = record {
   ends = λ e. refl;
 }
 
-pub ends_so : (old now : Reach) (links left : List Link) → SoFar old now links [] left → Follows old now links left
-ends_so old now links left s = record {
+pub ends_so : (old now : Reach) (edges left : List Edge) → SoFar old now edges [] left → Follows old now edges left
+ends_so old now edges left s = record {
   kept = s.kept;
   least = s.least;
   rest = s.rest;
@@ -114,21 +114,21 @@ ends_so old now links left s = record {
   ends = λ e. s.ends (omega arith);
 }
 
-module _ (old now : Reach) (links waiting waiting' left : List Link) (link : Link) (splits : Splits waiting waiting' link) (s : SoFar old now links waiting left) where
-  waiting_parts : (other : Reach) → all_hold other links ≡ true → (all_hold other waiting' ≡ true) × (holds other link ≡ true)
-  waiting_parts other h = and_parts (all_hold other waiting') (holds other link) (sym (splits.all other) ∙ s.waits other h)
+module _ (old now : Reach) (edges waiting waiting' left : List Edge) (edge : Edge) (splits : Splits waiting waiting' edge) (s : SoFar old now edges waiting left) where
+  waiting_parts : (other : Reach) → all_hold other edges ≡ true → (all_hold other waiting' ≡ true) × (holds other edge ≡ true)
+  waiting_parts other h = and_parts (all_hold other waiting') (holds other edge) (sym (splits.all other) ∙ s.waits other h)
 
-  link_followed : (next : Reach) → in_reach now link.from ≡ true → IsWith link.to now next → SoFar old next links waiting' left
-  link_followed next from w = record {
+  edge_followed : (next : Reach) → in_reach now edge.from ≡ true → IsWith edge.to now next → SoFar old next edges waiting' left
+  edge_followed next from w = record {
     kept = within_trans old now next s.kept w.kept;
     least = λ other is h.
         let more = s.least other is h in
-        w.least other more (only (in_reach other link.from) (in_reach other link.to) (waiting_parts other h).1 (in_more now other more link.from from));
+        w.least other more (only (in_reach other edge.from) (in_reach other edge.to) (waiting_parts other h).1 (in_more now other more edge.from from));
     waits = λ other h. (waiting_parts other h).0;
     rest = s.rest;
     enough = λ other is a b.
-        let link_holds = then_only (in_reach other link.from) (in_reach other link.to) (λ _. in_more next other is link.to w.there) in
-        s.enough other (within_trans now next other w.kept is) (splits.all other ∙ and_of (all_hold other waiting') (holds other link) a link_holds) b;
+        let edge_holds = then_only (in_reach other edge.from) (in_reach other edge.to) (λ _. in_more next other is edge.to w.there) in
+        s.enough other (within_trans now next other w.kept is) (splits.all other ∙ and_of (all_hold other waiting') (holds other edge) a edge_holds) b;
     fewer = let low = s.fewer in let size = splits.size in omega arith;
     ends = λ e. absurd (let low = s.fewer in let size = splits.size in omega arith);
   }
@@ -137,60 +137,60 @@ module _ (old now : Reach) (links waiting waiting' left : List Link) (link : Lin
   unreached_holds true b is = absurd (true≢false is)
   unreached_holds false b is = refl
 
-  link_left : (left' : List Link) → in_reach now link.from ≡ false → Splits left' left link → SoFar old now links waiting' left'
-  link_left left' from more = record {
+  edge_left : (left' : List Edge) → in_reach now edge.from ≡ false → Splits left' left edge → SoFar old now edges waiting' left'
+  edge_left left' from more = record {
     kept = s.kept;
     least = s.least;
     waits = λ other h. (waiting_parts other h).0;
-    rest = λ other h. more.all other ∙ and_of (all_hold other left) (holds other link) (s.rest other h) (waiting_parts other h).1;
+    rest = λ other h. more.all other ∙ and_of (all_hold other left) (holds other edge) (s.rest other h) (waiting_parts other h).1;
     enough = λ other is a b.
-        let parts = and_parts (all_hold other left) (holds other link) (sym (more.all other) ∙ b) in
-        s.enough other is (splits.all other ∙ and_of (all_hold other waiting') (holds other link) a parts.1) parts.0;
+        let parts = and_parts (all_hold other left) (holds other edge) (sym (more.all other) ∙ b) in
+        s.enough other is (splits.all other ∙ and_of (all_hold other waiting') (holds other edge) a parts.1) parts.0;
     fewer = let low = s.fewer in let size = splits.size in let grown = more.size in omega arith;
     ends = λ e.
         let size = splits.size in
         let grown = more.size in
-        more.all now ∙ and_of (all_hold now left) (holds now link) (s.ends (omega arith)) (unreached_holds (in_reach now link.from) (in_reach now link.to) from);
+        more.all now ∙ and_of (all_hold now left) (holds now edge) (s.ends (omega arith)) (unreached_holds (in_reach now edge.from) (in_reach now edge.to) from);
   }
 
-pub one_followed : (old now next : Reach) (links waiting waiting' left left' : List Link) (link : Link) → waiting ≡ waiting' ++ link ∷ [] → SoFar old now links waiting left → FollowsOne link now next left left' → SoFar old next links waiting' left'
-one_followed old now next links waiting waiting' left left' link is s one = by (in_reach now link.from) refl
+pub one_followed : (old now next : Reach) (edges waiting waiting' left left' : List Edge) (edge : Edge) → waiting ≡ waiting' ++ edge ∷ [] → SoFar old now edges waiting left → FollowsOne edge now next left left' → SoFar old next edges waiting' left'
+one_followed old now next edges waiting waiting' left left' edge is s one = by (in_reach now edge.from) refl
   where
-    splits : Splits waiting waiting' link
-    splits = subst (λ w. Splits w waiting' link) (sym is) (snoc_splits waiting' link)
+    splits : Splits waiting waiting' edge
+    splits = subst (λ w. Splits w waiting' edge) (sym is) (snoc_splits waiting' edge)
 
-    by : (b : Bool) → in_reach now link.from ≡ b → SoFar old next links waiting' left'
+    by : (b : Bool) → in_reach now edge.from ≡ b → SoFar old next edges waiting' left'
     by true from =
         let step = one.followed from in
-        subst (SoFar old next links waiting') (sym step.1) (link_followed old now links waiting waiting' left link splits s next from step.0)
+        subst (SoFar old next edges waiting') (sym step.1) (edge_followed old now edges waiting waiting' left edge splits s next from step.0)
     by false from =
         let step = one.waits from in
-        subst (λ (r : Reach). SoFar old r links waiting' left') (sym step.0)
-        (link_left old now links waiting waiting' left link splits s left' from (subst (λ l. Splits l left link) (sym step.1) (snoc_splits left link)))
+        subst (λ (r : Reach). SoFar old r edges waiting' left') (sym step.0)
+        (edge_left old now edges waiting waiting' left edge splits s left' from (subst (λ l. Splits l left edge) (sym step.1) (snoc_splits left edge)))
 
 -- ---- passes
-pub record Leads (now : Reach) (links waiting : List Link) : Type 0 where
-  pub least : (other : Reach) → all_hold other links ≡ true → IsWithin now other
-  pub waits : (other : Reach) → all_hold other links ≡ true → all_hold other waiting ≡ true
-  pub enough : (other : Reach) → IsWithin now other → all_hold other waiting ≡ true → all_hold other links ≡ true
+pub record Leads (now : Reach) (edges waiting : List Edge) : Type 0 where
+  pub least : (other : Reach) → all_hold other edges ≡ true → IsWithin now other
+  pub waits : (other : Reach) → all_hold other edges ≡ true → all_hold other waiting ≡ true
+  pub enough : (other : Reach) → IsWithin now other → all_hold other waiting ≡ true → all_hold other edges ≡ true
 
-pub leads_first : (nothing : Reach) (links : List Link) → ((x : ℕ) → nothing.slots x ≡ false) → ((k : ℕ) → nothing.hosts k ≡ false) → Leads nothing links links
-leads_first nothing links slots hosts = record {
+pub leads_first : (nothing : Reach) (edges : List Edge) → ((x : ℕ) → nothing.slots x ≡ false) → ((k : ℕ) → nothing.hosts k ≡ false) → Leads nothing edges edges
+leads_first nothing edges slots hosts = record {
   least = λ other h. record { slots = λ x is. absurd (true≢false (sym is ∙ slots x)); hosts = λ k is. absurd (true≢false (sym is ∙ hosts k)) };
   waits = λ other h. h;
   enough = λ other is h. h;
 }
 
-pub leads_next : (now next : Reach) (links waiting left : List Link) → Leads now links waiting → Follows now next waiting left → Leads next links left
-leads_next now next links waiting left l f = record {
+pub leads_next : (now next : Reach) (edges waiting left : List Edge) → Leads now edges waiting → Follows now next waiting left → Leads next edges left
+leads_next now next edges waiting left l f = record {
   least = λ other h. f.least other (l.least other h) (l.waits other h);
   waits = λ other h. f.rest other (l.waits other h);
   enough = λ other is h. l.enough other (within_trans now next other f.kept is) (f.enough other is h);
 }
 
-pub leads_to : (now next : Reach) (links waiting left : List Link) → Leads now links waiting → Follows now next waiting left → length left ≡ length waiting → IsReachOf links next
-leads_to now next links waiting left l f ends =
-    let last = leads_next now next links waiting left l f in
+pub leads_to : (now next : Reach) (edges waiting left : List Edge) → Leads now edges waiting → Follows now next waiting left → length left ≡ length waiting → IsReachOf edges next
+leads_to now next edges waiting left l f ends =
+    let last = leads_next now next edges waiting left l f in
     record { closed = last.enough next (within_self next) (f.ends ends); least = last.least }
 
 -- ---- there is a least reach
@@ -208,29 +208,29 @@ bool_cases : (b : Bool) → (b ≡ true) ⊎ (b ≡ false)
 bool_cases true = inl refl
 bool_cases false = inr refl
 
-pass : (old now : Reach) (links waiting left : List Link) → SoFar old now links waiting left → (next : Reach) × ((rest : List Link) × Follows old next links rest)
-pass old now links [] left s = (now, (left, ends_so old now links left s))
-pass old now links (link ∷ waiting) left s = elim (bool_cases (in_reach now link.from)) [
-  | inl from ↦ pass old (with_node link.to now) links waiting left
-      (link_followed old now links (link ∷ waiting) waiting left link (cons_splits waiting link) s (with_node link.to now) from (node_added link.to now))
-  | inr from ↦ pass old now links waiting (link ∷ left)
-      (link_left old now links (link ∷ waiting) waiting left link (cons_splits waiting link) s (link ∷ left) from (cons_splits left link))
+pass : (old now : Reach) (edges waiting left : List Edge) → SoFar old now edges waiting left → (next : Reach) × ((rest : List Edge) × Follows old next edges rest)
+pass old now edges [] left s = (now, (left, ends_so old now edges left s))
+pass old now edges (edge ∷ waiting) left s = elim (bool_cases (in_reach now edge.from)) [
+  | inl from ↦ pass old (with_node edge.to now) edges waiting left
+      (edge_followed old now edges (edge ∷ waiting) waiting left edge (cons_splits waiting edge) s (with_node edge.to now) from (node_added edge.to now))
+  | inr from ↦ pass old now edges waiting (edge ∷ left)
+      (edge_left old now edges (edge ∷ waiting) waiting left edge (cons_splits waiting edge) s (edge ∷ left) from (cons_splits left edge))
 ]
 
-passes : (most : ℕ) (now : Reach) (links waiting : List Link) → length waiting ≤ most → Leads now links waiting → (r : Reach) × IsReachOf links r
-passes zero now links [] few l = (now, record { closed = l.enough now (within_self now) refl; least = l.least })
-passes zero now links (link ∷ waiting) few l = absurd (omega arith)
-passes (suc most) now links waiting few l =
+passes : (most : ℕ) (now : Reach) (edges waiting : List Edge) → length waiting ≤ most → Leads now edges waiting → (r : Reach) × IsReachOf edges r
+passes zero now edges [] few l = (now, record { closed = l.enough now (within_self now) refl; least = l.least })
+passes zero now edges (edge ∷ waiting) few l = absurd (omega arith)
+passes (suc most) now edges waiting few l =
     let one = pass now now waiting waiting [] (starts now waiting) in
     let next = one.0 in
     let left = one.1.0 in
     let follows = one.1.1 in
     elim (cases_eq (length left) (length waiting)) [
-      | inl ends ↦ (next, leads_to now next links waiting left l follows ends)
-      | inr differs ↦ passes most next links left (let fewer = follows.fewer in omega arith) (leads_next now next links waiting left l follows)
+      | inl ends ↦ (next, leads_to now next edges waiting left l follows ends)
+      | inr differs ↦ passes most next edges left (let fewer = follows.fewer in omega arith) (leads_next now next edges waiting left l follows)
     ]
 
-pub least_reach : (links : List Link) → (r : Reach) × IsReachOf links r
-least_reach links =
+pub least_reach : (edges : List Edge) → (r : Reach) × IsReachOf edges r
+least_reach edges =
     let nothing : Reach = record { slots = λ x. false; hosts = λ k. false } in
-    passes (length links) nothing links links (omega arith) (leads_first nothing links (λ x. refl) (λ k. refl))
+    passes (length edges) nothing edges edges (omega arith) (leads_first nothing edges (λ x. refl) (λ k. refl))

@@ -1,4 +1,4 @@
--- The links for what a host is told hold at a reach exactly where the statements are closed.
+-- The edges for what a host is told hold at a reach exactly where the statements are closed.
 use Rattle.std.proofs.Common.{◌≡◌, ℕ, ◌≤◌, Bool, true, false, ◌&&◌, ◌||◌, List, [], ◌∷◌, map, refl, sym, ap, ◌∙◌, subst, arith, nat_eq, nat_lt}
 use Rattle.std.specs.List.{list_all}
 use Rattle.std.proofs.lemmas.Bool.{and_parts, ltb-true, lt-ltb}
@@ -14,10 +14,10 @@ use Rattle.vd_noninter_laws.specs.Flowing.{only_with}
 use Rattle.vd_noninter_laws.specs.Dependence.{Reach, Closing, all_close}
 use Rattle.vd_noninter_laws.proofs.Lawful.{and_of}
 use Rattle.vd_integrity_laws.specs.Influence.{right_influences, stmt_influences, influences}
-use Rattle.vd_noninter.specs.declared.link.Link.{Link}
+use Rattle.vd_noninter.specs.declared.edge.Edge.{Edge}
 use Rattle.vd_noninter.specs.declared.around.Around.{Around}
-use Rattle.vd_noninter.specs.Links.{Adding, in_order, no_guards, with_made, with_told, within}
-use Rattle.vd_noninter.specs.InfluenceLinks.{endorsed_part, right_made, stmt_made, with_stmt_made, with_body_made, influence_links_of}
+use Rattle.vd_noninter.specs.Edges.{Adding, in_order, no_guards, with_made, with_told, within}
+use Rattle.vd_noninter.specs.InfluenceEdges.{endorsed_part, right_made, stmt_made, with_stmt_made, with_body_made, influence_edges_of}
 use Rattle.vd_noninter.specs.Reached.{all_hold}
 use Rattle.vd_noninter.proofs.Closing.{alone, and_joins, and_swap, and_true, input_holds, made_holds, one_told, only_true, told_holds}
 use Rattle.vd_noninter.proofs.Declared.{all_yes, eight_hosts, yes_where}
@@ -36,17 +36,17 @@ module _ (passed : Bool) (r : Reach) (host : ℕ) where
   abbrev Fits : Around → List SlotId → Type 0
   Fits around guards = all_in around.guards ≡ all_in guards
 
-  alone_is : (around : Around) (guards : List SlotId) → Fits around guards → (x : SlotId) (links : List Link)
-      → all_hold r (with_made around x [] links) ≡ (all_hold r links && only_with (r.slots x.0) (all_in guards))
-  alone_is around guards fits x links =
-      made_holds r around x [] links ∙ alone (all_hold r links) (r.slots x.0) (all_in around.guards) ∙ ap (λ b. all_hold r links && only_with (r.slots x.0) b) fits
+  alone_is : (around : Around) (guards : List SlotId) → Fits around guards → (x : SlotId) (edges : List Edge)
+      → all_hold r (with_made around x [] edges) ≡ (all_hold r edges && only_with (r.slots x.0) (all_in guards))
+  alone_is around guards fits x edges =
+      made_holds r around x [] edges ∙ alone (all_hold r edges) (r.slots x.0) (all_in around.guards) ∙ ap (λ b. all_hold r edges && only_with (r.slots x.0) b) fits
 
-  made_is : (around : Around) (guards : List SlotId) → Fits around guards → (x : SlotId) (ys : List SlotId) (links : List Link) (parts : Bool) → all_in ys ≡ parts
-      → all_hold r (with_made around x ys links) ≡ (all_hold r links && only_with (r.slots x.0) (all_in guards && parts))
-  made_is around guards fits x ys links parts is =
-      made_holds r around x ys links
-      ∙ made_joins (all_hold r links) (r.slots x.0) (all_in around.guards) (all_in ys)
-      ∙ (λ i. all_hold r links && only_with (r.slots x.0) (fits i && is i))
+  made_is : (around : Around) (guards : List SlotId) → Fits around guards → (x : SlotId) (ys : List SlotId) (edges : List Edge) (parts : Bool) → all_in ys ≡ parts
+      → all_hold r (with_made around x ys edges) ≡ (all_hold r edges && only_with (r.slots x.0) (all_in guards && parts))
+  made_is around guards fits x ys edges parts is =
+      made_holds r around x ys edges
+      ∙ made_joins (all_hold r edges) (r.slots x.0) (all_in around.guards) (all_in ys)
+      ∙ (λ i. all_hold r edges && only_with (r.slots x.0) (fits i && is i))
 
   one_in : (y : SlotId) → all_in (y ∷ []) ≡ r.slots y.0
   one_in y = and_true (r.slots y.0)
@@ -58,28 +58,28 @@ module _ (passed : Bool) (r : Reach) (host : ℕ) where
   endorsed_in true y = one_in y
   endorsed_in false y = refl
 
-  right_is : (x : SlotId) (s : Right) (around : Around) (guards : List SlotId) (links : List Link) → Fits around guards
-      → all_hold r (right_made passed x s around links) ≡ (all_hold r links && right_influences passed r (all_in guards) x s)
-  right_is x (Lit k) around guards links fits = alone_is around guards fits x links
-  right_is x Turn around guards links fits = alone_is around guards fits x links
-  right_is x (Copy y) around guards links fits = made_is around guards fits x (y ∷ []) links (r.slots y.0) (one_in y)
-  right_is x (Apply op ys) around guards links fits = made_is around guards fits x ys links (all_in ys) refl
-  right_is x (Input other) around guards links fits =
-      input_holds r around x other links ∙ ap (λ b. all_hold r links && (only_with (r.slots x.0) (r.hosts other.0) && only_with (r.hosts other.0 || r.slots x.0) b)) fits
-  right_is x (Declassify y to) around guards links fits = made_is around guards fits x (y ∷ []) links (r.slots y.0) (one_in y)
-  right_is x (Endorse y to) around guards links fits = made_is around guards fits x (endorsed_part passed y) links (only_with passed (r.slots y.0)) (endorsed_in passed y)
-  right_is x (Load v) around guards links fits = made_is around guards fits x (v ∷ []) links (r.slots v.0) (one_in v)
-  right_is x (Get v i) around guards links fits = made_is around guards fits x (v ∷ i ∷ []) links (r.slots v.0 && r.slots i.0) (two_in v i)
+  right_is : (x : SlotId) (s : Right) (around : Around) (guards : List SlotId) (edges : List Edge) → Fits around guards
+      → all_hold r (right_made passed x s around edges) ≡ (all_hold r edges && right_influences passed r (all_in guards) x s)
+  right_is x (Lit k) around guards edges fits = alone_is around guards fits x edges
+  right_is x Turn around guards edges fits = alone_is around guards fits x edges
+  right_is x (Copy y) around guards edges fits = made_is around guards fits x (y ∷ []) edges (r.slots y.0) (one_in y)
+  right_is x (Apply op ys) around guards edges fits = made_is around guards fits x ys edges (all_in ys) refl
+  right_is x (Input other) around guards edges fits =
+      input_holds r around x other edges ∙ ap (λ b. all_hold r edges && (only_with (r.slots x.0) (r.hosts other.0) && only_with (r.hosts other.0 || r.slots x.0) b)) fits
+  right_is x (Declassify y to) around guards edges fits = made_is around guards fits x (y ∷ []) edges (r.slots y.0) (one_in y)
+  right_is x (Endorse y to) around guards edges fits = made_is around guards fits x (endorsed_part passed y) edges (only_with passed (r.slots y.0)) (endorsed_in passed y)
+  right_is x (Load v) around guards edges fits = made_is around guards fits x (v ∷ []) edges (r.slots v.0) (one_in v)
+  right_is x (Get v i) around guards edges fits = made_is around guards fits x (v ∷ i ∷ []) edges (r.slots v.0 && r.slots i.0) (two_in v i)
 
   abbrev Agree : Adding → Closing → Type 0
-  Agree add c = (around : Around) (guards : List SlotId) (links : List Link) → Fits around guards → all_hold r (add around links) ≡ (all_hold r links && c guards)
+  Agree add c = (around : Around) (guards : List SlotId) (edges : List Edge) → Fits around guards → all_hold r (add around edges) ≡ (all_hold r edges && c guards)
 
   none_agree : Agree (in_order []) (all_close [])
-  none_agree around guards links fits = sym (and_true (all_hold r links))
+  none_agree around guards edges fits = sym (and_true (all_hold r edges))
 
   more_agree : (add : Adding) (adds : List Adding) (c : Closing) (cs : List Closing) → Agree add c → Agree (in_order adds) (all_close cs) → Agree (in_order (add ∷ adds)) (all_close (c ∷ cs))
-  more_agree add adds c cs first rest around guards links fits =
-      rest around guards (add around links) fits ∙ ap (λ b. b && all_close cs guards) (first around guards links fits) ∙ and_joins (all_hold r links) (c guards) (all_close cs guards)
+  more_agree add adds c cs first rest around guards edges fits =
+      rest around guards (add around edges) fits ∙ ap (λ b. b && all_close cs guards) (first around guards edges fits) ∙ and_joins (all_hold r edges) (c guards) (all_close cs guards)
 
   inner_fits : (around : Around) (guards : List SlotId) (g : SlotId) → Fits around guards → Fits (within around g true) (g ∷ guards)
   inner_fits around guards g fits =
@@ -87,22 +87,22 @@ module _ (passed : Bool) (r : Reach) (host : ℕ) where
 
   if_agree : (g : SlotId) (offset : ℕ) (adds_a adds_b : List Adding) (cs ds : List Closing) → Agree (in_order adds_a) (all_close cs) → Agree (in_order adds_b) (all_close ds)
       → Agree (stmt_made passed host (Stmt-F.If g adds_a adds_b offset)) (stmt_influences passed host r (Stmt-F.If g cs ds offset))
-  if_agree g offset adds_a adds_b cs ds first second around guards links fits =
+  if_agree g offset adds_a adds_b cs ds first second around guards edges fits =
       let inner = within around g true in
       let inside = inner_fits around guards g fits in
       let a = all_close cs (g ∷ guards) in
       let b = all_close ds (g ∷ guards) in
-      second inner (g ∷ guards) (in_order adds_a inner links) inside
-      ∙ ap (λ z. z && b) (first inner (g ∷ guards) links inside)
-      ∙ and_joins (all_hold r links) a b
+      second inner (g ∷ guards) (in_order adds_a inner edges) inside
+      ∙ ap (λ z. z && b) (first inner (g ∷ guards) edges inside)
+      ∙ and_joins (all_hold r edges) a b
 
-  output_agrees : (told : Bool) (y : SlotId) (around : Around) (guards : List SlotId) (links : List Link) → Fits around guards
-      → all_hold r (with_told told (y ∷ []) (with_told told around.guards links)) ≡ (all_hold r links && only_with told (all_in guards && r.slots y.0))
-  output_agrees told y around guards links fits =
-      one_told r told y (with_told told around.guards links)
-      ∙ ap (λ b. b && only_with told (r.slots y.0)) (told_holds r told around.guards links)
-      ∙ made_joins (all_hold r links) told (all_in around.guards) (r.slots y.0)
-      ∙ (λ i. all_hold r links && only_with told (fits i && r.slots y.0))
+  output_agrees : (told : Bool) (y : SlotId) (around : Around) (guards : List SlotId) (edges : List Edge) → Fits around guards
+      → all_hold r (with_told told (y ∷ []) (with_told told around.guards edges)) ≡ (all_hold r edges && only_with told (all_in guards && r.slots y.0))
+  output_agrees told y around guards edges fits =
+      one_told r told y (with_told told around.guards edges)
+      ∙ ap (λ b. b && only_with told (r.slots y.0)) (told_holds r told around.guards edges)
+      ∙ made_joins (all_hold r edges) told (all_in around.guards) (r.slots y.0)
+      ∙ (λ i. all_hold r edges && only_with told (fits i && r.slots y.0))
 
   abbrev M : Type 0
   M = (s : Stmt) × Agree (with_stmt_made passed host s) (influences passed host r s)
@@ -124,12 +124,12 @@ module _ (passed : Bool) (r : Reach) (host : ℕ) where
   all_agree (m ∷ ms) = stmt_more m.0 (statements ms) m.1 (all_agree ms)
 
   step : (y : Stmt-F M) → Agree (stmt_made passed host (map-Stmt Stmt Adding (with_stmt_made passed host) (layer y))) (stmt_influences passed host r (map-Stmt Stmt Closing (influences passed host r) (layer y)))
-  step (Stmt-F.Let x s) = λ around guards links fits. right_is x s around guards links fits
-  step (Stmt-F.NewVar v y) = λ around guards links fits. made_is around guards fits v (y ∷ []) links (r.slots y.0) (one_in y)
-  step (Stmt-F.NewArray v size) = λ around guards links fits. alone_is around guards fits v links
-  step (Stmt-F.Store v y) = λ around guards links fits. made_is around guards fits v (y ∷ []) links (r.slots y.0) (one_in y)
-  step (Stmt-F.Put v i y) = λ around guards links fits. made_is around guards fits v (i ∷ y ∷ []) links (r.slots i.0 && r.slots y.0) (two_in i y)
-  step (Stmt-F.Output y other offset) = λ around guards links fits. output_agrees (nat_eq other.0 host) y around guards links fits
+  step (Stmt-F.Let x s) = λ around guards edges fits. right_is x s around guards edges fits
+  step (Stmt-F.NewVar v y) = λ around guards edges fits. made_is around guards fits v (y ∷ []) edges (r.slots y.0) (one_in y)
+  step (Stmt-F.NewArray v size) = λ around guards edges fits. alone_is around guards fits v edges
+  step (Stmt-F.Store v y) = λ around guards edges fits. made_is around guards fits v (y ∷ []) edges (r.slots y.0) (one_in y)
+  step (Stmt-F.Put v i y) = λ around guards edges fits. made_is around guards fits v (i ∷ y ∷ []) edges (r.slots i.0 && r.slots y.0) (two_in i y)
+  step (Stmt-F.Output y other offset) = λ around guards edges fits. output_agrees (nat_eq other.0 host) y around guards edges fits
   step (Stmt-F.If g a b offset) =
       if_agree g offset (map (with_stmt_made passed host) (statements a)) (map (with_stmt_made passed host) (statements b)) (map (influences passed host r) (statements a)) (map (influences passed host r) (statements b))
       (all_agree a) (all_agree b)
@@ -146,7 +146,7 @@ module _ (passed : Bool) (r : Reach) (host : ℕ) where
   body_agrees [] = none_agree
   body_agrees (s ∷ body) = stmt_more s body (stmt_agrees s) (body_agrees body)
 
-  pub influences_close : (body : List Stmt) → all_hold r (influence_links_of passed host body) ≡ all_close (map (influences passed host r) body) []
+  pub influences_close : (body : List Stmt) → all_hold r (influence_edges_of passed host body) ≡ all_close (map (influences passed host r) body) []
   influences_close body = body_agrees body no_guards [] [] refl
 
 -- ---- all slots, and the first eight hosts, are closed

@@ -1,4 +1,4 @@
-pub mod Links
+pub mod Edges
 pub mod Reached
 pub mod Hosts
-pub mod InfluenceLinks
+pub mod InfluenceEdges

@@ -14,7 +14,7 @@ pub struct Around {
 }
 
 impl Around {
-    ghost use Rattle.vd_noninter.specs.Links.{within};
+    ghost use Rattle.vd_noninter.specs.Edges.{within};
 
     /// The guards around a branch of an If with this guard, which the host may read or not.
     pub fn within(&self, alloc: Global, guard: SlotId, read: bool) -> Result<Around, AllocError>

@@ -8,7 +8,7 @@ ghost use Rattle.vd_noninter.specs.Hosts.{members};
 
 use crate::reached::reach_along;
 use crate::reader::Reader;
-use crate::walk::links;
+use crate::walk::edges;
 use std::alloc::{AllocError, Global};
 use vd_base::{HostId, HostSet};
 use vd_constraints::Labels;
@@ -31,7 +31,7 @@ pub fn depends(
 {
     let form = program.form();
     let reader = Reader::new(alloc, form, labels.slots.as_slice(), host)?;
-    let links = links(alloc, &reader, form)?;
-    let reached = reach_along(alloc, links)?;
+    let edges = edges(alloc, &reader, form)?;
+    let reached = reach_along(alloc, edges)?;
     Ok(reached.hosts())
 }

@@ -4,7 +4,7 @@ ghost use Rattle.std.specs.Prelude.{IfOk};
 ghost use Rattle.vd_noninter.specs.Hosts.{members};
 ghost use Rattle.vd_integrity_laws.specs.Influence.{AreInfluences};
 
-use crate::influence_walk::influence_links;
+use crate::influence_walk::influence_edges;
 use crate::reached::reach_along;
 use std::alloc::{AllocError, Global};
 use vd_base::{HostId, HostSet};
@@ -23,7 +23,7 @@ pub fn influences(
     ensures { IfOk result (λ hosts. AreInfluences passed program.now host (members hosts)) }
 {
     let form = program.form();
-    let links = influence_links(alloc, passed, host, form)?;
-    let reached = reach_along(alloc, links)?;
+    let edges = influence_edges(alloc, passed, host, form)?;
+    let reached = reach_along(alloc, edges)?;
     Ok(reached.hosts())
 }

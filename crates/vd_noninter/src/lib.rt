@@ -3,10 +3,10 @@
 
 mod around;
 mod dependence;
+mod edge;
 mod influence;
 mod influence_walk;
 mod laws;
-mod link;
 mod marks;
 mod reached;
 mod reader;

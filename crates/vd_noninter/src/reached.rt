@@ -1,10 +1,10 @@
-//! What is reached along links.
+//! What is reached along edges.
 
 ghost use Rattle.std.specs.Prelude.{◌≡◌, ◌<◌, ◌≤◌, ℕ, true, false, IfOk, OnOk, length};
 ghost use Rattle.vd_noninter.specs.Hosts.{members, members_with, reached_hosts};
 ghost use Rattle.vd_noninter.specs.Reached.{IsReachOf, reach_of};
 
-use crate::link::{Link, Node};
+use crate::edge::{Edge, Node};
 use crate::marks::Marks;
 use std::alloc::{AllocError, Global};
 use vd_base::HostSet;
@@ -17,13 +17,13 @@ pub struct Reached {
     pub hosts: Marks,
 }
 
-/// What is reached along these links from what a host is told, and no more.
+/// What is reached along these edges from what a host is told, and no more.
 #[tactic(auto, using(crate::proofs::Following::leads_first, crate::proofs::Following::leads_next, crate::proofs::Following::leads_to))]
-pub(crate) fn reach_along(alloc: Global, links: Items<Link>) -> Result<Reached, AllocError>
-    ensures { IfOk result (λ reached. IsReachOf links (reach_of reached)) }
+pub(crate) fn reach_along(alloc: Global, edges: Items<Edge>) -> Result<Reached, AllocError>
+    ensures { IfOk result (λ reached. IsReachOf edges (reach_of reached)) }
 {
     let mut reached = Reached::new(alloc);
-    let mut waiting = links;
+    let mut waiting = edges;
     'passes: loop {
         let before = waiting.as_slice().len();
         waiting = reached.follow(alloc, waiting)?;
@@ -70,26 +70,26 @@ impl Reached {
         }
     }
 
-    /// Follows the link if its start is reached, and leaves it else.
-    fn follow_one(&mut self, link: Link, left: &mut Items<Link>) -> Result<(), AllocError>
-        ensures { OnOk result (FollowsOne link (reach_of self.old) (reach_of self.new) left.old left.new) }
+    /// Follows the edge if its start is reached, and leaves it else.
+    fn follow_one(&mut self, edge: Edge, left: &mut Items<Edge>) -> Result<(), AllocError>
+        ensures { OnOk result (FollowsOne edge (reach_of self.old) (reach_of self.new) left.old left.new) }
     {
-        if self.has(link.from) {
-            self.add(link.to)
+        if self.has(edge.from) {
+            self.add(edge.to)
         } else {
-            left.push(link)
+            left.push(edge)
         }
     }
 
-    /// Follows the links whose start is reached, the last one first, and gives those that are left.
-    fn follow(&mut self, alloc: Global, links: Items<Link>) -> Result<Items<Link>, AllocError>
-        ensures follows { IfOk result (Follows (reach_of self.old) (reach_of self.new) links) }
-        ensures fewer { IfOk result (λ left. length left ≤ length links) }
+    /// Follows the edges whose start is reached, the last one first, and gives those that are left.
+    fn follow(&mut self, alloc: Global, edges: Items<Edge>) -> Result<Items<Edge>, AllocError>
+        ensures follows { IfOk result (Follows (reach_of self.old) (reach_of self.new) edges) }
+        ensures fewer { IfOk result (λ left. length left ≤ length edges) }
     {
-        let mut waiting = links;
+        let mut waiting = edges;
         let mut left = Items::new(alloc);
-        'links: while let Some(link) = waiting.pop() {
-            self.follow_one(link, &mut left)?;
+        'edges: while let Some(edge) = waiting.pop() {
+            self.follow_one(edge, &mut left)?;
         }
         Ok(left)
     }

@@ -20,7 +20,7 @@ pub struct Reader {
 }
 
 impl Reader {
-    ghost use Rattle.vd_noninter.specs.Links.{readable, reads_in};
+    ghost use Rattle.vd_noninter.specs.Edges.{readable, reads_in};
 
     /// What the host may read of slots with these labels.
     pub fn new(

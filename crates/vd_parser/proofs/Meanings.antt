@@ -14,13 +14,13 @@ use Rattle.vd_core.specs.declared.source.Infix.{Infix}
 use Rattle.vd_core.specs.declared.source.Direction.{Direction}
 use Rattle.vd_core.specs.declared.source.Expr.{Expr}
 use Rattle.vd_core.specs.declared.source.Expr.TheVariants as expr
-use Rattle.vd_core.specs.declared.source.Link.{Link}
-use Rattle.vd_core.specs.declared.source.Link.TheVariants as link
+use Rattle.vd_core.specs.declared.source.Segment.{Segment}
+use Rattle.vd_core.specs.declared.source.Segment.TheVariants as segment
 use Rattle.vd_core.specs.declared.source.Statement.{Statement}
 use Rattle.vd_core.specs.declared.source.Statement.TheVariants as stmt
 use Rattle.vd_core.specs.declared.source.Function.{Function}
 use Rattle.vd_source_lexer.specs.declared.token.Token.{Token}
-use Rattle.vd_parser.specs.Syntax.{bracketed, arguments_of, array_of, assign_of, assigned, atom_of, block_of, body_of, bor_of, both_of, chained, conj_of, conjs_of, direction_of, either_of, else_of, expr_of, exprs_of, fatom_of, fatoms_of, first_of, for_of, form_of, function_of, functions_of, host_list_of, host_name_of, host_of, hosts_of, ident_of, idents_of, if_of, index_of, index_option_of, infix_of, kind_of, label_of, label_option_of, length_of, let_of, more_exprs_of, more_idents_of, more_parameters_of, named_of, new_form_of, value_of, other_atom_of, output_of, parameter_list_of, parameter_of, parameters_of, principals_of, relabelled_of, return_of, returned_of, second_of, shift_links_of, shift_of, signed, signs_of, source_of, span_of, statement_of, statements_of, sum_of, third_of, three_of, token_of, two_of, typed_kind_of, typed_name_of, typed_of, unary_of, var_of, whole_body_of, word_atom_of}
+use Rattle.vd_parser.specs.Syntax.{bracketed, arguments_of, array_of, assign_of, assigned, atom_of, block_of, body_of, bor_of, both_of, chained, conj_of, conjs_of, direction_of, either_of, else_of, expr_of, exprs_of, fatom_of, fatoms_of, first_of, for_of, form_of, function_of, functions_of, host_list_of, host_name_of, host_of, hosts_of, ident_of, idents_of, if_of, index_of, index_option_of, infix_of, kind_of, label_of, label_option_of, length_of, let_of, more_exprs_of, more_idents_of, more_parameters_of, named_of, new_form_of, value_of, other_atom_of, output_of, parameter_list_of, parameter_of, parameters_of, principals_of, relabelled_of, return_of, returned_of, second_of, shift_segments_of, shift_of, signed, signs_of, source_of, span_of, statement_of, statements_of, sum_of, third_of, three_of, token_of, two_of, typed_kind_of, typed_name_of, typed_of, unary_of, var_of, whole_body_of, word_atom_of}
 
 pub idents_first : (text : List ℕ) (x : Tree Token) (v : Ident) → v ≡ ident_of text x → (y : Tree Token) → idents_of text (Both x y) ≡ (v ∷ []) ++ more_idents_of text y
 unfolding idents_of
@@ -86,24 +86,24 @@ pub label_none : (text : List ℕ) (x : Tree Token) → None ≡ label_option_of
 unfolding label_option_of
 label_none text x = refl
 
-pub expr_compared : (text : List ℕ) (a o b : Tree Token) (l : Expr) (op : Infix) (s : Span) (r : Expr) → l ≡ bor_of text a → op ≡ infix_of (token_of o).kind → s ≡ span_of o → r ≡ bor_of text b → expr.Chain l (link.Infix op s r ∷ []) ≡ expr_of text (Both a (First (Both o b)))
+pub expr_compared : (text : List ℕ) (a o b : Tree Token) (l : Expr) (op : Infix) (s : Span) (r : Expr) → l ≡ bor_of text a → op ≡ infix_of (token_of o).kind → s ≡ span_of o → r ≡ bor_of text b → expr.Chain l (segment.Infix op s r ∷ []) ≡ expr_of text (Both a (First (Both o b)))
 unfolding expr_of
-expr_compared text a o b l op s r e0 e1 e2 e3 = ap (λ it. expr.Chain it (link.Infix op s r ∷ [])) e0 ∙ ap (λ it. expr.Chain (bor_of text a) (link.Infix it s r ∷ [])) e1 ∙ ap (λ it. expr.Chain (bor_of text a) (link.Infix (infix_of (token_of o).kind) it r ∷ [])) e2 ∙ ap (λ it. expr.Chain (bor_of text a) (link.Infix (infix_of (token_of o).kind) (span_of o) it ∷ [])) e3
+expr_compared text a o b l op s r e0 e1 e2 e3 = ap (λ it. expr.Chain it (segment.Infix op s r ∷ [])) e0 ∙ ap (λ it. expr.Chain (bor_of text a) (segment.Infix it s r ∷ [])) e1 ∙ ap (λ it. expr.Chain (bor_of text a) (segment.Infix (infix_of (token_of o).kind) it r ∷ [])) e2 ∙ ap (λ it. expr.Chain (bor_of text a) (segment.Infix (infix_of (token_of o).kind) (span_of o) it ∷ [])) e3
 
 pub expr_alone : (text : List ℕ) (a x : Tree Token) (l : Expr) → l ≡ bor_of text a → l ≡ expr_of text (Both a (Second x))
 unfolding expr_of
 expr_alone text a x l e0 = ap (λ it. it) e0
 
-pub shift_is : (text : List ℕ) (x r : Tree Token) (e : Expr) (ls : List Link) → e ≡ sum_of text x → ls ≡ shift_links_of text r → chained e ls ≡ shift_of text (Both x r)
+pub shift_is : (text : List ℕ) (x r : Tree Token) (e : Expr) (ls : List Segment) → e ≡ sum_of text x → ls ≡ shift_segments_of text r → chained e ls ≡ shift_of text (Both x r)
 unfolding shift_of
 shift_is text x r e ls e0 e1 = ap (λ it. chained it ls) e0 ∙ ap (λ it. chained (sum_of text x) it) e1
 
-pub shifts_more : (text : List ℕ) (o n : Tree Token) (d : Direction) (s : Span) (m : ℕ) → d ≡ direction_of (token_of o).kind → s ≡ span_of o → m ≡ value_of n → (y : Tree Token) → shift_links_of text (Both (Both o n) y) ≡ link.Shift d s m ∷ shift_links_of text y
-unfolding shift_links_of
-shifts_more text o n d s m e0 e1 e2 y = sym (ap (λ it. link.Shift it s m ∷ shift_links_of text y) e0 ∙ ap (λ it. link.Shift (direction_of (token_of o).kind) it m ∷ shift_links_of text y) e1 ∙ ap (λ it. link.Shift (direction_of (token_of o).kind) (span_of o) it ∷ shift_links_of text y) e2)
+pub shifts_more : (text : List ℕ) (o n : Tree Token) (d : Direction) (s : Span) (m : ℕ) → d ≡ direction_of (token_of o).kind → s ≡ span_of o → m ≡ value_of n → (y : Tree Token) → shift_segments_of text (Both (Both o n) y) ≡ segment.Shift d s m ∷ shift_segments_of text y
+unfolding shift_segments_of
+shifts_more text o n d s m e0 e1 e2 y = sym (ap (λ it. segment.Shift it s m ∷ shift_segments_of text y) e0 ∙ ap (λ it. segment.Shift (direction_of (token_of o).kind) it m ∷ shift_segments_of text y) e1 ∙ ap (λ it. segment.Shift (direction_of (token_of o).kind) (span_of o) it ∷ shift_segments_of text y) e2)
 
-pub shifts_none : (text : List ℕ) → shift_links_of text Empty ≡ []
-unfolding shift_links_of
+pub shifts_none : (text : List ℕ) → shift_segments_of text Empty ≡ []
+unfolding shift_segments_of
 shifts_none text = refl
 
 pub unary_is : (text : List ℕ) (p a : Tree Token) (e : Expr) (ss : List Sign) → e ≡ atom_of text a → ss ≡ signs_of p → signed e ss ≡ unary_of text (Both p a)

@@ -14,9 +14,9 @@ use Rattle.vd_core.specs.declared.source.Direction.TheVariants as direction
 use Rattle.vd_core.specs.declared.source.Expr.{Expr}
 use Rattle.vd_base.specs.declared.ids.Span.{Span}
 use Rattle.vd_core.specs.declared.source.Sign.{Sign}
-use Rattle.vd_core.specs.declared.source.Link.{Link}
+use Rattle.vd_core.specs.declared.source.Segment.{Segment}
 use Rattle.vd_core.specs.declared.source.Statement.{Statement}
-use Rattle.vd_core.specs.declared.source.Link.TheVariants as link
+use Rattle.vd_core.specs.declared.source.Segment.TheVariants as segment
 use Rattle.vd_source_lexer.specs.Kinds.{code_of}
 use Rattle.vd_source_lexer.specs.declared.token.Token.{Token}
 use Rattle.vd_source_lexer.specs.declared.token.TokenKind.{TokenKind}
@@ -25,9 +25,9 @@ use Rattle.vd_parser.specs.declared.operators.Level.{Level}
 use Rattle.vd_parser.specs.declared.operators.Level.TheVariants as level
 use Rattle.vd_parser.specs.declared.cursor.Refusal.{Refusal}
 use Rattle.vd_parser.specs.Language.{Symbol, tok, BOR, BXOR, BAND, SUM, PROD, STMT, comparison_ops, shift_ops, prefix_ops}
-use Rattle.vd_parser.specs.Syntax.{token_of, span_of, infix_of, direction_of, prefix_of, prefixes_of, chained, link_of, bor_of, bor_links_of, bxor_of, bxor_links_of, band_of, band_links_of, sum_of, sum_links_of, prod_of, prod_links_of, shift_links_of, statements_of, statement_of}
+use Rattle.vd_parser.specs.Syntax.{token_of, span_of, infix_of, direction_of, prefix_of, prefixes_of, chained, segment_of, bor_of, bor_segments_of, bxor_of, bxor_segments_of, band_of, band_segments_of, sum_of, sum_segments_of, prod_of, prod_segments_of, shift_segments_of, statements_of, statement_of}
 use Rattle.vd_parser.specs.Parsing.{language, kind_at, Refused}
-use Rattle.vd_parser.specs.Levels.{begins_statement, is_kind, comparison_at, infix_at, prefix_at, direction_at, ops_of, symbol_of, operand_symbol, level_of, operand_of, links_of}
+use Rattle.vd_parser.specs.Levels.{begins_statement, is_kind, comparison_at, infix_at, prefix_at, direction_at, ops_of, symbol_of, operand_symbol, level_of, operand_of, segments_of}
 use Rattle.vd_parser.proofs.Ready.{F, E, language_ll1}
 use Rattle.vd_source_ll1.proofs.Readings as readings
 use Rattle.vd_parser.proofs.Meanings.{statements_more, statements_none, shifts_more, shifts_none}
@@ -175,23 +175,23 @@ infix_unknown : (l : Level) (us : List Token) → infix_at l (kind_at us) ≡ No
 unfolding language
 infix_unknown l us e = subst (λ c. has c (first F (Seq (ops_of l) (Sym (operand_symbol l)))) ≡ false) (sym (head_is us)) (firsts_op l _ false (infix_none l (kind_at us) e))
 
-link_more : (l : Level) (text : List ℕ) (o x : Tree Token) (v : Expr) → v ≡ operand_of l text x → (y : Tree Token) → links_of l text (Both (Both o x) y) ≡ link_of o v ∷ links_of l text y
-unfolding bor_links_of bxor_links_of band_links_of sum_links_of prod_links_of
-link_more level.Or text o x v e y = ap (λ z. link_of o z ∷ links_of level.Or text y) (sym e)
-link_more level.Xor text o x v e y = ap (λ z. link_of o z ∷ links_of level.Xor text y) (sym e)
-link_more level.And text o x v e y = ap (λ z. link_of o z ∷ links_of level.And text y) (sym e)
-link_more level.Sum text o x v e y = ap (λ z. link_of o z ∷ links_of level.Sum text y) (sym e)
-link_more level.Product text o x v e y = ap (λ z. link_of o z ∷ links_of level.Product text y) (sym e)
+segment_more : (l : Level) (text : List ℕ) (o x : Tree Token) (v : Expr) → v ≡ operand_of l text x → (y : Tree Token) → segments_of l text (Both (Both o x) y) ≡ segment_of o v ∷ segments_of l text y
+unfolding bor_segments_of bxor_segments_of band_segments_of sum_segments_of prod_segments_of
+segment_more level.Or text o x v e y = ap (λ z. segment_of o z ∷ segments_of level.Or text y) (sym e)
+segment_more level.Xor text o x v e y = ap (λ z. segment_of o z ∷ segments_of level.Xor text y) (sym e)
+segment_more level.And text o x v e y = ap (λ z. segment_of o z ∷ segments_of level.And text y) (sym e)
+segment_more level.Sum text o x v e y = ap (λ z. segment_of o z ∷ segments_of level.Sum text y) (sym e)
+segment_more level.Product text o x v e y = ap (λ z. segment_of o z ∷ segments_of level.Product text y) (sym e)
 
-links_none : (l : Level) (text : List ℕ) → links_of l text Empty ≡ []
-unfolding bor_links_of bxor_links_of band_links_of sum_links_of prod_links_of
-links_none level.Or text = refl
-links_none level.Xor text = refl
-links_none level.And text = refl
-links_none level.Sum text = refl
-links_none level.Product text = refl
+segments_none : (l : Level) (text : List ℕ) → segments_of l text Empty ≡ []
+unfolding bor_segments_of bxor_segments_of band_segments_of sum_segments_of prod_segments_of
+segments_none level.Or text = refl
+segments_none level.Xor text = refl
+segments_none level.And text = refl
+segments_none level.Sum text = refl
+segments_none level.Product text = refl
 
-pub level_is : (l : Level) (text : List ℕ) (t r : Tree Token) (x : Expr) (ls : List Link) → x ≡ operand_of l text t → ls ≡ links_of l text r → chained x ls ≡ level_of l text (Both t r)
+pub level_is : (l : Level) (text : List ℕ) (t r : Tree Token) (x : Expr) (ls : List Segment) → x ≡ operand_of l text t → ls ≡ segments_of l text r → chained x ls ≡ level_of l text (Both t r)
 unfolding bor_of bxor_of band_of sum_of prod_of
 level_is level.Or text t r x ls e f = ap (λ z. chained z ls) e ∙ ap (λ z. chained (operand_of level.Or text t) z) f
 level_is level.Xor text t r x ls e f = ap (λ z. chained z ls) e ∙ ap (λ z. chained (operand_of level.Xor text t) z) f
@@ -199,21 +199,21 @@ level_is level.And text t r x ls e f = ap (λ z. chained z ls) e ∙ ap (λ z. c
 level_is level.Sum text t r x ls e f = ap (λ z. chained z ls) e ∙ ap (λ z. chained (operand_of level.Sum text t) z) f
 level_is level.Product text t r x ls e f = ap (λ z. chained z ls) e ∙ ap (λ z. chained (operand_of level.Product text t) z) f
 
-pub one_more : (l : Level) (text : List ℕ) {ts us vs ws : List Token} {ls : List Link} {t : Token} {o : Infix} {v : Expr} → Collects language (Star (Seq (ops_of l) (Sym (operand_symbol l)))) (links_of l text) (Seq (ops_of l) (Sym (operand_symbol l))) (links_of l text) ts us ls → infix_at l (kind_at us) ≡ Some o → us ≡ t ∷ vs → Gives language (Sym (operand_symbol l)) (operand_of l text) vs ws v →
-    Collects language (Star (Seq (ops_of l) (Sym (operand_symbol l)))) (links_of l text) (Seq (ops_of l) (Sym (operand_symbol l))) (links_of l text) ts ws (ls ++ link.Infix o t.span v ∷ [])
+pub one_more : (l : Level) (text : List ℕ) {ts us vs ws : List Token} {ls : List Segment} {t : Token} {o : Infix} {v : Expr} → Collects language (Star (Seq (ops_of l) (Sym (operand_symbol l)))) (segments_of l text) (Seq (ops_of l) (Sym (operand_symbol l))) (segments_of l text) ts us ls → infix_at l (kind_at us) ≡ Some o → us ≡ t ∷ vs → Gives language (Sym (operand_symbol l)) (operand_of l text) vs ws v →
+    Collects language (Star (Seq (ops_of l) (Sym (operand_symbol l)))) (segments_of l text) (Seq (ops_of l) (Sym (operand_symbol l))) (segments_of l text) ts ws (ls ++ segment.Infix o t.span v ∷ [])
 unfolding language
 one_more l text {us = us} {vs = vs} {t = t} {o = o} {v = v} p e s r =
     let c = infix_token l us vs t o e s in
     let is : o ≡ infix_of (token_of c.tree).kind = infix_is l t.kind o (ap (infix_at l) (sym (kind_of_first us vs t s)) ∙ e) ∙ ap (λ z. infix_of z.kind) c.value in
     collects_known p (infix_known l us vs t o e) (readings.last_read language E language_ll1 (next start c) r.read)
-    (λ y. link_more l text c.tree r.tree v r.value y ∙ ap (λ z. link.Infix z (span_of c.tree) v ∷ links_of l text y) (sym is) ∙ ap (λ z. link.Infix o z.span v ∷ links_of l text y) (sym c.value))
+    (λ y. segment_more l text c.tree r.tree v r.value y ∙ ap (λ z. segment.Infix z (span_of c.tree) v ∷ segments_of l text y) (sym is) ∙ ap (λ z. segment.Infix o z.span v ∷ segments_of l text y) (sym c.value))
 
-pub stop_more : (l : Level) (text : List ℕ) {ts us vs ws : List Token} {ls : List Link} {t : Token} {o : Infix} {f : Refusal} → Collects language (Star (Seq (ops_of l) (Sym (operand_symbol l)))) (links_of l text) (Seq (ops_of l) (Sym (operand_symbol l))) (links_of l text) ts us ls → infix_at l (kind_at us) ≡ Some o → us ≡ t ∷ vs → Refused (Sym (operand_symbol l)) vs ws f → Refused (Star (Seq (ops_of l) (Sym (operand_symbol l)))) ts ws f
+pub stop_more : (l : Level) (text : List ℕ) {ts us vs ws : List Token} {ls : List Segment} {t : Token} {o : Infix} {f : Refusal} → Collects language (Star (Seq (ops_of l) (Sym (operand_symbol l)))) (segments_of l text) (Seq (ops_of l) (Sym (operand_symbol l))) (segments_of l text) ts us ls → infix_at l (kind_at us) ≡ Some o → us ≡ t ∷ vs → Refused (Sym (operand_symbol l)) vs ws f → Refused (Star (Seq (ops_of l) (Sym (operand_symbol l)))) ts ws f
 unfolding language
 stop_more l text {us = us} {vs = vs} {t = t} {o = o} p e s r = stop_known p (infix_known l us vs t o e) (refused_last (next start (infix_token l us vs t o e s)) r)
 
-pub no_more : (l : Level) (text : List ℕ) {ts us : List Token} {ls : List Link} → Collects language (Star (Seq (ops_of l) (Sym (operand_symbol l)))) (links_of l text) (Seq (ops_of l) (Sym (operand_symbol l))) (links_of l text) ts us ls → infix_at l (kind_at us) ≡ None → Gives language (Star (Seq (ops_of l) (Sym (operand_symbol l)))) (links_of l text) ts us ls
-no_more l text {us = us} p e = end_known p (infix_unknown l us e) (links_none l text)
+pub no_more : (l : Level) (text : List ℕ) {ts us : List Token} {ls : List Segment} → Collects language (Star (Seq (ops_of l) (Sym (operand_symbol l)))) (segments_of l text) (Seq (ops_of l) (Sym (operand_symbol l))) (segments_of l text) ts us ls → infix_at l (kind_at us) ≡ None → Gives language (Star (Seq (ops_of l) (Sym (operand_symbol l)))) (segments_of l text) ts us ls
+no_more l text {us = us} p e = end_known p (infix_unknown l us e) (segments_none l text)
 
 -- comparisons
 pub compared : {e : Ebnf Symbol} {ts us : List Token} {up : Tree Token → Tree Token} {o : Infix} → Within language e ts (Alt (Seq comparison_ops (Sym BOR)) Eps) us up → comparison_at (kind_at us) ≡ Some o → Within language e ts (Seq comparison_ops (Sym BOR)) us (λ x. up (First x))
@@ -261,18 +261,18 @@ shift_known : (us : List Token) (o : Direction) → direction_at (kind_at us) �
 unfolding language
 shift_known us o e = subst (λ c. has c (first F (Seq shift_ops (tok kind.Number))) ≡ true) (sym (head_is us)) (direction_has (kind_at us) o e)
 
-pub one_shift : (text : List ℕ) {ts us vs ws : List Token} {ls : List Link} {t n : Token} {o : Direction} → Collects language (Star (Seq shift_ops (tok kind.Number))) (shift_links_of text) (Seq shift_ops (tok kind.Number)) (shift_links_of text) ts us ls → direction_at (kind_at us) ≡ Some o → us ≡ t ∷ vs → Gives language (tok kind.Number) token_of vs ws n →
-    Collects language (Star (Seq shift_ops (tok kind.Number))) (shift_links_of text) (Seq shift_ops (tok kind.Number)) (shift_links_of text) ts ws (ls ++ link.Shift o t.span n.value ∷ [])
+pub one_shift : (text : List ℕ) {ts us vs ws : List Token} {ls : List Segment} {t n : Token} {o : Direction} → Collects language (Star (Seq shift_ops (tok kind.Number))) (shift_segments_of text) (Seq shift_ops (tok kind.Number)) (shift_segments_of text) ts us ls → direction_at (kind_at us) ≡ Some o → us ≡ t ∷ vs → Gives language (tok kind.Number) token_of vs ws n →
+    Collects language (Star (Seq shift_ops (tok kind.Number))) (shift_segments_of text) (Seq shift_ops (tok kind.Number)) (shift_segments_of text) ts ws (ls ++ segment.Shift o t.span n.value ∷ [])
 unfolding language
 one_shift text {us = us} {vs = vs} {t = t} {n = n} {o = o} p e s r =
     let c = shift_token us vs t o e s in
     collects_known p (shift_known us o e) (readings.last_read language E language_ll1 (next start c) r.read)
     (λ y. shifts_more text c.tree r.tree o t.span n.value (direction_is t.kind o (ap direction_at (sym (kind_of_first us vs t s)) ∙ e) ∙ ap (λ z. direction_of z.kind) c.value) (ap (λ z. z.span) c.value) (ap (λ z. z.value) r.value) y)
 
-pub stop_shift : (text : List ℕ) {ts us vs ws : List Token} {ls : List Link} {t : Token} {o : Direction} {f : Refusal} → Collects language (Star (Seq shift_ops (tok kind.Number))) (shift_links_of text) (Seq shift_ops (tok kind.Number)) (shift_links_of text) ts us ls → direction_at (kind_at us) ≡ Some o → us ≡ t ∷ vs → Refused (tok kind.Number) vs ws f → Refused (Star (Seq shift_ops (tok kind.Number))) ts ws f
+pub stop_shift : (text : List ℕ) {ts us vs ws : List Token} {ls : List Segment} {t : Token} {o : Direction} {f : Refusal} → Collects language (Star (Seq shift_ops (tok kind.Number))) (shift_segments_of text) (Seq shift_ops (tok kind.Number)) (shift_segments_of text) ts us ls → direction_at (kind_at us) ≡ Some o → us ≡ t ∷ vs → Refused (tok kind.Number) vs ws f → Refused (Star (Seq shift_ops (tok kind.Number))) ts ws f
 stop_shift text {us = us} {vs = vs} {t = t} {o = o} p e s r = stop_known p (shift_known us o e) (refused_last (next start (shift_token us vs t o e s)) r)
 
-pub no_shift : (text : List ℕ) {ts us : List Token} {ls : List Link} → Collects language (Star (Seq shift_ops (tok kind.Number))) (shift_links_of text) (Seq shift_ops (tok kind.Number)) (shift_links_of text) ts us ls → direction_at (kind_at us) ≡ None → Gives language (Star (Seq shift_ops (tok kind.Number))) (shift_links_of text) ts us ls
+pub no_shift : (text : List ℕ) {ts us : List Token} {ls : List Segment} → Collects language (Star (Seq shift_ops (tok kind.Number))) (shift_segments_of text) (Seq shift_ops (tok kind.Number)) (shift_segments_of text) ts us ls → direction_at (kind_at us) ≡ None → Gives language (Star (Seq shift_ops (tok kind.Number))) (shift_segments_of text) ts us ls
 unfolding language
 no_shift text {us = us} p e = end_known p (subst (λ c. has c (first F (Seq shift_ops (tok kind.Number))) ≡ false) (sym (head_is us)) (direction_none (kind_at us) e)) (shifts_none text)
 

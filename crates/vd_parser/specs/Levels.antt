@@ -9,7 +9,7 @@ use Rattle.vd_core.specs.declared.source.Infix.TheVariants as op
 use Rattle.vd_core.specs.declared.source.Direction.{Direction}
 use Rattle.vd_core.specs.declared.source.Direction.TheVariants as direction
 use Rattle.vd_core.specs.declared.source.Expr.{Expr}
-use Rattle.vd_core.specs.declared.source.Link.{Link}
+use Rattle.vd_core.specs.declared.source.Segment.{Segment}
 use Rattle.vd_source_lexer.specs.Kinds.{code_of}
 use Rattle.vd_source_lexer.specs.declared.token.TokenKind.{TokenKind}
 use Rattle.vd_source_lexer.specs.declared.token.TokenKind.TheVariants as kind
@@ -17,7 +17,7 @@ use Rattle.vd_source_lexer.specs.declared.token.Token.{Token}
 use Rattle.vd_parser.specs.declared.operators.Level.{Level}
 use Rattle.vd_parser.specs.declared.operators.Level.TheVariants as level
 use Rattle.vd_parser.specs.Language.{Symbol, BOR, BXOR, BAND, SHIFT, SUM, PROD, UNARY, tok, sum_ops, product_ops}
-use Rattle.vd_parser.specs.Syntax.{bor_of, bor_links_of, bxor_of, bxor_links_of, band_of, band_links_of, shift_of, sum_of, sum_links_of, prod_of, prod_links_of, unary_of}
+use Rattle.vd_parser.specs.Syntax.{bor_of, bor_segments_of, bxor_of, bxor_segments_of, band_of, band_segments_of, shift_of, sum_of, sum_segments_of, prod_of, prod_segments_of, unary_of}
 
 abbrev pub is_kind : TokenKind → TokenKind → Bool
 is_kind k l = nat_eq (code_of k) (code_of l)
@@ -63,7 +63,7 @@ ops_of level.And = tok kind.Ampersand
 ops_of level.Sum = sum_ops
 ops_of level.Product = product_ops
 
--- the symbol of a level, what its texts stand for, and the same of its operands and its links
+-- the symbol of a level, what its texts stand for, and the same of its operands and its segments
 abbrev pub symbol_of : Level → Symbol
 symbol_of level.Or = BOR
 symbol_of level.Xor = BXOR
@@ -92,9 +92,9 @@ operand_of level.And = shift_of
 operand_of level.Sum = prod_of
 operand_of level.Product = unary_of
 
-abbrev pub links_of : Level → List ℕ → Tree Token → List Link
-links_of level.Or = bor_links_of
-links_of level.Xor = bxor_links_of
-links_of level.And = band_links_of
-links_of level.Sum = sum_links_of
-links_of level.Product = prod_links_of
+abbrev pub segments_of : Level → List ℕ → Tree Token → List Segment
+segments_of level.Or = bor_segments_of
+segments_of level.Xor = bxor_segments_of
+segments_of level.And = band_segments_of
+segments_of level.Sum = sum_segments_of
+segments_of level.Product = prod_segments_of

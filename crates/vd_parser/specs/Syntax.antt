@@ -20,9 +20,9 @@ use Rattle.vd_core.specs.declared.source.Direction.{Direction}
 use Rattle.vd_core.specs.declared.source.Direction.TheVariants as direction
 use Rattle.vd_core.specs.declared.source.Expr.{Expr, fold-Expr}
 use Rattle.vd_core.specs.declared.source.Expr.TheOpen.{Expr-F}
-use Rattle.vd_core.specs.declared.source.Link.{Link}
+use Rattle.vd_core.specs.declared.source.Segment.{Segment}
 use Rattle.vd_core.specs.declared.source.Expr.TheVariants as expr
-use Rattle.vd_core.specs.declared.source.Link.TheVariants as link
+use Rattle.vd_core.specs.declared.source.Segment.TheVariants as segment
 use Rattle.vd_core.specs.declared.source.Statement.{Statement}
 use Rattle.vd_core.specs.declared.source.Statement.TheVariants as stmt
 use Rattle.vd_core.specs.declared.source.Function.{Function}
@@ -159,11 +159,11 @@ prefix_of _ = prefix.Not
 abbrev pub sign_of : Tree Token → Sign
 sign_of o = record { prefix = prefix_of (token_of o).kind; span = span_of o }
 
-abbrev pub link_of : Tree Token → Expr → Link
-link_of o x = link.Infix (infix_of (token_of o).kind) (span_of o) x
+abbrev pub segment_of : Tree Token → Expr → Segment
+segment_of o x = segment.Infix (infix_of (token_of o).kind) (span_of o) x
 
 -- an operand alone is itself
-abbrev pub chained : Expr → List Link → Expr
+abbrev pub chained : Expr → List Segment → Expr
 chained x [] = x
 chained x (l ∷ ls) = expr.Chain x (l ∷ ls)
 
@@ -183,57 +183,57 @@ signed x (s ∷ ss) = expr.Unary x (s ∷ ss)
 
 unfoldable mutual
   pub expr_of : List ℕ → Tree Token → Expr
-  expr_of text (Both a (First (Both o b))) = expr.Chain (bor_of text a) (link_of o (bor_of text b) ∷ [])
+  expr_of text (Both a (First (Both o b))) = expr.Chain (bor_of text a) (segment_of o (bor_of text b) ∷ [])
   expr_of text (Both a (Second x)) = bor_of text a
   expr_of text _ = expr.Number 0
 
   pub bor_of : List ℕ → Tree Token → Expr
-  bor_of text (Both x r) = chained (bxor_of text x) (bor_links_of text r)
+  bor_of text (Both x r) = chained (bxor_of text x) (bor_segments_of text r)
   bor_of text _ = expr.Number 0
 
-  pub bor_links_of : List ℕ → Tree Token → List Link
-  bor_links_of text (Both (Both o x) r) = link_of o (bxor_of text x) ∷ bor_links_of text r
-  bor_links_of text _ = []
+  pub bor_segments_of : List ℕ → Tree Token → List Segment
+  bor_segments_of text (Both (Both o x) r) = segment_of o (bxor_of text x) ∷ bor_segments_of text r
+  bor_segments_of text _ = []
 
   pub bxor_of : List ℕ → Tree Token → Expr
-  bxor_of text (Both x r) = chained (band_of text x) (bxor_links_of text r)
+  bxor_of text (Both x r) = chained (band_of text x) (bxor_segments_of text r)
   bxor_of text _ = expr.Number 0
 
-  pub bxor_links_of : List ℕ → Tree Token → List Link
-  bxor_links_of text (Both (Both o x) r) = link_of o (band_of text x) ∷ bxor_links_of text r
-  bxor_links_of text _ = []
+  pub bxor_segments_of : List ℕ → Tree Token → List Segment
+  bxor_segments_of text (Both (Both o x) r) = segment_of o (band_of text x) ∷ bxor_segments_of text r
+  bxor_segments_of text _ = []
 
   pub band_of : List ℕ → Tree Token → Expr
-  band_of text (Both x r) = chained (shift_of text x) (band_links_of text r)
+  band_of text (Both x r) = chained (shift_of text x) (band_segments_of text r)
   band_of text _ = expr.Number 0
 
-  pub band_links_of : List ℕ → Tree Token → List Link
-  band_links_of text (Both (Both o x) r) = link_of o (shift_of text x) ∷ band_links_of text r
-  band_links_of text _ = []
+  pub band_segments_of : List ℕ → Tree Token → List Segment
+  band_segments_of text (Both (Both o x) r) = segment_of o (shift_of text x) ∷ band_segments_of text r
+  band_segments_of text _ = []
 
   pub shift_of : List ℕ → Tree Token → Expr
-  shift_of text (Both x r) = chained (sum_of text x) (shift_links_of text r)
+  shift_of text (Both x r) = chained (sum_of text x) (shift_segments_of text r)
   shift_of text _ = expr.Number 0
 
-  pub shift_links_of : List ℕ → Tree Token → List Link
-  shift_links_of text (Both (Both o n) r) = link.Shift (direction_of (token_of o).kind) (span_of o) (value_of n) ∷ shift_links_of text r
-  shift_links_of text _ = []
+  pub shift_segments_of : List ℕ → Tree Token → List Segment
+  shift_segments_of text (Both (Both o n) r) = segment.Shift (direction_of (token_of o).kind) (span_of o) (value_of n) ∷ shift_segments_of text r
+  shift_segments_of text _ = []
 
   pub sum_of : List ℕ → Tree Token → Expr
-  sum_of text (Both x r) = chained (prod_of text x) (sum_links_of text r)
+  sum_of text (Both x r) = chained (prod_of text x) (sum_segments_of text r)
   sum_of text _ = expr.Number 0
 
-  pub sum_links_of : List ℕ → Tree Token → List Link
-  sum_links_of text (Both (Both o x) r) = link_of o (prod_of text x) ∷ sum_links_of text r
-  sum_links_of text _ = []
+  pub sum_segments_of : List ℕ → Tree Token → List Segment
+  sum_segments_of text (Both (Both o x) r) = segment_of o (prod_of text x) ∷ sum_segments_of text r
+  sum_segments_of text _ = []
 
   pub prod_of : List ℕ → Tree Token → Expr
-  prod_of text (Both x r) = chained (unary_of text x) (prod_links_of text r)
+  prod_of text (Both x r) = chained (unary_of text x) (prod_segments_of text r)
   prod_of text _ = expr.Number 0
 
-  pub prod_links_of : List ℕ → Tree Token → List Link
-  prod_links_of text (Both (Both o x) r) = link_of o (unary_of text x) ∷ prod_links_of text r
-  prod_links_of text _ = []
+  pub prod_segments_of : List ℕ → Tree Token → List Segment
+  prod_segments_of text (Both (Both o x) r) = segment_of o (unary_of text x) ∷ prod_segments_of text r
+  prod_segments_of text _ = []
 
   pub unary_of : List ℕ → Tree Token → Expr
   unary_of text (Both p a) = signed (atom_of text a) (signs_of p)

@@ -10,7 +10,7 @@ use crate::operators::{Level, comparison, direction, infix};
 use crate::parser::Parser;
 use std::alloc::AllocError;
 use vd_base_lists::{Boxed, Items};
-use vd_core::{Expr, Ident, Link, WrittenForm};
+use vd_core::{Expr, Ident, Segment, WrittenForm};
 use vd_source_lexer::TokenKind;
 
 /// Whether an expression stands in brackets.
@@ -48,14 +48,14 @@ fn bracketed(value: Boxed<Expr>) -> Expr
 
 impl<'a> Parser<'a> {
     /// An operand alone is itself.
-    fn chained(&self, operand: Expr, links: Items<Link>) -> Result<Expr, AllocError>
-        ensures { IfOk result (λ expr. expr ≡ chained operand links) }
+    fn chained(&self, operand: Expr, segments: Items<Segment>) -> Result<Expr, AllocError>
+        ensures { IfOk result (λ expr. expr ≡ chained operand segments) }
     {
-        if links.is_empty() {
+        if segments.is_empty() {
             Ok(operand)
         } else {
             let operand = Boxed::new(self.alloc, operand)?;
-            Ok(Expr::Chain(operand, links))
+            Ok(Expr::Chain(operand, segments))
         }
     }
 
@@ -68,10 +68,10 @@ impl<'a> Parser<'a> {
         if let Some(op) = comparison(cursor.kind()) {
             let token = cursor.advance();
             let right = self.chain(cursor, Level::Or)?;
-            let mut links = Items::new(self.alloc);
-            links.push(Link::Infix(op, token.span, right))?;
+            let mut segments = Items::new(self.alloc);
+            segments.push(Segment::Infix(op, token.span, right))?;
             let left = Boxed::new(self.alloc, left)?;
-            Ok(Expr::Chain(left, links))
+            Ok(Expr::Chain(left, segments))
         } else {
             Ok(left)
         }
@@ -92,13 +92,13 @@ impl<'a> Parser<'a> {
         ensures { Parses (Sym (symbol_of level)) (level_of level self.now.text.now) cursor.old cursor.new result }
     {
         let first = self.operand(cursor, level)?;
-        let mut links = Items::new(self.alloc);
-        'links: while let Some(op) = infix(level, cursor.kind()) {
+        let mut segments = Items::new(self.alloc);
+        'segments: while let Some(op) = infix(level, cursor.kind()) {
             let token = cursor.advance();
             let right = self.operand(cursor, level)?;
-            links.push(Link::Infix(op, token.span, right))?;
+            segments.push(Segment::Infix(op, token.span, right))?;
         }
-        let expr = self.chained(first, links)?;
+        let expr = self.chained(first, segments)?;
         Ok(expr)
     }
 
@@ -122,13 +122,13 @@ impl<'a> Parser<'a> {
         ensures { Parses (Sym SHIFT) (shift_of self.now.text.now) cursor.old cursor.new result }
     {
         let first = self.chain(cursor, Level::Sum)?;
-        let mut links = Items::new(self.alloc);
-        'links: while let Some(way) = direction(cursor.kind()) {
+        let mut segments = Items::new(self.alloc);
+        'segments: while let Some(way) = direction(cursor.kind()) {
             let token = cursor.advance();
             let bits = cursor.expect(TokenKind::Number)?;
-            links.push(Link::Shift(way, token.span, bits.value))?;
+            segments.push(Segment::Shift(way, token.span, bits.value))?;
         }
-        let expr = self.chained(first, links)?;
+        let expr = self.chained(first, segments)?;
         Ok(expr)
     }
 

@@ -6,12 +6,12 @@ use Rattle.vd_base.specs.declared.ids.Span.{Span}
 use Rattle.vd_base.specs.declared.operations.Kind.{Kind}
 use Rattle.vd_base.specs.declared.operations.Kind.TheVariants.{Word, Bool as Truth}
 use Rattle.vd_core.specs.declared.source.Expr.{Expr}
-use Rattle.vd_core.specs.declared.source.Expr.TheOpen.{Expr-F, Link-F}
-use Rattle.vd_core.specs.declared.source.Expr.TheFolds.{fold-Expr, fold-Link}
+use Rattle.vd_core.specs.declared.source.Expr.TheOpen.{Expr-F, Segment-F}
+use Rattle.vd_core.specs.declared.source.Expr.TheFolds.{fold-Expr, fold-Segment}
 use Rattle.vd_core.specs.declared.source.Function.{Function}
 use Rattle.vd_core.specs.declared.source.Host.{Host}
 use Rattle.vd_core.specs.declared.source.Ident.{Ident}
-use Rattle.vd_core.specs.declared.source.Link.{Link}
+use Rattle.vd_core.specs.declared.source.Segment.{Segment}
 use Rattle.vd_core.specs.declared.source.Parameter.{Parameter}
 use Rattle.vd_core.specs.declared.source.Sign.{Sign}
 use Rattle.vd_core.specs.declared.source.Source.{Source}
@@ -93,15 +93,15 @@ abbrev pub Telling : Type 0
 Telling = Scope → Named Symbol → Result Kind Cause
 
 -- of one step of a chain, by the kind so far
-abbrev pub LinkTelling : Type 0
-LinkTelling = Scope → Named Symbol → Kind → Result Kind Cause
+abbrev pub SegmentTelling : Type 0
+SegmentTelling = Scope → Named Symbol → Kind → Result Kind Cause
 
 -- after operands of these kinds, further ones
 abbrev pub tellings : List Kind → List Telling → Scope → Named Symbol → Result (List Kind) Cause
 tellings kinds [] scope env = Ok kinds
 tellings kinds (t ∷ ts) scope env = go_on (t scope env) (λ kind. tellings (kinds ++ kind ∷ []) ts scope env)
 
-abbrev pub chain_telling : List LinkTelling → LinkTelling
+abbrev pub chain_telling : List SegmentTelling → SegmentTelling
 chain_telling [] scope env kind = Ok kind
 chain_telling (l ∷ ls) scope env kind = go_on (l scope env kind) (λ next. chain_telling ls scope env next)
 
@@ -109,7 +109,7 @@ abbrev pub signs_telling : List Sign → Kind → Result Kind Cause
 signs_telling [] kind = Ok kind
 signs_telling (s ∷ ss) kind = go_on (where_meet (Kinds (met.Behind kind)) (kind_or s.span (prefix_kind s.prefix kind))) (λ next. signs_telling ss next)
 
-abbrev pub expr_telling : Expr-F Telling LinkTelling → Telling
+abbrev pub expr_telling : Expr-F Telling SegmentTelling → Telling
 expr_telling (Expr-F.Number n) scope env = Ok Word
 expr_telling (Expr-F.Truth b) scope env = Ok Truth
 expr_telling (Expr-F.Value x) scope env = where_meet (Kinds met.WholeArray) (value_kind x.span (at_name env x.name))
@@ -124,18 +124,18 @@ expr_telling (Expr-F.Mux at c x y) scope env =
 expr_telling (Expr-F.Declassify x to) scope env = go_on (x scope env) (λ kind. go_on (plain (form_check to scope.principals)) (λ done. Ok kind))
 expr_telling (Expr-F.Endorse x to) scope env = go_on (x scope env) (λ kind. go_on (plain (form_check to scope.principals)) (λ done. Ok kind))
 expr_telling (Expr-F.Unary x signs) scope env = go_on (x scope env) (λ kind. signs_telling signs kind)
-expr_telling (Expr-F.Chain x links) scope env = go_on (x scope env) (λ kind. chain_telling links scope env kind)
+expr_telling (Expr-F.Chain x segments) scope env = go_on (x scope env) (λ kind. chain_telling segments scope env kind)
 expr_telling (Expr-F.Brackets x) scope env = x scope env
 
-abbrev pub link_telling : Link-F Telling LinkTelling → LinkTelling
-link_telling (Link-F.Infix o at right) scope env left = go_on (right scope env) (λ kind. where_meet (Kinds (met.Sides left kind)) (kind_or at (infix_kind o left kind)))
-link_telling (Link-F.Shift towards at bits) scope env left = where_meet (Kinds (met.Shifted left bits)) (kind_or at (shift_kind left bits))
+abbrev pub segment_telling : Segment-F Telling SegmentTelling → SegmentTelling
+segment_telling (Segment-F.Infix o at right) scope env left = go_on (right scope env) (λ kind. where_meet (Kinds (met.Sides left kind)) (kind_or at (infix_kind o left kind)))
+segment_telling (Segment-F.Shift towards at bits) scope env left = where_meet (Kinds (met.Shifted left bits)) (kind_or at (shift_kind left bits))
 
 abbrev pub telling : Expr → Telling
-telling = fold-Expr Telling LinkTelling expr_telling link_telling
+telling = fold-Expr Telling SegmentTelling expr_telling segment_telling
 
-abbrev pub telling_of_link : Link → LinkTelling
-telling_of_link = fold-Link Telling LinkTelling expr_telling link_telling
+abbrev pub telling_of_segment : Segment → SegmentTelling
+telling_of_segment = fold-Segment Telling SegmentTelling expr_telling segment_telling
 
 -- ---- statements: the values in sight after them
 

@@ -16,9 +16,9 @@ use Rattle.vd_core.specs.declared.source.Prefix.TheVariants.{Flip, Not}
 use Rattle.vd_core.specs.declared.source.Infix.{Infix}
 use Rattle.vd_core.specs.declared.source.Infix.TheVariants as infix'
 use Rattle.vd_core.specs.declared.source.Expr.{Expr}
-use Rattle.vd_core.specs.declared.source.Expr.TheOpen.{Expr-F, Link-F}
-use Rattle.vd_core.specs.declared.source.Expr.TheFolds.{fold-Expr, fold-Link}
-use Rattle.vd_core.specs.declared.source.Link.{Link}
+use Rattle.vd_core.specs.declared.source.Expr.TheOpen.{Expr-F, Segment-F}
+use Rattle.vd_core.specs.declared.source.Expr.TheFolds.{fold-Expr, fold-Segment}
+use Rattle.vd_core.specs.declared.source.Segment.{Segment}
 use Rattle.vd_core.specs.declared.source.Statement.{Statement}
 use Rattle.vd_core.specs.declared.source.Statement.TheOpen.{Statement-F}
 use Rattle.vd_core.specs.declared.source.Statement.TheFolds.{fold-Statement}
@@ -169,15 +169,15 @@ abbrev pub Typing : Type 0
 Typing = Scope → Named Symbol → Result Kind Fault
 
 -- of one step of a chain, by the kind so far
-abbrev pub LinkTyping : Type 0
-LinkTyping = Scope → Named Symbol → Kind → Result Kind Fault
+abbrev pub SegmentTyping : Type 0
+SegmentTyping = Scope → Named Symbol → Kind → Result Kind Fault
 
 -- after operands of these kinds, further ones
 abbrev pub typings : List Kind → List Typing → Scope → Named Symbol → Result (List Kind) Fault
 typings kinds [] scope env = Ok kinds
 typings kinds (t ∷ ts) scope env = and_then (t scope env) (λ kind. typings (kinds ++ kind ∷ []) ts scope env)
 
-abbrev pub chain_typing : List LinkTyping → LinkTyping
+abbrev pub chain_typing : List SegmentTyping → SegmentTyping
 chain_typing [] scope env kind = Ok kind
 chain_typing (l ∷ ls) scope env kind = and_then (l scope env kind) (λ next. chain_typing ls scope env next)
 
@@ -186,7 +186,7 @@ abbrev pub signs_typing : List Sign → Kind → Result Kind Fault
 signs_typing [] kind = Ok kind
 signs_typing (s ∷ ss) kind = and_then (kind_or s.span (prefix_kind s.prefix kind)) (λ next. signs_typing ss next)
 
-abbrev pub expr_typing : Expr-F Typing LinkTyping → Typing
+abbrev pub expr_typing : Expr-F Typing SegmentTyping → Typing
 expr_typing (Expr-F.Number n) scope env = Ok Word
 expr_typing (Expr-F.Truth b) scope env = Ok Truth
 expr_typing (Expr-F.Value x) scope env = value_kind x.span (at_name env x.name)
@@ -199,18 +199,18 @@ expr_typing (Expr-F.Mux at c x y) scope env = and_then (c scope env) (λ test. a
 expr_typing (Expr-F.Declassify x to) scope env = and_then (x scope env) (λ kind. and_then (form_check to scope.principals) (λ done. Ok kind))
 expr_typing (Expr-F.Endorse x to) scope env = and_then (x scope env) (λ kind. and_then (form_check to scope.principals) (λ done. Ok kind))
 expr_typing (Expr-F.Unary x signs) scope env = and_then (x scope env) (λ kind. signs_typing signs kind)
-expr_typing (Expr-F.Chain x links) scope env = and_then (x scope env) (λ kind. chain_typing links scope env kind)
+expr_typing (Expr-F.Chain x segments) scope env = and_then (x scope env) (λ kind. chain_typing segments scope env kind)
 expr_typing (Expr-F.Brackets x) scope env = x scope env
 
-abbrev pub link_typing : Link-F Typing LinkTyping → LinkTyping
-link_typing (Link-F.Infix o at right) scope env left = and_then (right scope env) (λ kind. kind_or at (infix_kind o left kind))
-link_typing (Link-F.Shift towards at bits) scope env left = kind_or at (shift_kind left bits)
+abbrev pub segment_typing : Segment-F Typing SegmentTyping → SegmentTyping
+segment_typing (Segment-F.Infix o at right) scope env left = and_then (right scope env) (λ kind. kind_or at (infix_kind o left kind))
+segment_typing (Segment-F.Shift towards at bits) scope env left = kind_or at (shift_kind left bits)
 
 abbrev pub typing : Expr → Typing
-typing = fold-Expr Typing LinkTyping expr_typing link_typing
+typing = fold-Expr Typing SegmentTyping expr_typing segment_typing
 
-abbrev pub typing_of_link : Link → LinkTyping
-typing_of_link = fold-Link Typing LinkTyping expr_typing link_typing
+abbrev pub typing_of_segment : Segment → SegmentTyping
+typing_of_segment = fold-Segment Typing SegmentTyping expr_typing segment_typing
 
 -- Statements: the values in sight after it, or the first fault.
 

@@ -4,9 +4,9 @@ use Rattle.vd_core.specs.declared.source.Infix.{Infix}
 use Rattle.vd_core.specs.declared.source.Infix.TheVariants as infix'
 use Rattle.vd_core.specs.declared.source.Parameter.{Parameter}
 use Rattle.vd_core.specs.declared.source.Expr.{Expr}
-use Rattle.vd_core.specs.declared.source.Expr.TheOpen.{Expr-F, Link-F}
-use Rattle.vd_core.specs.declared.source.Expr.TheFolds.{fold-Expr, fold-Link}
-use Rattle.vd_core.specs.declared.source.Link.{Link}
+use Rattle.vd_core.specs.declared.source.Expr.TheOpen.{Expr-F, Segment-F}
+use Rattle.vd_core.specs.declared.source.Expr.TheFolds.{fold-Expr, fold-Segment}
+use Rattle.vd_core.specs.declared.source.Segment.{Segment}
 use Rattle.vd_core.specs.declared.source.Statement.{Statement}
 use Rattle.vd_core.specs.declared.source.Statement.TheOpen.{Statement-F}
 use Rattle.vd_core.specs.declared.source.Statement.TheFolds.{fold-Statement}
@@ -68,8 +68,8 @@ pub record Sizing : Type 0 where
   pub plain : Variables → Bool
   pub bare : Bool
 
-abbrev pub LinkSizing : Type 0
-LinkSizing = Named Size → Variables → Size
+abbrev pub SegmentSizing : Type 0
+SegmentSizing = Named Size → Variables → Size
 
 -- a binding of its own
 abbrev pub made : (Named Size → Variables → Size) → Sizing
@@ -81,9 +81,9 @@ sizes_after before [] functions variables = before
 sizes_after before (s ∷ ss) functions variables = sizes_after (also before (s.size functions variables)) ss functions variables
 
 -- the steps of a chain likewise
-abbrev pub links_after : Size → List LinkSizing → Named Size → Variables → Size
-links_after before [] functions variables = before
-links_after before (s ∷ ss) functions variables = links_after (also before (s functions variables)) ss functions variables
+abbrev pub segments_after : Size → List SegmentSizing → Named Size → Variables → Size
+segments_after before [] functions variables = before
+segments_after before (s ∷ ss) functions variables = segments_after (also before (s functions variables)) ss functions variables
 
 -- an operation for each operator before an operand
 abbrev pub signs_after : Size → List Sign → Size
@@ -99,7 +99,7 @@ abbrev pub call_size : Option Size → Size
 call_size None = nothing
 call_size (Some s) = inlined s
 
-abbrev pub expr_sizing : Expr-F Sizing LinkSizing → Sizing
+abbrev pub expr_sizing : Expr-F Sizing SegmentSizing → Sizing
 expr_sizing (Expr-F.Number n) = record { size = λ functions variables. one; plain = λ variables. false; bare = true }
 expr_sizing (Expr-F.Truth b) = made (λ functions variables. one)
 expr_sizing (Expr-F.Value x) = record { size = λ functions variables. if is_variable variables x.name then one else nothing; plain = λ variables. not (is_variable variables x.name); bare = false }
@@ -120,9 +120,9 @@ expr_sizing (Expr-F.Unary x signs) = record {
   plain = λ variables. plain_alone signs (x.plain variables);
   bare = false;
 }
-expr_sizing (Expr-F.Chain x links) = record {
-  size = λ functions variables. also (x.size functions variables) (links_after nothing links functions variables);
-  plain = λ variables. plain_alone links (x.plain variables);
+expr_sizing (Expr-F.Chain x segments) = record {
+  size = λ functions variables. also (x.size functions variables) (segments_after nothing segments functions variables);
+  plain = λ variables. plain_alone segments (x.plain variables);
   bare = false;
 }
 expr_sizing (Expr-F.Brackets x) = record { size = x.size; plain = x.plain; bare = false }
@@ -144,15 +144,15 @@ is_scale infix'.Sub bare = false
 is_scale infix'.Div bare = false
 is_scale infix'.Rem bare = false
 
-abbrev pub link_sizing : Link-F Sizing LinkSizing → LinkSizing
-link_sizing (Link-F.Infix o at right) functions variables = if is_scale o right.bare then one else also (right.size functions variables) one
-link_sizing (Link-F.Shift towards at bits) functions variables = one
+abbrev pub segment_sizing : Segment-F Sizing SegmentSizing → SegmentSizing
+segment_sizing (Segment-F.Infix o at right) functions variables = if is_scale o right.bare then one else also (right.size functions variables) one
+segment_sizing (Segment-F.Shift towards at bits) functions variables = one
 
 abbrev pub sizing : Expr → Sizing
-sizing = fold-Expr Sizing LinkSizing expr_sizing link_sizing
+sizing = fold-Expr Sizing SegmentSizing expr_sizing segment_sizing
 
-abbrev pub sizing_of_link : Link → LinkSizing
-sizing_of_link = fold-Link Sizing LinkSizing expr_sizing link_sizing
+abbrev pub sizing_of_segment : Segment → SegmentSizing
+sizing_of_segment = fold-Segment Sizing SegmentSizing expr_sizing segment_sizing
 
 abbrev pub expr_size : Expr → Named Size → Variables → Size
 expr_size e = (sizing e).size

@@ -1,12 +1,12 @@
 //! Expressions: kinds and sizes.
 
 ghost use Rattle.std.specs.Prelude.{◌≡◌, [], map, Ok, OnOk, IfErr, IfOk};
-ghost use Rattle.vd_resolve.specs.Rules.{typing, typing_of_link, typings, chain_typing, signs_typing, value_kind, element_kind, call_kind, kind_or, and_then, function_names};
+ghost use Rattle.vd_resolve.specs.Rules.{typing, typing_of_segment, typings, chain_typing, signs_typing, value_kind, element_kind, call_kind, kind_or, and_then, function_names};
 ghost use Rattle.vd_base.specs.Names.{at_name, is_among};
-ghost use Rattle.vd_resolve.specs.Causes.{call_met, chain_telling, go_on, index_met, signs_telling, telling, telling_of_link, tellings, where_meet};
+ghost use Rattle.vd_resolve.specs.Causes.{call_met, chain_telling, go_on, index_met, signs_telling, telling, telling_of_segment, tellings, where_meet};
 ghost use Rattle.vd_resolve.specs.Faults.{Kinds};
 ghost use Rattle.vd_resolve.specs.declared.met.Met.TheVariants as meets;
-ghost use Rattle.vd_resolve.specs.Sizes.{IsCapped, expr_size, sizing, sizing_of_link, links_after, signs_after, sizes_after, is_variable, is_scale, call_size, nothing, also};
+ghost use Rattle.vd_resolve.specs.Sizes.{IsCapped, expr_size, sizing, sizing_of_segment, segments_after, signs_after, sizes_after, is_variable, is_scale, call_size, nothing, also};
 ghost use Rattle.vd_resolve.specs.Tables.{names};
 ghost use Rattle.vd_resolve.specs.Walks.{IsCauseOf, IsFaultOf, variables};
 ghost use Rattle.vd_resolve.specs.Scopes.{scope_of, sizes_of};
@@ -22,7 +22,7 @@ use crate::symbol::Symbol;
 use crate::table::NameTable;
 use vd_base::{Kind, Span};
 use vd_base_lists::Items;
-use vd_core::{Expr, Function, Ident, Infix, Link, Sign};
+use vd_core::{Expr, Function, Ident, Infix, Segment, Sign};
 
 /// The values in sight.
 pub(crate) type Values<'a> = NameTable<'a, Symbol>;
@@ -111,7 +111,7 @@ pub(crate) fn is_plain(values: &Values<'_>, expr: &Expr) -> bool
         Expr::Value(name) => !is_variable(values, name.name.as_slice()),
         Expr::Call(_, _) => true,
         Expr::Unary(inner, signs) => signs.as_slice().is_empty() && is_plain(values, inner),
-        Expr::Chain(first, links) => links.as_slice().is_empty() && is_plain(values, first),
+        Expr::Chain(first, segments) => segments.as_slice().is_empty() && is_plain(values, first),
         Expr::Brackets(inner) => is_plain(values, inner),
         _ => false,
     }
@@ -178,9 +178,9 @@ impl<'a> Declarations<'a> {
                 with_signs(inner, signs.as_slice())
             }
             Expr::Brackets(inner) => self.expr(values, inner),
-            Expr::Chain(first, links) => {
+            Expr::Chain(first, segments) => {
                 let first = self.expr(values, first)?;
-                let rest = self.chain(values, first.kind, links.as_slice())?;
+                let rest = self.chain(values, first.kind, segments.as_slice())?;
                 Ok(Typed {
                     kind: rest.kind,
                     size: first.size.also(rest.size),
@@ -192,22 +192,27 @@ impl<'a> Declarations<'a> {
 
     /// The steps of a chain from the left, on an operand of this kind.
     #[cycle(typing)]
-    fn chain(&self, values: &Values<'a>, first: Kind, links: &[Link]) -> Result<Typed, NameFault>
-        ensures kind { IfOk result (λ typed. chain_typing (map typing_of_link links.now) (scope_of self.now) (names values.now) first ≡
+    fn chain(
+        &self,
+        values: &Values<'a>,
+        first: Kind,
+        segments: &[Segment],
+    ) -> Result<Typed, NameFault>
+        ensures kind { IfOk result (λ typed. chain_typing (map typing_of_segment segments.now) (scope_of self.now) (names values.now) first ≡
             Ok typed.kind) }
-        ensures told { IfOk result (λ typed. chain_telling (map telling_of_link links.now) (scope_of self.now) (names values.now) first ≡
+        ensures told { IfOk result (λ typed. chain_telling (map telling_of_segment segments.now) (scope_of self.now) (names values.now) first ≡
             Ok typed.kind) }
         ensures size { IfOk result (λ typed. IsCapped typed.size
-            (links_after nothing (map sizing_of_link links.now) (sizes_of self.now) (variables (names values.now)))) }
-        ensures fault { IfErr result (IsFaultOf (chain_typing (map typing_of_link links.now)
+            (segments_after nothing (map sizing_of_segment segments.now) (sizes_of self.now) (variables (names values.now)))) }
+        ensures fault { IfErr result (IsFaultOf (chain_typing (map typing_of_segment segments.now)
             (scope_of self.now) (names values.now) first)) }
-        ensures cause { IfErr result (IsCauseOf (chain_telling (map telling_of_link links.now)
+        ensures cause { IfErr result (IsCauseOf (chain_telling (map telling_of_segment segments.now)
             (scope_of self.now) (names values.now) first)) }
     {
         let mut kind = first;
         let mut size = Size::nothing();
-        for link in links {
-            let step = self.link(values, kind, link)?;
+        for segment in segments {
+            let step = self.segment(values, kind, segment)?;
             kind = step.kind;
             size = size.also(step.size);
         }
@@ -216,16 +221,21 @@ impl<'a> Declarations<'a> {
 
     /// One step of a chain, on an operand of this kind.
     #[cycle(typing)]
-    fn link(&self, values: &Values<'a>, left: Kind, link: &Link) -> Result<Typed, NameFault>
-        ensures kind { IfOk result (λ typed. typing_of_link link.now (scope_of self.now) (names values.now) left ≡ Ok typed.kind) }
-        ensures told { IfOk result (λ typed. telling_of_link link.now (scope_of self.now) (names values.now) left ≡ Ok typed.kind) }
-        ensures size { IfOk result (λ typed. IsCapped typed.size (sizing_of_link link.now (sizes_of self.now)
+    fn segment(
+        &self,
+        values: &Values<'a>,
+        left: Kind,
+        segment: &Segment,
+    ) -> Result<Typed, NameFault>
+        ensures kind { IfOk result (λ typed. typing_of_segment segment.now (scope_of self.now) (names values.now) left ≡ Ok typed.kind) }
+        ensures told { IfOk result (λ typed. telling_of_segment segment.now (scope_of self.now) (names values.now) left ≡ Ok typed.kind) }
+        ensures size { IfOk result (λ typed. IsCapped typed.size (sizing_of_segment segment.now (sizes_of self.now)
             (variables (names values.now)))) }
-        ensures fault { IfErr result (IsFaultOf (typing_of_link link.now (scope_of self.now) (names values.now) left)) }
-        ensures cause { IfErr result (IsCauseOf (telling_of_link link.now (scope_of self.now) (names values.now) left)) }
+        ensures fault { IfErr result (IsFaultOf (typing_of_segment segment.now (scope_of self.now) (names values.now) left)) }
+        ensures cause { IfErr result (IsCauseOf (telling_of_segment segment.now (scope_of self.now) (names values.now) left)) }
     {
-        match link {
-            Link::Infix(operator, at, operand) => {
+        match segment {
+            Segment::Infix(operator, at, operand) => {
                 let right = self.expr(values, operand)?;
                 let met = Met::Sides(left, right.kind);
                 let kind = kind_at(*at, met, of_infix(*operator, left, right.kind))?;
@@ -236,7 +246,7 @@ impl<'a> Declarations<'a> {
                 };
                 Ok(Typed { kind, size })
             }
-            Link::Shift(_, at, bits) => {
+            Segment::Shift(_, at, bits) => {
                 let met = Met::Shifted(left, *bits);
                 let kind = kind_at(*at, met, of_shift(left, *bits))?;
                 Ok(Typed {

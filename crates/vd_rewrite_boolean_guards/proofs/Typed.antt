@@ -13,20 +13,20 @@ use Rattle.vd_core.specs.declared.source.Prefix.TheVariants as prefix'
 use Rattle.vd_core.specs.declared.source.Infix.{Infix}
 use Rattle.vd_core.specs.declared.source.Infix.TheVariants as infix'
 use Rattle.vd_core.specs.declared.source.Sign.{Sign}
-use Rattle.vd_core.specs.declared.source.Link.{Link}
+use Rattle.vd_core.specs.declared.source.Segment.{Segment}
 use Rattle.vd_core.specs.declared.source.Expr.{Expr, roll-Expr}
-use Rattle.vd_core.specs.declared.source.Expr.TheOpen.{Expr-F, Link-F}
-use Rattle.vd_core.specs.declared.source.Expr.TheFolds.{map-Expr, map-Link, ind-Expr, fold-roll-Expr, fold-roll-Link}
-use Rattle.vd_core.specs.declared.source.Expr.TheViews.{roll-Link}
+use Rattle.vd_core.specs.declared.source.Expr.TheOpen.{Expr-F, Segment-F}
+use Rattle.vd_core.specs.declared.source.Expr.TheFolds.{map-Expr, map-Segment, ind-Expr, fold-roll-Expr, fold-roll-Segment}
+use Rattle.vd_core.specs.declared.source.Expr.TheViews.{roll-Segment}
 use Rattle.vd_anf.specs.declared.here.Here.{Here}
 use Rattle.vd_anf.specs.declared.spot.Spot.{Spot}
 use Rattle.vd_anf.specs.declared.spot.Spot.TheVariants as spot
-use Rattle.vd_anf.specs.Normal.{Made, slot, emitted, kind_at, Inlining, Lowering, LinkLowering, chain_made, all_made, operation_made, two, infix_right, infix_kind as made_kind, scale_of, shift_op, prefix_op, prefix_kind as made_prefix, prefixes_made, link_made, name_made, get_made, call_made, truth_right, form_of, expr_lowering, link_lowering, lowering, lowering_of_link}
+use Rattle.vd_anf.specs.Normal.{Made, slot, emitted, kind_at, Inlining, Lowering, SegmentLowering, chain_made, all_made, operation_made, two, infix_right, infix_kind as made_kind, scale_of, shift_op, prefix_op, prefix_kind as made_prefix, prefixes_made, segment_made, name_made, get_made, call_made, truth_right, form_of, expr_lowering, segment_lowering, lowering, lowering_of_segment}
 use Rattle.vd_resolve.specs.Faults as fault
 use Rattle.vd_resolve.specs.declared.symbol.Symbol.{Symbol}
 use Rattle.vd_resolve.specs.declared.symbol.Symbol.TheVariants as symbol
 use Rattle.vd_resolve.specs.declared.symbol.Signature.{Signature}
-use Rattle.vd_resolve.specs.Rules.{Scope, and_then, kind_eq, kinds_eq, kind_or, of_words, of_one_kind, mux_kind, shift_kind, infix_kind, prefix_kind, value_kind, element_kind, call_kind, known, form_check, Typing, LinkTyping, typings, chain_typing, signs_typing, expr_typing, link_typing, typing, typing_of_link}
+use Rattle.vd_resolve.specs.Rules.{Scope, and_then, kind_eq, kinds_eq, kind_or, of_words, of_one_kind, mux_kind, shift_kind, infix_kind, prefix_kind, value_kind, element_kind, call_kind, known, form_check, Typing, SegmentTyping, typings, chain_typing, signs_typing, expr_typing, segment_typing, typing, typing_of_segment}
 use Rattle.vd_mux.specs.BooleanGuards.{is_truth_kind, right_is_truth}
 use Rattle.vd_anf_wellformed.proofs.Steps.{passed, err_is, ok_is, accepted}
 use Rattle.vd_rewrite_boolean_guards.proofs.SlotKinds.{truth_by, Agrees, Has, Sound, Grows, Makes, grows_none, grows_after, has_stays, kind_is, then_makes, emit, emit_word}
@@ -266,10 +266,10 @@ call_is at kinds false None kind e = absurd (err_is (fault.Unknown at) kind e)
 abbrev pub ExprTyped : Typing → Lowering → Type 0
 ExprTyped t l = (scope : Scope) (env : Named Symbol) (kind : Kind) → t scope env ≡ Ok kind → (is : Named Inlining) → Calls scope.functions is → (names : Named Spot) (here : Here) (m : Made) → Sound m → Shows m env names → Makes m (l.run is names here m) kind
 
-abbrev LinkTyped : LinkTyping → LinkLowering → Type 0
-LinkTyped t l = (scope : Scope) (env : Named Symbol) (left kind : Kind) → t scope env left ≡ Ok kind → (is : Named Inlining) → Calls scope.functions is → (names : Named Spot) (here : Here) (x : ℕ) (m : Made) → Sound m → Shows m env names → Has m x left → Makes m (l is names here x m) kind
+abbrev SegmentTyped : SegmentTyping → SegmentLowering → Type 0
+SegmentTyped t l = (scope : Scope) (env : Named Symbol) (left kind : Kind) → t scope env left ≡ Ok kind → (is : Named Inlining) → Calls scope.functions is → (names : Named Spot) (here : Here) (x : ℕ) (m : Made) → Sound m → Shows m env names → Has m x left → Makes m (l is names here x m) kind
 
-infix_typed : (o : Infix) (at : Span) (t : Typing) (l : Lowering) → ExprTyped t l → (s : Option ℕ) → ((k : ℕ) → s ≡ Some k → (left given kind : Kind) → kind_or at (infix_kind o left given) ≡ Ok kind → Word ≡ kind) → LinkTyped (link_typing (Link-F.Infix o at t)) (link_made s o l)
+infix_typed : (o : Infix) (at : Span) (t : Typing) (l : Lowering) → ExprTyped t l → (s : Option ℕ) → ((k : ℕ) → s ≡ Some k → (left given kind : Kind) → kind_or at (infix_kind o left given) ≡ Ok kind → Word ≡ kind) → SegmentTyped (segment_typing (Segment-F.Infix o at t)) (segment_made s o l)
 infix_typed o at t l e (Some k) scaled_is scope env left kind p is calls names here x m sound shows h =
     let s = passed (t scope env) (λ given. kind_or at (infix_kind o left given)) kind p in
     as_word here (Apply (op.Scale k) (slot x ∷ [])) m kind sound (scaled_is k refl left s.0 kind s.2)
@@ -285,7 +285,7 @@ module _ (hosts : List (List ℕ)) where
   E = (e : Expr) × ExprTyped (typing e) (lowering hosts e)
 
   abbrev L : Type 0
-  L = (l : Link) × LinkTyped (typing_of_link l) (lowering_of_link hosts l)
+  L = (l : Segment) × SegmentTyped (typing_of_segment l) (lowering_of_segment hosts l)
 
   abbrev typed : List E → List Typing
   typed es = map typing (map (λ (e : E). e.0) es)
@@ -293,19 +293,19 @@ module _ (hosts : List (List ℕ)) where
   abbrev lowered : List E → List Lowering
   lowered es = map (lowering hosts) (map (λ (e : E). e.0) es)
 
-  abbrev links_typed : List L → List LinkTyping
-  links_typed ls = map typing_of_link (map (λ (l : L). l.0) ls)
+  abbrev segments_typed : List L → List SegmentTyping
+  segments_typed ls = map typing_of_segment (map (λ (l : L). l.0) ls)
 
-  abbrev links_lowered : List L → List LinkLowering
-  links_lowered ls = map (lowering_of_link hosts) (map (λ (l : L). l.0) ls)
+  abbrev segments_lowered : List L → List SegmentLowering
+  segments_lowered ls = map (lowering_of_segment hosts) (map (λ (l : L). l.0) ls)
 
-  chain_typed : (ls : List L) → LinkTyped (chain_typing (links_typed ls)) (chain_made (links_lowered ls))
+  chain_typed : (ls : List L) → SegmentTyped (chain_typing (segments_typed ls)) (chain_made (segments_lowered ls))
   chain_typed [] scope env left kind p is calls names here x m sound shows h = stays_there m x left kind (ok_is left kind p) sound h
   chain_typed (l ∷ ls) scope env left kind p is calls names here x m sound shows h =
-      let s = passed (typing_of_link l.0 scope env left) (λ next. chain_typing (links_typed ls) scope env next) kind p in
-      let q = lowering_of_link hosts l.0 is names here x m in
+      let s = passed (typing_of_segment l.0 scope env left) (λ next. chain_typing (segments_typed ls) scope env next) kind p in
+      let q = lowering_of_segment hosts l.0 is names here x m in
       let one = l.1 scope env left s.0 s.1 is calls names here x m sound shows h in
-      then_makes m q.1 (chain_made (links_lowered ls) is names here q.0 q.1) kind one.grows
+      then_makes m q.1 (chain_made (segments_lowered ls) is names here q.0 q.1) kind one.grows
       (chain_typed ls scope env s.0 kind s.2 is calls names here q.0 q.1 one.sound (shows_stay m q.1 one.grows env names shows) one.has)
 
   -- operands: what they make, and their kinds behind those before them
@@ -342,11 +342,11 @@ module _ (hosts : List (List ℕ)) where
         fit = (has_stays q.1 r.1 q.0 s.0 rest.grows one.has, rest.fit);
       }
 
-  abbrev expr_layer : Expr-F E L → Expr-F Expr Link
-  expr_layer = map-Expr E L Expr Link (λ e. e.0) (λ l. l.0)
+  abbrev expr_layer : Expr-F E L → Expr-F Expr Segment
+  expr_layer = map-Expr E L Expr Segment (λ e. e.0) (λ l. l.0)
 
-  abbrev link_layer : Link-F E L → Link-F Expr Link
-  link_layer = map-Link E L Expr Link (λ e. e.0) (λ l. l.0)
+  abbrev segment_layer : Segment-F E L → Segment-F Expr Segment
+  segment_layer = map-Segment E L Expr Segment (λ e. e.0) (λ l. l.0)
 
   truth_fits : (b : Bool) (kinds : ℕ → Kind) → right_is_truth (truth_by kinds) (truth_right b) ≡ true
   truth_fits true kinds = refl
@@ -368,8 +368,8 @@ module _ (hosts : List (List ℕ)) where
       let two' = y.1 scope env right q is calls names here a.1 one.sound (shows_stay m a.1 one.grows env names shows) in
       record { sound = two'.sound; grows = grows_after m a.1 b.1 one.grows two'.grows; first = has_stays a.1 b.1 a.0 left two'.grows one.has; second = two'.has }
 
-  step : (y : Expr-F E L) → ExprTyped (expr_typing (map-Expr Expr Link Typing LinkTyping typing typing_of_link (expr_layer y)))
-      (expr_lowering hosts (map-Expr Expr Link Lowering LinkLowering (lowering hosts) (lowering_of_link hosts) (expr_layer y)))
+  step : (y : Expr-F E L) → ExprTyped (expr_typing (map-Expr Expr Segment Typing SegmentTyping typing typing_of_segment (expr_layer y)))
+      (expr_lowering hosts (map-Expr Expr Segment Lowering SegmentLowering (lowering hosts) (lowering_of_segment hosts) (expr_layer y)))
   step (Expr-F.Number n) scope env kind p is calls names here m sound shows = as_word here (Lit n) m kind sound (ok_is Word kind p)
   step (Expr-F.Truth b) scope env kind p is calls names here m sound shows = compared here (truth_right b) m kind sound (truth_fits b) (ok_is Truth kind p)
   step (Expr-F.Value x) scope env kind p is calls names here m sound shows = name_makes x.span x.name here env names m kind (at_name env x.name) refl p sound shows
@@ -443,28 +443,28 @@ module _ (hosts : List (List ℕ)) where
       let one = x.1 scope env s.0 s.1 is calls names here m sound shows in
       then_makes m q.1 (prefixes_made signs here q.0 q.1) kind one.grows (prefixes_make signs here q.1 q.0 s.0 kind s.2 one.sound one.has)
   step (Expr-F.Chain x ls) scope env kind p is calls names here m sound shows =
-      let s = passed (typing x.0 scope env) (λ given. chain_typing (links_typed ls) scope env given) kind p in
+      let s = passed (typing x.0 scope env) (λ given. chain_typing (segments_typed ls) scope env given) kind p in
       let q = (lowering hosts x.0).run is names here m in
       let one = x.1 scope env s.0 s.1 is calls names here m sound shows in
-      then_makes m q.1 (chain_made (links_lowered ls) is names here q.0 q.1) kind one.grows
+      then_makes m q.1 (chain_made (segments_lowered ls) is names here q.0 q.1) kind one.grows
       (chain_typed ls scope env s.0 kind s.2 is calls names here q.0 q.1 one.sound (shows_stay m q.1 one.grows env names shows) one.has)
   step (Expr-F.Brackets x) scope env kind p is calls names here m sound shows = x.1 scope env kind p is calls names here m sound shows
 
-  link_step : (y : Link-F E L) → LinkTyped (link_typing (map-Link Expr Link Typing LinkTyping typing typing_of_link (link_layer y)))
-      (link_lowering (map-Link Expr Link Lowering LinkLowering (lowering hosts) (lowering_of_link hosts) (link_layer y)))
-  link_step (Link-F.Infix o at r) scope env left kind p is calls names here x m sound shows h =
+  segment_step : (y : Segment-F E L) → SegmentTyped (segment_typing (map-Segment Expr Segment Typing SegmentTyping typing typing_of_segment (segment_layer y)))
+      (segment_lowering (map-Segment Expr Segment Lowering SegmentLowering (lowering hosts) (lowering_of_segment hosts) (segment_layer y)))
+  segment_step (Segment-F.Infix o at r) scope env left kind p is calls names here x m sound shows h =
       infix_typed o at (typing r.0) (lowering hosts r.0) r.1 (scale_of o (lowering hosts r.0).bare) (λ k e first given result q. scaled at o (lowering hosts r.0).bare k first given result e q)
       scope env left kind p is calls names here x m sound shows h
-  link_step (Link-F.Shift towards at bits) scope env left kind p is calls names here x m sound shows h =
+  segment_step (Segment-F.Shift towards at bits) scope env left kind p is calls names here x m sound shows h =
       as_word here (Apply (shift_op towards bits) (slot x ∷ [])) m kind sound (shifted at left bits kind p)
 
   at_roll : (y : Expr-F E L) → ExprTyped (typing (roll-Expr (expr_layer y))) (lowering hosts (roll-Expr (expr_layer y)))
-  at_roll y = subst₂ ExprTyped (sym (fold-roll-Expr Typing LinkTyping expr_typing link_typing (expr_layer y))) (sym (fold-roll-Expr Lowering LinkLowering (expr_lowering hosts) link_lowering (expr_layer y))) (step y)
+  at_roll y = subst₂ ExprTyped (sym (fold-roll-Expr Typing SegmentTyping expr_typing segment_typing (expr_layer y))) (sym (fold-roll-Expr Lowering SegmentLowering (expr_lowering hosts) segment_lowering (expr_layer y))) (step y)
 
-  at_link_roll : (y : Link-F E L) → LinkTyped (typing_of_link (roll-Link (link_layer y))) (lowering_of_link hosts (roll-Link (link_layer y)))
-  at_link_roll y = subst₂ LinkTyped (sym (fold-roll-Link Typing LinkTyping expr_typing link_typing (link_layer y))) (sym (fold-roll-Link Lowering LinkLowering (expr_lowering hosts) link_lowering (link_layer y))) (link_step y)
+  at_segment_roll : (y : Segment-F E L) → SegmentTyped (typing_of_segment (roll-Segment (segment_layer y))) (lowering_of_segment hosts (roll-Segment (segment_layer y)))
+  at_segment_roll y = subst₂ SegmentTyped (sym (fold-roll-Segment Typing SegmentTyping expr_typing segment_typing (segment_layer y))) (sym (fold-roll-Segment Lowering SegmentLowering (expr_lowering hosts) segment_lowering (segment_layer y))) (segment_step y)
 
   pub expr_typed : (e : Expr) → ExprTyped (typing e) (lowering hosts e)
-  expr_typed = ind-Expr (λ e. ExprTyped (typing e) (lowering hosts e)) (λ l. LinkTyped (typing_of_link l) (lowering_of_link hosts l))
+  expr_typed = ind-Expr (λ e. ExprTyped (typing e) (lowering hosts e)) (λ l. SegmentTyped (typing_of_segment l) (lowering_of_segment hosts l))
       (λ x y is. subst (λ z. ExprTyped (typing (roll-Expr z)) (lowering hosts (roll-Expr z))) is (at_roll y))
-      (λ x y is. subst (λ z. LinkTyped (typing_of_link (roll-Link z)) (lowering_of_link hosts (roll-Link z))) is (at_link_roll y))
+      (λ x y is. subst (λ z. SegmentTyped (typing_of_segment (roll-Segment z)) (lowering_of_segment hosts (roll-Segment z))) is (at_segment_roll y))

@@ -25,30 +25,30 @@ word_ended expected bytes i at low high =
 
 -- ---- marks
 
-module _ (cost : Option ℕ) (linked : Bool) (shifts : List Shift) (marks : List Mark) (bytes : List ℕ) (at b : ℕ) (low : at < length bytes) (is : b ≡ get_or bytes at 0) where
-  mark_ends : b ≡ newline → scan_marks cost linked shifts marks (drop at bytes) ≡ at_end (certificate cost linked shifts marks) (drop (at + 1) bytes)
+module _ (cost : Option ℕ) (by_arcs : Bool) (shifts : List Shift) (marks : List Mark) (bytes : List ℕ) (at b : ℕ) (low : at < length bytes) (is : b ≡ get_or bytes at 0) where
+  mark_ends : b ≡ newline → scan_marks cost by_arcs shifts marks (drop at bytes) ≡ at_end (certificate cost by_arcs shifts marks) (drop (at + 1) bytes)
   mark_ends same =
-      ap (scan_marks cost linked shifts marks) (here bytes at b low is)
-      ∙ ap (λ t. cond t (at_end (certificate cost linked shifts marks) (drop (at + 1) bytes)) (option_map_or (λ mark. scan_marks cost linked shifts (marks ++ mark ∷ []) (drop (at + 1) bytes)) (mark_of b) (Err (b ∷ drop (at + 1) bytes)))) (eq-eqb b newline same)
+      ap (scan_marks cost by_arcs shifts marks) (here bytes at b low is)
+      ∙ ap (λ t. cond t (at_end (certificate cost by_arcs shifts marks) (drop (at + 1) bytes)) (option_map_or (λ mark. scan_marks cost by_arcs shifts (marks ++ mark ∷ []) (drop (at + 1) bytes)) (mark_of b) (Err (b ∷ drop (at + 1) bytes)))) (eq-eqb b newline same)
 
-  pub mark_last : b ≡ newline → length bytes ≤ at + 1 → scan_marks cost linked shifts marks (drop at bytes) ≡ Ok (certificate cost linked shifts marks)
-  mark_last same high = mark_ends same ∙ ap (at_end (certificate cost linked shifts marks)) (gone bytes (at + 1) high)
+  pub mark_last : b ≡ newline → length bytes ≤ at + 1 → scan_marks cost by_arcs shifts marks (drop at bytes) ≡ Ok (certificate cost by_arcs shifts marks)
+  mark_last same high = mark_ends same ∙ ap (at_end (certificate cost by_arcs shifts marks)) (gone bytes (at + 1) high)
 
-  pub mark_more : b ≡ newline → at + 1 < length bytes → scan_marks cost linked shifts marks (drop at bytes) ≡ Err (drop (at + 1) bytes)
-  mark_more same more = mark_ends same ∙ ap (at_end (certificate cost linked shifts marks)) next ∙ ap Err (sym next)
+  pub mark_more : b ≡ newline → at + 1 < length bytes → scan_marks cost by_arcs shifts marks (drop at bytes) ≡ Err (drop (at + 1) bytes)
+  mark_more same more = mark_ends same ∙ ap (at_end (certificate cost by_arcs shifts marks)) next ∙ ap Err (sym next)
     where
       next : drop (at + 1) bytes ≡ get_or bytes (at + 1) 0 ∷ drop (at + 1 + 1) bytes
       next = here bytes (at + 1) (get_or bytes (at + 1) 0) more refl
 
-  pub mark_stops : (b ≡ newline → ⊥) → None ≡ mark_of b → scan_marks cost linked shifts marks (drop at bytes) ≡ Err (drop at bytes)
+  pub mark_stops : (b ≡ newline → ⊥) → None ≡ mark_of b → scan_marks cost by_arcs shifts marks (drop at bytes) ≡ Err (drop at bytes)
   mark_stops other found =
-      ap (scan_marks cost linked shifts marks) (here bytes at b low is)
-      ∙ ap (λ t. cond t (at_end (certificate cost linked shifts marks) (drop (at + 1) bytes)) (option_map_or (λ mark. scan_marks cost linked shifts (marks ++ mark ∷ []) (drop (at + 1) bytes)) (mark_of b) (Err (b ∷ drop (at + 1) bytes)))) (ne_eqb b newline other)
-      ∙ ap (λ o. option_map_or (λ mark. scan_marks cost linked shifts (marks ++ mark ∷ []) (drop (at + 1) bytes)) o (Err (b ∷ drop (at + 1) bytes))) (sym found)
+      ap (scan_marks cost by_arcs shifts marks) (here bytes at b low is)
+      ∙ ap (λ t. cond t (at_end (certificate cost by_arcs shifts marks) (drop (at + 1) bytes)) (option_map_or (λ mark. scan_marks cost by_arcs shifts (marks ++ mark ∷ []) (drop (at + 1) bytes)) (mark_of b) (Err (b ∷ drop (at + 1) bytes)))) (ne_eqb b newline other)
+      ∙ ap (λ o. option_map_or (λ mark. scan_marks cost by_arcs shifts (marks ++ mark ∷ []) (drop (at + 1) bytes)) o (Err (b ∷ drop (at + 1) bytes))) (sym found)
       ∙ ap Err (sym (here bytes at b low is))
 
-pub marks_gone : (cost : Option ℕ) (linked : Bool) (shifts : List Shift) (marks : List Mark) (bytes : List ℕ) (at : ℕ) → length bytes ≤ at → scan_marks cost linked shifts marks (drop at bytes) ≡ Err (drop (length bytes) bytes)
-marks_gone cost linked shifts marks bytes at high = ap (scan_marks cost linked shifts marks) (gone bytes at high) ∙ ap Err (sym (gone bytes (length bytes) (omega arith)))
+pub marks_gone : (cost : Option ℕ) (by_arcs : Bool) (shifts : List Shift) (marks : List Mark) (bytes : List ℕ) (at : ℕ) → length bytes ≤ at → scan_marks cost by_arcs shifts marks (drop at bytes) ≡ Err (drop (length bytes) bytes)
+marks_gone cost by_arcs shifts marks bytes at high = ap (scan_marks cost by_arcs shifts marks) (gone bytes at high) ∙ ap Err (sym (gone bytes (length bytes) (omega arith)))
 
 -- ---- shifts
 

@@ -16,9 +16,9 @@ use Rattle.vd_search_certificate.proofs.Scans.{Texts, Scans, scans_same, BehindW
 
 -- ---- marks
 
-record MarksLeft (cost : Option ℕ) (linked : Bool) (shifts : List Shift) (marks : List Mark) (c : Certificate) (bytes : List ℕ) : Type 0 where
+record MarksLeft (cost : Option ℕ) (by_arcs : Bool) (shifts : List Shift) (marks : List Mark) (c : Certificate) (bytes : List ℕ) : Type 0 where
   more : List Mark
-  whole : c ≡ certificate cost linked shifts (marks ++ more)
+  whole : c ≡ certificate cost by_arcs shifts (marks ++ more)
   text : bytes ≡ marks_text more
 
 mark_letter : (b : ℕ) (mark : Mark) → mark_of b ≡ Some mark → b ≡ letter mark
@@ -31,48 +31,48 @@ mark_letter b mark is = by (b == 69) (b == 86) (b == 66) (b == 76) refl refl ref
     by false false false true is_e is_v is_o is_l is = let same : Best ≡ mark = cc in eqb-true b 76 is_l ∙ ap letter same
     by false false false false is_e is_v is_o is_l is = cc
 
-module _ (cost : Option ℕ) (linked : Bool) (shifts : List Shift) where
+module _ (cost : Option ℕ) (by_arcs : Bool) (shifts : List Shift) where
   clash : (b : ℕ) (tail : List ℕ) → [] ≡ b ∷ tail → ⊥
   clash b tail is = cc
 
   heads : (b c : ℕ) (xs ys : List ℕ) → b ∷ xs ≡ c ∷ ys → b ≡ c
   heads b c xs ys is = cc
 
-  one_mark : (marks : List Mark) (mark : Mark) (bytes : List ℕ) → scan_marks cost linked shifts marks (letter mark ∷ bytes) ≡ scan_marks cost linked shifts (marks ++ mark ∷ []) bytes
+  one_mark : (marks : List Mark) (mark : Mark) (bytes : List ℕ) → scan_marks cost by_arcs shifts marks (letter mark ∷ bytes) ≡ scan_marks cost by_arcs shifts (marks ++ mark ∷ []) bytes
   one_mark marks Expanded bytes = refl
   one_mark marks Violated bytes = refl
   one_mark marks Bounded bytes = refl
   one_mark marks Best bytes = refl
 
-  marks_back : (more marks : List Mark) → scan_marks cost linked shifts marks (marks_text more) ≡ Ok (certificate cost linked shifts (marks ++ more))
-  marks_back [] marks = ap (λ all. Ok (certificate cost linked shifts all)) (sym (append-nil marks))
+  marks_back : (more marks : List Mark) → scan_marks cost by_arcs shifts marks (marks_text more) ≡ Ok (certificate cost by_arcs shifts (marks ++ more))
+  marks_back [] marks = ap (λ all. Ok (certificate cost by_arcs shifts all)) (sym (append-nil marks))
   marks_back (mark ∷ more) marks =
-      one_mark marks mark (marks_text more) ∙ marks_back more (marks ++ mark ∷ []) ∙ ap (λ all. Ok (certificate cost linked shifts all)) (append_assoc marks (mark ∷ []) more)
+      one_mark marks mark (marks_text more) ∙ marks_back more (marks ++ mark ∷ []) ∙ ap (λ all. Ok (certificate cost by_arcs shifts all)) (append_assoc marks (mark ∷ []) more)
 
   end_given : (c d : Certificate) (bytes : List ℕ) → at_end c bytes ≡ Ok d → (c ≡ d) × (bytes ≡ [])
   end_given c d [] is = (cc, refl)
   end_given c d (b ∷ bytes) is = cc
 
-  marks_given : (bytes : List ℕ) (marks : List Mark) (c : Certificate) → scan_marks cost linked shifts marks bytes ≡ Ok c → MarksLeft cost linked shifts marks c bytes
+  marks_given : (bytes : List ℕ) (marks : List Mark) (c : Certificate) → scan_marks cost by_arcs shifts marks bytes ≡ Ok c → MarksLeft cost by_arcs shifts marks c bytes
   marks_given [] marks c is = cc
   marks_given (b ∷ bytes) marks c is = by (marks_given bytes) (b == newline) refl is
     where
-      by_mark : ((after : List Mark) (d : Certificate) → scan_marks cost linked shifts after bytes ≡ Ok d → MarksLeft cost linked shifts after d bytes) → (m : Option Mark) → mark_of b ≡ m
-          → option_map_or (λ mark. scan_marks cost linked shifts (marks ++ mark ∷ []) bytes) m (Err (b ∷ bytes)) ≡ Ok c → MarksLeft cost linked shifts marks c (b ∷ bytes)
+      by_mark : ((after : List Mark) (d : Certificate) → scan_marks cost by_arcs shifts after bytes ≡ Ok d → MarksLeft cost by_arcs shifts after d bytes) → (m : Option Mark) → mark_of b ≡ m
+          → option_map_or (λ mark. scan_marks cost by_arcs shifts (marks ++ mark ∷ []) bytes) m (Err (b ∷ bytes)) ≡ Ok c → MarksLeft cost by_arcs shifts marks c (b ∷ bytes)
       by_mark each None none is = cc
       by_mark each (Some mark) found is =
           let left = each (marks ++ mark ∷ []) c is in
           record {
             more = mark ∷ left.more;
-            whole = left.whole ∙ ap (certificate cost linked shifts) (append_assoc marks (mark ∷ []) left.more);
+            whole = left.whole ∙ ap (certificate cost by_arcs shifts) (append_assoc marks (mark ∷ []) left.more);
             text = λ i. mark_letter b mark found i ∷ left.text i;
           }
 
-      by : ((after : List Mark) (d : Certificate) → scan_marks cost linked shifts after bytes ≡ Ok d → MarksLeft cost linked shifts after d bytes) → (t : Bool) → (b == newline) ≡ t
-          → cond t (at_end (certificate cost linked shifts marks) bytes) (option_map_or (λ mark. scan_marks cost linked shifts (marks ++ mark ∷ []) bytes) (mark_of b) (Err (b ∷ bytes))) ≡ Ok c → MarksLeft cost linked shifts marks c (b ∷ bytes)
+      by : ((after : List Mark) (d : Certificate) → scan_marks cost by_arcs shifts after bytes ≡ Ok d → MarksLeft cost by_arcs shifts after d bytes) → (t : Bool) → (b == newline) ≡ t
+          → cond t (at_end (certificate cost by_arcs shifts marks) bytes) (option_map_or (λ mark. scan_marks cost by_arcs shifts (marks ++ mark ∷ []) bytes) (mark_of b) (Err (b ∷ bytes))) ≡ Ok c → MarksLeft cost by_arcs shifts marks c (b ∷ bytes)
       by each true same is =
-          let ended = end_given (certificate cost linked shifts marks) c bytes is in
-          record { more = []; whole = sym ended.0 ∙ ap (certificate cost linked shifts) (sym (append-nil marks)); text = λ i. eqb-true b newline same i ∷ ended.1 i }
+          let ended = end_given (certificate cost by_arcs shifts marks) c bytes is in
+          record { more = []; whole = sym ended.0 ∙ ap (certificate cost by_arcs shifts) (sym (append-nil marks)); text = λ i. eqb-true b newline same i ∷ ended.1 i }
       by each false other is = by_mark each (mark_of b) refl is
 
   -- a state in which reading stops
@@ -81,20 +81,20 @@ module _ (cost : Option ℕ) (linked : Bool) (shifts : List Shift) where
     tail_ : List ℕ
     are : bytes ≡ (map letter more ++ tail_) ++ rest
     begins : (d : List ℕ) × (marks_text more ≡ (map letter more ++ tail_) ++ d)
-    same : (b : ℕ) (tail behind : List ℕ) → rest ≡ b ∷ tail → scan_marks cost linked shifts marks ((map letter more ++ tail_) ++ b ∷ behind) ≡ Err (b ∷ behind)
+    same : (b : ℕ) (tail behind : List ℕ) → rest ≡ b ∷ tail → scan_marks cost by_arcs shifts marks ((map letter more ++ tail_) ++ b ∷ behind) ≡ Err (b ∷ behind)
 
   end_stops : (c : Certificate) (bytes rest : List ℕ) → at_end c bytes ≡ Err rest → bytes ≡ rest
   end_stops c [] rest is = cc
   end_stops c (b ∷ bytes) rest is = cc
 
-  marks_stop : (bytes : List ℕ) (marks : List Mark) (rest : List ℕ) → scan_marks cost linked shifts marks bytes ≡ Err rest → MarksStop marks bytes rest
+  marks_stop : (bytes : List ℕ) (marks : List Mark) (rest : List ℕ) → scan_marks cost by_arcs shifts marks bytes ≡ Err rest → MarksStop marks bytes rest
   marks_stop [] marks rest is =
       let none : [] ≡ rest = cc in
       record { more = []; tail_ = []; are = none; begins = (newline ∷ [], refl); same = λ b tail behind has. absurd (clash b tail (none ∙ has)) }
   marks_stop (b ∷ bytes) marks rest is = by (marks_stop bytes) (b == newline) refl is
     where
-      by_mark : (b == newline) ≡ false → ((after : List Mark) (r : List ℕ) → scan_marks cost linked shifts after bytes ≡ Err r → MarksStop after bytes r) → (m : Option Mark) → mark_of b ≡ m
-          → option_map_or (λ mark. scan_marks cost linked shifts (marks ++ mark ∷ []) bytes) m (Err (b ∷ bytes)) ≡ Err rest → MarksStop marks (b ∷ bytes) rest
+      by_mark : (b == newline) ≡ false → ((after : List Mark) (r : List ℕ) → scan_marks cost by_arcs shifts after bytes ≡ Err r → MarksStop after bytes r) → (m : Option Mark) → mark_of b ≡ m
+          → option_map_or (λ mark. scan_marks cost by_arcs shifts (marks ++ mark ∷ []) bytes) m (Err (b ∷ bytes)) ≡ Err rest → MarksStop marks (b ∷ bytes) rest
       by_mark other each None none is =
           let left : b ∷ bytes ≡ rest = cc in
           record {
@@ -103,9 +103,9 @@ module _ (cost : Option ℕ) (linked : Bool) (shifts : List Shift) where
             are = left;
             begins = (newline ∷ [], refl);
             same = λ c tail behind has.
-                subst (λ d. scan_marks cost linked shifts marks (d ∷ behind) ≡ Err (d ∷ behind)) (heads b c bytes tail (left ∙ has))
-                (ap (λ t. cond t (at_end (certificate cost linked shifts marks) behind) (option_map_or (λ mark. scan_marks cost linked shifts (marks ++ mark ∷ []) behind) (mark_of b) (Err (b ∷ behind)))) other
-                ∙ ap (λ m. option_map_or (λ mark. scan_marks cost linked shifts (marks ++ mark ∷ []) behind) m (Err (b ∷ behind))) none);
+                subst (λ d. scan_marks cost by_arcs shifts marks (d ∷ behind) ≡ Err (d ∷ behind)) (heads b c bytes tail (left ∙ has))
+                (ap (λ t. cond t (at_end (certificate cost by_arcs shifts marks) behind) (option_map_or (λ mark. scan_marks cost by_arcs shifts (marks ++ mark ∷ []) behind) (mark_of b) (Err (b ∷ behind)))) other
+                ∙ ap (λ m. option_map_or (λ mark. scan_marks cost by_arcs shifts (marks ++ mark ∷ []) behind) m (Err (b ∷ behind))) none);
           }
       by_mark other each (Some mark) found is =
           let stop = each (marks ++ mark ∷ []) rest is in
@@ -117,33 +117,33 @@ module _ (cost : Option ℕ) (linked : Bool) (shifts : List Shift) where
             same = λ c tail behind has. one_mark marks mark ((map letter stop.more ++ stop.tail_) ++ c ∷ behind) ∙ stop.same c tail behind has;
           }
 
-      by : ((after : List Mark) (r : List ℕ) → scan_marks cost linked shifts after bytes ≡ Err r → MarksStop after bytes r) → (t : Bool) → (b == newline) ≡ t
-          → cond t (at_end (certificate cost linked shifts marks) bytes) (option_map_or (λ mark. scan_marks cost linked shifts (marks ++ mark ∷ []) bytes) (mark_of b) (Err (b ∷ bytes))) ≡ Err rest → MarksStop marks (b ∷ bytes) rest
+      by : ((after : List Mark) (r : List ℕ) → scan_marks cost by_arcs shifts after bytes ≡ Err r → MarksStop after bytes r) → (t : Bool) → (b == newline) ≡ t
+          → cond t (at_end (certificate cost by_arcs shifts marks) bytes) (option_map_or (λ mark. scan_marks cost by_arcs shifts (marks ++ mark ∷ []) bytes) (mark_of b) (Err (b ∷ bytes))) ≡ Err rest → MarksStop marks (b ∷ bytes) rest
       by each true same is =
           record {
             more = [];
             tail_ = newline ∷ [];
-            are = λ i. eqb-true b newline same i ∷ end_stops (certificate cost linked shifts marks) bytes rest is i;
+            are = λ i. eqb-true b newline same i ∷ end_stops (certificate cost by_arcs shifts marks) bytes rest is i;
             begins = ([], refl);
             same = λ c tail behind has. refl;
           }
       by each false other is = by_mark other each (mark_of b) refl is
 
-  scans_marks : Scans (scan_marks cost linked shifts []) (MarksLeft cost linked shifts [])
+  scans_marks : Scans (scan_marks cost by_arcs shifts []) (MarksLeft cost by_arcs shifts [])
   scans_marks = record {
     given = λ bytes c is. marks_given bytes [] c is;
-    back = λ bytes c h. ap (scan_marks cost linked shifts []) h.text ∙ marks_back h.more [] ∙ ap Ok (sym h.whole);
+    back = λ bytes c h. ap (scan_marks cost by_arcs shifts []) h.text ∙ marks_back h.more [] ∙ ap Ok (sym h.whole);
     stops = λ bytes rest is.
         let stop = marks_stop bytes [] rest is in
         record {
           front = map letter stop.more ++ stop.tail_;
           are = stop.are;
-          c = certificate cost linked shifts stop.more;
+          c = certificate cost by_arcs shifts stop.more;
           more = stop.begins.0;
           begins = record { more = stop.more; whole = refl; text = sym stop.begins.1 };
           same = stop.same;
         };
-    some_c = certificate cost linked shifts [];
+    some_c = certificate cost by_arcs shifts [];
     some_text = marks_text [];
     some = record { more = []; whole = refl; text = refl };
   }
@@ -305,13 +305,13 @@ abbrev First : Texts
 First = BehindWord (newline ∷ []) (EitherByte 99 Least 101 Empty)
 
 abbrev Counted : Bool → ℕ → ℕ → Texts
-Counted linked cost count = BehindShifts (λ shifts. MarksLeft (Some cost) linked shifts []) count []
+Counted by_arcs cost count = BehindShifts (λ shifts. MarksLeft (Some cost) by_arcs shifts []) count []
 
 abbrev Listed : Bool → ℕ → Texts
-Listed linked cost = BehindWord (codes "shifts ") (BehindNumber 1 most_certificate_shifts newline (Counted linked cost))
+Listed by_arcs cost = BehindWord (codes "shifts ") (BehindNumber 1 most_certificate_shifts newline (Counted by_arcs cost))
 
 abbrev Further : Bool → Texts
-Further linked = BehindWord (codes "\ncost ") (BehindNumber 0 most_number newline (Listed linked))
+Further by_arcs = BehindWord (codes "\ncost ") (BehindNumber 0 most_number newline (Listed by_arcs))
 
 abbrev Forms : Texts
 Forms = OneOfThree 49 First 50 (Further false) 51 (Further true)
@@ -326,13 +326,13 @@ scans_first =
     (scans_number 0 most_number newline (omega arith) (omega arith) (omega arith) refl (λ cost. scan_marks (Some cost) false [] []) (λ cost. MarksLeft (Some cost) false [] []) (λ cost low high. scans_marks (Some cost) false [])))
     (scans_word (codes "mpty\n") (scan_marks None false [] []) (MarksLeft None false [] []) (scans_marks None false [])))
 
-scans_further : (linked : Bool) → Scans (scan_further linked) (Further linked)
-scans_further linked =
-    scans_word (codes "\ncost ") (scan_cost (scan_listed linked)) (BehindNumber 0 most_number newline (Listed linked))
-    (scans_number 0 most_number newline (omega arith) (omega arith) (omega arith) refl (scan_listed linked) (Listed linked) (λ cost low high.
-    scans_word (codes "shifts ") (λ rest. after_number (number 1 most_certificate_shifts newline rest) (scan_counted linked cost)) (BehindNumber 1 most_certificate_shifts newline (Counted linked cost))
-    (scans_number 1 most_certificate_shifts newline (omega arith) (omega arith) (omega arith) refl (scan_counted linked cost) (Counted linked cost) (λ count low_ high_.
-    scans_shifts (λ shifts. scan_marks (Some cost) linked shifts []) (λ shifts. MarksLeft (Some cost) linked shifts []) (scans_marks (Some cost) linked) count []))))
+scans_further : (by_arcs : Bool) → Scans (scan_further by_arcs) (Further by_arcs)
+scans_further by_arcs =
+    scans_word (codes "\ncost ") (scan_cost (scan_listed by_arcs)) (BehindNumber 0 most_number newline (Listed by_arcs))
+    (scans_number 0 most_number newline (omega arith) (omega arith) (omega arith) refl (scan_listed by_arcs) (Listed by_arcs) (λ cost low high.
+    scans_word (codes "shifts ") (λ rest. after_number (number 1 most_certificate_shifts newline rest) (scan_counted by_arcs cost)) (BehindNumber 1 most_certificate_shifts newline (Counted by_arcs cost))
+    (scans_number 1 most_certificate_shifts newline (omega arith) (omega arith) (omega arith) refl (scan_counted by_arcs cost) (Counted by_arcs cost) (λ count low_ high_.
+    scans_shifts (λ shifts. scan_marks (Some cost) by_arcs shifts []) (λ shifts. MarksLeft (Some cost) by_arcs shifts []) (scans_marks (Some cost) by_arcs) count []))))
 
 scans_parts : Scans scan Whole
 scans_parts =
@@ -349,13 +349,13 @@ count_line shifts rest = simp append_assoc
 
 -- the number of a further form
 abbrev form_number : Bool → ℕ
-form_number linked = if linked then 51 else 50
+form_number by_arcs = if by_arcs then 51 else 50
 
 -- what stands behind the number of a further form
 abbrev further_text : ℕ → ℕ → List ℕ → List ℕ
 further_text cost count rest = codes "\ncost " ++ (decimal cost ++ (newline ∷ (codes "shifts " ++ (decimal count ++ (newline ∷ rest)))))
 
-heading_is : (linked : Bool) (rest : List ℕ) → heading linked ++ rest ≡ codes "viaduct-cert " ++ (form_number linked ∷ (newline ∷ rest))
+heading_is : (by_arcs : Bool) (rest : List ℕ) → heading by_arcs ++ rest ≡ codes "viaduct-cert " ++ (form_number by_arcs ∷ (newline ∷ rest))
 heading_is true rest = refl
 heading_is false rest = refl
 
@@ -363,13 +363,13 @@ module _ (marks : List Mark) where
   least_text : (cost : ℕ) → text_of (certificate (Some cost) false [] marks) ≡ codes "viaduct-cert 1\ncost " ++ (decimal cost ++ (newline ∷ marks_text marks))
   least_text cost = ap (λ x. codes "viaduct-cert 1\n" ++ x) (cost_line cost (marks_text marks))
 
-  listed_text : (linked : Bool) (cost : ℕ) (shift : Shift) (shifts : List Shift) → text_of (certificate (Some cost) linked (shift ∷ shifts) marks)
-      ≡ codes "viaduct-cert " ++ (form_number linked ∷ further_text cost (length (shift ∷ shifts)) (flat_map shift_text (shift ∷ shifts) ++ marks_text marks))
-  listed_text linked cost shift shifts =
-      append_assoc (heading linked ++ cost_text cost) (shifts_text (shift ∷ shifts)) (marks_text marks)
-      ∙ append_assoc (heading linked) (cost_text cost) (shifts_text (shift ∷ shifts) ++ marks_text marks)
-      ∙ heading_is linked (cost_text cost ++ (shifts_text (shift ∷ shifts) ++ marks_text marks))
-      ∙ ap (λ x. codes "viaduct-cert " ++ (form_number linked ∷ (newline ∷ x)))
+  listed_text : (by_arcs : Bool) (cost : ℕ) (shift : Shift) (shifts : List Shift) → text_of (certificate (Some cost) by_arcs (shift ∷ shifts) marks)
+      ≡ codes "viaduct-cert " ++ (form_number by_arcs ∷ further_text cost (length (shift ∷ shifts)) (flat_map shift_text (shift ∷ shifts) ++ marks_text marks))
+  listed_text by_arcs cost shift shifts =
+      append_assoc (heading by_arcs ++ cost_text cost) (shifts_text (shift ∷ shifts)) (marks_text marks)
+      ∙ append_assoc (heading by_arcs) (cost_text cost) (shifts_text (shift ∷ shifts) ++ marks_text marks)
+      ∙ heading_is by_arcs (cost_text cost ++ (shifts_text (shift ∷ shifts) ++ marks_text marks))
+      ∙ ap (λ x. codes "viaduct-cert " ++ (form_number by_arcs ∷ (newline ∷ x)))
       (cost_line cost (shifts_text (shift ∷ shifts) ++ marks_text marks)
       ∙ ap (λ x. codes "cost " ++ (decimal cost ++ (newline ∷ x))) (count_line (shift ∷ shifts) (marks_text marks)))
 
@@ -390,20 +390,20 @@ of_least c cost bytes fits h = subst (λ d. IsTextOf d (codes "viaduct-cert 1\nc
   text = ap (λ x. codes "viaduct-cert 1\ncost " ++ (decimal cost ++ (newline ∷ x))) h.text ∙ sym (least_text h.more cost);
 })
 
-of_listed : (linked : Bool) (c : Certificate) (cost count : ℕ) (bytes : List ℕ) → cost ≤ most_number → 1 ≤ count → count ≤ most_certificate_shifts → Counted linked cost count c bytes
-    → IsTextOf c (codes "viaduct-cert " ++ (form_number linked ∷ further_text cost count bytes))
-of_listed linked c cost count bytes fits some few h = by h.list h.count h.all h.text h.holds
+of_listed : (by_arcs : Bool) (c : Certificate) (cost count : ℕ) (bytes : List ℕ) → cost ≤ most_number → 1 ≤ count → count ≤ most_certificate_shifts → Counted by_arcs cost count c bytes
+    → IsTextOf c (codes "viaduct-cert " ++ (form_number by_arcs ∷ further_text cost count bytes))
+of_listed by_arcs c cost count bytes fits some few h = by h.list h.count h.all h.text h.holds
   where
-    by : (list : List Shift) → length list ≡ count → AllByRecursion IsShift list → bytes ≡ flat_map shift_text list ++ h.rest → MarksLeft (Some cost) linked list [] c h.rest
-        → IsTextOf c (codes "viaduct-cert " ++ (form_number linked ∷ further_text cost count bytes))
+    by : (list : List Shift) → length list ≡ count → AllByRecursion IsShift list → bytes ≡ flat_map shift_text list ++ h.rest → MarksLeft (Some cost) by_arcs list [] c h.rest
+        → IsTextOf c (codes "viaduct-cert " ++ (form_number by_arcs ∷ further_text cost count bytes))
     by [] is all text marks = absurd (omega arith)
     by (shift ∷ list) is all text marks =
-        subst (λ d. IsTextOf d (codes "viaduct-cert " ++ (form_number linked ∷ further_text cost count bytes))) (sym marks.whole) (record {
+        subst (λ d. IsTextOf d (codes "viaduct-cert " ++ (form_number by_arcs ∷ further_text cost count bytes))) (sym marks.whole) (record {
           is = record { cost = fits; few = omega arith; shifts = all; none = λ e. absurd (some_none cost e); some = λ e. omega arith };
           text =
-              (λ i. codes "viaduct-cert " ++ (form_number linked ∷ further_text cost (sym is i) (text i)))
-              ∙ ap (λ x. codes "viaduct-cert " ++ (form_number linked ∷ further_text cost (length (shift ∷ list)) (flat_map shift_text (shift ∷ list) ++ x))) marks.text
-              ∙ sym (listed_text marks.more linked cost shift list);
+              (λ i. codes "viaduct-cert " ++ (form_number by_arcs ∷ further_text cost (sym is i) (text i)))
+              ∙ ap (λ x. codes "viaduct-cert " ++ (form_number by_arcs ∷ further_text cost (length (shift ∷ list)) (flat_map shift_text (shift ∷ list) ++ x))) marks.text
+              ∙ sym (listed_text marks.more by_arcs cost shift list);
         })
 
 whole_text : (c : Certificate) (bytes : List ℕ) → Whole c bytes → IsTextOf c bytes
@@ -418,13 +418,13 @@ whole_text c bytes h = by h.holds
         subst (IsTextOf c) (sym (h.text ∙ ap (λ x. codes "viaduct-cert " ++ x) (f.text ∙ ap (λ x. 49 ∷ x) (f.holds.text ∙ ap (λ x. newline ∷ x) (e.text ∙ ap (λ x. 101 ∷ x) e.holds.text)))))
         (of_empty c e.holds.rest e.holds.holds)
 
-    further : (linked : Bool) → BehindByte (form_number linked) (Further linked) c h.rest → IsTextOf c bytes
-    further linked t =
+    further : (by_arcs : Bool) → BehindByte (form_number by_arcs) (Further by_arcs) c h.rest → IsTextOf c bytes
+    further by_arcs t =
         let cost = t.holds.holds in
         let count = cost.holds.holds in
         subst (IsTextOf c)
-        (sym (h.text ∙ ap (λ x. codes "viaduct-cert " ++ x) (t.text ∙ ap (λ x. form_number linked ∷ x) (t.holds.text ∙ ap (λ x. codes "\ncost " ++ x) (cost.text ∙ ap (λ x. decimal cost.n ++ (newline ∷ x)) (cost.holds.text ∙ ap (λ x. codes "shifts " ++ x) count.text))))))
-        (of_listed linked c cost.n count.n count.rest cost.to_most count.from_least count.to_most count.holds)
+        (sym (h.text ∙ ap (λ x. codes "viaduct-cert " ++ x) (t.text ∙ ap (λ x. form_number by_arcs ∷ x) (t.holds.text ∙ ap (λ x. codes "\ncost " ++ x) (cost.text ∙ ap (λ x. decimal cost.n ++ (newline ∷ x)) (cost.holds.text ∙ ap (λ x. codes "shifts " ++ x) count.text))))))
+        (of_listed by_arcs c cost.n count.n count.rest cost.to_most count.from_least count.to_most count.holds)
 
     by : Forms c h.rest → IsTextOf c bytes
     by (inl f) = first f f.holds.holds
@@ -433,9 +433,9 @@ whole_text c bytes h = by h.holds
 
 -- ---- and back
 
-further_parts : (linked : Bool) (c : Certificate) (cost : ℕ) (shift : Shift) (shifts : List Shift) → cost ≤ most_number → length (shift ∷ shifts) ≤ most_certificate_shifts → AllByRecursion IsShift (shift ∷ shifts)
-    → c ≡ certificate (Some cost) linked (shift ∷ shifts) c.marks → BehindByte (form_number linked) (Further linked) c (form_number linked ∷ further_text cost (length (shift ∷ shifts)) (flat_map shift_text (shift ∷ shifts) ++ marks_text c.marks))
-further_parts linked c cost shift shifts fits few all whole = record {
+further_parts : (by_arcs : Bool) (c : Certificate) (cost : ℕ) (shift : Shift) (shifts : List Shift) → cost ≤ most_number → length (shift ∷ shifts) ≤ most_certificate_shifts → AllByRecursion IsShift (shift ∷ shifts)
+    → c ≡ certificate (Some cost) by_arcs (shift ∷ shifts) c.marks → BehindByte (form_number by_arcs) (Further by_arcs) c (form_number by_arcs ∷ further_text cost (length (shift ∷ shifts)) (flat_map shift_text (shift ∷ shifts) ++ marks_text c.marks))
+further_parts by_arcs c cost shift shifts fits few all whole = record {
   rest = _;
   text = refl;
   holds = record {
@@ -467,11 +467,11 @@ further_parts linked c cost shift shifts fits few all whole = record {
 }
 
 text_whole : (c : Certificate) (bytes : List ℕ) → IsTextOf c bytes → Whole c bytes
-text_whole c bytes t = by c.cost c.linked c.shifts t.is.cost t.is.few t.is.shifts t.is.none t.is.some t.text refl
+text_whole c bytes t = by c.cost c.by_arcs c.shifts t.is.cost t.is.few t.is.shifts t.is.none t.is.some t.text refl
   where
-    by : (cost : Option ℕ) (linked : Bool) (shifts : List Shift) → CostFits cost → length shifts ≤ most_certificate_shifts → AllByRecursion IsShift shifts → (cost ≡ None → shifts ≡ []) → (linked ≡ true → 1 ≤ length shifts)
-        → bytes ≡ text_of (certificate cost linked shifts c.marks) → c ≡ certificate cost linked shifts c.marks → Whole c bytes
-    by None linked (shift ∷ shifts) fits few all none some text whole = let bad : shift ∷ shifts ≡ [] = none refl in cc
+    by : (cost : Option ℕ) (by_arcs : Bool) (shifts : List Shift) → CostFits cost → length shifts ≤ most_certificate_shifts → AllByRecursion IsShift shifts → (cost ≡ None → shifts ≡ []) → (by_arcs ≡ true → 1 ≤ length shifts)
+        → bytes ≡ text_of (certificate cost by_arcs shifts c.marks) → c ≡ certificate cost by_arcs shifts c.marks → Whole c bytes
+    by None by_arcs (shift ∷ shifts) fits few all none some text whole = let bad : shift ∷ shifts ≡ [] = none refl in cc
     by None true [] fits few all none some text whole = let one = some refl in absurd (omega (arith, one))
     by None false [] fits few all none some text whole =
         record {

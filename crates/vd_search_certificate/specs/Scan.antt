@@ -97,17 +97,17 @@ abbrev pub mark_of : ℕ → Option Mark
 mark_of b = if b == 69 then Some Expanded else if b == 86 then Some Violated else if b == 66 then Some Bounded else if b == 76 then Some Best else None
 
 abbrev pub certificate : Option ℕ → Bool → List Shift → List Mark → Certificate
-certificate cost linked shifts marks = record { cost = cost; linked = linked; shifts = shifts; marks = marks }
+certificate cost by_arcs shifts marks = record { cost = cost; by_arcs = by_arcs; shifts = shifts; marks = marks }
 
 abbrev pub at_end : Certificate → Scanner
 at_end c [] = Ok c
 at_end c (b ∷ bytes) = Err (b ∷ bytes)
 
 abbrev pub scan_marks : Option ℕ → Bool → List Shift → List Mark → Scanner
-scan_marks cost linked shifts marks [] = Err []
-scan_marks cost linked shifts marks (b ∷ bytes) =
-    if b == newline then at_end (certificate cost linked shifts marks) bytes
-    else option_map_or (λ mark. scan_marks cost linked shifts (marks ++ mark ∷ []) bytes) (mark_of b) (Err (b ∷ bytes))
+scan_marks cost by_arcs shifts marks [] = Err []
+scan_marks cost by_arcs shifts marks (b ∷ bytes) =
+    if b == newline then at_end (certificate cost by_arcs shifts marks) bytes
+    else option_map_or (λ mark. scan_marks cost by_arcs shifts (marks ++ mark ∷ []) bytes) (mark_of b) (Err (b ∷ bytes))
 
 -- ---- the whole
 
@@ -124,14 +124,14 @@ abbrev pub scan_first : Scanner
 scan_first bytes = after_word (word (newline ∷ []) bytes) (choice 99 scan_least 101 scan_empty)
 
 abbrev pub scan_counted : Bool → ℕ → ℕ → Scanner
-scan_counted linked cost count = scan_shifts count [] (λ shifts. scan_marks (Some cost) linked shifts [])
+scan_counted by_arcs cost count = scan_shifts count [] (λ shifts. scan_marks (Some cost) by_arcs shifts [])
 
 abbrev pub scan_listed : Bool → ℕ → Scanner
-scan_listed linked cost bytes = after_word (word (codes "shifts ") bytes) (λ rest. after_number (number 1 most_certificate_shifts newline rest) (scan_counted linked cost))
+scan_listed by_arcs cost bytes = after_word (word (codes "shifts ") bytes) (λ rest. after_number (number 1 most_certificate_shifts newline rest) (scan_counted by_arcs cost))
 
 -- the second form and the third
 abbrev pub scan_further : Bool → Scanner
-scan_further linked bytes = after_word (word (codes "\ncost ") bytes) (scan_cost (scan_listed linked))
+scan_further by_arcs bytes = after_word (word (codes "\ncost ") bytes) (scan_cost (scan_listed by_arcs))
 
 abbrev pub scan : Scanner
 scan bytes = after_word (word (codes "viaduct-cert ") bytes) (choice_of_three 49 scan_first 50 (scan_further false) 51 (scan_further true))

@@ -39,18 +39,18 @@ cost_text cost = codes "cost " ++ decimal cost ++ codes "\n"
 abbrev pub shifts_text : List Shift → List ℕ
 shifts_text shifts = codes "shifts " ++ decimal (length shifts) ++ codes "\n" ++ flat_map shift_text shifts
 
--- the form of a certificate with shifts, by whether these name links
+-- the form of a certificate with shifts, by whether these name arcs
 abbrev pub heading : Bool → List ℕ
-heading linked = if linked then codes "viaduct-cert 3\n" else codes "viaduct-cert 2\n"
+heading by_arcs = if by_arcs then codes "viaduct-cert 3\n" else codes "viaduct-cert 2\n"
 
 -- the first form has no shifts
 abbrev pub claim_text : Option ℕ → Bool → List Shift → List ℕ
-claim_text None linked shifts = codes "viaduct-cert 1\nempty\n"
-claim_text (Some cost) linked [] = codes "viaduct-cert 1\n" ++ cost_text cost
-claim_text (Some cost) linked (shift ∷ shifts) = heading linked ++ cost_text cost ++ shifts_text (shift ∷ shifts)
+claim_text None by_arcs shifts = codes "viaduct-cert 1\nempty\n"
+claim_text (Some cost) by_arcs [] = codes "viaduct-cert 1\n" ++ cost_text cost
+claim_text (Some cost) by_arcs (shift ∷ shifts) = heading by_arcs ++ cost_text cost ++ shifts_text (shift ∷ shifts)
 
 abbrev pub text_of : Certificate → List ℕ
-text_of c = claim_text c.cost c.linked c.shifts ++ marks_text c.marks
+text_of c = claim_text c.cost c.by_arcs c.shifts ++ marks_text c.marks
 
 -- the greatest NUM
 abbrev pub most_number : ℕ
@@ -68,13 +68,13 @@ abbrev pub CostFits : Option ℕ → Type 0
 CostFits None = Unit {0}
 CostFits (Some cost) = cost ≤ most_number
 
--- what a certificate keeps: few shifts, none where it says that there is no list, and some where it goes by links
+-- what a certificate keeps: few shifts, none where it says that there is no list, and some where it goes by arcs
 pub record IsCertificate (c : Certificate) : Type 0 where
   pub cost : CostFits c.cost
   pub few : length c.shifts ≤ most_certificate_shifts
   pub shifts : AllByRecursion IsShift c.shifts
   pub none : c.cost ≡ None → c.shifts ≡ []
-  pub some : c.linked ≡ true → 1 ≤ length c.shifts
+  pub some : c.by_arcs ≡ true → 1 ≤ length c.shifts
 
 -- the bytes are the certificate's text
 pub record IsTextOf (c : Certificate) (bytes : List ℕ) : Type 0 where

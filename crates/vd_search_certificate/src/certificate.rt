@@ -19,8 +19,8 @@ pub enum Mark {
 pub struct Certificate {
     /// The stated cost; none where there is no valid list.
     pub cost: Option<u32>,
-    /// Whether the shifts name links, and prefixes are bounded by these.
-    pub linked: bool,
+    /// Whether the shifts name arcs, and prefixes are bounded by these.
+    pub by_arcs: bool,
     /// The shifts under which prefixes are bounded.
     pub shifts: Items<Shift>,
     /// A tree of marks, each before those below it.

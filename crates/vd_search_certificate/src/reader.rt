@@ -68,20 +68,20 @@ fn read_empty(alloc: Global, bytes: &[u8], start: usize) -> Result<Certificate, 
     read_marks(bytes, at, None, false, Items::new(alloc), Items::new(alloc))
 }
 
-/// Behind the number of the second form, or of the third, whose shifts name links.
+/// Behind the number of the second form, or of the third, whose shifts name arcs.
 fn read_further(
     alloc: Global,
     bytes: &[u8],
     start: usize,
-    linked: bool,
+    by_arcs: bool,
 ) -> Result<Certificate, FileFault>
     requires few { length bytes.now ≤ most_certificate_bytes }
     requires start { start ≤ length bytes.now }
-    ensures { Said bytes.now (scan_further linked (drop start bytes.now)) result }
+    ensures { Said bytes.now (scan_further by_arcs (drop start bytes.now)) result }
 {
     let at = read_word(bytes, start, b"\ncost ")?;
     let (cost, at) = read_number(bytes, at, 0, u32::MAX, b'\n')?;
-    read_listed(alloc, bytes, at, linked, cost)
+    read_listed(alloc, bytes, at, by_arcs, cost)
 }
 
 /// The shifts and marks behind a cost.
@@ -89,16 +89,16 @@ fn read_listed(
     alloc: Global,
     bytes: &[u8],
     start: usize,
-    linked: bool,
+    by_arcs: bool,
     cost: u32,
 ) -> Result<Certificate, FileFault>
     requires few { length bytes.now ≤ most_certificate_bytes }
     requires start { start ≤ length bytes.now }
-    ensures { Said bytes.now (scan_listed linked cost (drop start bytes.now)) result }
+    ensures { Said bytes.now (scan_listed by_arcs cost (drop start bytes.now)) result }
 {
     let at = read_word(bytes, start, b"shifts ")?;
     let (count, at) = read_number(bytes, at, 1, CERTIFICATE_SHIFTS, b'\n')?;
-    read_counted(alloc, bytes, at, linked, cost, count)
+    read_counted(alloc, bytes, at, by_arcs, cost, count)
 }
 
 /// So many shifts, and the marks behind them.
@@ -106,13 +106,13 @@ fn read_counted(
     alloc: Global,
     bytes: &[u8],
     start: usize,
-    linked: bool,
+    by_arcs: bool,
     cost: u32,
     count: u32,
 ) -> Result<Certificate, FileFault>
     requires few { length bytes.now ≤ most_certificate_bytes }
     requires start { start ≤ length bytes.now }
-    ensures { Said bytes.now (scan_counted linked cost count (drop start bytes.now)) result }
+    ensures { Said bytes.now (scan_counted by_arcs cost count (drop start bytes.now)) result }
 {
     let mut shifts = Items::new(alloc);
     let mut at = start;
@@ -125,7 +125,7 @@ fn read_counted(
             Err(fault) => return Err(fault),
         }
     }
-    read_marks(bytes, at, Some(cost), linked, shifts, Items::new(alloc))
+    read_marks(bytes, at, Some(cost), by_arcs, shifts, Items::new(alloc))
 }
 
 /// The line of a shift.
@@ -168,13 +168,13 @@ fn read_marks(
     bytes: &[u8],
     start: usize,
     cost: Option<u32>,
-    linked: bool,
+    by_arcs: bool,
     shifts: Items<Shift>,
     marks: Items<Mark>,
 ) -> Result<Certificate, FileFault>
     requires few { length bytes.now ≤ most_certificate_bytes }
     requires start { start ≤ length bytes.now }
-    ensures { Said bytes.now (scan_marks cost linked shifts marks (drop start bytes.now)) result }
+    ensures { Said bytes.now (scan_marks cost by_arcs shifts marks (drop start bytes.now)) result }
 {
     let mut marks = marks;
     for at in start..bytes.len() {
@@ -185,7 +185,7 @@ fn read_marks(
             }
             return Ok(Certificate {
                 cost,
-                linked,
+                by_arcs,
                 shifts,
                 marks,
             });

@@ -20,7 +20,7 @@ pub(crate) fn write_certificate(
     push_claim(
         &mut text,
         certificate.cost,
-        certificate.linked,
+        certificate.by_arcs,
         certificate.shifts.as_slice(),
     )?;
     push_marks(&mut text, certificate.marks.as_slice())?;
@@ -31,14 +31,14 @@ pub(crate) fn write_certificate(
 fn push_claim(
     text: &mut Bytes,
     cost: Option<u32>,
-    linked: bool,
+    by_arcs: bool,
     shifts: &[Shift],
 ) -> Result<(), AllocError>
-    ensures { OnOk result (text.new ≡ text.old ++ claim_text cost linked shifts.now) }
+    ensures { OnOk result (text.new ≡ text.old ++ claim_text cost by_arcs shifts.now) }
 {
     match cost {
         None => text.extend_from_slice(b"viaduct-cert 1\nempty\n"),
-        Some(cost) => push_bounded(text, cost, linked, shifts),
+        Some(cost) => push_bounded(text, cost, by_arcs, shifts),
     }
 }
 
@@ -47,15 +47,15 @@ fn push_claim(
 fn push_bounded(
     text: &mut Bytes,
     cost: u32,
-    linked: bool,
+    by_arcs: bool,
     shifts: &[Shift],
 ) -> Result<(), AllocError>
-    ensures { OnOk result (text.new ≡ text.old ++ claim_text (Some cost) linked shifts.now) }
+    ensures { OnOk result (text.new ≡ text.old ++ claim_text (Some cost) by_arcs shifts.now) }
 {
     if shifts.is_empty() {
         push_first(text, cost)
     } else {
-        push_further(text, cost, linked, shifts)
+        push_further(text, cost, by_arcs, shifts)
     }
 }
 
@@ -67,25 +67,25 @@ fn push_first(text: &mut Bytes, cost: u32) -> Result<(), AllocError>
     push_cost(text, cost)
 }
 
-/// Puts the lines of the second form at the end, or those of the third, whose shifts name links.
+/// Puts the lines of the second form at the end, or those of the third, whose shifts name arcs.
 fn push_further(
     text: &mut Bytes,
     cost: u32,
-    linked: bool,
+    by_arcs: bool,
     shifts: &[Shift],
 ) -> Result<(), AllocError>
-    ensures { OnOk result (text.new ≡ text.old ++ (heading linked ++ cost_text cost ++ shifts_text shifts.now)) }
+    ensures { OnOk result (text.new ≡ text.old ++ (heading by_arcs ++ cost_text cost ++ shifts_text shifts.now)) }
 {
-    push_heading(text, linked)?;
+    push_heading(text, by_arcs)?;
     push_cost(text, cost)?;
     push_shifts(text, shifts)
 }
 
 /// Puts the first line of the second form at the end, or that of the third.
-fn push_heading(text: &mut Bytes, linked: bool) -> Result<(), AllocError>
-    ensures { OnOk result (text.new ≡ text.old ++ heading linked) }
+fn push_heading(text: &mut Bytes, by_arcs: bool) -> Result<(), AllocError>
+    ensures { OnOk result (text.new ≡ text.old ++ heading by_arcs) }
 {
-    if linked {
+    if by_arcs {
         text.extend_from_slice(b"viaduct-cert 3\n")
     } else {
         text.extend_from_slice(b"viaduct-cert 2\n")

@@ -38,7 +38,7 @@ none_bad problem at (shift ∷ shifts) named =
 
 -- the checker answers of the marks, where all shifts name something
 without_bad : (problem : Problem) (stated : Option ℕ) (shifts : List Shift) (marks : List Mark) → first_bad (length problem.uses) (length (protocols problem)) 0 shifts ≡ None
-    → confirmed problem (record { cost = stated; linked = false; shifts = shifts; marks = marks }) ≡ checked (tree_of problem shifts) stated marks
+    → confirmed problem (record { cost = stated; by_arcs = false; shifts = shifts; marks = marks }) ≡ checked (tree_of problem shifts) stated marks
 without_bad problem stated shifts marks none = rw none refl
 
 are_shifts : (problem : Problem) (shifts : List Shift) → AllByRecursion (NamesUse problem) shifts → AllByRecursion IsShift shifts
@@ -97,7 +97,7 @@ module _ (problem : Problem) (is : IsProblem problem) where
 
   pub found_selects : (shifts : List Shift) (budget least : ℕ) (list : List ℕ) (marks : List Mark) → AllByRecursion (NamesUse problem) shifts → length shifts ≤ most_certificate_shifts
       → IsLeast (tree_of problem shifts) list least → IsSound (tree_of problem shifts) (Some least) marks → count_of is_expanded marks ≤ budget
-      → Selects problem budget (Found list least (record { cost = Some least; linked = false; shifts = shifts; marks = marks }))
+      → Selects problem budget (Found list least (record { cost = Some least; by_arcs = false; shifts = shifts; marks = marks }))
   found_selects shifts budget least list marks named few choice sound within = (
     choice_under shifts [] list choice.choice,
     sym (costs shifts list choice.choice.whole) ∙ choice.costs,
@@ -118,7 +118,7 @@ module _ (problem : Problem) (is : IsProblem problem) where
           omega (arith, ints, small, one, two)
 
   pub none_selects : (shifts : List Shift) (budget : ℕ) (marks : List Mark) → IsEmpty (tree_of problem shifts) → IsSound (tree_of problem shifts) None marks → count_of is_expanded marks ≤ budget
-      → Selects problem budget (NoAssignment (record { cost = None; linked = false; shifts = []; marks = marks }))
+      → Selects problem budget (NoAssignment (record { cost = None; by_arcs = false; shifts = []; marks = marks }))
   none_selects shifts budget marks empty sound within = (
     empty_under shifts [] empty,
     record {

@@ -24,10 +24,10 @@ use Rattle.vd_space.specs.Spaces.{IsProblem, tree_of}
 use Rattle.vd_space.specs.Usual.{usual}
 use Rattle.vd_space.specs.Validity.{protocols}
 use Rattle.vd_space.proofs.Bounded.{tree_bounded}
-use Rattle.vd_cost_network.specs.Links.{links}
-use Rattle.vd_cost_network.specs.Linked.{linked_tree}
-use Rattle.vd_cost_network.proofs.Bounded.{linked_tree_bounded}
-use Rattle.vd_cost_network_prefix.specs.declared.made.LinkedTables.{LinkedTables}
+use Rattle.vd_cost_network.specs.Arcs.{arcs}
+use Rattle.vd_cost_network.specs.Network.{network_tree}
+use Rattle.vd_cost_network.proofs.Bounded.{network_tree_bounded}
+use Rattle.vd_cost_network_prefix.specs.declared.made.NetworkTables.{NetworkTables}
 use Rattle.vd_search_stages.specs.Confirming.{Confirms, tree_by}
 use Rattle.vd_search_stages.specs.Naming.{NamesUse}
 use Rattle.vd_search_stages.specs.Selecting.{Selects}
@@ -36,56 +36,56 @@ use Rattle.vd_search_stages.proofs.Accepted.{found_selects, none_selects}
 use Rattle.vd_search_stages.proofs.Named.{usual_named}
 
 -- the answer of the checker on a path that is the problem's, under the shifts of the certificate
-pub confirms : (problem p : Problem) (c : Certificate) (uses : List Use) (tables t : Tables) (result : Result Proved CheckFault) → uses ≡ problem.uses → p ≡ problem → t ≡ tables → tables.shifts ≡ c.shifts → IsFalse c.linked → IsProblem problem
+pub confirms : (problem p : Problem) (c : Certificate) (uses : List Use) (tables t : Tables) (result : Result Proved CheckFault) → uses ≡ problem.uses → p ≡ problem → t ≡ tables → tables.shifts ≡ c.shifts → IsFalse c.by_arcs → IsProblem problem
     → (◌≢◌ {A = Result Proved CheckFault} result (Err check_fault.Memory) → result ≡ certificate_checked (length uses) (tree_of p t.shifts) c)
     → (IsBounded (tree_of p t.shifts) → IfOk result (Proves (tree_of p t.shifts))) → Confirms problem c result
 confirms problem p c uses tables t result same_uses same_problem same_tables same_shifts plain holds exact proved = record {
   exact = λ other.
       exact other ∙ ap (λ (u : List Use). certificate_checked (length u) (tree_of p t.shifts) c) same_uses ∙ ap (λ (q : Problem). certificate_checked (length problem.uses) (tree_of q t.shifts) c) same_problem
       ∙ ap (λ (s : List Shift). certificate_checked (length problem.uses) (tree_of problem s) c) shifts
-      ∙ ap₂ (λ n tree. certificate_checked n tree c) (sym (cond-false c.linked (length (links problem)) (length problem.uses) plain)) (sym by_uses);
+      ∙ ap₂ (λ n tree. certificate_checked n tree c) (sym (cond-false c.by_arcs (length (arcs problem)) (length problem.uses) plain)) (sym by_uses);
   proved = subst (λ (tree : Tree). IfOk result (Proves tree)) (sym by_uses) (subst (λ (s : List Shift). IfOk result (Proves (tree_of problem s))) shifts
       (subst (λ (q : Problem). IfOk result (Proves (tree_of q t.shifts))) same_problem (proved (subst (λ (q : Problem). IsBounded (tree_of q t.shifts)) (sym same_problem) (tree_bounded problem holds t.shifts)))));
 }
   where
     by_uses : tree_by problem c ≡ tree_of problem c.shifts
-    by_uses = cond-false c.linked (linked_tree problem c.shifts) (tree_of problem c.shifts) plain
+    by_uses = cond-false c.by_arcs (network_tree problem c.shifts) (tree_of problem c.shifts) plain
 
     shifts : t.shifts ≡ c.shifts
     shifts = ap (λ (x : Tables). x.shifts) same_tables ∙ same_shifts
 
--- the same where its shifts name links
-pub confirms_by_links : (problem p : Problem) (c : Certificate) (count : ℕ) (tables t : LinkedTables) (result : Result Proved CheckFault) → count ≡ length (links problem) → p ≡ problem → t ≡ tables → tables.shifts ≡ c.shifts → IsTrue c.linked → IsProblem problem
-    → (◌≢◌ {A = Result Proved CheckFault} result (Err check_fault.Memory) → result ≡ certificate_checked count (linked_tree p t.shifts) c)
-    → (IsBounded (linked_tree p t.shifts) → IfOk result (Proves (linked_tree p t.shifts))) → Confirms problem c result
-confirms_by_links problem p c count tables t result same_count same_problem same_tables same_shifts linked holds exact proved = record {
+-- the same where its shifts name arcs
+pub confirms_by_arcs : (problem p : Problem) (c : Certificate) (count : ℕ) (tables t : NetworkTables) (result : Result Proved CheckFault) → count ≡ length (arcs problem) → p ≡ problem → t ≡ tables → tables.shifts ≡ c.shifts → IsTrue c.by_arcs → IsProblem problem
+    → (◌≢◌ {A = Result Proved CheckFault} result (Err check_fault.Memory) → result ≡ certificate_checked count (network_tree p t.shifts) c)
+    → (IsBounded (network_tree p t.shifts) → IfOk result (Proves (network_tree p t.shifts))) → Confirms problem c result
+confirms_by_arcs problem p c count tables t result same_count same_problem same_tables same_shifts by_arcs holds exact proved = record {
   exact = λ other.
-      exact other ∙ ap (λ n. certificate_checked n (linked_tree p t.shifts) c) same_count ∙ ap (λ (q : Problem). certificate_checked (length (links problem)) (linked_tree q t.shifts) c) same_problem
-      ∙ ap (λ (s : List Shift). certificate_checked (length (links problem)) (linked_tree problem s) c) shifts
-      ∙ ap₂ (λ n tree. certificate_checked n tree c) (sym (cond-true c.linked (length (links problem)) (length problem.uses) linked)) (sym by_links);
-  proved = subst (λ (tree : Tree). IfOk result (Proves tree)) (sym by_links) (subst (λ (s : List Shift). IfOk result (Proves (linked_tree problem s))) shifts
-      (subst (λ (q : Problem). IfOk result (Proves (linked_tree q t.shifts))) same_problem (proved (subst (λ (q : Problem). IsBounded (linked_tree q t.shifts)) (sym same_problem) (linked_tree_bounded problem holds t.shifts)))));
+      exact other ∙ ap (λ n. certificate_checked n (network_tree p t.shifts) c) same_count ∙ ap (λ (q : Problem). certificate_checked (length (arcs problem)) (network_tree q t.shifts) c) same_problem
+      ∙ ap (λ (s : List Shift). certificate_checked (length (arcs problem)) (network_tree problem s) c) shifts
+      ∙ ap₂ (λ n tree. certificate_checked n tree c) (sym (cond-true c.by_arcs (length (arcs problem)) (length problem.uses) by_arcs)) (sym with_arcs);
+  proved = subst (λ (tree : Tree). IfOk result (Proves tree)) (sym with_arcs) (subst (λ (s : List Shift). IfOk result (Proves (network_tree problem s))) shifts
+      (subst (λ (q : Problem). IfOk result (Proves (network_tree q t.shifts))) same_problem (proved (subst (λ (q : Problem). IsBounded (network_tree q t.shifts)) (sym same_problem) (network_tree_bounded problem holds t.shifts)))));
 }
   where
     shifts : t.shifts ≡ c.shifts
-    shifts = ap (λ (x : LinkedTables). x.shifts) same_tables ∙ same_shifts
+    shifts = ap (λ (x : NetworkTables). x.shifts) same_tables ∙ same_shifts
 
-    by_links : tree_by problem c ≡ linked_tree problem c.shifts
-    by_links = cond-true c.linked (linked_tree problem c.shifts) (tree_of problem c.shifts) linked
+    with_arcs : tree_by problem c ≡ network_tree problem c.shifts
+    with_arcs = cond-true c.by_arcs (network_tree problem c.shifts) (tree_of problem c.shifts) by_arcs
 
 -- the answer of a search on such a path
 pub found : (problem p : Problem) (tables t : Tables) (budget least : ℕ) (list : List ℕ) (marks : List Mark) (c : Certificate) → p ≡ problem → t ≡ tables → IsProblem problem → AllByRecursion (NamesUse problem) tables.shifts → length tables.shifts ≤ most_certificate_shifts
-    → Answers (tree_of p t.shifts) budget (answer.Found list least marks) → c ≡ record { cost = Some least; linked = false; shifts = tables.shifts; marks = marks } → Selects problem budget (Found list least c)
+    → Answers (tree_of p t.shifts) budget (answer.Found list least marks) → c ≡ record { cost = Some least; by_arcs = false; shifts = tables.shifts; marks = marks } → Selects problem budget (Found list least c)
 found problem p tables t budget least list marks c same_problem same_tables holds named few answers is =
     let a : Answers (tree_of problem tables.shifts) budget (answer.Found list least marks)
     = subst (λ (x : Tables). Answers (tree_of problem x.shifts) budget (answer.Found list least marks)) same_tables (subst (λ (q : Problem). Answers (tree_of q t.shifts) budget (answer.Found list least marks)) same_problem answers) in
     subst (λ (k : Certificate). Selects problem budget (Found list least k)) (sym is) (found_selects problem holds tables.shifts budget least list marks named few a.0 a.1 a.2)
 
 pub empty : (problem p : Problem) (t : Tables) (budget : ℕ) (shifts : List Shift) (marks : List Mark) → p ≡ problem → shifts ≡ [] → IsProblem problem → Answers (tree_of p t.shifts) budget (answer.Empty marks)
-    → Selects problem budget (NoAssignment (record { cost = None; linked = false; shifts = shifts; marks = marks }))
+    → Selects problem budget (NoAssignment (record { cost = None; by_arcs = false; shifts = shifts; marks = marks }))
 empty problem p t budget shifts marks same_problem none holds answers =
     let a : Answers (tree_of problem t.shifts) budget (answer.Empty marks) = subst (λ (q : Problem). Answers (tree_of q t.shifts) budget (answer.Empty marks)) same_problem answers in
-    subst (λ (s : List Shift). Selects problem budget (NoAssignment (record { cost = None; linked = false; shifts = s; marks = marks }))) (sym none) (none_selects problem holds t.shifts budget marks a.0 a.1 a.2)
+    subst (λ (s : List Shift). Selects problem budget (NoAssignment (record { cost = None; by_arcs = false; shifts = s; marks = marks }))) (sym none) (none_selects problem holds t.shifts budget marks a.0 a.1 a.2)
 
 -- the tables of the usual shifts
 pub tables_named : {E : Type 0} (problem : Problem) (shifts : List Shift) (result : Result Tables E) → shifts ≡ usual problem → AllByRecursion (λ (shift : Shift). shift.amount < 4294967296) shifts → IsWithinLimits problem

@@ -3,7 +3,7 @@ pub mod Once
 pub mod Accepted
 mod Named
 mod Answered
-mod ByLinks
+mod ByArcs
 mod Floors
 mod Untied
 mod Passed

@@ -8,21 +8,21 @@ use Rattle.vd_bound.specs.declared.checking.CheckFault.TheVariants.{Memory}
 use Rattle.vd_bound.specs.declared.checking.Proved.{Proved}
 use Rattle.vd_bound.specs.Checking.{Proves}
 use Rattle.vd_bound.specs.Shifts.{certificate_checked}
-use Rattle.vd_cost_network.specs.Links.{links}
-use Rattle.vd_cost_network.specs.Linked.{linked_tree}
-use Rattle.vd_cost_network_prefix.specs.declared.made.LinkedTables.{LinkedTables}
-use Rattle.vd_cost_network_prefix.specs.Tables.{AreLinkedTables}
+use Rattle.vd_cost_network.specs.Arcs.{arcs}
+use Rattle.vd_cost_network.specs.Network.{network_tree}
+use Rattle.vd_cost_network_prefix.specs.declared.made.NetworkTables.{NetworkTables}
+use Rattle.vd_cost_network_prefix.specs.Tables.{AreNetworkTables}
 use Rattle.vd_space_prefix.specs.declared.tables.Tables.{Tables}
 use Rattle.vd_space_prefix.specs.Tables.{AreTables}
 use Rattle.vd_space.specs.declared.problem.Problem.{Problem}
 use Rattle.vd_space.specs.Spaces.{tree_of}
 
--- the bounds are those under the shifts that the certificate has, which name uses, or by its form links
+-- the bounds are those under the shifts that the certificate has, which name uses, or by its form arcs
 abbrev pub tree_by : Problem → Certificate → Tree
-tree_by problem c = if c.linked then linked_tree problem c.shifts else tree_of problem c.shifts
+tree_by problem c = if c.by_arcs then network_tree problem c.shifts else tree_of problem c.shifts
 
 abbrev pub names_by : Problem → Certificate → ℕ
-names_by problem c = if c.linked then length (links problem) else length problem.uses
+names_by problem c = if c.by_arcs then length (arcs problem) else length problem.uses
 
 abbrev pub confirmed : Problem → Certificate → Result Proved CheckFault
 confirmed problem c = certificate_checked (names_by problem c) (tree_by problem c) c
@@ -43,12 +43,12 @@ pub record IsSmallCertificate (c : Certificate) : Type 0 where
 pub record AreTablesFor (problem : Problem) (tables : Tables) (c : Certificate) : Type 0 where
   pub tabled : AreTables problem tables
   pub shifts : tables.shifts ≡ c.shifts
-  pub by_uses : IsFalse c.linked
+  pub by_uses : IsFalse c.by_arcs
 
--- the tables without shifts, and those of the certificate's shifts, which name links
-pub record AreLinkedTablesFor (problem : Problem) (tables : Tables) (linked : LinkedTables) (c : Certificate) : Type 0 where
+-- the tables without shifts, and those of the certificate's shifts, which name arcs
+pub record AreNetworkTablesFor (problem : Problem) (tables : Tables) (by_arcs : NetworkTables) (c : Certificate) : Type 0 where
   pub tabled : AreTables problem tables
   pub plain : tables.shifts ≡ []
-  pub link_tabled : AreLinkedTables problem linked
-  pub shifts : linked.shifts ≡ c.shifts
-  pub by_links : IsTrue c.linked
+  pub arc_tabled : AreNetworkTables problem by_arcs
+  pub shifts : by_arcs.shifts ≡ c.shifts
+  pub with_arcs : IsTrue c.by_arcs

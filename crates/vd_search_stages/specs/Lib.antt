@@ -3,5 +3,5 @@ pub mod Confirming
 pub mod Selecting
 pub mod Naming
 pub mod Stages
-pub mod Linking
+pub mod Network
 pub mod Spending

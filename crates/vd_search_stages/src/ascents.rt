@@ -2,11 +2,11 @@
 
 ghost use Rattle.std.specs.Prelude.{◌≡◌, ℕ, Option, List, ◌≤◌, IfOk, IfSome, length, option_map};
 ghost use Rattle.std.specs.List.{All};
-ghost use Rattle.vd_cost_network_shifts.specs.Shifts.{AreLinkShifts};
-ghost use Rattle.vd_cost_network_prefix.specs.Tables.{AreLinkedTables};
+ghost use Rattle.vd_cost_network_shifts.specs.Shifts.{AreArcShifts};
+ghost use Rattle.vd_cost_network_prefix.specs.Tables.{AreNetworkTables};
 ghost use Rattle.vd_space_ascent.specs.Shifts.{AreUseShifts};
 ghost use Rattle.vd_search_tree.specs.declared.shift.Shift.{Shift as Shifts};
-ghost use Rattle.vd_search_stages.specs.Linking.{IsBeyond};
+ghost use Rattle.vd_search_stages.specs.Network.{IsBeyond};
 ghost use Rattle.vd_space.specs.Labelled.{IsLabelled};
 ghost use Rattle.vd_space.specs.Sizes.{IsWithinLimits};
 ghost use Rattle.vd_space.specs.declared.problem.Problem.{Problem as Problems};
@@ -15,14 +15,14 @@ use crate::passing::walked;
 use std::alloc::{AllocError, Global};
 use vd_base_lists::Items;
 use vd_cost_network_ascent::Ascent;
-use vd_cost_network_prefix::{LinkedPath, LinkedTables};
+use vd_cost_network_prefix::{NetworkPath, NetworkTables};
 use vd_search_tree::Shift;
 use vd_space::Problem;
 use vd_space_ascent::plain_shifts;
 
-/// An ascent over the links of a problem, and the shifts that it came to.
+/// An ascent over the arcs of a problem, and the shifts that it came to.
 #[derive(Drop)]
-pub struct LinkAscent {
+pub struct ArcAscent {
     pub ascent: Ascent,
     pub shifts: Items<Shift>,
 }
@@ -33,8 +33,8 @@ pub trait Ascents {
     /// Over the uses of a problem it comes to these shifts, or to none.
     ghost uses_give: { Self → Problems → Option (List Shifts) → Type 0 };
 
-    /// Over the links of a problem it comes to these shifts, or to none.
-    ghost links_give: { Self → Problems → Option (List Shifts) → Type 0 };
+    /// Over the arcs of a problem it comes to these shifts, or to none.
+    ghost arcs_give: { Self → Problems → Option (List Shifts) → Type 0 };
 
     /// A walk to lists that cost at most so much passes over these prefixes, or comes to no whole list.
     ghost walks_give: { Self → Problems → ℕ → Option (List (List ℕ)) → Type 0 };
@@ -50,43 +50,43 @@ pub trait Ascents {
         ensures gives { IfOk result (uses_give self.now problem.now) }
         ensures shifts { IfOk result (λ found. IfSome found (AreUseShifts problem.now)) };
 
-    /// The shifts of links, by the tables without shifts. An answer has at least one.
-    fn over_links(
+    /// The shifts of arcs, by the tables without shifts. An answer has at least one.
+    fn over_arcs(
         &self,
         alloc: Global,
         problem: &Problem,
-        without: &LinkedTables,
-    ) -> Result<Option<LinkAscent>, AllocError>
-        requires { AreLinkedTables problem.now without.now }
-        ensures gives { IfOk result (λ found. links_give self.now problem.now (option_map (λ a. a.shifts) found)) }
-        ensures shifts { IfOk result (λ found. IfSome found (λ a. AreLinkShifts problem.now a.shifts)) }
+        without: &NetworkTables,
+    ) -> Result<Option<ArcAscent>, AllocError>
+        requires { AreNetworkTables problem.now without.now }
+        ensures gives { IfOk result (λ found. arcs_give self.now problem.now (option_map (λ a. a.shifts) found)) }
+        ensures shifts { IfOk result (λ found. IfSome found (λ a. AreArcShifts problem.now a.shifts)) }
         ensures some { IfOk result (λ found. IfSome found (λ a. 1 ≤ length a.shifts)) };
 
-    /// The prefixes that a walk to lists that cost at most so much passes over, behind an ascent over links and from the empty
+    /// The prefixes that a walk to lists that cost at most so much passes over, behind an ascent over arcs and from the empty
     /// prefix on; none where it comes to no whole list. Each list that one of them begins costs more.
     fn over_prefixes(
         &self,
         alloc: Global,
         problem: &Problem,
-        without: &LinkedTables,
-        path: LinkedPath,
+        without: &NetworkTables,
+        path: NetworkPath,
         ascent: Ascent,
         most: u32,
     ) -> Result<Option<Items<Items<u32>>>, AllocError>
-        requires without { AreLinkedTables problem.now without.now }
+        requires without { AreNetworkTables problem.now without.now }
         requires path { path.problem.now ≡ problem.now }
         ensures gives { IfOk result (walks_give self.now problem.now most) }
         ensures beyond { IfOk result (λ found. IfSome found (All (IsBeyond problem.now most))) };
 }
 
-/// Ascents by sweeps over all uses and over all links.
+/// Ascents by sweeps over all uses and over all arcs.
 #[derive(Clone, Copy, PartialEq, Eq, Debug)]
 pub struct Sweeps;
 
 impl Ascents for Sweeps {
     ghost uses_give = { λ sweeps problem found. IfSome found (AreUseShifts problem) };
 
-    ghost links_give = { λ sweeps problem found. IfSome found (AreLinkShifts problem) };
+    ghost arcs_give = { λ sweeps problem found. IfSome found (AreArcShifts problem) };
 
     ghost walks_give = { λ sweeps problem most found. IfSome found (All (IsBeyond problem most)) };
 
@@ -98,12 +98,12 @@ impl Ascents for Sweeps {
         plain_shifts(alloc, problem)
     }
 
-    fn over_links(
+    fn over_arcs(
         &self,
         alloc: Global,
         problem: &Problem,
-        without: &LinkedTables,
-    ) -> Result<Option<LinkAscent>, AllocError> {
+        without: &NetworkTables,
+    ) -> Result<Option<ArcAscent>, AllocError> {
         let Some(ascent) = Ascent::of(alloc, problem, without)? else {
             return Ok(None);
         };
@@ -113,15 +113,15 @@ impl Ascents for Sweeps {
         if shifts.as_slice().len() == 0 {
             return Ok(None);
         }
-        Ok(Some(LinkAscent { ascent, shifts }))
+        Ok(Some(ArcAscent { ascent, shifts }))
     }
 
     fn over_prefixes(
         &self,
         alloc: Global,
         problem: &Problem,
-        without: &LinkedTables,
-        path: LinkedPath,
+        without: &NetworkTables,
+        path: NetworkPath,
         ascent: Ascent,
         most: u32,
     ) -> Result<Option<Items<Items<u32>>>, AllocError> {

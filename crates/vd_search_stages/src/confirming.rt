@@ -1,15 +1,15 @@
 //! The check of a certificate for a problem.
 
 ghost use Rattle.std.specs.Prelude.{◌<◌, length};
-ghost use Rattle.vd_cost_network.specs.Links.{links};
-ghost use Rattle.vd_search_stages.specs.Confirming.{AreLinkedTablesFor, AreTablesFor, Confirms, IsSmallCertificate};
+ghost use Rattle.vd_cost_network.specs.Arcs.{arcs};
+ghost use Rattle.vd_search_stages.specs.Confirming.{AreNetworkTablesFor, AreTablesFor, Confirms, IsSmallCertificate};
 ghost use Rattle.vd_space.specs.WellFormed.{IsWellFormed};
 
 use std::alloc::Global;
 use vd_base_lists::Items;
 use vd_bound::{CheckFault, Proved, check};
-use vd_cost_network_prefix::{LinkedPath, LinkedTables};
-use vd_cost_network_tables::linked_tables;
+use vd_cost_network_prefix::{NetworkPath, NetworkTables};
+use vd_cost_network_tables::network_tables;
 use vd_search_certificate::Certificate;
 use vd_space::Problem;
 use vd_space_prefix::{Path, Tables};
@@ -32,22 +32,22 @@ fn confirm_by(
     check(alloc, &mut path, uses, certificate)
 }
 
-/// The same of one whose shifts name links, by the tables without shifts and those of links.
-fn confirm_by_links(
+/// The same of one whose shifts name arcs, by the tables without shifts and those of arcs.
+fn confirm_by_arcs(
     alloc: Global,
     problem: &Problem,
     tables: &Tables,
-    linked: &LinkedTables,
+    by_arcs: &NetworkTables,
     certificate: &Certificate,
 ) -> Result<Proved, CheckFault>
-    requires tables { AreLinkedTablesFor problem.now tables.now linked.now certificate.now }
+    requires tables { AreNetworkTablesFor problem.now tables.now by_arcs.now certificate.now }
     requires small { IsSmallCertificate certificate.now }
-    requires few_links { length (links problem.now) < 4294967296 }
+    requires few_arcs { length (arcs problem.now) < 4294967296 }
     ensures { Confirms problem.now certificate.now result }
 {
-    let mut path = LinkedPath::new(alloc, problem, tables, linked)?;
-    let links = linked.links.as_slice().len() as u32;
-    check(alloc, &mut path, links, certificate)
+    let mut path = NetworkPath::new(alloc, problem, tables, by_arcs)?;
+    let arcs = by_arcs.arcs.as_slice().len() as u32;
+    check(alloc, &mut path, arcs, certificate)
 }
 
 /// What a certificate shows of a problem, or its first fault.
@@ -58,14 +58,14 @@ pub fn confirm(
 ) -> Result<Proved, CheckFault>
     requires well_formed { IsWellFormed problem.now }
     requires small { IsSmallCertificate certificate.now }
-    requires few_links { length (links problem.now) < 4294967296 }
+    requires few_arcs { length (arcs problem.now) < 4294967296 }
     ensures { Confirms problem.now certificate.now result }
 {
     let shifts = Items::from_slice(alloc, certificate.shifts.as_slice())?;
-    if certificate.linked {
+    if certificate.by_arcs {
         let plain = tables(alloc, problem, Items::new(alloc))?;
-        let linked = linked_tables(alloc, problem, shifts)?;
-        return confirm_by_links(alloc, problem, &plain, &linked, certificate);
+        let by_arcs = network_tables(alloc, problem, shifts)?;
+        return confirm_by_arcs(alloc, problem, &plain, &by_arcs, certificate);
     }
     let tables = tables(alloc, problem, shifts)?;
     confirm_by(alloc, problem, &tables, certificate)

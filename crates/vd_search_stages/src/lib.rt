@@ -4,14 +4,14 @@
 mod ascents;
 mod confirming;
 mod laws;
-mod linking;
+mod network;
 mod passing;
 mod selecting;
 mod stages;
 mod trying;
 mod walking;
 
-pub use ascents::{Ascents, LinkAscent, Sweeps};
+pub use ascents::{ArcAscent, Ascents, Sweeps};
 pub use confirming::confirm;
 pub use laws::problems_have_one_choice;
 pub use selecting::{SelectFault, Selection};

@@ -1,18 +1,18 @@
-//! The prefixes over which a search by links may pass, found by a walk.
+//! The prefixes over which a search by arcs may pass, found by a walk.
 
 ghost use Rattle.std.specs.Prelude.{◌≡◌, ◌==◌, IfOk, IfSome, is_some, length, nat_lt, true};
 ghost use Rattle.std.specs.List.{All, list_all};
 ghost use Rattle.vd_cost_network_ascent.specs.Walking.{made};
-ghost use Rattle.vd_cost_network_shifts.specs.Shifts.{AreLinkShifts};
+ghost use Rattle.vd_cost_network_shifts.specs.Shifts.{AreArcShifts};
 ghost use Rattle.vd_cost_network_bound.specs.Bounds.{IsBoundOf};
-ghost use Rattle.vd_cost_network_prefix.specs.Tables.{AreLinkedTables};
-ghost use Rattle.vd_search_stages.specs.Linking.{IsBeyond};
+ghost use Rattle.vd_cost_network_prefix.specs.Tables.{AreNetworkTables};
+ghost use Rattle.vd_search_stages.specs.Network.{IsBeyond};
 
 use std::alloc::{AllocError, Global};
 use vd_base_lists::Items;
 use vd_cost_network_ascent::{Ascent, Refutation, Walk};
-use vd_cost_network_bound::LinkedBound;
-use vd_cost_network_prefix::{LinkedPath, LinkedTables};
+use vd_cost_network_bound::NetworkBound;
+use vd_cost_network_prefix::{NetworkPath, NetworkTables};
 use vd_search_tree::Shift;
 use vd_space::Problem;
 
@@ -31,17 +31,17 @@ fn are_among(choices: &[u32], count: usize) -> bool
     true
 }
 
-/// Whether by the bound under these shifts of links each list that begins so costs more than that.
+/// Whether by the bound under these shifts of arcs each list that begins so costs more than that.
 fn is_beyond(
     alloc: Global,
     problem: &Problem,
-    bound: &LinkedBound,
+    bound: &NetworkBound,
     shifts: &[Shift],
     prefix: &[u32],
     most: u32,
 ) -> Result<bool, AllocError>
     requires bound { IsBoundOf problem.now bound.now }
-    requires shifts { AreLinkShifts problem.now shifts.now }
+    requires shifts { AreArcShifts problem.now shifts.now }
     ensures { IfOk result (λ beyond. beyond ≡ true → IsBeyond problem.now most prefix.now) }
 {
     if !are_among(prefix, bound.list.as_slice().len()) {
@@ -55,13 +55,13 @@ fn is_beyond(
 fn pass_over(
     alloc: Global,
     problem: &Problem,
-    bound: &LinkedBound,
+    bound: &NetworkBound,
     found: Refutation,
     most: u32,
     passed: &mut Items<Items<u32>>,
 ) -> Result<(), AllocError>
     requires bound { IsBoundOf problem.now bound.now }
-    requires shifts { AreLinkShifts problem.now found.shifts }
+    requires shifts { AreArcShifts problem.now found.shifts }
     requires passed { All (IsBeyond problem.now most) passed.old }
     ensures { IfOk result (λ _. All (IsBeyond problem.now most) passed.new) }
 {
@@ -77,7 +77,7 @@ fn pass_over(
 fn passed_over(
     alloc: Global,
     problem: &Problem,
-    bound: &LinkedBound,
+    bound: &NetworkBound,
     walk: &mut Walk,
     most: u32,
 ) -> Result<Items<Items<u32>>, AllocError>
@@ -100,7 +100,7 @@ fn passed_over(
 fn passed_to_whole(
     alloc: Global,
     problem: &Problem,
-    bound: &LinkedBound,
+    bound: &NetworkBound,
     walk: &mut Walk,
     most: u32,
 ) -> Result<Option<Items<Items<u32>>>, AllocError>
@@ -120,16 +120,16 @@ fn passed_to_whole(
 pub(crate) fn walked(
     alloc: Global,
     problem: &Problem,
-    without: &LinkedTables,
-    path: LinkedPath,
+    without: &NetworkTables,
+    path: NetworkPath,
     ascent: Ascent,
     most: u32,
 ) -> Result<Option<Items<Items<u32>>>, AllocError>
-    requires without { AreLinkedTables problem.now without.now }
+    requires without { AreNetworkTables problem.now without.now }
     requires path { path.problem.now ≡ problem.now }
     ensures { IfOk result (λ found. IfSome found (All (IsBeyond problem.now most))) }
 {
     let mut walk = Walk::new(alloc, problem, without, path, ascent, most)?;
-    let bound = LinkedBound::new(alloc, problem)?;
+    let bound = NetworkBound::new(alloc, problem)?;
     passed_to_whole(alloc, problem, &bound, &mut walk, most)
 }

@@ -106,7 +106,7 @@ pub(crate) fn select_by(
         }
         Ok(Answer::Empty(marks)) => Ok(Selection::NoAssignment(Certificate {
             cost: None,
-            linked: false,
+            by_arcs: false,
             shifts: Items::new(alloc),
             marks,
         })),
@@ -122,12 +122,12 @@ fn least_certificate(
     cost: u32,
     marks: Items<Mark>,
 ) -> Result<Certificate, AllocError>
-    ensures { IfOk result (λ c. c ≡ record { cost = Some cost; linked = false; shifts = tables.now.shifts; marks = marks }) }
+    ensures { IfOk result (λ c. c ≡ record { cost = Some cost; by_arcs = false; shifts = tables.now.shifts; marks = marks }) }
 {
     let shifts = Items::from_slice(alloc, tables.shifts.as_slice())?;
     Ok(Certificate {
         cost: Some(cost),
-        linked: false,
+        by_arcs: false,
         shifts,
         marks,
     })

@@ -1,12 +1,12 @@
-//! The searches that are made one after the other: with a small budget under the usual shifts, under better ones and by links,
-//! then with a part of the budget under the better and with the whole under the usual ones, from what each valid list costs at least by links.
+//! The searches that are made one after the other: with a small budget under the usual shifts, under better ones and by arcs,
+//! then with a part of the budget under the better and with the whole under the usual ones, from what each valid list costs at least by arcs.
 //! Where few prefixes do not suffice, a search goes on only once it is known by better shifts what each valid list costs at least:
 //! below that it need not find out how far it comes.
 
 ghost use Rattle.std.specs.Prelude.{◌≡◌, ◌≢◌, ◌≤◌, ◌<◌, IfNone, IfOk, IfSome, Err, option_map};
 ghost use Rattle.vd_search_stages.specs.Selecting.{CostsAtLeast, IsOver, Selects};
 ghost use Rattle.vd_space_prefix.specs.Tables.{AreTables};
-ghost use Rattle.vd_search_stages.specs.Spending.{GivesOnly, IfUnended, IsOverBy, IsOverTwice, IsRootBound, IsSpent, IsSpentByLinks, early_part, late_part, linked_part};
+ghost use Rattle.vd_search_stages.specs.Spending.{GivesOnly, IfUnended, IsOverBy, IsOverTwice, IsRootBound, IsSpent, IsSpentByArcs, early_part, late_part, network_part};
 ghost use Rattle.vd_search_stages.specs.Stages.{CanSelect, Tries};
 ghost use Rattle.vd_search_stages.specs.declared.selecting.SelectFault.TheVariants as select_fault;
 ghost use Rattle.vd_space.specs.Sizes.{IsWithinLimits};
@@ -15,7 +15,7 @@ ghost use Rattle.vd_space.specs.Usual.{usual as usual_shifts};
 ghost use Rattle.vd_space.specs.WellFormed.{IsWellFormed};
 
 use crate::ascents::Ascents;
-use crate::linking::try_links;
+use crate::network::try_arcs;
 use crate::selecting::{SelectFault, Selection, select_by, usual_tables};
 use crate::trying::Tried;
 use std::alloc::{AllocError, Global};
@@ -29,10 +29,10 @@ const FIRST_BUDGET: u32 = 1000;
 
 const FIRST_BUDGET_OF_A_SLOT: u32 = 4;
 
-/// A search by links may open so many prefixes, and one more for each slot.
-const LINKED_BUDGET: u32 = 256;
+/// A search by arcs may open so many prefixes, and one more for each slot.
+const NETWORK_BUDGET: u32 = 256;
 
-/// The search by better shifts behind that by links has so small a part of the budget.
+/// The search by better shifts behind that by arcs has so small a part of the budget.
 const LATE_PART: u32 = 8;
 
 /// The budget of the first search: enough where the usual shifts are good.
@@ -45,17 +45,17 @@ fn first_budget(problem: &Problem, budget: u32) -> u32
     budget.min(FIRST_BUDGET + FIRST_BUDGET_OF_A_SLOT * slots)
 }
 
-/// The budget of a search by links: enough where their shifts leave few ties, which else a walk breaks sooner.
-pub(crate) fn linked_budget(problem: &Problem, budget: u32) -> u32
+/// The budget of a search by arcs: enough where their shifts leave few ties, which else a walk breaks sooner.
+pub(crate) fn network_budget(problem: &Problem, budget: u32) -> u32
     requires limits { IsWithinLimits problem.now }
     ensures within { result ≤ budget }
-    ensures part { result ≡ linked_part problem.now budget }
+    ensures part { result ≡ network_part problem.now budget }
 {
     let slots = problem.slots.as_slice().len() as u32;
-    budget.min(LINKED_BUDGET + slots)
+    budget.min(NETWORK_BUDGET + slots)
 }
 
-/// The budget of the search by better shifts behind that by links.
+/// The budget of the search by better shifts behind that by arcs.
 fn late_budget(budget: u32) -> u32
     ensures within { result ≤ budget }
     ensures part { result ≡ late_part budget }
@@ -162,8 +162,8 @@ fn floor_by(alloc: Global, problem: &Problem, tables: &Option<Tables>) -> Result
     }
 }
 
-/// The choice, or that there is none, by these tables with few prefixes, or by links, and by these with a small budget; where no
-/// search ends, what each valid list costs at least by links.
+/// The choice, or that there is none, by these tables with few prefixes, or by arcs, and by these with a small budget; where no
+/// search ends, what each valid list costs at least by arcs.
 fn try_few<A: Ascents>(
     alloc: Global,
     ascents: &A,
@@ -176,18 +176,18 @@ fn try_few<A: Ascents>(
     requires budget { budget < 4294967295 }
     ensures tries { IfOk result (Tries problem.now budget) }
     ensures over { IfOk result (IfUnended (IsOverBy problem.now tables.now budget)) }
-    ensures links { IfOk result (IfUnended (GivesOnly (A.links_give ascents.now problem.now)
-        (IsSpentByLinks problem.now (linked_part problem.now budget) (A.walks_give ascents.now problem.now)))) }
+    ensures arcs { IfOk result (IfUnended (GivesOnly (A.arcs_give ascents.now problem.now)
+        (IsSpentByArcs problem.now (network_part problem.now budget) (A.walks_give ascents.now problem.now)))) }
     ensures unspent { result ≢ Err select_fault.Spent }
 {
-    match try_some(alloc, problem, tables, 0, linked_budget(problem, budget))? {
+    match try_some(alloc, problem, tables, 0, network_budget(problem, budget))? {
         Some(selection) => Ok(Tried::Selected(selection)),
-        None => try_links(alloc, ascents, problem, tables, budget),
+        None => try_arcs(alloc, ascents, problem, tables, budget),
     }
 }
 
 /// The choice, or that there is none, by the usual shifts from what each valid list costs at least by these better ones, by these,
-/// or by links, with a small budget; where no search ends, what each valid list costs at least by links.
+/// or by arcs, with a small budget; where no search ends, what each valid list costs at least by arcs.
 fn try_small<A: Ascents>(
     alloc: Global,
     ascents: &A,
@@ -201,8 +201,8 @@ fn try_small<A: Ascents>(
     requires budget { budget < 4294967295 }
     ensures tries { IfOk result (Tries problem.now budget) }
     ensures over { IfOk result (IfUnended (IsOverBy problem.now tables.now budget)) }
-    ensures links { IfOk result (IfUnended (GivesOnly (A.links_give ascents.now problem.now)
-        (IsSpentByLinks problem.now (linked_part problem.now budget) (A.walks_give ascents.now problem.now)))) }
+    ensures arcs { IfOk result (IfUnended (GivesOnly (A.arcs_give ascents.now problem.now)
+        (IsSpentByArcs problem.now (network_part problem.now budget) (A.walks_give ascents.now problem.now)))) }
     ensures unspent { result ≢ Err select_fault.Spent }
 {
     let floor = floor_by(alloc, problem, tables)?;
@@ -234,7 +234,7 @@ fn try_above(
     }
 }
 
-/// The choice, or that there is none, by the usual shifts, by better ones or by links with a small budget, or by better shifts with
+/// The choice, or that there is none, by the usual shifts, by better ones or by arcs with a small budget, or by better shifts with
 /// a greater one; where no search ends, what each valid list costs at least.
 fn try_better<A: Ascents>(
     alloc: Global,
@@ -247,8 +247,8 @@ fn try_better<A: Ascents>(
     requires budget { budget < 4294967295 }
     ensures tries { IfOk result (Tries problem.now budget) }
     ensures uses { IfOk result (IfUnended (GivesOnly (A.uses_give ascents.now problem.now) (IsOverTwice problem.now budget))) }
-    ensures links { IfOk result (IfUnended (GivesOnly (A.links_give ascents.now problem.now)
-        (IsSpentByLinks problem.now (linked_part problem.now budget) (A.walks_give ascents.now problem.now)))) }
+    ensures arcs { IfOk result (IfUnended (GivesOnly (A.arcs_give ascents.now problem.now)
+        (IsSpentByArcs problem.now (network_part problem.now budget) (A.walks_give ascents.now problem.now)))) }
     ensures unspent { result ≢ Err select_fault.Spent }
 {
     let better = better_tables(alloc, ascents, problem)?;
@@ -265,7 +265,7 @@ fn try_better<A: Ascents>(
     }
 }
 
-/// The choice, or that there is none, by the usual shifts with a small budget, by better ones, or by links; where no search
+/// The choice, or that there is none, by the usual shifts with a small budget, by better ones, or by arcs; where no search
 /// ends, what each valid list costs at least.
 fn try_early<A: Ascents>(
     alloc: Global,
@@ -278,11 +278,11 @@ fn try_early<A: Ascents>(
     requires budget { budget < 4294967295 }
     ensures tries { IfOk result (Tries problem.now budget) }
     ensures uses { IfOk result (IfUnended (GivesOnly (A.uses_give ascents.now problem.now) (IsOverTwice problem.now budget))) }
-    ensures links { IfOk result (IfUnended (GivesOnly (A.links_give ascents.now problem.now)
-        (IsSpentByLinks problem.now (linked_part problem.now budget) (A.walks_give ascents.now problem.now)))) }
+    ensures arcs { IfOk result (IfUnended (GivesOnly (A.arcs_give ascents.now problem.now)
+        (IsSpentByArcs problem.now (network_part problem.now budget) (A.walks_give ascents.now problem.now)))) }
     ensures unspent { result ≢ Err select_fault.Spent }
 {
-    match try_by(alloc, problem, usual, 0, linked_budget(problem, budget))? {
+    match try_by(alloc, problem, usual, 0, network_budget(problem, budget))? {
         Some(selection) => Ok(Tried::Selected(selection)),
         None => try_better(alloc, ascents, problem, usual, budget),
     }
@@ -302,7 +302,7 @@ pub fn select<A: Ascents>(
     ensures selects { IfOk result (Selects problem.now budget) }
     ensures spent { result ≡ Err select_fault.Spent → IsOver problem.now (usual_shifts problem.now) budget }
     ensures stages { result ≡ Err select_fault.Spent →
-        IsSpent problem.now budget (A.uses_give ascents.now problem.now) (A.links_give ascents.now problem.now)
+        IsSpent problem.now budget (A.uses_give ascents.now problem.now) (A.arcs_give ascents.now problem.now)
         (A.walks_give ascents.now problem.now) }
 {
     let tables = usual_tables(alloc, problem)?;

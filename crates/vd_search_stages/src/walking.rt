@@ -1,22 +1,22 @@
-//! The search by links where ties at the bound of the root are broken by a walk.
+//! The search by arcs where ties at the bound of the root are broken by a walk.
 
 ghost use Rattle.std.specs.Prelude.{◌≡◌, ◌≢◌, ◌<◌, IfNone, IfOk, IfSome, Err};
 ghost use Rattle.std.specs.List.{All};
-ghost use Rattle.vd_cost_network.specs.Linked.{linked_tree};
-ghost use Rattle.vd_cost_network_prefix.specs.Tables.{AreLinkedTables};
-ghost use Rattle.vd_search_stages.specs.Linking.{CanSelectByLinks, IsBeyond};
+ghost use Rattle.vd_cost_network.specs.Network.{network_tree};
+ghost use Rattle.vd_cost_network_prefix.specs.Tables.{AreNetworkTables};
+ghost use Rattle.vd_search_stages.specs.Network.{CanSelectByArcs, IsBeyond};
 ghost use Rattle.vd_search_stages.specs.Selecting.{Selects};
 ghost use Rattle.vd_search_stages.specs.Spending.{GivesOnly, IsOverByWalk};
 ghost use Rattle.vd_search_stages.specs.declared.selecting.SelectFault.TheVariants as select_fault;
 ghost use Rattle.vd_search_nogoods.specs.Untied.{WhySpent};
 
 use crate::ascents::Ascents;
-use crate::linking::{bound_of_all, linked_selection};
+use crate::network::{bound_of_all, network_selection};
 use crate::selecting::{SelectFault, Selection};
 use std::alloc::Global;
 use vd_base_lists::Items;
 use vd_cost_network_ascent::Ascent;
-use vd_cost_network_prefix::{LinkedPath, LinkedTables};
+use vd_cost_network_prefix::{NetworkPath, NetworkTables};
 use vd_search::Stop;
 use vd_search_nogoods::search_untied;
 use vd_space::Problem;
@@ -28,22 +28,22 @@ fn select_untied(
     alloc: Global,
     problem: &Problem,
     tables: &Tables,
-    linked: &LinkedTables,
+    by_arcs: &NetworkTables,
     passed: Items<Items<u32>>,
     most: u32,
     budget: u32,
 ) -> Result<Option<Selection>, SelectFault>
-    requires tables { CanSelectByLinks problem.now tables.now linked.now }
+    requires tables { CanSelectByArcs problem.now tables.now by_arcs.now }
     requires passed { All (IsBeyond problem.now most) passed }
     requires budget { budget < 4294967295 }
     ensures selects { IfOk result (λ found. IfSome found (Selects problem.now budget)) }
-    ensures over { IfOk result (λ found. IfNone found (WhySpent (linked_tree problem.now linked.now.shifts) most passed budget)) }
+    ensures over { IfOk result (λ found. IfNone found (WhySpent (network_tree problem.now by_arcs.now.shifts) most passed budget)) }
     ensures unspent { result ≢ Err select_fault.Spent }
 {
-    let root = LinkedPath::new(alloc, problem, tables, linked)?;
+    let root = NetworkPath::new(alloc, problem, tables, by_arcs)?;
     match search_untied(alloc, root, passed, most, budget) {
         Ok(answer) => {
-            let selection = linked_selection(alloc, linked, answer)?;
+            let selection = network_selection(alloc, by_arcs, answer)?;
             Ok(Some(selection))
         }
         Err(Stop::Spent) => Ok(None),
@@ -58,53 +58,53 @@ fn select_at<A: Ascents>(
     ascents: &A,
     problem: &Problem,
     tables: &Tables,
-    without: &LinkedTables,
-    linked: &LinkedTables,
-    path: LinkedPath,
+    without: &NetworkTables,
+    by_arcs: &NetworkTables,
+    path: NetworkPath,
     ascent: Ascent,
     most: u32,
     budget: u32,
 ) -> Result<Option<Selection>, SelectFault>
-    requires tables { CanSelectByLinks problem.now tables.now linked.now }
-    requires without { AreLinkedTables problem.now without.now }
+    requires tables { CanSelectByArcs problem.now tables.now by_arcs.now }
+    requires without { AreNetworkTables problem.now without.now }
     requires path { path.problem.now ≡ problem.now }
     requires budget { budget < 4294967295 }
     ensures selects { IfOk result (λ found. IfSome found (Selects problem.now budget)) }
     ensures over { IfOk result (λ found. IfNone found (GivesOnly (A.walks_give ascents.now problem.now most)
-        (λ passed. WhySpent (linked_tree problem.now linked.now.shifts) most passed budget))) }
+        (λ passed. WhySpent (network_tree problem.now by_arcs.now.shifts) most passed budget))) }
     ensures unspent { result ≢ Err select_fault.Spent }
 {
     match ascents.over_prefixes(alloc, problem, without, path, ascent, most)? {
-        Some(passed) => select_untied(alloc, problem, tables, linked, passed, most, budget),
+        Some(passed) => select_untied(alloc, problem, tables, by_arcs, passed, most, budget),
         None => Ok(None),
     }
 }
 
-/// The choice, or that there is none, by the tables without shifts, plain and by links, and by those of better shifts of links,
+/// The choice, or that there is none, by the tables without shifts, plain and by arcs, and by those of better shifts of arcs,
 /// where a walk breaks the ties at the bound of all lists; nothing where the budget is spent, or the least cost is above that.
 pub(crate) fn select_by_walk<A: Ascents>(
     alloc: Global,
     ascents: &A,
     problem: &Problem,
     tables: &Tables,
-    without: &LinkedTables,
-    linked: &LinkedTables,
+    without: &NetworkTables,
+    by_arcs: &NetworkTables,
     ascent: Ascent,
     budget: u32,
 ) -> Result<Option<Selection>, SelectFault>
-    requires tables { CanSelectByLinks problem.now tables.now linked.now }
-    requires without { AreLinkedTables problem.now without.now }
+    requires tables { CanSelectByArcs problem.now tables.now by_arcs.now }
+    requires without { AreNetworkTables problem.now without.now }
     requires budget { budget < 4294967295 }
     ensures selects { IfOk result (λ found. IfSome found (Selects problem.now budget)) }
     ensures over { IfOk result (λ found. IfNone found
-        (IsOverByWalk problem.now linked.now.shifts budget (A.walks_give ascents.now problem.now))) }
+        (IsOverByWalk problem.now by_arcs.now.shifts budget (A.walks_give ascents.now problem.now))) }
     ensures unspent { result ≢ Err select_fault.Spent }
 {
-    let path = LinkedPath::new(alloc, problem, tables, linked)?;
+    let path = NetworkPath::new(alloc, problem, tables, by_arcs)?;
     match bound_of_all(&path) {
         Some(most) => {
             select_at(
-                alloc, ascents, problem, tables, without, linked, path, ascent, most, budget,
+                alloc, ascents, problem, tables, without, by_arcs, path, ascent, most, budget,
             )
         }
         None => Ok(None),

@@ -12,9 +12,9 @@ use Rattle.vd_core.specs.declared.source.Infix.TheVariants as infix'
 use Rattle.vd_core.specs.declared.source.Direction.{Direction}
 use Rattle.vd_core.specs.declared.source.Direction.TheVariants as direction
 use Rattle.vd_core.specs.declared.source.Expr.{Expr}
-use Rattle.vd_core.specs.declared.source.Expr.TheOpen.{Expr-F, Link-F}
-use Rattle.vd_core.specs.declared.source.Expr.TheFolds.{fold-Expr, fold-Link}
-use Rattle.vd_core.specs.declared.source.Link.{Link}
+use Rattle.vd_core.specs.declared.source.Expr.TheOpen.{Expr-F, Segment-F}
+use Rattle.vd_core.specs.declared.source.Expr.TheFolds.{fold-Expr, fold-Segment}
+use Rattle.vd_core.specs.declared.source.Segment.{Segment}
 use Rattle.vd_core.specs.declared.source.Host.{Host}
 use Rattle.vd_core.specs.declared.source.Parameter.{Parameter}
 use Rattle.vd_core.specs.declared.source.Statement.{Statement}
@@ -43,8 +43,8 @@ abbrev pub Evaluation : Type 0
 Evaluation = Named Callee → Named Held → World → ℕ × World
 
 -- the same of one step of a chain, on the word so far
-abbrev pub LinkEvaluation : Type 0
-LinkEvaluation = Named Callee → Named Held → ℕ → World → ℕ × World
+abbrev pub SegmentEvaluation : Type 0
+SegmentEvaluation = Named Callee → Named Held → ℕ → World → ℕ × World
 
 abbrev pub prefix_word : Prefix → ℕ → ℕ
 prefix_word prefix'.Flip x = result_of op.Flip (x ∷ [])
@@ -95,9 +95,9 @@ called None words w = (0, w)
 called (Some callee) words w = callee words w
 
 -- the steps of a chain, from the left
-abbrev pub chain_evaluation : List LinkEvaluation → LinkEvaluation
+abbrev pub chain_evaluation : List SegmentEvaluation → SegmentEvaluation
 chain_evaluation [] callees env x w = (x, w)
-chain_evaluation (link ∷ links) callees env x w = let p = link callees env x w in chain_evaluation links callees env p.0 p.1
+chain_evaluation (segment ∷ segments) callees env x w = let p = segment callees env x w in chain_evaluation segments callees env p.0 p.1
 
 -- operands from left to right, all of them
 abbrev pub evaluations : List Evaluation → Named Callee → Named Held → World → List ℕ × World
@@ -111,7 +111,7 @@ evaluations (e ∷ es) callees env w =
 abbrev pub applied : Op → List ℕ × World → ℕ × World
 applied o p = (result_of o p.0, p.1)
 
-abbrev pub expr_evaluation : List (List ℕ) → Expr-F Evaluation LinkEvaluation → Evaluation
+abbrev pub expr_evaluation : List (List ℕ) → Expr-F Evaluation SegmentEvaluation → Evaluation
 expr_evaluation hosts (Expr-F.Number n) callees env w = (n, w)
 expr_evaluation hosts (Expr-F.Truth b) callees env w = (truth_word b, w)
 expr_evaluation hosts (Expr-F.Value x) callees env w = (held_word (at_name env x.name), w)
@@ -124,18 +124,18 @@ expr_evaluation hosts (Expr-F.Mux at x y z) callees env w = applied op.Mux (eval
 expr_evaluation hosts (Expr-F.Declassify x to) callees env w = x callees env w
 expr_evaluation hosts (Expr-F.Endorse x to) callees env w = x callees env w
 expr_evaluation hosts (Expr-F.Unary x signs) callees env w = let p = x callees env w in (prefixes_word signs p.0, p.1)
-expr_evaluation hosts (Expr-F.Chain x links) callees env w = let p = x callees env w in chain_evaluation links callees env p.0 p.1
+expr_evaluation hosts (Expr-F.Chain x segments) callees env w = let p = x callees env w in chain_evaluation segments callees env p.0 p.1
 expr_evaluation hosts (Expr-F.Brackets x) callees env w = x callees env w
 
-abbrev pub link_evaluation : Link-F Evaluation LinkEvaluation → LinkEvaluation
-link_evaluation (Link-F.Infix o at right) callees env x w = let p = right callees env w in (infix_word o x p.0, p.1)
-link_evaluation (Link-F.Shift towards at bits) callees env x w = (shift_word towards bits x, w)
+abbrev pub segment_evaluation : Segment-F Evaluation SegmentEvaluation → SegmentEvaluation
+segment_evaluation (Segment-F.Infix o at right) callees env x w = let p = right callees env w in (infix_word o x p.0, p.1)
+segment_evaluation (Segment-F.Shift towards at bits) callees env x w = (shift_word towards bits x, w)
 
 abbrev pub evaluation : List (List ℕ) → Expr → Evaluation
-evaluation hosts = fold-Expr Evaluation LinkEvaluation (expr_evaluation hosts) link_evaluation
+evaluation hosts = fold-Expr Evaluation SegmentEvaluation (expr_evaluation hosts) segment_evaluation
 
-abbrev pub evaluation_of_link : List (List ℕ) → Link → LinkEvaluation
-evaluation_of_link hosts = fold-Link Evaluation LinkEvaluation (expr_evaluation hosts) link_evaluation
+abbrev pub evaluation_of_segment : List (List ℕ) → Segment → SegmentEvaluation
+evaluation_of_segment hosts = fold-Segment Evaluation SegmentEvaluation (expr_evaluation hosts) segment_evaluation
 
 -- a store changes a variable alone
 abbrev pub store_word : ℕ → Held → Held

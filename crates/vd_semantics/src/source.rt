@@ -3,7 +3,7 @@
 ghost use Rattle.std.specs.Prelude.{◌≡◌, [], ◌∷◌, ◌++◌, OnOk, IfOk, map, ℕ, List};
 ghost use Rattle.vd_semantics.specs.World.{World as Outside};
 ghost use Rattle.vd_base.specs.Names.{at_name};
-ghost use Rattle.vd_semantics.specs.SourceMeaning.{State, prefix_word, prefixes_word, infix_word, shift_word, called, chain_evaluation, evaluations, evaluation, evaluation_of_link, in_sequence, block_execution, turn_execution, execution, callee_of, callees_of, host_names, source_outputs};
+ghost use Rattle.vd_semantics.specs.SourceMeaning.{State, prefix_word, prefixes_word, infix_word, shift_word, called, chain_evaluation, evaluations, evaluation, evaluation_of_segment, in_sequence, block_execution, turn_execution, execution, callee_of, callees_of, host_names, source_outputs};
 
 use crate::held::Held;
 use crate::hosts::place;
@@ -13,7 +13,7 @@ use crate::world::World;
 use std::alloc::{AllocError, Global};
 use vd_base::{Inputs, Name, Op, Outputs, Words, add_name, combine};
 use vd_base_lists::Items;
-use vd_core::{Direction, Expr, Function, Host, Infix, Link, Prefix, Sign, Source, Statement};
+use vd_core::{Direction, Expr, Function, Host, Infix, Prefix, Segment, Sign, Source, Statement};
 
 /// What each host is told by a source. The inputs of a host are followed by zeros.
 ///
@@ -139,9 +139,9 @@ impl<'a> Scope<'a> {
                 let x = self.evaluate(env, world, x)?;
                 Ok(prefixes(signs.as_slice(), x))
             }
-            Expr::Chain(first, links) => {
+            Expr::Chain(first, segments) => {
                 let x = self.evaluate(env, world, first)?;
-                self.chain(env, world, x, links.as_slice())
+                self.chain(env, world, x, segments.as_slice())
             }
             Expr::Brackets(x) => self.evaluate(env, world, x),
         }
@@ -154,20 +154,20 @@ impl<'a> Scope<'a> {
         env: &[(Name, Held)],
         world: &mut World,
         first: u32,
-        links: &[Link],
+        segments: &[Segment],
     ) -> Result<u32, AllocError>
         ensures { IfOk result (λ x. ◌≡◌ {A = ℕ × Outside} (x, world.new)
-            (chain_evaluation (map (evaluation_of_link (host_names self.now.hosts.now)) links.now)
+            (chain_evaluation (map (evaluation_of_segment (host_names self.now.hosts.now)) segments.now)
             (callees_of (host_names self.now.hosts.now) self.now.functions.now) env.now first world.old)) }
     {
         let mut x = first;
-        for link in links {
-            match link {
-                Link::Infix(op, _, right) => {
+        for segment in segments {
+            match segment {
+                Segment::Infix(op, _, right) => {
                     let y = self.evaluate(env, world, right)?;
                     x = infix(*op, x, y);
                 }
-                Link::Shift(direction, _, bits) => {
+                Segment::Shift(direction, _, bits) => {
                     x = shift(*direction, *bits, x);
                 }
             }

@@ -46,11 +46,11 @@ fn collect(plain: &Plain, end: End, nets: &mut Nets) {
 
 /// What a use costs at least from a place at this end, after what shifts take at the other.
 fn least_after(plain: &Plain, end: End, setting: usize, nets: &Nets) -> i64 {
-    let links = plain.tables.links.as_slice();
+    let arcs = plain.tables.arcs.as_slice();
     let amounts = nets.row(end.turned());
     let mut least = FAR;
     for partner in plain.settings_of(end.other) {
-        let price = end.price(links, setting, *partner);
+        let price = end.price(arcs, setting, *partner);
         least = least.min(price.saturating_sub(number_at(amounts, *partner)));
     }
     least

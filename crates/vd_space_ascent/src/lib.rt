@@ -1,4 +1,4 @@
-//! Shifts of uses by dual ascent: the sweeps over points and links, made over the slots and uses alone of a problem, and in whole
+//! Shifts of uses by dual ascent: the sweeps over points and arcs, made over the slots and uses alone of a problem, and in whole
 //! units at their end. Nothing is promised of the amounts. Whatever shifts a search goes by, its certificate shows what it found.
 #![tactic(auto)]
 

@@ -3,7 +3,7 @@
 
 use crate::network::Plain;
 use std::alloc::{AllocError, Global};
-use vd_cost_network_prefix::LinkTable;
+use vd_cost_network_prefix::ArcTable;
 use vd_cost_network_sweeps::{Death, End, FAR, Nets};
 
 /// So many parts more are put on each: 1,000,000 units.
@@ -20,11 +20,11 @@ pub(crate) fn lift(alloc: Global, plain: &Plain, nets: &mut Nets) -> Result<(), 
 
 /// Lifts one, where the later ones were lifted by these.
 fn lift_one(plain: &Plain, death: &Death, nets: &mut Nets, lifts: &mut Nets) {
-    let links = plain.tables.links.as_slice();
+    let arcs = plain.tables.arcs.as_slice();
     let mut sum = LIFT;
     for end in plain.network.of_point(death.point) {
         if !is_at(death, *end) {
-            let need = needed(links, lifts, *end, death.setting);
+            let need = needed(arcs, lifts, *end, death.setting);
             nets.add(*end, death.setting, 0i64.saturating_sub(need));
             sum = sum.saturating_add(need);
         }
@@ -44,10 +44,10 @@ fn is_at(death: &Death, end: End) -> bool {
 }
 
 /// What a use must cost more at a place, so that it costs enough with each partner that was lifted at the use.
-fn needed(links: &[LinkTable], lifts: &Nets, end: End, place: usize) -> i64 {
+fn needed(arcs: &[ArcTable], lifts: &Nets, end: End, place: usize) -> i64 {
     let mut most = 0;
     for (partner, lift) in lifts.row(end.turned()).iter().enumerate() {
-        if *lift > most && end.price(links, place, partner) < FAR {
+        if *lift > most && end.price(arcs, place, partner) < FAR {
             most = *lift;
         }
     }

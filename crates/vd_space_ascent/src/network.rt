@@ -1,4 +1,4 @@
-//! The network of slots and uses alone: each slot is a point, and each use a link.
+//! The network of slots and uses alone: each slot is a point, and each use an arc.
 
 ghost use Rattle.vd_space.specs.Sizes.{IsWithinLimits};
 ghost use Rattle.vd_space.specs.WellFormed.{AreProtocols};
@@ -7,15 +7,15 @@ use crate::tables::plain_tables;
 use std::alloc::{AllocError, Global};
 use vd_base::Proto;
 use vd_base_lists::Items;
-use vd_cost_network_prefix::LinkedTables;
+use vd_cost_network_prefix::NetworkTables;
 use vd_cost_network_sweeps::{FAR, Left, Nets, Network, Order, State, Tables, settings_at};
 use vd_space::Problem;
 use vd_space_terms::candidates;
 
-/// The slots and uses of a problem as points and links, and at which places each slot may stand.
+/// The slots and uses of a problem as points and arcs, and at which places each slot may stand.
 #[derive(Drop)]
 pub struct Plain {
-    pub tables: LinkedTables,
+    pub tables: NetworkTables,
     order: Order,
     pub network: Network,
     pub left: Left,
@@ -41,10 +41,10 @@ impl Plain {
         alloc: Global,
         problem: &Problem,
         candidates: &[Items<bool>],
-        tables: LinkedTables,
+        tables: NetworkTables,
     ) -> Result<Option<Plain>, AllocError> {
         let order = Order::of(alloc, problem, &[])?;
-        let network = Network::of(alloc, tables.links.as_slice(), &order)?;
+        let network = Network::of(alloc, tables.arcs.as_slice(), &order)?;
         let left = Left::of(alloc, problem, &tables, candidates, &network, &order)?;
         let Some(settings) = left.settings(alloc)? else {
             return Ok(None);

@@ -6,7 +6,7 @@ ghost use Rattle.vd_space.specs.WellFormed.{AreProtocols};
 use std::alloc::{AllocError, Global};
 use vd_base::{Proto, SlotId};
 use vd_base_lists::Items;
-use vd_cost_network_prefix::{LinkTable, LinkedTables, PointTable};
+use vd_cost_network_prefix::{ArcTable, NetworkTables, PointTable};
 use vd_cost_network_sweeps::NOTHING_LEFT;
 use vd_space::{Problem, Use};
 use vd_space_tables::merged_values;
@@ -24,14 +24,14 @@ pub(crate) fn plain_tables(
     problem: &Problem,
     list: &[Proto],
     candidates: &[Items<bool>],
-) -> Result<LinkedTables, AllocError>
+) -> Result<NetworkTables, AllocError>
     requires list { AreProtocols problem.now list.now }
     requires limits { IsWithinLimits problem.now }
 {
-    Ok(LinkedTables {
+    Ok(NetworkTables {
         shifts: Items::new(alloc),
         points: points(alloc, problem, list)?,
-        links: links(alloc, problem, list, candidates)?,
+        arcs: arcs(alloc, problem, list, candidates)?,
         switches: Items::new(alloc),
     })
 }
@@ -70,29 +70,29 @@ fn cost_of(value: Option<i64>) -> i64 {
 }
 
 /// What each use costs.
-fn links(
+fn arcs(
     alloc: Global,
     problem: &Problem,
     list: &[Proto],
     candidates: &[Items<bool>],
-) -> Result<Items<LinkTable>, AllocError> {
+) -> Result<Items<ArcTable>, AllocError> {
     let moves = move_prices(alloc, list)?;
-    let mut links = Items::new(alloc);
+    let mut arcs = Items::new(alloc);
     for item in problem.uses.as_slice() {
-        links.push(link_of(alloc, item, moves.as_slice(), candidates)?)?;
+        arcs.push(arc_of(alloc, item, moves.as_slice(), candidates)?)?;
     }
-    Ok(links)
+    Ok(arcs)
 }
 
 /// What a use costs, from the places at which its source may stand.
-fn link_of(
+fn arc_of(
     alloc: Global,
     item: &Use,
     moves: &[Items<Option<u32>>],
     candidates: &[Items<bool>],
-) -> Result<LinkTable, AllocError> {
+) -> Result<ArcTable, AllocError> {
     let tests = tests_at(candidates, item.source);
-    Ok(LinkTable {
+    Ok(ArcTable {
         first: u32::from(item.source.0),
         second: u32::from(item.target.0),
         cells: cells_of(alloc, item.weight, moves, tests)?,

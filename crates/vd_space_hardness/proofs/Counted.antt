@@ -4,7 +4,7 @@ use lib.Count.{ones, ones_in}
 use Rattle.vd_formula.specs.TruthTable.{both_of, either_of, never_of}
 use Rattle.vd_space.specs.Bounds.{high, low}
 use Rattle.vd_space.specs.Usual.{firm, hard, usual}
-use Rattle.vd_cost_network.specs.Linked.{linked}
+use Rattle.vd_cost_network.specs.Network.{by_arcs}
 use Rattle.vd_space_hardness.specs.Worked.{negated, unreadable}
 
 pub low_is : low negated [] ≡ pos 1
@@ -39,6 +39,6 @@ pub high_dear : high unreadable [] [] ≡ pos 1000000000
 unfolding ones ones_in both_of either_of never_of
 high_dear = refl
 
-pub linked_dear : linked unreadable [] [] ≡ pos 256000000000
+pub network_dear : by_arcs unreadable [] [] ≡ pos 256000000000
 unfolding ones ones_in both_of either_of never_of
-linked_dear = refl
+network_dear = refl

@@ -2,7 +2,7 @@
 #![tactic(auto)]
 
 ghost use Rattle.std.specs.Prelude.{◌≡◌, [], pos};
-ghost use Rattle.vd_cost_network.specs.Linked.{linked};
+ghost use Rattle.vd_cost_network.specs.Network.{by_arcs};
 ghost use Rattle.vd_space_hardness.specs.Worked.{negated, unreadable};
 ghost use Rattle.vd_space.specs.Bounds.{high, low};
 ghost use Rattle.vd_space.specs.Usual.{firm, hard, usual};
@@ -23,5 +23,5 @@ pub fn counts_are_worked()
 pub fn nothing_left_is_dear()
     ensures low { low unreadable [] ≡ pos 1000000000 }
     ensures high { high unreadable [] [] ≡ pos 1000000000 }
-    ensures linked { linked unreadable [] [] ≡ pos 256000000000 }
+    ensures by_arcs { by_arcs unreadable [] [] ≡ pos 256000000000 }
 {}

@@ -1,4 +1,4 @@
--- Changes of links, one after the other.
+-- Changes of arcs, one after the other.
 use Rattle.std.proofs.Common.{◌≡◌, ℕ, zero, suc, ◌+◌, add-one, ◌≤◌, Option, Some, List, [], ◌∷◌, ◌++◌, length, take, sym, ap, arith, ℤ, pos, ◌+ℤ◌, ◌-ℤ◌, slice_get}
 use Rattle.std.specs.List.{range_with_len}
 use Rattle.std.specs.Option.{option_map_or}
@@ -6,15 +6,15 @@ use Rattle.std.proofs.lemmas.Int.{ints}
 use Rattle.std.proofs.lemmas.Option.{slice_get_past}
 use Rattle.vd_space.specs.Costs.{total}
 use Rattle.vd_space.proofs.Totals.{total_append}
-use Rattle.vd_space_prefix.specs.declared.transfers.Link.{Link}
+use Rattle.vd_space_prefix.specs.declared.transfers.Arc.{Arc}
 use Rattle.vd_space_prefix.specs.Steps.{under, change}
 
-module _ (prices : List (List (Option ℕ))) (links : List Link) (before after : List ℕ) where
-  pub changed : (number : ℕ) (link : Link) → slice_get links number ≡ Some link → change prices links before after number ≡ under prices link after -ℤ under prices link before
-  changed number link at = ap (λ o. option_map_or (λ l. under prices l after -ℤ under prices l before) o (pos 0)) at
+module _ (prices : List (List (Option ℕ))) (arcs : List Arc) (before after : List ℕ) where
+  pub changed : (number : ℕ) (arc : Arc) → slice_get arcs number ≡ Some arc → change prices arcs before after number ≡ under prices arc after -ℤ under prices arc before
+  changed number arc at = ap (λ o. option_map_or (λ l. under prices l after -ℤ under prices l before) o (pos 0)) at
 
-  pub unchanged : (number : ℕ) → length links ≤ number → pos 0 ≡ change prices links before after number
-  unchanged number past = ap (λ o. option_map_or (λ l. under prices l after -ℤ under prices l before) o (pos 0)) (sym (slice_get_past links number past))
+  pub unchanged : (number : ℕ) → length arcs ≤ number → pos 0 ≡ change prices arcs before after number
+  unchanged number past = ap (λ o. option_map_or (λ l. under prices l after -ℤ under prices l before) o (pos 0)) (sym (slice_get_past arcs number past))
 
 pub total_more : {X : Type 0} (f : X → ℤ) (xs : List X) (i : ℕ) (x : X) → take (i + 1) xs ≡ take i xs ++ x ∷ [] → total f (take (i + 1) xs) ≡ total f (take i xs) +ℤ f x
 total_more f xs i x next =

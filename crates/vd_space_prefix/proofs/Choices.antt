@@ -43,11 +43,11 @@ module _ (problem : Problem) (tables : Tables) (before : List ℕ) (choice : ℕ
   pub guards_named : all_at (guard_names (length before)) problem.guards (naming_at tables (length before)).guards ≡ true
   guards_named = grows.named
 
-  pub low_grows : gain_at tables.gains (length before) choice +ℤ changes tables.moves tables.links (naming_at tables (length before)).uses before after ≡ low_part problem after -ℤ low_part problem before
-  low_grows = subst (λ list. gain_at tables.gains (length before) choice +ℤ changes tables.moves tables.links (naming_at tables (length before)).uses before list ≡ low_part problem list -ℤ low_part problem before) (sym step.grown) grows.low
+  pub low_grows : gain_at tables.gains (length before) choice +ℤ changes tables.moves tables.arcs (naming_at tables (length before)).uses before after ≡ low_part problem after -ℤ low_part problem before
+  low_grows = subst (λ list. gain_at tables.gains (length before) choice +ℤ changes tables.moves tables.arcs (naming_at tables (length before)).uses before list ≡ low_part problem list -ℤ low_part problem before) (sym step.grown) grows.low
 
-  pub shifted_grows : gain_at tables.shifted_gains (length before) choice +ℤ changes tables.moves tables.shifted_links (naming_at tables (length before)).uses before after ≡ shifted_part problem tables.shifts after -ℤ shifted_part problem tables.shifts before
-  shifted_grows = subst (λ list. gain_at tables.shifted_gains (length before) choice +ℤ changes tables.moves tables.shifted_links (naming_at tables (length before)).uses before list ≡ shifted_part problem tables.shifts list -ℤ shifted_part problem tables.shifts before) (sym step.grown) grows.shifted
+  pub shifted_grows : gain_at tables.shifted_gains (length before) choice +ℤ changes tables.moves tables.shifted_arcs (naming_at tables (length before)).uses before after ≡ shifted_part problem tables.shifts after -ℤ shifted_part problem tables.shifts before
+  shifted_grows = subst (λ list. gain_at tables.shifted_gains (length before) choice +ℤ changes tables.moves tables.shifted_arcs (naming_at tables (length before)).uses before list ≡ shifted_part problem tables.shifts list -ℤ shifted_part problem tables.shifts before) (sym step.grown) grows.shifted
 
-  pub common_grows : changes tables.tells tables.index_links (naming_at tables (length before)).indexes before after +ℤ guard_changes problem tables.tellings (naming_at tables (length before)).guards before after ≡ common_part problem after -ℤ common_part problem before
-  common_grows = subst (λ list. changes tables.tells tables.index_links (naming_at tables (length before)).indexes before list +ℤ guard_changes problem tables.tellings (naming_at tables (length before)).guards before list ≡ common_part problem list -ℤ common_part problem before) (sym step.grown) grows.common
+  pub common_grows : changes tables.tells tables.index_arcs (naming_at tables (length before)).indexes before after +ℤ guard_changes problem tables.tellings (naming_at tables (length before)).guards before after ≡ common_part problem after -ℤ common_part problem before
+  common_grows = subst (λ list. changes tables.tells tables.index_arcs (naming_at tables (length before)).indexes before list +ℤ guard_changes problem tables.tellings (naming_at tables (length before)).guards before list ≡ common_part problem list -ℤ common_part problem before) (sym step.grown) grows.common

@@ -1,4 +1,4 @@
--- By the links and tellings of what names a slot, sums of least values grow as they should.
+-- By the arcs and tellings of what names a slot, sums of least values grow as they should.
 use Rattle.std.proofs.Common.{◌≡◌, ℕ, Bool, true, Option, Some, List, [], ◌∷◌, ◌++◌, length, map, filter, ◌&&◌, refl, sym, ap, ap₂, ◌∙◌, arith, ℤ, pos, ◌+ℤ◌, ◌-ℤ◌, inl, inr, slice_get}
 use Rattle.std.specs.List.{list_all}
 use Rattle.std.proofs.lemmas.Bool.{cases_Bool, cond-true, cond-false}
@@ -11,7 +11,7 @@ use Rattle.vd_space.specs.Costs.{Pair, total, guards_total}
 use Rattle.vd_space.specs.Bounds.{least_one, least_pair}
 use Rattle.vd_space.specs.Growth.{pair_names, guard_names, guard_sum, grown, with_choice, extends, use_names, output_names, index_names}
 use Rattle.vd_space.proofs.Growth.{total_grows, same_pair, same_guard}
-use Rattle.vd_space_prefix.specs.declared.transfers.Link.{Link}
+use Rattle.vd_space_prefix.specs.declared.transfers.Arc.{Arc}
 use Rattle.vd_space_prefix.specs.declared.guards.Telling.{Telling}
 use Rattle.vd_space_prefix.specs.Naming.{numbers_from, naming_of, all_at, allows}
 use Rattle.vd_space_prefix.specs.Steps.{under, change, changes}
@@ -43,18 +43,18 @@ pub naming_named : (problem : Problem) (slot : ℕ) → all_at (guard_names slot
 naming_named problem slot = all_named (guard_names slot) (guard_names slot) problem.guards ∙ passed (guard_names slot) problem.guards
 
 module _ (problem : Problem) (prefix : List ℕ) (choice : ℕ) (listed : AreListed problem prefix) (listed_after : AreListed problem (with_choice prefix choice)) where
-  -- links of terms of two slots, each made of an item
-  module _ {X : Type 0} (prices : List (List (Option ℕ))) (links : List Link) (xs : List X) (g : ℕ → X → Pair) (test : X → Bool) (same : (k : ℕ) (x : X) → pair_names (length prefix) (g k x) ≡ test x)
-      (placed : (k : ℕ) (x : X) → slice_get xs k ≡ Some x → (link : Link) × (slice_get links k ≡ Some link) × ((front : List ℕ) → AreListed problem front → under prices link front ≡ least_pair problem front (g k x))) where
-    each_change : (k : ℕ) (x : X) → slice_get xs k ≡ Some x → change prices links prefix (with_choice prefix choice) k ≡ grown (least_pair problem prefix) (least_pair problem (with_choice prefix choice)) (g k x)
+  -- arcs of terms of two slots, each made of an item
+  module _ {X : Type 0} (prices : List (List (Option ℕ))) (arcs : List Arc) (xs : List X) (g : ℕ → X → Pair) (test : X → Bool) (same : (k : ℕ) (x : X) → pair_names (length prefix) (g k x) ≡ test x)
+      (placed : (k : ℕ) (x : X) → slice_get xs k ≡ Some x → (arc : Arc) × (slice_get arcs k ≡ Some arc) × ((front : List ℕ) → AreListed problem front → under prices arc front ≡ least_pair problem front (g k x))) where
+    each_change : (k : ℕ) (x : X) → slice_get xs k ≡ Some x → change prices arcs prefix (with_choice prefix choice) k ≡ grown (least_pair problem prefix) (least_pair problem (with_choice prefix choice)) (g k x)
     each_change k x at =
-        let link = placed k x at in
-        changed prices links prefix (with_choice prefix choice) k link.0 link.1
-        ∙ ap₂ (λ a b. a -ℤ b) (link.2 (with_choice prefix choice) listed_after) (link.2 prefix listed)
+        let arc = placed k x at in
+        changed prices arcs prefix (with_choice prefix choice) k arc.0 arc.1
+        ∙ ap₂ (λ a b. a -ℤ b) (arc.2 (with_choice prefix choice) listed_after) (arc.2 prefix listed)
 
-    pub links_grow : changes prices links (numbers_from test 0 xs) prefix (with_choice prefix choice) ≡ total (least_pair problem (with_choice prefix choice)) (numbered g 0 xs) -ℤ total (least_pair problem prefix) (numbered g 0 xs)
-    links_grow =
-        let named = total_named test (pair_names (length prefix)) g same (change prices links prefix (with_choice prefix choice)) (grown (least_pair problem prefix) (least_pair problem (with_choice prefix choice))) xs each_change in
+    pub arcs_grow : changes prices arcs (numbers_from test 0 xs) prefix (with_choice prefix choice) ≡ total (least_pair problem (with_choice prefix choice)) (numbered g 0 xs) -ℤ total (least_pair problem prefix) (numbered g 0 xs)
+    arcs_grow =
+        let named = total_named test (pair_names (length prefix)) g same (change prices arcs prefix (with_choice prefix choice)) (grown (least_pair problem prefix) (least_pair problem (with_choice prefix choice))) xs each_change in
         let grows = total_grows (pair_names (length prefix)) (least_pair problem prefix) (least_pair problem (with_choice prefix choice)) (same_pair problem prefix choice) (numbered g 0 xs) in
         omega (arith, ints, named, grows)
 

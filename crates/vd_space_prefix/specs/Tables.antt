@@ -11,7 +11,7 @@ use Rattle.vd_space_prefix.specs.declared.naming.Naming.{Naming}
 use Rattle.vd_space_prefix.specs.declared.tables.Tables.{Tables}
 use Rattle.vd_space_prefix.specs.declared.tables.Sums.{Sums}
 use Rattle.vd_space_prefix.specs.Transfers.{ArePrices, IsWithin}
-use Rattle.vd_space_prefix.specs.Steps.{AreLinks, changes}
+use Rattle.vd_space_prefix.specs.Steps.{AreArcs, changes}
 use Rattle.vd_space_prefix.specs.Guards.{AreTellings, guard_changes}
 use Rattle.vd_space_prefix.specs.Naming.{all_at, allows}
 
@@ -54,11 +54,11 @@ AreListed problem prefix = All (λ p. p < length (protocols problem)) prefix
 pub record GrowsBy (problem : Problem) (tables : Tables) (prefix : List ℕ) (choice : ℕ) : Type 0 where
   pub named : all_at (guard_names (length prefix)) problem.guards (naming_at tables (length prefix)).guards ≡ true
   pub allowed : allows problem (naming_at tables (length prefix)) (length prefix) choice (with_choice prefix choice) ≡ extends problem prefix choice
-  pub low : gain_at tables.gains (length prefix) choice +ℤ changes tables.moves tables.links (naming_at tables (length prefix)).uses prefix (with_choice prefix choice)
+  pub low : gain_at tables.gains (length prefix) choice +ℤ changes tables.moves tables.arcs (naming_at tables (length prefix)).uses prefix (with_choice prefix choice)
       ≡ low_part problem (with_choice prefix choice) -ℤ low_part problem prefix
-  pub shifted : gain_at tables.shifted_gains (length prefix) choice +ℤ changes tables.moves tables.shifted_links (naming_at tables (length prefix)).uses prefix (with_choice prefix choice)
+  pub shifted : gain_at tables.shifted_gains (length prefix) choice +ℤ changes tables.moves tables.shifted_arcs (naming_at tables (length prefix)).uses prefix (with_choice prefix choice)
       ≡ shifted_part problem tables.shifts (with_choice prefix choice) -ℤ shifted_part problem tables.shifts prefix
-  pub common : changes tables.tells tables.index_links (naming_at tables (length prefix)).indexes prefix (with_choice prefix choice) +ℤ guard_changes problem tables.tellings (naming_at tables (length prefix)).guards prefix (with_choice prefix choice)
+  pub common : changes tables.tells tables.index_arcs (naming_at tables (length prefix)).indexes prefix (with_choice prefix choice) +ℤ guard_changes problem tables.tellings (naming_at tables (length prefix)).guards prefix (with_choice prefix choice)
       ≡ common_part problem (with_choice prefix choice) -ℤ common_part problem prefix
 
 -- the parts of a prefix are small: 2^61
@@ -81,9 +81,9 @@ pub record AreTables (problem : Problem) (tables : Tables) : Type 0 where
   pub slots : length tables.naming ≡ length problem.slots
   pub moves : ArePrices tables.moves
   pub tells : ArePrices tables.tells
-  pub links : AreLinks tables.links
-  pub shifted_links : AreLinks tables.shifted_links
-  pub index_links : AreLinks tables.index_links
+  pub arcs : AreArcs tables.arcs
+  pub shifted_arcs : AreArcs tables.shifted_arcs
+  pub index_arcs : AreArcs tables.index_arcs
   pub tellings : AreTellings tables.tellings
   pub gains : (slot choice : ℕ) → IsWithin 2305843009213693952 (gain_at tables.gains slot choice)
   pub shifted_gains : (slot choice : ℕ) → IsWithin 2305843009213693952 (gain_at tables.shifted_gains slot choice)

@@ -5,7 +5,7 @@ use Rattle.vd_base.specs.Limits.{most_weights}
 use Rattle.vd_space.specs.Costs.{weigh}
 use Rattle.vd_space.specs.Bounds.{least_below, only_if, nothing_left}
 use Rattle.vd_space_prefix.specs.declared.transfers.Transfer.{Transfer}
-use Rattle.vd_space_prefix.specs.declared.transfers.Link.{Link}
+use Rattle.vd_space_prefix.specs.declared.transfers.Arc.{Arc}
 
 -- ---- what a transfer costs
 
@@ -37,8 +37,8 @@ square_of prices t firsts seconds = least_where firsts (row_of prices t seconds)
 abbrev pub by_place : {X : Type 0} → ℕ → (ℕ → X) → List X
 by_place n f = map f (range_with_len 0 n)
 
-abbrev pub link_of : List (List (Option ℕ)) → Transfer → List Bool → List Bool → Link
-link_of prices t firsts seconds = record {
+abbrev pub arc_of : List (List (Option ℕ)) → Transfer → List Bool → List Bool → Arc
+arc_of prices t firsts seconds = record {
   transfer = t;
   rows = by_place (length firsts) (λ p. unwrap_or (row_of prices t seconds p) nothing_left);
   columns = by_place (length seconds) (λ q. unwrap_or (column_of prices t firsts q) nothing_left);

@@ -14,4 +14,4 @@ pub use naming::Naming;
 pub use numbers::namings;
 pub use path::Path;
 pub use tables::{Sums, Tables, grown};
-pub use transfers::{Link, Transfer, amount_at, number_of};
+pub use transfers::{Arc, Transfer, amount_at, number_of};

@@ -8,7 +8,7 @@ ghost use Rattle.vd_space.specs.Validity.{is_valid};
 use crate::guards::{Telling, growth_of_guards};
 use crate::naming::{Naming, is_allowed};
 use crate::steps::growth_of;
-use crate::transfers::{Link, amount_at};
+use crate::transfers::{Arc, amount_at};
 use vd_base::Proto;
 use vd_base_lists::Items;
 use vd_search_tree::Shift;
@@ -24,10 +24,10 @@ pub struct Tables {
     pub moves: Items<Items<Option<u32>>>,
     /// What it costs to tell an index to the hosts of its array, by the places of the array and of the index.
     pub tells: Items<Items<Option<u32>>>,
-    /// The links of the uses, without and under shifts, and those of the indexes.
-    pub links: Items<Link>,
-    pub shifted_links: Items<Link>,
-    pub index_links: Items<Link>,
+    /// The arcs of the uses, without and under shifts, and those of the indexes.
+    pub arcs: Items<Arc>,
+    pub shifted_arcs: Items<Arc>,
+    pub index_arcs: Items<Arc>,
     /// By guard.
     pub tellings: Items<Telling>,
     /// By slot and place: what the terms of that slot alone grow by when it is decided so, without and under shifts.
@@ -84,7 +84,7 @@ fn grown_low(
     let gain = gain_of(tables.gains.as_slice(), slot, choice);
     let growth = growth_of(
         tables.moves.as_slice(),
-        tables.links.as_slice(),
+        tables.arcs.as_slice(),
         naming.uses.as_slice(),
         before,
         after,
@@ -111,7 +111,7 @@ fn grown_shifted(
     let gain = gain_of(tables.shifted_gains.as_slice(), slot, choice);
     let growth = growth_of(
         tables.moves.as_slice(),
-        tables.shifted_links.as_slice(),
+        tables.shifted_arcs.as_slice(),
         naming.uses.as_slice(),
         before,
         after,
@@ -136,7 +136,7 @@ fn grown_common(
     let naming = naming_of(tables, before.len());
     let indexes = growth_of(
         tables.tells.as_slice(),
-        tables.index_links.as_slice(),
+        tables.index_arcs.as_slice(),
         naming.indexes.as_slice(),
         before,
         after,

@@ -3,7 +3,7 @@
 ghost use Rattle.std.specs.Prelude.{◌≡◌, ◌*◌, ◌≤◌, ◌-ℤ◌, unwrap_or, IfOk, pos, slice_index_or};
 ghost use Rattle.vd_base.specs.Limits.{most_weights};
 ghost use Rattle.vd_space.specs.Bounds.{nothing_left, only_if};
-ghost use Rattle.vd_space_prefix.specs.Transfers.{ArePrices, IsTransfer, IsWithin, by_place, cell, column_of, least_where, link_of, priced, row_of, square_of, taken};
+ghost use Rattle.vd_space_prefix.specs.Transfers.{ArePrices, IsTransfer, IsWithin, by_place, cell, column_of, least_where, arc_of, priced, row_of, square_of, taken};
 
 use std::alloc::{AllocError, Global};
 use vd_base_lists::Items;
@@ -23,7 +23,7 @@ pub struct Transfer {
 /// A transfer, and what it costs at least: by the place of the first slot where the second is not decided, by the place of
 /// the second where the first is not, and where neither is.
 #[derive(PartialEq, Eq, Debug, Drop)]
-pub struct Link {
+pub struct Arc {
     pub transfer: Transfer,
     pub rows: Items<i64>,
     pub columns: Items<i64>,
@@ -233,7 +233,7 @@ fn columns(
     Ok(columns)
 }
 
-impl Link {
+impl Arc {
     /// The transfer with its least costs, where the slots may stand at the places that pass.
     pub fn of(
         alloc: Global,
@@ -241,15 +241,15 @@ impl Link {
         transfer: Transfer,
         firsts: &[bool],
         seconds: &[bool],
-    ) -> Result<Link, AllocError>
+    ) -> Result<Arc, AllocError>
         requires prices { ArePrices prices.now }
         requires transfer { IsTransfer transfer }
-        ensures { IfOk result (λ link. link ≡ link_of prices.now transfer firsts.now seconds.now) }
+        ensures { IfOk result (λ arc. arc ≡ arc_of prices.now transfer firsts.now seconds.now) }
     {
         let rows = rows(alloc, prices, &transfer, firsts.len(), seconds)?;
         let columns = columns(alloc, prices, &transfer, firsts, seconds.len())?;
         let both = number_of(least_of_all(prices, &transfer, firsts, seconds));
-        Ok(Link {
+        Ok(Arc {
             transfer,
             rows,
             columns,

@@ -21,16 +21,16 @@ use Rattle.vd_space.proofs.Priced.{listed_or_not}
 use Rattle.vd_space.proofs.Totals.{total_map}
 use Rattle.vd_space_prefix.specs.declared.naming.Naming.{Naming}
 use Rattle.vd_space_prefix.specs.declared.tables.Tables.{Tables}
-use Rattle.vd_space_prefix.specs.declared.transfers.Link.{Link}
+use Rattle.vd_space_prefix.specs.declared.transfers.Arc.{Arc}
 use Rattle.vd_space_prefix.specs.Naming.{naming_of, numbers_from, all_at, allows}
 use Rattle.vd_space_prefix.specs.Steps.{changes}
 use Rattle.vd_space_prefix.specs.Guards.{guard_changes, AreTellings}
 use Rattle.vd_space_prefix.specs.Tables.{AreListed, AreTables, AreSmallAt, IsFew, GrowsBy, gain_at, naming_at, no_naming, low_part, shifted_part, common_part}
 use Rattle.vd_space_prefix.specs.Transfers.{IsWithin, by_place}
-use Rattle.vd_space_prefix.proofs.Growing.{naming_allows, naming_named, links_grow, guards_grow}
+use Rattle.vd_space_prefix.proofs.Growing.{naming_allows, naming_named, arcs_grow, guards_grow}
 use Rattle.vd_space_prefix.proofs.Numbering.{numbered, unnumbered, shifted_numbered}
 use Rattle.vd_space_prefix.proofs.Placed.{at_place, size_by_place}
-use Rattle.vd_space_terms.specs.Links.{AreLinksOf}
+use Rattle.vd_space_terms.specs.Arcs.{AreArcsOf}
 use Rattle.vd_space_tables.specs.declared.charges.Charge.{Charge}
 use Rattle.vd_space_tables.specs.Charges.{IsCharge, charge_of, outputs_of, telling_of}
 use Rattle.vd_space_tables.specs.Gains.{gain_by, gain_at_slot, gain_with, gains_with}
@@ -170,13 +170,13 @@ module _ (problem : Problem) (labelled : IsLabelled problem) (limits : IsWithinL
       record {
         low = more_within (1125899906842624 * length problem.slots + 1125899906842624 * length problem.outputs + 1125899906842624 * length (map (use_term problem) problem.uses)) 2305843009213693952 (low_part problem prefix) (omega (arith, count, uses))
             (sum_within (1125899906842624 * length problem.slots + 1125899906842624 * length problem.outputs) (1125899906842624 * length (map (use_term problem) problem.uses)) (total (least_one problem prefix) (ones problem)) (total (least_pair problem prefix) (map (use_term problem) problem.uses))
-            (ones_within problem labelled limits prefix listed) (pairs_within problem tables.moves (map (use_term problem) problem.uses) tables.links prefix parts.moves parts.links listed));
+            (ones_within problem labelled limits prefix listed) (pairs_within problem tables.moves (map (use_term problem) problem.uses) tables.arcs prefix parts.moves parts.arcs listed));
         shifted = more_within (1125899906842624 * length problem.slots + 1125899906842624 * length (shifted_uses problem tables.shifts 0 problem.uses)) 2305843009213693952 (shifted_part problem tables.shifts prefix) (omega (arith, count, moved))
             (sum_within (1125899906842624 * length problem.slots) (1125899906842624 * length (shifted_uses problem tables.shifts 0 problem.uses)) (total (least_one problem prefix) (shifted_ones problem tables.shifts)) (total (least_pair problem prefix) (shifted_uses problem tables.shifts 0 problem.uses))
-            (shifted_ones_within problem labelled limits prefix listed tables.shifts small) (pairs_within problem tables.moves (shifted_uses problem tables.shifts 0 problem.uses) tables.shifted_links prefix parts.moves parts.shifted_links listed));
+            (shifted_ones_within problem labelled limits prefix listed tables.shifts small) (pairs_within problem tables.moves (shifted_uses problem tables.shifts 0 problem.uses) tables.shifted_arcs prefix parts.moves parts.shifted_arcs listed));
         common = more_within (1125899906842624 * length (map (index_term problem) problem.indexes) + 4294967296 * length problem.guards) 2305843009213693952 (common_part problem prefix) (omega (arith, count, indexes))
             (sum_within (1125899906842624 * length (map (index_term problem) problem.indexes)) (4294967296 * length problem.guards) (total (least_pair problem prefix) (map (index_term problem) problem.indexes)) (guards_total problem (least_one problem prefix) prefix)
-            (pairs_within problem tables.tells (map (index_term problem) problem.indexes) tables.index_links prefix parts.tells parts.index_links listed) (guards_within problem labelled limits prefix listed));
+            (pairs_within problem tables.tells (map (index_term problem) problem.indexes) tables.index_arcs prefix parts.tells parts.index_arcs listed) (guards_within problem labelled limits prefix listed));
       }
 
   module _ (prefix : List ℕ) (choice : ℕ) (listed : AreListed problem prefix) (room : length prefix < length problem.slots) (low : choice < length (protocols problem)) where
@@ -189,34 +189,34 @@ module _ (problem : Problem) (labelled : IsLabelled problem) (limits : IsWithinL
     abbrev after : List ℕ
     after = with_choice prefix choice
 
-    -- links of terms, each made of an item
-    module _ {X : Type 0} (prices : List (List (Option ℕ))) (links : List Link) (xs : List X) (g : ℕ → X → Pair) (terms : List Pair) (test : X → Bool) (same : (k : ℕ) (x : X) → pair_names slot (g k x) ≡ test x) (terms_are : numbered g 0 xs ≡ terms) (linked : AreLinksOf problem prices terms links) where
-      linked_grow : changes prices links (numbers_from test 0 xs) prefix after ≡ total (least_pair problem after) terms -ℤ total (least_pair problem prefix) terms
-      linked_grow =
-          links_grow problem prefix choice listed listed_after prices links xs g test same
-          (λ k x at. linked.under k (g k x) (ap (λ ts. slice_get ts k) (sym terms_are) ∙ numbered_at g 0 xs k x at ∙ ap (λ n. Some (g n x)) (omega arith)))
+    -- arcs of terms, each made of an item
+    module _ {X : Type 0} (prices : List (List (Option ℕ))) (arcs : List Arc) (xs : List X) (g : ℕ → X → Pair) (terms : List Pair) (test : X → Bool) (same : (k : ℕ) (x : X) → pair_names slot (g k x) ≡ test x) (terms_are : numbered g 0 xs ≡ terms) (by_arcs : AreArcsOf problem prices terms arcs) where
+      network_grow : changes prices arcs (numbers_from test 0 xs) prefix after ≡ total (least_pair problem after) terms -ℤ total (least_pair problem prefix) terms
+      network_grow =
+          arcs_grow problem prefix choice listed listed_after prices arcs xs g test same
+          (λ k x at. by_arcs.under k (g k x) (ap (λ ts. slice_get ts k) (sym terms_are) ∙ numbered_at g 0 xs k x at ∙ ap (λ n. Some (g n x)) (omega arith)))
           ∙ ap (λ ts. total (least_pair problem after) ts -ℤ total (least_pair problem prefix) ts) terms_are
 
-    low_grows : gain_at tables.gains slot choice +ℤ changes tables.moves tables.links (naming_at tables slot).uses prefix after ≡ low_part problem after -ℤ low_part problem prefix
+    low_grows : gain_at tables.gains slot choice +ℤ changes tables.moves tables.arcs (naming_at tables slot).uses prefix after ≡ low_part problem after -ℤ low_part problem prefix
     low_grows =
         let gain = ap (λ gains. gain_at gains slot choice) parts.gains ∙ gain_is problem (outputs_of problem) (operation_term problem) (length problem.slots) slot choice room low in
         let own = ones_grow problem prefix choice listed listed_after room in
-        let named = ap (λ (n : Naming). changes tables.moves tables.links n.uses prefix after) (naming_is slot room) in
-        let moved = linked_grow tables.moves tables.links problem.uses (λ k. use_term problem) (map (use_term problem) problem.uses) (use_names slot) (λ k u. refl) (unnumbered (use_term problem) 0 problem.uses) parts.links in
+        let named = ap (λ (n : Naming). changes tables.moves tables.arcs n.uses prefix after) (naming_is slot room) in
+        let moved = network_grow tables.moves tables.arcs problem.uses (λ k. use_term problem) (map (use_term problem) problem.uses) (use_names slot) (λ k u. refl) (unnumbered (use_term problem) 0 problem.uses) parts.arcs in
         omega (arith, ints, gain, own, named, moved)
 
-    shifted_grows : gain_at tables.shifted_gains slot choice +ℤ changes tables.moves tables.shifted_links (naming_at tables slot).uses prefix after ≡ shifted_part problem tables.shifts after -ℤ shifted_part problem tables.shifts prefix
+    shifted_grows : gain_at tables.shifted_gains slot choice +ℤ changes tables.moves tables.shifted_arcs (naming_at tables slot).uses prefix after ≡ shifted_part problem tables.shifts after -ℤ shifted_part problem tables.shifts prefix
     shifted_grows =
         let gain = ap (λ gains. gain_at gains slot choice) parts.shifted_gains ∙ gain_is problem [] (shifted_one problem tables.shifts) (length problem.slots) slot choice room low in
         let own = shifted_ones_grow problem prefix choice listed listed_after tables.shifts room in
-        let named = ap (λ (n : Naming). changes tables.moves tables.shifted_links n.uses prefix after) (naming_is slot room) in
-        let moved = linked_grow tables.moves tables.shifted_links problem.uses (shifted_use problem tables.shifts) (shifted_uses problem tables.shifts 0 problem.uses) (use_names slot) (λ k u. refl) (shifted_numbered problem tables.shifts 0 problem.uses) parts.shifted_links in
+        let named = ap (λ (n : Naming). changes tables.moves tables.shifted_arcs n.uses prefix after) (naming_is slot room) in
+        let moved = network_grow tables.moves tables.shifted_arcs problem.uses (shifted_use problem tables.shifts) (shifted_uses problem tables.shifts 0 problem.uses) (use_names slot) (λ k u. refl) (shifted_numbered problem tables.shifts 0 problem.uses) parts.shifted_arcs in
         omega (arith, ints, gain, own, named, moved)
 
-    common_grows : changes tables.tells tables.index_links (naming_at tables slot).indexes prefix after +ℤ guard_changes problem tables.tellings (naming_at tables slot).guards prefix after ≡ common_part problem after -ℤ common_part problem prefix
+    common_grows : changes tables.tells tables.index_arcs (naming_at tables slot).indexes prefix after +ℤ guard_changes problem tables.tellings (naming_at tables slot).guards prefix after ≡ common_part problem after -ℤ common_part problem prefix
     common_grows =
-        let named = ap (λ (n : Naming). changes tables.tells tables.index_links n.indexes prefix after) (naming_is slot room) in
-        let told = linked_grow tables.tells tables.index_links problem.indexes (λ k. index_term problem) (map (index_term problem) problem.indexes) (index_names slot) (λ k i. refl) (unnumbered (index_term problem) 0 problem.indexes) parts.index_links in
+        let named = ap (λ (n : Naming). changes tables.tells tables.index_arcs n.indexes prefix after) (naming_is slot room) in
+        let told = network_grow tables.tells tables.index_arcs problem.indexes (λ k. index_term problem) (map (index_term problem) problem.indexes) (index_names slot) (λ k i. refl) (unnumbered (index_term problem) 0 problem.indexes) parts.index_arcs in
         let guards_named = ap₂ (λ ts (n : Naming). guard_changes problem ts n.guards prefix after) parts.tellings (naming_is slot room) in
         let guards = guards_grow problem prefix choice listed listed_after (map (telling_of problem) problem.guards) (telling_at problem) in
         omega (arith, ints, named, told, guards_named, guards)
@@ -241,9 +241,9 @@ module _ (problem : Problem) (labelled : IsLabelled problem) (limits : IsWithinL
         slots = ap length parts.naming ∙ size_by_place (length problem.slots) (naming_of problem);
         moves = parts.moves;
         tells = parts.tells;
-        links = parts.links.small;
-        shifted_links = parts.shifted_links.small;
-        index_links = parts.index_links.small;
+        arcs = parts.arcs.small;
+        shifted_arcs = parts.shifted_arcs.small;
+        index_arcs = parts.index_arcs.small;
         tellings = subst AreTellings (sym parts.tellings) (tellings_small problem labelled limits);
         gains = gains_small;
         shifted_gains = shifted_gains_small;

@@ -19,15 +19,15 @@ use Rattle.vd_space.specs.Growth.{guard_sum}
 use Rattle.vd_space.specs.Labelled.{IsLabelled}
 use Rattle.vd_space.specs.Sizes.{IsWithinLimits}
 use Rattle.vd_space.proofs.Totals.{total_append, total_map}
-use Rattle.vd_space_prefix.specs.declared.transfers.Link.{Link}
+use Rattle.vd_space_prefix.specs.declared.transfers.Arc.{Arc}
 use Rattle.vd_space_prefix.specs.declared.guards.Telling.{Telling}
 use Rattle.vd_space_prefix.specs.Transfers.{ArePrices, IsWithin, priced, taken}
-use Rattle.vd_space_prefix.specs.Steps.{IsLink, at_places}
+use Rattle.vd_space_prefix.specs.Steps.{IsArc, at_places}
 use Rattle.vd_space_prefix.specs.Guards.{IsTelling, told_under, told_if, guard_under}
 use Rattle.vd_space_prefix.specs.Tables.{AreListed}
 use Rattle.vd_space_tables.specs.declared.charges.Charge.{Charge}
 use Rattle.vd_space_tables.specs.Charges.{IsCharge, charge_of, telling_of}
-use Rattle.vd_space_terms.specs.Links.{AreLinksOf}
+use Rattle.vd_space_terms.specs.Arcs.{AreArcsOf}
 use Rattle.vd_space_tables.specs.Parts.{AreSmallOnSlots}
 use Rattle.vd_space_tables.proofs.Small.{zero_within, more_within, charge_more, told_small, operation_small, merged_small}
 use Rattle.vd_space_tables.proofs.Charged.{one_under}
@@ -125,17 +125,17 @@ left_within weight (Some c) t light low is =
     let t_high = is.high in
     record { low = omega (arith, ints, product, t_low, t_high); high = omega (arith, ints, product, t_low, t_high) }
 
-places_within : (prices : List (List (Option ℕ))) (link : Link) → ArePrices prices → IsLink link → (a b : Option ℕ) → IsWithin 1125899906842624 (at_places prices link a b)
-places_within prices link are is None None = is.both
-places_within prices link are is (Some p) None = is.rows p
-places_within prices link are is None (Some q) = is.columns q
-places_within prices link are is (Some p) (Some q) = left_within link.transfer.weight (priced prices p q) (taken link.transfer p q) is.transfer.weight (are.few p q) (is.transfer.taken p q)
+places_within : (prices : List (List (Option ℕ))) (arc : Arc) → ArePrices prices → IsArc arc → (a b : Option ℕ) → IsWithin 1125899906842624 (at_places prices arc a b)
+places_within prices arc are is None None = is.both
+places_within prices arc are is (Some p) None = is.rows p
+places_within prices arc are is None (Some q) = is.columns q
+places_within prices arc are is (Some p) (Some q) = left_within arc.transfer.weight (priced prices p q) (taken arc.transfer p q) is.transfer.weight (are.few p q) (is.transfer.taken p q)
 
-pub pairs_within : (problem : Problem) (prices : List (List (Option ℕ))) (terms : List Pair) (links : List Link) (prefix : List ℕ) → ArePrices prices → AreLinksOf problem prices terms links → AreListed problem prefix
+pub pairs_within : (problem : Problem) (prices : List (List (Option ℕ))) (terms : List Pair) (arcs : List Arc) (prefix : List ℕ) → ArePrices prices → AreArcsOf problem prices terms arcs → AreListed problem prefix
     → IsWithin (1125899906842624 * length terms) (total (least_pair problem prefix) terms)
-pairs_within problem prices terms links prefix are linked listed =
+pairs_within problem prices terms arcs prefix are by_arcs listed =
     total_within 1125899906842624 (least_pair problem prefix) terms
     (λ k d low.
-    let found = linked.under k (get_or terms k d) (slice_get-get_or terms k d low) in
-    let is : IsLink found.0 = subst (λ o. IfSome o IsLink) found.1 (linked.small k) in
+    let found = by_arcs.under k (get_or terms k d) (slice_get-get_or terms k d low) in
+    let is : IsArc found.0 = subst (λ o. IfSome o IsArc) found.1 (by_arcs.small k) in
     subst (IsWithin 1125899906842624) (found.2 prefix listed) (places_within prices found.0 are is (slice_get prefix found.0.transfer.first) (slice_get prefix found.0.transfer.second)))

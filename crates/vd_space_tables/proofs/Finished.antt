@@ -23,7 +23,7 @@ use Rattle.vd_space_tables.specs.Gains.{gains_with}
 use Rattle.vd_space_tables.specs.Start.{free_total}
 use Rattle.vd_space_tables.specs.Parts.{AreSmallOnSlots, AreMoved, AreCharges, AreSmallMoved, AreSmallCharges, AreKept, start_of, tables_of}
 use Rattle.vd_space_tables.proofs.Assembled.{tables_are, uses_size}
-use Rattle.vd_space_tables.proofs.Merged.{operations_small, outputs_small, merged_charges_small, ones_free, shifted_free, links_free}
+use Rattle.vd_space_tables.proofs.Merged.{operations_small, outputs_small, merged_charges_small, ones_free, shifted_free, arcs_free}
 
 module _ (problem : Problem) (labelled : IsLabelled problem) (limits : IsWithinLimits problem) (shifts : List Shift) where
   pub moved_small : (m : Moved) → AreMoved problem shifts m → AreSmallMoved m
@@ -32,16 +32,16 @@ module _ (problem : Problem) (labelled : IsLabelled problem) (limits : IsWithinL
       let uses = length-map problem.uses (use_term problem) in
       let moved = uses_size problem shifts 0 problem.uses in
       let indexes = length-map problem.indexes (index_term problem) in
-      let first = are.links.size in
-      let second = are.shifted_links.size in
-      let third = are.index_links.size in
+      let first = are.arcs.size in
+      let second = are.shifted_arcs.size in
+      let third = are.index_arcs.size in
       record {
-        links = are.links.small;
-        few_links = omega (arith, count, uses, first);
-        shifted_links = are.shifted_links.small;
-        few_shifted_links = omega (arith, count, moved, second);
-        index_links = are.index_links.small;
-        few_index_links = omega (arith, count, indexes, third);
+        arcs = are.arcs.small;
+        few_arcs = omega (arith, count, uses, first);
+        shifted_arcs = are.shifted_arcs.small;
+        few_shifted_arcs = omega (arith, count, moved, second);
+        index_arcs = are.index_arcs.small;
+        few_index_arcs = omega (arith, count, indexes, third);
       }
 
   pub charges_small : (c : Charges) → AreCharges problem shifts c → AreSmallOnSlots problem shifts → AreSmallCharges c
@@ -62,9 +62,9 @@ module _ (problem : Problem) (labelled : IsLabelled problem) (limits : IsWithinL
   module _ (c : Charges) (m : Moved) (charges : AreCharges problem shifts c) (moved : AreMoved problem shifts m) where
     start_is : AreSumsOf problem shifts [] (start_of problem c m)
     start_is =
-        let uses = links_free problem m.moves (map (use_term problem) problem.uses) m.links moved.links in
-        let shifted = links_free problem m.moves (shifted_uses problem shifts 0 problem.uses) m.shifted_links moved.shifted_links in
-        let indexes = links_free problem m.tells (map (index_term problem) problem.indexes) m.index_links moved.index_links in
+        let uses = arcs_free problem m.moves (map (use_term problem) problem.uses) m.arcs moved.arcs in
+        let shifted = arcs_free problem m.moves (shifted_uses problem shifts 0 problem.uses) m.shifted_arcs moved.shifted_arcs in
+        let indexes = arcs_free problem m.tells (map (index_term problem) problem.indexes) m.index_arcs moved.index_arcs in
         let operations = ap free_total charges.operations in
         let outputs = ap free_total charges.outputs in
         let merged = ap free_total charges.merged in
@@ -84,9 +84,9 @@ module _ (problem : Problem) (labelled : IsLabelled problem) (limits : IsWithinL
           few = listed.few;
           moves = moved.moves;
           tells = moved.tells;
-          links = moved.links;
-          shifted_links = moved.shifted_links;
-          index_links = moved.index_links;
+          arcs = moved.arcs;
+          shifted_arcs = moved.shifted_arcs;
+          index_arcs = moved.index_arcs;
           tellings = kept.tellings;
           gains = kept.gains ∙ ap₂ (λ outputs operations. map (gains_with outputs) operations) charges.outputs charges.operations;
           shifted_gains = kept.shifted_gains ∙ ap (map (gains_with [])) charges.merged;

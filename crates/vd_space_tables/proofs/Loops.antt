@@ -15,8 +15,8 @@ use Rattle.vd_space.specs.Bounds.{add, outputs_value}
 use Rattle.vd_space.specs.Growth.{output_names}
 use Rattle.vd_space.specs.Validity.{protocols}
 use Rattle.vd_base.specs.declared.protocols.Proto.{Proto}
-use Rattle.vd_space_prefix.specs.declared.transfers.Link.{Link}
-use Rattle.vd_space_prefix.specs.Steps.{IsLink, AreLinks}
+use Rattle.vd_space_prefix.specs.declared.transfers.Arc.{Arc}
+use Rattle.vd_space_prefix.specs.Steps.{IsArc, AreArcs}
 use Rattle.vd_space_prefix.specs.Transfers.{IsWithin, by_place}
 use Rattle.vd_space_tables.specs.Charges.{AreCandidates, charge_from, charge_of}
 use Rattle.vd_space_tables.proofs.Small.{HasAtMost, kept}
@@ -83,11 +83,11 @@ total_item f xs slice i x same low read =
     subst (λ ys. total f (take (i + 1) ys) ≡ total f (take i ys) +ℤ f x) same
     (total_more f slice i x (take_more slice i x low ∙ ap (λ y. take i slice ++ y ∷ []) (sym read)))
 
--- a link that is found
-pub both_found : (links : List Link) (number : ℕ) (link : Link) → AreLinks links → true ≡ ltb number (length links) → link ≡ get_or links number link
-    → (to_z w64 (of_z w64 link.both) ≡ option_map_or (λ (l : Link). l.both) (slice_get links number) (pos 0)) × IsWithin 1125899906842624 (to_z w64 (of_z w64 link.both))
-both_found links number link are low read =
-    let at : slice_get links number ≡ Some link = slice_get_read links (length links) number link refl (ltb-true number (length links) (sym low)) read in
-    let is : IsLink link = subst (λ o. IfSome o IsLink) at (are number) in
-    let same = kept link.both is.both in
-    (same ∙ sym (ap (λ o. option_map_or (λ (l : Link). l.both) o (pos 0)) at), subst (IsWithin 1125899906842624) (sym same) is.both)
+-- an arc that is found
+pub both_found : (arcs : List Arc) (number : ℕ) (arc : Arc) → AreArcs arcs → true ≡ ltb number (length arcs) → arc ≡ get_or arcs number arc
+    → (to_z w64 (of_z w64 arc.both) ≡ option_map_or (λ (l : Arc). l.both) (slice_get arcs number) (pos 0)) × IsWithin 1125899906842624 (to_z w64 (of_z w64 arc.both))
+both_found arcs number arc are low read =
+    let at : slice_get arcs number ≡ Some arc = slice_get_read arcs (length arcs) number arc refl (ltb-true number (length arcs) (sym low)) read in
+    let is : IsArc arc = subst (λ o. IfSome o IsArc) at (are number) in
+    let same = kept arc.both is.both in
+    (same ∙ sym (ap (λ o. option_map_or (λ (l : Arc). l.both) o (pos 0)) at), subst (IsWithin 1125899906842624) (sym same) is.both)

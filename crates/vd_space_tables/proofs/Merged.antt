@@ -19,11 +19,11 @@ use Rattle.vd_space.specs.Bounds.{least_one, least_pair, shifted_one, shifted_on
 use Rattle.vd_space.specs.Labelled.{IsLabelled}
 use Rattle.vd_space.specs.Sizes.{IsWithinLimits}
 use Rattle.vd_space.proofs.Totals.{total_append, total_map, total_ext}
-use Rattle.vd_space_prefix.specs.declared.transfers.Link.{Link}
+use Rattle.vd_space_prefix.specs.declared.transfers.Arc.{Arc}
 use Rattle.vd_space_prefix.specs.Tables.{AreListed, gain_at}
 use Rattle.vd_space_prefix.specs.Transfers.{IsWithin, by_place}
 use Rattle.vd_space_prefix.proofs.Placed.{at_place}
-use Rattle.vd_space_terms.specs.Links.{AreLinksOf}
+use Rattle.vd_space_terms.specs.Arcs.{AreArcsOf}
 use Rattle.vd_space_terms.specs.Prices.{candidates_of}
 use Rattle.vd_space_terms.specs.Sums.{slot_shifts_of, AreSmallSums}
 use Rattle.vd_space_tables.specs.declared.charges.Charge.{Charge}
@@ -129,7 +129,7 @@ same_totals f g (x ∷ xs) (y ∷ ys) size each =
     some_same : {X : Type 0} (a b : X) → Some a ≡ Some b → a ≡ b
     some_same a b is = cc
 
-pub links_free : (problem : Problem) (prices : List (List (Option ℕ))) (terms : List Pair) (links : List Link) → AreLinksOf problem prices terms links → total (λ (link : Link). link.both) links ≡ total (least_pair problem []) terms
-links_free problem prices terms links linked =
-    same_totals (λ (link : Link). link.both) (least_pair problem []) links terms linked.size
-    (λ k term at. let found = linked.under k term at in (found.0, found.1, found.2 [] (none_listed problem)))
+pub arcs_free : (problem : Problem) (prices : List (List (Option ℕ))) (terms : List Pair) (arcs : List Arc) → AreArcsOf problem prices terms arcs → total (λ (arc : Arc). arc.both) arcs ≡ total (least_pair problem []) terms
+arcs_free problem prices terms arcs by_arcs =
+    same_totals (λ (arc : Arc). arc.both) (least_pair problem []) arcs terms by_arcs.size
+    (λ k term at. let found = by_arcs.under k term at in (found.0, found.1, found.2 [] (none_listed problem)))

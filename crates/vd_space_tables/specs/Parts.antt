@@ -8,11 +8,11 @@ use Rattle.vd_space.specs.Costs.{total, use_term, index_term, guards_total}
 use Rattle.vd_space.specs.Bounds.{least_one, shifted_uses, slot_shift}
 use Rattle.vd_space_prefix.specs.declared.tables.Tables.{Tables}
 use Rattle.vd_space_prefix.specs.declared.tables.Sums.{Sums}
-use Rattle.vd_space_prefix.specs.Steps.{AreLinks}
+use Rattle.vd_space_prefix.specs.Steps.{AreArcs}
 use Rattle.vd_space_prefix.specs.Naming.{naming_of}
 use Rattle.vd_space_prefix.specs.Tables.{AreSumsOf}
 use Rattle.vd_space_prefix.specs.Transfers.{ArePrices, IsWithin, by_place}
-use Rattle.vd_space_terms.specs.Links.{AreLinksOf}
+use Rattle.vd_space_terms.specs.Arcs.{AreArcsOf}
 use Rattle.vd_space_tables.specs.declared.made.Moved.{Moved}
 use Rattle.vd_space_tables.specs.declared.made.Charges.{Charges}
 use Rattle.vd_space_tables.specs.declared.made.Kept.{Kept}
@@ -31,9 +31,9 @@ pub record HaveParts (problem : Problem) (tables : Tables) : Type 0 where
   pub few : length tables.list ≤ 64
   pub moves : ArePrices tables.moves
   pub tells : ArePrices tables.tells
-  pub links : AreLinksOf problem tables.moves (map (use_term problem) problem.uses) tables.links
-  pub shifted_links : AreLinksOf problem tables.moves (shifted_uses problem tables.shifts 0 problem.uses) tables.shifted_links
-  pub index_links : AreLinksOf problem tables.tells (map (index_term problem) problem.indexes) tables.index_links
+  pub arcs : AreArcsOf problem tables.moves (map (use_term problem) problem.uses) tables.arcs
+  pub shifted_arcs : AreArcsOf problem tables.moves (shifted_uses problem tables.shifts 0 problem.uses) tables.shifted_arcs
+  pub index_arcs : AreArcsOf problem tables.tells (map (index_term problem) problem.indexes) tables.index_arcs
   pub tellings : tables.tellings ≡ map (telling_of problem) problem.guards
   pub gains : tables.gains ≡ map (gains_with (outputs_of problem)) (operations_of problem)
   pub shifted_gains : tables.shifted_gains ≡ map (gains_with []) (merged_of problem tables.shifts)
@@ -45,9 +45,9 @@ pub record HaveParts (problem : Problem) (tables : Tables) : Type 0 where
 pub record AreMoved (problem : Problem) (shifts : List Shift) (m : Moved) : Type 0 where
   pub moves : ArePrices m.moves
   pub tells : ArePrices m.tells
-  pub links : AreLinksOf problem m.moves (map (use_term problem) problem.uses) m.links
-  pub shifted_links : AreLinksOf problem m.moves (shifted_uses problem shifts 0 problem.uses) m.shifted_links
-  pub index_links : AreLinksOf problem m.tells (map (index_term problem) problem.indexes) m.index_links
+  pub arcs : AreArcsOf problem m.moves (map (use_term problem) problem.uses) m.arcs
+  pub shifted_arcs : AreArcsOf problem m.moves (shifted_uses problem shifts 0 problem.uses) m.shifted_arcs
+  pub index_arcs : AreArcsOf problem m.tells (map (index_term problem) problem.indexes) m.index_arcs
 
 pub record AreCharges (problem : Problem) (shifts : List Shift) (c : Charges) : Type 0 where
   pub operations : c.operations ≡ operations_of problem
@@ -57,12 +57,12 @@ pub record AreCharges (problem : Problem) (shifts : List Shift) (c : Charges) : 
 -- small enough, and few enough, for their sums to be made
 
 pub record AreSmallMoved (m : Moved) : Type 0 where
-  pub links : AreLinks m.links
-  pub few_links : length m.links ≤ 2048
-  pub shifted_links : AreLinks m.shifted_links
-  pub few_shifted_links : length m.shifted_links ≤ 2048
-  pub index_links : AreLinks m.index_links
-  pub few_index_links : length m.index_links ≤ 2048
+  pub arcs : AreArcs m.arcs
+  pub few_arcs : length m.arcs ≤ 2048
+  pub shifted_arcs : AreArcs m.shifted_arcs
+  pub few_shifted_arcs : length m.shifted_arcs ≤ 2048
+  pub index_arcs : AreArcs m.index_arcs
+  pub few_index_arcs : length m.index_arcs ≤ 2048
 
 pub record AreSmallCharges (c : Charges) : Type 0 where
   pub operations : All (IsCharge 1125899906842624) c.operations
@@ -79,9 +79,9 @@ pub record AreSmallParts (c : Charges) (m : Moved) : Type 0 where
 -- the sums of the empty prefix
 abbrev pub start_of : Problem → Charges → Moved → Sums
 start_of problem c m = record {
-  low = free_total c.operations +ℤ free_total c.outputs +ℤ both_total m.links;
-  shifted = free_total c.merged +ℤ both_total m.shifted_links;
-  common = both_total m.index_links +ℤ guards_total problem (least_one problem []) [];
+  low = free_total c.operations +ℤ free_total c.outputs +ℤ both_total m.arcs;
+  shifted = free_total c.merged +ℤ both_total m.shifted_arcs;
+  common = both_total m.index_arcs +ℤ guards_total problem (least_one problem []) [];
 }
 
 pub record AreKept (problem : Problem) (c : Charges) (m : Moved) (k : Kept) : Type 0 where
@@ -98,9 +98,9 @@ tables_of list shifts m k = record {
   shifts = shifts;
   moves = m.moves;
   tells = m.tells;
-  links = m.links;
-  shifted_links = m.shifted_links;
-  index_links = m.index_links;
+  arcs = m.arcs;
+  shifted_arcs = m.shifted_arcs;
+  index_arcs = m.index_arcs;
   tellings = k.tellings;
   gains = k.gains;
   shifted_gains = k.shifted_gains;

@@ -2,16 +2,16 @@
 
 use crate::charges::Charge;
 use vd_base_lists::Items;
-use vd_space_prefix::{Link, Naming, Sums, Telling};
+use vd_space_prefix::{Arc, Naming, Sums, Telling};
 
-/// What is moved between two slots: prices by place, and links by use and by index, without and under shifts.
+/// What is moved between two slots: prices by place, and arcs by use and by index, without and under shifts.
 #[derive(Drop)]
 pub struct Moved {
     pub moves: Items<Items<Option<u32>>>,
     pub tells: Items<Items<Option<u32>>>,
-    pub links: Items<Link>,
-    pub shifted_links: Items<Link>,
-    pub index_links: Items<Link>,
+    pub arcs: Items<Arc>,
+    pub shifted_arcs: Items<Arc>,
+    pub index_arcs: Items<Arc>,
 }
 
 /// What slots alone cost: for operations and for outputs, and for both together under shifts.
@@ -22,7 +22,7 @@ pub struct Charges {
     pub merged: Items<Charge>,
 }
 
-/// What is kept beside the links.
+/// What is kept beside the arcs.
 #[derive(Drop)]
 pub struct Kept {
     pub tellings: Items<Telling>,

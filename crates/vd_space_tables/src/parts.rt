@@ -20,7 +20,7 @@ use vd_base_lists::Items;
 use vd_search_tree::Shift;
 use vd_space::Problem;
 use vd_space_prefix::{Sums, Telling, namings};
-use vd_space_terms::{index_links, index_prices, move_prices, shifted_use_links, use_links};
+use vd_space_terms::{index_arcs, index_prices, move_prices, shifted_use_arcs, use_arcs};
 
 /// What is moved between two slots.
 pub(crate) fn moved_values(
@@ -38,15 +38,15 @@ pub(crate) fn moved_values(
 {
     let moves = move_prices(alloc, list)?;
     let tells = index_prices(alloc, problem, list)?;
-    let links = use_links(alloc, problem, moves.as_slice(), candidates)?;
-    let shifted_links = shifted_use_links(alloc, problem, moves.as_slice(), candidates, shifts)?;
-    let index_links = index_links(alloc, problem, tells.as_slice(), candidates)?;
+    let arcs = use_arcs(alloc, problem, moves.as_slice(), candidates)?;
+    let shifted_arcs = shifted_use_arcs(alloc, problem, moves.as_slice(), candidates, shifts)?;
+    let index_arcs = index_arcs(alloc, problem, tells.as_slice(), candidates)?;
     Ok(Moved {
         moves,
         tells,
-        links,
-        shifted_links,
-        index_links,
+        arcs,
+        shifted_arcs,
+        index_arcs,
     })
 }
 

@@ -3,9 +3,9 @@
 ghost use Rattle.std.specs.Prelude.{◌≡◌, ◌≤◌, ◌+ℤ◌, [], All, length, map, pos, slice_get};
 ghost use Rattle.std.specs.Option.{option_map_or};
 ghost use Rattle.vd_base.specs.Limits.{most_weights};
-ghost use Rattle.vd_space_prefix.specs.Steps.{AreLinks};
+ghost use Rattle.vd_space_prefix.specs.Steps.{AreArcs};
 ghost use Rattle.vd_space_prefix.specs.Transfers.{IsWithin};
-ghost use Rattle.vd_space_prefix.specs.declared.transfers.Link.{Link as Links};
+ghost use Rattle.vd_space_prefix.specs.declared.transfers.Arc.{Arc as Arcs};
 ghost use Rattle.vd_space.specs.Bounds.{least_one};
 ghost use Rattle.vd_space.specs.Costs.{guards_total};
 ghost use Rattle.vd_space.specs.Growth.{guard_sum};
@@ -19,7 +19,7 @@ use crate::charges::Charge;
 use crate::made::{Charges, Moved};
 use vd_base::Proto;
 use vd_space::{Guard, Problem};
-use vd_space_prefix::{Link, Telling, guard_cost};
+use vd_space_prefix::{Arc, Telling, guard_cost};
 
 /// What the charges come to where no slot is decided.
 fn free_sum(charges: &[Charge]) -> i64
@@ -43,28 +43,28 @@ fn free_of(charge: &Charge) -> i64
     charge.free
 }
 
-/// What the links come to where no slot is decided.
-fn both_sum(links: &[Link]) -> i64
-    requires links { AreLinks links.now }
-    requires few { length links.now ≤ 2048 }
-    ensures sum { result ≡ both_total links.now }
+/// What the arcs come to where no slot is decided.
+fn both_sum(arcs: &[Arc]) -> i64
+    requires arcs { AreArcs arcs.now }
+    requires few { length arcs.now ≤ 2048 }
+    ensures sum { result ≡ both_total arcs.now }
     ensures within { IsWithin 2305843009213693952 result }
 {
     let mut sum = 0;
-    for number in 0..links.len() {
-        sum += both_of(links, number);
+    for number in 0..arcs.len() {
+        sum += both_of(arcs, number);
     }
     sum
 }
 
-/// What the link with that number comes to.
-fn both_of(links: &[Link], number: usize) -> i64
-    requires links { AreLinks links.now }
-    ensures both { result ≡ option_map_or (λ (link : Links). link.both) (slice_get links.now number) (pos 0) }
+/// What the arc with that number comes to.
+fn both_of(arcs: &[Arc], number: usize) -> i64
+    requires arcs { AreArcs arcs.now }
+    ensures both { result ≡ option_map_or (λ (arc : Arcs). arc.both) (slice_get arcs.now number) (pos 0) }
     ensures within { IsWithin 1125899906842624 result }
 {
-    match links.get(number) {
-        Some(link) => link.both,
+    match arcs.get(number) {
+        Some(arc) => arc.both,
         None => 0,
     }
 }
@@ -99,19 +99,19 @@ fn told_cost(problem: &Problem, list: &[Proto], guard: &Guard, telling: &Telling
 /// The terms of slots and uses where no slot is decided.
 pub(crate) fn low_start(charges: &Charges, moved: &Moved) -> i64
     requires { AreSmallParts charges.now moved.now }
-    ensures { result ≡ free_total charges.now.operations +ℤ free_total charges.now.outputs +ℤ both_total moved.now.links }
+    ensures { result ≡ free_total charges.now.operations +ℤ free_total charges.now.outputs +ℤ both_total moved.now.arcs }
 {
     free_sum(charges.operations.as_slice())
         + free_sum(charges.outputs.as_slice())
-        + both_sum(moved.links.as_slice())
+        + both_sum(moved.arcs.as_slice())
 }
 
 /// The same under shifts.
 pub(crate) fn shifted_start(charges: &Charges, moved: &Moved) -> i64
     requires { AreSmallParts charges.now moved.now }
-    ensures { result ≡ free_total charges.now.merged +ℤ both_total moved.now.shifted_links }
+    ensures { result ≡ free_total charges.now.merged +ℤ both_total moved.now.shifted_arcs }
 {
-    free_sum(charges.merged.as_slice()) + both_sum(moved.shifted_links.as_slice())
+    free_sum(charges.merged.as_slice()) + both_sum(moved.shifted_arcs.as_slice())
 }
 
 /// The terms of indexes and guards where no slot is decided.
@@ -125,7 +125,7 @@ pub(crate) fn common_start(
     requires limits { IsWithinLimits problem.now }
     requires moved { AreSmallMoved moved.now }
     requires tellings { tellings.now ≡ map (telling_of problem.now) problem.now.guards }
-    ensures { result ≡ both_total moved.now.index_links +ℤ guards_total problem.now (least_one problem.now []) [] }
+    ensures { result ≡ both_total moved.now.index_arcs +ℤ guards_total problem.now (least_one problem.now []) [] }
 {
-    both_sum(moved.index_links.as_slice()) + told_sum(problem, list, tellings)
+    both_sum(moved.index_arcs.as_slice()) + told_sum(problem, list, tellings)
 }

@@ -19,7 +19,7 @@ use Rattle.vd_space.proofs.Prices.{move_price}
 use Rattle.vd_space.proofs.Priced.{small, index_price, listed_or_not}
 use Rattle.vd_space_prefix.specs.Transfers.{ArePrices, by_place, cell, priced, taken}
 use Rattle.vd_space_prefix.proofs.Placed.{size_by_place, at_place}
-use Rattle.vd_space_terms.specs.Links.{use_transfer, index_transfer}
+use Rattle.vd_space_terms.specs.Arcs.{use_transfer, index_transfer}
 use Rattle.vd_space_terms.specs.Prices.{moves_of, tells_of}
 
 -- a table of rows, of which each is a list by place

@@ -4,7 +4,7 @@ mod Telling
 pub mod Small
 mod Counting
 mod Cells
-pub mod Linking
+pub mod Network
 mod Placing
 pub mod Few
 mod Stepping

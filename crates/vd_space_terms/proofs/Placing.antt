@@ -1,4 +1,4 @@
--- The links of uses and indexes are those of their terms.
+-- The arcs of uses and indexes are those of their terms.
 use Rattle.std.proofs.Common.{◌≡◌, ℕ, ◌+◌, add-one, ◌<◌, ◌≤◌, cond, ◌&&◌, List, [], ◌∷◌, ◌++◌, length, take, get_or, map, refl, sym, ap, ap₂, ◌∙◌, subst, arith, ℤ, pos, inl, inr}
 use Rattle.std.specs.Prelude.{◌==◌}
 use Rattle.std.proofs.lemmas.Int.{ints}
@@ -16,21 +16,21 @@ use Rattle.vd_space.specs.Costs.{index_term, total}
 use Rattle.vd_space.specs.Bounds.{least_pair, signed, shifted_use, shifted_uses, slot_shift, use_shift}
 use Rattle.vd_space.proofs.Priced.{listed_or_not}
 use Rattle.vd_space.proofs.Shifted.{each_at}
-use Rattle.vd_space_prefix.specs.declared.transfers.Link.{Link}
-use Rattle.vd_space_prefix.specs.Transfers.{IsTransfer, IsWithin, by_place, link_of, taken}
-use Rattle.vd_space_prefix.specs.Steps.{IsLink, under}
+use Rattle.vd_space_prefix.specs.declared.transfers.Arc.{Arc}
+use Rattle.vd_space_prefix.specs.Transfers.{IsTransfer, IsWithin, by_place, arc_of, taken}
+use Rattle.vd_space_prefix.specs.Steps.{IsArc, under}
 use Rattle.vd_space_prefix.specs.Tables.{AreListed}
 use Rattle.vd_space_prefix.proofs.Placed.{candidates, under_is, at_place, size_by_place}
 use Rattle.vd_space_terms.specs.declared.sums.Rows.{Rows}
 use Rattle.vd_space_terms.specs.declared.sums.Rows.TheVariants.{Sources, Targets, Slots}
-use Rattle.vd_space_terms.specs.Links.{AreLinksOf, use_transfer, index_transfer, link_between}
+use Rattle.vd_space_terms.specs.Arcs.{AreArcsOf, use_transfer, index_transfer, arc_between}
 use Rattle.vd_space_terms.specs.Prices.{candidates_of, moves_of, tells_of}
 use Rattle.vd_space_terms.specs.Sums.{AreSmallShifts, AreSmallSums, part, slot_shifts_of, sums_of}
 use Rattle.vd_space_terms.proofs.Made.{same_by_place}
-use Rattle.vd_space_terms.proofs.Small.{link_small, place_within}
+use Rattle.vd_space_terms.proofs.Small.{arc_small, place_within}
 use Rattle.vd_space_terms.proofs.Counting.{total_within, no_longer, if_within, part_within, sides_together, slots_shifted}
 use Rattle.vd_space_terms.proofs.Cells.{moves_small, tells_small, use_cell, index_cell}
-use Rattle.vd_space_terms.proofs.Linking.{candidates_at, linked_more, shifted_at}
+use Rattle.vd_space_terms.proofs.Network.{candidates_at, network_more, shifted_at}
 
 -- ---- sums of shifts are small
 
@@ -131,13 +131,13 @@ module _ (problem : Problem) (labelled : IsLabelled problem) where
     pub use_is_transfer : u.weight ≤ 65536 → IsTransfer (use_transfer u sources targets)
     use_is_transfer light = record { weight = light; taken = taken_within }
 
-    use_linked : (link : Link) → u.weight ≤ 65536 → IsUse (length problem.slots) u → link ≡ link_between (moves_of (protocols problem)) (use_transfer u sources targets) (candidates_of problem)
-        → IsLink link × ((front : List ℕ) → AreListed problem front → under (moves_of (protocols problem)) link front ≡ least_pair problem front (shifted_use problem shifts k u))
-    use_linked link light known is =
+    use_network : (arc : Arc) → u.weight ≤ 65536 → IsUse (length problem.slots) u → arc ≡ arc_between (moves_of (protocols problem)) (use_transfer u sources targets) (candidates_of problem)
+        → IsArc arc × ((front : List ℕ) → AreListed problem front → under (moves_of (protocols problem)) arc front ≡ least_pair problem front (shifted_use problem shifts k u))
+    use_network arc light known is =
         let prices = moves_of (protocols problem) in
         let t = use_transfer u sources targets in
-        let same : link ≡ link_of prices t (candidates problem u.source.0) (candidates problem u.target.0) = is ∙ ap₂ (link_of prices t) (candidates_at problem u.source.0 known.source) (candidates_at problem u.target.0 known.target) in (
-          subst IsLink (sym same) (link_small prices t (candidates problem u.source.0) (candidates problem u.target.0) (moves_small problem labelled) (use_is_transfer light)),
+        let same : arc ≡ arc_of prices t (candidates problem u.source.0) (candidates problem u.target.0) = is ∙ ap₂ (arc_of prices t) (candidates_at problem u.source.0 known.source) (candidates_at problem u.target.0 known.target) in (
+          subst IsArc (sym same) (arc_small prices t (candidates problem u.source.0) (candidates problem u.target.0) (moves_small problem labelled) (use_is_transfer light)),
           λ front listed. ap (λ l. under prices l front) same ∙ under_is problem prices t (shifted_use problem shifts k u) refl refl (λ p q low low_q. use_cell problem shifts k u sources targets p q low low_q (taken_is p q low low_q)) front listed,
         )
 
@@ -146,44 +146,44 @@ module _ (problem : Problem) (labelled : IsLabelled problem) where
   index_is_transfer : (i : Index) → i.weight ≤ 65536 → IsTransfer (index_transfer i)
   index_is_transfer i light = record { weight = light; taken = λ p q. record { low = omega (arith, ints); high = omega (arith, ints) } }
 
-  index_linked : (i : Index) (link : Link) → i.weight ≤ 65536 → IsIndex (length problem.slots) i → link ≡ link_between (tells_of problem) (index_transfer i) (candidates_of problem)
-      → IsLink link × ((front : List ℕ) → AreListed problem front → under (tells_of problem) link front ≡ least_pair problem front (index_term problem i))
-  index_linked i link light known is =
+  index_network : (i : Index) (arc : Arc) → i.weight ≤ 65536 → IsIndex (length problem.slots) i → arc ≡ arc_between (tells_of problem) (index_transfer i) (candidates_of problem)
+      → IsArc arc × ((front : List ℕ) → AreListed problem front → under (tells_of problem) arc front ≡ least_pair problem front (index_term problem i))
+  index_network i arc light known is =
       let prices = tells_of problem in
       let t = index_transfer i in
-      let same : link ≡ link_of prices t (candidates problem i.array.0) (candidates problem i.index.0) = is ∙ ap₂ (link_of prices t) (candidates_at problem i.array.0 known.array) (candidates_at problem i.index.0 known.index) in (
-        subst IsLink (sym same) (link_small prices t (candidates problem i.array.0) (candidates problem i.index.0) (tells_small problem labelled) (index_is_transfer i light)),
+      let same : arc ≡ arc_of prices t (candidates problem i.array.0) (candidates problem i.index.0) = is ∙ ap₂ (arc_of prices t) (candidates_at problem i.array.0 known.array) (candidates_at problem i.index.0 known.index) in (
+        subst IsArc (sym same) (arc_small prices t (candidates problem i.array.0) (candidates problem i.index.0) (tells_small problem labelled) (index_is_transfer i light)),
         λ front listed. ap (λ l. under prices l front) same ∙ under_is problem prices t (index_term problem i) refl refl (index_cell problem i) front listed,
       )
 
   -- ---- one more in a loop
 
   module _ (holds : IsProblem problem) (limits : IsWithinLimits problem) where
-    pub index_step : (n : ℕ) (i : Index) (links more : List Link) (link : Link) → n < length problem.indexes → i ≡ get_or problem.indexes n i
-        → AreLinksOf problem (tells_of problem) (take n (map (index_term problem) problem.indexes)) links → link ≡ link_between (tells_of problem) (index_transfer i) (candidates_of problem) → more ≡ links ++ link ∷ []
-        → AreLinksOf problem (tells_of problem) (take (n + 1) (map (index_term problem) problem.indexes)) more
-    index_step n i links more link low at are is pushed =
+    pub index_step : (n : ℕ) (i : Index) (arcs more : List Arc) (arc : Arc) → n < length problem.indexes → i ≡ get_or problem.indexes n i
+        → AreArcsOf problem (tells_of problem) (take n (map (index_term problem) problem.indexes)) arcs → arc ≡ arc_between (tells_of problem) (index_transfer i) (candidates_of problem) → more ≡ arcs ++ arc ∷ []
+        → AreArcsOf problem (tells_of problem) (take (n + 1) (map (index_term problem) problem.indexes)) more
+    index_step n i arcs more arc low at are is pushed =
         let terms = map (index_term problem) problem.indexes in
         let here = slice_get_read problem.indexes (length problem.indexes) n i refl low at in
         let light : i.weight ≤ 65536 = subst (λ (x : Index). x.weight ≤ 65536) (sym at) (limits.indexes n i low) in
-        let linked = index_linked i link light (each_at (IsIndex (length problem.slots)) problem.indexes n i here holds.indexes) is in
+        let by_arcs = index_network i arc light (each_at (IsIndex (length problem.slots)) problem.indexes n i here holds.indexes) is in
         let d = index_term problem i in
         let size = length-map problem.indexes (index_term problem) in
         let next : take (n + 1) terms ≡ take n terms ++ index_term problem i ∷ [] =
         take_more terms n d (omega (arith, size, low)) ∙ ap (λ x. take n terms ++ x ∷ []) (get_or-map (index_term problem) problem.indexes n i d low ∙ ap (index_term problem) (sym at)) in
-        subst (λ l. AreLinksOf problem (tells_of problem) (take (n + 1) terms) l) (sym pushed)
-        (subst (λ ts. AreLinksOf problem (tells_of problem) ts (links ++ link ∷ [])) (sym next) (linked_more problem (tells_of problem) (take n terms) links (index_term problem i) link are linked.0 linked.1))
+        subst (λ l. AreArcsOf problem (tells_of problem) (take (n + 1) terms) l) (sym pushed)
+        (subst (λ ts. AreArcsOf problem (tells_of problem) ts (arcs ++ arc ∷ [])) (sym next) (network_more problem (tells_of problem) (take n terms) arcs (index_term problem i) arc are by_arcs.0 by_arcs.1))
 
-    pub use_step : (shifts : List Shift) (few : length shifts ≤ 131072) (small : AreSmallShifts shifts) (n : ℕ) (u : Use) (links more : List Link) (link : Link) → n < length problem.uses → u ≡ get_or problem.uses n u
-        → AreLinksOf problem (moves_of (protocols problem)) (take n (shifted_uses problem shifts 0 problem.uses)) links
-        → link ≡ link_between (moves_of (protocols problem)) (use_transfer u (sources shifts few small n u) (targets shifts few small n u)) (candidates_of problem) → more ≡ links ++ link ∷ []
-        → AreLinksOf problem (moves_of (protocols problem)) (take (n + 1) (shifted_uses problem shifts 0 problem.uses)) more
-    use_step shifts few small n u links more link low at are is pushed =
+    pub use_step : (shifts : List Shift) (few : length shifts ≤ 131072) (small : AreSmallShifts shifts) (n : ℕ) (u : Use) (arcs more : List Arc) (arc : Arc) → n < length problem.uses → u ≡ get_or problem.uses n u
+        → AreArcsOf problem (moves_of (protocols problem)) (take n (shifted_uses problem shifts 0 problem.uses)) arcs
+        → arc ≡ arc_between (moves_of (protocols problem)) (use_transfer u (sources shifts few small n u) (targets shifts few small n u)) (candidates_of problem) → more ≡ arcs ++ arc ∷ []
+        → AreArcsOf problem (moves_of (protocols problem)) (take (n + 1) (shifted_uses problem shifts 0 problem.uses)) more
+    use_step shifts few small n u arcs more arc low at are is pushed =
         let prices = moves_of (protocols problem) in
         let terms = shifted_uses problem shifts 0 problem.uses in
         let here = slice_get_read problem.uses (length problem.uses) n u refl low at in
         let light : u.weight ≤ 65536 = subst (λ (x : Use). x.weight ≤ 65536) (sym at) (limits.uses n u low) in
-        let linked = use_linked shifts few small n u link light (each_at (IsUse (length problem.slots)) problem.uses n u here holds.uses) is in
+        let by_arcs = use_network shifts few small n u arc light (each_at (IsUse (length problem.slots)) problem.uses n u here holds.uses) is in
         let next : take (n + 1) terms ≡ take n terms ++ shifted_use problem shifts n u ∷ [] = ap (λ m. take m terms) (add-one n) ∙ shifted_at problem shifts 0 n problem.uses u here ∙ ap (λ m. take n terms ++ shifted_use problem shifts m u ∷ []) (omega arith) in
-        subst (λ l. AreLinksOf problem prices (take (n + 1) terms) l) (sym pushed)
-        (subst (λ ts. AreLinksOf problem prices ts (links ++ link ∷ [])) (sym next) (linked_more problem prices (take n terms) links (shifted_use problem shifts n u) link are linked.0 linked.1))
+        subst (λ l. AreArcsOf problem prices (take (n + 1) terms) l) (sym pushed)
+        (subst (λ ts. AreArcsOf problem prices ts (arcs ++ arc ∷ [])) (sym next) (network_more problem prices (take n terms) arcs (shifted_use problem shifts n u) arc are by_arcs.0 by_arcs.1))

@@ -1,4 +1,4 @@
--- Links are made of small numbers.
+-- Arcs are made of small numbers.
 use Rattle.std.proofs.Common.{ℕ, zero, suc, ◌*◌, ◌<◌, ◌≤◌, Bool, true, false, Option, Some, None, List, length, get_or, sym, subst, arith, mul-le-mul, ℤ, pos, ◌-ℤ◌, option_map, inl, inr}
 use Rattle.std.specs.Prelude.{unwrap_or, IfSome}
 use Rattle.std.proofs.lemmas.Int.{ints, int_min_is}
@@ -7,8 +7,8 @@ use Rattle.vd_space.specs.Costs.{weigh}
 use Rattle.vd_space.specs.Bounds.{lesser, least_below, only_if, nothing_left}
 use Rattle.vd_space.proofs.Priced.{listed_or_not}
 use Rattle.vd_space_prefix.specs.declared.transfers.Transfer.{Transfer}
-use Rattle.vd_space_prefix.specs.Transfers.{IsWithin, IsTransfer, ArePrices, by_place, cell, priced, taken, least_where, row_of, column_of, square_of, link_of}
-use Rattle.vd_space_prefix.specs.Steps.{IsLink}
+use Rattle.vd_space_prefix.specs.Transfers.{IsWithin, IsTransfer, ArePrices, by_place, cell, priced, taken, least_where, row_of, column_of, square_of, arc_of}
+use Rattle.vd_space_prefix.specs.Steps.{IsArc}
 use Rattle.vd_space_prefix.proofs.Placed.{size_by_place, at_place}
 
 abbrev IsSmall : Option ℤ → Type 0
@@ -53,8 +53,8 @@ place_within most n f k each = elim (listed_or_not n k) [
   | inr past ↦ subst (IsWithin most) (sym (get_or_past (by_place n f) k (pos 0) (subst (λ m. m ≤ k) (sym (size_by_place n f)) past))) (zero_small most)
 ]
 
-pub link_small : (prices : List (List (Option ℕ))) (t : Transfer) (firsts seconds : List Bool) → ArePrices prices → IsTransfer t → IsLink (link_of prices t firsts seconds)
-link_small prices t firsts seconds cheap is =
+pub arc_small : (prices : List (List (Option ℕ))) (t : Transfer) (firsts seconds : List Bool) → ArePrices prices → IsTransfer t → IsArc (arc_of prices t firsts seconds)
+arc_small prices t firsts seconds cheap is =
     let each : (p q : ℕ) → IsSmall (cell prices t p q) = λ p q. cell_of t.weight (priced prices p q) (taken t p q) is.weight (cheap.few p q) (is.taken p q) in
     let row : (p : ℕ) → IsSmall (row_of prices t seconds p) = λ p. where_small seconds (cell prices t p) (each p) in
     let column : (q : ℕ) → IsSmall (column_of prices t firsts q) = λ q. where_small firsts (λ p. cell prices t p q) (λ p. each p q) in

@@ -1,3 +1,3 @@
 pub mod Prices
 pub mod Sums
-pub mod Links
+pub mod Arcs

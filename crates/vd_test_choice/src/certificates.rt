@@ -15,7 +15,7 @@ const FIRST_FORM: &[u8] = b"viaduct-cert 1\ncost 222\nEEVEVVVVVVELBBVVBBVVVVVVVV
 const SECOND_FORM: &[u8] =
     b"viaduct-cert 2\ncost 222\nshifts 1\n3 0 0 + 1\nEEVEVVVVVVELBBVVBBVVVVVVVVVVV\n";
 
-/// The same with a shift of a link.
+/// The same with a shift of an arc.
 const THIRD_FORM: &[u8] =
     b"viaduct-cert 3\ncost 222\nshifts 1\n3 1 1 - 256\nEEVEVVVVVVELBBVVBBVVVVVVVVVVV\n";
 

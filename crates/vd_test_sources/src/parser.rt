@@ -11,19 +11,19 @@ use vd_parser::{ParseFault, parse};
 enum Answer<'a> {
     /// A tree in which `main` has this many statements.
     Tree(usize),
-    /// A tree in which `main` begins with a `let` at this offset, of this name, with this many links.
+    /// A tree in which `main` begins with a `let` at this offset, of this name, with this many segments.
     Let(u32, &'a str, usize),
     Refused(ParseFault),
 }
 
-fn links_of(value: &Expr) -> usize {
+fn segments_of(value: &Expr) -> usize {
     match value {
-        Expr::Chain(_, links) => links.as_slice().len(),
+        Expr::Chain(_, segments) => segments.as_slice().len(),
         _ => 0,
     }
 }
 
-fn begins_with_let(source: &Source, start: u32, word: &str, links: usize) -> bool {
+fn begins_with_let(source: &Source, start: u32, word: &str, segments: usize) -> bool {
     match source.main.as_slice().first() {
         Some(
             Statement::Let {
@@ -34,7 +34,7 @@ fn begins_with_let(source: &Source, start: u32, word: &str, links: usize) -> boo
             },
         ) => at.start == start
             && name.name.as_slice() == word.as_bytes()
-            && links_of(value) == links,
+            && segments_of(value) == segments,
         _ => false,
     }
 }
@@ -42,7 +42,7 @@ fn begins_with_let(source: &Source, start: u32, word: &str, links: usize) -> boo
 fn is_tree(source: &Source, answer: Answer<'_>) -> bool {
     match answer {
         Tree(statements) => source.main.as_slice().len() == statements,
-        Let(start, word, links) => begins_with_let(source, start, word, links),
+        Let(start, word, segments) => begins_with_let(source, start, word, segments),
         Refused(_) => false,
     }
 }

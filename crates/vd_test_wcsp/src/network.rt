@@ -4,8 +4,8 @@ use crate::settings::Settings;
 use std::alloc::Global;
 use std::io::Write;
 use vd_base_lists::Items;
-use vd_cost_network_prefix::{LinkTable, LinkedTables, PointTable};
-use vd_cost_network_tables::linked_tables;
+use vd_cost_network_prefix::{ArcTable, NetworkTables, PointTable};
+use vd_cost_network_tables::network_tables;
 use vd_space_api::Space;
 
 /// No list costs so many units.
@@ -17,7 +17,7 @@ const PARTS: i64 = 256;
 /// Prints the network of a space.
 pub(crate) fn print<W: Write>(alloc: Global, to: &mut W, space: &Space) -> anyhow::Result<()> {
     let problem = space.problem();
-    let tables = linked_tables(alloc, problem, Items::new(alloc))?;
+    let tables = network_tables(alloc, problem, Items::new(alloc))?;
     let settings = Settings::of(alloc, problem, space.list(), &tables)?;
     print_tables(to, &tables, &settings)
 }
@@ -25,17 +25,17 @@ pub(crate) fn print<W: Write>(alloc: Global, to: &mut W, space: &Space) -> anyho
 /// The network with these tables.
 fn print_tables<W: Write>(
     to: &mut W,
-    tables: &LinkedTables,
+    tables: &NetworkTables,
     settings: &Settings,
 ) -> anyhow::Result<()> {
     let points = tables.points.as_slice();
-    let links = tables.links.as_slice();
-    print_head(to, points.len(), links.len(), settings)?;
+    let arcs = tables.arcs.as_slice();
+    print_head(to, points.len(), arcs.len(), settings)?;
     for (point, table) in points.iter().enumerate() {
         print_point(to, point, table, settings)?;
     }
-    for link in links {
-        print_link(to, link, settings)?;
+    for arc in arcs {
+        print_arc(to, arc, settings)?;
     }
     Ok(())
 }
@@ -45,14 +45,14 @@ fn print_tables<W: Write>(
 fn print_head<W: Write>(
     to: &mut W,
     points: usize,
-    links: usize,
+    arcs: usize,
     settings: &Settings,
 ) -> anyhow::Result<()> {
     let mut most = 1;
     for point in 0..points {
         most = settings.at(point).len().max(most);
     }
-    let functions = points.saturating_add(links);
+    let functions = points.saturating_add(arcs);
     writeln!(to, "viaduct {points} {most} {functions} {TOP}")?;
     for point in 0..points {
         writeln!(to, "{}", settings.at(point).len().max(1))?;
@@ -77,18 +77,18 @@ fn print_point<W: Write>(
     Ok(())
 }
 
-/// What a link costs at these settings of its points, if they join.
-fn cost_at(link: &LinkTable, first: usize, second: usize) -> Option<i64> {
-    let row = link.cells.as_slice().get(first)?;
+/// What an arc costs at these settings of its points, if they join.
+fn cost_at(arc: &ArcTable, first: usize, second: usize) -> Option<i64> {
+    let row = arc.cells.as_slice().get(first)?;
     *row.as_slice().get(second)?
 }
 
 /// How many pairs of settings join.
-fn joining(link: &LinkTable, firsts: &[usize], seconds: &[usize]) -> usize {
+fn joining(arc: &ArcTable, firsts: &[usize], seconds: &[usize]) -> usize {
     let mut count: usize = 0;
     for first in firsts {
         for second in seconds {
-            if cost_at(link, *first, *second).is_some() {
+            if cost_at(arc, *first, *second).is_some() {
                 count = count.saturating_add(1);
             }
         }
@@ -96,15 +96,15 @@ fn joining(link: &LinkTable, firsts: &[usize], seconds: &[usize]) -> usize {
     count
 }
 
-/// What a link costs.
-fn print_link<W: Write>(to: &mut W, link: &LinkTable, settings: &Settings) -> anyhow::Result<()> {
-    let firsts = settings.at(link.first as usize);
-    let seconds = settings.at(link.second as usize);
-    let count = joining(link, firsts, seconds);
-    writeln!(to, "2 {} {} {TOP} {count}", link.first, link.second)?;
+/// What an arc costs.
+fn print_arc<W: Write>(to: &mut W, arc: &ArcTable, settings: &Settings) -> anyhow::Result<()> {
+    let firsts = settings.at(arc.first as usize);
+    let seconds = settings.at(arc.second as usize);
+    let count = joining(arc, firsts, seconds);
+    writeln!(to, "2 {} {} {TOP} {count}", arc.first, arc.second)?;
     for (value, first) in firsts.iter().enumerate() {
         for (other, second) in seconds.iter().enumerate() {
-            if let Some(cost) = cost_at(link, *first, *second) {
+            if let Some(cost) = cost_at(arc, *first, *second) {
                 writeln!(to, "{value} {other} {}", cost / PARTS)?;
             }
         }

@@ -5,7 +5,7 @@ ghost use Rattle.vd_space.specs.WellFormed.{AreProtocols};
 use std::alloc::{AllocError, Global};
 use vd_base::Proto;
 use vd_base_lists::Items;
-use vd_cost_network_prefix::{LinkedTables, PointTable, SwitchTable};
+use vd_cost_network_prefix::{NetworkTables, PointTable, SwitchTable};
 use vd_space::Problem;
 use vd_space_terms::candidates;
 
@@ -27,7 +27,7 @@ impl Settings {
         alloc: Global,
         problem: &Problem,
         list: &[Proto],
-        tables: &LinkedTables,
+        tables: &NetworkTables,
     ) -> Result<Settings, AllocError>
         requires { AreProtocols problem.now list.now }
     {

@@ -1,6 +1,6 @@
 use Rattle.std.proofs.Common.{◌<◌, length, subst, sym}
 use Rattle.std.proofs.lemmas.Result.{err_from_is_err_and}
-use Rattle.vd_cost_network.specs.Links.{links}
+use Rattle.vd_cost_network.specs.Arcs.{arcs}
 use Rattle.vd_space.specs.declared.problem.Problem.{Problem}
 use Rattle.vd_cmd_choose.proofs.Labelled.{has_labels}
 use Rattle.vd_cmd_choose.proofs.Statuses.{problem_refusal}
@@ -14,8 +14,8 @@ returns-in_err-labels-clause-checks c = λ least.
 pub of-requires : goal.of-requires
 of-requires c = has_labels c.args.program.now c.in_ok-labels.labels (c.in_ok-labels.ensures {u = tt}).least
 
-pub returns-clause-few_links : goal.returns-clause-few_links
-returns-clause-few_links c =
+pub returns-clause-few_arcs : goal.returns-clause-few_arcs
+returns-clause-few_arcs c =
     let labels = c.in_ok-labels.labels in
-    let few = c.links_are_few.ensures labels (has_labels c.args.program.now labels (c.in_ok-labels.ensures {u = tt}).least) in
-    subst (λ (problem : Problem). length (links problem) < 4294967296) (sym c.in_ok-of.ensures) few
+    let few = c.arcs_are_few.ensures labels (has_labels c.args.program.now labels (c.in_ok-labels.ensures {u = tt}).least) in
+    subst (λ (problem : Problem). length (arcs problem) < 4294967296) (sym c.in_ok-of.ensures) few

@@ -4,7 +4,7 @@ use Rattle.vd_space_prefix.specs.Transfers.{by_place}
 use Rattle.vd_space_prefix.proofs.Fills.{grows}
 use Rattle.vd_space.specs.declared.problem.Guard.{Guard}
 use Rattle.vd_cost_network.specs.Points.{switch_of}
-use Rattle.vd_cost_network.specs.Links.{switch_value}
+use Rattle.vd_cost_network.specs.Arcs.{switch_value}
 use Rattle.vd_cost_network_prefix.specs.States.{count_of_points}
 use Rattle.vd_cost_network_tables.proofs.Pointing.{named_guard, named_inside}
 use Rattle.vd_cost_network_tables.proofs.Rawing.{switch_at, switches_size}

@@ -1,7 +1,7 @@
 use Rattle.std.proofs.Common.{◌≡◌, [], get_or, sym, ap, ◌∙◌, arith}
 use Rattle.std.proofs.lemmas.Int.{ints}
 use Rattle.vd_cost_network_prefix.specs.States.{as_states, parts_by}
-use Rattle.vd_cost_network_prefix.proofs.Changing.{begun, ended, links_are, one_more, points_are}
+use Rattle.vd_cost_network_prefix.proofs.Changing.{begun, ended, arcs_are, one_more, points_are}
 use Rattle.vd_cost_network_prefix.proofs.Moving.{parts_small}
 use Rattle.vd_cost_network_prefix.proofs.deciding.decide_slot.Goals as goal
 
@@ -20,12 +20,12 @@ loop-point-init c =
       sum = omega (arith, ints, given, small_low, small_high);
     }
 
-pub change-sum-requires-clause-links : goal.change-sum-requires-clause-links
-change-sum-requires-clause-links c = λ low.
+pub change-sum-requires-clause-arcs : goal.change-sum-requires-clause-arcs
+change-sum-requires-clause-arcs c = λ low.
     let point = get_or c.row_at-changed.result.now c.loop-point.point-index 0 in
     let size = c.loop-point.invariant.size in
     let points = c.requires.tables.points in
-    c.row_at-links.ensures ∙ ap (λ rows. get_or rows point []) c.as_slice-in-loop-point.ensures ∙ links_are c.args.problem.now c.args.tables.now c.args.reach.now c.requires.tables.reached point (omega (arith, low, size, points))
+    c.row_at-arcs.ensures ∙ ap (λ rows. get_or rows point []) c.as_slice-in-loop-point.ensures ∙ arcs_are c.args.problem.now c.args.tables.now c.args.reach.now c.requires.tables.reached point (omega (arith, low, size, points))
 
 pub change-sum-requires-clause-parts : goal.change-sum-requires-clause-parts
 change-sum-requires-clause-parts c = record { size = c.requires.tables.points ∙ sym c.loop-point.invariant.size; sum = c.loop-point.invariant.sum }

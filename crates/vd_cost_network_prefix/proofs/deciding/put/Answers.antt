@@ -1,16 +1,16 @@
 use Rattle.std.proofs.Common.{ℕ, Option, List, ap, ◌∙◌, arith, ◌+ℤ◌}
 use Rattle.std.proofs.lemmas.Int.{ints}
 use Rattle.vd_space.specs.Costs.{total}
-use Rattle.vd_cost_network_prefix.specs.States.{as_states, link_part, point_part}
+use Rattle.vd_cost_network_prefix.specs.States.{as_states, arc_part, point_part}
 use Rattle.vd_cost_network_prefix.proofs.Moving.{put_moves}
 use Rattle.vd_cost_network_prefix.proofs.deciding.put.Goals as goal
 
 pub overflow_add-result : goal.overflow_add-result
 overflow_add-result c =
     let tables = c.args.tables.now in
-    let links = c.args.links.now in
-    let come_to = λ (list : List (Option ℕ)). point_part tables.points (as_states list) c.args.point +ℤ total (link_part tables.links (as_states list)) links in
-    let moves = put_moves tables c.args.states.now c.set.new.self links c.args.point c.args.state c.sum_of_parts_at-before.result c.sum_of_parts_at-after.result c.args.parts c.requires.small c.requires.parts.size c.requires.point c.requires.links c.set.ensures
+    let arcs = c.args.arcs.now in
+    let come_to = λ (list : List (Option ℕ)). point_part tables.points (as_states list) c.args.point +ℤ total (arc_part tables.arcs (as_states list)) arcs in
+    let moves = put_moves tables c.args.states.now c.set.new.self arcs c.args.point c.args.state c.sum_of_parts_at-before.result c.sum_of_parts_at-after.result c.args.parts c.requires.small c.requires.parts.size c.requires.point c.requires.arcs c.set.ensures
     (c.sum_of_parts_at-before.ensures.sum ∙ ap come_to c.as_slice.ensures) (c.sum_of_parts_at-after.ensures.sum ∙ ap come_to c.as_slice-2.ensures) c.requires.parts.sum in
     let moved = moves.0 in
     let first_low = moves.1.low in
@@ -22,9 +22,9 @@ overflow_add-result c =
 pub returns-clause-parts : goal.returns-clause-parts
 returns-clause-parts c =
     let tables = c.args.tables.now in
-    let links = c.args.links.now in
-    let come_to = λ (list : List (Option ℕ)). point_part tables.points (as_states list) c.args.point +ℤ total (link_part tables.links (as_states list)) links in
-    let moves = put_moves tables c.args.states.now c.set.new.self links c.args.point c.args.state c.sum_of_parts_at-before.result c.sum_of_parts_at-after.result c.args.parts c.requires.small c.requires.parts.size c.requires.point c.requires.links c.set.ensures
+    let arcs = c.args.arcs.now in
+    let come_to = λ (list : List (Option ℕ)). point_part tables.points (as_states list) c.args.point +ℤ total (arc_part tables.arcs (as_states list)) arcs in
+    let moves = put_moves tables c.args.states.now c.set.new.self arcs c.args.point c.args.state c.sum_of_parts_at-before.result c.sum_of_parts_at-after.result c.args.parts c.requires.small c.requires.parts.size c.requires.point c.requires.arcs c.set.ensures
     (c.sum_of_parts_at-before.ensures.sum ∙ ap come_to c.as_slice.ensures) (c.sum_of_parts_at-after.ensures.sum ∙ ap come_to c.as_slice-2.ensures) c.requires.parts.sum in
     let moved = moves.0 in
     let first_low = moves.1.low in

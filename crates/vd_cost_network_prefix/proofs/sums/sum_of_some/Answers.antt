@@ -2,20 +2,20 @@ use Rattle.std.proofs.Common.{arith, get_or}
 use Rattle.std.proofs.lemmas.Int.{ints}
 use Rattle.std.proofs.lemmas.List.{take_more}
 use Rattle.vd_space_prefix.proofs.Changes.{total_more}
-use Rattle.vd_cost_network_prefix.specs.States.{as_states, link_part}
+use Rattle.vd_cost_network_prefix.specs.States.{as_states, arc_part}
 use Rattle.vd_cost_network_prefix.proofs.sums.sum_of_some.Goals as goal
 
 pub loop-number-preserved : goal.loop-number-preserved
 loop-number-preserved c =
     let i = c.loop-number.number-index in
     let numbers = c.args.numbers.now in
-    let more = total_more (link_part c.args.tables.now (as_states c.args.states.now)) numbers i (get_or numbers i 0) (take_more numbers i 0 (omega arith)) in
+    let more = total_more (arc_part c.args.tables.now (as_states c.args.states.now)) numbers i (get_or numbers i 0) (take_more numbers i 0 (omega arith)) in
     let so_far = c.loop-number.invariant.sum in
     let low = c.loop-number.invariant.within.low in
     let high = c.loop-number.invariant.within.high in
-    let here = c.part_of_link.ensures.part in
-    let here_low = c.part_of_link.ensures.within.low in
-    let here_high = c.part_of_link.ensures.within.high in
+    let here = c.part_of_arc.ensures.part in
+    let here_low = c.part_of_arc.ensures.within.low in
+    let here_high = c.part_of_arc.ensures.within.high in
     record {
       sum = omega (arith, ints, more, so_far, low, high, here, here_low, here_high);
       within = record { low = omega (arith, ints, low, high, here_low, here_high); high = omega (arith, ints, low, high, here_low, here_high) };

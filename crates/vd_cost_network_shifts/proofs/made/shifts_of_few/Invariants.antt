@@ -5,6 +5,6 @@ use Rattle.vd_cost_network_shifts.proofs.made.shifts_of_few.Given as goal
 
 abbrev pub invariant-loop-at : goal.invariant-loop-at
 invariant-loop-at l = record {
-  are : AreShiftsOf l.links l.places l.shifts;
+  are : AreShiftsOf l.arcs l.places l.shifts;
   amounts : l.shifts ≡ net_shifts (row_of l.nets.firsts) (row_of l.nets.seconds) l.places l.at;
 }

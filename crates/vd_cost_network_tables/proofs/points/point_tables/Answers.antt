@@ -57,7 +57,7 @@ returns-clause-tables c =
     let sums_are = c.in_ok-sums.ensures.sums ∙ ap (λ n. sums_of raws Points n most shifts) size in
     (c.in_ok-push_switch_tables.ensures {u = tt})
     ∙ ap (λ (sums : List (List ℤ)). by_place (count_of_points problem) (table_by problem sums)) c.as_slice-2.ensures.value
-    ∙ point_tables_made problem shifts raws most c.in_ok-sums.sums.items c.requires.network.linked sums_are c.requires.settings.few
+    ∙ point_tables_made problem shifts raws most c.in_ok-sums.sums.items c.requires.network.by_arcs sums_are c.requires.settings.few
 
 pub returns-clause-small : goal.returns-clause-small
 returns-clause-small c number =
@@ -70,5 +70,5 @@ returns-clause-small c number =
     let same =
     (c.in_ok-push_switch_tables.ensures {u = tt})
     ∙ ap (λ (sums : List (List ℤ)). by_place (count_of_points problem) (table_by problem sums)) c.as_slice-2.ensures.value
-    ∙ point_tables_made problem shifts raws most c.in_ok-sums.sums.items c.requires.network.linked sums_are c.requires.settings.few in
+    ∙ point_tables_made problem shifts raws most c.in_ok-sums.sums.items c.requires.network.by_arcs sums_are c.requires.settings.few in
     (subst AreSmallPoints (sym same) (point_tables_small problem c.requires.well_formed.labelled c.requires.well_formed.limits shifts c.requires.few c.in_ok-sums.ensures.small)) number

@@ -22,6 +22,6 @@ new-requires c =
 pub returns : goal.returns
 returns c =
     let read = c.form-form.ensures in
-    let all = all_answers c.args.program.now c.args.labels.now c.args.host read.well_made c.requires c.form-form.result.now c.as_slice.result.now c.in_ok-reader.reader c.in_ok-links.links (reach_of c.in_ok-reached.reached) (members c.hosts.result)
-    read.same c.as_slice.ensures c.in_ok-reader.ensures.host c.in_ok-reader.ensures.slots c.in_ok-links.ensures c.in_ok-reached.ensures c.hosts.ensures in
+    let all = all_answers c.args.program.now c.args.labels.now c.args.host read.well_made c.requires c.form-form.result.now c.as_slice.result.now c.in_ok-reader.reader c.in_ok-edges.edges (reach_of c.in_ok-reached.reached) (members c.hosts.result)
+    read.same c.as_slice.ensures c.in_ok-reader.ensures.host c.in_ok-reader.ensures.slots c.in_ok-edges.ensures c.in_ok-reached.ensures c.hosts.ensures in
     record { reached = all.0; readable = all.1.0; enough = all.1.1 }

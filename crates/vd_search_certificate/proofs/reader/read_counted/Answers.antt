@@ -10,13 +10,13 @@ returns-in-Err c =
     let at = c.loop-taken in
     let bytes = c.args.bytes.now in
     subst (λ said. Said bytes said (Err c.in-Err.fault)) at.invariant.same
-    (shift_refused c.args.count at.taken at.shifts (λ shifts. scan_marks (Some c.args.cost) c.args.linked shifts []) bytes at.at c.in-Err.fault c.loop-taken-test.true c.in-Err.ensures)
+    (shift_refused c.args.count at.taken at.shifts (λ shifts. scan_marks (Some c.args.cost) c.args.by_arcs shifts []) bytes at.at c.in-Err.fault c.loop-taken-test.true c.in-Err.ensures)
 
 pub loop-taken-preserved : goal.loop-taken-preserved
 loop-taken-preserved c =
     let at = c.loop-taken in
     let bytes = c.args.bytes.now in
-    let marks : List Shift → Scanner = λ shifts. scan_marks (Some c.args.cost) c.args.linked shifts [] in
+    let marks : List Shift → Scanner = λ shifts. scan_marks (Some c.args.cost) c.args.by_arcs shifts [] in
     let left = c.args.count - (at.taken + 1) in
     let pushed = c.in_ok-push-in-Ok.ensures.ok in
     record {

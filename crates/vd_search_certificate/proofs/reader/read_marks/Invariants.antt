@@ -5,5 +5,5 @@ use Rattle.vd_search_certificate.proofs.reader.read_marks.Given as goal
 abbrev pub invariant-loop-at : goal.invariant-loop-at
 invariant-loop-at l = record {
   shifts_same : l.shifts ≡ l.initial.shifts;
-  same : scan_marks l.cost l.linked l.initial.shifts l.marks (drop l.at l.bytes) ≡ scan_marks l.cost l.linked l.initial.shifts l.initial.marks (drop l.start l.bytes);
+  same : scan_marks l.cost l.by_arcs l.initial.shifts l.marks (drop l.at l.bytes) ≡ scan_marks l.cost l.by_arcs l.initial.shifts l.initial.marks (drop l.start l.bytes);
 }

@@ -1,5 +1,5 @@
 use Rattle.std.proofs.Common.{subst}
-use Rattle.vd_search_stages.specs.Linking.{IsBeyond}
+use Rattle.vd_search_stages.specs.Network.{IsBeyond}
 use Rattle.vd_search_stages.proofs.Untied.{one_more}
 use Rattle.vd_search_stages.proofs.passing.pass_over.Goals as goal
 

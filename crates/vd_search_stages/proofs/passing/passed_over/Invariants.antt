@@ -1,6 +1,6 @@
 use Rattle.std.proofs.Common.{◌≡◌}
 use Rattle.std.specs.List.{All}
-use Rattle.vd_search_stages.specs.Linking.{IsBeyond}
+use Rattle.vd_search_stages.specs.Network.{IsBeyond}
 use Rattle.vd_search_stages.proofs.passing.passed_over.Given as goal
 
 abbrev pub invariant-loop : goal.invariant-loop

@@ -9,7 +9,7 @@ pub loop-number-preserved : goal.loop-number-preserved
 loop-number-preserved c =
     let i = c.loop-number.number-index in
     let numbers = c.args.numbers.now in
-    let more = total_more (change c.args.prices.now c.args.links.now c.args.before.now c.args.after.now) numbers i (get_or numbers i 0) (take_more numbers i 0 (omega arith)) in
+    let more = total_more (change c.args.prices.now c.args.arcs.now c.args.before.now c.args.after.now) numbers i (get_or numbers i 0) (take_more numbers i 0 (omega arith)) in
     let so_far = c.loop-number.invariant.sum in
     let low = c.loop-number.invariant.within.low in
     let high = c.loop-number.invariant.within.high in

@@ -5,6 +5,6 @@ use Rattle.vd_space_prefix.proofs.steps.growth_of.Given as goal
 
 abbrev pub invariant-loop-number : goal.invariant-loop-number
 invariant-loop-number l = record {
-  sum : l.sum ≡ changes l.prices l.links (take l.number-index l.numbers) l.before l.after;
+  sum : l.sum ≡ changes l.prices l.arcs (take l.number-index l.numbers) l.before l.after;
   within : IsWithin (2251799813685248 * l.number-index) l.sum;
 }

@@ -1,12 +1,12 @@
 use Rattle.std.proofs.Common.{arith}
 use Rattle.std.proofs.lemmas.Int.{ints}
-use Rattle.vd_space_prefix.specs.declared.transfers.Link.{Link}
+use Rattle.vd_space_prefix.specs.declared.transfers.Arc.{Arc}
 use Rattle.vd_space_tables.proofs.Loops.{total_next}
 use Rattle.vd_space_tables.proofs.start.both_sum.Goals as goal
 
 pub loop-number-preserved : goal.loop-number-preserved
 loop-number-preserved c =
-    let more = total_next (λ (link : Link). link.both) c.args.links.now c.loop-number.number c.loop-number-test.true in
+    let more = total_next (λ (arc : Arc). arc.both) c.args.arcs.now c.loop-number.number c.loop-number-test.true in
     let so_far = c.loop-number.invariant.sum in
     let low = c.loop-number.invariant.within.low in
     let high = c.loop-number.invariant.within.high in

@@ -9,7 +9,7 @@ use Rattle.vd_anf.specs.declared.spot.Spot.TheVariants.{Binding}
 use Rattle.vd_anf.specs.Normal.{Made, Place, call_made, inlining_of, inlinings_of}
 use Rattle.vd_anf_wellformed.proofs.Growth.{size}
 use Rattle.vd_elaborate.specs.Scopes.{Fits, lowered, all_lowered, place, inside}
-use Rattle.vd_elaborate.proofs.Growth.{statement_within, expr_within, link_within, chain_step, exprs_step, min_first, max_first, mux_first, unary_operand, chain_operand, call_arguments, part_fits, second_fits, inside_more, turn_more, body_within, put_index, guard_fits, block_fits}
+use Rattle.vd_elaborate.proofs.Growth.{statement_within, expr_within, segment_within, chain_step, exprs_step, min_first, max_first, mux_first, unary_operand, chain_operand, call_arguments, part_fits, second_fits, inside_more, turn_more, body_within, put_index, guard_fits, block_fits}
 use Rattle.vd_elaborate.proofs.Blocks.{block_left}
 use Rattle.vd_elaborate.proofs.scope.Scope.+walk.Goals as goal
 
@@ -84,7 +84,7 @@ lower-lower-requires-in-Unary t c =
 
 pub lower-lower-requires-in-Chain : goal.lower-lower-requires-in-Chain
 lower-lower-requires-in-Chain t c =
-    let part = chain_operand (host_names c.args.self.now.hosts.now) c.args.self.now.functions.now c.args.names.now c.args.here c.in-Chain.first c.in-Chain.links c.args.made.now in
+    let part = chain_operand (host_names c.args.self.now.hosts.now) c.args.self.now.functions.now c.args.names.now c.args.here c.in-Chain.first c.in-Chain.segments c.args.made.now in
     (search (rules, the_lemmas, the_statements), part_fits (host_names c.args.self.now.hosts.now) c.args.self.now.functions.now c.args.names.now c.args.here c.in-Chain.first c.deref-in-Chain.result.now c.args.expr.now _ c.args.made.now c.in-Chain.is c.deref-in-Chain.ensures part c.requires)
 
 pub lower-lower-requires-in-Mux-2 : goal.lower-lower-requires-in-Mux-2
@@ -109,17 +109,17 @@ lower_all-lower-requires t c =
     let within = expr_within (host_names c.args.self.now.hosts.now) c.args.self.now.functions.now c.args.exprs.now c.loop-expr.expr-index c.expr-item.result c.args.names.now c.args.here c.loop-expr.made c.loop-expr-test.true c.expr-item.is in
     (search (rules, the_lemmas, the_statements), omega arith)
 
-pub chain-link-requires : goal.chain-link-requires
-chain-link-requires t c =
+pub chain-segment-requires : goal.chain-segment-requires
+chain-segment-requires t c =
     let fits = c.requires in
-    let same = ap (λ (q : ℕ × Made). size q.1) c.loop-link.invariant in
-    let within = link_within (host_names c.args.self.now.hosts.now) c.args.self.now.functions.now c.args.links.now c.loop-link.link-index c.link-item.result c.args.names.now c.args.here c.loop-link.x c.loop-link.made c.loop-link-test.true c.link-item.is in
+    let same = ap (λ (q : ℕ × Made). size q.1) c.loop-segment.invariant in
+    let within = segment_within (host_names c.args.self.now.hosts.now) c.args.self.now.functions.now c.args.segments.now c.loop-segment.segment-index c.segment-item.result c.args.names.now c.args.here c.loop-segment.x c.loop-segment.made c.loop-segment-test.true c.segment-item.is in
     (search (rules, the_lemmas, the_statements), omega arith)
 
-pub chain-loop-link-preserved : goal.chain-loop-link-preserved
-chain-loop-link-preserved t c =
-    chain_step (host_names c.args.self.now.hosts.now) c.args.self.now.functions.now c.args.names.now c.args.here c.args.links.now c.loop-link.link-index c.link-item.result c.loop-link.x c.loop-link.made (c.in_ok-x.x, c.link.new.made)
-    c.loop-link-test.true c.link-item.is c.in_ok-x.ensures ∙ c.loop-link.invariant
+pub chain-loop-segment-preserved : goal.chain-loop-segment-preserved
+chain-loop-segment-preserved t c =
+    chain_step (host_names c.args.self.now.hosts.now) c.args.self.now.functions.now c.args.names.now c.args.here c.args.segments.now c.loop-segment.segment-index c.segment-item.result c.loop-segment.x c.loop-segment.made (c.in_ok-x.x, c.segment.new.made)
+    c.loop-segment-test.true c.segment-item.is c.in_ok-x.ensures ∙ c.loop-segment.invariant
 
 pub enter-sequence-requires : goal.enter-sequence-requires
 enter-sequence-requires t c =

@@ -2,14 +2,14 @@ use Rattle.std.proofs.Common.{◌≡◌, ℕ, ◌+◌, ◌*◌, ◌++◌, map, t
 use Rattle.vd_base.specs.Names.{at_name}
 use Rattle.vd_semantics.specs.SourceMeaning.{host_names}
 use Rattle.vd_semantics.proofs.Sizes.{code_size, size_of, sizes, function_size}
-use Rattle.vd_anf.specs.Normal.{Made, lowering, lowering_of_link, chain_made, all_made, lowering_of, statements_made, inlinings_of}
+use Rattle.vd_anf.specs.Normal.{Made, lowering, lowering_of_segment, chain_made, all_made, lowering_of, statements_made, inlinings_of}
 use Rattle.vd_elaborate.proofs.scope.Scope.+walk.Given as goal
 
 abbrev pub decreases-lower : goal.decreases-lower
 decreases-lower l = 4 * (code_size l.self.now.functions.now + goal.size-lower l)
 
-abbrev pub decreases-link : goal.decreases-link
-decreases-link l = 4 * (code_size l.self.now.functions.now + goal.size-link l)
+abbrev pub decreases-segment : goal.decreases-segment
+decreases-segment l = 4 * (code_size l.self.now.functions.now + goal.size-segment l)
 
 abbrev pub decreases-chain : goal.decreases-chain
 decreases-chain l = 4 * (code_size l.self.now.functions.now + goal.size-chain l) + 1
@@ -42,12 +42,12 @@ abbrev pub invariant-call-loop-k : goal.invariant-call-loop-k
 invariant-call-loop-k l =
     (at_name (inlinings_of (host_names l.self.hosts.now) (take l.k l.self.functions.now)) l.name ≡ None) × (l.made ≡ l.initial.made)
 
-abbrev pub invariant-chain-loop-link : goal.invariant-chain-loop-link
-invariant-chain-loop-link l =
+abbrev pub invariant-chain-loop-segment : goal.invariant-chain-loop-segment
+invariant-chain-loop-segment l =
     let hosts = host_names l.self.hosts.now in
     let is = inlinings_of hosts l.self.functions.now in
-    chain_made (map (lowering_of_link hosts) (drop l.link-index l.links)) is l.names l.here l.x l.made
-    ≡ chain_made (map (lowering_of_link hosts) l.links) is l.names l.here l.first l.initial.made
+    chain_made (map (lowering_of_segment hosts) (drop l.segment-index l.segments)) is l.names l.here l.x l.made
+    ≡ chain_made (map (lowering_of_segment hosts) l.segments) is l.names l.here l.first l.initial.made
 
 abbrev pub invariant-lower_all-loop-expr : goal.invariant-lower_all-loop-expr
 invariant-lower_all-loop-expr l =

@@ -3,8 +3,8 @@ use Rattle.vd_noninter.specs.Reached.{reach_of}
 use Rattle.vd_noninter.proofs.Following.{SoFar}
 use Rattle.vd_noninter.proofs.reached.Reached.follow.Given as goal
 
-abbrev pub invariant-links : goal.invariant-links
-invariant-links l = SoFar (reach_of l.initial.self) (reach_of l.self) l.initial.waiting l.waiting l.left
+abbrev pub invariant-edges : goal.invariant-edges
+invariant-edges l = SoFar (reach_of l.initial.self) (reach_of l.self) l.initial.waiting l.waiting l.left
 
-abbrev pub decreases-links : goal.decreases-links
-decreases-links l = length l.waiting
+abbrev pub decreases-edges : goal.decreases-edges
+decreases-edges l = length l.waiting

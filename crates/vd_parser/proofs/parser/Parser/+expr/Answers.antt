@@ -27,7 +27,7 @@ expr-returns-in_ok-left-2 t c =
     let w1 = next (rule_start EXPR) c.in_ok-left.ensures in
     let op = comparison_token _ _ _ _ (ap comparison_at (sym c.kind.ensures) ∙ sym c.comparison.ensures ∙ c.in-Some.is) c.advance-token.ensures in
     let w2 = next (compared w1 (ap comparison_at (sym c.kind.ensures) ∙ sym c.comparison.ensures ∙ c.in-Some.is)) op in
-    last w2 c.in_ok-right.ensures (rw (c.in_ok-left-2.ensures, c.in_ok-push.ensures.ok, c.new-links.ensures) (expr_compared _ _ op.tree _ _ _ _ _ c.in_ok-left.ensures.value (comparison_op _ _ _ _ op.tree (ap comparison_at (sym c.kind.ensures) ∙ sym c.comparison.ensures ∙ c.in-Some.is) c.advance-token.ensures op.value) (ap (λ z. z.span) op.value) c.in_ok-right.ensures.value))
+    last w2 c.in_ok-right.ensures (rw (c.in_ok-left-2.ensures, c.in_ok-push.ensures.ok, c.new-segments.ensures) (expr_compared _ _ op.tree _ _ _ _ _ c.in_ok-left.ensures.value (comparison_op _ _ _ _ op.tree (ap comparison_at (sym c.kind.ensures) ∙ sym c.comparison.ensures ∙ c.in-Some.is) c.advance-token.ensures op.value) (ap (λ z. z.span) op.value) c.in_ok-right.ensures.value))
 
 pub expr-returns-in_default : goal.expr-returns-in_default
 expr-returns-in_default t c =
@@ -47,50 +47,50 @@ chain-returns-in_err-first t c =
     let p = err_from_is_err_and c.from_residual.result c.from_residual.ensures.1 in
     rw (p.1, p.2) (refused_first (level_start c.args.level) c.in_err-first.ensures)
 
-pub chain-links-init : goal.chain-links-init
-chain-links-init t c =
-    record { same = refl; collects = rw c.new-links.ensures (collects_first start (λ y. refl)) }
+pub chain-segments-init : goal.chain-segments-init
+chain-segments-init t c =
+    record { same = refl; collects = rw c.new-segments.ensures (collects_first start (λ y. refl)) }
 
 pub chain-returns-in_err-right : goal.chain-returns-in_err-right
 chain-returns-in_err-right t c =
     let w1 = next (level_start c.args.level) c.in_ok-first.ensures in
     let p = err_from_is_err_and c.from_residual-in_err-right.result c.from_residual-in_err-right.ensures.1 in
-    rw (p.1, p.2) (refused_last w1 (stop_more c.args.level _ c.links.invariant.collects (ap (infix_at c.args.level) (sym c.kind.ensures) ∙ sym c.infix.ensures ∙ c.in-Some.is) c.advance-token.ensures c.in_err-right.ensures))
+    rw (p.1, p.2) (refused_last w1 (stop_more c.args.level _ c.segments.invariant.collects (ap (infix_at c.args.level) (sym c.kind.ensures) ∙ sym c.infix.ensures ∙ c.in-Some.is) c.advance-token.ensures c.in_err-right.ensures))
 
-pub chain-links-preserved : goal.chain-links-preserved
-chain-links-preserved t c =
-    record { same = c.links.invariant.same; collects = rw c.in_ok-push.ensures.ok (one_more c.args.level _ c.links.invariant.collects (ap (infix_at c.args.level) (sym c.kind.ensures) ∙ sym c.infix.ensures ∙ c.in-Some.is) c.advance-token.ensures c.in_ok-right.ensures) }
+pub chain-segments-preserved : goal.chain-segments-preserved
+chain-segments-preserved t c =
+    record { same = c.segments.invariant.same; collects = rw c.in_ok-push.ensures.ok (one_more c.args.level _ c.segments.invariant.collects (ap (infix_at c.args.level) (sym c.kind.ensures) ∙ sym c.infix.ensures ∙ c.in-Some.is) c.advance-token.ensures c.in_ok-right.ensures) }
 
 pub chain-returns : goal.chain-returns
 chain-returns t c =
     let w1 = next (level_start c.args.level) c.in_ok-first.ensures in
-    let rest = no_more c.args.level _ c.links.invariant.collects (ap (infix_at c.args.level) (sym c.kind.ensures) ∙ sym c.infix.ensures ∙ c.in_default.is) in
-    last w1 rest (c.in_ok-expr.ensures ∙ level_is c.args.level _ _ _ _ _ (c.links.invariant.same ∙ c.in_ok-first.ensures.value) rest.value)
+    let rest = no_more c.args.level _ c.segments.invariant.collects (ap (infix_at c.args.level) (sym c.kind.ensures) ∙ sym c.infix.ensures ∙ c.in_default.is) in
+    last w1 rest (c.in_ok-expr.ensures ∙ level_is c.args.level _ _ _ _ _ (c.segments.invariant.same ∙ c.in_ok-first.ensures.value) rest.value)
 
 pub shift-returns-in_err-first : goal.shift-returns-in_err-first
 shift-returns-in_err-first t c =
     let p = err_from_is_err_and c.from_residual.result c.from_residual.ensures.1 in
     rw (p.1, p.2) (refused_first (rule_start SHIFT) c.in_err-first.ensures)
 
-pub shift-links-init : goal.shift-links-init
-shift-links-init t c =
-    record { same = refl; collects = rw c.new-links.ensures (collects_first start (λ y. refl)) }
+pub shift-segments-init : goal.shift-segments-init
+shift-segments-init t c =
+    record { same = refl; collects = rw c.new-segments.ensures (collects_first start (λ y. refl)) }
 
 pub shift-returns-in_err-bits : goal.shift-returns-in_err-bits
 shift-returns-in_err-bits t c =
     let w1 = next (rule_start SHIFT) c.in_ok-first.ensures in
     let p = err_from_is_err_and c.from_residual-in_err-bits.result c.from_residual-in_err-bits.ensures.1 in
-    rw (p.1, p.2) (refused_last w1 (stop_shift _ c.links.invariant.collects (ap direction_at (sym c.kind.ensures) ∙ sym c.direction.ensures ∙ c.in-Some.is) c.advance-token.ensures c.in_err-bits.ensures.token))
+    rw (p.1, p.2) (refused_last w1 (stop_shift _ c.segments.invariant.collects (ap direction_at (sym c.kind.ensures) ∙ sym c.direction.ensures ∙ c.in-Some.is) c.advance-token.ensures c.in_err-bits.ensures.token))
 
-pub shift-links-preserved : goal.shift-links-preserved
-shift-links-preserved t c =
-    record { same = c.links.invariant.same; collects = rw c.in_ok-push.ensures.ok (one_shift _ c.links.invariant.collects (ap direction_at (sym c.kind.ensures) ∙ sym c.direction.ensures ∙ c.in-Some.is) c.advance-token.ensures c.in_ok-bits.ensures.token) }
+pub shift-segments-preserved : goal.shift-segments-preserved
+shift-segments-preserved t c =
+    record { same = c.segments.invariant.same; collects = rw c.in_ok-push.ensures.ok (one_shift _ c.segments.invariant.collects (ap direction_at (sym c.kind.ensures) ∙ sym c.direction.ensures ∙ c.in-Some.is) c.advance-token.ensures c.in_ok-bits.ensures.token) }
 
 pub shift-returns : goal.shift-returns
 shift-returns t c =
     let w1 = next (rule_start SHIFT) c.in_ok-first.ensures in
-    let rest = no_shift _ c.links.invariant.collects (ap direction_at (sym c.kind.ensures) ∙ sym c.direction.ensures ∙ c.in_default.is) in
-    last w1 rest (c.in_ok-expr.ensures ∙ shift_is _ _ _ _ _ (c.links.invariant.same ∙ c.in_ok-first.ensures.value) rest.value)
+    let rest = no_shift _ c.segments.invariant.collects (ap direction_at (sym c.kind.ensures) ∙ sym c.direction.ensures ∙ c.in_default.is) in
+    last w1 rest (c.in_ok-expr.ensures ∙ shift_is _ _ _ _ _ (c.segments.invariant.same ∙ c.in_ok-first.ensures.value) rest.value)
 
 pub unary-returns-in_err-signs : goal.unary-returns-in_err-signs
 unary-returns-in_err-signs t c =

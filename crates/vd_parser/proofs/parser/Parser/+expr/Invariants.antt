@@ -5,8 +5,8 @@ use Rattle.vd_source_lexer.specs.declared.token.TokenKind.TheVariants as kind
 use Rattle.vd_parser.specs.declared.operators.Level.{Level}
 use Rattle.vd_parser.specs.declared.operators.Level.TheVariants as level
 use Rattle.vd_parser.specs.Language.{tok, commas, EXPR, shift_ops}
-use Rattle.vd_parser.specs.Levels.{ops_of, operand_symbol, links_of}
-use Rattle.vd_parser.specs.Syntax.{exprs_of, more_exprs_of, shift_links_of}
+use Rattle.vd_parser.specs.Levels.{ops_of, operand_symbol, segments_of}
+use Rattle.vd_parser.specs.Syntax.{exprs_of, more_exprs_of, shift_segments_of}
 use Rattle.vd_parser.specs.Parsing.{language}
 use Rattle.vd_parser.proofs.parser.Parser.+expr.Given as goal
 
@@ -66,23 +66,23 @@ decreases-three l = 32 * length l.cursor.now
 abbrev pub decreases-relabelled : goal.decreases-relabelled
 decreases-relabelled l = 32 * length l.cursor.now
 
-abbrev pub invariant-chain-links : goal.invariant-chain-links
-invariant-chain-links l = record {
+abbrev pub invariant-chain-segments : goal.invariant-chain-segments
+invariant-chain-segments l = record {
   same : l.first ≡ l.initial.first;
-  collects : Collects language (Star (Seq (ops_of l.level) (Sym (operand_symbol l.level)))) (links_of l.level l.self.text.now) (Seq (ops_of l.level) (Sym (operand_symbol l.level))) (links_of l.level l.self.text.now) l.initial.cursor l.cursor l.links;
+  collects : Collects language (Star (Seq (ops_of l.level) (Sym (operand_symbol l.level)))) (segments_of l.level l.self.text.now) (Seq (ops_of l.level) (Sym (operand_symbol l.level))) (segments_of l.level l.self.text.now) l.initial.cursor l.cursor l.segments;
 }
 
-abbrev pub decreases-chain-links : goal.decreases-chain-links
-decreases-chain-links l = length l.cursor
+abbrev pub decreases-chain-segments : goal.decreases-chain-segments
+decreases-chain-segments l = length l.cursor
 
-abbrev pub invariant-shift-links : goal.invariant-shift-links
-invariant-shift-links l = record {
+abbrev pub invariant-shift-segments : goal.invariant-shift-segments
+invariant-shift-segments l = record {
   same : l.first ≡ l.initial.first;
-  collects : Collects language (Star (Seq shift_ops (tok kind.Number))) (shift_links_of l.self.text.now) (Seq shift_ops (tok kind.Number)) (shift_links_of l.self.text.now) l.initial.cursor l.cursor l.links;
+  collects : Collects language (Star (Seq shift_ops (tok kind.Number))) (shift_segments_of l.self.text.now) (Seq shift_ops (tok kind.Number)) (shift_segments_of l.self.text.now) l.initial.cursor l.cursor l.segments;
 }
 
-abbrev pub decreases-shift-links : goal.decreases-shift-links
-decreases-shift-links l = length l.cursor
+abbrev pub decreases-shift-segments : goal.decreases-shift-segments
+decreases-shift-segments l = length l.cursor
 
 abbrev pub invariant-exprs-rest : goal.invariant-exprs-rest
 invariant-exprs-rest l = Collects language (commas (Sym EXPR)) (exprs_of l.self.text.now) (Seq (tok kind.Comma) (Sym EXPR)) (more_exprs_of l.self.text.now) l.fn.cursor l.cursor l.exprs

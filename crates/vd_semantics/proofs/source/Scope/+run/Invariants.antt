@@ -2,7 +2,7 @@ use Rattle.std.proofs.Common.{◌≡◌, ℕ, ◌+◌, ◌*◌, ◌++◌, map, t
 use Rattle.vd_semantics.specs.World.{World}
 use Rattle.vd_base.specs.Names.{at_name}
 use Rattle.vd_semantics.specs.Turns.{turns}
-use Rattle.vd_semantics.specs.SourceMeaning.{State, chain_evaluation, evaluations, evaluation, evaluation_of_link, in_sequence, turn_execution, execution, callees_of, host_names}
+use Rattle.vd_semantics.specs.SourceMeaning.{State, chain_evaluation, evaluations, evaluation, evaluation_of_segment, in_sequence, turn_execution, execution, callees_of, host_names}
 use Rattle.vd_semantics.proofs.Sizes.{code_size, size_of, sizes, function_size}
 use Rattle.vd_semantics.proofs.source.Scope.+run.Given as goal
 
@@ -37,12 +37,12 @@ abbrev pub invariant-call-loop-k : goal.invariant-call-loop-k
 invariant-call-loop-k l =
     (at_name (callees_of (host_names l.self.hosts.now) (take l.k l.self.functions.now)) l.name ≡ None) × (l.world ≡ l.initial.world)
 
-abbrev pub invariant-chain-loop-link : goal.invariant-chain-loop-link
-invariant-chain-loop-link l =
+abbrev pub invariant-chain-loop-segment : goal.invariant-chain-loop-segment
+invariant-chain-loop-segment l =
     let hosts = host_names l.self.hosts.now in
     let callees = callees_of hosts l.self.functions.now in
-    chain_evaluation (map (evaluation_of_link hosts) (drop l.link-index l.links)) callees l.env l.x l.world
-    ≡ chain_evaluation (map (evaluation_of_link hosts) l.links) callees l.env l.first l.initial.world
+    chain_evaluation (map (evaluation_of_segment hosts) (drop l.segment-index l.segments)) callees l.env l.x l.world
+    ≡ chain_evaluation (map (evaluation_of_segment hosts) l.segments) callees l.env l.first l.initial.world
 
 abbrev pub invariant-evaluate_all-loop-expr : goal.invariant-evaluate_all-loop-expr
 invariant-evaluate_all-loop-expr l =

@@ -1,6 +1,0 @@
-use Rattle.vd_cost_network.proofs.Few.{few_links}
-use Rattle.vd_space.proofs.Programs.{is_labelled}
-use Rattle.vd_cmd_choose.proofs.spaces.links_are_few.Goals as goal
-
-pub returns : goal.returns
-returns c = λ labels has. few_links c.args.program.now labels c.form.ensures.well_made (is_labelled c.args.program.now labels c.form.ensures.well_made has)

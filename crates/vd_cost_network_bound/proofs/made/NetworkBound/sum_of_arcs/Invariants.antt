@@ -1,0 +1,13 @@
+use Rattle.std.proofs.Common.{◌≡◌, ◌*◌}
+use Rattle.std.specs.List.{range_with_len}
+use Rattle.vd_space.specs.Costs.{total}
+use Rattle.vd_space_prefix.specs.Transfers.{IsWithin}
+use Rattle.vd_cost_network_prefix.specs.States.{as_states, arc_part}
+use Rattle.vd_cost_network_tables.specs.Tables.{arc_tables_of}
+use Rattle.vd_cost_network_bound.proofs.made.NetworkBound.sum_of_arcs.Given as goal
+
+abbrev pub invariant-loop-number : goal.invariant-loop-number
+invariant-loop-number l = record {
+  sum : l.sum ≡ total (arc_part (arc_tables_of l.problem l.shifts) (as_states l.states)) (range_with_len 0 l.number);
+  within : IsWithin (1125899906842624 * l.number) l.sum;
+}

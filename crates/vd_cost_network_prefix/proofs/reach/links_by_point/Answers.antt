@@ -1,6 +1,0 @@
-use Rattle.vd_space_prefix.proofs.Fills.{grows}
-use Rattle.vd_cost_network_prefix.specs.Reach.{links_at}
-use Rattle.vd_cost_network_prefix.proofs.reach.links_by_point.Goals as goal
-
-pub loop-point-preserved : goal.loop-point-preserved
-loop-point-preserved c = grows (links_at c.args.links.now) c.loop-point.point c.loop-point.rows c.push.new.self c.in_ok-links_at.field-0 c.loop-point.invariant c.in_ok-links_at.ensures c.in_ok-push.ensures.ok

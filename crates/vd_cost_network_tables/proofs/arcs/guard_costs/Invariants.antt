@@ -1,0 +1,6 @@
+use Rattle.std.proofs.Common.{◌≡◌, take}
+use Rattle.vd_cost_network_tables.specs.Raws.{guard_cells}
+use Rattle.vd_cost_network_tables.proofs.arcs.guard_costs.Given as goal
+
+abbrev pub invariant-loop-protocol : goal.invariant-loop-protocol
+invariant-loop-protocol l = l.cells ≡ guard_cells (take l.protocol-index l.list) l.weight l.host

@@ -1,6 +1,0 @@
-use Rattle.std.proofs.Common.{◌≡◌, map, take}
-use Rattle.vd_cost_network_tables.specs.Raws.{member_raw}
-use Rattle.vd_cost_network_tables.proofs.links.member_links.Given as goal
-
-abbrev pub invariant-loop-member : goal.invariant-loop-member
-invariant-loop-member l = l.links ≡ map (member_raw l.list l.point l.host) (take l.member-index l.members)

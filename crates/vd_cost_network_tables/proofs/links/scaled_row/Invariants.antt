@@ -1,7 +1,0 @@
-use Rattle.std.proofs.Common.{◌≡◌, map, take}
-use Rattle.vd_space.specs.Costs.{weigh}
-use Rattle.vd_cost_network.specs.Links.{parts}
-use Rattle.vd_cost_network_tables.proofs.links.scaled_row.Given as goal
-
-abbrev pub invariant-loop-price : goal.invariant-loop-price
-invariant-loop-price l = l.row ≡ map (λ price. parts (weigh l.weight price)) (take l.price-index l.prices)
