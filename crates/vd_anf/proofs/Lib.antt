@@ -1,6 +1,7 @@
+pub mod Front
 mod Slots
 mod Gives
 mod Exprs
 mod Effects
 mod Statements
-pub mod Kept
+mod Kept

@@ -1,3 +1,4 @@
+pub mod Front
 mod Labels
 mod Tests
 mod Laws
@@ -9,7 +10,7 @@ mod Every
 mod Operands
 mod Turns
 mod Seeing
-pub mod Steps
+mod Steps
 mod Distinct
 mod Forms
 mod Known
@@ -20,7 +21,7 @@ mod Fits
 mod Alike
 mod ExprFits
 mod SourceFits
-pub mod Exact
-pub mod Growth
-pub mod WellMade
-pub mod Examples
+mod Exact
+mod Growth
+mod WellMade
+mod Examples

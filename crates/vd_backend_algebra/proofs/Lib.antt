@@ -1,11 +1,12 @@
+pub mod Front
 mod Bits
 mod Carries
 mod Sums
 mod Comparisons
 mod Choices
 mod Computing
-pub mod Gates
-pub mod Parts
-pub mod BitProducts
-pub mod WordProducts
+mod Gates
+mod Parts
+mod BitProducts
+mod WordProducts
 mod Conversions

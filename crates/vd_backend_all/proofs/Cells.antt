@@ -10,9 +10,9 @@ use Rattle.vd_duet.specs.Builder.{Builder, HasRoom, added, reserved, taken}
 use Rattle.vd_duet.specs.Calls.{called, in_clear, hosts_of}
 use Rattle.vd_duet.specs.Laws.{IsHost, AreKnown}
 use Rattle.vd_duet.specs.declared.parts.Clear.{Clear}
-use Rattle.vd_duet.proofs.Leads.{taken_known, taken_there, taken_other}
+use Rattle.vd_duet.proofs.Front.{taken_known, taken_there, taken_other}
 use Rattle.vd_clear.specs.Copies.{each_made}
-use Rattle.vd_clear.proofs.Loops.{behind, behind_end, each_hosts, each_step}
+use Rattle.vd_clear.proofs.Front.{behind, behind_end, each_hosts, each_step}
 use Rattle.vd_backend_laws.specs.Parts.{zeros_at}
 use Rattle.vd_backend_all.specs.Offered.{AreApart}
 

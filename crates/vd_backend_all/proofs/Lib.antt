@@ -1,6 +1,7 @@
+pub mod Front
 mod Anys
 mod Cells
 mod Forms
 mod Making
 mod Offers
-pub mod Served
+mod Served

@@ -18,7 +18,7 @@ use Rattle.vd_execution.specs.World.{Tape}
 use Rattle.vd_duet.specs.Laws.{Each}
 use Rattle.vd_choreography.specs.Block.{Block, End, Let, NewVar, NewArray, Store, Put, Output, If, For, block_of, each}
 use Rattle.vd_choreography.specs.Validity.{Placed, RightPlaced}
-use Rattle.vd_choreography.proofs.Folds.{fold_each}
+use Rattle.vd_choreography.proofs.Front.{fold_each}
 use Rattle.vd_split.specs.Offer.{is_at_host, right_stands, stmt_stands}
 use Rattle.vd_backend_laws.specs.Machine.{machine}
 use Rattle.vd_backend_laws.specs.Parts.{back_end}

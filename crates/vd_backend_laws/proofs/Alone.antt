@@ -9,8 +9,7 @@ use Rattle.vd_execution.specs.World.{Tape}
 use Rattle.vd_execution.specs.Deals.{IsValidDeal}
 use Rattle.vd_execution.specs.Joint.{Host, Hosts, acted, Agrees}
 use Rattle.vd_execution.specs.Gadgets.{Alone, TakesNoPart, IsSound}
-use Rattle.vd_execution.proofs.Puts.{put_same, put_other}
-use Rattle.vd_execution.proofs.Gadgets.{gadgets_sound}
+use Rattle.vd_execution.proofs.Front.{put_same, put_other, gadgets_sound}
 use Rattle.vd_duet.specs.Laws.{Leads}
 
 -- what one host keeps, all hosts do

@@ -16,17 +16,16 @@ use Rattle.vd_execution.specs.Deals.{IsValidDeal}
 use Rattle.vd_execution.specs.Joint.{Part, Host, Hosts, acted}
 use Rattle.vd_execution.specs.Text.{register}
 use Rattle.vd_execution.specs.Gadgets.{Alone, GadgetsAreTidy, IsSound}
-use Rattle.vd_execution.proofs.Puts.{put_same}
+use Rattle.vd_execution.proofs.Front.{put_same}
 use Rattle.vd_duet.specs.Builder.{next_at, taken}
 use Rattle.vd_duet.specs.Calls.{hosts_of, Stand, register_of}
 use Rattle.vd_duet.specs.Laws.{Each, IsHost, IsIn, nowhere, words_at, Copies, Leads as DuetLeads}
-use Rattle.vd_duet.proofs.Writes.{wrote}
-use Rattle.vd_duet.proofs.Leads.{leads_nothing, leads_on, taken_known, taken_there, taken_bounds, Since}
+use Rattle.vd_duet.proofs.Front.{wrote, leads_nothing, leads_on, taken_known, taken_there, taken_bounds, Since}
 use Rattle.vd_clear.specs.Copies.{written_by, each_made}
-use Rattle.vd_clear.proofs.HostLaws.{written_there}
+use Rattle.vd_clear.proofs.Front.{written_there}
 use Rattle.vd_choreography.specs.Joint.{Each as EachPart}
 use Rattle.vd_choreography.specs.Suite.{Cells, Word, Gives, Ready, Below, Delivered, nothing, hosts_of as hosts_at}
-use Rattle.vd_choreography.proofs.Lists.{AreApart}
+use Rattle.vd_choreography.proofs.Front.{AreApart}
 use Rattle.vd_backend_laws.specs.Parts.{Parts, has_back_end, zeros_at, new_cells, index_of}
 use Rattle.vd_backend_laws.specs.Suite.{cell, StandForCells, stands, IsOver, holds}
 use Rattle.vd_backend_laws.proofs.Standing.{cells_of, of_cells, hosts_cell}

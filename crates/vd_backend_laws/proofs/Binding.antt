@@ -14,14 +14,13 @@ use Rattle.vd_execution.specs.Text.{register}
 use Rattle.vd_duet.specs.Builder.{most_taken, taken}
 use Rattle.vd_duet.specs.Calls.{Places, hosts_of, Made}
 use Rattle.vd_duet.specs.Laws.{IsIn, IsHost, Copies, nowhere, at_host, Gives as DuetGives, GivesWord, GivesThere, Operand as DuetOperand}
-use Rattle.vd_duet.proofs.Leads.{leads_nothing, orderly_still, orderly_fresh, taken_known, taken_there, taken_bounds}
+use Rattle.vd_duet.proofs.Front.{leads_nothing, orderly_still, orderly_fresh, taken_known, taken_there, taken_bounds}
 use Rattle.vd_clear.specs.Copies.{clear_calls}
 use Rattle.vd_commit.specs.declared.ends.Held.{Held}
 use Rattle.vd_commit.specs.declared.ends.Seen.{Seen}
 use Rattle.vd_commit.specs.Commit.{committed, revealed}
 use Rattle.vd_commit.specs.Law.{IsCommitted, AreReady, LeadsTo}
-use Rattle.vd_commit.proofs.Binds.{binds}
-use Rattle.vd_commit.proofs.Reveals.{reveals}
+use Rattle.vd_commit.proofs.Front.{binds, reveals}
 use Rattle.vd_choreography.specs.Suite.{Word, Gives, Ready, Operand, nothing}
 use Rattle.vd_backend_laws.specs.Commits.{committed_at, held_of, seen_of, taken_over, bound, shown_to_all}
 use Rattle.vd_backend_laws.specs.Moves.{only, shown_each}

@@ -7,7 +7,7 @@ use Rattle.vd_duet.specs.Laws.{IsIn}
 use Rattle.vd_commit.specs.declared.ends.Held.{Held}
 use Rattle.vd_commit.specs.declared.ends.Seen.{Seen}
 use Rattle.vd_commit.specs.Commit.{eight}
-use Rattle.vd_commit.proofs.Rows.{IsRow, eight_row}
+use Rattle.vd_commit.proofs.Front.{IsRow, eight_row}
 use Rattle.vd_backend_laws.specs.Commits.{at_one, committed_at, held_of, seen_of}
 
 -- ---- one after the other

@@ -13,10 +13,10 @@ use Rattle.vd_execution.specs.Acts.{run_acts, ActsAgree, run_act}
 use Rattle.vd_execution.specs.Gadgets.{Gadget, acts_of_gadget, acts_of_gadgets, GadgetsAreTidy}
 use Rattle.vd_duet.specs.Calls.{Places, Made, Calls}
 use Rattle.vd_duet.specs.Laws.{Each, IsIn, IsInOne, AreKnown, IsReady, GivesWord, BackendLaws, Leads as DuetLeads, Operand as DuetOperand, Operands as DuetOperands, Renews as DuetRenews}
-use Rattle.vd_duet.proofs.Leads.{run_append}
-use Rattle.vd_clear.proofs.ClearLaws.{clear_laws}
-use Rattle.vd_words.proofs.AddLaws.{add_laws}
-use Rattle.vd_bits.proofs.BitLaws.{circuit_laws}
+use Rattle.vd_duet.proofs.Front.{run_append}
+use Rattle.vd_clear.proofs.Front.{clear_laws}
+use Rattle.vd_words.proofs.Front.{add_laws}
+use Rattle.vd_bits.proofs.Front.{circuit_laws}
 use Rattle.vd_circuit.specs.CircuitCalls.{circuit_serves}
 use Rattle.vd_choreography.specs.Joint.{Hosts as AnyHosts, run_acts as run_all, AllFine}
 use Rattle.vd_choreography.specs.Suite.{Suite, Word, Gives, Leads, Ready, Operand, Operands, NamedBy, Renews}

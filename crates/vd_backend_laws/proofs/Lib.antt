@@ -1,19 +1,20 @@
+pub mod Front
 mod BoundParts
-pub mod Standing
-pub mod Over
-pub mod TwoHosts
-pub mod Moves
-pub mod Gives
+mod Standing
+mod Over
+mod TwoHosts
+mod Moves
+mod Gives
 mod Binding
-pub mod Rows
+mod Rows
 mod BackEnds
 mod Alone
 mod Outside
-pub mod Arrays
+mod Arrays
 mod Written
-pub mod SuiteLaws
-pub mod SuitePlaces
-pub mod PlanTidy
-pub mod PlanRuns
-pub mod Whole
-pub mod Given
+mod SuiteLaws
+mod SuitePlaces
+mod PlanTidy
+mod PlanRuns
+mod Whole
+mod Given

@@ -11,16 +11,14 @@ use Rattle.vd_execution.specs.Joint.{Hosts}
 use Rattle.vd_duet.specs.Builder.{most_taken}
 use Rattle.vd_duet.specs.Calls.{Places, hosts_of, Made, Calls, Stand, AllAre}
 use Rattle.vd_duet.specs.Laws.{IsIn, IsHost, IsReady, AreKnown, AreBelow, Operand, StandFor, Gives, GivesWord, at_host, Copies, words_at, nowhere}
-use Rattle.vd_duet.proofs.Leads.{leads_nothing, orderly_still, orderly_wider}
+use Rattle.vd_duet.proofs.Front.{leads_nothing, orderly_still, orderly_wider, Found, found}
 use Rattle.vd_clear.specs.Copies.{spread_to}
-use Rattle.vd_clear.proofs.ClearLaws.{spread_law}
-use Rattle.vd_duet.proofs.Found.{Found, found}
+use Rattle.vd_clear.proofs.Front.{spread_law}
 use Rattle.vd_backend_sharing.specs.PairCalls.{shares_of, places_at}
 use Rattle.vd_words.specs.AddCalls.{add_calls}
 use Rattle.vd_bits.specs.BitCalls.{bit_calls}
 use Rattle.vd_convert.specs.Convert.{to_xor_made, to_add_made}
-use Rattle.vd_convert.proofs.ToXor.{to_xor_gives}
-use Rattle.vd_convert.proofs.ToAdd.{to_add_gives}
+use Rattle.vd_convert.proofs.Front.{to_xor_gives, to_add_gives}
 use Rattle.vd_backend_laws.specs.Moves.{Share, Adopt, Show, ShowAll, Spread, Same, SameBound, ToXor, ToAdd, only, copies_at, shown_each, MovesKeepTheWord}
 
 -- the parts of one host alone

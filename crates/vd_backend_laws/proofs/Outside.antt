@@ -18,15 +18,13 @@ use Rattle.vd_execution.specs.World.{Tape}
 use Rattle.vd_execution.specs.Deals.{IsValidDeal}
 use Rattle.vd_execution.specs.Joint.{Host, Hosts, acted}
 use Rattle.vd_execution.specs.Text.{register}
-use Rattle.vd_execution.proofs.Puts.{put_same, put_other}
+use Rattle.vd_execution.proofs.Front.{put_same, put_other}
 use Rattle.vd_duet.specs.Builder.{next_at, taken}
 use Rattle.vd_duet.specs.Calls.{Places, hosts_of, Stand, register_of}
 use Rattle.vd_duet.specs.Laws.{IsIn, nowhere, Copies, StandFor, GivesThere}
-use Rattle.vd_duet.proofs.Writes.{wrote}
-use Rattle.vd_duet.proofs.Leads.{taken_known, taken_there, taken_bounds, Since}
+use Rattle.vd_duet.proofs.Front.{wrote, taken_known, taken_there, taken_bounds, Since}
 use Rattle.vd_clear.specs.Copies.{written_by, clear_calls}
-use Rattle.vd_clear.proofs.HostLaws.{written_there}
-use Rattle.vd_clear.proofs.ClearLaws.{copies_of}
+use Rattle.vd_clear.proofs.Front.{written_there, copies_of}
 use Rattle.vd_choreography.specs.Suite.{Word, Gives, Ready, Operand, Takes, Tells, nothing}
 use Rattle.vd_backend_laws.specs.Parts.{Parts, word_in, has_back_end, turn_part, printed}
 use Rattle.vd_backend_laws.specs.Suite.{Names, StandForCells, is_in_order, IsOver, holds, AreGiven}

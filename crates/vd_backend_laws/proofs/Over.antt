@@ -14,9 +14,9 @@ use Rattle.vd_base.specs.Holders.{holders, is_holder}
 use Rattle.vd_duet.specs.Laws.{Each, IsHost}
 use Rattle.vd_duet.specs.Acting.{is_among}
 use Rattle.vd_choreography.specs.Suite.{picked}
-use Rattle.vd_clear.proofs.Members.{few_members}
+use Rattle.vd_clear.proofs.Front.{few_members}
 use Rattle.vd_backend_laws.specs.Suite.{is_in_order}
-use Rattle.vd_choreography.proofs.Lists.{AreApart, and_left, and_right, or_left, or_right}
+use Rattle.vd_choreography.proofs.Front.{AreApart, and_left, and_right, or_left, or_right}
 
 pub host_known : (n : ℕ) (hs : List HostId) (h : ℕ) → Each (λ k. k.0 < n) hs → IsHost hs h → h < n
 host_known n [] h e i = absurd i

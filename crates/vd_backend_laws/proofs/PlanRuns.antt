@@ -7,7 +7,7 @@ use Rattle.vd_execution.specs.declared.instructions.Act.TheVariants as act
 use Rattle.vd_execution.specs.Registers.{put, Registers}
 use Rattle.vd_execution.specs.World.{Tape}
 use Rattle.vd_execution.specs.Joint.{Joint as Code, Hosts, Host, Part, Apart, TakesPart, GuardsAre, AllTurns, IsSmooth, if_part, turn_begun, joint as run_code, turns as code_turns}
-use Rattle.vd_execution.proofs.ActsFirst.{smooth_first}
+use Rattle.vd_execution.proofs.Front.{smooth_first}
 use Rattle.vd_execution.specs.Acts.{do_then, run_act, run_acts, ActsAreWithin}
 use Rattle.vd_execution.specs.Gadgets.{Gadget, Alone, Tells, Shares, BothShare, Opens, Masked, Paired, BySums, ByXors, acts_of_gadget}
 use Rattle.vd_execution.specs.Plans.{Plan, Ends, Then, Branch, Loop, joint_of, PlanIsWithin, PlanIsTidy}

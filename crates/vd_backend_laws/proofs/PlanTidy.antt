@@ -9,7 +9,7 @@ use Rattle.vd_execution.specs.Gadgets.{Gadget, Alone, Tells, Shares, BothShare, 
 use Rattle.vd_execution.specs.Plans.{Plan, Ends, Then, Branch, Loop, PlanIsWithin}
 use Rattle.vd_duet.specs.Acting.{acts_in}
 use Rattle.vd_choreography.specs.Places.{is_part, active}
-use Rattle.vd_choreography.proofs.Lists.{or_left, or_right, or_cases}
+use Rattle.vd_choreography.proofs.Front.{or_left, or_right, or_cases}
 use Rattle.vd_backend_laws.specs.Machine.{machine}
 use Rattle.vd_backend_laws.specs.PlanRuns.{TidyAlike}
 

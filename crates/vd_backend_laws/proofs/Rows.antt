@@ -13,10 +13,10 @@ use Rattle.vd_execution.specs.Joint.{Hosts}
 use Rattle.vd_duet.specs.Builder.{most_taken}
 use Rattle.vd_duet.specs.Calls.{Places, hosts_of, Made, Stand, AllAre, register_of}
 use Rattle.vd_duet.specs.Laws.{Each, IsIn, IsHost, nowhere, words_at, Copies, Gives as DuetGives, GivesThere, at_host}
-use Rattle.vd_duet.proofs.Leads.{leads_nothing, leads_on, orderly_still, orderly_on, orderly_wider, Since, since_on, since_start}
+use Rattle.vd_duet.proofs.Front.{leads_nothing, leads_on, orderly_still, orderly_on, orderly_wider, Since, since_on, since_start}
 use Rattle.vd_clear.specs.Copies.{each_made}
 use Rattle.vd_choreography.specs.Suite.{Word, Gives, Ready, nothing}
-use Rattle.vd_choreography.proofs.Lists.{AreApart}
+use Rattle.vd_choreography.proofs.Front.{AreApart}
 use Rattle.vd_backend_laws.specs.Parts.{made_of, has_back_end, back_end}
 use Rattle.vd_backend_laws.specs.Suite.{cell, IsOver}
 use Rattle.vd_backend_laws.proofs.Standing.{no_back_end}

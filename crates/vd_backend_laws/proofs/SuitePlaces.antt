@@ -19,20 +19,20 @@ use Rattle.vd_execution.specs.Gadgets.{Gadget, Alone, acts_of_gadget, GadgetIsTi
 use Rattle.vd_duet.specs.Calls.{Places as RegisterPlaces, hosts_of, Made, register_of}
 use Rattle.vd_duet.specs.Laws.{IsHost}
 use Rattle.vd_duet.specs.Acting.{is_either, acts_at, is_among, pass_at, told_at, apply_at, is_negation, ActsWhereItSays}
-use Rattle.vd_duet.proofs.Leads.{tidy_append}
+use Rattle.vd_duet.proofs.Front.{tidy_append}
 use Rattle.vd_duet.specs.Builder.{next_at}
 use Rattle.vd_clear.specs.Copies.{written_by, each_made}
-use Rattle.vd_clear.proofs.ClearActs.{each_acts, clear_acts, spread_acts}
-use Rattle.vd_words.proofs.AddLaws.{add_acts}
-use Rattle.vd_bits.proofs.BitActs.{circuit_acts}
+use Rattle.vd_clear.proofs.Front.{each_acts, clear_acts, spread_acts}
+use Rattle.vd_words.proofs.Front.{add_acts}
+use Rattle.vd_bits.proofs.Front.{circuit_acts}
 use Rattle.vd_circuit.specs.CircuitCalls.{circuit_serves}
-use Rattle.vd_convert.proofs.ConvertActs.{conversions_act}
+use Rattle.vd_convert.proofs.Front.{conversions_act}
 use Rattle.vd_commit.specs.Commit.{revealed}
-use Rattle.vd_commit.proofs.CommitActs.{commitments_act}
+use Rattle.vd_commit.proofs.Front.{commitments_act}
 use Rattle.vd_choreography.specs.Joint.{Each, AllFine}
 use Rattle.vd_choreography.specs.Suite.{Word, Ready, Operand}
 use Rattle.vd_choreography.specs.Places.{Where, Places}
-use Rattle.vd_choreography.proofs.Lists.{or_left, or_right, or_cases}
+use Rattle.vd_choreography.proofs.Front.{or_left, or_right, or_cases}
 use Rattle.vd_backend_laws.specs.Machine.{machine}
 use Rattle.vd_backend_laws.specs.Commits.{held_of, seen_of, taken_over}
 use Rattle.vd_backend_laws.specs.Moves.{moved, moved_at, only}

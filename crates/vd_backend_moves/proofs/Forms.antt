@@ -9,7 +9,7 @@ use Rattle.vd_execution.specs.declared.instructions.Reg.{Reg}
 use Rattle.vd_duet.specs.Builder.{HasRoom, taken}
 use Rattle.vd_duet.specs.Calls.{Places}
 use Rattle.vd_duet.specs.Laws.{AreKnown}
-use Rattle.vd_duet.proofs.Leads.{taken_bounds}
+use Rattle.vd_duet.proofs.Front.{taken_bounds}
 use Rattle.vd_backend_laws.specs.Commits.{held_of, seen_of}
 use Rattle.vd_backend_moves.specs.Formed.{is_named, AreFormed}
 

@@ -1,2 +1,3 @@
-pub mod Forms
+pub mod Front
+mod Forms
 mod Places

@@ -11,16 +11,16 @@ use Rattle.vd_execution.specs.Joint.{Host, Hosts, acted, after_do, after_msg}
 use Rattle.vd_execution.specs.Acts.{run_act, run_acts, ActsAgree}
 use Rattle.vd_execution.specs.Gadgets.{Gadget, Alone, acts_of_gadgets}
 use Rattle.vd_execution.specs.Text.{register}
-use Rattle.vd_execution.proofs.Puts.{put_itself, put_same}
+use Rattle.vd_execution.proofs.Front.{put_itself, put_same}
 use Rattle.vd_duet.specs.Builder.{next_at, taken}
 use Rattle.vd_duet.specs.Calls.{Places, hosts_of, Made}
 use Rattle.vd_duet.specs.Acting.{is_among}
 use Rattle.vd_duet.specs.Laws.{Copies, words_at}
-use Rattle.vd_duet.proofs.Leads.{taken_known, taken_there, gadgets_append}
+use Rattle.vd_duet.proofs.Front.{taken_known, taken_there, gadgets_append}
 use Rattle.vd_clear.specs.Copies.{adopted, told, compared, first_register}
-use Rattle.vd_backend_sharing.proofs.Adds.{Adds, do_adds_one, adds_on, msg_cursors}
+use Rattle.vd_backend_sharing.proofs.Front.{Adds, do_adds_one, adds_on, msg_cursors}
 use Rattle.vd_commit.specs.Commit.{eight, own_each, same_each}
-use Rattle.vd_commit.proofs.Rows.{IsRow, eight_row, words_alike, words_are, said_row, digest_count, hash_adds, tell_adds}
+use Rattle.vd_commit.proofs.Front.{IsRow, eight_row, words_alike, words_are, said_row, digest_count, hash_adds, tell_adds}
 use Rattle.vd_backend_openings.specs.Compared.{after, CopiesAreCompared, own_words_from, NoncesAreDrawn, DigestsAreCompared}
 
 -- ---- a comparison changes nothing

@@ -9,7 +9,7 @@ use Rattle.vd_execution.specs.Registers.{Registers, put, nth}
 use Rattle.vd_execution.specs.Step.{Source, Inputs, words_in}
 use Rattle.vd_execution.specs.Joint.{Host, Hosts, acted, after_do, after_msg, said_to, has_heard}
 use Rattle.vd_execution.specs.World.{Tape}
-use Rattle.vd_execution.proofs.Puts.{put_same, put_other}
+use Rattle.vd_execution.proofs.Front.{put_same, put_other}
 
 -- the registers of host h from this one on get words, and no other host's change; what stands behind is left open
 pub record Adds (h from : ℕ) (ws : List ℕ) (u u' : Hosts) : Type 0 where

@@ -8,7 +8,7 @@ use Rattle.vd_execution.specs.Acts.{run_acts}
 use Rattle.vd_execution.specs.World.{Tape}
 use Rattle.vd_execution.specs.Deals.{IsValidDeal}
 use Rattle.vd_execution.specs.Gadgets.{Sharing, BySums, ByXors, source_of, acts_of_gadgets, IsFresh, GadgetIsTidy, GadgetsAreTidy, IsSound}
-use Rattle.vd_execution.proofs.Gadgets.{gadgets_sound}
+use Rattle.vd_execution.proofs.Front.{gadgets_sound}
 use Rattle.vd_duet.specs.Calls.{Places, Made}
 use Rattle.vd_duet.specs.Laws.{IsIn, AreBelow, Gives}
 use Rattle.vd_backend_sharing.proofs.Deeds.{Side, First, Second, other, Place, Old, New, Pair, nth_register, register_at, places_of, Deed, Number, Copied, Applied, ShiftedLeft, ShiftedRight, GivenAway, BothGive, Opened, Multiplied, Drawn, masking_of, gadget_of, further, gadgets_of, count_all, is_known, deed_is_known, all_known, places_known, NumberIsWord, NumbersAreWords, Left, words_of, nothing_left, no_count, value, after_all}

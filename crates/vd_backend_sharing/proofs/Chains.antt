@@ -7,7 +7,7 @@ use Rattle.vd_execution.specs.World.{Tape}
 use Rattle.vd_execution.specs.Gadgets.{Sharing, IsSound}
 use Rattle.vd_duet.specs.Calls.{Places, Made}
 use Rattle.vd_duet.specs.Laws.{nowhere, Gives}
-use Rattle.vd_duet.proofs.Leads.{leads_on, tidy_append, Since, since_start, since_on}
+use Rattle.vd_duet.proofs.Front.{leads_on, tidy_append, Since, since_start, since_on}
 use Rattle.vd_backend_sharing.specs.declared.shares.Shares.{Shares}
 use Rattle.vd_backend_sharing.specs.Sharings.{joined}
 use Rattle.vd_backend_sharing.proofs.Parts.{Parts}

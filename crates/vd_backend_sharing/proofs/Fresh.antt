@@ -10,7 +10,7 @@ use Rattle.vd_execution.specs.Gadgets.{Gadget, IsSound}
 use Rattle.vd_duet.specs.Builder.{taken}
 use Rattle.vd_duet.specs.Calls.{Places, Made}
 use Rattle.vd_duet.specs.Laws.{Each, Gives}
-use Rattle.vd_duet.proofs.Leads.{taken_known, taken_there, taken_other}
+use Rattle.vd_duet.proofs.Front.{taken_known, taken_there, taken_other}
 use Rattle.vd_backend_sharing.specs.PairCalls.{fresh_at}
 use Rattle.vd_backend_sharing.proofs.Deeds.{Side, First, Second, sides, Place, Pair, nth_register, places_of, Deed, gadgets_of, count_all, all_known, places_known, NumbersAreWords, Left, nothing_left, no_count, after_all}
 use Rattle.vd_backend_sharing.proofs.Blocks.{gives_so, AreNamed, Hold, gives}

@@ -1,13 +1,14 @@
-pub mod Adds
-pub mod Deeds
-pub mod Runs
-pub mod Blocks
-pub mod Fresh
+pub mod Front
+mod Adds
+mod Deeds
+mod Runs
+mod Blocks
+mod Fresh
 mod Joined
-pub mod Parts
-pub mod PairLaws
-pub mod PairActs
-pub mod Operations
-pub mod Rooms
+mod Parts
+mod PairLaws
+mod PairActs
+mod Operations
+mod Rooms
 mod Emitted
-pub mod Chains
+mod Chains

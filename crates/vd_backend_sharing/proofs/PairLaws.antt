@@ -19,9 +19,7 @@ use Rattle.vd_execution.specs.Text.{register}
 use Rattle.vd_duet.specs.Builder.{next_at, most_taken}
 use Rattle.vd_duet.specs.Calls.{Places, hosts_of, Made, register_of}
 use Rattle.vd_duet.specs.Laws.{IsIn, IsInOne, nowhere, Joins, Leads, Gives, GivesThere, GivesWord, Copies, StandFor, Operand, Operands, IsReady, Reaches, Renews, NumberFits, BackendLaws}
-use Rattle.vd_duet.proofs.Writes.{Writes, wrote, writes_own}
-use Rattle.vd_duet.proofs.Leads.{leads_writing, leads_on}
-use Rattle.vd_duet.proofs.Found.{found}
+use Rattle.vd_duet.proofs.Front.{Writes, wrote, writes_own, leads_writing, leads_on, found}
 use Rattle.vd_backend_sharing.specs.declared.shares.Shares.{Shares}
 use Rattle.vd_backend_sharing.specs.Sharings.{shared_by, join, joined, hidden}
 use Rattle.vd_backend_sharing.specs.PairCalls.{two, literal_shares, split_off, exchanged, shared_from, adopted_shares, opened_by, shown_at, shown_to_both, kept_shares, shares_of, places_at, at_hosts, pair_calls}

@@ -2,7 +2,7 @@
 use Rattle.std.proofs.Common.{ℕ, ◌<◌, ◌≤◌, List, length, sym, subst, ◌∙◌, arith}
 use Rattle.vd_base.specs.declared.ids.HostId.{HostId}
 use Rattle.vd_duet.specs.Builder.{taken, TakesAtMost}
-use Rattle.vd_duet.proofs.Leads.{taken_known, taken_bounds}
+use Rattle.vd_duet.proofs.Front.{taken_known, taken_bounds}
 
 pub both_few : (a b : HostId) (i j : ℕ) (next : List ℕ) → a.0 < length next → b.0 < length next → i ≤ 16 → j ≤ 16 → TakesAtMost 32 next (taken b j (taken a i next))
 both_few a b i j next a_known b_known i_few j_few = (

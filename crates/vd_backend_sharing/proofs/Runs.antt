@@ -14,8 +14,8 @@ use Rattle.vd_execution.specs.Joint.{Host, Hosts, acted, after_do, after_msg}
 use Rattle.vd_execution.specs.Acts.{run_acts, ActsAgree}
 use Rattle.vd_execution.specs.World.{Tape}
 use Rattle.vd_execution.specs.Gadgets.{Sharing, BySums, ByXors, source_of, take, hide, masking, acts_of_gadget, acts_of_gadgets}
-use Rattle.vd_execution.proofs.Sound.{one_more, Takes, put_takes}
-use Rattle.vd_duet.proofs.Leads.{run_append, agree_append}
+use Rattle.vd_execution.proofs.Front.{one_more, Takes, put_takes}
+use Rattle.vd_duet.proofs.Front.{run_append, agree_append}
 use Rattle.vd_backend_sharing.proofs.Adds.{Adds, longer, adds_on, kept_by_all, do_adds_one, do_adds_two, do_adds_three, msg_cursors, tell_one, tell_two}
 use Rattle.vd_backend_sharing.proofs.Deeds.{Side, First, Second, other, Place, Old, New, Pair, fresh_register, nth_register, register_at, Deed, Number, Copied, Applied, ShiftedLeft, ShiftedRight, GivenAway, BothGive, Opened, Multiplied, Drawn, next_register, masking_of, gadget_of, one_at, further, gadgets_of, count_all, is_known, deed_is_known, all_known, Left, words_of, with_words, bumped, own_word, item_word, pair_word, value, masked_word, masked_words, item_words, after, after_all}
 

@@ -1,4 +1,5 @@
+pub mod Front
 mod Shifts
-pub mod LexicalLemmas
-pub mod Same
+mod LexicalLemmas
+mod Same
 mod WordLists

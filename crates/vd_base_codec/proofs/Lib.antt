@@ -1,7 +1,8 @@
-pub mod Parts
-pub mod Numbers
-pub mod Whole
+pub mod Front
+mod Parts
+mod Numbers
+mod Whole
 mod Steps
-pub mod Loops
-pub mod Exact
+mod Loops
+mod Exact
 mod KeySteps

@@ -14,7 +14,7 @@ use Rattle.vd_backend_algebra.specs.Computing.{HasCircuit}
 use Rattle.vd_backend_algebra.specs.Gates.{Gate, And, Xor, Shl, Shr, Not, Flip, Lowest, Mask, gates_of}
 use Rattle.vd_backend_sharing.specs.declared.shares.Shares.{Shares}
 use Rattle.vd_backend_sharing.specs.PairCalls.{shares_of, pair_calls}
-use Rattle.vd_backend_sharing.proofs.PairActs.{applied_acts, numbered_acts, product_acts, pair_acts}
+use Rattle.vd_backend_sharing.proofs.Front.{applied_acts, numbered_acts, product_acts, pair_acts}
 use Rattle.vd_bits.specs.BitCalls.{parts_at, gate_shares, gates_shares, circuit_shares, computed, bit_serves, bit_calls}
 use Rattle.vd_bits.proofs.Lists.{bits_have}
 

@@ -17,16 +17,11 @@ use Rattle.vd_duet.specs.Calls.{Places, Made}
 use Rattle.vd_duet.specs.Laws.{Gives, GivesWord, StandFor, IsReady}
 use Rattle.vd_backend_algebra.specs.Circuits.{shl, shr, mask_of}
 use Rattle.vd_backend_algebra.specs.Gates.{Gate, And, Xor, Shl, Shr, Not, Flip, Lowest, Mask, made_by, taken_by}
-use Rattle.vd_backend_algebra.proofs.Parts.{xor_past, xor_turn, shl_each, shr_each, mask_each}
-use Rattle.vd_backend_algebra.proofs.BitProducts.{bit_product}
+use Rattle.vd_backend_algebra.proofs.Front.{xor_past, xor_turn, shl_each, shr_each, mask_each, bit_product}
 use Rattle.vd_backend_sharing.specs.declared.shares.Shares.{Shares}
 use Rattle.vd_backend_sharing.specs.Sharings.{joined}
 use Rattle.vd_backend_sharing.specs.PairCalls.{two, places_at, at_hosts, pair_calls}
-use Rattle.vd_backend_sharing.proofs.Deeds.{Side, First, Second, Old, New, Deed, Number, Applied, ShiftedLeft, ShiftedRight}
-use Rattle.vd_backend_sharing.proofs.Runs.{both_first, both_second, low_of}
-use Rattle.vd_backend_sharing.proofs.Fresh.{fresh_gives, one_gives}
-use Rattle.vd_backend_sharing.proofs.Parts.{Parts, stands_by, both_known}
-use Rattle.vd_backend_sharing.proofs.Operations.{ItemsMultiply, applied_gives, numbered_gives, product_gives}
+use Rattle.vd_backend_sharing.proofs.Front.{Side, First, Second, Old, New, Deed, Number, Applied, ShiftedLeft, ShiftedRight, both_first, both_second, low_of, fresh_gives, one_gives, Parts, stands_by, both_known, ItemsMultiply, applied_gives, numbered_gives, product_gives}
 use Rattle.vd_bits.specs.BitCalls.{parts_at, shifted_left, shifted_right, turned_first, mask_at, masked_shares, gate_shares}
 use Rattle.vd_bits.proofs.Places.{AreParts, AreFrom, parts_there, from_there}
 use Rattle.vd_bits.proofs.GateRooms.{gate_few}

@@ -2,11 +2,11 @@
 use Rattle.std.proofs.Common.{ℕ, ◌+◌, ◌<◌, ◌≤◌, List, [], ◌∷◌, length, lit≤, arith}
 use Rattle.vd_base.specs.declared.ids.HostId.{HostId}
 use Rattle.vd_duet.specs.Builder.{taken, TakesAtMost}
-use Rattle.vd_duet.proofs.Leads.{taken_known, taken_bounds}
+use Rattle.vd_duet.proofs.Front.{taken_known, taken_bounds}
 use Rattle.vd_backend_algebra.specs.Gates.{Gate, And, Xor, Shl, Shr, Not, Flip, Lowest, Mask}
 use Rattle.vd_backend_sharing.specs.declared.shares.Shares.{Shares}
 use Rattle.vd_backend_sharing.specs.PairCalls.{product_shares}
-use Rattle.vd_backend_sharing.proofs.Rooms.{both_few}
+use Rattle.vd_backend_sharing.proofs.Front.{both_few}
 use Rattle.vd_bits.specs.BitCalls.{gate_shares}
 
 one_few : (a : HostId) (i : ℕ) (next : List ℕ) → a.0 < length next → i ≤ 32 → TakesAtMost 32 next (taken a i next)

@@ -1,10 +1,11 @@
-pub mod Lists
+pub mod Front
+mod Lists
 mod Places
 mod GateRooms
 mod GateGives
 mod CircuitGives
-pub mod BitLaws
-pub mod BitActs
+mod BitLaws
+mod BitActs
 mod Turns
 mod Numbers
 mod Masks

@@ -5,11 +5,10 @@ use Rattle.std.proofs.lemmas.List.{get_or_read, get_or_past}
 use Rattle.vd_base.specs.declared.ids.HostId.{HostId}
 use Rattle.vd_execution.specs.Joint.{Hosts}
 use Rattle.vd_execution.specs.Gadgets.{ByXors}
-use Rattle.vd_duet.proofs.Leads.{Since}
+use Rattle.vd_duet.proofs.Front.{Since}
 use Rattle.vd_backend_sharing.specs.declared.shares.Shares.{Shares}
 use Rattle.vd_backend_sharing.specs.PairCalls.{two}
-use Rattle.vd_backend_sharing.proofs.Parts.{Parts}
-use Rattle.vd_backend_sharing.proofs.Chains.{parts_later}
+use Rattle.vd_backend_sharing.proofs.Front.{Parts, parts_later}
 use Rattle.vd_bits.specs.BitCalls.{parts_at}
 
 pub part_there : (words : List Shares) (place : ℕ) (x : Shares) → place < length words → x ≡ get_or words place x → x ≡ parts_at words place

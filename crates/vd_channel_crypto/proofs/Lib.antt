@@ -1,3 +1,4 @@
-pub mod Distinct
+pub mod Front
+mod Distinct
 mod Pieces
-pub mod Twice
+mod Twice

@@ -5,7 +5,7 @@ use Rattle.vd_channel_crypto.specs.Records.{Direction, sealed}
 use Rattle.vd_channel_crypto.specs.Streams.{key_stream}
 use Rattle.vd_channel_link.specs.declared.fault.SealFault.{SealFault}
 use Rattle.vd_channel_link.specs.Taking.{Brings, Carries, TakesCarried, TakesSealed}
-use Rattle.vd_channel_link.proofs.Front.{cover_long, recovered}
+use Rattle.vd_channel_link.proofs.Beginning.{cover_long, recovered}
 
 -- the record of the bytes that were covered
 carried : (keys : Direction) (number : ℕ) (coming rest bytes : List ℕ) → Carries keys number coming rest bytes → Brings keys number coming rest bytes

@@ -1,9 +1,10 @@
+pub mod Front
 mod Carried
-mod Front
+mod Beginning
 mod Filled
 mod Given
 mod Next
-pub mod Refused
-pub mod Sent
+mod Refused
+mod Sent
 mod SentParts
 mod Walk

@@ -7,7 +7,7 @@ use Rattle.vd_channel_link.specs.Opened.{code_at, covered_at, has_code}
 use Rattle.vd_channel_link.specs.Taking.{HasOtherCode, IsCut, IsReason}
 use Rattle.vd_channel_link.specs.declared.fault.SealFault.{SealFault}
 use Rattle.vd_channel_link.specs.declared.fault.SealFault.TheVariants as fault
-use Rattle.vd_channel_link.proofs.Front.{code_there, covered_there, parts}
+use Rattle.vd_channel_link.proofs.Beginning.{code_there, covered_there, parts}
 
 never : (t : Bool) → (t ≡ true → ⊥) → t ≡ false
 never true wrong = absurd (wrong refl)

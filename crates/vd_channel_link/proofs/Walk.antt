@@ -4,7 +4,7 @@ use Rattle.vd_channel_crypto.specs.Records.{Direction, record_code, sealed}
 use Rattle.vd_channel_crypto.specs.Streams.{key_stream, under}
 use Rattle.vd_channel_link.specs.Taking.{Brings, IsCut}
 use Rattle.vd_channel_link.specs.Opened.{behind, begins, bytes_at, flat, length_at, opened, plain_of, records, IsCovered, OpenedIsCovered, OpenedIsSent}
-use Rattle.vd_channel_link.proofs.Front.{begins_sealed, bytes_sealed, behind_sealed, begun, long}
+use Rattle.vd_channel_link.proofs.Beginning.{begins_sealed, bytes_sealed, behind_sealed, begun, long}
 
 chosen : (t : Bool) (xs ys : List ℕ) → t ≡ true → (if t then xs else ys) ≡ xs
 chosen true xs ys e = refl

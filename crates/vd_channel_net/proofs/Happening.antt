@@ -5,7 +5,7 @@ use Rattle.std.proofs.lemmas.Bool.{ltb-false}
 use Rattle.vd_outside.specs.Link.{LinkView}
 use Rattle.vd_channel_link.specs.Session.{SentIsCarried}
 use Rattle.vd_channel_link.specs.declared.session.Session.{Session}
-use Rattle.vd_channel_link.proofs.Sent.{carried_on}
+use Rattle.vd_channel_link.proofs.Front.{carried_on}
 use Rattle.vd_channel_net.specs.Ledgers.{GreetAlone, GreetsAlone, Happened, NoneGiven, OneBack, OneGiven, UnsentGreetAlone, has_begun, has_sent, nothing_given, with_given, with_returned}
 use Rattle.vd_channel_net.specs.declared.ledger.Ledger.{Ledger}
 

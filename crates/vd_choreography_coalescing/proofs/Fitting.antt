@@ -5,7 +5,7 @@ use Rattle.std.proofs.lemmas.List.{length-append}
 use Rattle.vd_execution.specs.declared.instructions.Reg.{Reg}
 use Rattle.vd_execution.specs.Joint.{Part, Joint, Done, Do, Msg, If, For}
 use Rattle.vd_choreography_reorder.specs.Order.{without_empty}
-use Rattle.vd_choreography_reorder.proofs.Sound.{both}
+use Rattle.vd_choreography_reorder.proofs.Front.{both}
 use Rattle.vd_choreography_coalescing.specs.Joining.{can_share, message_before, joined}
 use Rattle.vd_choreography_coalescing.specs.Telling.{PacketsAreWithin, CannotShare, AllAreJoined}
 

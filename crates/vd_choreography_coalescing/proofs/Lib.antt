@@ -1,5 +1,6 @@
+pub mod Front
 mod Same
 mod Texts
 mod Fitting
-pub mod Telling
+mod Telling
 mod Stack

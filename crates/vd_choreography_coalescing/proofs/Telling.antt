@@ -9,13 +9,12 @@ use Rattle.vd_execution.specs.Text.{flat}
 use Rattle.vd_execution.specs.Joint.{Part, Joint, Done, Do, Msg, If, For, Hosts, fresh, TakesPart, Within, IsTidy, IsSmooth, AllTurns, is_other, turn_begun, turns, joint, after_do, after_msg}
 use Rattle.vd_execution_confluence.specs.Claims.{RunsWell, RunsToItsEnd, last_of}
 use Rattle.vd_choreography_exchange.specs.Turning.{Look, look, AreAlike, TellsTheSame}
-use Rattle.vd_choreography_exchange.proofs.Alike.{begun_alike, chosen_alike, joint_alike, smooth_alike}
-use Rattle.vd_choreography_reorder.proofs.Sound.{both}
+use Rattle.vd_choreography_exchange.proofs.Front.{begun_alike, chosen_alike, joint_alike, smooth_alike}
+use Rattle.vd_choreography_reorder.proofs.Front.{both, has_parts, same_lines, same_run, still_smooth, still_tidy}
 use Rattle.vd_choreography_reorder.specs.Order.{RunsOn, without_empty}
-use Rattle.vd_choreography_reorder.proofs.Empty.{has_parts, same_lines, same_run, still_smooth, still_tidy}
 use Rattle.vd_choreography_coalescing.specs.Joining.{can_share, message_before, joined, joined_lines}
 use Rattle.vd_choreography_coalescing.specs.Telling.{IsJoined}
-use Rattle.vd_choreography_packets.proofs.Kept.{IsKept, chosen, all_turns, run_keeps}
+use Rattle.vd_choreography_packets.proofs.Front.{IsKept, chosen, all_turns, run_keeps}
 use Rattle.vd_choreography_coalescing.proofs.Same.{alike_both, So, so_kept, one_so}
 use Rattle.vd_choreography_coalescing.proofs.Fitting.{all_joined, still_within, within_without}
 use Rattle.vd_choreography_coalescing.proofs.Texts.{joined_flat}

@@ -7,8 +7,7 @@ use Rattle.vd_execution.specs.declared.instructions.Line.{Line}
 use Rattle.vd_execution.specs.declared.instructions.Line.TheVariants as line
 use Rattle.vd_execution.specs.Joint.{Part, Joint, Done, Do, Msg, If, For}
 use Rattle.vd_execution.specs.Text.{each_then, flat, register}
-use Rattle.vd_choreography_reorder.proofs.Leads.{ends_then, elses_then}
-use Rattle.vd_choreography_reorder.proofs.Texts.{IsMark, Halts, HasParts}
+use Rattle.vd_choreography_reorder.proofs.Front.{ends_then, elses_then, IsMark, Halts, HasParts}
 use Rattle.vd_choreography_coalescing.specs.Joining.{can_share, message_before, joined, packet_before, line_before, joined_lines}
 
 module _ (most : ℕ) where

@@ -8,10 +8,10 @@ use Rattle.vd_execution.specs.Registers.{Registers, put, put_each, written}
 use Rattle.vd_execution.specs.Step.{Source, Cursors, Need, advanced, need_of_action, word_printed, words_in}
 use Rattle.vd_execution.specs.World.{Tape}
 use Rattle.vd_execution.specs.Joint.{Host, Hosts, acted, said_to, has_heard, supplied, with_print, Agrees}
-use Rattle.vd_execution.proofs.Puts.{same_or_not, put_same, put_other, put_twice, put_itself, put_commutes}
+use Rattle.vd_execution.proofs.Front.{same_or_not, put_same, put_other, put_twice, put_itself, put_commutes}
 use Rattle.vd_reorder_laws.specs.Neighbours.{IsPlain, IsApart, AreApart}
 use Rattle.vd_reorder_laws.specs.Testing.{is_simple}
-use Rattle.vd_reorder_laws.proofs.Instances.{words_stay}
+use Rattle.vd_reorder_laws.proofs.Front.{words_stay}
 use Rattle.vd_choreography_exchange.specs.Turning.{Turn, Does, Tells, gone_by, Compares, Look, look, AreAlike, MayTurn}
 use Rattle.vd_choreography_exchange.specs.Neighbours.{ActsApart, IsBeside, ActBesideMessage, MessageBesideAct, AreBeside, MessagesApart}
 use Rattle.vd_choreography_exchange.proofs.Alike.{act_look, heard_look}

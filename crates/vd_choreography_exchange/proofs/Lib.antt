@@ -1,5 +1,6 @@
-pub mod Alike
-pub mod Turned
-pub mod Tidy
-pub mod Apart
-pub mod Own
+pub mod Front
+mod Alike
+mod Turned
+mod Tidy
+mod Apart
+mod Own

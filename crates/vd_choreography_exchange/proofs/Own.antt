@@ -5,7 +5,7 @@ use Rattle.vd_execution.specs.declared.instructions.Action.{Action}
 use Rattle.vd_execution.specs.Registers.{Registers, written}
 use Rattle.vd_execution.specs.Step.{Source, Cursors, Need, Nothing, Item, Packet, Unequal, Ended, same_source, advanced, one_further, need_of_action, word_printed}
 use Rattle.vd_execution.specs.Joint.{supplied, with_print}
-use Rattle.vd_execution.proofs.Puts.{put_same}
+use Rattle.vd_execution.proofs.Front.{put_same}
 use Rattle.vd_reorder_laws.specs.Neighbours.{IsPlain, ListsDiffer}
 use Rattle.vd_choreography_exchange.specs.Turning.{Does, gone_by}
 use Rattle.vd_choreography_exchange.specs.Neighbours.{ActsAtOne}

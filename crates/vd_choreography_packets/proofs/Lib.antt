@@ -1,4 +1,5 @@
-pub mod Kept
-pub mod Mail
+pub mod Front
+mod Kept
+mod Mail
 mod Same
 mod Waiting

@@ -8,15 +8,13 @@ use Rattle.vd_execution.specs.Registers.{put}
 use Rattle.vd_execution.specs.Step.{words_in, need_of_action}
 use Rattle.vd_execution.specs.World.{Tape}
 use Rattle.vd_execution.specs.Joint.{Joint, Host, Hosts, acted, supplied, said_to, has_heard, IsTidy, joint}
-use Rattle.vd_execution.proofs.Puts.{same_or_not, put_same, put_other}
+use Rattle.vd_execution.proofs.Front.{same_or_not, put_same, put_other}
 use Rattle.vd_reorder_laws.specs.Testing.{is_simple, reads, writes, meet}
-use Rattle.vd_reorder_laws.proofs.Instances.{words_stay}
+use Rattle.vd_reorder_laws.proofs.Front.{words_stay}
 use Rattle.vd_choreography_exchange.specs.Turning.{Turn, Does, Tells, gone_by, Look, look, AreAlike, MayTurn, IsTurned, then_goes, with_joint}
 use Rattle.vd_choreography_reorder.specs.Testing.{Opened, may_turn, is_beside, are_beside}
 use Rattle.vd_choreography_reorder.specs.Order.{IsCarefullyTurned, CarefulTurns, IsCarefully, without_empty, IsBroughtForward}
-use Rattle.vd_choreography_reorder.proofs.Actions.{apart, kept_words}
-use Rattle.vd_choreography_reorder.proofs.Empty.{same_run}
-use Rattle.vd_choreography_reorder.proofs.Sound.{both, then_not}
+use Rattle.vd_choreography_reorder.proofs.Front.{apart, kept_words, same_run, both, then_not}
 use Rattle.vd_choreography_packets.specs.Packets.{count_of, SendsTheSame}
 use Rattle.vd_choreography_packets.proofs.Kept.{at_spot}
 use Rattle.vd_choreography_packets.proofs.Mail.{words_told, added, counting, SameSo, itself_so, measure_gone, onwards_so, so_is_kept}

@@ -6,7 +6,7 @@ use Rattle.vd_reorder_laws.specs.Testing.{is_simple, meet}
 use Rattle.vd_choreography_exchange.specs.Turning.{Turn, Does, Tells, then_goes, Spot, Here, Behind, InFirst, InOther, InBody, BehindBranch, BehindLoop, with_joint, IsTurned}
 use Rattle.vd_choreography_reorder.specs.Testing.{Opened, teller, tells_at, awaits_at, stays_behind}
 use Rattle.vd_choreography_reorder.specs.Order.{IsCarefullyTurned, CarefulTurns, IsCarefully}
-use Rattle.vd_choreography_reorder.proofs.Sound.{both}
+use Rattle.vd_choreography_reorder.proofs.Front.{both}
 use Rattle.vd_choreography_packets.specs.Waiting.{counted, noted, heard_before, AtMost}
 
 -- ---- lists of numbers

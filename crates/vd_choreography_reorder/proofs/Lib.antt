@@ -1,10 +1,11 @@
-pub mod Actions
-pub mod Sound
-pub mod Leads
-pub mod Texts
-pub mod Empty
+pub mod Front
+mod Actions
+mod Sound
+mod Leads
+mod Texts
+mod Empty
 mod Order
-pub mod Brought
+mod Brought
 mod Tables
 mod Sinking
 mod Sorted

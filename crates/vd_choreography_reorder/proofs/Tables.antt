@@ -6,7 +6,7 @@ use mathlib.Core.Path.{fun_ext}
 use Rattle.vd_execution.specs.declared.instructions.Reg.{Reg}
 use Rattle.vd_execution.specs.declared.instructions.Line.{Line}
 use Rattle.vd_execution.specs.Registers.{put}
-use Rattle.vd_execution.proofs.Puts.{same_or_not, put_same, put_other}
+use Rattle.vd_execution.proofs.Front.{same_or_not, put_same, put_other}
 use Rattle.vd_reorder_laws.specs.Testing.{row}
 use Rattle.vd_reorder.specs.declared.registers.Rows.{Rows}
 use Rattle.vd_reorder.specs.InRows.{in_row, in_rows}

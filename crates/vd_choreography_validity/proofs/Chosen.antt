@@ -18,7 +18,7 @@ use Rattle.vd_core.specs.Facts.{IsWellMade, slots_step, nothing_seen, Seeing, se
 use Rattle.vd_constraints.specs.declared.labels.Labels.{Labels}
 use Rattle.vd_constraints.specs.Rules.{label}
 use Rattle.vd_constraints.specs.Scoped.{is_below, stmt_below}
-use Rattle.vd_constraints.proofs.InSight.{well_made_scoped}
+use Rattle.vd_constraints.proofs.Front.{well_made_scoped}
 use Rattle.vd_space.specs.declared.problem.Problem.{Problem}
 use Rattle.vd_space.specs.declared.problem.Making.{Making}
 use Rattle.vd_space.specs.declared.problem.Use.{Use}
@@ -28,21 +28,17 @@ use Rattle.vd_space.specs.declared.problem.Index.{Index}
 use Rattle.vd_space.specs.Reading.{Parts, Read, all_parts, read_step, read_stmt, problem_of}
 use Rattle.vd_space.specs.Spaces.{IsUse, IsIndex}
 use Rattle.vd_space.specs.Validity.{protocols, protocol, move_to_host, move, holds_at, all_hosts, may_read, can_stand, stand, if_decided, use_joins, output_joins, is_told, takes_part, guard_told, index_test, index_told, is_valid}
-use Rattle.vd_space.proofs.Programs.{names_below}
-use Rattle.vd_space.proofs.Counted.{as_many as as_many_slots}
-use Rattle.vd_space_optimum.proofs.Places.{protos_are}
+use Rattle.vd_space.proofs.Front.{names_below, as_many as as_many_slots}
+use Rattle.vd_space_optimum.proofs.Front.{protos_are}
 use Rattle.vd_execution.specs.World.{Tape}
 use Rattle.vd_execution.specs.Deals.{IsValidDeal}
 use Rattle.vd_choreography.specs.Block.{Block, block_of, each}
 use Rattle.vd_choreography.specs.Joint.{Each}
 use Rattle.vd_core.specs.Numbers.{NumbersFit}
-use Rattle.vd_choreography.proofs.Folds.{fold_each}
-use Rattle.vd_choreography.proofs.Lists.{and_left, and_right, or_left, or_right, or_cases, InRow, row_of}
-use Rattle.vd_choreography.proofs.Blocks.{slots}
+use Rattle.vd_choreography.proofs.Front.{fold_each, and_left, and_right, or_left, or_right, or_cases, InRow, row_of, slots}
 use Rattle.vd_backend_laws.specs.Suite.{IsOver, AreGiven}
 use Rattle.vd_backend_laws.specs.Whole.{inputs_of, CanRun}
-use Rattle.vd_backend_laws.proofs.Given.{listed_protocols_are_over}
-use Rattle.vd_backend_laws.proofs.Whole.{code_tells_the_same}
+use Rattle.vd_backend_laws.proofs.Front.{listed_protocols_are_over, code_tells_the_same}
 use Rattle.vd_choreography_validity.specs.Assignments.{IsChosen, AssignmentsCanRun, AssignmentsTellTheSame}
 use Rattle.vd_choreography_validity.proofs.Placing.{sees, among, stands_at, Stand, Tells, as_many, placed}
 

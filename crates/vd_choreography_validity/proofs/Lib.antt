@@ -1,2 +1,3 @@
+pub mod Front
 mod Placing
-pub mod Chosen
+mod Chosen

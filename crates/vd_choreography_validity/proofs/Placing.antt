@@ -30,8 +30,7 @@ use Rattle.vd_choreography.specs.Block.{Block, End, Let, NewVar, NewArray, Store
 use Rattle.vd_choreography.specs.Joint.{Each}
 use Rattle.vd_choreography.specs.Emission.{Emission, right_takes_part}
 use Rattle.vd_choreography.specs.Validity.{emission_of, RightPlaced, Placed}
-use Rattle.vd_choreography.proofs.Lists.{and_left, and_right, or_left, or_right, or_cases, InRow, row_front, row_back}
-use Rattle.vd_choreography.proofs.Blocks.{slots}
+use Rattle.vd_choreography.proofs.Front.{and_left, and_right, or_left, or_right, or_cases, InRow, row_front, row_back, slots}
 use Rattle.vd_backend_laws.specs.Machine.{machine}
 use Rattle.vd_backend_laws.specs.Parts.{suite_calls}
 use Rattle.vd_backend_laws.specs.Suite.{holds, joins, suite}

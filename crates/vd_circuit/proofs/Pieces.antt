@@ -3,7 +3,7 @@ use Rattle.std.proofs.Common.{◌≡◌, List, ◌++◌, ap, ◌∙◌}
 use Rattle.vd_backend_algebra.specs.Gates.{Gate}
 use Rattle.vd_bits.specs.declared.gates.Gate.{Gate as Written}
 use Rattle.vd_bits.specs.BitCalls.{gates_in}
-use Rattle.vd_bits.proofs.Lists.{gates_append, on, more}
+use Rattle.vd_bits.proofs.Front.{gates_append, on, more}
 
 -- literal gates, then five groups, then literal gates
 pub seven_pieces : (start xs a b c d e zs first last : List Written) (g1 g2 g3 g4 g5 : List Gate) → xs ≡ start ++ first

@@ -5,7 +5,7 @@ use Rattle.vd_base.specs.declared.operations.Op.TheVariants as op
 use Rattle.vd_backend_algebra.specs.Gates.{Gate, Flip, adding, subtracting, comparing, equating, choosing, gates_of}
 use Rattle.vd_bits.specs.declared.gates.Gate.{Gate as Written}
 use Rattle.vd_bits.specs.BitCalls.{gates_in}
-use Rattle.vd_bits.proofs.Lists.{circuit_short}
+use Rattle.vd_bits.proofs.Front.{circuit_short}
 use Rattle.vd_circuit.specs.CircuitCalls.{circuit_serves}
 
 pub sum : gates_of op.Add ≡ adding 0 1 2

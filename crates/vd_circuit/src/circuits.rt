@@ -23,7 +23,7 @@ fn comparing(x: usize, y: usize, n: usize, to: &mut Items<Gate>) -> Result<(), A
 }
 
 /// A word and itself shifted, which stand together at `n + 1`.
-#[tactic(auto, using(vd_bits::proofs::Lists::gates_append))]
+#[tactic(auto, using(vd_bits::proofs::Front::gates_append))]
 fn narrowing(amount: u32, x: usize, n: usize, to: &mut Items<Gate>) -> Result<(), AllocError>
     ensures { OnOk result (gates_in to.new ≡ gates_in to.old ++ narrowing_of amount x n) }
 {
@@ -46,7 +46,7 @@ fn equating(x: usize, y: usize, n: usize, to: &mut Items<Gate>) -> Result<(), Al
 }
 
 /// The word at `x` where the lowest bit at `c` is 1, and else the word at `y`; it stands at `n + 3`.
-#[tactic(auto, using(vd_bits::proofs::Lists::gates_append))]
+#[tactic(auto, using(vd_bits::proofs::Front::gates_append))]
 fn choosing(c: usize, x: usize, y: usize, n: usize, to: &mut Items<Gate>) -> Result<(), AllocError>
     requires { n < 800 }
     ensures { OnOk result (gates_in to.new ≡ gates_in to.old ++ choosing_of c x y n) }

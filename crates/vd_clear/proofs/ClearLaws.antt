@@ -19,12 +19,10 @@ use Rattle.vd_execution.specs.Gadgets.{Alone, GadgetsAreTidy, IsSound}
 use Rattle.vd_duet.specs.Builder.{next_at, most_taken}
 use Rattle.vd_duet.specs.Calls.{Places, hosts_of, Made, AllAre, register_of}
 use Rattle.vd_duet.specs.Laws.{Each, IsIn, IsInOne, IsHost, nowhere, words_at, AreKnown, AreBelow, Leads, GivesThere, GivesWord, Copies, StandFor, Operand, Operands, IsReady, Reaches, Renews, NumberFits, BackendLaws}
-use Rattle.vd_duet.proofs.Writes.{Writes, wrote, writes_own}
-use Rattle.vd_duet.proofs.Leads.{leads_nothing, leads_writing, leads_on, orderly_still, orderly_wider, below_later, Since, since_start}
+use Rattle.vd_duet.proofs.Front.{Writes, wrote, writes_own, leads_nothing, leads_writing, leads_on, orderly_still, orderly_wider, below_later, Since, since_start, Holds, Found, found}
 use Rattle.vd_clear.specs.Copies.{literal_at, passed, adopted, kept_by, first_of, after_first, applied_at, shown, each_made, renewed, clear_calls, spread_to}
 use Rattle.vd_clear.proofs.Members.{few_members, few_places, length_hosts}
 use Rattle.vd_clear.proofs.EachLaw.{each_law}
-use Rattle.vd_duet.proofs.Found.{Holds, Found, found}
 use Rattle.vd_clear.proofs.HostLaws.{adopted_there, written_there, passed_there, operated_there}
 use Rattle.vd_clear.proofs.ShowLaws.{shown_there, copies_later}
 

@@ -6,7 +6,7 @@ use Rattle.vd_execution.specs.World.{Tape}
 use Rattle.vd_execution.specs.Joint.{Hosts}
 use Rattle.vd_duet.specs.Calls.{hosts_of, Made}
 use Rattle.vd_duet.specs.Laws.{Each, nowhere, Gives, GivesThere, at_host, Copies}
-use Rattle.vd_duet.proofs.Leads.{leads_nothing, leads_on, orderly_still, orderly_on, orderly_wider, Since, since_on}
+use Rattle.vd_duet.proofs.Front.{leads_nothing, leads_on, orderly_still, orderly_on, orderly_wider, Since, since_on}
 use Rattle.vd_clear.specs.Copies.{each_made}
 
 module _ (t : Tape) (source : ℕ → ℕ → Type 0) (f : HostId → List ℕ → Made Reg) (v : ℕ) (next0 : List ℕ) (w : Hosts) (P : HostId → Type 0)

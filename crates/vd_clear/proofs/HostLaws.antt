@@ -22,9 +22,7 @@ use Rattle.vd_execution.specs.Gadgets.{Alone, Tells, TakesNoPart, IsSound}
 use Rattle.vd_duet.specs.Builder.{next_at, taken}
 use Rattle.vd_duet.specs.Calls.{Places, Made, register_of}
 use Rattle.vd_duet.specs.Laws.{Leads, GivesThere, IsIn, nowhere, NumberFits}
-use Rattle.vd_duet.proofs.Found.{Found, Holds, differ_of, equal_of}
-use Rattle.vd_duet.proofs.Writes.{Writes, wrote, writes_own, writes_heard}
-use Rattle.vd_duet.proofs.Leads.{leads_nothing, leads_writing, leads_on, orderly_still, orderly_fresh, taken_there, taken_bounds}
+use Rattle.vd_duet.proofs.Front.{Found, Holds, differ_of, equal_of, Writes, wrote, writes_own, writes_heard, leads_nothing, leads_writing, leads_on, orderly_still, orderly_fresh, taken_there, taken_bounds}
 use Rattle.vd_clear.specs.Copies.{written_by, with_number, passed, adopted, operated}
 
 -- a copy that a host has already

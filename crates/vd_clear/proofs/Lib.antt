@@ -1,8 +1,9 @@
-pub mod Loops
-pub mod Members
+pub mod Front
+mod Loops
+mod Members
 mod Shows
 mod EachLaw
-pub mod HostLaws
+mod HostLaws
 mod ShowLaws
-pub mod ClearLaws
-pub mod ClearActs
+mod ClearLaws
+mod ClearActs

@@ -8,7 +8,7 @@ use Rattle.vd_duet.specs.Builder.{Builder, TakesAtMost}
 use Rattle.vd_duet.specs.Laws.{AreKnown}
 use Rattle.vd_duet.specs.declared.parts.Clear.{Clear}
 use Rattle.vd_duet.specs.Calls.{Places, Made, emitted, called, in_clear, hosts_of}
-use Rattle.vd_duet.proofs.Leads.{emitted_append}
+use Rattle.vd_duet.proofs.Front.{emitted_append}
 use Rattle.vd_clear.specs.Copies.{each_made}
 
 -- what is still to be made, behind what was made

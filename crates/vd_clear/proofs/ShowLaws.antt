@@ -10,14 +10,12 @@ use Rattle.vd_execution.specs.Deals.{IsValidDeal}
 use Rattle.vd_execution.specs.Joint.{Host, Hosts, after_do, after_msg}
 use Rattle.vd_execution.specs.Acts.{run_acts, ActsAgree}
 use Rattle.vd_execution.specs.Gadgets.{Gadget, Alone, Tells, acts_of_gadgets, GadgetsAreTidy, IsSound}
-use Rattle.vd_execution.proofs.Puts.{put_itself}
+use Rattle.vd_execution.proofs.Front.{put_itself}
 use Rattle.vd_duet.specs.Builder.{next_at, taken}
 use Rattle.vd_duet.specs.Calls.{Places, hosts_of, Made}
 use Rattle.vd_duet.specs.Acting.{is_among}
 use Rattle.vd_duet.specs.Laws.{Leads, IsOrderly, Gives, GivesThere, IsIn, IsHost, nowhere, AreBelow, Copies}
-use Rattle.vd_duet.proofs.Found.{differ_of, equal_of, found}
-use Rattle.vd_duet.proofs.Writes.{writes_heard}
-use Rattle.vd_duet.proofs.Leads.{leads_nothing, leads_writing, leads_on, orderly_still, orderly_fresh, orderly_on, orderly_wider, tidy_append, taken_known, taken_bounds, below_later}
+use Rattle.vd_duet.proofs.Front.{differ_of, equal_of, found, writes_heard, leads_nothing, leads_writing, leads_on, orderly_still, orderly_fresh, orderly_on, orderly_wider, tidy_append, taken_known, taken_bounds, below_later}
 use Rattle.vd_clear.specs.Copies.{adopted, told, compared, first_register, shown}
 use Rattle.vd_clear.proofs.HostLaws.{adopted_there}
 

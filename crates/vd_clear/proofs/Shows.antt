@@ -7,7 +7,7 @@ use Rattle.vd_duet.specs.Builder.{Builder}
 use Rattle.vd_duet.specs.Calls.{Places, hosts_of, Made, called, appended, register_of}
 use Rattle.vd_duet.specs.Acting.{is_among}
 use Rattle.vd_clear.specs.Copies.{adopted, told, compared, first_register, shown}
-use Rattle.vd_duet.proofs.Leads.{emitted_append}
+use Rattle.vd_duet.proofs.Front.{emitted_append}
 
 abbrev told_all : Places → HostId → Builder → Made Reg
 told_all x to b = record {

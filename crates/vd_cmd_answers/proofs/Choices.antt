@@ -21,11 +21,11 @@ use Rattle.vd_bound.specs.declared.checking.Proved.TheVariants.{Empty, Least}
 use Rattle.vd_search_certificate.specs.declared.certificate.Certificate.{Certificate}
 use Rattle.vd_search_certificate.specs.Outcomes.{HasOutcome}
 use Rattle.vd_search_certificate.specs.Texts.{IsTextOf}
-use Rattle.vd_search_certificate.proofs.Outcomes.{outcome_once}
+use Rattle.vd_search_certificate.proofs.Front.{outcome_once}
 use Rattle.vd_cmd_rewrite.specs.RunPrograms.{IsRunProgram, run_form}
-use Rattle.vd_cmd_rewrite.proofs.Made.{run_form_is, run_once, run_well_made}
+use Rattle.vd_cmd_rewrite.proofs.Front.{run_form_is, run_once, run_well_made}
 use Rattle.vd_space_optimum.specs.Cheapest.{IsCheapest}
-use Rattle.vd_space_optimum.proofs.Cheapest.{cheapest}
+use Rattle.vd_space_optimum.proofs.Front.{cheapest}
 use Rattle.vd_search.specs.Answers.{nat_or_zero}
 use Rattle.vd_search_stages.specs.Choices.{ChoiceOutcomes, IsChosen, needed}
 use Rattle.vd_search_stages.specs.Confirming.{confirmed}
@@ -36,9 +36,7 @@ use Rattle.vd_space.specs.Costs.{cost}
 use Rattle.vd_space.specs.Reading.{problem_of}
 use Rattle.vd_space.specs.Spaces.{IsProblem}
 use Rattle.vd_space.specs.Validity.{protocols}
-use Rattle.vd_space.proofs.Few.{few_in}
-use Rattle.vd_space.proofs.Programs.{is_labelled}
-use Rattle.vd_space.proofs.Weighed.{is_problem}
+use Rattle.vd_space.proofs.Front.{few_in, is_labelled, is_problem}
 use Rattle.vd_cmd_plan.specs.Deliver.{stored}
 use Rattle.vd_cmd_plan.specs.Plans.{Plan, answer_then, check_then, ended}
 use Rattle.vd_cmd_plan.specs.declared.answer.Answer.{Answer}
@@ -53,7 +51,7 @@ use Rattle.vd_cmd_choose.specs.Choosing.{certificate_file, choice_answer, chosen
 use Rattle.vd_cmd_choose.specs.Searching.{Certified, GaveUp, Searched, is_accepted, searched_by}
 use Rattle.vd_cmd_choose.specs.Outcomes.{CertificateOutcomes}
 use Rattle.vd_cmd_choose.specs.Problems.{problem_for}
-use Rattle.vd_cmd_choose.proofs.Labelled.{has_labels}
+use Rattle.vd_cmd_choose.proofs.Front.{has_labels}
 use Rattle.vd_cmd_answers.specs.Answers.{IsCertified, TellsAssignment, TellsChoice, least_line}
 use Rattle.vd_cmd_answers.specs.Laws.{ChoicesTell}
 use Rattle.vd_cmd_answers.proofs.Plans.{Ends, Leads, NeverEnds, answered, check_came, check_leads, ends_as, file_leads}

@@ -14,8 +14,8 @@ use Rattle.vd_constraints.specs.Rules.{system_of}
 use Rattle.vd_constraints.specs.Satisfies.{IsLeast}
 use Rattle.vd_constraints.specs.declared.labels.Labels.{Labels}
 use Rattle.vd_cmd_rewrite.specs.RunPrograms.{IsRunProgram}
-use Rattle.vd_cmd_rewrite.proofs.Made.{run_well_made}
-use Rattle.vd_space_optimum.proofs.Cheapest.{cheapest}
+use Rattle.vd_cmd_rewrite.proofs.Front.{run_well_made}
+use Rattle.vd_space_optimum.proofs.Front.{cheapest}
 use Rattle.vd_execution.specs.declared.instructions.Instr.{Instr}
 use Rattle.vd_execution.specs.Joint.{code_of}
 use Rattle.vd_execution.specs.Text.{text}
@@ -25,7 +25,7 @@ use Rattle.vd_host_text.specs.declared.program.Digest.{Digest}
 use Rattle.vd_search_stages.specs.Choices.{IsChosen}
 use Rattle.vd_space.specs.declared.problem.Problem.{Problem}
 use Rattle.vd_space.specs.Reading.{problem_of}
-use Rattle.vd_space.proofs.Weighed.{is_problem}
+use Rattle.vd_space.proofs.Front.{is_problem}
 use Rattle.vd_cmd_plan.specs.Deliver.{stored}
 use Rattle.vd_cmd_plan.specs.Numbered.{file_name}
 use Rattle.vd_cmd_plan.specs.Plans.{answer_then}
@@ -34,7 +34,7 @@ use Rattle.vd_cmd_plan.specs.declared.status.Status.TheVariants.{Ended, NoAssign
 use Rattle.vd_cmd_frontend.specs.Sources.{HoldsSource}
 use Rattle.vd_cmd_choose.specs.Choice.{assigned, assigned_answer, chosen_by, printed_at}
 use Rattle.vd_cmd_compile.specs.Compiling.{compiled_at, compiled_for, host_file, host_files, plan_for}
-use Rattle.vd_cmd_compile.proofs.Runnable.{code_count}
+use Rattle.vd_cmd_compile.proofs.Front.{code_count}
 use Rattle.vd_cmd_answers.specs.Answers.{Stands, TellsCompiled}
 use Rattle.vd_cmd_answers.specs.Laws.{CompiledTell}
 use Rattle.vd_cmd_answers.proofs.Plans.{answered}

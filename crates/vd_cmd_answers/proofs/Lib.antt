@@ -1,10 +1,11 @@
-pub mod Plans
-pub mod Sources
-pub mod Labels
+pub mod Front
+mod Plans
+mod Sources
+mod Labels
 mod Proved
-pub mod Proofs
+mod Proofs
 mod Short
-pub mod Choices
-pub mod Standing
-pub mod Compiled
-pub mod Endings
+mod Choices
+mod Standing
+mod Compiled
+mod Endings

@@ -6,7 +6,7 @@ use Rattle.vd_core.specs.declared.normal.NormalForm.{NormalForm}
 use Rattle.vd_constraints.specs.declared.labels.Labels.{Labels}
 use Rattle.vd_anf.specs.Normal.{normal_form}
 use Rattle.vd_cmd_rewrite.specs.RunPrograms.{IsRunProgram, run_form}
-use Rattle.vd_cmd_rewrite.proofs.Made.{run_form_is, run_well_made}
+use Rattle.vd_cmd_rewrite.proofs.Front.{run_form_is, run_well_made}
 use Rattle.vd_bound.specs.declared.checking.CheckFault.{CheckFault}
 use Rattle.vd_bound.specs.declared.checking.CheckFault.TheVariants as check_fault
 use Rattle.vd_bound.specs.declared.checking.Proved.{Proved}
@@ -15,7 +15,7 @@ use Rattle.vd_search_certificate.specs.declared.certificate.Certificate.{Certifi
 use Rattle.vd_search_stages.specs.Confirming.{confirmed}
 use Rattle.vd_space.specs.declared.problem.Problem.{Problem}
 use Rattle.vd_space.specs.Reading.{problem_of}
-use Rattle.vd_space.proofs.Weighed.{is_problem}
+use Rattle.vd_space.proofs.Front.{is_problem}
 use Rattle.vd_cmd_plan.specs.Plans.{Plan, answer_then, check_then, ended}
 use Rattle.vd_cmd_plan.specs.declared.answer.Answer.{Answer}
 use Rattle.vd_cmd_plan.specs.declared.status.Status.{Status}

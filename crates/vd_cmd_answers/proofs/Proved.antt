@@ -7,18 +7,18 @@ use Rattle.vd_bound.specs.declared.checking.CheckFault.{CheckFault}
 use Rattle.vd_bound.specs.declared.checking.CheckFault.TheVariants.{BadShift}
 use Rattle.vd_bound.specs.declared.checking.Proved.{Proved}
 use Rattle.vd_bound.specs.declared.checking.Proved.TheVariants.{Empty, Least}
-use Rattle.vd_bound.proofs.Answered.{checked_proves}
+use Rattle.vd_bound.proofs.Front.{checked_proves}
 use Rattle.vd_search_certificate.specs.declared.certificate.Certificate.{Certificate}
 use Rattle.vd_space_optimum.specs.Cheapest.{IsValid}
 use Rattle.vd_cost_network.specs.Network.{network_tree}
-use Rattle.vd_cost_network.proofs.Bounded.{network_high_whole, network_tree_bounded}
+use Rattle.vd_cost_network.proofs.Front.{network_high_whole, network_tree_bounded}
 use Rattle.vd_search_tree.specs.Trees.{IsWhole, Tree}
 use Rattle.vd_search_tree.specs.declared.shift.Shift.{Shift}
 use Rattle.vd_search_stages.specs.Confirming.{confirmed, names_by, tree_by}
 use Rattle.vd_space.specs.declared.problem.Problem.{Problem}
 use Rattle.vd_space.specs.Costs.{cost}
 use Rattle.vd_space.specs.Spaces.{IsProblem, tree_of}
-use Rattle.vd_space.proofs.Bounded.{high_whole, tree_bounded}
+use Rattle.vd_space.proofs.Front.{high_whole, tree_bounded}
 
 -- its shifts name what there is, and its marks are accepted
 pub unshifted : (uses : ℕ) (tree : Tree) (c : Certificate) (proved : Proved) → certificate_checked uses tree c ≡ Ok proved → checked tree c.cost c.marks ≡ Ok proved

@@ -11,7 +11,7 @@ use Rattle.vd_base.specs.Limits.{most_certificate_bytes, most_search_budget}
 use Rattle.vd_bound.specs.Checking.{checked}
 use Rattle.vd_bound.specs.Marks.{AreTrees, children, count_of, is_expanded}
 use Rattle.vd_bound.specs.declared.checking.Proved.{Proved}
-use Rattle.vd_bound.proofs.Yes.{yes_is_sound}
+use Rattle.vd_bound.proofs.Front.{yes_is_sound}
 use Rattle.vd_search_certificate.specs.declared.certificate.Certificate.{Certificate}
 use Rattle.vd_search_certificate.specs.declared.certificate.Mark.{Mark}
 use Rattle.vd_search_certificate.specs.declared.certificate.Mark.TheVariants.{Best, Bounded, Expanded, Violated}

@@ -10,10 +10,9 @@ use Rattle.vd_constraints.specs.Rules.{system_of}
 use Rattle.vd_constraints.specs.Satisfies.{IsLeast}
 use Rattle.vd_constraints.specs.Systems.{Constraints}
 use Rattle.vd_constraints.specs.declared.labels.Labels.{Labels}
-use Rattle.vd_anf_wellformed.proofs.WellMade.{well_made}
+use Rattle.vd_anf_wellformed.proofs.Front.{well_made}
 use Rattle.vd_anf.specs.Normal.{normal_form}
-use Rattle.vd_parser.proofs.Named.{names_are_names}
-use Rattle.vd_parser.proofs.OutcomeLaws.{parses_once}
+use Rattle.vd_parser.proofs.Front.{names_are_names, parses_once}
 use Rattle.vd_parser.specs.Outcomes.{IsParse}
 use Rattle.vd_parser.specs.declared.fault.ParseFault.{ParseFault}
 use Rattle.vd_parser.specs.declared.fault.ParseFault.TheVariants as parse_fault
@@ -24,7 +23,7 @@ use Rattle.vd_resolve.specs.declared.fault.NameFault.{NameFault}
 use Rattle.vd_resolve.specs.declared.fault.NameFault.TheVariants as name_fault
 use Rattle.vd_space.specs.declared.problem.Problem.{Problem}
 use Rattle.vd_space.specs.Reading.{problem_of}
-use Rattle.vd_labels_systems.proofs.Systems.{program_system}
+use Rattle.vd_labels_systems.proofs.Front.{program_system}
 use Rattle.vd_cmd_plan.specs.Plans.{Plan, check_then, file_then}
 use Rattle.vd_cmd_plan.specs.Refusals.{rule_status}
 use Rattle.vd_cmd_plan.specs.declared.answer.Answer.{Answer}
@@ -33,7 +32,7 @@ use Rattle.vd_cmd_plan.specs.declared.status.Status.TheVariants.{Ended}
 use Rattle.vd_cmd_frontend.specs.Labelling.{as_labels, labels_of}
 use Rattle.vd_cmd_frontend.specs.Outcomes.{LabelOutcomes, TextOutcomes}
 use Rattle.vd_cmd_frontend.specs.Sources.{HoldsSource, IsSourceText, as_resolved, as_source, caused, resolved_of, source_of, source_then, text_status, tree_then}
-use Rattle.vd_cmd_frontend.proofs.Labelled.{labelled}
+use Rattle.vd_cmd_frontend.proofs.Front.{labelled}
 use Rattle.vd_cmd_choose.specs.Problems.{IsProblemOf, as_problem, problem_for}
 use Rattle.vd_cmd_choose.specs.Programs.{program_then}
 use Rattle.vd_cmd_rewrite.specs.RunPrograms.{run_form}

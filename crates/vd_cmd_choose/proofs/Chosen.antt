@@ -9,7 +9,7 @@ use Rattle.vd_constraints.specs.declared.labels.Labels.{Labels}
 use Rattle.vd_bound.specs.Marks.{count_of, is_expanded}
 use Rattle.vd_search_certificate.specs.declared.certificate.Certificate.{Certificate}
 use Rattle.vd_search_certificate.specs.Texts.{text_of}
-use Rattle.vd_search_certificate.proofs.Outcomes.{outcome_once}
+use Rattle.vd_search_certificate.proofs.Front.{outcome_once}
 use Rattle.vd_search.specs.Answers.{nat_or_zero}
 use Rattle.vd_space.specs.declared.problem.Problem.{Problem}
 use Rattle.vd_space.specs.Costs.{cost}
@@ -17,19 +17,18 @@ use Rattle.vd_space.specs.Reading.{problem_of}
 use Rattle.vd_space.specs.Spaces.{IsProblem}
 use Rattle.vd_space.specs.Usual.{usual}
 use Rattle.vd_space.specs.Validity.{protocol}
-use Rattle.vd_space_optimum.proofs.Cheapest.{cheapest}
+use Rattle.vd_space_optimum.proofs.Front.{cheapest}
 use Rattle.vd_space_optimum.specs.Cheapest.{IsAssignment}
 use Rattle.vd_search_stages.specs.Choices.{ChoiceOutcomes, IsChosen, needed}
 use Rattle.vd_search_stages.specs.Confirming.{confirmed}
 use Rattle.vd_search_stages.specs.Selecting.{IsAccepted, IsOver, Selects}
 use Rattle.vd_search_stages.specs.declared.selecting.SelectFault.TheVariants as select_fault
 use Rattle.vd_search_stages.specs.declared.selecting.Selection.TheVariants.{Found, NoAssignment}
-use Rattle.vd_search_stages.proofs.Accepted.{spent_needs}
-use Rattle.vd_search_stages.proofs.Once.{chosen_once}
+use Rattle.vd_search_stages.proofs.Front.{spent_needs, chosen_once}
 use Rattle.vd_cmd_plan.specs.Plans.{Executes}
 use Rattle.vd_cmd_plan.specs.declared.status.Status.{Status}
 use Rattle.vd_cmd_plan.specs.declared.status.Status.TheVariants.{Memory, Spent}
-use Rattle.vd_cmd_plan.proofs.InSteps.{any_memory, check_step}
+use Rattle.vd_cmd_plan.proofs.Front.{any_memory, check_step}
 use Rattle.vd_cmd_choose.specs.Choice.{IsChoiceFor, IsSelected, Searches, as_searched, assigned, chosen_by, chosen_of}
 use Rattle.vd_cmd_choose.specs.Outcomes.{CertificateOutcomes}
 use Rattle.vd_cmd_choose.specs.Searching.{GaveUp, Certified, is_accepted, searched_by}

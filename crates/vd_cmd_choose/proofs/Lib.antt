@@ -1,8 +1,9 @@
-pub mod Labelled
-pub mod Reading
+pub mod Front
+mod Labelled
+mod Reading
 mod Statuses
-pub mod ReadPrograms
+mod ReadPrograms
 mod Chosen
-pub mod Steps
+mod Steps
 mod Sourced
-pub mod Sure
+mod Sure

@@ -8,11 +8,11 @@ use Rattle.vd_base.specs.declared.faults.FileFault.{FileFault}
 use Rattle.vd_base.specs.declared.faults.FileFault.TheVariants as file_fault
 use Rattle.vd_search_certificate.specs.Outcomes.{Answers, HasOneOutcome}
 use Rattle.vd_search_certificate.specs.Texts.{IsTextOf, claim_text, letter, marks_text}
-use Rattle.vd_search_certificate.proofs.Outcomes.{one_outcome}
+use Rattle.vd_search_certificate.proofs.Front.{one_outcome}
 use Rattle.vd_cmd_plan.specs.declared.status.Status.{Status}
 use Rattle.vd_cmd_plan.specs.Plans.{Checks, ExecutesStep, file_then, check_then}
 use Rattle.vd_cmd_plan.specs.Loads.{Loads}
-use Rattle.vd_cmd_plan.proofs.InSteps.{load_step, check_step, both_steps, first_step}
+use Rattle.vd_cmd_plan.proofs.Front.{load_step, check_step, both_steps, first_step}
 use Rattle.vd_cmd_choose.specs.Outcomes.{CertificateOutcomes}
 use Rattle.vd_cmd_choose.specs.Certifying.{IsFromFile, certificate_of, certificate_then}
 

@@ -13,7 +13,7 @@ use Rattle.vd_cmd_plan.specs.Plans.{Computes, Executes, Plan, check_then}
 use Rattle.vd_cmd_plan.specs.declared.answer.Answer.{Answer}
 use Rattle.vd_cmd_plan.specs.declared.status.Status.{Status}
 use Rattle.vd_cmd_plan.specs.declared.status.Status.TheVariants.{Ended, Memory, Spent}
-use Rattle.vd_cmd_plan.proofs.Following.{Follows, check_follows}
+use Rattle.vd_cmd_plan.proofs.Front.{Follows, check_follows}
 use Rattle.vd_cmd_frontend.specs.Labelling.{labels_of}
 use Rattle.vd_cmd_frontend.specs.Outcomes.{LabelOutcomes, TextOutcomes}
 use Rattle.vd_cmd_choose.specs.Choice.{Chosen, Chooses, ChoosesIn, ChoosesOf, as_searched, assigned_answer, choice_then, chosen_by, chosen_of, no_list, search_then, source_choice_then, text_choice_then}

@@ -11,7 +11,7 @@ use Rattle.vd_space.specs.Reading.{problem_of}
 use Rattle.vd_search_stages.specs.Choices.{ChoiceOutcomes}
 use Rattle.vd_cmd_plan.specs.Plans.{Plan, check_then, answer_then}
 use Rattle.vd_cmd_plan.specs.declared.answer.Answer.{Answer}
-use Rattle.vd_cmd_plan.proofs.Following.{Follows, file_follows, check_follows}
+use Rattle.vd_cmd_plan.proofs.Front.{Follows, file_follows, check_follows}
 use Rattle.vd_cmd_frontend.specs.Outcomes.{TextOutcomes, LabelOutcomes}
 use Rattle.vd_cmd_frontend.specs.Sources.{source_of, resolved_of}
 use Rattle.vd_cmd_choose.specs.Outcomes.{CertificateOutcomes}

@@ -12,14 +12,13 @@ use Rattle.vd_core.specs.declared.normal.NormalForm.{NormalForm}
 use Rattle.vd_core.specs.Facts.{IsWellMade}
 use Rattle.vd_formula.specs.declared.label.Label.{Label}
 use Rattle.vd_protocol.specs.Authority.{authority_of}
-use Rattle.vd_noninter_laws.proofs.Formulas.{acts_for}
+use Rattle.vd_noninter_laws.proofs.Front.{acts_for}
 use Rattle.vd_space.specs.declared.problem.Problem.{Problem}
 use Rattle.vd_space.specs.Reading.{problem_of}
 use Rattle.vd_space.specs.Validity.{acts_for as acts, covers, protocol, protocols}
-use Rattle.vd_space.proofs.Counted.{as_many}
-use Rattle.vd_space.proofs.Kept.{parts_of}
-use Rattle.vd_space_optimum.proofs.Places.{proto_is}
-use Rattle.vd_noninter_assigned.proofs.Slots.{label_of_slot, stand_at}
+use Rattle.vd_space.proofs.Front.{as_many, parts_of}
+use Rattle.vd_space_optimum.proofs.Front.{proto_is}
+use Rattle.vd_noninter_assigned.proofs.Front.{label_of_slot, stand_at}
 use Rattle.vd_execution.specs.declared.instructions.Instr.{Instr}
 use Rattle.vd_execution.specs.Joint.{code_of}
 use Rattle.vd_execution.specs.Text.{text}

@@ -1,6 +1,7 @@
-pub mod Runnable
-pub mod Aloud
+pub mod Front
+mod Runnable
+mod Aloud
 mod Storing
-pub mod Compiled
-pub mod Sure
+mod Compiled
+mod Sure
 mod Telling

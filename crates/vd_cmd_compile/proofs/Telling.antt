@@ -9,7 +9,7 @@ use Rattle.vd_execution.specs.declared.instructions.Instr.{Instr}
 use Rattle.vd_core.specs.Numbers.{NumbersFit}
 use Rattle.vd_host_text.specs.declared.program.Digest.{Digest}
 use Rattle.vd_projection.specs.Programs.{host_codes}
-use Rattle.vd_projection_files.proofs.Digests.{is_digest}
+use Rattle.vd_projection_files.proofs.Front.{is_digest}
 use Rattle.vd_cmd_plan.specs.declared.answer.Answer.{Answer}
 use Rattle.vd_cmd_plan.specs.declared.status.Status.{Status}
 use Rattle.vd_cmd_plan.specs.declared.status.Status.TheVariants.{Ended}

@@ -3,15 +3,15 @@ use Rattle.std.proofs.Common.{true, Result, Ok, Err, IfOk}
 use Rattle.vd_outside.specs.Files.{FilesView, Contents}
 use Rattle.vd_outside.specs.Sink.{SinkView}
 use Rattle.vd_cmd.specs.declared.command.EarlyWords.{EarlyWords}
-use Rattle.vd_cmd_frontend.proofs.Reading.{some_labels, some_texts}
+use Rattle.vd_cmd_frontend.proofs.Front.{some_labels, some_texts}
 use Rattle.vd_cmd_choose.specs.Searching.{searched_by}
-use Rattle.vd_cmd_choose.proofs.Reading.{some_certificates}
-use Rattle.vd_search_stages.proofs.Once.{some_choices}
+use Rattle.vd_cmd_choose.proofs.Front.{some_certificates}
+use Rattle.vd_search_stages.proofs.Front.{some_choices}
 use Rattle.vd_cmd_plan.specs.Plans.{Executes, IsGiven, IsProper, Plan}
 use Rattle.vd_cmd_plan.specs.Runs.{Finishes}
 use Rattle.vd_cmd_plan.specs.declared.answer.Answer.{Answer}
 use Rattle.vd_cmd_plan.specs.declared.status.Status.{Status}
-use Rattle.vd_cmd_answers.proofs.Endings.{ended, never, printed, stand}
+use Rattle.vd_cmd_answers.proofs.Front.{ended, never, printed, stand}
 use Rattle.vd_cmd_compile_early.specs.Compiling.{ExecutesEarly, early_plan}
 use Rattle.vd_cmd_compile_early.specs.Telling.{TellsSource}
 use Rattle.vd_cmd_compile_early.specs.Running.{KeepsOrder, RunsEarly}

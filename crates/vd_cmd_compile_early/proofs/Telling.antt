@@ -8,7 +8,7 @@ use Rattle.vd_core.specs.Facts.{IsWellMade}
 use Rattle.vd_execution.specs.declared.instructions.Instr.{Instr}
 use Rattle.vd_core.specs.Numbers.{NumbersFit}
 use Rattle.vd_host_text.specs.declared.program.Digest.{Digest}
-use Rattle.vd_projection_files.proofs.Digests.{is_digest}
+use Rattle.vd_projection_files.proofs.Front.{is_digest}
 use Rattle.vd_cmd_plan.specs.declared.answer.Answer.{Answer}
 use Rattle.vd_cmd_plan.specs.declared.status.Status.{Status}
 use Rattle.vd_cmd_plan.specs.declared.status.Status.TheVariants.{Ended}
@@ -20,7 +20,7 @@ use Rattle.vd_cmd_compile.specs.Compiling.{host_files}
 use Rattle.vd_projection_reordered.specs.Early.{AreEarlyCodes}
 use Rattle.vd_cmd_compile_early.specs.Compiling.{early_plan_for}
 use Rattle.vd_cmd_compile_early.specs.Telling.{TellsPrograms, TellsSource, TellsText}
-use Rattle.vd_cmd_compile.proofs.Runnable.{runnable_of}
+use Rattle.vd_cmd_compile.proofs.Front.{runnable_of}
 
 abbrev made : List Stored → List ℕ → Answer
 made stores printed = record { status = Ended; stores = stores; printed = printed }

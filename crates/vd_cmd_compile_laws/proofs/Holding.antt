@@ -23,10 +23,10 @@ use Rattle.vd_host_text.specs.declared.program.Digest.{Digest}
 use Rattle.vd_host_text.specs.Text.{program_text}
 use Rattle.vd_projection.specs.Programs.{host_codes}
 use Rattle.vd_projection_files.specs.Stored.{CanBeStored, stored_program}
-use Rattle.vd_projection_files.proofs.Files.{stored_texts_are_short}
+use Rattle.vd_projection_files.proofs.Front.{stored_texts_are_short}
 use Rattle.vd_cmd_compile.specs.Compiling.{host_file, host_files, plan_for}
 use Rattle.vd_cmd_compile.specs.Telling.{CompilesText}
-use Rattle.vd_cmd_compile.proofs.Runnable.{code_count}
+use Rattle.vd_cmd_compile.proofs.Front.{code_count}
 use Rattle.vd_cmd_compile_laws.specs.Compiled.{CanBeCompiled}
 use Rattle.vd_cmd_compile_laws.specs.Holding.{HoldsProgram, IsCompilation}
 use Rattle.vd_cmd_compile_laws.proofs.Files.{is_read}

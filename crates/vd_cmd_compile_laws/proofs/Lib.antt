@@ -1,5 +1,6 @@
+pub mod Front
 mod Files
 mod Texts
-pub mod Holding
+mod Holding
 mod Order
-pub mod Names
+mod Names

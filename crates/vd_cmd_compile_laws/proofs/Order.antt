@@ -7,7 +7,7 @@ use Rattle.vd_source_lexer.specs.declared.token.Token.{Token}
 use Rattle.vd_source_lexer.specs.declared.piece.Piece.{Piece}
 use Rattle.vd_source_lexer.specs.declared.piece.Piece.TheVariants.{Blank, Lexeme}
 use Rattle.vd_source_lexer.specs.Tokens.{first_piece, IsWithin, Lexes, lexes_end, lexes_blank, lexes_token}
-use Rattle.vd_source_lexer.proofs.Pieces.{piece_within}
+use Rattle.vd_source_lexer.proofs.Front.{piece_within}
 use Rattle.vd_parser.specs.Language.{Symbol, rule}
 
 -- a token stands at the offset or behind it, and if it is not the end it has some bytes

@@ -19,7 +19,7 @@ use Rattle.vd_host_text.specs.Text.{name_field}
 use Rattle.vd_cmd_plan.specs.Numbered.{file_name}
 use Rattle.vd_cmd_compile_laws.specs.Sizes.{name_bytes}
 use Rattle.vd_cmd_compile_laws.proofs.Names.{host_names_fit}
-use Rattle.vd_cmd_compile.proofs.Runnable.{runnable_of}
+use Rattle.vd_cmd_compile.proofs.Front.{runnable_of}
 use Rattle.vd_cmd_compile_laws.specs.Compiled.{CanBeCompiled, EachFrom, IsFileOf, IsReadBack, IsShort, CompiledFilesAreShort, CompiledFilesCanBeRead, plan_at}
 use Rattle.vd_cmd_compile_laws.proofs.Files.{compiled_files_are_read_back, counted_files, named_files, short_files}
 

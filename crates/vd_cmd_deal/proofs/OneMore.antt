@@ -6,7 +6,7 @@ use Rattle.vd_outside.specs.declared.stored.Stored.{Stored}
 use Rattle.vd_deal_items.specs.declared.deal.Deal.{Deal}
 use Rattle.vd_tape.specs.Text.{deal_text}
 use Rattle.vd_cmd_plan.specs.Numbered.{file_name, numbered}
-use Rattle.vd_cmd_plan.proofs.Numbering.{numbered_more}
+use Rattle.vd_cmd_plan.proofs.Front.{numbered_more}
 use Rattle.vd_cmd_deal.specs.Dealing.{deal_files}
 
 texts : (deals : List Deal) (i : ℕ) (deal : Deal) → i < length deals → deal ≡ get_or deals i deal → map deal_text (take (i + 1) deals) ≡ map deal_text (take i deals) ++ deal_text deal ∷ []

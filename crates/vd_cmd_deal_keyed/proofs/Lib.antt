@@ -1,3 +1,4 @@
+pub mod Front
 mod Digests
 mod OneMore
-pub mod ReadBack
+mod ReadBack

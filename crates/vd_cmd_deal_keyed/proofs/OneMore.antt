@@ -6,7 +6,7 @@ use Rattle.vd_outside.specs.declared.stored.Stored.{Stored}
 use Rattle.vd_deal_items.specs.declared.deal.Deal.{Deal}
 use Rattle.vd_deal_items.specs.declared.deal.Counts.{Counts}
 use Rattle.vd_cmd_plan.specs.Numbered.{file_name, numbered}
-use Rattle.vd_cmd_plan.proofs.Numbering.{numbered_more}
+use Rattle.vd_cmd_plan.proofs.Front.{numbered_more}
 use Rattle.vd_cmd_deal_keyed.specs.KeyDealing.{secret_file, secret_files}
 
 texts : (text : Deal → List ℕ) (deals : List Deal) (i : ℕ) (deal : Deal) → i < length deals → deal ≡ get_or deals i deal → map text (take (i + 1) deals) ≡ map text (take i deals) ++ text deal ∷ []

@@ -13,11 +13,10 @@ use Rattle.vd_deal_keys.specs.Keys.{id_info, items_key, link_between, link_info,
 use Rattle.vd_deal_keys.specs.Secrets.{secrets_of}
 use Rattle.vd_tape.specs.Made.{keyed_deals}
 use Rattle.vd_tape.specs.Text.{IsDealOf}
-use Rattle.vd_tape.proofs.MadeValid.{valid_if_keyed}
-use Rattle.vd_tape.proofs.MadeWords.{count_of_keyed, keyed_of}
+use Rattle.vd_tape.proofs.Front.{valid_if_keyed, count_of_keyed, keyed_of}
 use Rattle.vd_deal_versions.specs.Plain.{dealt_with}
 use Rattle.vd_deal_versions.specs.Text.{AreSecretsOf}
-use Rattle.vd_deal_versions.proofs.DealtExact.{written_is_read}
+use Rattle.vd_deal_versions.proofs.Front.{written_is_read}
 use Rattle.vd_cmd_deal_keyed.specs.Laws.{KeyDealsAreRead}
 use Rattle.vd_cmd_deal_keyed.proofs.Digests.{derived_is_key}
 

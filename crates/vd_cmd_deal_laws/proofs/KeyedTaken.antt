@@ -15,17 +15,16 @@ use Rattle.vd_deal_items.specs.Validity.{AreDeals, IsConsistent}
 use Rattle.vd_deal_keys.specs.Keys.{items_key}
 use Rattle.vd_deal_keys.specs.Secrets.{secrets_of}
 use Rattle.vd_tape.specs.Made.{AreCounts, keyed_deal, keyed_deals}
-use Rattle.vd_tape.proofs.MadeValid.{consistent_if_keyed, valid_if_keyed}
-use Rattle.vd_tape.proofs.MadeWords.{count_of_keyed, keyed_of}
+use Rattle.vd_tape.proofs.Front.{consistent_if_keyed, valid_if_keyed, count_of_keyed, keyed_of}
 use Rattle.vd_deal_versions.specs.Text.{IsSecretDealOf, secret_of}
 use Rattle.vd_cmd_plan.specs.Deliver.{stored}
 use Rattle.vd_cmd_plan.specs.Numbered.{file_name}
 use Rattle.vd_cmd_deal_keyed.specs.KeyDealing.{key_answer, secret_file}
-use Rattle.vd_cmd_deal_keyed.proofs.ReadBack.{are_secrets}
+use Rattle.vd_cmd_deal_keyed.proofs.Front.{are_secrets}
 use Rattle.vd_report_outcomes.specs.Outcomes.{ReplayOutcomes}
-use Rattle.vd_report_outcomes.proofs.Judged.{judged_once}
+use Rattle.vd_report_outcomes.proofs.Front.{judged_once}
 use Rattle.vd_cmd_inputs.specs.Deals.{HoldDeals, HoldsDeal, as_consistent}
-use Rattle.vd_cmd_answers.proofs.Standing.{standing}
+use Rattle.vd_cmd_answers.proofs.Front.{standing}
 use Rattle.vd_cmd_deal_laws.specs.Dealt.{AreTaken}
 use Rattle.vd_cmd_deal_laws.specs.KeyedDealt.{HoldsKeyed, KeyedDealsTell}
 use Rattle.vd_cmd_deal_laws.proofs.SecretShort.{secret_texts_are_short}

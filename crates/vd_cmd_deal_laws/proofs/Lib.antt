@@ -1,4 +1,5 @@
-pub mod KeyedTaken
+pub mod Front
+mod KeyedTaken
 mod SecretShort
 mod Short
-pub mod Taken
+mod Taken

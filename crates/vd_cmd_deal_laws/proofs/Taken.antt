@@ -15,18 +15,15 @@ use Rattle.vd_deal_items.specs.Validity.{AreDeals, IsConsistent}
 use Rattle.vd_tape.specs.Made.{AreCounts, made_deals}
 use Rattle.vd_tape.specs.Text.{AreDealsOf, deal_text}
 use Rattle.vd_deal_versions.specs.Plain.{IsDealIn}
-use Rattle.vd_tape.proofs.MadeValid.{consistent_if_made, valid_if_made}
+use Rattle.vd_tape.proofs.Front.{consistent_if_made, valid_if_made, count_of_deals, deals_of}
 use Rattle.vd_cmd_plan.specs.Deliver.{stored}
 use Rattle.vd_cmd_plan.specs.Numbered.{file_name, numbered}
 use Rattle.vd_cmd_plan.specs.Plans.{Plan}
 use Rattle.vd_cmd_deal.specs.Dealing.{deal_answer}
 use Rattle.vd_report_outcomes.specs.Outcomes.{ReplayOutcomes}
-use Rattle.vd_report_outcomes.proofs.Judged.{judged_once}
-use Rattle.vd_report_outcomes.proofs.Picked.{outcomes_are_single}
+use Rattle.vd_report_outcomes.proofs.Front.{judged_once, outcomes_are_single}
 use Rattle.vd_cmd_inputs.specs.Deals.{HoldDeals, HoldsDeal, as_deal, deal_of, deal_then, deals_from, as_consistent}
-use Rattle.vd_tape.proofs.MadeWords.{count_of_deals, deals_of}
-use Rattle.vd_cmd_answers.proofs.Plans.{Leads, held_leads}
-use Rattle.vd_cmd_answers.proofs.Standing.{files_from, standing}
+use Rattle.vd_cmd_answers.proofs.Front.{Leads, held_leads, files_from, standing}
 use Rattle.vd_cmd_deal_laws.specs.Dealt.{AreTaken, DealsTell}
 use Rattle.vd_cmd_deal_laws.proofs.Short.{texts_are_short}
 

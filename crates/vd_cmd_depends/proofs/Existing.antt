@@ -11,11 +11,8 @@ use Rattle.vd_noninter.specs.declared.reader.Reader.{Reader}
 use Rattle.vd_noninter.specs.Hosts.{members, members_with}
 use Rattle.vd_noninter.specs.Edges.{edges_of, readable, reads_in}
 use Rattle.vd_noninter.specs.Reached.{IsReachOf}
-use Rattle.vd_noninter.proofs.Answered.{answers}
-use Rattle.vd_noninter.proofs.Following.{least_reach}
-use Rattle.vd_noninter.proofs.Hosts.{host_more, host_step, none_first}
+use Rattle.vd_noninter.proofs.Front.{answers, least_reach, host_more, host_step, none_first, are_influences}
 use Rattle.vd_noninter.specs.InfluenceEdges.{influence_edges_of}
-use Rattle.vd_noninter.proofs.Influenced.{are_influences}
 use Rattle.vd_cmd_depends.specs.Outcomes.{DependenceOutcomes}
 use Rattle.vd_cmd_depends.specs.Influencing.{InfluenceOutcomes}
 

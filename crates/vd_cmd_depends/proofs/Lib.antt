@@ -1,4 +1,5 @@
-pub mod Existing
-pub mod Naming
+pub mod Front
+mod Existing
+mod Naming
 mod Told
 mod Influence

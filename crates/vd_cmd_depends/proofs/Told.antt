@@ -12,11 +12,11 @@ use Rattle.vd_core.specs.declared.normal.NormalForm.{NormalForm}
 use Rattle.vd_constraints.specs.Rules.{system_of}
 use Rattle.vd_constraints.specs.Satisfies.{IsLeast}
 use Rattle.vd_constraints.specs.declared.labels.Labels.{Labels}
-use Rattle.vd_noninter_laws.proofs.Theorem.{reached_once}
+use Rattle.vd_noninter_laws.proofs.Front.{reached_once}
 use Rattle.vd_noninter_laws.specs.Dependence.{AreEnough, AreReached, AreReadable}
 use Rattle.vd_noninter_laws.specs.Reading.{reads_result}
 use Rattle.vd_noninter.specs.Hosts.{members}
-use Rattle.vd_noninter_assigned.proofs.Theorem.{all_hear_reached}
+use Rattle.vd_noninter_assigned.proofs.Front.{all_hear_reached}
 use Rattle.vd_noninter_assigned.specs.Assigned.{HearsOnly}
 use Rattle.vd_outside.specs.Files.{FilesView}
 use Rattle.vd_report.specs.Hosts.{host_of}
@@ -24,7 +24,7 @@ use Rattle.vd_report.specs.Lines.{number_field}
 use Rattle.vd_cmd_frontend.specs.Labelling.{labels_of}
 use Rattle.vd_cmd_frontend.specs.Outcomes.{LabelOutcomes}
 use Rattle.vd_cmd_frontend.specs.Sources.{HoldsSource}
-use Rattle.vd_cmd_plan.proofs.InSteps.{answers, any_memory, check_step}
+use Rattle.vd_cmd_plan.proofs.Front.{answers, any_memory, check_step}
 use Rattle.vd_cmd_plan.specs.Plans.{Checks, Computes, Executes, answer_then, check_then, ended}
 use Rattle.vd_cmd_plan.specs.declared.answer.Answer.{Answer}
 use Rattle.vd_cmd_plan.specs.declared.status.Status.{Status}

@@ -1,3 +1,4 @@
+pub mod Front
 mod Printed
-pub mod Sure
-pub mod Telling
+mod Sure
+mod Telling

@@ -11,7 +11,7 @@ use Rattle.vd_cmd_plan.specs.Plans.{Checks, Computes, Executes, ended, answer_th
 use Rattle.vd_cmd_plan.specs.declared.answer.Answer.{Answer}
 use Rattle.vd_cmd_plan.specs.declared.status.Status.{Status}
 use Rattle.vd_cmd_plan.specs.declared.status.Status.TheVariants.{Ended, NoAssignment}
-use Rattle.vd_cmd_plan.proofs.InSteps.{answers, check_step}
+use Rattle.vd_cmd_plan.proofs.Front.{answers, check_step}
 use Rattle.vd_report_outcomes.specs.Outcomes.{ReplayOutcomes}
 use Rattle.vd_cmd_inputs.specs.Deals.{as_consistent}
 use Rattle.vd_cmd_excuse.specs.declared.runs.Runs.{Runs}

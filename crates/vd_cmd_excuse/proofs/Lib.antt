@@ -1,7 +1,8 @@
+pub mod Front
 mod Reading
 mod Explained
 mod Looked
 mod Answered
 mod Naming
 mod Held
-pub mod Sure
+mod Sure

@@ -7,9 +7,9 @@ use Rattle.vd_deal_items.specs.declared.deal.Deal.{Deal}
 use Rattle.vd_tape.specs.Text.{AreDealsOf}
 use Rattle.vd_cmd_plan.specs.Plans.{Plan, ExecutesStep}
 use Rattle.vd_cmd_plan.specs.declared.status.Status.{Status}
-use Rattle.vd_cmd_plan.proofs.Finding.{step_keeps, step_tells}
+use Rattle.vd_cmd_plan.proofs.Front.{step_keeps, step_tells}
 use Rattle.vd_cmd_frontend.specs.Outcomes.{TextOutcomes}
-use Rattle.vd_cmd_frontend.proofs.Reading.{some_texts}
+use Rattle.vd_cmd_frontend.proofs.Front.{some_texts}
 use Rattle.vd_cmd_frontend.specs.Inputs.{inputs_then, HoldsInputs}
 use Rattle.vd_report_outcomes.specs.Outcomes.{ReplayOutcomes}
 use Rattle.vd_cmd_inputs.specs.Deals.{HoldDeals, deals_then}

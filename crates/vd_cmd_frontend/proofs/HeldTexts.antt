@@ -13,7 +13,7 @@ use Rattle.vd_cmd_plan.specs.Held.{Finds, IsHeld}
 use Rattle.vd_cmd_plan.specs.Loads.{Loads}
 use Rattle.vd_cmd_plan.specs.Plans.{Checks}
 use Rattle.vd_cmd_plan.specs.declared.status.Status.{Status}
-use Rattle.vd_cmd_plan.proofs.Finding.{loaded_is}
+use Rattle.vd_cmd_plan.proofs.Front.{loaded_is}
 use Rattle.vd_cmd_frontend.specs.Inputs.{HoldsInputs}
 use Rattle.vd_cmd_frontend.specs.Sources.{HoldsSource, HoldsTree, IsSourceText, as_resolved, resolved_of}
 

@@ -10,8 +10,7 @@ use Rattle.vd_constraints.specs.Systems.{Constraints, IsCheckOf, IsSystem}
 use Rattle.vd_constraints.specs.Outcomes.{HasNoLabelling, IsLabelled}
 use Rattle.vd_constraints.specs.declared.labels.Labels.{Labels}
 use Rattle.vd_constraints.specs.declared.system.Check.{Check}
-use Rattle.vd_labels_least.proofs.Function.{labelling_of, labelling_is}
-use Rattle.vd_labels_least.proofs.Once.{labelled_once}
+use Rattle.vd_labels_least.proofs.Front.{labelling_of, labelling_is, labelled_once}
 use Rattle.vd_cmd_plan.specs.declared.status.FlowFault.{FlowFault}
 use Rattle.vd_cmd_plan.specs.declared.status.Status.TheVariants.{Flow}
 use Rattle.vd_cmd_frontend.specs.Outcomes.{LabelOutcomes}

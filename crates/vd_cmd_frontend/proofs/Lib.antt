@@ -1,4 +1,5 @@
-pub mod Reading
-pub mod Labelled
+pub mod Front
+mod Reading
+mod Labelled
 mod InputLists
-pub mod HeldTexts
+mod HeldTexts

@@ -6,16 +6,15 @@ use Rattle.vd_core.specs.declared.source.Source.{Source}
 use Rattle.vd_parser.specs.Outcomes.{IsParse}
 use Rattle.vd_parser.specs.declared.fault.ParseFault.{ParseFault}
 use Rattle.vd_parser.specs.declared.fault.ParseFault.TheVariants as parse_fault
-use Rattle.vd_parser.proofs.OutcomeLaws.{parses_once}
-use Rattle.vd_parser.proofs.OutcomeTotal.{parses_somehow}
-use Rattle.vd_labels_least.proofs.Function.{labelling_of, labelling_is}
+use Rattle.vd_parser.proofs.Front.{parses_once, parses_somehow}
+use Rattle.vd_labels_least.proofs.Front.{labelling_of, labelling_is}
 use Rattle.vd_resolve.specs.Causes.{resolution_told}
 use Rattle.vd_resolve.specs.Faults.{Cause, bare, carried}
 use Rattle.vd_resolve.specs.Limits.{resolution}
 use Rattle.vd_resolve.specs.Walks.{IsCauseOf}
 use Rattle.vd_resolve.specs.declared.fault.NameFault.{NameFault}
 use Rattle.vd_resolve.specs.declared.fault.NameFault.TheVariants as name_fault
-use Rattle.vd_report.proofs.InputsFaults.{follows_grammar}
+use Rattle.vd_report.proofs.Front.{follows_grammar}
 use Rattle.vd_report.specs.Inputs.{inputs_read}
 use Rattle.vd_report.specs.InputsText.{InputsFollowGrammar}
 use Rattle.vd_report.specs.declared.fault.ReadFault.{ReadFault}
@@ -29,7 +28,7 @@ use Rattle.vd_cmd_frontend.specs.Outcomes.{TextOutcomes, LabelOutcomes, IsInputs
 use Rattle.vd_cmd_frontend.specs.Sources.{as_resolved, as_source, caused, source_of, text_status, tree_then, resolved_of, source_then}
 use Rattle.vd_cmd_frontend.specs.Inputs.{words_of, inputs_then}
 use Rattle.vd_cmd_frontend.proofs.Labelled.{solution_is, solution_of}
-use Rattle.vd_cmd_plan.proofs.InSteps.{load_step, check_step, both_steps, first_step}
+use Rattle.vd_cmd_plan.proofs.Front.{load_step, check_step, both_steps, first_step}
 
 pub tree_err : (texts : TextOutcomes) (name : List ℕ) (before now : FilesView) (status : Status) → Loads name most_source_bytes before now (Err status) → ExecutesStep {T = Source} (tree_then texts name) before now (Err status)
 unfolding tree_then

@@ -10,7 +10,7 @@ use Rattle.vd_cmd_plan.specs.Loads.{Loads}
 use Rattle.vd_cmd_plan.specs.Plans.{Checks, Computes, Executes}
 use Rattle.vd_cmd_plan.specs.declared.answer.Answer.{Answer}
 use Rattle.vd_cmd_plan.specs.declared.status.Status.{Status}
-use Rattle.vd_cmd_plan.proofs.InSteps.{answers, check_step, load_step}
+use Rattle.vd_cmd_plan.proofs.Front.{answers, check_step, load_step}
 use Rattle.vd_cmd_hasten.specs.Programs.{ProgramReading, as_program, program_in}
 use Rattle.vd_cmd_hasten.specs.Hastening.{bytes_plan, hasten_plan, hastened_answer, program_plan}
 

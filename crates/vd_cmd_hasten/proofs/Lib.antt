@@ -1,3 +1,4 @@
-pub mod Existing
+pub mod Front
+mod Existing
 mod Answered
-pub mod Told
+mod Told

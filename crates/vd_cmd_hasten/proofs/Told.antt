@@ -8,11 +8,11 @@ use Rattle.vd_host_text.specs.declared.program.HostProgram.{HostProgram}
 use Rattle.vd_hostcode.specs.Outcome.{IsOutcome}
 use Rattle.vd_hostcode.specs.declared.fault.CodeFault.{CodeFault}
 use Rattle.vd_hostcode.specs.declared.fault.CodeFault.TheVariants.{Text, Range, Memory}
-use Rattle.vd_hostcode.proofs.Outcomes.{can_run}
+use Rattle.vd_hostcode.proofs.Front.{can_run}
 use Rattle.vd_cmd_plan.specs.Deliver.{stored}
 use Rattle.vd_cmd_plan.specs.Plans.{Plan, answer_then, check_then, file_then, with_file}
 use Rattle.vd_cmd_plan.specs.declared.status.Status.TheVariants.{Ended}
-use Rattle.vd_reorder.proofs.Texts.{hastened_is}
+use Rattle.vd_reorder.proofs.Front.{hastened_is}
 use Rattle.vd_cmd_hasten.specs.Programs.{ProgramReading, as_program}
 use Rattle.vd_cmd_hasten.specs.Hastening.{bytes_plan, program_plan}
 use Rattle.vd_cmd_hasten.specs.Telling.{HastensTell, TellsHastened}

@@ -1,8 +1,9 @@
+pub mod Front
 mod Ends
 mod Files
 mod InputLists
 mod Loadings
-pub mod Marked
+mod Marked
 mod Named
 mod Refusals
 mod Running

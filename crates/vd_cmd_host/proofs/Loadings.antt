@@ -15,7 +15,7 @@ use Rattle.vd_cmd_plan.specs.Loads.{Loads}
 use Rattle.vd_cmd_plan.specs.Plans.{GrowsWithin, fetch_calls}
 use Rattle.vd_cmd_plan.specs.declared.status.Status.{Status}
 use Rattle.vd_cmd_plan.specs.declared.status.Status.TheVariants.{ReadFault, Usage}
-use Rattle.vd_cmd_plan.proofs.Fronts.{front_within, later_within, more_within}
+use Rattle.vd_cmd_plan.proofs.Front.{front_within, later_within, more_within}
 use Rattle.vd_report.specs.InputsText.{GivesInputs}
 use Rattle.vd_deal_keys.specs.declared.secrets.Secrets.{Secrets}
 use Rattle.vd_tape.specs.Text.{IsDealOf}

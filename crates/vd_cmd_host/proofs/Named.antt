@@ -18,7 +18,7 @@ use Rattle.vd_host_session.specs.Plays.{Driven, DrivesAndTells, NoRoom, NotAnnou
 use Rattle.vd_host_session.specs.Stages.{AreMet}
 use Rattle.vd_host_session.specs.declared.fault.HostFault.{HostFault}
 use Rattle.vd_host_session.specs.declared.task.Task.{Task}
-use Rattle.vd_host_session.proofs.Numbers.{earlier_number, later_number, less_or_least}
+use Rattle.vd_host_session.proofs.Front.{earlier_number, later_number, less_or_least}
 use Rattle.vd_cmd_host.specs.Statuses.{PeersAreNamed}
 
 abbrev IsNamed : List (List ℕ) → Result Ended HostFault → Type 0

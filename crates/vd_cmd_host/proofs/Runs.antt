@@ -11,9 +11,7 @@ use Rattle.vd_host_session.specs.Laws.{AsksFrontOf, ComesBack, HasCause, calls_o
 use Rattle.vd_host_session.specs.declared.fault.HostFault.{HostFault}
 use Rattle.vd_host_session.specs.declared.fault.HostFault.TheVariants as fault
 use Rattle.vd_host_session.specs.declared.task.Task.{Task}
-use Rattle.vd_host_session.proofs.Asking.{in_order}
-use Rattle.vd_host_session.proofs.Causes.{causes}
-use Rattle.vd_host_session.proofs.ComingBack.{links_come_back}
+use Rattle.vd_host_session.proofs.Front.{in_order, causes, links_come_back}
 use Rattle.vd_host_start.specs.Starts.{Starts}
 use Rattle.vd_host_start.specs.declared.starting.Ready.{Ready}
 use Rattle.vd_cmd_plan.specs.declared.status.Status.{Status}

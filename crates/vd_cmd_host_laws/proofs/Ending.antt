@@ -19,15 +19,14 @@ use Rattle.vd_link.specs.Frames.{frames, greeting}
 use Rattle.vd_link.specs.Sessions.{Greets, IsGreetFault}
 use Rattle.vd_link.specs.declared.faults.GreetFault.{GreetFault}
 use Rattle.vd_link.specs.declared.faults.GreetFault.TheVariants as greet_fault
-use Rattle.vd_link.proofs.GreetingLaws.{no_greet_fault}
-use Rattle.vd_link.proofs.Streams.{front_same}
+use Rattle.vd_link.proofs.Front.{no_greet_fault, front_same}
 use Rattle.vd_engine.specs.Drives.{SessionView, Sessions}
 use Rattle.vd_engine.specs.Enough.{HasCome, IsEnough, IsThere, NotRisen, PacketComes}
 use Rattle.vd_engine.specs.Events.{Event, received_from}
 use Rattle.vd_engine.specs.Hosts.{seen_at, wants_with}
 use Rattle.vd_engine.specs.declared.engine.Ended.{Ended}
 use Rattle.vd_engine.specs.declared.fault.EngineFault.{EngineFault}
-use Rattle.vd_engine.proofs.Enough.{enough}
+use Rattle.vd_engine.proofs.Front.{enough}
 use Rattle.vd_host_session.specs.Histories.{DrivesOver, Gets, HandedBack, call_status, ends_with, greet_status}
 use Rattle.vd_host_session.specs.Laws.{HasCause}
 use Rattle.vd_host_session.specs.Peers.{Peer, all_peers, number_at, peer_at}
@@ -35,9 +34,7 @@ use Rattle.vd_host_session.specs.Plays.{Driven, DrivesAndTells, Meets, NoRoom, N
 use Rattle.vd_host_session.specs.declared.fault.HostFault.{HostFault}
 use Rattle.vd_host_session.specs.declared.fault.HostFault.TheVariants as fault
 use Rattle.vd_host_session.specs.declared.task.Task.{Task}
-use Rattle.vd_host_session.proofs.Causes.{causes}
-use Rattle.vd_host_session.proofs.ComingBack.{all_four, count_at}
-use Rattle.vd_host_session.proofs.Numbers.{earlier_number, later_number, less_or_least}
+use Rattle.vd_host_session.proofs.Front.{causes, all_four, count_at, earlier_number, later_number, less_or_least}
 use Rattle.vd_cmd_host_laws.specs.Serving.{AllServe, IsTold}
 use Rattle.vd_cmd_host_laws.proofs.Giving.{AllGiven, HasGiven, IsMet, listens, met_all, next_given, next_waits, peer_of, peers_front}
 use Rattle.vd_cmd_host_laws.proofs.Returning.{CameBack, come_back, keeps, last_tells, rose_within}

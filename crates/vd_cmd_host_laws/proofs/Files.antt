@@ -8,7 +8,7 @@ use Rattle.vd_deal_versions.specs.declared.dealt.Dealt.{Dealt}
 use Rattle.vd_hostcode.specs.Outcome.{IsOutcome}
 use Rattle.vd_hostcode.specs.declared.fault.CodeFault.{CodeFault}
 use Rattle.vd_hostcode.specs.declared.fault.CodeFault.TheVariants as code_fault
-use Rattle.vd_hostcode.proofs.Outcomes.{answers_of, headed}
+use Rattle.vd_hostcode.proofs.Front.{answers_of, headed}
 use Rattle.vd_host_text.specs.declared.program.HostProgram.{HostProgram}
 use Rattle.vd_cmd_plan.specs.Held.{IsHeld}
 use Rattle.vd_cmd_plan.specs.declared.status.HostStatus.TheVariants as host_status
@@ -18,10 +18,10 @@ use Rattle.vd_report.specs.Inputs.{inputs_read}
 use Rattle.vd_report.specs.InputsText.{GivesInputs, IsInputsText}
 use Rattle.vd_report.specs.Outcome.{FirstWrong}
 use Rattle.vd_report.specs.declared.fault.ReadFault.{ReadFault as InputsFault}
-use Rattle.vd_report.proofs.InputsFaults.{follows_grammar}
+use Rattle.vd_report.proofs.Front.{follows_grammar}
 use Rattle.vd_deal_versions.specs.Reading.{dealt_read}
 use Rattle.vd_deal_versions.specs.Text.{IsDealtFile}
-use Rattle.vd_deal_versions.proofs.DealtExact.{follow_grammar}
+use Rattle.vd_deal_versions.proofs.Front.{follow_grammar}
 use Rattle.vd_cmd_host.specs.Loading.{AreInputsOf, HoldsHost, HoldsInputs, HoldsProgram, IsCause, IsDealEnd, IsFileCause, IsInputsEnd, IsProgramEnd, IsProgramOf, OfAddresses, OfDeal, OfInputs, OfProgram}
 use Rattle.vd_cmd_host.specs.declared.loading.Loaded.{Loaded}
 

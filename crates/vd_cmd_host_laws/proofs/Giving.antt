@@ -11,7 +11,7 @@ use Rattle.vd_engine.specs.Drives.{SessionView}
 use Rattle.vd_host_session.specs.Histories.{ByAccept, ByConnect, Gets, Held, Listened, Met, NoListener, NoneMet, OneListener, OneMet, ends_with, sessions_with}
 use Rattle.vd_host_session.specs.Peers.{Peer, address_of, all_later, all_peers, first_peers, number_at, peer_at}
 use Rattle.vd_host_session.specs.declared.task.Task.{Task}
-use Rattle.vd_host_session.proofs.Numbers.{earlier_number, later_number, less_or_least}
+use Rattle.vd_host_session.proofs.Front.{earlier_number, later_number, less_or_least}
 use Rattle.vd_cmd_host_laws.specs.Serving.{link_for, waiting_behind}
 
 -- ---- lists by place

@@ -11,7 +11,7 @@ use Rattle.vd_machine.specs.declared.lists.Lists.{Lists}
 use Rattle.vd_machine.specs.declared.want.Want.{Want}
 use Rattle.vd_machine.specs.declared.want.Want.TheVariants as want
 use Rattle.vd_link.specs.Frames.{frame, frames}
-use Rattle.vd_link.proofs.Streams.{one_reading, packet_same}
+use Rattle.vd_link.proofs.Front.{one_reading, packet_same}
 use Rattle.vd_engine.specs.Drives.{Sessions}
 use Rattle.vd_engine.specs.Enough.{HaveCome, IsThere}
 use Rattle.vd_engine.specs.Events.{Event, Received, Reached, AtStart, OneMore, IsHeard, received_in, shown}

@@ -1,7 +1,8 @@
+pub mod Front
 mod Files
 mod Giving
 mod Returning
 mod Staying
 mod Ending
 mod Instance
-pub mod Serving
+mod Serving

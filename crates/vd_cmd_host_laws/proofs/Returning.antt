@@ -6,7 +6,7 @@ use Rattle.vd_outside.specs.Link.{LinkView}
 use Rattle.vd_outside.specs.Net.{HangsUp, NetView}
 use Rattle.vd_engine.specs.Drives.{SessionView, Sessions}
 use Rattle.vd_host_session.specs.Histories.{HandedBack, NoSession, NoneBack, OneBack}
-use Rattle.vd_host_session.proofs.ComingBack.{count_at, one_at}
+use Rattle.vd_host_session.proofs.Front.{count_at, one_at}
 use Rattle.vd_cmd_host_laws.specs.Serving.{IsTold}
 
 -- the links of the sessions with the first hosts, so many, came back

@@ -10,7 +10,7 @@ use Rattle.vd_engine.specs.Events.{Event}
 use Rattle.vd_engine.specs.declared.engine.Ended.{Ended}
 use Rattle.vd_engine.specs.declared.fault.EngineFault.{EngineFault}
 use Rattle.vd_engine.specs.declared.fault.EngineFault.TheVariants as fault
-use Rattle.vd_host_session.proofs.ComingBack.{count_at, one_at}
+use Rattle.vd_host_session.proofs.Front.{count_at, one_at}
 
 abbrev pub Stays : Option SessionView → Option SessionView → Type 0
 Stays None None = Unit {0}

@@ -8,12 +8,12 @@ use Rattle.vd_host_text.specs.declared.program.HostProgram.{HostProgram}
 use Rattle.vd_host_text.specs.File.{File}
 use Rattle.vd_host_text.specs.Heading.{file_read}
 use Rattle.vd_host_text.specs.Outcome.{IsFileOf, program_of}
-use Rattle.vd_host_text.proofs.Programs.{follow_grammar}
+use Rattle.vd_host_text.proofs.Front.{follow_grammar}
 use Rattle.vd_hostcode.specs.declared.fault.CodeFault.{CodeFault}
 use Rattle.vd_hostcode.specs.declared.fault.CodeFault.TheVariants.{Text, Range}
 use Rattle.vd_hostcode.specs.Ranges.{count_in, first_broken, most_steps, static_steps}
 use Rattle.vd_hostcode.specs.Outcome.{IsOutcome}
-use Rattle.vd_hostcode.proofs.Outcomes.{all_within, first_is_broken, has_code, last_is_broken}
+use Rattle.vd_hostcode.proofs.Front.{all_within, first_is_broken, has_code, last_is_broken}
 use Rattle.vd_cmd_needs.specs.Outcomes.{ProgramOutcomes}
 
 abbrev SomeOutcome : List ℕ → Type 0

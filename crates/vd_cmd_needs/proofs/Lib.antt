@@ -1,5 +1,6 @@
-pub mod Existing
+pub mod Front
+mod Existing
 mod Reading
 mod Answered
 mod Told
-pub mod Sure
+mod Sure

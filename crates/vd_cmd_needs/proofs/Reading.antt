@@ -11,7 +11,7 @@ use Rattle.vd_cmd_plan.specs.Plans.{Checks}
 use Rattle.vd_cmd_plan.specs.declared.status.Status.TheVariants.{TooLong}
 use Rattle.vd_cmd_frontend.specs.Outcomes.{TextOutcomes}
 use Rattle.vd_cmd_frontend.specs.Sources.{source_of}
-use Rattle.vd_cmd_frontend.proofs.Reading.{parsed}
+use Rattle.vd_cmd_frontend.proofs.Front.{parsed}
 use Rattle.vd_cmd_needs.specs.Needing.{as_program, program_in}
 use Rattle.vd_cmd_needs.specs.Outcomes.{ProgramOutcomes}
 

@@ -11,25 +11,23 @@ use Rattle.vd_execution.specs.Joint.{Joint, IsTidy, code_of}
 use Rattle.vd_execution.specs.Step.{Source as Listed}
 use Rattle.vd_execution.specs.Text.{IsCodeOf}
 use Rattle.vd_deal_needs_laws.specs.Needs.{counts, takes}
-use Rattle.vd_deal_needs_laws.proofs.ReadOff.{read_off}
+use Rattle.vd_deal_needs_laws.proofs.Front.{read_off}
 use Rattle.vd_deal_needs.specs.Counted.{code_in}
 use Rattle.vd_host_text.specs.declared.program.HostProgram.{HostProgram}
 use Rattle.vd_hostcode.specs.Outcome.{CanRun, IsOutcome}
 use Rattle.vd_deal_needs_programs.specs.Enough.{CanBeSplit, sizes_for}
-use Rattle.vd_deal_needs_programs.proofs.Countable.{code_is, of_can_run}
-use Rattle.vd_deal_needs_programs.proofs.Enough.{sizes_are_enough, sizes_are_least}
-use Rattle.vd_deal_needs_programs.proofs.Made.{deals_have_their_sizes}
+use Rattle.vd_deal_needs_programs.proofs.Front.{code_is, of_can_run, sizes_are_enough, sizes_are_least, deals_have_their_sizes}
 use Rattle.vd_cmd.specs.declared.command.NeedsWords.{NeedsWords}
 use Rattle.vd_cmd_plan.specs.Loads.{Loads}
 use Rattle.vd_cmd_plan.specs.Plans.{Computes, ended}
 use Rattle.vd_cmd_plan.specs.declared.answer.Answer.{Answer}
 use Rattle.vd_cmd_plan.specs.declared.status.Status.{Status}
 use Rattle.vd_cmd_plan.specs.declared.status.Status.TheVariants.{Ended, NoAssignment}
-use Rattle.vd_cmd_plan.proofs.Finding.{loaded_is}
+use Rattle.vd_cmd_plan.proofs.Front.{loaded_is}
 use Rattle.vd_cmd_choose.specs.Choice.{IsSelected, no_list}
 use Rattle.vd_cmd_choose.specs.declared.choice.Assignment.{Assignment}
 use Rattle.vd_cmd_choose.specs.Programs.{IsProgramOf}
-use Rattle.vd_cmd_compile.proofs.Runnable.{runnable_of}
+use Rattle.vd_cmd_compile.proofs.Front.{runnable_of}
 use Rattle.vd_cmd_needs.specs.Lines.{program_lines}
 use Rattle.vd_cmd_needs.specs.Needing.{needs_text}
 use Rattle.vd_cmd_needs.specs.Telling.{IsNeedsOf, IsNeedsOfBytes, IsNeedsOfHost, OfHost, OfSource, TellsBytes, TellsHost, TellsNeeds, TellsProgram, TellsText}

@@ -1,13 +1,14 @@
-pub mod Fronts
-pub mod Steps
-pub mod InSteps
+pub mod Front
+mod Fronts
+mod Steps
+mod InSteps
 mod Storing
-pub mod Written
-pub mod WholeRuns
-pub mod Numbering
-pub mod Following
+mod Written
+mod WholeRuns
+mod Numbering
+mod Following
 mod SignedLines
 mod Carried
 mod DealLines
-pub mod Finding
+mod Finding
 mod ShownNames

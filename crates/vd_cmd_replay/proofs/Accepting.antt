@@ -7,32 +7,32 @@ use Rattle.vd_outside.specs.Files.{Contents}
 use Rattle.vd_core.specs.declared.normal.NormalForm.{NormalForm}
 use Rattle.vd_core.specs.declared.source.Source.{Source}
 use Rattle.vd_core.specs.Facts.{IsWellMade}
-use Rattle.vd_parser.proofs.Named.{names_are_names}
-use Rattle.vd_anf_wellformed.proofs.WellMade.{well_made}
+use Rattle.vd_parser.proofs.Front.{names_are_names}
+use Rattle.vd_anf_wellformed.proofs.Front.{well_made}
 use Rattle.vd_anf.specs.Normal.{normal_form}
-use Rattle.vd_cmd_rewrite.proofs.Made.{run_once, run_well_made}
+use Rattle.vd_cmd_rewrite.proofs.Front.{run_once, run_well_made}
 use Rattle.vd_cmd.specs.declared.command.ReplayWords.{ReplayWords}
 use Rattle.vd_constraints.specs.Rules.{system_of}
 use Rattle.vd_constraints.specs.declared.labels.Labels.{Labels}
-use Rattle.vd_labels_least.proofs.Decided.{system_or_not}
+use Rattle.vd_labels_least.proofs.Front.{system_or_not}
 use Rattle.vd_deal_items.specs.Validity.{AreDeals}
 use Rattle.vd_deal_items.specs.declared.deal.Deal.{Deal}
 use Rattle.vd_deal_keys.specs.declared.secrets.Secrets.{Secrets}
 use Rattle.vd_tape.specs.Text.{AreDealsOf, IsDealOf}
-use Rattle.vd_tape.proofs.EachHost.{all_deals}
+use Rattle.vd_tape.proofs.Front.{all_deals}
 use Rattle.vd_deal_versions.specs.Text.{Fit_by}
 use Rattle.vd_space.specs.declared.problem.Problem.{Problem}
 use Rattle.vd_space.specs.Reading.{problem_of}
-use Rattle.vd_space.proofs.Weighed.{is_problem}
-use Rattle.vd_space_optimum.proofs.Cheapest.{back}
+use Rattle.vd_space.proofs.Front.{is_problem}
+use Rattle.vd_space_optimum.proofs.Front.{back}
 use Rattle.vd_search_stages.specs.Choices.{ChoiceOutcomes, IsChosen, needed}
-use Rattle.vd_search_stages.proofs.Once.{chosen_once}
+use Rattle.vd_search_stages.proofs.Front.{chosen_once}
 use Rattle.vd_cmd_frontend.specs.Labelling.{as_labels, labels_of}
 use Rattle.vd_cmd_choose.specs.Choice.{Chosen, as_searched, assigned, assignment_of, chosen_by, search_then}
 use Rattle.vd_cmd_choose.specs.Searching.{sure_search}
 use Rattle.vd_cmd_choose.specs.declared.choice.Assignment.{Assignment}
 use Rattle.vd_cmd_plan.specs.Plans.{Plan}
-use Rattle.vd_report_outcomes.proofs.Judged.{judged_once}
+use Rattle.vd_report_outcomes.proofs.Front.{judged_once}
 use Rattle.vd_cmd_replay.specs.Accepting.{EndsWell, IsAccepted}
 use Rattle.vd_cmd_inputs.specs.Asking.{HoldAsked}
 use Rattle.vd_cmd_inputs.specs.Deals.{as_consistent}

@@ -6,8 +6,8 @@ use Rattle.vd_cmd.specs.declared.command.ReplayWords.{ReplayWords}
 use Rattle.vd_cmd_plan.specs.declared.answer.Answer.{Answer}
 use Rattle.vd_cmd_plan.specs.declared.status.Status.{Status}
 use Rattle.vd_cmd_plan.specs.declared.status.Status.TheVariants.{Ended, NoAssignment}
-use Rattle.vd_cmd_plan.proofs.Finding.{step_keeps, step_tells}
-use Rattle.vd_cmd_frontend.proofs.Reading.{some_labels, some_texts}
+use Rattle.vd_cmd_plan.proofs.Front.{step_keeps, step_tells}
+use Rattle.vd_cmd_frontend.proofs.Front.{some_labels, some_texts}
 use Rattle.vd_cmd_choose.specs.Programs.{HoldsProgram, LoadsProgram, program_then}
 use Rattle.vd_cmd_choose.specs.Choice.{IsSelected, no_list}
 use Rattle.vd_cmd_choose.specs.declared.choice.Assignment.{Assignment}

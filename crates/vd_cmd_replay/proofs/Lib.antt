@@ -1,7 +1,8 @@
+pub mod Front
 mod Playable
 mod Replayed
 mod Held
 mod Counting
 mod Steps
-pub mod Accepting
-pub mod Sure
+mod Accepting
+mod Sure

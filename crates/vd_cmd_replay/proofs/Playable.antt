@@ -11,7 +11,7 @@ use Rattle.vd_semantics.specs.ProgramMeaning.{program_outputs}
 use Rattle.vd_core.specs.Numbers.{NumbersFit}
 use Rattle.vd_deal_items.specs.Validity.{AreDeals, IsConsistent}
 use Rattle.vd_tape.specs.Text.{AreDealsOf}
-use Rattle.vd_tape.proofs.EachHost.{all_deals}
+use Rattle.vd_tape.proofs.Front.{all_deals}
 use Rattle.vd_execution.specs.declared.instructions.Instr.{Instr}
 use Rattle.vd_execution.specs.Joint.{Joint, code_of, started}
 use Rattle.vd_execution.specs.Ranges.{IsInRange}
@@ -20,9 +20,9 @@ use Rattle.vd_execution.specs.World.{World, Supply}
 use Rattle.vd_execution_confluence.specs.Claims.{IsOf}
 use Rattle.vd_backend_laws.specs.Given.{zero_deal}
 use Rattle.vd_backend_laws.specs.Whole.{inputs_of}
-use Rattle.vd_backend_laws.proofs.Given.{zero_deals_are_valid}
+use Rattle.vd_backend_laws.proofs.Front.{zero_deals_are_valid}
 use Rattle.vd_projection.specs.Programs.{IsRunnable, host_codes, joint_of}
-use Rattle.vd_projection.proofs.HostCodes.{chosen_of, codes_can_be_loaded, codes_run_as_told, no_words, runnable_over}
+use Rattle.vd_projection.proofs.Front.{chosen_of, codes_can_be_loaded, codes_run_as_told, no_words, runnable_over}
 use Rattle.vd_cmd_plan.specs.Plans.{Computes, ended}
 use Rattle.vd_cmd_plan.specs.declared.answer.Answer.{Answer}
 use Rattle.vd_cmd_plan.specs.declared.status.Status.{Status}
@@ -32,11 +32,10 @@ use Rattle.vd_world_report.specs.Reports.{report_of}
 use Rattle.vd_world_report.specs.Schedules.{replayed}
 use Rattle.vd_world_report.specs.Supplies.{AreFiles, supply_of_files}
 use Rattle.vd_world_report.specs.Told.{TellsUnder}
-use Rattle.vd_world_report.proofs.Told.{programs_tell}
+use Rattle.vd_world_report.proofs.Front.{programs_tell}
 use Rattle.vd_cmd_choose.specs.Choice.{IsSelected}
 use Rattle.vd_cmd_choose.specs.declared.choice.Assignment.{Assignment}
-use Rattle.vd_cmd_compile.proofs.Runnable.{code_count, runnable_of}
-use Rattle.vd_cmd_compile.proofs.Aloud.{covered, stored_for}
+use Rattle.vd_cmd_compile.proofs.Front.{code_count, runnable_of, covered, stored_for}
 use Rattle.vd_cmd_inputs.specs.declared.asked.Asked.{Asked}
 use Rattle.vd_cmd_inputs.specs.Asking.{AreAsked}
 use Rattle.vd_cmd_replay.specs.Counting.{packets_for}

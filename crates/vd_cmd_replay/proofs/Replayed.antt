@@ -6,7 +6,7 @@ use Rattle.vd_cmd_plan.specs.Plans.{Checks, Computes, Executes, ended, answer_th
 use Rattle.vd_cmd_plan.specs.declared.answer.Answer.{Answer}
 use Rattle.vd_cmd_plan.specs.declared.status.Status.{Status}
 use Rattle.vd_cmd_plan.specs.declared.status.Status.TheVariants.{Ended, NoAssignment}
-use Rattle.vd_cmd_plan.proofs.InSteps.{answers, check_step}
+use Rattle.vd_cmd_plan.proofs.Front.{answers, check_step}
 use Rattle.vd_cmd_choose.specs.Choice.{Chooses, no_list}
 use Rattle.vd_cmd_choose.specs.declared.choice.Assignment.{Assignment}
 use Rattle.vd_cmd_choose.specs.declared.choice.Choice.{Choice}

@@ -8,15 +8,13 @@ use Rattle.vd_core.specs.declared.normal.NormalForm.{NormalForm}
 use Rattle.vd_core.specs.declared.source.Source.{Source}
 use Rattle.vd_anf.specs.Normal.{normal_form}
 use Rattle.vd_cmd_rewrite.specs.RunPrograms.{run_form}
-use Rattle.vd_parser.proofs.OutcomeLaws.{parses_once}
+use Rattle.vd_parser.proofs.Front.{parses_once}
 use Rattle.vd_cmd.specs.declared.command.ReplayWords.{ReplayWords}
 use Rattle.vd_constraints.specs.Outcomes.{IsLabelled}
 use Rattle.vd_constraints.specs.Satisfies.{IsLeast}
 use Rattle.vd_constraints.specs.Systems.{Constraints, IsSystem}
 use Rattle.vd_constraints.specs.declared.labels.Labels.{Labels}
-use Rattle.vd_labels_least.proofs.Decided.{system_or_not}
-use Rattle.vd_labels_least.proofs.Once.{labelled_once}
-use Rattle.vd_labels_least.proofs.Somehow.{labelled_somehow}
+use Rattle.vd_labels_least.proofs.Front.{system_or_not, labelled_once, labelled_somehow}
 use Rattle.vd_deal_items.specs.declared.deal.Deal.{Deal}
 use Rattle.vd_deal_versions.specs.Plain.{IsDealIn}
 use Rattle.vd_report.specs.Inputs.{inputs_read}
@@ -24,7 +22,7 @@ use Rattle.vd_report.specs.InputsText.{GivesInputs}
 use Rattle.vd_report.specs.declared.fault.ReadFault.{ReadFault}
 use Rattle.vd_report.specs.declared.schedule.Schedule.{Schedule}
 use Rattle.vd_report.specs.ScheduleText.{GivesSchedule}
-use Rattle.vd_report.proofs.InputsFaults.{follows_grammar}
+use Rattle.vd_report.proofs.Front.{follows_grammar}
 use Rattle.vd_cmd_plan.specs.Held.{IsHeld}
 use Rattle.vd_cmd_plan.specs.Numbered.{file_name}
 use Rattle.vd_cmd_plan.specs.Plans.{Plan, answer_then, check_then, ended, file_then}
@@ -32,11 +30,11 @@ use Rattle.vd_cmd_plan.specs.declared.status.Status.{Status}
 use Rattle.vd_cmd_plan.specs.declared.status.Status.TheVariants.{Ended}
 use Rattle.vd_cmd_frontend.specs.Outcomes.{IsInputs, LabelOutcomes, TextOutcomes}
 use Rattle.vd_cmd_frontend.specs.Sources.{HoldsSource, IsSourceText, as_resolved, as_source, resolved_of, source_of}
-use Rattle.vd_cmd_frontend.proofs.Labelled.{solution_is, solution_of}
+use Rattle.vd_cmd_frontend.proofs.Front.{solution_is, solution_of}
 use Rattle.vd_cmd_choose.specs.Programs.{program_then}
 use Rattle.vd_cmd_frontend.specs.Inputs.{HoldsInputs, as_inputs, inputs_then, words_of}
 use Rattle.vd_report_outcomes.specs.Outcomes.{ReplayOutcomes}
-use Rattle.vd_report_outcomes.proofs.Picked.{outcomes_are_single}
+use Rattle.vd_report_outcomes.proofs.Front.{outcomes_are_single}
 use Rattle.vd_cmd_inputs.specs.declared.asked.Asked.{Asked}
 use Rattle.vd_cmd_inputs.specs.Asking.{HoldAsked, asked_of, asked_then}
 use Rattle.vd_cmd_inputs.specs.Deals.{HoldsDeal, as_deal, deal_of, deal_then, deals_from}

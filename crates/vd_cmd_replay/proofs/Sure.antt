@@ -9,13 +9,12 @@ use Rattle.vd_report.specs.declared.schedule.Schedule.{Schedule}
 use Rattle.vd_search_stages.specs.Choices.{ChoiceOutcomes}
 use Rattle.vd_cmd_plan.specs.Numbered.{file_name}
 use Rattle.vd_cmd_plan.specs.Plans.{Plan, check_then}
-use Rattle.vd_cmd_plan.proofs.Following.{Follows, file_follows, check_follows}
+use Rattle.vd_cmd_plan.proofs.Front.{Follows, file_follows, check_follows}
 use Rattle.vd_cmd_frontend.specs.Outcomes.{TextOutcomes, LabelOutcomes}
 use Rattle.vd_cmd_frontend.specs.Inputs.{words_of, inputs_then}
 use Rattle.vd_cmd_choose.specs.Outcomes.{CertificateOutcomes}
 use Rattle.vd_cmd_choose.specs.Searching.{Searched, searched_by, sure_search}
-use Rattle.vd_cmd_choose.proofs.Steps.{choice_follows}
-use Rattle.vd_cmd_choose.proofs.Sure.{program_follows}
+use Rattle.vd_cmd_choose.proofs.Front.{choice_follows, program_follows}
 use Rattle.vd_report_outcomes.specs.Outcomes.{ReplayOutcomes}
 use Rattle.vd_cmd_inputs.specs.declared.asked.Asked.{Asked}
 use Rattle.vd_cmd_inputs.specs.Asking.{asked_of}

@@ -1,5 +1,6 @@
+pub mod Front
 mod Steps
 mod Untouched
 mod Once
 mod Told
-pub mod Made
+mod Made

@@ -6,16 +6,16 @@ use Rattle.vd_core.specs.declared.source.Source.{Source}
 use Rattle.vd_core.specs.Facts.{IsWellMade}
 use Rattle.vd_anf.specs.Normal.{normal_form}
 use Rattle.vd_constraints.specs.declared.labels.Labels.{Labels}
-use Rattle.vd_labels_systems.proofs.Systems.{program_system}
+use Rattle.vd_labels_systems.proofs.Front.{program_system}
 use Rattle.vd_space.specs.Reading.{problem_of}
 use Rattle.vd_rewrite.specs.Rewriting.{marked}
 use Rattle.vd_mux.specs.BooleanGuards.{has_boolean_guards}
 use Rattle.vd_mux.specs.Hidden.{hidden_marks, turn_of}
 use Rattle.vd_mux.specs.Selections.{turned}
-use Rattle.vd_mux.proofs.SelectionsWellMade.{turned_well_made}
+use Rattle.vd_mux.proofs.Front.{turned_well_made}
 use Rattle.vd_core.specs.Numbers.{NumbersFit}
 use Rattle.vd_long.specs.Marks.{long_marks, lengthen_of}
-use Rattle.vd_long.proofs.DivisionWellMade.{lengthened_well_made}
+use Rattle.vd_long.proofs.Front.{lengthened_well_made}
 use Rattle.vd_cmd_frontend.specs.Outcomes.{LabelOutcomes}
 use Rattle.vd_cmd_rewrite.specs.RunPrograms.{Rewriting, IsLabelledOr, New, Old, Rewrites, Under, Without, Plain, IsRunForm, IsRunProgram, TellsAs, rewritten_by, run_form}
 use Rattle.vd_cmd_rewrite.proofs.Once.{rewritten_once, rewritten_is}

@@ -10,7 +10,7 @@ use Rattle.vd_constraints.specs.declared.labels.Labels.{Labels}
 use Rattle.vd_cmd_plan.specs.declared.status.Status.{Status}
 use Rattle.vd_cmd_frontend.specs.Outcomes.{LabelOutcomes}
 use Rattle.vd_cmd_frontend.specs.Labelling.{as_labels, labels_of}
-use Rattle.vd_cmd_frontend.proofs.Labelled.{labelled}
+use Rattle.vd_cmd_frontend.proofs.Front.{labelled}
 use Rattle.vd_cmd_rewrite.specs.RunPrograms.{Rewriting, HasNoLabels, IsLabelledOr, New, Old, Rewrites, Under, Without, Plain, if_labelled, under, rewritten_by}
 
 module _ (least : LabelOutcomes) where

@@ -8,7 +8,7 @@ use Rattle.vd_constraints.specs.declared.system.Place.TheVariants.{Block}
 use Rattle.vd_constraints.specs.declared.labels.Labels.{Labels}
 use Rattle.vd_constraints.specs.Systems.{IsLabelOver}
 use Rattle.vd_space.specs.Labelled.{HasLabels}
-use Rattle.vd_noninter_laws.proofs.Same.{same_principals, same_slots}
+use Rattle.vd_noninter_laws.proofs.Front.{same_principals, same_slots}
 use Rattle.vd_cmd_rewrite.specs.RunPrograms.{Rewriting, IsLabelledOr, New, Old, Rewrites, Under}
 
 module _ (change : Rewriting) (old : NormalForm) (labels : Labels) (is : IsLeast (system_of old) labels) where

@@ -7,19 +7,19 @@ use Rattle.vd_core.specs.Facts.{IsWellMade}
 use Rattle.vd_semantics.specs.ProgramMeaning.{program_outputs}
 use Rattle.vd_semantics.specs.SourceMeaning.{source_outputs}
 use Rattle.vd_anf.specs.Normal.{normal_form}
-use Rattle.vd_anf.proofs.Kept.{outputs_kept}
+use Rattle.vd_anf.proofs.Front.{outputs_kept}
 use Rattle.vd_constraints.specs.declared.labels.Labels.{Labels}
 use Rattle.vd_space.specs.Reading.{problem_of}
 use Rattle.vd_rewrite.specs.Rewriting.{marked, is_within}
 use Rattle.vd_mux.specs.BooleanGuards.{has_boolean_guards}
 use Rattle.vd_mux.specs.Hidden.{hidden_marks, turn_of}
 use Rattle.vd_mux.specs.Selections.{some_hidden, with_selections, turned}
-use Rattle.vd_mux.proofs.SelectionsKept.{turning_keeps}
+use Rattle.vd_mux.proofs.Front.{turning_keeps}
 use Rattle.vd_base.specs.Words.{InputsAreWords}
 use Rattle.vd_core.specs.Numbers.{NumbersFit}
 use Rattle.vd_long.specs.Lengthened.{some_lengthened, with_long_divisions, is_nested}
 use Rattle.vd_long.specs.Marks.{long_marks, lengthen_of}
-use Rattle.vd_long.proofs.DivisionMade.{lengthened_keeps}
+use Rattle.vd_long.proofs.Front.{lengthened_keeps}
 use Rattle.vd_cmd_rewrite.specs.RunPrograms.{Rewriting, IsLabelledOr, New, Old, Rewrites, Under, Without, Plain}
 
 -- what a rewriting keeps, a rewritten program keeps

@@ -1,6 +1,6 @@
 -- Why a run did not end well.
 use Rattle.std.proofs.Common.{◌≡◌, inl, inr, ◌≤◌, ℕ, true, List, Result, Err, refl, sym, subst, arith}
-use Rattle.vd_host_children.proofs.Counted.{run_causes}
+use Rattle.vd_host_children.proofs.Front.{run_causes}
 use Rattle.vd_host_children.specs.Causes.{IsCaused}
 use Rattle.vd_host_children.specs.declared.fault.ChildrenFault.{ChildrenFault}
 use Rattle.vd_host_children.specs.declared.fault.ChildrenFault.TheVariants as children

@@ -1,7 +1,6 @@
 -- When a run ends well.
 use Rattle.std.proofs.Common.{◌≡◌, ◌⊎◌, inl, inr, ◌≤◌, ℕ, true, IsTrue, List, OnOk, Result, Err, refl, sym, ap, subst, ◌∙◌}
-use Rattle.vd_host_children.proofs.Counted.{run_causes}
-use Rattle.vd_host_children.proofs.Waiting.{HostsAreNext, IsOutside, run_well}
+use Rattle.vd_host_children.proofs.Front.{run_causes, HostsAreNext, IsOutside, run_well}
 use Rattle.vd_host_children.specs.Causes.{IsCaused}
 use Rattle.vd_host_children.specs.declared.fault.ChildrenFault.{ChildrenFault}
 use Rattle.vd_host_children.specs.declared.fault.ChildrenFault.TheVariants as children

@@ -7,17 +7,17 @@ use Rattle.vd_cmd.specs.declared.command.RunWords.{RunWords}
 use Rattle.vd_core.specs.declared.source.Host.{Host}
 use Rattle.vd_core.specs.declared.source.Source.{Source}
 use Rattle.vd_outside.specs.Files.{Contents}
-use Rattle.vd_parser.proofs.OutcomeLaws.{parses_once}
+use Rattle.vd_parser.proofs.Front.{parses_once}
 use Rattle.vd_parser.specs.Outcomes.{IsParse}
 use Rattle.vd_parser.specs.declared.fault.ParseFault.{ParseFault}
 use Rattle.vd_cmd_plan.specs.declared.status.Status.{Status}
 use Rattle.vd_cmd_plan.specs.declared.status.Status.TheVariants.{Ended}
-use Rattle.vd_cmd_frontend.proofs.Reading.{some_labels, some_texts}
+use Rattle.vd_cmd_frontend.proofs.Front.{some_labels, some_texts}
 use Rattle.vd_cmd_frontend.specs.Sources.{HoldsSource}
-use Rattle.vd_search_stages.proofs.Once.{some_choices}
-use Rattle.vd_cmd_choose.proofs.Reading.{some_certificates}
+use Rattle.vd_search_stages.proofs.Front.{some_choices}
+use Rattle.vd_cmd_choose.proofs.Front.{some_certificates}
 use Rattle.vd_cmd_choose.specs.Searching.{searched_by}
-use Rattle.vd_cmd_compile.proofs.Sure.{compile_follows}
+use Rattle.vd_cmd_compile.proofs.Front.{compile_follows}
 use Rattle.vd_cmd_compile.specs.Compiling.{compile_plan}
 use Rattle.vd_cmd_run.specs.Asking.{EndedRunsReport, RunsAskInOrder}
 use Rattle.vd_cmd_run.specs.CommandLines.{host_words}

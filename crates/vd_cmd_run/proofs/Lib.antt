@@ -1,6 +1,7 @@
+pub mod Front
 mod Lists
 mod Ways
 mod Causes
 mod Reports
 mod Completes
-pub mod Holding
+mod Holding

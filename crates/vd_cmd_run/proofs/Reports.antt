@@ -1,7 +1,6 @@
 -- What a run asks of its spawner, and what it reports of the children.
 use Rattle.std.proofs.Common.{◌≡◌, ◌⊎◌, inl, inr, ℕ, true, IsTrue, List, OnOk, Result, Ok, Err, ap, subst}
-use Rattle.vd_host_children.proofs.Asked.{run_asks}
-use Rattle.vd_host_children.proofs.Told.{run_told}
+use Rattle.vd_host_children.proofs.Front.{run_asks, run_told}
 use Rattle.vd_host_children.specs.declared.fault.ChildrenFault.{ChildrenFault}
 use Rattle.vd_host_children.specs.declared.fault.ChildrenFault.TheVariants as children
 use Rattle.vd_cmd.specs.declared.command.RunWords.{RunWords}

@@ -29,9 +29,9 @@ use Rattle.vd_cmd_run.specs.EndedLines.{ended_lines}
 use Rattle.vd_cmd_run.specs.RunsHosts.{Outside}
 use Rattle.vd_cmd_run.specs.Asking.{ReportsHosts}
 use Rattle.vd_cmd_run.specs.Running.{Runs}
-use Rattle.vd_cmd_run.proofs.Holding.{held_once, reports}
+use Rattle.vd_cmd_run.proofs.Front.{held_once, reports}
 use Rattle.vd_distributed_programs.specs.Running.{AreRunOverLinks, Run, WritesUpTo, WritesWhatItIsTold, text_of}
-use Rattle.vd_distributed_programs.proofs.Running.{outputs_count, running_hosts_tell_the_source, told_words}
+use Rattle.vd_distributed_programs.proofs.Front.{outputs_count, running_hosts_tell_the_source, told_words}
 use Rattle.vd_cmd_run_laws.specs.Children.{AllTell, AreRuns, ChildrenTellTheSource, IsRunOf, text_of_lines}
 use Rattle.vd_cmd_run_laws.proofs.Texts.{numbers_text, same_words}
 

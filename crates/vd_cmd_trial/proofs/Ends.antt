@@ -13,7 +13,7 @@ use Rattle.vd_space.specs.declared.problem.Problem.{Problem}
 use Rattle.vd_space.specs.Reading.{problem_of}
 use Rattle.vd_search_stages.specs.Choices.{ChoiceOutcomes, needed}
 use Rattle.vd_search_stages.specs.declared.selecting.SelectFault.TheVariants as select_fault
-use Rattle.vd_search_stages.proofs.Once.{some_choices}
+use Rattle.vd_search_stages.proofs.Front.{some_choices}
 use Rattle.vd_cmd_plan.specs.Plans.{Plan, Executes, check_then, answer_then}
 use Rattle.vd_cmd_plan.specs.declared.answer.Answer.{Answer}
 use Rattle.vd_cmd_plan.specs.declared.status.Status.{Status}
@@ -21,13 +21,13 @@ use Rattle.vd_cmd_plan.specs.declared.status.Status.TheVariants.{Memory, ReadFau
 use Rattle.vd_cmd_frontend.specs.Labelling.{as_labels, labels_of}
 use Rattle.vd_cmd_frontend.specs.Outcomes.{TextOutcomes, LabelOutcomes}
 use Rattle.vd_cmd_frontend.specs.Sources.{source_of, resolved_of}
-use Rattle.vd_cmd_frontend.proofs.Reading.{some_labels, some_texts}
-use Rattle.vd_gen_laws.proofs.Read.{is_read}
+use Rattle.vd_cmd_frontend.proofs.Front.{some_labels, some_texts}
+use Rattle.vd_gen_laws.proofs.Front.{is_read}
 use Rattle.vd_cmd_choose.specs.Choice.{Chosen, as_searched, assignment_of, chosen_by, search_then}
 use Rattle.vd_cmd_choose.specs.declared.choice.Assignment.{Assignment}
 use Rattle.vd_cmd_choose.specs.Searching.{Searched, GaveUp, Certified, is_accepted, searched_by}
 use Rattle.vd_cmd_choose.specs.Outcomes.{CertificateOutcomes}
-use Rattle.vd_cmd_choose.proofs.Reading.{some_certificates}
+use Rattle.vd_cmd_choose.proofs.Front.{some_certificates}
 use Rattle.vd_cmd_trial.specs.Telling.{AnswersTrial, EndsTrial}
 use Rattle.vd_cmd_trial.specs.Trial.{ExecutesTrial, choice_plan, program_plan, source_plan, trial_plan}
 

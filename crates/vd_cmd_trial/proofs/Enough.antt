@@ -15,19 +15,17 @@ use Rattle.vd_execution.specs.Step.{Inputs}
 use Rattle.vd_backend_laws.specs.Whole.{inputs_of}
 use Rattle.vd_deal_needs_laws.specs.Needs.{counts}
 use Rattle.vd_deal_needs.specs.declared.taking.HostNeeds.{HostNeeds}
-use Rattle.vd_deal_needs.proofs.Greatest.{above, below}
+use Rattle.vd_deal_needs.proofs.Front.{above, below}
 use Rattle.vd_projection.specs.Programs.{joint_of}
-use Rattle.vd_projection.proofs.HostCodes.{ended_past}
+use Rattle.vd_projection.proofs.Front.{ended_past}
 use Rattle.vd_world_report.specs.Supplies.{AreFiles}
 use Rattle.vd_deal_needs_programs.specs.Enough.{CanBeSplit, HandInEnough, needs_for, sizes_for}
-use Rattle.vd_deal_needs_programs.proofs.Enough.{sizes_are_enough}
-use Rattle.vd_deal_needs_programs.proofs.Made.{deals_have_their_sizes}
-use Rattle.vd_deal_needs_programs.proofs.Sizes.{count_needs, counted, needs_at, taken}
+use Rattle.vd_deal_needs_programs.proofs.Front.{sizes_are_enough, deals_have_their_sizes, count_needs, counted, needs_at, taken}
 use Rattle.vd_deal_needs_limits.specs.Items.{most_executed}
-use Rattle.vd_deal_needs_limits.proofs.Programs.{small_programs_can_be_dealt, within}
+use Rattle.vd_deal_needs_limits.proofs.Front.{small_programs_can_be_dealt, within}
 use Rattle.vd_cmd_choose.specs.Choice.{IsSelected}
 use Rattle.vd_cmd_choose.specs.declared.choice.Assignment.{Assignment}
-use Rattle.vd_cmd_compile.proofs.Runnable.{runnable_of}
+use Rattle.vd_cmd_compile.proofs.Front.{runnable_of}
 use Rattle.vd_cmd_inputs.specs.declared.asked.Asked.{Asked}
 use Rattle.vd_cmd_inputs.specs.Asking.{AreAsked}
 use Rattle.vd_cmd_trial.specs.Trial.{Suffice, asked_by, most_inputs, trial_asked, trial_input, trial_inputs, trial_words}

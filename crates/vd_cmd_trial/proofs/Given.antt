@@ -8,7 +8,7 @@ use Rattle.std.proofs.lemmas.List.FromFn.{length-map-range_with_len}
 use Rattle.vd_deal_items.specs.declared.deal.Deal.{Deal}
 use Rattle.vd_deal_items.specs.Validity.{AreDeals}
 use Rattle.vd_tape.specs.Made.{first_of, made_deals}
-use Rattle.vd_tape.proofs.MadeWords.{all_first, count_of_deals, deals_of}
+use Rattle.vd_tape.proofs.Front.{all_first, count_of_deals, deals_of}
 use Rattle.vd_deal_needs.specs.declared.taking.HostNeeds.{HostNeeds}
 use Rattle.vd_deal_needs.specs.Sizes.{sizes_of}
 use Rattle.vd_base.specs.Limits.{most_hosts}

@@ -1,7 +1,8 @@
+pub mod Front
 mod Given
 mod Enough
 mod Chosen
 mod Told
-pub mod Sure
+mod Sure
 mod Texts
 mod Ends

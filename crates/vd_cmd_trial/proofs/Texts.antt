@@ -7,7 +7,7 @@ use Rattle.vd_search_stages.specs.Choices.{ChoiceOutcomes}
 use Rattle.vd_cmd_plan.specs.Plans.{Plan, Checks, Executes, check_then}
 use Rattle.vd_cmd_plan.specs.declared.answer.Answer.{Answer}
 use Rattle.vd_cmd_plan.specs.declared.status.Status.{Status}
-use Rattle.vd_cmd_plan.proofs.InSteps.{check_step}
+use Rattle.vd_cmd_plan.proofs.Front.{check_step}
 use Rattle.vd_cmd_frontend.specs.Outcomes.{TextOutcomes, LabelOutcomes}
 use Rattle.vd_cmd_frontend.specs.Sources.{source_of, resolved_of}
 use Rattle.vd_cmd_choose.specs.Searching.{Search}

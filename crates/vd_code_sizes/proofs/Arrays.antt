@@ -7,10 +7,10 @@ use Rattle.vd_base.specs.Holders.{holders}
 use Rattle.vd_duet.specs.Builder.{taken}
 use Rattle.vd_duet.specs.Laws.{IsHost}
 use Rattle.vd_clear.specs.Copies.{each_made}
-use Rattle.vd_choreography.proofs.Lists.{AreApart}
+use Rattle.vd_choreography.proofs.Front.{AreApart}
 use Rattle.vd_backend_laws.specs.Parts.{zeros_at, new_cells}
 use Rattle.vd_backend_laws.specs.Suite.{IsOver}
-use Rattle.vd_backend_laws.proofs.Over.{holders_apart}
+use Rattle.vd_backend_laws.proofs.Front.{holders_apart}
 use Rattle.vd_code_sizes.proofs.ClearCalls.{few_holders, each_length}
 use Rattle.vd_code_sizes.proofs.Counts.{acts_in, one_grows}
 

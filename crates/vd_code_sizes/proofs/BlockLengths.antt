@@ -23,8 +23,8 @@ use Rattle.vd_choreography.specs.Block.{Block, End, Let, NewVar, NewArray, Store
 use Rattle.vd_choreography.specs.Joint.{acts_then, and_then}
 use Rattle.vd_choreography.specs.Suite.{picked, Made, Calls, hosts_of}
 use Rattle.vd_choreography.specs.Emission.{Emitted, parts_at, delivered, all_moved, and_on, right_made, with_parts, in_turn, store_made, put_made, output_made, if_made, for_made, after_loop_registers}
-use Rattle.vd_choreography.proofs.Lists.{and_left, and_right}
-use Rattle.vd_split.proofs.Picked.{picked_few}
+use Rattle.vd_choreography.proofs.Front.{and_left, and_right}
+use Rattle.vd_split.proofs.Front.{picked_few}
 use Rattle.vd_backend_laws.specs.Parts.{Parts, suite_calls}
 use Rattle.vd_backend_laws.specs.Suite.{IsOver}
 use Rattle.vd_code_sizes.specs.Statements.{State, Making, Statement, made_by, emptied, alone, own_cells, MakesFew, EachMakesFew, statements, all_of, in_branch, in_loop}

@@ -23,8 +23,8 @@ use Rattle.vd_choreography.specs.Block.{Block, End, Let, NewVar, NewArray, Store
 use Rattle.vd_choreography.specs.Joint.{and_then}
 use Rattle.vd_choreography.specs.Suite.{picked, Made, Calls, hosts_of}
 use Rattle.vd_choreography.specs.Emission.{Emitting, Emitted, Emission, parts_at, delivered, all_moved, and_on, right_made, with_parts, with_acts, in_turn, store_made, put_made, output_made, if_made, for_made, loop_registers, after_loop_registers, stmt_emission}
-use Rattle.vd_choreography.proofs.Lists.{and_left, and_right}
-use Rattle.vd_split.proofs.Picked.{picked_below, picked_few}
+use Rattle.vd_choreography.proofs.Front.{and_left, and_right}
+use Rattle.vd_split.proofs.Front.{picked_below, picked_few}
 use Rattle.vd_backend_laws.specs.Parts.{Parts, suite_calls}
 use Rattle.vd_code_sizes.specs.Fits.{IsLow, GadgetFits}
 use Rattle.vd_code_sizes.proofs.Bounds.{low_more, gadgets_fit}

@@ -11,7 +11,7 @@ use Rattle.vd_execution.specs.declared.instructions.Action.TheVariants as action
 use Rattle.vd_duet.specs.Calls.{Places, Made, register_of}
 use Rattle.vd_duet.specs.Laws.{Each}
 use Rattle.vd_clear.specs.Copies.{literal_at, passed, adopted, kept_by, applied_at, shown, each_made, clear_calls, spread_to}
-use Rattle.vd_clear.proofs.Members.{few_members}
+use Rattle.vd_clear.proofs.Front.{few_members}
 use Rattle.vd_code_sizes.specs.Fits.{IsLow, AreHere, PlacesFit, PartsFit, WordMade, Room, MoveFits, CallsFit}
 use Rattle.vd_code_sizes.proofs.Bounds.{places_more, all_places, RegFits, host_word, stays}
 use Rattle.vd_code_sizes.proofs.Clear.{register_fits, written_fits, passed_fits, adopted_fits, applied_fits, shown_fits, each_fits, renewed_fits}

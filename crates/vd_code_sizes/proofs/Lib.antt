@@ -1,18 +1,19 @@
-pub mod Blocks
+pub mod Front
+mod Blocks
 mod Commitments
-pub mod Calls
-pub mod Fits
+mod Calls
+mod Fits
 mod Loading
-pub mod Programs
-pub mod Bounds
-pub mod Clear
-pub mod ClearCalls
-pub mod Conversions
-pub mod Gates
-pub mod Pairs
-pub mod PairsOfCalls
+mod Programs
+mod Bounds
+mod Clear
+mod ClearCalls
+mod Conversions
+mod Gates
+mod Pairs
+mod PairsOfCalls
 mod Shares
-pub mod CommitmentSizes
+mod CommitmentSizes
 mod Counts
 mod Codes
 mod Shared
@@ -20,4 +21,4 @@ mod ClearLengths
 mod CallLengths
 mod Arrays
 mod BlockLengths
-pub mod ProgramLengths
+mod ProgramLengths

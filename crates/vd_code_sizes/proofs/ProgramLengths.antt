@@ -8,7 +8,7 @@ use Rattle.vd_core.specs.declared.normal.Stmt.TheOpen.{Stmt-F}
 use Rattle.vd_core.specs.Facts.{IsWellMade, meets, blocks_meet, of_rights, operands_fit, count_step, statement_count}
 use Rattle.vd_choreography.specs.Block.{block_of, each}
 use Rattle.vd_choreography.specs.Emission.{Emission, block_emission, emitting_at_start, in_turn, stmt_emission}
-use Rattle.vd_choreography.proofs.Folds.{fold_each}
+use Rattle.vd_choreography.proofs.Front.{fold_each}
 use Rattle.vd_backend_laws.specs.Parts.{suite_calls}
 use Rattle.vd_backend_laws.specs.Suite.{IsOver}
 use Rattle.vd_backend_laws.specs.Whole.{plan_at}

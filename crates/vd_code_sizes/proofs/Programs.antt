@@ -10,7 +10,7 @@ use Rattle.vd_core.specs.Facts.{IsWellMade, meets, blocks_meet, of_rights, opera
 use Rattle.vd_execution.specs.Joint.{code_of}
 use Rattle.vd_choreography.specs.Block.{Block, End, Let, NewVar, NewArray, Store, Put, Output, If, For, block_of, each}
 use Rattle.vd_choreography.specs.Emission.{Emission, block_emission, emitting_at_start, in_turn, stmt_emission}
-use Rattle.vd_choreography.proofs.Folds.{fold_each}
+use Rattle.vd_choreography.proofs.Front.{fold_each}
 use Rattle.vd_backend_laws.specs.Parts.{suite_calls}
 use Rattle.vd_backend_laws.specs.Suite.{IsOver}
 use Rattle.vd_backend_laws.specs.Whole.{plan_at, code_at}

@@ -11,11 +11,11 @@ use Rattle.vd_execution.specs.Joint.{Hosts, after_do, after_msg}
 use Rattle.vd_execution.specs.Acts.{run_acts}
 use Rattle.vd_execution.specs.Gadgets.{acts_of_gadgets, GadgetsAreTidy}
 use Rattle.vd_execution.specs.Text.{register}
-use Rattle.vd_execution.proofs.Gadgets.{gadgets_sound}
+use Rattle.vd_execution.proofs.Front.{gadgets_sound}
 use Rattle.vd_duet.specs.Builder.{taken}
 use Rattle.vd_duet.specs.Calls.{Made}
-use Rattle.vd_duet.proofs.Leads.{taken_known, taken_there, taken_other, taken_bounds}
-use Rattle.vd_backend_sharing.proofs.Adds.{Adds}
+use Rattle.vd_duet.proofs.Front.{taken_known, taken_there, taken_other, taken_bounds}
+use Rattle.vd_backend_sharing.proofs.Front.{Adds}
 use Rattle.vd_commit.specs.declared.ends.Held.{Held}
 use Rattle.vd_commit.specs.declared.ends.Seen.{Seen}
 use Rattle.vd_commit.specs.Commit.{eight, own_each, committing, committed}

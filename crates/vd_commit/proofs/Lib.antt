@@ -1,5 +1,6 @@
+pub mod Front
 mod Emitted
-pub mod Rows
-pub mod Binds
-pub mod Reveals
-pub mod CommitActs
+mod Rows
+mod Binds
+mod Reveals
+mod CommitActs

@@ -11,11 +11,10 @@ use Rattle.vd_execution.specs.Joint.{Host, Hosts, after_do, after_msg}
 use Rattle.vd_execution.specs.Acts.{run_acts, ActsAgree}
 use Rattle.vd_execution.specs.Gadgets.{acts_of_gadgets, GadgetsAreTidy, IsSound}
 use Rattle.vd_execution.specs.Text.{register}
-use Rattle.vd_execution.proofs.Puts.{put_itself}
-use Rattle.vd_execution.proofs.Gadgets.{gadgets_sound}
+use Rattle.vd_execution.proofs.Front.{put_itself, gadgets_sound}
 use Rattle.vd_duet.specs.Builder.{taken}
-use Rattle.vd_duet.proofs.Leads.{taken_known, taken_bounds}
-use Rattle.vd_backend_sharing.proofs.Adds.{Adds}
+use Rattle.vd_duet.proofs.Front.{taken_known, taken_bounds}
+use Rattle.vd_backend_sharing.proofs.Front.{Adds}
 use Rattle.vd_commit.specs.declared.ends.Held.{Held}
 use Rattle.vd_commit.specs.declared.ends.Seen.{Seen}
 use Rattle.vd_commit.specs.Commit.{eight, same_each, revealing, revealed}

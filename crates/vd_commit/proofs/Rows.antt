@@ -11,8 +11,8 @@ use Rattle.vd_execution.specs.World.{Tape}
 use Rattle.vd_execution.specs.Joint.{Host, Hosts, acted, after_do, after_msg}
 use Rattle.vd_execution.specs.Acts.{run_acts}
 use Rattle.vd_execution.specs.Gadgets.{acts_of_gadgets}
-use Rattle.vd_execution.proofs.Puts.{put_same, put_other}
-use Rattle.vd_backend_sharing.proofs.Adds.{Adds, put_adds, msg_adds, do_adds_one, adds_on}
+use Rattle.vd_execution.proofs.Front.{put_same, put_other}
+use Rattle.vd_backend_sharing.proofs.Front.{Adds, put_adds, msg_adds, do_adds_one, adds_on}
 use Rattle.vd_commit.specs.Commit.{eight, own_each}
 
 -- registers follow each other from this one on

@@ -2,8 +2,7 @@
 use Rattle.std.proofs.Common.{◌≡◌, ℕ, ◌<◌, Bool, true, false, length, sym, ◌∙◌, subst}
 use Rattle.vd_formula.specs.TruthTable.{TruthTable, either_of, implies_of}
 use Rattle.vd_formula.specs.declared.label.Label.{Label}
-use Rattle.vd_formula.proofs.Tables.{is_formula-either}
-use Rattle.vd_formula.proofs.Implies.{is_formula-implies}
+use Rattle.vd_formula.proofs.Front.{is_formula-either, is_formula-implies}
 use Rattle.vd_constraints.specs.declared.system.Place.{Place}
 use Rattle.vd_constraints.specs.declared.system.Place.TheVariants.{Slot, Block}
 use Rattle.vd_constraints.specs.declared.system.Part.{Part}

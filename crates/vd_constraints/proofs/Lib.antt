@@ -1,9 +1,10 @@
-pub mod Kept
-pub mod Fits
-pub mod Sizes
+pub mod Front
+mod Kept
+mod Fits
+mod Sizes
 mod Walks
-pub mod Labellings
-pub mod Firsts
-pub mod InSight
-pub mod Growth
-pub mod Few
+mod Labellings
+mod Firsts
+mod InSight
+mod Growth
+mod Few

@@ -8,7 +8,7 @@ use Rattle.vd_duet.specs.Calls.{Places, Made}
 use Rattle.vd_backend_sharing.specs.declared.shares.Shares.{Shares}
 use Rattle.vd_backend_sharing.specs.PairCalls.{shares_of, places_at}
 use Rattle.vd_bits.specs.BitCalls.{circuit_shares, computed, bit_serves}
-use Rattle.vd_bits.proofs.BitActs.{computed_acts}
+use Rattle.vd_bits.proofs.Front.{computed_acts}
 use Rattle.vd_convert.specs.Convert.{masked_parts, drawn, finished, to_xor_made, to_add_made}
 use Rattle.vd_convert.specs.Law.{ConversionsActAtBoth}
 

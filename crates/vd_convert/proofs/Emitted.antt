@@ -5,7 +5,7 @@ use Rattle.vd_base.specs.declared.operations.Op.TheVariants as op
 use Rattle.vd_execution.specs.declared.instructions.Line.{Line}
 use Rattle.vd_duet.specs.Builder.{Builder}
 use Rattle.vd_duet.specs.Calls.{Places, Made, called}
-use Rattle.vd_duet.proofs.Leads.{emitted_append}
+use Rattle.vd_duet.proofs.Front.{emitted_append}
 use Rattle.vd_backend_sharing.specs.declared.pair.Pair.{Pair}
 use Rattle.vd_backend_sharing.specs.declared.shares.Shares.{Shares}
 use Rattle.vd_backend_sharing.specs.declared.shares.Sharing.TheVariants as way

@@ -1,4 +1,5 @@
+pub mod Front
 mod Emitted
-pub mod ToXor
-pub mod ToAdd
-pub mod ConvertActs
+mod ToXor
+mod ToAdd
+mod ConvertActs

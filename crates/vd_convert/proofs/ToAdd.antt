@@ -14,16 +14,13 @@ use Rattle.vd_execution.specs.Text.{register}
 use Rattle.vd_duet.specs.Builder.{most_taken}
 use Rattle.vd_duet.specs.Calls.{Places, Made}
 use Rattle.vd_duet.specs.Laws.{IsIn, IsInOne, AreBelow, Gives, GivesWord, StandFor, Operand, IsReady}
-use Rattle.vd_duet.proofs.Leads.{Since, orderly_wider}
+use Rattle.vd_duet.proofs.Front.{Since, orderly_wider}
 use Rattle.vd_backend_sharing.specs.declared.shares.Shares.{Shares}
 use Rattle.vd_backend_sharing.specs.PairCalls.{two, shares_of, places_at, at_hosts}
-use Rattle.vd_backend_sharing.proofs.Deeds.{First, Second, Old, New, Drawn, Opened, Applied, nothing_left, pair_word}
-use Rattle.vd_backend_sharing.proofs.Fresh.{pair_at, fresh_gives}
-use Rattle.vd_backend_sharing.proofs.Parts.{Parts, parts_of, parts_named, both_known, stands_by}
-use Rattle.vd_backend_sharing.proofs.Chains.{gives_then, parts_later}
+use Rattle.vd_backend_sharing.proofs.Front.{First, Second, Old, New, Drawn, Opened, Applied, nothing_left, pair_word, pair_at, fresh_gives, Parts, parts_of, parts_named, both_known, stands_by, gives_then, parts_later}
 use Rattle.vd_words.specs.AddCalls.{add_serves, add_apply, add_calls}
 use Rattle.vd_bits.specs.BitCalls.{circuit_shares, computed, bit_serves, bit_calls}
-use Rattle.vd_bits.proofs.BitLaws.{gives_wider, circuit_gives_few}
+use Rattle.vd_bits.proofs.Front.{gives_wider, circuit_gives_few}
 use Rattle.vd_convert.specs.Convert.{pairing, drawn, finishing, finished, to_add_made}
 
 -- a dealt pair: its sum, and its exclusive or

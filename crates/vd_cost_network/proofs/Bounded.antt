@@ -10,9 +10,7 @@ use Rattle.vd_space.specs.Validity.{is_valid}
 use Rattle.vd_space.specs.Costs.{cost}
 use Rattle.vd_space.specs.Bounds.{high}
 use Rattle.vd_space.specs.Spaces.{IsProblem}
-use Rattle.vd_space.proofs.Kept.{valid_kept, valid_listed}
-use Rattle.vd_space.proofs.Least.{max_above, max_same}
-use Rattle.vd_space.proofs.Bounded.{high_below, high_whole}
+use Rattle.vd_space.proofs.Front.{valid_kept, valid_listed, max_above, max_same, high_below, high_whole}
 use Rattle.vd_cost_network.specs.Points.{points}
 use Rattle.vd_cost_network.specs.Arcs.{arcs}
 use Rattle.vd_cost_network.specs.Network.{network_one, network_pairs, by_arcs, units, network_high, network_tree}

@@ -25,10 +25,7 @@ use Rattle.vd_space.specs.Reading.{Read, all_parts, all_named, guard_of, named_b
 use Rattle.vd_space.specs.Sizes.{IsWithinLimits}
 use Rattle.vd_space.specs.Costs.{pairs, use_term, index_term}
 use Rattle.vd_space.specs.Validity.{all_hosts}
-use Rattle.vd_space.proofs.Weighed.{few_operands}
-use Rattle.vd_space.proofs.Sized.{is_within_limits}
-use Rattle.vd_space.proofs.Valued.{each_map}
-use Rattle.vd_space.proofs.Tests.{each_leads}
+use Rattle.vd_space.proofs.Front.{few_operands, is_within_limits, each_map, each_leads}
 use Rattle.vd_cost_network.specs.Points.{Switch, switch_of, switches, may_bring, members}
 use Rattle.vd_cost_network.specs.Arcs.{in_parts, arcs, arcs_from, member_arc, switch_arcs}
 use Rattle.vd_cost_network.proofs.Items.{each_flat}

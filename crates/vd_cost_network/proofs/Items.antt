@@ -6,9 +6,7 @@ use Rattle.std.specs.Option.{option_map_or}
 use Rattle.std.proofs.lemmas.Int.{ints}
 use Rattle.std.proofs.lemmas.Bool.{true≢false, and_from, or_cases, or_left, or_right, cases_Bool, cases_eq, cond-true, cond-false}
 use Rattle.vd_space.specs.Costs.{total}
-use Rattle.vd_space.proofs.Totals.{total_append}
-use Rattle.vd_space.proofs.Tests.{each_leads}
-use Rattle.vd_space.proofs.Valued.{each_append}
+use Rattle.vd_space.proofs.Front.{total_append, each_leads, each_append}
 
 pub within : {X : Type 0} (xs : List X) (k : ℕ) → k < length xs → (x : X) × (slice_get xs k ≡ Some x)
 within [] k low = absurd (omega arith)

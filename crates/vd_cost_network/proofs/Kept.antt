@@ -10,9 +10,7 @@ use Rattle.vd_base.specs.HostSets.{same_host}
 use Rattle.vd_space.specs.declared.problem.Problem.{Problem}
 use Rattle.vd_space.specs.declared.problem.Making.{Making}
 use Rattle.vd_space.specs.Validity.{protocols, holds_at, can_stand, is_candidate, stand, takes_part, is_valid}
-use Rattle.vd_space.proofs.Tests.{item_kept, all_passes}
-use Rattle.vd_space.proofs.Kept.{parts_of, part_kept}
-use Rattle.vd_space.proofs.Terms.{IsAt, is_listed}
+use Rattle.vd_space.proofs.Front.{item_kept, all_passes, parts_of, part_kept, IsAt, is_listed}
 use Rattle.vd_cost_network.specs.Points.{Switch, switches, may_bring, members, switched, decided, on, off}
 use Rattle.vd_cost_network.proofs.Items.{held, any_in_range}
 use Rattle.vd_cost_network.proofs.Points.{at_either}

@@ -1,9 +1,10 @@
-pub mod Items
-pub mod Points
+pub mod Front
+mod Items
+mod Points
 mod Kept
 mod Terms
 mod Valued
 mod Shifted
 mod Summed
-pub mod Bounded
-pub mod Few
+mod Bounded
+mod Few

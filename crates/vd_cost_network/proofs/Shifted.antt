@@ -11,11 +11,7 @@ use Rattle.vd_space.specs.Validity.{is_valid}
 use Rattle.vd_space.specs.Costs.{Pair, total}
 use Rattle.vd_space.specs.Bounds.{signed, use_shift}
 use Rattle.vd_space.specs.Spaces.{IsProblem}
-use Rattle.vd_space.proofs.Tests.{each_leads}
-use Rattle.vd_space.proofs.Terms.{total_same}
-use Rattle.vd_space.proofs.Totals.{total_map, total_ext, total_plus, total_zero, total_swap, total_once}
-use Rattle.vd_space.proofs.Valued.{each_map, each_below}
-use Rattle.vd_space.proofs.Shifted.{each_at}
+use Rattle.vd_space.proofs.Front.{each_leads, total_same, total_map, total_ext, total_plus, total_zero, total_swap, total_once, each_map, each_below, each_at}
 use Rattle.vd_cost_network.specs.Points.{Switch, switches, points, switched, decided}
 use Rattle.vd_cost_network.specs.Arcs.{arcs}
 use Rattle.vd_cost_network.specs.Network.{end_of, point_shift, network_one, network_pair, network_pairs}

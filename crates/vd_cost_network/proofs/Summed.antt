@@ -11,10 +11,7 @@ use Rattle.vd_space.specs.Validity.{all_hosts, move_to_host, takes_part, is_vali
 use Rattle.vd_space.specs.Costs.{Pair, total, weigh, use_value, use_term, index_term, guard_term, guards_total, slots_of, pairs, one_at, pair_at, cost}
 use Rattle.vd_space.specs.Bounds.{shifted_one, shifted_use, shifted_uses, shifted_ones, shifted_pairs}
 use Rattle.vd_space.specs.Spaces.{IsProblem}
-use Rattle.vd_space.proofs.Terms.{HasPair, one_is, pair_is, sum_at, total_same}
-use Rattle.vd_space.proofs.Totals.{total_append, total_map, total_ext, total_zero}
-use Rattle.vd_space.proofs.Valued.{decided, each_below, terms_have}
-use Rattle.vd_space.proofs.Shifted.{shifted_has, shifted_sum}
+use Rattle.vd_space.proofs.Front.{HasPair, one_is, pair_is, sum_at, total_same, total_append, total_map, total_ext, total_zero, decided, each_below, terms_have, shifted_has, shifted_sum}
 use Rattle.vd_cost_network.specs.Points.{Switch, switch_of, switches, points, may_bring, members}
 use Rattle.vd_cost_network.specs.Arcs.{parts, in_parts, guard_arc, member_arc, switch_arcs, arcs_from, arcs}
 use Rattle.vd_cost_network.proofs.Items.{within, each_filtered, each_in_range, total_flat, total_times, total_split}

@@ -9,8 +9,7 @@ use Rattle.vd_space.specs.declared.problem.Problem.{Problem}
 use Rattle.vd_space.specs.Validity.{is_valid}
 use Rattle.vd_space.specs.Costs.{One, Pair, total}
 use Rattle.vd_space.specs.Bounds.{only_if}
-use Rattle.vd_space.proofs.Least.{AtMost, AtLeast, least_low, least_high, only_low, only_high, low_some, high_some, found_low, found_high}
-use Rattle.vd_space.proofs.Terms.{total_low, total_same}
+use Rattle.vd_space.proofs.Front.{AtMost, AtLeast, least_low, least_high, only_low, only_high, low_some, high_some, found_low, found_high, total_low, total_same}
 use Rattle.vd_cost_network.specs.Points.{is_setting, most_settings, decided, may_be, least_over}
 use Rattle.vd_cost_network.specs.Network.{no_parts_left, least_point, least_arc}
 use Rattle.vd_cost_network.proofs.Kept.{point_kept}

@@ -15,11 +15,7 @@ use Rattle.vd_space.specs.Validity.{protocols, all_hosts, holds_at, may_read, mo
 use Rattle.vd_space.specs.Costs.{One, Pair, weigh, operation_value, pairs}
 use Rattle.vd_space.specs.Bounds.{add, outputs_value}
 use Rattle.vd_space.specs.Spaces.{IsProblem}
-use Rattle.vd_space.proofs.Tests.{all_parts, all_passes, each_leads, each_both, unless_passes, unless_at, item_within}
-use Rattle.vd_space.proofs.Kept.{parts_of}
-use Rattle.vd_space.proofs.Terms.{IsAt, HasPair, is_listed}
-use Rattle.vd_space.proofs.Valued.{decided, weigh_some, each_map, each_append, terms_have}
-use Rattle.vd_space.proofs.Shifted.{shifted_has, each_at}
+use Rattle.vd_space.proofs.Front.{all_parts, all_passes, each_leads, each_both, unless_passes, unless_at, item_within, parts_of, IsAt, HasPair, is_listed, decided, weigh_some, each_map, each_append, terms_have, shifted_has, each_at}
 use Rattle.vd_cost_network.specs.Points.{Switch, switch_of, switches, off, on, may_bring, members, switched}
 use Rattle.vd_cost_network.specs.Arcs.{parts, index_readable, slot_value, switch_value, point_value, in_parts, guard_arc, member_arc, switch_arcs, arcs_from, arcs}
 use Rattle.vd_cost_network.proofs.Items.{within, any_held, all_filtered, each_filtered, each_makes_any, each_flat}

@@ -9,9 +9,9 @@ use Rattle.vd_search_tree.specs.declared.shift.Shift.{Shift}
 use Rattle.vd_space.specs.declared.problem.Problem.{Problem}
 use Rattle.vd_space.specs.Labelled.{IsLabelled}
 use Rattle.vd_space.specs.Sizes.{IsWithinLimits}
-use Rattle.vd_space.proofs.Priced.{listed_or_not}
+use Rattle.vd_space.proofs.Front.{listed_or_not}
 use Rattle.vd_space_prefix.specs.Transfers.{IsWithin, by_place}
-use Rattle.vd_space_prefix.proofs.Placed.{at_place, size_by_place}
+use Rattle.vd_space_prefix.proofs.Front.{at_place, size_by_place}
 use Rattle.vd_cost_network.specs.Arcs.{arcs, point_value}
 use Rattle.vd_cost_network.specs.Network.{network_one, no_parts_left}
 use Rattle.vd_cost_network.specs.Points.{points}
@@ -21,9 +21,7 @@ use Rattle.vd_cost_network_tables.specs.declared.raw.RawArc.{RawArc}
 use Rattle.vd_cost_network_tables.specs.declared.sums.Rows.TheVariants.{Points}
 use Rattle.vd_cost_network_tables.specs.Sums.{AreSmallShifts, sums_of}
 use Rattle.vd_cost_network_tables.specs.Tables.{point_table, point_tables_of, raw_arc, tests_of}
-use Rattle.vd_cost_network_tables.proofs.Costs.{map_map}
-use Rattle.vd_cost_network_tables.proofs.Placed.{tests_size}
-use Rattle.vd_cost_network_tables.proofs.Pointing.{gain_is, point_light, point_tables_small}
+use Rattle.vd_cost_network_tables.proofs.Front.{map_map, tests_size, gain_is, point_light, point_tables_small}
 use Rattle.vd_cost_network_bound.specs.Bounds.{free_at, values_at}
 use Rattle.vd_cost_network_bound.specs.Least.{least_among, settings_at, value_with}
 use Rattle.vd_cost_network_bound.proofs.Joined.{IsPart, in_tests, settings_found, some_at}

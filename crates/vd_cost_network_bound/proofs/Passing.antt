@@ -7,11 +7,11 @@ use Rattle.std.proofs.lemmas.List.{get_or_append_left, get_or_push, length_push}
 use Rattle.std.proofs.lemmas.List.Elements.{filter-append}
 use Rattle.vd_space.specs.Bounds.{lesser, least_below, only_if}
 use Rattle.vd_space_prefix.specs.Transfers.{by_place, least_where}
-use Rattle.vd_space_prefix.proofs.Placed.{at_place, same_least}
+use Rattle.vd_space_prefix.proofs.Front.{at_place, same_least}
 use Rattle.vd_cost_network_prefix.specs.States.{arc_at, point_at}
 use Rattle.vd_cost_network.specs.Network.{no_parts_left}
 use Rattle.vd_cost_network_tables.specs.Tables.{arc_table_of, point_table_of}
-use Rattle.vd_cost_network_tables.proofs.Placed.{least_where_same}
+use Rattle.vd_cost_network_tables.proofs.Front.{least_where_same}
 use Rattle.vd_cost_network_bound.specs.Least.{least_among, passing}
 
 -- ---- one setting more

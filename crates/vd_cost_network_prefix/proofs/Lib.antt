@@ -1,5 +1,6 @@
-pub mod Decided
-pub mod Summing
+pub mod Front
+mod Decided
+mod Summing
 mod Steps
 mod Moving
 mod Reaching

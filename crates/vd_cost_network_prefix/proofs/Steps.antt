@@ -7,7 +7,7 @@ use Rattle.std.proofs.lemmas.List.Elements.{All-append, All-cons, All-nil, All-t
 use Rattle.vd_space.specs.declared.problem.Problem.{Problem}
 use Rattle.vd_space.specs.Validity.{protocols, is_valid}
 use Rattle.vd_space.specs.Growth.{extends, with_choice}
-use Rattle.vd_space.proofs.Growth.{valid_grows}
+use Rattle.vd_space.proofs.Front.{valid_grows}
 use Rattle.vd_space_prefix.specs.Tables.{AreListed}
 use Rattle.vd_cost_network_prefix.specs.declared.made.SwitchTable.{SwitchTable}
 use Rattle.vd_cost_network_prefix.specs.Reach.{AreDecidedBeside}

@@ -1,2 +1,3 @@
-pub mod Making
+pub mod Front
+mod Making
 mod Taken

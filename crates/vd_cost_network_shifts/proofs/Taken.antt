@@ -7,7 +7,7 @@ use Rattle.std.proofs.lemmas.Int.{ints}
 use Rattle.vd_search_tree.specs.declared.shift.Shift.{Shift}
 use Rattle.vd_space.specs.Bounds.{use_shift}
 use Rattle.vd_space.specs.Costs.{total}
-use Rattle.vd_space.proofs.Totals.{total_append}
+use Rattle.vd_space.proofs.Front.{total_append}
 use Rattle.vd_cost_network_shifts.specs.Shifts.{arc_shifts, net_shifts, row_shifts, shift_to}
 use Rattle.vd_cost_network_shifts.proofs.Making.{flat_more}
 

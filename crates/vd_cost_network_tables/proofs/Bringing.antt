@@ -13,11 +13,11 @@ use Rattle.vd_space.specs.declared.problem.Guard.{Guard}
 use Rattle.vd_cost_network_prefix.specs.declared.made.SwitchTable.{SwitchTable}
 use Rattle.vd_space.specs.Labelled.{IsLabelled}
 use Rattle.vd_space.specs.Validity.{protocols, can_stand, holds_at, is_candidate}
-use Rattle.vd_space.proofs.Few.{few_in}
+use Rattle.vd_space.proofs.Front.{few_in}
 use Rattle.vd_space_prefix.specs.Transfers.{by_place}
-use Rattle.vd_space_prefix.proofs.Placed.{candidates, size_by_place, at_place}
+use Rattle.vd_space_prefix.proofs.Front.{candidates, size_by_place, at_place}
 use Rattle.vd_space_terms.specs.Prices.{candidates_of}
-use Rattle.vd_space_terms.proofs.Network.{candidates_at}
+use Rattle.vd_space_terms.proofs.Front.{candidates_at}
 use Rattle.vd_cost_network.specs.Points.{may_bring}
 use Rattle.vd_cost_network_tables.specs.Tables.{is_kept, switch_table}
 

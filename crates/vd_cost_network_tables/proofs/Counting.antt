@@ -11,15 +11,14 @@ use Rattle.vd_space.specs.declared.problem.Problem.{Problem}
 use Rattle.vd_space.specs.Costs.{Pair, total}
 use Rattle.vd_cost_network.specs.Network.{end_of, point_shift}
 use Rattle.vd_space.specs.Bounds.{signed, use_shift}
-use Rattle.vd_space.proofs.Totals.{total_ext, total_plus}
+use Rattle.vd_space.proofs.Front.{total_ext, total_plus}
 use Rattle.vd_space_prefix.specs.Transfers.{IsWithin, by_place}
-use Rattle.vd_space_prefix.proofs.Placed.{at_place}
-use Rattle.vd_space_prefix.proofs.Changes.{total_more}
+use Rattle.vd_space_prefix.proofs.Front.{at_place, total_more}
 use Rattle.vd_cost_network_tables.specs.declared.sums.Rows.{Rows}
 use Rattle.vd_cost_network_tables.specs.declared.sums.Rows.TheVariants.{Firsts, Seconds, Points}
 use Rattle.vd_cost_network_tables.specs.Sums.{part, row_of, side_of, sums_of}
 use Rattle.vd_cost_network_tables.specs.Tables.{raw_arc}
-use Rattle.vd_space_terms.proofs.Made.{same_by_place, same_everywhere, set_by_place}
+use Rattle.vd_space_terms.proofs.Front.{same_by_place, same_everywhere, set_by_place}
 
 both_true : (a b : Bool) → a ≡ true → b ≡ true → (a && b) ≡ true
 both_true a b first second = ap₂ (λ x y. x && y) first second

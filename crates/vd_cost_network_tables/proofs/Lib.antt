@@ -1,14 +1,15 @@
-pub mod Placed
-pub mod Switching
+pub mod Front
+mod Placed
+mod Switching
 mod Counting
-pub mod Placing
-pub mod Costs
+mod Placing
+mod Costs
 mod Tabled
-pub mod Shifting
+mod Shifting
 mod Raising
-pub mod Ranging
-pub mod Rawing
+mod Ranging
+mod Rawing
 mod Bringing
-pub mod Owning
-pub mod Pointing
-pub mod Assembling
+mod Owning
+mod Pointing
+mod Assembling

@@ -5,10 +5,10 @@ use Rattle.std.proofs.lemmas.List.{get_or_past}
 use Rattle.vd_search_tree.specs.declared.shift.Shift.{Shift}
 use Rattle.vd_space.specs.Costs.{total}
 use Rattle.vd_space.specs.Bounds.{signed}
-use Rattle.vd_space.proofs.Priced.{listed_or_not}
+use Rattle.vd_space.proofs.Front.{listed_or_not}
 use Rattle.vd_space_prefix.specs.Transfers.{IsWithin, by_place}
-use Rattle.vd_space_prefix.proofs.Placed.{at_place, size_by_place}
-use Rattle.vd_space_terms.proofs.Small.{place_within}
+use Rattle.vd_space_prefix.proofs.Front.{at_place, size_by_place}
+use Rattle.vd_space_terms.proofs.Front.{place_within}
 use Rattle.vd_cost_network_tables.specs.declared.raw.RawArc.{RawArc}
 use Rattle.vd_cost_network_tables.specs.declared.sums.Rows.{Rows}
 use Rattle.vd_cost_network_tables.specs.Sums.{AreSmallShifts, AreSmallSums, part, sums_of}

@@ -16,18 +16,14 @@ use Rattle.vd_space.specs.Sizes.{IsWithinLimits}
 use Rattle.vd_space.specs.Validity.{all_hosts, holds_at, move_to_host, protocol, move}
 use Rattle.vd_space.specs.Costs.{Pair, weigh, total, pairs, use_term, index_term, hosts_at, moves_to}
 use Rattle.vd_space.specs.Bounds.{lesser, least_below, only_if, signed, use_shift}
-use Rattle.vd_space.proofs.Priced.{listed_or_not, small, told_price, index_price}
-use Rattle.vd_space.proofs.Prices.{move_price}
-use Rattle.vd_space.proofs.Tests.{each_leads}
-use Rattle.vd_space.proofs.Valued.{each_map, each_append}
-use Rattle.vd_space.proofs.Shifted.{each_at}
+use Rattle.vd_space.proofs.Front.{listed_or_not, small, told_price, index_price, move_price, each_leads, each_map, each_append, each_at}
 use Rattle.vd_space_prefix.specs.Transfers.{IsWithin, by_place, least_where}
-use Rattle.vd_space_prefix.proofs.Placed.{size_by_place, at_place}
-use Rattle.vd_space_terms.proofs.Small.{place_within}
+use Rattle.vd_space_prefix.proofs.Front.{size_by_place, at_place}
+use Rattle.vd_space_terms.proofs.Front.{place_within}
 use Rattle.vd_cost_network.specs.Points.{Switch, switch_of, switches, members, off}
 use Rattle.vd_cost_network.specs.Arcs.{parts, in_parts, member_arc, switch_arcs, arcs_from, arcs}
 use Rattle.vd_cost_network.specs.Network.{network_pair, network_pairs, no_parts_left}
-use Rattle.vd_cost_network.proofs.Items.{each_flat}
+use Rattle.vd_cost_network.proofs.Front.{each_flat}
 use Rattle.vd_cost_network_prefix.specs.States.{AreSmallArcs, IsSmallArc, IsSmallPoint, settings}
 use Rattle.vd_cost_network_tables.specs.declared.raw.RawArc.{RawArc}
 use Rattle.vd_cost_network_tables.specs.Sums.{AreSmallShifts}

@@ -4,7 +4,7 @@ use Rattle.std.proofs.lemmas.List.{append_cancel_left}
 use Rattle.std.proofs.lemmas.Nat.{from_be_bytes-to_be_bytes_4}
 use Rattle.std.specs.Int.{w32, to_be_bytes, from_be_bytes}
 use Rattle.vd_deal_items.specs.declared.deal.Counts.{Counts}
-use Rattle.vd_channel_crypto.proofs.Distinct.{front_same, behind_two}
+use Rattle.vd_channel_crypto.proofs.Front.{front_same, behind_two}
 use Rattle.vd_deal_keys.specs.declared.secrets.LinkKey.{LinkKey}
 use Rattle.vd_deal_keys.specs.Keys.{counts_bytes, id_info, items_info, link_info, link_key, link_between}
 use Rattle.vd_deal_keys.specs.Laws.{AreWords, SameCounts, PurposesAreApart, LinksHaveOneKey}

@@ -1,2 +1,3 @@
+pub mod Front
 mod Taken
-pub mod Greatest
+mod Greatest

@@ -9,8 +9,8 @@ use Rattle.vd_execution.specs.Step.{Source, Inputs, OwnWords, Triples, BitTriple
 use Rattle.vd_execution.specs.World.{Supply, Tape, followed_by_zeros, IsShort, IsStuck}
 use Rattle.vd_execution.specs.Joint.{Part, Joint, Done, Do, Msg, If, For, Host, Hosts, fresh, acted, after_do, after_msg, said_to, has_heard, is_other, turn_begun, turns, joint, at_end}
 use Rattle.vd_execution_confluence.specs.Claims.{RunsWell, Suffices, last_of, reached}
-use Rattle.vd_execution_confluence.proofs.Compiled.{never_short_on_the_way, whole}
-use Rattle.vd_execution.proofs.Puts.{put_same, put_other}
+use Rattle.vd_execution_confluence.proofs.Front.{never_short_on_the_way, whole}
+use Rattle.vd_execution.proofs.Front.{put_same, put_other}
 use Rattle.vd_deal_needs_laws.specs.Needs.{source_of, one_of, greater, takes, IsEven, HasWhatItTakes}
 
 further : (c : Cursors) (s r : Source) (b : Bool) → (if b then suc (c r) else c r) ≡ c r + (if b then 1 else 0)

@@ -1,3 +1,4 @@
+pub mod Front
 mod Acts
 mod Blocks
-pub mod Programs
+mod Programs

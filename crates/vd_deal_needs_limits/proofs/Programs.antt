@@ -9,14 +9,14 @@ use Rattle.vd_execution.specs.Plans.{joint_of}
 use Rattle.vd_execution.specs.Step.{Source, BitTriples, OwnWords, Pairs, Triples}
 use Rattle.vd_choreography.specs.Block.{block_of}
 use Rattle.vd_choreography.specs.Emission.{Emission, block_emission, emitting_at_start, in_turn, stmt_emission}
-use Rattle.vd_choreography.proofs.Folds.{fold_each}
+use Rattle.vd_choreography.proofs.Front.{fold_each}
 use Rattle.vd_deal_needs_laws.specs.Needs.{takes}
 use Rattle.vd_backend_laws.specs.Parts.{suite_calls}
-use Rattle.vd_projection.proofs.HostCodes.{proto_over, runnable_over}
+use Rattle.vd_projection.proofs.Front.{proto_over, runnable_over}
 use Rattle.vd_code_sizes.specs.Statements.{all_of}
-use Rattle.vd_code_sizes.proofs.ProgramLengths.{statements_make_few}
+use Rattle.vd_code_sizes.proofs.Front.{statements_make_few}
 use Rattle.vd_deal_needs_programs.specs.Enough.{CanBeSplit}
-use Rattle.vd_deal_needs_programs.proofs.Sizes.{count_needs, counted, own_below, shared_below, taken}
+use Rattle.vd_deal_needs_programs.proofs.Front.{count_needs, counted, own_below, shared_below, taken}
 use Rattle.vd_deal_needs_limits.specs.Items.{ItemsAreFew, SmallProgramsCanBeDealt, most_executed, most_items}
 use Rattle.vd_deal_needs_limits.proofs.Blocks.{block_takes, weight_of}
 

@@ -16,12 +16,11 @@ use Rattle.vd_host_text.specs.declared.program.Digest.{Digest}
 use Rattle.vd_host_text.specs.declared.program.HostProgram.{HostProgram}
 use Rattle.vd_host_text.specs.Outcome.{digest}
 use Rattle.vd_hostcode.specs.Outcome.{CanRun, IsWithin}
-use Rattle.vd_hostcode.proofs.Outcomes.{can_run}
+use Rattle.vd_hostcode.proofs.Front.{can_run}
 use Rattle.vd_projection.specs.Programs.{host_codes, joint_of}
-use Rattle.vd_projection.proofs.HostCodes.{runnable_over, codes_can_be_loaded}
+use Rattle.vd_projection.proofs.Front.{runnable_over, codes_can_be_loaded}
 use Rattle.vd_projection_files.specs.Stored.{CanBeStored, stored_program}
-use Rattle.vd_projection_files.proofs.Digests.{is_digest}
-use Rattle.vd_projection_files.proofs.Files.{stored_programs_are_read_back}
+use Rattle.vd_projection_files.proofs.Front.{is_digest, stored_programs_are_read_back}
 use Rattle.vd_deal_needs_laws.specs.Needs.{counts}
 use Rattle.vd_deal_needs.specs.declared.taking.HostNeeds.{HostNeeds}
 use Rattle.vd_deal_needs.specs.Needs.{needs_by, needs_of}

@@ -21,15 +21,15 @@ use Rattle.vd_execution_confluence.specs.Claims.{RunsWell}
 use Rattle.vd_machine.specs.Machines.{item_or_none, items_of, list_of, pair_item, triple_item, word_item}
 use Rattle.vd_hostcode.specs.Ranges.{IsWithinRanges}
 use Rattle.vd_deal_needs_laws.specs.Needs.{HasWhatItTakes, counts, takes}
-use Rattle.vd_deal_needs_laws.proofs.Taken.{all_end, enough, least, nobody_short}
+use Rattle.vd_deal_needs_laws.proofs.Front.{all_end, enough, least, nobody_short}
 use Rattle.vd_deal_needs.specs.declared.taking.Shared.{Shared}
 use Rattle.vd_deal_needs.specs.Needs.{shared_by}
 use Rattle.vd_deal_needs.specs.Sizes.{greater, most_of, most_own, nothing}
 use Rattle.vd_backend_laws.specs.Whole.{inputs_of}
 use Rattle.vd_world_report.specs.Supplies.{AreFiles, items_for, lists_for, supply_of_files}
-use Rattle.vd_world_report.proofs.Supplies.{files_are_valid}
+use Rattle.vd_world_report.proofs.Front.{files_are_valid}
 use Rattle.vd_projection.specs.Programs.{joint_of}
-use Rattle.vd_projection.proofs.HostCodes.{codes_run_well, ended_past}
+use Rattle.vd_projection.proofs.Front.{codes_run_well, ended_past}
 use Rattle.vd_deal_needs_programs.specs.Enough.{AreBelow, CanBeSplit, HandInEnough, HasSizes, IsWithinSizes, SizesAreEnough, SizesAreLeast, SuffersNoWant, needs_for, sizes_for}
 use Rattle.vd_deal_needs_programs.proofs.Countable.{code_at, hosts, within}
 use Rattle.vd_deal_needs_programs.proofs.Sizes.{any_there, as_long, counted, joint_code, own_below, own_within, shared_below, shared_within, taken}

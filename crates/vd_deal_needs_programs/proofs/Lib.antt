@@ -1,5 +1,6 @@
-pub mod Countable
-pub mod Strangers
-pub mod Sizes
-pub mod Enough
-pub mod Made
+pub mod Front
+mod Countable
+mod Strangers
+mod Sizes
+mod Enough
+mod Made

@@ -12,15 +12,15 @@ use Rattle.vd_execution.specs.Joint.{Joint, IsTidy, code_of}
 use Rattle.vd_execution.specs.Step.{Source, OwnWords}
 use Rattle.vd_machine.specs.Machines.{item_or_none}
 use Rattle.vd_deal_needs_laws.specs.Needs.{counts, takes}
-use Rattle.vd_deal_needs_laws.proofs.ReadOff.{read_off}
+use Rattle.vd_deal_needs_laws.proofs.Front.{read_off}
 use Rattle.vd_deal_needs.specs.declared.taking.HostNeeds.{HostNeeds}
 use Rattle.vd_deal_needs.specs.declared.taking.Shared.{Shared}
 use Rattle.vd_deal_needs.specs.Counted.{code_in}
 use Rattle.vd_deal_needs.specs.Needs.{needs_by, shared_by}
 use Rattle.vd_deal_needs.specs.Sizes.{greater, most_of, most_own, nothing}
-use Rattle.vd_deal_needs.proofs.Greatest.{above, below, most_above, most_below}
+use Rattle.vd_deal_needs.proofs.Front.{above, below, most_above, most_below}
 use Rattle.vd_projection.specs.Programs.{host_codes, joint_of}
-use Rattle.vd_projection.proofs.HostCodes.{joint_is_tidy}
+use Rattle.vd_projection.proofs.Front.{joint_is_tidy}
 use Rattle.vd_deal_needs_programs.specs.Enough.{CanBeSplit, needs_for}
 use Rattle.vd_deal_needs_programs.proofs.Countable.{code_at, count_codes, counted_code, hosts}
 

@@ -5,13 +5,12 @@ use Rattle.std.proofs.lemmas.Bool.{eqb-true, eqb-false}
 use Rattle.vd_base.specs.Limits.{most_hosts}
 use Rattle.vd_base_codec.specs.Reading.{first, ◌>>=◌, field}
 use Rattle.vd_base_codec.specs.Exact.{IsAnything, IsExact, IsExactWhole, StopsAt}
-use Rattle.vd_base_codec.proofs.Parts.{exact_for}
-use Rattle.vd_base_codec.proofs.Whole.{whole_exact, stops_single}
+use Rattle.vd_base_codec.proofs.Front.{exact_for, whole_exact, stops_single}
 use Rattle.vd_deal_items.specs.declared.deal.Deal.{Deal}
 use Rattle.vd_deal_keys.specs.declared.secrets.Secrets.{Secrets}
 use Rattle.vd_tape.specs.Text.{deal_text, list_text, shares_text, IsDealOf}
 use Rattle.vd_tape.specs.Reading.{deal_at}
-use Rattle.vd_tape.proofs.DealExact.{Fit, fit, is_deal_of, deal_exact}
+use Rattle.vd_tape.proofs.Front.{Fit, fit, is_deal_of, deal_exact}
 use Rattle.vd_deal_versions.specs.declared.dealt.SecretDeal.{SecretDeal}
 use Rattle.vd_deal_versions.specs.declared.dealt.Dealt.{Dealt}
 use Rattle.vd_deal_versions.specs.Text.{front_text, linked_text, secret_text, secret_of, text_by, dealt_text, Fit_by, IsSecretDealOf, IsDealtOf, IsDealtFile, IsDealtText}

@@ -1,8 +1,9 @@
-pub mod DealtExact
+pub mod Front
+mod DealtExact
 mod LinkLoop
 mod LinksExact
 mod LinksWritten
 mod Outcomes
-pub mod PlainExact
+mod PlainExact
 mod SecretExact
 mod Versions

@@ -4,19 +4,17 @@ use Rattle.std.specs.Prelude.{codes}
 use Rattle.std.proofs.lemmas.List.{append-nil}
 use Rattle.vd_base_codec.specs.Reading.{◌>>=◌, byte_at}
 use Rattle.vd_base_codec.specs.Exact.{IsAnything, IsExact}
-use Rattle.vd_base_codec.proofs.Parts.{done_exact, byte_exact, Picks, then_exact, AreEach, head_or, tail, same_cons, exact_as}
+use Rattle.vd_base_codec.proofs.Front.{done_exact, byte_exact, Picks, then_exact, AreEach, head_or, tail, same_cons, exact_as, some_key, key_exact}
 use Rattle.vd_deal_items.specs.declared.items.Triple.{Triple}
 use Rattle.vd_deal_items.specs.declared.items.PairItem.{PairItem}
 use Rattle.vd_deal_items.specs.Validity.{AreTripleWords, ArePairWords, peer_at}
 use Rattle.vd_base_codec.specs.Digits.{IsKey, key_at, key_text}
-use Rattle.vd_base_codec.proofs.Exact.{some_key, key_exact}
 use Rattle.vd_deal_keys.specs.declared.secrets.LinkKey.{LinkKey}
 use Rattle.vd_tape.specs.declared.reading.Share.{Share}
 use Rattle.vd_tape.specs.declared.reading.Shares.{Shares}
 use Rattle.vd_tape.specs.Text.{share_text}
 use Rattle.vd_tape.specs.Reading.{share_at}
-use Rattle.vd_tape.proofs.ShareLoop.{shares_of}
-use Rattle.vd_tape.proofs.SharesExact.{FitsShare, FitsShares, share_of, text_of, none_fits, heading_exact, share_exact, first_share, head_fits, tail_fits, with_one, empty_shares, nil_of}
+use Rattle.vd_tape.proofs.Front.{shares_of, FitsShare, FitsShares, share_of, text_of, none_fits, heading_exact, share_exact, first_share, head_fits, tail_fits, with_one, empty_shares, nil_of}
 use Rattle.vd_deal_versions.specs.declared.reading.Linked.{Linked}
 use Rattle.vd_deal_versions.specs.declared.reading.LinkedShare.{LinkedShare}
 use Rattle.vd_deal_versions.specs.Text.{link_text, linked_text}

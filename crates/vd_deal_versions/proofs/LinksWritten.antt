@@ -7,7 +7,7 @@ use Rattle.vd_deal_items.specs.declared.items.PairItem.{PairItem}
 use Rattle.vd_deal_items.specs.Validity.{peer_at}
 use Rattle.vd_deal_keys.specs.declared.secrets.LinkKey.{LinkKey}
 use Rattle.vd_tape.specs.Text.{share_text}
-use Rattle.vd_tape.proofs.SharesWritten.{from_place}
+use Rattle.vd_tape.proofs.Front.{from_place}
 use Rattle.vd_deal_versions.specs.Text.{link_text, linked_text}
 
 here : (me place : ℕ) (l : LinkKey) (t b : List Triple) (p : List PairItem) (ls : List LinkKey) (ts bs : List (List Triple)) (ps : List (List PairItem))

@@ -3,7 +3,7 @@ use Rattle.std.proofs.Common.{◌≡◌, ℕ, ◌<◌, ◌≤◌, List, length, 
 use Rattle.std.specs.Prelude.{◌↔◌, IfOk, IfErr}
 use Rattle.vd_base_codec.specs.Reading.{capped, to_the_end}
 use Rattle.vd_base_codec.specs.Exact.{IsAnything}
-use Rattle.vd_base_codec.proofs.Whole.{stops_single, left_within}
+use Rattle.vd_base_codec.proofs.Front.{stops_single, left_within}
 use Rattle.vd_base.specs.Limits.{most_hosts}
 use Rattle.vd_deal_versions.specs.declared.dealt.Dealt.{Dealt}
 use Rattle.vd_base.specs.declared.faults.FileFault.{FileFault}

@@ -5,15 +5,12 @@ use Rattle.std.proofs.lemmas.List.{append-nil}
 use Rattle.vd_base.specs.Limits.{most_hosts}
 use Rattle.vd_base_codec.specs.Reading.{◌>>=◌, literal_at, field}
 use Rattle.vd_base_codec.specs.Exact.{IsAnything, IsExact}
-use Rattle.vd_base_codec.proofs.Parts.{done_exact, literal_exact, Picks, then_exact, AreEach, exact_as, exact_for}
+use Rattle.vd_base_codec.proofs.Front.{done_exact, literal_exact, Picks, then_exact, AreEach, exact_as, exact_for, some_key, key_exact}
 use Rattle.vd_base.specs.Words.{IsWord}
 use Rattle.vd_base_codec.specs.Digits.{IsKey, key_at, key_text}
-use Rattle.vd_base_codec.proofs.Exact.{some_key, key_exact}
 use Rattle.vd_tape.specs.Text.{list_text, IsDealOf}
 use Rattle.vd_tape.specs.Reading.{word_at, list_at}
-use Rattle.vd_tape.proofs.ItemsExact.{FitsList}
-use Rattle.vd_tape.proofs.SharesExact.{own_exact, none_fits}
-use Rattle.vd_tape.proofs.DealExact.{Fit, fit, fit_made, is_deal_of}
+use Rattle.vd_tape.proofs.Front.{FitsList, own_exact, none_fits, Fit, fit, fit_made, is_deal_of}
 use Rattle.vd_deal_versions.specs.declared.dealt.SecretDeal.{SecretDeal}
 use Rattle.vd_deal_versions.specs.declared.reading.Linked.{Linked}
 use Rattle.vd_deal_versions.specs.Text.{linked_text, secret_text, AreSecretsOf, IsSecretDealOf}

@@ -7,8 +7,7 @@ use Rattle.std.proofs.lemmas.List.Elements.{All-nil, All-cons}
 use Rattle.vd_space.specs.declared.problem.Problem.{Problem}
 use Rattle.vd_space.specs.declared.problem.Making.{Making}
 use Rattle.vd_space.specs.Validity.{has_candidate, is_valid}
-use Rattle.vd_space.proofs.Candidates.{stands_have}
-use Rattle.vd_space.proofs.Kept.{parts_of}
+use Rattle.vd_space.proofs.Front.{stands_have, parts_of}
 use Rattle.vd_diag_choice.specs.Bare.{HasCandidate}
 
 each_has : (problem : Problem) (makings : List Making) → IsTrue (list_all (has_candidate problem) makings) → All (HasCandidate problem) makings

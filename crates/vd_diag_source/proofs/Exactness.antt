@@ -8,24 +8,21 @@ use Rattle.vd_source_ll1.specs.Grammar.{Ebnf, Spells, Starts}
 use Rattle.vd_source_ll1.specs.Machine.{run}
 use Rattle.vd_source_ll1.specs.Laws.{Taken}
 use Rattle.vd_source_ll1.specs.Trees.{Both}
-use Rattle.vd_source_ll1.proofs.Lawful.{exact, fronts, texts_trees}
+use Rattle.vd_source_ll1.proofs.Front.{exact, fronts, texts_trees}
 use Rattle.vd_core.specs.declared.source.Source.{Source}
 use Rattle.vd_source_lexer.specs.Kinds.{code_of}
 use Rattle.vd_source_lexer.specs.Tokens.{kinds, Lexes}
 use Rattle.vd_source_lexer.specs.declared.token.Token.{Token}
 use Rattle.vd_source_lexer.specs.declared.token.TokenKind.{TokenKind}
 use Rattle.vd_source_lexer.specs.declared.token.TokenKind.TheVariants as kind
-use Rattle.vd_source_lexer.proofs.TokenLaws.{lexes_once}
+use Rattle.vd_source_lexer.proofs.Front.{lexes_once}
 use Rattle.vd_parser.specs.declared.fault.ParseFault.{ParseFault}
 use Rattle.vd_parser.specs.declared.fault.ParseFault.TheVariants as fault
 use Rattle.vd_parser.specs.Language.{Symbol, rule}
 use Rattle.vd_parser.specs.Nesting.{open_behind, NoneTooDeep}
 use Rattle.vd_parser.specs.Whole.{NoEnd}
 use Rattle.vd_parser.specs.Outcomes.{sentence, BeginSource, IsSource, IsUnexpected, IsTooDeep, IsParse}
-use Rattle.vd_parser.proofs.Ready.{F, E, language_ll1}
-use Rattle.vd_parser.proofs.Outcomes.{kinds-append, take_at}
-use Rattle.vd_parser.proofs.OutcomeLaws.{take_front, begins_less}
-use Rattle.vd_parser.proofs.Scan.{is_too_deep, first_deep_from, first_deep, deep_here, deep_step, none_deep, scan_none}
+use Rattle.vd_parser.proofs.Front.{F, E, language_ll1, kinds-append, take_at, take_front, begins_less, is_too_deep, first_deep_from, first_deep, deep_here, deep_step, none_deep, scan_none}
 use Rattle.vd_source_spelling.specs.Spelled.{HasNoEnd, spelled, HasKinds}
 use Rattle.vd_diag_source.specs.Following.{GoesOn, goes_on, through, IsTooLong}
 use Rattle.vd_diag_source.specs.Judging.{judged}

@@ -2,13 +2,12 @@
 use Rattle.std.proofs.Common.{◌≡◌, ℕ, ◌+◌, ◌<◌, ◌≤◌, List, ◌∷◌, ◌++◌, inl, inr, length, take, get_or, Err, sym, ap, ◌∙◌, subst, arith, length-append}
 use Rattle.vd_source_lexer.specs.Tokens.{Lexes, EndsOnce, BadFits, kinds}
 use Rattle.vd_source_lexer.specs.declared.token.Token.{Token}
-use Rattle.vd_source_lexer.proofs.TokenLaws.{lexes_once}
+use Rattle.vd_source_lexer.proofs.Front.{lexes_once}
 use Rattle.vd_parser.specs.Nesting.{NoneTooDeep}
 use Rattle.vd_parser.specs.Whole.{NoEnd}
 use Rattle.vd_parser.specs.Outcomes.{BeginSource, IsUnexpected, IsParse}
 use Rattle.vd_parser.specs.declared.fault.ParseFault.TheVariants as fault
-use Rattle.vd_parser.proofs.Outcomes.{no_end, get_at}
-use Rattle.vd_parser.proofs.OutcomeLaws.{take_front}
+use Rattle.vd_parser.proofs.Front.{no_end, get_at, take_front}
 use Rattle.vd_source_lexer.specs.declared.token.LexFault.{LexFault}
 use Rattle.vd_source_lexer.specs.declared.token.LexFault.TheVariants.{BadByte}
 use Rattle.vd_source_lexer.specs.declared.token.TokenKind.{TokenKind}

@@ -6,7 +6,7 @@ use Rattle.vd_outside.specs.Files.{FilesView, Fetches}
 use Rattle.vd_outside.specs.Sink.{SinkView, WritesAll}
 use Rattle.vd_outside.specs.declared.faults.FetchFault.{FetchFault}
 use Rattle.vd_cmd_plan.specs.declared.status.Status.{Status}
-use Rattle.vd_cmd_plan.proofs.Written.{says}
+use Rattle.vd_cmd_plan.proofs.Front.{says}
 use Rattle.vd_diag.specs.declared.fault.TellFault.{TellFault}
 use Rattle.vd_diag_terminal.specs.Alone.{alone, of_numbered, of_whole, of_word}
 use Rattle.vd_diag_terminal.specs.Files.{reading_of, word_at}

@@ -18,7 +18,7 @@ use Rattle.vd_host_session.specs.Peers.{number_at, peer_at}
 use Rattle.vd_host_session.specs.Plays.{Driven, DrivesAndTells, Meets, Plays, Told}
 use Rattle.vd_host_session.specs.Stages.{AreMet}
 use Rattle.vd_host_session.specs.declared.task.Task.{Task}
-use Rattle.vd_host_session.proofs.Numbers.{later_number}
+use Rattle.vd_host_session.proofs.Front.{later_number}
 use Rattle.vd_distributed_programs.specs.Running.{IsPlayed}
 use Rattle.vd_distributed_example.specs.Instance.{address, fresh_net, greeted_a, greeted_b, greeting_a, handed, later_a, later_b, link_a, link_b, listening_a, machine_a, machine_b, met_a, met_b, output, packet, run_a, run_b}
 

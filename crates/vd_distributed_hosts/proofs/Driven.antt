@@ -10,7 +10,7 @@ use Rattle.vd_execution.specs.Code.{Code, Finished, Then, Send, Recv, Choose, Re
 use Rattle.vd_execution.specs.Registers.{Registers}
 use Rattle.vd_execution.specs.Step.{Source, Inputs, OwnWords, Triples, BitTriples, Pairs, State, Cursors, Need, Nothing, Item, Packet, Unequal, Ended, Deed, Quiet, Said, Heard, Printed as Shows, need, need_of, need_of_action}
 use Rattle.vd_execution.specs.World.{IsPrefixOf}
-use Rattle.vd_execution.proofs.Puts.{same_or_not}
+use Rattle.vd_execution.proofs.Front.{same_or_not}
 use Rattle.vd_machine.specs.declared.lists.Lists.{Lists}
 use Rattle.vd_machine.specs.declared.want.Want.{Want}
 use Rattle.vd_machine.specs.declared.want.Want.TheVariants as want

@@ -7,7 +7,7 @@ use Rattle.vd_execution.specs.World.{IsPrefixOf}
 use Rattle.vd_link.specs.Frames.{frame, frames}
 use Rattle.vd_link.specs.Laws.{ArePackets}
 use Rattle.vd_link.specs.Receiving.{IsBadByte}
-use Rattle.vd_link.proofs.Streams.{packet_same}
+use Rattle.vd_link.proofs.Front.{packet_same}
 
 pub front_trans : {X : Type 0} (xs ys zs : List X) → IsPrefixOf xs ys → IsPrefixOf ys zs → IsPrefixOf xs zs
 front_trans xs ys zs p q = (p.0 ++ q.0, sym (append_assoc xs p.0 q.0) ∙ ap (λ l. l ++ q.0) p.1 ∙ q.1)

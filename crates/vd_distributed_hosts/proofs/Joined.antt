@@ -7,7 +7,7 @@ use Rattle.vd_execution.specs.Joint.{Joint, code_of}
 use Rattle.vd_execution.specs.Step.{Source, Packet, need}
 use Rattle.vd_execution.specs.World.{Supply, IsPrefixOf, or_zeros}
 use Rattle.vd_execution_confluence.specs.Claims.{last_of}
-use Rattle.vd_execution.proofs.Sound.{AreItem}
+use Rattle.vd_execution.proofs.Front.{AreItem}
 use Rattle.vd_reorder_laws.specs.Hastening.{AreHastened}
 use Rattle.vd_machine.specs.declared.lists.Lists.{Lists}
 use Rattle.vd_machine.specs.Kept.{at_start}

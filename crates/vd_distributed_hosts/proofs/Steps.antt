@@ -12,8 +12,8 @@ use Rattle.vd_execution.specs.Code.{Code, Finished, Then, Send, Recv, Choose, Re
 use Rattle.vd_execution.specs.Step.{Source, Inputs, OwnWords, Triples, BitTriples, Pairs, State, Cursors, Need, Nothing, Item, Packet, Unequal, Ended, Deed, Quiet, Said, Heard, Printed as Shows, need, need_of, need_of_action, next, deed, deed_of, deed_of_print, word_printed}
 use Rattle.vd_execution.specs.World.{Local, World, Supply, done, moved_on, IsPrefixOf}
 use Rattle.vd_execution.specs.Joint.{fresh, resting}
-use Rattle.vd_execution.proofs.Puts.{same_or_not, put_same, put_other}
-use Rattle.vd_execution_confluence.proofs.Reached.{done_state}
+use Rattle.vd_execution.proofs.Front.{same_or_not, put_same, put_other}
+use Rattle.vd_execution_confluence.proofs.Front.{done_state}
 use Rattle.vd_machine.specs.declared.lists.Lists.{Lists}
 use Rattle.vd_machine.specs.declared.want.Want.{Want}
 use Rattle.vd_machine.specs.declared.want.Want.TheVariants as want

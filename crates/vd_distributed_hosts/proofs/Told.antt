@@ -7,13 +7,13 @@ use Rattle.vd_execution.specs.Step.{State, Need, Nothing, Item, Packet, Unequal,
 use Rattle.vd_execution.specs.World.{Local, World, Supply, IsPrefixOf, IsWrong, IsShortAt, front, given}
 use Rattle.vd_execution.specs.Joint.{Joint, fresh, resting, at_end}
 use Rattle.vd_execution_confluence.specs.Claims.{RunsWell, Suffices, IsOnTheWay, last_of}
-use Rattle.vd_execution_confluence.proofs.Diamond.{stepped}
+use Rattle.vd_execution_confluence.proofs.Front.{stepped}
 use Rattle.vd_machine.specs.declared.lists.Lists.{Lists}
 use Rattle.vd_engine.specs.Events.{Event, received_from, sent_to, printed}
 use Rattle.vd_reorder_laws.specs.Hastening.{AreHastened}
-use Rattle.vd_reorder_laws.proofs.Hosts.{hastened_never_short}
+use Rattle.vd_reorder_laws.proofs.Front.{hastened_never_short}
 use Rattle.vd_reorder_histories.specs.Hastened.{AreHistoriesFrom, stand_from}
-use Rattle.vd_reorder_histories.proofs.Standing.{ended_whole, on_the_way, reached_from}
+use Rattle.vd_reorder_histories.proofs.Front.{ended_whole, on_the_way, reached_from}
 use Rattle.vd_distributed_hosts.specs.AllHosts.{AreDriven, AreTold, WaitsFor, WaitingHostsHaveEnded}
 use Rattle.vd_distributed_hosts.proofs.Steps.{Trace, traced}
 

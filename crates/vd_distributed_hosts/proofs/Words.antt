@@ -7,7 +7,7 @@ use Rattle.vd_execution.specs.declared.instructions.Action.TheVariants as action
 use Rattle.vd_execution.specs.Code.{Code, Finished, Then, Send, Recv, Choose, Repeat, followed_by}
 use Rattle.vd_execution.specs.Registers.{Registers, put, put_each, written}
 use Rattle.vd_execution.specs.Step.{Source, Inputs, OwnWords, Triples, BitTriples, Pairs, State, Cursors, Nothing, Unequal, Deed, Quiet, Said, Heard, Printed as Shows, need_of, need_of_action, deed_of, deed_of_print, word_printed, words_in, registers_after, pending_after}
-use Rattle.vd_execution.proofs.Sound.{AreItem, put_words, written_words}
+use Rattle.vd_execution.proofs.Front.{AreItem, put_words, written_words}
 use Rattle.vd_machine.specs.declared.lists.Lists.{Lists}
 use Rattle.vd_machine.specs.declared.want.Want.{Want}
 use Rattle.vd_machine.specs.declared.want.Want.TheVariants as want

@@ -34,8 +34,7 @@ use Rattle.vd_host_session.specs.declared.fault.HostFault.{HostFault}
 use Rattle.vd_host_session.specs.declared.fault.HostFault.TheVariants as fault
 use Rattle.vd_host_session.specs.declared.task.Task.{Task}
 use Rattle.vd_distributed_hosts.specs.Linked.{bytes_to_come, bytes_sent}
-use Rattle.vd_distributed_hosts.proofs.Driven.{BothStand, EndsSo, Grown, Made, Ran, WasTold, driven_ran, grown, stand, was_told}
-use Rattle.vd_distributed_hosts.proofs.Fronts.{added, front_both, front_same, front_trans, taken_front}
+use Rattle.vd_distributed_hosts.proofs.Front.{BothStand, EndsSo, Grown, Made, Ran, WasTold, driven_ran, grown, stand, was_told, added, front_both, front_same, front_trans, taken_front}
 use Rattle.vd_distributed_programs.specs.Links.{TellsBytes, Used, bytes_that_came, bytes_that_went, link_to, used_by, used_in, used_or}
 use Rattle.vd_distributed_programs.specs.Running.{text_of}
 

@@ -1,6 +1,7 @@
-pub mod Numbers
+pub mod Front
+mod Numbers
 mod Courses
 mod Printing
 mod Stages
-pub mod Running
+mod Running
 mod Exchanged

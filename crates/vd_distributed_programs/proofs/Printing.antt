@@ -6,7 +6,7 @@ use Rattle.vd_execution.specs.Code.{Code, Finished, Then, Send, Recv, Choose, Re
 use Rattle.vd_execution.specs.Registers.{Registers}
 use Rattle.vd_execution.specs.Step.{Source, State, Deed, Quiet, Said, Heard, Printed as Shows, deed_of, deed_of_print, word_printed}
 use Rattle.vd_execution.specs.World.{or_zeros}
-use Rattle.vd_execution.proofs.Sound.{AreItem}
+use Rattle.vd_execution.proofs.Front.{AreItem}
 use Rattle.vd_machine.specs.declared.lists.Lists.{Lists}
 use Rattle.vd_machine.specs.declared.want.Want.{Want}
 use Rattle.vd_machine.specs.declared.want.Want.TheVariants as want
@@ -16,8 +16,7 @@ use Rattle.vd_base.specs.Words.{AreWords}
 use Rattle.vd_engine.specs.Events.{Event, Reached, AtStart, OneMore, received_in, shown, word_of, printed}
 use Rattle.vd_engine.specs.Hosts.{wants_with, next_with, seen_at}
 use Rattle.vd_distributed_hosts.specs.Linked.{NumbersAreWords}
-use Rattle.vd_distributed_hosts.proofs.Fronts.{flat_both}
-use Rattle.vd_distributed_hosts.proofs.Words.{AreItems, sound_from}
+use Rattle.vd_distributed_hosts.proofs.Front.{flat_both, AreItems, sound_from}
 
 abbrev HoldWords : Registers → Type 0
 HoldWords f = (r : ℕ) → f r < 2 ^ 32

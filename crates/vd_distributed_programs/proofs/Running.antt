@@ -23,19 +23,18 @@ use Rattle.vd_execution.specs.Step.{Source as List_of, Inputs, OwnWords, Triples
 use Rattle.vd_execution.specs.Text.{IsCodeOf, Reading, text}
 use Rattle.vd_execution.specs.World.{Local, Supply, IsPrefixOf, IsShortAt, Tape, followed_by_zeros, or_zeros}
 use Rattle.vd_execution_confluence.specs.Claims.{RunsWell, Suffices, last_of}
-use Rattle.vd_execution.proofs.Puts.{same_or_not}
-use Rattle.vd_execution.proofs.Sound.{AreItem}
+use Rattle.vd_execution.proofs.Front.{same_or_not, AreItem}
 use Rattle.vd_backend_laws.specs.Whole.{RunsAsToldBy, inputs_of}
 use Rattle.vd_machine.specs.Kept.{Kept, at_start, state_of}
 use Rattle.vd_machine.specs.Machines.{item_or_none, items_of}
 use Rattle.vd_machine.specs.declared.lists.Lists.{Lists}
 use Rattle.vd_world_report.specs.Supplies.{items_for, lists_for, supply_of_files}
-use Rattle.vd_world_report.proofs.Supplies.{files_are_valid}
+use Rattle.vd_world_report.proofs.Front.{files_are_valid}
 use Rattle.vd_projection.specs.Programs.{joint_of}
-use Rattle.vd_projection.proofs.HostCodes.{runnable_over, codes_can_be_loaded, codes_run_as_told, codes_run_well, ended_past}
+use Rattle.vd_projection.proofs.Front.{runnable_over, codes_can_be_loaded, codes_run_as_told, codes_run_well, ended_past}
 use Rattle.vd_host_text.specs.declared.program.Digest.{Digest}
 use Rattle.vd_projection_files.specs.Stored.{CanBeStored, stored_program}
-use Rattle.vd_projection_files.proofs.Files.{stored_programs_stand_in_files}
+use Rattle.vd_projection_files.proofs.Front.{stored_programs_stand_in_files}
 use Rattle.vd_link.specs.Frames.{frames, greeting}
 use Rattle.vd_base.specs.Words.{AreWords}
 use Rattle.vd_link.specs.Receiving.{IsBadByte}
@@ -43,8 +42,7 @@ use Rattle.vd_link.specs.Sessions.{Greeting, IsGreetFault, IsLinkFault}
 use Rattle.vd_link.specs.declared.faults.GreetFault.{GreetFault}
 use Rattle.vd_link.specs.declared.faults.GreetFault.TheVariants as greet_fault
 use Rattle.vd_link.specs.declared.faults.LinkFault.TheVariants as link_fault
-use Rattle.vd_link.proofs.GreetingLaws.{no_greet_fault}
-use Rattle.vd_link.proofs.Streams.{no_fault}
+use Rattle.vd_link.proofs.Front.{no_greet_fault, no_fault}
 use Rattle.vd_engine.specs.Drives.{Sessions, lines}
 use Rattle.vd_engine.specs.Events.{AtStart, Event, printed, received_from, sent_to}
 use Rattle.vd_engine.specs.declared.engine.Ended.{Ended}
@@ -56,19 +54,14 @@ use Rattle.vd_host_session.specs.Plays.{Driven, NoRoom, NotAnnounced, NotGiven, 
 use Rattle.vd_host_session.specs.declared.fault.HostFault.{HostFault}
 use Rattle.vd_host_session.specs.declared.fault.HostFault.TheVariants as fault
 use Rattle.vd_host_session.specs.declared.task.Task.{Task}
-use Rattle.vd_host_session.proofs.Numbers.{earlier_number, later_number, less_or_least, number_apart}
+use Rattle.vd_host_session.proofs.Front.{earlier_number, later_number, less_or_least, number_apart}
 use Rattle.vd_reorder_laws.specs.Hastening.{AreHastened, IsHastened}
-use Rattle.vd_reorder_laws.proofs.Hosts.{hastened_never_short}
+use Rattle.vd_reorder_laws.proofs.Front.{hastened_never_short}
 use Rattle.vd_reorder_histories.specs.Hastened.{AreHistoriesFrom, stand_from}
-use Rattle.vd_reorder_histories.proofs.Standing.{reached_from}
+use Rattle.vd_reorder_histories.proofs.Front.{reached_from}
 use Rattle.vd_distributed_hosts.specs.AllHosts.{AreDriven, AreTold, WaitsFor}
-use Rattle.vd_distributed_hosts.proofs.Steps.{Trace}
-use Rattle.vd_distributed_hosts.proofs.Told.{all_traced, waiting_ended}
+use Rattle.vd_distributed_hosts.proofs.Front.{Trace, all_traced, waiting_ended, Made, flat_front, front_both, front_same, front_trans, next_there, packets_front, driven, never_bad, sound, tells, AreItems, AreSound}
 use Rattle.vd_distributed_hosts.specs.Linked.{AreHosts, NumbersAreWords}
-use Rattle.vd_distributed_hosts.proofs.Driven.{Made}
-use Rattle.vd_distributed_hosts.proofs.Fronts.{flat_front, front_both, front_same, front_trans, next_there, packets_front}
-use Rattle.vd_distributed_hosts.proofs.Joined.{driven, never_bad, sound, tells}
-use Rattle.vd_distributed_hosts.proofs.Words.{AreItems, AreSound}
 use Rattle.vd_distributed_programs.specs.Ending.{GoesThrough, RunningHostsEnd}
 use Rattle.vd_distributed_programs.specs.Links.{Used, bytes_that_came, bytes_that_went, link_to, used_by, used_in, used_or}
 use Rattle.vd_distributed_programs.specs.Running.{AreRunOverLinks, BlamesNobody, Run, RunningHostsTellTheSource, WritesUpTo, WritesWhatItIsTold, text_of}

@@ -12,7 +12,7 @@ use Rattle.vd_outside.specs.Sink.{SinkView}
 use Rattle.vd_execution.specs.Code.{Finished}
 use Rattle.vd_execution.specs.Step.{Source, Inputs, OwnWords, Triples, BitTriples, Pairs, State, Cursors, Need, Nothing, Item, Packet, Unequal, Ended as NoNeed, need}
 use Rattle.vd_execution.specs.World.{IsPrefixOf, IsShortAt}
-use Rattle.vd_execution.proofs.Puts.{same_or_not}
+use Rattle.vd_execution.proofs.Front.{same_or_not}
 use Rattle.vd_machine.specs.Kept.{Kept, state_of}
 use Rattle.vd_machine.specs.Machines.{item_or_none, items_of}
 use Rattle.vd_machine.specs.Wants.{count_of, short, want_of}
@@ -37,10 +37,9 @@ use Rattle.vd_host_session.specs.Plays.{Driven, DrivesAndTells, Meets, NoRoom, N
 use Rattle.vd_host_session.specs.declared.fault.HostFault.{HostFault}
 use Rattle.vd_host_session.specs.declared.fault.HostFault.TheVariants as fault
 use Rattle.vd_host_session.specs.declared.task.Task.{Task}
-use Rattle.vd_host_session.proofs.Numbers.{numbers_differ}
+use Rattle.vd_host_session.proofs.Front.{numbers_differ}
 use Rattle.vd_distributed_hosts.specs.Linked.{bytes_sent, bytes_to_come}
-use Rattle.vd_distributed_hosts.proofs.Driven.{BothStand, Grown, WasTold, ended_pending, grown, takes_need, was_told}
-use Rattle.vd_distributed_hosts.proofs.Fronts.{added, front_same}
+use Rattle.vd_distributed_hosts.proofs.Front.{BothStand, Grown, WasTold, ended_pending, grown, takes_need, was_told, added, front_same}
 use Rattle.vd_distributed_programs.specs.Ending.{IsUndisturbed}
 use Rattle.vd_distributed_programs.specs.Links.{TellsBytes, Used, bytes_that_came, bytes_that_went, link_to, used_by, used_in, used_or}
 use Rattle.vd_distributed_programs.specs.Running.{BlamesNobody}

@@ -8,11 +8,8 @@ use Rattle.vd_execution.specs.Step.{Source, Inputs, OwnWords, Triples, BitTriple
 use Rattle.vd_execution.specs.Schedule.{Steps}
 use Rattle.vd_execution.specs.World.{Local, World, Supply, done, given, step, moved_on, or_zeros}
 use Rattle.vd_execution.specs.Joint.{Joint, code_of, started}
-use Rattle.vd_execution.proofs.Puts.{same_or_not, put_same, put_other}
-use Rattle.vd_execution_confluence.proofs.Confluence.{steps_keep}
-use Rattle.vd_execution_confluence.proofs.Diamond.{stepped}
-use Rattle.vd_execution_confluence.proofs.Reached.{done_state}
-use Rattle.vd_execution.proofs.Sound.{AreItem}
+use Rattle.vd_execution.proofs.Front.{same_or_not, put_same, put_other, AreItem}
+use Rattle.vd_execution_confluence.proofs.Front.{steps_keep, stepped, done_state}
 use Rattle.vd_machine.specs.declared.lists.Lists.{Lists}
 use Rattle.vd_machine.specs.declared.want.Want.{Want}
 use Rattle.vd_machine.specs.declared.want.Want.TheVariants as want
@@ -25,8 +22,7 @@ use Rattle.vd_link.specs.Laws.{ArePackets}
 use Rattle.vd_engine.specs.Events.{Event, Reached, AtStart, OneMore, IsHeard, received_in, shown, packet_to, sent_to}
 use Rattle.vd_engine.specs.Hosts.{wants_with, next_with, seen_at}
 use Rattle.vd_distributed_hosts.specs.Linked.{AreOwnHosts}
-use Rattle.vd_distributed_hosts.proofs.Fronts.{flat_both}
-use Rattle.vd_distributed_hosts.proofs.Words.{AreItems, sound_from}
+use Rattle.vd_distributed_hosts.proofs.Front.{flat_both, AreItems, sound_from}
 use Rattle.vd_distributed_progress.proofs.Passing.{of_that_length}
 
 -- ---- items that are there

@@ -6,9 +6,8 @@ use Rattle.vd_execution.specs.Registers.{put}
 use Rattle.vd_execution.specs.Step.{Cursors, Need, Nothing, Item, Packet, Unequal, Ended, Given, of_length, answer, need}
 use Rattle.vd_execution.specs.Schedule.{Steps}
 use Rattle.vd_execution.specs.World.{Local, World, Supply, front, given, step, moved_on, IsPrefixOf}
-use Rattle.vd_execution.proofs.Puts.{same_or_not, put_same, put_other, get_append}
-use Rattle.vd_execution_confluence.proofs.Diamond.{Stepped, stepped}
-use Rattle.vd_execution_confluence.proofs.Reached.{grows_along}
+use Rattle.vd_execution.proofs.Front.{same_or_not, put_same, put_other, get_append}
+use Rattle.vd_execution_confluence.proofs.Front.{Stepped, stepped, grows_along}
 use Rattle.vd_execution_histories.specs.Histories.{GetsFor, Goes, gone, TakesSent, IsLinked}
 
 -- what is answered of an awaited length has that length

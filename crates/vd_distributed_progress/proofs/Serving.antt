@@ -7,9 +7,7 @@ use Rattle.vd_execution.specs.Schedule.{Steps}
 use Rattle.vd_execution.specs.World.{Local, World, Supply, IsPrefixOf, effective, moved_on, run, step}
 use Rattle.vd_execution.specs.Joint.{Joint, at_end, code_of, started}
 use Rattle.vd_execution_confluence.specs.Claims.{Suffices, last_of, order_of}
-use Rattle.vd_execution_confluence.proofs.Compiled.{in_program_order}
-use Rattle.vd_execution_confluence.proofs.Confluence.{run_steps}
-use Rattle.vd_execution_confluence.proofs.Reached.{ended_needs}
+use Rattle.vd_execution_confluence.proofs.Front.{in_program_order, run_steps, ended_needs}
 use Rattle.vd_machine.specs.declared.lists.Lists.{Lists}
 use Rattle.vd_machine.specs.Kept.{at_start}
 use Rattle.vd_machine.specs.Machines.{items_of}
@@ -21,10 +19,8 @@ use Rattle.vd_engine.specs.Enough.{HasCome, HaveCome, IsThere, PacketComes}
 use Rattle.vd_engine.specs.Events.{Event, Reached, received_from}
 use Rattle.vd_engine.specs.Hosts.{wants_with, next_with, seen_at}
 use Rattle.vd_execution_histories.specs.Histories.{GetsFor, Goes, gone, IsLinked, TakesSent}
-use Rattle.vd_distributed_hosts.proofs.Steps.{traced}
+use Rattle.vd_distributed_hosts.proofs.Front.{traced, packets_front, sound_from}
 use Rattle.vd_distributed_hosts.specs.Linked.{AreOwnHosts}
-use Rattle.vd_distributed_hosts.proofs.Fronts.{packets_front}
-use Rattle.vd_distributed_hosts.proofs.Words.{sound_from}
 use Rattle.vd_distributed_progress.specs.Serving.{Brings, IsSentAll, OthersSendEnough}
 use Rattle.vd_distributed_progress.proofs.Passing.{passed}
 use Rattle.vd_distributed_progress.proofs.Driving.{all_driven, items, packets, wants_nothing}

@@ -18,16 +18,15 @@ use Rattle.vd_machine.specs.Machines.{items_of}
 use Rattle.vd_engine.specs.Drives.{Sessions}
 use Rattle.vd_engine.specs.Enough.{IsEnough}
 use Rattle.vd_projection.specs.Programs.{joint_of}
-use Rattle.vd_projection.proofs.HostCodes.{runnable_over, codes_can_be_loaded, codes_run_well, ended_past}
+use Rattle.vd_projection.proofs.Front.{runnable_over, codes_can_be_loaded, codes_run_well, ended_past}
 use Rattle.vd_host_text.specs.declared.program.Digest.{Digest}
 use Rattle.vd_world_report.specs.Supplies.{AreFiles, items_for, lists_for, supply_of_files}
-use Rattle.vd_world_report.proofs.Supplies.{files_are_valid}
+use Rattle.vd_world_report.proofs.Front.{files_are_valid}
 use Rattle.vd_projection_files.specs.Stored.{CanBeStored, stored_program}
-use Rattle.vd_projection_files.proofs.Files.{stored_programs_stand_in_files}
+use Rattle.vd_projection_files.proofs.Front.{stored_programs_stand_in_files}
 use Rattle.vd_distributed_hosts.specs.Linked.{AreOwnHosts, NumbersAreWords}
-use Rattle.vd_distributed_hosts.proofs.Joined.{own_codes}
-use Rattle.vd_distributed_programs.proofs.Numbers.{numbers_small}
-use Rattle.vd_distributed_programs.proofs.Running.{no_items, nothing_dealt}
+use Rattle.vd_distributed_hosts.proofs.Front.{own_codes}
+use Rattle.vd_distributed_programs.proofs.Front.{numbers_small, no_items, nothing_dealt}
 use Rattle.vd_distributed_progress.specs.Serving.{StoredHostsAreServed}
 use Rattle.vd_distributed_progress.proofs.Serving.{others_send_enough}
 

@@ -11,10 +11,9 @@ use Rattle.vd_machine.specs.declared.lists.Lists.{Lists}
 use Rattle.vd_engine.specs.Drives.{Sessions, lines}
 use Rattle.vd_engine.specs.declared.engine.Ended.{Ended}
 use Rattle.vd_engine.specs.declared.fault.EngineFault.{EngineFault}
-use Rattle.vd_distributed_hosts.proofs.Told.{waiting_ended}
+use Rattle.vd_distributed_hosts.proofs.Front.{waiting_ended, linked_hosts_tell_the_same}
 use Rattle.vd_distributed_hosts.specs.Linked.{AreHosts, TakesUpTo, TellTheSame}
-use Rattle.vd_distributed_hosts.proofs.Joined.{linked_hosts_tell_the_same}
-use Rattle.vd_projection_reordered.proofs.Early.{runs_alike}
+use Rattle.vd_projection_reordered.proofs.Front.{runs_alike}
 use Rattle.vd_distributed_reordered.specs.Driven.{AreEarlyHosts, EarlyHostsTellTheSame, EarlyHostsHaveEnded}
 
 -- hosts that are told what alike hosts are told

@@ -10,7 +10,7 @@ use Rattle.vd_base.specs.declared.protocols.Proto.{Proto}
 use Rattle.vd_base.specs.declared.protocols.Proto.TheVariants.{Local, Rep, Commit, Add, Xor}
 use Rattle.vd_base.specs.HostSets.{same_host, host}
 use Rattle.vd_base.specs.Holders.{proto_in, same_protocol}
-use Rattle.vd_base.proofs.Same.{same_is}
+use Rattle.vd_base.proofs.Front.{same_is}
 use Rattle.vd_noninter_assigned.specs.Hearing.{has_clear, is_alone, stands}
 use Rattle.vd_draw_rows.specs.Moves as moves
 use Rattle.vd_draw_laws.specs.Showing.{ToldWordsCome}

@@ -1,4 +1,5 @@
+pub mod Front
 mod Terms
-pub mod Sums
+mod Sums
 mod Taking
 mod Blocks

@@ -30,12 +30,7 @@ use Rattle.vd_space.specs.Sizes.{heft}
 use Rattle.vd_space.specs.Spaces.{IsUse, IsIndex, IsProblem}
 use Rattle.vd_space.specs.Validity.{protocol, move, move_to_host, all_hosts, holds_at, takes_part, is_valid}
 use Rattle.vd_space.specs.Costs.{weigh, operation_value, operation_term, output_term, use_term, index_term, guard_term, plus, moves_to, hosts_at, total, slots_of, guards_total, one_at, pair_at, cost}
-use Rattle.vd_space.proofs.Totals.{total_append, total_map}
-use Rattle.vd_space.proofs.Tests.{item_within, each_both}
-use Rattle.vd_space.proofs.Terms.{HasPair}
-use Rattle.vd_space.proofs.Valued.{indexes_have}
-use Rattle.vd_space.proofs.Weighed.{is_problem}
-use Rattle.vd_space.proofs.Counted.{as_many}
+use Rattle.vd_space.proofs.Front.{total_append, total_map, item_within, each_both, HasPair, indexes_have, is_problem, as_many}
 use Rattle.vd_draw_rows.specs.Moves.{place, is_part, kept_at}
 use Rattle.vd_draw_rows.specs.Costs.{AddUp}
 use Rattle.vd_draw_rows.proofs.Terms.{tell_cost, told_cost, use_cost, output_cost, guard_cost, index_cost, making_cost, made_cost, parts_cost, body_tells}

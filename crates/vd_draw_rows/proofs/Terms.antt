@@ -28,7 +28,7 @@ use Rattle.vd_space.specs.declared.problem.Index.{Index}
 use Rattle.vd_space.specs.Reading.{Parts, Read, no_parts, joined, all_parts, row_of, operands_of, use_of, guard_of, binding_parts, read_step, read_stmt}
 use Rattle.vd_space.specs.Reading as reading
 use Rattle.vd_space.specs.Sizes.{heft}
-use Rattle.vd_space.proofs.Priced.{heft_append}
+use Rattle.vd_space.proofs.Front.{heft_append}
 use Rattle.vd_draw_rows.specs.Moves.{place, move_of, told_if, told_to, index_moves, operation_of, is_part, kept_at}
 use Rattle.vd_draw_rows.specs.Rows.{Drawn, all_rows, all_named, all_told, deeper, binding_row, otherwise_rows, drawn_step, drawn}
 use Rattle.vd_draw_rows.specs.Costs.{move_cost, row_cost, rows_cost}

@@ -12,7 +12,7 @@ use Rattle.vd_execution.specs.Joint.{Hosts}
 use Rattle.vd_execution.specs.Deals.{IsValidDeal}
 use Rattle.vd_execution.specs.Acts.{lines_of, run_act, run_acts, ActsAgree}
 use Rattle.vd_execution.specs.Gadgets.{Gadget, acts_of_gadget, acts_of_gadgets, GadgetsAreTidy, IsSound}
-use Rattle.vd_execution.proofs.Gadgets.{gadgets_sound}
+use Rattle.vd_execution.proofs.Front.{gadgets_sound}
 use Rattle.vd_duet.specs.Builder.{taken}
 use Rattle.vd_duet.specs.Calls.{Places, Made, emitted}
 use Rattle.vd_duet.specs.Laws.{Leads, IsOrderly, IsIn, AreBelow, nowhere}

@@ -1,4 +1,5 @@
+pub mod Front
 mod Rooms
-pub mod Found
-pub mod Writes
-pub mod Leads
+mod Found
+mod Writes
+mod Leads

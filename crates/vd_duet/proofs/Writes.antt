@@ -6,7 +6,7 @@ use Rattle.vd_execution.specs.declared.instructions.Action.TheVariants as action
 use Rattle.vd_execution.specs.Registers.{put}
 use Rattle.vd_execution.specs.Step.{Inputs}
 use Rattle.vd_execution.specs.Joint.{Host, Hosts, after_msg, said_to, has_heard}
-use Rattle.vd_execution.proofs.Puts.{put_same, put_other}
+use Rattle.vd_execution.proofs.Front.{put_same, put_other}
 
 pub record Writes (h r v : ℕ) (w w' : Hosts) : Type 0 where
   pub there : (w' h).registers r ≡ v

@@ -8,7 +8,7 @@ use Rattle.vd_link.specs.Frames.{frame, frames}
 use Rattle.vd_link.specs.Sessions.{IsLinkFault}
 use Rattle.vd_link.specs.declared.faults.LinkFault.{LinkFault}
 use Rattle.vd_link.specs.declared.faults.LinkFault.TheVariants as link_fault
-use Rattle.vd_link.proofs.Streams.{front_same, no_fault}
+use Rattle.vd_link.proofs.Front.{front_same, no_fault}
 use Rattle.vd_engine.specs.Drives.{At, CarriesAll, CarriesAt, CarriesOthers, EndsAt, FailsAt, NoPacket, SessionView, Sessions, TakesFrom, offset_behind}
 use Rattle.vd_engine.specs.Enough.{AreTold, EnoughEndsWell, HasCome, HaveCome, IsThere, NotRisen, PacketComes}
 use Rattle.vd_engine.specs.Events.{Event, received_from}

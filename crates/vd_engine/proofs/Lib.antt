@@ -1,7 +1,8 @@
-pub mod Codes
+pub mod Front
+mod Codes
 mod Composing
 mod Driving
-pub mod Enough
+mod Enough
 mod Going
 mod Turns
 mod WordLines

@@ -8,7 +8,7 @@ use Rattle.vd_machine.specs.Machines.{words_for}
 use Rattle.vd_machine.specs.Quietly.{IsQuiet, QuietSteps, Quietly}
 use Rattle.vd_machine.specs.declared.lists.Lists.{Lists}
 use Rattle.vd_machine.specs.declared.want.Want.{Want}
-use Rattle.vd_machine.proofs.Weights.{step_falls}
+use Rattle.vd_machine.proofs.Front.{step_falls}
 use Rattle.vd_outside.specs.Link.{LinkView}
 use Rattle.vd_outside.specs.Sink.{SinkView}
 use Rattle.vd_engine.specs.Drives.{AreSound, CarriesAll, Writes, sessions_of}

@@ -13,7 +13,7 @@ use Rattle.vd_base.specs.Words.{AreWords}
 use Rattle.vd_link.specs.Sessions.{IsLinkFault, Takes, offset_after}
 use Rattle.vd_link.specs.declared.faults.LinkFault.{LinkFault}
 use Rattle.vd_link.specs.declared.faults.LinkFault.TheVariants as link_fault
-use Rattle.vd_link.proofs.Streams.{length_words}
+use Rattle.vd_link.proofs.Front.{length_words}
 use Rattle.vd_engine.specs.Events.{IsHeard, received_in, shown, Event, Received, Sent, Printed, received_from, sent_to, printed}
 use Rattle.vd_engine.specs.Drives.{SessionView, Sessions, CarriesAt, CarriesAll, CarriesOthers, Breaks, FailsAt, NoPacket, EndsAt, At, Writes, IsDriven, IsSound}
 use Rattle.vd_engine.specs.Turning.{Goes, Hears, HearsOver, IsDone, IsTurn, Says, SaysOver, engine_fault}

@@ -11,8 +11,7 @@ use Rattle.vd_execution.specs.Text.{flat}
 use Rattle.vd_projection.specs.Programs.{joint_of}
 use Rattle.vd_equivocation_pairs.specs.ReadOff.{PairsAreReadOff}
 use Rattle.vd_views_programs.specs.Explained.{IsOfTwo, plan_of}
-use Rattle.vd_views_programs.proofs.Steps.{Static}
-use Rattle.vd_views_programs.proofs.Theorem.{plan_is, static, dealt_zeros}
+use Rattle.vd_views_programs.proofs.Front.{Static, plan_is, static, dealt_zeros}
 use Rattle.vd_equivocation_steps.specs.Claims.{CanBeStepped}
 
 can_be_stepped : PairsAreReadOff → (program : NormalForm) (l : Labels) (protocols : List Proto) → IsOfTwo program l protocols → CanBeStepped (plan_of program protocols)

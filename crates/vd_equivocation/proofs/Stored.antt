@@ -10,7 +10,7 @@ use Rattle.vd_execution.specs.Step.{Source, Inputs, OwnWords, Triples, BitTriple
 use Rattle.vd_machine.specs.Machines.{list_of}
 use Rattle.vd_equivocation_laws.specs.declared.step.Step.{Step}
 use Rattle.vd_views_deals.specs.Files.{AreAsLong, dealt_count}
-use Rattle.vd_views_deals.proofs.Hosts.{Part, file, are_two_files}
+use Rattle.vd_views_deals.proofs.Front.{Part, file, are_two_files}
 use Rattle.vd_equivocation_deals.specs.Excuses.{AreExcused, IsOneOfTwo, both_after}
 use Rattle.vd_equivocation_walk.specs.Claims.{EndsWithin, HasSameShape, HaveSameShape}
 use Rattle.vd_equivocation_walk.specs.Files.{AreOfTwo, IsOneOfTwo as IsOne, file_tape}

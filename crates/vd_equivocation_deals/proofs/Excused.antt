@@ -14,7 +14,7 @@ use Rattle.vd_execution.specs.Joint.{fresh, joint}
 use Rattle.vd_execution.specs.Plans.{joint_of}
 use Rattle.vd_machine.specs.Machines.{word_item, triple_item, pair_item, list_of}
 use Rattle.vd_world_report.specs.Supplies.{AreFiles, items_for}
-use Rattle.vd_world_report.proofs.Supplies.{files_are_valid}
+use Rattle.vd_world_report.proofs.Front.{files_are_valid}
 use Rattle.vd_noninter_registers.specs.Told.{IsDealt}
 use Rattle.vd_views.specs.Contract.{with_inputs, Explains}
 use Rattle.vd_views.specs.Excused.{excused}
@@ -23,11 +23,9 @@ use Rattle.vd_equivocation_laws.specs.Walks.{Both}
 use Rattle.vd_equivocation_laws.specs.Claims.{explained_end}
 use Rattle.vd_views_programs.specs.Explained.{IsOfTwo, plan_of, input_words, AgreeFor}
 use Rattle.vd_views_programs.specs.Lengths.{IsLongEnough}
-use Rattle.vd_views_programs.proofs.Theorem.{others_are_explained}
-use Rattle.vd_views_programs.proofs.Lengths.{excuses_are_as_long}
+use Rattle.vd_views_programs.proofs.Front.{others_are_explained, excuses_are_as_long}
 use Rattle.vd_views_deals.specs.Files.{tape_of, dealt_count, counts_of, AreEnough, AreAsLong, IsExcuse}
-use Rattle.vd_views_deals.proofs.Lists.{past_end}
-use Rattle.vd_views_deals.proofs.Hosts.{Part, file, are_two_files, IsAsLong, read_files, read_part, first_back, second_back, are_files}
+use Rattle.vd_views_deals.proofs.Front.{past_end, Part, file, are_two_files, IsAsLong, read_files, read_part, first_back, second_back, are_files}
 use Rattle.vd_equivocation_deals.specs.Excuses.{both_at_start, both_after, LeadTo, ReachesToo, EndsToo, IsOneOfTwo, AreExcused, ExcusedFilesExplain, excuse_files, ExcusedFilesAreThese}
 
 is_dealt : (inputs : List (List ℕ)) (deals : List Deal) → AreFiles inputs deals → IsDealt inputs (tape_of inputs deals)

@@ -1,3 +1,4 @@
+pub mod Front
 mod Strangers
-pub mod Short
-pub mod Excused
+mod Short
+mod Excused

@@ -12,7 +12,7 @@ use Rattle.vd_execution.specs.Acts.{do_then, ActsAreWithin}
 use Rattle.vd_execution.specs.Gadgets.{BySums, ByXors, Gadget, Alone, Tells, Shares, BothShare, Opens, Masked, Paired, acts_of_gadget, TakesNoPart, GadgetIsTidy}
 use Rattle.vd_execution.specs.Plans.{Plan, Ends, Then, Branch, Loop, joint_of, PlanIsWithin, PlanIsTidy}
 use Rattle.vd_deal_needs_laws.specs.Needs.{source_of, one_of, greater, takes}
-use Rattle.vd_deal_needs_laws.proofs.Taken.{most}
+use Rattle.vd_deal_needs_laws.proofs.Front.{most}
 use Rattle.vd_views.specs.Back.{AreOfTwo}
 
 not_same : (a b : ℕ) → a ≢ b → nat_eq a b ≡ false

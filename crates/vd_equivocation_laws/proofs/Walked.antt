@@ -7,14 +7,11 @@ use Rattle.vd_execution.specs.Joint.{Part, Hosts, is_other, turn_begun, turns, j
 use Rattle.vd_execution.specs.Acts.{run_acts}
 use Rattle.vd_execution.specs.Gadgets.{BySums, ByXors, source_of, Gadget, Alone, Tells, Shares, BothShare, Opens, Masked, Paired, acts_of_gadget}
 use Rattle.vd_execution.specs.Plans.{Plan, Ends, Then, Branch, Loop, joint_of}
-use Rattle.vd_execution.proofs.ActsFirst.{runs_first}
+use Rattle.vd_execution.proofs.Front.{runs_first}
 use Rattle.vd_views.specs.Hiding.{TakenAlike}
 use Rattle.vd_views.specs.Plans.{run_branch, run_turn}
 use Rattle.vd_views.specs.Excused.{with_item, item_again, if_both, turns_again, excused}
-use Rattle.vd_views.proofs.Frames.{acts_grow, acts_frame}
-use Rattle.vd_views.proofs.Joints.{Grows, HasFrame, before, frame_after, turns_grow, turns_frame, branch_grows, branch_frame, joint_grows, joint_frame}
-use Rattle.vd_views.proofs.Changed.{changed_elsewhere}
-use Rattle.vd_views.proofs.Plans.{begun_cursors, run_turn_grows}
+use Rattle.vd_views.proofs.Front.{acts_grow, acts_frame, Grows, HasFrame, before, frame_after, turns_grow, turns_frame, branch_grows, branch_frame, joint_grows, joint_frame, changed_elsewhere, begun_cursors, run_turn_grows}
 use Rattle.vd_equivocation_laws.specs.declared.step.Hidden.{Hidden}
 use Rattle.vd_equivocation_laws.specs.declared.step.Hidden.TheVariants.{Product, Bits, Word}
 use Rattle.vd_equivocation_laws.specs.declared.step.Step.{Step, Hide, Act as ActStep, Branch as BranchStep, Loop as LoopStep}

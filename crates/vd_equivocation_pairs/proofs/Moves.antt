@@ -20,7 +20,7 @@ use Rattle.vd_bits.specs.BitCalls.{computed}
 use Rattle.vd_convert.specs.Convert.{masked_parts, to_xor_made, drawn, finished, to_add_made}
 use Rattle.vd_backend_laws.specs.Moves.{only}
 use Rattle.vd_backend_laws.specs.Parts.{Parts as SlotParts, has_back_end, suite_calls}
-use Rattle.vd_backend_laws.proofs.Standing.{no_back_end}
+use Rattle.vd_backend_laws.proofs.Front.{no_back_end}
 use Rattle.vd_equivocation_pairs.proofs.Rows.{each_append, IsUnpaired, AreReadOff, read_append, all_read}
 use Rattle.vd_equivocation_pairs.proofs.Calls.{AreUnpaired, gates_unpaired}
 

@@ -7,7 +7,7 @@ use Rattle.vd_base.specs.declared.protocols.Proto.TheVariants.{Local}
 use Rattle.vd_core.specs.declared.normal.Right.{Right}
 use Rattle.vd_core.specs.declared.normal.Right.TheVariants.{Lit, Turn, Copy, Apply, Input, Declassify, Endorse, Load, Get}
 use Rattle.vd_execution.specs.Plans.{Ends, Branch, Loop}
-use Rattle.vd_choreography.proofs.Folds.{fold_each}
+use Rattle.vd_choreography.proofs.Front.{fold_each}
 use Rattle.vd_choreography.specs.Block.{block_of, Block, End, Let, NewVar, NewArray, Store, Put, Output, If, For, each}
 use Rattle.vd_choreography.specs.Suite.{hosts_of, picked}
 use Rattle.vd_choreography.specs.Emission.{emitting_at_start, Emitting, Emission, parts_at, delivered, all_moved, right_made, in_turn, stmt_emission, after_loop_registers, loop_registers}

@@ -5,7 +5,7 @@ use Rattle.vd_execution.specs.Joint.{Part, TakesPart}
 use Rattle.vd_execution.specs.Gadgets.{BySums, ByXors, Gadget, Alone, Tells, Shares, BothShare, Opens, Masked, Paired, acts_of_gadget}
 use Rattle.vd_execution.specs.Plans.{Plan, Ends, Then, Branch, Loop, joint_of, PlanIsWithin, PlanIsTidy}
 use Rattle.vd_execution.specs.Text.{flat, each_then}
-use Rattle.vd_execution.proofs.ActsFirst.{flat_first}
+use Rattle.vd_execution.proofs.Front.{flat_first}
 use Rattle.std.specs.Prelude.{◌||◌, Result, IfOk, Ok, Err}
 use Rattle.std.proofs.lemmas.Bool.Decides.{eqb_tells, nat_tests}
 use Rattle.vd_equivocation_pairs.specs.ReadOff.{PlanIsReadOff}

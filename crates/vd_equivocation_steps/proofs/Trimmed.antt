@@ -5,7 +5,7 @@ use Rattle.vd_execution.specs.Joint.{Part, Hosts, is_other, turn_begun, turns, j
 use Rattle.vd_execution.specs.Acts.{run_acts}
 use Rattle.vd_execution.specs.Gadgets.{Gadget, acts_of_gadget}
 use Rattle.vd_execution.specs.Plans.{Plan, Ends, Then, Branch, Loop, joint_of, PlanIsTidy}
-use Rattle.vd_execution.proofs.ActsFirst.{runs_first}
+use Rattle.vd_execution.proofs.Front.{runs_first}
 use Rattle.vd_views.specs.Plans.{run_branch, run_turn}
 use Rattle.vd_views.specs.Excused.{item_again, if_both, turns_again, excused}
 use Rattle.vd_equivocation_laws.specs.Walks.{Both}

@@ -8,8 +8,7 @@ use Rattle.vd_execution.specs.Gadgets.{BySums, ByXors}
 use Rattle.vd_execution.specs.Joint.{Part as HostPart, Hosts, is_other as other, turn_begun, turns}
 use Rattle.vd_execution.specs.Acts.{run_act}
 use Rattle.vd_views.specs.Excused.{if_both}
-use Rattle.vd_views.proofs.Frames.{acts_grow}
-use Rattle.vd_views.proofs.Plans.{begun_cursors}
+use Rattle.vd_views.proofs.Front.{acts_grow, begun_cursors}
 use Rattle.vd_equivocation_laws.specs.declared.step.Operands.{Operands}
 use Rattle.vd_equivocation_laws.specs.declared.step.Part.{Part}
 use Rattle.vd_equivocation_laws.specs.declared.step.Hidden.{Hidden}

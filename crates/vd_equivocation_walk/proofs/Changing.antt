@@ -14,7 +14,7 @@ use Rattle.vd_execution.specs.Joint.{Hosts}
 use Rattle.vd_execution.specs.Registers.{nth}
 use Rattle.vd_views.specs.Excused.{with_item}
 use Rattle.vd_views.specs.Items.{sum_item, xor_item, pair_item, raised}
-use Rattle.vd_views.proofs.Changed.{changed_at, changed_source, changed_place}
+use Rattle.vd_views.proofs.Front.{changed_at, changed_source, changed_place}
 use Rattle.vd_equivocation_laws.specs.declared.step.Operands.{Operands}
 use Rattle.vd_equivocation_laws.specs.declared.step.Part.{Part}
 use Rattle.vd_equivocation_laws.specs.Walks.{Both, word_of as word_made, dealt_word as word_dealt}

@@ -6,7 +6,7 @@ use Rattle.vd_execution.specs.Step.{Source, Cursors}
 use Rattle.vd_execution.specs.World.{Tape}
 use Rattle.vd_execution.specs.Joint.{Hosts}
 use Rattle.vd_views.specs.Excused.{with_item}
-use Rattle.vd_views.proofs.Changed.{changed_host}
+use Rattle.vd_views.proofs.Front.{changed_host}
 use Rattle.std.proofs.lemmas.Bool.Decides.{eqb_tells}
 use Rattle.vd_equivocation_laws.specs.Walks.{Both}
 use Rattle.vd_equivocation_runs.specs.declared.side.Side.{Side}

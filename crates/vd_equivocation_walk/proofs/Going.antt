@@ -7,8 +7,7 @@ use Rattle.vd_execution.specs.Step.{Source, Inputs, OwnWords, Triples, BitTriple
 use Rattle.vd_execution.specs.World.{Tape}
 use Rattle.vd_execution.specs.Joint.{Part, Host, Hosts, supplied, acted as does, turn_begun}
 use Rattle.vd_execution.specs.Acts.{run_act}
-use Rattle.vd_views.proofs.Frames.{acts_grow, itself}
-use Rattle.vd_views.proofs.Plans.{begun_cursors}
+use Rattle.vd_views.proofs.Front.{acts_grow, itself, begun_cursors}
 use Rattle.vd_equivocation_runs.specs.declared.side.Side.{Side}
 use Rattle.vd_equivocation_runs.specs.Sides.{performed}
 use Rattle.vd_equivocation_runs.specs.Runs.{side_at, acted, begun}

@@ -1,6 +1,7 @@
-pub mod Puts
-pub mod Words
-pub mod Digests
-pub mod Sound
-pub mod ActsFirst
-pub mod Gadgets
+pub mod Front
+mod Puts
+mod Words
+mod Digests
+mod Sound
+mod ActsFirst
+mod Gadgets

@@ -7,8 +7,8 @@ use Rattle.vd_execution.specs.Registers.{put}
 use Rattle.vd_execution.specs.Step.{State, Deed, Quiet, Said, Heard, Printed, next, deed}
 use Rattle.vd_execution.specs.Schedule.{HasDiamond}
 use Rattle.vd_execution.specs.World.{Local, World, Supply, done, moved_on, queue, step}
-use Rattle.vd_execution.proofs.Puts.{same_or_not, put_same, put_other}
-use Rattle.vd_execution_confluence.proofs.Diamond.{diamond, stepped}
+use Rattle.vd_execution.proofs.Front.{same_or_not, put_same, put_other}
+use Rattle.vd_execution_confluence.proofs.Front.{diamond, stepped}
 use Rattle.vd_execution_buffers.specs.Room.{has_room, narrow}
 
 -- what a host took only grows

@@ -5,10 +5,7 @@ use Rattle.vd_execution.specs.Step.{deed}
 use Rattle.vd_execution.specs.Schedule.{run_by, IsStuckBy}
 use Rattle.vd_execution.specs.World.{World, Tape, step, endless, AllEnded}
 use Rattle.vd_execution.specs.Joint.{Joint, fresh, joint, started, at_end, code_of, program_order, IsTidy, IsSmooth}
-use Rattle.vd_execution_confluence.proofs.Confluence.{through_run, one_end}
-use Rattle.vd_execution_confluence.proofs.Reached.{ended_stuck}
-use Rattle.vd_execution_confluence.proofs.Reading.{ends_there}
-use Rattle.vd_execution_confluence.proofs.Resting.{same_resting}
+use Rattle.vd_execution_confluence.proofs.Front.{through_run, one_end, ended_stuck, ends_there, same_resting}
 use Rattle.vd_execution_buffers.specs.Room.{has_room, narrow}
 use Rattle.vd_execution_buffers.proofs.Commuting.{commute}
 use Rattle.vd_execution_buffers.proofs.Narrow.{To, from}

@@ -9,12 +9,9 @@ use Rattle.vd_execution.specs.Code.{Code, Then, Send, Recv, Choose, Repeat, foll
 use Rattle.vd_execution.specs.Step.{word_printed, deed_of_print, deed, deed_of}
 use Rattle.vd_execution.specs.World.{Local, World, Supply, Tape, moved_on, endless, step}
 use Rattle.vd_execution.specs.Joint.{Part, hosts_of, TakesPart, Apart, Host, Hosts, Agrees, acted, after_msg, resting}
-use Rattle.vd_execution.proofs.Puts.{same_or_not, put_same, put_other}
-use Rattle.vd_execution_confluence.proofs.Confluence.{Through, through_all}
-use Rattle.vd_execution_confluence.proofs.Parts.{Every}
-use Rattle.vd_execution_confluence.proofs.Diamond.{stepped}
-use Rattle.vd_execution_confluence.proofs.Resting.{local_of, all_taken, resting_put, same_resting}
-use Rattle.vd_execution_confluence.proofs.Resting as old
+use Rattle.vd_execution.proofs.Front.{same_or_not, put_same, put_other}
+use Rattle.vd_execution_confluence.proofs.Front.{Through, through_all, Every, stepped, local_of, all_taken, resting_put, same_resting}
+use Rattle.vd_execution_confluence.proofs.Front as old
 use Rattle.vd_execution_buffers.specs.Room.{has_room, narrow}
 
 -- over links that have room for one packet more than so many

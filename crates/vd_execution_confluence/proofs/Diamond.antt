@@ -6,7 +6,7 @@ use Rattle.vd_execution.specs.Step.{Source, State, Cursors, Need, Nothing, Item,
 use Rattle.vd_execution.specs.Schedule.{HasDiamond}
 use Rattle.vd_execution.specs.World.{Local, World, Supply, front, given, done, moved_on, with_answer, with_host, step, IsPrefixOf}
 use Rattle.vd_execution_confluence.specs.Claims.{Grows}
-use Rattle.vd_execution.proofs.Puts.{same_or_not, put_same, put_other, put_commutes, get_append}
+use Rattle.vd_execution.proofs.Front.{same_or_not, put_same, put_other, put_commutes, get_append}
 
 -- whatever the first is given, the second is given
 pub record Below (g k : Given) : Type 0 where

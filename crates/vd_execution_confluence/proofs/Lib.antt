@@ -1,15 +1,16 @@
-pub mod Confluence
-pub mod Diamond
-pub mod Reached
-pub mod Parts
-pub mod Resting
+pub mod Front
+mod Confluence
+mod Diamond
+mod Reached
+mod Parts
+mod Resting
 mod Order
-pub mod Compiled
-pub mod Reading
-pub mod Picks
+mod Compiled
+mod Reading
+mod Picks
 mod Queues
-pub mod Taking
-pub mod Untouched
+mod Taking
+mod Untouched
 mod Small
 mod Standing
-pub mod Rounds
+mod Rounds

@@ -7,7 +7,7 @@ use Rattle.vd_execution.specs.Registers.{put}
 use Rattle.vd_execution.specs.Code.{Code, Then, Choose, Repeat, followed_by}
 use Rattle.vd_execution.specs.World.{World, Tape}
 use Rattle.vd_execution.specs.Joint.{Part, Joint, Done, Do, Msg, If, For, if_part, code_of, Host, Hosts, acted, after_do, after_msg, is_other, turn_begun, turns, joint, hosts_of, in_turns, program_order, Apart, Within, IsTidy, GuardsAre, AllTurns, Agrees, IsSmooth, resting}
-use Rattle.vd_execution.proofs.Puts.{same_or_not, put_same, put_other}
+use Rattle.vd_execution.proofs.Front.{same_or_not, put_same, put_other}
 use Rattle.vd_execution_confluence.proofs.Parts.{every_map, every_zip, absent_part, parts_at, part_keeps, guards_each, map_part, do_here, do_there, said_here, heard_here, msg_there, absent}
 use Rattle.vd_execution_confluence.proofs.Resting.{local_of, all_taken, resting_put, same_resting, To, on, from, acts, Quietly, branch_quietly, turn_quietly, over_quietly, round, message}
 

@@ -7,7 +7,7 @@ use Rattle.vd_execution.specs.Step.{State, Given, Deed, Quiet, Said, Heard, Prin
 use Rattle.vd_execution.specs.World.{Local, World, Supply, front, given, done, step, run}
 use Rattle.vd_execution.specs.Joint.{Joint, started}
 use Rattle.vd_execution_confluence.specs.Queues.{AllStay, QueuesGo, IsOrderly}
-use Rattle.vd_execution.proofs.Puts.{same_or_not, put_same, put_other}
+use Rattle.vd_execution.proofs.Front.{same_or_not, put_same, put_other}
 use Rattle.vd_execution_confluence.proofs.Confluence.{run_steps, steps_keep}
 use Rattle.vd_execution_confluence.proofs.Diamond.{stepped}
 

@@ -8,7 +8,7 @@ use Rattle.vd_execution.specs.Step.{Source, Inputs, OwnWords, Triples, BitTriple
 use Rattle.vd_execution.specs.Schedule.{Steps}
 use Rattle.vd_execution.specs.World.{Local, World, Supply, given, done, moved_on, with_answer, step, run, effective, IsStuck, IsPrefixOf, AllEnded, IsWrong, HasNoFault, IsShortAt, IsShort, CanStep, or_zeros, followed_by_zeros, endless}
 use Rattle.vd_execution_confluence.specs.Claims.{Grows}
-use Rattle.vd_execution.proofs.Puts.{same_or_not, put_same, put_other}
+use Rattle.vd_execution.proofs.Front.{same_or_not, put_same, put_other}
 use Rattle.vd_execution_confluence.proofs.Confluence.{run_steps, steps_run, steps_keep, steps_more, on_the_way, none_left}
 use Rattle.vd_execution_confluence.proofs.Diamond.{diamond, Below, answer_more, Stepped, stepped, steps_to, prefix_same, moved_grows, front_later}
 

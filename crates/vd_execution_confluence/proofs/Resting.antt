@@ -11,7 +11,7 @@ use Rattle.vd_execution.specs.Code.{Code, Then, Send, Recv, Choose, Repeat, foll
 use Rattle.vd_execution.specs.Step.{Source, State, Cursors, Given, Nothing, Unequal, answer, of_length, need_of_action, word_printed, deed_of_print, next, words_in}
 use Rattle.vd_execution.specs.World.{Local, World, Tape, endless, given, done, with_answer, with_host, step}
 use Rattle.vd_execution.specs.Joint.{Part, hosts_of, TakesPart, Apart, Host, Hosts, Agrees, supplied, acted, with_print, said_to, has_heard, after_msg, resting}
-use Rattle.vd_execution.proofs.Puts.{same_or_not, put_same, put_other}
+use Rattle.vd_execution.proofs.Front.{same_or_not, put_same, put_other}
 use Rattle.vd_execution_confluence.proofs.Confluence.{Through, through_all}
 use Rattle.vd_execution_confluence.proofs.Parts.{Every}
 

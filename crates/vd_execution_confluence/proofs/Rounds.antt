@@ -7,7 +7,7 @@ use Rattle.vd_execution.specs.Code.{Code, Finished, Then, Send, Recv, Choose, Re
 use Rattle.vd_execution.specs.Step.{Cursors, Given, Need, Ended, answer, need, need_of, pending_after, next, deed}
 use Rattle.vd_execution.specs.Schedule.{after}
 use Rattle.vd_execution.specs.World.{Local, World, Supply, EndedFrom, given, step, run, IsStuck, moved_on, left, each_once, rounds, all_rounds}
-use Rattle.vd_execution.proofs.Puts.{same_or_not, put_same, put_other}
+use Rattle.vd_execution.proofs.Front.{same_or_not, put_same, put_other}
 use Rattle.vd_execution_confluence.proofs.Diamond.{stepped}
 use Rattle.vd_execution_confluence.proofs.Reached.{done_state, ended_needs}
 

@@ -5,7 +5,7 @@ use Rattle.vd_execution.specs.declared.instructions.Reg.{Reg}
 use Rattle.vd_execution.specs.declared.instructions.Action.{Action}
 use Rattle.vd_execution.specs.Code.{Code, Finished, Then, Send, Recv, Choose, Repeat}
 use Rattle.vd_execution.specs.Joint.{Part, Joint, Done, Do, Msg, If, For, if_part, code_of, TakesPart, Within}
-use Rattle.vd_execution.proofs.Puts.{same_or_not}
+use Rattle.vd_execution.proofs.Front.{same_or_not}
 use Rattle.vd_execution_confluence.proofs.Parts.{do_here, said_here, heard_here}
 
 abbrev HasCode : ℕ → Joint → Type 0

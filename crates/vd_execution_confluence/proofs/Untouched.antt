@@ -4,7 +4,7 @@ use Rattle.vd_execution.specs.Registers.{put}
 use Rattle.vd_execution.specs.World.{Tape}
 use Rattle.vd_execution.specs.Step.{words_in}
 use Rattle.vd_execution.specs.Joint.{Part, Joint, Done, Do, Msg, If, For, Hosts, acted, after_do, after_msg, said_to, has_heard, is_other, turn_begun, turns, joint, TakesPart, Within, IsTidy}
-use Rattle.vd_execution.proofs.Puts.{put_other}
+use Rattle.vd_execution.proofs.Front.{put_other}
 use Rattle.vd_execution_confluence.proofs.Parts.{absent_part}
 
 turns_keep : (h : ℕ) (turn : ℕ → Hosts → Hosts) → ((i : ℕ) (v : Hosts) → turn i v h ≡ v h) → (n i : ℕ) (w : Hosts) → turns turn n i w h ≡ w h

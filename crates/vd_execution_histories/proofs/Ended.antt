@@ -6,11 +6,8 @@ use Rattle.vd_execution.specs.Schedule.{Steps}
 use Rattle.vd_execution.specs.World.{Local, World, Supply, given, step, run, moved_on}
 use Rattle.vd_execution.specs.Joint.{started, at_end}
 use Rattle.vd_execution_confluence.specs.Claims.{last_of, order_of}
-use Rattle.vd_execution.proofs.Puts.{same_or_not, put_other}
-use Rattle.vd_execution_confluence.proofs.Confluence.{steps_keep}
-use Rattle.vd_execution_confluence.proofs.Diamond.{stepped}
-use Rattle.vd_execution_confluence.proofs.Reached.{twin, remaining, ended_needs}
-use Rattle.vd_execution_confluence.proofs.Compiled.{in_program_order}
+use Rattle.vd_execution.proofs.Front.{same_or_not, put_other}
+use Rattle.vd_execution_confluence.proofs.Front.{steps_keep, stepped, twin, remaining, ended_needs, in_program_order}
 use Rattle.vd_execution_histories.specs.Histories.{EndedHostsAreWhole}
 use Rattle.vd_execution_histories.proofs.Following.{order_ended, reached_by, twin_well}
 

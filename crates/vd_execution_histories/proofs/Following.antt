@@ -8,11 +8,8 @@ use Rattle.vd_execution.specs.Schedule.{Steps, after, counted}
 use Rattle.vd_execution.specs.World.{Local, World, Supply, front, given, step, run, effective, moved_on, AllEnded, IsPrefixOf}
 use Rattle.vd_execution.specs.Joint.{Joint, started, at_end}
 use Rattle.vd_execution_confluence.specs.Claims.{RunsWell, IsOnTheWay, reached, last_of, order_of}
-use Rattle.vd_execution.proofs.Puts.{same_or_not, put_same, put_other, get_append}
-use Rattle.vd_execution_confluence.proofs.Diamond.{Stepped, stepped, steps_to, moved_grows, prefix_same}
-use Rattle.vd_execution_confluence.proofs.Reached.{twin, remaining, ended_needs}
-use Rattle.vd_execution_confluence.proofs.Rounds.{run_both}
-use Rattle.vd_execution_confluence.proofs.Compiled.{in_program_order, on_the_way}
+use Rattle.vd_execution.proofs.Front.{same_or_not, put_same, put_other, get_append}
+use Rattle.vd_execution_confluence.proofs.Front.{Stepped, stepped, steps_to, moved_grows, prefix_same, twin, remaining, ended_needs, run_both, in_program_order, on_the_way}
 use Rattle.vd_execution_histories.specs.Histories.{GetsFor, Gets, Goes, gone, TakesSent, IsLinked, stand, AreHistories}
 
 -- ---- one host

@@ -1,10 +1,11 @@
+pub mod Front
 mod Words
-pub mod Tables
-pub mod Closure
-pub mod Implies
-pub mod Acting
-pub mod FormSteps
+mod Tables
+mod Closure
+mod Implies
+mod Acting
+mod FormSteps
 mod FormTruths
 mod FormNames
-pub mod Antichains
-pub mod Grown
+mod Antichains
+mod Grown

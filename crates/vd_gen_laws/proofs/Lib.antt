@@ -1,3 +1,4 @@
+pub mod Front
 mod Words
 mod Names
 mod Script
@@ -5,6 +6,6 @@ mod Trees
 mod Rules
 mod Lines
 mod Coordinates
-pub mod Sizes
+mod Sizes
 mod Whole
-pub mod Read
+mod Read

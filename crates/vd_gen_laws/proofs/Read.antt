@@ -3,13 +3,12 @@ use Rattle.std.proofs.Common.{◌≡◌, ℕ, ◌+◌, ◌*◌, ◌≤◌, List,
 use Rattle.vd_core.specs.declared.source.Source.{Source}
 use Rattle.vd_core.specs.Facts.{weight_sum}
 use Rattle.vd_anf.specs.Normal.{normal_form}
-use Rattle.vd_anf_wellformed.proofs.Exact.{exact_weights}
-use Rattle.vd_anf_wellformed.proofs.Steps.{passed}
+use Rattle.vd_anf_wellformed.proofs.Front.{exact_weights, passed}
 use Rattle.vd_parser.specs.Outcomes.{IsParse}
 use Rattle.vd_resolve.specs.Rules.{source_check}
 use Rattle.vd_resolve.specs.Sizes.{source_size}
 use Rattle.vd_resolve.specs.Limits.{limits_check, resolution}
-use Rattle.vd_parser.proofs.OutcomeLaws.{parses_once}
+use Rattle.vd_parser.proofs.Front.{parses_once}
 use Rattle.vd_gen.specs.Sizes.{most_coordinates}
 use Rattle.vd_gen.specs.Source.{generated}
 use Rattle.vd_cmd_frontend.specs.Outcomes.{TextOutcomes}

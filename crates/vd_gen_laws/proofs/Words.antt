@@ -12,7 +12,7 @@ use Rattle.vd_source_lexer.specs.declared.token.TokenKind.{TokenKind}
 use Rattle.vd_source_lexer.specs.declared.token.TokenKind.TheVariants as kind
 use Rattle.vd_parser.specs.Syntax.{word_at}
 use Rattle.vd_parser.specs.Nesting.{NoneTooDeep, open_behind}
-use Rattle.vd_parser.proofs.Scan.{is_too_deep, first_deep_from, deep_step, deep_none, none_deep}
+use Rattle.vd_parser.proofs.Front.{is_too_deep, first_deep_from, deep_step, deep_none, none_deep}
 
 -- white space, or a word that is a token: its kind, its first byte, the bytes behind it, and its value
 pub data Part : Type 0 where

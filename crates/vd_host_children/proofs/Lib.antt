@@ -1,6 +1,7 @@
-pub mod Asked
+pub mod Front
+mod Asked
 mod Children
-pub mod Counted
+mod Counted
 mod Outputs
-pub mod Told
-pub mod Waiting
+mod Told
+mod Waiting

@@ -12,7 +12,7 @@ use Rattle.vd_engine.specs.Drives.{session_view, sessions_of}
 use Rattle.vd_engine.specs.Hosts.{PacketsAreWith, stands_in}
 use Rattle.vd_engine.specs.Links.{session_at}
 use Rattle.vd_engine.specs.declared.links.Links.{Links}
-use Rattle.vd_engine.proofs.Codes.{also_with}
+use Rattle.vd_engine.proofs.Front.{also_with}
 use Rattle.vd_host_session.specs.Histories.{HandedBack, Listened, NoSession, OneBack, OneListener, call_status}
 use Rattle.vd_host_session.specs.Peers.{Peer, first_later, number_at, peer_at}
 use Rattle.vd_host_session.specs.Stages.{AreMet, Unheard}

@@ -1,10 +1,11 @@
+pub mod Front
 mod Announced
-pub mod Asking
-pub mod Causes
-pub mod ComingBack
+mod Asking
+mod Causes
+mod ComingBack
 mod Courses
 mod Gathering
 mod Listeners
-pub mod Numbers
-pub mod Others
+mod Numbers
+mod Others
 mod Refusals

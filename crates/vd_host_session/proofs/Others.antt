@@ -3,7 +3,7 @@ use Rattle.std.proofs.Common.{arith, ◌≡◌, ◌≢◌, ◌<◌, ◌≤◌, �
 use Rattle.std.proofs.Math.Nat.{eq-or-lt_of_le}
 use Rattle.vd_execution.specs.Code.{Code}
 use Rattle.vd_engine.specs.Hosts.{PacketsAreWith}
-use Rattle.vd_engine.proofs.Codes.{also_with}
+use Rattle.vd_engine.proofs.Front.{also_with}
 use Rattle.vd_host_session.specs.Meetings.{IsPeerOf}
 use Rattle.vd_host_session.specs.declared.task.Task.{Task}
 use Rattle.vd_host_session.proofs.Numbers.{earlier_number, later_number, less_or_least}

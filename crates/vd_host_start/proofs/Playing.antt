@@ -12,7 +12,7 @@ use Rattle.vd_host_text.specs.declared.program.HostProgram.{HostProgram}
 use Rattle.vd_hostcode.specs.Outcome.{CanRun, IsHeaded, IsOutcome}
 use Rattle.vd_host_session.specs.Meetings.{IsPeerOf}
 use Rattle.vd_host_session.specs.declared.task.Task.{Task}
-use Rattle.vd_host_session.proofs.Others.{others_are_peers}
+use Rattle.vd_host_session.proofs.Front.{others_are_peers}
 use Rattle.vd_host_start.specs.Packets.{AllSpeakWith, IsOther}
 use Rattle.vd_host_start.proofs.Lines.{lines_speak}
 use Rattle.vd_host_start.proofs.Trees.{tree_speaks}

@@ -7,9 +7,7 @@ use Rattle.std.proofs.lemmas.Bool.{and_parts, eqb-true, leb-true, lt-ltb, le-ltb
 use Rattle.vd_base.specs.Lexical.{keywords}
 use Rattle.vd_base_codec.specs.Reading.{first, ◌>>=◌, byte_at, literal_at, field_at, each_at, field}
 use Rattle.vd_base_codec.specs.Exact.{IsBreak, IsAnything, IsExact, IsExactWhole}
-use Rattle.vd_base_codec.proofs.Parts.{done_exact, byte_exact, literal_exact, Picks, then_exact, AreEach, each_exact}
-use Rattle.vd_base_codec.proofs.Numbers.{AtMost, field_exact}
-use Rattle.vd_base_codec.proofs.Whole.{whole_exact}
+use Rattle.vd_base_codec.proofs.Front.{done_exact, byte_exact, literal_exact, Picks, then_exact, AreEach, each_exact, AtMost, field_exact, whole_exact}
 use Rattle.vd_host_text.specs.declared.words.Word.{Word}
 use Rattle.vd_host_text.specs.declared.words.Word.TheVariants as word
 use Rattle.vd_host_text.specs.declared.blocks.Block.{Block}

@@ -6,8 +6,7 @@ use Rattle.std.proofs.lemmas.List.{append-nil}
 use Rattle.vd_base.specs.Names.{is_among}
 use Rattle.vd_base_codec.specs.Reading.{first, Reading, ◌>>=◌, field_at, field}
 use Rattle.vd_base_codec.specs.Exact.{IsBreak, IsExact}
-use Rattle.vd_base_codec.proofs.Numbers.{AtMost, field_exact}
-use Rattle.vd_base_codec.proofs.Loops.{with_front}
+use Rattle.vd_base_codec.proofs.Front.{AtMost, field_exact, with_front}
 use Rattle.vd_host_text.specs.Reading.{starts_with}
 use Rattle.vd_host_text.specs.Heading.{with_byte, one_at, next_name_at, names_at, hosts_at}
 use Rattle.vd_host_text.proofs.Many.{regroup}

@@ -1,3 +1,4 @@
+pub mod Front
 mod WordExact
 mod Many
 mod LinesExact
@@ -9,5 +10,5 @@ mod OpenBlocks
 mod CodeSteps
 mod HostSteps
 mod NamesSteps
-pub mod Programs
+mod Programs
 mod Written

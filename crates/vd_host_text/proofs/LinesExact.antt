@@ -7,7 +7,7 @@ use Rattle.std.proofs.lemmas.List.Concat.{flat_map-cons}
 use Rattle.std.proofs.lemmas.Grind.{flat_map-append}
 use Rattle.vd_base_codec.specs.Reading.{first, Reading, ◌>>=◌, byte_at, each_at, field}
 use Rattle.vd_base_codec.specs.Exact.{IsBreak, IsAnything, IsExact}
-use Rattle.vd_base_codec.proofs.Parts.{done_exact, byte_exact, Picks, later, stopped_first, then_exact, AreEach, break_each, each_exact, exact_as}
+use Rattle.vd_base_codec.proofs.Front.{done_exact, byte_exact, Picks, later, stopped_first, then_exact, AreEach, break_each, each_exact, exact_as}
 use Rattle.vd_host_text.specs.declared.words.Word.{Word}
 use Rattle.vd_host_text.specs.declared.words.Word.TheVariants as word
 use Rattle.vd_host_text.specs.declared.blocks.Block.{Block}

@@ -6,9 +6,7 @@ use Rattle.std.proofs.lemmas.List.Concat.{flat_map-cons}
 use Rattle.std.proofs.lemmas.Bool.{eqb-true}
 use Rattle.vd_base_codec.specs.Reading.{first, Reading, ◌>>=◌, field}
 use Rattle.vd_base_codec.specs.Exact.{IsBreak, IsExact}
-use Rattle.vd_base_codec.proofs.Loops.{with_front}
-use Rattle.vd_base_codec.proofs.Parts.{done_exact, Picks, first_append, later, stopped_first, then_exact, head_or, tail}
-use Rattle.vd_base_codec.proofs.Numbers.{field_exact}
+use Rattle.vd_base_codec.proofs.Front.{with_front, done_exact, Picks, first_append, later, stopped_first, then_exact, head_or, tail, field_exact}
 use Rattle.vd_host_text.specs.Lines.{IsWord}
 use Rattle.vd_host_text.specs.Reading.{number_at, starts_with, many_at}
 

@@ -9,7 +9,7 @@ use Rattle.vd_base.specs.Lexical.{is_letter, is_digit, is_word_byte, is_name, is
 use Rattle.vd_base.specs.Names.{is_among}
 use Rattle.vd_base_codec.specs.Reading.{first, Reading, ◌>>=◌}
 use Rattle.vd_base_codec.specs.Exact.{IsBreak, Spells, Stops, IsExact}
-use Rattle.vd_base_codec.proofs.Parts.{done_exact, byte_exact, Picks, then_exact, first_append, head_or, tail}
+use Rattle.vd_base_codec.proofs.Front.{done_exact, byte_exact, Picks, then_exact, first_append, head_or, tail}
 use Rattle.vd_host_text.specs.Text.{name_field}
 use Rattle.vd_host_text.specs.File.{new_name, AreNew}
 use Rattle.vd_host_text.specs.Reading.{starts_with}

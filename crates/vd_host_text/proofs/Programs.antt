@@ -5,7 +5,7 @@ use Rattle.std.specs.List.{flat_map, AllByRecursion, list_any}
 use Rattle.vd_base.specs.HostSets.{host}
 use Rattle.vd_base_codec.specs.Reading.{Reading, ◌>>=◌, literal_at, field_at, to_the_end}
 use Rattle.vd_base_codec.specs.Exact.{IsAnything, StopsAt, IsTextOf, whole, outcome, IsExactWhole}
-use Rattle.vd_base_codec.proofs.Whole.{stops_single, left_within}
+use Rattle.vd_base_codec.proofs.Front.{stops_single, left_within}
 use Rattle.vd_execution.specs.declared.instructions.Reg.{Reg}
 use Rattle.vd_execution.specs.declared.instructions.Action.TheVariants as action
 use Rattle.vd_execution.specs.declared.instructions.Instr.{Instr}

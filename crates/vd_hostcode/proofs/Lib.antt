@@ -1,5 +1,6 @@
+pub mod Front
 mod Nested
-pub mod Fits
+mod Fits
 mod First
 mod Counting
-pub mod Outcomes
+mod Outcomes

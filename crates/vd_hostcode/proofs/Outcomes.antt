@@ -5,7 +5,7 @@ use Rattle.std.proofs.lemmas.Bool.{cases_lt, cases_order}
 use Rattle.vd_base.specs.declared.ids.HostId.{HostId}
 use Rattle.vd_base_codec.specs.Reading.{capped}
 use Rattle.vd_base_codec.specs.Exact.{StopsAt}
-use Rattle.vd_base_codec.proofs.Whole.{stops_single}
+use Rattle.vd_base_codec.proofs.Front.{stops_single}
 use Rattle.vd_execution.specs.declared.instructions.Instr.{Instr}
 use Rattle.vd_execution.specs.declared.instructions.Instr.TheVariants as instr
 use Rattle.vd_execution.specs.Code.{Code, Finished}
@@ -15,7 +15,7 @@ use Rattle.vd_host_text.specs.Text.{program_text}
 use Rattle.vd_host_text.specs.File.{has_arrays, from_version, IsFile}
 use Rattle.vd_host_text.specs.Heading.{file_read}
 use Rattle.vd_host_text.specs.Outcome.{file_of, program_of, IsHostFile, IsFileOf}
-use Rattle.vd_host_text.proofs.Programs.{follow_grammar, text_is_file}
+use Rattle.vd_host_text.proofs.Front.{follow_grammar, text_is_file}
 use Rattle.vd_hostcode.specs.declared.fault.CodeFault.{CodeFault}
 use Rattle.vd_hostcode.specs.declared.fault.CodeFault.TheVariants.{Text, Range, Memory}
 use Rattle.vd_hostcode.specs.Ranges.{numbers, breaks, open_in, count_in, BreaksFrom, static_steps, most_steps, Breaks, IsFirstBroken, IsWithinRanges, first_broken}

@@ -19,10 +19,10 @@ use Rattle.vd_core.specs.Facts.{IsWellMade}
 use Rattle.vd_core.specs.declared.normal.NormalForm.{NormalForm}
 use Rattle.vd_core.specs.declared.normal.Written.{Written}
 use Rattle.vd_formula.specs.Forms.{formula_of}
-use Rattle.vd_formula.proofs.Implies.{if_so}
+use Rattle.vd_formula.proofs.Front.{if_so}
 use Rattle.vd_formula.specs.TruthTable.{at}
 use Rattle.vd_formula.specs.declared.label.Label.{Label}
-use Rattle.vd_protocol.proofs.Over.{is_over}
+use Rattle.vd_protocol.proofs.Front.{is_over}
 use Rattle.vd_protocol.specs.Authority.{HasHosts, authority_of, label_of, names_of}
 use Rattle.vd_constraints.specs.declared.labels.Labels.{Labels}
 use Rattle.vd_constraints.specs.declared.system.Place.TheVariants.{Block}
@@ -33,22 +33,14 @@ use Rattle.vd_space.specs.declared.problem.Problem.{Problem}
 use Rattle.vd_space.specs.Labelled.{HasLabels, IsLabelled}
 use Rattle.vd_space.specs.Reading.{problem_of}
 use Rattle.vd_space.specs.Validity.{acts_for, covers, guard_told, if_decided, is_told, may_read, move_to_host, protocol, protocols, takes_part}
-use Rattle.vd_space.proofs.Counted.{as_many as as_many_slots}
-use Rattle.vd_space.proofs.Candidates.{listed_at}
-use Rattle.vd_space.proofs.Kept.{IsValid, parts_of}
-use Rattle.vd_space.proofs.Listed.{has_hosts_at}
-use Rattle.vd_space.proofs.Programs.{is_labelled, names_below}
+use Rattle.vd_space.proofs.Front.{as_many as as_many_slots, listed_at, IsValid, parts_of, has_hosts_at, is_labelled, names_below}
 use Rattle.vd_space_optimum.specs.Cheapest.{IsAssignment}
-use Rattle.vd_space_optimum.proofs.Places.{proto_is}
-use Rattle.vd_noninter_laws.proofs.Formulas.{acts_for as acts_at}
-use Rattle.vd_noninter_laws.proofs.Lawful.{false_if}
-use Rattle.vd_noninter_laws.proofs.Same.{same_slots}
+use Rattle.vd_space_optimum.proofs.Front.{proto_is}
+use Rattle.vd_noninter_laws.proofs.Front.{acts_for as acts_at, false_if, same_slots}
 use Rattle.vd_integrity_laws.specs.Trust.{OfEachProgram, against, trusts_host}
-use Rattle.vd_noninter.proofs.Answered.{labels_over}
+use Rattle.vd_noninter.proofs.Front.{labels_over}
 use Rattle.vd_noninter_assigned.specs.Hearing.{takes_part as takes_part_at}
-use Rattle.vd_noninter_assigned.proofs.Places.{takes_is}
-use Rattle.vd_noninter_assigned.proofs.Slots.{label_of_slot, of_host, stand_at}
-use Rattle.vd_noninter_assigned.proofs.Theorem.{own_label}
+use Rattle.vd_noninter_assigned.proofs.Front.{takes_is, label_of_slot, of_host, stand_at, own_label}
 use Rattle.vd_integrity_assigned.specs.Keeping.{is_kept, is_seen, keeps_from, looks_for}
 use Rattle.vd_integrity_assigned.specs.Assigned.{CanBeTold, GuardsAreTold, IsGuarded, IsToldInTrust, WordsAreGuarded}
 use Rattle.vd_integrity_assigned.proofs.Keeping.{authorities_exact}

@@ -7,7 +7,7 @@ use Rattle.vd_base.specs.declared.protocols.Proto.TheVariants.{Local, Rep, Commi
 use Rattle.vd_base.specs.HostSets.{members}
 use Rattle.vd_formula.specs.TruthTable.{TruthTable, at, both_of, either_of, never_of}
 use Rattle.vd_formula.specs.declared.label.Label.{Label}
-use Rattle.vd_formula.proofs.Tables.{at-formula_where}
+use Rattle.vd_formula.proofs.Front.{at-formula_where}
 use Rattle.vd_protocol.specs.Authority.{AreOverSameNames, HasHosts, IsOver, label, label_of, names_of}
 use Rattle.vd_integrity_assigned.specs.Keeping.{AuthoritiesAreExact, IsExact}
 

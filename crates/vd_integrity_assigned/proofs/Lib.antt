@@ -1,2 +1,3 @@
+pub mod Front
 mod Keeping
-pub mod Assigned
+mod Assigned

@@ -9,12 +9,12 @@ use Rattle.vd_execution.specs.Registers.{Registers, digest_of, put, put_each, wo
 use Rattle.vd_execution.specs.Step.{words_in}
 use Rattle.vd_execution.specs.Text.{register}
 use Rattle.vd_execution.specs.World.{Tape}
-use Rattle.vd_execution.proofs.Puts.{put_other, put_same}
-use Rattle.vd_backend_sharing.proofs.Adds.{Adds}
+use Rattle.vd_execution.proofs.Front.{put_other, put_same}
+use Rattle.vd_backend_sharing.proofs.Front.{Adds}
 use Rattle.vd_commit.specs.declared.ends.Held.{Held}
 use Rattle.vd_commit.specs.declared.ends.Seen.{Seen}
 use Rattle.vd_commit.specs.Commit.{eight, revealed, same_each}
-use Rattle.vd_commit.proofs.Rows.{IsRow, digest_count, eight_row, hash_adds, words_alike, words_are}
+use Rattle.vd_commit.proofs.Front.{IsRow, digest_count, eight_row, hash_adds, words_alike, words_are}
 use Rattle.vd_integrity_calls.specs.Departing.{AreStill, RunsGadgets, after_telling}
 use Rattle.vd_integrity_calls.specs.Commitments.{Collide, CommitmentsBind, IsOpened}
 

@@ -16,7 +16,7 @@ use Rattle.vd_execution.specs.Registers.{put}
 use Rattle.vd_execution.specs.World.{Tape}
 use Rattle.vd_duet.specs.Calls.{Made, Places, hosts_of, register_of}
 use Rattle.vd_duet.specs.Laws.{AreBelow, AreKnown, Each, IsHost, IsIn, at_host}
-use Rattle.vd_duet.proofs.Writes.{wrote}
+use Rattle.vd_duet.proofs.Front.{wrote}
 use Rattle.vd_clear.specs.Copies.{adopted, after_first, applied_at, clear_calls, each_made, first_of, kept_by, literal_at, passed, renewed, shown, spread_to}
 use Rattle.vd_integrity_calls.specs.Departing.{AreRight, GivesRight, RunsGadgets}
 use Rattle.vd_integrity_calls.specs.Copies.{AreOperands, CopiesStayRight, IsOperand, IsRenewed, SomeKeeps}

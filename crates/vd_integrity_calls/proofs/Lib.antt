@@ -1,8 +1,9 @@
-pub mod Steps
-pub mod Local
-pub mod Each
-pub mod Shown
-pub mod Copies
+pub mod Front
+mod Steps
+mod Local
+mod Each
+mod Shown
+mod Copies
 mod Commitments
 mod Shares
 mod OneWord

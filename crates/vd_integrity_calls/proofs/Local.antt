@@ -20,8 +20,7 @@ use Rattle.vd_execution.specs.World.{Tape}
 use Rattle.vd_duet.specs.Builder.{next_at, taken}
 use Rattle.vd_duet.specs.Calls.{Made, Places, hosts_of, register_of}
 use Rattle.vd_duet.specs.Laws.{AreBelow, IsHost}
-use Rattle.vd_duet.proofs.Leads.{taken_bounds, taken_known, taken_there}
-use Rattle.vd_duet.proofs.Writes.{wrote}
+use Rattle.vd_duet.proofs.Front.{taken_bounds, taken_known, taken_there, wrote}
 use Rattle.vd_clear.specs.Copies.{operated, passed, with_number, written_by}
 use Rattle.vd_integrity_calls.specs.Departing.{AreRight, AreStill, RunsGadgets, after_telling}
 use Rattle.vd_integrity_calls.proofs.Steps.{Wrote, differ_of, equal_of, heard_word, still_on, still_start, still_written, wrote_own}

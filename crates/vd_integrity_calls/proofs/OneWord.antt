@@ -9,7 +9,7 @@ use Rattle.vd_execution.specs.World.{Tape}
 use Rattle.vd_duet.specs.Builder.{next_at, taken}
 use Rattle.vd_duet.specs.Calls.{Made, Places}
 use Rattle.vd_duet.specs.Laws.{AreKnown, Each}
-use Rattle.vd_duet.proofs.Leads.{taken_bounds, taken_known, taken_there}
+use Rattle.vd_duet.proofs.Front.{taken_bounds, taken_known, taken_there}
 use Rattle.vd_clear.specs.Copies.{each_made, passed}
 use Rattle.vd_integrity_calls.specs.Copies.{OneWordIsRight}
 use Rattle.vd_integrity_calls.specs.Departing.{AreStill, IsRightThen, RunsGadgets, SaysOne, after_telling}

@@ -5,11 +5,11 @@ use Rattle.vd_base.specs.declared.ids.HostId.{HostId}
 use Rattle.vd_execution.specs.Gadgets.{Alone, BothShare, Gadget, Masked, Opens, Paired, Shares, Tells}
 use Rattle.vd_duet.specs.Acting.{ActsWhereItSays, acts_at, acts_in, is_either, is_negation}
 use Rattle.vd_words.specs.AddCalls.{add_calls}
-use Rattle.vd_words.proofs.AddLaws.{add_acts}
+use Rattle.vd_words.proofs.Front.{add_acts}
 use Rattle.vd_circuit.specs.CircuitCalls.{circuit_calls, circuit_serves}
-use Rattle.vd_bits.proofs.BitActs.{circuit_acts}
+use Rattle.vd_bits.proofs.Front.{circuit_acts}
 use Rattle.vd_convert.specs.Convert.{to_add_made, to_xor_made}
-use Rattle.vd_convert.proofs.ConvertActs.{conversions_act}
+use Rattle.vd_convert.proofs.Front.{conversions_act}
 use Rattle.vd_integrity_calls.specs.Shares.{AllSendersKeep, CallsAreKept, ConversionsAreKept, SharesAreKept}
 
 module _ (keeps : ℕ → Bool) where

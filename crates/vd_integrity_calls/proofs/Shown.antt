@@ -8,12 +8,12 @@ use Rattle.vd_execution.specs.declared.instructions.Reg.{Reg}
 use Rattle.vd_execution.specs.Gadgets.{Alone}
 use Rattle.vd_execution.specs.Joint.{Host, Hosts, acted, after_do}
 use Rattle.vd_execution.specs.World.{Tape}
-use Rattle.vd_execution.proofs.Puts.{put_other, put_same}
+use Rattle.vd_execution.proofs.Front.{put_other, put_same}
 use Rattle.vd_duet.specs.Acting.{is_among}
 use Rattle.vd_duet.specs.Builder.{next_at, taken}
 use Rattle.vd_duet.specs.Calls.{Made, Places, hosts_of, register_of}
 use Rattle.vd_duet.specs.Laws.{AreBelow, IsHost}
-use Rattle.vd_duet.proofs.Leads.{taken_bounds, taken_known, taken_there}
+use Rattle.vd_duet.proofs.Front.{taken_bounds, taken_known, taken_there}
 use Rattle.vd_clear.specs.Copies.{adopted, compared, first_register, shown, told}
 use Rattle.vd_integrity_calls.specs.Departing.{AreRight, AreStill, RunsGadgets, after_telling}
 use Rattle.vd_integrity_calls.specs.Copies.{SomeKeeps}

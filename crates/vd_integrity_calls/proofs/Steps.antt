@@ -9,9 +9,8 @@ use Rattle.vd_execution.specs.Gadgets.{Gadget, acts_of_gadgets}
 use Rattle.vd_execution.specs.Joint.{Host, Hosts, after_do, has_heard, said_to}
 use Rattle.vd_execution.specs.Registers.{put}
 use Rattle.vd_execution.specs.World.{Tape}
-use Rattle.vd_execution.proofs.Puts.{put_other, put_same}
-use Rattle.vd_duet.proofs.Leads.{gadgets_append}
-use Rattle.vd_duet.proofs.Writes.{wrote, writes_own}
+use Rattle.vd_execution.proofs.Front.{put_other, put_same}
+use Rattle.vd_duet.proofs.Front.{gadgets_append, wrote, writes_own}
 use Rattle.vd_integrity_calls.specs.Departing.{AreStill, KeepersRunTogether, Runs, RunsGadgets, SendersKeep, after_telling}
 
 pub equal_of : (a b : ℕ) → nat_eq a b ≡ true → a ≡ b

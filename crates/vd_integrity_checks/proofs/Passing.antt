@@ -9,13 +9,13 @@ use Rattle.vd_execution.specs.Joint.{Joint}
 use Rattle.vd_execution.specs.Registers.{Registers, digest_of, nth, put, put_each, put_from, words_from}
 use Rattle.vd_execution.specs.Step.{State, next, words_in}
 use Rattle.vd_execution.specs.Text.{register}
-use Rattle.vd_execution.proofs.Puts.{put_same, put_other}
+use Rattle.vd_execution.proofs.Front.{put_same, put_other}
 use Rattle.vd_duet.specs.Acting.{is_among}
 use Rattle.vd_duet.specs.Builder.{next_at, taken}
 use Rattle.vd_duet.specs.Calls.{Made, Places, hosts_of}
 use Rattle.vd_clear.specs.Copies.{adopted, compared, first_register, shown, told}
 use Rattle.vd_commit.specs.Commit.{eight, same_each}
-use Rattle.vd_commit.proofs.Rows.{IsRow, digest_count, eight_row, said_from, words_alike, words_are}
+use Rattle.vd_commit.proofs.Front.{IsRow, digest_count, eight_row, said_from, words_alike, words_are}
 use Rattle.vd_integrity_checks.specs.Alone.{Goes}
 use Rattle.vd_integrity_checks.specs.Passing.{AllHave, ComparedAreEqual, IsPast, OpenedHasTheDigest, ShownAreEqual, code_for}
 use Rattle.vd_integrity_checks.proofs.Steps.{acted, heard_some, passed}

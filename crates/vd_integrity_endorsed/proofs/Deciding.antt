@@ -10,16 +10,14 @@ use Rattle.vd_semantics.specs.World.{first_word, later_words}
 use Rattle.vd_semantics.specs.ProgramMeaning.{SlotState, word_at, array_at, with_word, in_world, right_word, after_right}
 use Rattle.vd_semantics.specs.Turns.{turns}
 use Rattle.vd_choreography.specs.Block.{Block, End, Let, NewVar, NewArray, Store, Put, Output, If, For, block_of, each}
-use Rattle.vd_choreography.proofs.Folds.{fold_each}
+use Rattle.vd_choreography.proofs.Front.{fold_each}
 use Rattle.vd_noninter_laws.specs.Agreement.{Agree}
 use Rattle.vd_noninter_laws.specs.Flowing.{Knowledge, all_flow, flow_step, only_with, right_flows}
 use Rattle.vd_noninter_laws.specs.Reading.{start, visible_slots}
 use Rattle.vd_noninter_laws.specs.Watching.{nothing, right_downgraded}
-use Rattle.vd_noninter_laws.proofs.Runs.{agree_sym, agree_trans}
-use Rattle.vd_noninter_laws.proofs.Statements.{agree_after_right, agree_array, agree_output, agree_word, only, right_in_step}
+use Rattle.vd_noninter_laws.proofs.Front.{agree_sym, agree_trans, agree_after_right, agree_array, agree_output, agree_word, only, right_in_step}
 use Rattle.vd_integrity_laws.specs.Trust.{OfEachTrust, becomes_trusted, trusts_slot}
-use Rattle.vd_integrity_laws.proofs.Lawful.{knowledge}
-use Rattle.vd_integrity_laws.proofs.Theorem.{trusted_flows}
+use Rattle.vd_integrity_laws.proofs.Front.{knowledge, trusted_flows}
 use Rattle.vd_integrity_endorsed.specs.Endorsed.{Given, Doing, is_given, bound, all_done, given_step}
 use Rattle.vd_integrity_endorsed.specs.Laws.{DecidesWhatIsTrusted}
 use Rattle.vd_integrity_endorsed.proofs.Hiding.{hides, flows, run_of, hidden_still}

@@ -10,10 +10,7 @@ use Rattle.vd_semantics.specs.Turns.{turns}
 use Rattle.vd_choreography.specs.Block.{Block, End, Let, NewVar, NewArray, Store, Put, Output, If, For, each}
 use Rattle.vd_noninter_laws.specs.Agreement.{Agree}
 use Rattle.vd_noninter_laws.specs.Flowing.{Knowledge, only_with, downgrade_flows, right_flows, right_hides, all_flow, all_hide, flow_step}
-use Rattle.vd_noninter_laws.proofs.Lawful.{and_of}
-use Rattle.vd_noninter_laws.proofs.Runs.{agree_refl, agree_trans}
-use Rattle.vd_noninter_laws.proofs.Statements.{never_true}
-use Rattle.vd_noninter_laws.proofs.Steps.{word_put_other, item_put_other, item_set_other, length_set}
+use Rattle.vd_noninter_laws.proofs.Front.{and_of, agree_refl, agree_trans, never_true, word_put_other, item_put_other, item_set_other, length_set}
 use Rattle.vd_integrity_endorsed.specs.Endorsed.{Given, Doing, is_given, bound, all_done, given_step}
 
 module _ (k : Knowledge) where

@@ -1,3 +1,4 @@
-pub mod Hiding
+pub mod Front
+mod Hiding
 mod Own
 mod Deciding

@@ -7,10 +7,10 @@ use Rattle.vd_semantics.specs.ProgramMeaning.{SlotState, Effect, word_at, with_w
 use Rattle.vd_semantics.specs.Turns.{turns}
 use Rattle.vd_core.specs.declared.normal.Stmt.TheOpen.{Stmt-F}
 use Rattle.vd_choreography.specs.Block.{Block, End, Let, NewVar, NewArray, Store, Put, Output, If, For, block_of, each}
-use Rattle.vd_choreography.proofs.Folds.{fold_each}
+use Rattle.vd_choreography.proofs.Front.{fold_each}
 use Rattle.vd_noninter_laws.specs.Reading.{start}
 use Rattle.vd_noninter_laws.specs.Watching.{Watched, Taps, run_of, given_by, words_in_order, words_of_turns, endorsements, no_downgrades, right_downgraded, watched, watched_step}
-use Rattle.vd_noninter_laws.proofs.Walk.{block_run_is}
+use Rattle.vd_noninter_laws.proofs.Front.{block_run_is}
 use Rattle.vd_integrity_endorsed.specs.Endorsed.{Given, Doing, bound, all_done, given_step}
 use Rattle.vd_integrity_endorsed.specs.Laws.{OwnWordsMakeTheRun}
 

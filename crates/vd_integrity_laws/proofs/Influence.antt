@@ -14,8 +14,7 @@ use Rattle.vd_noninter_laws.specs.Flowing.{Knowledge, only_with, right_flows, ri
 use Rattle.vd_noninter_laws.specs.Watching.{nothing}
 use Rattle.vd_noninter_laws.specs.Reading.{SameInputs, endorsed_words, outputs_to}
 use Rattle.vd_noninter_laws.specs.Dependence.{Reach, Closing, all_close}
-use Rattle.vd_noninter_laws.proofs.Lawful.{and_of}
-use Rattle.vd_noninter_laws.proofs.Whole.{outputs_same}
+use Rattle.vd_noninter_laws.proofs.Front.{and_of, outputs_same}
 use Rattle.vd_integrity_laws.specs.Influence.{right_influences, stmt_influences, influences, IsClosed, AreInfluences, cut, AreEnoughToTell}
 use Rattle.vd_integrity_laws.proofs.Vouching.{vouching}
 

@@ -30,7 +30,7 @@ use Rattle.vd_constraints.specs.Scoped.{is_below, right_below, stmt_below, slots
 use Rattle.vd_constraints.specs.Rules.{flows as flow_rules, label, formula, no_authority, host_label, offset_of, written_at, right_rules, right_checks, with_rules, with_checks, with_block, with_optional, written_rules, written_checks, output_rules, output_checks, declassify_rules, endorse_rules, endorse_checks, with_branch, in_order, stmt_step, with_stmt}
 use Rattle.vd_noninter_laws.specs.Reading.{Makes, all_visible, all_hidden, makes_step, makes}
 use Rattle.vd_noninter_laws.specs.Flowing.{Knowledge, only_with, right_flows, right_hides, Flow, all_flow, all_hide, flow_step, flow}
-use Rattle.vd_noninter_laws.proofs.Lawful.{all_front, all_back, Each, each, then_only, and_of, false_if, not_if, member}
+use Rattle.vd_noninter_laws.proofs.Front.{all_front, all_back, Each, each, then_only, and_of, false_if, not_if, member}
 use Rattle.vd_integrity_laws.specs.Trust.{IsTrust}
 use Rattle.vd_integrity_laws.proofs.Vouching.{vouching}
 

@@ -1,5 +1,6 @@
-pub mod Vouching
-pub mod Lawful
-pub mod Theorem
-pub mod Influence
-pub mod Trusted
+pub mod Front
+mod Vouching
+mod Lawful
+mod Theorem
+mod Influence
+mod Trusted

@@ -7,22 +7,16 @@ use Rattle.vd_base.specs.declared.ids.HostId.{HostId}
 use Rattle.vd_core.specs.declared.normal.NormalForm.{NormalForm}
 use Rattle.vd_core.specs.Facts.{seeing, seeing_all, nothing_seen, IsWellMade}
 use Rattle.vd_formula.specs.TruthTable.{TruthTable, ActsFor, is_subset, sets, at, either_of, implies_of}
-use Rattle.vd_formula.proofs.Acting.{acts_trans}
-use Rattle.vd_formula.proofs.Implies.{if_so}
-use Rattle.vd_formula.proofs.Tables.{at-formula_where, at_each_set, subset-refl}
+use Rattle.vd_formula.proofs.Front.{acts_trans, if_so, at-formula_where, at_each_set, subset-refl}
 use Rattle.vd_constraints.specs.declared.system.Place.TheVariants.{Slot, Block}
 use Rattle.vd_constraints.specs.declared.labels.Labels.{Labels}
 use Rattle.vd_constraints.specs.Satisfies.{label_at, no_label, Satisfies}
 use Rattle.vd_constraints.specs.Rules.{at_start, system_of}
-use Rattle.vd_constraints.proofs.InSight.{well_made_scoped}
+use Rattle.vd_constraints.proofs.Front.{well_made_scoped}
 use Rattle.vd_noninter_laws.specs.Flowing.{Knowledge, all_flow, all_hide, flow}
 use Rattle.vd_noninter_laws.specs.Watching.{Showing, nothing}
 use Rattle.vd_noninter_laws.specs.Reading.{visible_slots, all_visible, all_hidden, makes, declassified_words, shown_words, outputs_to}
-use Rattle.vd_noninter_laws.proofs.Formulas.{acts_for, for_acts}
-use Rattle.vd_noninter_laws.proofs.Lawful.{not_if}
-use Rattle.vd_noninter_laws.proofs.Members.{all_apart, all_there, made_once}
-use Rattle.vd_noninter_laws.proofs.Same.{same_principals, same_slots}
-use Rattle.vd_noninter_laws.proofs.Whole.{hidden_silent, outputs_same, words_same, freed_words_same}
+use Rattle.vd_noninter_laws.proofs.Front.{acts_for, for_acts, not_if, all_apart, all_there, made_once, same_principals, same_slots, hidden_silent, outputs_same, words_same, freed_words_same}
 use Rattle.vd_integrity_laws.specs.Trust.{IsTrust, for_formula, against, trusts_slot, trusts_host, becomes_trusted, becomes_readable, blindly, IsSameToTrust, IsKept, IsRobust, IsTransparent}
 use Rattle.vd_integrity_laws.proofs.Lawful.{knowledge, Meets, Lawful, FreesTrusted, VouchesAll, VouchedUnderTrust, body_obeys}
 

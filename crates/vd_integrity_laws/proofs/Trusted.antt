@@ -18,8 +18,7 @@ use Rattle.vd_noninter_laws.specs.Flowing.{Knowledge, only_with, right_flows, ri
 use Rattle.vd_noninter_laws.specs.Watching.{nothing}
 use Rattle.vd_noninter_laws.specs.Dependence.{Reach, Closing, all_close}
 use Rattle.vd_noninter_laws.specs.Reading.{visible_slots}
-use Rattle.vd_noninter_laws.proofs.Formulas.{for_acts}
-use Rattle.vd_noninter_laws.proofs.Lawful.{and_of}
+use Rattle.vd_noninter_laws.proofs.Front.{for_acts, and_of}
 use Rattle.vd_integrity_laws.specs.Influence.{right_influences, stmt_influences, influences, cut, AreInfluences, AreTrusted}
 use Rattle.vd_integrity_laws.specs.Trust.{for_formula, trusts_slot, trusts_host, becomes_trusted}
 use Rattle.vd_integrity_laws.proofs.Vouching.{vouching}

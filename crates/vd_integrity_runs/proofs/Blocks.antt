@@ -25,24 +25,19 @@ use Rattle.vd_choreography.specs.Joint.{Each as EachOf, IsIn, choice}
 use Rattle.vd_choreography.specs.Suite.{Word, Cells, Made, Suite, Laws, picked, hosts_of as hosts_at}
 use Rattle.vd_choreography.specs.Emission.{Emitting, Emitted, Emission, delivered, right_made, if_made, for_made, loop_registers, after_loop_registers}
 use Rattle.vd_choreography.specs.Validity.{Fits, Placed, RightFits, RightPlaced, Reaches, emission_of, turns_at}
-use Rattle.vd_choreography.proofs.Lists.{InRow, front_kept, row_front, row_back, and_left, and_right, or_left, or_right}
-use Rattle.vd_choreography.proofs.Sight.{Use, Binding, Variable, Array, Sees, content, with_use}
-use Rattle.vd_choreography.proofs.Steps.{After, TurnsIn, array_after, let_after, output_after, put_after, store_after, turns_past, unchanging_past, var_after}
-use Rattle.vd_choreography.proofs.Calls.{picked_join}
-use Rattle.vd_choreography.proofs.Rights.{operand_of}
-use Rattle.vd_choreography.proofs.Loops as loops
-use Rattle.vd_choreography.proofs.Blocks.{slots, sees, effect_of, turn_here, turn_later, turns_act, no_slots, both_idle, means}
+use Rattle.vd_choreography.proofs.Front.{InRow, front_kept, row_front, row_back, and_left, and_right, or_left, or_right, Use, Binding, Variable, Array, Sees, content, with_use, After, TurnsIn, array_after, let_after, output_after, put_after, store_after, turns_past, unchanging_past, var_after, picked_join, operand_of, slots, sees, effect_of, turn_here, turn_later, turns_act, no_slots, both_idle, means}
+use Rattle.vd_choreography.proofs.Front as loops
 use Rattle.vd_backend_laws.specs.Machine.{machine}
 use Rattle.vd_backend_laws.specs.Parts.{Parts, suite_calls}
 use Rattle.vd_backend_laws.specs.Suite.{IsOver, Names, suite, AreGiven}
 use Rattle.vd_noninter_laws.specs.Agreement.{Agree}
 use Rattle.vd_noninter_laws.specs.Flowing.{Knowledge, only_with, right_flows}
-use Rattle.vd_noninter_laws.proofs.Runs.{agree_sym, agree_trans}
+use Rattle.vd_noninter_laws.proofs.Front.{agree_sym, agree_trans}
 use Rattle.vd_integrity_calls.specs.Departing.{RunsGadgets}
 use Rattle.vd_integrity_calls.specs.Copies.{IsInClear}
-use Rattle.vd_integrity_calls.proofs.Steps.{gadgets_parts}
+use Rattle.vd_integrity_calls.proofs.Front.{gadgets_parts}
 use Rattle.vd_integrity_endorsed.specs.Endorsed.{Given, Doing, all_done, bound, given_step, is_given}
-use Rattle.vd_integrity_endorsed.proofs.Hiding.{hides, flows, run_of, hidden_still, hidden_runs, hidden_flows}
+use Rattle.vd_integrity_endorsed.proofs.Front.{hides, flows, run_of, hidden_still, hidden_runs, hidden_flows}
 use Rattle.vd_integrity_runs.specs.Runs.{GoThisWay, IsOneWord, RunsBlock, RunsTurns, turn_begun}
 use Rattle.vd_integrity_runs.proofs.Touching.{IsFramed, runs_framed}
 use Rattle.vd_integrity_runs.proofs.Fresh.{Free, IsFresh}

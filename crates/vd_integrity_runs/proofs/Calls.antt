@@ -17,10 +17,7 @@ use Rattle.vd_duet.specs.Laws.{AreBelow, AreKnown, IsHost, NumberFits}
 use Rattle.vd_clear.specs.Copies.{clear_calls, each_made, written_by}
 use Rattle.vd_integrity_calls.specs.Departing.{AreRight, AreStill, GivesRight, RunsGadgets}
 use Rattle.vd_integrity_calls.specs.Copies.{AreOperands, IsInClear, IsOperand, IsRenewed, SomeKeeps}
-use Rattle.vd_integrity_calls.proofs.Copies.{copies_stay_right, each_step}
-use Rattle.vd_integrity_calls.proofs.Local.{written}
-use Rattle.vd_integrity_calls.proofs.Shown.{below_later, right_later}
-use Rattle.vd_integrity_calls.proofs.Steps.{equal_of}
+use Rattle.vd_integrity_calls.proofs.Front.{copies_stay_right, each_step, written, below_later, right_later, equal_of}
 use Rattle.vd_backend_laws.specs.Moves.{moved, only}
 use Rattle.vd_backend_laws.specs.Parts.{back_end, route, turned}
 use Rattle.vd_integrity_runs.proofs.Touching.{IsFramed}

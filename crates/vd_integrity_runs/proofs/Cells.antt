@@ -21,18 +21,13 @@ use Rattle.vd_choreography.specs.Joint.{Each as EachOf}
 use Rattle.vd_choreography.specs.Suite.{Cells, Made, Below, Laws, hosts_of as hosts_at}
 use Rattle.vd_choreography.specs.Emission.{Emitting, delivered}
 use Rattle.vd_choreography.specs.Validity.{Reaches}
-use Rattle.vd_choreography.proofs.Sight.{Binding, Array, Sees, with_use, item_put}
-use Rattle.vd_choreography.proofs.Steps.{other_array, other_word}
-use Rattle.vd_choreography.proofs.Tied.{tied_past}
-use Rattle.vd_choreography.proofs.Calls.{Reached, picked_join, ready_past}
-use Rattle.vd_choreography.proofs.Rights.{index_reached, moved, operand_of}
+use Rattle.vd_choreography.proofs.Front.{Binding, Array, Sees, with_use, item_put, other_array, other_word, tied_past, Reached, picked_join, ready_past, index_reached, moved, operand_of}
 use Rattle.vd_backend_laws.specs.Machine.{machine}
 use Rattle.vd_backend_laws.specs.Parts.{Parts, suite_calls, index_of}
 use Rattle.vd_backend_laws.specs.Suite.{IsOver, Names, cell, suite, AreGiven}
-use Rattle.vd_backend_laws.proofs.Arrays.{index_at}
-use Rattle.vd_backend_laws.proofs.Over.{In, holder_at, holders_apart, host_known, picked_in}
+use Rattle.vd_backend_laws.proofs.Front.{index_at, In, holder_at, holders_apart, host_known, picked_in}
 use Rattle.vd_noninter_laws.specs.Flowing.{Knowledge, only_with}
-use Rattle.vd_noninter_laws.proofs.Statements.{only}
+use Rattle.vd_noninter_laws.proofs.Front.{only}
 use Rattle.vd_integrity_calls.specs.Departing.{AreRight, RunsGadgets}
 use Rattle.vd_integrity_calls.specs.Copies.{IsInClear}
 use Rattle.vd_integrity_endorsed.specs.Endorsed.{Doing, bound, given_step}

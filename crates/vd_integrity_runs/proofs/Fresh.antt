@@ -17,7 +17,7 @@ use Rattle.vd_duet.specs.Acting.{is_among}
 use Rattle.vd_duet.specs.Builder.{next_at, taken}
 use Rattle.vd_duet.specs.Calls.{Made, Places, hosts_of, register_of}
 use Rattle.vd_duet.specs.Laws.{AreKnown, Each}
-use Rattle.vd_duet.proofs.Leads.{taken_bounds, taken_known}
+use Rattle.vd_duet.proofs.Front.{taken_bounds, taken_known}
 use Rattle.vd_clear.specs.Copies.{adopted, applied_at, compared, each_made, first_register, kept_by, literal_at, operated, passed, shown, told, with_number, written_by}
 use Rattle.vd_integrity_calls.specs.Copies.{IsInClear}
 use Rattle.vd_backend_laws.specs.Moves.{moved, only}

@@ -20,19 +20,17 @@ use Rattle.vd_choreography.specs.Joint.{Each as EachOf}
 use Rattle.vd_choreography.specs.Suite.{Word, Ready, Operand}
 use Rattle.vd_choreography.specs.Emission.{Emission, delivered}
 use Rattle.vd_choreography.specs.Validity.{Fits, Placed, RightFits, RightPlaced, emission_of}
-use Rattle.vd_choreography.proofs.Lists.{or_left, or_right}
-use Rattle.vd_choreography.proofs.Calls.{Between, between_of, ready_past, operand_past}
+use Rattle.vd_choreography.proofs.Front.{or_left, or_right, Between, between_of, ready_past, operand_past}
 use Rattle.vd_backend_laws.specs.Parts.{Parts, suite_calls}
 use Rattle.vd_backend_laws.specs.Suite.{IsOver, suite, AreGiven}
-use Rattle.vd_backend_laws.proofs.Over.{holder_at, host_known}
-use Rattle.vd_backend_laws.proofs.SuiteLaws.{input_stands}
-use Rattle.vd_noninter_registers.proofs.Takers.{below}
+use Rattle.vd_backend_laws.proofs.Front.{holder_at, host_known, input_stands}
+use Rattle.vd_noninter_registers.proofs.Front.{below}
 use Rattle.vd_noninter_laws.specs.Flowing.{Knowledge, right_hides}
-use Rattle.vd_noninter_laws.proofs.Lawful.{and_of, not_if}
+use Rattle.vd_noninter_laws.proofs.Front.{and_of, not_if}
 use Rattle.vd_integrity_calls.specs.Departing.{RunsGadgets}
 use Rattle.vd_integrity_calls.specs.Copies.{IsInClear, IsOperand}
-use Rattle.vd_integrity_calls.proofs.Steps.{gadgets_parts}
-use Rattle.vd_integrity_endorsed.proofs.Hiding.{hides}
+use Rattle.vd_integrity_calls.proofs.Front.{gadgets_parts}
+use Rattle.vd_integrity_endorsed.proofs.Front.{hides}
 use Rattle.vd_integrity_runs.specs.Runs.{GoThisWay}
 use Rattle.vd_integrity_runs.proofs.Touching.{runs_framed}
 use Rattle.vd_integrity_runs.proofs.Fresh.{Free, IsFresh, fresh_none, fresh_on, moved_fresh}

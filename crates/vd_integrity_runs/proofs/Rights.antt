@@ -15,25 +15,21 @@ use Rattle.vd_execution.specs.Gadgets.{Gadget}
 use Rattle.vd_execution.specs.Joint.{Hosts}
 use Rattle.vd_execution.specs.World.{Tape}
 use Rattle.vd_execution.specs.Deals.{IsValidDeal}
-use Rattle.vd_execution.proofs.Words.{operation_word}
+use Rattle.vd_execution.proofs.Front.{operation_word}
 use Rattle.vd_duet.specs.Laws.{AreKnown, Each}
 use Rattle.vd_choreography.specs.Joint.{Each as EachOf}
 use Rattle.vd_choreography.specs.Suite.{Word, Made, Gives, Ready, Laws}
 use Rattle.vd_choreography.specs.Emission.{Emitting, all_moved, right_made}
 use Rattle.vd_choreography.specs.Validity.{RightFits, RightPlaced}
-use Rattle.vd_choreography.proofs.Sight.{Binding, Variable, Sees}
-use Rattle.vd_choreography.proofs.Calls.{Between, between_of, ready_past, Movable, all_past}
-use Rattle.vd_choreography.proofs.Rights.{movables, operand_of_variable as tied_variable}
+use Rattle.vd_choreography.proofs.Front.{Binding, Variable, Sees, Between, between_of, ready_past, Movable, all_past, movables, operand_of_variable as tied_variable}
 use Rattle.vd_backend_laws.specs.Parts.{Parts, suite_calls}
 use Rattle.vd_backend_laws.specs.Suite.{IsOver, suite, AreGiven}
-use Rattle.vd_backend_laws.proofs.Over.{holder_at, host_known}
-use Rattle.vd_backend_laws.proofs.Standing.{all_below, cells_of, in_names}
-use Rattle.vd_backend_laws.proofs.SuiteLaws.{suite_laws}
+use Rattle.vd_backend_laws.proofs.Front.{holder_at, host_known, all_below, cells_of, in_names, suite_laws}
 use Rattle.vd_noninter_laws.specs.Flowing.{Knowledge, only_with, right_flows}
-use Rattle.vd_noninter_laws.proofs.Statements.{only}
+use Rattle.vd_noninter_laws.proofs.Front.{only}
 use Rattle.vd_integrity_calls.specs.Departing.{AreRight, RunsGadgets}
 use Rattle.vd_integrity_calls.specs.Copies.{AreOperands, IsInClear, IsOperand}
-use Rattle.vd_integrity_calls.proofs.Steps.{gadgets_parts}
+use Rattle.vd_integrity_calls.proofs.Front.{gadgets_parts}
 use Rattle.vd_integrity_endorsed.specs.Endorsed.{is_given}
 use Rattle.vd_integrity_runs.proofs.Touching.{IsFramed, runs_framed}
 use Rattle.vd_integrity_runs.proofs.Fresh.{Free, IsFresh, fresh_none, fresh_on, known_later, literal_fresh, keep_fresh, apply_fresh, turn_fresh, moved_fresh}

@@ -22,7 +22,7 @@ use Rattle.vd_execution.specs.Registers.{put, nth}
 use Rattle.vd_execution.specs.Step.{Inputs}
 use Rattle.vd_execution.specs.World.{Tape}
 use Rattle.vd_execution.specs.Deals.{IsValidDeal}
-use Rattle.vd_execution.proofs.Puts.{put_other, put_same}
+use Rattle.vd_execution.proofs.Front.{put_other, put_same}
 use Rattle.vd_duet.specs.Builder.{next_at}
 use Rattle.vd_duet.specs.Calls.{Calls, Places, hosts_of, register_of}
 use Rattle.vd_duet.specs.Laws.{AreKnown, IsHost, IsIn}
@@ -30,19 +30,15 @@ use Rattle.vd_clear.specs.Copies.{renewed}
 use Rattle.vd_choreography.specs.Suite.{Made}
 use Rattle.vd_choreography.specs.Emission.{Emitting, and_on, right_made}
 use Rattle.vd_choreography.specs.Validity.{RightFits, RightPlaced}
-use Rattle.vd_choreography.proofs.Sight.{Use, Binding, Variable, Array, Sees, content, with_use, item_put}
-use Rattle.vd_choreography.proofs.Steps.{other_word}
-use Rattle.vd_choreography.proofs.Rights.{moved}
+use Rattle.vd_choreography.proofs.Front.{Use, Binding, Variable, Array, Sees, content, with_use, item_put, other_word, moved}
 use Rattle.vd_backend_laws.specs.Parts.{Parts, back_end, suite_calls}
 use Rattle.vd_backend_laws.specs.Suite.{IsOver, Names, suite, AreGiven}
-use Rattle.vd_backend_laws.proofs.Standing.{in_names}
+use Rattle.vd_backend_laws.proofs.Front.{in_names}
 use Rattle.vd_noninter_laws.specs.Flowing.{Knowledge, only_with, right_flows}
-use Rattle.vd_noninter_laws.proofs.Statements.{only}
-use Rattle.vd_noninter_laws.proofs.Steps.{item_set_other, later_at}
+use Rattle.vd_noninter_laws.proofs.Front.{only, item_set_other, later_at}
 use Rattle.vd_integrity_calls.specs.Departing.{AreRight, RunsGadgets}
 use Rattle.vd_integrity_calls.specs.Copies.{IsInClear, IsOperand}
-use Rattle.vd_integrity_calls.proofs.Shown.{below_later}
-use Rattle.vd_integrity_calls.proofs.Steps.{gadgets_parts}
+use Rattle.vd_integrity_calls.proofs.Front.{below_later, gadgets_parts}
 use Rattle.vd_integrity_endorsed.specs.Endorsed.{Given, Doing, bound, given_step, is_given}
 use Rattle.vd_integrity_runs.specs.Runs.{IsOneWord}
 use Rattle.vd_integrity_runs.proofs.Touching.{AllTouch, IsFramed, runs_framed}

@@ -14,7 +14,7 @@ use Rattle.vd_constraints.specs.declared.labels.Labels.{Labels}
 use Rattle.vd_constraints.specs.Rules.{system_of}
 use Rattle.vd_constraints.specs.Satisfies.{Satisfies}
 use Rattle.vd_constraints.specs.Scoped.{stmt_below}
-use Rattle.vd_constraints.proofs.InSight.{well_made_scoped}
+use Rattle.vd_constraints.proofs.Front.{well_made_scoped}
 use Rattle.vd_space.specs.Reading.{problem_of}
 use Rattle.vd_execution.specs.Joint.{Hosts, fresh}
 use Rattle.vd_execution.specs.World.{Tape}
@@ -23,34 +23,30 @@ use Rattle.vd_choreography.specs.Emission.{Emission, Emitting, emitting_at_start
 use Rattle.vd_choreography.specs.Validity.{emission_of}
 use Rattle.vd_core.specs.Numbers.{NumbersFit}
 use Rattle.vd_choreography.specs.Outcome.{Starts}
-use Rattle.vd_choreography.proofs.Folds.{fold_each}
-use Rattle.vd_choreography.proofs.Lists.{InRow, row_of}
-use Rattle.vd_choreography.proofs.Sight.{Use, Binding, Variable, Array, Sees}
-use Rattle.vd_choreography.proofs.Blocks.{slots, sees}
+use Rattle.vd_choreography.proofs.Front.{fold_each, InRow, row_of, Use, Binding, Variable, Array, Sees, slots, sees}
 use Rattle.vd_semantics.specs.ProgramMeaning.{word_at}
 use Rattle.vd_backend_laws.specs.Machine.{machine}
 use Rattle.vd_backend_laws.specs.Parts.{suite_calls}
 use Rattle.vd_backend_laws.specs.Suite.{suite}
 use Rattle.vd_backend_laws.specs.Whole.{inputs_of, CanRun}
-use Rattle.vd_backend_laws.proofs.TwoHosts.{has_member}
+use Rattle.vd_backend_laws.proofs.Front.{has_member}
 use Rattle.vd_choreography_validity.specs.Assignments.{IsChosen}
-use Rattle.vd_choreography_validity.proofs.Chosen.{can_run}
+use Rattle.vd_choreography_validity.proofs.Front.{can_run}
 use Rattle.vd_noninter_laws.specs.Flowing.{Knowledge, all_flow, flow_step}
 use Rattle.vd_noninter_laws.specs.Reading.{start, visible_slots}
 use Rattle.vd_noninter_laws.specs.Watching.{nothing}
-use Rattle.vd_noninter_laws.proofs.Members.{times, body_splits}
+use Rattle.vd_noninter_laws.proofs.Front.{times, body_splits}
 use Rattle.vd_integrity_laws.specs.Trust.{OfEachProgram, against, becomes_trusted, trusts_slot}
-use Rattle.vd_integrity_laws.proofs.Lawful.{knowledge}
-use Rattle.vd_integrity_laws.proofs.Theorem.{against_is_trust, trusted_flows}
+use Rattle.vd_integrity_laws.proofs.Front.{knowledge, against_is_trust, trusted_flows}
 use Rattle.vd_space_optimum.specs.Cheapest.{IsAssignment}
 use Rattle.vd_integrity_assigned.specs.Keeping.{is_kept}
-use Rattle.vd_integrity_assigned.proofs.Assigned.{words_guarded}
+use Rattle.vd_integrity_assigned.proofs.Front.{words_guarded}
 use Rattle.vd_noninter_registers.specs.Told.{IsDealt}
-use Rattle.vd_noninter_registers.proofs.Fits.{all_fit, no_turns, tied_at_start}
+use Rattle.vd_noninter_registers.proofs.Front.{all_fit, no_turns, tied_at_start}
 use Rattle.vd_integrity_calls.specs.Copies.{IsInClear}
 use Rattle.vd_integrity_calls.specs.Departing.{AreRight}
 use Rattle.vd_integrity_endorsed.specs.Endorsed.{Doing, Given, all_done, given_step}
-use Rattle.vd_integrity_endorsed.proofs.Hiding.{run_of}
+use Rattle.vd_integrity_endorsed.proofs.Front.{run_of}
 use Rattle.vd_integrity_runs.specs.Trusted.{Begins, FrontsAreExplained, IsExplained, IsExplainedSoFar, RunsAreExplained, RunsIntoAttack, RunsWithAttackers, StandInClear, parts_at_end}
 use Rattle.vd_integrity_runs.proofs.Calls.{IsKeptAt}
 use Rattle.vd_integrity_runs.proofs.Statements.{given}

@@ -10,7 +10,7 @@ use Rattle.vd_execution.specs.Joint.{Host, Hosts, acted, after_do, has_heard, sa
 use Rattle.vd_execution.specs.Registers.{Registers, put, put_each, zeroed}
 use Rattle.vd_execution.specs.Step.{Source, Inputs, Cursors, Nothing, Unequal, advanced}
 use Rattle.vd_execution.specs.World.{Tape}
-use Rattle.vd_execution.proofs.Puts.{put_other, put_same}
+use Rattle.vd_execution.proofs.Front.{put_other, put_same}
 use Rattle.vd_duet.specs.Laws.{Each}
 use Rattle.vd_integrity_calls.specs.Departing.{RunsGadgets, after_telling}
 

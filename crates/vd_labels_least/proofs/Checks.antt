@@ -1,14 +1,13 @@
 -- The checks at the least solution of the rules.
 use Rattle.std.proofs.Common.{ℕ}
 use Rattle.std.specs.Prelude.{All}
-use Rattle.vd_formula.proofs.Acting.{acts_trans}
+use Rattle.vd_formula.proofs.Front.{acts_trans}
 use Rattle.vd_constraints.specs.declared.system.Check.{Check}
 use Rattle.vd_constraints.specs.declared.labels.Labels.{Labels}
 use Rattle.vd_constraints.specs.Systems.{Constraints, IsCheckOf, IsSystem}
 use Rattle.vd_constraints.specs.Satisfies.{formula_at, HoldsCheck, Satisfies, IsLeastSolution, IsLeast, IsFirstWithout}
 use Rattle.vd_constraints.specs.Outcomes.{HasNoLabelling}
-use Rattle.vd_constraints.proofs.Labellings.{names-check}
-use Rattle.vd_constraints.proofs.Firsts.{item_has}
+use Rattle.vd_constraints.proofs.Front.{names-check, item_has}
 
 module _ (s : Constraints) (system : IsSystem s) (l : Labels) (least : IsLeastSolution s l) where
   -- a check that holds at some solution holds at the least one

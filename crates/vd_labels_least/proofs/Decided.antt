@@ -3,7 +3,7 @@ use Rattle.std.proofs.Common.{◌≡◌, ℕ, zero, suc, ◌^◌, ◌<◌, ◌�
 use Rattle.std.specs.Prelude.{All, IsTrue}
 use Rattle.std.proofs.lemmas.Bool.{cases_Bool, cases_eq, cases_lt, true≢false}
 use Rattle.vd_formula.specs.TruthTable.{TruthTable, at, is_subset, IsFormula, IsMonotone}
-use Rattle.vd_formula.proofs.Tables.{subset-le}
+use Rattle.vd_formula.proofs.Front.{subset-le}
 use Rattle.vd_constraints.specs.declared.system.Place.{Place}
 use Rattle.vd_constraints.specs.declared.system.Place.TheVariants.{Slot, Block}
 use Rattle.vd_constraints.specs.declared.system.Bound.{Bound}
@@ -11,7 +11,7 @@ use Rattle.vd_constraints.specs.declared.system.Bound.TheVariants.{Constant, Sam
 use Rattle.vd_constraints.specs.declared.system.Lower.{Lower}
 use Rattle.vd_constraints.specs.declared.system.Check.{Check}
 use Rattle.vd_constraints.specs.Systems.{Constraints, IsOver, IsPlaceIn, IsBoundIn, IsRuleIn, IsCheckIn, IsRuleOf, IsCheckOf, IsSystem}
-use Rattle.vd_constraints.proofs.Firsts.{item_has, all_or_first}
+use Rattle.vd_constraints.proofs.Front.{item_has, all_or_first}
 
 -- it holds, or it does not
 abbrev pub Decided : Type 0 → Type 0

@@ -6,13 +6,12 @@ use Rattle.std.proofs.lemmas.List.{length-replicate, get_or-replicate, get_or_pa
 use Rattle.std.proofs.lemmas.List.Elements.{All-replicate}
 use Rattle.vd_formula.specs.declared.label.Label.{Label}
 use Rattle.vd_formula.specs.TruthTable.{ActsFor, any_of}
-use Rattle.vd_formula.proofs.Tables.{is_formula-any}
+use Rattle.vd_formula.proofs.Front.{is_formula-any, acts_refl, acts_for_any, names-any}
 use Rattle.vd_constraints.specs.declared.system.Place.{Place}
 use Rattle.vd_constraints.specs.declared.system.Place.TheVariants.{Slot, Block}
 use Rattle.vd_constraints.specs.declared.labels.Labels.{Labels}
 use Rattle.vd_constraints.specs.Systems.{Constraints, IsOver, IsLabelOver, IsSystem}
 use Rattle.vd_constraints.specs.Satisfies.{no_label, label_at, part_of, IsLabelling}
-use Rattle.vd_formula.proofs.Acting.{acts_refl, acts_for_any, names-any}
 use Rattle.vd_labels_least.specs.Free.{free_label, free}
 use Rattle.vd_labels_least.proofs.Raising.{IsReached}
 

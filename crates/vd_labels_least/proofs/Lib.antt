@@ -1,8 +1,9 @@
-pub mod Parts
-pub mod Raising
-pub mod Free
-pub mod Checks
-pub mod Once
-pub mod Somehow
-pub mod Decided
-pub mod Function
+pub mod Front
+mod Parts
+mod Raising
+mod Free
+mod Checks
+mod Once
+mod Somehow
+mod Decided
+mod Function

@@ -4,13 +4,13 @@ use Rattle.std.specs.Prelude.{All, Result, Ok, Err}
 use Rattle.std.proofs.lemmas.List.{same_lists, get_or_default}
 use Rattle.vd_formula.specs.declared.label.Label.{Label}
 use Rattle.vd_formula.specs.TruthTable.{TruthTable, ActsFor}
-use Rattle.vd_formula.proofs.Implies.{antisymmetric}
+use Rattle.vd_formula.proofs.Front.{antisymmetric}
 use Rattle.vd_constraints.specs.declared.system.Place.TheVariants.{Slot, Block}
 use Rattle.vd_constraints.specs.declared.labels.Labels.{Labels}
 use Rattle.vd_constraints.specs.Systems.{Constraints, IsOver, IsLabelOver}
 use Rattle.vd_constraints.specs.Satisfies.{HoldsCheck, no_label, part_of, IsLabelling, SolvesRules, Satisfies, IsBelow, IsLeastOf, IsFirstWithout}
 use Rattle.vd_constraints.specs.Outcomes.{IsLabelled}
-use Rattle.vd_constraints.proofs.Firsts.{first_once}
+use Rattle.vd_constraints.proofs.Front.{first_once}
 
 -- ---- what is above each other is equal
 module _ (names : ℕ) where

@@ -14,7 +14,7 @@ use Rattle.vd_constraints.specs.declared.system.Part.{Part}
 use Rattle.vd_constraints.specs.declared.labels.Labels.{Labels}
 use Rattle.vd_constraints.specs.Systems.{Constraints, IsOver, IsLabelOver, IsPlaceOf, IsPartOf}
 use Rattle.vd_constraints.specs.Satisfies.{no_label, label_at, part_of, formula_at, IsLabelling}
-use Rattle.vd_constraints.proofs.Labellings.{over-label}
+use Rattle.vd_constraints.proofs.Front.{over-label}
 use Rattle.vd_labels_least.specs.Raising.{IsWithin, with_side, with_label_at, with_part}
 
 -- ---- one label changed

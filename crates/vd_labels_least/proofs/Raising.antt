@@ -1,7 +1,7 @@
 -- A rule that fails raises its part: the part becomes the conjunction of what it was and of the rule's bound.
 use Rattle.std.proofs.Common.{◌≡◌, ◌<◌, length, sym, ◌∙◌, subst, inl, inr}
 use Rattle.vd_formula.specs.TruthTable.{TruthTable, ActsFor, both_of}
-use Rattle.vd_formula.proofs.Tables.{is_formula-both}
+use Rattle.vd_formula.proofs.Front.{is_formula-both, acts_refl, acts_trans, acts_for_both, both_less, names-both, either_grows, implies_grows}
 use Rattle.vd_constraints.specs.declared.system.Part.{Part}
 use Rattle.vd_constraints.specs.declared.system.Bound.{Bound}
 use Rattle.vd_constraints.specs.declared.system.Bound.TheVariants.{Constant, Same, Given, Or}
@@ -9,8 +9,7 @@ use Rattle.vd_constraints.specs.declared.system.Lower.{Lower}
 use Rattle.vd_constraints.specs.declared.labels.Labels.{Labels}
 use Rattle.vd_constraints.specs.Systems.{Constraints, IsOver, IsPartOf, IsBoundOf, IsRuleOf}
 use Rattle.vd_constraints.specs.Satisfies.{formula_at, bound_at, HoldsRule, IsLabelling, SolvesRules, IsBelow}
-use Rattle.vd_constraints.proofs.Labellings.{over-part, over-bound}
-use Rattle.vd_formula.proofs.Acting.{acts_refl, acts_trans, acts_for_both, both_less, names-both, either_grows, implies_grows}
+use Rattle.vd_constraints.proofs.Front.{over-part, over-bound}
 use Rattle.vd_labels_least.specs.Raising.{IsWithin, with_part}
 use Rattle.vd_labels_least.proofs.Parts.{within, formula-same, formula-other, with_part_is, all_truths, fewer_truths}
 

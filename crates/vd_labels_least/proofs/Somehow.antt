@@ -7,8 +7,8 @@ use Rattle.vd_constraints.specs.declared.labels.Labels.{Labels}
 use Rattle.vd_constraints.specs.Systems.{Constraints, IsRuleOf, IsSystem}
 use Rattle.vd_constraints.specs.Satisfies.{formula_at, bound_at, HoldsRule, HoldsCheck, IsLeastSolution}
 use Rattle.vd_constraints.specs.Outcomes.{IsLabelled}
-use Rattle.vd_formula.proofs.Acting.{acts_or_not}
-use Rattle.vd_constraints.proofs.Firsts.{item_has, all_or_first}
+use Rattle.vd_formula.proofs.Front.{acts_or_not}
+use Rattle.vd_constraints.proofs.Front.{item_has, all_or_first}
 use Rattle.vd_labels_least.specs.Free.{free}
 use Rattle.vd_labels_least.proofs.Parts.{all_truths}
 use Rattle.vd_labels_least.proofs.Raising.{IsReached, raised, raised_reached, fewer}

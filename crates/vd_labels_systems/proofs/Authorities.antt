@@ -11,10 +11,9 @@ use Rattle.vd_core.specs.declared.normal.Slot as made
 use Rattle.vd_formula.specs.TruthTable.{any_of}
 use Rattle.vd_formula.specs.Forms.{formula_of}
 use Rattle.vd_formula.specs.declared.label.Label.{Label}
-use Rattle.vd_formula.proofs.Tables.{is_formula-any}
+use Rattle.vd_formula.proofs.Front.{is_formula-any, is_formula-of}
 use Rattle.vd_constraints.specs.Systems.{IsOver, IsLabelOver}
 use Rattle.vd_constraints.specs.Rules.{formula, label, no_authority, host_label, written_at}
-use Rattle.vd_formula.proofs.Grown.{is_formula-of}
 
 -- a label, if there is one, is over so many names
 abbrev pub IsOptionOver : ℕ → Option Label → Type 0

@@ -7,7 +7,7 @@ use Rattle.vd_constraints.specs.declared.system.Lower.{Lower}
 use Rattle.vd_constraints.specs.declared.system.Check.{Check}
 use Rattle.vd_constraints.specs.Systems.{Constraints, IsRuleIn, IsCheckIn}
 use Rattle.vd_constraints.specs.Rules.{with_rules, with_checks, with_block}
-use Rattle.vd_constraints.proofs.Kept.{more_rules, more_checks}
+use Rattle.vd_constraints.proofs.Front.{more_rules, more_checks}
 
 module _ (p : NormalForm) where
   -- rules, and checks, of the program's principals and slots and of so many blocks

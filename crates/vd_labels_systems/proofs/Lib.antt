@@ -1,5 +1,6 @@
+pub mod Front
 mod Authorities
 mod Fitting
 mod Rights
 mod Walk
-pub mod Systems
+mod Systems

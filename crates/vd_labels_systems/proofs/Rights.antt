@@ -15,7 +15,7 @@ use Rattle.vd_constraints.specs.declared.system.Place.TheVariants.{Slot}
 use Rattle.vd_constraints.specs.Systems.{Constraints, IsPlaceIn, IsRuleIn, IsCheckIn}
 use Rattle.vd_constraints.specs.Rules.{flows, formula, host_label, offset_of, right_rules, right_checks, written_at, written_rules, written_checks, with_right, with_optional, with_written}
 use Rattle.vd_constraints.specs.Scoped.{is_below, right_below}
-use Rattle.vd_constraints.proofs.Fits.{fit_flows, fit_input_rules, fit_input_checks, fit_written_rules, fit_written_checks, fit_declassify_rules, fit_endorse_rules, fit_endorse_checks}
+use Rattle.vd_constraints.proofs.Front.{fit_flows, fit_input_rules, fit_input_checks, fit_written_rules, fit_written_checks, fit_declassify_rules, fit_endorse_rules, fit_endorse_checks}
 use Rattle.vd_labels_systems.proofs.Authorities.{IsOptionOver, formula_over, host_over, written_over}
 use Rattle.vd_labels_systems.proofs.Fitting.{FitRules, FitChecks, Fits, Grown, unchanged, both_fit}
 

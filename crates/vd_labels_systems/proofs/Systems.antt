@@ -8,8 +8,7 @@ use Rattle.vd_core.specs.declared.normal.NormalForm.{NormalForm}
 use Rattle.vd_constraints.specs.declared.system.Place.TheVariants.{Block}
 use Rattle.vd_constraints.specs.Systems.{Constraints, IsRuleIn, IsCheckIn, IsSystem, IsSmall}
 use Rattle.vd_constraints.specs.Rules.{at_start, system_of}
-use Rattle.vd_constraints.proofs.Few.{well_made_small}
-use Rattle.vd_constraints.proofs.InSight.{well_made_scoped}
+use Rattle.vd_constraints.proofs.Front.{well_made_small, well_made_scoped}
 use Rattle.vd_labels_systems.proofs.Fitting.{Fits}
 use Rattle.vd_labels_systems.proofs.Walk.{body_keeps}
 

@@ -13,9 +13,7 @@ use Rattle.vd_constraints.specs.declared.system.Place.TheVariants.{Slot, Block}
 use Rattle.vd_constraints.specs.Systems.{Constraints, IsPlaceIn, IsRuleIn}
 use Rattle.vd_constraints.specs.Rules.{flows, host_label, output_rules, output_checks, with_block, with_branch, with_flow, with_right, with_stored, with_written, stmt_step, with_stmt, with_body}
 use Rattle.vd_constraints.specs.Scoped.{is_below, right_below, stmt_below, slots_below, block_below}
-use Rattle.vd_constraints.proofs.Fits.{fit_flows, fit_output_rules, fit_output_checks}
-use Rattle.vd_constraints.proofs.Growth.{Step}
-use Rattle.vd_constraints.proofs.Kept.{more_places}
+use Rattle.vd_constraints.proofs.Front.{fit_flows, fit_output_rules, fit_output_checks, Step, more_places}
 use Rattle.vd_labels_systems.proofs.Authorities.{host_over}
 use Rattle.vd_labels_systems.proofs.Fitting.{Fits, Grown, unchanged, after, rules_fit, both_fit, block_fits}
 use Rattle.vd_labels_systems.proofs.Rights.{low, two_flows, right_fits, written_fits}

@@ -1,5 +1,6 @@
+pub mod Front
 mod Filling
-pub mod GreetingLaws
+mod GreetingLaws
 mod Greetings
-pub mod Streams
+mod Streams
 mod Words

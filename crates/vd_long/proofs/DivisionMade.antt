@@ -19,12 +19,7 @@ use Rattle.vd_rewrite.specs.Rewriting.{Made, slot, entry_of, moved, emptied, is_
 use Rattle.vd_long.specs.Template.{place_at, placed, placed_slot, placed_right}
 use Rattle.vd_core.specs.Numbers.{NumbersFit, numbers_fit}
 use Rattle.vd_long.specs.Lengthened.{step_made, steps_made, looped, Template, quotient_template, remainder_template, template_made, Parts, parts_of, parts_made, long_let, nothing_hidden, with_long_divisions, some_lengthened, lengthened}
-use Rattle.vd_rewrite.proofs.Stores.{item_old, item_last, length_push, pushed}
-use Rattle.vd_rewrite.proofs.Tables.{Placed, placed_push, placed_later, Grown, Known}
-use Rattle.vd_rewrite.proofs.Chain.{word, state, Adds, effect_let}
-use Rattle.vd_rewrite.proofs.Agree.{Agree}
-use Rattle.vd_rewrite.proofs.Meaning.{effect_var, effect_store, effect_for, LetState, Laws}
-use Rattle.vd_rewrite.proofs.Outputs.{let_grown, let_adds, let_gives, outputs_kept}
+use Rattle.vd_rewrite.proofs.Front.{item_old, item_last, length_push, pushed, Placed, placed_push, placed_later, Grown, Known, word, state, Adds, effect_let, Agree, effect_var, effect_store, effect_for, LetState, Laws, let_grown, let_adds, let_gives, outputs_kept}
 use Rattle.vd_long.proofs.Numbers.{IsWord, AllWords, Words, meant, words_at_start}
 use Rattle.vd_long.proofs.DivisionSteps.{view, IsApart, is_plain, all_plain, run, quotient_ran, remainder_ran}
 use Rattle.vd_long.proofs.DivisionOthers.{IsOutside, KeepsOthers, ran_keeps, rest_keeps}

@@ -1,10 +1,11 @@
+pub mod Front
 mod DivisionWords
 mod DivisionWhole
 mod DivisionSteps
 mod DivisionOthers
 mod Numbers
-pub mod DivisionMade
-pub mod DivisionWellMade
+mod DivisionMade
+mod DivisionWellMade
 mod StepsGrow
 mod Placing
 mod LongSizes

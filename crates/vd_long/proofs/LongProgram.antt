@@ -10,7 +10,7 @@ use Rattle.vd_core.specs.Facts.{nesting}
 use Rattle.vd_rewrite.specs.Rewriting.{Made, made_at_start, run_all, rewritings, all_made, with_made, is_within}
 use Rattle.vd_rewrite.specs.Stops.{IsTooLarge}
 use Rattle.vd_rewrite.specs.Limits.{bodies_fit}
-use Rattle.vd_rewrite.proofs.Sizes.{large_is_not_within}
+use Rattle.vd_rewrite.proofs.Front.{large_is_not_within}
 use Rattle.vd_long.specs.Lengthened.{long_let, nothing_hidden, with_long_divisions, some_lengthened, is_nested, lengthened}
 use Rattle.vd_long.proofs.LongSizes.{long_makes}
 

@@ -5,8 +5,7 @@ use Rattle.vd_core.specs.declared.normal.Right.{Right}
 use Rattle.vd_core.specs.declared.normal.Slot.{Slot}
 use Rattle.std.specs.Prelude.{Bool}
 use Rattle.vd_rewrite.specs.Rewriting.{Made, moved, kept_let}
-use Rattle.vd_rewrite.proofs.Shape.{Makes, makes_deeper}
-use Rattle.vd_rewrite.proofs.Sizes.{anything, kept_makes}
+use Rattle.vd_rewrite.proofs.Front.{Makes, makes_deeper, anything, kept_makes}
 use Rattle.vd_long.specs.Lengthened.{long_let}
 use Rattle.vd_long.proofs.DivisionMade.{IsDivision, long_cases}
 use Rattle.vd_long.proofs.DivisionWellMade.{Fits, fits_all, template_makes}

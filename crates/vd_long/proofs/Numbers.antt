@@ -20,7 +20,7 @@ use Rattle.vd_semantics.specs.Turns.{turns}
 use Rattle.vd_semantics.specs.World.{World, world_at_start, first_word, later_words}
 use Rattle.vd_semantics.specs.ProgramMeaning.{SlotState, word_at, array_at, with_word, with_array, right_word, after_right, Effect, in_order, stmt_effect, effect, state_at_start}
 use Rattle.vd_core.specs.Numbers.{numbers_fit, number_fits}
-use Rattle.vd_rewrite.proofs.Stores.{item_put, item_put_other}
+use Rattle.vd_rewrite.proofs.Front.{item_put, item_put_other}
 
 abbrev pub IsWord : ℕ → Type 0
 IsWord n = n < 2 ^ 32

@@ -1,6 +1,7 @@
+pub mod Front
 mod Writes
 mod Digests
-pub mod Items
+mod Items
 mod Taking
 mod Spans
 mod Framing
@@ -12,5 +13,5 @@ mod Places
 mod Rooms
 mod Packets
 mod Widths
-pub mod Weights
-pub mod Running
+mod Weights
+mod Running

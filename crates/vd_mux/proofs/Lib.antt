@@ -1,6 +1,7 @@
+pub mod Front
 mod Truths
 mod Guards
-pub mod SelectionsKept
-pub mod SelectionsWellMade
+mod SelectionsKept
+mod SelectionsWellMade
 mod Turned
-pub mod Reading
+mod Reading

@@ -9,8 +9,7 @@ use Rattle.vd_mux.specs.BooleanGuards.{is_truth_slot, keeps_truth, has_boolean_g
 use Rattle.vd_mux.specs.Selections.{turned_where_boolean}
 use Rattle.vd_rewrite.specs.Rewriting.{kept_let, rewritings, some_changed, is_within}
 use Rattle.vd_mux.specs.Selections.{with_selections, turned}
-use Rattle.vd_rewrite.proofs.Meaning.{Laws}
-use Rattle.vd_rewrite.proofs.Outputs.{outputs_kept, let_grown, let_adds, let_gives}
+use Rattle.vd_rewrite.proofs.Front.{Laws, outputs_kept, let_grown, let_adds, let_gives}
 use Rattle.vd_mux.proofs.Truths.{Truths}
 use Rattle.vd_mux.proofs.Guards.{meant, truths_at_start}
 

@@ -10,7 +10,7 @@ use Rattle.vd_mux.specs.BooleanGuards.{is_truth_slot, keeps_truth}
 use Rattle.vd_rewrite.specs.Rewriting.{kept_let, rewritings, some_changed}
 use Rattle.vd_mux.specs.Selections.{with_selections, turned}
 use Rattle.vd_mux.proofs.Truths.{Truths}
-use Rattle.vd_rewrite.proofs.WellMade.{kept_fits, entry_passes, rewritten_well_made}
+use Rattle.vd_rewrite.proofs.Front.{kept_fits, entry_passes, rewritten_well_made}
 use Rattle.vd_mux.proofs.SelectionsKept.{turn_laws}
 
 pub turned_well_made : (hides : SlotId → Bool) (program : NormalForm) → IsWellMade program → IsWellMade (turned hides program)

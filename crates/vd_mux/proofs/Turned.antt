@@ -13,7 +13,7 @@ use Rattle.std.proofs.lemmas.List.Folds.{list_all-map}
 use Rattle.vd_mux.specs.BooleanGuards.{is_truth_slot, keeps_truth, has_boolean_guards}
 use Rattle.vd_rewrite.specs.Limits.{bodies_fit}
 use Rattle.vd_mux.specs.Selections.{turned_where_boolean}
-use Rattle.vd_rewrite.proofs.Sizes.{kept_makes, large_is_not_within}
+use Rattle.vd_rewrite.proofs.Front.{kept_makes, large_is_not_within}
 
 module _ (hides : SlotId → Bool) (program : NormalForm) where
   abbrev changed : Bool

@@ -12,7 +12,7 @@ use Rattle.vd_core.specs.declared.normal.Stmt.TheFolds.{fold-roll-Stmt}
 use Rattle.vd_core.specs.Facts.{blocks_meet, meets, all_meet, host_is_declared}
 use Rattle.vd_noninter_laws.specs.Flowing.{only_with}
 use Rattle.vd_noninter_laws.specs.Dependence.{Reach, Closing, all_close}
-use Rattle.vd_noninter_laws.proofs.Lawful.{and_of}
+use Rattle.vd_noninter_laws.proofs.Front.{and_of}
 use Rattle.vd_integrity_laws.specs.Influence.{right_influences, stmt_influences, influences}
 use Rattle.vd_noninter.specs.declared.edge.Edge.{Edge}
 use Rattle.vd_noninter.specs.declared.around.Around.{Around}

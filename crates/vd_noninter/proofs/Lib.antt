@@ -1,8 +1,9 @@
+pub mod Front
 mod Closing
 mod Marked
-pub mod Following
-pub mod Declared
-pub mod Hosts
-pub mod Answered
+mod Following
+mod Declared
+mod Hosts
+mod Answered
 mod Influencing
-pub mod Influenced
+mod Influenced

@@ -11,10 +11,10 @@ use Rattle.vd_base.specs.HostSets.{host, has_host, same_host, members}
 use Rattle.vd_base.specs.Holders.{is_holder}
 use Rattle.vd_formula.specs.TruthTable.{TruthTable, at, never_of}
 use Rattle.vd_formula.specs.declared.label.Label.{Label}
-use Rattle.vd_formula.proofs.Tables.{at-formula_where}
+use Rattle.vd_formula.proofs.Front.{at-formula_where}
 use Rattle.vd_protocol.specs.Authority.{label, label_of, names_of, AreOverSameNames, copies_of, authority_of}
 use Rattle.vd_noninter_laws.specs.Reading.{acts}
-use Rattle.vd_noninter_laws.proofs.Formulas.{acts_for, for_acts}
+use Rattle.vd_noninter_laws.proofs.Front.{acts_for, for_acts}
 use Rattle.vd_noninter_assigned.specs.Hearing.{has_clear}
 
 -- ---- one of a set of copies passes

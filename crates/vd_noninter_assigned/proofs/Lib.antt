@@ -1,6 +1,7 @@
+pub mod Front
 mod Clear
-pub mod Slots
-pub mod Places
+mod Slots
+mod Places
 mod Words
-pub mod Theorem
-pub mod Examples
+mod Theorem
+mod Examples

@@ -26,23 +26,15 @@ use Rattle.vd_space.specs.declared.problem.Making.{Making}
 use Rattle.vd_space.specs.Reading.{Read, all_parts, read_step, read_stmt, problem_of}
 use Rattle.vd_space.specs.Validity.{protocols, protocol, all_hosts, acts_for, covers, may_read, guard_told, index_told}
 use Rattle.vd_space.specs.Labelled.{IsLabelled, HasLabels}
-use Rattle.vd_space.proofs.Kept.{IsValid, parts_of}
-use Rattle.vd_space.proofs.Programs.{is_labelled}
+use Rattle.vd_space.proofs.Front.{IsValid, parts_of, is_labelled}
 use Rattle.vd_space_optimum.specs.Cheapest.{IsAssignment}
 use Rattle.vd_noninter_laws.specs.Flowing.{all_flow, flow}
 use Rattle.vd_noninter_laws.specs.Agreement.{Agree}
 use Rattle.vd_noninter_laws.specs.Watching.{Taps}
 use Rattle.vd_noninter_laws.specs.Reading.{acts, reads_slot, reads_result, becomes_readable_to, reads_host, in_view, visible_slots, start}
 use Rattle.vd_noninter_laws.specs.Dependence.{Reach, IsClosed, AreReached, OfEachHost}
-use Rattle.vd_noninter_laws.proofs.Lawful.{Tells}
-use Rattle.vd_noninter_laws.proofs.Named.{named_are_visible}
-use Rattle.vd_noninter_laws.proofs.Narrow.{narrowed, narrowed_flows}
-use Rattle.vd_noninter_laws.proofs.Same.{same_slots}
-use Rattle.vd_noninter_laws.proofs.Theorem.{program_flows, becoming, results, kept_read}
-use Rattle.vd_noninter_laws.proofs.Walk.{taps_of}
-use Rattle.vd_noninter_laws.proofs.Whole.{hearing, given_is}
-use Rattle.vd_noninter.proofs.Answered.{labels_over}
-use Rattle.vd_noninter.proofs.Declared.{body_closed, eight_hosts}
+use Rattle.vd_noninter_laws.proofs.Front.{Tells, named_are_visible, narrowed, narrowed_flows, same_slots, program_flows, becoming, results, kept_read, taps_of, hearing, given_is}
+use Rattle.vd_noninter.proofs.Front.{labels_over, body_closed, eight_hosts}
 use Rattle.vd_noninter_assigned.specs.Hearing.{has_clear, Heard, read_of, stands, heard_step, heard}
 use Rattle.vd_noninter_assigned.specs.Assigned.{HearsOnly, HearsOnlyAssigned}
 use Rattle.vd_noninter_assigned.proofs.Clear.{clear_acts}

@@ -18,7 +18,7 @@ use Rattle.vd_core.specs.declared.normal.Stmt.TheFolds.{fold-roll-Stmt}
 use Rattle.vd_constraints.specs.declared.labels.Labels.{Labels}
 use Rattle.vd_semantics.specs.ProgramMeaning.{SlotState, Effect, word_at, array_at, in_order, stmt_effect, effect}
 use Rattle.vd_semantics.specs.Turns.{turns}
-use Rattle.vd_formula.proofs.Implies.{if_so}
+use Rattle.vd_formula.proofs.Front.{if_so}
 use Rattle.vd_space.specs.declared.problem.Problem.{Problem}
 use Rattle.vd_space.specs.declared.problem.Guard.{Guard}
 use Rattle.vd_space.specs.Reading.{Read, all_parts, all_named, all_told, named_by, indexes_of, index_of, guard_of, read_step}
@@ -28,12 +28,7 @@ use Rattle.vd_noninter_laws.specs.Agreement.{Agree}
 use Rattle.vd_noninter_laws.specs.Watching.{Watched, Words, run_of as watched_run, given_by, words_in_order, taken, right_downgraded, stmt_downgraded, Showing, watched_step, watched}
 use Rattle.vd_noninter_laws.specs.Reading.{right_names, stmt_names, names}
 use Rattle.vd_noninter_laws.specs.Dependence.{Reach, right_closes, Closing, all_close, stmt_closes, closes}
-use Rattle.vd_noninter_laws.proofs.Runs.{Seen, block, loop, seen_loop}
-use Rattle.vd_noninter_laws.proofs.Statements.{only, right_in_step}
-use Rattle.vd_noninter_laws.proofs.Walk.{taps_of, Keeps, stmt_keeps, body_keeps, run_is}
-use Rattle.vd_noninter_laws.proofs.Whole.{hearing}
-use Rattle.vd_noninter_laws.proofs.Narrow.{narrowed}
-use Rattle.vd_noninter_laws.proofs.Lawful.{and_of, false_if}
+use Rattle.vd_noninter_laws.proofs.Front.{Seen, block, loop, seen_loop, only, right_in_step, taps_of, Keeps, stmt_keeps, body_keeps, run_is, hearing, narrowed, and_of, false_if}
 use Rattle.vd_noninter_assigned.proofs.Clear.{clear_holds}
 use Rattle.vd_noninter_assigned.proofs.Places.{part_is, stands_is}
 use Rattle.vd_noninter_assigned.specs.Hearing.{has_clear, Heard, run_of, read_of, heard_in_order, heard_in_turns, word_if, stands, comes, comes_alone, index_comes, right_heard, is_part, heard_step, heard}

@@ -1,4 +1,5 @@
+pub mod Front
 mod Puts
 mod Runs
 mod Labels
-pub mod Differences
+mod Differences

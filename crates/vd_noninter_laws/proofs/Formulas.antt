@@ -1,9 +1,7 @@
 -- What a host may read, as a test and as acting for.
 use Rattle.std.proofs.Common.{◌≡◌, true, ◌||◌, not}
 use Rattle.vd_formula.specs.TruthTable.{TruthTable, ActsFor, at}
-use Rattle.vd_formula.proofs.Acting.{acts_trans}
-use Rattle.vd_formula.proofs.Tables.{at_each_set, all_sets_from}
-use Rattle.vd_formula.proofs.Implies.{if_so, then_so}
+use Rattle.vd_formula.proofs.Front.{acts_trans, at_each_set, all_sets_from, if_so, then_so}
 use Rattle.vd_noninter_laws.specs.Reading.{acts}
 
 pub acts_for : (f g : TruthTable) → acts f g ≡ true → ActsFor f g

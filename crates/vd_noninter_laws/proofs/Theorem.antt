@@ -9,7 +9,7 @@ use Rattle.vd_constraints.specs.declared.system.Place.TheVariants.{Slot, Block}
 use Rattle.vd_constraints.specs.declared.labels.Labels.{Labels}
 use Rattle.vd_constraints.specs.Satisfies.{label_at, no_label, Satisfies}
 use Rattle.vd_constraints.specs.Rules.{at_start, system_of}
-use Rattle.vd_constraints.proofs.InSight.{well_made_scoped}
+use Rattle.vd_constraints.proofs.Front.{well_made_scoped}
 use Rattle.vd_noninter_laws.specs.Flowing.{all_flow, flow}
 use Rattle.vd_noninter_laws.specs.Reading.{reads_slot, reads_result, becomes_readable_to, reads_host, in_view, visible_slots, all_hidden, makes, LearnsOnly}
 use Rattle.vd_noninter_laws.proofs.Lawful.{knowledge, Tells, Meets, body_obeys}

@@ -17,14 +17,8 @@ use Rattle.vd_choreography.specs.Joint.{Hosts, run_acts, Each, branch, choice, j
 use Rattle.vd_choreography.specs.Suite.{picked, Made, Suite, Laws, hosts_of}
 use Rattle.vd_choreography.specs.Emission.{Emitted, Emission, delivered, if_made, for_made, loop_registers, after_loop_registers}
 use Rattle.vd_choreography.specs.Validity.{Fits, emission_of, turns_at, Placed, Reaches}
-use Rattle.vd_choreography.proofs.Lists.{and_left, and_right, or_left, or_right, or_none_left, or_none_right, InRow, row_front, row_back}
-use Rattle.vd_choreography.proofs.Sight.{Binding, Variable, Array, Sees, with_use}
-use Rattle.vd_choreography.proofs.Tied.{part, Tied, tied_past}
-use Rattle.vd_choreography.proofs.Rights.{moved, operand_of, index_reached}
-use Rattle.vd_choreography.proofs.Calls.{Reached, picked_join}
-use Rattle.vd_choreography.proofs.Steps.{E, Ties, TurnsIn, After, turns_past, let_after, var_after, array_after, store_after, put_after, output_after}
-use Rattle.vd_choreography.proofs.Loops as loops
-use Rattle.vd_choreography.proofs.Blocks.{slots, sees, effect_of, emits, turn_here, turn_later, turns_act, no_slots, both_idle, means}
+use Rattle.vd_choreography.proofs.Front.{and_left, and_right, or_left, or_right, or_none_left, or_none_right, InRow, row_front, row_back, Binding, Variable, Array, Sees, with_use, part, Tied, tied_past, moved, operand_of, index_reached, Reached, picked_join, E, Ties, TurnsIn, After, turns_past, let_after, var_after, array_after, store_after, put_after, output_after, slots, sees, effect_of, emits, turn_here, turn_later, turns_act, no_slots, both_idle, means}
+use Rattle.vd_choreography.proofs.Front as loops
 use Rattle.vd_noninter_assigned.specs.Hearing.{Heard, run_of, word_if, comes, comes_alone, is_part, heard_in_order, heard_in_turns, heard_step}
 use Rattle.vd_noninter_registers.specs.Telling.{in_turns, given_word, delivered_told, told}
 use Rattle.vd_noninter_registers.proofs.Hosts.{comes_clear, picked_once}

@@ -21,10 +21,7 @@ use Rattle.vd_choreography.specs.Suite.{Suite}
 use Rattle.vd_choreography.specs.Validity.{RightFits, Fits, turns_at}
 use Rattle.vd_core.specs.Numbers.{NumbersFit, numbers_fit, number_fits, factor_fits}
 use Rattle.vd_choreography.specs.Outcome.{Starts}
-use Rattle.vd_choreography.proofs.Lists.{and_left, and_right, or_cases}
-use Rattle.vd_choreography.proofs.Sight.{Use, Binding, Variable, Array, Sees}
-use Rattle.vd_choreography.proofs.Tied.{Tied}
-use Rattle.vd_choreography.proofs.Folds.{fold_each}
+use Rattle.vd_choreography.proofs.Front.{and_left, and_right, or_cases, Use, Binding, Variable, Array, Sees, Tied, fold_each}
 
 abbrev holds : (Stmt-F Bool → Bool) → Block → Bool
 holds test b = list_all (λ x. x) (each (λ s. test s && blocks_meet s) b)

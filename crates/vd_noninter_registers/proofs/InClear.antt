@@ -11,14 +11,13 @@ use Rattle.vd_execution.specs.Joint.{Hosts}
 use Rattle.vd_duet.specs.Calls.{Places, hosts_of, register_of}
 use Rattle.vd_duet.specs.Laws.{IsHost, StandFor, Copies}
 use Rattle.vd_clear.specs.Copies.{clear_calls}
-use Rattle.vd_clear.proofs.ClearLaws.{copies_of}
+use Rattle.vd_clear.proofs.Front.{copies_of}
 use Rattle.vd_commit.specs.Commit.{eight}
 use Rattle.vd_choreography.specs.Suite.{Word}
 use Rattle.vd_backend_laws.specs.Commits.{at_one, held_of, seen_of}
 use Rattle.vd_backend_laws.specs.Parts.{Parts}
 use Rattle.vd_backend_laws.specs.Suite.{StandForCells, IsBound, stands}
-use Rattle.vd_backend_laws.proofs.Standing.{word_of}
-use Rattle.vd_backend_laws.proofs.TwoHosts.{has_member}
+use Rattle.vd_backend_laws.proofs.Front.{word_of, has_member}
 use Rattle.vd_noninter_assigned.specs.Hearing.{has_clear}
 
 abbrev Holds : Hosts → HostId → Places → ℕ → Type 0

@@ -1,8 +1,9 @@
+pub mod Front
 mod Blocks
-pub mod Examples
-pub mod Fits
-pub mod Hosts
-pub mod InClear
+mod Examples
+mod Fits
+mod Hosts
+mod InClear
 mod Moved
-pub mod Takers
+mod Takers
 mod Theorem

@@ -16,11 +16,7 @@ use Rattle.vd_choreography.specs.Joint.{Hosts, run_acts, Each}
 use Rattle.vd_choreography.specs.Suite.{Word, Made, Suite, Operand, Ready, Laws, hosts_of}
 use Rattle.vd_choreography.specs.Emission.{Emitting, right_made}
 use Rattle.vd_choreography.specs.Validity.{RightFits, RightPlaced, Reaches}
-use Rattle.vd_choreography.proofs.Lists.{and_left, and_right}
-use Rattle.vd_choreography.proofs.Sight.{Binding, Sees}
-use Rattle.vd_choreography.proofs.Tied.{Unchanging, Tied}
-use Rattle.vd_choreography.proofs.Calls.{Between, between_of, ready_past, operand_past, Movable, all_past, picked_join}
-use Rattle.vd_choreography.proofs.Rights.{Done, Turning, operand_of, movables, right_done}
+use Rattle.vd_choreography.proofs.Front.{and_left, and_right, Binding, Sees, Unchanging, Tied, Between, between_of, ready_past, operand_past, Movable, all_past, picked_join, Done, Turning, operand_of, movables, right_done}
 use Rattle.vd_noninter_assigned.specs.Hearing.{has_clear, word_if, comes, comes_alone, index_comes, right_heard}
 use Rattle.vd_noninter_registers.specs.Telling.{given_word, operands_told, delivered_told, right_told}
 use Rattle.vd_noninter_registers.proofs.Hosts.{same_turned, comes_clear, kept_at, as_often, picked_once}

@@ -18,7 +18,7 @@ use Rattle.vd_space.specs.Reading.{Read, all_named, all_told, named_by, read_ste
 use Rattle.vd_choreography.specs.Block.{Block, End, Let, NewVar, NewArray, Store, Put, Output, If, For, each}
 use Rattle.vd_choreography.specs.Suite.{Calls}
 use Rattle.vd_choreography.specs.Emission.{Emission, right_takes_part, in_turn, stmt_emission}
-use Rattle.vd_choreography.proofs.Lists.{and_left, and_right}
+use Rattle.vd_choreography.proofs.Front.{and_left, and_right}
 use Rattle.vd_noninter_assigned.specs.Hearing.{run_of, read_of, heard_step, is_part, stands}
 use Rattle.vd_noninter_registers.proofs.Hosts.{same_turned, kept_at}
 

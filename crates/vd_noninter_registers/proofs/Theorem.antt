@@ -9,28 +9,26 @@ use Rattle.vd_core.specs.declared.normal.NormalForm.{NormalForm}
 use Rattle.vd_core.specs.Facts.{nothing_seen, Seeing, slots_step, seeing_step, seeing_all, IsWellMade}
 use Rattle.vd_constraints.specs.declared.labels.Labels.{Labels}
 use Rattle.vd_constraints.specs.Scoped.{stmt_below}
-use Rattle.vd_constraints.proofs.InSight.{well_made_scoped}
+use Rattle.vd_constraints.proofs.Front.{well_made_scoped}
 use Rattle.vd_execution.specs.World.{Tape}
 use Rattle.vd_execution.specs.Joint.{fresh, joint}
 use Rattle.vd_choreography.specs.Block.{block_of, each}
 use Rattle.vd_choreography.specs.Suite.{Laws}
 use Rattle.vd_choreography.specs.Emission.{emitting_at_start}
 use Rattle.vd_choreography.specs.Outcome.{Starts}
-use Rattle.vd_choreography.proofs.Folds.{fold_each}
-use Rattle.vd_choreography.proofs.Lists.{InRow, row_of}
-use Rattle.vd_choreography.proofs.Blocks.{slots, sees}
+use Rattle.vd_choreography.proofs.Front.{fold_each, InRow, row_of, slots, sees}
 use Rattle.vd_backend_laws.specs.Machine.{machine}
 use Rattle.vd_backend_laws.specs.Suite.{suite}
 use Rattle.vd_backend_laws.specs.Whole.{code_at, inputs_of, CanRun}
-use Rattle.vd_backend_laws.proofs.SuiteLaws.{suite_laws}
+use Rattle.vd_backend_laws.proofs.Front.{suite_laws}
 use Rattle.vd_choreography_validity.specs.Assignments.{IsChosen}
-use Rattle.vd_choreography_validity.proofs.Chosen.{can_run, each_has, assignments_tell_the_same}
+use Rattle.vd_choreography_validity.proofs.Front.{can_run, each_has, assignments_tell_the_same}
 use Rattle.vd_noninter_laws.specs.Reading.{reads_result, becomes_readable_to, reads_host, in_view, start, outputs_to, LearnsOnly}
 use Rattle.vd_noninter_laws.specs.Dependence.{reached_in_view, AreReached, OfEachHost}
-use Rattle.vd_noninter_laws.proofs.Theorem.{reads_learns, reached_are_enough}
+use Rattle.vd_noninter_laws.proofs.Front.{reads_learns, reached_are_enough}
 use Rattle.vd_noninter_assigned.specs.Hearing.{Heard, heard_step, heard_in_order}
 use Rattle.vd_noninter_assigned.specs.Assigned.{HearsOnlyAssigned}
-use Rattle.vd_noninter_assigned.proofs.Theorem.{all_hear_readable, all_hear_reached}
+use Rattle.vd_noninter_assigned.proofs.Front.{all_hear_readable, all_hear_reached}
 use Rattle.vd_noninter_registers.specs.Telling.{told}
 use Rattle.vd_noninter_registers.specs.Told.{IsDealt, TellsWhatIsHeard, printed_words, TellsOnlyAssigned}
 use Rattle.vd_noninter_registers.proofs.Blocks.{all_told}

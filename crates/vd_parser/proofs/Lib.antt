@@ -1,12 +1,13 @@
-pub mod Ready
+pub mod Front
+mod Ready
 mod Steps
 mod Meanings
 mod Precedence
 mod Signs
 mod Progress
 mod Document
-pub mod Scan
-pub mod Outcomes
-pub mod OutcomeLaws
-pub mod OutcomeTotal
-pub mod Named
+mod Scan
+mod Outcomes
+mod OutcomeLaws
+mod OutcomeTotal
+mod Named

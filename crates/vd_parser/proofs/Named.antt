@@ -15,7 +15,7 @@ use Rattle.vd_source_lexer.specs.Tokens.{IsSpelled}
 use Rattle.vd_source_lexer.specs.declared.token.Token.{Token}
 use Rattle.vd_source_lexer.specs.declared.token.TokenKind.{TokenKind}
 use Rattle.vd_source_lexer.specs.declared.token.TokenKind.TheVariants as kind
-use Rattle.vd_source_lexer.proofs.TokenFacts.{tokens_spelled}
+use Rattle.vd_source_lexer.proofs.Front.{tokens_spelled}
 use Rattle.vd_parser.specs.declared.fault.ParseFault.{ParseFault}
 use Rattle.vd_parser.specs.declared.fault.ParseFault.TheVariants as fault
 use Rattle.vd_parser.specs.Language.{Symbol, SOURCE, HOST, rule, tok, commas, principals_rule, hosts_rule}

@@ -3,12 +3,12 @@ use Rattle.std.proofs.Common.{◌≡◌, ℕ, zero, suc, ◌≤◌, List, [], �
 use Rattle.std.proofs.lemmas.Bool.{cases_lt}
 use Rattle.vd_source_ll1.specs.Grammar.{Spells, Starts}
 use Rattle.vd_source_ll1.specs.Trees.{Tree, Both}
-use Rattle.vd_source_ll1.proofs.Lawful.{fronts, only_tree, texts_trees}
+use Rattle.vd_source_ll1.proofs.Front.{fronts, only_tree, texts_trees}
 use Rattle.vd_core.specs.declared.source.Source.{Source}
 use Rattle.vd_source_lexer.specs.Kinds.{code_of}
 use Rattle.vd_source_lexer.specs.Tokens.{kinds}
 use Rattle.vd_source_lexer.specs.declared.token.Token.{Token}
-use Rattle.vd_source_lexer.proofs.TokenLaws.{lexes_once}
+use Rattle.vd_source_lexer.proofs.Front.{lexes_once}
 use Rattle.vd_parser.specs.declared.fault.ParseFault.{ParseFault}
 use Rattle.vd_parser.specs.declared.fault.ParseFault.TheVariants as fault
 use Rattle.vd_parser.specs.Language.{Symbol, rule}

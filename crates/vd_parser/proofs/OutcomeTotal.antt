@@ -7,14 +7,12 @@ use Rattle.vd_source_ll1.specs.Grammar.{Ebnf, Tok, Sym, Seq, Derives, d-seq, d-t
 use Rattle.vd_source_ll1.specs.Machine.{has, run}
 use Rattle.vd_source_ll1.specs.Trees.{Tree, Both, Makes, m-seq}
 use Rattle.vd_source_ll1.specs.Laws.{FirstUnexpected, Taken}
-use Rattle.vd_source_ll1.proofs.Extra.{absent, starts_absent}
-use Rattle.vd_source_ll1.proofs.Lawful.{exact, texts_trees}
+use Rattle.vd_source_ll1.proofs.Front.{absent, starts_absent, exact, texts_trees}
 use Rattle.vd_core.specs.declared.source.Source.{Source}
 use Rattle.vd_source_lexer.specs.Kinds.{code_of}
 use Rattle.vd_source_lexer.specs.Tokens.{EndsOnce, kinds, Lexes}
 use Rattle.vd_source_lexer.specs.declared.token.Token.{Token}
-use Rattle.vd_source_lexer.proofs.TokenLaws.{lexes_once}
-use Rattle.vd_source_lexer.proofs.TokenFacts.{ends_once}
+use Rattle.vd_source_lexer.proofs.Front.{lexes_once, ends_once}
 use Rattle.vd_parser.specs.declared.fault.ParseFault.{ParseFault}
 use Rattle.vd_parser.specs.declared.fault.ParseFault.TheVariants as fault
 use Rattle.vd_parser.specs.Language.{Symbol, rule, SOURCE, HOST, LABEL, FORM, CONJ, FATOM, FUN, PARAM, KIND, BLOCK, STMT, EXPR, BOR, BXOR, BAND, SHIFT, SUM, PROD, UNARY, ATOM}

@@ -6,13 +6,12 @@ use Rattle.vd_source_ll1.specs.Grammar.{Ebnf, Sym, Starts, b-none, b-next}
 use Rattle.vd_source_ll1.specs.Trees.{Tree, Leaf, Both, Makes, m-tok, m-sym, m-eps, m-seq, m-left, m-right, m-stop, m-more}
 use Rattle.vd_source_ll1.specs.Laws.{FirstUnexpected}
 use Rattle.vd_source_ll1.specs.Reading.{Stops, Gives}
-use Rattle.vd_source_ll1.proofs.Lawful.{exact}
-use Rattle.vd_source_ll1.proofs.OneTree.{makes_derives}
+use Rattle.vd_source_ll1.proofs.Front.{exact, makes_derives}
 use Rattle.vd_core.specs.declared.source.Source.{Source}
 use Rattle.vd_source_lexer.specs.Kinds.{code_of}
 use Rattle.vd_source_lexer.specs.Tokens.{EndsOnce, kinds, Lexes, lexes_end, lexes_blank, lexes_token, IsWithin}
 use Rattle.vd_source_lexer.specs.declared.piece.Piece.TheVariants.{Lexeme}
-use Rattle.vd_source_lexer.proofs.Pieces.{piece_within}
+use Rattle.vd_source_lexer.proofs.Front.{piece_within}
 use Rattle.vd_parser.specs.declared.fault.ParseFault.{ParseFault}
 use Rattle.vd_parser.specs.declared.fault.ParseFault.TheVariants as fault
 use Rattle.vd_source_lexer.specs.declared.token.Token.{Token}

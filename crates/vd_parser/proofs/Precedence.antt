@@ -29,7 +29,7 @@ use Rattle.vd_parser.specs.Syntax.{token_of, span_of, infix_of, direction_of, pr
 use Rattle.vd_parser.specs.Parsing.{language, kind_at, Refused}
 use Rattle.vd_parser.specs.Levels.{begins_statement, is_kind, comparison_at, infix_at, prefix_at, direction_at, ops_of, symbol_of, operand_symbol, level_of, operand_of, segments_of}
 use Rattle.vd_parser.proofs.Ready.{F, E, language_ll1}
-use Rattle.vd_source_ll1.proofs.Readings as readings
+use Rattle.vd_source_ll1.proofs.Front as readings
 use Rattle.vd_parser.proofs.Meanings.{statements_more, statements_none, shifts_more, shifts_none}
 use Rattle.vd_parser.proofs.Steps.{head_is, start, rule_start, next, last, refused_last, collects_known, stop_known, end_known}
 

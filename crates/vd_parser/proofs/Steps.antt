@@ -5,7 +5,7 @@ use Rattle.vd_source_ll1.specs.Grammar.{Ebnf, Sym, Eps, Seq, Alt, Star}
 use Rattle.vd_source_ll1.specs.Machine.{has, nullable, first}
 use Rattle.vd_source_ll1.specs.Trees.{Tree, Leaf, Both, First, Second, Empty}
 use Rattle.vd_source_ll1.specs.Reading.{head, Read, Within, Gives, Collects}
-use Rattle.vd_source_ll1.proofs.Readings as readings
+use Rattle.vd_source_ll1.proofs.Front as readings
 use Rattle.vd_source_lexer.specs.Kinds.{code_of}
 use Rattle.vd_source_lexer.specs.declared.token.Token.{Token}
 use Rattle.vd_source_lexer.specs.declared.token.TokenKind.{TokenKind}

@@ -1,2 +1,3 @@
-pub mod HostCodes
-pub mod Lines
+pub mod Front
+mod HostCodes
+mod Lines

@@ -15,9 +15,9 @@ use Rattle.vd_split.specs.Places.{program_lines}
 use Rattle.vd_backend_laws.specs.Given.{zero_deal}
 use Rattle.vd_backend_laws.specs.Parts.{suite_calls}
 use Rattle.vd_backend_laws.specs.Whole.{inputs_of}
-use Rattle.vd_backend_laws.proofs.Given.{zero_deals_are_valid}
+use Rattle.vd_backend_laws.proofs.Front.{zero_deals_are_valid}
 use Rattle.vd_backend_all.specs.Offered.{IsServed, offer_of}
-use Rattle.vd_backend_all.proofs.Served.{programs_can_be_split}
+use Rattle.vd_backend_all.proofs.Front.{programs_can_be_split}
 use Rattle.vd_projection.specs.Programs.{IsRunnable, joint_of, host_codes}
 use Rattle.vd_projection.proofs.HostCodes.{proto_over, runnable_over, program_can_run, no_words, picked_codes}
 

@@ -13,10 +13,10 @@ use Rattle.vd_execution.specs.Gadgets.{Sharing, BySums, ByXors, Gadget, Alone, T
 use Rattle.vd_execution.specs.Joint.{Part, Joint, if_part, code_of, TakesPart, Within}
 use Rattle.vd_execution.specs.Plans.{Plan, Ends, Then, Branch, Loop, joint_of, PlanIsWithin, PlanIsTidy}
 use Rattle.vd_execution.specs.Ranges.{ActionFits}
-use Rattle.vd_execution.proofs.Puts.{same_or_not}
+use Rattle.vd_execution.proofs.Front.{same_or_not}
 use Rattle.vd_duet.specs.Laws.{Each}
 use Rattle.vd_code_sizes.specs.Fits.{PacketFits, ActFits, GadgetFits}
-use Rattle.vd_code_sizes.proofs.Fits.{PlanFits}
+use Rattle.vd_code_sizes.proofs.Front.{PlanFits}
 use Rattle.vd_projection_files.proofs.Few.{GadgetIsSmall}
 use Rattle.vd_projection_files.proofs.FewBlocks.{PlanIsSmall}
 use Rattle.vd_projection_files.proofs.Registers.{bound}

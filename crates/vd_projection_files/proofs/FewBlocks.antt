@@ -14,7 +14,7 @@ use Rattle.vd_base.specs.Holders.{is_holder}
 use Rattle.vd_core.specs.declared.normal.Right.{Right}
 use Rattle.vd_core.specs.declared.normal.Right.TheVariants.{Lit, Turn, Copy, Apply, Input, Declassify, Endorse, Load, Get}
 use Rattle.vd_core.specs.Facts.{of_rights, operands_fit, shift_fits, count_step, cells_step, weigh_step, weigh_all}
-use Rattle.vd_space.proofs.Weighed.{weigh_next, few_operands}
+use Rattle.vd_space.proofs.Front.{weigh_next, few_operands}
 use Rattle.vd_execution.specs.Gadgets.{Gadget}
 use Rattle.vd_execution.specs.Plans.{Plan, Ends, Then, Branch, Loop}
 use Rattle.vd_duet.specs.Laws.{Each}
@@ -22,10 +22,10 @@ use Rattle.vd_choreography.specs.Block.{Block, End, Let, NewVar, NewArray, Store
 use Rattle.vd_choreography.specs.Joint.{acts_then, and_then}
 use Rattle.vd_choreography.specs.Suite.{picked, Made, Calls, hosts_of}
 use Rattle.vd_choreography.specs.Emission.{Emitting, Emitted, Emission, parts_at, delivered, all_moved, and_on, right_made, with_parts, in_turn, store_made, put_made, output_made, if_made, for_made, loop_registers, after_loop_registers, stmt_emission}
-use Rattle.vd_choreography.proofs.Lists.{and_left, and_right}
-use Rattle.vd_split.proofs.Picked.{picked_few}
+use Rattle.vd_choreography.proofs.Front.{and_left, and_right}
+use Rattle.vd_split.proofs.Front.{picked_few}
 use Rattle.vd_backend_laws.specs.Parts.{Parts, suite_calls}
-use Rattle.vd_code_sizes.proofs.Blocks.{holds}
+use Rattle.vd_code_sizes.proofs.Front.{holds}
 use Rattle.vd_core.specs.Numbers.{number_fits, numbers_fit}
 use Rattle.vd_projection_files.proofs.Numbers.{below}
 use Rattle.vd_projection_files.proofs.Few.{GadgetIsSmall, AreFew, few_none, few_more, few_both, bulk}

@@ -13,7 +13,7 @@ use Rattle.vd_duet.specs.Builder.{next_at, taken}
 use Rattle.vd_duet.specs.Calls.{Places, hosts_of, Made, Calls}
 use Rattle.vd_duet.specs.Acting.{is_among}
 use Rattle.vd_clear.specs.Copies.{literal_at, passed, adopted, kept_by, operated, applied_at, first_of, after_first, told, compared, first_register, shown, each_made, renewed, clear_calls}
-use Rattle.vd_code_sizes.proofs.ClearCalls.{few_holders, each_length}
+use Rattle.vd_code_sizes.proofs.Front.{few_holders, each_length}
 use Rattle.vd_projection_files.proofs.Few.{AreFew, few_none, few_more, few_both}
 use Rattle.vd_projection_files.proofs.Numbers.{shift_below}
 

@@ -16,7 +16,7 @@ use Rattle.vd_words.specs.AddCalls.{add_serves, add_apply, add_calls}
 use Rattle.vd_bits.specs.BitCalls.{parts_at, turned_first, gate_shares, gates_shares, circuit_shares, computed}
 use Rattle.vd_circuit.specs.CircuitCalls.{circuit_serves, circuit_calls}
 use Rattle.vd_convert.specs.Convert.{masked_parts, to_xor_made, drawn, finished, to_add_made}
-use Rattle.vd_choreography.proofs.Lists.{and_left, and_right}
+use Rattle.vd_choreography.proofs.Front.{and_left, and_right}
 use Rattle.vd_projection_files.proofs.Numbers.{below, is_below, both, shift_below}
 use Rattle.vd_projection_files.proofs.Few.{AreFew, few_none, few_more, few_both}
 use Rattle.vd_projection_files.proofs.FewClear.{most_gadgets, WordFew, CallsAreFew}

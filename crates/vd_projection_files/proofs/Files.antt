@@ -19,21 +19,21 @@ use Rattle.vd_execution.specs.Joint.{code_of, TakesPart, Within}
 use Rattle.vd_execution.specs.Plans.{Plan, PlanIsTidy}
 use Rattle.vd_execution.specs.Text.{text}
 use Rattle.vd_execution.specs.Gadgets.{Gadget}
-use Rattle.vd_execution_confluence.proofs.Taking.{within}
+use Rattle.vd_execution_confluence.proofs.Front.{within}
 use Rattle.vd_choreography.specs.Block.{block_of}
 use Rattle.vd_choreography.specs.Emission.{Emission, block_emission, emitting_at_start, in_turn, stmt_emission}
-use Rattle.vd_choreography.proofs.Folds.{fold_each}
+use Rattle.vd_choreography.proofs.Front.{fold_each}
 use Rattle.vd_backend_laws.specs.Given.{zero_deal}
 use Rattle.vd_backend_laws.specs.Parts.{suite_calls}
 use Rattle.vd_backend_laws.specs.Whole.{plan_at, inputs_of}
-use Rattle.vd_backend_laws.proofs.Given.{zero_deals_are_valid}
+use Rattle.vd_backend_laws.proofs.Front.{zero_deals_are_valid}
 use Rattle.vd_host_text.specs.declared.program.Digest.{Digest}
 use Rattle.vd_host_text.specs.declared.program.HostProgram.{HostProgram}
 use Rattle.vd_host_text.specs.Text.{name_field, program_text}
 use Rattle.vd_host_text.specs.File.{AreNew}
-use Rattle.vd_hostcode.proofs.Outcomes.{all_within, written_is_read}
+use Rattle.vd_hostcode.proofs.Front.{all_within, written_is_read}
 use Rattle.vd_projection.specs.Programs.{joint_of, host_codes}
-use Rattle.vd_projection.proofs.HostCodes.{proto_over, runnable_over, no_words, codes_can_be_loaded, codes_run_as_told, ended_past}
+use Rattle.vd_projection.proofs.Front.{proto_over, runnable_over, no_words, codes_can_be_loaded, codes_run_as_told, ended_past}
 use Rattle.vd_projection_files.specs.Stored.{stored_program, CanBeStored, StandsInAFile, StoredProgramsStandInFiles, StoredProgramsAreReadBack, StoredTextsAreShort}
 use Rattle.vd_core.specs.Numbers.{numbers_fit}
 use Rattle.vd_projection_files.proofs.Numbers.{both}

@@ -1,15 +1,16 @@
-pub mod Numbers
-pub mod Few
-pub mod FewClear
+pub mod Front
+mod Numbers
+mod Few
+mod FewClear
 mod FewShared
-pub mod FewCalls
-pub mod Steps
-pub mod Bulk
-pub mod FewBlocks
-pub mod Registers
-pub mod Instrs
-pub mod Codes
-pub mod Texts
-pub mod Digests
-pub mod Bytes
-pub mod Files
+mod FewCalls
+mod Steps
+mod Bulk
+mod FewBlocks
+mod Registers
+mod Instrs
+mod Codes
+mod Texts
+mod Digests
+mod Bytes
+mod Files

@@ -9,13 +9,12 @@ use Rattle.vd_core.specs.declared.normal.Stmt.TheOpen.{Stmt-F}
 use Rattle.vd_core.specs.Facts.{IsWellMade, meets, blocks_meet, of_rights, operands_fit, host_is_declared, count_step, cells_step, statement_count, cell_count}
 use Rattle.vd_choreography.specs.Block.{Block, End, Let, NewVar, NewArray, Store, Put, Output, If, For, block_of, each}
 use Rattle.vd_choreography.specs.Emission.{Emission, block_emission, emitting_at_start, in_turn, stmt_emission}
-use Rattle.vd_choreography.proofs.Folds.{fold_each}
+use Rattle.vd_choreography.proofs.Front.{fold_each}
 use Rattle.vd_backend_laws.specs.Parts.{suite_calls}
 use Rattle.vd_backend_laws.specs.Suite.{IsOver}
 use Rattle.vd_backend_laws.specs.Whole.{plan_at}
 use Rattle.vd_code_sizes.specs.Fits.{IsLow}
-use Rattle.vd_code_sizes.proofs.Blocks.{cost, size, holds, BlockFits, StateFits, emission_of, block_fits}
-use Rattle.vd_code_sizes.proofs.Fits.{PlanFits}
+use Rattle.vd_code_sizes.proofs.Front.{cost, size, holds, BlockFits, StateFits, emission_of, block_fits, PlanFits}
 
 list_all_map : {A : Type 0} (f : A → Bool) (xs : List A) → list_all f xs ≡ list_all (λ x. x) (map f xs)
 list_all_map f [] = refl

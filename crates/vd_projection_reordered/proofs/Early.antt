@@ -11,20 +11,20 @@ use Rattle.vd_execution.specs.declared.instructions.Reg.{Reg}
 use Rattle.vd_execution.specs.Joint.{Joint, Hosts, IsTidy, code_of}
 use Rattle.vd_execution.specs.Text.{flat, pick, text}
 use Rattle.vd_execution.specs.World.{Tape}
-use Rattle.vd_execution_confluence.proofs.Picks.{picks}
+use Rattle.vd_execution_confluence.proofs.Front.{picks}
 use Rattle.vd_core.specs.Numbers.{NumbersFit}
 use Rattle.vd_core.specs.Facts.{IsWellMade}
 use Rattle.vd_projection.specs.Programs.{IsRunnable, joint_of}
-use Rattle.vd_projection.proofs.HostCodes.{ended_past, joint_is_tidy}
+use Rattle.vd_projection.proofs.Front.{ended_past, joint_is_tidy}
 use Rattle.vd_reorder.specs.Packets.{opened_in}
 use Rattle.vd_choreography_exchange.specs.Turning.{TellsTheSame}
 use Rattle.vd_choreography_reorder.specs.Testing.{Opened, opened_at}
 use Rattle.vd_choreography_reorder.specs.Order.{IsBroughtForward, without_empty}
 use Rattle.vd_choreography_reorder.specs.Sorting.{early_order}
-use Rattle.vd_choreography_reorder.proofs.Brought.{forward_by, runs_alike as alike_runs}
+use Rattle.vd_choreography_reorder.proofs.Front.{forward_by, runs_alike as alike_runs}
 use Rattle.vd_choreography_coalescing.specs.Joining.{joined, joined_lines}
 use Rattle.vd_choreography_coalescing.specs.Telling.{IsJoined}
-use Rattle.vd_choreography_coalescing.proofs.Telling.{joined_tells}
+use Rattle.vd_choreography_coalescing.proofs.Front.{joined_tells}
 use Rattle.vd_projection_reordered.specs.Early.{opened_of, AreEarlyCodes, each_code, RunsAlike, EarlyCodeRunsAlike, AreEarly, ComeEarly, IsOfHosts}
 use Rattle.vd_projection_reordered.proofs.Opened.{opened_there}
 

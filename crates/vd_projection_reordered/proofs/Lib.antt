@@ -1,2 +1,3 @@
+pub mod Front
 mod Opened
-pub mod Early
+mod Early

@@ -8,7 +8,7 @@ use Rattle.vd_execution.specs.declared.instructions.Line.{Line}
 use Rattle.vd_execution.specs.declared.instructions.Reg.{Reg}
 use Rattle.vd_execution.specs.Joint.{Joint, IsTidy, code_of}
 use Rattle.vd_execution.specs.Text.{flat, pick, text}
-use Rattle.vd_execution_confluence.proofs.Picks.{picks}
+use Rattle.vd_execution_confluence.proofs.Front.{picks}
 use Rattle.vd_reorder.specs.Packets.{opened_in}
 use Rattle.vd_choreography_reorder.specs.Testing.{opened_at}
 use Rattle.vd_projection_reordered.specs.Early.{opened_of, IsOfHosts}

@@ -13,9 +13,7 @@ use Rattle.vd_execution.specs.Ranges.{depth}
 use Rattle.vd_reorder_laws.specs.Hastening.{Piece, Acts, Sends, Awaits, before}
 use Rattle.vd_host_text.specs.Lines.{IsWord, HasNumbers}
 use Rattle.vd_hostcode.specs.Ranges.{is_register, is_peer, packet_is_within}
-use Rattle.vd_projection_files.proofs.Numbers.{both, is_at_most}
-use Rattle.vd_projection_files.proofs.Bulk.{code_bulk}
-use Rattle.vd_projection_files.proofs.Instrs.{CanStand, AllCanStand}
+use Rattle.vd_projection_files.proofs.Front.{both, is_at_most, code_bulk, CanStand, AllCanStand}
 
 -- ---- two packets that share
 

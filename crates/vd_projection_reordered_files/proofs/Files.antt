@@ -14,31 +14,22 @@ use Rattle.vd_execution.specs.Plans.{Plan, PlanIsTidy}
 use Rattle.vd_execution.specs.Ranges.{depth}
 use Rattle.vd_execution.specs.Text.{IsCodeOf, text}
 use Rattle.vd_execution.specs.Gadgets.{Gadget}
-use Rattle.vd_execution_confluence.proofs.Reading.{read_back, unbegun}
-use Rattle.vd_execution_confluence.proofs.Taking.{within}
+use Rattle.vd_execution_confluence.proofs.Front.{read_back, unbegun, within}
 use Rattle.vd_choreography.specs.Block.{block_of}
 use Rattle.vd_choreography.specs.Emission.{Emission, block_emission, emitting_at_start, in_turn, stmt_emission}
-use Rattle.vd_choreography.proofs.Folds.{fold_each}
+use Rattle.vd_choreography.proofs.Front.{fold_each}
 use Rattle.vd_backend_laws.specs.Given.{zero_deal}
 use Rattle.vd_backend_laws.specs.Parts.{suite_calls}
 use Rattle.vd_backend_laws.specs.Whole.{plan_at, inputs_of}
-use Rattle.vd_backend_laws.proofs.Given.{zero_deals_are_valid}
+use Rattle.vd_backend_laws.proofs.Front.{zero_deals_are_valid}
 use Rattle.vd_host_text.specs.declared.program.Digest.{Digest}
 use Rattle.vd_host_text.specs.Text.{name_field, program_text}
-use Rattle.vd_hostcode.proofs.Outcomes.{all_within, written_is_read}
+use Rattle.vd_hostcode.proofs.Front.{all_within, written_is_read}
 use Rattle.vd_projection.specs.Programs.{joint_of}
-use Rattle.vd_projection.proofs.HostCodes.{proto_over, runnable_over, no_words, codes_can_be_loaded, codes_run_as_told, ended_past, joint_is_tidy}
+use Rattle.vd_projection.proofs.Front.{proto_over, runnable_over, no_words, codes_can_be_loaded, codes_run_as_told, ended_past, joint_is_tidy}
 use Rattle.vd_projection_files.specs.Stored.{CanBeStored, StandsInAFile}
 use Rattle.vd_core.specs.Numbers.{numbers_fit}
-use Rattle.vd_projection_files.proofs.Files.{stands_in_a_file}
-use Rattle.vd_projection_files.proofs.Registers.{all_hold, plan_below}
-use Rattle.vd_projection_files.proofs.FewBlocks.{BlockIsSmall, counted, weight_of, cells_in, emission_of, block_small}
-use Rattle.vd_projection_files.proofs.Steps.{plan_weighs}
-use Rattle.vd_projection_files.proofs.Bulk.{code_bulk, plan_lines}
-use Rattle.vd_projection_files.proofs.Bytes.{code_short, file_short}
-use Rattle.vd_projection_files.proofs.Instrs.{AllCanStand}
-use Rattle.vd_projection_files.proofs.Codes.{plan_stands, parts_below, takes_below, below_takes, plan_within}
-use Rattle.vd_projection_files.proofs.Texts.{none_broken, text_leads}
+use Rattle.vd_projection_files.proofs.Front.{stands_in_a_file, all_hold, plan_below, BlockIsSmall, counted, weight_of, cells_in, emission_of, block_small, plan_weighs, code_bulk, plan_lines, code_short, file_short, AllCanStand, plan_stands, parts_below, takes_below, below_takes, plan_within, none_broken, text_leads}
 use Rattle.vd_projection_reordered.specs.Early.{IsEarly}
 use Rattle.vd_projection_reordered_files.specs.Stored.{program_at, EarlyProgramsStandInFiles, EarlyProgramsAreReadBack, EarlyTextsAreShort}
 use Rattle.vd_projection_reordered_files.proofs.Codes.{IsNoMore}

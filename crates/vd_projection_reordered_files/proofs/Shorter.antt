@@ -7,14 +7,13 @@ use Rattle.vd_execution.specs.declared.instructions.Reg.{Reg}
 use Rattle.vd_execution.specs.Code.{Code, Then, Send, Recv, Choose, Repeat}
 use Rattle.vd_execution.specs.Joint.{Joint, Done, Do, Msg, If, For, if_part, code_of, IsTidy}
 use Rattle.vd_reorder_laws.specs.Hastening.{Piece, Acts, Sends, Awaits}
-use Rattle.vd_projection_files.proofs.Numbers.{at_most}
+use Rattle.vd_projection_files.proofs.Front.{at_most}
 use Rattle.vd_choreography_exchange.specs.Turning.{Turn, Does, Tells, then_goes, Spot, Here, Behind, InFirst, InOther, InBody, BehindBranch, BehindLoop, with_joint}
 use Rattle.vd_choreography_reorder.specs.Testing.{Opened}
 use Rattle.vd_choreography_reorder.specs.Order.{IsCarefullyTurned, CarefulTurns, without_empty}
-use Rattle.vd_choreography_reorder.proofs.Brought.{forward_by}
-use Rattle.vd_choreography_reorder.proofs.Empty.{still_tidy}
+use Rattle.vd_choreography_reorder.proofs.Front.{forward_by, still_tidy}
 use Rattle.vd_choreography_coalescing.specs.Joining.{can_share, message_before, joined}
-use Rattle.vd_choreography_coalescing.proofs.Telling.{joined_tidy}
+use Rattle.vd_choreography_coalescing.proofs.Front.{joined_tidy}
 use Rattle.vd_projection_reordered.specs.Early.{opened_of, IsEarly}
 use Rattle.vd_projection_reordered_files.proofs.Codes.{IsNoMore, itself, same_code, onwards, maybe, maybe_then, maybe_swap, choose_then, repeat_then, part_then, sends_share, receives_share}
 

@@ -1,3 +1,4 @@
+pub mod Front
 mod Rows
 mod Members
-pub mod Over
+mod Over

@@ -9,8 +9,7 @@ use Rattle.vd_base.specs.declared.protocols.HostSet.{HostSet}
 use Rattle.vd_base.specs.HostSets.{host, hosts, members, has_host}
 use Rattle.vd_formula.specs.declared.label.Label.{Label}
 use Rattle.vd_formula.specs.TruthTable.{TruthTable, at, formula_where, any_of, never_of, both_of, either_of}
-use Rattle.vd_formula.proofs.Tables.{at-formula_where}
-use Rattle.vd_formula.proofs.FormSteps.{same_formula}
+use Rattle.vd_formula.proofs.Front.{at-formula_where, same_formula}
 use Rattle.vd_protocol.specs.Authority.{label_of, names_of, IsOver, disjunction_of, conjunction_of, copies_of}
 use Rattle.vd_protocol.proofs.Rows.{passing_more}
 

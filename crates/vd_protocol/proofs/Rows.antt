@@ -7,7 +7,7 @@ use Rattle.std.proofs.lemmas.Grind.{flat_map-append}
 use Rattle.std.proofs.lemmas.List.{map-append, append-nil, append_assoc}
 use Rattle.vd_base.specs.declared.ids.HostId.{HostId}
 use Rattle.vd_base.specs.HostSets.{host, hosts}
-use Rattle.vd_formula.proofs.Antichains.{range_more}
+use Rattle.vd_formula.proofs.Front.{range_more}
 
 -- the elements that pass, each changed, of one more number
 pub passing_more : {A B : Type 0} (make : ℕ → A) (test : A → Bool) (change : A → B) (n : ℕ) → map change (filter test (map make (range_with_len 0 (n + 1)))) ≡ map change (filter test (map make (range_with_len 0 n))) ++ cond (test (make n)) (change (make n) ∷ []) []

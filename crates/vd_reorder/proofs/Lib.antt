@@ -1,6 +1,7 @@
-pub mod InRows
+pub mod Front
+mod InRows
 mod Tests
-pub mod Texts
+mod Texts
 mod Sinking
 mod Room
 mod Before

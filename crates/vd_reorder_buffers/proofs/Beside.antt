@@ -2,7 +2,7 @@
 use Rattle.std.proofs.Common.{◌≡◌, ℕ, suc, ◌+◌, ◌≤◌, List, [], ◌∷◌, ◌++◌, refl, sym, ap, ◌∙◌, subst, arith}
 use Rattle.vd_execution.specs.Code.{Code, Finished, Then, Choose, Repeat, followed_by}
 use Rattle.vd_reorder_laws.specs.Hastening.{Piece, Acts, Sends, Awaits, before, Stretch, One, Branch, Loop, stretch_before, MayPassAll, MayPassStretch}
-use Rattle.vd_reorder_laws.proofs.Exchanged.{followed_stretch}
+use Rattle.vd_reorder_laws.proofs.Front.{followed_stretch}
 use Rattle.vd_reorder_buffers.proofs.Passed.{ahead, packet, sends, AllPass, packets_of, Sunk, Passed, Nowhere, Behind, InBranch, InLoop, followed_before, followed_ahead}
 use Rattle.vd_reorder_buffers.proofs.Early.{ahead_append, sends_append}
 

@@ -10,11 +10,9 @@ use Rattle.vd_execution.specs.Registers.{put}
 use Rattle.vd_execution.specs.Code.{Code, Then, Send, Recv, Choose, Repeat, followed_by}
 use Rattle.vd_execution.specs.World.{Local, World, Tape, moved_on, queue, step, endless}
 use Rattle.vd_execution.specs.Joint.{Part, Joint, Done, Do, Msg, If, For, if_part, code_of, hosts_of, TakesPart, Apart, Within, Host, Hosts, Agrees, acted, after_do, after_msg, is_other, turn_begun, turns, joint, in_turns, program_order, IsTidy, GuardsAre, AllTurns, IsSmooth, resting}
-use Rattle.vd_execution.proofs.Puts.{same_or_not, put_same, put_other}
-use Rattle.vd_execution_confluence.proofs.Parts.{Every, every_map, every_zip, absent_part, parts_at, part_keeps, guards_each, map_part, do_here, do_there, said_here, heard_here, msg_there, absent}
-use Rattle.vd_execution_confluence.proofs.Diamond.{stepped}
-use Rattle.vd_execution_confluence.proofs.Resting.{Quietly, acts, branch_quietly, turn_quietly, over_quietly, local_of, all_taken, resting_put, same_resting}
-use Rattle.vd_execution_confluence.proofs.Resting as old
+use Rattle.vd_execution.proofs.Front.{same_or_not, put_same, put_other}
+use Rattle.vd_execution_confluence.proofs.Front.{Every, every_map, every_zip, absent_part, parts_at, part_keeps, guards_each, map_part, do_here, do_there, said_here, heard_here, msg_there, absent, stepped, Quietly, acts, branch_quietly, turn_quietly, over_quietly, local_of, all_taken, resting_put, same_resting}
+use Rattle.vd_execution_confluence.proofs.Front as old
 
 -- all that the host sent is taken
 abbrev pub Calm : World → ℕ → Type 0

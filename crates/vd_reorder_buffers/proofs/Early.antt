@@ -9,11 +9,10 @@ use Rattle.vd_execution.specs.Code.{Code}
 use Rattle.vd_execution.specs.Step.{Source, State, Cursors, Need, Nothing, Item, Packet, Unequal, Ended, Given, answer, need, next, word_printed, deed_of_print, words_in}
 use Rattle.vd_execution.specs.World.{Local, done, moved_on, IsPrefixOf}
 use Rattle.vd_execution.specs.Joint.{supplied}
-use Rattle.vd_execution.proofs.Puts.{same_or_not, put_same, put_other, get_append}
-use Rattle.vd_execution_confluence.proofs.Diamond.{moved_grows}
+use Rattle.vd_execution.proofs.Front.{same_or_not, put_same, put_other, get_append}
+use Rattle.vd_execution_confluence.proofs.Front.{moved_grows}
 use Rattle.vd_reorder_laws.specs.Hastening.{Piece, Acts, Sends, Awaits, before, at, without_packets, MayPass, Stretch, One, Branch, Loop, MayPassStretch}
-use Rattle.vd_reorder_laws.proofs.Turned.{piece_needs, piece_moves, piece_leaves}
-use Rattle.vd_reorder_laws.proofs.Stretches.{leaves}
+use Rattle.vd_reorder_laws.proofs.Front.{piece_needs, piece_moves, piece_leaves, leaves}
 use Rattle.vd_reorder_buffers.proofs.Passed.{ahead, packet, sends, AllPass}
 
 abbrev pub Items : Type 0

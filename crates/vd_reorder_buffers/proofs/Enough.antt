@@ -6,17 +6,14 @@ use Rattle.vd_execution.specs.Step.{deed}
 use Rattle.vd_execution.specs.Schedule.{run_by, IsStuckBy}
 use Rattle.vd_execution.specs.World.{Local, World, Tape, step, endless}
 use Rattle.vd_execution.specs.Joint.{Joint, fresh, joint, started, at_end, code_of, program_order}
-use Rattle.vd_execution_confluence.proofs.Confluence.{through_run, one_end}
-use Rattle.vd_execution_confluence.proofs.Reached.{ended_stuck}
-use Rattle.vd_execution_confluence.proofs.Reading.{ends_there}
-use Rattle.vd_execution_confluence.proofs.Resting.{same_resting}
+use Rattle.vd_execution_confluence.proofs.Front.{through_run, one_end, ended_stuck, ends_there, same_resting}
 use Rattle.vd_reorder_laws.specs.Hastening.{Piece, at, MayPass}
 use Rattle.vd_reorder_laws.specs.Passing.{IsSoundTest, hastened}
 use Rattle.vd_reorder_laws.specs.Testing.{may}
 use Rattle.vd_reorder_laws.specs.Careful.{careful}
-use Rattle.vd_reorder_laws.proofs.Testing.{sound}
+use Rattle.vd_reorder_laws.proofs.Front.{sound}
 use Rattle.vd_execution_buffers.specs.Room.{has_room, narrow}
-use Rattle.vd_execution_buffers.proofs.Commuting.{commute}
+use Rattle.vd_execution_buffers.proofs.Front.{commute}
 use Rattle.vd_reorder_buffers.specs.Window.{begun, RoomForTheWindowIsEnough, RoomForCarefulHostsIsEnough}
 use Rattle.vd_reorder_buffers.proofs.Calm.{To, from, order}
 use Rattle.vd_reorder_buffers.proofs.Passed.{ahead, hastened_passed, no_end, end_is_end}

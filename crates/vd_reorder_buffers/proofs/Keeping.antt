@@ -11,12 +11,10 @@ use Rattle.vd_execution.specs.Code.{Code, Finished, Choose, Repeat, followed_by}
 use Rattle.vd_execution.specs.Step.{State, Nothing, Deed, Quiet, Said, Heard, Printed, answer, need, need_of, next, deed, deed_of, deed_of_print, word_printed}
 use Rattle.vd_execution.specs.World.{Local, World, Supply, Tape, given, done, moved_on, queue, step, endless}
 use Rattle.vd_execution.specs.Joint.{supplied}
-use Rattle.vd_execution_confluence.proofs.Confluence.{Through, through_all}
-use Rattle.vd_execution.proofs.Puts.{same_or_not, put_same, put_other, put_twice, put_itself}
-use Rattle.vd_execution_confluence.proofs.Diamond.{Below, answer_more, Stepped, stepped, steps_to}
+use Rattle.vd_execution_confluence.proofs.Front.{Through, through_all, Below, answer_more, Stepped, stepped, steps_to}
+use Rattle.vd_execution.proofs.Front.{same_or_not, put_same, put_other, put_twice, put_itself}
 use Rattle.vd_reorder_laws.specs.Hastening.{Piece, Acts, Sends, Awaits, before, at, Stretch, One, Branch, Loop, without_packets}
-use Rattle.vd_reorder_laws.proofs.Turned.{piece_moves, piece_leaves}
-use Rattle.vd_reorder_laws.proofs.Stretches.{turns, is_over}
+use Rattle.vd_reorder_laws.proofs.Front.{piece_moves, piece_leaves, turns, is_over}
 use Rattle.vd_execution_buffers.specs.Room.{has_room, narrow}
 use Rattle.vd_reorder_buffers.proofs.Calm.{Calm, To}
 use Rattle.vd_reorder_buffers.proofs.Passed.{ahead, packet, sends, AllPass, Sunk, Passed, Nowhere, Behind, InBranch, InLoop, first_same, no_branch, no_loop}

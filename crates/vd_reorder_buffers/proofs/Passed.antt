@@ -3,8 +3,7 @@ use Rattle.std.proofs.Common.{◌≡◌, ℕ, zero, suc, ◌+◌, ◌≤◌, Boo
 use Rattle.vd_execution.specs.Code.{Code, Finished, Then, Send, Recv, Choose, Repeat, followed_by}
 use Rattle.vd_reorder_laws.specs.Hastening.{Piece, Acts, Sends, Awaits, before, Stretch, One, Branch, Loop, stretch_before, MayPassStretch}
 use Rattle.vd_reorder_laws.specs.Passing.{IsSoundTest, passes_stretch, sunk, hastened}
-use Rattle.vd_reorder_laws.proofs.Exchanged.{followed_stretch}
-use Rattle.vd_reorder_laws.proofs.Passing.{stretch_sound}
+use Rattle.vd_reorder_laws.proofs.Front.{followed_stretch, stretch_sound}
 
 -- some pieces before a code
 abbrev pub ahead : List Piece → Code → Code

@@ -5,9 +5,9 @@ use Rattle.vd_execution.specs.declared.instructions.Instr.{Instr}
 use Rattle.vd_execution.specs.declared.instructions.Instr.TheVariants as instr
 use Rattle.vd_execution.specs.Code.{Code, weight}
 use Rattle.vd_reorder_laws.specs.Hastening.{Exchanges, IsHastened}
-use Rattle.vd_reorder_histories.proofs.Falling.{exchanged_weighs}
+use Rattle.vd_reorder_histories.proofs.Front.{exchanged_weighs}
 use Rattle.vd_hostcode.specs.Ranges.{breaks, first_broken, numbers, open_behind, IsWithinRanges}
-use Rattle.vd_hostcode.proofs.Outcomes.{first_is_broken}
+use Rattle.vd_hostcode.proofs.Front.{first_is_broken}
 use Rattle.vd_reorder_files.proofs.Reordered.{Reordered, Same, Behind, Exchanged, InTurn, is_piece}
 
 module _ (hosts : ℕ) (me : HostId) where

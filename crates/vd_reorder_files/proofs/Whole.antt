@@ -7,18 +7,17 @@ use Rattle.vd_execution.specs.Text.{IsCodeOf}
 use Rattle.vd_reorder_laws.specs.Careful.{careful}
 use Rattle.vd_reorder.specs.Packets.{stays_in}
 use Rattle.vd_reorder.specs.Passing.{IsHastenedText, hastened_by, hastened_code, window}
-use Rattle.vd_reorder.proofs.Texts.{hastened_is}
+use Rattle.vd_reorder.proofs.Front.{hastened_is}
 use Rattle.vd_host_text.specs.declared.program.HostProgram.{HostProgram}
 use Rattle.vd_host_text.specs.Lines.{Leads, Line, line_of, line_text, lines_text, start}
 use Rattle.vd_host_text.specs.File.{File, IsFile, file_text, from_version, has_arrays}
 use Rattle.vd_host_text.specs.Outcome.{HasText, IsFileOf, file_of, program_of}
 use Rattle.vd_host_text.specs.Reading.{code_of}
 use Rattle.vd_host_text.specs.Text.{names_line, number_line, plan_line, program_text, version}
-use Rattle.vd_host_text.proofs.Programs.{text_is, text_is_file}
+use Rattle.vd_host_text.proofs.Front.{text_is, text_is_file}
 use Rattle.vd_hostcode.specs.Outcome.{CanRun, IsOutcome}
 use Rattle.vd_hostcode.specs.Ranges.{first_broken, most_steps, static_steps}
-use Rattle.vd_hostcode.proofs.Fits.{have_peers}
-use Rattle.vd_hostcode.proofs.Outcomes.{all_within, can_run}
+use Rattle.vd_hostcode.proofs.Front.{have_peers, all_within, can_run}
 use Rattle.vd_reorder_files.specs.Files.{HastenedProgramsAreReadBack, with_hastened}
 use Rattle.vd_reorder_files.proofs.Reordered.{Reordered, hastened_reorders}
 use Rattle.vd_reorder_files.proofs.Lines.{arrays_kept, leads_kept, length_kept, peers_kept, texts}

@@ -4,7 +4,7 @@ use Rattle.std.proofs.lemmas.Bool.{eq-eqb}
 use Rattle.vd_execution.specs.Code.{Code, weight}
 use Rattle.vd_execution.specs.Step.{Source, Inputs, OwnWords, Triples, BitTriples, Pairs, same_source, Cursors, Need, Nothing, Item, Packet, Unequal, Ended, advanced, need, next, deed}
 use Rattle.vd_execution.specs.World.{Local, Supply, Tape, moved_on, endless, followed_by_zeros, or_zeros}
-use Rattle.vd_execution_confluence.proofs.Reached.{done_state}
+use Rattle.vd_execution_confluence.proofs.Front.{done_state}
 use Rattle.vd_execution_histories.specs.Histories.{GetsFor, Goes, gone, IsLinked}
 use Rattle.vd_reorder_laws.specs.Hastening.{at, IsHastened}
 use Rattle.vd_reorder_histories.specs.Ahead.{IsHeldUpAt}

@@ -6,7 +6,7 @@ use Rattle.vd_execution.specs.Registers.{Registers}
 use Rattle.vd_execution.specs.Code.{Code, Finished, Then, Send, Recv, Choose, Repeat, followed_by, weight}
 use Rattle.vd_execution.specs.Step.{Ended, need, need_of, pending_after, next, deed}
 use Rattle.vd_execution.specs.World.{Local, moved_on}
-use Rattle.vd_execution_confluence.proofs.Reached.{done_state}
+use Rattle.vd_execution_confluence.proofs.Front.{done_state}
 use Rattle.vd_reorder_laws.specs.Hastening.{Piece, Acts, Sends, Awaits, before, Stretch, One, Branch, Loop, stretch_before, Place, Here, Behind, InFirst, InOther, InBody, BehindBranch, BehindLoop, with_code, IsExchanged}
 
 weight_both : (c d : Code) → weight (followed_by c d) ≡ weight c + weight d

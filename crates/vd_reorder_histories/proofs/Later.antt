@@ -5,12 +5,11 @@ use Rattle.std.specs.Prelude.{slice_get}
 use Rattle.vd_execution.specs.Code.{Code, weight}
 use Rattle.vd_execution.specs.Step.{Source, Cursors, Need, Nothing, Item, Packet, Unequal, Ended, Given, of_length, answer, need}
 use Rattle.vd_execution.specs.World.{Local, Tape, moved_on, endless, IsPrefixOf}
-use Rattle.vd_execution_confluence.proofs.Diamond.{prefix_same, moved_grows}
+use Rattle.vd_execution_confluence.proofs.Front.{prefix_same, moved_grows}
 use Rattle.vd_execution_histories.specs.Histories.{GetsFor, Gets, Goes, gone, TakesSent, IsLinked}
-use Rattle.vd_execution_histories.proofs.Following.{able, sent_packet}
+use Rattle.vd_execution_histories.proofs.Front.{able, sent_packet}
 use Rattle.vd_reorder_laws.specs.Hastening.{before, at, stretch_before, without_packets, Place, Here, Behind, InFirst, InOther, InBody, BehindBranch, BehindLoop, with_code, IsExchanged, Exchanges, IsHastened}
-use Rattle.vd_reorder_laws.proofs.Exchanged.{not_finished, piece_not_finished, Pair, old_of, new_of, IsInside, along}
-use Rattle.vd_reorder_laws.proofs.Stretches.{Meets, meets}
+use Rattle.vd_reorder_laws.proofs.Front.{not_finished, piece_not_finished, Pair, old_of, new_of, IsInside, along, Meets, meets}
 use Rattle.vd_reorder_histories.specs.Ahead.{IsAhead, Reaches}
 use Rattle.vd_reorder_histories.proofs.Falling.{moved_falls, exchanged_weighs, weighs}
 

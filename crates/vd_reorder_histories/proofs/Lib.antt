@@ -1,5 +1,6 @@
-pub mod Standing
-pub mod Falling
+pub mod Front
+mod Standing
+mod Falling
 mod Later
 mod HeldUp
 mod Maximal

@@ -6,14 +6,12 @@ use Rattle.vd_execution.specs.Schedule.{Steps}
 use Rattle.vd_execution.specs.Step.{Need, answer, need}
 use Rattle.vd_execution.specs.World.{Local, World, Supply, given, moved_on, step, run}
 use Rattle.vd_execution.specs.Joint.{Joint, fresh, resting, at_end}
-use Rattle.vd_execution.proofs.Puts.{same_or_not, put_other}
+use Rattle.vd_execution.proofs.Front.{same_or_not, put_other}
 use Rattle.vd_execution_confluence.specs.Claims.{RunsWell, IsOnTheWay, last_of}
-use Rattle.vd_execution_confluence.proofs.Confluence.{steps_keep}
-use Rattle.vd_execution_confluence.proofs.Diamond.{stepped}
-use Rattle.vd_execution_confluence.proofs.Reached.{twin, remaining, ended_needs}
-use Rattle.vd_execution_histories.proofs.Following.{Behind, follow}
+use Rattle.vd_execution_confluence.proofs.Front.{steps_keep, stepped, twin, remaining, ended_needs}
+use Rattle.vd_execution_histories.proofs.Front.{Behind, follow}
 use Rattle.vd_reorder_laws.specs.Hastening.{AreHastened}
-use Rattle.vd_reorder_laws.proofs.Hosts.{comes, hastened_on_the_way}
+use Rattle.vd_reorder_laws.proofs.Front.{comes, hastened_on_the_way}
 use Rattle.vd_reorder_histories.specs.Hastened.{stand_from, AreHistoriesFrom, EndedHastenedHostsAreWhole}
 
 pub reached_from : (s : Supply) (j : Joint) (n : ℕ) (codes : ℕ → Code) (words : ℕ → List (List ℕ)) → RunsWell s j → AreHastened n j codes

@@ -7,10 +7,8 @@ use Rattle.vd_execution.specs.Code.{Code, Finished}
 use Rattle.vd_execution.specs.Step.{answer, need}
 use Rattle.vd_execution.specs.Schedule.{Steps}
 use Rattle.vd_execution.specs.World.{Local, World, Supply, Tape, given, moved_on, step, endless, AllEnded}
-use Rattle.vd_execution.proofs.Puts.{same_or_not, put_same, put_twice, put_itself}
-use Rattle.vd_execution_confluence.proofs.Confluence.{strip}
-use Rattle.vd_execution_confluence.proofs.Diamond.{diamond, Below, answer_more, stepped, steps_to, moved_grows, front_later}
-use Rattle.vd_execution_confluence.proofs.Reached.{ended_stuck}
+use Rattle.vd_execution.proofs.Front.{same_or_not, put_same, put_twice, put_itself}
+use Rattle.vd_execution_confluence.proofs.Front.{strip, diamond, Below, answer_more, stepped, steps_to, moved_grows, front_later, ended_stuck}
 use Rattle.vd_reorder_laws.specs.Hastening.{before, at, stretch_before, without_packets, Place, Here, Behind, InFirst, InOther, InBody, BehindBranch, BehindLoop, with_code, IsExchanged, Exchanges}
 use Rattle.vd_reorder_laws.proofs.Turned.{turned, turned_below, other_steps}
 use Rattle.vd_reorder_laws.proofs.Exchanged.{not_finished, Pair, old_of, new_of, SomeLead, IsInside, along}

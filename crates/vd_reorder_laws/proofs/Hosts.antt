@@ -7,10 +7,8 @@ use Rattle.vd_execution.specs.Schedule.{Steps}
 use Rattle.vd_execution.specs.World.{World, Supply, Tape, step, run, effective, AllEnded, IsShort, IsStuck, IsPrefixOf, words_of, followed_by_zeros, endless}
 use Rattle.vd_execution.specs.Joint.{Joint, Hosts, code_of, fresh, resting, started, at_end}
 use Rattle.vd_execution_confluence.specs.Claims.{RunsWell, RunsToItsEnd, IsOnTheWay, Suffices, last_of, order_of}
-use Rattle.vd_execution.proofs.Puts.{same_or_not, put_same, put_other}
-use Rattle.vd_execution_confluence.proofs.Confluence.{run_steps, steps_run}
-use Rattle.vd_execution_confluence.proofs.Reached.{GrowsInto, grows_along, faultless, goes_on, twin, remaining, Enough, never_short, ended_whole, stuck_ended}
-use Rattle.vd_execution_confluence.proofs.Compiled.{in_program_order}
+use Rattle.vd_execution.proofs.Front.{same_or_not, put_same, put_other}
+use Rattle.vd_execution_confluence.proofs.Front.{run_steps, steps_run, GrowsInto, grows_along, faultless, goes_on, twin, remaining, Enough, never_short, ended_whole, stuck_ended, in_program_order}
 use Rattle.vd_reorder_laws.specs.Hastening.{at, Exchanges, IsHastened, AreHastened}
 use Rattle.vd_reorder_laws.proofs.Turned.{turned}
 use Rattle.vd_reorder_laws.proofs.Ending.{keeps}

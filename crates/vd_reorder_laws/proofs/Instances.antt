@@ -8,7 +8,7 @@ use Rattle.vd_execution.specs.Registers.{Registers, put, put_each, written}
 use Rattle.vd_execution.specs.Code.{Code, Then, Send, Recv}
 use Rattle.vd_execution.specs.Step.{Source, Cursors, Need, Nothing, Item, Packet, Unequal, Ended, Given, same_source, answer, need, advanced, one_further, need_of_action, word_printed, deed_of_print, words_in}
 use Rattle.vd_execution.specs.World.{Local, done, moved_on}
-use Rattle.vd_execution.proofs.Puts.{put_other, put_commutes}
+use Rattle.vd_execution.proofs.Front.{put_other, put_commutes}
 use Rattle.vd_reorder_laws.specs.Hastening.{Acts, Sends, Awaits, at, without_packets, MayPass}
 use Rattle.vd_reorder_laws.specs.Neighbours.{IsItemOrNothing, IsPlain, words_for, ListsDiffer, IsApart, AreApart}
 

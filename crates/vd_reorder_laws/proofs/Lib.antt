@@ -1,10 +1,11 @@
-pub mod Turned
-pub mod Exchanged
+pub mod Front
+mod Turned
+mod Exchanged
 mod Ending
-pub mod Hosts
-pub mod Instances
-pub mod Passing
-pub mod Stretches
-pub mod Rows
-pub mod Testing
-pub mod Careful
+mod Hosts
+mod Instances
+mod Passing
+mod Stretches
+mod Rows
+mod Testing
+mod Careful

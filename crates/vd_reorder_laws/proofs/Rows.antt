@@ -6,7 +6,7 @@ use Rattle.std.proofs.lemmas.Bool.Decides.{nat_tests}
 use mathlib.Core.Path.{fun_ext}
 use Rattle.vd_execution.specs.Registers.{Registers, put, put_each, put_from, words_from, zeroed, digest_of, nth}
 use Rattle.vd_execution.specs.Step.{words_in}
-use Rattle.vd_execution.proofs.Puts.{put_other, put_itself}
+use Rattle.vd_execution.proofs.Front.{put_other, put_itself}
 use Rattle.vd_reorder_laws.specs.Testing.{row}
 
 words_row : (f : Registers) (r count : ℕ) → words_in f (row r count) ≡ words_from f r count

@@ -8,7 +8,7 @@ use Rattle.vd_execution.specs.Code.{Code, Finished, Then, Send, Recv, Choose, Re
 use Rattle.vd_execution.specs.Step.{Source, Given, answer, need, next, deed, deed_of_print, word_printed}
 use Rattle.vd_execution.specs.Text.{register}
 use Rattle.vd_execution.specs.World.{Local, done, moved_on}
-use Rattle.vd_execution_confluence.proofs.Reached.{done_state}
+use Rattle.vd_execution_confluence.proofs.Front.{done_state}
 use Rattle.vd_reorder_laws.specs.Hastening.{Piece, Acts, Sends, Awaits, before, at, without_packets, MayPass, Stretch, One, Branch, Loop, stretch_before, MayPassAll, MayPassStretch, Place, Here, BehindBranch, BehindLoop, IsHastened}
 use Rattle.vd_reorder_laws.proofs.Turned.{piece_moves, piece_leaves}
 use Rattle.vd_reorder_laws.proofs.Exchanged.{Pair, old_of, new_of, SomeLead, none_lead, exchanged_behind}

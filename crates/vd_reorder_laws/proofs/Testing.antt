@@ -10,7 +10,7 @@ use Rattle.vd_execution.specs.declared.instructions.Action.TheVariants as action
 use Rattle.vd_execution.specs.Registers.{Registers, put, put_each, written, applied, digest_of, nth}
 use Rattle.vd_execution.specs.Code.{Code}
 use Rattle.vd_execution.specs.Step.{Source, Need, Nothing, Item, Packet, Unequal, Ended, same_source, words_in}
-use Rattle.vd_execution.proofs.Puts.{put_commutes}
+use Rattle.vd_execution.proofs.Front.{put_commutes}
 use Rattle.vd_reorder_laws.specs.Hastening.{Piece, Acts, Sends, Awaits, MayPass, IsHastened}
 use Rattle.vd_reorder_laws.specs.Neighbours.{IsPlain, ListsDiffer, IsApart, AreApart}
 use Rattle.vd_reorder_laws.specs.Passing.{hastened}

@@ -5,8 +5,8 @@ use Rattle.vd_execution.specs.Registers.{Registers, put}
 use Rattle.vd_execution.specs.Code.{Code, Then}
 use Rattle.vd_execution.specs.Step.{State, Cursors, Deed, Quiet, Said, Heard, Printed, answer, need, next, deed}
 use Rattle.vd_execution.specs.World.{Local, World, Supply, given, done, moved_on, step}
-use Rattle.vd_execution.proofs.Puts.{same_or_not, put_same, put_other, put_commutes}
-use Rattle.vd_execution_confluence.proofs.Diamond.{Below, answer_more, stepped, steps_to}
+use Rattle.vd_execution.proofs.Front.{same_or_not, put_same, put_other, put_commutes}
+use Rattle.vd_execution_confluence.proofs.Front.{Below, answer_more, stepped, steps_to}
 use Rattle.vd_reorder_laws.specs.Hastening.{Piece, Acts, Sends, Awaits, before, at}
 
 -- host h of the world has this code before it

@@ -11,7 +11,7 @@ use Rattle.vd_execution.specs.declared.instructions.Instr.TheVariants as instr
 use Rattle.vd_reorder_laws.specs.Hastening.{Sends}
 use Rattle.vd_reorder_laws.specs.Testing.{has, meet}
 use Rattle.vd_reorder.specs.Packets.{is_blind, opened, opened_in, stays_in}
-use Rattle.vd_reorder.proofs.InRows.{has_append}
+use Rattle.vd_reorder.proofs.Front.{has_append}
 use Rattle.vd_execution.specs.Registers.{Registers}
 use Rattle.vd_reorder_secrecy.specs.Blind.{Did, instructions, AreWords, AreMarked, AllBlind, AllHide, OnlyBlindPacketsGoAhead, PacketsThatGoAheadHide}
 use Rattle.vd_reorder_secrecy.proofs.Masked.{blind_hides}

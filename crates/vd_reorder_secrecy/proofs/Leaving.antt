@@ -11,12 +11,12 @@ use Rattle.vd_execution.specs.Registers.{Registers, put, put_each, written}
 use Rattle.vd_execution.specs.Code.{Code, Finished, Then, Recv}
 use Rattle.vd_execution.specs.Step.{State, deed, deed_of_print, word_printed, words_in, next}
 use Rattle.vd_execution.specs.World.{Local, done, moved_on}
-use Rattle.vd_execution.proofs.Puts.{put_same, put_other, put_commutes, put_itself}
+use Rattle.vd_execution.proofs.Front.{put_same, put_other, put_commutes, put_itself}
 use Rattle.vd_reorder_laws.specs.Hastening.{Acts, Awaits, at, MayPass}
 use Rattle.vd_reorder_laws.specs.Testing.{is_simple, reads, writes, has, meet, may}
-use Rattle.vd_reorder_laws.proofs.Testing.{sound}
+use Rattle.vd_reorder_laws.proofs.Front.{sound}
 use Rattle.vd_reorder.specs.Packets.{touches}
-use Rattle.vd_reorder.proofs.InRows.{meet_turned}
+use Rattle.vd_reorder.proofs.Front.{meet_turned}
 use Rattle.vd_reorder_secrecy.specs.Blind.{Did, effect, behind, told_by, told, IsLeft, AllLeft}
 
 -- ---- an action

@@ -15,8 +15,8 @@ use Rattle.vd_execution.specs.declared.instructions.Instr.{Instr}
 use Rattle.vd_execution.specs.declared.instructions.Instr.TheVariants as instr
 use Rattle.vd_execution.specs.Registers.{Registers, put, written, applied, nth}
 use Rattle.vd_execution.specs.Text.{register}
-use Rattle.vd_execution.proofs.Puts.{same_or_not, put_same, put_other, put_twice, put_commutes}
-use Rattle.vd_views.proofs.Masks.{xor_back, only_difference, only_xor}
+use Rattle.vd_execution.proofs.Front.{same_or_not, put_same, put_other, put_twice, put_commutes}
+use Rattle.vd_views.proofs.Front.{xor_back, only_difference, only_xor}
 use Rattle.vd_reorder_laws.specs.Testing.{row, has, reads, writes}
 use Rattle.vd_reorder.specs.Packets.{touches, since, latest, is_latest, is_factor, deals, is_mask, hides, draws, is_secret, are_secret, is_nonce, leaves_blind, left_blind, is_blind}
 use Rattle.vd_reorder_secrecy.specs.Blind.{Did, effect, behind, instructions, told_by, told, AreWords, Fits, filled, with_item, IsHidden, IsUnused, IsOfDigest, IsMark, AreMarked, BlindWordsHide}

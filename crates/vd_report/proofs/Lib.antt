@@ -1,12 +1,13 @@
+pub mod Front
 mod TokenSteps
 mod InputsSteps
 mod ScheduleSteps
 mod InputsLaw
 mod ScheduleLaw
 mod ScheduleFurther
-pub mod ScheduleFaults
+mod ScheduleFaults
 mod Outcomes
 mod FurtherHost
 mod InputsFurther
-pub mod InputsFaults
+mod InputsFaults
 mod Members

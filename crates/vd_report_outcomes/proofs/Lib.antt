@@ -1,3 +1,4 @@
-pub mod Judged
+pub mod Front
+mod Judged
 mod Searching
-pub mod Picked
+mod Picked

@@ -2,13 +2,12 @@
 use Rattle.std.proofs.Common.{◌≡◌, ℕ, List, Result, Ok, Err, refl, sym, ◌∙◌}
 use Rattle.vd_deal_items.specs.declared.deal.Deal.{Deal}
 use Rattle.vd_deal_versions.specs.Plain.{DealsFollowGrammar, plain_read}
-use Rattle.vd_deal_versions.proofs.DealtExact.{follow_grammar}
-use Rattle.vd_deal_versions.proofs.PlainExact.{plain_follow}
+use Rattle.vd_deal_versions.proofs.Front.{follow_grammar, plain_follow}
 use Rattle.vd_report.specs.declared.fault.ReadFault.{ReadFault}
 use Rattle.vd_report.specs.declared.schedule.Schedule.{Schedule}
 use Rattle.vd_report.specs.Schedule.{schedule_read}
 use Rattle.vd_report.specs.ScheduleText.{SchedulesFollowGrammar}
-use Rattle.vd_report.proofs.ScheduleFaults.{schedules_follow}
+use Rattle.vd_report.proofs.Front.{schedules_follow}
 use Rattle.vd_report_outcomes.specs.Outcomes.{IsDealRead, IsScheduleRead, ReplayOutcomes, OutcomesAreSingle}
 use Rattle.vd_report_outcomes.proofs.Judged.{judged_once}
 use Rattle.vd_report_outcomes.proofs.Searching.{judge, judged}

@@ -1,16 +1,17 @@
-pub mod Stores
-pub mod Tables
-pub mod Chain
-pub mod Agree
-pub mod Meaning
-pub mod Statements
-pub mod Outputs
-pub mod Pushes
-pub mod Shape
-pub mod Tests
-pub mod Sights
-pub mod Seeing
-pub mod WellMade
-pub mod Sizes
+pub mod Front
+mod Stores
+mod Tables
+mod Chain
+mod Agree
+mod Meaning
+mod Statements
+mod Outputs
+mod Pushes
+mod Shape
+mod Tests
+mod Sights
+mod Seeing
+mod WellMade
+mod Sizes
 mod Weights
-pub mod Exits
+mod Exits

@@ -12,7 +12,7 @@ use Rattle.vd_resolve.specs.Sizes.{source_size}
 use Rattle.vd_resolve.specs.Limits.{limits_check, IsResolved}
 use Rattle.vd_rewrite.specs.Rewriting.{entry_of, unnamed}
 use Rattle.vd_mux.specs.BooleanGuards.{HasBooleanGuards}
-use Rattle.vd_anf_wellformed.proofs.Steps.{passed}
+use Rattle.vd_anf_wellformed.proofs.Front.{passed}
 use Rattle.vd_rewrite_boolean_guards.proofs.SlotKinds.{Sound}
 use Rattle.vd_rewrite_boolean_guards.proofs.Walked.{body_typed, functions_typed}
 

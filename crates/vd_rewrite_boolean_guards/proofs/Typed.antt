@@ -28,7 +28,7 @@ use Rattle.vd_resolve.specs.declared.symbol.Symbol.TheVariants as symbol
 use Rattle.vd_resolve.specs.declared.symbol.Signature.{Signature}
 use Rattle.vd_resolve.specs.Rules.{Scope, and_then, kind_eq, kinds_eq, kind_or, of_words, of_one_kind, mux_kind, shift_kind, infix_kind, prefix_kind, value_kind, element_kind, call_kind, known, form_check, Typing, SegmentTyping, typings, chain_typing, signs_typing, expr_typing, segment_typing, typing, typing_of_segment}
 use Rattle.vd_mux.specs.BooleanGuards.{is_truth_kind, right_is_truth}
-use Rattle.vd_anf_wellformed.proofs.Steps.{passed, err_is, ok_is, accepted}
+use Rattle.vd_anf_wellformed.proofs.Front.{passed, err_is, ok_is, accepted}
 use Rattle.vd_rewrite_boolean_guards.proofs.SlotKinds.{truth_by, Agrees, Has, Sound, Grows, Makes, grows_none, grows_after, has_stays, kind_is, then_makes, emit, emit_word}
 use Rattle.vd_rewrite_boolean_guards.proofs.Beside.{Beside, look_up, stay_beside}
 

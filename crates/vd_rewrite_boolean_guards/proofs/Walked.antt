@@ -26,7 +26,7 @@ use Rattle.vd_resolve.specs.declared.symbol.Symbol.TheVariants as symbol
 use Rattle.vd_resolve.specs.declared.symbol.Signature.{Signature}
 use Rattle.vd_resolve.specs.Rules.{Names, Scope, and_then, kind_eq, declared, known, written_label_check, typing, Checking, is_stored, is_put, element_kind, in_sequence, block_check, is_kind, statement_check, checking, parameters_check, signature_of, function_names, function_check, is_new, functions_check}
 use Rattle.vd_mux.specs.BooleanGuards.{is_truth_kind}
-use Rattle.vd_anf_wellformed.proofs.Steps.{passed, err_is, ok_is, accepted, declared_is}
+use Rattle.vd_anf_wellformed.proofs.Front.{passed, err_is, ok_is, accepted, declared_is}
 use Rattle.vd_rewrite_boolean_guards.proofs.SlotKinds.{truth_by, test_by, Agrees, Has, Sound, Grows, Keeps, Makes, grows_none, grows_after, has_stays, agrees_back, kind_is, then_keeps, then_makes, push_met, slot_grows, slot_has, slot_sound, stmt_keeps, let_met, var_met, array_met, store_met, put_met, output_met, if_met, for_met, emit, name_keeps}
 use Rattle.vd_rewrite_boolean_guards.proofs.Beside.{look_up, push_beside}
 use Rattle.vd_rewrite_boolean_guards.proofs.Typed.{FitsSpot, Shows, shows_stay, Bindings, FitsCall, Calls, kinds_same, array_shown, expr_typed}

@@ -14,7 +14,7 @@ use Rattle.vd_core.specs.declared.normal.Stmt.TheFolds.{the_lemmas}
 use Rattle.vd_core.specs.declared.normal.Stmt.TheOpen.{Stmt-F}
 use Rattle.vd_formula.specs.declared.label.Label.{Label}
 use Rattle.vd_formula.specs.TruthTable.{TruthTable, ActsFor, implies_of, either_of}
-use Rattle.vd_formula.proofs.Acting.{acts_refl, acts_trans}
+use Rattle.vd_formula.proofs.Front.{acts_refl, acts_trans}
 use Rattle.vd_constraints.specs.declared.labels.Labels.{Labels}
 use Rattle.vd_constraints.specs.declared.system.Check.{Check}
 use Rattle.vd_constraints.specs.declared.system.Lower.{Lower}

@@ -18,10 +18,8 @@ use Rattle.vd_rewrite.specs.Rewriting.{Made, made_at_start, kept_let, all_made, 
 use Rattle.vd_mux.specs.BooleanGuards.{has_boolean_guards}
 use Rattle.vd_mux.specs.Selections.{with_selections, some_hidden, turned, turned_where_boolean}
 use Rattle.vd_rewrite_labels.specs.TurnedLabels.{new_slot, KeepsLabels, CanBeLabelled, LabelActsFor}
-use Rattle.vd_rewrite.proofs.Tables.{placed_at_start, Known}
-use Rattle.vd_rewrite.proofs.Meaning.{Counts}
-use Rattle.vd_rewrite.proofs.Outputs.{counts_range}
-use Rattle.vd_noninter_laws.proofs.Same.{same_principals, same_slots}
+use Rattle.vd_rewrite.proofs.Front.{placed_at_start, Known, Counts, counts_range}
+use Rattle.vd_noninter_laws.proofs.Front.{same_principals, same_slots}
 use Rattle.vd_rewrite_labels.proofs.Asked.{slot_label, flows_self}
 use Rattle.vd_rewrite_labels.proofs.Labelled.{Tied, Final, Stands}
 use Rattle.vd_rewrite_labels.proofs.Walked.{Old, Inside, Result, BodyFact, body_walks, body_grows}

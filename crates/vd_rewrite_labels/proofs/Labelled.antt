@@ -25,8 +25,7 @@ use Rattle.vd_constraints.specs.Satisfies.{label_at, HoldsRule, HoldsCheck}
 use Rattle.vd_constraints.specs.Rules.{flows, formula, label, no_authority, host_label, written_at, offset_of, right_rules, right_checks, output_rules, output_checks, with_rules, with_checks, with_stmt, with_body}
 use Rattle.vd_rewrite.specs.declared.guard.Guard.{Guard}
 use Rattle.vd_rewrite.specs.Rewriting.{Made, slot, unnamed, entry_of, in_block, fresh, moved, moved_right, with_stmt as with_step, with_kept, with_fresh, selection, selected, with_made}
-use Rattle.vd_rewrite.proofs.Stores.{item_old, item_last, length_push}
-use Rattle.vd_rewrite.proofs.Tables.{Known}
+use Rattle.vd_rewrite.proofs.Front.{item_old, item_last, length_push, Known}
 use Rattle.vd_rewrite_labels.proofs.Asked.{Flows, flows_self, flows_on, Outer, DeclassifyFits, EndorseFits, OutputFits, AllFlow, RightFits, OptionalFits, slot_label, together, flows_met, right_met, Holds, more_rules, more_checks, optional_met, optional_blocks, Step, asks_let, asks_var, asks_array, asks_store, asks_put, asks_output, asks_push}
 
 -- a function with another value at one place

@@ -24,10 +24,7 @@ use Rattle.vd_constraints.specs.Satisfies.{label_at, HoldsRule, HoldsCheck}
 use Rattle.vd_constraints.specs.Rules.{flows, host_label, written_at, offset_of, right_rules, right_checks, output_rules, output_checks, with_rules, with_checks, with_block, with_optional, with_stored, with_put, with_branch, in_order, stmt_step, with_stmt, with_body}
 use Rattle.vd_rewrite.specs.declared.guard.Guard.{Guard}
 use Rattle.vd_rewrite.specs.Rewriting.{Made, slot, entry_of, in_block, moved, moved_right, with_stmt as with_step, with_kept, selected, Rewriting, is_some, run_all, guard_of, both_run, emptied, block_more, closed, kept_if, kept_for, is_hidden, kept_let, rewriting_step, rewriting, with_made}
-use Rattle.vd_rewrite.proofs.Tables.{Placed, Grown, Known, known_later}
-use Rattle.vd_rewrite.proofs.Meaning.{Counts, counts_split, Laws, Meaning, list_parts}
-use Rattle.vd_rewrite.proofs.Statements.{parts, stmt_means, body_means}
-use Rattle.vd_rewrite.proofs.Outputs.{let_grown, let_adds, let_gives}
+use Rattle.vd_rewrite.proofs.Front.{Placed, Grown, Known, known_later, Counts, counts_split, Laws, Meaning, list_parts, parts, stmt_means, body_means, let_grown, let_adds, let_gives}
 use Rattle.vd_rewrite_labels.proofs.Asked.{each, front, back, Flows, flows_self, flows_on, Outer, outer_of, OutputFits, RightFits, OptionalFits, slot_label, flows_met, flows_of, right_of, Holds, more_rules, fewer_rules, fewer_checks, optional_of, optional_blocks, Step, asks_if, asks_for}
 use Rattle.vd_rewrite_labels.proofs.Labelled.{put, put_here, put_before, put_over, names_over, Over, old, Tied, Final, Later, later_both, final_back, Stands, body_asks, Labelled, labelled_none, labelled_both, goes_push, step_labelled, tied_anyway, later_anyway, final_anyway, later_kept, kept_labelled, written_same, let_asked, var_asked, array_asked, store_asked, put_asked, output_asked, right_moves, GuardsFlow, guards_later, guards_on, guards_more, selected_labelled}
 

@@ -24,24 +24,23 @@ use Rattle.vd_constraints.specs.declared.system.Place.TheVariants.{Slot as slot_
 use Rattle.vd_constraints.specs.Rules.{label, host_label, system_of}
 use Rattle.vd_constraints.specs.Satisfies.{label_at, no_label, Satisfies}
 use Rattle.vd_constraints.specs.Scoped.{is_below, right_below, stmt_below, slots_below}
-use Rattle.vd_constraints.proofs.InSight.{well_made_scoped}
+use Rattle.vd_constraints.proofs.Front.{well_made_scoped}
 use Rattle.vd_protocol.specs.Authority.{authority_of, label_of}
 use Rattle.vd_space.specs.declared.problem.Problem.{Problem}
 use Rattle.vd_space.specs.declared.problem.Making.{Making}
 use Rattle.vd_space.specs.declared.problem.Guard.{Guard}
 use Rattle.vd_space.specs.Reading.{Read, named_by, all_parts, all_named, guard_of, read_step, read_stmt, problem_of}
 use Rattle.vd_space.specs.Validity.{protocols, protocol, acts_for, covers, may_read, holds_at, if_decided, move_to_host, is_told, takes_part, guard_told}
-use Rattle.vd_space.proofs.Kept.{IsValid, parts_of}
+use Rattle.vd_space.proofs.Front.{IsValid, parts_of, as_many as as_many_slots}
 use Rattle.vd_noninter_laws.specs.Reading.{acts}
-use Rattle.vd_space.proofs.Counted.{as_many as as_many_slots}
 use Rattle.vd_space_optimum.specs.Cheapest.{IsValid as IsValidList}
-use Rattle.vd_noninter_assigned.proofs.Slots.{label_of_slot, stand_at, of_host}
+use Rattle.vd_noninter_assigned.proofs.Front.{label_of_slot, stand_at, of_host}
 use Rattle.vd_rewrite.specs.Rewriting.{Rewriting, all_pure, some_changed, is_some as some_in, is_hidden, kept_let, rewriting_step, rewriting, rewritings, is_within}
 use Rattle.vd_mux.specs.Selections.{with_selections, turned}
 use Rattle.vd_mux.specs.BooleanGuards.{has_boolean_guards}
 use Rattle.vd_rewrite.specs.Rewriting.{marked}
 use Rattle.vd_mux.specs.Hidden.{some_reads, hidden_marks, turn_of}
-use Rattle.vd_mux.proofs.Reading.{found}
+use Rattle.vd_mux.proofs.Front.{found}
 use Rattle.vd_rewrite_unchanged.specs.Unchanged.{ChosenProgramsStay}
 use Rattle.vd_rewrite_unchanged.proofs.Held.{Holder, is_held_by}
 

@@ -18,11 +18,10 @@ use Rattle.vd_space.specs.declared.problem.Problem.{Problem}
 use Rattle.vd_space.specs.declared.problem.Making.{Making}
 use Rattle.vd_space.specs.Reading.{problem_of}
 use Rattle.vd_space.specs.Validity.{protocols, protocol, can_stand, covers, has_candidate}
-use Rattle.vd_space.proofs.Kept.{parts_of}
-use Rattle.vd_space.proofs.Counted.{as_many}
+use Rattle.vd_space.proofs.Front.{parts_of, as_many}
 use Rattle.vd_space_optimum.specs.Cheapest.{IsValid as IsValidList}
 use Rattle.vd_rewrite_unchanged.specs.Unchanged.{ChosenDivisionsStay}
-use Rattle.vd_noninter_assigned.proofs.Slots.{stand_at}
+use Rattle.vd_noninter_assigned.proofs.Front.{stand_at}
 use Rattle.vd_rewrite.specs.Rewriting.{is_within}
 use Rattle.vd_long.specs.Lengthened.{parts_of as parts_of_right, is_division, some_true, lengthens_step, with_long_divisions}
 use Rattle.vd_rewrite.specs.Rewriting.{marked}

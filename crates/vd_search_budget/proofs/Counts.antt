@@ -6,8 +6,7 @@ use Rattle.std.proofs.lemmas.Int.{ints}
 use Rattle.vd_search_tree.specs.Trees.{Tree, IsBounded, AtLeast, count_from, is_within, sum_below}
 use Rattle.vd_search.specs.Answers.{Exceeds}
 use Rattle.vd_search.specs.Passes.{count_at}
-use Rattle.vd_search.proofs.Steps.{counts_step, is_within-yes, of_true, sum_next, sum_within}
-use Rattle.vd_search.proofs.Thresholds.{count_most, spent_at}
+use Rattle.vd_search.proofs.Front.{counts_step, is_within-yes, of_true, sum_next, sum_within, count_most, spent_at}
 
 -- a prefix within the threshold counts itself
 from_here : (tree : Tree) (most : ℤ) (prefix : List ℕ) → IsTrue (is_within tree most prefix) → (left : ℕ) → 1 ≤ count_from (is_within tree most) tree.choices left prefix

@@ -1,8 +1,9 @@
+pub mod Front
 mod Numbers
 mod Scans
 mod Three
 mod Whole
-pub mod Outcomes
+mod Outcomes
 mod Steps
 mod Answers
 mod Forms

@@ -2,7 +2,7 @@
 use Rattle.std.proofs.Common.{◌≡◌, ℕ, ◌<◌, List, [], ◌∷◌, ◌++◌, length, take, set, sym, ap, ◌∙◌, arith}
 use Rattle.std.proofs.lemmas.List.{take_more_set, take-take}
 use Rattle.std.proofs.Math.Seq.{take-append_seam}
-use Rattle.vd_search.proofs.Steps.{length_more}
+use Rattle.vd_search.proofs.Front.{length_more}
 
 -- it begins with the prefix
 abbrev pub Copies : List ℕ → List ℕ → Type 0

@@ -13,14 +13,14 @@ use Rattle.vd_search_certificate.specs.Texts.{IsShift}
 use Rattle.vd_bound.specs.Marks.{MarkHolds, AreTrees, opened_by, IsSound, IsLeastCost, count_of, is_expanded}
 use Rattle.vd_bound.specs.Checking.{checked}
 use Rattle.vd_bound.specs.Shifts.{first_bad}
-use Rattle.vd_bound.proofs.Yes.{sound_is_yes}
+use Rattle.vd_bound.proofs.Front.{sound_is_yes}
 use Rattle.vd_search.specs.Answers.{IsLeast}
 use Rattle.vd_space.specs.declared.problem.Problem.{Problem}
 use Rattle.vd_space.specs.Validity.{protocols}
 use Rattle.vd_space.specs.Costs.{cost}
 use Rattle.vd_space.specs.Spaces.{IsProblem, tree_of}
 use Rattle.vd_space.specs.Usual.{usual, firm}
-use Rattle.vd_space.proofs.Bounded.{high_whole, tree_bounded}
+use Rattle.vd_space.proofs.Front.{high_whole, tree_bounded}
 use Rattle.vd_search_stages.specs.Choices.{IsChosen, needed}
 use Rattle.vd_search_stages.specs.Confirming.{confirmed}
 use Rattle.vd_search_stages.specs.Naming.{NamesUse}

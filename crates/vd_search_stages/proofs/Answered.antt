@@ -23,10 +23,10 @@ use Rattle.vd_space.specs.Sizes.{IsWithinLimits}
 use Rattle.vd_space.specs.Spaces.{IsProblem, tree_of}
 use Rattle.vd_space.specs.Usual.{usual}
 use Rattle.vd_space.specs.Validity.{protocols}
-use Rattle.vd_space.proofs.Bounded.{tree_bounded}
+use Rattle.vd_space.proofs.Front.{tree_bounded}
 use Rattle.vd_cost_network.specs.Arcs.{arcs}
 use Rattle.vd_cost_network.specs.Network.{network_tree}
-use Rattle.vd_cost_network.proofs.Bounded.{network_tree_bounded}
+use Rattle.vd_cost_network.proofs.Front.{network_tree_bounded}
 use Rattle.vd_cost_network_prefix.specs.declared.made.NetworkTables.{NetworkTables}
 use Rattle.vd_search_stages.specs.Confirming.{Confirms, tree_by}
 use Rattle.vd_search_stages.specs.Naming.{NamesUse}

@@ -14,7 +14,7 @@ use Rattle.vd_search_certificate.specs.Texts.{IsShift}
 use Rattle.vd_bound.specs.Marks.{MarkHolds, AreTrees, opened_by, IsSound, count_of, is_expanded}
 use Rattle.vd_bound.specs.Checking.{checked}
 use Rattle.vd_bound.specs.Shifts.{first_bad}
-use Rattle.vd_bound.proofs.Yes.{sound_is_yes}
+use Rattle.vd_bound.proofs.Front.{sound_is_yes}
 use Rattle.vd_search.specs.Answers.{Answers, IsLeast}
 use Rattle.vd_search.specs.declared.answers.Answer.TheVariants as answer
 use Rattle.vd_space.specs.declared.problem.Problem.{Problem}
@@ -22,11 +22,10 @@ use Rattle.vd_space.specs.Labelled.{IsLabelled}
 use Rattle.vd_space.specs.Validity.{protocols}
 use Rattle.vd_space.specs.Costs.{cost}
 use Rattle.vd_space.specs.Spaces.{IsProblem, tree_of}
-use Rattle.vd_space.proofs.Bounded.{high_whole}
-use Rattle.vd_space.proofs.Few.{few_in}
+use Rattle.vd_space.proofs.Front.{high_whole, few_in}
 use Rattle.vd_cost_network.specs.Arcs.{arcs}
 use Rattle.vd_cost_network.specs.Network.{network_tree}
-use Rattle.vd_cost_network.proofs.Bounded.{network_high_whole, network_tree_bounded}
+use Rattle.vd_cost_network.proofs.Front.{network_high_whole, network_tree_bounded}
 use Rattle.vd_cost_network_prefix.specs.declared.made.NetworkTables.{NetworkTables}
 use Rattle.vd_cost_network_prefix.specs.Tables.{AreNetworkTables}
 use Rattle.vd_cost_network_shifts.specs.Shifts.{AreArcShifts, IsArcShift}

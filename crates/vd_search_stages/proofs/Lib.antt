@@ -1,6 +1,7 @@
+pub mod Front
 mod Chosen
-pub mod Once
-pub mod Accepted
+mod Once
+mod Accepted
 mod Named
 mod Answered
 mod ByArcs

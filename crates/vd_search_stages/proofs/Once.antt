@@ -4,7 +4,7 @@ use Rattle.std.proofs.lemmas.Int.{ints}
 use Rattle.vd_search_tree.specs.Trees.{Tree, IsChoice, IsEmpty, InOrder}
 use Rattle.vd_space.specs.declared.problem.Problem.{Problem}
 use Rattle.vd_space.specs.Spaces.{tree_of}
-use Rattle.vd_space.proofs.Kept.{valid_listed}
+use Rattle.vd_space.proofs.Front.{valid_listed}
 use Rattle.vd_search_stages.specs.Choices.{IsChosen, ChoiceOutcomes, HasOneChoice}
 use Rattle.vd_search_stages.proofs.Chosen.{chosen}
 

@@ -1,3 +1,4 @@
+pub mod Front
 mod Puts
-pub mod Lookup
-pub mod Sizes
+mod Lookup
+mod Sizes

@@ -6,17 +6,16 @@ use Rattle.std.proofs.lemmas.List.{length-set, get_or_default, get_or-set_other}
 use Rattle.std.proofs.lemmas.List.Elements.{All-contains}
 use Rattle.std.proofs.Math.Nat.{mul-le-mul_right}
 use Rattle.vd_formula.specs.TruthTable.{TruthTable, ActsFor, both_of}
-use Rattle.vd_formula.proofs.Acting.{acts_refl, acts_trans, both_first, both_second}
+use Rattle.vd_formula.proofs.Front.{acts_refl, acts_trans, both_first, both_second}
 use Rattle.vd_constraints.specs.declared.system.Part.{Part}
 use Rattle.vd_constraints.specs.declared.system.Bound.{Bound}
 use Rattle.vd_constraints.specs.declared.system.Lower.{Lower}
 use Rattle.vd_constraints.specs.declared.labels.Labels.{Labels}
 use Rattle.vd_constraints.specs.Systems.{Constraints, IsRuleOf, IsSystem}
 use Rattle.vd_constraints.specs.Satisfies.{formula_at, bound_at, HoldsRule, SolvesRules, IsLeastSolution}
-use Rattle.vd_constraints.proofs.Labellings.{over-part}
+use Rattle.vd_constraints.proofs.Front.{over-part}
 use Rattle.vd_labels_least.specs.Raising.{IsWithin, with_part}
-use Rattle.vd_labels_least.proofs.Parts.{formula-same, formula-other, all_truths}
-use Rattle.vd_labels_least.proofs.Raising.{IsReached, joined, raised, low, is_labelling, raised_reached, fewer}
+use Rattle.vd_labels_least.proofs.Front.{formula-same, formula-other, all_truths, IsReached, joined, raised, low, is_labelling, raised_reached, fewer}
 use Rattle.vd_solver.specs.declared.waiting.Waiting.{Waiting}
 use Rattle.vd_solver.specs.Reading.{read_part, part_number, IsIndex}
 use Rattle.vd_solver.specs.Visits.{IsWaiting, IsQueue, TakesRule, AddsRules}

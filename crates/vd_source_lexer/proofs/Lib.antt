@@ -1,4 +1,5 @@
-pub mod Pieces
+pub mod Front
+mod Pieces
 mod TokenSteps
-pub mod TokenLaws
-pub mod TokenFacts
+mod TokenLaws
+mod TokenFacts

@@ -1,8 +1,9 @@
-pub mod Exact
+pub mod Front
+mod Exact
 mod Models
 mod Runs
-pub mod OneTree
-pub mod Extra
-pub mod Readings
-pub mod Factor
-pub mod Lawful
+mod OneTree
+mod Extra
+mod Readings
+mod Factor
+mod Lawful

@@ -14,7 +14,7 @@ use Rattle.vd_protocol.specs.Authority.{IsOver, names_of}
 use Rattle.vd_constraints.specs.declared.labels.Labels.{Labels}
 use Rattle.vd_constraints.specs.Rules.{label}
 use Rattle.vd_constraints.specs.Satisfies.{no_label}
-use Rattle.vd_constraints.proofs.InSight.{well_made_scoped}
+use Rattle.vd_constraints.proofs.Front.{well_made_scoped}
 use Rattle.vd_space.specs.declared.problem.Making.{Making}
 use Rattle.vd_space.specs.Reading.{making_of, problem_of}
 use Rattle.vd_space.specs.Labelled.{IsLabelled, HasLabels, NamesOwnSlots}

@@ -11,9 +11,7 @@ use Rattle.vd_search_tree.specs.declared.shift.Shift.{Shift}
 use Rattle.vd_space.specs.declared.problem.Problem.{Problem}
 use Rattle.vd_space.specs.Bounds.{high}
 use Rattle.vd_space.specs.Validity.{protocols, use_joins, output_joins, guard_told, index_told, is_valid}
-use Rattle.vd_space.proofs.Kept.{valid_listed}
-use Rattle.vd_space.proofs.Loops.{too_many}
-use Rattle.vd_space.proofs.Priced.{listed_or_not}
+use Rattle.vd_space.proofs.Front.{valid_listed, too_many, listed_or_not}
 use Rattle.vd_space_prefix.specs.Tables.{AreListed, IsStep}
 use Rattle.vd_space_api.specs.Places.{places_in, places_of}
 

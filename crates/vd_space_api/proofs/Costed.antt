@@ -9,7 +9,7 @@ use Rattle.vd_space.specs.Validity.{protocols, is_valid}
 use Rattle.vd_space.specs.Costs.{cost}
 use Rattle.vd_space.specs.Bounds.{low}
 use Rattle.vd_space.specs.Spaces.{IsProblem}
-use Rattle.vd_space.proofs.Bounded.{low_whole}
+use Rattle.vd_space.proofs.Front.{low_whole}
 use Rattle.vd_space_api.specs.Places.{place_of, places_of, places_in, is_valid_list}
 
 module _ (problem : Problem) (list : List Proto) (valid : IsTrue (is_valid_list problem list)) where

@@ -16,9 +16,7 @@ use Rattle.vd_space.specs.declared.problem.Problem.{Problem}
 use Rattle.vd_space.specs.Validity.{protocols}
 use Rattle.vd_space.specs.Labelled.{HasLabels}
 use Rattle.vd_space.specs.WellFormed.{IsWellFormed}
-use Rattle.vd_space.proofs.Programs.{is_labelled}
-use Rattle.vd_space.proofs.Sized.{is_within_limits}
-use Rattle.vd_space.proofs.Weighed.{is_problem}
+use Rattle.vd_space.proofs.Front.{is_labelled, is_within_limits, is_problem}
 use Rattle.vd_space_api.specs.Places.{IsSpace}
 
 module _ (problem : Problem) (list : List Proto) (kept : ∥ IsSpace problem list ∥₁) where

@@ -12,8 +12,7 @@ use Rattle.vd_base.specs.Holders.{same_protocol}
 use Rattle.vd_space.specs.declared.problem.Problem.{Problem}
 use Rattle.vd_space.specs.Validity.{use_joins, output_joins, guard_told, index_told, is_valid}
 use Rattle.vd_space.specs.Sizes.{IsWithinLimits}
-use Rattle.vd_space.proofs.Loops.{too_many}
-use Rattle.vd_space.proofs.Priced.{listed_or_not}
+use Rattle.vd_space.proofs.Front.{too_many, listed_or_not}
 use Rattle.vd_space_api.specs.Places.{place_of, places_of}
 
 abbrev pub no_proto : Proto

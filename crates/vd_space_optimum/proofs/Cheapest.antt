@@ -5,7 +5,7 @@ use Rattle.vd_space.specs.Spaces.{IsProblem, tree_of}
 use Rattle.vd_space.specs.declared.problem.Problem.{Problem}
 use Rattle.vd_space.specs.Bounds.{high}
 use Rattle.vd_space.specs.Costs.{cost}
-use Rattle.vd_space.proofs.Bounded.{high_whole}
+use Rattle.vd_space.proofs.Front.{high_whole}
 use Rattle.vd_space_optimum.specs.Cheapest.{IsCheapest, IsValid}
 
 is_whole : (problem : Problem) (list : List ℕ) → IsValid problem list → IsWhole (tree_of problem []) list

@@ -6,7 +6,7 @@ use Rattle.vd_search_tree.specs.declared.shift.Shift.{Shift}
 use Rattle.vd_space.specs.declared.problem.Problem.{Problem}
 use Rattle.vd_space.specs.Costs.{use_term, index_term}
 use Rattle.vd_space.specs.Bounds.{low, shifted, high, least_pair, shifted_uses}
-use Rattle.vd_space.proofs.Totals.{total_append}
+use Rattle.vd_space.proofs.Front.{total_append}
 use Rattle.vd_space_prefix.specs.declared.tables.Sums.{Sums}
 use Rattle.vd_space_prefix.specs.Transfers.{IsWithin}
 use Rattle.vd_space_prefix.specs.Tables.{low_part, shifted_part, common_part, AreSumsOf, AreSmallAt}

@@ -10,7 +10,7 @@ use Rattle.vd_space.specs.Validity.{is_candidate, use_joins, output_joins, guard
 use Rattle.vd_space.specs.Costs.{Pair, total, guards_total}
 use Rattle.vd_space.specs.Bounds.{least_one, least_pair}
 use Rattle.vd_space.specs.Growth.{pair_names, guard_names, guard_sum, grown, with_choice, extends, use_names, output_names, index_names}
-use Rattle.vd_space.proofs.Growth.{total_grows, same_pair, same_guard}
+use Rattle.vd_space.proofs.Front.{total_grows, same_pair, same_guard}
 use Rattle.vd_space_prefix.specs.declared.transfers.Arc.{Arc}
 use Rattle.vd_space_prefix.specs.declared.guards.Telling.{Telling}
 use Rattle.vd_space_prefix.specs.Naming.{numbers_from, naming_of, all_at, allows}

@@ -9,9 +9,7 @@ use Rattle.vd_space.specs.declared.problem.Problem.{Problem}
 use Rattle.vd_space.specs.declared.problem.Guard.{Guard}
 use Rattle.vd_space.specs.Validity.{holds_at, takes_part}
 use Rattle.vd_space.specs.Growth.{guard_names, with_choice}
-use Rattle.vd_space.proofs.Growth.{same_item}
-use Rattle.vd_space.proofs.Joining.{part_grows}
-use Rattle.vd_space.proofs.Totals.{total_ext, total_plus}
+use Rattle.vd_space.proofs.Front.{same_item, part_grows, total_ext, total_plus}
 use Rattle.vd_space_prefix.specs.declared.guards.Telling.{Telling}
 use Rattle.vd_space_prefix.specs.Guards.{guard_under, joined_if, joined_under, told_if, told_under}
 

@@ -1,10 +1,11 @@
-pub mod Fills
-pub mod Changes
-pub mod Found
+pub mod Front
+mod Fills
+mod Changes
+mod Found
 mod Choices
-pub mod Paths
-pub mod Greater
-pub mod Numbering
-pub mod Placed
-pub mod Growing
+mod Paths
+mod Greater
+mod Numbering
+mod Placed
+mod Growing
 mod Joined

@@ -8,8 +8,7 @@ use Rattle.std.proofs.lemmas.List.Elements.{All-append, All-cons, All-nil, All-t
 use Rattle.vd_space.specs.declared.problem.Problem.{Problem}
 use Rattle.vd_space.specs.Validity.{protocols, is_valid}
 use Rattle.vd_space.specs.Growth.{extends, with_choice}
-use Rattle.vd_space.proofs.Growth.{valid_grows}
-use Rattle.vd_space.proofs.Priced.{listed_or_not}
+use Rattle.vd_space.proofs.Front.{valid_grows, listed_or_not}
 use Rattle.vd_space_prefix.specs.declared.tables.Tables.{Tables}
 use Rattle.vd_space_prefix.specs.declared.tables.Sums.{Sums}
 use Rattle.vd_space_prefix.specs.Tables.{AreListed, AreSumsOf, IsNext, IsPath}

@@ -10,7 +10,7 @@ use Rattle.vd_space.specs.Validity.{protocols, is_candidate}
 use Rattle.vd_space.specs.Costs.{Pair}
 use Rattle.vd_space.specs.Bounds.{lesser, least_below, only_if, least_pair, nothing_left}
 use Rattle.vd_space.specs.Growth.{least_free, row_least, column_least, both_least, StandsAt}
-use Rattle.vd_space.proofs.Places.{pair_by_place}
+use Rattle.vd_space.proofs.Front.{pair_by_place}
 use Rattle.vd_space_prefix.specs.declared.transfers.Arc.{Arc}
 use Rattle.vd_space_prefix.specs.declared.transfers.Transfer.{Transfer}
 use Rattle.vd_space_prefix.specs.Transfers.{by_place, cell, least_where, row_of, column_of, square_of, arc_of}

@@ -4,7 +4,7 @@ use Rattle.std.specs.Prelude.{option_map, unwrap_or}
 use Rattle.std.proofs.lemmas.List.{get_or_past}
 use Rattle.std.proofs.lemmas.List.FromFn.{length-map-range_with_len, get_or-map-range_with_len}
 use Rattle.vd_space.specs.Sizes.{heft}
-use Rattle.vd_space.proofs.Priced.{listed_or_not}
+use Rattle.vd_space.proofs.Front.{listed_or_not}
 use Rattle.vd_space_shifts.specs.Rows.{amounts_of, emptied_of, raised_of, by_place}
 use Rattle.vd_space_shifts.specs.Terms.{row_at, greatest}
 use Rattle.vd_space_shifts.proofs.Numbers.{more_low}

@@ -20,8 +20,7 @@ use Rattle.vd_space.specs.Bounds.{only_if, add, outputs_value}
 use Rattle.vd_space.specs.Sizes.{heft, IsWithinLimits}
 use Rattle.vd_space.specs.Labelled.{IsLabelled}
 use Rattle.vd_space.specs.Spaces.{IsProblem}
-use Rattle.vd_space.proofs.Prices.{row_price}
-use Rattle.vd_space.proofs.Priced.{small, told_price}
+use Rattle.vd_space.proofs.Front.{row_price, small, told_price}
 use Rattle.vd_space_shifts.specs.Rows.{weighed}
 use Rattle.vd_space_shifts.specs.Terms.{row_at, operation_at, operations_of, sum_of, with_output, IsTable, costs_with, greatest, AreCosts}
 use Rattle.vd_space_shifts.proofs.Numbers.{if_pos, weigh_pos, sum_pos, passes_low, weighed_low, sum_low}

@@ -7,7 +7,7 @@ use Rattle.vd_space.specs.Validity.{protocols, is_candidate}
 use Rattle.vd_space.specs.Bounds.{least_at, shifted_one, shifted_use}
 use Rattle.vd_space.specs.Labelled.{IsLabelled}
 use Rattle.vd_space.specs.Sizes.{IsWithinLimits}
-use Rattle.vd_space.proofs.Few.{few_in}
+use Rattle.vd_space.proofs.Front.{few_in}
 use Rattle.vd_space.specs.Usual.{with_amount, shift_to, from_target, to_source, in_list_order, usual_from, usual}
 
 -- ---- shifts

@@ -6,7 +6,7 @@ use Rattle.std.proofs.lemmas.List.{get_or_default, get_or-set_same, get_or-set_o
 use Rattle.vd_base.specs.declared.protocols.Proto.{Proto}
 use Rattle.vd_base.specs.Holders.{proto_in}
 use Rattle.vd_space.specs.declared.problem.Use.{Use}
-use Rattle.vd_space.proofs.Priced.{listed_or_not}
+use Rattle.vd_space.proofs.Front.{listed_or_not}
 use Rattle.vd_space_shifts.specs.declared.ledger.Ledger.{Ledger}
 use Rattle.vd_space_shifts.specs.Rows.{amounts_of, emptied_of, if_passes, given_from, givens_of}
 use Rattle.vd_space_shifts.specs.Terms.{row_at}

@@ -1,6 +1,7 @@
+pub mod Front
 mod Loops
 mod Sums
-pub mod Numbers
+mod Numbers
 mod Burden
 mod Tables
 mod Steps

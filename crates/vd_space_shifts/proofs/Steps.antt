@@ -11,7 +11,7 @@ use Rattle.vd_space.specs.Validity.{protocols, can_stand, is_candidate, move}
 use Rattle.vd_space.specs.Costs.{total, weigh}
 use Rattle.vd_space.specs.Bounds.{only_if, least_at, shifted_use, slot_shift, use_shift}
 use Rattle.vd_space.specs.Usual.{with_amount, shift_to, from_target, to_source, in_list_order}
-use Rattle.vd_space.proofs.Totals.{total_append}
+use Rattle.vd_space.proofs.Front.{total_append}
 use Rattle.vd_space_shifts.specs.Rows.{if_passes, weighed, amounts_of, given_at, given_from, givens_of}
 use Rattle.vd_base.specs.Holders.{proto_in}
 use Rattle.vd_space_shifts.specs.Terms.{row_at, candidates_of, IsTable, terms_after}

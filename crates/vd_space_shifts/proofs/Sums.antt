@@ -10,7 +10,7 @@ use Rattle.vd_space.specs.declared.problem.Use.{Use}
 use Rattle.vd_space.specs.Costs.{total}
 use Rattle.vd_space.specs.Bounds.{signed, side_of, slot_shift, use_shift}
 use Rattle.vd_space.specs.Usual.{shift_to}
-use Rattle.vd_space.proofs.Totals.{total_append}
+use Rattle.vd_space.proofs.Front.{total_append}
 use Rattle.vd_space_shifts.specs.Ledger.{one_shift, made}
 
 abbrev pub amount_of : Bool → ℕ → ℤ

@@ -9,7 +9,7 @@ use Rattle.vd_space.specs.declared.problem.Problem.{Problem}
 use Rattle.vd_space.specs.Validity.{protocols, is_candidate}
 use Rattle.vd_space.specs.Costs.{total, operation_value}
 use Rattle.vd_space.specs.Bounds.{only_if, add, outputs_value, slot_shift}
-use Rattle.vd_space.proofs.Totals.{total_append}
+use Rattle.vd_space.proofs.Front.{total_append}
 use Rattle.vd_space_shifts.specs.Terms.{row_at, IsTable, terms_after}
 
 module _ (problem : Problem) where

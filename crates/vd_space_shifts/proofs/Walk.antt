@@ -13,9 +13,7 @@ use Rattle.vd_space.specs.Costs.{total}
 use Rattle.vd_space.specs.Bounds.{slot_shift, use_shift}
 use Rattle.vd_space.specs.Sizes.{heft}
 use Rattle.vd_space.specs.Usual.{from_target, to_source, in_list_order, usual_from}
-use Rattle.vd_space.proofs.Totals.{total_append}
-use Rattle.vd_space.proofs.Priced.{heft_append, listed_or_not, small}
-use Rattle.vd_space.proofs.Prices.{move_price}
+use Rattle.vd_space.proofs.Front.{total_append, heft_append, listed_or_not, small, move_price}
 use Rattle.vd_space_shifts.specs.declared.ledger.Ledger.{Ledger}
 use Rattle.vd_space_shifts.specs.Rows.{if_passes, weighed, amounts_of, emptied_of, raised_of, given_at, given_from}
 use Rattle.vd_space_shifts.specs.Terms.{row_at, candidates_of, IsTable, terms_after, greatest}

@@ -17,8 +17,7 @@ use Rattle.vd_space.specs.Growth.{with_choice, use_names, index_names, guard_nam
 use Rattle.vd_space.specs.Labelled.{IsLabelled}
 use Rattle.vd_space.specs.Sizes.{IsWithinLimits}
 use Rattle.vd_space.specs.WellFormed.{IsWellFormed}
-use Rattle.vd_space.proofs.Priced.{listed_or_not}
-use Rattle.vd_space.proofs.Totals.{total_map}
+use Rattle.vd_space.proofs.Front.{listed_or_not, total_map}
 use Rattle.vd_space_prefix.specs.declared.naming.Naming.{Naming}
 use Rattle.vd_space_prefix.specs.declared.tables.Tables.{Tables}
 use Rattle.vd_space_prefix.specs.declared.transfers.Arc.{Arc}
@@ -27,9 +26,7 @@ use Rattle.vd_space_prefix.specs.Steps.{changes}
 use Rattle.vd_space_prefix.specs.Guards.{guard_changes, AreTellings}
 use Rattle.vd_space_prefix.specs.Tables.{AreListed, AreTables, AreSmallAt, IsFew, GrowsBy, gain_at, naming_at, no_naming, low_part, shifted_part, common_part}
 use Rattle.vd_space_prefix.specs.Transfers.{IsWithin, by_place}
-use Rattle.vd_space_prefix.proofs.Growing.{naming_allows, naming_named, arcs_grow, guards_grow}
-use Rattle.vd_space_prefix.proofs.Numbering.{numbered, unnumbered, shifted_numbered}
-use Rattle.vd_space_prefix.proofs.Placed.{at_place, size_by_place}
+use Rattle.vd_space_prefix.proofs.Front.{naming_allows, naming_named, arcs_grow, guards_grow, numbered, unnumbered, shifted_numbered, at_place, size_by_place}
 use Rattle.vd_space_terms.specs.Arcs.{AreArcsOf}
 use Rattle.vd_space_tables.specs.declared.charges.Charge.{Charge}
 use Rattle.vd_space_tables.specs.Charges.{IsCharge, charge_of, outputs_of, telling_of}

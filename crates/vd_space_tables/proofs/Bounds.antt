@@ -18,7 +18,7 @@ use Rattle.vd_space.specs.Bounds.{least_one, least_pair, nothing_left, shifted_o
 use Rattle.vd_space.specs.Growth.{guard_sum}
 use Rattle.vd_space.specs.Labelled.{IsLabelled}
 use Rattle.vd_space.specs.Sizes.{IsWithinLimits}
-use Rattle.vd_space.proofs.Totals.{total_append, total_map}
+use Rattle.vd_space.proofs.Front.{total_append, total_map}
 use Rattle.vd_space_prefix.specs.declared.transfers.Arc.{Arc}
 use Rattle.vd_space_prefix.specs.declared.guards.Telling.{Telling}
 use Rattle.vd_space_prefix.specs.Transfers.{ArePrices, IsWithin, priced, taken}

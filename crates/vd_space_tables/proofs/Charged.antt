@@ -9,10 +9,10 @@ use Rattle.vd_space.specs.declared.problem.Problem.{Problem}
 use Rattle.vd_space.specs.Validity.{protocols, is_candidate}
 use Rattle.vd_space.specs.Costs.{One, total, operation_value}
 use Rattle.vd_space.specs.Bounds.{nothing_left, least_one, add, outputs_value, slot_shift, shifted_one}
-use Rattle.vd_space.proofs.Places.{one_by_place}
+use Rattle.vd_space.proofs.Front.{one_by_place}
 use Rattle.vd_space_prefix.specs.Transfers.{by_place, least_where}
 use Rattle.vd_space_prefix.specs.Tables.{AreListed}
-use Rattle.vd_space_prefix.proofs.Placed.{at_place, where_same, Decided, stands, past, decided}
+use Rattle.vd_space_prefix.proofs.Front.{at_place, where_same, Decided, stands, past, decided}
 use Rattle.vd_space_tables.specs.declared.charges.Charge.{Charge}
 use Rattle.vd_space_tables.specs.Charges.{charge_from, charge_of}
 use Rattle.vd_space_tables.specs.Values.{merged_value}

@@ -14,7 +14,7 @@ use Rattle.vd_space.specs.Labelled.{IsLabelled}
 use Rattle.vd_space.specs.Sizes.{IsWithinLimits}
 use Rattle.vd_space.specs.WellFormed.{AreProtocols, IsWellFormed}
 use Rattle.vd_space_prefix.specs.Tables.{AreTables, AreSumsOf}
-use Rattle.vd_space_prefix.proofs.Placed.{size_by_place}
+use Rattle.vd_space_prefix.proofs.Front.{size_by_place}
 use Rattle.vd_space_tables.specs.declared.made.Moved.{Moved}
 use Rattle.vd_space_tables.specs.declared.made.Charges.{Charges}
 use Rattle.vd_space_tables.specs.declared.made.Kept.{Kept}

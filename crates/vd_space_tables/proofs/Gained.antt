@@ -11,8 +11,7 @@ use Rattle.vd_space.specs.declared.problem.Output.{Output}
 use Rattle.vd_space.specs.Costs.{One, total, operation_term, output_term, ones, slots_of}
 use Rattle.vd_space.specs.Bounds.{least_one, shifted_one, shifted_ones}
 use Rattle.vd_space.specs.Growth.{with_choice}
-use Rattle.vd_space.proofs.Growth.{same_one}
-use Rattle.vd_space.proofs.Totals.{total_append, total_map, total_ext, total_once}
+use Rattle.vd_space.proofs.Front.{same_one, total_append, total_map, total_ext, total_once}
 use Rattle.vd_space_prefix.specs.Tables.{AreListed}
 use Rattle.vd_space_tables.specs.Charges.{charge_of, outputs_of}
 use Rattle.vd_space_tables.specs.Gains.{gain_by, gain_at_slot, gain_with}

@@ -1,4 +1,5 @@
-pub mod Small
+pub mod Front
+mod Small
 mod Charged
 mod Loops
 mod Told

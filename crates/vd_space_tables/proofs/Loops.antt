@@ -10,7 +10,7 @@ use Rattle.std.proofs.lemmas.Option.{slice_get_cases, slice_get_read}
 use Rattle.vd_space.specs.declared.problem.Problem.{Problem}
 use Rattle.vd_space.specs.declared.problem.Output.{Output}
 use Rattle.vd_space.specs.Costs.{One, output_value, total}
-use Rattle.vd_space_prefix.proofs.Changes.{total_more}
+use Rattle.vd_space_prefix.proofs.Front.{total_more}
 use Rattle.vd_space.specs.Bounds.{add, outputs_value}
 use Rattle.vd_space.specs.Growth.{output_names}
 use Rattle.vd_space.specs.Validity.{protocols}

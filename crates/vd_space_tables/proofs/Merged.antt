@@ -18,11 +18,11 @@ use Rattle.vd_space.specs.Costs.{One, Pair, total, operation_term, output_term, 
 use Rattle.vd_space.specs.Bounds.{least_one, least_pair, shifted_one, shifted_ones, slot_shift}
 use Rattle.vd_space.specs.Labelled.{IsLabelled}
 use Rattle.vd_space.specs.Sizes.{IsWithinLimits}
-use Rattle.vd_space.proofs.Totals.{total_append, total_map, total_ext}
+use Rattle.vd_space.proofs.Front.{total_append, total_map, total_ext}
 use Rattle.vd_space_prefix.specs.declared.transfers.Arc.{Arc}
 use Rattle.vd_space_prefix.specs.Tables.{AreListed, gain_at}
 use Rattle.vd_space_prefix.specs.Transfers.{IsWithin, by_place}
-use Rattle.vd_space_prefix.proofs.Placed.{at_place}
+use Rattle.vd_space_prefix.proofs.Front.{at_place}
 use Rattle.vd_space_terms.specs.Arcs.{AreArcsOf}
 use Rattle.vd_space_terms.specs.Prices.{candidates_of}
 use Rattle.vd_space_terms.specs.Sums.{slot_shifts_of, AreSmallSums}

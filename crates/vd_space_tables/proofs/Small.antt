@@ -19,10 +19,9 @@ use Rattle.vd_space.specs.Bounds.{lesser, least_below, only_if, nothing_left, ad
 use Rattle.vd_space.specs.Growth.{least_free}
 use Rattle.vd_space.specs.Labelled.{IsLabelled}
 use Rattle.vd_space.specs.Sizes.{IsWithinLimits}
-use Rattle.vd_space.proofs.Prices.{row_price}
-use Rattle.vd_space.proofs.Priced.{small, told_price, listed_or_not}
+use Rattle.vd_space.proofs.Front.{row_price, small, told_price, listed_or_not}
 use Rattle.vd_space_prefix.specs.Transfers.{IsWithin, by_place}
-use Rattle.vd_space_prefix.proofs.Placed.{at_place, size_by_place}
+use Rattle.vd_space_prefix.proofs.Front.{at_place, size_by_place}
 use Rattle.vd_space_tables.specs.declared.charges.Charge.{Charge}
 use Rattle.vd_space_tables.specs.Charges.{IsCharge, charge_of, told_term}
 

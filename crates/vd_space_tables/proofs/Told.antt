@@ -15,15 +15,12 @@ use Rattle.vd_space.specs.Bounds.{least_one}
 use Rattle.vd_space.specs.Growth.{guard_sum}
 use Rattle.vd_space.specs.Labelled.{IsLabelled}
 use Rattle.vd_space.specs.Sizes.{IsWithinLimits}
-use Rattle.vd_space.proofs.Priced.{listed_or_not}
-use Rattle.vd_space.proofs.Terms.{total_same}
-use Rattle.vd_space.proofs.Totals.{total_map}
-use Rattle.vd_space.proofs.Valued.{each_below}
+use Rattle.vd_space.proofs.Front.{listed_or_not, total_same, total_map, each_below}
 use Rattle.vd_space_prefix.specs.declared.guards.Telling.{Telling}
 use Rattle.vd_space_prefix.specs.Guards.{IsTelling, AreTellings, told_under, told_if, guard_under}
 use Rattle.vd_space_prefix.specs.Tables.{AreListed}
 use Rattle.vd_space_prefix.specs.Transfers.{IsWithin}
-use Rattle.vd_space_prefix.proofs.Placed.{at_place, size_by_place}
+use Rattle.vd_space_prefix.proofs.Front.{at_place, size_by_place}
 use Rattle.vd_space_tables.specs.Charges.{IsCharge, told_charge_of, telling_of}
 use Rattle.vd_space_tables.proofs.Small.{zero_within, told_small}
 use Rattle.vd_space_tables.proofs.Charged.{one_under}

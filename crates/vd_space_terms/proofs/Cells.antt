@@ -15,10 +15,9 @@ use Rattle.vd_space.specs.Labelled.{IsLabelled}
 use Rattle.vd_space.specs.Validity.{protocols, protocol, move}
 use Rattle.vd_space.specs.Costs.{weigh, index_term, moves_to, hosts_at, total}
 use Rattle.vd_space.specs.Bounds.{shifted_use, use_shift}
-use Rattle.vd_space.proofs.Prices.{move_price}
-use Rattle.vd_space.proofs.Priced.{small, index_price, listed_or_not}
+use Rattle.vd_space.proofs.Front.{move_price, small, index_price, listed_or_not}
 use Rattle.vd_space_prefix.specs.Transfers.{ArePrices, by_place, cell, priced, taken}
-use Rattle.vd_space_prefix.proofs.Placed.{size_by_place, at_place}
+use Rattle.vd_space_prefix.proofs.Front.{size_by_place, at_place}
 use Rattle.vd_space_terms.specs.Arcs.{use_transfer, index_transfer}
 use Rattle.vd_space_terms.specs.Prices.{moves_of, tells_of}
 

@@ -10,10 +10,9 @@ use Rattle.vd_space.specs.declared.problem.Problem.{Problem}
 use Rattle.vd_space.specs.declared.problem.Use.{Use}
 use Rattle.vd_space.specs.Costs.{total}
 use Rattle.vd_space.specs.Bounds.{side_of, signed, slot_shift, use_shift}
-use Rattle.vd_space.proofs.Totals.{total_ext, total_plus}
+use Rattle.vd_space.proofs.Front.{total_ext, total_plus}
 use Rattle.vd_space_prefix.specs.Transfers.{IsWithin, by_place}
-use Rattle.vd_space_prefix.proofs.Placed.{at_place}
-use Rattle.vd_space_prefix.proofs.Changes.{total_more}
+use Rattle.vd_space_prefix.proofs.Front.{at_place, total_more}
 use Rattle.vd_space_terms.specs.declared.sums.Rows.{Rows}
 use Rattle.vd_space_terms.specs.declared.sums.Rows.TheVariants.{Sources, Targets, Slots}
 use Rattle.vd_space_terms.specs.Sums.{row_of, part, sums_of}

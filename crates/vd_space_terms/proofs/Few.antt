@@ -6,7 +6,7 @@ use Rattle.std.proofs.lemmas.List.{length-map, length-append}
 use Rattle.std.proofs.lemmas.List.FromFn.{length-range_with_len}
 use Rattle.vd_base.specs.declared.protocols.Proto.TheVariants.{Local, Rep, Commit, Add, Xor}
 use Rattle.vd_base.specs.HostSets.{host_set, hosts, size}
-use Rattle.vd_space.proofs.Priced.{fewer}
+use Rattle.vd_space.proofs.Front.{fewer}
 use Rattle.vd_base.specs.Protocols.{groups, pairs, differ, is_earlier, protocols_of}
 
 sum_of : (n : ℕ) → length (protocols_of n) ≡ length (hosts n) + length (groups n) + length (pairs differ Commit n) + length (pairs is_earlier Add n) + length (pairs is_earlier Xor n)

@@ -1,10 +1,11 @@
-pub mod Made
-pub mod Mapped
+pub mod Front
+mod Made
+mod Mapped
 mod Telling
-pub mod Small
+mod Small
 mod Counting
 mod Cells
-pub mod Network
+mod Network
 mod Placing
-pub mod Few
+mod Few
 mod Stepping

@@ -4,7 +4,7 @@ use Rattle.std.proofs.lemmas.Bool.{cases_eq}
 use Rattle.std.proofs.lemmas.List.{length-set, get_or-set_same, get_or-set_other, length-replicate, get_or-replicate}
 use Rattle.std.proofs.lemmas.List.FromFn.{fill_by_all}
 use Rattle.vd_space_prefix.specs.Transfers.{by_place}
-use Rattle.vd_space_prefix.proofs.Placed.{size_by_place, at_place}
+use Rattle.vd_space_prefix.proofs.Front.{size_by_place, at_place}
 
 pub get_or_any : {X : Type 0} (xs : List X) (i : ℕ) (d e : X) → i < length xs → get_or xs i d ≡ get_or xs i e
 get_or_any [] i d e low = absurd (omega arith)

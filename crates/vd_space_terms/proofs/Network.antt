@@ -17,7 +17,7 @@ use Rattle.vd_space_prefix.specs.declared.transfers.Arc.{Arc}
 use Rattle.vd_space_prefix.specs.Transfers.{by_place}
 use Rattle.vd_space_prefix.specs.Steps.{IsArc, under}
 use Rattle.vd_space_prefix.specs.Tables.{AreListed}
-use Rattle.vd_space_prefix.proofs.Placed.{candidates}
+use Rattle.vd_space_prefix.proofs.Front.{candidates}
 use Rattle.vd_space_terms.specs.Arcs.{AreArcsOf}
 use Rattle.vd_space_terms.specs.Prices.{candidates_of}
 

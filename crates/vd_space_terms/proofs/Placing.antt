@@ -14,13 +14,12 @@ use Rattle.vd_space.specs.Spaces.{IsProblem, IsUse, IsIndex}
 use Rattle.vd_space.specs.Validity.{protocols}
 use Rattle.vd_space.specs.Costs.{index_term, total}
 use Rattle.vd_space.specs.Bounds.{least_pair, signed, shifted_use, shifted_uses, slot_shift, use_shift}
-use Rattle.vd_space.proofs.Priced.{listed_or_not}
-use Rattle.vd_space.proofs.Shifted.{each_at}
+use Rattle.vd_space.proofs.Front.{listed_or_not, each_at}
 use Rattle.vd_space_prefix.specs.declared.transfers.Arc.{Arc}
 use Rattle.vd_space_prefix.specs.Transfers.{IsTransfer, IsWithin, by_place, arc_of, taken}
 use Rattle.vd_space_prefix.specs.Steps.{IsArc, under}
 use Rattle.vd_space_prefix.specs.Tables.{AreListed}
-use Rattle.vd_space_prefix.proofs.Placed.{candidates, under_is, at_place, size_by_place}
+use Rattle.vd_space_prefix.proofs.Front.{candidates, under_is, at_place, size_by_place}
 use Rattle.vd_space_terms.specs.declared.sums.Rows.{Rows}
 use Rattle.vd_space_terms.specs.declared.sums.Rows.TheVariants.{Sources, Targets, Slots}
 use Rattle.vd_space_terms.specs.Arcs.{AreArcsOf, use_transfer, index_transfer, arc_between}

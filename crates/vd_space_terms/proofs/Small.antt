@@ -5,11 +5,11 @@ use Rattle.std.proofs.lemmas.Int.{ints, int_min_is}
 use Rattle.std.proofs.lemmas.List.{get_or_past}
 use Rattle.vd_space.specs.Costs.{weigh}
 use Rattle.vd_space.specs.Bounds.{lesser, least_below, only_if, nothing_left}
-use Rattle.vd_space.proofs.Priced.{listed_or_not}
+use Rattle.vd_space.proofs.Front.{listed_or_not}
 use Rattle.vd_space_prefix.specs.declared.transfers.Transfer.{Transfer}
 use Rattle.vd_space_prefix.specs.Transfers.{IsWithin, IsTransfer, ArePrices, by_place, cell, priced, taken, least_where, row_of, column_of, square_of, arc_of}
 use Rattle.vd_space_prefix.specs.Steps.{IsArc}
-use Rattle.vd_space_prefix.proofs.Placed.{size_by_place, at_place}
+use Rattle.vd_space_prefix.proofs.Front.{size_by_place, at_place}
 
 abbrev IsSmall : Option ℤ → Type 0
 IsSmall o = IfSome o (IsWithin 1125899906842624)

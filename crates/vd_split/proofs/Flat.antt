@@ -8,7 +8,7 @@ use Rattle.vd_execution.specs.Gadgets.{Gadget, acts_of_gadget}
 use Rattle.vd_execution.specs.Joint.{Part}
 use Rattle.vd_execution.specs.Plans.{Plan, Ends, Then, Branch, Loop, joint_of}
 use Rattle.vd_execution.specs.Text.{flat, each_then, register}
-use Rattle.vd_execution.proofs.ActsFirst.{flat_first}
+use Rattle.vd_execution.proofs.Front.{flat_first}
 use Rattle.vd_split.specs.Lines.{plan_lines, if_lines, else_lines, end_lines, for_lines}
 
 each_lines : (ps : List Part) (mark : Part → Line) (behind : List Line) → each_then ps mark behind ≡ map mark ps ++ behind

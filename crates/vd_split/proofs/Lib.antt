@@ -1,10 +1,11 @@
+pub mod Front
 mod ActPart
 mod Drops
 mod EachStatement
 mod Flat
 mod Onto
 mod Opening
-pub mod Picked
+mod Picked
 mod Picks
 mod Rooms
 mod Steps

@@ -7,8 +7,7 @@ use Rattle.std.proofs.lemmas.List.Elements.{All-from_recursion, recursion_from_A
 use Rattle.vd_base.specs.Limits.{most_hosts, most_deal_items}
 use Rattle.vd_base_codec.specs.Reading.{◌>>=◌, literal_at, field}
 use Rattle.vd_base_codec.specs.Exact.{IsAnything, IsExact, IsExactWhole, StopsAt}
-use Rattle.vd_base_codec.proofs.Parts.{done_exact, literal_exact, Picks, then_exact, AreEach, exact_as, exact_for}
-use Rattle.vd_base_codec.proofs.Whole.{whole_exact, stops_single}
+use Rattle.vd_base_codec.proofs.Front.{done_exact, literal_exact, Picks, then_exact, AreEach, exact_as, exact_for, whole_exact, stops_single}
 use Rattle.vd_deal_items.specs.declared.deal.Deal.{Deal}
 use Rattle.vd_base.specs.Words.{IsWord}
 use Rattle.vd_deal_items.specs.Validity.{AreTripleWords, ArePairWords, AreWithin}

@@ -5,8 +5,7 @@ use Rattle.std.proofs.lemmas.List.{append-nil}
 use Rattle.vd_base.specs.Limits.{most_deal_items}
 use Rattle.vd_base_codec.specs.Reading.{Reading, ◌>>=◌, byte_at, field_at, each_at, field}
 use Rattle.vd_base_codec.specs.Exact.{IsBreak, IsAnything, IsExact}
-use Rattle.vd_base_codec.proofs.Parts.{done_exact, byte_exact, Picks, then_exact, AreEach, break_each, each_exact, exact_for}
-use Rattle.vd_base_codec.proofs.Numbers.{AtMost, field_exact}
+use Rattle.vd_base_codec.proofs.Front.{done_exact, byte_exact, Picks, then_exact, AreEach, break_each, each_exact, exact_for, AtMost, field_exact}
 use Rattle.vd_deal_items.specs.declared.items.Triple.{Triple}
 use Rattle.vd_deal_items.specs.declared.items.PairItem.{PairItem}
 use Rattle.vd_base.specs.Words.{IsWord}

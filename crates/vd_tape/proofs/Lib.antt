@@ -1,13 +1,14 @@
-pub mod ShareLoop
-pub mod ItemsExact
-pub mod SharesExact
-pub mod DealExact
+pub mod Front
+mod ShareLoop
+mod ItemsExact
+mod SharesExact
+mod DealExact
 mod Outcomes
-pub mod SharesWritten
+mod SharesWritten
 mod TwoByTwo
 mod Streams
-pub mod Drawn
-pub mod MadeValid
-pub mod MadeWords
-pub mod EachHost
+mod Drawn
+mod MadeValid
+mod MadeWords
+mod EachHost
 mod Apart

@@ -4,7 +4,7 @@ use Rattle.std.specs.Prelude.{codes}
 use Rattle.std.proofs.lemmas.List.{append-nil}
 use Rattle.vd_base_codec.specs.Reading.{Reading, ◌>>=◌, literal_at, field}
 use Rattle.vd_base_codec.specs.Exact.{IsAnything, IsExact}
-use Rattle.vd_base_codec.proofs.Parts.{bind_assoc, done_exact, literal_exact, Picks, then_exact, AreEach, head_or, tail, same_cons, exact_as}
+use Rattle.vd_base_codec.proofs.Front.{bind_assoc, done_exact, literal_exact, Picks, then_exact, AreEach, head_or, tail, same_cons, exact_as}
 use Rattle.vd_deal_items.specs.declared.items.Triple.{Triple}
 use Rattle.vd_deal_items.specs.declared.items.PairItem.{PairItem}
 use Rattle.vd_deal_items.specs.Identities.{zero_triple, zero_pair}

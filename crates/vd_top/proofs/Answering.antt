@@ -15,14 +15,11 @@ use Rattle.vd_cmd_plan.specs.declared.status.Status.{Status}
 use Rattle.vd_cmd_plan.specs.declared.status.Status.TheVariants.{Ended}
 use Rattle.vd_cmd_deal.specs.Dealing.{deal_answer, deal_plan}
 use Rattle.vd_cmd_answers.specs.Answers.{TellsChoice, TellsCompiled, TellsLabels, TellsProof}
-use Rattle.vd_cmd_answers.proofs.Choices.{choices_tell}
-use Rattle.vd_cmd_answers.proofs.Compiled.{compiled_tell}
-use Rattle.vd_cmd_answers.proofs.Labels.{labels_tell}
-use Rattle.vd_cmd_answers.proofs.Proofs.{proofs_tell}
+use Rattle.vd_cmd_answers.proofs.Front.{choices_tell, compiled_tell, labels_tell, proofs_tell}
 use Rattle.vd_cmd_deal_laws.specs.Dealt.{TellsDeal}
-use Rattle.vd_cmd_deal_laws.proofs.Taken.{deals_tell}
-use Rattle.vd_cmd_draw.proofs.Telling.{drawings_tell}
-use Rattle.vd_cmd_hasten.proofs.Told.{hastens_tell}
+use Rattle.vd_cmd_deal_laws.proofs.Front.{deals_tell}
+use Rattle.vd_cmd_draw.proofs.Front.{drawings_tell}
+use Rattle.vd_cmd_hasten.proofs.Front.{hastens_tell}
 use Rattle.vd_cmd_hasten.specs.Telling.{TellsHastened}
 use Rattle.vd_top.specs.Answers.{Adds, AreWithinLimits, KeepsChoice, KeepsCompiled, KeepsDeal, KeepsDrawing, KeepsHastened, KeepsLabels, KeepsProof}
 use Rattle.vd_top.specs.Commands.{RunsForm, RunsWords, plan_of, search_of}

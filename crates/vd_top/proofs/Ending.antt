@@ -12,17 +12,17 @@ use Rattle.vd_cmd_plan.specs.Plans.{Executes, Plan}
 use Rattle.vd_cmd_plan.specs.Runs.{Finishes}
 use Rattle.vd_cmd_plan.specs.declared.answer.Answer.{Answer}
 use Rattle.vd_cmd_plan.specs.declared.status.Status.{Status}
-use Rattle.vd_cmd_plan.proofs.Following.{completes}
-use Rattle.vd_cmd_frontend.proofs.Reading.{some_texts}
+use Rattle.vd_cmd_plan.proofs.Front.{completes}
+use Rattle.vd_cmd_frontend.proofs.Front.{some_texts}
 use Rattle.vd_cmd_choose.specs.Searching.{sure_search}
-use Rattle.vd_cmd_choose.proofs.Reading.{some_certificates}
-use Rattle.vd_search_stages.proofs.Once.{some_choices}
-use Rattle.vd_cmd_hasten.proofs.Existing.{some_reading}
-use Rattle.vd_cmd_needs.proofs.Existing.{some_programs}
-use Rattle.vd_report_outcomes.proofs.Picked.{some_outcomes as some_replays}
-use Rattle.vd_cmd_answers.proofs.Endings.{ended, never, printed}
-use Rattle.vd_cmd_replay.proofs.Accepting.{ends_well}
-use Rattle.vd_cmd_depends.proofs.Existing.{some_dependences, some_influences}
+use Rattle.vd_cmd_choose.proofs.Front.{some_certificates}
+use Rattle.vd_search_stages.proofs.Front.{some_choices}
+use Rattle.vd_cmd_hasten.proofs.Front.{some_reading}
+use Rattle.vd_cmd_needs.proofs.Front.{some_programs}
+use Rattle.vd_report_outcomes.proofs.Front.{some_outcomes as some_replays}
+use Rattle.vd_cmd_answers.proofs.Front.{ended, never, printed}
+use Rattle.vd_cmd_replay.proofs.Front.{ends_well}
+use Rattle.vd_cmd_depends.proofs.Front.{some_dependences, some_influences}
 use Rattle.vd_top.specs.Commands.{CompletesForm, CompletesWords, Outcomes, RunsForm, plan_of, search_of}
 use Rattle.vd_top.specs.Counts.{CountedBy, CountsOf}
 use Rattle.vd_top.specs.Headline.{KeepsAccepted, ShowsOf, TellsOf}

@@ -11,14 +11,12 @@ use Rattle.vd_cmd.specs.declared.command.FilesCommand.TheVariants.{Depends, Infl
 use Rattle.vd_cmd_plan.specs.Plans.{Executes, fetch_calls}
 use Rattle.vd_cmd_plan.specs.declared.status.Status.{Status}
 use Rattle.vd_cmd_plan.specs.declared.status.Status.TheVariants.{Ended, Memory, Usage}
-use Rattle.vd_cmd_plan.proofs.Fronts.{same_within}
-use Rattle.vd_cmd_plan.proofs.InSteps.{any_memory}
-use Rattle.vd_cmd_plan.proofs.WholeRuns.{runs_err}
+use Rattle.vd_cmd_plan.proofs.Front.{same_within, any_memory, runs_err}
 use Rattle.vd_cmd_choose.specs.Searching.{GaveUp, searched_by}
 use Rattle.vd_execution.specs.Joint.{Done}
 use Rattle.vd_cmd_compile_early.specs.Compiling.{early_plan}
 use Rattle.vd_cmd_host.specs.Hosts.{HostRuns, Marked, NetsView, NotLoaded, Plainly}
-use Rattle.vd_cmd_host.proofs.Marked.{used_once}
+use Rattle.vd_cmd_host.proofs.Front.{used_once}
 use Rattle.vd_cmd_deal_keyed.specs.Sources.{FromFile, NoMemory, RunsKeyDeal, file_plan}
 use Rattle.vd_cmd_host.specs.Loading.{OfProgram, files_of}
 use Rattle.vd_cmd_run.specs.Running.{Refused}
@@ -32,8 +30,8 @@ use Rattle.vd_top.specs.Commands.{RunsForm, plan_of, search_of, usage_plan}
 use Rattle.vd_top.specs.Counts.{CountedForm, KeepsCount}
 use Rattle.vd_top.specs.Early.{EarlyForm}
 use Rattle.vd_top.specs.Headline.{KeepsTrial, KeepsDependence, KeepsHeadline, KeepsInfluence, KeepsNeeds, ShowsForm}
-use Rattle.vd_cmd_run.proofs.Holding.{complete}
-use Rattle.vd_cmd_host_laws.proofs.Serving.{plain_served, served}
+use Rattle.vd_cmd_run.proofs.Front.{complete}
+use Rattle.vd_cmd_host_laws.proofs.Front.{plain_served, served}
 use Rattle.vd_top.specs.Hosts.{KeysForm, MarksForm, PlaysForm, ReportsForm, ServesForm, SpawnsForm, marks_by, speaks_by, spawns_by}
 
 -- what is shown by the form is what is said of the words

@@ -9,7 +9,7 @@ use Rattle.vd_cmd_plan.specs.Runs.{Finishes, IsAnswered, Runs}
 use Rattle.vd_cmd_plan.specs.declared.answer.Answer.{Answer}
 use Rattle.vd_cmd_plan.specs.declared.status.Status.{Status}
 use Rattle.vd_cmd_plan.specs.declared.status.Status.TheVariants.{Memory, ReadFault, WriteFault}
-use Rattle.vd_cmd_plan.proofs.Steps.{computes}
+use Rattle.vd_cmd_plan.proofs.Front.{computes}
 use Rattle.vd_cmd_trial.specs.Telling.{AnswersTrial, EndsTrial}
 
 -- what grew by nothing has no last item that came

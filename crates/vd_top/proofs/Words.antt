@@ -9,22 +9,20 @@ use Rattle.vd_cmd.specs.declared.command.FilesCommand.TheVariants.{Choose, Draw,
 use Rattle.vd_cmd_plan.specs.Plans.{IsProper, IsGiven}
 use Rattle.vd_cmd_plan.specs.declared.status.Status.{Status}
 use Rattle.vd_cmd_plan.specs.declared.answer.Answer.{Answer}
-use Rattle.vd_cmd_plan.proofs.Following.{Follows}
-use Rattle.vd_cmd_frontend.proofs.Reading.{some_texts, some_labels}
-use Rattle.vd_search_stages.proofs.Once.{some_choices}
+use Rattle.vd_cmd_plan.proofs.Front.{Follows}
+use Rattle.vd_cmd_frontend.proofs.Front.{some_texts, some_labels}
+use Rattle.vd_search_stages.proofs.Front.{some_choices}
 use Rattle.vd_cmd_choose.specs.Searching.{Searched, sure_search}
-use Rattle.vd_cmd_choose.proofs.Reading.{some_certificates}
-use Rattle.vd_cmd_choose.proofs.Sure.{choose_follows}
-use Rattle.vd_cmd_compile.proofs.Sure.{compile_follows}
-use Rattle.vd_cmd_draw.proofs.Sure.{draw_follows}
-use Rattle.vd_cmd_hasten.proofs.Existing.{some_reading}
-use Rattle.vd_cmd_needs.proofs.Existing.{some_programs}
-use Rattle.vd_cmd_needs.proofs.Sure.{needs_follows}
-use Rattle.vd_report_outcomes.proofs.Picked.{some_outcomes as some_replays}
-use Rattle.vd_cmd_replay.proofs.Sure.{replay_follows}
-use Rattle.vd_cmd_excuse.proofs.Sure.{excuse_follows}
-use Rattle.vd_cmd_trial.proofs.Sure.{trial_follows}
-use Rattle.vd_cmd_depends.proofs.Existing.{some_dependences, some_influences}
+use Rattle.vd_cmd_choose.proofs.Front.{some_certificates, choose_follows}
+use Rattle.vd_cmd_compile.proofs.Front.{compile_follows}
+use Rattle.vd_cmd_draw.proofs.Front.{draw_follows}
+use Rattle.vd_cmd_hasten.proofs.Front.{some_reading}
+use Rattle.vd_cmd_needs.proofs.Front.{some_programs, needs_follows}
+use Rattle.vd_report_outcomes.proofs.Front.{some_outcomes as some_replays}
+use Rattle.vd_cmd_replay.proofs.Front.{replay_follows}
+use Rattle.vd_cmd_excuse.proofs.Front.{excuse_follows}
+use Rattle.vd_cmd_trial.proofs.Front.{trial_follows}
+use Rattle.vd_cmd_depends.proofs.Front.{some_dependences, some_influences}
 use Rattle.vd_top.specs.Commands.{Outcomes, plan_of, search_of}
 
 -- an answer of a proper result may be delivered

@@ -10,7 +10,7 @@ use Rattle.vd_execution.specs.Step.{Source, Inputs, OwnWords, Triples, BitTriple
 use Rattle.vd_execution.specs.World.{Tape}
 use Rattle.vd_execution.specs.Joint.{Host, Hosts, acted, after_do, after_msg}
 use Rattle.vd_execution.specs.Acts.{run_act, run_acts}
-use Rattle.vd_execution.proofs.Puts.{same_or_not, put_same, put_other}
+use Rattle.vd_execution.proofs.Front.{same_or_not, put_same, put_other}
 use Rattle.vd_execution.specs.Gadgets.{Sharing, BySums, ByXors, Masking, Pairing, Gadget, Alone, Tells, Shares, BothShare, Opens, Masked, Paired, source_of, acts_of_gadget, acts_of_gadgets, TakesNoPart, GadgetIsTidy, GadgetsAreTidy}
 use Rattle.vd_views.specs.Hiding.{next_item, HidesAlike, converted, pair_word, GadgetHides, AlongGadgets, GadgetsHide, TakenAlike}
 use Rattle.vd_views.specs.Items.{IsSameItem}

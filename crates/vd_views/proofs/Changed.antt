@@ -8,7 +8,7 @@ use Rattle.vd_execution.specs.Step.{Source, Inputs, OwnWords, Triples, BitTriple
 use Rattle.vd_execution.specs.World.{Tape, zeros_of}
 use Rattle.vd_base.specs.Words.{IsWord}
 use Rattle.vd_execution.specs.Deals.{IsValidDeal}
-use Rattle.vd_execution.proofs.Puts.{same_or_not}
+use Rattle.vd_execution.proofs.Front.{same_or_not}
 use Rattle.vd_views.specs.Excused.{with_item}
 use Rattle.vd_views.proofs.Frames.{itself}
 

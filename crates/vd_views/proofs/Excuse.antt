@@ -14,8 +14,7 @@ use Rattle.vd_base.specs.Words.{IsWord}
 use Rattle.vd_execution.specs.Deals.{IsValidDeal}
 use Rattle.vd_execution.specs.Joint.{Host, Hosts, acted}
 use Rattle.vd_execution.specs.Acts.{run_acts}
-use Rattle.vd_execution.proofs.Puts.{put_same, put_other}
-use Rattle.vd_execution.proofs.Gadgets.{gadget_sound}
+use Rattle.vd_execution.proofs.Front.{put_same, put_other, gadget_sound}
 use Rattle.vd_execution.specs.Gadgets.{Sharing, BySums, ByXors, Masking, Pairing, Gadget, Alone, Tells, Shares, BothShare, Opens, Masked, Paired, hide, take, source_of, masking, told_by, acts_of_gadget, GadgetIsTidy, GadgetsAreTidy, IsSound}
 use Rattle.vd_views.specs.Hiding.{next_item, HidesAlike, converted, pair_word, GadgetHides, AlongGadgets, TakenAlike, IsAnotherDeal, IsExcuse}
 use Rattle.vd_views.proofs.Hiding.{run_append, masking_keeps}

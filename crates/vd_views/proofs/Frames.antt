@@ -9,7 +9,7 @@ use Rattle.vd_execution.specs.Step.{Source, Inputs, OwnWords, Triples, BitTriple
 use Rattle.vd_execution.specs.World.{Tape}
 use Rattle.vd_execution.specs.Joint.{Host, Hosts, supplied, with_print, acted, after_do, after_msg, said_to, has_heard}
 use Rattle.vd_execution.specs.Acts.{run_act, run_acts}
-use Rattle.vd_execution.proofs.Puts.{same_or_not, put_same, put_other}
+use Rattle.vd_execution.proofs.Front.{same_or_not, put_same, put_other}
 use Rattle.vd_views.specs.Hiding.{TakenAlike}
 
 pub itself : (s : Source) → same_source s s ≡ true

@@ -9,10 +9,9 @@ use Rattle.vd_execution.specs.Step.{OwnWords, words_in}
 use Rattle.vd_execution.specs.World.{Tape}
 use Rattle.vd_execution.specs.Joint.{Host, Hosts, acted, after_do, after_msg}
 use Rattle.vd_execution.specs.Acts.{run_act, run_acts, ActsAreTidy}
-use Rattle.vd_execution.proofs.Puts.{put_same, put_other}
+use Rattle.vd_execution.proofs.Front.{put_same, put_other, gadget_sound}
 use Rattle.vd_execution.specs.Deals.{IsValidDeal}
 use Rattle.vd_views.specs.Views.{LooksAlike, ActsTellAlike}
-use Rattle.vd_execution.proofs.Gadgets.{gadget_sound}
 use Rattle.vd_views.proofs.Blocks.{acts_alike}
 use Rattle.vd_views.proofs.Masks.{xor_back}
 use Rattle.vd_execution.specs.Gadgets.{Sharing, BySums, ByXors, Masking, Gadget, Alone, Tells, Shares, BothShare, Opens, Masked, Paired, hide, take, source_of, masking, told_by, acts_of_gadget, acts_of_gadgets, IsFresh, GadgetIsTidy, GadgetsAreTidy, IsSound}

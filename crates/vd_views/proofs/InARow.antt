@@ -6,7 +6,7 @@ use Rattle.vd_execution.specs.Joint.{Hosts, joint, IsSmooth}
 use Rattle.vd_execution.specs.Acts.{run_act, run_acts, ActsAgree}
 use Rattle.vd_execution.specs.Gadgets.{Gadget, acts_of_gadget, acts_of_gadgets, GadgetsAreTidy}
 use Rattle.vd_execution.specs.Plans.{joint_of, PlanIsTidy}
-use Rattle.vd_execution.proofs.ActsFirst.{runs_first, smooth_first}
+use Rattle.vd_execution.proofs.Front.{runs_first, smooth_first}
 use Rattle.vd_views.specs.Hiding.{GadgetsHide, GadgetsKnow}
 use Rattle.vd_views.specs.Back.{GadgetsAreWith, PlanIsWith}
 use Rattle.vd_views.specs.Plans.{in_a_row, PlanHides, PlanKnows, PlanChooses}

@@ -1,17 +1,18 @@
+pub mod Front
 mod Alike
-pub mod Blocks
-pub mod Hiding
-pub mod Frames
-pub mod Masks
-pub mod Changed
-pub mod Excuse
-pub mod Joints
-pub mod Plans
+mod Blocks
+mod Hiding
+mod Frames
+mod Masks
+mod Changed
+mod Excuse
+mod Joints
+mod Plans
 mod Unique
 mod Back
-pub mod Contract
-pub mod InARow
-pub mod Counts
-pub mod PlanBack
-pub mod WayBack
-pub mod TwoHosts
+mod Contract
+mod InARow
+mod Counts
+mod PlanBack
+mod WayBack
+mod TwoHosts

@@ -9,8 +9,7 @@ use Rattle.vd_execution.specs.Joint.{Part, TakesPart, Hosts, after_do, is_other,
 use Rattle.vd_execution.specs.Acts.{run_act, run_acts, ActsAreWithin}
 use Rattle.vd_execution.specs.Gadgets.{Gadget, Alone, Tells, Shares, BothShare, Opens, Masked, Paired, acts_of_gadget, GadgetIsTidy}
 use Rattle.vd_execution.specs.Plans.{Plan, Ends, Then, Branch, Loop, joint_of, PlanIsWithin, PlanIsTidy}
-use Rattle.vd_execution.proofs.ActsFirst.{runs_first}
-use Rattle.vd_execution.proofs.Sound.{is_shared, Keeps, keeps_on, do_keeps, msg_keeps}
+use Rattle.vd_execution.proofs.Front.{runs_first, is_shared, Keeps, keeps_on, do_keeps, msg_keeps}
 use Rattle.vd_views.specs.Views.{BothTurns}
 use Rattle.vd_views.specs.Hiding.{TakenAlike}
 use Rattle.vd_views.specs.Plans.{run_branch, run_turn, PlanHides, PlanChooses}

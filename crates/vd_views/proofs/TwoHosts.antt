@@ -4,7 +4,7 @@ use Rattle.vd_execution.specs.Acts.{ActsAreWithin}
 use Rattle.vd_execution.specs.Gadgets.{Gadget, Alone, Tells, Shares, BothShare, Opens, Masked, Paired, acts_of_gadget, GadgetIsTidy}
 use Rattle.vd_execution.specs.Joint.{Part}
 use Rattle.vd_execution.specs.Plans.{Plan, Ends, Then, Branch, Loop, PlanIsWithin, PlanIsTidy}
-use Rattle.vd_execution.proofs.Puts.{same_or_not}
+use Rattle.vd_execution.proofs.Front.{same_or_not}
 use Rattle.vd_views.specs.Back.{GadgetIsWith, PlanIsWith, AreOfTwo}
 
 one_of_two : (m n h : ℕ) → m < 2 → n < 2 → h < 2 → m ≢ n → (m ≡ h) ⊎ (n ≡ h)

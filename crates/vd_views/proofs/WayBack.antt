@@ -7,7 +7,7 @@ use Rattle.vd_execution.specs.Deals.{IsValidDeal}
 use Rattle.vd_execution.specs.Joint.{Hosts, fresh, joint}
 use Rattle.vd_execution.specs.Gadgets.{Gadget}
 use Rattle.vd_execution.specs.Plans.{Plan, joint_of, PlanIsTidy}
-use Rattle.vd_execution.proofs.Sound.{is_shared}
+use Rattle.vd_execution.proofs.Front.{is_shared}
 use Rattle.vd_views.specs.Hiding.{TakenAlike}
 use Rattle.vd_views.specs.Back.{PlanIsWith, AreAlternatives}
 use Rattle.vd_views.specs.Contract.{InputWords, HasInputs, Explains}

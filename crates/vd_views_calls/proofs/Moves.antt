@@ -18,27 +18,23 @@ use Rattle.vd_duet.specs.Builder.{next_at, taken}
 use Rattle.vd_duet.specs.Calls.{Places, hosts_of, Made}
 use Rattle.vd_duet.specs.Acting.{is_among}
 use Rattle.vd_duet.specs.Laws.{IsHost, IsReady, Copies, Operand}
-use Rattle.vd_duet.proofs.Leads.{taken_other}
+use Rattle.vd_duet.proofs.Front.{taken_other}
 use Rattle.vd_clear.specs.Copies.{clear_calls, passed, told, compared, adopted, first_register, shown, each_made}
-use Rattle.vd_clear.proofs.ClearLaws.{copies_of}
+use Rattle.vd_clear.proofs.Front.{copies_of}
 use Rattle.vd_backend_sharing.specs.declared.shares.Shares.{Shares}
 use Rattle.vd_backend_sharing.specs.PairCalls.{adopted_shares, shares_of, split_off, exchanged, shared_from, opened_by, shown_at, places_at}
-use Rattle.vd_backend_sharing.proofs.Parts.{Parts, parts_of}
+use Rattle.vd_backend_sharing.proofs.Front.{Parts, parts_of}
 use Rattle.vd_words.specs.AddCalls.{add_serves, add_apply}
 use Rattle.vd_backend_algebra.specs.Gates.{gates_of}
 use Rattle.vd_bits.specs.BitCalls.{circuit_shares, computed}
 use Rattle.vd_circuit.specs.CircuitCalls.{circuit_serves}
 use Rattle.vd_convert.specs.Convert.{masked_parts, to_xor_made, drawn, finished, to_add_made}
 use Rattle.vd_choreography.specs.Suite.{Ready, Operand as AnyOperand}
-use Rattle.vd_choreography.proofs.Lists.{and_left, and_right, or_cases}
+use Rattle.vd_choreography.proofs.Front.{and_left, and_right, or_cases}
 use Rattle.vd_backend_laws.specs.Moves.{only}
 use Rattle.vd_backend_laws.specs.Parts.{Parts as SlotParts, has_back_end, back_end, suite_calls}
 use Rattle.vd_backend_laws.specs.Suite.{IsOver, joins}
-use Rattle.vd_backend_laws.proofs.Gives.{M, S, ready_at, operand_at}
-use Rattle.vd_backend_laws.proofs.Moves.{sole}
-use Rattle.vd_backend_laws.proofs.Over.{equal_of, in_order, ordered_differ}
-use Rattle.vd_backend_laws.proofs.Standing.{no_back_end}
-use Rattle.vd_backend_laws.proofs.TwoHosts.{members_of_pair}
+use Rattle.vd_backend_laws.proofs.Front.{M, S, ready_at, operand_at, sole, equal_of, in_order, ordered_differ, no_back_end, members_of_pair}
 use Rattle.vd_views_calls.specs.Sides.{AreKin, Telling, Each, IsPlain, HasClear}
 use Rattle.vd_views_calls.proofs.Sides.{each_append, all_plain, telling_quiet}
 use Rattle.vd_views_calls.proofs.Calls.{AreQuiet, gates_quiet}

@@ -12,7 +12,7 @@ use Rattle.vd_execution.specs.World.{Tape}
 use Rattle.vd_execution.specs.Joint.{Host, Hosts, after_msg, has_heard}
 use Rattle.vd_execution.specs.Acts.{run_acts}
 use Rattle.vd_execution.specs.Gadgets.{Sharing, BySums, ByXors, Gadget, Alone, Opens, acts_of_gadget}
-use Rattle.vd_execution.proofs.Puts.{put_same, put_other}
+use Rattle.vd_execution.proofs.Front.{put_same, put_other}
 use Rattle.vd_duet.specs.Builder.{next_at, taken}
 use Rattle.vd_backend_sharing.specs.declared.shares.Shares.{Shares}
 use Rattle.vd_backend_sharing.specs.Sharings.{join, joined}

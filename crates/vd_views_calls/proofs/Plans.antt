@@ -11,16 +11,12 @@ use Rattle.vd_execution.specs.Joint.{Part, TakesPart, Host, Hosts, acted, after_
 use Rattle.vd_execution.specs.Acts.{run_acts, ActsAreWithin}
 use Rattle.vd_execution.specs.Gadgets.{Gadget, Alone, Tells, Shares, BothShare, Opens, Masked, Paired, acts_of_gadget, GadgetIsTidy}
 use Rattle.vd_execution.specs.Plans.{Plan, Ends, Then, Branch, Loop, joint_of, PlanIsWithin, PlanIsTidy}
-use Rattle.vd_execution.proofs.ActsFirst.{runs_first}
-use Rattle.vd_execution.proofs.Puts.{same_or_not, put_same, put_other}
-use Rattle.vd_execution.proofs.Gadgets.{plan_sound, plan_tidy}
+use Rattle.vd_execution.proofs.Front.{runs_first, same_or_not, put_same, put_other, plan_sound, plan_tidy}
 use Rattle.vd_views.specs.Views.{LooksAlike, BothTurns}
 use Rattle.vd_views.specs.Hiding.{GadgetHides}
 use Rattle.vd_views.specs.Back.{AreOfTwo}
 use Rattle.vd_views.specs.Plans.{run_branch, run_turn, PlanHides, PlanKnows, PlanChooses}
-use Rattle.vd_views.proofs.Blocks.{takes_or_not, told_the_same}
-use Rattle.vd_views.proofs.Counts.{CountsAlike, acts_count}
-use Rattle.vd_views.proofs.Plans.{begun_cursors, plan_tells}
+use Rattle.vd_views.proofs.Front.{takes_or_not, told_the_same, CountsAlike, acts_count, begun_cursors, plan_tells}
 use Rattle.vd_views_calls.specs.Sides.{AreKin, Both, IsPlainAction, IsPlain, PlanIsPlain}
 
 -- ---- h looks alike after a plan

@@ -5,10 +5,9 @@ use Rattle.vd_execution.specs.World.{Tape}
 use Rattle.vd_execution.specs.Joint.{Hosts}
 use Rattle.vd_execution.specs.Acts.{run_acts}
 use Rattle.vd_execution.specs.Gadgets.{Gadget, Alone, Tells, Shares, BothShare, Opens, Masked, Paired, acts_of_gadget, acts_of_gadgets, GadgetIsTidy, GadgetsAreTidy}
-use Rattle.vd_execution.proofs.Gadgets.{gadget_sound}
+use Rattle.vd_execution.proofs.Front.{gadget_sound}
 use Rattle.vd_views.specs.Hiding.{AlongGadgets, GadgetHides, GadgetKnows, GadgetsHide, GadgetsKnow}
-use Rattle.vd_views.proofs.Hiding.{gadget_alike, run_append}
-use Rattle.vd_views.proofs.Counts.{acts_count}
+use Rattle.vd_views.proofs.Front.{gadget_alike, run_append, acts_count}
 use Rattle.vd_views_calls.specs.Sides.{AreKin, Both, after, Telling, Each, IsPlain, IsQuiet}
 
 -- the state after gadgets is that after their acts

@@ -13,18 +13,17 @@ use Rattle.vd_execution.specs.World.{Tape}
 use Rattle.vd_execution.specs.Joint.{Host, Hosts, acted, after_do}
 use Rattle.vd_execution.specs.Acts.{run_acts}
 use Rattle.vd_execution.specs.Gadgets.{ByXors, Pairing, Paired, acts_of_gadget, IsSound}
-use Rattle.vd_execution.proofs.Gadgets.{gadget_sound}
-use Rattle.vd_execution.proofs.Puts.{put_same, put_other}
+use Rattle.vd_execution.proofs.Front.{gadget_sound, put_same, put_other}
 use Rattle.vd_duet.specs.Builder.{taken}
 use Rattle.vd_duet.specs.Calls.{Places, Made}
 use Rattle.vd_duet.specs.Laws.{Operand, IsReady}
-use Rattle.vd_duet.proofs.Leads.{taken_known, taken_there, taken_other}
+use Rattle.vd_duet.proofs.Front.{taken_known, taken_there, taken_other}
 use Rattle.vd_backend_sharing.specs.declared.shares.Shares.{Shares}
 use Rattle.vd_backend_sharing.specs.PairCalls.{shares_of, places_at}
-use Rattle.vd_backend_sharing.proofs.Parts.{Parts, parts_of, both_known, stands_by}
+use Rattle.vd_backend_sharing.proofs.Front.{Parts, parts_of, both_known, stands_by}
 use Rattle.vd_backend_algebra.specs.Gates.{gates_of}
 use Rattle.vd_bits.specs.BitCalls.{circuit_shares, computed, bit_serves, bit_calls}
-use Rattle.vd_bits.proofs.BitLaws.{circuit_gives_few}
+use Rattle.vd_bits.proofs.Front.{circuit_gives_few}
 use Rattle.vd_convert.specs.Convert.{pairing, drawn, finishing, finished, to_add_made}
 use Rattle.vd_views.specs.Hiding.{next_item, converted, pair_word}
 use Rattle.vd_views_calls.specs.Sides.{AreKin, after, Telling}

@@ -18,7 +18,7 @@ use Rattle.vd_machine.specs.Machines.{word_item, triple_item, pair_item, list_of
 use Rattle.vd_backend_laws.specs.Whole.{inputs_of}
 use Rattle.vd_base.specs.Words.{InputsAreWords}
 use Rattle.vd_world_report.specs.Supplies.{AreFiles, items_for}
-use Rattle.vd_world_report.proofs.Supplies.{files_are_valid}
+use Rattle.vd_world_report.proofs.Front.{files_are_valid}
 use Rattle.vd_noninter_registers.specs.Told.{IsDealt}
 use Rattle.vd_views.specs.Views.{LooksAlike}
 use Rattle.vd_views.specs.Contract.{with_inputs, Explains}
@@ -26,8 +26,7 @@ use Rattle.vd_views.specs.Excused.{excused}
 use Rattle.vd_views_programs.specs.Explained.{IsOfTwo, plan_of, input_words, AgreeFor}
 use Rattle.vd_views_programs.specs.PairUp.{IsDealOf as IsDealWith}
 use Rattle.vd_views_programs.specs.Lengths.{Lengths, IsLongEnough, Shows, AreAll}
-use Rattle.vd_views_programs.proofs.Theorem.{others_are_explained}
-use Rattle.vd_views_programs.proofs.Lengths.{excuses_are_as_long, show_equally_many}
+use Rattle.vd_views_programs.proofs.Front.{others_are_explained, excuses_are_as_long, show_equally_many}
 use Rattle.vd_views_deals.specs.Files.{tape_of, dealt_count, counts_of, AreEnough, AreAsLong, IsExcuse, FilesAreExplained, ShowsTheSame, FilesShowEquallyMany}
 use Rattle.vd_views_deals.proofs.Lists.{word_of, triple_of, pair_of, read_count, past_end, input_is}
 use Rattle.vd_views_deals.proofs.Hosts.{first_host, second_host, kind_count, Part, file, are_two_files, IsAsLong, read_files, read_part, first_back, second_back, tape_again, are_files}

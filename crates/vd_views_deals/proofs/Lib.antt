@@ -1,4 +1,5 @@
-pub mod Lists
-pub mod Hosts
+pub mod Front
+mod Lists
+mod Hosts
 mod Counted
 mod Files

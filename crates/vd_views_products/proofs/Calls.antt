@@ -11,15 +11,15 @@ use Rattle.vd_execution.specs.Deals.{IsValidDeal}
 use Rattle.vd_execution.specs.Joint.{Hosts, fresh}
 use Rattle.vd_execution.specs.Acts.{run_acts, ActsAgree}
 use Rattle.vd_execution.specs.Gadgets.{Gadget, acts_of_gadgets, GadgetsAreTidy, IsSound}
-use Rattle.vd_execution.proofs.Gadgets.{gadgets_sound}
+use Rattle.vd_execution.proofs.Front.{gadgets_sound}
 use Rattle.vd_duet.specs.Calls.{Places, hosts_of, Calls, Stand}
 use Rattle.vd_duet.specs.Builder.{most_taken}
 use Rattle.vd_duet.specs.Laws.{IsIn, IsInOne, nowhere, AreBelow, words_at, Leads, Gives, StandFor, Copies, Operand, GivesWord, BackendLaws}
-use Rattle.vd_duet.proofs.Leads.{gadgets_append, agree_append, tidy_append, below_later, leads_on, Since, since_start, since_on}
+use Rattle.vd_duet.proofs.Front.{gadgets_append, agree_append, tidy_append, below_later, leads_on, Since, since_start, since_on}
 use Rattle.vd_backend_sharing.specs.PairCalls.{product_shares}
 use Rattle.vd_words.specs.Example.{alice, bob}
-use Rattle.vd_words.proofs.AddLaws.{add_laws}
-use Rattle.vd_views.proofs.Contract.{fresh_sound}
+use Rattle.vd_words.proofs.Front.{add_laws}
+use Rattle.vd_views.proofs.Front.{fresh_sound}
 use Rattle.vd_views_products.specs.Product.{sums, taken_in, free_registers, first_shared, second_shared, multiplied, shown, multiplication, printed, shared_product, product_of}
 
 -- ---- what stands goes on standing

@@ -5,8 +5,7 @@ use Rattle.vd_execution.specs.Step.{Source, Inputs, OwnWords, Triples, BitTriple
 use Rattle.vd_execution.specs.World.{zeros_of}
 use Rattle.vd_base.specs.Words.{IsWord}
 use Rattle.vd_execution.specs.Deals.{IsValidDeal}
-use Rattle.vd_views.proofs.Changed.{IsTriple, AreWords}
-use Rattle.vd_views.proofs.Excuse.{three_words, flip_triple}
+use Rattle.vd_views.proofs.Front.{IsTriple, AreWords, three_words, flip_triple}
 use Rattle.vd_views_products.specs.Example.{inputs_with, own_word, triple, deal_with, first_deal, second_deal}
 
 whole : (a g p i : ℕ) → length (triple a g p i) ≡ 3

@@ -9,9 +9,7 @@ use Rattle.vd_backend_sharing.specs.PairCalls.{product_shares}
 use Rattle.vd_views.specs.Views.{LooksAlike}
 use Rattle.vd_views.specs.Hiding.{GadgetsHide, GadgetsKnow}
 use Rattle.vd_views.specs.Contract.{Explains}
-use Rattle.vd_views.proofs.Contract.{fresh_sound}
-use Rattle.vd_views.proofs.Hiding.{gadgets_alike}
-use Rattle.vd_views.proofs.InARow.{row_chooses, row_hidden, row_runs}
+use Rattle.vd_views.proofs.Front.{fresh_sound, gadgets_alike, row_chooses, row_hidden, row_runs}
 use Rattle.vd_views_products.specs.Product.{shared_product, product_plan, HaveSameProduct}
 use Rattle.vd_views_products.specs.Example.{triple, first_deal, second_inputs, second_deal, WorkedProduct}
 use Rattle.vd_views_products.proofs.Calls.{whole_tidy}

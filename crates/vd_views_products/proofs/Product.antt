@@ -16,9 +16,7 @@ use Rattle.vd_words.specs.Example.{alice}
 use Rattle.vd_views.specs.Hiding.{next_item, opened, GadgetsKnow, IsAnotherDeal}
 use Rattle.vd_views.specs.Contract.{InputWords, with_inputs, CanBeExcused, IsExplained, GoesBack}
 use Rattle.vd_views.specs.Back.{GadgetsAreWith}
-use Rattle.vd_views.proofs.InARow.{row_tidy, row_with, row_smooth, row_chooses, row_knows, know_append}
-use Rattle.vd_views.proofs.Contract.{explained}
-use Rattle.vd_views.proofs.WayBack.{first_again}
+use Rattle.vd_views.proofs.Front.{row_tidy, row_with, row_smooth, row_chooses, row_knows, know_append, explained, first_again}
 use Rattle.vd_views_products.specs.Product.{taken_in, first_shared, second_shared, multiplied, shown, multiplication, printed, shared_product, product_plan, input_of, product_of, HaveSameProduct}
 use Rattle.vd_views_products.proofs.Calls.{with_inputs_taken, with_one_shared, with_both_shared, with_product, whole_tidy, whole_agrees, product_stands}
 

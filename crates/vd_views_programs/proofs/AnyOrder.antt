@@ -10,7 +10,7 @@ use Rattle.vd_execution.specs.World.{World, Local, Tape, endless, IsPrefixOf}
 use Rattle.vd_execution.specs.Joint.{Host, Hosts, fresh, joint, at_end}
 use Rattle.vd_execution.specs.Plans.{joint_of}
 use Rattle.vd_execution_confluence.specs.Claims.{RunsWell, IsOnTheWay}
-use Rattle.vd_execution_confluence.proofs.Compiled.{on_the_way}
+use Rattle.vd_execution_confluence.proofs.Front.{on_the_way}
 use Rattle.vd_views.specs.Contract.{Explains}
 use Rattle.vd_noninter_registers.specs.Told.{IsDealt}
 use Rattle.vd_views_programs.specs.Explained.{IsOfTwo, plan_of, input_words}

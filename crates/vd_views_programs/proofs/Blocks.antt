@@ -27,27 +27,19 @@ use Rattle.vd_choreography.specs.Joint.{Hosts as AnyHosts, acts_then, and_then, 
 use Rattle.vd_choreography.specs.Suite.{picked, Made, Suite, Laws, hosts_of}
 use Rattle.vd_choreography.specs.Emission.{Emitting, Emitted, Emission, delivered, right_made, in_turn, stmt_emission, if_made, for_made, loop_registers, after_loop_registers, store_made, put_made, output_made, with_parts}
 use Rattle.vd_choreography.specs.Validity.{Fits, turns_at, Placed, Reaches}
-use Rattle.vd_choreography.proofs.Lists.{and_left, and_right, or_left, or_right, or_none_left, or_none_right, InRow, row_front, row_back}
-use Rattle.vd_choreography.proofs.Sight.{Binding, Variable, Array, Sees, with_use}
-use Rattle.vd_choreography.proofs.Tied.{part, tied_past}
-use Rattle.vd_choreography.proofs.Calls.{Reached, picked_join}
-use Rattle.vd_choreography.proofs.Rights.{operand_of, index_reached}
-use Rattle.vd_choreography.proofs.Steps.{Ties, TurnsIn, After, turns_past, let_after, var_after, array_after, store_after, put_after, output_after}
-use Rattle.vd_choreography.proofs.Loops as loops
-use Rattle.vd_choreography.proofs.Blocks.{slots, sees, effect_of, turn_here, turn_later, turns_act, no_slots, both_idle, means}
+use Rattle.vd_choreography.proofs.Front.{and_left, and_right, or_left, or_right, or_none_left, or_none_right, InRow, row_front, row_back, Binding, Variable, Array, Sees, with_use, part, tied_past, Reached, picked_join, operand_of, index_reached, Ties, TurnsIn, After, turns_past, let_after, var_after, array_after, store_after, put_after, output_after, slots, sees, effect_of, turn_here, turn_later, turns_act, no_slots, both_idle, means}
+use Rattle.vd_choreography.proofs.Front as loops
 use Rattle.vd_backend_laws.specs.Machine.{machine}
 use Rattle.vd_backend_laws.specs.Parts.{has_back_end, suite_calls}
 use Rattle.vd_backend_laws.specs.Suite.{IsOver, suite}
 use Rattle.vd_views.specs.Views.{LooksAlike}
 use Rattle.vd_views.specs.Hiding.{GadgetKnows, GadgetsKnow}
 use Rattle.vd_views.specs.Plans.{NoGuard, run_turn, PlanKnows, PlanChooses}
-use Rattle.vd_views.proofs.Blocks.{takes_or_not, begun_alike}
+use Rattle.vd_views.proofs.Front.{takes_or_not, begun_alike}
 use Rattle.vd_noninter_assigned.specs.Hearing.{Heard, run_of, word_if, comes, comes_alone, index_comes, is_part, heard_in_order, heard_in_turns, heard_step, right_heard}
-use Rattle.vd_noninter_registers.proofs.Takers.{below, runs_each, part_is}
+use Rattle.vd_noninter_registers.proofs.Front.{below, runs_each, part_is}
 use Rattle.vd_views_calls.specs.Sides.{AreKin, Both, after, Telling}
-use Rattle.vd_views_calls.proofs.Sides.{both_all, telling_quiet, telling_on}
-use Rattle.vd_views_calls.proofs.Plans.{idle_hides}
-use Rattle.vd_views_calls.proofs.Calls.{keep_quiet, renew_quiet, output_quiet, cells_quiet, put_quiet}
+use Rattle.vd_views_calls.proofs.Front.{both_all, telling_quiet, telling_on, idle_hides, keep_quiet, renew_quiet, output_quiet, cells_quiet, put_quiet}
 use Rattle.vd_views.specs.Hides.{Hides}
 use Rattle.vd_views_programs.proofs.Hiding.{idle, hides_behind}
 use Rattle.vd_views_programs.proofs.Compose.{acts_on, acts_tidy, nothing_along}

@@ -9,7 +9,7 @@ use Rattle.vd_base.specs.declared.protocols.Proto.TheVariants.{Local, Rep, Commi
 use Rattle.vd_base.specs.declared.rows.Row.TheVariants.{Variable as VariableRow}
 use Rattle.vd_base.specs.HostSets.{host}
 use Rattle.vd_base.specs.Holders.{is_holder, proto_in, same_protocol}
-use Rattle.vd_base.proofs.Same.{same_is}
+use Rattle.vd_base.proofs.Front.{same_is}
 use Rattle.vd_core.specs.declared.normal.Right.{Right}
 use Rattle.vd_core.specs.declared.normal.Right.TheVariants.{Lit, Turn, Copy, Apply, Input, Declassify, Endorse, Load, Get}
 use Rattle.vd_core.specs.Facts.{Sight, right_sees}
@@ -24,22 +24,15 @@ use Rattle.vd_choreography.specs.Joint.{Hosts as AnyHosts, run_acts, Each}
 use Rattle.vd_choreography.specs.Suite.{picked, Word, Cells, Suite, nothing, Gives, Ready, Operand, Below, Laws, hosts_of}
 use Rattle.vd_choreography.specs.Emission.{Emitting, parts_at, delivered, all_moved, right_made}
 use Rattle.vd_choreography.specs.Validity.{RightPlaced, Reaches}
-use Rattle.vd_choreography.proofs.Lists.{and_left, and_right}
-use Rattle.vd_choreography.proofs.Sight.{Binding, Variable, Array, Sees}
-use Rattle.vd_choreography.proofs.Tied.{part, Unchanging, Tied}
-use Rattle.vd_choreography.proofs.Calls.{Between, between_of, ready_past, gives_on, operand_past, Movable, all_past, picked_join}
-use Rattle.vd_choreography.proofs.Rights.{operand_of, operand_of_variable, movables, index_reached}
+use Rattle.vd_choreography.proofs.Front.{and_left, and_right, Binding, Variable, Array, Sees, part, Unchanging, Tied, Between, between_of, ready_past, gives_on, operand_past, Movable, all_past, picked_join, operand_of, operand_of_variable, movables, index_reached}
 use Rattle.vd_backend_laws.specs.Machine.{machine}
 use Rattle.vd_backend_laws.specs.Parts.{Parts, has_back_end, suite_calls}
 use Rattle.vd_backend_laws.specs.Suite.{IsOver, stands as slot_stands, suite}
-use Rattle.vd_backend_laws.proofs.Over.{holder_at}
+use Rattle.vd_backend_laws.proofs.Front.{holder_at}
 use Rattle.vd_noninter_assigned.specs.Hearing.{has_clear, is_alone, stands, comes, comes_alone, index_comes}
-use Rattle.vd_noninter_registers.proofs.Hosts.{kept_at}
-use Rattle.vd_noninter_registers.proofs.InClear.{in_clear}
+use Rattle.vd_noninter_registers.proofs.Front.{kept_at, in_clear}
 use Rattle.vd_views_calls.specs.Sides.{AreKin, after, Telling, Each as EachOf, HasClear}
-use Rattle.vd_views_calls.proofs.Sides.{telling_quiet, telling_on}
-use Rattle.vd_views_calls.proofs.Calls.{literal_quiet, apply_quiet, keep_quiet, turn_quiet, input_quiet, get_quiet}
-use Rattle.vd_views_calls.proofs.Moves.{move_tells}
+use Rattle.vd_views_calls.proofs.Front.{telling_quiet, telling_on, literal_quiet, apply_quiet, keep_quiet, turn_quiet, input_quiet, get_quiet, move_tells}
 use Rattle.vd_views_programs.proofs.Words.{RightAgrees}
 
 -- ---- where a host stands

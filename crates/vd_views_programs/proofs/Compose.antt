@@ -5,7 +5,7 @@ use Rattle.vd_execution.specs.Joint.{Part, Hosts, joint, turns}
 use Rattle.vd_execution.specs.Acts.{run_acts}
 use Rattle.vd_execution.specs.Gadgets.{Gadget, acts_of_gadget, GadgetsAreTidy}
 use Rattle.vd_execution.specs.Plans.{Plan, Ends, Then, Branch, Loop, joint_of, PlanIsWithin, PlanIsTidy}
-use Rattle.vd_execution.proofs.ActsFirst.{runs_first}
+use Rattle.vd_execution.proofs.Front.{runs_first}
 use Rattle.vd_views.specs.Hiding.{AlongGadgets}
 use Rattle.vd_views.specs.Plans.{AlongPlan, run_branch, run_turn}
 use Rattle.vd_choreography.specs.Joint.{acts_then, and_then}

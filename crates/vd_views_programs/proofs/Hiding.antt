@@ -5,7 +5,7 @@ use Rattle.vd_execution.specs.Joint.{Part, TakesPart, Hosts, turns, joint}
 use Rattle.vd_execution.specs.Acts.{run_acts}
 use Rattle.vd_execution.specs.Gadgets.{Gadget, acts_of_gadget}
 use Rattle.vd_execution.specs.Plans.{Plan, Ends, Then, Branch, Loop, joint_of, PlanIsWithin}
-use Rattle.vd_execution.proofs.ActsFirst.{runs_first}
+use Rattle.vd_execution.proofs.Front.{runs_first}
 use Rattle.vd_views.specs.Hiding.{AlongGadgets, GadgetHides}
 use Rattle.vd_views.specs.Plans.{run_branch, run_turn, PlanHides}
 use Rattle.vd_views.specs.Hides.{Hides}

@@ -1,3 +1,4 @@
+pub mod Front
 mod Compose
 mod Plain
 mod Words
@@ -5,11 +6,11 @@ mod Calls
 mod Silent
 mod Turns
 mod Hiding
-pub mod Steps
+mod Steps
 mod Blocks
-pub mod Theorem
+mod Theorem
 mod PairUp
 mod AnyOrder
 mod Promise
-pub mod Lengths
-pub mod Examples
+mod Lengths
+mod Examples

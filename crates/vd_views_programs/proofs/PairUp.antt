@@ -11,12 +11,11 @@ use Rattle.vd_execution.specs.World.{Tape}
 use Rattle.vd_execution.specs.Joint.{fresh, joint}
 use Rattle.vd_execution.specs.Gadgets.{Gadget}
 use Rattle.vd_execution.specs.Plans.{Plan, joint_of, PlanIsTidy}
-use Rattle.vd_execution.proofs.Sound.{is_shared}
+use Rattle.vd_execution.proofs.Front.{is_shared}
 use Rattle.vd_views.specs.Back.{PlanIsWith}
 use Rattle.vd_views.specs.Contract.{with_inputs, Explains, HasExplanation}
 use Rattle.vd_views.specs.Excused.{excused}
-use Rattle.vd_views.proofs.PlanBack.{plan_counts}
-use Rattle.vd_views.proofs.TwoHosts.{plan_with}
+use Rattle.vd_views.proofs.Front.{plan_counts, plan_with}
 use Rattle.vd_noninter_registers.specs.Told.{IsDealt}
 use Rattle.vd_views_calls.specs.Sides.{Each}
 use Rattle.vd_views_programs.specs.Explained.{IsOfTwo, plan_of, input_words, AgreeFor}

@@ -6,7 +6,7 @@ use Rattle.vd_constraints.specs.declared.labels.Labels.{Labels}
 use Rattle.vd_noninter_laws.specs.Reading.{becomes_readable_to, reads_host, reads_result}
 use Rattle.vd_noninter_laws.specs.Dependence.{AreReached, OfEachHost}
 use Rattle.vd_noninter_assigned.specs.Assigned.{HearsOnlyAssigned}
-use Rattle.vd_noninter_assigned.proofs.Theorem.{all_hear_readable, all_hear_reached}
+use Rattle.vd_noninter_assigned.proofs.Front.{all_hear_readable, all_hear_reached}
 use Rattle.vd_views_programs.specs.Explained.{AgreeFor}
 use Rattle.vd_views_programs.specs.Promise.{ExplainsOthers}
 use Rattle.vd_views_programs.proofs.Theorem.{others_are_explained}

@@ -16,11 +16,10 @@ use Rattle.vd_semantics.specs.Turns.{turns}
 use Rattle.vd_semantics.specs.ProgramMeaning.{SlotState, word_at, array_at, in_order}
 use Rattle.vd_choreography.specs.Block.{Block, End, Let, NewVar, NewArray, Store, Put, Output, If, For, each}
 use Rattle.vd_choreography.specs.Emission.{Emission, right_takes_part, in_turn, stmt_emission}
-use Rattle.vd_choreography.proofs.Lists.{and_left, and_right, or_none_left, or_none_right}
+use Rattle.vd_choreography.proofs.Front.{and_left, and_right, or_none_left, or_none_right}
 use Rattle.vd_backend_laws.specs.Parts.{suite_calls}
 use Rattle.vd_noninter_assigned.specs.Hearing.{Heard, run_of, has_clear, word_if, comes, comes_alone, index_comes, right_heard, heard_in_order, heard_in_turns, heard_step}
-use Rattle.vd_noninter_registers.proofs.Hosts.{same_turned, kept_at}
-use Rattle.vd_noninter_registers.proofs.Takers.{below, part_is}
+use Rattle.vd_noninter_registers.proofs.Front.{same_turned, kept_at, below, part_is}
 use Rattle.vd_views_programs.proofs.Calls.{item}
 
 absent_clear : (h : HostId) (q : Proto) → is_holder q (host h.0) ≡ false → has_clear h q ≡ false

@@ -10,11 +10,11 @@ use Rattle.vd_views.specs.Back.{AreOfTwo}
 use Rattle.vd_views.specs.Plans.{NoGuard, PlanKnows, PlanChooses}
 use Rattle.vd_choreography.specs.Joint.{acts_then, and_then, joint, Goes}
 use Rattle.vd_backend_laws.specs.Machine.{machine}
-use Rattle.vd_backend_laws.proofs.PlanRuns.{runs_alike, goes_smoothly}
+use Rattle.vd_backend_laws.proofs.Front.{runs_alike, goes_smoothly}
 use Rattle.vd_views_calls.specs.Sides.{AreKin, Both, Telling, PlanIsPlain}
-use Rattle.vd_views_calls.proofs.Plans.{plan_both}
+use Rattle.vd_views_calls.proofs.Front.{plan_both}
 use Rattle.vd_views.specs.Hides.{Hides}
-use Rattle.vd_views.proofs.Plans.{all_hidden}
+use Rattle.vd_views.proofs.Front.{all_hidden}
 use Rattle.vd_views_programs.proofs.Hiding.{hides_split, hides_behind}
 use Rattle.vd_views_programs.proofs.Compose.{plan_on, acts_on, tidy_split, acts_tidy, within_split, plain_split, nothing_along}
 

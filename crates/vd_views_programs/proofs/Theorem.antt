@@ -9,7 +9,7 @@ use Rattle.vd_core.specs.declared.normal.NormalForm.{NormalForm}
 use Rattle.vd_core.specs.Facts.{nothing_seen, Seeing, slots_step, seeing_step, seeing_all}
 use Rattle.vd_constraints.specs.declared.labels.Labels.{Labels}
 use Rattle.vd_constraints.specs.Scoped.{stmt_below}
-use Rattle.vd_constraints.proofs.InSight.{well_made_scoped}
+use Rattle.vd_constraints.proofs.Front.{well_made_scoped}
 use Rattle.vd_execution.specs.Registers.{nth}
 use Rattle.vd_execution.specs.Step.{Source, Inputs, OwnWords, Triples, BitTriples, Pairs}
 use Rattle.vd_execution.specs.World.{Tape}
@@ -22,31 +22,23 @@ use Rattle.vd_choreography.specs.Suite.{Laws}
 use Rattle.vd_choreography.specs.Emission.{Emitting, Emission, in_turn, stmt_emission, emitting_at_start}
 use Rattle.vd_choreography.specs.Outcome.{Starts}
 use Rattle.vd_choreography.specs.Places.{is_part}
-use Rattle.vd_choreography.proofs.Folds.{fold_each}
-use Rattle.vd_choreography.proofs.Lists.{row_of}
-use Rattle.vd_choreography.proofs.Blocks.{slots}
-use Rattle.vd_choreography.proofs.Programs.{program_within}
+use Rattle.vd_choreography.proofs.Front.{fold_each, row_of, slots, program_within}
 use Rattle.vd_backend_laws.specs.Machine.{machine}
 use Rattle.vd_backend_laws.specs.Parts.{suite_calls}
 use Rattle.vd_backend_laws.specs.Suite.{suite}
 use Rattle.vd_backend_laws.specs.Whole.{inputs_of, CanRun, RunsAsToldBy}
 use Rattle.vd_backend_laws.specs.Given.{zero_deal}
-use Rattle.vd_backend_laws.proofs.Given.{zero_deals_are_valid}
-use Rattle.vd_backend_laws.proofs.SuiteLaws.{suite_laws}
-use Rattle.vd_backend_laws.proofs.SuitePlaces.{suite_places}
-use Rattle.vd_backend_laws.proofs.PlanTidy.{within}
-use Rattle.vd_choreography_validity.proofs.Chosen.{can_run, each_has, assignments_tell_the_same}
+use Rattle.vd_backend_laws.proofs.Front.{zero_deals_are_valid, suite_laws, suite_places, within}
+use Rattle.vd_choreography_validity.proofs.Front.{can_run, each_has, assignments_tell_the_same}
 use Rattle.vd_views.specs.Back.{AreOfTwo}
 use Rattle.vd_views.specs.Hiding.{IsAnotherDeal}
 use Rattle.vd_views.specs.Hides.{Hides}
 use Rattle.vd_views.specs.Contract.{InputWords, with_inputs, HasInputs, Explains, CanBeExcused, IsExplained}
-use Rattle.vd_views.proofs.Contract.{fresh_sound, explained}
-use Rattle.vd_views.proofs.TwoHosts.{plan_with}
-use Rattle.vd_views.proofs.WayBack.{first_again}
+use Rattle.vd_views.proofs.Front.{fresh_sound, explained, plan_with, first_again}
 use Rattle.vd_noninter_laws.specs.Reading.{start}
 use Rattle.vd_noninter_assigned.specs.Hearing.{Heard, heard_step, heard_in_order}
 use Rattle.vd_noninter_registers.specs.Told.{IsDealt}
-use Rattle.vd_noninter_registers.proofs.Fits.{all_fit, no_turns, tied_at_start}
+use Rattle.vd_noninter_registers.proofs.Front.{all_fit, no_turns, tied_at_start}
 use Rattle.vd_views_calls.specs.Sides.{AreKin, Both}
 use Rattle.vd_views_programs.specs.Explained.{IsOfTwo, plan_of, input_words, AgreeFor, OthersAreExplained, ExplainedBack}
 use Rattle.vd_views_programs.proofs.Plain.{plan_plain}

@@ -11,7 +11,7 @@ use Rattle.vd_views.specs.Views.{BothTurns}
 use Rattle.vd_views.specs.Plans.{run_turn}
 use Rattle.vd_choreography.specs.Joint.{joint}
 use Rattle.vd_backend_laws.specs.Machine.{machine, given_turn}
-use Rattle.vd_backend_laws.proofs.PlanRuns.{runs_alike, turns_alike}
+use Rattle.vd_backend_laws.proofs.Front.{runs_alike, turns_alike}
 
 module _ (P : ℕ → Hosts → Hosts → Type 0) (f g : ℕ → Hosts → Hosts) where
   both_turns_from : (n k : ℕ) (w v : Hosts) → ((i : ℕ) → i < n → P (k + i) (code_turns f i k w) (code_turns g i k v)) → BothTurns P f g n k w v

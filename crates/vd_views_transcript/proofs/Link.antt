@@ -13,7 +13,7 @@ use Rattle.vd_semantics.specs.ProgramMeaning.{program_outputs}
 use Rattle.vd_core.specs.Numbers.{NumbersFit}
 use Rattle.vd_deal_items.specs.declared.deal.Deal.{Deal}
 use Rattle.vd_deal_items.specs.Validity.{AreDeals}
-use Rattle.vd_tape.proofs.EachHost.{all_deals}
+use Rattle.vd_tape.proofs.Front.{all_deals}
 use Rattle.vd_execution.specs.declared.instructions.Instr.{Instr}
 use Rattle.vd_execution.specs.Step.{Source, Inputs, OwnWords, Triples, BitTriples, Pairs}
 use Rattle.vd_execution.specs.Code.{Code}
@@ -24,22 +24,21 @@ use Rattle.vd_execution.specs.World.{World, Tape, followed_by_zeros, words_of}
 use Rattle.vd_execution_confluence.specs.Claims.{IsOf, Suffices, last_of}
 use Rattle.vd_backend_laws.specs.Given.{zero_deal}
 use Rattle.vd_backend_laws.specs.Whole.{inputs_of}
-use Rattle.vd_backend_laws.proofs.Given.{zero_deals_are_valid}
+use Rattle.vd_backend_laws.proofs.Front.{zero_deals_are_valid}
 use Rattle.vd_deal_needs_laws.specs.Needs.{counts, takes}
-use Rattle.vd_deal_needs_laws.proofs.Taken.{most}
+use Rattle.vd_deal_needs_laws.proofs.Front.{most}
 use Rattle.vd_deal_needs.specs.declared.taking.HostNeeds.{HostNeeds}
 use Rattle.vd_machine.specs.Machines.{word_item}
 use Rattle.vd_projection.specs.Programs.{IsRunnable, host_codes, joint_of}
-use Rattle.vd_projection.proofs.HostCodes.{chosen_of, runnable_over, codes_can_be_loaded, codes_run_as_told, ended_past, no_words}
+use Rattle.vd_projection.proofs.Front.{chosen_of, runnable_over, codes_can_be_loaded, codes_run_as_told, ended_past, no_words}
 use Rattle.vd_deal_needs_programs.specs.Enough.{CanBeSplit, needs_for}
-use Rattle.vd_deal_needs_programs.proofs.Countable.{count_codes}
-use Rattle.vd_deal_needs_programs.proofs.Sizes.{any_there, count_needs, counted, needs_at, taken}
+use Rattle.vd_deal_needs_programs.proofs.Front.{count_codes, any_there, count_needs, counted, needs_at, taken}
 use Rattle.vd_report.specs.declared.schedule.Schedule.{Schedule}
 use Rattle.vd_world_report.specs.Loading.{AreCodesOf, AreForAll}
 use Rattle.vd_world_report.specs.Played.{played}
 use Rattle.vd_world_report.specs.Supplies.{AreFiles, items_for, supply_of_files}
 use Rattle.vd_world_report.specs.Told.{TellsUnder}
-use Rattle.vd_world_report.proofs.Told.{programs_tell}
+use Rattle.vd_world_report.proofs.Front.{programs_tell}
 use Rattle.vd_views_transcript.specs.Filling.{filled, inputs_taken}
 use Rattle.vd_views_transcript.specs.Talk.{talk, IsPlayable}
 use Rattle.vd_views_transcript.proofs.Filled.{filled_count, long_enough, same_dealt, same_tape, same_words}

@@ -1,2 +1,3 @@
-pub mod AddLaws
+pub mod Front
+mod AddLaws
 mod Numbers

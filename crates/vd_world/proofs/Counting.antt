@@ -6,7 +6,7 @@ use Rattle.vd_execution.specs.Joint.{Joint, started}
 use Rattle.vd_execution.specs.Registers.{put}
 use Rattle.vd_execution.specs.Step.{State, Deed, Quiet, Said, Heard, Printed, answer, need, next, deed}
 use Rattle.vd_execution.specs.World.{World, Local, Supply, done, given, step, with_answer}
-use Rattle.vd_execution.proofs.Puts.{put_same, put_other, same_or_not}
+use Rattle.vd_execution.proofs.Front.{put_same, put_other, same_or_not}
 use Rattle.vd_world.specs.Packets.{packets_of, said_to, sent_by}
 use Rattle.vd_world.proofs.Packets.{next as one_next}
 

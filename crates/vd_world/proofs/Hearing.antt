@@ -9,7 +9,7 @@ use Rattle.vd_machine.specs.declared.want.Want.{Want}
 use Rattle.vd_machine.specs.declared.want.Want.TheVariants as want
 use Rattle.vd_machine.specs.Machines.{items_of, item_or_none, or_empty, IsLeft, IsMet, words_for}
 use Rattle.vd_machine.specs.Wants.{want_of, short, count_of}
-use Rattle.vd_machine.proofs.Items.{get_there}
+use Rattle.vd_machine.proofs.Front.{get_there}
 use Rattle.vd_base.specs.HostSets.{host}
 use Rattle.vd_base.specs.declared.host_state.HostState.TheVariants as state
 use Rattle.vd_execution.specs.States.{state_for, ready_or, short_of}

@@ -1,3 +1,4 @@
+pub mod Front
 mod Cuts
 mod Packets
 mod Counting
@@ -5,5 +6,5 @@ mod Noting
 mod Hearing
 mod Worlds
 mod Rounds
-pub mod Starting
+mod Starting
 mod Quieter

@@ -11,7 +11,7 @@ use Rattle.vd_execution.specs.Registers.{Registers, put}
 use Rattle.vd_execution.specs.Code.{Code, Finished, Then, Send, Recv, Choose, Repeat}
 use Rattle.vd_execution.specs.Step.{Source, Inputs, OwnWords, Triples, BitTriples, Pairs, State, Cursors, Need, Nothing, Item, Packet, Unequal, Ended, need_of_action, need_of, need, word_printed, deed_of_print, Deed, Quiet, Said, Heard, Printed, deed_of, deed}
 use Rattle.vd_execution.specs.World.{done}
-use Rattle.vd_execution.proofs.Puts.{put_same, put_other, same_or_not}
+use Rattle.vd_execution.proofs.Front.{put_same, put_other, same_or_not}
 use Rattle.vd_machine.specs.declared.lists.Lists.{Lists}
 use Rattle.vd_machine.specs.declared.want.Want.TheVariants as want
 use Rattle.vd_machine.specs.Wants.{want_of, short, count_of}

@@ -6,13 +6,13 @@ use Rattle.vd_execution.specs.Registers.{put}
 use Rattle.vd_execution.specs.Schedule.{after}
 use Rattle.vd_execution.specs.Step.{State, need, need_of, next}
 use Rattle.vd_execution.specs.World.{Local, World, Supply, EndedFrom, given, step, with_answer, done, left}
-use Rattle.vd_execution.proofs.Puts.{put_same, put_other, same_or_not}
-use Rattle.vd_execution_confluence.proofs.Rounds.{step_falls}
+use Rattle.vd_execution.proofs.Front.{put_same, put_other, same_or_not}
+use Rattle.vd_execution_confluence.proofs.Front.{step_falls}
 use Rattle.vd_machine.specs.declared.lists.Lists.{Lists}
 use Rattle.vd_machine.specs.Kept.{state_of}
 use Rattle.vd_machine.specs.Machines.{items_of, words_for}
 use Rattle.vd_machine.specs.Quietly.{IsQuiet, QuietSteps, Quietly}
-use Rattle.vd_machine.proofs.Weights.{not_ended}
+use Rattle.vd_machine.proofs.Front.{not_ended}
 use Rattle.vd_world.specs.Hosts.{HostKept, gone_unseen, local_of, local_or_nobody, lists_of, world_of, supply_of, steps_left, Reaches, is_step, can_step, turned}
 use Rattle.vd_world.proofs.Hearing.{goes_alone}
 use Rattle.vd_world.proofs.Rounds.{ended_past, reach_on, reach_refl, reach_trans}

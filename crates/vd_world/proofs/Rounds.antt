@@ -5,9 +5,7 @@ use Rattle.std.proofs.lemmas.Option.{slice_get_past}
 use Rattle.vd_execution.specs.Schedule.{after}
 use Rattle.vd_execution.specs.World.{World, Supply, EndedFrom, step, run, left, IsStuck, all_rounds}
 use Rattle.vd_execution_confluence.specs.Claims.{then_all}
-use Rattle.vd_execution_confluence.proofs.Confluence.{one_end}
-use Rattle.vd_execution_confluence.proofs.Diamond.{diamond}
-use Rattle.vd_execution_confluence.proofs.Rounds.{all_stuck, run_both}
+use Rattle.vd_execution_confluence.proofs.Front.{one_end, diamond, all_stuck, run_both}
 use Rattle.vd_world.specs.Hosts.{HostKept, local_or_nobody, world_of, supply_of, Reaches}
 use Rattle.vd_world.proofs.Worlds.{absent}
 

@@ -5,7 +5,7 @@ use mathlib.Core.Path.{fun_ext}
 use Rattle.vd_execution.specs.Registers.{put}
 use Rattle.vd_execution.specs.Schedule.{after}
 use Rattle.vd_execution.specs.World.{World, with_host, with_answer, step, moved_on}
-use Rattle.vd_execution.proofs.Puts.{put_same, put_other, same_or_not}
+use Rattle.vd_execution.proofs.Front.{put_same, put_other, same_or_not}
 use Rattle.vd_machine.specs.Machines.{items_of}
 use Rattle.vd_world.specs.Hosts.{HostKept, local_of, local_or_nobody, world_of, supply_of, lists_of, gets, given_words, gone_on}
 

@@ -1,6 +1,7 @@
+pub mod Front
 mod Shared
-pub mod Supplies
+mod Supplies
 mod Loaded
 mod Runs
-pub mod Told
+mod Told
 mod Lists

@@ -19,7 +19,7 @@ use Rattle.vd_machine.specs.Machines.{items_of}
 use Rattle.vd_machine.specs.Kept.{Kept, at_start, state_of}
 use Rattle.vd_backend_laws.specs.Whole.{inputs_of}
 use Rattle.vd_world.specs.Hosts.{AreLoaded, AreMachines, host_at_start, hosts_at_start, lists_of, supply_of, world_of}
-use Rattle.vd_world.proofs.Starting.{starts_as}
+use Rattle.vd_world.proofs.Front.{starts_as}
 use Rattle.vd_world_report.specs.Supplies.{items_for, lists_for, supply_of_files}
 use Rattle.vd_world_report.specs.Loading.{AreCodesOf, AreForAll, CanLoad, EachLoads, Loads}
 

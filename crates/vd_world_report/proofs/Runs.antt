@@ -6,7 +6,7 @@ use Rattle.vd_execution.specs.Schedule.{after}
 use Rattle.std.specs.Prelude.{if◌then◌else◌}
 use Rattle.vd_execution.specs.World.{World, Supply, run, step, all_rounds}
 use Rattle.vd_execution_confluence.specs.Claims.{then_all}
-use Rattle.vd_execution_confluence.proofs.Rounds.{run_both}
+use Rattle.vd_execution_confluence.proofs.Front.{run_both}
 use Rattle.vd_report.specs.declared.schedule.Schedule.{Schedule}
 use Rattle.vd_world_report.specs.Schedules.{numbers, replayed}
 

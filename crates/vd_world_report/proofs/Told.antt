@@ -7,7 +7,7 @@ use Rattle.vd_base.specs.declared.host_state.HostState.TheVariants as state
 use Rattle.vd_base.specs.Holders.{proto_in}
 use Rattle.vd_semantics.specs.ProgramMeaning.{program_outputs}
 use Rattle.vd_anf.specs.Normal.{normal_form}
-use Rattle.vd_anf.proofs.Kept.{outputs_kept}
+use Rattle.vd_anf.proofs.Front.{outputs_kept}
 use Rattle.vd_execution.specs.declared.instructions.Action.{Action}
 use Rattle.vd_execution.specs.declared.instructions.Action.TheVariants as action
 use Rattle.vd_execution.specs.Registers.{Registers}
@@ -17,12 +17,11 @@ use Rattle.vd_execution.specs.States.{host_state, ready_or, short_of, state_for}
 use Rattle.vd_execution.specs.World.{World, Supply, AllEnded, EndedFrom, IsPrefixOf, IsStuck, all_rounds, followed_by_zeros, given, run, words_of}
 use Rattle.vd_execution.specs.Joint.{Joint, started, at_end}
 use Rattle.vd_execution_confluence.specs.Claims.{RunsWell, Suffices, IsOf, last_of, then_all}
-use Rattle.vd_execution_confluence.proofs.Compiled.{on_the_way, whole}
-use Rattle.vd_execution_confluence.proofs.Rounds.{all_stuck, run_ended, run_both}
+use Rattle.vd_execution_confluence.proofs.Front.{on_the_way, whole, all_stuck, run_ended, run_both}
 use Rattle.vd_report.specs.declared.schedule.Schedule.{Schedule}
 use Rattle.vd_backend_laws.specs.Whole.{CanRun, RunsAsToldBy}
-use Rattle.vd_backend_laws.proofs.Whole.{code_runs_well}
-use Rattle.vd_choreography_validity.proofs.Chosen.{assignments_can_run, assignments_tell_the_same}
+use Rattle.vd_backend_laws.proofs.Front.{code_runs_well}
+use Rattle.vd_choreography_validity.proofs.Front.{assignments_can_run, assignments_tell_the_same}
 use Rattle.vd_world_report.specs.Supplies.{supply_of_files}
 use Rattle.vd_world_report.specs.Schedules.{numbers, replayed}
 use Rattle.vd_world_report.specs.Told.{HaveEnded, IsToldOf, TellsUnder, chosen_code, ProgramsTell, SourcesTell}

@@ -1,4 +1,4 @@
-use Rattle.vd_execution_confluence.proofs.Confluence.{one_end}
+use Rattle.vd_execution_confluence.proofs.Front.{one_end}
 use Rattle.vd_execution_buffers.specs.Room.{narrow}
 use Rattle.vd_execution_buffers.proofs.Commuting.{commute}
 use Rattle.vd_execution_buffers.proofs.narrow_links_commute.Goals as goal

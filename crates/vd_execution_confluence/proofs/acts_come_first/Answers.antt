@@ -1,4 +1,4 @@
-use Rattle.vd_execution.proofs.ActsFirst.{runs_first, tidy_first, smooth_first, within_first, flat_first}
+use Rattle.vd_execution.proofs.Front.{runs_first, tidy_first, smooth_first, within_first, flat_first}
 use Rattle.vd_execution_confluence.proofs.acts_come_first.Goals as goal
 
 pub returns-clause-runs : goal.returns-clause-runs

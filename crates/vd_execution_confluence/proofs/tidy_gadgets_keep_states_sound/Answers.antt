@@ -1,4 +1,4 @@
-use Rattle.vd_execution.proofs.Gadgets.{gadget_sound, gadgets_sound, plan_sound}
+use Rattle.vd_execution.proofs.Front.{gadget_sound, gadgets_sound, plan_sound}
 use Rattle.vd_execution_confluence.proofs.tidy_gadgets_keep_states_sound.Goals as goal
 
 pub returns-clause-one : goal.returns-clause-one

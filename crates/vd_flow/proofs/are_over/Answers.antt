@@ -2,7 +2,7 @@ use Rattle.std.proofs.Common.{refl, sym, ◌∙◌, subst}
 use Rattle.std.specs.Prelude.{All}
 use Rattle.std.proofs.lemmas.List.{take_all}
 use Rattle.vd_constraints.specs.Systems.{IsLabelOver}
-use Rattle.vd_constraints.proofs.Firsts.{one_more}
+use Rattle.vd_constraints.proofs.Front.{one_more}
 use Rattle.vd_flow.proofs.are_over.Goals as goal
 
 pub loop-label-preserved : goal.loop-label-preserved

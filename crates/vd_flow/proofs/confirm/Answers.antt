@@ -5,8 +5,7 @@ use Rattle.std.proofs.lemmas.List.Elements.{All-nil}
 use Rattle.std.proofs.lemmas.Bool.{true≢false}
 use Rattle.vd_constraints.specs.Systems.{IsRuleOf, IsCheckOf}
 use Rattle.vd_constraints.specs.Satisfies.{HoldsCheck, HoldsRule}
-use Rattle.vd_constraints.proofs.Labellings.{names-rule, names-check}
-use Rattle.vd_constraints.proofs.Firsts.{has_it, one_more, first_without, not_all}
+use Rattle.vd_constraints.proofs.Front.{names-rule, names-check, has_it, one_more, first_without, not_all}
 use Rattle.vd_flow.proofs.confirm.Goals as goal
 
 pub holds_rule-requires : goal.holds_rule-requires

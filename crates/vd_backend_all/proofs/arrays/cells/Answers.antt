@@ -4,7 +4,7 @@ use Rattle.vd_base.specs.Holders.{holders}
 use Rattle.vd_clear.specs.Copies.{each_made}
 use Rattle.vd_backend_laws.specs.Parts.{zeros_at}
 use Rattle.vd_backend_moves.specs.Formed.{AreFormed}
-use Rattle.vd_backend_moves.proofs.Forms.{if_both}
+use Rattle.vd_backend_moves.proofs.Front.{if_both}
 use Rattle.vd_backend_all.proofs.Forms.{each_formed}
 use Rattle.vd_backend_all.proofs.arrays.cells.Goals as goal
 

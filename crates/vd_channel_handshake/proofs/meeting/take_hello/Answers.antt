@@ -1,6 +1,6 @@
 use Rattle.std.proofs.Common.{◌≡◌, ◌≢◌, ◌∷◌, [], length, rules, arith}
 use Rattle.std.proofs.lemmas.Grind.{common_steps}
-use Rattle.vd_channel_link.proofs.Refused.{told}
+use Rattle.vd_channel_link.proofs.Front.{told}
 use Rattle.vd_channel_handshake.proofs.Greeted.{taken}
 use Rattle.vd_channel_handshake.proofs.Refusing.{other_dealing, other_hosts, other_version}
 use Rattle.vd_channel_handshake.proofs.meeting.take_hello.Goals as goal

@@ -2,7 +2,7 @@ use Rattle.std.proofs.Common.{List, [], ◌∷◌, ◌++◌, sym, ap, ◌∙◌}
 use Rattle.vd_backend_algebra.specs.Gates.{Gate, comparing}
 use Rattle.vd_bits.specs.declared.gates.Gate.TheVariants as gate
 use Rattle.vd_bits.specs.BitCalls.{gates_in}
-use Rattle.vd_bits.proofs.Lists.{on}
+use Rattle.vd_bits.proofs.Front.{on}
 use Rattle.vd_circuit.proofs.Tables.{at_most}
 use Rattle.vd_circuit.proofs.circuits.at_most.Goals as goal
 

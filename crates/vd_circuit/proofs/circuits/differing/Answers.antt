@@ -2,7 +2,7 @@ use Rattle.std.proofs.Common.{List, [], ◌∷◌, ◌++◌, sym, ap, ◌∙◌}
 use Rattle.vd_backend_algebra.specs.Gates.{Gate, equating}
 use Rattle.vd_bits.specs.declared.gates.Gate.TheVariants as gate
 use Rattle.vd_bits.specs.BitCalls.{gates_in}
-use Rattle.vd_bits.proofs.Lists.{on}
+use Rattle.vd_bits.proofs.Front.{on}
 use Rattle.vd_circuit.proofs.Tables.{differing}
 use Rattle.vd_circuit.proofs.circuits.differing.Goals as goal
 

@@ -1,6 +1,5 @@
 use Rattle.vd_circuit.specs.CircuitCalls.{circuit_serves}
-use Rattle.vd_bits.proofs.BitLaws.{circuit_laws}
-use Rattle.vd_bits.proofs.BitActs.{circuit_acts}
+use Rattle.vd_bits.proofs.Front.{circuit_laws, circuit_acts}
 use Rattle.vd_circuit.proofs.laws.circuits_are_a_back_end.Goals as goal
 
 pub returns : goal.returns

@@ -3,7 +3,7 @@ use Rattle.std.specs.List.{fold}
 use Rattle.std.proofs.lemmas.List.{drop_all}
 use Rattle.vd_base.specs.Lexical.{decimal_value}
 use Rattle.vd_cmd.proofs.numbers.value.Goals as goal
-use Rattle.vd_base.proofs.LexicalLemmas.{fold_ge, value_more}
+use Rattle.vd_base.proofs.Front.{fold_ge, value_more}
 use Rattle.vd_cmd.proofs.Values.{number_is, number_none}
 
 pub returns-in_err-checked_mul : goal.returns-in_err-checked_mul

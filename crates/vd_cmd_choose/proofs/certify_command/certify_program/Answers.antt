@@ -1,6 +1,6 @@
 use Rattle.std.proofs.Common.{Ok, Err}
 use Rattle.std.proofs.lemmas.Result.{err_from_is_err_and}
-use Rattle.vd_cmd_plan.proofs.InSteps.{check_step}
+use Rattle.vd_cmd_plan.proofs.Front.{check_step}
 use Rattle.vd_cmd_choose.specs.Certifying.{confirmed_plan}
 use Rattle.vd_cmd_choose.specs.Problems.{problem_for}
 use Rattle.vd_cmd_choose.proofs.certify_command.certify_program.Goals as goal

@@ -1,7 +1,7 @@
 use Rattle.std.proofs.Common.{[], Ok, Err}
 use Rattle.std.proofs.lemmas.Result.{err_from_is_err_and}
 use Rattle.vd_cmd_plan.specs.Plans.{answer_then, ended}
-use Rattle.vd_cmd_plan.proofs.InSteps.{answers, check_step}
+use Rattle.vd_cmd_plan.proofs.Front.{answers, check_step}
 use Rattle.vd_cmd_choose.specs.Certifying.{proved_of, proved_text}
 use Rattle.vd_cmd_choose.proofs.certify_command.certify_space.Goals as goal
 

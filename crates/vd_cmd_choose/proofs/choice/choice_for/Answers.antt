@@ -2,7 +2,7 @@ use Rattle.std.proofs.Common.{Ok, Err}
 use Rattle.std.proofs.lemmas.Result.{err_from_is_err_and}
 use Rattle.vd_cmd_frontend.specs.Labelling.{labels_of}
 use Rattle.vd_cmd_plan.specs.Plans.{check_then}
-use Rattle.vd_cmd_plan.proofs.InSteps.{both_steps, check_step, first_step}
+use Rattle.vd_cmd_plan.proofs.Front.{both_steps, check_step, first_step}
 use Rattle.vd_cmd_choose.specs.Choice.{chosen_in, search_then}
 use Rattle.vd_cmd_choose.specs.Searching.{GaveUp, searched_by}
 use Rattle.vd_cmd_choose.proofs.choice.choice_for.Goals as goal

@@ -1,7 +1,7 @@
 use Rattle.std.proofs.Common.{List, rules, subst}
 use Rattle.vd_base.specs.declared.protocols.Proto.{Proto}
 use Rattle.vd_execution.specs.Joint.{Done}
-use Rattle.vd_cmd_compile.proofs.Runnable.{runnable_of}
+use Rattle.vd_cmd_compile.proofs.Front.{runnable_of}
 use Rattle.vd_projection_reordered.specs.Early.{AreEarlyCodes}
 use Rattle.vd_cmd_compile_early.proofs.Compiled.{answered, few_codes}
 use Rattle.vd_cmd_compile_early.proofs.Telling.{programs_stored}

@@ -1,6 +1,6 @@
 use Rattle.std.proofs.Common.{Ok, Err}
 use Rattle.std.proofs.lemmas.Result.{err_from_is_err_and}
-use Rattle.vd_cmd_plan.proofs.InSteps.{load_step}
+use Rattle.vd_cmd_plan.proofs.Front.{load_step}
 use Rattle.vd_cmd_deal_keyed.specs.Sources.{bytes_plan}
 use Rattle.vd_cmd_deal_keyed.proofs.sources.deal_by_file.Goals as goal
 

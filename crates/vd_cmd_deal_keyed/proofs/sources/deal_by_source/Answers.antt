@@ -1,6 +1,6 @@
 use Rattle.std.proofs.Common.{true, refl}
 use Rattle.vd_cmd_plan.specs.Plans.{answer_then}
-use Rattle.vd_cmd_plan.proofs.InSteps.{answers}
+use Rattle.vd_cmd_plan.proofs.Front.{answers}
 use Rattle.vd_cmd_deal_keyed.specs.KeyDealing.{key_answer}
 use Rattle.vd_cmd_deal_keyed.specs.Sources.{FromDraw, FromFile, NoMemory, NotDrawn, file_plan}
 use Rattle.vd_cmd_deal_keyed.proofs.sources.deal_by_source.Goals as goal

@@ -1,7 +1,7 @@
 use Rattle.std.proofs.Common.{Ok, Err}
 use Rattle.std.proofs.lemmas.Result.{err_from_is_err_and}
 use Rattle.vd_cmd_plan.specs.Plans.{answer_then}
-use Rattle.vd_cmd_plan.proofs.InSteps.{answers, check_step}
+use Rattle.vd_cmd_plan.proofs.Front.{answers, check_step}
 use Rattle.vd_cmd_deal_keyed.specs.KeyDealing.{key_answer}
 use Rattle.vd_cmd_deal_keyed.specs.Sources.{key_in}
 use Rattle.vd_cmd_deal_keyed.proofs.sources.deal_in_bytes.Goals as goal

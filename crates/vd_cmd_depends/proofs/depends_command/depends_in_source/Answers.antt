@@ -6,7 +6,7 @@ use Rattle.vd_cmd_plan.specs.Plans.{Executes}
 use Rattle.vd_cmd_plan.specs.declared.answer.Answer.{Answer}
 use Rattle.vd_cmd_plan.specs.declared.status.Status.{Status}
 use Rattle.vd_cmd_rewrite.specs.RunPrograms.{IsRunProgram}
-use Rattle.vd_cmd_plan.proofs.InSteps.{any_memory}
+use Rattle.vd_cmd_plan.proofs.Front.{any_memory}
 use Rattle.vd_cmd_depends.specs.Depending.{program_plan}
 use Rattle.vd_cmd_depends.specs.Telling.{TellsProgram, TellsSource}
 use Rattle.vd_cmd_depends.proofs.depends_command.depends_in_source.Goals as goal

@@ -1,8 +1,8 @@
 use Rattle.std.proofs.Common.{List, Ok, Err, subst, sym}
 use Rattle.std.proofs.lemmas.Result.{err_from_is_err_and}
 use Rattle.vd_base.specs.declared.protocols.Proto.{Proto}
-use Rattle.vd_cmd_plan.proofs.InSteps.{any_memory}
-use Rattle.vd_cmd_compile.proofs.Runnable.{runnable_of}
+use Rattle.vd_cmd_plan.proofs.Front.{any_memory}
+use Rattle.vd_cmd_compile.proofs.Front.{runnable_of}
 use Rattle.vd_views_transcript.specs.Talk.{IsPlayable}
 use Rattle.vd_cmd_excuse.proofs.Explained.{are_asked, chosen_two, playable, seen_two, told}
 use Rattle.vd_cmd_excuse.proofs.Answered.{answer_at, checks_at, explained, not_excused}

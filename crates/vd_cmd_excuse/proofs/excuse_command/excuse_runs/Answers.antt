@@ -3,7 +3,7 @@ use Rattle.std.proofs.lemmas.Result.{err_from_is_err_and}
 use Rattle.vd_base.specs.Limits.{most_hosts}
 use Rattle.vd_core.specs.declared.normal.NormalForm.{NormalForm}
 use Rattle.vd_cmd_choose.specs.Searching.{GaveUp, searched_by}
-use Rattle.vd_cmd_depends.proofs.Naming.{named}
+use Rattle.vd_cmd_depends.proofs.Front.{named}
 use Rattle.vd_cmd_excuse.specs.Runs.{AreRead}
 use Rattle.vd_cmd_excuse.proofs.Naming.{is_low, not_two, of_two_hosts, unnamed}
 use Rattle.vd_cmd_excuse.proofs.excuse_command.excuse_runs.Goals as goal

@@ -4,7 +4,7 @@ use Rattle.vd_semantics.specs.SourceMeaning.{source_outputs}
 use Rattle.vd_report.specs.Lines.{output_lines}
 use Rattle.vd_cmd_plan.specs.Plans.{Computes, answer_then, ended}
 use Rattle.vd_cmd_frontend.specs.Clear.{clear_text}
-use Rattle.vd_cmd_plan.proofs.InSteps.{answers}
+use Rattle.vd_cmd_plan.proofs.Front.{answers}
 use Rattle.vd_cmd_frontend.proofs.Reading.{inputs_for}
 use Rattle.vd_cmd_frontend.proofs.clear_command.clear_resolved.Goals as goal
 

@@ -2,7 +2,7 @@ use Rattle.std.proofs.Common.{[], Ok, Err}
 use Rattle.std.proofs.lemmas.Result.{err_from_is_err_and}
 use Rattle.vd_cmd_plan.specs.Plans.{answer_then, ended}
 use Rattle.vd_cmd_frontend.specs.Labelling.{labels_of, labels_text}
-use Rattle.vd_cmd_plan.proofs.InSteps.{answers, check_step}
+use Rattle.vd_cmd_plan.proofs.Front.{answers, check_step}
 use Rattle.vd_cmd_frontend.proofs.labels_command.label_program.Goals as goal
 
 pub returns-in_err-labels : goal.returns-in_err-labels

@@ -2,7 +2,7 @@ use Rattle.std.proofs.Common.{ℕ, ◌+◌, ◌∷◌, ◌++◌, [], IsTrue, Lis
 use Rattle.std.proofs.lemmas.Result.{err_from_is_err_and}
 use Rattle.vd_deal_items.specs.declared.deal.Deal.{Deal}
 use Rattle.vd_tape.specs.Text.{AreDealsOf, IsDealOf}
-use Rattle.vd_tape.proofs.EachHost.{more_deals}
+use Rattle.vd_tape.proofs.Front.{more_deals}
 use Rattle.vd_cmd_inputs.specs.Deals.{HoldDeals}
 use Rattle.vd_cmd_inputs.proofs.Loops.{GoesOn, all_there, no_memory, one_held, one_more, stops}
 use Rattle.vd_cmd_inputs.proofs.deals.load_deals.Goals as goal

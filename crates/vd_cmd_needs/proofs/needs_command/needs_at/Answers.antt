@@ -1,6 +1,6 @@
 use Rattle.std.proofs.Common.{List, ap, ◌∙◌}
 use Rattle.vd_base.specs.declared.protocols.Proto.{Proto}
-use Rattle.vd_cmd_compile.proofs.Runnable.{runnable_of}
+use Rattle.vd_cmd_compile.proofs.Front.{runnable_of}
 use Rattle.vd_cmd_needs.specs.Needing.{needs_text}
 use Rattle.vd_cmd_needs.proofs.Told.{needs_told, prints}
 use Rattle.vd_cmd_needs.proofs.needs_command.needs_at.Goals as goal

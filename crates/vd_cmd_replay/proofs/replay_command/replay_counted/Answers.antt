@@ -1,7 +1,7 @@
 use Rattle.std.proofs.Common.{List, Some, ap, ◌∙◌}
 use Rattle.vd_base.specs.declared.protocols.Proto.{Proto}
 use Rattle.vd_projection.specs.Programs.{host_codes}
-use Rattle.vd_cmd_compile.proofs.Runnable.{runnable_of}
+use Rattle.vd_cmd_compile.proofs.Front.{runnable_of}
 use Rattle.vd_cmd_replay.proofs.Playable.{are_for_all, count_is, few_names, is_report, prints, report_is}
 use Rattle.vd_cmd_replay.proofs.replay_command.replay_counted.Goals as goal
 

@@ -5,7 +5,7 @@ use Rattle.vd_deal_needs.specs.declared.taking.HostNeeds.{HostNeeds}
 use Rattle.vd_deal_needs.specs.Sizes.{sizes_of}
 use Rattle.vd_tape.specs.Made.{AreCounts}
 use Rattle.vd_deal_needs_programs.specs.Enough.{needs_for}
-use Rattle.vd_cmd_compile.proofs.Runnable.{runnable_of}
+use Rattle.vd_cmd_compile.proofs.Front.{runnable_of}
 use Rattle.vd_cmd_trial.proofs.Enough.{asked_there, can_be_dealt, inputs_few, made_there, splits, suffice_there}
 use Rattle.vd_cmd_trial.specs.Trial.{most_inputs}
 use Rattle.vd_cmd_trial.proofs.asking.asked_at.Goals as goal

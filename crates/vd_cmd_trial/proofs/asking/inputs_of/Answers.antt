@@ -1,4 +1,4 @@
-use Rattle.vd_tape.proofs.Drawn.{next_of}
+use Rattle.vd_tape.proofs.Front.{next_of}
 use Rattle.vd_cmd_trial.specs.Trial.{trial_words}
 use Rattle.vd_cmd_trial.proofs.asking.inputs_of.Goals as goal
 

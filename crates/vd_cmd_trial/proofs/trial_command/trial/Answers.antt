@@ -1,9 +1,9 @@
 use Rattle.std.proofs.Common.{ℕ, ◌≤◌, List, [], length, sym, ◌∙◌, subst}
 use Rattle.std.proofs.lemmas.Result.{err_from_is_err_and}
 use Rattle.vd_base.specs.Limits.{most_source_bytes}
-use Rattle.vd_cmd_plan.proofs.InSteps.{any_memory}
+use Rattle.vd_cmd_plan.proofs.Front.{any_memory}
 use Rattle.vd_cmd_choose.specs.Searching.{GaveUp, searched_by}
-use Rattle.vd_gen_laws.proofs.Sizes.{short_source}
+use Rattle.vd_gen_laws.proofs.Front.{short_source}
 use Rattle.vd_cmd_trial.proofs.Ends.{ends}
 use Rattle.vd_cmd_trial.proofs.Texts.{rules_refused, source_runs, tree_refused}
 use Rattle.vd_cmd_trial.proofs.Told.{few_executed, trial_told}

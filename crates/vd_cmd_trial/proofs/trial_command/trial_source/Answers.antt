@@ -2,7 +2,7 @@ use Rattle.std.proofs.Common.{◌≤◌, sym, subst}
 use Rattle.std.proofs.lemmas.Result.{err_from_is_err_and}
 use Rattle.vd_core.specs.declared.normal.NormalForm.{NormalForm}
 use Rattle.vd_core.specs.Facts.{weight_sum}
-use Rattle.vd_cmd_plan.proofs.InSteps.{any_memory}
+use Rattle.vd_cmd_plan.proofs.Front.{any_memory}
 use Rattle.vd_cmd_choose.specs.Searching.{GaveUp}
 use Rattle.vd_deal_needs_limits.specs.Items.{most_executed}
 use Rattle.vd_cmd_trial.specs.Trial.{ExecutesProgram}

@@ -1,4 +1,4 @@
-use Rattle.vd_space_prefix.proofs.Fills.{grows}
+use Rattle.vd_space_prefix.proofs.Front.{grows}
 use Rattle.vd_cost_network_bound.specs.Bounds.{values_at}
 use Rattle.vd_cost_network_bound.proofs.values.all_slot_values.Goals as goal
 

@@ -1,6 +1,6 @@
 use Rattle.std.proofs.Common.{◌≡◌, List, Option, ℤ, ◌∙◌, subst}
 use Rattle.std.specs.Prelude.{IfOk}
-use Rattle.vd_cost_network_tables.proofs.Pointing.{values_within}
+use Rattle.vd_cost_network_tables.proofs.Front.{values_within}
 use Rattle.vd_cost_network_bound.proofs.Owned.{slot_values_are}
 use Rattle.vd_cost_network_bound.proofs.values.slot_values.Goals as goal
 

@@ -1,4 +1,4 @@
-use Rattle.vd_space_prefix.proofs.Fills.{grows}
+use Rattle.vd_space_prefix.proofs.Front.{grows}
 use Rattle.vd_cost_network_prefix.specs.Reach.{arcs_at}
 use Rattle.vd_cost_network_prefix.proofs.reach.arcs_by_point.Goals as goal
 

@@ -1,6 +1,6 @@
 use Rattle.std.proofs.Common.{false, ap, ◌∙◌}
 use Rattle.vd_space.specs.declared.problem.Guard.{Guard}
-use Rattle.vd_space_prefix.proofs.Found.{found, missing}
+use Rattle.vd_space_prefix.proofs.Front.{found, missing}
 use Rattle.vd_cost_network_prefix.specs.Reach.{names_slot}
 use Rattle.vd_cost_network_prefix.proofs.reach.is_in_branches.Goals as goal
 

@@ -1,5 +1,5 @@
 use Rattle.std.proofs.Common.{false, refl}
-use Rattle.vd_space_prefix.proofs.Found.{found, missing}
+use Rattle.vd_space_prefix.proofs.Front.{found, missing}
 use Rattle.vd_cost_network_prefix.specs.Reach.{may_turn}
 use Rattle.vd_cost_network_prefix.proofs.reach.may_turn_at.Goals as goal
 

@@ -1,4 +1,4 @@
-use Rattle.vd_space_prefix.proofs.Fills.{grows}
+use Rattle.vd_space_prefix.proofs.Front.{grows}
 use Rattle.vd_cost_network_prefix.specs.Reach.{changed_by}
 use Rattle.vd_cost_network_prefix.proofs.reach.points_by_slot.Goals as goal
 

@@ -1,5 +1,5 @@
 use Rattle.std.proofs.Common.{None}
-use Rattle.vd_space_prefix.proofs.Found.{found, missing}
+use Rattle.vd_space_prefix.proofs.Front.{found, missing}
 use Rattle.vd_cost_network_prefix.specs.States.{guard_state}
 use Rattle.vd_cost_network_prefix.proofs.states.state_of.Goals as goal
 

@@ -1,5 +1,5 @@
 use Rattle.std.proofs.Common.{None, refl, ◌∙◌}
-use Rattle.vd_space_prefix.proofs.Found.{found, missing}
+use Rattle.vd_space_prefix.proofs.Front.{found, missing}
 use Rattle.vd_cost_network_prefix.specs.States.{table_state}
 use Rattle.vd_cost_network_prefix.proofs.states.switch_state.Goals as goal
 

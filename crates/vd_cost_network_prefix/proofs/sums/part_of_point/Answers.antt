@@ -1,6 +1,6 @@
 use Rattle.std.proofs.Common.{pos, refl, ap, ◌∙◌, w64}
 use Rattle.std.proofs.lemmas.Int.{to_z-of_z}
-use Rattle.vd_space_prefix.proofs.Found.{found, missing}
+use Rattle.vd_space_prefix.proofs.Front.{found, missing}
 use Rattle.vd_cost_network_prefix.specs.declared.made.PointTable.{PointTable}
 use Rattle.vd_cost_network_prefix.specs.States.{as_states, point_at}
 use Rattle.vd_cost_network_prefix.proofs.sums.part_of_point.Goals as goal

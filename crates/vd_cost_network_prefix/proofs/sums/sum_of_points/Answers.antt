@@ -1,6 +1,6 @@
 use Rattle.std.proofs.Common.{arith}
 use Rattle.std.proofs.lemmas.Int.{ints}
-use Rattle.vd_space_prefix.proofs.Changes.{total_range_more}
+use Rattle.vd_space_prefix.proofs.Front.{total_range_more}
 use Rattle.vd_cost_network_prefix.specs.States.{as_states, point_part}
 use Rattle.vd_cost_network_prefix.proofs.sums.sum_of_points.Goals as goal
 

@@ -1,7 +1,7 @@
 use Rattle.std.proofs.Common.{arith, get_or}
 use Rattle.std.proofs.lemmas.Int.{ints}
 use Rattle.std.proofs.lemmas.List.{take_more}
-use Rattle.vd_space_prefix.proofs.Changes.{total_more}
+use Rattle.vd_space_prefix.proofs.Front.{total_more}
 use Rattle.vd_cost_network_prefix.specs.States.{as_states, arc_part}
 use Rattle.vd_cost_network_prefix.proofs.sums.sum_of_some.Goals as goal
 

@@ -3,7 +3,7 @@ use Rattle.std.specs.Prelude.{unwrap_or}
 use Rattle.vd_base.specs.declared.protocols.Proto.TheVariants.{Local}
 use Rattle.vd_base.specs.HostSets.{host}
 use Rattle.vd_base.specs.Moves.{move_at}
-use Rattle.vd_space.proofs.Priced.{told_price}
+use Rattle.vd_space.proofs.Front.{told_price}
 use Rattle.vd_cost_network_tables.proofs.arcs.arcs_of_switch.Goals as goal
 
 pub switch_arcs-requires-clause-prices : goal.switch_arcs-requires-clause-prices

@@ -3,12 +3,12 @@ use Rattle.std.specs.Prelude.{unwrap_or}
 use Rattle.std.proofs.lemmas.List.{length-map, take_all}
 use Rattle.vd_space.specs.Costs.{Pair, total}
 use Rattle.vd_space_prefix.specs.Transfers.{IsWithin, by_place}
-use Rattle.vd_space_prefix.proofs.Placed.{size_by_place}
-use Rattle.vd_space_terms.proofs.Mapped.{mapped}
+use Rattle.vd_space_prefix.proofs.Front.{size_by_place}
+use Rattle.vd_space_terms.proofs.Front.{mapped}
 use Rattle.vd_cost_network.specs.Arcs.{arcs}
 use Rattle.vd_cost_network.specs.Network.{network_pairs}
 use Rattle.vd_cost_network_prefix.specs.States.{AreSmallArcs}
-use Rattle.vd_cost_network_prefix.proofs.Summing.{pairs_size}
+use Rattle.vd_cost_network_prefix.proofs.Front.{pairs_size}
 use Rattle.vd_cost_network_tables.specs.declared.sums.Rows.TheVariants.{Firsts, Seconds}
 use Rattle.vd_cost_network_tables.specs.Sums.{part}
 use Rattle.vd_cost_network_tables.specs.Tables.{arc_table, raw_arc, shifted_cells}

@@ -1,5 +1,5 @@
 use Rattle.std.proofs.Common.{ap, ◌∙◌}
-use Rattle.vd_space_prefix.proofs.Fills.{grows}
+use Rattle.vd_space_prefix.proofs.Front.{grows}
 use Rattle.vd_cost_network_tables.specs.Tables.{least_column, least_row}
 use Rattle.vd_cost_network_tables.proofs.cells.least_columns.Goals as goal
 

@@ -1,5 +1,5 @@
 use Rattle.std.proofs.Common.{[], Option, List, ℤ, get_or, pos, ap, ◌∙◌}
-use Rattle.vd_space_prefix.proofs.Fills.{grows}
+use Rattle.vd_space_prefix.proofs.Front.{grows}
 use Rattle.vd_cost_network_tables.specs.Tables.{shifted_row}
 use Rattle.vd_cost_network_tables.proofs.cells.shifted.Goals as goal
 

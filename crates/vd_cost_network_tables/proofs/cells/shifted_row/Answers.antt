@@ -1,6 +1,6 @@
 use Rattle.std.proofs.Common.{None, Option, ℤ, get_or, option_map, pos, ap₂, ◌∙◌, ◌+ℤ◌, ◌-ℤ◌, w64}
 use Rattle.std.proofs.lemmas.Int.{to_z-of_z}
-use Rattle.vd_space_prefix.proofs.Fills.{grows}
+use Rattle.vd_space_prefix.proofs.Front.{grows}
 use Rattle.vd_cost_network_tables.proofs.cells.shifted_row.Goals as goal
 
 pub loop-second-preserved : goal.loop-second-preserved

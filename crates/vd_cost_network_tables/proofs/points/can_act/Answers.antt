@@ -1,4 +1,4 @@
-use Rattle.vd_space.proofs.Acting.{acts_is}
+use Rattle.vd_space.proofs.Front.{acts_is}
 use Rattle.vd_cost_network_tables.proofs.points.can_act.Goals as goal
 
 pub returns : goal.returns

@@ -1,6 +1,6 @@
 use Rattle.std.proofs.Common.{◌||◌, not, sym, ap, ◌∙◌, length, arith}
 use Rattle.vd_space.specs.Validity.{holds_at, may_read}
-use Rattle.vd_space.proofs.Loops.{host_passed}
+use Rattle.vd_space.proofs.Front.{host_passed}
 use Rattle.vd_cost_network_tables.proofs.points.can_hosts_read.Goals as goal
 
 pub loop-host-preserved : goal.loop-host-preserved

@@ -1,7 +1,7 @@
 use Rattle.std.proofs.Common.{◌<◌, List, ℤ, length, ap, sym, ◌∙◌, subst}
 use Rattle.vd_space.specs.Costs.{total}
 use Rattle.vd_space_prefix.specs.Transfers.{by_place}
-use Rattle.vd_space_prefix.proofs.Placed.{size_by_place}
+use Rattle.vd_space_prefix.proofs.Front.{size_by_place}
 use Rattle.vd_cost_network_prefix.specs.States.{AreSmallPoints, count_of_points}
 use Rattle.vd_cost_network_tables.specs.declared.sums.Rows.TheVariants.{Points}
 use Rattle.vd_cost_network_tables.specs.Sums.{AreSmallSums, part, sums_of}

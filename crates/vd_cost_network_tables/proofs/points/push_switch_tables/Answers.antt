@@ -1,6 +1,6 @@
 use Rattle.std.proofs.Common.{◌≡◌, ◌+◌, ◌<◌, true, [], ◌∷◌, length, get_or, ap, sym, ◌∙◌, subst, arith, List}
 use Rattle.vd_space_prefix.specs.Transfers.{by_place}
-use Rattle.vd_space_prefix.proofs.Fills.{grows}
+use Rattle.vd_space_prefix.proofs.Front.{grows}
 use Rattle.vd_space.specs.declared.problem.Guard.{Guard}
 use Rattle.vd_base.specs.declared.ids.HostId.{HostId}
 use Rattle.vd_cost_network.specs.Points.{switch_of}

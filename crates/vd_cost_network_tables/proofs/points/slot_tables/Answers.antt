@@ -1,7 +1,6 @@
 use Rattle.std.proofs.Common.{◌≡◌, ◌<◌, length, get_or, ap, ◌∙◌, arith}
 use Rattle.vd_space_prefix.specs.Transfers.{by_place}
-use Rattle.vd_space_prefix.proofs.Fills.{grows}
-use Rattle.vd_space_prefix.proofs.Placed.{at_place, size_by_place}
+use Rattle.vd_space_prefix.proofs.Front.{grows, at_place, size_by_place}
 use Rattle.vd_cost_network_prefix.specs.States.{count_of_points}
 use Rattle.vd_cost_network_tables.specs.Tables.{table_by, tests_of}
 use Rattle.vd_cost_network_tables.proofs.Pointing.{line_small, row_found, slot_item}

@@ -1,7 +1,7 @@
 use Rattle.std.proofs.Common.{◌++◌, length, ap, arith, sym}
 use Rattle.std.proofs.lemmas.Option.{get_or_from_slice_get}
 use Rattle.vd_deal_versions.specs.Text.{linked_text}
-use Rattle.vd_tape.proofs.SharesWritten.{at_place}
+use Rattle.vd_tape.proofs.Front.{at_place}
 use Rattle.vd_deal_versions.proofs.LinksWritten.{one_more, no_more}
 use Rattle.vd_deal_versions.proofs.writing.push_linked.Goals as goal
 

@@ -1,6 +1,6 @@
 use Rattle.std.proofs.Common.{◌+◌, ◌||◌, map, drop, sym, ap, ◌∙◌, arith}
 use Rattle.std.proofs.lemmas.List.{drop_all}
-use Rattle.vd_constraints.proofs.Sizes.{stmt_fits}
+use Rattle.vd_constraints.proofs.Front.{stmt_fits}
 use Rattle.vd_draw_rows.specs.Rows.{drawn}
 use Rattle.vd_draw_rows.specs.Parts.{part_of_all}
 use Rattle.vd_draw_rows.proofs.Taking.{part_for, part_if_first, part_if_other, part_next}

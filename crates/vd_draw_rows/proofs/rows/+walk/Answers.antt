@@ -1,7 +1,7 @@
 use Rattle.std.proofs.Common.{◌∙◌, arith}
 use Rattle.vd_base.specs.Limits.{most_weights}
-use Rattle.vd_constraints.proofs.Sizes.{stmt_fits}
-use Rattle.vd_space.proofs.Walks.{weigh_fits, turns_fit}
+use Rattle.vd_constraints.proofs.Front.{stmt_fits}
+use Rattle.vd_space.proofs.Front.{weigh_fits, turns_fit}
 use Rattle.vd_draw_rows.proofs.Blocks.{rows_next}
 use Rattle.vd_draw_rows.proofs.rows.+walk.Goals as goal
 

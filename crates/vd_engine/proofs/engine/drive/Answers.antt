@@ -4,7 +4,7 @@ use Rattle.vd_execution.specs.Code.{weight}
 use Rattle.vd_machine.specs.Kept.{state_of}
 use Rattle.vd_engine.specs.Turning.{IsTurnOf}
 use Rattle.vd_engine.specs.declared.engine.Turn.{Turn}
-use Rattle.vd_machine.proofs.Running.{quietly_falls}
+use Rattle.vd_machine.proofs.Front.{quietly_falls}
 use Rattle.vd_engine.proofs.Running.{falls_on, goes_unseen}
 use Rattle.vd_engine.proofs.Going.{goes_none, goes_quietly, goes_printing, goes_over, goes_wrong, turn_falls}
 use Rattle.vd_engine.proofs.engine.drive.Goals as goal

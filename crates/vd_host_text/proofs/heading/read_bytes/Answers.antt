@@ -2,7 +2,7 @@ use Rattle.std.proofs.Common.{◌≡◌, ◌+◌, ◌-◌, ◌<◌, ◌≤◌, �
 use Rattle.std.proofs.lemmas.List.{take_more_set, take_all, length-set}
 use Rattle.std.proofs.lemmas.Result.{err_from_is_err_and}
 use Rattle.vd_base_codec.specs.Reading.{each_at}
-use Rattle.vd_base_codec.proofs.Loops.{with_front, next_item, no_item, all_items, first_item}
+use Rattle.vd_base_codec.proofs.Front.{with_front, next_item, no_item, all_items, first_item}
 use Rattle.vd_host_text.specs.Heading.{hex_at}
 use Rattle.vd_host_text.proofs.heading.read_bytes.Goals as goal
 

@@ -1,6 +1,6 @@
 use Rattle.std.proofs.Common.{◌≡◌, ◌-◌, take, length}
 use Rattle.vd_base_codec.specs.Reading.{each_at}
-use Rattle.vd_base_codec.proofs.Loops.{with_front}
+use Rattle.vd_base_codec.proofs.Front.{with_front}
 use Rattle.vd_host_text.specs.Heading.{hex_at}
 use Rattle.vd_host_text.proofs.heading.read_bytes.Given as goal
 

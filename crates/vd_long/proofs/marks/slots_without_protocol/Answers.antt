@@ -7,8 +7,7 @@ use Rattle.vd_constraints.specs.Rules.{label}
 use Rattle.vd_space.specs.declared.problem.Problem.{Problem}
 use Rattle.vd_space.specs.Labelled.{IsLabelled}
 use Rattle.vd_space.specs.Validity.{protocols}
-use Rattle.vd_space.proofs.Few.{are_protocols}
-use Rattle.vd_space.proofs.Programs.{is_labelled}
+use Rattle.vd_space.proofs.Front.{are_protocols, is_labelled}
 use Rattle.vd_long.specs.Marks.{long_marks}
 use Rattle.vd_long.proofs.marks.slots_without_protocol.Goals as goal
 

@@ -1,4 +1,4 @@
-use Rattle.vd_noninter.proofs.Answered.{as_test}
+use Rattle.vd_noninter.proofs.Front.{as_test}
 use Rattle.vd_mux.proofs.hidden.acts_for.Goals as goal
 
 pub returns : goal.returns

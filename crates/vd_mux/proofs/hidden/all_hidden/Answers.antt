@@ -1,6 +1,6 @@
 use Rattle.std.proofs.Common.{length, refl}
 use Rattle.vd_constraints.specs.Systems.{IsLabelOver}
-use Rattle.vd_constraints.proofs.Firsts.{has_it}
+use Rattle.vd_constraints.proofs.Front.{has_it}
 use Rattle.vd_mux.proofs.hidden.all_hidden.Goals as goal
 
 pub is_read-read-requires : goal.is_read-read-requires

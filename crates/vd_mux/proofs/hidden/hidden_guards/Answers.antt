@@ -5,7 +5,7 @@ use Rattle.vd_base.specs.declared.ids.HostId.{HostId}
 use Rattle.vd_core.specs.declared.normal.NormalForm.{NormalForm}
 use Rattle.vd_formula.specs.declared.label.Label.{Label}
 use Rattle.vd_constraints.specs.Systems.{IsLabelOver}
-use Rattle.vd_noninter.proofs.Answered.{labels_over}
+use Rattle.vd_noninter.proofs.Front.{labels_over}
 use Rattle.vd_mux.specs.Hidden.{host, hidden_from}
 use Rattle.vd_mux.proofs.hidden.hidden_guards.Goals as goal
 

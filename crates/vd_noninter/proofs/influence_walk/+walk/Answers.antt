@@ -1,5 +1,5 @@
 use Rattle.std.proofs.Common.{arith}
-use Rattle.vd_constraints.proofs.Sizes.{stmt_fits}
+use Rattle.vd_constraints.proofs.Front.{stmt_fits}
 use Rattle.vd_noninter.proofs.influence_walk.+walk.Goals as goal
 
 pub add_body-add_stmt-requires : goal.add_body-add_stmt-requires

@@ -1,7 +1,7 @@
 use Rattle.std.proofs.Common.{[]}
 use Rattle.vd_execution.specs.Text.{pick}
 use Rattle.vd_reorder.specs.Packets.{opened_in}
-use Rattle.vd_projection.proofs.Lines.{code_more}
+use Rattle.vd_projection.proofs.Front.{code_more}
 use Rattle.vd_projection_reordered.proofs.codes.opened_by.Goals as goal
 
 pub loop-number-preserved : goal.loop-number-preserved

@@ -1,5 +1,5 @@
 use Rattle.std.proofs.Common.{◌∙◌, sym, subst, arith, ◌≤ℤ◌}
-use Rattle.vd_search.proofs.Steps.{is_within-yes, is_not_below}
+use Rattle.vd_search.proofs.Front.{is_within-yes, is_not_below}
 use Rattle.vd_search_budget.proofs.Counts.{counted_all, counting_on, counts_itself}
 use Rattle.vd_search_budget.proofs.counting.+count_on.Goals as goal
 

@@ -5,7 +5,7 @@ use Rattle.std.proofs.lemmas.Bool.{true≢false}
 use Rattle.vd_formula.specs.TruthTable.{TruthTable, ActsFor}
 use Rattle.vd_constraints.specs.declared.system.Check.{Check}
 use Rattle.vd_constraints.specs.Satisfies.{HoldsCheck, formula_at}
-use Rattle.vd_constraints.proofs.Firsts.{has_it, one_more, first_without}
+use Rattle.vd_constraints.proofs.Front.{has_it, one_more, first_without}
 use Rattle.vd_solver.proofs.checking.first_failing.Goals as goal
 
 pub acts_for-requires : goal.acts_for-requires

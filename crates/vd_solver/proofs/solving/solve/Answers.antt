@@ -2,7 +2,7 @@ use Rattle.std.proofs.Common.{◌≡◌, length, refl, sym, ap, ◌∙◌, subst
 use Rattle.std.specs.Prelude.{All}
 use Rattle.vd_constraints.specs.declared.system.Check.{Check}
 use Rattle.vd_constraints.specs.Satisfies.{formula_at, HoldsCheck, IsFirstWithout}
-use Rattle.vd_labels_least.proofs.Checks.{no_labelling, least_of_all}
+use Rattle.vd_labels_least.proofs.Front.{no_labelling, least_of_all}
 use Rattle.vd_solver.proofs.Checks.{check_names}
 use Rattle.vd_solver.proofs.solving.solve.Goals as goal
 

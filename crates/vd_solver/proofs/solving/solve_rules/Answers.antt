@@ -3,10 +3,8 @@ use Rattle.std.proofs.lemmas.Bool.{true≢false}
 use Rattle.vd_constraints.specs.declared.labels.Labels.{Labels}
 use Rattle.vd_constraints.specs.Systems.{IsRuleOf}
 use Rattle.vd_solver.specs.Reading.{part_number, IsIndex}
-use Rattle.vd_constraints.proofs.Labellings.{names-rule}
-use Rattle.vd_labels_least.proofs.Parts.{within}
-use Rattle.vd_labels_least.proofs.Raising.{IsReached}
-use Rattle.vd_labels_least.proofs.Free.{free_reached}
+use Rattle.vd_constraints.proofs.Front.{names-rule}
+use Rattle.vd_labels_least.proofs.Front.{within, IsReached, free_reached}
 use Rattle.vd_solver.proofs.Indexes.{number_low}
 use Rattle.vd_solver.proofs.Progress.{IsUnderWay, valid_rule, after_held, after_raised, measure_falls, solved}
 use Rattle.vd_solver.proofs.solving.solve_rules.Goals as goal

@@ -1,5 +1,5 @@
 use Rattle.std.proofs.Common.{sym, ◌∙◌, arith}
-use Rattle.vd_constraints.proofs.Sizes.{stmt_fits}
+use Rattle.vd_constraints.proofs.Front.{stmt_fits}
 use Rattle.vd_space.proofs.Walks.{on_ok, branch_next, branch_done, name_if, name_for}
 use Rattle.vd_space.proofs.reading.+names.Goals as goal
 

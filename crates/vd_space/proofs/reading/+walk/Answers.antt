@@ -1,6 +1,6 @@
 use Rattle.std.proofs.Common.{◌∙◌, arith}
 use Rattle.vd_base.specs.Limits.{most_weights}
-use Rattle.vd_constraints.proofs.Sizes.{stmt_fits}
+use Rattle.vd_constraints.proofs.Front.{stmt_fits}
 use Rattle.vd_space.proofs.Walks.{on_ok, block_next, add_if, weigh_fits, turns_fit}
 use Rattle.vd_space.proofs.reading.+walk.Goals as goal
 

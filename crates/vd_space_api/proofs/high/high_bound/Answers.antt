@@ -1,7 +1,7 @@
 use Rattle.std.proofs.Common.{subst}
 use Rattle.std.proofs.lemmas.List.{take_all}
 use Rattle.vd_space_prefix.specs.Tables.{AreSumsOf}
-use Rattle.vd_space_prefix.proofs.Greater.{max_sum}
+use Rattle.vd_space_prefix.proofs.Front.{max_sum}
 use Rattle.vd_space_api.proofs.Along.{all_listed, step}
 use Rattle.vd_space_api.proofs.high.high_bound.Goals as goal
 

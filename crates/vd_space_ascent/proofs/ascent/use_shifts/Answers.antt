@@ -1,5 +1,5 @@
 use Rattle.std.proofs.Common.{ap, length, arith}
-use Rattle.vd_space.proofs.Few.{few_in}
+use Rattle.vd_space.proofs.Front.{few_in}
 use Rattle.vd_space_ascent.proofs.Naming.{of_problem}
 use Rattle.vd_space_ascent.proofs.ascent.use_shifts.Goals as goal
 

@@ -3,7 +3,7 @@ use Rattle.std.specs.Prelude.{◌==◌}
 use Rattle.std.specs.List.{list_all}
 use Rattle.std.proofs.lemmas.Bool.{ne_eqb}
 use Rattle.vd_space.specs.Validity.{all_hosts, guard_told, holder_told}
-use Rattle.vd_space.proofs.Joining.{guard_told_grows}
+use Rattle.vd_space.proofs.Front.{guard_told_grows}
 use Rattle.vd_space_prefix.proofs.naming.is_guard_still_told.Goals as goal
 
 pub returns-else-from-before : goal.returns-else-from-before

@@ -1,6 +1,6 @@
 use Rattle.std.proofs.Common.{◌≤◌, sym, ap, ◌∙◌, subst, length}
 use Rattle.vd_base.specs.Protocols.{protocols_of}
-use Rattle.vd_space.proofs.Few.{are_protocols}
+use Rattle.vd_space.proofs.Front.{are_protocols}
 use Rattle.vd_space_shifts.proofs.Few.{usual_few}
 use Rattle.vd_space_shifts.proofs.Rounds.{first_ledger}
 use Rattle.vd_space_shifts.proofs.ledger.usual.Goals as goal

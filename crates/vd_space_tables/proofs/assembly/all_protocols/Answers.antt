@@ -2,7 +2,7 @@ use Rattle.std.proofs.Common.{◌≡◌, ◌∙◌, length, ap}
 use Rattle.std.proofs.lemmas.Result.{IfOk-weaker}
 use Rattle.vd_base.specs.Protocols.{protocols_of}
 use Rattle.vd_space.specs.WellFormed.{AreProtocols}
-use Rattle.vd_space.proofs.Few.{are_protocols}
+use Rattle.vd_space.proofs.Front.{are_protocols}
 use Rattle.vd_space_tables.proofs.assembly.all_protocols.Goals as goal
 
 pub returns : goal.returns

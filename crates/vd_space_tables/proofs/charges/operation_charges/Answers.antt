@@ -1,5 +1,5 @@
 use Rattle.vd_space.specs.Costs.{operation_term}
-use Rattle.vd_space_prefix.proofs.Fills.{grows}
+use Rattle.vd_space_prefix.proofs.Front.{grows}
 use Rattle.vd_space_tables.specs.Charges.{charge_of}
 use Rattle.vd_space_tables.proofs.charges.operation_charges.Goals as goal
 

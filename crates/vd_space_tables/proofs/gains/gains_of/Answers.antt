@@ -1,4 +1,4 @@
-use Rattle.vd_space_prefix.proofs.Fills.{grows_z}
+use Rattle.vd_space_prefix.proofs.Front.{grows_z}
 use Rattle.vd_space_tables.specs.Gains.{gain_with}
 use Rattle.vd_space_tables.proofs.gains.gains_of.Goals as goal
 

@@ -1,6 +1,6 @@
 use Rattle.std.proofs.Common.{◌∙◌, ◌<◌, length, arith}
 use Rattle.vd_space.specs.Bounds.{shifted_one}
-use Rattle.vd_space_prefix.proofs.Fills.{grows}
+use Rattle.vd_space_prefix.proofs.Front.{grows}
 use Rattle.vd_space_tables.specs.Charges.{charge_of}
 use Rattle.vd_space_tables.proofs.Merged.{merged_charged, small_on_slots}
 use Rattle.vd_space_tables.proofs.shifted.merged_charges.Goals as goal

@@ -1,6 +1,6 @@
 use Rattle.std.proofs.Common.{refl, pos}
 use Rattle.vd_space_prefix.specs.declared.transfers.Arc.{Arc}
-use Rattle.vd_space_prefix.proofs.Found.{missing}
+use Rattle.vd_space_prefix.proofs.Front.{missing}
 use Rattle.vd_space_tables.proofs.Small.{zero_within}
 use Rattle.vd_space_tables.proofs.Loops.{both_found}
 use Rattle.vd_space_tables.proofs.start.both_of.Goals as goal

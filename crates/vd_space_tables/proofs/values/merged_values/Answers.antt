@@ -3,7 +3,7 @@ use Rattle.std.specs.Prelude.{option_map}
 use Rattle.std.proofs.lemmas.Int.{to_z-of_z}
 use Rattle.vd_space.specs.Bounds.{add, outputs_value}
 use Rattle.vd_space.specs.Costs.{operation_value}
-use Rattle.vd_space_prefix.proofs.Fills.{grows}
+use Rattle.vd_space_prefix.proofs.Front.{grows}
 use Rattle.vd_space_tables.specs.Values.{merged_value}
 use Rattle.vd_space_tables.proofs.values.merged_values.Goals as goal
 

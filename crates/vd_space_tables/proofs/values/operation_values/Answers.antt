@@ -1,5 +1,5 @@
 use Rattle.vd_space.specs.Costs.{operation_value}
-use Rattle.vd_space_prefix.proofs.Fills.{grows}
+use Rattle.vd_space_prefix.proofs.Front.{grows}
 use Rattle.vd_space_tables.proofs.values.operation_values.Goals as goal
 
 pub loop-place-preserved : goal.loop-place-preserved

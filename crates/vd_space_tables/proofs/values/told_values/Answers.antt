@@ -1,6 +1,6 @@
 use Rattle.vd_space.specs.Costs.{weigh}
 use Rattle.vd_space.specs.Validity.{move_to_host}
-use Rattle.vd_space_prefix.proofs.Fills.{grows}
+use Rattle.vd_space_prefix.proofs.Front.{grows}
 use Rattle.vd_space_tables.proofs.values.told_values.Goals as goal
 
 pub loop-place-preserved : goal.loop-place-preserved

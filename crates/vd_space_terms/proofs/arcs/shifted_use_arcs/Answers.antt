@@ -3,7 +3,7 @@ use Rattle.vd_space.specs.declared.problem.Use.{Use}
 use Rattle.vd_space.specs.Validity.{protocols}
 use Rattle.vd_space.specs.Costs.{total}
 use Rattle.vd_space_prefix.specs.Transfers.{ArePrices, by_place}
-use Rattle.vd_space_prefix.proofs.Placed.{size_by_place}
+use Rattle.vd_space_prefix.proofs.Front.{size_by_place}
 use Rattle.vd_space_terms.specs.declared.sums.Rows.TheVariants.{Sources, Targets}
 use Rattle.vd_space_terms.specs.Sums.{part}
 use Rattle.vd_space_terms.proofs.Cells.{moves_small, moves_size}

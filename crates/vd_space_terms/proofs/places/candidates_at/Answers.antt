@@ -1,6 +1,6 @@
 use Rattle.std.proofs.Common.{length, ap, arith}
 use Rattle.vd_space.specs.Validity.{can_stand}
-use Rattle.vd_space_prefix.proofs.Fills.{grows}
+use Rattle.vd_space_prefix.proofs.Front.{grows}
 use Rattle.vd_space_terms.proofs.Few.{few_protocols}
 use Rattle.vd_space_terms.proofs.places.candidates_at.Goals as goal
 

@@ -3,7 +3,7 @@ use Rattle.std.specs.Prelude.{unwrap_or}
 use Rattle.vd_base.specs.HostSets.{host}
 use Rattle.vd_space.specs.Validity.{holds_at, move_to_host}
 use Rattle.vd_space.specs.Costs.{moves_to, hosts_at}
-use Rattle.vd_space.proofs.Priced.{told_price}
+use Rattle.vd_space.proofs.Front.{told_price}
 use Rattle.vd_space_terms.proofs.Telling.{telling_step, plus_few}
 use Rattle.vd_space_terms.proofs.prices.index_price.Goals as goal
 

@@ -2,7 +2,7 @@ use Rattle.std.proofs.Common.{◌≡◌, ℕ, List, Option, length, ap, arith, s
 use Rattle.vd_space.specs.Costs.{moves_to, hosts_at}
 use Rattle.vd_space.specs.Validity.{protocols}
 use Rattle.vd_space_prefix.specs.Transfers.{ArePrices, by_place}
-use Rattle.vd_space_prefix.proofs.Fills.{grows}
+use Rattle.vd_space_prefix.proofs.Front.{grows}
 use Rattle.vd_space_terms.proofs.Cells.{tells_small}
 use Rattle.vd_space_terms.proofs.Few.{few_protocols}
 use Rattle.vd_space_terms.proofs.prices.index_prices.Goals as goal

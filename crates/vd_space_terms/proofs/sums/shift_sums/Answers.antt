@@ -5,7 +5,7 @@ use Rattle.vd_search_tree.specs.declared.shift.Shift.{Shift}
 use Rattle.vd_space.specs.Bounds.{signed}
 use Rattle.vd_space.specs.Costs.{total}
 use Rattle.vd_space_prefix.specs.Transfers.{IsWithin, by_place}
-use Rattle.vd_space_prefix.proofs.Placed.{at_place, size_by_place}
+use Rattle.vd_space_prefix.proofs.Front.{at_place, size_by_place}
 use Rattle.vd_space_terms.specs.Sums.{sums_of, part}
 use Rattle.vd_space_terms.proofs.Made.{get_or_any}
 use Rattle.vd_space_terms.proofs.Counting.{none_yet, added, unchanged, no_row, other_row, other_place}

@@ -1,6 +1,6 @@
 use Rattle.std.proofs.lemmas.Result.{err_from_is_err_and}
 use Rattle.vd_base_codec.specs.Reading.{each_at}
-use Rattle.vd_base_codec.proofs.Loops.{next_item, no_item, all_items}
+use Rattle.vd_base_codec.proofs.Front.{next_item, no_item, all_items}
 use Rattle.vd_tape.proofs.reading.read_items.Goals as goal
 
 pub returns-in_err-item : goal.returns-in_err-item

@@ -1,6 +1,6 @@
 use Rattle.std.proofs.Common.{◌∙◌, length, ap}
 use Rattle.vd_base.specs.Protocols.{protocols_of}
-use Rattle.vd_space.proofs.Few.{are_protocols}
+use Rattle.vd_space.proofs.Front.{are_protocols}
 use Rattle.vd_cost_network_ascent.proofs.climbing.Climb.of.Goals as goal
 
 pub candidates-requires : goal.candidates-requires

@@ -7,7 +7,7 @@ use Rattle.vd_cost_network.specs.Arcs.{arcs}
 use Rattle.vd_cost_network.specs.Network.{by_arcs, units}
 use Rattle.vd_cost_network_prefix.specs.States.{as_states, count_of_points, arc_part, point_part}
 use Rattle.vd_cost_network_tables.specs.Tables.{arc_tables_of, point_tables_of}
-use Rattle.vd_cost_network_tables.proofs.Switching.{switch_tables_are}
+use Rattle.vd_cost_network_tables.proofs.Front.{switch_tables_are}
 use Rattle.vd_cost_network_bound.proofs.Summed.{bound_is, count_is, settings_decided}
 use Rattle.vd_cost_network_bound.proofs.made.NetworkBound.bound.Goals as goal
 

@@ -4,11 +4,7 @@ use Rattle.vd_base.specs.declared.protocols.Proto.{Proto}
 use Rattle.vd_space.specs.Validity.{protocols}
 use Rattle.vd_cost_network_prefix.specs.States.{count_of_points}
 use Rattle.vd_cost_network_tables.specs.Tables.{tests_of}
-use Rattle.vd_cost_network_tables.proofs.Assembling.{settings_are, tests_found}
-use Rattle.vd_cost_network_tables.proofs.Costs.{map_map}
-use Rattle.vd_cost_network_tables.proofs.Placed.{tests_size}
-use Rattle.vd_cost_network_tables.proofs.Rawing.{switches_size}
-use Rattle.vd_cost_network_tables.proofs.Shifting.{few_settings}
+use Rattle.vd_cost_network_tables.proofs.Front.{settings_are, tests_found, map_map, tests_size, switches_size, few_settings}
 use Rattle.vd_cost_network_bound.specs.Least.{passing}
 use Rattle.vd_cost_network_bound.proofs.made.NetworkBound.new.Goals as goal
 

@@ -3,14 +3,12 @@ use Rattle.std.specs.Prelude.{unwrap_or}
 use Rattle.std.proofs.lemmas.Int.{ints}
 use Rattle.vd_space.specs.Costs.{total}
 use Rattle.vd_space_prefix.specs.Transfers.{IsWithin, by_place}
-use Rattle.vd_space_prefix.proofs.Changes.{total_range_more}
-use Rattle.vd_space_prefix.proofs.Placed.{size_by_place}
+use Rattle.vd_space_prefix.proofs.Front.{total_range_more, size_by_place}
 use Rattle.vd_cost_network_prefix.specs.States.{as_states, arc_part}
 use Rattle.vd_cost_network_tables.specs.declared.sums.Rows.TheVariants.{Firsts, Seconds}
 use Rattle.vd_cost_network_tables.specs.Sums.{part}
 use Rattle.vd_cost_network_tables.specs.Tables.{arc_tables_of}
-use Rattle.vd_cost_network_tables.proofs.Placing.{row_is, row_small}
-use Rattle.vd_cost_network_tables.proofs.Ranging.{raw_light}
+use Rattle.vd_cost_network_tables.proofs.Front.{row_is, row_small, raw_light}
 use Rattle.vd_cost_network_bound.specs.Least.{settings_at}
 use Rattle.vd_cost_network_bound.proofs.Joined.{part_is}
 use Rattle.vd_cost_network_bound.proofs.Summed.{few_at}

@@ -3,14 +3,13 @@ use Rattle.std.specs.List.{range_with_len}
 use Rattle.std.proofs.lemmas.Int.{ints}
 use Rattle.vd_space.specs.Costs.{total}
 use Rattle.vd_space_prefix.specs.Transfers.{by_place}
-use Rattle.vd_space_prefix.proofs.Changes.{total_range_more}
-use Rattle.vd_space_prefix.proofs.Placed.{at_place, size_by_place}
-use Rattle.vd_space_terms.proofs.Made.{get_or_any}
+use Rattle.vd_space_prefix.proofs.Front.{total_range_more, at_place, size_by_place}
+use Rattle.vd_space_terms.proofs.Front.{get_or_any}
 use Rattle.vd_cost_network_prefix.specs.States.{as_states, count_of_points, point_part}
 use Rattle.vd_cost_network_tables.specs.declared.sums.Rows.TheVariants.{Points}
 use Rattle.vd_cost_network_tables.specs.Sums.{part, sums_of}
 use Rattle.vd_cost_network_tables.specs.Tables.{point_tables_of}
-use Rattle.vd_cost_network_tables.proofs.Placing.{row_is, row_small}
+use Rattle.vd_cost_network_tables.proofs.Front.{row_is, row_small}
 use Rattle.vd_cost_network_bound.specs.Bounds.{values_at}
 use Rattle.vd_cost_network_bound.proofs.Alone.{point_is, values_light}
 use Rattle.vd_cost_network_bound.proofs.Summed.{count_is, few_at}

@@ -2,8 +2,7 @@ use Rattle.std.proofs.Common.{◌-◌, ◌<◌, ◌≤◌, length, take, cond, g
 use Rattle.std.specs.Prelude.{nat_lt}
 use Rattle.std.proofs.lemmas.Bool.{ltb-true}
 use Rattle.std.proofs.lemmas.List.{length-take-le}
-use Rattle.vd_space_prefix.proofs.Paths.{front_of}
-use Rattle.vd_space_prefix.proofs.Placed.{size_by_place}
+use Rattle.vd_space_prefix.proofs.Front.{front_of, size_by_place}
 use Rattle.vd_cost_network.specs.Points.{decided}
 use Rattle.vd_cost_network_prefix.specs.Reach.{AreDecidedBeside}
 use Rattle.vd_cost_network_prefix.specs.States.{count_of_points, states_of}

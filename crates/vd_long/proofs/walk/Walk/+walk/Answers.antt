@@ -3,7 +3,7 @@ use Rattle.std.proofs.lemmas.Result.{err_from_is_err_and}
 use Rattle.vd_core.specs.declared.normal.Stmt.{Stmt, If}
 use Rattle.vd_rewrite.specs.Rewriting.{Made, run_all, emptied}
 use Rattle.vd_rewrite.specs.Stops.{IsTooLarge}
-use Rattle.vd_rewrite.proofs.Exits.{one_more, stops_in_list, stops_block, stops_then}
+use Rattle.vd_rewrite.proofs.Front.{one_more, stops_in_list, stops_block, stops_then}
 use Rattle.vd_long.specs.Lengthened.{nothing_hidden}
 use Rattle.vd_long.specs.Walks.{marked_in, lets_of, as_rewriting}
 use Rattle.vd_long.proofs.LongSizes.{long_makes}

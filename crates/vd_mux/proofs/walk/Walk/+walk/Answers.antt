@@ -3,11 +3,10 @@ use Rattle.std.proofs.lemmas.Result.{err_from_is_err_and}
 use Rattle.vd_base.specs.declared.ids.SlotId.{SlotId}
 use Rattle.vd_core.specs.declared.normal.Stmt.{Stmt, If}
 use Rattle.vd_rewrite.specs.Rewriting.{Made, run_all, guard_of, emptied, kept_let}
-use Rattle.vd_rewrite.proofs.Sizes.{kept_makes}
+use Rattle.vd_rewrite.proofs.Front.{kept_makes, one_more, stops_in_list, stops_first, stops_block, stops_then}
 use Rattle.vd_rewrite.specs.Stops.{IsTooLarge}
 use Rattle.vd_rewrite.specs.Rewriting.{marked}
 use Rattle.vd_mux.specs.Walks.{as_rewritings}
-use Rattle.vd_rewrite.proofs.Exits.{one_more, stops_in_list, stops_first, stops_block, stops_then}
 use Rattle.vd_mux.proofs.walk.Walk.+walk.Goals as goal
 
 pub rewrite_all-returns-in_err-rewrite-clause-stop : goal.rewrite_all-returns-in_err-rewrite-clause-stop

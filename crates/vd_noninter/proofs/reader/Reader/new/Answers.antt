@@ -1,6 +1,6 @@
 use Rattle.std.proofs.Common.{refl, sym, ◌∙◌, length}
 use Rattle.vd_constraints.specs.Systems.{IsLabelOver}
-use Rattle.vd_constraints.proofs.Firsts.{has_it}
+use Rattle.vd_constraints.proofs.Front.{has_it}
 use Rattle.vd_noninter.proofs.reader.Reader.new.Goals as goal
 
 pub acts_for-requires : goal.acts_for-requires

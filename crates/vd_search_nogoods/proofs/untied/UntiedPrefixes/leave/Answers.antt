@@ -1,7 +1,7 @@
 use Rattle.std.proofs.Common.{suc, pos, sym, ap, ◌∙◌, subst}
 use Rattle.std.specs.List.{All}
 use Rattle.vd_search_tree.specs.Trees.{Tree, AtLeast}
-use Rattle.vd_search.proofs.Thresholds.{list_ends}
+use Rattle.vd_search.proofs.Front.{list_ends}
 use Rattle.vd_search_nogoods.specs.Untied.{untied}
 use Rattle.vd_search_nogoods.proofs.Copies.{Copies, copies_front}
 use Rattle.vd_search_nogoods.proofs.untied.UntiedPrefixes.leave.Goals as goal

@@ -1,7 +1,7 @@
 use Rattle.std.proofs.Common.{◌∙◌, subst}
 use Rattle.vd_space.specs.declared.problem.Problem.{Problem}
 use Rattle.vd_space.specs.WellFormed.{AreProtocols}
-use Rattle.vd_space.proofs.Few.{are_protocols}
+use Rattle.vd_space.proofs.Front.{are_protocols}
 use Rattle.vd_space_api.proofs.Kept.{listed, well_formed}
 use Rattle.vd_space_api.proofs.space.Space.list.Goals as goal
 

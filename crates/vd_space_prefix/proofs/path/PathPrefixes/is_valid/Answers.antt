@@ -1,4 +1,4 @@
-use Rattle.vd_space.proofs.Bounded.{tree_bounded}
+use Rattle.vd_space.proofs.Front.{tree_bounded}
 use Rattle.vd_space_prefix.proofs.path.PathPrefixes.is_valid.Goals as goal
 
 pub returns-clause-bounded : goal.returns-clause-bounded

@@ -1,5 +1,5 @@
 use Rattle.std.proofs.Common.{◌<◌, refl, sym, ◌∙◌, subst, length, arith}
-use Rattle.vd_space.proofs.Walks.{on_ok}
+use Rattle.vd_space.proofs.Front.{on_ok}
 use Rattle.vd_space_shifts.specs.Ledger.{AreSmall, AreSmallTerms}
 use Rattle.vd_space_shifts.proofs.Handing.{amounts_small, givens_few, given_is, handed_is, row_read, taken_small}
 use Rattle.vd_space_shifts.proofs.ledger.Ledger.hand_on.Goals as goal

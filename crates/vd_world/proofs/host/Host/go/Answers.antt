@@ -5,7 +5,7 @@ use Rattle.vd_machine.specs.declared.want.Want.TheVariants as want
 use Rattle.vd_machine.specs.Kept.{state_of}
 use Rattle.vd_machine.specs.Machines.{cursors_of}
 use Rattle.vd_machine.specs.Wants.{wanted}
-use Rattle.vd_machine.proofs.Running.{met_alone}
+use Rattle.vd_machine.proofs.Front.{met_alone}
 use Rattle.vd_world.specs.Hosts.{HostKept, local_of, gone_on}
 use Rattle.vd_world.proofs.host.Host.go.Goals as goal
 

@@ -1,0 +1,3 @@
+-- The lemmas that other crates cite.
+pub use Rattle.vd_bound.proofs.Yes.{sound_is_yes, yes_is_sound}
+pub use Rattle.vd_bound.proofs.Answered.{checked_proves}

@@ -1,0 +1,3 @@
+-- The lemmas that other crates cite.
+pub use Rattle.vd_cmd_draw.proofs.Sure.{draw_follows}
+pub use Rattle.vd_cmd_draw.proofs.Telling.{drawings_tell}

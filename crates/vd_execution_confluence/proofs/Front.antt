@@ -1,0 +1,12 @@
+-- The lemmas that other crates cite.
+pub use Rattle.vd_execution_confluence.proofs.Confluence.{Through, one_end, run_steps, steps_keep, steps_run, strip, through_all, through_run}
+pub use Rattle.vd_execution_confluence.proofs.Diamond.{Below, Stepped, answer_more, diamond, front_later, moved_grows, prefix_same, stepped, steps_to}
+pub use Rattle.vd_execution_confluence.proofs.Reached.{Enough, GrowsInto, done_state, ended_needs, ended_stuck, ended_whole, faultless, goes_on, grows_along, never_short, remaining, stuck_ended, twin}
+pub use Rattle.vd_execution_confluence.proofs.Parts.{Every, absent, absent_part, do_here, do_there, every_map, every_zip, guards_each, heard_here, map_part, msg_there, part_keeps, parts_at, said_here}
+pub use Rattle.vd_execution_confluence.proofs.Resting.{Quietly, acts, all_taken, branch_quietly, local_of, message, over_quietly, resting_put, same_resting, turn_quietly}
+pub use Rattle.vd_execution_confluence.proofs.Compiled.{in_program_order, never_short_on_the_way, on_the_way, whole}
+pub use Rattle.vd_execution_confluence.proofs.Reading.{ends_there, read_back, unbegun, written_back}
+pub use Rattle.vd_execution_confluence.proofs.Picks.{picks}
+pub use Rattle.vd_execution_confluence.proofs.Taking.{within}
+pub use Rattle.vd_execution_confluence.proofs.Untouched.{untouched}
+pub use Rattle.vd_execution_confluence.proofs.Rounds.{all_stuck, run_both, run_ended, step_falls}
