@@ -1,8 +1,10 @@
 -- The step that reads both inputs and the deals.
-use Rattle.std.specs.Prelude.{◌≡◌, ◌≤◌, ℕ, List, length, Result}
+use Rattle.std.specs.Prelude.{◌≡◌, ◌<◌, ◌≤◌, ℕ, List, length, Result}
 use Rattle.vd_base.specs.Limits.{most_hosts}
 use Rattle.vd_outside.specs.Files.{FilesView, Contents}
 use Rattle.vd_cmd.specs.declared.command.ExcuseWords.{ExcuseWords}
+use Rattle.vd_core.specs.declared.normal.NormalForm.{NormalForm}
+use Rattle.vd_deal_items.specs.Validity.{IsConsistent}
 use Rattle.vd_deal_items.specs.declared.deal.Deal.{Deal}
 use Rattle.vd_tape.specs.Text.{AreDealsOf}
 use Rattle.vd_cmd_plan.specs.Plans.{Plan, ExecutesStep}
@@ -23,6 +25,16 @@ pub record AreRead (hosts : ℕ) (runs : Runs) : Type 0 where
   pub second_words : InputsAreWords runs.second
   pub all : length runs.deals ≡ hosts
   pub deals : AreDealsOf hosts runs.deals
+
+-- such runs, with deals that fit each other
+pub record AreConsistent (hosts : ℕ) (runs : Runs) : Type 0 where
+  pub read : AreRead hosts runs
+  pub deals : IsConsistent runs.deals
+
+-- one of the two hosts of a program
+pub record IsOfTwo (program : NormalForm) (host : ℕ) : Type 0 where
+  pub two : length program.hosts ≡ 2
+  pub one : host < 2
 
 abbrev pub runs_of : (first second : List (List ℕ)) → List Deal → Runs
 runs_of first second deals = record { first = first; second = second; deals = deals }

@@ -3,14 +3,13 @@
 ghost use Rattle.std.specs.Prelude.{◌≡◌, ◌<◌, ◌≤◌, ℕ, length, true};
 ghost use Rattle.vd_base.specs.Limits.{most_search_budget};
 ghost use Rattle.vd_constraints.specs.declared.labels.Labels.{Labels};
-ghost use Rattle.vd_deal_items.specs.Validity.{IsConsistent};
 ghost use Rattle.vd_base.specs.Holders.{proto_in};
 ghost use Rattle.vd_space_optimum.specs.Cheapest.{IsAssignment};
 ghost use Rattle.vd_cmd_choose.specs.Choice.{IsSelected};
 ghost use Rattle.vd_space.specs.Reading.{problem_of};
 ghost use Rattle.vd_backend_laws.specs.Parts.{has_back_end};
 ghost use Rattle.vd_cmd_excuse.specs.Excusing.{ExecutesChoice, ExecutesExcuse, ExecutesExcused, ExecutesHost, ExecutesProgram, ExecutesRuns};
-ghost use Rattle.vd_cmd_excuse.specs.Runs.{AreRead};
+ghost use Rattle.vd_cmd_excuse.specs.Runs.{AreConsistent, AreRead, IsOfTwo};
 ghost use Rattle.vd_cmd_excuse.specs.Telling.{TellsAt, TellsExcuse, TellsOf, TellsProgram};
 
 use crate::answer::answer;
@@ -35,12 +34,10 @@ fn excuse_free(
     runs: Runs,
     out: &str,
 ) -> Result<Answer, Status>
-    requires host { host.0 < 2 }
-    requires hosts { length program.now.hosts ≡ 2 }
+    requires host { IsOfTwo program.now host.0 }
     requires selected { IsSelected program.now assignment.now }
     requires free { (x : ℕ) → has_back_end (proto_in assignment.now.protocols x) ≡ true }
-    requires read { AreRead 2 runs }
-    requires consistent { IsConsistent runs.deals }
+    requires runs { AreConsistent 2 runs }
     ensures executes { (l : Labels) → IsAssignment (problem_of program.now l) assignment.now.protocols →
         ExecutesExcused program.now l host runs out.now assignment.now.protocols result }
     ensures tells { TellsAt host program.now out.now runs result }

@@ -7,7 +7,8 @@ use Rattle.vd_outside.specs.declared.faults.FetchFault.TheVariants as fetch_faul
 use Rattle.vd_outside.specs.declared.files.FilesCall.TheVariants.{Fetch}
 use Rattle.vd_cmd.specs.declared.command.HostWords.{HostWords}
 use Rattle.vd_deal_versions.specs.declared.dealt.Dealt.{Dealt}
-use Rattle.vd_hostcode.specs.Outcome.{CanRun, IsHeaded, IsOutcome}
+use Rattle.vd_host_start.specs.Starts.{IsProgramRead}
+use Rattle.vd_hostcode.specs.Outcome.{IsOutcome}
 use Rattle.vd_hostcode.specs.declared.fault.CodeFault.TheVariants as code_fault
 use Rattle.vd_host_text.specs.declared.program.HostProgram.{HostProgram}
 use Rattle.vd_cmd_plan.specs.Held.{IsHeld}
@@ -110,12 +111,6 @@ pub record HoldsHost (words : HostWords) (contents : Contents) (loaded : Loaded)
   pub addresses : HasAddresses words loaded.program
   pub inputs : HoldsInputs words contents loaded.program loaded.inputs
   pub deal : IsHeld words.deal most_deal_bytes contents (λ bytes. IsDealtFile (length loaded.program.hosts) loaded.program.me.0 bytes loaded.dealt)
-
--- a program as its reader gives it
-pub record IsProgramRead (program : HostProgram) : Type 0 where
-  pub read : (bytes : List ℕ) × IsOutcome bytes (Ok program)
-  pub heading : IsHeaded program
-  pub code : CanRun program
 
 -- such a program, as many addresses as it has peers, and a deal of its host, of either version
 pub record IsLoaded (words : HostWords) (loaded : Loaded) : Type 0 where

@@ -2,7 +2,8 @@
 
 ghost use Rattle.std.specs.Prelude.{◌≡◌, ◌≢◌, ◌<◌, ◌≤◌, ◌+◌, Ok, Some, length, slice_get, IfOk, IfErr, OnOk};
 ghost use Rattle.vd_base.specs.Limits.{most_hosts};
-ghost use Rattle.vd_cmd_host.specs.Loading.{IsDealEnd, IsInputsEnd, IsLoaded, IsProgramEnd, IsProgramRead, LoadsDeal, LoadsHost, LoadsInputs, LoadsProgram};
+ghost use Rattle.vd_cmd_host.specs.Loading.{IsDealEnd, IsInputsEnd, IsLoaded, IsProgramEnd, LoadsDeal, LoadsHost, LoadsInputs, LoadsProgram};
+ghost use Rattle.vd_host_start.specs.Starts.{IsProgramRead};
 ghost use Rattle.vd_hostcode.specs.Outcome.{IsOutcome};
 ghost use Rattle.vd_cmd_plan.specs.declared.status.Status.TheVariants.{Usage};
 ghost use Rattle.vd_report.specs.InputsText.{GivesInputs};

@@ -1,5 +1,5 @@
 -- Programs that name their own slots alone.
-use Rattle.std.specs.Prelude.{ℕ, ◌≤◌, Bool, true, ◌&&◌, IsTrue, List, length, map, nat_lt}
+use Rattle.std.specs.Prelude.{◌≡◌, ℕ, ◌≤◌, Bool, true, ◌&&◌, IsTrue, List, length, map, nat_lt}
 use Rattle.std.specs.List.{list_all}
 use Rattle.vd_base.specs.Limits.{most_principals}
 use Rattle.vd_base.specs.declared.ids.SlotId.{SlotId}
@@ -9,6 +9,7 @@ use Rattle.vd_core.specs.declared.normal.Stmt.{Stmt}
 use Rattle.vd_core.specs.declared.normal.Stmt.TheOpen.{Stmt-F}
 use Rattle.vd_core.specs.declared.normal.Stmt.TheFolds.{fold-Stmt}
 use Rattle.vd_core.specs.declared.normal.NormalForm.{NormalForm}
+use Rattle.vd_constraints.specs.Systems.{Constraints}
 
 abbrev pub is_below : ℕ → SlotId → Bool
 is_below n x = nat_lt x.0 n
@@ -45,3 +46,8 @@ block_below n body = list_all (λ below. below) (map (slots_below n) body)
 pub record IsScoped (p : NormalForm) : Type 0 where
   pub few_principals : length p.principals ≤ most_principals
   pub named_slots : IsTrue (block_below (length p.slots) p.body)
+
+-- a system over the names of a program, at most six
+pub record HasNamesOf (p : NormalForm) (s : Constraints) : Type 0 where
+  pub few_principals : length p.principals ≤ most_principals
+  pub same_principals : s.principals ≡ p.principals

@@ -65,6 +65,12 @@ IsLabelOf s = IsLabelOver (length s.principals)
 abbrev pub IsPlaceOf : Constraints → Place → Type 0
 IsPlaceOf s = IsPlaceIn s.slots s.blocks
 
+-- the places of a step: its block, what it makes and what it makes that of
+pub record AreOfStep (s : Constraints) (pc x y : Place) : Type 0 where
+  pub block : IsPlaceOf s pc
+  pub made : IsPlaceOf s x
+  pub from : IsPlaceOf s y
+
 abbrev pub IsPartOf : Constraints → Part → Type 0
 IsPartOf s part = IsPlaceOf s part.at
 

@@ -5,8 +5,10 @@ ghost use Rattle.std.specs.List.{list_all};
 ghost use Rattle.vd_base.specs.Limits.{most_principals};
 ghost use Rattle.vd_constraints.specs.Extends.{Extends};
 ghost use Rattle.vd_constraints.specs.Rules.{host_label as label_of_host, label as label_over, written_at as label_written_at, offset_of, with_body, with_operands, with_put, with_right, with_stmt, with_stored, with_written, system_of};
-ghost use Rattle.vd_constraints.specs.Scoped.{IsScoped, is_below, right_below, slots_below, block_below};
-ghost use Rattle.vd_constraints.specs.Systems.{IsLabelOver, IsPlaceOf, IsSmall};
+ghost use Rattle.vd_constraints.specs.Scoped.{HasNamesOf, IsScoped, is_below, slots_below, block_below};
+ghost use Rattle.vd_core.specs.declared.normal.Stmt.TheVariants as statement;
+ghost use Rattle.vd_constraints.specs.declared.system.Place.TheVariants as place;
+ghost use Rattle.vd_constraints.specs.Systems.{AreOfStep, IsLabelOver, IsPlaceOf, IsSmall};
 
 use crate::system::{Place, System};
 use std::alloc::{AllocError, Global};
@@ -49,8 +51,7 @@ fn add_body(
     body: &[Stmt],
 ) -> Result<(), AllocError>
     requires place { IsPlaceOf system.old pc }
-    requires few { length program.now.principals ≤ most_principals }
-    requires principals { system.old.principals ≡ program.now.principals }
+    requires names { HasNamesOf program.now system.old }
     requires slots { IsTrue (block_below system.old.slots body.now) }
     requires small { IsSmall (with_body body.now program.now pc system.old) }
     ensures added { OnOk result (system.new ≡ with_body body.now program.now pc system.old) }
@@ -71,8 +72,7 @@ fn add_stmt(
     stmt: &Stmt,
 ) -> Result<(), AllocError>
     requires place { IsPlaceOf system.old pc }
-    requires few { length program.now.principals ≤ most_principals }
-    requires principals { system.old.principals ≡ program.now.principals }
+    requires names { HasNamesOf program.now system.old }
     requires slots { IsTrue (slots_below system.old.slots stmt.now) }
     requires small { IsSmall (with_stmt stmt.now program.now pc system.old) }
     ensures added { OnOk result (system.new ≡ with_stmt stmt.now program.now pc system.old) }
@@ -115,10 +115,8 @@ fn add_right(
     right: &Right,
 ) -> Result<(), AllocError>
     requires place { IsPlaceOf system.old pc }
-    requires few { length program.now.principals ≤ most_principals }
-    requires principals { system.old.principals ≡ program.now.principals }
-    requires slot { slot.0 < system.old.slots }
-    requires slots { IsTrue (right_below system.old.slots right.now) }
+    requires names { HasNamesOf program.now system.old }
+    requires slots { IsTrue (slots_below system.old.slots (statement.Let slot right.now)) }
     requires small { IsSmall (with_right program.now pc slot right.now system.old) }
     ensures { OnOk result (system.new ≡ with_right program.now pc slot right.now system.old) }
 {
@@ -185,10 +183,8 @@ fn add_put(
     index: SlotId,
     value: SlotId,
 ) -> Result<(), AllocError>
-    requires place { IsPlaceOf system.old pc }
-    requires array { array.0 < system.old.slots }
+    requires places { AreOfStep system.old pc (place.Slot array) (place.Slot value) }
     requires index { index.0 < system.old.slots }
-    requires value { value.0 < system.old.slots }
     requires small { IsSmall (with_put pc array index value system.old) }
     ensures { OnOk result (system.new ≡ with_put pc array index value system.old) }
 {
@@ -200,8 +196,7 @@ fn add_put(
 
 /// Adds the label that the source writes at a slot, if it does.
 fn add_label(system: &mut System, program: &NormalForm, slot: SlotId) -> Result<(), AllocError>
-    requires few { length program.now.principals ≤ most_principals }
-    requires principals { system.old.principals ≡ program.now.principals }
+    requires names { HasNamesOf program.now system.old }
     requires slot { slot.0 < system.old.slots }
     requires small { IsSmall (with_written program.now slot system.old) }
     ensures { OnOk result (system.new ≡ with_written program.now slot system.old) }

@@ -2,7 +2,7 @@
 
 ghost use Rattle.std.specs.Prelude.{◌≡◌, IfOk, OnOk};
 ghost use Rattle.vd_constraints.specs.Rules.{with_branch, with_declassified, with_endorsed, with_flow, with_input, with_label, with_output};
-ghost use Rattle.vd_constraints.specs.Systems.{IsFormulaOf, IsLabelOf, IsPlaceOf, IsSmall};
+ghost use Rattle.vd_constraints.specs.Systems.{AreOfStep, IsFormulaOf, IsLabelOf, IsPlaceOf, IsSmall};
 ghost use Rattle.vd_constraints.specs.declared.system.Place.TheVariants as place;
 
 use crate::origin::Origin;
@@ -73,9 +73,7 @@ impl System {
         y: Place,
     ) -> Result<(), AllocError>
         requires to { IsFormulaOf self.old to }
-        requires pc { IsPlaceOf self.old pc }
-        requires x { IsPlaceOf self.old x }
-        requires y { IsPlaceOf self.old y }
+        requires places { AreOfStep self.old pc x y }
         requires small { IsSmall (with_declassified to pc x y self.old) }
         ensures { OnOk result (self.new ≡ with_declassified to pc x y self.old) }
     {
@@ -99,9 +97,7 @@ impl System {
         offset: u32,
     ) -> Result<(), AllocError>
         requires to { IsFormulaOf self.old to }
-        requires pc { IsPlaceOf self.old pc }
-        requires x { IsPlaceOf self.old x }
-        requires y { IsPlaceOf self.old y }
+        requires places { AreOfStep self.old pc x y }
         requires small { IsSmall (with_endorsed to pc x y offset self.old) }
         ensures { OnOk result (self.new ≡ with_endorsed to pc x y offset self.old) }
     {

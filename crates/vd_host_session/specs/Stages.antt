@@ -37,6 +37,17 @@ ListensAll task start now (Err fault) = Unheard task start now fault
 abbrev pub HasListeners : Task → ℕ → NetView → Type 0
 HasListeners task first net = task.me.0 < length task.addresses → first + (length task.addresses - task.me.0) ≤ net.given
 
+-- at most three peers, each later one with a listener, and numbers left for all of these
+pub record CanMeet (task : Task) (first : ℕ) (net : NetView) : Type 0 where
+  pub few : length task.addresses ≤ 3
+  pub room : first ≤ 4294967000
+  pub listeners : HasListeners task first net
+
+-- at most three peers, and the host itself is among them or behind them
+pub record IsOfFewHosts (task : Task) : Type 0 where
+  pub few : length task.addresses ≤ 3
+  pub own : task.me.0 ≤ length task.addresses
+
 -- why the peer at a place was not met, and its link as it is then, where one was given
 pub data Fails (task : Task) (first place : ℕ) (before now : NetView) : HostFault → Option LinkView → Type 0 where
   NoLink : (cause : CallFault) → Gets first task.me.0 (peer_at task place) before now (Err cause) → Fails task first place before now (call_status (peer_at task place) cause) None

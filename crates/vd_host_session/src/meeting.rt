@@ -1,12 +1,11 @@
 ghost use Rattle.std.specs.Prelude.{◌≡◌, ◌<◌, ◌≤◌, ℕ, List, None, IfOk, length};
 ghost use Rattle.std.specs.Result.{result_map_both};
-ghost use Rattle.vd_engine.specs.Drives.{sessions_of};
 ghost use Rattle.vd_engine.specs.Links.{session_at};
 ghost use Rattle.vd_link.specs.Sessions.{wanted_greeting};
 ghost use Rattle.vd_host_session.specs.Histories.{Gets, ends_with, greet_status};
 ghost use Rattle.vd_host_session.specs.Peers.{number_at, peer_at};
 ghost use Rattle.vd_host_session.specs.Meetings.{MeetsAll, MeetsOne};
-ghost use Rattle.vd_host_session.specs.Stages.{HasListeners};
+ghost use Rattle.vd_host_session.specs.Stages.{CanMeet};
 
 use crate::HostFault;
 use crate::listening::fault_of;
@@ -46,9 +45,7 @@ fn link_from<N: Net>(
     first: u32,
 ) -> Result<N::Link, CallFault>
     requires place { place < length task.now.addresses }
-    requires few { length task.now.addresses ≤ 3 }
-    requires room { first ≤ 4294967000 }
-    requires listeners { HasListeners task.now first (N.view net.old) }
+    requires listeners { CanMeet task.now first (N.view net.old) }
     requires later { task.now.me.0 ≤ place }
     ensures gets { Gets first task.now.me.0 (peer_at task.now place) (N.view net.old) (N.view net.new)
         (result_map_both N.Link.view (λ fault. fault) result) }
@@ -61,9 +58,7 @@ fn link_from<N: Net>(
 /// The link to the peer at a place. Of the listeners the first has this number.
 fn link_to<N: Net>(net: &mut N, task: &Task, place: usize, first: u32) -> Result<N::Link, CallFault>
     requires place { place < length task.now.addresses }
-    requires few { length task.now.addresses ≤ 3 }
-    requires room { first ≤ 4294967000 }
-    requires listeners { HasListeners task.now first (N.view net.old) }
+    requires listeners { CanMeet task.now first (N.view net.old) }
     ensures { Gets first task.now.me.0 (peer_at task.now place) (N.view net.old) (N.view net.new)
         (result_map_both N.Link.view (λ fault. fault) result) }
 {
@@ -84,9 +79,7 @@ fn meet<N: Net>(
     links: &mut Links<N::Link>,
 ) -> Result<(), Unmet<N::Link>>
     requires place { place < length task.now.addresses }
-    requires few { length task.now.addresses ≤ 3 }
-    requires room { first ≤ 4294967000 }
-    requires listeners { HasListeners task.now first (N.view net.old) }
+    requires listeners { CanMeet task.now first (N.view net.old) }
     requires free { session_at links.old (number_at task.now.me.0 place) ≡ None }
     ensures meets { MeetsOne N.Link.view task.now first place (N.view net.old) (N.view net.new) links.old links.new result }
     ensures given { (N.view net.new).given ≡ (N.view net.old).given }
@@ -125,9 +118,7 @@ pub(crate) fn meet_all<N: Net>(
     first: u32,
     links: &mut Links<N::Link>,
 ) -> Result<(), Unmet<N::Link>>
-    requires few { length task.now.addresses ≤ 3 }
-    requires room { first ≤ 4294967000 }
-    requires listeners { HasListeners task.now first (N.view net.old) }
+    requires listeners { CanMeet task.now first (N.view net.old) }
     requires empty { (host : ℕ) → session_at links.old host ≡ None }
     ensures { MeetsAll N.Link.view task.now first (N.view net.old) (N.view net.new) links.new result }
 {

@@ -1,4 +1,4 @@
-ghost use Rattle.std.specs.Prelude.{◌≡◌, ◌<◌, ◌≤◌, ◌^◌, length};
+ghost use Rattle.std.specs.Prelude.{◌≡◌, ◌<◌, ◌≤◌, ◌^◌};
 ghost use Rattle.vd_engine.specs.Drives.{AreSound, sessions_of};
 ghost use Rattle.vd_engine.specs.Hosts.{PacketsAreWith, stands_in};
 ghost use Rattle.vd_execution.specs.Code.{weight};
@@ -6,6 +6,7 @@ ghost use Rattle.vd_host_session.specs.Histories.{engine_status};
 ghost use Rattle.vd_host_session.specs.Meetings.{IsPeerOf};
 ghost use Rattle.vd_host_session.specs.Plays.{DrivesAndTells, Plays};
 ghost use Rattle.vd_machine.specs.Kept.{state_of};
+ghost use Rattle.vd_host_session.specs.Stages.{IsOfFewHosts};
 
 use crate::HostFault;
 use crate::listening::listen_all;
@@ -62,8 +63,7 @@ pub fn play<N: Net, O: Sink>(
     task: &Task,
     machine: Machine,
 ) -> Result<Ended, HostFault>
-    requires few { length task.now.addresses ≤ 3 }
-    requires own { task.now.me.0 ≤ length task.now.addresses }
+    requires hosts { IsOfFewHosts task.now }
     requires room { (N.view net.old).given ≤ 4294967000 }
     requires packets { PacketsAreWith (IsPeerOf task.now) (state_of machine).pending }
     requires short { weight (state_of machine).pending < 2 ^ 32 }

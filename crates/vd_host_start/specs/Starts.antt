@@ -1,13 +1,20 @@
 -- A host at its start.
-use Rattle.std.specs.Prelude.{◌≡◌, ◌<◌, ◌≤◌, ◌^◌, ℕ, List, length}
+use Rattle.std.specs.Prelude.{◌≡◌, ◌<◌, ◌≤◌, ◌^◌, ℕ, List, Ok, length}
 use Rattle.vd_deal_items.specs.declared.deal.Deal.{Deal}
 use Rattle.vd_execution.specs.Code.{Code, weight}
 use Rattle.vd_execution.specs.Text.{IsCodeOf}
 use Rattle.vd_machine.specs.Kept.{at_start, state_of}
 use Rattle.vd_engine.specs.Hosts.{PacketsAreWith}
 use Rattle.vd_host_text.specs.declared.program.HostProgram.{HostProgram}
+use Rattle.vd_hostcode.specs.Outcome.{CanRun, IsHeaded, IsOutcome}
 use Rattle.vd_host_session.specs.Meetings.{IsPeerOf}
 use Rattle.vd_host_start.specs.declared.starting.Ready.{Ready}
+
+-- a program as its reader gives it
+pub record IsProgramRead (program : HostProgram) : Type 0 where
+  pub read : (bytes : List ℕ) × IsOutcome bytes (Ok program)
+  pub heading : IsHeaded program
+  pub code : CanRun program
 
 -- its machine stands at the start of the program's code, with these inputs and this deal, and its task is the program's
 pub record Starts (program : HostProgram) (inputs : List ℕ) (deal : Deal) (addresses : List (List ℕ)) (ready : Ready) : Type 0 where

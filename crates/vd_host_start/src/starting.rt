@@ -1,8 +1,7 @@
 //! A host at its start.
 
-ghost use Rattle.std.specs.Prelude.{◌≡◌, ◌+◌, ℕ, List, Ok, IfOk, length};
-ghost use Rattle.vd_host_start.specs.Starts.{CanPlay, Starts};
-ghost use Rattle.vd_hostcode.specs.Outcome.{CanRun, IsHeaded, IsOutcome};
+ghost use Rattle.std.specs.Prelude.{◌≡◌, ◌+◌, IfOk, length};
+ghost use Rattle.vd_host_start.specs.Starts.{CanPlay, IsProgramRead, Starts};
 ghost use Rattle.vd_tape.specs.Text.{IsDealOf};
 
 use std::alloc::{AllocError, Global};
@@ -28,9 +27,7 @@ pub fn start(
     deal: Deal,
     addresses: Items<Text>,
 ) -> Result<Ready, AllocError>
-    requires read { (bytes : List ℕ) × IsOutcome bytes (Ok program) }
-    requires heading { IsHeaded program }
-    requires code { CanRun program }
+    requires program { IsProgramRead program }
     requires deal { IsDealOf (length program.hosts) program.me.0 deal }
     requires addresses { length addresses + 1 ≡ length program.hosts }
     ensures starts { IfOk result (Starts program inputs deal addresses) }

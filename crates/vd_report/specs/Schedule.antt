@@ -1,5 +1,5 @@
 -- What a schedule file says, token by token.
-use Rattle.std.specs.Prelude.{ℕ, true, false, List, [], ◌∷◌, ◌++◌, Option, Some, None, Result, Ok, Err, length, nat_lt, if◌then◌else◌}
+use Rattle.std.specs.Prelude.{◌≢◌, ℕ, true, false, List, [], ◌∷◌, ◌++◌, Option, Some, None, Result, Ok, Err, length, nat_lt, if◌then◌else◌}
 use Rattle.vd_base.specs.Limits.{most_schedule_entries}
 use Rattle.vd_base.specs.declared.ids.HostId.{HostId}
 use Rattle.vd_report.specs.declared.token.TokenKind.{TokenKind}
@@ -26,6 +26,11 @@ at_entry hosts entries at text kind.End = stop (Ok (record { entries = entries; 
 at_entry hosts entries at text kind.All = all
 at_entry hosts entries at text kind.Name = if nat_lt (length entries) most_schedule_entries then at_host entries at (host_of hosts text) else stop (Err (Text at))
 at_entry hosts entries at text _ = stop (Err (Text at))
+
+-- a token at which an entry is read: neither the end nor the word `all`
+pub record IsEntry (token : Token) : Type 0 where
+  pub not_end : token.kind ≢ kind.End
+  pub not_all : token.kind ≢ kind.All
 
 abbrev pub entry_step : List (List ℕ) → List ℕ → List HostId → Token → Step
 entry_step hosts bytes entries t = at_entry hosts entries (capped t.start) (text_of bytes t) t.kind

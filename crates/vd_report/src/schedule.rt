@@ -1,11 +1,11 @@
 //! The reader of schedules.
 
-ghost use Rattle.std.specs.Prelude.{◌≡◌, ◌≢◌, ℕ, ◌≤◌, ◌∷◌, [], ◌++◌, List, length, IfOk, IfErr, OnOk, MatchResult};
+ghost use Rattle.std.specs.Prelude.{◌≡◌, ℕ, ◌≤◌, ◌∷◌, [], ◌++◌, List, length, IfOk, IfErr, OnOk, MatchResult};
 ghost use Rattle.vd_report.specs.declared.token.TokenKind.TheVariants as token_kind;
 ghost use Rattle.vd_report.specs.declared.schedule.Schedule.{Schedule};
 ghost use Rattle.vd_base.specs.declared.ids.HostId.{HostId};
 ghost use Rattle.vd_report.specs.Outcome.{IsFaultOf, Accepts, Refuses, FirstWrong};
-ghost use Rattle.vd_report.specs.Schedule.{go, stop, entry_step, last_step, schedule_read};
+ghost use Rattle.vd_report.specs.Schedule.{IsEntry, go, stop, entry_step, last_step, schedule_read};
 ghost use Rattle.vd_report.specs.ScheduleText.{GivesSchedule, IsScheduleText, SchedulesFollowGrammar};
 
 use crate::fault::{ReadFault, offset};
@@ -75,8 +75,7 @@ fn entry_host(
     requires start { token.start ≤ token.end }
     requires end { token.end ≤ length bytes.now }
     requires few_hosts { length hosts.now ≤ HOSTS }
-    requires not_end { token.kind ≢ token_kind.End }
-    requires not_all { token.kind ≢ token_kind.All }
+    requires entry { IsEntry token }
     ensures { MatchResult result
         (λ host. entry_step hosts.now bytes.now entries.now token ≡ go (entries.now ++ host ∷ []))
         (λ fault. entry_step hosts.now bytes.now entries.now token ≡ stop (Err fault)) }

@@ -62,8 +62,7 @@ fn shown<B: Backend>(pair: &B, op: Op, to: &mut Duet) -> Result<Clear, AllocErro
     requires known { AreKnown (holders (B.calls pair.now).proto) to.old.next }
     requires hosts { length to.old.next ≡ 2 }
     requires room { HasRoom 32768 to.old.next }
-    requires serves { IsTrue ((B.calls pair.now).serves op) }
-    requires arity { arity op ≡ 2 }
+    requires serves { IsTrue ((B.calls pair.now).serves op) × (arity op ≡ 2) }
 {
     let operands = operands(pair, to)?;
     let result = pair.apply(op, &operands, to)?;

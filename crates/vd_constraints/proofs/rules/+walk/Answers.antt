@@ -16,18 +16,15 @@ add_body-add_stmt-requires t c =
       (
         place_kept c.args.system.now c.loop-stmt.system c.args.pc more c.requires.place,
         (
-          c.requires.few,
+          record { few_principals = c.requires.names.few_principals; same_principals = more.principals ∙ c.requires.names.same_principals },
           (
-            more.principals ∙ c.requires.principals,
-            (
-              subst (λ n. IsTrue (slots_below n c.stmt-item.result)) (sym more.slots)
-                  (subst (λ stmt. IsTrue (slots_below c.args.system.now.slots stmt)) (sym c.stmt-item.is)
-                  (stmt_below_at c.args.system.now.slots c.args.body.now c.loop-stmt.stmt-index c.stmt-item.result c.loop-stmt-test.true c.requires.slots)),
-              (let small = c.requires.small in
-                  let same = ap size c.loop-stmt.invariant.left_is in
-                  let within = stmt_within c.args.body.now c.loop-stmt.stmt-index c.stmt-item.result c.args.program.now c.args.pc c.loop-stmt.system c.loop-stmt-test.true c.stmt-item.is in
-                  omega arith),
-            ),
+            subst (λ n. IsTrue (slots_below n c.stmt-item.result)) (sym more.slots)
+                (subst (λ stmt. IsTrue (slots_below c.args.system.now.slots stmt)) (sym c.stmt-item.is)
+                (stmt_below_at c.args.system.now.slots c.args.body.now c.loop-stmt.stmt-index c.stmt-item.result c.loop-stmt-test.true c.requires.slots)),
+            (let small = c.requires.small in
+                let same = ap size c.loop-stmt.invariant.left_is in
+                let within = stmt_within c.args.body.now c.loop-stmt.stmt-index c.stmt-item.result c.args.program.now c.args.pc c.loop-stmt.system c.loop-stmt-test.true c.stmt-item.is in
+                omega arith),
           ),
         ),
       ),
@@ -45,14 +42,11 @@ add_stmt-add_body-requires t c =
       (
         branch_place c.args.system.now c.add_branch.new.self (Slot c.in-If.guard) c.args.pc branch.added c.in_ok-branch-in-If.branch branch.place,
         (
-          c.requires.few,
+          record { few_principals = c.requires.names.few_principals; same_principals = more.principals ∙ c.requires.names.same_principals },
           (
-            more.principals ∙ c.requires.principals,
-            (
-              still_below c.args.system.now c.add_branch.new.self c.in-If.then_block c.as_slice.result.now more c.as_slice.ensures below.0,
-              small_then c.in-If.guard c.in-If.then_block c.in-If.else_block c.in-If.field-3 c.args.program.now c.args.pc c.args.system.now c.add_branch.new.self c.args.stmt.now c.as_slice.result.now c.in_ok-branch-in-If.branch
-                  c.in-If.is branch.added branch.place c.as_slice.ensures c.requires.small,
-            ),
+            still_below c.args.system.now c.add_branch.new.self c.in-If.then_block c.as_slice.result.now more c.as_slice.ensures below.0,
+            small_then c.in-If.guard c.in-If.then_block c.in-If.else_block c.in-If.field-3 c.args.program.now c.args.pc c.args.system.now c.add_branch.new.self c.args.stmt.now c.as_slice.result.now c.in_ok-branch-in-If.branch
+                c.in-If.is branch.added branch.place c.as_slice.ensures c.requires.small,
           ),
         ),
       ),
@@ -73,14 +67,11 @@ add_stmt-add_body-requires-in-If t c =
       (
         place_kept c.add_branch.new.self c.add_body.new.system c.in_ok-branch-in-If.branch second place,
         (
-          c.requires.few,
+          record { few_principals = c.requires.names.few_principals; same_principals = more.principals ∙ c.requires.names.same_principals },
           (
-            more.principals ∙ c.requires.principals,
-            (
-              still_below c.args.system.now c.add_body.new.system c.in-If.else_block c.as_slice-in-If.result.now more c.as_slice-in-If.ensures below.1,
-              small_else c.in-If.guard c.in-If.then_block c.in-If.else_block c.in-If.field-3 c.args.program.now c.args.pc c.args.system.now c.add_branch.new.self c.args.stmt.now c.as_slice.result.now c.in_ok-branch-in-If.branch
-                  c.in-If.is branch.added branch.place c.as_slice.ensures c.add_body.new.system c.as_slice-in-If.result.now (c.in_ok-add_body-in-If.ensures {u = tt}).added c.as_slice-in-If.ensures c.requires.small,
-            ),
+            still_below c.args.system.now c.add_body.new.system c.in-If.else_block c.as_slice-in-If.result.now more c.as_slice-in-If.ensures below.1,
+            small_else c.in-If.guard c.in-If.then_block c.in-If.else_block c.in-If.field-3 c.args.program.now c.args.pc c.args.system.now c.add_branch.new.self c.args.stmt.now c.as_slice.result.now c.in_ok-branch-in-If.branch
+                c.in-If.is branch.added branch.place c.as_slice.ensures c.add_body.new.system c.as_slice-in-If.result.now (c.in_ok-add_body-in-If.ensures {u = tt}).added c.as_slice-in-If.ensures c.requires.small,
           ),
         ),
       ),

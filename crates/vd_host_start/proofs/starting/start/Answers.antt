@@ -6,7 +6,7 @@ use Rattle.vd_host_start.proofs.starting.start.Goals as goal
 
 pub load-requires-clause-code : goal.load-requires-clause-code
 load-requires-clause-code c =
-    let run = c.requires.code in
+    let run = c.requires.program.code in
     (run.nested, run.is_code, subst (λ (hosts : ℕ). IsInRange hosts run.nested) (sym c.requires.deal.hosts_are) run.ranges)
 
 pub returns-clause-starts : goal.returns-clause-starts
@@ -16,7 +16,7 @@ returns-clause-starts c =
 
 pub returns-clause-ready : goal.returns-clause-ready
 returns-clause-ready c =
-    let run = c.requires.code in
+    let run = c.requires.program.code in
     let task : Task = record { me = c.args.program.me; plan = c.args.program.plan.bytes; addresses = c.args.addresses } in
-    let fits = program_plays c.args.program c.requires.read.0 c.requires.read.1 c.requires.heading run task c.in_ok-machine.machine refl c.requires.addresses ((c.in_ok-machine.ensures {u = tt}).pending run.nested run.is_code) in
+    let fits = program_plays c.args.program c.requires.program.read.0 c.requires.program.read.1 c.requires.program.heading run task c.in_ok-machine.machine refl c.requires.addresses ((c.in_ok-machine.ensures {u = tt}).pending run.nested run.is_code) in
     record { few = fits.few; own = fits.own; packets = fits.packets; short = fits.short }
