@@ -60,7 +60,7 @@ pub record BeginsNone (session later : Session) (before now : LinkView) : Type 0
   pub still_told : now.told ≡ before.told
   pub out : IsTrue now.told → now.sent ≡ before.sent
 
--- a front of the record with the next number went out, and nothing is sent any more
+-- a prefix of the record with the next number went out, and nothing is sent any more
 pub record CutsRecord (bytes : List ℕ) (session later : Session) (before now : LinkView) : Type 0 where
   pub number : later.next_out ≡ session.next_out + 1
   pub keys : later.ours ≡ session.ours
@@ -79,7 +79,7 @@ pub data FailsToSend (bytes : List ℕ) (session later : Session) (before now : 
 abbrev pub out_of : (start : List ℕ) → Session → (pieces : List (List ℕ)) → List ℕ
 out_of start session pieces = start ++ records (direction session.ours) 1 pieces
 
--- What went out over the link below, behind what had gone out before the session, is a front of records of the own direction from number 1 on, as many
+-- What went out over the link below, behind what had gone out before the session, is a prefix of records of the own direction from number 1 on, as many
 -- as were begun. Where it still sends these are whole, and what the session tells that it sent is what they carry.
 pub record IsCarried (start : List ℕ) (session : Session) (below : LinkView) : Type 0 where
   pub pieces : List (List ℕ)
@@ -88,7 +88,7 @@ pub record IsCarried (start : List ℕ) (session : Session) (below : LinkView) :
   pub whole : session.silent ≡ false → IsTrue below.told → below.sent ≡ out_of start session pieces
   pub told : session.silent ≡ false → session.sent.bytes ≡ flat pieces
 
--- a front of the record with number 1 is all that went out
+-- a prefix of the record with number 1 is all that went out
 pub record IsFirstAlone (start : List ℕ) (session : Session) (below : LinkView) : Type 0 where
   pub piece : List ℕ
   pub front : take (length below.sent) (start ++ sealed (direction session.ours) 1 piece) ≡ below.sent

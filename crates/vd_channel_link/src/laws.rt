@@ -13,7 +13,7 @@ pub fn opened_is_covered()
     ensures { OpenedIsCovered }
 {}
 
-/// What went out over the link below in a session is a front of records with numbers from 1 on, and what the session tells that it sent
+/// What went out over the link below in a session is a prefix of records with numbers from 1 on, and what the session tells that it sent
 /// is what they carry: each call keeps it so. Where no record behind the first was begun, no other went out.
 pub fn sent_is_carried()
     ensures { SentIsCarried }

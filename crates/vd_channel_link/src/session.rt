@@ -92,7 +92,7 @@ impl Session {
         self.next_out > 2
     }
 
-    /// Sends the front of some bytes over the link below, in a record of its own.
+    /// Sends a prefix of some bytes over the link below, in a record of its own.
     pub(crate) fn send<L: Link>(&mut self, link: &mut L, bytes: &[u8]) -> Result<u32, Failed>
         requires { 0 < length bytes.now }
         ensures sends { (rest : List ℕ) →

@@ -32,11 +32,11 @@ pub data Happened : (given : ℕ) → (back : List Session) → Ledger → Type 
   OneBack : (given : ℕ) (back : List Session) (ledger : Ledger) (session : Session) → Happened given back ledger → length back < given
       → Happened given (back ++ session ∷ []) (with_returned (has_begun session) ledger)
 
--- what went out over the link below in a session is a front of its first record
+-- what went out over the link below in a session is a prefix of its first record
 abbrev pub GreetsAlone : Session → Type 0
 GreetsAlone session = (start : List ℕ) (below : LinkView) → IsCarried start session below → IsTrue below.told → IsFirstAlone start session below
 
--- All links came back, and over each went a front of its first record alone.
+-- All links came back, and over each went a prefix of its first record alone.
 pub record GreetAlone (given : ℕ) (back : List Session) : Type 0 where
   pub all_back : length back ≡ given
   pub alone : AllByRecursion GreetsAlone back

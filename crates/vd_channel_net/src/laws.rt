@@ -2,7 +2,7 @@
 
 ghost use Rattle.vd_channel_net.specs.Ledgers.{UnsentGreetAlone};
 
-/// Where nothing was sent each link that was given came back, and no more than its greeting went out over it: a front of its first record.
+/// Where nothing was sent each link that was given came back, and no more than its greeting went out over it: a prefix of its first record.
 pub fn unsent_links_greet_alone()
     ensures { UnsentGreetAlone }
 {}

@@ -30,14 +30,14 @@ task_of program addresses = record { me = program.me; plan = program.plan.bytes;
 abbrev pub calls_for : HostWords → HostProgram → NetView → List NetCall
 calls_for words program net = calls_of (task_of program words.addresses) net.given
 
--- the files were loaded, and the net was asked for a front of the calls of that host, with status 0 for all of them
+-- the files were loaded, and the net was asked for a prefix of the calls of that host, with status 0 for all of them
 pub record AsksFor (words : HostWords) (files files_now : FilesView) (net net_now : NetView) (end : Status) : Type 0 where
   pub loaded : Loaded
   pub loads : LoadsHost words files files_now (Ok loaded)
   pub front : AsksFrontOf (calls_for words loaded.program net) net net_now
   pub whole : end ≡ status.Ended → net_now.asked ≡ net.asked ++ calls_for words loaded.program net
 
--- A net that tells its calls was asked for a front of those of the host, and for all of them with status 0; for none where the
+-- A net that tells its calls was asked for a prefix of those of the host, and for all of them with status 0; for none where the
 -- files were not loaded.
 abbrev pub HostsAskInOrder : Type 0
 HostsAskInOrder = OfEachRun (λ words files files_now net net_now out out_now end. IsTrue net.told → (net_now ≡ net) ⊎ AsksFor words files files_now net net_now end)

@@ -3,7 +3,7 @@
 ghost use Rattle.vd_cmd_host.specs.Laws.{HostsAskInOrder, LinksComeBack, StatusesHaveCauses};
 ghost use Rattle.vd_cmd_host.specs.Once.{DealsAreUsedOnce};
 
-/// A net is asked for a front of the host's calls and for no other: for all with status 0, and for none where the files were
+/// A net is asked for a prefix of the host's calls and for no other: for all with status 0, and for none where the files were
 /// not loaded.
 pub fn hosts_ask_in_order()
     ensures { HostsAskInOrder }

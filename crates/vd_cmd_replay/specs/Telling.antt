@@ -1,4 +1,4 @@
--- What is printed: how hosts stand that have printed a front of what the source tells them.
+-- What is printed: how hosts stand that have printed a prefix of what the source tells them.
 use Rattle.std.specs.Prelude.{◌≡◌, ℕ, ◌<◌, List, [], length, Result, IfOk}
 use Rattle.vd_outside.specs.Files.{FilesView, Contents}
 use Rattle.vd_core.specs.declared.normal.NormalForm.{NormalForm}
@@ -43,7 +43,7 @@ pub record IsReportOf (names outputs : List (List ℕ)) (asked : Asked) (joint :
   -- what is printed is the report of the world to which the schedule leads from the start of all hosts
   pub report : let supply = supply_of_files asked.inputs asked.deals in
       printed ≡ report_of names supply (replayed supply (length names) asked.schedule (started joint)) asked.messages
-  -- in that world each host has printed a front of the words that it is told, and all else holds that is claimed of every schedule
+  -- in that world each host has printed a prefix of the words that it is told, and all else holds that is claimed of every schedule
   pub told : TellsUnder (length names) outputs (supply_of_files asked.inputs asked.deals) joint asked.schedule
 
 -- Which code it is: that of a program at its choice of protocols.
@@ -81,8 +81,8 @@ pub record HoldReplay (words : ReplayWords) (contents : Contents) : Type 0 where
   pub asked : Asked
   pub are_asked : HoldAsked words (host_names source.hosts) contents asked
 
--- The headline. What is printed is the report of a world in which each host of the source has printed a front of the words that the
--- source tells it, and sent a front of what the joint run sends, all of it where all hosts have ended. What runs there is the code, at
+-- The headline. What is printed is the report of a world in which each host of the source has printed a prefix of the words that the
+-- source tells it, and sent a prefix of what the joint run sends, all of it where all hosts have ended. What runs there is the code, at
 -- its choice of protocols, of the program that is run for the source.
 pub record IsHeadline (words : ReplayWords) (contents : Contents) (printed : List ℕ) : Type 0 where
   pub held : HoldReplay words contents

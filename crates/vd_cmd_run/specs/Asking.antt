@@ -16,7 +16,7 @@ use Rattle.vd_cmd_run.specs.RunsHosts.{Outside}
 abbrev pub lines_for : RunWords → (names : List (List ℕ)) → List (List (List ℕ))
 lines_for words names = command_lines words.prefix words.inputs words.port (length names)
 
--- the spawner was asked for the calls of a run of the source's hosts, or for a front of them
+-- the spawner was asked for the calls of a run of the source's hosts, or for a prefix of them
 pub record AsksFor (words : RunWords) (before now : Outside) : Type 0 where
   pub names : List (List ℕ)
   pub hosts : IsTrue before.files.told → AreHostsOf words.source before.files.contents names

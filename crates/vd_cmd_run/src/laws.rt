@@ -14,7 +14,7 @@ pub fn statuses_have_causes()
     ensures { StatusesHaveCauses }
 {}
 
-/// A spawner is asked for the calls of a run of the source's hosts, for a front of them, or for nothing.
+/// A spawner is asked for the calls of a run of the source's hosts, for a prefix of them, or for nothing.
 pub fn runs_ask_in_order()
     ensures { RunsAskInOrder }
 {}

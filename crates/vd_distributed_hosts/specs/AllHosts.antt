@@ -12,7 +12,7 @@ use Rattle.vd_machine.specs.Machines.{items_of}
 use Rattle.vd_engine.specs.Events.{Event, Reached, received_from, sent_to, printed}
 use Rattle.vd_engine.specs.Hosts.{wants_with, next_with, seen_at}
 
--- Each host made steps of its code, on its own lists, with these events; and the packets that it received from another are a front
+-- Each host made steps of its code, on its own lists, with these events; and the packets that it received from another are a prefix
 -- of those that this one sent to it.
 pub record AreDriven (s : Supply) (codes : ℕ → Code) (lists : ℕ → Lists) (events : ℕ → List Event) (state : ℕ → State) : Type 0 where
   pub supplied : (h : ℕ) (source : Source) (i : ℕ) → s h source i ≡ items_of (lists h) source i
@@ -20,7 +20,7 @@ pub record AreDriven (s : Supply) (codes : ℕ → Code) (lists : ℕ → Lists)
   pub reached : (h : ℕ) → Reached (wants_with (lists h)) (next_with (lists h)) seen_at (at_start (codes h)) (steps h) (events h) (state h)
   pub linked : (a b : ℕ) → IsPrefixOf (received_from a (events b)) (sent_to b (events a))
 
--- Each host printed a front of what it prints in the joint run, and sent a front of it; none stands at words that differ, or before a
+-- Each host printed a prefix of what it prints in the joint run, and sent a prefix of it; none stands at words that differ, or before a
 -- packet of another length than it awaits; and one that has ended printed and sent all, wherever the others stand.
 pub record AreTold (s : Supply) (j : Joint) (events : ℕ → List Event) (state : ℕ → State) : Type 0 where
   pub prints : (h : ℕ) → IsPrefixOf (printed (events h)) (last_of s j h).printed

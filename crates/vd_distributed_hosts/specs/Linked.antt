@@ -49,7 +49,7 @@ bytes_sent before now = []
 -- ---- all hosts
 
 -- Each host was driven from its start on its own lists, as `drive` says; all links tell their bytes; and what comes to a host on its
--- link to another is a front of what that one sent there. Nothing is said of when.
+-- link to another is a prefix of what that one sent there. Nothing is said of when.
 pub record AreLinked (s : Supply) (codes : ℕ → Code) (lists : ℕ → Lists) (before now : ℕ → Sessions) (out_before out_now : ℕ → SinkView) (result : ℕ → Result Ended EngineFault) : Type 0 where
   pub supplied : (h : ℕ) (source : Source) (i : ℕ) → s h source i ≡ items_of (lists h) source i
   pub drives : (h : ℕ) → Drives (wants_with (lists h)) (next_with (lists h)) seen_at (at_start (codes h)) (before h) (now h) (out_before h) (out_now h) (result h)
@@ -78,12 +78,12 @@ BlamesNobody (Err (fault.BadFrame host offset byte)) = ⊥
 BlamesNobody (Err (fault.Unequal left right)) = ⊥
 BlamesNobody other = Unit {0}
 
--- with Ok the output took all of these bytes, and else some front of them
+-- with Ok the output took all of these bytes, and else some prefix of them
 abbrev pub TakesUpTo : SinkView → SinkView → List ℕ → Result Ended EngineFault → Type 0
 TakesUpTo before now bytes (Ok done) = Takes before now bytes
 TakesUpTo before now bytes (Err cause) = (front : List ℕ) × IsPrefixOf front bytes × Takes before now front
 
--- What each host writes is a front of the decimal lines of what it prints in the joint run, and with Ok all of them, whatever becomes
+-- What each host writes is a prefix of the decimal lines of what it prints in the joint run, and with Ok all of them, whatever becomes
 -- of the others.
 pub record TellTheSame (s : Supply) (j : Joint) (out_before out_now : ℕ → SinkView) (result : ℕ → Result Ended EngineFault) : Type 0 where
   pub written : (h : ℕ) → IsTrue (out_now h).told → TakesUpTo (out_before h) (out_now h) (lines (last_of s j h).printed) (result h)

@@ -66,7 +66,7 @@ CarriesAll events before now = (host : ℕ) → CarriesAt host events (before ho
 abbrev pub CarriesOthers : ℕ → List Event → Sessions → Sessions → Type 0
 CarriesOthers failing events before now = (host : ℕ) → host ≢ failing → CarriesAt host events (before host) (now host)
 
--- The link of this host failed or gave no packet: the packets of these events came and went, and perhaps a front of the
+-- The link of this host failed or gave no packet: the packets of these events came and went, and perhaps a prefix of the
 -- frame of another.
 pub record Breaks (host : ℕ) (events : List Event) (before now : SessionView) : Type 0 where
   pub later : before.link.faults ≤ now.link.faults
@@ -91,7 +91,7 @@ abbrev pub Prints : Deed → ℕ → Type 0
 Prints (Shows shown) word = shown ≡ word
 Prints other word = ⊥
 
--- of the packet of the next instruction none came, or some front went out
+-- of the packet of the next instruction none came, or some prefix went out
 abbrev pub StopsAtPacket : ℕ → Want → Deed → List ℕ → Type 0
 StopsAtPacket host wants does more =
     ((count : ℕ) × TakesFrom wants host count × (more ≡ []))
@@ -134,7 +134,7 @@ pub record Writes (events : List Event) (before now : SinkView) : Type 0 where
   pub was_told : IsTrue now.told → IsTrue before.told
   pub taken : IsTrue now.told → now.taken ≡ before.taken ++ lines (printed events)
 
--- the same, and a front of the line of another word; the count rose
+-- the same, and a prefix of the line of another word; the count rose
 pub record WritesPart (events : List Event) (word : ℕ) (before now : SinkView) : Type 0 where
   pub rose : Rose before.faults now.faults
   pub was_told : IsTrue now.told → IsTrue before.told

@@ -41,7 +41,7 @@ pub record AsksFront (program : List ℕ) (hosts : List (List (List ℕ))) (befo
   pub asked : now.asked ≡ before.asked ++ calls
   pub stops : StopsIn program before.given hosts calls
 
--- With Ok the list is whole, and else it is a front.
+-- With Ok the list is whole, and else it is a prefix.
 abbrev pub Asks : List ℕ → List (List (List ℕ)) → SpawnerView → SpawnerView → Result (List (List ℕ)) ChildrenFault → Type 0
 Asks program hosts before now (Ok printed) = now.asked ≡ before.asked ++ run_calls program before.given hosts printed
 Asks program hosts before now (Err cause) = AsksFront program hosts before now

@@ -26,11 +26,11 @@ link_with first me peer = if nat_lt me peer.number then Accept (first + (peer.nu
 abbrev pub calls_of : Task → ℕ → List NetCall
 calls_of task first = map listen_for (all_later task) ++ map (link_with first task.me.0) (all_peers task)
 
--- the calls that were asked grew by a front of these
+-- the calls that were asked grew by a prefix of these
 abbrev pub AsksFrontOf : List NetCall → NetView → NetView → Type 0
 AsksFrontOf calls start end = (rest : List NetCall) × (end.asked ++ rest ≡ start.asked ++ calls)
 
--- A net that tells its calls was asked for a front of those of the host, and for all of them where the host ran to its end.
+-- A net that tells its calls was asked for a prefix of those of the host, and for all of them where the host ran to its end.
 abbrev pub HostsAskInOrder : Type 0
 HostsAskInOrder = (machine : Kept) (task : Task) (start end : NetView) (out_before out_now : SinkView) (result : Result Ended HostFault)
     → Plays machine task start end out_before out_now result → IsTrue start.told

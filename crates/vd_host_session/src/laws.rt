@@ -2,7 +2,7 @@
 
 ghost use Rattle.vd_host_session.specs.Laws.{FaultsHaveCauses, HostsAskInOrder, LinksComeBack};
 
-/// A net is asked for a front of a host's calls and for no other, and for all where the host ran to its end.
+/// A net is asked for a prefix of a host's calls and for no other, and for all where the host ran to its end.
 pub fn hosts_ask_in_order()
     ensures { HostsAskInOrder }
 {}

@@ -70,7 +70,7 @@ pub record Begins (front whole : List ℕ) : Type 0 where
   pub rest : List ℕ
   pub is : whole ≡ front ++ rest
 
--- what they have printed is the front of what the program tells them then
+-- what they have printed is a prefix of what the program tells them then
 pub record IsExplainedSoFar (p : NormalForm) (l : Labels) (set : ℕ) (inputs : List (List ℕ)) (w : Hosts) : Type 0 where
   pub words : List ℕ
   pub printed : (h : HostId) → h.0 < length p.hosts → keeps_from p set h.0 ≡ true → Begins (w h.0).printed (outputs_given p (becomes_trusted l (against set)) h words inputs)

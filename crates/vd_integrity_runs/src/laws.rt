@@ -12,7 +12,7 @@ pub fn attackers_choose_what_is_endorsed()
     ensures { OfEachProgram (λ p l. RunsAreExplained p l) }
 {}
 
-/// Where the run stops before one of its statements, as it does where a comparison fails, they have printed the front of that.
+/// Where the run stops before one of its statements, as it does where a comparison fails, they have printed a prefix of that.
 pub fn stopped_runs_are_explained()
     ensures { OfEachProgram (λ p l. FrontsAreExplained p l) }
 {}

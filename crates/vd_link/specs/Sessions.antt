@@ -81,7 +81,7 @@ pub record ReceivesGreeting (ends : Ends) (before now : LinkView) (result : Resu
   pub came : IsTrue now.told → OnOk result (before.coming ≡ wanted_greeting ends ++ now.coming)
   pub fault : IsTrue now.told → IfErr result (IsGreetFault ends before.coming)
 
--- The link failed in a greeting: some front of it went out, and nothing was taken from the peer.
+-- The link failed in a greeting: some prefix of it went out, and nothing was taken from the peer.
 pub record StopsIn (own : List ℕ) (before now : LinkView) : Type 0 where
   pub count : ℕ
   pub part : now.sent ≡ before.sent ++ take count own

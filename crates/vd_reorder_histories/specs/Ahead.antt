@@ -25,7 +25,7 @@ pub record Reaches (t : Tape) (h : ℕ) (stream : ℕ → List (List ℕ)) (begu
   pub whole : old.state.pending ≡ Finished → gone begun words ≡ old
 
 -- Whatever packets stand in the streams: as far as a host came with its own code, a hastened one comes with the same packets. So on
--- every front of the streams it has sent and printed at least as much, and on the whole of them the same.
+-- every prefix of the streams it has sent and printed at least as much, and on the whole of them the same.
 abbrev pub NeverLater : Type 0
 NeverLater = (t : Tape) (h : ℕ) (stream : ℕ → List (List ℕ)) (l : Local) (c d : Code) (words : List (List ℕ)) → IsHastened c d
     → Goes (endless t) h (at l c) words → IsLinked stream (at l c) words → Reaches t h stream (at l d) (gone (at l c) words)

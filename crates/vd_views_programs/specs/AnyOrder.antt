@@ -1,4 +1,4 @@
--- Under whatever schedules two runs go that look alike to a host: what it prints and is told in either is a front of the same.
+-- Under whatever schedules two runs go that look alike to a host: what it prints and is told in either is a prefix of the same.
 use Rattle.std.specs.Prelude.{◌≡◌, ℕ, List}
 use Rattle.vd_base.specs.declared.ids.HostId.{HostId}
 use Rattle.vd_base.specs.declared.protocols.Proto.{Proto}
@@ -16,7 +16,7 @@ use Rattle.vd_views_programs.specs.Explained.{IsOfTwo, plan_of, input_words}
 abbrev pub world_after : Plan Gadget → Tape → List ℕ → World
 world_after plan t schedule = reached (endless t) (joint_of plan) schedule
 
--- what a host has printed, and what each host has sent to it, are fronts of the same lists in both worlds; and at the end of both
+-- what a host has printed, and what each host has sent to it, are prefixes of the same lists in both worlds; and at the end of both
 -- the host is the same
 pub record SeesFronts (h : ℕ) (a b : World) : Type 0 where
   pub prints : List ℕ

@@ -32,7 +32,7 @@ pub fn deals_belong_to_each_other()
     ensures equally_many { ShowEquallyMany }
 {}
 
-/// Under whatever schedules the two runs go, what the host prints and is told in either is a front of the same lists, and at
+/// Under whatever schedules the two runs go, what the host prints and is told in either is a prefix of the same lists, and at
 /// the end it is the same in both.
 pub fn any_order_looks_alike()
     ensures { SeesFrontsInAnyOrder }

@@ -26,9 +26,9 @@ HaveEnded s n w = (h : ℕ) → h < n → host_state s w h ≡ Ended
 
 -- a world of n hosts that are told these outputs, and that send what is sent in the joint run
 pub record IsToldOf (n : ℕ) (outputs : List (List ℕ)) (last : Hosts) (s : Supply) (w : World) : Type 0 where
-  -- each host has printed a front of the words that it is told
+  -- each host has printed a prefix of the words that it is told
   pub printed : (h : ℕ) → h < n → IsPrefixOf (w h).printed (slice_index_or outputs h [])
-  -- and sent to each other host a front of the words that the joint run sends
+  -- and sent to each other host a prefix of the words that the joint run sends
   pub sent : (h p : ℕ) → IsPrefixOf (words_of ((w h).sent p)) (words_of ((last h).sent p))
   -- no host stands at unequal words, or before a packet of another length
   pub faultless : HasNoFault w
