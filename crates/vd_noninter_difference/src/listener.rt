@@ -57,12 +57,38 @@ impl<'a> Listener<'a> {
         proto_of(self.protocols, slot)
     }
 
+    /// Whether the host has in clear what stands at the protocol: alone, as a copy, or as the one that is bound to it.
+    fn has_clear_at(&self, protocol: Proto) -> bool
+        ensures { result ≡ is_clear_at self.now.host protocol }
+    {
+        match protocol {
+            Proto::Local(at) => at == self.host,
+            Proto::Rep(set) => set.has(self.host),
+            Proto::Commit(prover, _) => prover == self.host,
+            Proto::Add(_, _) => false,
+            Proto::Xor(_, _) => false,
+        }
+    }
+
+    /// Whether it is the protocol of the host alone.
+    fn is_alone_at(&self, protocol: Proto) -> bool
+        ensures { result ≡ is_alone_at self.now.host protocol }
+    {
+        match protocol {
+            Proto::Local(at) => at == self.host,
+            Proto::Rep(_) => false,
+            Proto::Commit(_, _) => false,
+            Proto::Add(_, _) => false,
+            Proto::Xor(_, _) => false,
+        }
+    }
+
     /// Whether the host has in clear what stands at the slot.
     fn has_clear(&self, slot: SlotId) -> bool
         ensures { result ≡ stands self.now.protocols self.now.host (is_clear_at self.now.host) slot }
     {
         match self.protocols.get(usize::from(slot.0)) {
-            Some(protocol) => is_in_clear(*protocol, self.host),
+            Some(protocol) => self.has_clear_at(*protocol),
             None => false,
         }
     }
@@ -72,7 +98,7 @@ impl<'a> Listener<'a> {
         ensures { result ≡ stands self.now.protocols self.now.host (is_alone_at self.now.host) slot }
     {
         match self.protocols.get(usize::from(slot.0)) {
-            Some(protocol) => is_only_at(*protocol, self.host),
+            Some(protocol) => self.is_alone_at(*protocol),
             None => false,
         }
     }
@@ -215,31 +241,5 @@ impl<'a> Listener<'a> {
             }
         }
         false
-    }
-}
-
-/// Whether the host has in clear what stands at the protocol: alone, as a copy, or as the one that is bound to it.
-fn is_in_clear(protocol: Proto, host: HostId) -> bool
-    ensures { result ≡ is_clear_at host protocol }
-{
-    match protocol {
-        Proto::Local(at) => at == host,
-        Proto::Rep(set) => set.has(host),
-        Proto::Commit(prover, _) => prover == host,
-        Proto::Add(_, _) => false,
-        Proto::Xor(_, _) => false,
-    }
-}
-
-/// Whether it is the protocol of the host alone.
-fn is_only_at(protocol: Proto, host: HostId) -> bool
-    ensures { result ≡ is_alone_at host protocol }
-{
-    match protocol {
-        Proto::Local(at) => at == host,
-        Proto::Rep(_) => false,
-        Proto::Commit(_, _) => false,
-        Proto::Add(_, _) => false,
-        Proto::Xor(_, _) => false,
     }
 }
