@@ -17,7 +17,7 @@ fn shell_words(alloc: Global, command: &str) -> Result<Texts, AllocError> {
 }
 
 /// How many lines a child writes, and how long the first one is.
-fn lines_of<S: Spawner>(spawner: &mut S, child: u32) -> Result<(u32, usize), CallFault>
+fn child_lines<S: Spawner>(spawner: &mut S, child: u32) -> Result<(u32, usize), CallFault>
     requires { child < (S.view spawner.old).given }
     ensures { (S.view spawner.new).given ≡ (S.view spawner.old).given }
 {
@@ -38,7 +38,7 @@ fn lines_of<S: Spawner>(spawner: &mut S, child: u32) -> Result<(u32, usize), Cal
 }
 
 /// What a program writes that runs with these words, and its status.
-fn alone<S: Spawner>(
+fn run_child<S: Spawner>(
     spawner: &mut S,
     program: &str,
     words: &Texts,
@@ -46,36 +46,36 @@ fn alone<S: Spawner>(
     requires { (S.view spawner.old).given < u32.MAX }
 {
     let child = spawner.start(program, words)?;
-    let lines = lines_of(spawner, child)?;
+    let lines = child_lines(spawner, child)?;
     let status = spawner.finish(child)?;
     Ok((lines, status))
 }
 
-/// What is told of a child: what it writes, and its status.
-type Told = (Result<(u32, usize), CallFault>, Result<u32, CallFault>);
+/// What becomes of a child: what it writes, and its status.
+type ChildOutcome = (Result<(u32, usize), CallFault>, Result<u32, CallFault>);
 
-/// What is told of a child.
-fn told_of<S: Spawner>(spawner: &mut S, child: u32) -> Told
+/// What becomes of a child.
+fn child_outcome<S: Spawner>(spawner: &mut S, child: u32) -> ChildOutcome
     requires { child < (S.view spawner.old).given }
     ensures { (S.view spawner.new).given ≡ (S.view spawner.old).given }
 {
-    let lines = lines_of(spawner, child);
+    let lines = child_lines(spawner, child);
     (lines, spawner.finish(child))
 }
 
-/// What is told of one of two children, and then of the other. Where the lines of the first fail, there is no more.
-fn beside<S: Spawner>(
+/// What becomes of one of two children, and then of the other. Where the lines of the first fail, there is no more.
+fn run_two_children<S: Spawner>(
     spawner: &mut S,
     first: &Texts,
     second: &Texts,
-) -> Result<(Told, Told), CallFault>
+) -> Result<(ChildOutcome, ChildOutcome), CallFault>
     requires { (S.view spawner.old).given ≤ 4294967000 }
 {
     let one = spawner.start("/bin/sh", first)?;
     let other = spawner.start("/bin/sh", second)?;
-    let lines = lines_of(spawner, one)?;
+    let lines = child_lines(spawner, one)?;
     let status = spawner.finish(one);
-    Ok(((Ok(lines), status), told_of(spawner, other)))
+    Ok(((Ok(lines), status), child_outcome(spawner, other)))
 }
 
 /// Prints what becomes of a program that runs with these words.
@@ -87,7 +87,7 @@ fn print_child<W: Write, R: Processes<Started = SystemProcess> + Clock + Drop>(
     words: &Texts,
 ) -> io::Result<()> {
     let mut spawner = RealSpawner::new(rt, alloc, 7);
-    let came = alone(&mut spawner, program, words);
+    let came = run_child(&mut spawner, program, words);
     writeln!(to, "{came:?}, {} faults", spawner.faults())
 }
 
@@ -115,7 +115,7 @@ fn print_missing<W: Write, R: Processes<Started = SystemProcess> + Clock + Clone
 }
 
 /// Prints what becomes of shells with these words side by side, and which of them was the first to end with a fault.
-fn print_beside<W: Write, R: Processes<Started = SystemProcess> + Clock + Drop>(
+fn print_two_children<W: Write, R: Processes<Started = SystemProcess> + Clock + Drop>(
     to: &mut W,
     rt: R,
     alloc: Global,
@@ -123,7 +123,7 @@ fn print_beside<W: Write, R: Processes<Started = SystemProcess> + Clock + Drop>(
     second: &Texts,
 ) -> io::Result<()> {
     let mut spawner = RealSpawner::new(rt, alloc, 7);
-    let came = beside(&mut spawner, first, second);
+    let came = run_two_children(&mut spawner, first, second);
     let failed = spawner.first_failure();
     writeln!(
         to,
@@ -133,7 +133,7 @@ fn print_beside<W: Write, R: Processes<Started = SystemProcess> + Clock + Drop>(
 }
 
 /// Prints what becomes of two shells that do this side by side.
-fn print_pair<W: Write, R: Processes<Started = SystemProcess> + Clock + Clone + Drop>(
+fn print_command_pair<W: Write, R: Processes<Started = SystemProcess> + Clock + Clone + Drop>(
     to: &mut W,
     rt: &R,
     alloc: Global,
@@ -143,7 +143,7 @@ fn print_pair<W: Write, R: Processes<Started = SystemProcess> + Clock + Clone + 
     write!(to, "{first} beside {second}: ")?;
     let first = shell_words(alloc, first)?;
     let second = shell_words(alloc, second)?;
-    print_beside(to, rt.clone()?, alloc, &first, &second)
+    print_two_children(to, rt.clone()?, alloc, &first, &second)
 }
 
 /// The commands of a shell whose lines and statuses are read.
@@ -176,7 +176,7 @@ pub(crate) fn print_children<
     }
     print_missing(to, rt, alloc)?;
     for (first, second) in PAIRS {
-        print_pair(to, rt, alloc, first, second)?;
+        print_command_pair(to, rt, alloc, first, second)?;
     }
     Ok(())
 }
