@@ -1,4 +1,4 @@
-//! The let-normal form of a source tells each host what the source tells it.
+//! The let-normal form of a source has the same outputs to each host.
 
 ghost use Rattle.std.specs.Prelude.{◌≡◌, ℕ, List};
 ghost use Rattle.vd_core.specs.declared.source.Source.{Source as Tree};

@@ -27,7 +27,7 @@ pub fn suite_meets_its_laws()
 {}
 
 /// The joint code of every well-made program, at protocols at which it is valid, with all inputs and every valid deal, prints at
-/// each declared host what the program tells it. No comparison fails, guards agree, it is tidy, and only declared hosts have code:
+/// each declared host the program's outputs to it. No comparison fails, guards agree, it is tidy, and only declared hosts have code:
 /// so on lists that are read as followed by zeros all that holds of every schedule holds of it. A host has a loop exactly where it
 /// has an instruction of its body: all that have one take part, since it is tidy, and no other does.
 pub fn code_tells_the_same()

@@ -12,7 +12,7 @@ use Rattle.vd_channel_crypto.proofs.Twice.{twice}
 
 -- ---- lists
 
--- fronts of one length of the same list are the same
+-- prefixes of one length of the same list are the same
 pub front_same : (a b x y : List ℕ) → length a ≡ length b → a ++ x ≡ b ++ y → (a ≡ b) × (x ≡ y)
 front_same [] [] x y same is = (refl, is)
 front_same [] (q ∷ b) x y same is = absurd (omega (arith, same))

@@ -41,7 +41,7 @@ front_behind count xs ys =
 whole_front : (sent all : List ℕ) → sent ≡ all → take (length sent) all ≡ sent
 whole_front sent all is = ap (take (length sent)) (sym is) ∙ take-length sent
 
--- a front of some bytes is one of these with others behind them
+-- a prefix of some bytes is one of these with others behind them
 front_of_more : (sent all more : List ℕ) → take (length sent) all ≡ sent → take (length sent) (all ++ more) ≡ sent
 front_of_more sent all more is =
     let short : length sent ≤ length all = omega (arith, length-take (length sent) all, ap length is) in

@@ -4,7 +4,7 @@
 ghost use Rattle.vd_choreography_validity.specs.Assignments.{AssignmentsCanRun, AssignmentsTellTheSame};
 
 /// A well-made program at a valid assignment of protocols can run: with every valid deal and all inputs its joint code
-/// prints at each host what the program tells it, runs smoothly and is tidy.
+/// prints at each host the program's outputs to it, runs smoothly and is tidy.
 pub fn assignments_can_run()
     ensures can_run { AssignmentsCanRun }
     ensures tells { AssignmentsTellTheSame }

@@ -56,10 +56,10 @@ usage:
   viaduct excuse SOURCE INPUTS INPUTS2 PREFIX HOST OUT [BUDGET]
                                 where HOST cannot tell INPUTS2 from INPUTS, store deals OUT.i.deal by which it sees of
                                 INPUTS2 what it saw of INPUTS by PREFIX.i.deal, and print what the other host sends it
-  viaduct depends SOURCE HOST   print the hosts whose inputs can bear on what HOST is told, outside of what is
+  viaduct depends SOURCE HOST   print the hosts whose inputs can bear on HOST's outputs, outside of what is
                                 declassified to it
   viaduct influences SOURCE HOST
-                                print the hosts whose inputs can bear on what HOST is told at all, and then those
+                                print the hosts whose inputs can bear on HOST's outputs at all, and then those
                                 of them whose inputs can do so through endorsements alone
   viaduct gen N                 print a source of N coordinates, 1 to 100: whether two hosts' points are near
   viaduct trial N               choose protocols for that source and replay it, on inputs and a deal of its own, and

@@ -69,7 +69,7 @@ module _ (program : NormalForm) (l : Labels) (budget : ℕ) where
   pub no_memory : Searches program l budget (Err Memory)
   no_memory = (GaveUp, λ certificates choices files rest. any_memory _ files)
 
-  -- only want of memory refuses what was found
+  -- only a lack of memory refuses what was found
   found_or : (c : Certificate) (list : List ℕ) → IsAccepted problem budget c → IsChosen problem (Some list) → (a : Assignment) → a ≡ assigned problem list
       → (result : Result Choice Status) → IfOk result (λ choice. choice ≡ given program l (Some a) c) → IfErr result (λ status. status ≡ Memory) → Searches program l budget result
   found_or c list is chosen a same (Ok choice) found memory =

@@ -20,7 +20,7 @@ is_accepted problem budget (Ok certificate) = is_ok (confirmed problem certifica
 is_accepted problem budget (Err offset) = false
 
 -- The bytes of the certificate of a problem, or why the search gives up: that its budget is spent comes only where the
--- budget may not do. What a search may not answer counts as want of memory, so no run but one that is out of memory
+-- budget may not do. What a search may not answer counts as running out of memory, so no run but one that is out of memory
 -- comes to it.
 abbrev pub searched_by : CertificateOutcomes → ChoiceOutcomes → Searched → Problem → ℕ → Result (List ℕ) SelectFault
 searched_by certificates choices GaveUp problem budget = if nat_lt budget (needed problem (choices.choose problem)) then Err Spent else Err Memory

@@ -32,7 +32,7 @@ pub record IsDependenceLine (name : List ℕ) (p : NormalForm) (printed : List �
   pub named : host_of p.hosts name ≡ Some host.0
   pub set : HostSet
   pub line : printed ≡ hosts_line p.hosts host set
-  -- they are those whose inputs are reached from what the host is told, and no other
+  -- they are those whose inputs are reached from the host's outputs, and no other
   pub reached : AreReached p labels host (members set)
   -- the host may read each of them
   pub readable : AreReadable p host (members set)

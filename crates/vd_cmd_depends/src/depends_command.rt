@@ -70,7 +70,7 @@ fn depends_in_source(alloc: Global, source: &Resolved, name: &str) -> Result<Ans
     depends_in_program(alloc, &program, name)
 }
 
-/// The command `depends`: the hosts whose inputs can bear on what the host of this name is told, and on the clear words that
+/// The command `depends`: the hosts whose inputs can bear on the outputs to the host of this name, and on the clear words that
 /// come to it at any valid assignment of protocols, outside of what is declassified to it. A name that no host of the source
 /// has is refused before the flow rules are looked at.
 pub fn depends<F: Files>(

@@ -18,7 +18,7 @@ use vd_noninter::influences as hosts_that_bear;
 use vd_outside::Files;
 use vd_resolve::Resolved;
 
-/// Prints the line of a host and the hosts whose inputs bear on what it is told.
+/// Prints the line of a host and the hosts whose inputs bear on its outputs.
 fn influence_answer(
     alloc: Global,
     hosts: &Names,
@@ -60,7 +60,7 @@ fn influences_in_source(alloc: Global, source: &Resolved, name: &str) -> Result<
     influences_in_program(alloc, &program, name)
 }
 
-/// The command `influences`: the hosts whose inputs can bear on what the host of this name is told, and those among them whose
+/// The command `influences`: the hosts whose inputs can bear on the outputs to the host of this name, and those among them whose
 /// inputs do so through endorsements alone. A name that no host of the source has is refused before the flow rules are
 /// looked at.
 pub fn influences<F: Files>(

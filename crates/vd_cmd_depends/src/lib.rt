@@ -1,4 +1,4 @@
-//! The commands `depends` and `influences`: the hosts whose inputs can bear on what a host is told.
+//! The commands `depends` and `influences`: the hosts whose inputs can bear on a host's outputs.
 #![tactic(auto)]
 
 ghost use Rattle.vd_cmd_depends.specs.Influencing.{InfluenceOutcomes};
@@ -16,7 +16,7 @@ pub fn dependence_outcomes_exist()
     ensures { DependenceOutcomes }
 {}
 
-/// Of each host of a program the hosts whose inputs bear on what it is told are one set, so there is a function for the clauses to speak of.
+/// Of each host of a program the hosts whose inputs bear on its outputs are one set, so there is a function for the clauses to speak of.
 pub fn influence_outcomes_exist()
     ensures { InfluenceOutcomes }
 {}

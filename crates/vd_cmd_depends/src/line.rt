@@ -32,7 +32,7 @@ pub(crate) fn hosts_text(
     Ok(text)
 }
 
-/// A host, how many hosts' inputs bear on what it is told, and their names; then the same of those that `direct` lacks.
+/// A host, how many hosts' inputs bear on its outputs, and their names; then the same of those that `direct` lacks.
 pub(crate) fn influence_text(
     alloc: Global,
     names: &Names,

@@ -18,7 +18,7 @@ use vd_outside::Files;
 use vd_report::outputs_text;
 use vd_semantics::clear_source;
 
-/// Runs the source in clear, and prints what each host is told.
+/// Runs the source in clear, and prints the outputs to each host.
 fn clear_answer(
     alloc: Global,
     source: &Source,
@@ -51,7 +51,7 @@ fn clear_resolved<F: Files>(
     clear_answer(alloc, source, &names, &words)
 }
 
-/// The command `clear`: what each host is told, computed in clear on one machine.
+/// The command `clear`: the outputs to each host, computed in clear on one machine.
 pub fn clear<F: Files>(
     alloc: Global,
     files: &mut F,

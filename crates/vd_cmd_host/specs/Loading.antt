@@ -51,7 +51,7 @@ IsDealEnd hosts me bytes other = ⊥
 
 -- ---- one file
 
--- Why a file gives nothing: it is longer than its limit, or its bytes are refused. Want of memory and faults of the outside
+-- Why a file gives nothing: it is longer than its limit, or its bytes are refused. Running out of memory and faults of the outside
 -- stand apart.
 abbrev pub IsFileCause : (name : List ℕ) → (limit : ℕ) → (List ℕ → Status → Type 0) → Contents → Status → Type 0
 IsFileCause name limit IsEnd contents status.Memory = Unit {0}

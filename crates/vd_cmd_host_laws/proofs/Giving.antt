@@ -16,7 +16,7 @@ use Rattle.vd_cmd_host_laws.specs.Serving.{link_for, waiting_behind}
 
 -- ---- lists by place
 
--- what stands behind a front of a list that is made by place
+-- what stands behind a prefix of a list that is made by place
 stands_at : {A : Type 0} (f : ℕ → A) (a n : ℕ) (front rest : List A) (x : A) → front ++ x ∷ rest ≡ map f (range_with_len a n) → (x ≡ f (a + length front)) × (length front < n)
 stands_at f a zero [] rest x e = absurd cc
 stands_at f a zero (y ∷ front) rest x e = absurd cc

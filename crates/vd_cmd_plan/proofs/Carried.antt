@@ -1,4 +1,4 @@
--- A fault that is no want of memory is carried as it is.
+-- A fault other than out of memory is carried as it is.
 use Rattle.std.proofs.Common.{◌≡◌, ◌≢◌, refl}
 use Rattle.vd_bound.specs.declared.checking.CheckFault.{CheckFault}
 use Rattle.vd_bound.specs.declared.checking.CheckFault.TheVariants as check_fault

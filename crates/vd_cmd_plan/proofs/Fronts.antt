@@ -1,4 +1,4 @@
--- Lists that grew by a front of some items.
+-- Lists that grew by a prefix of some items.
 use Rattle.std.proofs.Common.{◌≡◌, List, [], ◌++◌, refl, sym, ◌∙◌, ap, append_assoc}
 use Rattle.std.proofs.lemmas.List.{append-nil}
 use Rattle.vd_cmd_plan.specs.Plans.{GrowsWithin}

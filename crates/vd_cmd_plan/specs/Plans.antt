@@ -48,7 +48,7 @@ answer_then answer files = only answer
 abbrev pub IsPrefix : {T : Type 0} → List T → List T → Type 0
 IsPrefix front list = (rest : _) × (list ≡ front ++ rest)
 
--- the list grew by a front of these items
+-- the list grew by a prefix of these items
 abbrev pub GrowsWithin : {T : Type 0} → List T → List T → List T → Type 0
 GrowsWithin before now items = (added : _) × (now ≡ before ++ added) × IsPrefix added items
 

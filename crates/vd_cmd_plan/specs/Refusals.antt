@@ -1,4 +1,4 @@
--- The statuses of refusals: a fault is carried as it is, and want of memory is that of the command.
+-- The statuses of refusals: a fault is carried as it is, and running out of memory is that of the command.
 use Rattle.vd_bound.specs.declared.checking.CheckFault.{CheckFault}
 use Rattle.vd_bound.specs.declared.checking.CheckFault.TheVariants as check_fault
 use Rattle.vd_report.specs.declared.fault.ReadFault.{ReadFault}

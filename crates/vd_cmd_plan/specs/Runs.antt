@@ -45,7 +45,7 @@ pub record Runs (fits : Bool) (plan : Contents → Plan) (before now : FilesView
   -- a write's fault that the output did not count is that of a store, and leaves the output alone
   pub unwritten : status ≡ WriteFault → (Rose out_before.faults out_now.faults → ⊥) → out_now ≡ out_before
 
--- a good input and no fault give Ended, or want of memory
+-- a good input and no fault give Ended, or memory runs out
 abbrev pub IsComplete : (Contents → Plan) → FilesView → FilesView → SinkView → SinkView → Status → Type 0
 IsComplete plan before now out_before out_now status =
     IsTrue before.told → (Rose before.faults now.faults → ⊥) → (Rose out_before.faults out_now.faults → ⊥)

@@ -95,7 +95,7 @@ fn write_sized<E: Sink>(err: &mut E, text: &[u8], name: &[u8], size: u32) -> Res
     write_named(err, text, name, &[b" ", number, b"\n"])
 }
 
-/// Writes the line of want of memory.
+/// Writes the line of a run that is out of memory.
 fn write_memory<E: Sink>(err: &mut E) -> Result<(), Failed>
     ensures { WritesAll memory_line (E.view err.old) (E.view err.new) result }
 {

@@ -1,4 +1,4 @@
-//! The statuses of refusals: a fault is carried as it is, and want of memory is that of the command.
+//! The statuses of refusals: a fault is carried as it is, and running out of memory is that of the command.
 
 ghost use Rattle.std.specs.Prelude.{◌≡◌};
 ghost use Rattle.vd_cmd_plan.specs.Refusals as refusals;

@@ -58,7 +58,7 @@ pub record IsCodeAtChoice (program : NormalForm) (joint : Joint) : Type 0 where
   -- and each host's part of it is what `compile` stores for that host
   pub stored : (h : ℕ) → h < length program.hosts → IsStoredFor program assignment h (text (code_of h joint) [])
 
--- The report of a program whose hosts are told these outputs.
+-- The report of a program with these outputs.
 pub record IsReport (program : NormalForm) (outputs : List (List ℕ)) (asked : Asked) (printed : List ℕ) : Type 0 where
   pub joint : Joint
   pub told : IsReportOf program.hosts outputs asked joint printed

@@ -92,7 +92,7 @@ fn with_loops(alloc: Global, program: Program) -> Result<Program, AllocError>
     }
 }
 
-/// The program of a source that protocols are chosen for and that is run. Only want of memory refuses it.
+/// The program of a source that protocols are chosen for and that is run. It fails only where memory runs out.
 pub fn run_program(alloc: Global, source: &Resolved) -> Result<Program, AllocError>
     ensures form { IfOk result (IsRunForm source.now) }
     ensures made { IfOk result (IsRunProgram source.now) }

@@ -3,7 +3,7 @@
 ghost use Rattle.vd_cmd_run.specs.Asking.{EndedRunsReport, RunsAskInOrder};
 ghost use Rattle.vd_cmd_run.specs.Completing.{RunsAreComplete, StatusesHaveCauses};
 
-/// A good source, children that are hosts, and no fault of the outside give status 0, or want of memory.
+/// A good source, children that are hosts, and no fault of the outside give status 0, or memory runs out.
 pub fn runs_are_complete()
     ensures { RunsAreComplete }
 {}

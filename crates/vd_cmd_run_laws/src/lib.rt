@@ -1,10 +1,10 @@
-//! All hosts of a source as children of one machine: what is reported is what the source tells. Nothing is computed here.
+//! All hosts of a source as children of one machine: the source's outputs are what is reported. Nothing is computed here.
 #![tactic(auto)]
 
 ghost use Rattle.vd_cmd_run_laws.specs.Children.{ChildrenTellTheSource};
 
 /// Where `run` ends with status 0, and each of its children is a run of its host over links on which what comes is a prefix of
-/// what was sent there, the report has each host as ended with the words that the source tells it, and with no others.
+/// what was sent there, the report has each host as ended with the source's outputs to it, and with no others.
 pub fn children_tell_the_source()
     ensures { ChildrenTellTheSource }
 {}

@@ -17,7 +17,7 @@ use vd_base_lists::Items;
 use vd_core::{NormalForm, Program, Right, Stmt, Written};
 use vd_formula::{Formula, Label};
 
-/// The rules and checks of a program, in program order. Only want of memory refuses it.
+/// The rules and checks of a program, in program order. It fails only where memory runs out.
 pub fn constraints(alloc: Global, program: &Program) -> Result<System, AllocError>
     ensures { IfOk result (λ system. system ≡ system_of program.now) }
 {

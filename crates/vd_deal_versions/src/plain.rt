@@ -12,7 +12,7 @@ use vd_deal_items::Deal;
 
 /// The deal of one host among so many, from its file of either version, without what the host knows of the dealing besides.
 ///
-/// Refuses bytes that are no such file, with the first offset at which they go on as none does, and answers want of memory.
+/// Refuses bytes that are no such file, with the first offset at which they go on as none does, and fails where memory runs out.
 pub fn read_plain_deal(
     alloc: Global,
     bytes: &[u8],

@@ -52,7 +52,7 @@ at_span span sentence = record { offset = Some span.start; sentence = sentence }
 abbrev pub of_file : List ℕ → Remark
 of_file sentence = record { offset = None; sentence = sentence }
 
--- what is said of a fault in these bytes; want of memory is no fault of theirs
+-- what is said of a fault in these bytes; running out of memory is no fault of theirs
 abbrev pub IsRuleRemark : List ℕ → NameFault → Remark → Type 0
 IsRuleRemark bytes (fault.Unknown span) remark = remark ≡ at_span span (unknown_sentence (word_at bytes span))
 IsRuleRemark bytes (fault.Twice span first) remark = remark ≡ at_span span (twice_sentence (word_at bytes span) (line_number bytes first.start))

@@ -28,7 +28,7 @@ pub record IsUnexpectedRemark (bytes : List ℕ) (number offset : ℕ) (remark :
   pub place : remark.offset ≡ Some offset
   pub tells : TellsNumber bytes number remark.sentence
 
--- what is said of a fault in these bytes; want of memory is no fault of theirs
+-- what is said of a fault in these bytes; running out of memory is no fault of theirs
 abbrev pub IsSyntaxRemark : List ℕ → ParseFault → Remark → Type 0
 IsSyntaxRemark bytes (fault.BadByte offset) remark = remark ≡ at offset (bad_byte_sentence (slice_index bytes offset))
 IsSyntaxRemark bytes (fault.Unexpected number offset) remark = IsUnexpectedRemark bytes number offset remark

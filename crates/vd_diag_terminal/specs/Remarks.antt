@@ -12,7 +12,7 @@ use Rattle.vd_diag_source.specs.Rules.{IsRuleRemark}
 use Rattle.vd_diag_source.specs.SyntaxRemarks.{SaysOfSyntax}
 use Rattle.vd_diag_terminal.specs.Programs.{IsAssignmentRemark, IsSearchRemark, SaysOne}
 
--- ---- of inputs and schedules, which have names of hosts; `has` says what such a file has; want of memory is no fault of theirs
+-- ---- of inputs and schedules, which have names of hosts; `has` says what such a file has; running out of memory is no fault of theirs
 
 abbrev pub IsTextRemark : List ℕ → List ℕ → ReadFault → Remark → Type 0
 IsTextRemark bytes has (read_fault.Text offset) remark = remark ≡ at offset has

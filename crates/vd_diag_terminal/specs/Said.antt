@@ -23,7 +23,7 @@ abbrev pub IsToldOf : Bool → Status → List ℕ → Result (List ℕ) FetchFa
 IsToldOf coloured status name (Ok bytes) text = IsRemarkTold coloured status name bytes text
 IsToldOf coloured status name (Err fault) text = text ≡ []
 
--- The file with this name is fetched, and nothing else is asked of files. Want of memory may leave the text out.
+-- The file with this name is fetched, and nothing else is asked of files. Running out of memory may leave the text out.
 pub record IsSaidOfFile (coloured : Bool) (status : Status) (name : List ℕ) (limit : ℕ) (before now : FilesView) (result : Result (List ℕ) TellFault) : Type 0 where
   pub came : Result (List ℕ) FetchFault
   pub fetches : Fetches name limit before now came

@@ -4,7 +4,7 @@
 ghost use Rattle.vd_distributed_example.specs.Instance.{TwoHostsRun};
 
 /// One host takes an input and sends it to the other, which prints it. The two runs are what is asked of running hosts, and nothing
-/// outside fails; both end well, and their outputs hold exactly the bytes that belong to what the source tells each.
+/// outside fails; both end well, and their outputs hold exactly the bytes that belong to the source's outputs to each.
 pub fn two_hosts_run()
     ensures { TwoHostsRun }
 {}

@@ -30,7 +30,7 @@ taken_front zero xs = (xs, refl)
 taken_front (suc n) [] = ([], refl)
 taken_front (suc n) (x ∷ xs) = let p = taken_front n xs in (p.0, ap (λ l. x ∷ l) p.1)
 
--- a stream that is a front of packets is packets, as far as it is whole
+-- a stream that is a prefix of packets is packets, as far as it is whole
 pub packets_front : (xs ys : List (List ℕ)) (rest : List ℕ) → ArePackets xs → ArePackets ys → frames xs ++ rest ≡ frames ys
     → (zs : List (List ℕ)) × (xs ++ zs ≡ ys) × (rest ≡ frames zs)
 packets_front [] ys rest fit others is = (ys, refl, is)

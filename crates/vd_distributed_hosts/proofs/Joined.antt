@@ -42,7 +42,7 @@ module _ (s : Supply) (j : Joint) (n : ℕ) (codes : ℕ → Code) (lists : ℕ 
   pub sound : (h : ℕ) → AreSound (ran h).events (ran h).state
   sound h = sound_from (lists h) (items h) (at_start (codes h)) (λ r. omega arith) (hosts.numbers h) (ran h).steps (ran h).events (ran h).state (ran h).reached
 
-  -- what came to b from a, as far as it is told, is a front of the packets of a
+  -- what came to b from a, as far as it is told, is a prefix of the packets of a
   stream : (a b : ℕ) (rest : List ℕ) → come b a ≡ frames (received_from a (ran b).events) ++ rest
       → (zs : List (List ℕ)) × (received_from a (ran b).events ++ zs ≡ sent_to b (ran a).events) × (more : List ℕ) × (rest ++ more ≡ frames zs)
   stream a b rest is =

@@ -83,7 +83,7 @@ module _ (lists : Lists) (start : State) (plan : List ℕ) (me : ℕ) (link : �
   EndsAs events m (Err (fault.WrongHost wanted named)) = (p : ℕ) × IsGreetFault (ends plan me p) (bytes_that_came (link p)) (greet_fault.WrongHost wanted named)
   EndsAs events m (Err other) = Unit {0}
 
-  -- a front of `listening` and the lines of the words, or of all with `ended`
+  -- a prefix of `listening` and the lines of the words, or of all with `ended`
   abbrev pub Part : List Event → State → List ℕ → Type 0
   Part events m front = IsPrefixOf front (listening ++ lines (printed events)) ⊎ ((m.pending ≡ Finished) × IsPrefixOf front (text_of (printed events)))
 

@@ -131,7 +131,7 @@ greeting_more bytes more plan from to g = record {
   came = ap (λ (l : List ℕ). l ++ more) g.came ∙ append_assoc (greeting plan from to) g.rest more;
 }
 
--- no greeting is blamed that is a front of the awaited one and more
+-- no greeting is blamed that is a prefix of the awaited one and more
 abbrev Blames : GreetFault → Type 0
 Blames (greet_fault.BadFrame offset byte) = Unit {0}
 Blames (greet_fault.WrongProgram ours theirs) = Unit {0}
@@ -367,7 +367,7 @@ module _ (program : NormalForm) (list : List Proto) (plan : Digest) (inputs : Li
   abbrev went : ℕ → ℕ → List ℕ
   went h p = drop 36 (bytes_that_went (links h p))
 
-  -- what came to one from another is a front of what that one sent, whoever they are
+  -- what came to one from another is a prefix of what that one sent, whoever they are
   none_came : (h : ℕ) (lt : h < n) (p : ℕ) → IsStranger (run h).ready.task p → link_to (are.plays h lt) p ≡ None
   none_came h lt p strange = no_link_to (run h).ready.machine (run h).ready.task (run h).net (run h).net_now (run h).out (run h).out_now (are.plays h lt) p strange
 

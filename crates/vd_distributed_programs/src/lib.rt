@@ -4,9 +4,9 @@
 ghost use Rattle.vd_distributed_programs.specs.Ending.{RunningHostsEnd};
 ghost use Rattle.vd_distributed_programs.specs.Running.{RunningHostsTellTheSource};
 
-/// All hosts of a program that tells what a source tells, each run by itself from the program that `compile` stores for it, or from one
-/// that was hastened, over links on which what comes is a prefix of what was sent there, write what the source tells them: `listening`, a
-/// prefix of the decimal lines of these words, and where a host ends all of them, and `ended`. None tells the status of a wrong byte, of
+/// All hosts of a program that has a source's outputs, each run by itself from the program that `compile` stores for it, or from one
+/// that was hastened, over links on which what comes is a prefix of what was sent there, write the source's outputs to them: `listening`, a
+/// prefix of the decimal lines of these words, and where a host ends all of them, and `ended`. None has the status of a wrong byte, of
 /// words that differ, of another program or of another host. Nothing is asked of times, or of the order in which anything happens.
 pub fn running_hosts_tell_the_source()
     ensures { RunningHostsTellTheSource }

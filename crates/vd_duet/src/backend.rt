@@ -13,7 +13,7 @@ use vd_base::{HostId, Op, Proto};
 use vd_execution::Reg;
 
 /// How words stand at the hosts of a protocol. Each call that is lent a `Duet` gives what `calls` gives, puts exactly its
-/// gadgets at the end, and takes few registers. On `Err`, which is want of memory, the `Duet` holds some of the acts and is
+/// gadgets at the end, and takes few registers. On `Err`, which is out of memory, the `Duet` holds some of the acts and is
 /// to be given up.
 pub trait Backend {
     type Part: Copy;

@@ -29,7 +29,7 @@ pub trait Directory {
     /// A number that no other process has while this one runs.
     fn mark(&self) -> u32;
 
-    /// The front of the file with this name: so many bytes of it, or all where it has no more.
+    /// A prefix of the file with this name: so many bytes of it, or all where it has no more.
     fn read(&self, alloc: Global, name: &str, most: u64) -> io::Result<Vec<u8>>
         ensures front { IfOk result (λ bytes. IfSome (holds self.now name.now) (λ all. bytes.items ≡ take most all)) }
         ensures failed { OnErr result (fails_at self.now name.now) };

@@ -12,7 +12,7 @@ pub trait Duplex {
     /// What it tells.
     ghost view: { Self → DuplexView };
 
-    /// Takes the front of a piece, and says how much.
+    /// Takes a prefix of a piece, and says how much.
     fn take(&mut self, bytes: &[u8]) -> io::Result<usize>
         ensures { Takes bytes.now (view self.old) (view self.new) result };
 

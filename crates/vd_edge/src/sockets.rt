@@ -79,7 +79,7 @@ fn pause<R: Clock>(rt: &R) {
     thread::sleep(rt, Duration::from_millis(5));
 }
 
-/// Whether what came so far is a greeting, and `None` where it is the front of one.
+/// Whether what came so far is a greeting, and `None` where it is a prefix of one.
 fn is_greeting(came: &[u8], greeting: &[u8]) -> Option<bool>
     ensures { result ≡ is_greeting came.now greeting.now }
 {

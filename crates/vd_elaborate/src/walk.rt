@@ -533,7 +533,7 @@ fn make_main(alloc: Global, source: &Source) -> Result<Made, AllocError>
     Ok(made)
 }
 
-/// The let-normal form of a source, with every call inlined. Only want of memory refuses it.
+/// The let-normal form of a source, with every call inlined. It fails only where memory runs out.
 pub fn elaborate(alloc: Global, resolved: &Resolved) -> Result<Program, AllocError>
     ensures form { IfOk result (λ program. program ≡ normal_form resolved.now) }
     ensures outputs { IfOk result (KeepsOutputs resolved.now) }

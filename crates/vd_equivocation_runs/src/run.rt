@@ -236,7 +236,7 @@ impl Run {
 
     /// Hosts act.
     ///
-    /// Only want of memory refuses it.
+    /// It fails only where memory runs out.
     pub fn act(&mut self, act: &Act) -> Result<(), AllocError>
         ensures { OnOk result (self.new ≡ acted act.now self.old) }
     {

@@ -327,7 +327,7 @@ impl Side {
 
     /// The host acts by itself. Past the end of a list it takes zeros.
     ///
-    /// Only want of memory refuses it.
+    /// It fails only where memory runs out.
     pub(crate) fn perform(&mut self, action: &Action) -> Result<(), AllocError>
         ensures { OnOk result (self.new ≡ performed action.now self.old) }
     {

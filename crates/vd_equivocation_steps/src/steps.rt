@@ -16,7 +16,7 @@ use vd_execution::Line;
 /// The steps of the joint code with these lines, for who goes along two runs of it at once. Along them the deal of the first run
 /// becomes the one that explains the second.
 ///
-/// Only want of memory refuses it.
+/// It fails only where memory runs out.
 pub fn steps_of(alloc: Global, lines: &Items<Line>) -> Result<Items<Step>, AllocError>
     ensures { (plan : Plan Gadget) → lines.now ≡ flat (joint_of plan) [] → CanBeStepped plan → IfOk result (λ steps. LeadTo steps plan) }
 {

@@ -29,7 +29,7 @@ pub struct Walked {
 /// deal of both hosts by which the second inputs show the host what the first show it.
 ///
 /// It is the deal that explains where, in the second run, no item is taken past the end of a list, and none stands there.
-/// Only want of memory refuses it.
+/// It fails only where memory runs out.
 pub fn walk(
     alloc: Global,
     host: HostId,

@@ -233,7 +233,7 @@ impl Walker {
 
     /// Both runs go along steps.
     ///
-    /// Only want of memory refuses it.
+    /// It fails only where memory runs out.
     #[cycle(walk)]
     pub fn steps(&mut self, steps: &[Step]) -> Result<(), AllocError>
         ensures { OnOk result (self.new ≡ all_both (data_walks steps.now) self.old) }

@@ -70,7 +70,7 @@ in_program_order s j well enough =
     through_run (step s) (order_of s j) (started j) (at_end (last_of s j))
     (enough_through s (order_of s j) (started j) (at_end (last_of s j)) (all_through s j well) (end_ended (last_of s j)) enough)
 
--- a front of the packets has a front of the words
+-- a prefix of the packets has a prefix of the words
 words_append : (xs ys : List (List ℕ)) → words_of (xs ++ ys) ≡ words_of xs ++ words_of ys
 words_append [] ys = refl
 words_append (x ∷ xs) ys = ap (λ l. x ++ l) (words_append xs ys) ∙ sym (append_assoc x (words_of xs) (words_of ys))

@@ -17,9 +17,9 @@ pub record Grows (l k : Local) : Type 0 where
 
 -- a world that is on the way to the end of the joint run
 pub record IsOnTheWay (s : Supply) (w : World) (last : Hosts) : Type 0 where
-  -- each host has printed a front of what it prints in the joint run
+  -- each host has printed a prefix of what it prints in the joint run
   pub printed : (h : ℕ) → IsPrefixOf (w h).printed (last h).printed
-  -- and sent a front of its packets, so a front of its words
+  -- and sent a prefix of its packets, so a prefix of its words
   pub sent : (h p : ℕ) → IsPrefixOf ((w h).sent p) ((last h).sent p)
   pub talk : (h p : ℕ) → IsPrefixOf (words_of ((w h).sent p)) (words_of ((last h).sent p))
   -- no host stands at unequal words or before a packet of another length

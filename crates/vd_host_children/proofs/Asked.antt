@@ -29,7 +29,7 @@ adds_none at told = record { told = told; asked = sym (append-nil at.asked) }
 adds_both : (a b c : SpawnerView) (xs ys : List SpawnerCall) → Adds a b xs → Adds b c ys → Adds a c (xs ++ ys)
 adds_both a b c xs ys first second = record { told = second.told; asked = second.asked ∙ ap (λ (l : List SpawnerCall). l ++ ys) first.asked ∙ append_assoc a.asked xs ys }
 
--- a call that gave nothing was asked, but for want of memory
+-- a call that gave nothing was asked, but where memory ran out
 abbrev attempt : SpawnerCall → CallFault → List SpawnerCall
 attempt asked call_fault.Failed = asked ∷ []
 attempt asked call_fault.Memory = []

@@ -1,4 +1,4 @@
--- Where the children that wait are hosts, a run stops for want of memory, or at a call that failed.
+-- Where the children that wait are hosts, a run stops where memory ran out, or at a call that failed.
 use Rattle.std.proofs.Common.{arith, ◌≡◌, ◌⊎◌, inl, inr, ◌+◌, ◌<◌, ◌≤◌, ℕ, zero, suc, Bool, true, false, IsTrue, List, [], ◌∷◌, ◌++◌, length, map, drop, take, slice_get, append-nil, append_assoc, length-append, Option, Some, None, IfErr, Result, refl, sym, ap, subst, ◌∙◌}
 use Rattle.std.proofs.lemmas.List.{length-map, length-take-le}
 use Rattle.std.proofs.lemmas.Option.{none-some, slice_get_within}

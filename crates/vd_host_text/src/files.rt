@@ -12,7 +12,7 @@ use vd_base_codec::{Cursor, ReadFault, offset};
 
 /// The program of one host, from its file. The ranges of its instructions are not looked at.
 ///
-/// Refuses bytes that are no such file, with the first offset at which they go on as none does, and answers want of memory.
+/// Refuses bytes that are no such file, with the first offset at which they go on as none does, and fails where memory runs out.
 pub fn parse(alloc: Global, bytes: &[u8]) -> Result<HostProgram, FileFault>
     ensures given { IfOk result (λ program. IsFileOf bytes.now program) }
     ensures refused { IfErr result (λ fault. IsRefused bytes.now fault) }

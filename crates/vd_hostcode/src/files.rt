@@ -22,7 +22,7 @@ const STEPS: u64 = 4_294_967_295;
 /// The program of one host, from its file.
 ///
 /// Refuses bytes that are no such file, with the first offset at which they go on as none does; a file of which an instruction
-/// breaks a range of host code, with the first that does; and answers want of memory. Too many static steps are the fault of the
+/// breaks a range of host code, with the first that does; and fails where memory runs out. Too many static steps are the fault of the
 /// last instruction.
 pub fn read(alloc: Global, bytes: &[u8]) -> Result<HostProgram, CodeFault>
     ensures answer { Answers bytes.now result }

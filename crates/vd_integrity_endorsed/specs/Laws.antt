@@ -15,7 +15,7 @@ OwnWordsMakeTheRun = (p : NormalForm) (test : ℕ → ℕ → Bool) (inputs : Li
     → let end : Given = record { state = block_effect p.body 0 (start p inputs); left = [] } in
     run_given p test (endorsed_words p test inputs) inputs ≡ end
 
--- The words that become trusted, and the inputs of trusted hosts, decide what trusted hosts are told.
+-- The words that become trusted, and the inputs of trusted hosts, decide the outputs to trusted hosts.
 abbrev pub DecidesWhatIsTrusted : NormalForm → Labels → (TruthTable → Bool) → Type 0
 DecidesWhatIsTrusted p l T =
     (first second : List (List ℕ)) → SameInputs (trusts_host p T) first second → (words : List ℕ)

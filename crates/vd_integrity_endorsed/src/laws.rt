@@ -8,7 +8,7 @@ pub fn own_words_make_the_run()
     ensures { OwnWordsMakeTheRun }
 {}
 
-/// What trusted hosts are told follows from the words that become trusted and the inputs of trusted hosts alone.
+/// The outputs to trusted hosts follow from the words that become trusted and the inputs of trusted hosts alone.
 pub fn words_decide_what_is_trusted()
     ensures { OfEachTrust (λ p l T. DecidesWhatIsTrusted p l T) }
 {}

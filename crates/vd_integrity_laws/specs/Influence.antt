@@ -1,4 +1,4 @@
--- Whose inputs can bear on what a host is told, through endorsements or not.
+-- Whose inputs can bear on a host's outputs, through endorsements or not.
 use Rattle.std.specs.Prelude.{◌≡◌, ℕ, nat_eq, Bool, true, false, ◌&&◌, ◌||◌, not, List, [], ◌∷◌, map}
 use Rattle.std.specs.List.{list_all}
 use Rattle.vd_base.specs.declared.ids.SlotId.{SlotId}

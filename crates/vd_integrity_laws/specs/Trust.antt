@@ -54,7 +54,7 @@ pub record IsSameToTrust (p : NormalForm) (l : Labels) (T : TruthTable → Bool)
   pub inputs : SameInputs (trusts_host p T) first second
   pub endorsed : endorsed_words p (becomes_trusted l T) first ≡ endorsed_words p (becomes_trusted l T) second
 
--- each trusted host is told the same, and each trusted slot under trusted guards gets the same word at each execution
+-- the outputs to each trusted host are the same, and each trusted slot under trusted guards gets the same word at each execution
 pub record TrustedIsSame (p : NormalForm) (l : Labels) (T : TruthTable → Bool) (first second : List (List ℕ)) : Type 0 where
   pub outputs : (h : HostId) → trusts_host p T h.0 ≡ true → outputs_to p h first ≡ outputs_to p h second
   pub words : (shows : Showing) → shown_words p (in_trust p l T) shows first ≡ shown_words p (in_trust p l T) shows second

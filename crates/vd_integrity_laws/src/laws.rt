@@ -31,7 +31,7 @@ pub fn endorsements_are_transparent()
     ensures { OfEachProgram (λ p l. (set : ℕ) → set < 2 ^ length p.principals → IsTransparent p l set) }
 {}
 
-/// The hosts whose inputs can bear on what a host is told are enough to tell it, and there is one set of them: with
+/// The hosts whose inputs can bear on a host's outputs are enough to compute them, and there is one set of them: with
 /// endorsements passed; and without, where the same words are endorsed. The second set is within the first.
 pub fn influences_tell()
     ensures enough { OfEachInfluence (λ passed p h hosts. AreEnoughToTell passed p h hosts) }
@@ -39,7 +39,7 @@ pub fn influences_tell()
     ensures nested { (p : NormalForm) (h : HostId) → AreNested p h }
 {}
 
-/// Each host whose inputs bear on what a host is told, other than through endorsements, has an integrity that acts for its own.
+/// Each host whose inputs bear on a host's outputs, other than through endorsements, has an integrity that acts for its own.
 pub fn influences_are_trusted()
     ensures { OfEachHost (λ p l h. (hosts : ℕ → Bool) → AreInfluences false p h hosts → AreTrusted p h hosts) }
 {}

@@ -6,7 +6,7 @@ ghost use Rattle.vd_integrity_runs.specs.Example.{PrintsWhatSheSent};
 ghost use Rattle.vd_integrity_runs.specs.Trusted.{FrontsAreExplained, RunsAreExplained};
 
 /// Hosts for whose integrity attackers can act send any words. Where such a run comes to its end, the hosts that keep to their programs
-/// have printed what the program tells them, but that the attackers choose the words that become trusted by an endorsement, and no more.
+/// have printed the program's outputs to them, but that the attackers choose the words that become trusted by an endorsement, and no more.
 /// Of the bindings in trust that are in sight at the end they hold the words of that run.
 pub fn attackers_choose_what_is_endorsed()
     ensures { OfEachProgram (λ p l. RunsAreExplained p l) }
@@ -17,7 +17,7 @@ pub fn stopped_runs_are_explained()
     ensures { OfEachProgram (λ p l. FrontsAreExplained p l) }
 {}
 
-/// A run in which a host departs: it hands in 1, sends 7 to both holders of copies, and both print 7, as the program tells them where
+/// A run in which a host departs: it hands in 1, sends 7 to both holders of copies, and both print 7, as the program outputs to them where
 /// 7 is endorsed.
 pub fn one_word_is_printed_by_both()
     ensures { (to : Form) → PrintsWhatSheSent to }

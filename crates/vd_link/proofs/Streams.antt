@@ -8,7 +8,7 @@ use Rattle.vd_base.specs.Words.{AreWords}
 use Rattle.vd_link.specs.Laws.{StreamsHaveOneReading, FaultsExcludePackets}
 use Rattle.vd_link.specs.declared.faults.LinkFault.TheVariants as link_fault
 
--- fronts of one length of the same list are the same
+-- prefixes of one length of the same list are the same
 pub front_same : (a b x y : List ℕ) → length a ≡ length b → a ++ x ≡ b ++ y → (a ≡ b) × (x ≡ y)
 front_same [] [] x y same is = (refl, is)
 front_same [] (q ∷ b) x y same is = absurd (omega (arith, same))

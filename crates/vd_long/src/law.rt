@@ -10,7 +10,7 @@ ghost use Rattle.vd_core.specs.Numbers.{NumbersFit};
 ghost use Rattle.vd_long.specs.Lengthened.{lengthened};
 ghost use Rattle.vd_long.specs.LongDivision.{divided, IsDividedSoFar};
 
-/// Whichever divisions become loops, each host is told the same, in every program that is well made and whose numbers are words,
+/// Whichever divisions become loops, the outputs to each host are the same, in every program that is well made and whose numbers are words,
 /// and for all inputs that are words.
 pub fn long_divisions_keep_outputs()
     ensures { (lengthens : SlotId → Bool) (program : NormalForm) → IsWellMade program → NumbersFit program →

@@ -9,7 +9,7 @@ ghost use Rattle.vd_mux.specs.BooleanGuards.{HasBooleanGuards};
 ghost use Rattle.vd_mux.specs.Selections.{turned_where_boolean};
 ghost use Rattle.vd_mux.specs.Selections.{turned};
 
-/// Whichever guards are hidden, hidden branches as selections leave what each host is told, in every program that is well
+/// Whichever guards are hidden, hidden branches as selections leave the outputs to each host, in every program that is well
 /// made and has boolean guards, and for all inputs.
 pub fn selections_keep_outputs()
     ensures { (hides : SlotId → Bool) (program : NormalForm) → IsWellMade program → HasBooleanGuards program →

@@ -1,4 +1,4 @@
--- What depends on what at once, read off a program for the words that one host is told: through endorsements, or not.
+-- What depends on what at once, read off a program for one host's outputs: through endorsements, or not.
 use Rattle.std.specs.Prelude.{ℕ, nat_eq, Bool, true, if◌then◌else◌, List, [], ◌∷◌, map}
 use Rattle.vd_base.specs.declared.ids.SlotId.{SlotId}
 use Rattle.vd_core.specs.declared.normal.Right.{Right}

@@ -1,4 +1,4 @@
--- What is reached from what a host is told, along edges.
+-- What is reached from a host's outputs, along edges.
 use Rattle.std.specs.Prelude.{◌≡◌, ℕ, ◌≤◌, Bool, true, false, List, [], ◌∷◌, ◌++◌, length, slice_index_or}
 use Rattle.std.specs.List.{list_all}
 use Rattle.vd_noninter_laws.specs.Flowing.{only_with}

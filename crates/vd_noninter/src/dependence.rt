@@ -14,10 +14,10 @@ use vd_base::{HostId, HostSet};
 use vd_constraints::Labels;
 use vd_core::Program;
 
-/// The hosts whose inputs can bear on what this host is told in clear, outside of what is declassified to it, by labels
+/// The hosts whose inputs can bear on this host's outputs in clear, outside of what is declassified to it, by labels
 /// that keep all flow rules of the program. It may read each of them, and no other input matters to it.
 ///
-/// Only want of memory refuses it.
+/// It fails only where memory runs out.
 pub fn depends(
     alloc: Global,
     program: &Program,

@@ -1,4 +1,4 @@
-//! The hosts whose inputs can bear on what a host is told.
+//! The hosts whose inputs can bear on a host's outputs.
 
 ghost use Rattle.std.specs.Prelude.{IfOk};
 ghost use Rattle.vd_noninter.specs.Hosts.{members};
@@ -10,10 +10,10 @@ use std::alloc::{AllocError, Global};
 use vd_base::{HostId, HostSet};
 use vd_core::Program;
 
-/// The hosts whose inputs can bear on what this host is told, declassifications included: those that do so through endorsements
+/// The hosts whose inputs can bear on this host's outputs, declassifications included: those that do so through endorsements
 /// too, or where `passed` is false those that do so otherwise.
 ///
-/// Only want of memory refuses it.
+/// It fails only where memory runs out.
 pub fn influences(
     alloc: Global,
     program: &Program,

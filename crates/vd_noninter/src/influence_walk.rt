@@ -1,4 +1,4 @@
-//! The walk over a program that finds what the words that a host is told are made of.
+//! The walk over a program that finds what a host's outputs are made of.
 
 ghost use Rattle.std.specs.Prelude.{◌≡◌, ◌∷◌, [], IfOk, OnOk, nat_eq};
 ghost use Rattle.vd_noninter.specs.InfluenceEdges.{influence_edges_of, right_made, with_body_made, with_stmt_made};
@@ -110,7 +110,7 @@ fn add_right(
     }
 }
 
-/// Adds that the host is told a word, where it is: of the guards, and of the word itself.
+/// Adds an output, where it is one to the host: what the guards are made of, and the word itself.
 fn add_output(
     edges: &mut Items<Edge>,
     around: &Around,

@@ -8,7 +8,7 @@ ghost use Rattle.vd_core.specs.Facts.{IsWellMade};
 ghost use Rattle.vd_noninter_laws.specs.Dependence.{IsDependence, Reach};
 ghost use Rattle.vd_integrity_laws.specs.Influence.{IsInfluence};
 
-/// What is told to a host reaches some slots and some hosts' inputs, in every well-made program, whatever its labels are: there is a least
+/// A host's outputs reach some slots and some hosts' inputs, in every well-made program, whatever its labels are: there is a least
 /// choice of them that is closed.
 pub fn programs_have_dependences()
     ensures { (p : NormalForm) (l : Labels) (h : HostId) → IsWellMade p → (r : Reach) × IsDependence p l h r }

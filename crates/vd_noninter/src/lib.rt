@@ -1,4 +1,4 @@
-//! Whose inputs can bear on what a host is told: outside of what is declassified to it, and declassified words included.
+//! Whose inputs can bear on a host's outputs: outside of what is declassified to it, and declassified words included.
 #![tactic(auto)]
 
 mod around;

@@ -17,7 +17,7 @@ pub struct Reached {
     pub hosts: Marks,
 }
 
-/// What is reached along these edges from what a host is told, and no more.
+/// What is reached along these edges from a host's outputs, and no more.
 #[tactic(auto, using(crate::proofs::Following::leads_first, crate::proofs::Following::leads_next, crate::proofs::Following::leads_to))]
 pub(crate) fn reach_along(alloc: Global, edges: Items<Edge>) -> Result<Reached, AllocError>
     ensures { IfOk result (λ reached. IsReachOf edges (reach_of reached)) }

@@ -13,7 +13,7 @@ pub fn inputs_that_agree_bring_the_same()
     ensures { OfEachHost (λ p l h. HearsOnlyAssigned p l h (becomes_readable_to p l h) (reads_host p h)) }
 {}
 
-/// Agreement on the hosts whose inputs are reached from what a host is told, and on all that is declassified to it, is enough
+/// Agreement on the hosts whose inputs are reached from a host's outputs, and on all that is declassified to it, is enough
 /// for that.
 pub fn reached_hosts_are_enough_assigned()
     ensures { OfEachHost (λ p l h. (hosts : ℕ → Bool) → AreReached p l h hosts → HearsOnlyAssigned p l h (reads_result p l h) hosts) }

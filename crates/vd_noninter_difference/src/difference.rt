@@ -30,7 +30,7 @@ pub(crate) fn first_difference(first: &[u32], second: &[u32]) -> Option<usize>
 /// The first place at which what the host knows differs: its inputs, the shorter list followed by zeros up to the longer one,
 /// and then the clear words that come to it. There is none where it knows the same of both.
 ///
-/// Only want of memory refuses it.
+/// It fails only where memory runs out.
 pub fn view_difference(
     alloc: Global,
     program: &NormalForm,

@@ -20,7 +20,7 @@ use vd_core::{NormalForm, Right, Stmt};
 
 /// The clear words that come to a host of the program, in order. The inputs of each host are followed by zeros.
 ///
-/// Only want of memory refuses it.
+/// It fails only where memory runs out.
 pub(crate) fn heard_words(
     alloc: Global,
     program: &NormalForm,

@@ -14,7 +14,7 @@ pub fn inputs_that_agree_tell_the_same()
     ensures { OfEachHost (λ p l h. LearnsOnly p h (becomes_readable_to p l h) (reads_host p h) (in_view p l h)) }
 {}
 
-/// The hosts whose inputs are reached from what a host is told are among those that it may read, and agreement on their
+/// The hosts whose inputs are reached from a host's outputs are among those that it may read, and agreement on their
 /// inputs is enough.
 pub fn reached_hosts_are_enough()
     ensures readable { OfEachHost (λ p l h. (hosts : ℕ → Bool) → AreReached p l h hosts → AreReadable p h hosts) }

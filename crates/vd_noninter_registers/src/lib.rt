@@ -15,7 +15,7 @@ pub fn joint_runs_tell_what_is_heard()
 {}
 
 /// So two joint runs, on two valid deals, bring a host the same clear words, and it prints the same, where their inputs agree
-/// on the hosts whose inputs are reached from what it is told, and on what is declassified to it; and where they agree on all
+/// on the hosts whose inputs are reached from its outputs, and on what is declassified to it; and where they agree on all
 /// hosts that it may read, and on the words that become readable to it by a declassification.
 pub fn inputs_that_agree_are_told_the_same()
     ensures reached { OfEachHost (λ p l h. (hosts : ℕ → Bool) → AreReached p l h hosts →

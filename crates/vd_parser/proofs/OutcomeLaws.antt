@@ -27,7 +27,7 @@ take_none : (k : ℕ) → ◌≡◌ {A = List Token} (take k []) []
 take_none zero = refl
 take_none (suc k) = refl
 
--- a front of a front
+-- a prefix of a front
 take_less : (m n : ℕ) (ts : List Token) → m ≤ n → take n ts ≡ take m ts ++ take (n - m) (drop m ts)
 take_less zero n ts h = ap (λ k. take k ts) (let e : n ≡ n - 0 = omega arith in e)
 take_less (suc m) zero ts h = absurd (omega (arith, h))

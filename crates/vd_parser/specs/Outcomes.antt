@@ -65,7 +65,7 @@ pub record HasTokens (bytes : List ℕ) (P : List Token → Type 0) : Type 0 whe
   pub lexes : Lexes bytes 0 tokens
   pub holds : P tokens
 
--- The one outcome of these bytes. Want of memory is none.
+-- The one outcome of these bytes. Running out of memory is none.
 abbrev pub IsParse : List ℕ → Result Source ParseFault → Type 0
 IsParse bytes (Ok source) = HasTokens bytes (λ ts. IsShallow bytes ts source)
 IsParse bytes (Err (fault.BadByte offset)) = (length bytes ≤ most_source_bytes) × FirstBad bytes 0 offset

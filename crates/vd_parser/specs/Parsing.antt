@@ -27,7 +27,7 @@ kind_at (t ∷ ts) = t.kind
 abbrev pub next_kind : List Token → ℕ
 next_kind ts = code_of (kind_at ts)
 
--- A refusal that is not for want of memory comes where no text that has the part at ts goes on with the first token of us.
+-- A refusal other than out of memory comes where no text that has the part at ts goes on with the first token of us.
 pub record Refused (e : Ebnf Symbol) (ts us : List Token) (f : Refusal) : Type 0 where
   pub stops : f ≡ refusal.Unexpected → Stops language e ts us
 

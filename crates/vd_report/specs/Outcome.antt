@@ -1,4 +1,4 @@
--- The answer of a reader against what a text says: want of memory may come in its place.
+-- The answer of a reader against what a text says: running out of memory may come in its place.
 use Rattle.std.specs.Prelude.{◌≡◌, ◌≢◌, ◌↔◌, ℕ, List, [], ◌∷◌, ◌++◌, None, Result, Ok, Err}
 use Rattle.vd_report.specs.Hosts.{host_of}
 use Rattle.vd_report.specs.Tokens.{tokens_at, text_of, capped}

@@ -15,7 +15,7 @@ pub enum ReadFault {
     Text(u32),
     /// The name at this offset is no declared host's.
     UnknownHost(u32),
-    /// Want of memory.
+    /// Out of memory.
     Memory,
 }
 

@@ -11,7 +11,7 @@ use Rattle.vd_resolve.specs.declared.symbol.Callee.{Callee}
 use Rattle.vd_base.specs.Names.{Named}
 use Rattle.vd_resolve.specs.Sizes.{Variables, capped_size, IsCapped}
 
--- want of memory may come at any step; every other fault is the one that the rules give
+-- running out of memory may come at any step; every other fault is the one that the rules give
 abbrev pub IsFaultOf : {A : Type 0} → Result A Fault → NameFault → Type 0
 IsFaultOf check fault = fault ≢ Memory → check ≡ Err (bare fault)
 

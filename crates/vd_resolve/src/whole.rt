@@ -80,7 +80,7 @@ pub fn resolve(alloc: Global, source: Source) -> Result<Resolved, NameFault>
     ensures same { IfOk result (λ resolved. resolved ≡ source) }
     ensures resolved { OnOk result (IsResolved source) }
 
-    // Want of memory may come at any source.
+    // Running out of memory may come at any source.
     ensures fault { IfErr result (λ fault. (fault ≡ want_of_memory) ⊎ (resolution source ≡ Err (bare fault))) }
     ensures cause { IfErr result (IsCauseOf (resolution_told source)) }
 {

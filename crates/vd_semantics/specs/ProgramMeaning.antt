@@ -86,6 +86,6 @@ block_effect body = in_order (map effect body)
 abbrev pub state_at_start : World → SlotState
 state_at_start w = record { words = []; arrays = []; world = w }
 
--- what each host is told
+-- the outputs to each host
 abbrev pub program_outputs : NormalForm → List (List ℕ) → List (List ℕ)
 program_outputs p inputs = (block_effect p.body 0 (state_at_start (world_at_start (length p.hosts) inputs))).world.outputs

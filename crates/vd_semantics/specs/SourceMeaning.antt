@@ -224,6 +224,6 @@ source_end source w =
     let hosts = host_names source.hosts in
     (in_sequence (map (execution hosts) source.main) (callees_of hosts source.functions) (record { env = []; world = w })).world
 
--- what each host is told
+-- the outputs to each host
 abbrev pub source_outputs : Source → List (List ℕ) → List (List ℕ)
 source_outputs source inputs = (source_end source (world_at_start (length source.hosts) inputs)).outputs

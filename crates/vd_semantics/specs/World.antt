@@ -27,6 +27,6 @@ input_word w host = first_word (slice_index_or w.inputs host [])
 abbrev pub after_input : World → ℕ → World
 after_input w host = record { inputs = slice_set w.inputs host (later_words (slice_index_or w.inputs host [])); outputs = w.outputs }
 
--- the world once a host is told a word
+-- the world once a word is output to a host
 abbrev pub after_output : World → ℕ → ℕ → World
 after_output w host word = record { inputs = w.inputs; outputs = slice_set w.outputs host (slice_index_or w.outputs host [] ++ word ∷ []) }

@@ -1,4 +1,4 @@
-//! What a source and a let-normal program mean in clear: what each host is told, from what the hosts hand in.
+//! What a source and a let-normal program mean in clear: the outputs to each host, from what the hosts hand in.
 #![tactic(auto)]
 
 pub mod held;

@@ -10,7 +10,7 @@ use std::marker::Model;
 use vd_base::{Inputs, Outputs, SlotId, Words, combine};
 use vd_core::{NormalForm, Right, Stmt};
 
-/// What each host is told by a let-normal program. The inputs of a host are followed by zeros.
+/// The outputs of a let-normal program to each host. The inputs of a host are followed by zeros.
 pub fn clear_core(
     alloc: Global,
     program: &NormalForm,

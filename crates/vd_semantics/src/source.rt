@@ -15,10 +15,10 @@ use vd_base::{Inputs, Name, Op, Outputs, Words, add_name, combine};
 use vd_base_lists::Items;
 use vd_core::{Direction, Expr, Function, Host, Infix, Prefix, Segment, Sign, Source, Statement};
 
-/// What each host is told by a source. The inputs of a host are followed by zeros.
+/// The outputs of a source to each host. The inputs of a host are followed by zeros.
 ///
 /// This holds of every tree: a name that is not in sight stands for 0, a call of no earlier function gives 0, and a
-/// host that is not declared hands in zeros and is told nothing.
+/// host that is not declared hands in zeros and has no outputs.
 pub fn clear_source(alloc: Global, source: &Source, inputs: &Inputs) -> Result<Outputs, AllocError>
     ensures { IfOk result (λ outputs. outputs ≡ source_outputs source.now inputs.now) }
 {

@@ -42,7 +42,7 @@ impl<'a> InputWords<'a> {
     }
 }
 
-/// What the hosts have still to hand in, and what each of them was told.
+/// What the hosts have still to hand in, and the outputs to each of them.
 #[derive(Drop)]
 pub(crate) struct World<'a> {
     inputs: Vec<InputWords<'a>>,
@@ -58,7 +58,7 @@ impl<'a> Model for World<'a> {
 }
 
 impl<'a> World<'a> {
-    /// Nobody was told anything yet.
+    /// There are no outputs yet.
     pub(crate) fn at_start(
         alloc: Global,
         hosts: usize,
@@ -93,7 +93,7 @@ impl<'a> World<'a> {
         Ok(())
     }
 
-    /// What each host was told.
+    /// The outputs to each host.
     pub(crate) fn into_outputs(self) -> Outputs
         ensures { result ≡ self.entry.outputs }
     {

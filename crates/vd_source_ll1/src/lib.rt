@@ -13,7 +13,7 @@ pub fn machine_is_exact<S>()
     ensures { MachineIsExact S }
 {}
 
-/// Each front of a text begins a text, so a text has no unexpected token.
+/// Each prefix of a text begins a text, so a text has no unexpected token.
 pub fn fronts_begin<S>()
     ensures { FrontsBegin S }
 {}

@@ -13,7 +13,7 @@ use vd_base_lists::Items;
 use vd_duet::Duet;
 
 /// All protocols together, as the splitter asks for them. Each call that is lent a `Duet` gives what the call of `offer`
-/// gives, and puts exactly its gadgets at the end. On `Err`, which is want of memory, the `Duet` holds some of the acts and
+/// gives, and puts exactly its gadgets at the end. On `Err`, which is out of memory, the `Duet` holds some of the acts and
 /// is to be given up.
 pub trait Protocols {
     /// What a slot has: the registers of its parts.

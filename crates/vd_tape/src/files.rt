@@ -14,7 +14,7 @@ use vd_deal_items::Deal;
 
 /// The deal of one host among so many, from its file.
 ///
-/// Refuses bytes that are no such file, with the first offset at which they go on as none does, and answers want of memory.
+/// Refuses bytes that are no such file, with the first offset at which they go on as none does, and fails where memory runs out.
 pub fn read_deal(alloc: Global, bytes: &[u8], hosts: u8, me: HostId) -> Result<Deal, FileFault>
     requires few { hosts ≤ most_hosts }
     requires declared { me.0 < hosts }

@@ -22,7 +22,7 @@ none_last item before now wanted none grown last =
     let one = length-append last.0 (item ∷ []) in
     omega (arith, all, parts, added, came, one)
 
--- what was answered, or want of memory, or a write that failed
+-- what was answered, or memory ran out, or a write that failed
 status_ends : (answered status : Status) → EndsTrial answered → IsAnswered answered status → ((name : List ℕ) → status ≡ ReadFault name → ⊥) → EndsTrial status
 status_ends answered Memory ends is no_read = tt
 status_ends answered (ReadFault name) ends is no_read = no_read name refl

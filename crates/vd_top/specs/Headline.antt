@@ -52,7 +52,7 @@ pub record PrintsDependence (source name : List ℕ) (before : FilesView) (out_b
   pub dependence : IsDependenceOf source name before.contents printed
 
 -- Where the words are those of `depends`, and the files and the output tell what they hold, a run with status 0 has printed the
--- hosts whose inputs alone can bear on what the host is told, and on the clear words that come to it at any valid assignment of
+-- hosts whose inputs alone can bear on the host's outputs, and on the clear words that come to it at any valid assignment of
 -- protocols, outside of what is declassified to it.
 abbrev pub KeepsDependence : (words : List (List ℕ)) → FilesView → SinkView → SinkView → Status → Type 0
 KeepsDependence words before out_before out_now status =
@@ -66,7 +66,7 @@ pub record PrintsInfluence (source name : List ℕ) (before : FilesView) (out_be
   pub influence : IsInfluenceOf source name before.contents printed
 
 -- Where the words are those of `influences`, and the files and the output tell what they hold, a run with status 0 has printed the
--- hosts whose inputs alone can bear on what the host is told, and those of them that can do so through endorsements alone: all
+-- hosts whose inputs alone can bear on the host's outputs, and those of them that can do so through endorsements alone: all
 -- others have an integrity that acts for that of the host.
 abbrev pub KeepsInfluence : (words : List (List ℕ)) → FilesView → SinkView → SinkView → Status → Type 0
 KeepsInfluence words before out_before out_now status =

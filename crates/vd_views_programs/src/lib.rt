@@ -39,8 +39,8 @@ pub fn any_order_looks_alike()
 {}
 
 /// Whatever a host sees could have come from any inputs that agree on its own, on those of the hosts that it may read, and on the
-/// words that become readable to it by a declassification; and so where they agree on the hosts whose inputs are reached from what
-/// it is told, and on all that is declassified to it. It holds at every valid assignment without commitments.
+/// words that become readable to it by a declassification; and so where they agree on the hosts whose inputs are reached from
+/// its outputs, and on all that is declassified to it. It holds at every valid assignment without commitments.
 pub fn what_may_not_be_read_stays_open()
     ensures readable { OfEachHost (λ p l h. ExplainsOthers p l h (becomes_readable_to p l h) (reads_host p h)) }
     ensures reached { OfEachHost (λ p l h. (hosts : ℕ → Bool) → AreReached p l h hosts → ExplainsOthers p l h (reads_result p l h) hosts) }

@@ -203,7 +203,7 @@ impl World {
         Ok(moved)
     }
 
-    /// Rounds over the hosts in order, until none can step. After want of memory the world is one that some steps reach.
+    /// Rounds over the hosts in order, until none can step. After memory ran out the world is one that some steps reach.
     pub fn run_all(&mut self) -> Result<(), AllocError>
         ensures all { OnOk result (world_of self.new ≡ then_all (supply_of self.old) (length self.old) (world_of self.old)) }
         ensures reached { Reaches (supply_of self.old) (world_of self.old) (world_of self.new) }

@@ -6,7 +6,7 @@ pub fn files_are_valid()
     ensures { FilesAreValid }
 {}
 
-/// Under every schedule each host has printed a prefix of what the program, or the source, tells it, and sent a prefix of what
+/// Under every schedule each host has printed a prefix of the outputs of the program, or of the source, to it, and sent a prefix of what
 /// the joint run sends; all of it, where all hosts have ended.
 pub fn sources_tell()
     ensures programs { ProgramsTell }

@@ -1,5 +1,5 @@
-//! All hosts of a program under a schedule: their machines are loaded, run, and reported. The laws say that what they print
-//! is what the program tells them.
+//! All hosts of a program under a schedule: their machines are loaded, run, and reported. The laws say that they print
+//! the program's outputs to them.
 #![tactic(auto)]
 
 mod laws;

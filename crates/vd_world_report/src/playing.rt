@@ -34,7 +34,7 @@ fn start(
     World::start(alloc, machines)
 }
 
-/// The entries of a schedule in turn, each one step where it can. After want of memory the world is to be given up.
+/// The entries of a schedule in turn, each one step where it can. After memory ran out the world is to be given up.
 fn turns(world: &mut World, entries: &[HostId]) -> Result<(), AllocError>
     ensures world { OnOk result (world_of world.new ≡ run (supply_of world.old) (numbers entries.now) (world_of world.old)) }
     ensures supply { OnOk result (supply_of world.new ≡ supply_of world.old) }
@@ -46,7 +46,7 @@ fn turns(world: &mut World, entries: &[HostId]) -> Result<(), AllocError>
     Ok(())
 }
 
-/// The entries of a schedule, and rounds where it ends with `all`. After want of memory the world is to be given up.
+/// The entries of a schedule, and rounds where it ends with `all`. After memory ran out the world is to be given up.
 fn follow(world: &mut World, schedule: &Schedule) -> Result<(), AllocError>
     ensures world { OnOk result (world_of world.new ≡ followed world.old schedule.now) }
     ensures supply { OnOk result (supply_of world.new ≡ supply_of world.old) }
