@@ -30,8 +30,8 @@ usage:
                                 print the five numbers with which deal makes enough for the source FILE; with each,
                                 how many inputs and items each host and each two hosts take at most; where FILE is
                                 the program of a host, how many that host takes
-  viaduct hasten PROGRAM OUT    store the program of a host again as OUT, with packets that tell nothing brought
-                                forward: it waits less often, and its peers need not know
+  viaduct hasten PROGRAM OUT    store the program of a host again as OUT, with packets that reveal nothing sent earlier:
+                                it waits less often, and its peers need not know
   viaduct deal HOSTS OWN MULS ANDS PAIRS KEY PREFIX
                                 store PREFIX.i.deal for each host i: OWN own words, and with each other host
                                 MULS and ANDS products and PAIRS pairs, all made from the number KEY; or, where KEY is
@@ -74,7 +74,7 @@ variable VIADUCT_REASONS is set, a second line says why the system refused a fil
 statuses:
   0   the run ended well
   1   there was no memory left
-  2   the words have no form
+  2   wrong usage: the words fit no command
   3   a file could not be read
   4   a file or the output could not be written
   5   a file is too long
@@ -91,16 +91,16 @@ statuses:
   16  an item of the deals breaks its identity
   17  CERT is not accepted
   18  a link to another host failed
-  19  a byte came that is no part of what was waited for
+  19  a peer sent an unexpected byte
   20  two words that are to be the same differ
-  21  another host runs a program of another plan
-  22  another host came than the one that was waited for
+  21  a peer's program was compiled from another source or choice
+  22  a host other than the expected one connected
   23  INPUTS has too few numbers
   24  DEAL has too few items
   25  a link ended before all words had come
   26  the process of a host did not end well
   27  no host of SOURCE has the name HOST
-  28  SOURCE has another number of hosts than two
+  28  SOURCE does not have exactly two hosts
   29  the choice of protocols for SOURCE has a commitment
   31  a run takes more dealt items than there are
   32  HOST can tell INPUTS2 from INPUTS
