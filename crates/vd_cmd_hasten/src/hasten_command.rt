@@ -45,7 +45,7 @@ fn hasten_bytes(alloc: Global, out: &str, bytes: &[u8]) -> Result<Answer, Status
     store_hastened(alloc, out, program)
 }
 
-/// The command `hasten`: stores the program of a host again, with each packet that tells nothing brought forward as far as what it
+/// The command `hasten`: stores the program of a host again, with each packet that reveals nothing sent earlier, as far as what it
 /// needs allows. It prints nothing.
 pub fn hasten<F: Files>(
     alloc: Global,

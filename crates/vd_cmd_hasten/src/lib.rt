@@ -1,4 +1,4 @@
-//! The command `hasten`: a host's program with each packet that tells nothing brought forward.
+//! The command `hasten`: a host's program with each packet that reveals nothing sent earlier.
 #![tactic(auto)]
 
 mod hasten_command;

@@ -8,7 +8,7 @@ ghost use Rattle.vd_outside.specs.Causes.{Rose};
 use std::io::{Error, ErrorKind};
 use vd_base::CallFault;
 
-/// Whether memory was wanting, or the outside failed.
+/// Whether memory ran out, or the outside failed.
 pub fn fault_of(error: &Error) -> CallFault
     ensures memory { error_kind error.now ≡ ErrorKind.OutOfMemory → result ≡ call_fault.Memory }
     ensures failed { error_kind error.now ≢ ErrorKind.OutOfMemory → result ≡ call_fault.Failed }

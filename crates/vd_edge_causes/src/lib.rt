@@ -1,4 +1,4 @@
-//! Why a call of the system failed: whether memory was wanting or the outside failed, the count of its faults, and the reason
+//! Why a call of the system failed: whether memory ran out or the outside failed, the count of its faults, and the reason
 //! that a person is told.
 #![tactic(auto)]
 

@@ -1,4 +1,4 @@
-//! Whether a budget does not do, told from the first levels of a tree: there more prefixes are within a threshold than it has. They
+//! Whether a budget cannot suffice, seen in the first levels of a tree: there more prefixes are within a threshold than it has. They
 //! are counted in fewer steps than a search takes to open them, since the last ones need not be opened.
 #![tactic(auto)]
 

@@ -20,7 +20,7 @@ fn less_one(floor: u32) -> i64
     i64::from(floor) - 1
 }
 
-/// Whether it is seen in the first levels of a tree that a budget does not do, where no whole list costs less than the floor: more
+/// Whether it is seen in the first levels of a tree that a budget cannot suffice, where no whole list costs less than the floor: more
 /// prefixes than it has are there with bounds below the floor, and each search opens these. No choice is left made.
 pub fn is_exceeded<P: Prefixes>(prefix: &mut P, floor: u32, budget: u32) -> bool
     requires root { P.path prefix.old ≡ [] }

@@ -289,8 +289,8 @@ fn try_early<A: Ascents>(
 }
 
 /// The choice of protocols for a problem, or that no list of protocols is valid; with a certificate of that, which opens at
-/// most so many prefixes. The budget is spent only where it does not do under the usual shifts, nor its parts under the shifts that
-/// each of the ascents gives.
+/// most so many prefixes. The budget is spent only where it does not suffice under the usual shifts, nor its parts under the
+/// shifts that each of the ascents gives.
 pub fn select<A: Ascents>(
     alloc: Global,
     ascents: &A,
