@@ -11,7 +11,7 @@ const HELP: &str =
     "Viaduct reads one program over several hosts' secrets: it runs it in clear, finds its least labels, and chooses
 the cheapest protocols for it. It makes the programs of all hosts, and runs them: under any schedule in one process,
 each host on its own machine, or all hosts as processes on one machine. It makes the dealer's files of correlated
-words, and tells whose inputs a host's words depend on.
+words, and says whose inputs a host's outputs depend on.
 
 usage:
   viaduct clear SOURCE INPUTS   run SOURCE in clear on one machine, and print each host's words
@@ -54,8 +54,8 @@ usage:
                                 the program SELF, on INPUTS and the deal PREFIX.i.deal; the hosts meet at the ports
                                 from PORT on, 1024 to 65520; print what each host printed
   viaduct excuse SOURCE INPUTS INPUTS2 PREFIX HOST OUT [BUDGET]
-                                where HOST cannot tell INPUTS2 from INPUTS, store deals OUT.i.deal by which it sees of
-                                INPUTS2 what it saw of INPUTS by PREFIX.i.deal, and print what the other host sends it
+                                where HOST cannot tell INPUTS2 from INPUTS, store deals OUT.i.deal under which INPUTS2
+                                look to it as INPUTS do under PREFIX.i.deal, and print what the other host sends it
   viaduct depends SOURCE HOST   print the hosts whose inputs can bear on HOST's outputs, outside of what is
                                 declassified to it
   viaduct influences SOURCE HOST
@@ -92,7 +92,7 @@ statuses:
   17  CERT is not accepted
   18  a link to another host failed
   19  a peer sent an unexpected byte
-  20  two words that are to be the same differ
+  20  two words that must be equal differ
   21  a peer's program was compiled from another source or choice
   22  a host other than the expected one connected
   23  INPUTS has too few numbers
