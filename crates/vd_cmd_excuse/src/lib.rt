@@ -1,4 +1,4 @@
-//! The command `excuse`: a deal by which a host sees of other inputs what it saw of a run.
+//! The command `excuse`: a deal under which other inputs look to a host as those of a run did.
 #![tactic(auto)]
 
 mod answer;
