@@ -28,7 +28,7 @@ abbrev pub StopsOrMemory : {X : Type 0} → ReadFault → List ℕ → Reading X
 StopsOrMemory fault.Stopped left reading = reading ≡ Err left
 StopsOrMemory fault.Memory left reading = Unit {0}
 
--- The same, unless memory is wanting.
+-- The same, unless memory runs out.
 abbrev pub GivesOrMemory : {X : Type 0} → Result X ReadFault → List ℕ → Reading X → Type 0
 GivesOrMemory (Ok x) left reading = reading ≡ Ok (x, left)
 GivesOrMemory (Err why) left reading = StopsOrMemory why left reading

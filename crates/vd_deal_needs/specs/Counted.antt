@@ -21,7 +21,7 @@ pub record Counts (r : Source) (taken : ℕ) (blocks : List Behind) (so_far : Re
   pub taken_is : taken ≡ capped (counts so_far.code r)
   pub blocks_are : blocks ≡ reverse (map (behind_of r) so_far.blocks)
 
--- where this is taken by what was read, so it is with one instruction more, unless memory is wanting
+-- where this is taken by what was read, so it is with one instruction more, unless memory runs out
 abbrev pub CountsOn : {E : Type 0} → Source → Instr → ℕ → List Behind → List Behind → Result ℕ E → Type 0
 CountsOn r i taken old new result = (x y : Reading) → Counts r taken old x → with_instr i x.code x.blocks ≡ Some y → IfOk result (λ count. Counts r count new y)
 

@@ -31,7 +31,7 @@ pub record DealsFollowGrammar (hosts me : ℕ) (bytes : List ℕ) : Type 0 where
   pub given : (deal : Deal) → (plain_read hosts me bytes ≡ Ok deal) ↔ IsDealIn hosts me bytes deal
   pub refused : (at : ℕ) → (plain_read hosts me bytes ≡ Err at) ↔ StopsAt (IsDealtText hosts me) bytes at
 
--- Unless memory is wanting, a deal is answered exactly where the bytes are its text, and a fault exactly where they have it.
+-- Unless memory runs out, a deal is answered exactly where the bytes are its text, and a fault exactly where they have it.
 abbrev pub Accepts : (hosts me : ℕ) → List ℕ → Result Deal FileFault → Type 0
 Accepts hosts me bytes result = result ≢ Err Memory → (deal : Deal) → (result ≡ Ok deal) ↔ IsDealIn hosts me bytes deal
 

@@ -40,7 +40,7 @@ IsHostFile bytes = IsTextOf IsFile file_text bytes
 abbrev pub IsFileOf : List ℕ → HostProgram → Type 0
 IsFileOf bytes p = (file : File) × IsFile file × (file_text file ≡ bytes) × (p ≡ program_of file)
 
--- The fault tells the first offset at which the bytes go on as no file does, unless memory is wanting.
+-- The fault tells the first offset at which the bytes go on as no file does, unless memory runs out.
 abbrev pub IsRefused : List ℕ → FileFault → Type 0
 IsRefused bytes (Text at) = (offset : ℕ) × StopsAt IsHostFile bytes offset × (at ≡ capped offset)
 IsRefused bytes Memory = Unit {0}
@@ -90,7 +90,7 @@ program_at bs = do
 abbrev pub program_read : List ℕ → Result HostProgram ℕ
 program_read bytes = whole bytes (program_at bytes)
 
--- The answer is what is read, unless memory is wanting.
+-- The answer is what is read, unless memory runs out.
 abbrev pub IsFaultOf : Result HostProgram ℕ → FileFault → Type 0
 IsFaultOf outcome (Text at) = (offset : ℕ) × (outcome ≡ Err offset) × (at ≡ capped offset)
 IsFaultOf outcome Memory = Unit {0}

@@ -19,6 +19,6 @@ pub record Counts (steps : ℕ) (blocks : List Behind) (r : Reading) : Type 0 wh
   pub steps_are : steps ≡ capped (static_steps r.code)
   pub blocks_are : blocks ≡ reverse (map behind_of r.blocks)
 
--- where these are the steps of what was read, so they are with one instruction more, unless memory is wanting
+-- where these are the steps of what was read, so they are with one instruction more, unless memory runs out
 abbrev pub CountsOn : {E : Type 0} → Instr → ℕ → List Behind → List Behind → Result ℕ E → Type 0
 CountsOn i steps old new result = (r q : Reading) → Counts steps old r → with_instr i r.code r.blocks ≡ Some q → IfOk result (λ count. Counts count new q)

@@ -26,17 +26,17 @@ IsOutcome bytes (Err (Text at)) = (offset : ℕ) × StopsAt IsHostFile bytes off
 IsOutcome bytes (Err (Range at)) = (p : HostProgram) × (number : ℕ) × IsFileOf bytes p × IsFirstBroken (length p.hosts) p.me p.code number × (at ≡ capped number)
 IsOutcome bytes (Err Memory) = ⊥
 
--- Unless memory is wanting, the answer is the outcome, and no other is.
+-- Unless memory runs out, the answer is the outcome, and no other is.
 abbrev pub Answers : List ℕ → Result HostProgram CodeFault → Type 0
 Answers bytes result = result ≢ Err Memory → (outcome : Result HostProgram CodeFault) → (result ≡ outcome) ↔ IsOutcome bytes outcome
 
--- The fault tells the first offset at which the bytes go on as no file does, unless memory is wanting.
+-- The fault tells the first offset at which the bytes go on as no file does, unless memory runs out.
 abbrev pub IsTextRefused : List ℕ → CodeFault → Type 0
 IsTextRefused bytes (Text at) = (offset : ℕ) × StopsAt IsHostFile bytes offset × (at ≡ capped offset)
 IsTextRefused bytes (Range at) = ⊥
 IsTextRefused bytes Memory = Unit {0}
 
--- The ranges of a code hold; or the fault tells the first instruction that breaks one, unless memory is wanting.
+-- The ranges of a code hold; or the fault tells the first instruction that breaks one, unless memory runs out.
 abbrev pub Checked : ℕ → HostId → List Instr → Result (Unit {0}) CodeFault → Type 0
 Checked hosts me code (Ok _) = IsWithinRanges hosts me code
 Checked hosts me code (Err (Text at)) = ⊥

@@ -12,11 +12,11 @@ IsFaultOf said (Text at) = said ≡ Err (Text at)
 IsFaultOf said (UnknownHost at) = said ≡ Err (UnknownHost at)
 IsFaultOf said Memory = Unit {0}
 
--- Unless memory is wanting, a value is answered exactly where the text gives it.
+-- Unless memory runs out, a value is answered exactly where the text gives it.
 abbrev pub Accepts : {X : Type 0} → Result X ReadFault → (X → Type 0) → Type 0
 Accepts {X} result Gives = result ≢ Err Memory → (x : X) → (result ≡ Ok x) ↔ Gives x
 
--- Unless memory is wanting, a fault is answered exactly where the text has it.
+-- Unless memory runs out, a fault is answered exactly where the text has it.
 abbrev pub Refuses : {X : Type 0} → Result X ReadFault → (ReadFault → Type 0) → Type 0
 Refuses result Has = result ≢ Err Memory → (fault : ReadFault) → (result ≡ Err fault) ↔ Has fault
 

@@ -14,7 +14,7 @@ abbrev pub GoesWrong : List ℕ → List ℕ → Type 0
 GoesWrong front [] = (c : Certificate) → IsTextOf c front → ⊥
 GoesWrong front (byte ∷ behind) = Begins (front ++ byte ∷ []) → ⊥
 
--- the first offset at which no text goes on: the length of the file where only more bytes are wanting
+-- the first offset at which no text goes on: the length of the file where only more bytes are missing
 pub record IsFirstWrong (bytes : List ℕ) (offset : ℕ) : Type 0 where
   pub front : List ℕ
   pub behind : List ℕ
@@ -34,13 +34,13 @@ pub record HasOneOutcome (bytes : List ℕ) : Type 0 where
   pub has : HasOutcome bytes outcome
   pub single : (other : Result Certificate ℕ) → HasOutcome bytes other → other ≡ outcome
 
--- The answer of a reader: whatever outcome the file has, it is that one, unless memory is wanting.
+-- The answer of a reader: whatever outcome the file has, it is that one, unless memory runs out.
 abbrev pub Answers : List ℕ → Result Certificate FileFault → Type 0
 Answers bytes (Ok c) = (outcome : Result Certificate ℕ) → HasOutcome bytes outcome → outcome ≡ Ok c
 Answers bytes (Err (Text offset)) = (outcome : Result Certificate ℕ) → HasOutcome bytes outcome → outcome ≡ Err offset
 Answers bytes (Err Memory) = Unit {0}
 
--- what is refused has a first offset at which no text goes on, unless memory is wanting
+-- what is refused has a first offset at which no text goes on, unless memory runs out
 abbrev pub Refuses : List ℕ → Result Certificate FileFault → Type 0
 Refuses bytes (Ok c) = Unit {0}
 Refuses bytes (Err (Text offset)) = IsFirstWrong bytes offset

@@ -27,7 +27,7 @@ names_by problem c = if c.by_arcs then length (arcs problem) else length problem
 abbrev pub confirmed : Problem → Certificate → Result Proved CheckFault
 confirmed problem c = certificate_checked (names_by problem c) (tree_by problem c) c
 
--- the answer is that one, unless memory is wanting; and a yes shows what it says
+-- the answer is that one, unless memory runs out; and a yes shows what it says
 pub record Confirms (problem : Problem) (c : Certificate) (result : Result Proved CheckFault) : Type 0 where
   pub exact : result ≢ Err Memory → result ≡ confirmed problem c
   pub proved : IfOk result (Proves (tree_by problem c))

@@ -13,7 +13,7 @@ pub record DealsFollowGrammar (hosts me : ℕ) (bytes : List ℕ) : Type 0 where
   pub given : (deal : Deal) → (deal_read hosts me bytes ≡ Ok deal) ↔ IsFileOf hosts me bytes deal
   pub refused : (at : ℕ) → (deal_read hosts me bytes ≡ Err at) ↔ StopsAt (IsDealText hosts me) bytes at
 
--- The answer is what is read, unless memory is wanting.
+-- The answer is what is read, unless memory runs out.
 abbrev pub IsFaultOf : Result Deal ℕ → FileFault → Type 0
 IsFaultOf outcome (Text at) = (offset : ℕ) × (outcome ≡ Err offset) × (at ≡ capped offset)
 IsFaultOf outcome Memory = Unit {0}
@@ -23,10 +23,10 @@ abbrev pub IsFirstWrong : (hosts me : ℕ) → List ℕ → FileFault → Type 0
 IsFirstWrong hosts me bytes (Text at) = (offset : ℕ) × StopsAt (IsDealText hosts me) bytes offset × (at ≡ capped offset)
 IsFirstWrong hosts me bytes Memory = ⊥
 
--- Unless memory is wanting, a deal is answered exactly where the bytes are its text.
+-- Unless memory runs out, a deal is answered exactly where the bytes are its text.
 abbrev pub Accepts : (hosts me : ℕ) → List ℕ → Result Deal FileFault → Type 0
 Accepts hosts me bytes result = result ≢ Err Memory → (deal : Deal) → (result ≡ Ok deal) ↔ IsFileOf hosts me bytes deal
 
--- Unless memory is wanting, a fault is answered exactly where the bytes have it.
+-- Unless memory runs out, a fault is answered exactly where the bytes have it.
 abbrev pub Refuses : (hosts me : ℕ) → List ℕ → Result Deal FileFault → Type 0
 Refuses hosts me bytes result = result ≢ Err Memory → (fault : FileFault) → (result ≡ Err fault) ↔ IsFirstWrong hosts me bytes fault
