@@ -3,9 +3,7 @@ use Rattle.std.specs.Prelude.{ℕ, ◌+◌, ◌&&◌, Bool, true, false, Option,
 use Rattle.std.specs.List.{list_all}
 use Rattle.vd_base.specs.declared.ids.HostId.{HostId}
 use Rattle.vd_base.specs.declared.protocols.Proto.{Proto}
-use Rattle.vd_base.specs.declared.protocols.Proto.TheVariants.{Local}
-use Rattle.vd_base.specs.HostSets.{host}
-use Rattle.vd_base.specs.Holders.{is_holder}
+use Rattle.vd_base.specs.Holders.{is_holder, proto_in}
 use Rattle.vd_search_tree.specs.declared.shift.Shift.{Shift}
 use Rattle.vd_space.specs.declared.problem.Problem.{Problem}
 use Rattle.vd_space.specs.declared.problem.Guard.{Guard}
@@ -27,7 +25,7 @@ use Rattle.vd_cost_network_tables.specs.declared.raw.RawArc.{RawArc}
 
 -- the place of a list passes, and is kept at the host
 abbrev pub is_kept : List Proto → List Bool → HostId → ℕ → Bool
-is_kept list tests h p = slice_index_or tests p false && is_holder (slice_index_or list p (Local (host 0))) h
+is_kept list tests h p = slice_index_or tests p false && is_holder (proto_in list p) h
 
 -- by the number of its guard
 abbrev pub switch_table : Problem → ℕ → Guard → HostId → SwitchTable

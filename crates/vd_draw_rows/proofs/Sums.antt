@@ -14,7 +14,7 @@ use Rattle.vd_base.specs.declared.protocols.Proto.TheVariants.{Local}
 use Rattle.vd_base.specs.HostSets.{host, hosts, same_host}
 use Rattle.vd_base.specs.Costs.{cost_at}
 use Rattle.vd_base.specs.Moves.{move_at}
-use Rattle.vd_base.specs.Holders.{is_holder}
+use Rattle.vd_base.specs.Holders.{is_holder, proto_in}
 use Rattle.vd_core.specs.declared.normal.NormalForm.{NormalForm}
 use Rattle.vd_core.specs.Facts.{IsWellMade, slots_made}
 use Rattle.vd_constraints.specs.declared.labels.Labels.{Labels}
@@ -31,7 +31,7 @@ use Rattle.vd_space.specs.Spaces.{IsUse, IsIndex, IsProblem}
 use Rattle.vd_space.specs.Validity.{protocol, move, move_to_host, all_hosts, holds_at, takes_part, is_valid}
 use Rattle.vd_space.specs.Costs.{weigh, operation_value, operation_term, output_term, use_term, index_term, guard_term, plus, moves_to, hosts_at, total, slots_of, guards_total, one_at, pair_at, cost}
 use Rattle.vd_space.proofs.Front.{total_append, total_map, item_within, each_both, HasPair, indexes_have, is_problem, as_many}
-use Rattle.vd_draw_rows.specs.Moves.{place, is_part, kept_at}
+use Rattle.vd_draw_rows.specs.Moves.{is_part, kept_at}
 use Rattle.vd_draw_rows.specs.Costs.{AddUp}
 use Rattle.vd_draw_rows.proofs.Terms.{tell_cost, told_cost, use_cost, output_cost, guard_cost, index_cost, making_cost, made_cost, parts_cost, body_tells}
 
@@ -57,7 +57,7 @@ module _ (problem : Problem) (list : List ℕ) (full : length list ≡ length pr
   count = length problem.hosts
 
   -- where a slot stands
-  placed : (s : SlotId) (q : ℕ) → slice_get list s.0 ≡ Some q → place protos s ≡ protocol problem q
+  placed : (s : SlotId) (q : ℕ) → slice_get list s.0 ≡ Some q → proto_in protos s.0 ≡ protocol problem q
   placed s q is = get_or_from_slice_get protos s.0 (protocol problem q) _ (slice_get-map (protocol problem) list s.0 ∙ ap (option_map (protocol problem)) is)
 
   stands : (s : ℕ) → s < many → (q : ℕ) × (slice_get list s ≡ Some q)
@@ -167,7 +167,7 @@ module _ (problem : Problem) (list : List ℕ) (full : length list ≡ length pr
           ap (λ o. unwrap_or (weigh i.weight o) (pos 0)) is
           ∙ ap (λ k. pos (i.weight * k)) sum
           ∙ (λ k. pos (i.weight * heft (λ h. unwrap_or (move_at (sym (placed i.index second_.0 second_.1) k) (Local h)) 0) (filter (is_holder (sym (placed i.array first_.0 first_.1) k)) (hosts count))))
-          ∙ ap (λ k. pos (i.weight * k)) (filtered i.index (is_holder (place protos i.array)) count)
+          ∙ ap (λ k. pos (i.weight * k)) (filtered i.index (is_holder (proto_in protos i.array.0)) count)
 
   -- ---- guards
 

@@ -11,7 +11,7 @@ use Rattle.vd_base.specs.declared.protocols.Proto.TheVariants.{Local, Rep, Commi
 use Rattle.vd_base.specs.HostSets.{host, same_host}
 use Rattle.vd_base.specs.Costs.{cost_at, made_at, input_at}
 use Rattle.vd_base.specs.Moves.{move_at}
-use Rattle.vd_base.specs.Holders.{is_holder}
+use Rattle.vd_base.specs.Holders.{is_holder, proto_in}
 use Rattle.vd_core.specs.declared.normal.Right.{Right}
 use Rattle.vd_core.specs.declared.normal.Right.TheVariants.{Lit, Turn, Copy, Apply, Input, Declassify, Endorse, Load, Get}
 use Rattle.vd_core.specs.declared.normal.Stmt.{Stmt, roll-Stmt, map-Stmt, ind-Stmt}
@@ -29,7 +29,7 @@ use Rattle.vd_space.specs.Reading.{Parts, Read, no_parts, joined, all_parts, row
 use Rattle.vd_space.specs.Reading as reading
 use Rattle.vd_space.specs.Sizes.{heft}
 use Rattle.vd_space.proofs.Front.{heft_append}
-use Rattle.vd_draw_rows.specs.Moves.{place, move_of, told_if, told_to, index_moves, operation_of, is_part, kept_at}
+use Rattle.vd_draw_rows.specs.Moves.{move_of, told_if, told_to, index_moves, operation_of, is_part, kept_at}
 use Rattle.vd_draw_rows.specs.Rows.{Drawn, all_rows, all_named, all_told, deeper, binding_row, otherwise_rows, drawn_step, drawn}
 use Rattle.vd_draw_rows.specs.Costs.{move_cost, row_cost, rows_cost}
 
@@ -37,14 +37,14 @@ module _ (list : List Proto) (hosts : ℕ) where
   -- ---- what terms cost
 
   abbrev pub tell_cost : SlotId → HostId → ℕ
-  tell_cost s h = unwrap_or (move_at (place list s) (Local h)) 0
+  tell_cost s h = unwrap_or (move_at (proto_in list s.0) (Local h)) 0
 
   abbrev pub told_cost : SlotId → (HostId → Bool) → ℕ → ℕ
   told_cost s test zero = 0
   told_cost s test (suc n) = told_cost s test n + (if test (host n) then tell_cost s (host n) else 0)
 
   abbrev pub use_cost : Use → ℕ
-  use_cost u = u.weight * unwrap_or (move_at (place list u.source) (place list u.target)) 0
+  use_cost u = u.weight * unwrap_or (move_at (proto_in list u.source.0) (proto_in list u.target.0)) 0
 
   abbrev pub output_cost : Output → ℕ
   output_cost o = o.weight * tell_cost o.slot o.host
@@ -53,10 +53,10 @@ module _ (list : List Proto) (hosts : ℕ) where
   guard_cost g = g.weight * told_cost g.slot (is_part list g.slots g.hosts) hosts
 
   abbrev pub index_cost : Index → ℕ
-  index_cost i = i.weight * told_cost i.index (is_holder (place list i.array)) hosts
+  index_cost i = i.weight * told_cost i.index (is_holder (proto_in list i.array.0)) hosts
 
   abbrev pub making_cost : ℕ → Making → ℕ
-  making_cost x m = m.weight * unwrap_or (cost_at m.row (place list (record { 0 = x }))) 0
+  making_cost x m = m.weight * unwrap_or (cost_at m.row (proto_in list x)) 0
 
   abbrev pub made_cost : List ℕ → List Making → ℕ
   made_cost [] ms = 0
@@ -99,16 +99,16 @@ module _ (list : List Proto) (hosts : ℕ) where
   same_told s f g same zero = refl
   same_told s f g same (suc n) = λ i. same_told s f g same n i + (if same (host n) i then tell_cost s (host n) else 0)
 
-  operand_costs : (weight : ℕ) (x : SlotId) (ys : List SlotId) → heft use_cost (map (use_of weight x) ys) ≡ weight * heft move_cost (map (λ y. move_of list y (place list x)) ys)
+  operand_costs : (weight : ℕ) (x : SlotId) (ys : List SlotId) → heft use_cost (map (use_of weight x) ys) ≡ weight * heft move_cost (map (λ y. move_of list y (proto_in list x.0)) ys)
   operand_costs weight x [] = omega arith
   operand_costs weight x (y ∷ ys) = let rest = operand_costs weight x ys in omega (arith, rest)
 
   index_costs : (weight : ℕ) (v i : SlotId) (x : SlotId)
-      → weight * heft move_cost (index_moves list hosts v i ++ move_of list v (place list x) ∷ []) ≡ heft use_cost (use_of weight x v ∷ []) + heft index_cost (reading.index_of weight v i ∷ [])
+      → weight * heft move_cost (index_moves list hosts v i ++ move_of list v (proto_in list x.0) ∷ []) ≡ heft use_cost (use_of weight x v ∷ []) + heft index_cost (reading.index_of weight v i ∷ [])
   index_costs weight v i x =
-      let told = told_costs i (is_holder (place list v)) hosts in
-      let both = heft_append move_cost (index_moves list hosts v i) (move_of list v (place list x) ∷ []) in
-      ap (λ k. weight * k) both ∙ ap (λ k. weight * (k + heft move_cost (move_of list v (place list x) ∷ []))) told ∙ spread weight (told_cost i (is_holder (place list v)) hosts) (unwrap_or (move_at (place list v) (place list x)) 0)
+      let told = told_costs i (is_holder (proto_in list v.0)) hosts in
+      let both = heft_append move_cost (index_moves list hosts v i) (move_of list v (proto_in list x.0) ∷ []) in
+      ap (λ k. weight * k) both ∙ ap (λ k. weight * (k + heft move_cost (move_of list v (proto_in list x.0) ∷ []))) told ∙ spread weight (told_cost i (is_holder (proto_in list v.0)) hosts) (unwrap_or (move_at (proto_in list v.0) (proto_in list x.0)) 0)
     where
       spread : (w a b : ℕ) → w * (a + (b + 0)) ≡ w * b + 0 + (w * a + 0)
       spread w a b = omega arith
@@ -181,7 +181,7 @@ module _ (source : List ℕ) (p : NormalForm) (list : List Proto) (l : Labels) w
     pub many : (weight : ℕ) → length xs ≡ length (r.parts weight).slots
 
   binding_costs : (weight depth : ℕ) (x : SlotId) (right : Right) → rows_cost (binding_row source p list weight depth x right ∷ []) ≡ costs_of (x.0 ∷ []) (binding_parts l weight x right)
-  binding_costs weight depth x right = total_is list n weight (unwrap_or (cost_at (row_of right) (place list x)) 0) (operation_of right (place list x)) _ _ _ (operation_costs list n right (place list x)) (moved right)
+  binding_costs weight depth x right = total_is list n weight (unwrap_or (cost_at (row_of right) (proto_in list x.0)) 0) (operation_of right (proto_in list x.0)) _ _ _ (operation_costs list n right (proto_in list x.0)) (moved right)
     where
       one : (w m : ℕ) → w * (m + 0) ≡ w * m + 0 + 0
       one w m = omega arith
@@ -294,7 +294,7 @@ module _ (source : List ℕ) (p : NormalForm) (list : List Proto) (l : Labels) w
 
   var_tells : (v y : SlotId) → Tells (drawn_step source p list (Stmt-F.NewVar v y)) (v.0 ∷ []) (read_step l (Stmt-F.NewVar v y))
   var_tells v y = record {
-    costs = λ weight depth. let made : weight * unwrap_or (made_at (place list v)) 0 ≡ weight * 0 = ap (λ k. weight * k) (free (place list v)) in omega (arith, made);
+    costs = λ weight depth. let made : weight * unwrap_or (made_at (proto_in list v.0)) 0 ≡ weight * 0 = ap (λ k. weight * k) (free (proto_in list v.0)) in omega (arith, made);
     named = refl;
     told = refl;
     many = λ weight. refl;
@@ -302,7 +302,7 @@ module _ (source : List ℕ) (p : NormalForm) (list : List Proto) (l : Labels) w
 
   array_tells : (v : SlotId) (cells : ℕ) → Tells (drawn_step source p list (Stmt-F.NewArray v cells)) (v.0 ∷ []) (read_step l (Stmt-F.NewArray v cells))
   array_tells v cells = record {
-    costs = λ weight depth. let made : weight * unwrap_or (made_at (place list v)) 0 ≡ weight * 0 = ap (λ k. weight * k) (free (place list v)) in omega (arith, made);
+    costs = λ weight depth. let made : weight * unwrap_or (made_at (proto_in list v.0)) 0 ≡ weight * 0 = ap (λ k. weight * k) (free (proto_in list v.0)) in omega (arith, made);
     named = refl;
     told = refl;
     many = λ weight. refl;
@@ -317,12 +317,12 @@ module _ (source : List ℕ) (p : NormalForm) (list : List Proto) (l : Labels) w
       spread : (w a b : ℕ) → w * (0 + (a + (b + 0))) + 0 ≡ 0 + (w * b + 0) + 0 + 0 + (w * a + 0)
       spread w a b = omega arith
 
-      put_costs : (w : ℕ) → w * (0 + heft move_cost (index_moves list n v i ++ move_of list y (place list v) ∷ [])) + 0
-          ≡ 0 + (w * unwrap_or (move_at (place list y) (place list v)) 0 + 0) + 0 + 0 + (w * told_cost list n i (is_holder (place list v)) n + 0)
+      put_costs : (w : ℕ) → w * (0 + heft move_cost (index_moves list n v i ++ move_of list y (proto_in list v.0) ∷ [])) + 0
+          ≡ 0 + (w * unwrap_or (move_at (proto_in list y.0) (proto_in list v.0)) 0 + 0) + 0 + 0 + (w * told_cost list n i (is_holder (proto_in list v.0)) n + 0)
       put_costs w =
-          let told = told_costs list n i (is_holder (place list v)) n in
-          let both = heft_append move_cost (index_moves list n v i) (move_of list y (place list v) ∷ []) in
-          ap (λ k. w * (0 + k) + 0) both ∙ ap (λ k. w * (0 + (k + heft move_cost (move_of list y (place list v) ∷ []))) + 0) told ∙ spread w (told_cost list n i (is_holder (place list v)) n) (unwrap_or (move_at (place list y) (place list v)) 0)
+          let told = told_costs list n i (is_holder (proto_in list v.0)) n in
+          let both = heft_append move_cost (index_moves list n v i) (move_of list y (proto_in list v.0) ∷ []) in
+          ap (λ k. w * (0 + k) + 0) both ∙ ap (λ k. w * (0 + (k + heft move_cost (move_of list y (proto_in list v.0) ∷ []))) + 0) told ∙ spread w (told_cost list n i (is_holder (proto_in list v.0)) n) (unwrap_or (move_at (proto_in list y.0) (proto_in list v.0)) 0)
 
   output_tells : (y : SlotId) (h : HostId) (offset : ℕ) → Tells (drawn_step source p list (Stmt-F.Output y h offset)) [] (read_step l (Stmt-F.Output y h offset))
   output_tells y h offset = record { costs = λ weight depth. omega arith; named = refl; told = refl; many = λ weight. refl }

@@ -1,5 +1,5 @@
 -- How words are moved.
-use Rattle.std.specs.Prelude.{ℕ, zero, suc, Bool, true, false, ◌&&◌, ◌||◌, ◌==◌, not, if◌then◌else◌, unwrap_or, List, [], ◌∷◌, ◌++◌, map, slice_get, slice_index_or}
+use Rattle.std.specs.Prelude.{ℕ, zero, suc, Bool, true, false, ◌&&◌, ◌||◌, ◌==◌, not, if◌then◌else◌, unwrap_or, List, [], ◌∷◌, ◌++◌, map, slice_get}
 use Rattle.std.specs.List.{list_any}
 use Rattle.std.specs.Option.{option_map_or}
 use Rattle.vd_base.specs.declared.ids.HostId.{HostId}
@@ -10,7 +10,7 @@ use Rattle.vd_base.specs.declared.protocols.Proto.TheVariants.{Local, Rep, Commi
 use Rattle.vd_base.specs.HostSets.{host, same_host, has_host, outside, size}
 use Rattle.vd_base.specs.Moves.{move_at}
 use Rattle.vd_base.specs.Costs.{op_cost_at}
-use Rattle.vd_base.specs.Holders.{is_holder}
+use Rattle.vd_base.specs.Holders.{is_holder, proto_in}
 use Rattle.vd_core.specs.declared.normal.Right.{Right}
 use Rattle.vd_core.specs.declared.normal.Right.TheVariants.{Lit, Turn, Copy, Apply, Input, Declassify, Endorse, Load, Get}
 use Rattle.vd_draw_rows.specs.declared.row.Arrow.{Arrow}
@@ -80,13 +80,10 @@ is_seen (Add a b) (Add c d) = false
 is_seen (Xor a b) (Xor c d) = false
 is_seen from to = true
 
--- ---- where slots stand
-
-abbrev pub place : List Proto → SlotId → Proto
-place list s = slice_index_or list s.0 (Local (host 0))
+-- ---- the word of a slot goes to a protocol
 
 abbrev pub move_of : List Proto → SlotId → Proto → Move
-move_of list s to = record { slot = s; from = place list s; to = to; cost = unwrap_or (move_at (place list s) to) 0 }
+move_of list s to = record { slot = s; from = proto_in list s.0; to = to; cost = unwrap_or (move_at (proto_in list s.0) to) 0 }
 
 -- ---- words that are told to hosts: to each of the first n that passes the test
 
@@ -99,7 +96,7 @@ told_to list s test (suc n) = told_to list s test n ++ told_if (test (host n)) (
 
 -- an index, to each host at which the array is kept
 abbrev pub index_moves : List Proto → ℕ → SlotId → SlotId → List Move
-index_moves list n v i = told_to list i (is_holder (place list v)) n
+index_moves list n v i = told_to list i (is_holder (proto_in list v.0)) n
 
 -- the index of an element, and then the word
 abbrev pub element_moves : List Proto → ℕ → SlotId → SlotId → Move → List Move
@@ -113,13 +110,13 @@ one_move list s to = move_of list s to ∷ []
 abbrev pub right_moves : List Proto → ℕ → SlotId → Right → List Move
 right_moves list n x (Lit k) = []
 right_moves list n x Turn = []
-right_moves list n x (Copy y) = one_move list y (place list x)
-right_moves list n x (Apply o ys) = map (λ y. move_of list y (place list x)) ys
+right_moves list n x (Copy y) = one_move list y (proto_in list x.0)
+right_moves list n x (Apply o ys) = map (λ y. move_of list y (proto_in list x.0)) ys
 right_moves list n x (Input h) = []
-right_moves list n x (Declassify y to) = one_move list y (place list x)
-right_moves list n x (Endorse y to) = one_move list y (place list x)
-right_moves list n x (Load v) = one_move list v (place list x)
-right_moves list n x (Get v i) = element_moves list n v i (move_of list v (place list x))
+right_moves list n x (Declassify y to) = one_move list y (proto_in list x.0)
+right_moves list n x (Endorse y to) = one_move list y (proto_in list x.0)
+right_moves list n x (Load v) = one_move list v (proto_in list x.0)
+right_moves list n x (Get v i) = element_moves list n v i (move_of list v (proto_in list x.0))
 
 -- what the operation costs at a protocol
 abbrev pub operation_of : Right → Proto → ℕ

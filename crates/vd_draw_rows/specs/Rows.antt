@@ -5,6 +5,7 @@ use Rattle.vd_base.specs.declared.ids.HostId.{HostId}
 use Rattle.vd_base.specs.declared.ids.SlotId.{SlotId}
 use Rattle.vd_base.specs.declared.protocols.Proto.{Proto}
 use Rattle.vd_base.specs.declared.protocols.Proto.TheVariants.{Local}
+use Rattle.vd_base.specs.Holders.{proto_in}
 use Rattle.vd_core.specs.declared.normal.Right.{Right}
 use Rattle.vd_core.specs.declared.normal.Stmt.{Stmt}
 use Rattle.vd_core.specs.declared.normal.Stmt.TheOpen.{Stmt-F}
@@ -16,7 +17,7 @@ use Rattle.vd_draw_rows.specs.declared.row.Move.{Move}
 use Rattle.vd_draw_rows.specs.declared.row.Row.{Row}
 use Rattle.vd_draw_rows.specs.Lines.{line_at, slot_line}
 use Rattle.vd_draw_rows.specs.Texts.{binding_text, variable_text, array_text, store_text, put_text, output_text, branch_text, loop_text}
-use Rattle.vd_draw_rows.specs.Moves.{place, move_of, one_move, told_to, element_moves, right_moves, operation_of, is_part}
+use Rattle.vd_draw_rows.specs.Moves.{move_of, one_move, told_to, element_moves, right_moves, operation_of, is_part}
 
 -- what a statement brings: its rows, where it is done so often and so deep, the slots that it names, and the hosts that it tells something
 pub record Drawn : Type 0 where
@@ -50,10 +51,10 @@ module _ (source : List ℕ) (p : NormalForm) (list : List Proto) where
     depth = depth;
     slot = Some x;
     line = slot_line source p.slots x (binding_text p.hosts p.slots x right);
-    at = Some (place list x);
+    at = Some (proto_in list x.0);
     text = binding_text p.hosts p.slots x right;
     moves = right_moves list (length p.hosts) x right;
-    operation = operation_of right (place list x);
+    operation = operation_of right (proto_in list x.0);
     weight = weight;
   }
 
@@ -63,9 +64,9 @@ module _ (source : List ℕ) (p : NormalForm) (list : List Proto) where
     depth = depth;
     slot = Some v;
     line = slot_line source p.slots v (variable_text p.slots v y);
-    at = Some (place list v);
+    at = Some (proto_in list v.0);
     text = variable_text p.slots v y;
-    moves = one_move list y (place list v);
+    moves = one_move list y (proto_in list v.0);
     operation = 0;
     weight = weight;
   }
@@ -76,7 +77,7 @@ module _ (source : List ℕ) (p : NormalForm) (list : List Proto) where
     depth = depth;
     slot = Some v;
     line = slot_line source p.slots v (array_text p.slots v cells);
-    at = Some (place list v);
+    at = Some (proto_in list v.0);
     text = array_text p.slots v cells;
     moves = [];
     operation = 0;
@@ -89,9 +90,9 @@ module _ (source : List ℕ) (p : NormalForm) (list : List Proto) where
     depth = depth;
     slot = None;
     line = None;
-    at = Some (place list v);
+    at = Some (proto_in list v.0);
     text = store_text p.slots v y;
-    moves = one_move list y (place list v);
+    moves = one_move list y (proto_in list v.0);
     operation = 0;
     weight = weight;
   }
@@ -102,9 +103,9 @@ module _ (source : List ℕ) (p : NormalForm) (list : List Proto) where
     depth = depth;
     slot = None;
     line = None;
-    at = Some (place list v);
+    at = Some (proto_in list v.0);
     text = put_text p.slots v i y;
-    moves = element_moves list (length p.hosts) v i (move_of list y (place list v));
+    moves = element_moves list (length p.hosts) v i (move_of list y (proto_in list v.0));
     operation = 0;
     weight = weight;
   }

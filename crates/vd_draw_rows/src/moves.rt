@@ -8,7 +8,7 @@ ghost use Rattle.vd_draw_rows.specs.Moves as moves_spec;
 
 use crate::row::{Arrow, Move};
 use std::alloc::{AllocError, Global};
-use vd_base::{HostId, HostSet, Proto, SlotId, is_holder};
+use vd_base::{HostId, HostSet, Proto, SlotId, is_holder, proto_of};
 use vd_base_lists::Items;
 use vd_core::Right;
 use vd_cost::{move_cost, op_cost};
@@ -117,21 +117,11 @@ pub fn is_seen(from: Proto, to: Proto) -> bool
     }
 }
 
-/// Where a slot stands.
-pub(crate) fn place(list: &[Proto], slot: SlotId) -> Proto
-    ensures { result ≡ moves_spec.place list.now slot }
-{
-    match list.get(usize::from(slot.0)) {
-        Some(protocol) => *protocol,
-        None => Proto::Local(HostId(0)),
-    }
-}
-
 /// The word of a slot goes to a protocol.
 pub(crate) fn move_of(list: &[Proto], slot: SlotId, to: Proto) -> Move
     ensures { result ≡ moves_spec.move_of list.now slot to }
 {
-    let from = place(list, slot);
+    let from = proto_of(list, slot);
     Move {
         slot,
         from,
@@ -166,7 +156,7 @@ fn index_moves(
 ) -> Result<Items<Move>, AllocError>
     ensures { IfOk result (λ moves. moves ≡ moves_spec.index_moves list.now hosts array index) }
 {
-    let protocol = place(list, array);
+    let protocol = proto_of(list, array);
     let mut moves = Items::new(alloc);
     for host in 0..hosts {
         let host = HostId(host);
@@ -231,7 +221,7 @@ pub(crate) fn right_moves(
 ) -> Result<Items<Move>, AllocError>
     ensures { IfOk result (λ moves. moves ≡ moves_spec.right_moves list.now hosts slot right.now) }
 {
-    let to = place(list, slot);
+    let to = proto_of(list, slot);
     match right {
         Right::Lit(_) | Right::Turn | Right::Input(_) => Ok(Items::new(alloc)),
         Right::Copy(value)

@@ -7,7 +7,7 @@ ghost use Rattle.vd_draw_rows.specs.Moves.{told_to, is_part};
 ghost use Rattle.vd_draw_rows.specs.Rows as rows_spec;
 
 use crate::lines::{line_at, slot_line};
-use crate::moves::{element_moves, move_of, one_move, operation_cost, place, right_moves, tell};
+use crate::moves::{element_moves, move_of, one_move, operation_cost, right_moves, tell};
 use crate::parts::takes_part_in_either;
 use crate::row::{Kind, Move, Row};
 use crate::texts::{
@@ -15,7 +15,7 @@ use crate::texts::{
     variable_text,
 };
 use std::alloc::{AllocError, Global};
-use vd_base::{Bytes, HostId, Proto, SlotId};
+use vd_base::{Bytes, HostId, Proto, SlotId, proto_of};
 use vd_base_lists::Items;
 use vd_core::{NormalForm, Program, Right, Stmt};
 
@@ -155,7 +155,7 @@ fn binding_row(
     ensures { IfOk result (λ row. row ≡ rows_spec.binding_row placed.entry.source.now placed.entry.form.now placed.entry.list.now
         around.weight around.depth slot right.now) }
 {
-    let at = place(placed.list, slot);
+    let at = proto_of(placed.list, slot);
     let form = placed.form;
     let slots = form.slots.as_slice();
     let text = binding_text(alloc, &form.hosts, slots, slot, right)?;
@@ -192,7 +192,7 @@ fn variable_row(
     ensures { IfOk result (λ row. row ≡ rows_spec.variable_row placed.entry.source.now placed.entry.form.now placed.entry.list.now
         around.weight around.depth variable value) }
 {
-    let at = place(placed.list, variable);
+    let at = proto_of(placed.list, variable);
     let slots = placed.form.slots.as_slice();
     let text = variable_text(alloc, slots, variable, value)?;
     let line = slot_line(alloc, placed.source, slots, variable, text.as_slice())?;
@@ -228,7 +228,7 @@ fn array_row(
         depth: around.depth,
         slot: Some(array),
         line,
-        at: Some(place(placed.list, array)),
+        at: Some(proto_of(placed.list, array)),
         text,
         moves: Items::new(alloc),
         operation: 0,
@@ -247,7 +247,7 @@ fn store_row(
     ensures { IfOk result (λ row. row ≡ rows_spec.store_row placed.entry.source.now placed.entry.form.now placed.entry.list.now
         around.weight around.depth variable value) }
 {
-    let at = place(placed.list, variable);
+    let at = proto_of(placed.list, variable);
     Ok(Row {
         kind: Kind::Store,
         depth: around.depth,
@@ -274,7 +274,7 @@ fn put_row(
     ensures { IfOk result (λ row. row ≡ rows_spec.put_row placed.entry.source.now placed.entry.form.now placed.entry.list.now
         around.weight around.depth array index value) }
 {
-    let at = place(placed.list, array);
+    let at = proto_of(placed.list, array);
     let last = move_of(placed.list, value, at);
     Ok(Row {
         kind: Kind::Store,
