@@ -30,6 +30,6 @@ same_protocol (Add a b) (Add c d) = same_hosts a b c d
 same_protocol (Xor a b) (Xor c d) = same_hosts a b c d
 same_protocol p q = false
 
--- the protocol of a slot, where a list has one for each
+-- the protocol at a place of a list; of a slot, where the list has one for each
 abbrev pub proto_in : List Proto → ℕ → Proto
 proto_in protocols x = slice_index_or protocols x (Local (host 0))

@@ -30,7 +30,9 @@ pub use lexical::{
 pub use lists::{Bytes, Inputs, Name, Names, Outputs, Words};
 pub use operations::{Kind, Op};
 pub use packet::Packet;
-pub use protocols::{HostSet, Proto, is_holder, is_same, proto_of, same_protocols_are_one};
+pub use protocols::{
+    HostSet, Proto, is_holder, is_same, proto_of, protocol_at, same_protocols_are_one,
+};
 pub use rows::Row;
 pub use sight::{add_name, find_name};
 pub use text::{Text, Texts};

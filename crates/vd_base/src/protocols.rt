@@ -57,12 +57,19 @@ pub fn same_protocols_are_one()
     ensures { (p q : Protocols) → same_protocol p q ≡ true → p ≡ q }
 {}
 
-/// The protocol of a slot.
-pub fn proto_of(protocols: &[Proto], slot: SlotId) -> Proto
-    ensures { result ≡ proto_in protocols.now slot.0 }
+/// The protocol at a place of a list.
+pub fn protocol_at(list: &[Proto], place: u32) -> Proto
+    ensures { result ≡ proto_in list.now place }
 {
-    match protocols.get(usize::from(slot.0)) {
+    match list.get(place as usize) {
         Some(protocol) => *protocol,
         None => Proto::Local(HostId(0)),
     }
+}
+
+/// The protocol of a slot, where a list has one for each.
+pub fn proto_of(protocols: &[Proto], slot: SlotId) -> Proto
+    ensures { result ≡ proto_in protocols.now slot.0 }
+{
+    protocol_at(protocols, u32::from(slot.0))
 }
