@@ -12,7 +12,7 @@ ghost use Rattle.vd_cmd_choose.specs.Choice.{Chooses, ChoosesIn, ChoosesOf, HasT
 use crate::programs::program_of;
 use std::alloc::{AllocError, Global};
 use vd_base::limits::SOURCE_BYTES;
-use vd_base::{Bytes, Proto};
+use vd_base::{Bytes, Proto, protocol_at};
 use vd_base_lists::Items;
 use vd_cmd_frontend::least_labels;
 use vd_cmd_plan::{Answer, Status, load};
@@ -21,7 +21,6 @@ use vd_core::Program;
 use vd_outside::Files;
 use vd_search_certificate::Certificate;
 use vd_search_stages::{SelectFault, Selection, Sweeps, select};
-use vd_space::protocol_at;
 use vd_space_api::Space;
 
 /// The protocol of each slot of a program, and what they cost together.
