@@ -19,12 +19,12 @@ use crate::cells::{point_table, value_at};
 use crate::raw::RawArc;
 use crate::sums::{Rows, shift_sums};
 use std::alloc::{AllocError, Global};
-use vd_base::{HostId, Proto, SlotId, is_holder};
+use vd_base::{HostId, Proto, SlotId, is_holder, protocol_at};
 use vd_base_lists::Items;
 use vd_cost_network_prefix::{PointTable, SwitchTable};
 use vd_formula::Formula;
 use vd_search_tree::Shift;
-use vd_space::{Guard, Index, Problem, protocol_at};
+use vd_space::{Guard, Index, Problem};
 use vd_space_prefix::amount_at;
 use vd_space_tables::merged_values;
 

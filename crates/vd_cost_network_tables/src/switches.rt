@@ -8,10 +8,10 @@ ghost use Rattle.vd_space_terms.specs.Prices.{candidates_of};
 ghost use Rattle.vd_space.specs.WellFormed.{AreProtocols};
 
 use std::alloc::{AllocError, Global};
-use vd_base::{HostId, Proto, SlotId, is_holder};
+use vd_base::{HostId, Proto, SlotId, is_holder, protocol_at};
 use vd_base_lists::Items;
 use vd_cost_network_prefix::SwitchTable;
-use vd_space::{Guard, Problem, protocol_at};
+use vd_space::{Guard, Problem};
 
 /// Whether the place passes, and is kept at the host.
 fn is_kept(list: &[Proto], tests: &[bool], host: HostId, place: usize) -> bool

@@ -15,5 +15,5 @@ pub use problem::{Guard, Index, Making, Output, Problem, Use};
 pub use sums::lesser_of;
 pub use validity::{
     are_holders_told, has_candidate, is_candidate_at, is_guard_told, is_index_told, is_part,
-    output_can_move, protocol_at, use_can_move,
+    output_can_move, use_can_move,
 };

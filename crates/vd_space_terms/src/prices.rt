@@ -11,11 +11,11 @@ ghost use Rattle.vd_space.specs.declared.problem.Problem.{Problem as Problems};
 ghost use Rattle.vd_space.specs.WellFormed.{AreProtocols};
 
 use std::alloc::{AllocError, Global};
-use vd_base::{HostId, Proto, is_holder};
+use vd_base::{HostId, Proto, is_holder, protocol_at};
 use vd_base_lists::Items;
 use vd_cost::move_cost;
 use vd_protocol::joins;
-use vd_space::{Problem, protocol_at};
+use vd_space::Problem;
 
 /// What it costs to move a value from each protocol of the list to each, where that can be done.
 pub fn move_prices(alloc: Global, list: &[Proto]) -> Result<Items<Items<Option<u32>>>, AllocError>
