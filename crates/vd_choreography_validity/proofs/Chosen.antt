@@ -39,7 +39,7 @@ use Rattle.vd_choreography.proofs.Front.{fold_each, and_left, and_right, or_left
 use Rattle.vd_backend_laws.specs.Suite.{IsOver, AreGiven}
 use Rattle.vd_backend_laws.specs.Whole.{inputs_of, CanRun}
 use Rattle.vd_backend_laws.proofs.Front.{listed_protocols_are_over, code_tells_the_same}
-use Rattle.vd_choreography_validity.specs.Assignments.{IsChosen, AssignmentsCanRun, AssignmentsTellTheSame}
+use Rattle.vd_choreography_validity.specs.Assignments.{IsValidFor, AssignmentsCanRun, AssignmentsTellTheSame}
 use Rattle.vd_choreography_validity.proofs.Placing.{sees, among, stands_at, Stand, Tells, as_many, placed}
 
 -- ---- lists
@@ -266,7 +266,7 @@ module _ (program : NormalForm) (labels : Labels) (list : List ℕ) (chosen : Is
     given = given;
   }
 
-module _ (program : NormalForm) (labels : Labels) (protocols : List Proto) (chosen : IsChosen program labels protocols) where
+module _ (program : NormalForm) (labels : Labels) (protocols : List Proto) (chosen : IsValidFor program labels protocols) where
   abbrev places : List ℕ
   places = chosen.assignment.places
 

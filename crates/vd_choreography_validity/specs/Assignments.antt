@@ -13,19 +13,19 @@ use Rattle.vd_core.specs.Numbers.{NumbersFit}
 use Rattle.vd_backend_laws.specs.Suite.{AreGiven}
 use Rattle.vd_backend_laws.specs.Whole.{inputs_of, CanRun, RunsAsToldBy}
 
--- a valid assignment for a well-made program
-pub record IsChosen (program : NormalForm) (labels : Labels) (protocols : List Proto) : Type 0 where
+-- a well-made program whose numbers are words, and protocols that are a valid assignment for it at these labels
+pub record IsValidFor (program : NormalForm) (labels : Labels) (protocols : List Proto) : Type 0 where
   pub made : IsWellMade program
   pub numbers : NumbersFit program
   pub assignment : IsAssignment (problem_of program labels) protocols
 
 abbrev pub AssignmentsCanRun : Type 0
-AssignmentsCanRun = (program : NormalForm) (labels : Labels) (protocols : List Proto) → IsChosen program labels protocols
+AssignmentsCanRun = (program : NormalForm) (labels : Labels) (protocols : List Proto) → IsValidFor program labels protocols
     → (inputs : List (List ℕ)) → ((h i : ℕ) → slice_index (inputs_of inputs h) i < 2 ^ 32) → (t : Tape) → IsValidDeal t → AreGiven (inputs_of inputs) t
     → CanRun program (proto_in protocols) inputs t
 
 -- and its joint code tells each host what the program tells it
 abbrev pub AssignmentsTellTheSame : Type 0
-AssignmentsTellTheSame = (program : NormalForm) (labels : Labels) (protocols : List Proto) → IsChosen program labels protocols
+AssignmentsTellTheSame = (program : NormalForm) (labels : Labels) (protocols : List Proto) → IsValidFor program labels protocols
     → (inputs : List (List ℕ)) → ((h i : ℕ) → slice_index (inputs_of inputs h) i < 2 ^ 32) → (t : Tape) → IsValidDeal t → AreGiven (inputs_of inputs) t
     → RunsAsToldBy program (proto_in protocols) inputs t

@@ -34,7 +34,7 @@ module _ (program : NormalForm) (text prefix : List ℕ) where
       record {
         assignment = a;
         selected = selected;
-        can_be_stored = λ h lt. record { made = well; numbers = numbers; runnable = runnable_of program a selected a.protocols refl; digest = is_digest (text ++ printed); declared = lt };
+        can_be_stored = λ h lt. record { runs = record { made = well; numbers = numbers; runnable = runnable_of program a selected a.protocols refl }; digest = is_digest (text ++ printed); declared = lt };
         stores = is ∙ (λ i. host_files prefix (f i).hosts (digest i) 0 (codes i));
       }
 

@@ -40,9 +40,7 @@ module _ (program : NormalForm) (text prefix : List ℕ) where
         early = early.early;
         can_be_stored = λ h lt.
             record {
-              made = well;
-              numbers = numbers;
-              runnable = runnable_of program a selected a.protocols refl;
+              runs = record { made = well; numbers = numbers; runnable = runnable_of program a selected a.protocols refl };
               digest = is_digest (text ++ (printed ++ codes "early\n"));
               declared = lt;
             };

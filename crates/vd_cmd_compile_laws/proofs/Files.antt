@@ -12,7 +12,7 @@ use Rattle.vd_execution.specs.Text.{IsCodeOf, text}
 use Rattle.vd_host_text.specs.declared.program.Digest.{Digest}
 use Rattle.vd_host_text.specs.declared.program.HostProgram.{HostProgram}
 use Rattle.vd_host_text.specs.Text.{name_field, program_text}
-use Rattle.vd_projection.specs.Programs.{joint_of, host_codes}
+use Rattle.vd_projection.specs.Programs.{CanRunAt, joint_of, host_codes}
 use Rattle.vd_projection.proofs.Front.{codes_can_be_loaded, runnable_over}
 use Rattle.vd_cmd_plan.specs.Numbered.{file_name}
 use Rattle.vd_projection_files.specs.Stored.{IsDigest, CanBeStored, stored_program}
@@ -20,7 +20,7 @@ use Rattle.vd_projection_files.proofs.Front.{is_digest, stored_programs_are_read
 use Rattle.vd_cmd_choose.specs.Choice.{printed_at}
 use Rattle.vd_cmd_choose.specs.declared.choice.Assignment.{Assignment}
 use Rattle.vd_cmd_compile.specs.Compiling.{host_files, plan_for, compiled_at}
-use Rattle.vd_cmd_compile_laws.specs.Compiled.{CanBeCompiled, EachFrom, IsReadBack, IsShort, CompiledFilesAreReadBack}
+use Rattle.vd_cmd_compile_laws.specs.Compiled.{EachFrom, IsReadBack, IsShort, CompiledFilesAreReadBack}
 
 code_at : (f : ℕ → List Instr) (k n h : ℕ) → h < n → slice_index_or (map f (range_with_len k n)) h [] ≡ f (k + h)
 code_at f k zero h lt = absurd (omega (arith, lt))
@@ -33,7 +33,7 @@ code_at f k (suc n) (suc h) lt = code_at f (k + 1) n h (omega (arith, lt)) ∙ a
     same : (k h : ℕ) → k + 1 + h ≡ k + suc h
     same k h = omega arith
 
-module _ (program : NormalForm) (list : List Proto) (plan : Digest) (digest : IsDigest plan) (can : CanBeCompiled program list) (prefix : List ℕ) where
+module _ (program : NormalForm) (list : List Proto) (plan : Digest) (digest : IsDigest plan) (can : CanRunAt program list) (prefix : List ℕ) where
   abbrev hosts : ℕ
   hosts = length program.hosts
 
@@ -51,7 +51,7 @@ module _ (program : NormalForm) (list : List Proto) (plan : Digest) (digest : Is
       none h = omega arith
 
   stored : (h : ℕ) → h < hosts → CanBeStored program list plan h
-  stored h lt = record { made = can.made; numbers = can.numbers; runnable = can.runnable; digest = digest; declared = lt }
+  stored h lt = record { runs = can; digest = digest; declared = lt }
 
   -- the text that is stored is that of the host's program
   text_is : (h : ℕ) → h < hosts → program_text (stored_program program list plan h) ≡ program_text (program_at h (code h))
@@ -97,19 +97,19 @@ compiled_files_are_read_back program a text prefix can =
     let printed = printed_at program a in
     files_read program a.protocols (plan_for text printed) (is_digest (text ++ printed)) can prefix (length program.hosts) 0 (all_of_them (length program.hosts))
 
-pub short_files : (program : NormalForm) (a : Assignment) (text prefix : List ℕ) → CanBeCompiled program a.protocols
+pub short_files : (program : NormalForm) (a : Assignment) (text prefix : List ℕ) → CanRunAt program a.protocols
     → length (flat_map name_field program.hosts) ≤ 65536 → AllByRecursion IsShort (compiled_at program a text prefix).stores
 short_files program a text prefix can names =
     let printed = printed_at program a in
     files_short program a.protocols (plan_for text printed) (is_digest (text ++ printed)) can prefix names (length program.hosts) 0 (all_of_them (length program.hosts))
 
-pub named_files : (program : NormalForm) (a : Assignment) (text prefix : List ℕ) → CanBeCompiled program a.protocols
+pub named_files : (program : NormalForm) (a : Assignment) (text prefix : List ℕ) → CanRunAt program a.protocols
     → EachFrom (λ h file. file.name ≡ file_name prefix h (codes ".host")) 0 (compiled_at program a text prefix).stores
 named_files program a text prefix can =
     let printed = printed_at program a in
     files_named program a.protocols (plan_for text printed) (is_digest (text ++ printed)) can prefix (length program.hosts) 0
 
-pub counted_files : (program : NormalForm) (a : Assignment) (text prefix : List ℕ) → CanBeCompiled program a.protocols
+pub counted_files : (program : NormalForm) (a : Assignment) (text prefix : List ℕ) → CanRunAt program a.protocols
     → length (compiled_at program a text prefix).stores ≡ length program.hosts
 counted_files program a text prefix can =
     let printed = printed_at program a in

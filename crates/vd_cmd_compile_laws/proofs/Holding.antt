@@ -22,12 +22,11 @@ use Rattle.vd_execution.specs.declared.instructions.Instr.{Instr}
 use Rattle.vd_host_text.specs.declared.program.Digest.{Digest}
 use Rattle.vd_host_text.specs.Text.{program_text}
 use Rattle.vd_projection.specs.Programs.{host_codes}
-use Rattle.vd_projection_files.specs.Stored.{CanBeStored, stored_program}
+use Rattle.vd_projection_files.specs.Stored.{stored_program}
 use Rattle.vd_projection_files.proofs.Front.{stored_texts_are_short}
 use Rattle.vd_cmd_compile.specs.Compiling.{host_file, host_files, plan_for}
 use Rattle.vd_cmd_compile.specs.Telling.{CompilesText}
 use Rattle.vd_cmd_compile.proofs.Front.{code_count}
-use Rattle.vd_cmd_compile_laws.specs.Compiled.{CanBeCompiled}
 use Rattle.vd_cmd_compile_laws.specs.Holding.{HoldsProgram, IsCompilation}
 use Rattle.vd_cmd_compile_laws.proofs.Files.{is_read}
 use Rattle.vd_cmd_compile_laws.proofs.Texts.{names_short}
@@ -96,9 +95,6 @@ is_fetched found limit bytes is le =
 few_hosts : (program : NormalForm) (list : List Proto) → IsWellMade program → 0 + length (host_codes program list) ≤ 100
 few_hosts program list made = let n = code_count program list in let limit = made.limits.hosts in omega (arith, n, limit)
 
-compilable : (program : NormalForm) (list : List Proto) (plan : Digest) (h : ℕ) → CanBeStored program list plan h → CanBeCompiled program list
-compilable program list plan h can = record { made = can.made; numbers = can.numbers; runnable = can.runnable }
-
 module _ (text prefix : List ℕ) (answer : Answer) (before now : Contents) (is : CompilesText text prefix answer) (same : now ≡ stored answer.stores before) where
   abbrev program : NormalForm
   program = is.program
@@ -114,12 +110,12 @@ module _ (text prefix : List ℕ) (answer : Answer) (before now : Contents) (is 
       let can = is.programs.can_be_stored h lt in
       let count = code_count program list in
       let found = ap (λ (files : Contents). files (file_name prefix h (codes ".host"))) (same ∙ ap (λ (pieces : List Stored). stored pieces before) is.programs.stores) in
-      let here = there prefix program.hosts plan (host_codes program list) 0 h h before (omega (arith, lt, count)) (few_hosts program list can.made) (omega arith) in
+      let here = there prefix program.hosts plan (host_codes program list) 0 h h before (omega (arith, lt, count)) (few_hosts program list can.runs.made) (omega arith) in
       let bytes = program_text (stored_program program list plan h) in
       record {
         bytes = bytes;
         is_fetched = is_fetched (now (file_name prefix h (codes ".host"))) most_host_file_bytes bytes (found ∙ here) (stored_texts_are_short program list plan h can (names_short text is.source program is.read.parsed is.is_run.hosts));
-        holds = is_read program list plan can.digest (compilable program list plan h can) prefix h lt;
+        holds = is_read program list plan can.digest can.runs prefix h lt;
       }
 
   pub programs_held : IsCompilation text prefix answer.printed now

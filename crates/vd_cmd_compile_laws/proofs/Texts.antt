@@ -16,11 +16,12 @@ use Rattle.vd_anf.specs.Normal.{normal_form}
 use Rattle.vd_core.specs.Numbers.{NumbersFit}
 use Rattle.vd_host_text.specs.declared.program.Digest.{Digest}
 use Rattle.vd_host_text.specs.Text.{name_field}
+use Rattle.vd_projection.specs.Programs.{CanRunAt}
 use Rattle.vd_cmd_plan.specs.Numbered.{file_name}
 use Rattle.vd_cmd_compile_laws.specs.Sizes.{name_bytes}
 use Rattle.vd_cmd_compile_laws.proofs.Names.{host_names_fit}
 use Rattle.vd_cmd_compile.proofs.Front.{runnable_of}
-use Rattle.vd_cmd_compile_laws.specs.Compiled.{CanBeCompiled, EachFrom, IsFileOf, IsReadBack, IsShort, CompiledFilesAreShort, CompiledFilesCanBeRead, plan_at}
+use Rattle.vd_cmd_compile_laws.specs.Compiled.{EachFrom, IsFileOf, IsReadBack, IsShort, CompiledFilesAreShort, CompiledFilesCanBeRead, plan_at}
 use Rattle.vd_cmd_compile_laws.proofs.Files.{compiled_files_are_read_back, counted_files, named_files, short_files}
 
 -- ---- names
@@ -59,7 +60,7 @@ both program list plan prefix h (f ∷ fs) names a b = (record { name = names.0;
 
 pub compiled_files_can_be_read : (program : NormalForm) → IsWellMade program → NumbersFit program → CompiledFilesCanBeRead program
 compiled_files_can_be_read program made numbers a text prefix is =
-    let can : CanBeCompiled program a.protocols = record { made = made; numbers = numbers; runnable = runnable_of program a is.selected a.protocols refl } in
+    let can : CanRunAt program a.protocols = record { made = made; numbers = numbers; runnable = runnable_of program a is.selected a.protocols refl } in
     let names = names_short text is.source program is.parsed is.is_run.hosts in
     record {
       counted = counted_files program a text prefix can;

@@ -6,27 +6,19 @@ use Rattle.vd_base.specs.Limits.{most_host_file_bytes}
 use Rattle.vd_outside.specs.declared.stored.Stored.{Stored}
 use Rattle.vd_core.specs.declared.normal.NormalForm.{NormalForm}
 use Rattle.vd_core.specs.declared.source.Source.{Source}
-use Rattle.vd_core.specs.Facts.{IsWellMade}
 use Rattle.vd_parser.specs.Outcomes.{IsParse}
 use Rattle.vd_anf.specs.Normal.{normal_form}
 use Rattle.vd_cmd_rewrite.specs.RunPrograms.{IsRunProgram}
 use Rattle.vd_execution.specs.Joint.{code_of}
 use Rattle.vd_execution.specs.Text.{IsCodeOf}
-use Rattle.vd_core.specs.Numbers.{NumbersFit}
 use Rattle.vd_host_text.specs.declared.program.Digest.{Digest}
 use Rattle.vd_cmd_plan.specs.Numbered.{file_name}
 use Rattle.vd_hostcode.specs.Outcome.{IsOutcome}
-use Rattle.vd_projection.specs.Programs.{IsRunnable, joint_of}
+use Rattle.vd_projection.specs.Programs.{CanRunAt, joint_of}
 use Rattle.vd_projection_files.specs.Stored.{stored_program}
 use Rattle.vd_cmd_choose.specs.Choice.{IsSelected, printed_at}
 use Rattle.vd_cmd_choose.specs.declared.choice.Assignment.{Assignment}
 use Rattle.vd_cmd_compile.specs.Compiling.{compiled_at, plan_for}
-
--- a well-made program whose numbers are words, and a list of protocols at which it can run
-pub record CanBeCompiled (program : NormalForm) (list : List Proto) : Type 0 where
-  pub made : IsWellMade program
-  pub numbers : NumbersFit program
-  pub runnable : IsRunnable program list
 
 -- Reading these bytes gives the program of the host with this number: with the names of all hosts, this number and this plan; and its
 -- code is that host's part of the joint code of the program at this list.
@@ -46,7 +38,7 @@ plan_at program a text = plan_for text (printed_at program a)
 -- Each file that is stored of a program is read as the program of its host, whatever the cost of the choice, the source's bytes and the
 -- prefix are.
 abbrev pub CompiledFilesAreReadBack : Type 0
-CompiledFilesAreReadBack = (program : NormalForm) (a : Assignment) (text prefix : List ℕ) → CanBeCompiled program a.protocols
+CompiledFilesAreReadBack = (program : NormalForm) (a : Assignment) (text prefix : List ℕ) → CanRunAt program a.protocols
     → EachFrom (λ h file. IsReadBack program a.protocols (plan_at program a text) h file.content) 0 (compiled_at program a text prefix).stores
 
 -- and each is short enough to be read, where the program has the hosts of the source that the text spells
@@ -55,7 +47,7 @@ IsShort file = length file.content ≤ most_host_file_bytes
 
 abbrev pub CompiledFilesAreShort : Type 0
 CompiledFilesAreShort = (text : List ℕ) (source : Source) (program : NormalForm) (a : Assignment) (prefix : List ℕ)
-    → IsParse text (Ok source) → program.hosts ≡ (normal_form source).hosts → CanBeCompiled program a.protocols
+    → IsParse text (Ok source) → program.hosts ≡ (normal_form source).hosts → CanRunAt program a.protocols
     → AllByRecursion IsShort (compiled_at program a text prefix).stores
 
 -- the text spells a source, the program is the one that is run for that source, and this is its choice of protocols

@@ -15,7 +15,8 @@ use Rattle.vd_deal_needs_laws.proofs.Front.{read_off}
 use Rattle.vd_deal_needs.specs.Counted.{code_in}
 use Rattle.vd_host_text.specs.declared.program.HostProgram.{HostProgram}
 use Rattle.vd_hostcode.specs.Outcome.{CanRun, IsOutcome}
-use Rattle.vd_deal_needs_programs.specs.Enough.{CanBeSplit, sizes_for}
+use Rattle.vd_projection.specs.Programs.{CanRunAt}
+use Rattle.vd_deal_needs_programs.specs.Enough.{sizes_for}
 use Rattle.vd_deal_needs_programs.proofs.Front.{code_is, of_can_run, sizes_are_enough, sizes_are_least, deals_have_their_sizes}
 use Rattle.vd_cmd.specs.declared.command.NeedsWords.{NeedsWords}
 use Rattle.vd_cmd_plan.specs.Loads.{Loads}
@@ -35,7 +36,7 @@ use Rattle.vd_cmd_needs.specs.Telling.{IsNeedsOf, IsNeedsOfBytes, IsNeedsOfHost,
 -- ---- with a list of protocols
 
 module _ (each : Bool) (program : NormalForm) (a : Assignment) (made : IsWellMade program) (numbers : NumbersFit program) (selected : IsSelected program a) where
-  can : CanBeSplit program a.protocols
+  can : CanRunAt program a.protocols
   can = record { made = made; numbers = numbers; runnable = runnable_of program a selected a.protocols refl }
 
   is_needs : (printed : List ℕ) → printed ≡ needs_text each program a.protocols → IsNeedsOf each program printed

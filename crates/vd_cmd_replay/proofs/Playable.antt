@@ -21,8 +21,8 @@ use Rattle.vd_execution_confluence.specs.Claims.{IsOf}
 use Rattle.vd_backend_laws.specs.Given.{zero_deal}
 use Rattle.vd_backend_laws.specs.Whole.{inputs_of}
 use Rattle.vd_backend_laws.proofs.Front.{zero_deals_are_valid}
-use Rattle.vd_projection.specs.Programs.{IsRunnable, host_codes, joint_of}
-use Rattle.vd_projection.proofs.Front.{chosen_of, codes_can_be_loaded, codes_run_as_told, no_words, runnable_over}
+use Rattle.vd_projection.specs.Programs.{CanRunAt, host_codes, joint_of}
+use Rattle.vd_projection.proofs.Front.{codes_can_be_loaded, codes_run_as_told, no_words, runnable_over, valid_for}
 use Rattle.vd_cmd_plan.specs.Plans.{Computes, ended}
 use Rattle.vd_cmd_plan.specs.declared.answer.Answer.{Answer}
 use Rattle.vd_cmd_plan.specs.declared.status.Status.{Status}
@@ -65,8 +65,8 @@ module _ (program : NormalForm) (a : Assignment) (made : IsWellMade program) (nu
   abbrev list : List Proto
   list = a.protocols
 
-  abbrev runnable : IsRunnable program list
-  runnable = runnable_of program a selected a.protocols refl
+  abbrev can : CanRunAt program list
+  can = record { made = made; numbers = numbers; runnable = runnable_of program a selected a.protocols refl }
 
   code_at_host : (h : ℕ) (code : List Instr) → slice_get (host_codes program list) h ≡ Some code → code ≡ text (code_of h (joint_of program list)) []
   code_at_host h code is =
@@ -77,11 +77,11 @@ module _ (program : NormalForm) (a : Assignment) (made : IsWellMade program) (nu
 
   are_codes : AreCodesOf (host_codes program list) (joint_of program list)
   are_codes = record {
-    each = λ h code is. subst (λ (c : List Instr). IsCodeOf c (code_of h (joint_of program list))) (sym (code_at_host h code is)) (codes_can_be_loaded program list made (runnable_over program list made runnable) h).nested;
-    in_range = λ h lt. subst (λ (hosts : ℕ). IsInRange hosts (code_of h (joint_of program list))) (sym (code_count program list)) (codes_can_be_loaded program list made (runnable_over program list made runnable) h).in_range;
+    each = λ h code is. subst (λ (c : List Instr). IsCodeOf c (code_of h (joint_of program list))) (sym (code_at_host h code is)) (codes_can_be_loaded program list made (runnable_over program list made can.runnable) h).nested;
+    in_range = λ h lt. subst (λ (hosts : ℕ). IsInRange hosts (code_of h (joint_of program list))) (sym (code_count program list)) (codes_can_be_loaded program list made (runnable_over program list made can.runnable) h).in_range;
     all =
         let zeros = zero_deals_are_valid (inputs_of []) no_words in
-        let told = codes_run_as_told program list made numbers runnable [] no_words (zero_deal (inputs_of [])) zeros.0 zeros.1 in
+        let told = codes_run_as_told program list can [] no_words (zero_deal (inputs_of [])) zeros.0 zeros.1 in
         subst (λ (hosts : ℕ). IsOf hosts (joint_of program list)) (sym (code_count program list)) told.hosts;
   }
 
@@ -128,7 +128,7 @@ module _ (program : NormalForm) (a : Assignment) (made : IsWellMade program) (nu
         dealt = subst (λ (hosts : ℕ). AreDealsOf hosts asked.deals) (sym are.all) are.deals;
         consistent = consistent;
       } in
-      programs_tell program runnable.labels list (chosen_of program list made numbers runnable) asked.inputs asked.deals files are.all asked.schedule
+      programs_tell program can.runnable.labels list (valid_for program list can) asked.inputs asked.deals files are.all asked.schedule
 
   pub is_report : (asked : Asked) (answer : Answer) (printed : List ℕ) → AreAsked (length program.hosts) asked → IsConsistent asked.deals
       → answer ≡ ended [] printed → printed ≡ report_for program list asked → IsReport program (program_outputs program asked.inputs) asked answer.printed

@@ -16,10 +16,10 @@ use Rattle.vd_backend_laws.specs.Whole.{inputs_of}
 use Rattle.vd_deal_needs_laws.specs.Needs.{counts}
 use Rattle.vd_deal_needs.specs.declared.taking.HostNeeds.{HostNeeds}
 use Rattle.vd_deal_needs.proofs.Front.{above, below}
-use Rattle.vd_projection.specs.Programs.{joint_of}
+use Rattle.vd_projection.specs.Programs.{CanRunAt, joint_of}
 use Rattle.vd_projection.proofs.Front.{ended_past}
 use Rattle.vd_world_report.specs.Supplies.{AreFiles}
-use Rattle.vd_deal_needs_programs.specs.Enough.{CanBeSplit, HandInEnough, needs_for, sizes_for}
+use Rattle.vd_deal_needs_programs.specs.Enough.{HandInEnough, needs_for, sizes_for}
 use Rattle.vd_deal_needs_programs.proofs.Front.{sizes_are_enough, deals_have_their_sizes, count_needs, counted, needs_at, taken}
 use Rattle.vd_deal_needs_limits.specs.Items.{most_executed}
 use Rattle.vd_deal_needs_limits.proofs.Front.{small_programs_can_be_dealt, within}
@@ -30,10 +30,10 @@ use Rattle.vd_cmd_inputs.specs.declared.asked.Asked.{Asked}
 use Rattle.vd_cmd_inputs.specs.Asking.{AreAsked}
 use Rattle.vd_cmd_trial.specs.Trial.{Suffice, asked_by, most_inputs, trial_asked, trial_input, trial_inputs, trial_words}
 
-pub splits : (program : NormalForm) (a : Assignment) → IsWellMade program → NumbersFit program → IsSelected program a → CanBeSplit program a.protocols
+pub splits : (program : NormalForm) (a : Assignment) → IsWellMade program → NumbersFit program → IsSelected program a → CanRunAt program a.protocols
 splits program a made numbers selected = record { made = made; numbers = numbers; runnable = runnable_of program a selected a.protocols refl }
 
-module _ (program : NormalForm) (list : List Proto) (can : CanBeSplit program list) where
+module _ (program : NormalForm) (list : List Proto) (can : CanRunAt program list) where
   pub can_be_dealt : weight_sum program.body ≤ most_executed → AreCounts (sizes_for program list)
   can_be_dealt few = small_programs_can_be_dealt program list can few
 
@@ -64,7 +64,7 @@ module _ (program : NormalForm) (list : List Proto) (can : CanBeSplit program li
       let n = count in
       elim (cases_lt h (length program.hosts)) [
         | inl lt ↦ some _ _ _ _ all (inputs_within h lt) (handed_in h (omega (arith, lt, n)))
-        | inr past ↦ none _ _ _ all (ap (λ (c : Code). counts c Inputs) (ended_past program list can.made can.numbers can.runnable h past))
+        | inr past ↦ none _ _ _ all (ap (λ (c : Code). counts c Inputs) (ended_past program list can h past))
       ]
     where
       some : (t c m l : ℕ) → t ≡ c → c ≤ m → l ≡ m → t ≤ l
@@ -109,12 +109,12 @@ pub made_there : {E : Type 0} (coordinates : ℕ) (program : NormalForm) (list :
 made_there coordinates program list needs (Ok asked) same made = made ∙ ap (λ (n : List HostNeeds). asked_by n coordinates) same
 made_there coordinates program list needs (Err e) same made = tt
 
-pub asked_there : {E : Type 0} (program : NormalForm) (list : List Proto) → CanBeSplit program list → (needs : List HostNeeds) (result : Result Asked E) → needs ≡ needs_for program list → IfOk result (AreAsked (length needs))
+pub asked_there : {E : Type 0} (program : NormalForm) (list : List Proto) → CanRunAt program list → (needs : List HostNeeds) (result : Result Asked E) → needs ≡ needs_for program list → IfOk result (AreAsked (length needs))
     → IfOk result (AreAsked (length program.hosts))
 asked_there program list can needs (Ok asked) same are = subst (λ (n : ℕ). AreAsked n asked) (ap (λ (l : List HostNeeds). length l) same ∙ count program list can) are
 asked_there program list can needs (Err e) same are = tt
 
-pub suffice_there : {E : Type 0} (coordinates : ℕ) (program : NormalForm) (list : List Proto) → CanBeSplit program list → (needs : List HostNeeds) (result : Result Asked E) → needs ≡ needs_for program list
+pub suffice_there : {E : Type 0} (coordinates : ℕ) (program : NormalForm) (list : List Proto) → CanRunAt program list → (needs : List HostNeeds) (result : Result Asked E) → needs ≡ needs_for program list
     → IfOk result (λ asked. asked ≡ asked_by needs coordinates) → IfOk result (AreAsked (length needs)) → IfOk result (λ asked. IsConsistent asked.deals) → IfOk result (Suffice program list)
 suffice_there coordinates program list can needs (Ok asked) same made are consistent =
     let there : asked ≡ trial_asked coordinates program list = made ∙ ap (λ (n : List HostNeeds). asked_by n coordinates) same in

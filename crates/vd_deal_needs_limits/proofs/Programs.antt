@@ -12,10 +12,10 @@ use Rattle.vd_choreography.specs.Emission.{Emission, block_emission, emitting_at
 use Rattle.vd_choreography.proofs.Front.{fold_each}
 use Rattle.vd_deal_needs_laws.specs.Needs.{takes}
 use Rattle.vd_backend_laws.specs.Parts.{suite_calls}
+use Rattle.vd_projection.specs.Programs.{CanRunAt}
 use Rattle.vd_projection.proofs.Front.{proto_over, runnable_over}
 use Rattle.vd_code_sizes.specs.Statements.{all_of}
 use Rattle.vd_code_sizes.proofs.Front.{statements_make_few}
-use Rattle.vd_deal_needs_programs.specs.Enough.{CanBeSplit}
 use Rattle.vd_deal_needs_programs.proofs.Front.{count_needs, counted, own_below, shared_below, taken}
 use Rattle.vd_deal_needs_limits.specs.Items.{ItemsAreFew, SmallProgramsCanBeDealt, most_executed, most_items}
 use Rattle.vd_deal_needs_limits.proofs.Blocks.{block_takes, weight_of}
@@ -35,7 +35,7 @@ items_are_few program proto made over h r =
     few : (t a b : ℕ) → 1 * t ≤ 1024 * a → a ≡ b → t ≤ 1024 * b
     few t a b p e = omega (arith, p, e)
 
-module _ (program : NormalForm) (list : List Proto) (can : CanBeSplit program list) where
+module _ (program : NormalForm) (list : List Proto) (can : CanRunAt program list) where
   -- at the list's protocols
   few_at : (h : ℕ) (r : Source) → counted program list can h r ≤ most_items * weight_sum program.body
   few_at h r =

@@ -8,7 +8,8 @@ use Rattle.vd_execution.specs.Step.{Source}
 use Rattle.vd_deal_needs_laws.specs.Needs.{takes}
 use Rattle.vd_backend_laws.specs.Suite.{IsOver}
 use Rattle.vd_backend_laws.specs.Whole.{code_at}
-use Rattle.vd_deal_needs_programs.specs.Enough.{CanBeSplit, sizes_for}
+use Rattle.vd_projection.specs.Programs.{CanRunAt}
+use Rattle.vd_deal_needs_programs.specs.Enough.{sizes_for}
 
 -- the items that a host takes of a list each time that a statement is executed, at most
 abbrev pub most_items : ℕ
@@ -25,4 +26,4 @@ most_executed = 1024
 
 abbrev pub SmallProgramsCanBeDealt : Type 0
 SmallProgramsCanBeDealt =
-    (program : NormalForm) (list : List Proto) → CanBeSplit program list → weight_sum program.body ≤ most_executed → AreCounts (sizes_for program list)
+    (program : NormalForm) (list : List Proto) → CanRunAt program list → weight_sum program.body ≤ most_executed → AreCounts (sizes_for program list)

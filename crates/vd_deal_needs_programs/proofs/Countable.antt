@@ -17,7 +17,7 @@ use Rattle.vd_host_text.specs.declared.program.HostProgram.{HostProgram}
 use Rattle.vd_host_text.specs.Outcome.{digest}
 use Rattle.vd_hostcode.specs.Outcome.{CanRun, IsWithin}
 use Rattle.vd_hostcode.proofs.Front.{can_run}
-use Rattle.vd_projection.specs.Programs.{host_codes, joint_of}
+use Rattle.vd_projection.specs.Programs.{CanRunAt, host_codes, joint_of}
 use Rattle.vd_projection.proofs.Front.{runnable_over, codes_can_be_loaded}
 use Rattle.vd_projection_files.specs.Stored.{CanBeStored, stored_program}
 use Rattle.vd_projection_files.proofs.Front.{is_digest, stored_programs_are_read_back}
@@ -25,7 +25,6 @@ use Rattle.vd_deal_needs_laws.specs.Needs.{counts}
 use Rattle.vd_deal_needs.specs.declared.taking.HostNeeds.{HostNeeds}
 use Rattle.vd_deal_needs.specs.Needs.{needs_by, needs_of}
 use Rattle.vd_deal_needs.specs.Counted.{IsCountable, code_in, code_read}
-use Rattle.vd_deal_needs_programs.specs.Enough.{CanBeSplit}
 
 -- the code of a list that is one
 pub code_is : (code : List Instr) (c : Code) → IsCodeOf code c → code_in code ≡ c
@@ -39,7 +38,7 @@ of_can_run p runs =
     let few = runs.steps in
     record { nested = subst (IsCodeOf p.code) (sym same) runs.is_code; few = omega (arith, steps, few) }
 
-module _ (program : NormalForm) (list : List Proto) (can : CanBeSplit program list) where
+module _ (program : NormalForm) (list : List Proto) (can : CanRunAt program list) where
   abbrev pub hosts : ℕ
   hosts = length program.hosts
 
@@ -56,7 +55,7 @@ module _ (program : NormalForm) (list : List Proto) (can : CanBeSplit program li
   plan = digest (sha256 [])
 
   stored : (h : ℕ) → h < hosts → CanBeStored program list plan h
-  stored h lt = record { made = can.made; numbers = can.numbers; runnable = can.runnable; digest = is_digest []; declared = lt }
+  stored h lt = record { runs = can; digest = is_digest []; declared = lt }
 
   -- no instruction of a host's code breaks a range
   pub within : (h : ℕ) → h < hosts → IsWithin (stored_program program list plan h)
@@ -79,7 +78,7 @@ module _ (program : NormalForm) (list : List Proto) (can : CanBeSplit program li
 
 -- ---- the codes that were split off
 
-pub split_codes : (program : NormalForm) (list : List Proto) → CanBeSplit program list → (codes : List (List Instr)) → codes ≡ host_codes program list → All IsCountable codes
+pub split_codes : (program : NormalForm) (list : List Proto) → CanRunAt program list → (codes : List (List Instr)) → codes ≡ host_codes program list → All IsCountable codes
 split_codes program list can codes same = subst (λ (cs : List (List Instr)). All IsCountable cs) (sym same) (all_countable program list can)
 
 pub few_codes : (program : NormalForm) (list : List Proto) → IsWellMade program → (codes : List (List Instr)) → codes ≡ host_codes program list → length codes ≤ most_hosts

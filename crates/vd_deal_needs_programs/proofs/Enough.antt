@@ -28,9 +28,9 @@ use Rattle.vd_deal_needs.specs.Sizes.{greater, most_of, most_own, nothing}
 use Rattle.vd_backend_laws.specs.Whole.{inputs_of}
 use Rattle.vd_world_report.specs.Supplies.{AreFiles, items_for, lists_for, supply_of_files}
 use Rattle.vd_world_report.proofs.Front.{files_are_valid}
-use Rattle.vd_projection.specs.Programs.{joint_of}
+use Rattle.vd_projection.specs.Programs.{CanRunAt, joint_of}
 use Rattle.vd_projection.proofs.Front.{codes_run_well, ended_past}
-use Rattle.vd_deal_needs_programs.specs.Enough.{AreBelow, CanBeSplit, HandInEnough, HasSizes, IsWithinSizes, SizesAreEnough, SizesAreLeast, SuffersNoWant, needs_for, sizes_for}
+use Rattle.vd_deal_needs_programs.specs.Enough.{AreBelow, HandInEnough, HasSizes, IsWithinSizes, SizesAreEnough, SizesAreLeast, SuffersNoWant, needs_for, sizes_for}
 use Rattle.vd_deal_needs_programs.proofs.Countable.{code_at, hosts, within}
 use Rattle.vd_deal_needs_programs.proofs.Sizes.{any_there, as_long, counted, joint_code, own_below, own_within, shared_below, shared_within, taken}
 use Rattle.vd_deal_needs_programs.proofs.Strangers.{IsStranger, none_of_strangers}
@@ -47,9 +47,9 @@ none_least m = omega arith
 no_more : (n m i : ℕ) → n ≡ m → m ≡ 0 → i < n → ⊥
 no_more n m i e z lt = omega (arith, e, z, lt)
 
-module _ (program : NormalForm) (list : List Proto) (can : CanBeSplit program list) where
+module _ (program : NormalForm) (list : List Proto) (can : CanRunAt program list) where
   none_past : (h : ℕ) (r : Source) → hosts program list can ≤ h → counted program list can h r ≡ 0
-  none_past h r le = ap (λ (c : Code). counts c r) (ended_past program list can.made can.numbers can.runnable h le)
+  none_past h r le = ap (λ (c : Code). counts c r) (ended_past program list can h le)
 
   none_strange : (h : ℕ) (r : Source) → h < hosts program list can → IsStranger (hosts program list can) (host h) r → counted program list can h r ≡ 0
   none_strange h r lt strange =
@@ -153,7 +153,7 @@ module _ (program : NormalForm) (list : List Proto) (can : CanBeSplit program li
     runs_well : RunsWell supply (joint_code program list can)
     runs_well =
         let valid = files_are_valid inputs deals files in
-        codes_run_well program list can.made can.numbers can.runnable inputs files.words supply valid.0 valid.1
+        codes_run_well program list can inputs files.words supply valid.0 valid.1
 
     no_want : HandInEnough (joint_code program list can) inputs → HasSizes (sizes_for program list) deals → SuffersNoWant supply (joint_code program list can)
     no_want given sizes =

@@ -19,9 +19,9 @@ use Rattle.vd_deal_needs.specs.Counted.{code_in}
 use Rattle.vd_deal_needs.specs.Needs.{needs_by, shared_by}
 use Rattle.vd_deal_needs.specs.Sizes.{greater, most_of, most_own, nothing}
 use Rattle.vd_deal_needs.proofs.Front.{above, below, most_above, most_below}
-use Rattle.vd_projection.specs.Programs.{host_codes, joint_of}
+use Rattle.vd_projection.specs.Programs.{CanRunAt, host_codes, joint_of}
 use Rattle.vd_projection.proofs.Front.{joint_is_tidy}
-use Rattle.vd_deal_needs_programs.specs.Enough.{CanBeSplit, needs_for}
+use Rattle.vd_deal_needs_programs.specs.Enough.{needs_for}
 use Rattle.vd_deal_needs_programs.proofs.Countable.{code_at, count_codes, counted_code, hosts}
 
 -- ---- items of a list
@@ -42,7 +42,7 @@ module _ {X : Type 0} (f : X → List ℕ) (xs : List X) where
 
 -- ---- what hosts take
 
-module _ (program : NormalForm) (list : List Proto) (can : CanBeSplit program list) where
+module _ (program : NormalForm) (list : List Proto) (can : CanRunAt program list) where
   abbrev pub joint_code : Joint
   joint_code = joint_of program list
 
@@ -50,7 +50,7 @@ module _ (program : NormalForm) (list : List Proto) (can : CanBeSplit program li
   counted h r = counts (code_of h joint_code) r
 
   tidy : IsTidy joint_code
-  tidy = joint_is_tidy program list can.made can.numbers can.runnable
+  tidy = joint_is_tidy program list can
 
   pub taken : (h : ℕ) (r : Source) → takes joint_code h r ≡ counted h r
   taken h r = sym (read_off joint_code h r tidy)

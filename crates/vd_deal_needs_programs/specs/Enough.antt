@@ -2,8 +2,6 @@
 use Rattle.std.specs.Prelude.{◌≡◌, ◌≢◌, ◌≤◌, ◌<◌, ℕ, List, length, Some, slice_get}
 use Rattle.vd_base.specs.declared.protocols.Proto.{Proto}
 use Rattle.vd_core.specs.declared.normal.NormalForm.{NormalForm}
-use Rattle.vd_core.specs.Facts.{IsWellMade}
-use Rattle.vd_core.specs.Numbers.{NumbersFit}
 use Rattle.vd_deal_items.specs.declared.deal.Counts.{Counts}
 use Rattle.vd_deal_items.specs.declared.deal.Deal.{Deal}
 use Rattle.vd_deal_items.specs.Validity.{shared_with}
@@ -18,7 +16,7 @@ use Rattle.vd_deal_needs.specs.Needs.{needs_of}
 use Rattle.vd_deal_needs.specs.Sizes.{sizes_of}
 use Rattle.vd_backend_laws.specs.Whole.{inputs_of}
 use Rattle.vd_world_report.specs.Supplies.{AreFiles, supply_of_files}
-use Rattle.vd_projection.specs.Programs.{IsRunnable, host_codes, joint_of}
+use Rattle.vd_projection.specs.Programs.{CanRunAt, host_codes, joint_of}
 
 -- ---- what is taken, and how much to deal
 
@@ -85,17 +83,11 @@ AreLeast program list =
 
 -- ---- as laws
 
--- a well-made program whose numbers are words, and a valid list of protocols
-pub record CanBeSplit (program : NormalForm) (list : List Proto) : Type 0 where
-  pub made : IsWellMade program
-  pub numbers : NumbersFit program
-  pub runnable : IsRunnable program list
-
 abbrev pub SizesAreEnough : Type 0
-SizesAreEnough = (program : NormalForm) (list : List Proto) → CanBeSplit program list → AreEnough program list
+SizesAreEnough = (program : NormalForm) (list : List Proto) → CanRunAt program list → AreEnough program list
 
 abbrev pub SizesAreLeast : Type 0
-SizesAreLeast = (program : NormalForm) (list : List Proto) → CanBeSplit program list → AreLeast program list
+SizesAreLeast = (program : NormalForm) (list : List Proto) → CanRunAt program list → AreLeast program list
 
 abbrev pub DealsHaveTheirSizes : Type 0
 DealsHaveTheirSizes = (sizes : Counts) → AreMade sizes

@@ -21,7 +21,7 @@ use Rattle.vd_distributed_example.proofs.Program.{joint_is, numbers, program, ru
 use Rattle.vd_distributed_example.proofs.Starting.{starts}
 
 stored : (h : ℕ) → h < 2 → CanBeStored program list plan h
-stored h lt = record { made = well_made; numbers = numbers; runnable = runnable; digest = digest; declared = lt }
+stored h lt = record { runs = record { made = well_made; numbers = numbers; runnable = runnable }; digest = digest; declared = lt }
 
 abbrev plays : (h : ℕ) → h < 2 → IsPlayed (run h)
 plays zero lt = plays_a

@@ -303,7 +303,7 @@ module _ (program : NormalForm) (list : List Proto) (plan : Digest) (inputs : Li
   code_is h lt = get_or-map-range_with_len (λ k. text (code_of k j) []) 0 n h h [] lt (omega arith)
 
   is_code : (h : ℕ) → h < n → IsCodeOf (stored_program program list plan h).code (code_of h j)
-  is_code h lt = subst (λ (l : List Instr). IsCodeOf l (code_of h j)) (sym (code_is h lt)) (codes_can_be_loaded program list base.made (runnable_over program list base.made base.runnable) h).nested
+  is_code h lt = subst (λ (l : List Instr). IsCodeOf l (code_of h j)) (sym (code_is h lt)) (codes_can_be_loaded program list base.runs.made (runnable_over program list base.runs.made base.runs.runnable) h).nested
 
   abbrev code_at : (h : ℕ) → Place h → Code
   code_at h (inl lt) = (are.starts h lt).hastened.new_code
@@ -330,7 +330,7 @@ module _ (program : NormalForm) (list : List Proto) (plan : Digest) (inputs : Li
 
   own_numbers : (h : ℕ) → Place h → NumbersAreWords (code_of h j)
   own_numbers h (inl lt) = numbers_small (stored_program program list plan h).code (code_of h j) _ (stored_programs_stand_in_files program list plan h (are.stored h lt)).file.lines (is_code h lt)
-  own_numbers h (inr le) = subst NumbersAreWords (sym (ended_past program list base.made base.numbers base.runnable h le)) tt
+  own_numbers h (inr le) = subst NumbersAreWords (sym (ended_past program list base.runs h le)) tt
 
   numbers : (h : ℕ) → NumbersAreWords (codes h)
   numbers h = hastened_small (code_of h j) (codes h) (each_hastened h (cases_lt h n)) (own_numbers h (cases_lt h n))
@@ -339,7 +339,7 @@ module _ (program : NormalForm) (list : List Proto) (plan : Digest) (inputs : Li
   hosts =
       let valid = files_are_valid inputs deals are.files in
       record {
-        well = codes_run_well program list base.made base.numbers base.runnable inputs are.files.words s valid.0 valid.1;
+        well = codes_run_well program list base.runs inputs are.files.words s valid.0 valid.1;
         deal = valid.0;
         hastened = all_hastened;
         numbers = numbers;
@@ -349,7 +349,7 @@ module _ (program : NormalForm) (list : List Proto) (plan : Digest) (inputs : Li
   prints h lt =
       let t : Tape = followed_by_zeros s in
       let valid = files_are_valid inputs deals are.files in
-      let told : RunsAsToldBy program (proto_in list) inputs t = codes_run_as_told program list base.made base.numbers base.runnable inputs are.files.words t valid.0 valid.1 in
+      let told : RunsAsToldBy program (proto_in list) inputs t = codes_run_as_told program list base.runs inputs are.files.words t valid.0 valid.1 in
       sym (get_or-map-range_with_len (λ (k : ℕ). (last_of s j k).printed) 0 n h h [] lt (omega arith)) ∙ ap (λ (o : List (List ℕ)). slice_index_or o h []) (told.prints ∙ same)
 
   -- ---- its links
@@ -506,7 +506,7 @@ module _ (program : NormalForm) (list : List Proto) (plan : Digest) (inputs : Li
   outputs_count =
       let t : Tape = followed_by_zeros s in
       let valid = files_are_valid inputs deals are.files in
-      let as_told : RunsAsToldBy program (proto_in list) inputs t = codes_run_as_told program list base.made base.numbers base.runnable inputs are.files.words t valid.0 valid.1 in
+      let as_told : RunsAsToldBy program (proto_in list) inputs t = codes_run_as_told program list base.runs inputs are.files.words t valid.0 valid.1 in
       ap (λ (o : List (List ℕ)). length o) (sym (as_told.prints ∙ same)) ∙ length-map-range_with_len (λ (k : ℕ). (last_of s j k).printed) 0 n
 
   -- ---- where all goes through, all end
@@ -589,7 +589,7 @@ module _ (program : NormalForm) (list : List Proto) (plan : Digest) (inputs : Li
       supplied = λ q i. ap (λ (o : Option Deal). items_for inputs h o q i) (past_list deals h (let e = are.each in omega (arith, le, e))) ∙ sym (no_items q i);
       made = record { steps = 0; events = []; state = at_start (code_at h (inr le)); reached = AtStart; came = λ p. ([], refl); sent = λ p. ([], refl) };
       went_is = λ p. refl;
-      waits = inl (ended_past program list base.made base.numbers base.runnable h le);
+      waits = inl (ended_past program list base.runs h le);
       well = λ less e. absurd (omega (arith, less, le));
     }
 

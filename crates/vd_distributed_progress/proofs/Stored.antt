@@ -60,23 +60,23 @@ module _ (program : NormalForm) (list : List Proto) (plan : Digest) (inputs : Li
   -- ---- the code of each host
 
   can_be : (g : ℕ) → g < n → CanBeStored program list plan g
-  can_be g lt = record { made = can.made; numbers = can.numbers; runnable = can.runnable; digest = can.digest; declared = lt }
+  can_be g lt = record { runs = can.runs; digest = can.digest; declared = lt }
 
   code_is : (g : ℕ) → g < n → (stored_program program list plan g).code ≡ text (code_of g j) []
   code_is g lt = get_or-map-range_with_len (λ k. text (code_of k j) []) 0 n g g [] lt (omega arith)
 
   is_code : (g : ℕ) → g < n → IsCodeOf (stored_program program list plan g).code (code_of g j)
-  is_code g lt = subst (λ (l : List Instr). IsCodeOf l (code_of g j)) (sym (code_is g lt)) (codes_can_be_loaded program list can.made (runnable_over program list can.made can.runnable) g).nested
+  is_code g lt = subst (λ (l : List Instr). IsCodeOf l (code_of g j)) (sym (code_is g lt)) (codes_can_be_loaded program list can.runs.made (runnable_over program list can.runs.made can.runs.runnable) g).nested
 
   numbers : (g : ℕ) → (g < n) ⊎ (n ≤ g) → NumbersAreWords (code_of g j)
   numbers g (inl lt) = numbers_small (stored_program program list plan g).code (code_of g j) _ (stored_programs_stand_in_files program list plan g (can_be g lt)).file.lines (is_code g lt)
-  numbers g (inr le) = subst NumbersAreWords (sym (ended_past program list can.made can.numbers can.runnable g le)) tt
+  numbers g (inr le) = subst NumbersAreWords (sym (ended_past program list can.runs g le)) tt
 
   hosts : AreOwnHosts s j
   hosts =
       let valid = files_are_valid inputs deals files in
       record {
-        well = codes_run_well program list can.made can.numbers can.runnable inputs files.words s valid.0 valid.1;
+        well = codes_run_well program list can.runs inputs files.words s valid.0 valid.1;
         deal = valid.0;
         hastened = own_codes 0 j;
         numbers = λ g. numbers g (cases_lt g n);

@@ -30,7 +30,7 @@ use Rattle.vd_backend_laws.specs.Parts.{suite_calls}
 use Rattle.vd_backend_laws.specs.Suite.{suite}
 use Rattle.vd_backend_laws.specs.Whole.{inputs_of, CanRun}
 use Rattle.vd_backend_laws.proofs.Front.{has_member}
-use Rattle.vd_choreography_validity.specs.Assignments.{IsChosen}
+use Rattle.vd_choreography_validity.specs.Assignments.{IsValidFor}
 use Rattle.vd_choreography_validity.proofs.Front.{can_run}
 use Rattle.vd_noninter_laws.specs.Flowing.{Knowledge, all_flow, flow_step}
 use Rattle.vd_noninter_laws.specs.Reading.{start, visible_slots}
@@ -155,7 +155,7 @@ module _ (p : NormalForm) (l : Labels) (well : IsWellMade p) (satisfies : Satisf
   clear : (x : ℕ) → IsInClear (proto_in protocols x)
   clear x = each_in_clear protocols in_clear x
 
-  chosen : IsChosen p l protocols
+  chosen : IsValidFor p l protocols
   chosen = record { made = well; numbers = numbers; assignment = assigned }
 
   can : CanRun p (proto_in protocols) inputs t

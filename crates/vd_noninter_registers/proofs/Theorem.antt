@@ -21,7 +21,7 @@ use Rattle.vd_backend_laws.specs.Machine.{machine}
 use Rattle.vd_backend_laws.specs.Suite.{suite}
 use Rattle.vd_backend_laws.specs.Whole.{code_at, inputs_of, CanRun}
 use Rattle.vd_backend_laws.proofs.Front.{suite_laws}
-use Rattle.vd_choreography_validity.specs.Assignments.{IsChosen}
+use Rattle.vd_choreography_validity.specs.Assignments.{IsValidFor}
 use Rattle.vd_choreography_validity.proofs.Front.{can_run, each_has, assignments_tell_the_same}
 use Rattle.vd_noninter_laws.specs.Reading.{reads_result, becomes_readable_to, reads_host, in_view, start, outputs_to, LearnsOnly}
 use Rattle.vd_noninter_laws.specs.Dependence.{reached_in_view, AreReached, OfEachHost}
@@ -39,7 +39,7 @@ all_dropped : (xs : List ℕ) → drop 0 xs ≡ xs
 all_dropped [] = refl
 all_dropped (x ∷ xs) = refl
 
-module _ (p : NormalForm) (l : Labels) (protocols : List Proto) (chosen : IsChosen p l protocols) (h : HostId) (known : h.0 < length p.hosts) (inputs : List (List ℕ)) (t : Tape) (dealt : IsDealt inputs t) where
+module _ (p : NormalForm) (l : Labels) (protocols : List Proto) (chosen : IsValidFor p l protocols) (h : HostId) (known : h.0 < length p.hosts) (inputs : List (List ℕ)) (t : Tape) (dealt : IsDealt inputs t) where
   can : CanRun p (proto_in protocols) inputs t
   can = can_run p l protocols chosen inputs dealt.words t dealt.deal dealt.given
 
@@ -87,7 +87,7 @@ tells_what_is_heard p l protocols chosen h known inputs t dealt =
     tells p l protocols chosen h known inputs t dealt ∙ ap (λ (b : List Heard). heard_in_order b 0 (start p inputs)) (sym (fold_each (heard_step protocols h l) p.body))
 
 -- what the host prints is what the program tells it
-prints : (p : NormalForm) (l : Labels) (protocols : List Proto) → IsChosen p l protocols → (h : HostId) → h.0 < length p.hosts → (inputs : List (List ℕ)) (t : Tape) → IsDealt inputs t → printed_words p protocols h t ≡ outputs_to p h inputs
+prints : (p : NormalForm) (l : Labels) (protocols : List Proto) → IsValidFor p l protocols → (h : HostId) → h.0 < length p.hosts → (inputs : List (List ℕ)) (t : Tape) → IsDealt inputs t → printed_words p protocols h t ≡ outputs_to p h inputs
 prints p l protocols chosen h known inputs t dealt =
     let runs = assignments_tell_the_same p l protocols chosen inputs dealt.words t dealt.deal dealt.given in
     sym (get_or-map-range_with_len (λ k. (joint t (code_at (proto_in protocols) p) fresh k).printed) 0 (length p.hosts) h.0 h.0 [] known (omega arith))
@@ -96,7 +96,7 @@ prints p l protocols chosen h known inputs t dealt =
 -- what holds of the clear run holds of the joint run
 only : (p : NormalForm) (l : Labels) (h : HostId) (released : ℕ → ℕ → Bool) (known kept : ℕ → Bool) → IsWellMade p → HearsOnlyAssigned p l h released known → LearnsOnly p h released known kept → TellsOnlyAssigned p l h released known
 only p l h released known kept well hears learns numbers declared protocols assigned first second t u dealt dealt' same declassified =
-    let chosen : IsChosen p l protocols = record { made = well; numbers = numbers; assignment = assigned } in
+    let chosen : IsValidFor p l protocols = record { made = well; numbers = numbers; assignment = assigned } in
     record {
       words = tells_what_is_heard p l protocols chosen h declared first t dealt ∙ hears declared protocols assigned first second same declassified ∙ sym (tells_what_is_heard p l protocols chosen h declared second u dealt');
       prints = prints p l protocols chosen h declared first t dealt ∙ (learns first second same declassified).0 ∙ sym (prints p l protocols chosen h declared second u dealt');

@@ -17,7 +17,7 @@ use Rattle.vd_backend_laws.specs.Machine.{machine}
 use Rattle.vd_backend_laws.specs.Parts.{suite_calls}
 use Rattle.vd_backend_laws.specs.Suite.{AreGiven}
 use Rattle.vd_backend_laws.specs.Whole.{code_at, inputs_of}
-use Rattle.vd_choreography_validity.specs.Assignments.{IsChosen}
+use Rattle.vd_choreography_validity.specs.Assignments.{IsValidFor}
 use Rattle.vd_noninter_laws.specs.Reading.{declassified_words, SameInputs}
 use Rattle.vd_noninter_assigned.specs.Assigned.{heard_words}
 use Rattle.vd_noninter_registers.specs.Telling.{told}
@@ -36,7 +36,7 @@ told_words p protocols h inputs t =
 
 -- they are those of the clear run
 abbrev pub TellsWhatIsHeard : Type 0
-TellsWhatIsHeard = (p : NormalForm) (l : Labels) (protocols : List Proto) → IsChosen p l protocols → (h : HostId) → h.0 < length p.hosts
+TellsWhatIsHeard = (p : NormalForm) (l : Labels) (protocols : List Proto) → IsValidFor p l protocols → (h : HostId) → h.0 < length p.hosts
     → (inputs : List (List ℕ)) (t : Tape) → IsDealt inputs t → told_words p protocols h inputs t ≡ heard_words p l protocols h inputs
 
 -- what it prints in the joint run

@@ -10,7 +10,6 @@ use Rattle.vd_base.specs.Holders.{proto_in}
 use Rattle.vd_base.specs.Words.{InputsAreWords}
 use Rattle.vd_core.specs.declared.normal.NormalForm.{NormalForm}
 use Rattle.vd_core.specs.Facts.{IsWellMade}
-use Rattle.vd_core.specs.Numbers.{NumbersFit}
 use Rattle.vd_constraints.specs.declared.labels.Labels.{Labels}
 use Rattle.vd_constraints.specs.Rules.{label}
 use Rattle.vd_space.specs.Reading.{problem_of}
@@ -26,10 +25,10 @@ use Rattle.vd_backend_laws.specs.Suite.{IsOver, AreGiven}
 use Rattle.vd_backend_laws.specs.Given.{zero_deal}
 use Rattle.vd_backend_laws.specs.Whole.{inputs_of, CanRun}
 use Rattle.vd_backend_laws.proofs.Front.{listed_protocols_are_over, zero_deals_are_valid, code_tells_the_same, code_runs_well}
-use Rattle.vd_choreography_validity.specs.Assignments.{IsChosen}
+use Rattle.vd_choreography_validity.specs.Assignments.{IsValidFor}
 use Rattle.vd_choreography_validity.proofs.Front.{can_run}
 use Rattle.vd_code_sizes.proofs.Front.{code_is_in_range}
-use Rattle.vd_projection.specs.Programs.{IsRunnable, AreOver, joint_of, host_codes, CodesCanBeLoaded, CodesRunAsTold, CodesRunWell}
+use Rattle.vd_projection.specs.Programs.{IsRunnable, CanRunAt, AreOver, joint_of, host_codes, CodesCanBeLoaded, CodesRunAsTold, CodesRunWell}
 
 or_default : {X : Type 0} (P : X → Type 0) (xs : List X) (d : X) → All P xs → P d → (k : ℕ) → P (slice_index_or xs k d)
 or_default P [] d a z k = z
@@ -67,13 +66,13 @@ runnable_over program protocols made is =
 pub no_words : (h i : ℕ) → slice_index (inputs_of [] h) i < 2 ^ 32
 no_words h i = omega arith
 
--- so it is chosen
-pub chosen_of : (program : NormalForm) (protocols : List Proto) → IsWellMade program → NumbersFit program → (is : IsRunnable program protocols) → IsChosen program is.labels protocols
-chosen_of program protocols made numbers is = record { made = made; numbers = numbers; assignment = is.assignment }
+-- so it is valid at those labels
+pub valid_for : (program : NormalForm) (protocols : List Proto) → (can : CanRunAt program protocols) → IsValidFor program can.runnable.labels protocols
+valid_for program protocols can = record { made = can.made; numbers = can.numbers; assignment = can.runnable.assignment }
 
-module _ (program : NormalForm) (protocols : List Proto) (made : IsWellMade program) (numbers : NumbersFit program) (runnable : IsRunnable program protocols) where
+module _ (program : NormalForm) (protocols : List Proto) (can : CanRunAt program protocols) where
   pub program_can_run : (inputs : List (List ℕ)) → InputsAreWords inputs → (t : Tape) → IsValidDeal t → AreGiven (inputs_of inputs) t → CanRun program (proto_in protocols) inputs t
-  program_can_run inputs words t deal given = can_run program runnable.labels protocols (chosen_of program protocols made numbers runnable) inputs words t deal given
+  program_can_run inputs words t deal given = can_run program can.runnable.labels protocols (valid_for program protocols can) inputs words t deal given
 
   pub joint_is_tidy : IsTidy (joint_of program protocols)
   joint_is_tidy =
@@ -95,15 +94,15 @@ codes_can_be_loaded program protocols made over h = record {
 }
 
 pub codes_run_as_told : CodesRunAsTold
-codes_run_as_told program protocols made numbers runnable inputs words t deal given =
-    code_tells_the_same program (proto_in protocols) inputs t (program_can_run program protocols made numbers runnable inputs words t deal given)
+codes_run_as_told program protocols can inputs words t deal given =
+    code_tells_the_same program (proto_in protocols) inputs t (program_can_run program protocols can inputs words t deal given)
 
 pub codes_run_well : CodesRunWell
-codes_run_well program protocols made numbers runnable inputs words s deal given =
-    code_runs_well program (proto_in protocols) inputs s (program_can_run program protocols made numbers runnable inputs words (followed_by_zeros s) deal given)
+codes_run_well program protocols can inputs words s deal given =
+    code_runs_well program (proto_in protocols) inputs s (program_can_run program protocols can inputs words (followed_by_zeros s) deal given)
 
 -- a host that is not declared has no code
-pub ended_past : (program : NormalForm) (protocols : List Proto) → IsWellMade program → NumbersFit program → IsRunnable program protocols → (h : ℕ) → length program.hosts ≤ h → code_of h (joint_of program protocols) ≡ Finished
-ended_past program protocols made numbers runnable h le =
+pub ended_past : (program : NormalForm) (protocols : List Proto) → CanRunAt program protocols → (h : ℕ) → length program.hosts ≤ h → code_of h (joint_of program protocols) ≡ Finished
+ended_past program protocols can h le =
     let zeros = zero_deals_are_valid (inputs_of []) no_words in
-    (codes_run_as_told program protocols made numbers runnable [] no_words (zero_deal (inputs_of [])) zeros.0 zeros.1).hosts h le
+    (codes_run_as_told program protocols can [] no_words (zero_deal (inputs_of [])) zeros.0 zeros.1).hosts h le

@@ -25,6 +25,12 @@ pub record IsRunnable (program : NormalForm) (protocols : List Proto) : Type 0 w
   pub labels : Labels
   pub assignment : IsAssignment (problem_of program labels) protocols
 
+-- a well-made program whose numbers are words, and protocols that are a valid assignment for it under some labels
+pub record CanRunAt (program : NormalForm) (protocols : List Proto) : Type 0 where
+  pub made : IsWellMade program
+  pub numbers : NumbersFit program
+  pub runnable : IsRunnable program protocols
+
 -- protocols over the hosts of a program
 abbrev pub AreOver : NormalForm → List Proto → Type 0
 AreOver program protocols = All (IsOver (length program.hosts)) protocols
@@ -47,12 +53,12 @@ abbrev pub CodesCanBeLoaded : Type 0
 CodesCanBeLoaded = (program : NormalForm) (protocols : List Proto) → IsWellMade program → AreOver program protocols → (h : ℕ) → CanBeLoaded program protocols h
 
 abbrev pub CodesRunAsTold : Type 0
-CodesRunAsTold = (program : NormalForm) (protocols : List Proto) → IsWellMade program → NumbersFit program → IsRunnable program protocols
+CodesRunAsTold = (program : NormalForm) (protocols : List Proto) → CanRunAt program protocols
     → (inputs : List (List ℕ)) → InputsAreWords inputs → (t : Tape) → IsValidDeal t → AreGiven (inputs_of inputs) t
     → RunsAsToldBy program (proto_in protocols) inputs t
 
 -- on lists that are read as followed by zeros
 abbrev pub CodesRunWell : Type 0
-CodesRunWell = (program : NormalForm) (protocols : List Proto) → IsWellMade program → NumbersFit program → IsRunnable program protocols
+CodesRunWell = (program : NormalForm) (protocols : List Proto) → CanRunAt program protocols
     → (inputs : List (List ℕ)) → InputsAreWords inputs → (s : Supply) → IsValidDeal (followed_by_zeros s) → AreGiven (inputs_of inputs) (followed_by_zeros s)
     → RunsWell s (joint_of program protocols)

@@ -111,15 +111,15 @@ module _ (program : NormalForm) (protocols : List Proto) (plan : Digest) (h : �
   code = code_of h (joint_of program protocols)
 
   -- the emission of the program is that of its block
-  small : BlockIsSmall hosts (proto_in protocols) can.made.limits.hosts (block_of program.body) ((block_emission (suite_calls hosts) (proto_in protocols) program.body).emit (emitting_at_start (suite_calls hosts) (proto_in protocols)))
+  small : BlockIsSmall hosts (proto_in protocols) can.runs.made.limits.hosts (block_of program.body) ((block_emission (suite_calls hosts) (proto_in protocols) program.body).emit (emitting_at_start (suite_calls hosts) (proto_in protocols)))
   small =
       let s = suite_calls hosts in
       let proto = proto_in protocols in
       let b = block_of program.body in
-      let few = can.made.limits.hosts in
+      let few = can.runs.made.limits.hosts in
       let sizes : cells_in b ≡ cell_count program.body = sym (ap sum (fold_each cells_step program.body)) in
-      let fits = block_small hosts proto few b (all_hold (of_rights operands_fit) program.body can.made.operands) (all_hold (of_rights shift_fits) program.body can.made.shifts)
-      (all_hold numbers_fit program.body can.numbers) (few_cells _ _ sizes can.made.limits.cells) (emitting_at_start s proto) tt in
+      let fits = block_small hosts proto few b (all_hold (of_rights operands_fit) program.body can.runs.made.operands) (all_hold (of_rights shift_fits) program.body can.runs.made.shifts)
+      (all_hold numbers_fit program.body can.runs.numbers) (few_cells _ _ sizes can.runs.made.limits.cells) (emitting_at_start s proto) tt in
       let same : block_emission s proto program.body ≡ emission_of hosts proto few b = ap (in_turn s proto) (fold_each (stmt_emission s proto) program.body) in
       subst (λ (f : Emission s proto). BlockIsSmall hosts proto few b (f.emit (emitting_at_start s proto))) (sym same) fits
     where
@@ -129,19 +129,19 @@ module _ (program : NormalForm) (protocols : List Proto) (plan : Digest) (h : �
   tidy : PlanIsTidy gadgets
   tidy =
       let zeros = zero_deals_are_valid (inputs_of []) no_words in
-      (codes_run_as_told program protocols can.made can.numbers can.runnable [] no_words (zero_deal (inputs_of [])) zeros.0 zeros.1).plan_tidy
+      (codes_run_as_told program protocols can.runs [] no_words (zero_deal (inputs_of [])) zeros.0 zeros.1).plan_tidy
 
   all_declared : Within (parts_below hosts) (joint_of program protocols)
   all_declared = within (parts_below hosts) (joint_of program protocols) (λ k has. at k has (cases_lt k hosts))
     where
       at : (k : ℕ) → (code_of k (joint_of program protocols) ≡ Finished → ⊥) → (k < hosts) ⊎ (hosts ≤ k) → TakesPart (parts_below hosts) k
       at k has (inl lt) = takes_below hosts k lt
-      at k has (inr le) = absurd (has (ended_past program protocols can.made can.numbers can.runnable k le))
+      at k has (inr le) = absurd (has (ended_past program protocols can.runs k le))
 
   stands : AllCanStand hosts h code
   stands =
-      let below = plan_below program (proto_in protocols) can.made (proto_over program protocols can.made (runnable_over program protocols can.made can.runnable)) in
-      plan_stands hosts can.made.limits.hosts h below.0 (parts_below hosts) (λ k t. below_takes hosts k t) gadgets below.1 tidy small.plan (plan_within (parts_below hosts) gadgets all_declared)
+      let below = plan_below program (proto_in protocols) can.runs.made (proto_over program protocols can.runs.made (runnable_over program protocols can.runs.made can.runs.runnable)) in
+      plan_stands hosts can.runs.made.limits.hosts h below.0 (parts_below hosts) (λ k t. below_takes hosts k t) gadgets below.1 tidy small.plan (plan_within (parts_below hosts) gadgets all_declared)
 
   few_steps : weight code ≤ 4294967295
   few_steps =
@@ -149,7 +149,7 @@ module _ (program : NormalForm) (protocols : List Proto) (plan : Digest) (h : �
       let one = plan_weighs h 1 gadgets in
       let two = small.steps_are 1 in
       let same : weight_of 1 b ≡ weight_sum program.body = sym (ap (λ ws. weigh_all ws 1) (fold_each weigh_step program.body)) in
-      bounded (weight code) _ _ _ _ one two same can.made.limits.weights
+      bounded (weight code) _ _ _ _ one two same can.runs.made.limits.weights
     where
       bounded : (w s t k m : ℕ) → 1 * w ≤ s → s + t ≤ 65000 * k → k ≡ m → m ≤ 65536 → w ≤ 4294967295
       bounded w s t k m p q e f = omega (arith, p, q, e, f)
@@ -159,12 +159,12 @@ module _ (program : NormalForm) (protocols : List Proto) (plan : Digest) (h : �
 
   text_stands : StandsInAFile (with_code (text code []))
   text_stands =
-      let loaded = codes_can_be_loaded program protocols can.made (runnable_over program protocols can.made can.runnable) h in
+      let loaded = codes_can_be_loaded program protocols can.runs.made (runnable_over program protocols can.runs.made can.runs.runnable) h in
       record {
         file = record {
-          names = names_new program.hosts can.made.hosts;
-          some = can.made.limits.some_host;
-          few = can.made.limits.hosts;
+          names = names_new program.hosts can.runs.made.hosts;
+          some = can.runs.made.limits.some_host;
+          few = can.runs.made.limits.hosts;
           me = can.declared;
           plan = can.digest;
           lines = text_leads hosts h code stands;
@@ -175,7 +175,7 @@ module _ (program : NormalForm) (protocols : List Proto) (plan : Digest) (h : �
   few_lines : code_bulk code ≤ 2043 * 512
   few_lines =
       let same : counted (block_of program.body) ≡ statement_count program.body = sym (ap sum (fold_each count_step program.body)) in
-      bounded (code_bulk code) _ _ _ (plan_lines h gadgets tidy) small.lines_are same can.made.limits.statements
+      bounded (code_bulk code) _ _ _ (plan_lines h gadgets tidy) small.lines_are same can.runs.made.limits.statements
     where
       bounded : (w s k m : ℕ) → w ≤ s → s ≤ 2043 * k → k ≡ m → m ≤ 512 → w ≤ 2043 * 512
       bounded w s k m p q e f = omega (arith, p, q, e, f)
@@ -183,7 +183,7 @@ module _ (program : NormalForm) (protocols : List Proto) (plan : Digest) (h : �
   text_is_short : length (flat_map name_field program.hosts) ≤ 65536 → length (program_text (with_code (text code []))) ≤ 67108864
   text_is_short names =
       let lines = code_short hosts h code stands in
-      let le = file_short (with_code (text code [])) (51 * (2043 * 512)) can.digest.0 (own_word h hosts can.declared can.made.limits.hosts) names (bounded _ _ lines few_lines) in
+      let le = file_short (with_code (text code [])) (51 * (2043 * 512)) can.digest.0 (own_word h hosts can.declared can.runs.made.limits.hosts) names (bounded _ _ lines few_lines) in
       within_file _ le
     where
       own_word : (h n : ℕ) → h < n → n ≤ 4 → h ≤ 4294967295

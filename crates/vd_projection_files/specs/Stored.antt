@@ -5,15 +5,13 @@ use Rattle.vd_base.specs.declared.protocols.Proto.{Proto}
 use Rattle.vd_base.specs.HostSets.{host}
 use Rattle.vd_base.specs.Limits.{most_source_bytes, most_host_file_bytes}
 use Rattle.vd_core.specs.declared.normal.NormalForm.{NormalForm}
-use Rattle.vd_core.specs.Facts.{IsWellMade}
-use Rattle.vd_core.specs.Numbers.{NumbersFit}
 use Rattle.vd_host_text.specs.declared.program.Digest.{Digest}
 use Rattle.vd_host_text.specs.declared.program.HostProgram.{HostProgram}
 use Rattle.vd_host_text.specs.Text.{name_field, program_text}
 use Rattle.vd_host_text.specs.File.{IsFile}
 use Rattle.vd_host_text.specs.Outcome.{file_of}
 use Rattle.vd_hostcode.specs.Outcome.{IsWithin, IsOutcome}
-use Rattle.vd_projection.specs.Programs.{IsRunnable, host_codes}
+use Rattle.vd_projection.specs.Programs.{CanRunAt, host_codes}
 
 -- the program of a host: its part of what the splitter makes, with the names of all hosts and the digest of the plan
 abbrev pub stored_program : NormalForm → List Proto → Digest → ℕ → HostProgram
@@ -28,11 +26,9 @@ stored_program program protocols plan h = record {
 abbrev pub IsDigest : Digest → Type 0
 IsDigest plan = (length plan.bytes ≡ 32) × AllByRecursion (λ b. b < 256) plan.bytes
 
--- a well-made program, protocols at which it can run, the digest of a plan, and one of its hosts
+-- a program, protocols at which it can run, the digest of a plan, and one of its hosts
 pub record CanBeStored (program : NormalForm) (protocols : List Proto) (plan : Digest) (h : ℕ) : Type 0 where
-  pub made : IsWellMade program
-  pub numbers : NumbersFit program
-  pub runnable : IsRunnable program protocols
+  pub runs : CanRunAt program protocols
   pub digest : IsDigest plan
   pub declared : h < length program.hosts
 

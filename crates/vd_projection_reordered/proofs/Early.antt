@@ -12,9 +12,7 @@ use Rattle.vd_execution.specs.Joint.{Joint, Hosts, IsTidy, code_of}
 use Rattle.vd_execution.specs.Text.{flat, pick, text}
 use Rattle.vd_execution.specs.World.{Tape}
 use Rattle.vd_execution_confluence.proofs.Front.{picks}
-use Rattle.vd_core.specs.Numbers.{NumbersFit}
-use Rattle.vd_core.specs.Facts.{IsWellMade}
-use Rattle.vd_projection.specs.Programs.{IsRunnable, joint_of}
+use Rattle.vd_projection.specs.Programs.{CanRunAt, joint_of}
 use Rattle.vd_projection.proofs.Front.{ended_past, joint_is_tidy}
 use Rattle.vd_reorder.specs.Packets.{opened_in}
 use Rattle.vd_choreography_exchange.specs.Turning.{TellsTheSame}
@@ -91,13 +89,13 @@ early_at program protocols n e lines x = record {
 }
 
 -- a host that is not declared has no code
-joint_of_hosts : (program : NormalForm) (protocols : List Proto) → IsWellMade program → NumbersFit program → IsRunnable program protocols → (n : ℕ) → n ≡ length program.hosts → IsOfHosts n (joint_of program protocols)
-joint_of_hosts program protocols made numbers runnable n e h le = ended_past program protocols made numbers runnable h (subst (λ (m : ℕ). m ≤ h) e le)
+joint_of_hosts : (program : NormalForm) (protocols : List Proto) → CanRunAt program protocols → (n : ℕ) → n ≡ length program.hosts → IsOfHosts n (joint_of program protocols)
+joint_of_hosts program protocols can n e h le = ended_past program protocols can h (subst (λ (m : ℕ). m ≤ h) e le)
 
-pub codes_come_early : {E : Type 0} (program : NormalForm) (protocols : List Proto) → IsWellMade program → NumbersFit program → IsRunnable program protocols → (n : ℕ) → n ≡ length program.hosts
+pub codes_come_early : {E : Type 0} (program : NormalForm) (protocols : List Proto) → CanRunAt program protocols → (n : ℕ) → n ≡ length program.hosts
     → (old new seen : List Line) → old ≡ flat (joint_of program protocols) [] → ComeEarly n old new → seen ≡ new → (r : Result (List (List Instr)) E)
     → IfOk r (λ codes. codes ≡ map (λ h. pick h seen) (range_with_len 0 n)) → IfOk r (AreEarlyCodes program protocols)
-codes_come_early program protocols made numbers runnable n e old new seen old_is come same (Ok codes) is =
-    let early = come (joint_of program protocols) (joint_is_tidy program protocols made numbers runnable) (joint_of_hosts program protocols made numbers runnable n e) old_is in
+codes_come_early program protocols can n e old new seen old_is come same (Ok codes) is =
+    let early = come (joint_of program protocols) (joint_is_tidy program protocols can) (joint_of_hosts program protocols can n e) old_is in
     subst (AreEarlyCodes program protocols) (sym (is ∙ ap (λ (l : List Line). map (λ h. pick h l) (range_with_len 0 n)) same)) (early_at program protocols n e new early)
-codes_come_early program protocols made numbers runnable n e old new seen old_is come same (Err fault) is = tt
+codes_come_early program protocols can n e old new seen old_is come same (Err fault) is = tt

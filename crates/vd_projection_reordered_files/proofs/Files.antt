@@ -48,15 +48,15 @@ module _ (program : NormalForm) (protocols : List Proto) (plan : Digest) (h : �
   old = code_of h (joint_of program protocols)
 
   -- the emission of the program is that of its block
-  small : BlockIsSmall hosts (proto_in protocols) can.made.limits.hosts (block_of program.body) ((block_emission (suite_calls hosts) (proto_in protocols) program.body).emit (emitting_at_start (suite_calls hosts) (proto_in protocols)))
+  small : BlockIsSmall hosts (proto_in protocols) can.runs.made.limits.hosts (block_of program.body) ((block_emission (suite_calls hosts) (proto_in protocols) program.body).emit (emitting_at_start (suite_calls hosts) (proto_in protocols)))
   small =
       let s = suite_calls hosts in
       let proto = proto_in protocols in
       let b = block_of program.body in
-      let few = can.made.limits.hosts in
+      let few = can.runs.made.limits.hosts in
       let sizes : cells_in b ≡ cell_count program.body = sym (ap sum (fold_each cells_step program.body)) in
-      let fits = block_small hosts proto few b (all_hold (of_rights operands_fit) program.body can.made.operands) (all_hold (of_rights shift_fits) program.body can.made.shifts)
-      (all_hold numbers_fit program.body can.numbers) (few_cells _ _ sizes can.made.limits.cells) (emitting_at_start s proto) tt in
+      let fits = block_small hosts proto few b (all_hold (of_rights operands_fit) program.body can.runs.made.operands) (all_hold (of_rights shift_fits) program.body can.runs.made.shifts)
+      (all_hold numbers_fit program.body can.runs.numbers) (few_cells _ _ sizes can.runs.made.limits.cells) (emitting_at_start s proto) tt in
       let same : block_emission s proto program.body ≡ emission_of hosts proto few b = ap (in_turn s proto) (fold_each (stmt_emission s proto) program.body) in
       subst (λ (f : Emission s proto). BlockIsSmall hosts proto few b (f.emit (emitting_at_start s proto))) (sym same) fits
     where
@@ -66,19 +66,19 @@ module _ (program : NormalForm) (protocols : List Proto) (plan : Digest) (h : �
   tidy : PlanIsTidy gadgets
   tidy =
       let zeros = zero_deals_are_valid (inputs_of []) no_words in
-      (codes_run_as_told program protocols can.made can.numbers can.runnable [] no_words (zero_deal (inputs_of [])) zeros.0 zeros.1).plan_tidy
+      (codes_run_as_told program protocols can.runs [] no_words (zero_deal (inputs_of [])) zeros.0 zeros.1).plan_tidy
 
   all_declared : Within (parts_below hosts) (joint_of program protocols)
   all_declared = within (parts_below hosts) (joint_of program protocols) (λ k has. at k has (cases_lt k hosts))
     where
       at : (k : ℕ) → (code_of k (joint_of program protocols) ≡ Finished → ⊥) → (k < hosts) ⊎ (hosts ≤ k) → TakesPart (parts_below hosts) k
       at k has (inl lt) = takes_below hosts k lt
-      at k has (inr le) = absurd (has (ended_past program protocols can.made can.numbers can.runnable k le))
+      at k has (inr le) = absurd (has (ended_past program protocols can.runs k le))
 
   stands : AllCanStand hosts h old
   stands =
-      let below = plan_below program (proto_in protocols) can.made (proto_over program protocols can.made (runnable_over program protocols can.made can.runnable)) in
-      plan_stands hosts can.made.limits.hosts h below.0 (parts_below hosts) (λ k t. below_takes hosts k t) gadgets below.1 tidy small.plan (plan_within (parts_below hosts) gadgets all_declared)
+      let below = plan_below program (proto_in protocols) can.runs.made (proto_over program protocols can.runs.made (runnable_over program protocols can.runs.made can.runs.runnable)) in
+      plan_stands hosts can.runs.made.limits.hosts h below.0 (parts_below hosts) (λ k t. below_takes hosts k t) gadgets below.1 tidy small.plan (plan_within (parts_below hosts) gadgets all_declared)
 
   few_steps : weight old ≤ 4294967295
   few_steps =
@@ -86,7 +86,7 @@ module _ (program : NormalForm) (protocols : List Proto) (plan : Digest) (h : �
       let one = plan_weighs h 1 gadgets in
       let two = small.steps_are 1 in
       let same : weight_of 1 b ≡ weight_sum program.body = sym (ap (λ ws. weigh_all ws 1) (fold_each weigh_step program.body)) in
-      bounded (weight old) _ _ _ _ one two same can.made.limits.weights
+      bounded (weight old) _ _ _ _ one two same can.runs.made.limits.weights
     where
       bounded : (w s t k m : ℕ) → 1 * w ≤ s → s + t ≤ 65000 * k → k ≡ m → m ≤ 65536 → w ≤ 4294967295
       bounded w s t k m p q e f = omega (arith, p, q, e, f)
@@ -94,7 +94,7 @@ module _ (program : NormalForm) (protocols : List Proto) (plan : Digest) (h : �
   few_lines : code_bulk old ≤ 2043 * 512
   few_lines =
       let same : counted (block_of program.body) ≡ statement_count program.body = sym (ap sum (fold_each count_step program.body)) in
-      bounded (code_bulk old) _ _ _ (plan_lines h gadgets tidy) small.lines_are same can.made.limits.statements
+      bounded (code_bulk old) _ _ _ (plan_lines h gadgets tidy) small.lines_are same can.runs.made.limits.statements
     where
       bounded : (w s k m : ℕ) → w ≤ s → s ≤ 2043 * k → k ≡ m → m ≤ 512 → w ≤ 2043 * 512
       bounded w s k m p q e f = omega (arith, p, q, e, f)
@@ -106,7 +106,7 @@ module _ (program : NormalForm) (protocols : List Proto) (plan : Digest) (h : �
     code = code_of h joint
 
     no_more : IsNoMore hosts h old code
-    no_more = early_is_no_more hosts h (joint_of program protocols) joint (joint_is_tidy program protocols can.made can.numbers can.runnable) early
+    no_more = early_is_no_more hosts h (joint_of program protocols) joint (joint_is_tidy program protocols can.runs) early
 
     early_stands : AllCanStand hosts h code
     early_stands = no_more.stands stands
@@ -115,7 +115,7 @@ module _ (program : NormalForm) (protocols : List Proto) (plan : Digest) (h : �
     is_part = read_back code (unbegun h joint)
 
     few_blocks : depth code ≤ 512
-    few_blocks = let le = no_more.blocks in let few = (codes_can_be_loaded program protocols can.made (runnable_over program protocols can.made can.runnable) h).in_range.blocks in bounded _ _ le few
+    few_blocks = let le = no_more.blocks in let few = (codes_can_be_loaded program protocols can.runs.made (runnable_over program protocols can.runs.made can.runs.runnable) h).in_range.blocks in bounded _ _ le few
       where
         bounded : (n m : ℕ) → n ≤ m → m ≤ 512 → n ≤ 512
         bounded n m le few = omega (arith, le, few)
@@ -132,8 +132,8 @@ module _ (program : NormalForm) (protocols : List Proto) (plan : Digest) (h : �
         record {
           file = record {
             names = before.file.names;
-            some = can.made.limits.some_host;
-            few = can.made.limits.hosts;
+            some = can.runs.made.limits.some_host;
+            few = can.runs.made.limits.hosts;
             me = can.declared;
             plan = can.digest;
             lines = text_leads hosts h code early_stands;
@@ -144,7 +144,7 @@ module _ (program : NormalForm) (protocols : List Proto) (plan : Digest) (h : �
     text_is_short : length (flat_map name_field program.hosts) ≤ 65536 → length (program_text (program_at program joint plan h)) ≤ 67108864
     text_is_short names =
         let lines = code_short hosts h code early_stands in
-        let le = file_short (program_at program joint plan h) (51 * (2043 * 512)) can.digest.0 (own_word h hosts can.declared can.made.limits.hosts) names
+        let le = file_short (program_at program joint plan h) (51 * (2043 * 512)) can.digest.0 (own_word h hosts can.declared can.runs.made.limits.hosts) names
         (bounded _ _ _ lines no_more.bulk few_lines) in
         within_file _ le
       where

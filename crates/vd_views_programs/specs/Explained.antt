@@ -10,14 +10,14 @@ use Rattle.vd_execution.specs.Gadgets.{Gadget}
 use Rattle.vd_execution.specs.Plans.{Plan}
 use Rattle.vd_backend_laws.specs.Parts.{has_back_end}
 use Rattle.vd_backend_laws.specs.Whole.{plan_at, inputs_of}
-use Rattle.vd_choreography_validity.specs.Assignments.{IsChosen}
+use Rattle.vd_choreography_validity.specs.Assignments.{IsValidFor}
 use Rattle.vd_views.specs.Contract.{InputWords, IsExplained, GoesBack}
 use Rattle.vd_noninter_assigned.specs.Assigned.{heard_words}
 use Rattle.vd_noninter_registers.specs.Told.{IsDealt}
 
 -- a program of two hosts at a valid assignment of protocols, none of them a commitment
 pub record IsOfTwo (p : NormalForm) (l : Labels) (protocols : List Proto) : Type 0 where
-  pub chosen : IsChosen p l protocols
+  pub chosen : IsValidFor p l protocols
   pub hosts : length p.hosts ≡ 2
   pub free : (x : ℕ) → has_back_end (proto_in protocols x) ≡ true
 

@@ -29,9 +29,9 @@ use Rattle.vd_deal_needs_laws.specs.Needs.{counts, takes}
 use Rattle.vd_deal_needs_laws.proofs.Front.{most}
 use Rattle.vd_deal_needs.specs.declared.taking.HostNeeds.{HostNeeds}
 use Rattle.vd_machine.specs.Machines.{word_item}
-use Rattle.vd_projection.specs.Programs.{IsRunnable, host_codes, joint_of}
-use Rattle.vd_projection.proofs.Front.{chosen_of, runnable_over, codes_can_be_loaded, codes_run_as_told, ended_past, no_words}
-use Rattle.vd_deal_needs_programs.specs.Enough.{CanBeSplit, needs_for}
+use Rattle.vd_projection.specs.Programs.{CanRunAt, IsRunnable, host_codes, joint_of}
+use Rattle.vd_projection.proofs.Front.{valid_for, runnable_over, codes_can_be_loaded, codes_run_as_told, ended_past, no_words}
+use Rattle.vd_deal_needs_programs.specs.Enough.{needs_for}
 use Rattle.vd_deal_needs_programs.proofs.Front.{count_codes, any_there, count_needs, counted, needs_at, taken}
 use Rattle.vd_report.specs.declared.schedule.Schedule.{Schedule}
 use Rattle.vd_world_report.specs.Loading.{AreCodesOf, AreForAll}
@@ -44,7 +44,7 @@ use Rattle.vd_views_transcript.specs.Talk.{talk, IsPlayable}
 use Rattle.vd_views_transcript.proofs.Filled.{filled_count, long_enough, same_dealt, same_tape, same_words}
 
 module _ (program : NormalForm) (protocols : List Proto) (made : IsWellMade program) (numbers : NumbersFit program) (runnable : IsRunnable program protocols) where
-  can : CanBeSplit program protocols
+  can : CanRunAt program protocols
   can = record { made = made; numbers = numbers; runnable = runnable }
 
   -- ---- the codes can be loaded
@@ -62,7 +62,7 @@ module _ (program : NormalForm) (protocols : List Proto) (made : IsWellMade prog
     in_range = λ h lt. subst (λ (hosts : ℕ). IsInRange hosts (code_of h (joint_of program protocols))) (sym (count_codes program protocols can)) (codes_can_be_loaded program protocols made (runnable_over program protocols made runnable) h).in_range;
     all =
         let zeros = zero_deals_are_valid (inputs_of []) no_words in
-        let told = codes_run_as_told program protocols made numbers runnable [] no_words (zero_deal (inputs_of [])) zeros.0 zeros.1 in
+        let told = codes_run_as_told program protocols can [] no_words (zero_deal (inputs_of [])) zeros.0 zeros.1 in
         subst (λ (hosts : ℕ). IsOf hosts (joint_of program protocols)) (sym (count_codes program protocols can)) told.hosts;
   }
 
@@ -110,7 +110,7 @@ module _ (program : NormalForm) (protocols : List Proto) (made : IsWellMade prog
         ]
 
     none_past : (h : ℕ) → length program.hosts ≤ h → takes (joint_of program protocols) h Inputs ≡ 0
-    none_past h le = taken program protocols can h Inputs ∙ ap (λ (c : Code). counts c Inputs) (ended_past program protocols made numbers runnable h le)
+    none_past h le = taken program protocols can h Inputs ∙ ap (λ (c : Code). counts c Inputs) (ended_past program protocols can h le)
 
     last_is : last_of (supply_of_files (filled inputs (needs_for program protocols)) deals) (joint_of program protocols) ≡ last_of (supply_of_files inputs deals) (joint_of program protocols)
     last_is = ap (λ (t : Tape). joint t (joint_of program protocols) fresh) tape_is
@@ -150,7 +150,7 @@ module _ (program : NormalForm) (protocols : List Proto) (made : IsWellMade prog
     -- ---- so the world ends, with all words sent
 
     told : (schedule : Schedule) → TellsUnder (length program.hosts) (program_outputs program (filled inputs (needs_for program protocols))) (supply_of_files (filled inputs (needs_for program protocols)) deals) (joint_of program protocols) schedule
-    told schedule = programs_tell program runnable.labels protocols (chosen_of program protocols made numbers runnable) (filled inputs (needs_for program protocols)) deals files playable.all_deals schedule
+    told schedule = programs_tell program can.runnable.labels protocols (valid_for program protocols can) (filled inputs (needs_for program protocols)) deals files playable.all_deals schedule
 
     pub talk_is : (codes : List (List Instr)) (needs : List HostNeeds) (all : List (List ℕ)) (schedule : Schedule) (w : World) (from to : ℕ) → codes ≡ host_codes program protocols → needs ≡ needs_for program protocols
         → all ≡ filled inputs needs → schedule.all ≡ true → ((k : Joint) → AreCodesOf codes k → w ≡ played all deals (length codes) schedule k)

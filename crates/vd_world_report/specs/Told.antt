@@ -16,7 +16,7 @@ use Rattle.vd_execution.specs.States.{host_state}
 use Rattle.vd_execution_confluence.specs.Claims.{Suffices, last_of}
 use Rattle.vd_report.specs.declared.schedule.Schedule.{Schedule}
 use Rattle.vd_backend_laws.specs.Whole.{code_at}
-use Rattle.vd_choreography_validity.specs.Assignments.{IsChosen}
+use Rattle.vd_choreography_validity.specs.Assignments.{IsValidFor}
 use Rattle.vd_world_report.specs.Supplies.{supply_of_files, AreFiles}
 use Rattle.vd_world_report.specs.Schedules.{replayed}
 
@@ -57,13 +57,13 @@ Tells program protocols outputs inputs deals schedule =
 -- consistent deal, under every schedule.
 abbrev pub ProgramsTell : Type 0
 ProgramsTell =
-    (program : NormalForm) (labels : Labels) (protocols : List Proto) → IsChosen program labels protocols
+    (program : NormalForm) (labels : Labels) (protocols : List Proto) → IsValidFor program labels protocols
     → (inputs : List (List ℕ)) (deals : List Deal) → AreFiles inputs deals → length deals ≡ length program.hosts
     → (schedule : Schedule) → Tells program protocols (program_outputs program inputs) inputs deals schedule
 
 -- The same of every source, whose outputs are those of its let-normal form.
 abbrev pub SourcesTell : Type 0
 SourcesTell =
-    (source : Source) (labels : Labels) (protocols : List Proto) → IsChosen (normal_form source) labels protocols
+    (source : Source) (labels : Labels) (protocols : List Proto) → IsValidFor (normal_form source) labels protocols
     → (inputs : List (List ℕ)) (deals : List Deal) → AreFiles inputs deals → length deals ≡ length (normal_form source).hosts
     → (schedule : Schedule) → Tells (normal_form source) protocols (source_outputs source inputs) inputs deals schedule
