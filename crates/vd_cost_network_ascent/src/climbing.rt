@@ -7,7 +7,7 @@ use std::alloc::{AllocError, Global};
 use vd_base_lists::Items;
 use vd_cost_network_dominance::Thinned;
 use vd_cost_network_prefix::{ArcTable, NetworkTables};
-use vd_cost_network_sweeps::{Ending, Left, Nets, Network, Order, Reach, State, Tables, Witness};
+use vd_cost_network_sweeps::{Ending, Layout, Nets, Reach, State, Tables, Witness};
 use vd_protocol::protocols;
 use vd_space::Problem;
 use vd_space_terms::candidates;
@@ -43,13 +43,7 @@ pub(crate) const WORK: u64 = 805_306_368;
 /// The points and arcs of a problem, and what sweeps over them came to.
 #[derive(Drop)]
 pub struct Climb {
-    pub order: Order,
-    pub network: Network,
-    pub left: Left,
-    /// How many settings each point has, with those that are not left.
-    pub counts: Vec<usize>,
-    /// By point.
-    pub settings: Vec<Vec<usize>>,
+    pub layout: Layout,
     /// By the settings that are left.
     pub tables: Tables,
     pub state: State,
@@ -79,21 +73,14 @@ impl Climb {
         by_arcs: &NetworkTables,
         candidates: &[Items<bool>],
     ) -> Result<Option<Climb>, AllocError> {
-        let order = Order::of(alloc, problem, by_arcs.switches.as_slice())?;
-        let network = Network::of(alloc, by_arcs.arcs.as_slice(), &order)?;
-        let left = Left::of(alloc, problem, by_arcs, candidates, &network, &order)?;
-        let Some(settings) = left.settings(alloc)? else {
+        let Some(layout) = Layout::of(alloc, problem, by_arcs, candidates)? else {
             return Ok(None);
         };
-        let counts = left.counts(alloc)?;
-        let tables = Tables::of(alloc, by_arcs, &network, &order, settings.as_slice())?;
-        let state = State::of(alloc, &tables, &network, left.most)?;
+        let settings = layout.settings.as_slice();
+        let tables = Tables::of(alloc, by_arcs, &layout.network, &layout.order, settings)?;
+        let state = State::of(alloc, &tables, &layout.network, layout.left.most)?;
         let mut climb = Climb {
-            order,
-            network,
-            left,
-            counts,
-            settings,
+            layout,
             tables,
             state,
             witness: Witness::none(alloc),
@@ -101,7 +88,7 @@ impl Climb {
         if climb.sweep(alloc, FIRST)? == Ending::Cut {
             climb.go_on(alloc, by_arcs)?;
         }
-        climb.state.send_home(&climb.tables, &climb.network);
+        climb.state.send_home(&climb.tables, &climb.layout.network);
         Ok(Some(climb))
     }
 
@@ -109,14 +96,14 @@ impl Climb {
     fn sweep(&mut self, alloc: Global, reach: Reach) -> Result<Ending, AllocError> {
         let witness = &mut self.witness;
         self.state
-            .climb(alloc, &self.tables, &self.network, reach, witness)
+            .climb(alloc, &self.tables, &self.layout.network, reach, witness)
     }
 
     /// Goes on where the first sweeps did not do: over fewer settings, and then over all again.
     fn go_on(&mut self, alloc: Global, by_arcs: &NetworkTables) -> Result<(), AllocError> {
-        let settings = self.settings.as_slice();
-        let thinned = Thinned::of(alloc, &self.tables, &self.network, settings)?;
-        self.state.come_back(&self.tables, &self.network);
+        let settings = self.layout.settings.as_slice();
+        let thinned = Thinned::of(alloc, &self.tables, &self.layout.network, settings)?;
+        self.state.come_back(&self.tables, &self.layout.network);
         let nets = self.thinned_nets(alloc, by_arcs, &thinned)?;
         let work = self.state.work();
         self.state = self.state_from(alloc, &nets)?;
@@ -127,9 +114,15 @@ impl Climb {
 
     /// The state behind a sweep backward that came to these amounts.
     fn state_from(&self, alloc: Global, nets: &Nets) -> Result<State, AllocError> {
-        let most = self.left.most;
-        let settings = self.settings.as_slice();
-        State::from_nets(alloc, &self.tables, &self.network, most, settings, nets)
+        let layout = &self.layout;
+        State::from_nets(
+            alloc,
+            &self.tables,
+            &layout.network,
+            layout.left.most,
+            layout.settings.as_slice(),
+            nets,
+        )
     }
 
     /// What the shifts come to by sweeps over fewer settings, where the others get shifts behind these.
@@ -139,18 +132,19 @@ impl Climb {
         by_arcs: &NetworkTables,
         thinned: &Thinned,
     ) -> Result<Nets, AllocError> {
-        let network = &self.network;
-        let counts = self.counts.as_slice();
+        let layout = &self.layout;
+        let network = &layout.network;
+        let counts = layout.counts.as_slice();
         let nets = self.state.nets(
             alloc,
             &self.tables,
             network,
-            self.settings.as_slice(),
+            layout.settings.as_slice(),
             counts,
         )?;
         let few = thinned.settings.as_slice();
-        let tables = Tables::of(alloc, by_arcs, network, &self.order, few)?;
-        let mut state = State::from_nets(alloc, &tables, network, self.left.most, few, &nets)?;
+        let tables = Tables::of(alloc, by_arcs, network, &layout.order, few)?;
+        let mut state = State::from_nets(alloc, &tables, network, layout.left.most, few, &nets)?;
         let mut witness = Witness::none(alloc);
         state.climb(alloc, &tables, network, THINNED, &mut witness)?;
         state.come_back(&tables, network);
@@ -169,32 +163,31 @@ impl Climb {
 
     /// Room for what shifts come to by all settings.
     pub(crate) fn lifting(&self, alloc: Global) -> Result<Lifting, AllocError> {
-        let counts = self.counts.as_slice();
-        let settings = self.settings.as_slice();
-        Lifting::of(alloc, &self.network, &self.left, counts, settings)
+        Lifting::of(alloc, &self.layout)
     }
 
     /// Writes down what the shifts come to where points are fixed so, by all settings at which these may be.
     pub(crate) fn lift(&self, arcs: &[ArcTable], fixed: &[Option<usize>], lifting: &mut Lifting) {
-        let settings = self.settings.as_slice();
+        let layout = &self.layout;
         self.state.write_nets(
             &self.tables,
-            &self.network,
-            settings,
+            &layout.network,
+            layout.settings.as_slice(),
             fixed,
             &mut lifting.nets,
         );
-        lifting.lift(arcs, &self.network, &self.left, fixed);
+        lifting.lift(arcs, layout, fixed);
     }
 
     /// What it takes to have the amounts as shifts, and the bound of a prefix under these: so many prices are looked at.
     pub(crate) fn work_of_shifts(&self) -> u64 {
+        let layout = &self.layout;
         let mut work: u64 = 0;
-        for death in &self.left.deaths {
-            let arcs = self.network.of_point(death.point).len() as u64;
-            work = work.saturating_add(arcs.saturating_mul(self.left.most as u64));
+        for death in &layout.left.deaths {
+            let arcs = layout.network.of_point(death.point).len() as u64;
+            work = work.saturating_add(arcs.saturating_mul(layout.left.most as u64));
         }
-        for first in &self.network.firsts {
+        for first in &layout.network.firsts {
             let here = self.tables.rows(*first).len() as u64;
             let there = self.tables.rows(first.turned()).len() as u64;
             work = work.saturating_add(here.saturating_mul(there));

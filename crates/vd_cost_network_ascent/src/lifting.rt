@@ -5,7 +5,7 @@
 use std::alloc::{AllocError, Global};
 use vd_cost_network_prefix::ArcTable;
 use vd_cost_network_sweeps::{
-    Death, End, FAR, Left, Nets, Network, fixed_at, number_at, settings_at,
+    Death, End, FAR, Layout, Nets, Network, fixed_at, number_at, settings_at,
 };
 
 /// So many parts more are put on each: 65,536 units, so that some hundred lifts together still are an amount of 32 bits.
@@ -23,18 +23,12 @@ pub struct Lifting {
 }
 
 impl Lifting {
-    /// Nothing is shifted yet. Each point has so many settings, of which it has these left.
-    pub fn of(
-        alloc: Global,
-        network: &Network,
-        left: &Left,
-        counts: &[usize],
-        settings: &[Vec<usize>],
-    ) -> Result<Lifting, AllocError> {
+    /// Nothing is shifted yet.
+    pub fn of(alloc: Global, layout: &Layout) -> Result<Lifting, AllocError> {
         Ok(Lifting {
-            nets: Nets::none(alloc, network.firsts.as_slice(), counts)?,
-            lifts: Nets::none(alloc, network.firsts.as_slice(), counts)?,
-            known: known_settings(alloc, settings, left.deaths.as_slice())?,
+            nets: layout.no_nets(alloc)?,
+            lifts: layout.no_nets(alloc)?,
+            known: known_settings(alloc, layout)?,
         })
     }
 
@@ -50,19 +44,13 @@ impl Lifting {
 
     /// Lifts all that went, from the last to the first: by that time those are lifted that it had for partners. A point that is
     /// fixed is at none of them, so these need not be.
-    pub(crate) fn lift(
-        &mut self,
-        arcs: &[ArcTable],
-        network: &Network,
-        left: &Left,
-        fixed: &[Option<usize>],
-    ) {
-        for death in &left.deaths {
-            self.take_back(network, death);
+    pub(crate) fn lift(&mut self, arcs: &[ArcTable], layout: &Layout, fixed: &[Option<usize>]) {
+        for death in &layout.left.deaths {
+            self.take_back(&layout.network, death);
         }
-        for death in left.deaths.iter().rev() {
+        for death in layout.left.deaths.iter().rev() {
             if fixed_at(fixed, death.point).is_none() {
-                self.lift_one(arcs, network, death);
+                self.lift_one(arcs, &layout.network, death);
             }
         }
     }
@@ -79,7 +67,7 @@ impl Lifting {
     fn lift_one(&mut self, arcs: &[ArcTable], network: &Network, death: &Death) {
         let mut sum = LIFT;
         for end in network.of_point(death.point) {
-            if !is_at(death, *end) {
+            if !death.is_at(*end) {
                 let need = self.needed(arcs, *end, death.setting);
                 self.nets
                     .put(*end, death.setting, 0i64.saturating_sub(need));
@@ -124,31 +112,19 @@ impl Lifting {
 }
 
 /// By point, the settings that it has left, and those that went.
-fn known_settings(
-    alloc: Global,
-    settings: &[Vec<usize>],
-    deaths: &[Death],
-) -> Result<Vec<Vec<usize>>, AllocError> {
-    let mut known = Vec::with_capacity(alloc, settings.len())?;
-    for left in settings {
+fn known_settings(alloc: Global, layout: &Layout) -> Result<Vec<Vec<usize>>, AllocError> {
+    let mut known = Vec::with_capacity(alloc, layout.settings.len())?;
+    for left in &layout.settings {
         let mut row = Vec::with_capacity(alloc, left.len())?;
         for setting in left {
             row.push(*setting)?;
         }
         known.push(row)?;
     }
-    for death in deaths {
+    for death in &layout.left.deaths {
         if death.point < known.len() {
             known[death.point].push(death.setting)?;
         }
     }
     Ok(known)
-}
-
-/// Whether it went at this end of an arc.
-fn is_at(death: &Death, end: End) -> bool {
-    match death.end {
-        Some(own) => own.at == end.at && own.side == end.side,
-        None => false,
-    }
 }

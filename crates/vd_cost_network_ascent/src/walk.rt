@@ -13,11 +13,9 @@ use crate::walker::{Candidate, Verdict, Walker};
 use std::alloc::{AllocError, Global};
 use vd_cost_network_prefix::{NetworkPath, NetworkTables};
 use vd_cost_network_shifts::shifts_of;
+use vd_cost_network_sweeps::UNIT;
 use vd_search_tree::Prefixes;
 use vd_space::Problem;
-
-/// A unit of cost, in parts.
-const UNIT: i64 = 256;
 
 /// What the test of the candidate that was chosen last came to.
 #[derive(PartialEq, Eq, Debug, Drop)]

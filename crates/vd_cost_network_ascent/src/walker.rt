@@ -5,7 +5,7 @@ use crate::climbing::{Climb, WORK};
 use crate::lifting::Lifting;
 use std::alloc::{AllocError, Global};
 use vd_cost_network_prefix::ArcTable;
-use vd_cost_network_sweeps::{Nets, Witness, settings_at};
+use vd_cost_network_sweeps::{Nets, Witness};
 
 /// So many sweeps forward are made for one candidate at most, and as many backward.
 const ROUNDS: u32 = 12;
@@ -76,7 +76,7 @@ impl Walker {
         if climb.witness.cost > most {
             climb.witness = Witness::none(alloc);
         }
-        let fixed = vec![in alloc; None; climb.order.points.len()]?;
+        let fixed = vec![in alloc; None; climb.layout.order.points.len()]?;
         let showing = climb.work_of_shifts().saturating_mul(SHOWING);
         let lifting = climb.lifting(alloc)?;
         let mut walker = Walker {
@@ -103,8 +103,8 @@ impl Walker {
         if self.is_over() {
             return None;
         }
-        let point = self.climb.order.rank(slot);
-        let setting = settings_at(self.climb.settings.as_slice(), point).get(self.next)?;
+        let point = self.climb.layout.order.rank(slot);
+        let setting = self.climb.layout.settings_of(point).get(self.next)?;
         Some(Candidate {
             point,
             number: self.next,
@@ -183,7 +183,7 @@ impl Walker {
         let climb = &self.climb;
         let bound = climb.state.bound();
         let mut end = candidate.number;
-        for _ in settings_at(climb.settings.as_slice(), candidate.point) {
+        for _ in climb.layout.settings_of(candidate.point) {
             let rise = climb.state.rise(&climb.tables, candidate.point, end);
             if end >= self.count_of(candidate.point) || bound.saturating_add(rise) <= self.most {
                 break;
@@ -195,7 +195,7 @@ impl Walker {
 
     /// How many settings of a point are left.
     fn count_of(&self, point: usize) -> usize {
-        settings_at(self.climb.settings.as_slice(), point).len()
+        self.climb.layout.settings_of(point).len()
     }
 
     /// The same by sweeps, where the candidate is fixed already.
@@ -250,7 +250,7 @@ impl Walker {
         if self.is_over() || self.backs >= BACKS {
             return false;
         }
-        let point = self.climb.order.rank(slot);
+        let point = self.climb.layout.order.rank(slot);
         let number = match self.fixed.get(point) {
             Some(Some(number)) => *number,
             _ => return false,
@@ -263,7 +263,7 @@ impl Walker {
         self.backs = self.backs.saturating_add(1);
         self.is_settled = false;
         self.refuted = 0;
-        let behind = self.climb.order.rank(slot.saturating_add(1));
+        let behind = self.climb.layout.order.rank(slot.saturating_add(1));
         self.open_all(behind);
         self.next = candidate.number;
         self.release(candidate);
@@ -324,14 +324,18 @@ impl Walker {
     /// Visits a point as the last sweep did. Answers the bound then.
     fn visit(&mut self, point: usize) -> i64 {
         let climb = &mut self.climb;
-        climb.state.visit(&climb.tables, &climb.network, point);
+        climb
+            .state
+            .visit(&climb.tables, &climb.layout.network, point);
         climb.state.bound()
     }
 
     /// A sweep. Answers the bound behind it.
     fn sweep(&mut self, forward: bool) -> i64 {
         let climb = &mut self.climb;
-        climb.state.sweep(&climb.tables, &climb.network, forward);
+        climb
+            .state
+            .sweep(&climb.tables, &climb.layout.network, forward);
         climb.state.bound()
     }
 
@@ -341,7 +345,7 @@ impl Walker {
         let fixed = self.fixed.as_slice();
         let list = climb
             .state
-            .decoded(alloc, &climb.tables, &climb.network, fixed)?;
+            .decoded(alloc, &climb.tables, &climb.layout.network, fixed)?;
         if list.cost > self.most {
             return Ok(false);
         }

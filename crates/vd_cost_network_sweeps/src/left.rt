@@ -21,6 +21,16 @@ pub struct Death {
     pub end: Option<End>,
 }
 
+impl Death {
+    /// Whether it went at this end of an arc.
+    pub fn is_at(&self, end: End) -> bool {
+        match self.end {
+            Some(own) => own.at == end.at && own.side == end.side,
+            None => false,
+        }
+    }
+}
+
 #[derive(Drop)]
 pub struct Left {
     /// Whether a point may be at a setting.
@@ -34,7 +44,7 @@ pub struct Left {
 impl Left {
     /// What is left of the settings of a problem's points, by the tables without shifts; and by the places at which the slots
     /// may stand.
-    pub fn of(
+    pub(crate) fn of(
         alloc: Global,
         problem: &Problem,
         tables: &NetworkTables,
@@ -157,7 +167,7 @@ impl Left {
     }
 
     /// How many settings each point has, with those that are not left.
-    pub fn counts(&self, alloc: Global) -> Result<Vec<usize>, AllocError> {
+    pub(crate) fn counts(&self, alloc: Global) -> Result<Vec<usize>, AllocError> {
         let mut counts = Vec::new(alloc);
         for row in &self.live {
             counts.push(row.len())?;
@@ -166,7 +176,7 @@ impl Left {
     }
 
     /// The settings that are left for each point; none where a point has none left.
-    pub fn settings(&self, alloc: Global) -> Result<Option<Vec<Vec<usize>>>, AllocError> {
+    pub(crate) fn settings(&self, alloc: Global) -> Result<Option<Vec<Vec<usize>>>, AllocError> {
         let mut settings = Vec::new(alloc);
         for row in &self.live {
             let left = set_places(alloc, row.as_slice())?;

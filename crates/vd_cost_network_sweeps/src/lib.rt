@@ -3,21 +3,24 @@
 #![tactic(auto)]
 
 mod flow;
+mod layout;
 mod left;
 mod nets;
 mod network;
 mod numbers;
 mod order;
+mod progress;
 mod shares;
 mod sweeps;
 mod tables;
 mod witness;
 
-pub use left::{Death, Left, NOTHING_LEFT};
+pub use layout::Layout;
+pub use left::{Death, NOTHING_LEFT};
 pub use nets::{Nets, fixed_at};
 pub use network::{End, Network, Side};
-pub use numbers::{FAR, number_at, row_at, settings_at};
-pub use order::Order;
-pub use sweeps::{Ending, Reach, State, nearest_before};
-pub use tables::Tables;
+pub use numbers::{FAR, UNIT, UNIT_BITS, number_at, row_at, settings_at};
+pub use progress::{Ending, Progress};
+pub use sweeps::{Reach, State, nearest_before};
+pub use tables::{Tables, cost_at};
 pub use witness::Witness;

@@ -13,7 +13,7 @@ pub struct Nets {
 
 impl Nets {
     /// Nothing, with so many settings for the points at either end of each arc.
-    pub fn none(alloc: Global, arcs: &[End], counts: &[usize]) -> Result<Nets, AllocError> {
+    pub(crate) fn none(alloc: Global, arcs: &[End], counts: &[usize]) -> Result<Nets, AllocError> {
         let mut nets = Nets {
             firsts: Vec::new(alloc),
             seconds: Vec::new(alloc),

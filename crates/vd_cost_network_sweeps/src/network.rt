@@ -77,7 +77,11 @@ pub struct Network {
 }
 
 impl Network {
-    pub fn of(alloc: Global, arcs: &[ArcTable], order: &Order) -> Result<Network, AllocError> {
+    pub(crate) fn of(
+        alloc: Global,
+        arcs: &[ArcTable],
+        order: &Order,
+    ) -> Result<Network, AllocError> {
         let points = order.points.len();
         let mut network = Network {
             firsts: Vec::with_capacity(alloc, arcs.len())?,

@@ -5,6 +5,11 @@ ghost use Rattle.vd_cost_network_sweeps.specs.Rows.{row_in};
 
 use std::alloc::{AllocError, Global};
 
+/// A unit of cost, in parts: 2 to the power of so many bits.
+pub const UNIT: i64 = 256;
+
+pub const UNIT_BITS: u32 = 8;
+
 /// More than any sum of costs in parts: what it would cost to do what cannot be done.
 pub const FAR: i64 = 1125899906842624;
 

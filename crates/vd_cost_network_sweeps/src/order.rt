@@ -14,7 +14,7 @@ pub struct Order {
 
 impl Order {
     /// The order of a problem's points.
-    pub fn of(
+    pub(crate) fn of(
         alloc: Global,
         problem: &Problem,
         switches: &[SwitchTable],

@@ -6,6 +6,7 @@ use crate::flow::Flow;
 use crate::nets::{Nets, count_at, spread};
 use crate::network::{End, Network};
 use crate::numbers::{settings_at, small_at, small_row_at};
+use crate::progress::{Ending, Progress};
 use crate::shares::{Shares, Split, split_at, splits};
 use crate::tables::Tables;
 use crate::witness::Witness;
@@ -25,17 +26,6 @@ pub struct Reach {
     pub patience: u32,
     /// A list is read off once in so many sweeps and one more; a power of two less one.
     pub pause: u32,
-}
-
-/// Why a climb ended.
-#[derive(Clone, Copy, PartialEq, Eq, Debug)]
-pub enum Ending {
-    /// A list costs no more than the bound.
-    Shown,
-    /// The bound did not rise any more.
-    Idle,
-    /// So many sweeps were made, or so much was computed.
-    Cut,
 }
 
 /// What sweeps either way came to.
@@ -350,26 +340,16 @@ impl State {
         reach: Reach,
         witness: &mut Witness,
     ) -> Result<Ending, AllocError> {
-        let mut bound = i64::MIN;
-        let mut idle: u32 = 0;
+        let mut progress = Progress::none();
         for turn in 0..reach.sweeps {
             let forward = !self.is_forward;
             self.sweep(tables, network, forward);
-            let reached = self.bound();
-            idle = if reached > bound {
-                0
-            } else {
-                idle.saturating_add(1)
-            };
-            bound = bound.max(reached);
+            progress.note(self.bound());
             if turn & reach.pause >= reach.pause.saturating_sub(1) && !self.is_forward {
                 witness.take_cheaper(self.decoded(alloc, tables, network, &[])?);
             }
-            if bound >= witness.cost {
-                return Ok(Ending::Shown);
-            }
-            if idle > reach.patience {
-                return Ok(Ending::Idle);
+            if let Some(ending) = progress.ending(witness.cost, reach.patience) {
+                return Ok(ending);
             }
             if self.work() >= reach.work {
                 break;

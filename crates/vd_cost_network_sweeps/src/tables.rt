@@ -191,7 +191,7 @@ fn in_steps(amount: i64, bits: u32) -> i32 {
 }
 
 /// What a point costs at a setting, in parts.
-fn cost_at(points: &[PointTable], point: usize, setting: usize) -> i64 {
+pub fn cost_at(points: &[PointTable], point: usize, setting: usize) -> i64 {
     match points.get(point) {
         Some(table) => match table.costs.as_slice().get(setting) {
             Some(cost) => *cost,

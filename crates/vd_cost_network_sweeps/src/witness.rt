@@ -34,7 +34,7 @@ impl Witness {
     }
 
     /// Takes the place of this one if the other costs less.
-    pub(crate) fn take_cheaper(&mut self, other: Witness) {
+    pub fn take_cheaper(&mut self, other: Witness) {
         if other.cost < self.cost {
             *self = other;
         }

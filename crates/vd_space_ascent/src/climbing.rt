@@ -1,9 +1,8 @@
 //! The climb over the slots and uses of a problem: sweeps in ever greater parts of a unit, until parts are whole.
 
 use crate::network::Plain;
-use crate::tables::{UNIT, UNIT_BITS};
 use std::alloc::{AllocError, Global};
-use vd_cost_network_sweeps::{Nets, State, Tables};
+use vd_cost_network_sweeps::{Ending, Nets, Progress, State, Tables, UNIT, UNIT_BITS, Witness};
 
 /// A level of the climb.
 #[derive(Clone, Copy)]
@@ -45,12 +44,12 @@ const PATIENCE: u32 = 12;
 
 /// What shifts come to, in parts, at the end of all levels, or of the first try where that shows that a list costs least.
 pub(crate) fn climbed(alloc: Global, plain: &Plain) -> Result<Nets, AllocError> {
-    let start = plain.no_nets(alloc)?;
-    let (first, is_shown) = climbed_from(alloc, plain, FIRST, start)?;
-    if is_shown {
+    let start = plain.layout.no_nets(alloc)?;
+    let (first, ending) = climbed_from(alloc, plain, FIRST, start)?;
+    if ending == Ending::Shown {
         return Ok(first);
     }
-    let mut nets = plain.no_nets(alloc)?;
+    let mut nets = plain.layout.no_nets(alloc)?;
     for level in LEVELS {
         let (next, _) = climbed_from(alloc, plain, level, nets)?;
         nets = next;
@@ -58,51 +57,40 @@ pub(crate) fn climbed(alloc: Global, plain: &Plain) -> Result<Nets, AllocError> 
     Ok(nets)
 }
 
-/// The same at the end of one level, at the greatest bound, the last of equals; and whether that bound shows that a list which was
-/// met costs least.
+/// The same at the end of one level, at the greatest bound, the last of equals; and why the level ended. Costs are whole units, so
+/// a list that costs less than a unit more than the bound costs least.
 fn climbed_from(
     alloc: Global,
     plain: &Plain,
     level: Level,
     start: Nets,
-) -> Result<(Nets, bool), AllocError> {
+) -> Result<(Nets, Ending), AllocError> {
     let tables = plain.in_steps(alloc, level.bits)?;
     let unit = UNIT.wrapping_shr(tables.bits);
     let mut state = plain.state_ahead(alloc, &tables, &start)?;
     let mut nets = start;
-    let mut bound = i64::MIN;
-    let mut known = i64::MAX;
-    let mut idle: u32 = 0;
+    let mut progress = Progress::none();
+    let mut known = Witness::none(alloc);
     for turn in 0..level.sweeps {
         sweep(plain, &tables, &mut state, turn % 2 == 1);
-        let reached = state.bound();
-        idle = if reached > bound {
-            0
-        } else {
-            idle.saturating_add(1)
-        };
-        if reached >= bound {
-            bound = reached;
+        if progress.note(state.bound()) {
             plain.write_nets(&tables, &state, &mut nets);
         }
         if turn % 4 == 3 {
-            let list = state.decoded(alloc, &tables, &plain.network, &[])?;
-            known = known.min(list.cost);
+            known.take_cheaper(state.decoded(alloc, &tables, &plain.layout.network, &[])?);
         }
-        if bound > known.saturating_sub(unit) {
-            return Ok((nets, true));
-        }
-        if idle > PATIENCE {
-            break;
+        let aim = known.cost.saturating_sub(unit).saturating_add(1);
+        if let Some(ending) = progress.ending(aim, PATIENCE) {
+            return Ok((nets, ending));
         }
     }
-    Ok((nets, false))
+    Ok((nets, Ending::Cut))
 }
 
 /// One sweep, over all points.
 fn sweep(plain: &Plain, tables: &Tables, state: &mut State, forward: bool) {
-    for point in 0..plain.settings.len() {
+    for point in 0..plain.layout.settings.len() {
         state.wake(point);
     }
-    state.sweep(tables, &plain.network, forward);
+    state.sweep(tables, &plain.layout.network, forward);
 }

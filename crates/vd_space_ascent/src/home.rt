@@ -7,7 +7,7 @@ use vd_cost_network_sweeps::{End, FAR, Nets, nearest_before, number_at};
 
 /// Sends home what all slots have above their least.
 pub(crate) fn send_home(alloc: Global, plain: &Plain, nets: &mut Nets) -> Result<(), AllocError> {
-    let points = plain.settings.len();
+    let points = plain.layout.settings.len();
     for step in 0..points {
         send_back(alloc, plain, points - 1 - step, nets)?;
     }
@@ -21,7 +21,7 @@ fn send_back(
     point: usize,
     nets: &mut Nets,
 ) -> Result<(), AllocError> {
-    let ends = plain.network.of_point(point);
+    let ends = plain.layout.network.of_point(point);
     for end in ends {
         collect(plain, *end, nets);
     }
@@ -30,7 +30,7 @@ fn send_back(
     };
     let totals = totals_of(alloc, plain, ends, point, nets)?;
     let least = least_of(totals.as_slice());
-    for (total, setting) in totals.iter().zip(plain.settings_of(point)) {
+    for (total, setting) in totals.iter().zip(plain.layout.settings_of(point)) {
         nets.add(nearest, *setting, least.saturating_sub(*total));
     }
     Ok(())
@@ -38,7 +38,7 @@ fn send_back(
 
 /// Takes from a use what it costs at least from each place at this end, and puts it on the slot.
 fn collect(plain: &Plain, end: End, nets: &mut Nets) {
-    for setting in plain.settings_of(end.point) {
+    for setting in plain.layout.settings_of(end.point) {
         let least = least_after(plain, end, *setting, nets);
         nets.put(end, *setting, least);
     }
@@ -49,7 +49,7 @@ fn least_after(plain: &Plain, end: End, setting: usize, nets: &Nets) -> i64 {
     let arcs = plain.tables.arcs.as_slice();
     let amounts = nets.row(end.turned());
     let mut least = FAR;
-    for partner in plain.settings_of(end.other) {
+    for partner in plain.layout.settings_of(end.other) {
         let price = end.price(arcs, setting, *partner);
         least = least.min(price.saturating_sub(number_at(amounts, *partner)));
     }
@@ -65,7 +65,7 @@ fn totals_of(
     nets: &Nets,
 ) -> Result<Vec<i64>, AllocError> {
     let mut totals = Vec::new(alloc);
-    for setting in plain.settings_of(point) {
+    for setting in plain.layout.settings_of(point) {
         let mut total = plain.cost_at(point, *setting);
         for end in ends {
             total = total.saturating_add(number_at(nets.row(*end), *setting));

@@ -11,8 +11,8 @@ const LIFT: i64 = 256_000_000;
 
 /// Lifts all that went, from the last to the first: by that time those are lifted that it had for partners.
 pub(crate) fn lift(alloc: Global, plain: &Plain, nets: &mut Nets) -> Result<(), AllocError> {
-    let mut lifts = plain.no_nets(alloc)?;
-    for death in plain.left.deaths.iter().rev() {
+    let mut lifts = plain.layout.no_nets(alloc)?;
+    for death in plain.layout.left.deaths.iter().rev() {
         lift_one(plain, death, nets, &mut lifts);
     }
     Ok(())
@@ -22,8 +22,8 @@ pub(crate) fn lift(alloc: Global, plain: &Plain, nets: &mut Nets) -> Result<(), 
 fn lift_one(plain: &Plain, death: &Death, nets: &mut Nets, lifts: &mut Nets) {
     let arcs = plain.tables.arcs.as_slice();
     let mut sum = LIFT;
-    for end in plain.network.of_point(death.point) {
-        if !is_at(death, *end) {
+    for end in plain.layout.network.of_point(death.point) {
+        if !death.is_at(*end) {
             let need = needed(arcs, lifts, *end, death.setting);
             nets.add(*end, death.setting, 0i64.saturating_sub(need));
             sum = sum.saturating_add(need);
@@ -32,14 +32,6 @@ fn lift_one(plain: &Plain, death: &Death, nets: &mut Nets, lifts: &mut Nets) {
     if let Some(end) = death.end {
         nets.add(end, death.setting, sum);
         lifts.add(end, death.setting, sum);
-    }
-}
-
-/// Whether it went at this side of a use.
-fn is_at(death: &Death, end: End) -> bool {
-    match death.end {
-        Some(own) => own.at == end.at && own.side == end.side,
-        None => false,
     }
 }
 

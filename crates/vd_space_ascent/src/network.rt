@@ -8,7 +8,7 @@ use std::alloc::{AllocError, Global};
 use vd_base::Proto;
 use vd_base_lists::Items;
 use vd_cost_network_prefix::NetworkTables;
-use vd_cost_network_sweeps::{FAR, Left, Nets, Network, Order, State, Tables, settings_at};
+use vd_cost_network_sweeps::{Layout, Nets, State, Tables, cost_at};
 use vd_space::Problem;
 use vd_space_terms::candidates;
 
@@ -16,13 +16,7 @@ use vd_space_terms::candidates;
 #[derive(Drop)]
 pub struct Plain {
     pub tables: NetworkTables,
-    order: Order,
-    pub network: Network,
-    pub left: Left,
-    /// How many settings each point has, with those that are not left.
-    counts: Vec<usize>,
-    /// By point.
-    pub settings: Vec<Vec<usize>>,
+    pub layout: Layout,
 }
 
 impl Plain {
@@ -43,57 +37,26 @@ impl Plain {
         candidates: &[Items<bool>],
         tables: NetworkTables,
     ) -> Result<Option<Plain>, AllocError> {
-        let order = Order::of(alloc, problem, &[])?;
-        let network = Network::of(alloc, tables.arcs.as_slice(), &order)?;
-        let left = Left::of(alloc, problem, &tables, candidates, &network, &order)?;
-        let Some(settings) = left.settings(alloc)? else {
-            return Ok(None);
-        };
-        let counts = left.counts(alloc)?;
-        Ok(Some(Plain {
-            tables,
-            order,
-            network,
-            left,
-            counts,
-            settings,
-        }))
-    }
-
-    /// The places that are left for a slot.
-    pub(crate) fn settings_of(&self, point: usize) -> &[usize] {
-        settings_at(self.settings.as_slice(), point)
+        match Layout::of(alloc, problem, &tables, candidates)? {
+            Some(layout) => Ok(Some(Plain { tables, layout })),
+            None => Ok(None),
+        }
     }
 
     /// What a slot costs at a place, in parts.
     pub(crate) fn cost_at(&self, point: usize, setting: usize) -> i64 {
-        match self.tables.points.as_slice().get(point) {
-            Some(table) => match table.costs.as_slice().get(setting) {
-                Some(cost) => *cost,
-                None => FAR,
-            },
-            None => FAR,
-        }
-    }
-
-    /// No amounts.
-    pub(crate) fn no_nets(&self, alloc: Global) -> Result<Nets, AllocError> {
-        Nets::none(
-            alloc,
-            self.network.firsts.as_slice(),
-            self.counts.as_slice(),
-        )
+        cost_at(self.tables.points.as_slice(), point, setting)
     }
 
     /// What slots and uses cost at the places that are left, where a step is at least so many bits more than a part.
     pub(crate) fn in_steps(&self, alloc: Global, bits: u32) -> Result<Tables, AllocError> {
-        let settings = self.settings.as_slice();
+        let layout = &self.layout;
         Tables::in_steps(
             alloc,
             &self.tables,
-            &self.network,
-            &self.order,
-            settings,
+            &layout.network,
+            &layout.order,
+            layout.settings.as_slice(),
             bits,
         )
     }
@@ -105,12 +68,26 @@ impl Plain {
         tables: &Tables,
         nets: &Nets,
     ) -> Result<State, AllocError> {
-        let settings = self.settings.as_slice();
-        State::from_nets_ahead(alloc, tables, &self.network, self.left.most, settings, nets)
+        let layout = &self.layout;
+        State::from_nets_ahead(
+            alloc,
+            tables,
+            &layout.network,
+            layout.left.most,
+            layout.settings.as_slice(),
+            nets,
+        )
     }
 
     /// Writes into the amounts what the shifts of a state come to.
     pub(crate) fn write_nets(&self, tables: &Tables, state: &State, nets: &mut Nets) {
-        state.write_nets(tables, &self.network, self.settings.as_slice(), &[], nets);
+        let layout = &self.layout;
+        state.write_nets(
+            tables,
+            &layout.network,
+            layout.settings.as_slice(),
+            &[],
+            nets,
+        );
     }
 }

@@ -7,15 +7,10 @@ use std::alloc::{AllocError, Global};
 use vd_base::{Proto, SlotId};
 use vd_base_lists::Items;
 use vd_cost_network_prefix::{ArcTable, NetworkTables, PointTable};
-use vd_cost_network_sweeps::NOTHING_LEFT;
+use vd_cost_network_sweeps::{NOTHING_LEFT, UNIT};
 use vd_space::{Problem, Use};
 use vd_space_tables::merged_values;
 use vd_space_terms::move_prices;
-
-/// A unit of cost, in parts: 2 to the power of so many bits.
-pub(crate) const UNIT: i64 = 256;
-
-pub(crate) const UNIT_BITS: u32 = 8;
 
 /// The tables of slots and uses without shifts, as far as sweeps look at them: what each costs by the places of the protocols. At
 /// these places each slot may stand.

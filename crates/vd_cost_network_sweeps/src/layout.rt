@@ -1,0 +1,63 @@
+//! What sweeps go over.
+
+use crate::left::Left;
+use crate::nets::Nets;
+use crate::network::Network;
+use crate::numbers::settings_at;
+use crate::order::Order;
+use std::alloc::{AllocError, Global};
+use vd_base_lists::Items;
+use vd_cost_network_prefix::NetworkTables;
+use vd_space::Problem;
+
+/// The points and arcs of a problem, in the order of sweeps, and at which settings each point may be.
+#[derive(Drop)]
+pub struct Layout {
+    pub order: Order,
+    pub network: Network,
+    pub left: Left,
+    /// How many settings each point has, with those that are not left.
+    pub counts: Vec<usize>,
+    /// Those that are left, by point.
+    pub settings: Vec<Vec<usize>>,
+}
+
+impl Layout {
+    /// By the tables without shifts, and by the places at which the slots may stand. None where a point has no setting left, since
+    /// then no list is valid.
+    pub fn of(
+        alloc: Global,
+        problem: &Problem,
+        tables: &NetworkTables,
+        candidates: &[Items<bool>],
+    ) -> Result<Option<Layout>, AllocError> {
+        let order = Order::of(alloc, problem, tables.switches.as_slice())?;
+        let network = Network::of(alloc, tables.arcs.as_slice(), &order)?;
+        let left = Left::of(alloc, problem, tables, candidates, &network, &order)?;
+        let Some(settings) = left.settings(alloc)? else {
+            return Ok(None);
+        };
+        let counts = left.counts(alloc)?;
+        Ok(Some(Layout {
+            order,
+            network,
+            left,
+            counts,
+            settings,
+        }))
+    }
+
+    /// The settings that are left for a point.
+    pub fn settings_of(&self, point: usize) -> &[usize] {
+        settings_at(self.settings.as_slice(), point)
+    }
+
+    /// No amounts.
+    pub fn no_nets(&self, alloc: Global) -> Result<Nets, AllocError> {
+        Nets::none(
+            alloc,
+            self.network.firsts.as_slice(),
+            self.counts.as_slice(),
+        )
+    }
+}
