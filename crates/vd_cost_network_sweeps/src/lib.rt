@@ -2,9 +2,9 @@
 //! of their least values rises. Nothing is promised of the amounts.
 #![tactic(auto)]
 
-mod flow;
 mod layout;
 mod left;
+mod messages;
 mod nets;
 mod network;
 mod numbers;

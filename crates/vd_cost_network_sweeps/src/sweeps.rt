@@ -2,7 +2,7 @@
 //! then has above its least to the arcs that are ahead. A sweep visits a point again only where something changed that it is
 //! told, or that it costs.
 
-use crate::flow::Flow;
+use crate::messages::Messages;
 use crate::nets::{Nets, count_at, spread};
 use crate::network::{End, Network};
 use crate::numbers::{settings_at, small_at, small_row_at};
@@ -31,8 +31,8 @@ pub struct Reach {
 /// What sweeps either way came to.
 #[derive(Drop)]
 pub struct State {
-    forward: Flow,
-    backward: Flow,
+    forward: Messages,
+    backward: Messages,
     /// Whether the last sweep went forward.
     is_forward: bool,
     shares: Shares,
@@ -54,8 +54,8 @@ impl State {
         most: usize,
     ) -> Result<State, AllocError> {
         Ok(State {
-            forward: Flow::nothing(alloc, tables, network, true)?,
-            backward: Flow::nothing(alloc, tables, network, false)?,
+            forward: Messages::nothing(alloc, tables, network, true)?,
+            backward: Messages::nothing(alloc, tables, network, false)?,
             is_forward: true,
             shares: Shares::room(alloc, most)?,
             splits: splits(alloc, network, true)?,
@@ -127,7 +127,7 @@ impl State {
     }
 
     /// What the last sweep came to.
-    fn last(&self) -> &Flow {
+    fn last(&self) -> &Messages {
         if self.is_forward {
             &self.forward
         } else {
@@ -144,8 +144,8 @@ impl State {
     /// visited.
     pub fn rise(&self, tables: &Tables, point: usize, setting: usize) -> i64 {
         let cost = small_at(small_row_at(tables.costs.as_slice(), point), setting);
-        let told = small_at(self.forward.sums(point), setting);
-        let told_back = small_at(self.backward.sums(point), setting);
+        let told = small_at(self.forward.incoming(point), setting);
+        let told_back = small_at(self.backward.incoming(point), setting);
         let total = cost.wrapping_add(told).wrapping_add(told_back);
         i64::from(total).saturating_sub(self.last().least(point))
     }
@@ -172,16 +172,16 @@ impl State {
         settings: &[Vec<usize>],
         counts: &[usize],
     ) -> Result<Nets, AllocError> {
-        let flow = self.last();
+        let last = self.last();
         let mut nets = Nets {
             firsts: Vec::with_capacity(alloc, network.firsts.len())?,
             seconds: Vec::with_capacity(alloc, network.firsts.len())?,
         };
         for first in &network.firsts {
             let (on_first, on_second) = if first.is_ahead(self.is_forward) {
-                (flow.held(first.at), flow.told(first.at))
+                (last.held(first.at), last.told(first.at))
             } else {
-                (flow.told(first.at), flow.held(first.at))
+                (last.told(first.at), last.held(first.at))
             };
             let firsts = settings_at(settings, first.point);
             let seconds = settings_at(settings, first.other);
@@ -205,12 +205,12 @@ impl State {
         fixed: &[Option<usize>],
         nets: &mut Nets,
     ) {
-        let flow = self.last();
+        let last = self.last();
         for first in &network.firsts {
             let (on_first, on_second) = if first.is_ahead(self.is_forward) {
-                (flow.held(first.at), flow.told(first.at))
+                (last.held(first.at), last.told(first.at))
             } else {
-                (flow.told(first.at), flow.held(first.at))
+                (last.told(first.at), last.held(first.at))
             };
             nets.put_left(*first, on_first, settings, fixed, tables.bits);
             nets.put_left(first.turned(), on_second, settings, fixed, tables.bits);
@@ -309,7 +309,7 @@ impl State {
     /// it; behind a sweep forward, with what it holds of these.
     fn best_setting(&mut self, network: &Network, point: usize) -> usize {
         if !self.is_forward {
-            return self.shares.best(self.backward.sums(point));
+            return self.shares.best(self.backward.incoming(point));
         }
         self.shares.begin_with_nothing();
         for end in network.ahead(point, true) {
@@ -385,8 +385,8 @@ fn work_of(costs: &[i32], ends: &[End]) -> u64 {
 /// What a sweep does at a point, which has these ends of arcs ahead.
 fn visit(
     shares: &mut Shares,
-    here: &mut Flow,
-    back: &mut Flow,
+    here: &mut Messages,
+    back: &mut Messages,
     tables: &Tables,
     ahead: &[End],
     split: Option<Split>,
@@ -394,7 +394,7 @@ fn visit(
 ) {
     let costs = small_row_at(tables.costs.as_slice(), point);
     here.count(work_of(costs, ahead));
-    shares.sum_up(costs, here.sums(point), back.sums(point));
+    shares.sum_up(costs, here.incoming(point), back.incoming(point));
     let least = shares.least();
     here.note(point, least);
     if let Some(split) = split {
@@ -404,7 +404,13 @@ fn visit(
 }
 
 /// Gives their shares to the arcs that are ahead.
-fn give_all(shares: &Shares, here: &mut Flow, back: &mut Flow, tables: &Tables, ahead: &[End]) {
+fn give_all(
+    shares: &Shares,
+    here: &mut Messages,
+    back: &mut Messages,
+    tables: &Tables,
+    ahead: &[End],
+) {
     let Some(mut turn) = shares.first_turn() else {
         return;
     };
@@ -417,8 +423,8 @@ fn give_all(shares: &Shares, here: &mut Flow, back: &mut Flow, tables: &Tables, 
 /// The same, where all goes to the arc to the nearest point before it.
 fn send_back(
     shares: &mut Shares,
-    here: &mut Flow,
-    back: &mut Flow,
+    here: &mut Messages,
+    back: &mut Messages,
     tables: &Tables,
     ends: &[End],
     point: usize,
@@ -449,7 +455,14 @@ fn send_back(
 }
 
 /// Gives the share of a turn to the arc of an end, and wakes the other point where it is told something else by that.
-fn give(shares: &Shares, here: &mut Flow, back: &mut Flow, tables: &Tables, end: End, turn: i32) {
+fn give(
+    shares: &Shares,
+    here: &mut Messages,
+    back: &mut Messages,
+    tables: &Tables,
+    end: End,
+    turn: i32,
+) {
     if here.give(tables, end, back.told(end.at), shares, turn) {
         here.wake(end.other);
         back.wake(end.other);

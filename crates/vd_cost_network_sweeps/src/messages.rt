@@ -1,4 +1,4 @@
-//! What sweeps one way carry over the arcs.
+//! The messages that sweeps one way carry over the arcs.
 
 use crate::network::{End, Network};
 use crate::numbers::{
@@ -58,17 +58,17 @@ impl Carried {
 
     /// Computes what is told of what is held, where the far point is at this end of the arc, and changes by that what all arcs
     /// tell that point. Answers whether it is another amount than before at some setting.
-    fn tell(&mut self, tables: &Tables, end: End, sums: &mut Vec<i32>) -> bool {
+    fn tell(&mut self, tables: &Tables, end: End, incoming: &mut Vec<i32>) -> bool {
         let by_near = tables.rows(end.turned());
         if by_near.len() == 2 {
-            self.tell_of_two(by_near[0].as_slice(), by_near[1].as_slice(), sums)
+            self.tell_of_two(by_near[0].as_slice(), by_near[1].as_slice(), incoming)
         } else {
-            self.tell_of_all(tables.rows(end), sums)
+            self.tell_of_all(tables.rows(end), incoming)
         }
     }
 
     /// The same by what the arc costs from either of the two settings of the near point.
-    fn tell_of_two(&mut self, first: &[i32], second: &[i32], sums: &mut Vec<i32>) -> bool {
+    fn tell_of_two(&mut self, first: &[i32], second: &[i32], incoming: &mut Vec<i32>) -> bool {
         let from_first = small_at(self.held.as_slice(), 0);
         let from_second = small_at(self.held.as_slice(), 1);
         let prices = first.iter().zip(second);
@@ -80,20 +80,20 @@ impl Carried {
             let more = least.wrapping_sub(*told);
             changes |= more;
             *told = least;
-            add_small(sums, place, more);
+            add_small(incoming, place, more);
         }
         changes != 0
     }
 
     /// The same by what the arc costs, with a row for each setting of the far point.
-    fn tell_of_all(&mut self, rows: &[Vec<i32>], sums: &mut Vec<i32>) -> bool {
+    fn tell_of_all(&mut self, rows: &[Vec<i32>], incoming: &mut Vec<i32>) -> bool {
         let mut changes = 0;
         for (place, (told, prices)) in self.told.iter_mut().zip(rows).enumerate() {
             let least = least_after(prices.as_slice(), self.held.as_slice());
             let more = least.wrapping_sub(*told);
             changes |= more;
             *told = least;
-            add_small(sums, place, more);
+            add_small(incoming, place, more);
         }
         changes != 0
     }
@@ -108,12 +108,12 @@ fn least_after(prices: &[i32], held: &[i32]) -> i32 {
     least
 }
 
-/// What sweeps one way carry over all arcs.
+/// The messages of sweeps one way: what they carry over all arcs.
 #[derive(Drop)]
-pub struct Flow {
+pub struct Messages {
     arcs: Vec<Carried>,
     /// By point, and then by its settings: what all arcs tell it together.
-    sums: Vec<Vec<i32>>,
+    incoming: Vec<Vec<i32>>,
     /// By point: the least that it costs with what it is told and what it holds.
     leasts: Vec<i32>,
     /// The sum of these. No list costs less.
@@ -124,18 +124,18 @@ pub struct Flow {
     is_waiting: Vec<bool>,
 }
 
-impl Flow {
+impl Messages {
     /// Nothing is held anywhere, and all points wait.
     pub fn nothing(
         alloc: Global,
         tables: &Tables,
         network: &Network,
         forward: bool,
-    ) -> Result<Flow, AllocError> {
+    ) -> Result<Messages, AllocError> {
         let mut arcs = Vec::with_capacity(alloc, network.firsts.len())?;
-        let mut sums = Vec::with_capacity(alloc, tables.costs.len())?;
+        let mut incoming = Vec::with_capacity(alloc, tables.costs.len())?;
         for costs in &tables.costs {
-            sums.push(small_zeros(alloc, costs.len())?)?;
+            incoming.push(small_zeros(alloc, costs.len())?)?;
         }
         for first in &network.firsts {
             let near = if first.is_ahead(forward) {
@@ -147,15 +147,15 @@ impl Flow {
             let near_count = tables.rows(near).len();
             let far_count = tables.rows(far).len();
             let mut carried = Carried::nothing(alloc, near_count, far_count)?;
-            if far.point < sums.len() {
-                carried.tell(tables, far, &mut sums[far.point]);
+            if far.point < incoming.len() {
+                carried.tell(tables, far, &mut incoming[far.point]);
             }
             arcs.push(carried)?;
         }
         let points = network.by_point.len();
-        Ok(Flow {
+        Ok(Messages {
             arcs,
-            sums,
+            incoming,
             leasts: small_zeros(alloc, points)?,
             bound: 0,
             work: 0,
@@ -182,8 +182,8 @@ impl Flow {
     }
 
     /// What all arcs tell a point together, by its settings.
-    pub(crate) fn sums(&self, point: usize) -> &[i32] {
-        small_row_at(self.sums.as_slice(), point)
+    pub(crate) fn incoming(&self, point: usize) -> &[i32] {
+        small_row_at(self.incoming.as_slice(), point)
     }
 
     /// What is told over an arc, by the settings of its far point.
@@ -210,12 +210,12 @@ impl Flow {
         amounts: &[i64],
         places: &[usize],
     ) {
-        if near.at < self.arcs.len() && near.other < self.sums.len() {
+        if near.at < self.arcs.len() && near.other < self.incoming.len() {
             let carried = &mut self.arcs[near.at];
             for (held, place) in carried.held.iter_mut().zip(places) {
                 *held = nearest_small(number_at(amounts, *place).wrapping_shr(tables.bits));
             }
-            carried.tell(tables, near.turned(), &mut self.sums[near.other]);
+            carried.tell(tables, near.turned(), &mut self.incoming[near.other]);
         }
     }
 
@@ -242,13 +242,13 @@ impl Flow {
         shares: &Shares,
         turn: i32,
     ) -> bool {
-        if end.at < self.arcs.len() && end.other < self.sums.len() {
+        if end.at < self.arcs.len() && end.other < self.incoming.len() {
             let carried = &mut self.arcs[end.at];
             if !carried.hold(costs, shares, turn) {
                 return false;
             }
             let prices = carried.prices();
-            let has_changed = carried.tell(tables, end.turned(), &mut self.sums[end.other]);
+            let has_changed = carried.tell(tables, end.turned(), &mut self.incoming[end.other]);
             self.count(prices);
             return has_changed;
         }
@@ -263,13 +263,13 @@ impl Flow {
         shares: &Shares,
         turn: i32,
     ) -> bool {
-        if end.at < self.arcs.len() && end.other < self.sums.len() {
+        if end.at < self.arcs.len() && end.other < self.incoming.len() {
             let carried = &mut self.arcs[end.at];
             if !carried.lower(shares, turn) {
                 return false;
             }
             let prices = carried.prices();
-            let has_changed = carried.tell(tables, end.turned(), &mut self.sums[end.other]);
+            let has_changed = carried.tell(tables, end.turned(), &mut self.incoming[end.other]);
             self.count(prices);
             return has_changed;
         }
