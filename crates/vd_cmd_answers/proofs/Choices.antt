@@ -29,6 +29,7 @@ use Rattle.vd_space_optimum.proofs.Front.{cheapest}
 use Rattle.vd_search.specs.Answers.{nat_or_zero}
 use Rattle.vd_search_stages.specs.Choices.{ChoiceOutcomes, IsChosen, needed}
 use Rattle.vd_search_stages.specs.Confirming.{confirmed}
+use Rattle.vd_search_stages.specs.Optimum.{assigned, assignment_of}
 use Rattle.vd_search_stages.specs.declared.selecting.SelectFault.{SelectFault}
 use Rattle.vd_search_stages.specs.declared.selecting.SelectFault.TheVariants as select_fault
 use Rattle.vd_space.specs.declared.problem.Problem.{Problem}
@@ -46,7 +47,7 @@ use Rattle.vd_cmd_frontend.specs.Outcomes.{LabelOutcomes, TextOutcomes}
 use Rattle.vd_cmd_frontend.specs.Labelling.{labels_of}
 use Rattle.vd_cmd_frontend.specs.Sources.{HoldsSource}
 use Rattle.vd_cmd_choose.specs.Certifying.{as_certificate, as_proved, certificate_of, certificate_plan, certificate_then, certified_plan, confirmed_plan, proved_of, proved_text}
-use Rattle.vd_cmd_choose.specs.Choice.{Chosen, as_searched, assigned, assignment_of, choice_then, chosen_by, printed_at, search_then, source_choice_then}
+use Rattle.vd_cmd_choose.specs.Choice.{Chosen, as_searched, choice_then, chosen_by, printed_at, search_then, source_choice_then}
 use Rattle.vd_cmd_choose.specs.Choosing.{certificate_file, choice_answer, chosen_answer}
 use Rattle.vd_cmd_choose.specs.Searching.{Certified, GaveUp, Searched, is_accepted, searched_by}
 use Rattle.vd_cmd_choose.specs.Outcomes.{CertificateOutcomes}

@@ -23,6 +23,7 @@ use Rattle.vd_projection.specs.Programs.{host_codes, joint_of}
 use Rattle.vd_host_text.specs.Text.{program_text}
 use Rattle.vd_host_text.specs.declared.program.Digest.{Digest}
 use Rattle.vd_search_stages.specs.Choices.{IsChosen}
+use Rattle.vd_search_stages.specs.Optimum.{assigned}
 use Rattle.vd_space.specs.declared.problem.Problem.{Problem}
 use Rattle.vd_space.specs.Reading.{problem_of}
 use Rattle.vd_space.proofs.Front.{is_problem}
@@ -32,7 +33,7 @@ use Rattle.vd_cmd_plan.specs.Plans.{answer_then}
 use Rattle.vd_cmd_plan.specs.declared.answer.Answer.{Answer}
 use Rattle.vd_cmd_plan.specs.declared.status.Status.TheVariants.{Ended, NoAssignment}
 use Rattle.vd_cmd_frontend.specs.Sources.{HoldsSource}
-use Rattle.vd_cmd_choose.specs.Choice.{assigned, assigned_answer, chosen_by, printed_at}
+use Rattle.vd_cmd_choose.specs.Choice.{assigned_answer, chosen_by, printed_at}
 use Rattle.vd_cmd_compile.specs.Compiling.{compiled_at, compiled_for, host_file, host_files, plan_for}
 use Rattle.vd_cmd_compile.proofs.Front.{code_count}
 use Rattle.vd_cmd_answers.specs.Answers.{Stands, TellsCompiled}

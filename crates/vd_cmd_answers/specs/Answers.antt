@@ -6,6 +6,7 @@ use Rattle.vd_outside.specs.declared.stored.Stored.{Stored}
 use Rattle.vd_core.specs.declared.source.Source.{Source}
 use Rattle.vd_anf.specs.Normal.{normal_form}
 use Rattle.vd_core.specs.declared.normal.NormalForm.{NormalForm}
+use Rattle.vd_search_stages.specs.declared.optimum.Assignment.{Assignment}
 use Rattle.vd_cmd_rewrite.specs.RunPrograms.{IsRunProgram}
 use Rattle.vd_constraints.specs.Rules.{system_of}
 use Rattle.vd_constraints.specs.Satisfies.{IsLeast}
@@ -25,7 +26,6 @@ use Rattle.vd_cmd_choose.specs.Certifying.{certify_plan}
 use Rattle.vd_cmd_choose.specs.Outcomes.{CertificateOutcomes}
 use Rattle.vd_cmd_compile.specs.Compiling.{host_file, plan_for}
 use Rattle.vd_cmd_choose.specs.Choice.{IsSelected, printed_at}
-use Rattle.vd_cmd_choose.specs.declared.choice.Assignment.{Assignment}
 
 -- ---- labels
 

@@ -1,6 +1,6 @@
 -- What a search comes to, whatever functions pick the outcomes.
-use Rattle.std.proofs.Common.{◌≡◌, ℕ, true, Option, Some, None, List, map, Result, Ok, Err, refl, sym, ap, ◌∙◌, subst}
-use Rattle.std.specs.Prelude.{is_ok, nat_le, nat_lt, option_map, IfOk, IfErr}
+use Rattle.std.proofs.Common.{◌≡◌, ℕ, true, Option, Some, None, List, Ok, Err, refl, sym, ap, ◌∙◌, subst}
+use Rattle.std.specs.Prelude.{is_ok, nat_le, nat_lt, option_map}
 use Rattle.std.proofs.lemmas.Bool.{and_from, le-leb, lt-ltb, cond-true}
 use Rattle.vd_core.specs.declared.normal.NormalForm.{NormalForm}
 use Rattle.vd_constraints.specs.Rules.{system_of}
@@ -10,29 +10,26 @@ use Rattle.vd_bound.specs.Marks.{count_of, is_expanded}
 use Rattle.vd_search_certificate.specs.declared.certificate.Certificate.{Certificate}
 use Rattle.vd_search_certificate.specs.Texts.{text_of}
 use Rattle.vd_search_certificate.proofs.Front.{outcome_once}
-use Rattle.vd_search.specs.Answers.{nat_or_zero}
 use Rattle.vd_space.specs.declared.problem.Problem.{Problem}
-use Rattle.vd_space.specs.Costs.{cost}
 use Rattle.vd_space.specs.Reading.{problem_of}
 use Rattle.vd_space.specs.Spaces.{IsProblem}
 use Rattle.vd_space.specs.Usual.{usual}
-use Rattle.vd_space.specs.Validity.{protocol}
 use Rattle.vd_space_optimum.proofs.Front.{cheapest}
 use Rattle.vd_space_optimum.specs.Cheapest.{IsAssignment}
 use Rattle.vd_search_stages.specs.Choices.{ChoiceOutcomes, IsChosen, needed}
 use Rattle.vd_search_stages.specs.Confirming.{confirmed}
-use Rattle.vd_search_stages.specs.Selecting.{IsAccepted, IsOver, Selects}
+use Rattle.vd_search_stages.specs.Selecting.{IsAccepted, IsOver}
+use Rattle.vd_search_stages.specs.Optimum.{IsOptimum, assigned}
+use Rattle.vd_search_stages.specs.declared.optimum.Assignment.{Assignment}
+use Rattle.vd_search_stages.specs.declared.optimum.Optimum.{Optimum}
 use Rattle.vd_search_stages.specs.declared.selecting.SelectFault.TheVariants as select_fault
-use Rattle.vd_search_stages.specs.declared.selecting.Selection.TheVariants.{Found, NoAssignment}
 use Rattle.vd_search_stages.proofs.Front.{spent_needs, chosen_once}
 use Rattle.vd_cmd_plan.specs.Plans.{Executes}
-use Rattle.vd_cmd_plan.specs.declared.status.Status.{Status}
 use Rattle.vd_cmd_plan.specs.declared.status.Status.TheVariants.{Memory, Spent}
 use Rattle.vd_cmd_plan.proofs.Front.{any_memory, check_step}
-use Rattle.vd_cmd_choose.specs.Choice.{IsChoiceFor, IsSelected, Searches, as_searched, assigned, chosen_by, chosen_of}
+use Rattle.vd_cmd_choose.specs.Choice.{IsChoiceFor, IsSelected, Searches, as_searched, chosen_by, chosen_of}
 use Rattle.vd_cmd_choose.specs.Outcomes.{CertificateOutcomes}
 use Rattle.vd_cmd_choose.specs.Searching.{GaveUp, Certified, is_accepted, searched_by}
-use Rattle.vd_cmd_choose.specs.declared.choice.Assignment.{Assignment}
 use Rattle.vd_cmd_choose.specs.declared.choice.Choice.{Choice}
 
 -- the file of a certificate is read as that certificate
@@ -69,44 +66,22 @@ module _ (program : NormalForm) (l : Labels) (budget : ℕ) where
   pub no_memory : Searches program l budget (Err Memory)
   no_memory = (GaveUp, λ certificates choices files rest. any_memory _ files)
 
-  -- only a lack of memory refuses what was found
-  found_or : (c : Certificate) (list : List ℕ) → IsAccepted problem budget c → IsChosen problem (Some list) → (a : Assignment) → a ≡ assigned problem list
-      → (result : Result Choice Status) → IfOk result (λ choice. choice ≡ given program l (Some a) c) → IfErr result (λ status. status ≡ Memory) → Searches program l budget result
-  found_or c list is chosen a same (Ok choice) found memory =
-      subst (λ (v : Choice). Searches program l budget (Ok v)) (sym (found ∙ ap (λ (b : Assignment). given program l (Some b) c) same)) (searched c (Some list) is chosen)
-  found_or c list is chosen a same (Err status) found memory = subst (λ (s : Status). Searches program l budget (Err s)) (sym memory) no_memory
-
-  -- the protocols and the cost of a selection
-  seen_as : (list : List ℕ) (least : ℕ) (c : Certificate) → Selects problem budget (Found list least c) → (seen : List ℕ) (space : Problem) → seen ≡ list → space ≡ problem
-      → ◌≡◌ {A = Assignment} (record { protocols = map (protocol space) seen; cost = least }) (assigned problem list)
-  seen_as list least c is seen space same spaced =
-      let number : least ≡ nat_or_zero (cost problem list) = sym (ap nat_or_zero is.1) in
-      λ i. record { protocols = map (protocol (spaced i)) (same i); cost = number i }
-
-  pub found_by : (list : List ℕ) (least : ℕ) (c : Certificate) → Selects problem budget (Found list least c) → (seen : List ℕ) (space : Problem) → seen ≡ list → space ≡ problem
-      → (result : Result Choice Status) → IfOk result (λ choice. choice ≡ given program l (Some (record { protocols = map (protocol space) seen; cost = least })) c) → IfErr result (λ status. status ≡ Memory)
-      → Searches program l budget result
-  found_by list least c is seen space same spaced result found memory =
-      found_or c list is.2 is.0 (record { protocols = map (protocol space) seen; cost = least }) (seen_as list least c is seen space same spaced) result found memory
+  -- and so with what it found
+  pub found_by : (optimum : Optimum) → IsOptimum problem budget optimum → Searches program l budget (Ok (given program l optimum.assignment optimum.certificate))
+  found_by optimum is = subst (λ (o : Option Assignment). Searches program l budget (Ok (given program l o optimum.certificate))) (sym is.assignment) (searched optimum.certificate is.choice is.accepted is.chosen)
 
   -- it is the choice for the program
-  selected_as : IsProblem problem → IsLeast (system_of program) l → (list : List ℕ) → IsChosen problem (Some list) → (a : Assignment) → a ≡ assigned problem list → IsSelected program a
-  selected_as holds least list chosen a same = record { labels = l; least = least; places = list; cheapest = cheapest problem list holds chosen; is = same }
+  module _ (holds : IsProblem problem) (least : IsLeast (system_of program) l) where
+    of_choice : (choice : Option (List ℕ)) → IsChosen problem choice → (c : Certificate) → IsChoiceFor program (given program l (option_map (assigned problem) choice) c)
+    of_choice (Some list) chosen c =
+        let is = cheapest problem list holds chosen in
+        let selected : IsSelected program (assigned problem list) = record { labels = l; least = least; places = list; cheapest = is; is = refl } in
+        let valid : IsAssignment problem (assigned problem list).protocols = record { places = list; is_valid = is.is_valid; named = refl } in
+        record { same = refl; selected = selected; valid = valid }
+    of_choice None chosen c = record { same = refl; selected = tt; valid = tt }
 
-  pub found_is : IsProblem problem → IsLeast (system_of program) l → (list : List ℕ) (least : ℕ) (c : Certificate) → Selects problem budget (Found list least c) → (seen : List ℕ) (space : Problem) → seen ≡ list → space ≡ problem
-      → (result : Result Choice Status) → IfOk result (λ choice. choice ≡ given program l (Some (record { protocols = map (protocol space) seen; cost = least })) c) → IfOk result (IsChoiceFor program)
-  found_is holds is_least list least c is seen space same spaced (Ok choice) found =
-      let a : Assignment = record { protocols = map (protocol space) seen; cost = least } in
-      let seen_so = seen_as list least c is seen space same spaced in
-      let one = selected_as holds is_least list is.0 a seen_so in
-      let valid : IsAssignment problem a.protocols =
-      record { places = list; is_valid = (cheapest problem list holds is.0).is_valid; named = ap (λ (b : Assignment). b.protocols) seen_so }
-      in
-      subst (IsChoiceFor program) (sym found) (record { same = refl; selected = one; valid = valid })
-  found_is holds is_least list least c is seen space same spaced (Err status) found = tt
-
-  pub none_found : (c : Certificate) → Selects problem budget (NoAssignment c) → Searches program l budget (Ok (given program l None c))
-  none_found c is = searched c None is.1 is.0
+    pub found_is : (optimum : Optimum) → IsOptimum problem budget optimum → IsChoiceFor program (given program l optimum.assignment optimum.certificate)
+    found_is optimum is = subst (λ (o : Option Assignment). IsChoiceFor program (given program l o optimum.certificate)) (sym is.assignment) (of_choice is.choice is.chosen optimum.certificate)
 
   -- a search that gave up does so where its budget may not do
   pub spent : IsProblem problem → IsOver problem (usual problem) budget → Searches program l budget (Err (Spent budget program))

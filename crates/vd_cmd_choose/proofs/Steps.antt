@@ -7,6 +7,7 @@ use Rattle.vd_constraints.specs.declared.labels.Labels.{Labels}
 use Rattle.vd_space.specs.declared.problem.Problem.{Problem}
 use Rattle.vd_space.specs.Reading.{problem_of}
 use Rattle.vd_search_stages.specs.Choices.{ChoiceOutcomes, needed}
+use Rattle.vd_search_stages.specs.declared.optimum.Assignment.{Assignment}
 use Rattle.vd_search_stages.specs.declared.selecting.SelectFault.{SelectFault}
 use Rattle.vd_search_stages.specs.declared.selecting.SelectFault.TheVariants as select_fault
 use Rattle.vd_cmd_plan.specs.Plans.{Computes, Executes, Plan, check_then}
@@ -19,7 +20,6 @@ use Rattle.vd_cmd_frontend.specs.Outcomes.{LabelOutcomes, TextOutcomes}
 use Rattle.vd_cmd_choose.specs.Choice.{Chosen, Chooses, ChoosesIn, ChoosesOf, as_searched, assigned_answer, choice_then, chosen_by, chosen_of, no_list, search_then, source_choice_then, text_choice_then}
 use Rattle.vd_cmd_choose.specs.Outcomes.{CertificateOutcomes}
 use Rattle.vd_cmd_choose.specs.Searching.{Certified, GaveUp, Searched, SomeSearch, is_accepted, searched_by, sure_search}
-use Rattle.vd_cmd_choose.specs.declared.choice.Assignment.{Assignment}
 use Rattle.vd_cmd_choose.specs.declared.choice.Choice.{Choice}
 use Rattle.vd_cmd_choose.specs.declared.choice.ChosenSource.{ChosenSource}
 

@@ -9,17 +9,18 @@ use Rattle.vd_anf.specs.Normal.{normal_form}
 use Rattle.vd_cmd_rewrite.specs.RunPrograms.{run_form}
 use Rattle.vd_space.specs.Reading.{problem_of}
 use Rattle.vd_search_stages.specs.Choices.{ChoiceOutcomes}
+use Rattle.vd_search_stages.specs.Optimum.{assignment_of}
+use Rattle.vd_search_stages.specs.declared.optimum.Assignment.{Assignment}
 use Rattle.vd_cmd_plan.specs.Plans.{Plan, check_then, answer_then}
 use Rattle.vd_cmd_plan.specs.declared.answer.Answer.{Answer}
 use Rattle.vd_cmd_plan.proofs.Front.{Follows, file_follows, check_follows}
 use Rattle.vd_cmd_frontend.specs.Outcomes.{TextOutcomes, LabelOutcomes}
 use Rattle.vd_cmd_frontend.specs.Sources.{source_of, resolved_of}
 use Rattle.vd_cmd_choose.specs.Outcomes.{CertificateOutcomes}
-use Rattle.vd_cmd_choose.specs.Choice.{Chosen, assignment_of, choice_then, source_choice_then, text_choice_then}
+use Rattle.vd_cmd_choose.specs.Choice.{Chosen, choice_then, source_choice_then, text_choice_then}
 use Rattle.vd_cmd_choose.specs.Programs.{program_then, text_program_then}
 use Rattle.vd_cmd_choose.specs.Choosing.{certificate_file, choice_answer, chosen_answer, choose_plan}
 use Rattle.vd_cmd_choose.specs.Searching.{Searched, searched_by, sure_search}
-use Rattle.vd_cmd_choose.specs.declared.choice.Assignment.{Assignment}
 use Rattle.vd_cmd_choose.proofs.Steps.{GoesByChoice, choice_follows}
 
 module _ (texts : TextOutcomes) (least : LabelOutcomes) (name : List ℕ) (sure plan : NormalForm → Contents → Plan) (files : Contents) (each : (program : NormalForm) → Follows (sure program files) (plan program files)) where

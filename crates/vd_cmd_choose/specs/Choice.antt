@@ -1,5 +1,5 @@
 -- The choice of protocols for a program, and the step that finds it.
-use Rattle.std.specs.Prelude.{◌≡◌, ℕ, Option, Some, None, option_map, List, [], map, Result, Ok, Err, IfSome}
+use Rattle.std.specs.Prelude.{◌≡◌, ℕ, Option, Some, None, List, [], Result, Ok, Err, IfSome}
 use Rattle.vd_base.specs.Limits.{most_source_bytes}
 use Rattle.vd_outside.specs.Files.{Contents, FilesView, fetched}
 use Rattle.vd_core.specs.declared.normal.NormalForm.{NormalForm}
@@ -8,13 +8,11 @@ use Rattle.vd_constraints.specs.Rules.{system_of}
 use Rattle.vd_constraints.specs.Satisfies.{IsLeast}
 use Rattle.vd_constraints.specs.declared.labels.Labels.{Labels}
 use Rattle.vd_search_certificate.specs.Texts.{text_of}
-use Rattle.vd_search.specs.Answers.{nat_or_zero}
-use Rattle.vd_space.specs.declared.problem.Problem.{Problem}
-use Rattle.vd_space.specs.Costs.{cost}
 use Rattle.vd_space.specs.Reading.{problem_of}
-use Rattle.vd_space.specs.Validity.{protocol}
 use Rattle.vd_space_optimum.specs.Cheapest.{IsAssignment, IsCheapest}
 use Rattle.vd_search_stages.specs.Choices.{ChoiceOutcomes}
+use Rattle.vd_search_stages.specs.Optimum.{assigned, assignment_of}
+use Rattle.vd_search_stages.specs.declared.optimum.Assignment.{Assignment}
 use Rattle.vd_search_stages.specs.declared.selecting.SelectFault.{SelectFault}
 use Rattle.vd_search_stages.specs.declared.selecting.SelectFault.TheVariants as select_fault
 use Rattle.vd_cmd_plan.specs.Plans.{ExecutesStep, Plan, check_then, file_then}
@@ -24,18 +22,9 @@ use Rattle.vd_cmd_plan.specs.declared.status.Status.TheVariants.{Memory, NoAssig
 use Rattle.vd_cmd_frontend.specs.Outcomes.{LabelOutcomes, TextOutcomes}
 use Rattle.vd_cmd_frontend.specs.Labelling.{labels_of}
 use Rattle.vd_cmd_choose.specs.Searching.{Search, SomeSearch}
-use Rattle.vd_cmd_choose.specs.declared.choice.Assignment.{Assignment}
 use Rattle.vd_cmd_choose.specs.Programs.{IsProgramOf, text_program_then}
 use Rattle.vd_cmd_choose.specs.declared.choice.Choice.{Choice}
 use Rattle.vd_cmd_choose.specs.declared.choice.ChosenSource.{ChosenSource}
-
--- the protocols at these places of the list of all, and what they cost together
-abbrev pub assigned : Problem → List ℕ → Assignment
-assigned problem places = record { protocols = map (protocol problem) places; cost = nat_or_zero (cost problem places) }
-
--- the choice of a problem, if it has one
-abbrev pub assignment_of : ChoiceOutcomes → Problem → Option Assignment
-assignment_of choices problem = option_map (assigned problem) (choices.choose problem)
 
 -- This is the choice for a program: the assignment that is valid under its least labels, of least cost, and the first of these in order.
 pub record IsSelected (program : NormalForm) (a : Assignment) : Type 0 where

@@ -1,18 +1,16 @@
 //! The choice of protocols for a program.
 
-ghost use Rattle.std.specs.Prelude.{◌≡◌, ◌≤◌, Some, length, map, IfErr, IfOk};
+ghost use Rattle.std.specs.Prelude.{◌≡◌, ◌≤◌, length, IfOk};
 ghost use Rattle.vd_base.specs.Limits.{most_search_budget, most_source_bytes};
 ghost use Rattle.vd_constraints.specs.Rules.{system_of};
 ghost use Rattle.vd_constraints.specs.Satisfies.{IsLeast};
 ghost use Rattle.vd_cmd_plan.specs.Held.{Finds};
-ghost use Rattle.vd_cmd_plan.specs.declared.status.Status.TheVariants.{Memory};
-ghost use Rattle.vd_space.specs.Validity.{protocol};
 ghost use Rattle.vd_cmd_choose.specs.Choice.{Chooses, ChoosesIn, ChoosesOf, HasText, IsChoiceFor, IsChoiceIn, Searches, no_list};
 
 use crate::programs::program_of;
-use std::alloc::{AllocError, Global};
+use std::alloc::Global;
+use vd_base::Bytes;
 use vd_base::limits::SOURCE_BYTES;
-use vd_base::{Bytes, Proto, protocol_at};
 use vd_base_lists::Items;
 use vd_cmd_frontend::least_labels;
 use vd_cmd_plan::{Answer, Status, load};
@@ -20,15 +18,8 @@ use vd_constraints::Labels;
 use vd_core::Program;
 use vd_outside::Files;
 use vd_search_certificate::Certificate;
-use vd_search_stages::{SelectFault, Selection, Sweeps, select};
+use vd_search_stages::{Assignment, SelectFault, Sweeps, select};
 use vd_space_api::Space;
-
-/// The protocol of each slot of a program, and what they cost together.
-#[derive(Drop)]
-pub struct Assignment {
-    pub protocols: Items<Proto>,
-    pub cost: u32,
-}
 
 /// What the search for protocols came to.
 #[derive(Drop)]
@@ -50,45 +41,6 @@ pub struct ChosenSource {
     pub choice: Choice,
 }
 
-/// The protocols at these places of a space's list.
-fn protocols_at(alloc: Global, space: &Space, places: &[u32]) -> Result<Items<Proto>, AllocError>
-    ensures { IfOk result (λ protocols. protocols ≡ map (protocol space.now) places.now) }
-{
-    let list = space.list();
-    let mut protocols = Items::new(alloc);
-    for place in places {
-        protocols.push(protocol_at(list, *place))?;
-    }
-    Ok(protocols)
-}
-
-/// What was found, by the places of its protocols.
-fn found(
-    alloc: Global,
-    space: &Space,
-    program: Program,
-    labels: Labels,
-    places: &[u32],
-    cost: u32,
-    certificate: Certificate,
-) -> Result<Choice, Status>
-    ensures found { IfOk result (λ choice. choice ≡ record {
-      program = program;
-      labels = labels;
-      assignment = Some (record { protocols = map (protocol space.now) places.now; cost = cost });
-      certificate = certificate;
-    }) }
-    ensures memory { IfErr result (λ status. status ≡ Memory) }
-{
-    let protocols = protocols_at(alloc, space, places)?;
-    Ok(Choice {
-        program,
-        labels,
-        assignment: Some(Assignment { protocols, cost }),
-        certificate,
-    })
-}
-
 /// The choice for a program under its least labels.
 fn choice_under(
     alloc: Global,
@@ -103,20 +55,11 @@ fn choice_under(
 {
     let space = Space::of(alloc, &program, &labels)?;
     match select(alloc, &Sweeps, space.problem(), budget) {
-        Ok(Selection::Found(places, cost, certificate)) => found(
-            alloc,
-            &space,
+        Ok(optimum) => Ok(Choice {
             program,
             labels,
-            places.as_slice(),
-            cost,
-            certificate,
-        ),
-        Ok(Selection::NoAssignment(certificate)) => Ok(Choice {
-            program,
-            labels,
-            assignment: None,
-            certificate,
+            assignment: optimum.assignment,
+            certificate: optimum.certificate,
         }),
         Err(SelectFault::Spent) => Err(Status::Spent(budget, program)),
         Err(SelectFault::Memory) => Err(Status::Memory),

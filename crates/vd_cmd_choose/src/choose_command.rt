@@ -7,7 +7,7 @@ ghost use Rattle.vd_cmd_plan.specs.Plans.{Computes};
 ghost use Rattle.vd_cmd_choose.specs.Choice.{chosen_of, printed_at};
 ghost use Rattle.vd_cmd_choose.specs.Choosing.{ExecutesChoose, certificate_file, chosen_answer};
 
-use crate::choice::{Assignment, Choice, choice_of};
+use crate::choice::{Choice, choice_of};
 use std::alloc::{AllocError, Global};
 use vd_base::{Bytes, Text};
 use vd_base_lists::Items;
@@ -16,6 +16,7 @@ use vd_core::Program;
 use vd_outside::{Files, Stored};
 use vd_report::choice_text;
 use vd_search_certificate::Certificate;
+use vd_search_stages::Assignment;
 
 /// The lines that tell an assignment and its cost.
 pub fn assignment_text(

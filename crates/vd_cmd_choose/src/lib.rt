@@ -12,9 +12,7 @@ mod programs;
 mod spaces;
 
 pub use certify_command::certify;
-pub use choice::{
-    Assignment, Choice, ChosenSource, choice_for, choice_in, choice_of, no_assignment,
-};
+pub use choice::{Choice, ChosenSource, choice_for, choice_in, choice_of, no_assignment};
 pub use choose_command::{assignment_text, choose};
 pub use gen_command::generate_source;
 pub use programs::load_program;

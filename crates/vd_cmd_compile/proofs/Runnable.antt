@@ -9,8 +9,8 @@ use Rattle.vd_execution.specs.declared.instructions.Instr.{Instr}
 use Rattle.vd_execution.specs.Joint.{code_of}
 use Rattle.vd_execution.specs.Text.{text}
 use Rattle.vd_projection.specs.Programs.{IsRunnable, host_codes, joint_of}
+use Rattle.vd_search_stages.specs.declared.optimum.Assignment.{Assignment}
 use Rattle.vd_cmd_choose.specs.Choice.{IsSelected}
-use Rattle.vd_cmd_choose.specs.declared.choice.Assignment.{Assignment}
 use Rattle.vd_space.specs.Reading.{problem_of}
 use Rattle.vd_space_optimum.specs.Cheapest.{IsAssignment}
 

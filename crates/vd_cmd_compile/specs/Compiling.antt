@@ -10,6 +10,7 @@ use Rattle.vd_host_text.specs.declared.program.Digest.{Digest}
 use Rattle.vd_host_text.specs.Text.{program_text}
 use Rattle.vd_projection.specs.Programs.{host_codes}
 use Rattle.vd_search_stages.specs.Choices.{ChoiceOutcomes}
+use Rattle.vd_search_stages.specs.declared.optimum.Assignment.{Assignment}
 use Rattle.vd_cmd_plan.specs.Numbered.{file_name}
 use Rattle.vd_cmd_plan.specs.Plans.{Plan, Executes, answer_then, ended}
 use Rattle.vd_cmd_plan.specs.declared.answer.Answer.{Answer}
@@ -17,7 +18,6 @@ use Rattle.vd_cmd_plan.specs.declared.status.Status.{Status}
 use Rattle.vd_cmd_frontend.specs.Outcomes.{TextOutcomes, LabelOutcomes}
 use Rattle.vd_cmd_choose.specs.Searching.{Search, SomeSearch}
 use Rattle.vd_cmd_choose.specs.Choice.{Chosen, assigned_answer, printed_at, source_choice_then}
-use Rattle.vd_cmd_choose.specs.declared.choice.Assignment.{Assignment}
 
 -- ---- what is stored
 

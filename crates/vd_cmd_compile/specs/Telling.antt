@@ -4,6 +4,7 @@ use Rattle.vd_base.specs.Limits.{most_source_bytes}
 use Rattle.vd_outside.specs.Files.{FilesView}
 use Rattle.vd_core.specs.declared.normal.NormalForm.{NormalForm}
 use Rattle.vd_core.specs.declared.source.Source.{Source}
+use Rattle.vd_search_stages.specs.declared.optimum.Assignment.{Assignment}
 use Rattle.vd_cmd_rewrite.specs.RunPrograms.{IsRunProgram, TellsAs}
 use Rattle.vd_projection.specs.Programs.{host_codes}
 use Rattle.vd_projection_files.specs.Stored.{CanBeStored}
@@ -13,7 +14,6 @@ use Rattle.vd_cmd_plan.specs.declared.status.Status.{Status}
 use Rattle.vd_cmd_plan.specs.declared.status.Status.TheVariants.{Ended}
 use Rattle.vd_cmd_frontend.specs.Sources.{IsSourceText}
 use Rattle.vd_cmd_choose.specs.Choice.{IsSelected}
-use Rattle.vd_cmd_choose.specs.declared.choice.Assignment.{Assignment}
 use Rattle.vd_cmd_compile.specs.Compiling.{host_files, plan_for}
 
 -- The answer stores a file for each host, of the host's code at the choice of protocols. The plan is the digest of the source's bytes

@@ -10,13 +10,14 @@ ghost use Rattle.vd_cmd_compile.specs.Telling.{TellsPrograms, TellsSource, Tells
 use std::alloc::{AllocError, Global};
 use vd_base::{HostId, Names};
 use vd_base_lists::Items;
-use vd_cmd_choose::{Assignment, ChosenSource, assignment_text, choice_of, no_assignment};
+use vd_cmd_choose::{ChosenSource, assignment_text, choice_of, no_assignment};
 use vd_cmd_plan::{Answer, Status, file_name};
 use vd_core::Program;
 use vd_execution::Instr;
 use vd_host_text::{Digest, host_file, plan_of};
 use vd_outside::{Files, Stored};
 use vd_projection::split;
+use vd_search_stages::Assignment;
 
 /// The file of a host's program, `PREFIX.i.host` for host i, where these are the names of all hosts.
 fn file_of(

@@ -11,11 +11,11 @@ use Rattle.vd_execution.specs.Joint.{Joint, code_of}
 use Rattle.vd_execution.specs.Text.{text}
 use Rattle.vd_core.specs.Facts.{IsWellMade}
 use Rattle.std.proofs.lemmas.List.FromFn.{length-map-range_with_len}
+use Rattle.vd_search_stages.specs.declared.optimum.Assignment.{Assignment}
 use Rattle.vd_cmd_plan.specs.Plans.{Computes}
 use Rattle.vd_cmd_plan.specs.declared.answer.Answer.{Answer}
 use Rattle.vd_cmd_plan.specs.declared.status.Status.TheVariants.{Ended}
 use Rattle.vd_cmd_choose.specs.Choice.{printed_at}
-use Rattle.vd_cmd_choose.specs.declared.choice.Assignment.{Assignment}
 use Rattle.vd_cmd_compile.specs.Compiling.{host_files}
 use Rattle.vd_projection_reordered.specs.Early.{AreEarlyCodes, each_code}
 use Rattle.vd_cmd_compile_early.specs.Compiling.{early_at, early_plan_for}

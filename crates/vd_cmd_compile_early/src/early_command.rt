@@ -12,13 +12,14 @@ ghost use Rattle.vd_cmd_compile_early.specs.Telling.{TellsPrograms, TellsSource,
 use std::alloc::{AllocError, Global};
 use vd_base::Bytes;
 use vd_cmd::EarlyWords;
-use vd_cmd_choose::{Assignment, ChosenSource, assignment_text, choice_of, no_assignment};
+use vd_cmd_choose::{ChosenSource, assignment_text, choice_of, no_assignment};
 use vd_cmd_compile::files_of;
 use vd_cmd_plan::{Answer, Status, finish};
 use vd_core::Program;
 use vd_host_text::plan_of;
 use vd_outside::{Files, Sink};
 use vd_projection_reordered::split_early;
+use vd_search_stages::Assignment;
 
 /// What is printed, with the word for this order behind it.
 fn marked(alloc: Global, printed: &[u8]) -> Result<Bytes, AllocError>

@@ -8,6 +8,7 @@ use Rattle.vd_core.specs.declared.normal.NormalForm.{NormalForm}
 use Rattle.vd_core.specs.declared.source.Source.{Source}
 use Rattle.vd_parser.specs.Outcomes.{IsParse}
 use Rattle.vd_anf.specs.Normal.{normal_form}
+use Rattle.vd_search_stages.specs.declared.optimum.Assignment.{Assignment}
 use Rattle.vd_cmd_rewrite.specs.RunPrograms.{IsRunProgram}
 use Rattle.vd_execution.specs.Joint.{code_of}
 use Rattle.vd_execution.specs.Text.{IsCodeOf}
@@ -17,7 +18,6 @@ use Rattle.vd_hostcode.specs.Outcome.{IsOutcome}
 use Rattle.vd_projection.specs.Programs.{CanRunAt, joint_of}
 use Rattle.vd_projection_files.specs.Stored.{stored_program}
 use Rattle.vd_cmd_choose.specs.Choice.{IsSelected, printed_at}
-use Rattle.vd_cmd_choose.specs.declared.choice.Assignment.{Assignment}
 use Rattle.vd_cmd_compile.specs.Compiling.{compiled_at, plan_for}
 
 -- Reading these bytes gives the program of the host with this number: with the names of all hosts, this number and this plan; and its

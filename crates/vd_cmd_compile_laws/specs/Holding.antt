@@ -4,6 +4,7 @@ use Rattle.vd_base.specs.declared.protocols.Proto.{Proto}
 use Rattle.vd_base.specs.Limits.{most_host_file_bytes}
 use Rattle.vd_core.specs.declared.normal.NormalForm.{NormalForm}
 use Rattle.vd_core.specs.declared.source.Source.{Source}
+use Rattle.vd_search_stages.specs.declared.optimum.Assignment.{Assignment}
 use Rattle.vd_cmd_rewrite.specs.RunPrograms.{IsRunProgram, TellsAs}
 use Rattle.vd_outside.specs.Files.{Contents}
 use Rattle.vd_host_text.specs.declared.program.Digest.{Digest}
@@ -13,7 +14,6 @@ use Rattle.vd_cmd_frontend.specs.Sources.{IsSourceText}
 use Rattle.vd_projection_files.specs.Stored.{CanBeStored}
 use Rattle.vd_cmd_compile.specs.Compiling.{plan_for}
 use Rattle.vd_cmd_choose.specs.Choice.{IsSelected}
-use Rattle.vd_cmd_choose.specs.declared.choice.Assignment.{Assignment}
 use Rattle.vd_cmd_compile_laws.specs.Compiled.{IsReadBack}
 
 -- The file of the host with this number, by its name, is read as the program of that host.

@@ -4,9 +4,9 @@ use Rattle.vd_base.specs.declared.protocols.Proto.{Proto}
 use Rattle.vd_core.specs.declared.normal.NormalForm.{NormalForm}
 use Rattle.vd_constraints.specs.declared.labels.Labels.{Labels}
 use Rattle.vd_draw_picture.specs.Picture.{drawn}
+use Rattle.vd_search_stages.specs.declared.optimum.Assignment.{Assignment}
 use Rattle.vd_cmd_plan.specs.Plans.{Computes, ended}
 use Rattle.vd_cmd_plan.specs.declared.answer.Answer.{Answer}
-use Rattle.vd_cmd_choose.specs.declared.choice.Assignment.{Assignment}
 use Rattle.vd_cmd_draw.specs.Drawing.{drawn_answer}
 
 -- the answer that prints a text

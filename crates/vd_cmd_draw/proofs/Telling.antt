@@ -12,6 +12,7 @@ use Rattle.vd_cmd_rewrite.specs.RunPrograms.{IsRunProgram}
 use Rattle.vd_cmd_rewrite.proofs.Front.{run_well_made}
 use Rattle.vd_space_optimum.proofs.Front.{cheapest}
 use Rattle.vd_search_stages.specs.Choices.{IsChosen}
+use Rattle.vd_search_stages.specs.Optimum.{assigned}
 use Rattle.vd_space.specs.declared.problem.Problem.{Problem}
 use Rattle.vd_space.specs.Reading.{problem_of}
 use Rattle.vd_space.proofs.Front.{as_many, is_problem}
@@ -19,7 +20,7 @@ use Rattle.vd_cmd_plan.specs.Plans.{answer_then}
 use Rattle.vd_cmd_plan.specs.declared.answer.Answer.{Answer}
 use Rattle.vd_cmd_plan.specs.declared.status.Status.TheVariants.{Ended, NoAssignment}
 use Rattle.vd_cmd_frontend.specs.Sources.{HoldsSource}
-use Rattle.vd_cmd_choose.specs.Choice.{assigned, assigned_answer, chosen_by}
+use Rattle.vd_cmd_choose.specs.Choice.{assigned_answer, chosen_by}
 use Rattle.vd_cmd_answers.proofs.Front.{source_choice_came, answered, made_of}
 use Rattle.vd_draw_rows.proofs.Front.{add_up}
 use Rattle.vd_cmd_draw.specs.Drawing.{drawn_answer, drawn_for}

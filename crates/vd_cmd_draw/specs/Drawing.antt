@@ -5,13 +5,13 @@ use Rattle.vd_core.specs.declared.normal.NormalForm.{NormalForm}
 use Rattle.vd_constraints.specs.declared.labels.Labels.{Labels}
 use Rattle.vd_draw_picture.specs.Picture as pictures
 use Rattle.vd_search_stages.specs.Choices.{ChoiceOutcomes}
+use Rattle.vd_search_stages.specs.declared.optimum.Assignment.{Assignment}
 use Rattle.vd_cmd_plan.specs.Plans.{Plan, Executes, answer_then, ended}
 use Rattle.vd_cmd_plan.specs.declared.answer.Answer.{Answer}
 use Rattle.vd_cmd_plan.specs.declared.status.Status.{Status}
 use Rattle.vd_cmd_frontend.specs.Outcomes.{TextOutcomes, LabelOutcomes}
 use Rattle.vd_cmd_choose.specs.Searching.{Search, SomeSearch}
 use Rattle.vd_cmd_choose.specs.Choice.{Chosen, assigned_answer, source_choice_then}
-use Rattle.vd_cmd_choose.specs.declared.choice.Assignment.{Assignment}
 
 -- ---- what it comes to
 

@@ -8,10 +8,11 @@ ghost use Rattle.vd_cmd_draw.specs.Drawing.{ExecutesDraw, drawn_answer, drawn_fo
 
 use std::alloc::Global;
 use vd_base_lists::Items;
-use vd_cmd_choose::{Assignment, Choice, ChosenSource, choice_of, no_assignment};
+use vd_cmd_choose::{Choice, ChosenSource, choice_of, no_assignment};
 use vd_cmd_plan::{Answer, Status};
 use vd_draw_picture::drawing;
 use vd_outside::Files;
+use vd_search_stages::Assignment;
 
 /// Prints the drawing of an assignment of protocols.
 fn draw_at(

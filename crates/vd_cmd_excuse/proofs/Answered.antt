@@ -7,6 +7,7 @@ use Rattle.vd_base.specs.declared.protocols.Proto.{Proto}
 use Rattle.vd_core.specs.declared.normal.NormalForm.{NormalForm}
 use Rattle.vd_constraints.specs.declared.labels.Labels.{Labels}
 use Rattle.vd_deal_items.specs.declared.deal.Deal.{Deal}
+use Rattle.vd_search_stages.specs.declared.optimum.Assignment.{Assignment}
 use Rattle.vd_cmd_plan.specs.Plans.{Checks, Computes, Executes, ended, answer_then, check_then}
 use Rattle.vd_cmd_plan.specs.declared.answer.Answer.{Answer}
 use Rattle.vd_cmd_plan.specs.declared.status.Status.{Status}
@@ -18,7 +19,6 @@ use Rattle.vd_cmd_excuse.specs.declared.runs.Runs.{Runs}
 use Rattle.vd_cmd_excuse.specs.Excusing.{ExecutesExcused, as_free, choice_plan, commitment_in, excuse_answer, excused_for, excused_plan, ExecutesChoice, ExecutesHost}
 use Rattle.vd_cmd_excuse.specs.Telling.{TellsAt}
 use Rattle.vd_cmd_choose.specs.Choice.{Chooses, no_list}
-use Rattle.vd_cmd_choose.specs.declared.choice.Assignment.{Assignment}
 use Rattle.vd_cmd_choose.specs.declared.choice.Choice.{Choice}
 use Rattle.vd_cmd.specs.declared.command.ExcuseWords.{ExcuseWords}
 

@@ -9,6 +9,7 @@ use Rattle.vd_constraints.specs.declared.labels.Labels.{Labels}
 use Rattle.vd_core.specs.Numbers.{NumbersFit}
 use Rattle.vd_space.specs.Reading.{problem_of}
 use Rattle.vd_space_optimum.specs.Cheapest.{IsAssignment}
+use Rattle.vd_search_stages.specs.declared.optimum.Assignment.{Assignment}
 use Rattle.vd_cmd_compile.proofs.Front.{assignment_of}
 use Rattle.vd_backend_laws.specs.Parts.{has_back_end}
 use Rattle.vd_deal_items.specs.declared.deal.Deal.{Deal}
@@ -28,7 +29,6 @@ use Rattle.vd_world_report.specs.Supplies.{items_for}
 use Rattle.vd_report.specs.Hosts.{host_of}
 use Rattle.vd_cmd_plan.specs.declared.answer.Answer.{Answer}
 use Rattle.vd_cmd_choose.specs.Choice.{IsSelected}
-use Rattle.vd_cmd_choose.specs.declared.choice.Assignment.{Assignment}
 use Rattle.vd_views_programs.specs.Explained.{IsOfTwo, plan_of}
 use Rattle.vd_views_deals.specs.Files.{tape_of, dealt_count, counts_of}
 use Rattle.vd_equivocation_deals.specs.Short.{short_kind, end_of, TakesNoMore}

@@ -11,6 +11,7 @@ use Rattle.vd_cmd.specs.declared.command.ExcuseWords.{ExcuseWords}
 use Rattle.vd_deal_items.specs.declared.deal.Deal.{Deal}
 use Rattle.vd_report.specs.Lines.{words_line}
 use Rattle.vd_search_stages.specs.Choices.{ChoiceOutcomes}
+use Rattle.vd_search_stages.specs.declared.optimum.Assignment.{Assignment}
 use Rattle.vd_cmd_plan.specs.Plans.{Plan, Executes, check_then, answer_then, ended}
 use Rattle.vd_cmd_plan.specs.declared.answer.Answer.{Answer}
 use Rattle.vd_cmd_plan.specs.declared.status.Status.{Status}
@@ -21,7 +22,6 @@ use Rattle.vd_cmd_choose.specs.Programs.{program_then}
 use Rattle.vd_cmd_depends.specs.Depending.{as_host}
 use Rattle.vd_cmd_choose.specs.Searching.{Search, SomeSearch}
 use Rattle.vd_cmd_choose.specs.Choice.{choice_then, no_list}
-use Rattle.vd_cmd_choose.specs.declared.choice.Assignment.{Assignment}
 use Rattle.vd_report_outcomes.specs.Outcomes.{ReplayOutcomes}
 use Rattle.vd_cmd_inputs.specs.Deals.{as_consistent}
 use Rattle.vd_views_programs.specs.Explained.{plan_of}

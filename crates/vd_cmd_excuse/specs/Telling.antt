@@ -5,6 +5,7 @@ use Rattle.vd_outside.specs.Files.{FilesView, Contents}
 use Rattle.vd_outside.specs.declared.stored.Stored.{Stored}
 use Rattle.vd_core.specs.declared.normal.NormalForm.{NormalForm}
 use Rattle.vd_core.specs.declared.source.Source.{Source}
+use Rattle.vd_search_stages.specs.declared.optimum.Assignment.{Assignment}
 use Rattle.vd_cmd_rewrite.specs.RunPrograms.{IsRunProgram}
 use Rattle.vd_cmd.specs.declared.command.ExcuseWords.{ExcuseWords}
 use Rattle.vd_deal_items.specs.declared.deal.Deal.{Deal}
@@ -16,7 +17,6 @@ use Rattle.vd_cmd_plan.specs.declared.status.Status.TheVariants.{Ended}
 use Rattle.vd_cmd_deal.specs.Dealing.{deal_files}
 use Rattle.vd_cmd_frontend.specs.Sources.{HoldsSource}
 use Rattle.vd_cmd_choose.specs.Choice.{IsSelected}
-use Rattle.vd_cmd_choose.specs.declared.choice.Assignment.{Assignment}
 use Rattle.vd_views_programs.specs.Explained.{IsOfTwo, plan_of, AgreeFor}
 use Rattle.vd_views_deals.specs.Files.{IsExcuse}
 use Rattle.vd_views_transcript.specs.Talk.{talk}

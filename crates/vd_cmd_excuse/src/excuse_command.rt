@@ -18,12 +18,13 @@ use crate::runs::{Runs, load_runs};
 use std::alloc::Global;
 use vd_base::HostId;
 use vd_cmd::ExcuseWords;
-use vd_cmd_choose::{Assignment, choice_for, load_program, no_assignment};
+use vd_cmd_choose::{choice_for, load_program, no_assignment};
 use vd_cmd_depends::host_named;
 use vd_cmd_inputs::expect_consistent;
 use vd_cmd_plan::{Answer, Status};
 use vd_core::Program;
 use vd_outside::Files;
+use vd_search_stages::Assignment;
 
 /// Explains the second inputs at the choice of protocols, none of them a commitment.
 fn excuse_free(

@@ -19,6 +19,7 @@ use Rattle.vd_projection.specs.Programs.{CanRunAt}
 use Rattle.vd_deal_needs_programs.specs.Enough.{sizes_for}
 use Rattle.vd_deal_needs_programs.proofs.Front.{code_is, of_can_run, sizes_are_enough, sizes_are_least, deals_have_their_sizes}
 use Rattle.vd_cmd.specs.declared.command.NeedsWords.{NeedsWords}
+use Rattle.vd_search_stages.specs.declared.optimum.Assignment.{Assignment}
 use Rattle.vd_cmd_plan.specs.Loads.{Loads}
 use Rattle.vd_cmd_plan.specs.Plans.{Computes, ended}
 use Rattle.vd_cmd_plan.specs.declared.answer.Answer.{Answer}
@@ -26,7 +27,6 @@ use Rattle.vd_cmd_plan.specs.declared.status.Status.{Status}
 use Rattle.vd_cmd_plan.specs.declared.status.Status.TheVariants.{Ended, NoAssignment}
 use Rattle.vd_cmd_plan.proofs.Front.{loaded_is}
 use Rattle.vd_cmd_choose.specs.Choice.{IsSelected, no_list}
-use Rattle.vd_cmd_choose.specs.declared.choice.Assignment.{Assignment}
 use Rattle.vd_cmd_choose.specs.Programs.{IsProgramOf}
 use Rattle.vd_cmd_compile.proofs.Front.{runnable_of}
 use Rattle.vd_cmd_needs.specs.Lines.{program_lines}

@@ -15,12 +15,13 @@ use vd_base::limits::{HOST_FILE_BYTES, SOURCE_BYTES};
 use vd_base::{Bytes, Proto, Text};
 use vd_base_lists::Items;
 use vd_cmd::NeedsWords;
-use vd_cmd_choose::{Assignment, Choice, choice_in, no_assignment};
+use vd_cmd_choose::{Choice, choice_in, no_assignment};
 use vd_cmd_plan::{Answer, Status, load};
 use vd_core::Program;
 use vd_deal_needs::sizes;
 use vd_deal_needs_programs::needs_of_program;
 use vd_outside::Files;
+use vd_search_stages::Assignment;
 
 /// The answer that prints this and stores nothing.
 pub(crate) fn printing(alloc: Global, printed: Bytes) -> Answer

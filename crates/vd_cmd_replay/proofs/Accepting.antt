@@ -26,11 +26,12 @@ use Rattle.vd_space.specs.Reading.{problem_of}
 use Rattle.vd_space.proofs.Front.{is_problem}
 use Rattle.vd_space_optimum.proofs.Front.{back}
 use Rattle.vd_search_stages.specs.Choices.{ChoiceOutcomes, IsChosen, needed}
+use Rattle.vd_search_stages.specs.Optimum.{assigned, assignment_of}
+use Rattle.vd_search_stages.specs.declared.optimum.Assignment.{Assignment}
 use Rattle.vd_search_stages.proofs.Front.{chosen_once}
 use Rattle.vd_cmd_frontend.specs.Labelling.{as_labels, labels_of}
-use Rattle.vd_cmd_choose.specs.Choice.{Chosen, as_searched, assigned, assignment_of, chosen_by, search_then}
+use Rattle.vd_cmd_choose.specs.Choice.{Chosen, as_searched, chosen_by, search_then}
 use Rattle.vd_cmd_choose.specs.Searching.{sure_search}
-use Rattle.vd_cmd_choose.specs.declared.choice.Assignment.{Assignment}
 use Rattle.vd_cmd_plan.specs.Plans.{Plan}
 use Rattle.vd_report_outcomes.proofs.Front.{judged_once}
 use Rattle.vd_cmd_replay.specs.Accepting.{EndsWell, IsAccepted}

@@ -3,6 +3,7 @@ use Rattle.std.proofs.Common.{◌≡◌, ℕ, IsTrue, Option, Some, Result, Ok, 
 use Rattle.vd_outside.specs.Files.{FilesView, Contents}
 use Rattle.vd_core.specs.declared.normal.NormalForm.{NormalForm}
 use Rattle.vd_cmd.specs.declared.command.ReplayWords.{ReplayWords}
+use Rattle.vd_search_stages.specs.declared.optimum.Assignment.{Assignment}
 use Rattle.vd_cmd_plan.specs.declared.answer.Answer.{Answer}
 use Rattle.vd_cmd_plan.specs.declared.status.Status.{Status}
 use Rattle.vd_cmd_plan.specs.declared.status.Status.TheVariants.{Ended, NoAssignment}
@@ -10,7 +11,6 @@ use Rattle.vd_cmd_plan.proofs.Front.{step_keeps, step_tells}
 use Rattle.vd_cmd_frontend.proofs.Front.{some_labels, some_texts}
 use Rattle.vd_cmd_choose.specs.Programs.{HoldsProgram, LoadsProgram, program_then}
 use Rattle.vd_cmd_choose.specs.Choice.{IsSelected, no_list}
-use Rattle.vd_cmd_choose.specs.declared.choice.Assignment.{Assignment}
 use Rattle.vd_cmd_inputs.specs.declared.asked.Asked.{Asked}
 use Rattle.vd_cmd_inputs.specs.Asking.{HoldAsked}
 use Rattle.vd_cmd_replay.specs.Counting.{CountsOf, CountsProgram, CountsReplay, IsCountOf, packets_for}

@@ -23,6 +23,7 @@ use Rattle.vd_backend_laws.specs.Whole.{inputs_of}
 use Rattle.vd_backend_laws.proofs.Front.{zero_deals_are_valid}
 use Rattle.vd_projection.specs.Programs.{CanRunAt, host_codes, joint_of}
 use Rattle.vd_projection.proofs.Front.{codes_can_be_loaded, codes_run_as_told, no_words, runnable_over, valid_for}
+use Rattle.vd_search_stages.specs.declared.optimum.Assignment.{Assignment}
 use Rattle.vd_cmd_plan.specs.Plans.{Computes, ended}
 use Rattle.vd_cmd_plan.specs.declared.answer.Answer.{Answer}
 use Rattle.vd_cmd_plan.specs.declared.status.Status.{Status}
@@ -34,7 +35,6 @@ use Rattle.vd_world_report.specs.Supplies.{AreFiles, supply_of_files}
 use Rattle.vd_world_report.specs.Told.{TellsUnder}
 use Rattle.vd_world_report.proofs.Front.{programs_tell}
 use Rattle.vd_cmd_choose.specs.Choice.{IsSelected}
-use Rattle.vd_cmd_choose.specs.declared.choice.Assignment.{Assignment}
 use Rattle.vd_cmd_compile.proofs.Front.{code_count, runnable_of, covered, stored_for}
 use Rattle.vd_cmd_inputs.specs.declared.asked.Asked.{Asked}
 use Rattle.vd_cmd_inputs.specs.Asking.{AreAsked}

@@ -2,13 +2,13 @@
 use Rattle.std.proofs.Common.{◌≡◌, ℕ, true, Option, [], Result, Ok, Err, sym, ap, ◌∙◌, subst}
 use Rattle.vd_outside.specs.Files.{FilesView}
 use Rattle.vd_core.specs.declared.normal.NormalForm.{NormalForm}
+use Rattle.vd_search_stages.specs.declared.optimum.Assignment.{Assignment}
 use Rattle.vd_cmd_plan.specs.Plans.{Checks, Computes, Executes, ended, answer_then}
 use Rattle.vd_cmd_plan.specs.declared.answer.Answer.{Answer}
 use Rattle.vd_cmd_plan.specs.declared.status.Status.{Status}
 use Rattle.vd_cmd_plan.specs.declared.status.Status.TheVariants.{Ended, NoAssignment}
 use Rattle.vd_cmd_plan.proofs.Front.{answers, check_step}
 use Rattle.vd_cmd_choose.specs.Choice.{Chooses, no_list}
-use Rattle.vd_cmd_choose.specs.declared.choice.Assignment.{Assignment}
 use Rattle.vd_cmd_choose.specs.declared.choice.Choice.{Choice}
 use Rattle.vd_report_outcomes.specs.Outcomes.{ReplayOutcomes}
 use Rattle.vd_cmd_inputs.specs.declared.asked.Asked.{Asked}

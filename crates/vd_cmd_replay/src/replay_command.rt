@@ -15,12 +15,13 @@ use std::alloc::Global;
 use vd_base::Bytes;
 use vd_base_lists::Items;
 use vd_cmd::ReplayWords;
-use vd_cmd_choose::{Assignment, choice_for, load_program, no_assignment};
+use vd_cmd_choose::{choice_for, load_program, no_assignment};
 use vd_cmd_inputs::{Asked, expect_consistent, load_asked};
 use vd_cmd_plan::{Answer, Status};
 use vd_core::Program;
 use vd_outside::Files;
 use vd_projection::split;
+use vd_search_stages::Assignment;
 use vd_world_report::{play, report};
 
 /// The answer that prints this and stores nothing.

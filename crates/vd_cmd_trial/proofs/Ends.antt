@@ -12,6 +12,8 @@ use Rattle.vd_gen.specs.Source.{generated}
 use Rattle.vd_space.specs.declared.problem.Problem.{Problem}
 use Rattle.vd_space.specs.Reading.{problem_of}
 use Rattle.vd_search_stages.specs.Choices.{ChoiceOutcomes, needed}
+use Rattle.vd_search_stages.specs.Optimum.{assignment_of}
+use Rattle.vd_search_stages.specs.declared.optimum.Assignment.{Assignment}
 use Rattle.vd_search_stages.specs.declared.selecting.SelectFault.TheVariants as select_fault
 use Rattle.vd_search_stages.proofs.Front.{some_choices}
 use Rattle.vd_cmd_plan.specs.Plans.{Plan, Executes, check_then, answer_then}
@@ -23,8 +25,7 @@ use Rattle.vd_cmd_frontend.specs.Outcomes.{TextOutcomes, LabelOutcomes}
 use Rattle.vd_cmd_frontend.specs.Sources.{source_of, resolved_of}
 use Rattle.vd_cmd_frontend.proofs.Front.{some_labels, some_texts}
 use Rattle.vd_gen_laws.proofs.Front.{is_read}
-use Rattle.vd_cmd_choose.specs.Choice.{Chosen, as_searched, assignment_of, chosen_by, search_then}
-use Rattle.vd_cmd_choose.specs.declared.choice.Assignment.{Assignment}
+use Rattle.vd_cmd_choose.specs.Choice.{Chosen, as_searched, chosen_by, search_then}
 use Rattle.vd_cmd_choose.specs.Searching.{Searched, GaveUp, Certified, is_accepted, searched_by}
 use Rattle.vd_cmd_choose.specs.Outcomes.{CertificateOutcomes}
 use Rattle.vd_cmd_choose.proofs.Front.{some_certificates}

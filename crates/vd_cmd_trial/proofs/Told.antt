@@ -32,14 +32,15 @@ use Rattle.vd_space.specs.Reading.{problem_of}
 use Rattle.vd_space.proofs.Front.{is_problem}
 use Rattle.vd_space_optimum.proofs.Front.{back}
 use Rattle.vd_search_stages.specs.Choices.{IsChosen}
+use Rattle.vd_search_stages.specs.Optimum.{assigned}
+use Rattle.vd_search_stages.specs.declared.optimum.Assignment.{Assignment}
 use Rattle.vd_search_stages.proofs.Front.{chosen_once}
 use Rattle.vd_cmd_plan.specs.Plans.{Checks}
 use Rattle.vd_cmd_plan.specs.declared.answer.Answer.{Answer}
 use Rattle.vd_cmd_plan.specs.declared.status.Status.{Status}
 use Rattle.vd_cmd_plan.specs.declared.status.Status.TheVariants.{Ended, NoAssignment}
 use Rattle.vd_cmd_frontend.specs.Sources.{as_resolved, resolved_of}
-use Rattle.vd_cmd_choose.specs.Choice.{IsSelected, assigned, no_list}
-use Rattle.vd_cmd_choose.specs.declared.choice.Assignment.{Assignment}
+use Rattle.vd_cmd_choose.specs.Choice.{IsSelected, no_list}
 use Rattle.vd_cmd_inputs.specs.declared.asked.Asked.{Asked}
 use Rattle.vd_cmd_replay.specs.Telling.{IsReport}
 use Rattle.vd_cmd_trial.specs.Trial.{Suffice, headed_by, trial_asked}

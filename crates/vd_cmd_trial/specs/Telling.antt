@@ -12,12 +12,12 @@ use Rattle.vd_gen.specs.Source.{generated}
 use Rattle.vd_report.specs.declared.reports.HostLine.{HostLine}
 use Rattle.vd_report.specs.ChoiceLines.{cost_line}
 use Rattle.vd_report.specs.ReportLines.{host_lines}
+use Rattle.vd_search_stages.specs.declared.optimum.Assignment.{Assignment}
 use Rattle.vd_cmd_plan.specs.declared.answer.Answer.{Answer}
 use Rattle.vd_cmd_plan.specs.declared.status.Status.{Status}
 use Rattle.vd_cmd_plan.specs.declared.status.Status.TheVariants.{Ended, Memory, WriteFault, Flow, NoAssignment, Spent}
 use Rattle.vd_cmd_frontend.specs.Sources.{IsSourceText}
 use Rattle.vd_cmd_choose.specs.Choice.{IsSelected}
-use Rattle.vd_cmd_choose.specs.declared.choice.Assignment.{Assignment}
 use Rattle.vd_cmd_replay.specs.Telling.{IsReport}
 use Rattle.vd_cmd_trial.specs.Trial.{trial_asked}
 

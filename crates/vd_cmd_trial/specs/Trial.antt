@@ -17,6 +17,7 @@ use Rattle.vd_world_report.specs.Supplies.{supply_of_files}
 use Rattle.vd_gen.specs.Source.{generated}
 use Rattle.vd_report.specs.ChoiceLines.{cost_line}
 use Rattle.vd_search_stages.specs.Choices.{ChoiceOutcomes}
+use Rattle.vd_search_stages.specs.declared.optimum.Assignment.{Assignment}
 use Rattle.vd_cmd_plan.specs.Plans.{Plan, Executes, check_then, answer_then, ended}
 use Rattle.vd_cmd_plan.specs.declared.answer.Answer.{Answer}
 use Rattle.vd_cmd_plan.specs.declared.status.Status.{Status}
@@ -24,7 +25,6 @@ use Rattle.vd_cmd_frontend.specs.Outcomes.{TextOutcomes, LabelOutcomes}
 use Rattle.vd_cmd_frontend.specs.Sources.{source_of, resolved_of}
 use Rattle.vd_cmd_choose.specs.Searching.{Search, SomeSearch}
 use Rattle.vd_cmd_choose.specs.Choice.{choice_then, no_list}
-use Rattle.vd_cmd_choose.specs.declared.choice.Assignment.{Assignment}
 use Rattle.vd_cmd_inputs.specs.declared.asked.Asked.{Asked}
 use Rattle.vd_cmd_replay.specs.Replaying.{report_for}
 

@@ -14,12 +14,12 @@ ghost use Rattle.vd_cmd_trial.specs.Trial.{Suffice, asked_by, most_inputs, trial
 use std::alloc::{AllocError, Global};
 use vd_base::{Inputs, Words};
 use vd_base_lists::Items;
-use vd_cmd_choose::Assignment;
 use vd_cmd_inputs::Asked;
 use vd_core::Program;
 use vd_deal_needs::{HostNeeds, sizes};
 use vd_deal_needs_programs::needs_of_program;
 use vd_report::Schedule;
+use vd_search_stages::Assignment;
 use vd_tape::make;
 
 /// The input with this number, from 0 on, of a host: the first host's inputs are their numbers, all others are 0.

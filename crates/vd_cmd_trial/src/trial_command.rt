@@ -16,7 +16,7 @@ use itoa::Buffer;
 use std::alloc::{AllocError, Global};
 use vd_base::Bytes;
 use vd_base::limits::SEARCH_BUDGET;
-use vd_cmd_choose::{Assignment, choice_for, no_assignment};
+use vd_cmd_choose::{choice_for, no_assignment};
 use vd_cmd_frontend::{read_source, resolve_source};
 use vd_cmd_plan::{Answer, Status};
 use vd_cmd_replay::replay_at;
@@ -24,6 +24,7 @@ use vd_core::Program;
 use vd_elaborate::elaborate;
 use vd_gen::generate;
 use vd_resolve::Resolved;
+use vd_search_stages::Assignment;
 
 /// The line of a cost.
 fn cost_line(alloc: Global, cost: u32) -> Result<Bytes, AllocError>

@@ -9,3 +9,4 @@ mod Floors
 mod Untied
 mod Passed
 mod Spent
+mod Assigned

@@ -5,3 +5,4 @@ pub mod Naming
 pub mod Stages
 pub mod Network
 pub mod Spending
+pub mod Optimum

@@ -25,7 +25,7 @@ use vd_space_tables::tables;
 
 /// What a selection came to.
 #[derive(PartialEq, Eq, Debug, Drop)]
-pub enum Selection {
+pub(crate) enum Selection {
     /// The choice, by the places of its protocols in the list; its cost; and a certificate of that.
     Found(Items<u32>, u32, Certificate),
     /// No list of protocols is valid, as the certificate shows.

@@ -288,10 +288,10 @@ fn try_early<A: Ascents>(
     }
 }
 
-/// The choice of protocols for a problem, or that no list of protocols is valid; with a certificate of that, which opens at
-/// most so many prefixes. The budget is spent only where it does not suffice under the usual shifts, nor its parts under the
-/// shifts that each of the ascents gives.
-pub fn select<A: Ascents>(
+/// The choice for a problem, by places, or that no list of places is valid; with a certificate of that, which opens at
+/// most so many prefixes. The budget is spent only where it does not suffice under the usual shifts, nor its parts under the shifts that
+/// each of the ascents gives.
+pub(crate) fn select_places<A: Ascents>(
     alloc: Global,
     ascents: &A,
     problem: &Problem,

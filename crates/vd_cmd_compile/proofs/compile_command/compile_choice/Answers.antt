@@ -1,6 +1,6 @@
 use Rattle.std.proofs.Common.{Some, None}
+use Rattle.vd_search_stages.specs.declared.optimum.Assignment.{Assignment}
 use Rattle.vd_cmd_choose.specs.Choice.{IsSelected}
-use Rattle.vd_cmd_choose.specs.declared.choice.Assignment.{Assignment}
 use Rattle.vd_cmd_choose.proofs.Front.{assigned_computes, none_computes, which_is}
 use Rattle.vd_cmd_compile.specs.Compiling.{compiled_at}
 use Rattle.vd_cmd_compile.proofs.Telling.{none_told, run_told}

@@ -3,9 +3,9 @@ use Rattle.std.proofs.lemmas.Result.{err_from_is_err_and}
 use Rattle.vd_core.specs.declared.normal.NormalForm.{NormalForm}
 use Rattle.vd_space.specs.Reading.{problem_of}
 use Rattle.vd_space_optimum.specs.Cheapest.{IsAssignment}
+use Rattle.vd_search_stages.specs.declared.optimum.Assignment.{Assignment}
 use Rattle.vd_cmd_plan.proofs.Front.{answers}
 use Rattle.vd_cmd_choose.specs.Choice.{IsSelected, no_list}
-use Rattle.vd_cmd_choose.specs.declared.choice.Assignment.{Assignment}
 use Rattle.vd_cmd_choose.proofs.Front.{none_computes, which_is}
 use Rattle.vd_cmd_excuse.specs.Telling.{TellsAt}
 use Rattle.vd_cmd_excuse.proofs.Answered.{host_refused, none_told, with_choice}

@@ -1,7 +1,7 @@
 use Rattle.std.proofs.Common.{Some, None, []}
+use Rattle.vd_search_stages.specs.declared.optimum.Assignment.{Assignment}
 use Rattle.vd_cmd_plan.specs.Plans.{ended}
 use Rattle.vd_cmd_choose.specs.Choice.{IsSelected}
-use Rattle.vd_cmd_choose.specs.declared.choice.Assignment.{Assignment}
 use Rattle.vd_cmd_choose.proofs.Front.{assigned_computes, none_computes, which_is}
 use Rattle.vd_cmd_needs.specs.Needing.{needs_text}
 use Rattle.vd_cmd_needs.proofs.Told.{none_told, told_then}
