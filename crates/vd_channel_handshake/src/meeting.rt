@@ -5,8 +5,8 @@ ghost use Rattle.vd_channel_handshake.specs.Meeting.{IsMeetFault, IsProofFault, 
 
 use vd_base::HostId;
 use vd_channel_crypto::{Frame, Hello, Keys};
-use vd_channel_link::{SealFault, fill, send_all, take_record};
-use vd_outside::Link;
+use vd_channel_link::{SealFault, fill, take_record};
+use vd_outside::{Link, send_all};
 
 /// Takes a hello of this dealing, from one host to another.
 ///

@@ -6,5 +6,4 @@ mod Given
 mod Next
 mod Refused
 mod Sent
-mod SentParts
 mod Walk

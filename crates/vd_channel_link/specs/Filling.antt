@@ -1,7 +1,7 @@
 -- Pieces that are received whole.
-use Rattle.std.specs.Prelude.{◌≡◌, ◌≤◌, ◌<◌, ℕ, IsTrue, List, [], ◌++◌, length, take, Result, IfOk, IfErr, OnOk, IsErrOf}
+use Rattle.std.specs.Prelude.{◌≡◌, ◌≤◌, ◌<◌, ℕ, IsTrue, List, [], ◌++◌, length, Result, IfOk, IfErr, OnOk, IsErrOf}
 use Rattle.vd_outside.specs.Causes.{Rose}
-use Rattle.vd_outside.specs.Link.{LinkView}
+use Rattle.vd_outside.specs.Link.{FillsTo, LinkView}
 use Rattle.vd_channel_link.specs.declared.fault.SealFault.{SealFault}
 use Rattle.vd_channel_link.specs.declared.fault.SealFault.TheVariants as fault
 
@@ -14,12 +14,6 @@ EndsReceive fault.Dealing = ⊥
 EndsReceive fault.Host = ⊥
 EndsReceive fault.Head = ⊥
 EndsReceive fault.Code = ⊥
-
--- the bytes that came stand behind those that filled the piece
-pub record FillsTo (filled total : ℕ) (old new : List ℕ) (before now : LinkView) : Type 0 where
-  pub piece : List ℕ
-  pub behind : take total new ≡ take filled old ++ piece
-  pub came : before.coming ≡ piece ++ now.coming
 
 pub record ReceivesAt (filled : ℕ) (old new : List ℕ) (before now : LinkView) (result : Result ℕ SealFault) : Type 0 where
   pub later : before.faults ≤ now.faults

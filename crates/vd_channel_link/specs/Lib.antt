@@ -1,5 +1,4 @@
 pub mod Filling
 pub mod Opened
-pub mod Sending
 pub mod Session
 pub mod Taking

@@ -7,7 +7,6 @@ mod laws;
 mod noted;
 mod piece;
 mod sealed_link;
-mod sending;
 mod session;
 mod taking;
 
@@ -17,6 +16,5 @@ pub use laws::{opened_is_covered, opened_is_sent, sent_is_carried};
 pub use noted::Noted;
 pub use piece::Piece;
 pub use sealed_link::SealedLink;
-pub use sending::send_all;
 pub use session::Session;
 pub use taking::take_record;

@@ -8,12 +8,11 @@ ghost use Rattle.vd_channel_link.specs.Session.{BeginsNone, FailsToSend, IsFresh
 use crate::fault::SealFault;
 use crate::noted::Noted;
 use crate::piece::Piece;
-use crate::sending::send_all;
 use crate::taking::take_record;
 use std::snapshot::Snapshot;
 use vd_base::Failed;
 use vd_channel_crypto::{Frame, Keys, RECORD_BYTES};
-use vd_outside::Link;
+use vd_outside::{Link, send_all};
 
 /// The keys of both directions of a link, where each stands, and the bytes of the last record that are not given yet. Where it failed
 /// to send it sends nothing any more, and where it failed to receive it receives nothing any more.

@@ -8,10 +8,9 @@ use Rattle.vd_machine.specs.Kept.{Kept, state_of}
 use Rattle.vd_machine.specs.declared.did.Did.{Did}
 use Rattle.vd_machine.specs.declared.want.Want.{Want}
 use Rattle.vd_machine.specs.declared.want.Want.TheVariants as want
-use Rattle.vd_outside.specs.Link.{LinkView}
+use Rattle.vd_outside.specs.Link.{LinkView, SendsAll}
 use Rattle.vd_outside.specs.Sink.{SinkView}
 use Rattle.vd_link.specs.Frames.{frame}
-use Rattle.vd_link.specs.Sending.{SendsAll}
 use Rattle.vd_link.specs.Sessions.{Takes, offset_after}
 use Rattle.vd_link.specs.declared.faults.LinkFault.{LinkFault}
 use Rattle.vd_link.specs.declared.faults.LinkFault.TheVariants as link_fault

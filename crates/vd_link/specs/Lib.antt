@@ -1,6 +1,5 @@
 pub mod Frames
 pub mod Laws
 pub mod Receiving
-pub mod Sending
 pub mod Sessions
 pub mod States

@@ -1,7 +1,7 @@
 -- A piece that is received whole, and begins with two given bytes.
-use Rattle.std.specs.Prelude.{◌≡◌, ◌≢◌, ◌≤◌, ◌<◌, ◌⊎◌, ℕ, IsTrue, List, [], ◌∷◌, ◌++◌, length, take, Result, IfOk, IfErr, OnOk, IsErrOf}
+use Rattle.std.specs.Prelude.{◌≡◌, ◌≢◌, ◌≤◌, ◌<◌, ◌⊎◌, ℕ, IsTrue, List, [], ◌∷◌, ◌++◌, length, Result, IfOk, IfErr, OnOk, IsErrOf}
 use Rattle.vd_outside.specs.Causes.{Rose}
-use Rattle.vd_outside.specs.Link.{LinkView}
+use Rattle.vd_outside.specs.Link.{FillsTo, LinkView}
 use Rattle.vd_link.specs.declared.receiving.FrameFault.{FrameFault}
 use Rattle.vd_link.specs.declared.receiving.FrameFault.TheVariants as frame_fault
 
@@ -48,12 +48,6 @@ EndsReceive frame_fault.Peer = Unit {0}
 EndsReceive (frame_fault.First byte) = ⊥
 EndsReceive (frame_fault.Second byte) = ⊥
 EndsReceive frame_fault.End = Unit {0}
-
--- the bytes that came stand behind those that filled the piece
-pub record FillsTo (filled total : ℕ) (old new : List ℕ) (before now : LinkView) : Type 0 where
-  pub piece : List ℕ
-  pub behind : take total new ≡ take filled old ++ piece
-  pub came : before.coming ≡ piece ++ now.coming
 
 pub record ReceivesAt (filled : ℕ) (old new : List ℕ) (before now : LinkView) (result : Result ℕ FrameFault) : Type 0 where
   pub later : before.faults ≤ now.faults

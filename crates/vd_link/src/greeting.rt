@@ -6,10 +6,9 @@ ghost use Rattle.vd_link.specs.States.{ends};
 
 use crate::frame::{Frame, GREETING_BYTES, GREETING_TAG, GREETING_VERSION};
 use crate::receiving::fill;
-use crate::sending::send_all;
 use crate::{Digest, GreetFault};
 use vd_base::HostId;
-use vd_outside::Link;
+use vd_outside::{Link, send_all};
 
 /// The plan of a greeting, the host that sent it and the host that it is for.
 fn parts_of(bytes: &[u8; GREETING_BYTES]) -> (Digest, u8, u8)

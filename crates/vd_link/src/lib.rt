@@ -8,7 +8,6 @@ mod greeting;
 mod laws;
 mod packet;
 mod receiving;
-mod sending;
 mod session;
 mod taking;
 

@@ -2,18 +2,17 @@ ghost use Rattle.std.specs.Prelude.{◌≡◌, ◌<◌, ◌≤◌, ◌+◌, ◌*
 ghost use Rattle.vd_base.specs.Limits.{most_packet_words};
 ghost use Rattle.vd_base.specs.Packets.{packet_words};
 ghost use Rattle.vd_link.specs.Frames.{frame};
-ghost use Rattle.vd_link.specs.Sending.{SendsAll};
 ghost use Rattle.vd_link.specs.Sessions.{Greets, Takes, offset_after};
 ghost use Rattle.vd_link.specs.States.{ends, ends_of, has_failed, link_of, offset_of};
+ghost use Rattle.vd_outside.specs.Link.{SendsAll};
 
 use crate::frame::Frame;
 use crate::greeting::exchange_greetings;
-use crate::sending::send_all;
 use crate::taking::take_packet;
 use crate::{Digest, GreetFault, LinkFault};
 use std::alloc::{AllocError, Global};
 use vd_base::{Failed, HostId, Packet};
-use vd_outside::Link;
+use vd_outside::{Link, send_all};
 
 /// A session that has not begun.
 #[derive(Debug, Drop)]

@@ -1,9 +1,7 @@
-//! Pieces that are sent whole.
+ghost use Rattle.vd_outside.specs.Link.{SendsAll};
 
-ghost use Rattle.vd_channel_link.specs.Sending.{SendsAll};
-
+use crate::Link;
 use vd_base::Failed;
-use vd_outside::Link;
 
 /// Sends all bytes.
 pub fn send_all<L: Link>(link: &mut L, bytes: &[u8]) -> Result<(), Failed>
