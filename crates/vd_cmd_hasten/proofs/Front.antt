@@ -1,3 +1,2 @@
 -- The lemmas that other crates cite.
-pub use Rattle.vd_cmd_hasten.proofs.Existing.{some_reading}
 pub use Rattle.vd_cmd_hasten.proofs.Told.{hastens_tell}

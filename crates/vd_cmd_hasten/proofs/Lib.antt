@@ -1,4 +1,3 @@
 pub mod Front
-mod Existing
 mod Answered
 mod Told

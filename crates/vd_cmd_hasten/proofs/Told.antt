@@ -13,11 +13,11 @@ use Rattle.vd_cmd_plan.specs.Deliver.{stored}
 use Rattle.vd_cmd_plan.specs.Plans.{Plan, answer_then, check_then, file_then, with_file}
 use Rattle.vd_cmd_plan.specs.declared.status.Status.TheVariants.{Ended}
 use Rattle.vd_reorder.proofs.Front.{hastened_is}
-use Rattle.vd_cmd_hasten.specs.Programs.{ProgramReading, as_program}
+use Rattle.vd_cmd_programs.specs.Programs.{ProgramOutcomes, as_program}
 use Rattle.vd_cmd_hasten.specs.Hastening.{bytes_plan, program_plan}
 use Rattle.vd_cmd_hasten.specs.Telling.{HastensTell, TellsHastened}
 
-module _ (reading : ProgramReading) (name out : List ℕ) (contents : Contents) where
+module _ (programs : ProgramOutcomes) (name out : List ℕ) (contents : Contents) where
   by_program : (bytes : List ℕ) → fetched (contents name) most_host_file_bytes ≡ Ok bytes → (r : Result HostProgram CodeFault) → IsOutcome bytes r
       → (check_then (as_program r) (program_plan out) contents).answer.status ≡ Ended
       → TellsHastened name out contents (stored (check_then (as_program r) (program_plan out) contents).answer.stores contents)
@@ -36,13 +36,13 @@ module _ (reading : ProgramReading) (name out : List ℕ) (contents : Contents) 
   by_program bytes got (Err (Range number)) is ends = absurd (cc ends)
   by_program bytes got (Err Memory) is ends = absurd is
 
-  by_fetch : (r : Result (List ℕ) FetchFault) → fetched (contents name) most_host_file_bytes ≡ r → (with_file name most_host_file_bytes r (λ bytes. bytes_plan reading out bytes contents)).answer.status ≡ Ended
-      → TellsHastened name out contents (stored (with_file name most_host_file_bytes r (λ bytes. bytes_plan reading out bytes contents)).answer.stores contents)
-  by_fetch (Ok bytes) got ends = by_program bytes got (reading.read bytes) (reading.read_is bytes) ends
+  by_fetch : (r : Result (List ℕ) FetchFault) → fetched (contents name) most_host_file_bytes ≡ r → (with_file name most_host_file_bytes r (λ bytes. bytes_plan programs out bytes contents)).answer.status ≡ Ended
+      → TellsHastened name out contents (stored (with_file name most_host_file_bytes r (λ bytes. bytes_plan programs out bytes contents)).answer.stores contents)
+  by_fetch (Ok bytes) got ends = by_program bytes got (programs.read bytes) (programs.read_is bytes) ends
   by_fetch (Err fetch_fault.TooLong) got ends = absurd (cc ends)
   by_fetch (Err fetch_fault.Failed) got ends = absurd (cc ends)
   by_fetch (Err fetch_fault.Memory) got ends = absurd (cc ends)
 
 pub hastens_tell : HastensTell
 unfolding file_then
-hastens_tell reading name out contents ends = by_fetch reading name out contents (fetched (contents name) most_host_file_bytes) refl ends
+hastens_tell programs name out contents ends = by_fetch programs name out contents (fetched (contents name) most_host_file_bytes) refl ends

@@ -7,7 +7,8 @@ use Rattle.vd_host_text.specs.Text.{program_text}
 use Rattle.vd_cmd_plan.specs.Plans.{Plan, Executes, answer_then, check_then, ended, file_then}
 use Rattle.vd_cmd_plan.specs.declared.answer.Answer.{Answer}
 use Rattle.vd_cmd_plan.specs.declared.status.Status.{Status}
-use Rattle.vd_cmd_hasten.specs.Programs.{ProgramReading, hastened_program, program_in}
+use Rattle.vd_cmd_programs.specs.Programs.{ProgramOutcomes, program_in}
+use Rattle.vd_cmd_hasten.specs.Programs.{hastened_program}
 
 -- one file is stored, and nothing is printed
 abbrev pub stored_answer : (out content : List ℕ) → Answer
@@ -21,17 +22,17 @@ hastened_answer out program = stored_answer out (program_text (hastened_program 
 abbrev pub program_plan : (out : List ℕ) → HostProgram → Contents → Plan
 program_plan out program = answer_then (hastened_answer out program)
 
-abbrev pub bytes_plan : ProgramReading → (out bytes : List ℕ) → Contents → Plan
-bytes_plan reading out bytes = check_then (program_in reading bytes) (program_plan out)
+abbrev pub bytes_plan : ProgramOutcomes → (out bytes : List ℕ) → Contents → Plan
+bytes_plan programs out bytes = check_then (program_in programs bytes) (program_plan out)
 
-abbrev pub hasten_plan : ProgramReading → (name out : List ℕ) → Contents → Plan
-hasten_plan reading name out = file_then name most_host_file_bytes (bytes_plan reading out)
+abbrev pub hasten_plan : ProgramOutcomes → (name out : List ℕ) → Contents → Plan
+hasten_plan programs name out = file_then name most_host_file_bytes (bytes_plan programs out)
 
 -- ---- what the parts of the command do, whatever function picks outcomes
 
 abbrev pub ExecutesBytes : (out bytes : List ℕ) → Result Answer Status → Type 0
-ExecutesBytes out bytes result = (reading : ProgramReading) (files : FilesView)
-    → Executes true (bytes_plan reading out bytes) files files result
+ExecutesBytes out bytes result = (programs : ProgramOutcomes) (files : FilesView)
+    → Executes true (bytes_plan programs out bytes) files files result
 
 abbrev pub ExecutesHasten : (name out : List ℕ) → FilesView → FilesView → Result Answer Status → Type 0
-ExecutesHasten name out before now result = (reading : ProgramReading) → Executes true (hasten_plan reading name out) before now result
+ExecutesHasten name out before now result = (programs : ProgramOutcomes) → Executes true (hasten_plan programs name out) before now result

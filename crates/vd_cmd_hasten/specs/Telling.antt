@@ -11,7 +11,8 @@ use Rattle.vd_hostcode.specs.Outcome.{IsOutcome}
 use Rattle.vd_cmd_plan.specs.Deliver.{stored}
 use Rattle.vd_cmd_plan.specs.Held.{IsHeld}
 use Rattle.vd_cmd_plan.specs.declared.status.Status.TheVariants.{Ended}
-use Rattle.vd_cmd_hasten.specs.Programs.{ProgramReading, hastened_program}
+use Rattle.vd_cmd_programs.specs.Programs.{ProgramOutcomes}
+use Rattle.vd_cmd_hasten.specs.Programs.{hastened_program}
 use Rattle.vd_cmd_hasten.specs.Hastening.{hasten_plan}
 
 -- The file is the program of a host. The one that is stored is the text of the same program with its code hastened: exchanges of
@@ -26,5 +27,5 @@ pub record TellsHastened (name out : List ℕ) (before now : Contents) : Type 0 
 
 -- so does its plan, whatever function picks outcomes
 abbrev pub HastensTell : Type 0
-HastensTell = (reading : ProgramReading) (name out : List ℕ) (contents : Contents) → let plan = hasten_plan reading name out contents in
+HastensTell = (programs : ProgramOutcomes) (name out : List ℕ) (contents : Contents) → let plan = hasten_plan programs name out contents in
     plan.answer.status ≡ Ended → TellsHastened name out contents (stored plan.answer.stores contents)

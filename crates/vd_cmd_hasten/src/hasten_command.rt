@@ -4,12 +4,13 @@ ghost use Rattle.std.specs.Prelude.{◌≡◌, IfOk};
 ghost use Rattle.vd_cmd_plan.specs.Plans.{Computes};
 ghost use Rattle.vd_cmd_hasten.specs.Hastening.{ExecutesBytes, ExecutesHasten, hastened_answer, stored_answer};
 
-use crate::program::{hasten_program, program_in};
+use crate::program::hasten_program;
 use std::alloc::{AllocError, Global};
 use vd_base::limits::HOST_FILE_BYTES;
 use vd_base::{Bytes, Text};
 use vd_base_lists::Items;
 use vd_cmd_plan::{Answer, Status, load};
+use vd_cmd_programs::program_in;
 use vd_host_text::{HostProgram, print};
 use vd_outside::{Files, Stored};
 

@@ -6,4 +6,4 @@ mod laws;
 mod program;
 
 pub use hasten_command::hasten;
-pub use laws::{hastened_programs_tell, readings_exist};
+pub use laws::hastened_programs_tell;

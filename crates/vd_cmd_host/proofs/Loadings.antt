@@ -10,6 +10,8 @@ use Rattle.vd_cmd.specs.declared.command.HostWords.{HostWords}
 use Rattle.vd_deal_versions.specs.declared.dealt.Dealt.{Dealt}
 use Rattle.vd_deal_versions.specs.Text.{Fit_by, IsDealtFile, IsDealtOf}
 use Rattle.vd_host_text.specs.declared.program.HostProgram.{HostProgram}
+use Rattle.vd_hostcode.specs.Outcome.{CanRun, IsHeaded}
+use Rattle.vd_host_start.specs.Starts.{IsProgramRead}
 use Rattle.vd_cmd_plan.specs.Held.{IsHeld}
 use Rattle.vd_cmd_plan.specs.Loads.{Loads}
 use Rattle.vd_cmd_plan.specs.Plans.{GrowsWithin, fetch_calls}
@@ -19,7 +21,8 @@ use Rattle.vd_cmd_plan.proofs.Front.{front_within, later_within, more_within}
 use Rattle.vd_report.specs.InputsText.{GivesInputs}
 use Rattle.vd_deal_keys.specs.declared.secrets.Secrets.{Secrets}
 use Rattle.vd_tape.specs.Text.{IsDealOf}
-use Rattle.vd_cmd_host.specs.Loading.{AreInputsOf, HasAddresses, HoldsProgram, HoldsInputs, IsCause, IsDealEnd, IsFileCause, IsInputsEnd, IsProgramEnd, IsProgramOf, LoadsDeal, LoadsFile, LoadsHost, LoadsInputs, LoadsProgram, OfAddresses, OfDeal, OfInputs, OfProgram, files_of}
+use Rattle.vd_cmd_programs.specs.Programs.{IsProgramEnd}
+use Rattle.vd_cmd_host.specs.Loading.{AreInputsOf, HasAddresses, HoldsProgram, HoldsInputs, IsCause, IsDealEnd, IsFileCause, IsInputsEnd, IsProgramOf, LoadsDeal, LoadsFile, LoadsHost, LoadsInputs, LoadsProgram, OfAddresses, OfDeal, OfInputs, OfProgram, files_of}
 use Rattle.vd_cmd_host.proofs.Files.{IsRead, deal_read, gives, inputs_read, program_read, refused}
 
 -- a file that was fetched and read to its end
@@ -35,6 +38,11 @@ IsRefused IsEnd bytes status = IsEnd bytes status × IsRead status
 both : {T : Type 0} (IsEnd : List ℕ → Status → Type 0) (bytes : List ℕ) (result : Result T Status) → ((status : Status) → IsEnd bytes status → IsRead status) → IfErr result (IsEnd bytes) → IfErr result (IsRefused IsEnd bytes)
 both IsEnd bytes (Ok value) reads err = tt
 both IsEnd bytes (Err status) reads err = (err, reads status err)
+
+-- what was read is a program as its reader gives it
+pub program_is_read : (bytes : List ℕ) (result : Result HostProgram Status) → IfOk result (λ program. IsProgramOf bytes program) → IfOk result IsHeaded → IfOk result CanRun → IfOk result IsProgramRead
+program_is_read bytes (Ok program) given heading code = record { read = (bytes, given); heading = heading; code = code }
+program_is_read bytes (Err status) given heading code = tt
 
 pub program_file : (words : HostWords) (before now : FilesView) (bytes seen : List ℕ) (result : Result HostProgram Status) → Loads words.program most_host_file_bytes before now (Ok bytes) → seen ≡ bytes
     → IfOk result (λ program. IsProgramOf seen program) → IfErr result (IsProgramEnd seen) → LoadsProgram words before now result

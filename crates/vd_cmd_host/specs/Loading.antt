@@ -9,13 +9,13 @@ use Rattle.vd_cmd.specs.declared.command.HostWords.{HostWords}
 use Rattle.vd_deal_versions.specs.declared.dealt.Dealt.{Dealt}
 use Rattle.vd_host_start.specs.Starts.{IsProgramRead}
 use Rattle.vd_hostcode.specs.Outcome.{IsOutcome}
-use Rattle.vd_hostcode.specs.declared.fault.CodeFault.TheVariants as code_fault
 use Rattle.vd_host_text.specs.declared.program.HostProgram.{HostProgram}
 use Rattle.vd_cmd_plan.specs.Held.{IsHeld}
 use Rattle.vd_cmd_plan.specs.Plans.{GrowsWithin, IsLast, fetch_calls}
 use Rattle.vd_cmd_plan.specs.declared.status.HostStatus.TheVariants as host_status
 use Rattle.vd_cmd_plan.specs.declared.status.Status.{Status}
 use Rattle.vd_cmd_plan.specs.declared.status.Status.TheVariants as status
+use Rattle.vd_cmd_programs.specs.Programs.{IsProgramEnd}
 use Rattle.vd_report.specs.InputsText.{GivesInputs, IsInputsText}
 use Rattle.vd_report.specs.Outcome.{FirstWrong}
 use Rattle.vd_deal_versions.specs.Outcome.{IsFirstWrong}
@@ -32,12 +32,6 @@ IsProgramOf bytes program = IsOutcome bytes (Ok program)
 -- these are the inputs of the host with this number, among those of all hosts
 abbrev pub AreInputsOf : (hosts : List (List ℕ)) → (me : ℕ) → List ℕ → List ℕ → Type 0
 AreInputsOf hosts me bytes own = (inputs : List (List ℕ)) × GivesInputs hosts bytes inputs × (slice_get inputs me ≡ Some own)
-
-abbrev pub IsProgramEnd : List ℕ → Status → Type 0
-IsProgramEnd bytes status.Memory = Unit {0}
-IsProgramEnd bytes (status.Host (host_status.ProgramText offset)) = IsOutcome bytes (Err (code_fault.Text offset))
-IsProgramEnd bytes (status.Host (host_status.ProgramRange number)) = IsOutcome bytes (Err (code_fault.Range number))
-IsProgramEnd bytes other = ⊥
 
 abbrev pub IsInputsEnd : (hosts : List (List ℕ)) → List ℕ → Status → Type 0
 IsInputsEnd hosts bytes status.Memory = Unit {0}

@@ -1,10 +1,9 @@
 //! What a host's files hold.
 
-ghost use Rattle.std.specs.Prelude.{◌≡◌, ◌≢◌, ◌<◌, ◌≤◌, ◌+◌, Ok, Some, length, slice_get, IfOk, IfErr, OnOk};
+ghost use Rattle.std.specs.Prelude.{◌≡◌, ◌≢◌, ◌<◌, ◌≤◌, ◌+◌, Some, length, slice_get, IfOk, IfErr, OnOk};
 ghost use Rattle.vd_base.specs.Limits.{most_hosts};
-ghost use Rattle.vd_cmd_host.specs.Loading.{IsDealEnd, IsInputsEnd, IsLoaded, IsProgramEnd, LoadsDeal, LoadsHost, LoadsInputs, LoadsProgram};
+ghost use Rattle.vd_cmd_host.specs.Loading.{IsDealEnd, IsInputsEnd, IsLoaded, LoadsDeal, LoadsHost, LoadsInputs, LoadsProgram};
 ghost use Rattle.vd_host_start.specs.Starts.{IsProgramRead};
-ghost use Rattle.vd_hostcode.specs.Outcome.{IsOutcome};
 ghost use Rattle.vd_cmd_plan.specs.declared.status.Status.TheVariants.{Usage};
 ghost use Rattle.vd_report.specs.InputsText.{GivesInputs};
 ghost use Rattle.vd_deal_versions.specs.Text.{IsDealtFile, IsDealtOf};
@@ -13,10 +12,10 @@ use std::alloc::{AllocError, Global};
 use vd_base::limits::{DEAL_BYTES, HOST_FILE_BYTES, INPUTS_BYTES};
 use vd_base::{FileFault, HostId, Inputs, Name, Names, Words};
 use vd_cmd::HostWords;
-use vd_cmd_plan::{HostStatus, Status, input_status, load};
+use vd_cmd_plan::{Status, input_status, load};
+use vd_cmd_programs::program_in;
 use vd_deal_versions::{Dealt, read_dealt};
 use vd_host_text::HostProgram;
-use vd_hostcode::{CodeFault, read};
 use vd_outside::Files;
 use vd_report::read_inputs;
 
@@ -26,20 +25,6 @@ pub struct Loaded {
     pub program: HostProgram,
     pub inputs: Words,
     pub dealt: Dealt,
-}
-
-/// The program of a file.
-fn program_in(alloc: Global, bytes: &[u8]) -> Result<HostProgram, Status>
-    ensures given { IfOk result (λ program. IsOutcome bytes.now (Ok program)) }
-    ensures read { IfOk result IsProgramRead }
-    ensures refused { IfErr result (IsProgramEnd bytes.now) }
-{
-    match read(alloc, bytes) {
-        Ok(program) => Ok(program),
-        Err(CodeFault::Text(offset)) => Err(Status::Host(HostStatus::ProgramText(offset))),
-        Err(CodeFault::Range(number)) => Err(Status::Host(HostStatus::ProgramRange(number))),
-        Err(CodeFault::Memory) => Err(Status::Memory),
-    }
 }
 
 /// The words that a text gives to these hosts.

@@ -22,7 +22,8 @@ use Rattle.vd_report.proofs.Front.{follows_grammar}
 use Rattle.vd_deal_versions.specs.Reading.{dealt_read}
 use Rattle.vd_deal_versions.specs.Text.{IsDealtFile}
 use Rattle.vd_deal_versions.proofs.Front.{follow_grammar}
-use Rattle.vd_cmd_host.specs.Loading.{AreInputsOf, HoldsHost, HoldsInputs, HoldsProgram, IsCause, IsDealEnd, IsFileCause, IsInputsEnd, IsProgramEnd, IsProgramOf, OfAddresses, OfDeal, OfInputs, OfProgram}
+use Rattle.vd_cmd_programs.specs.Programs.{IsProgramEnd}
+use Rattle.vd_cmd_host.specs.Loading.{AreInputsOf, HoldsHost, HoldsInputs, HoldsProgram, IsCause, IsDealEnd, IsFileCause, IsInputsEnd, IsProgramOf, OfAddresses, OfDeal, OfInputs, OfProgram}
 use Rattle.vd_cmd_host.specs.declared.loading.Loaded.{Loaded}
 
 -- ---- a program

@@ -1,3 +1,2 @@
 -- The lemmas that other crates cite.
-pub use Rattle.vd_cmd_needs.proofs.Existing.{some_programs}
 pub use Rattle.vd_cmd_needs.proofs.Sure.{needs_follows}

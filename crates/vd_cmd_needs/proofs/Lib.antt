@@ -1,5 +1,4 @@
 pub mod Front
-mod Existing
 mod Reading
 mod Answered
 mod Told

@@ -1,5 +1,4 @@
 pub mod Needed
 pub mod Lines
-pub mod Outcomes
 pub mod Needing
 pub mod Telling

@@ -7,23 +7,18 @@ use Rattle.vd_outside.specs.Files.{FilesView, Contents}
 use Rattle.vd_core.specs.declared.normal.NormalForm.{NormalForm}
 use Rattle.vd_core.specs.declared.source.Source.{Source}
 use Rattle.vd_deal_needs.specs.Sizes.{sizes_of}
-use Rattle.vd_host_text.specs.declared.program.HostProgram.{HostProgram}
-use Rattle.vd_hostcode.specs.declared.fault.CodeFault.{CodeFault}
-use Rattle.vd_hostcode.specs.declared.fault.CodeFault.TheVariants.{Text, Range, Memory}
 use Rattle.vd_search_stages.specs.Choices.{ChoiceOutcomes}
 use Rattle.vd_cmd.specs.declared.command.NeedsWords.{NeedsWords}
 use Rattle.vd_cmd_plan.specs.Plans.{Checks, Plan, Executes, answer_then, check_then, ended, file_then}
 use Rattle.vd_cmd_plan.specs.declared.answer.Answer.{Answer}
 use Rattle.vd_cmd_plan.specs.declared.status.Status.{Status}
-use Rattle.vd_cmd_plan.specs.declared.status.Status.TheVariants.{Host, Memory as OutOfMemory}
-use Rattle.vd_cmd_plan.specs.declared.status.HostStatus.TheVariants.{ProgramText, ProgramRange}
 use Rattle.vd_cmd_frontend.specs.Outcomes.{TextOutcomes, LabelOutcomes}
 use Rattle.vd_cmd_frontend.specs.Sources.{source_of}
 use Rattle.vd_cmd_choose.specs.Searching.{Search, SomeSearch}
 use Rattle.vd_cmd_choose.specs.Choice.{Chosen, assigned_answer, text_choice_then}
 use Rattle.vd_cmd_needs.specs.Lines.{each_lines, program_lines, sizes_line}
 use Rattle.vd_deal_needs_programs.specs.Enough.{needs_for}
-use Rattle.vd_cmd_needs.specs.Outcomes.{ProgramOutcomes}
+use Rattle.vd_cmd_programs.specs.Programs.{ProgramOutcomes, program_in}
 
 -- ---- a source
 
@@ -48,16 +43,6 @@ IsNoSource name bytes status = (texts : TextOutcomes) → Checks {T = Source} (s
 -- the bytes begin as each program of a host does, and as no source does
 abbrev pub is_program_text : List ℕ → Bool
 is_program_text bytes = starts_with nat_eq bytes (codes "viaduct-host ")
-
-abbrev pub as_program : Result HostProgram CodeFault → Result HostProgram Status
-as_program (Ok program) = Ok program
-as_program (Err (Text offset)) = Err (Host (ProgramText offset))
-as_program (Err (Range number)) = Err (Host (ProgramRange number))
-as_program (Err Memory) = Err OutOfMemory
-
--- the program that the bytes are, or the status of their refusal
-abbrev pub program_in : ProgramOutcomes → List ℕ → Result HostProgram Status
-program_in programs bytes = as_program (programs.read bytes)
 
 abbrev pub host_plan : ProgramOutcomes → List ℕ → Contents → Plan
 host_plan programs bytes = check_then (program_in programs bytes) (λ program. answer_then (ended [] (program_lines program)))

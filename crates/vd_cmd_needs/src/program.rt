@@ -1,10 +1,9 @@
 //! The program of a host, and what it takes.
 
-ghost use Rattle.std.specs.Prelude.{◌≡◌, [], IfOk, Ok};
-ghost use Rattle.vd_hostcode.specs.Outcome.{CanRun, IsHeaded, IsOutcome};
-ghost use Rattle.vd_cmd_plan.specs.Plans.{Checks, Computes, ended};
-ghost use Rattle.vd_cmd_needs.specs.Outcomes.{ProgramOutcomes};
-ghost use Rattle.vd_cmd_needs.specs.Needing.{ExecutesHost, is_program_text, program_in};
+ghost use Rattle.std.specs.Prelude.{◌≡◌, [], IfOk};
+ghost use Rattle.vd_hostcode.specs.Outcome.{CanRun, IsHeaded};
+ghost use Rattle.vd_cmd_plan.specs.Plans.{Computes, ended};
+ghost use Rattle.vd_cmd_needs.specs.Needing.{ExecutesHost, is_program_text};
 ghost use Rattle.vd_cmd_needs.specs.Needed.{needs_in};
 ghost use Rattle.vd_cmd_needs.specs.Lines.{program_lines};
 ghost use Rattle.vd_cmd_needs.specs.Telling.{TellsHost};
@@ -12,31 +11,16 @@ ghost use Rattle.vd_cmd_needs.specs.Telling.{TellsHost};
 use crate::lines::host_text;
 use crate::needs_command::printing;
 use std::alloc::{AllocError, Global};
-use vd_cmd_plan::{Answer, HostStatus, Status};
+use vd_cmd_plan::{Answer, Status};
+use vd_cmd_programs::program_in;
 use vd_deal_needs::{HostNeeds, host_needs};
 use vd_host_text::HostProgram;
-use vd_hostcode::{CodeFault, read};
 
 /// Whether the bytes begin as the program of a host does, and as no source does.
 pub(crate) fn is_program(bytes: &[u8]) -> bool
     ensures { result ≡ is_program_text bytes.now }
 {
     bytes.starts_with(b"viaduct-host ")
-}
-
-/// The program of a file.
-fn program_in(alloc: Global, bytes: &[u8]) -> Result<HostProgram, Status>
-    ensures checks { (outcomes : ProgramOutcomes) → Checks (program_in outcomes bytes.now) result }
-    ensures given { IfOk result (λ program. IsOutcome bytes.now (Ok program)) }
-    ensures heading { IfOk result IsHeaded }
-    ensures code { IfOk result CanRun }
-{
-    match read(alloc, bytes) {
-        Ok(program) => Ok(program),
-        Err(CodeFault::Text(offset)) => Err(Status::Host(HostStatus::ProgramText(offset))),
-        Err(CodeFault::Range(number)) => Err(Status::Host(HostStatus::ProgramRange(number))),
-        Err(CodeFault::Memory) => Err(Status::Memory),
-    }
 }
 
 /// What the host of a program takes.

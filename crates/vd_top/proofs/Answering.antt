@@ -102,7 +102,7 @@ module _ (words : List (List ℕ)) (before now : FilesView) (out_before out_now 
   hastened_of name out form told ends =
       let r = ran (Hasten name out) form ends in
       let w = r.1 some_outcomes in
-      subst (λ (c : Contents). TellsHastened name out before.contents c) (sym (w.stores told tt)) (hastens_tell some_outcomes.readings name out before.contents (sym (w.answered told)))
+      subst (λ (c : Contents). TellsHastened name out before.contents c) (sym (w.stores told tt)) (hastens_tell some_outcomes.programs name out before.contents (sym (w.answered told)))
 
   pub deal_of : AreWithinLimits words status → KeepsDeal words before now status
   deal_of within counts key prefix form told ends =

@@ -17,8 +17,7 @@ use Rattle.vd_cmd_frontend.proofs.Front.{some_texts}
 use Rattle.vd_cmd_choose.specs.Searching.{sure_search}
 use Rattle.vd_cmd_choose.proofs.Front.{some_certificates}
 use Rattle.vd_search_stages.proofs.Front.{some_choices}
-use Rattle.vd_cmd_hasten.proofs.Front.{some_reading}
-use Rattle.vd_cmd_needs.proofs.Front.{some_programs}
+use Rattle.vd_cmd_programs.proofs.Front.{some_programs}
 use Rattle.vd_report_outcomes.proofs.Front.{some_outcomes as some_replays}
 use Rattle.vd_cmd_answers.proofs.Front.{ended, never, printed}
 use Rattle.vd_cmd_replay.proofs.Front.{ends_well}
@@ -107,5 +106,5 @@ module _ (before now : FilesView) (out_before out_now : SinkView) (status : Stat
   pub accepted : (words : List (List ℕ)) → CompletesWords words before now out_before out_now status → KeepsAccepted words before now out_before out_now status
   accepted words completes_words = λ replay form t is quiet out_quiet.
       let well = ends_well replay before.contents is in
-      let outcomes : Outcomes = record { texts = some_texts; labels = well.0; certificates = some_certificates; choices = some_choices; programs = some_programs; readings = some_reading; replays = some_replays; dependences = some_dependences; influences = some_influences } in
+      let outcomes : Outcomes = record { texts = some_texts; labels = well.0; certificates = some_certificates; choices = some_choices; programs = some_programs; replays = some_replays; dependences = some_dependences; influences = some_influences } in
       (subst (λ (f : Option Command). CompletesForm f before now out_before out_now status) form completes_words) outcomes t quiet out_quiet (well.1 some_texts some_replays some_choices)

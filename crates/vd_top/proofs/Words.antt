@@ -16,8 +16,8 @@ use Rattle.vd_cmd_choose.specs.Searching.{Searched, sure_search}
 use Rattle.vd_cmd_choose.proofs.Front.{some_certificates, choose_follows}
 use Rattle.vd_cmd_compile.proofs.Front.{compile_follows}
 use Rattle.vd_cmd_draw.proofs.Front.{draw_follows}
-use Rattle.vd_cmd_hasten.proofs.Front.{some_reading}
-use Rattle.vd_cmd_needs.proofs.Front.{some_programs, needs_follows}
+use Rattle.vd_cmd_programs.proofs.Front.{some_programs}
+use Rattle.vd_cmd_needs.proofs.Front.{needs_follows}
 use Rattle.vd_report_outcomes.proofs.Front.{some_outcomes as some_replays}
 use Rattle.vd_cmd_replay.proofs.Front.{replay_follows}
 use Rattle.vd_cmd_excuse.proofs.Front.{excuse_follows}
@@ -32,7 +32,7 @@ given fits (Err status) proper = tt
 
 -- there are outcomes
 pub some_outcomes : Outcomes
-some_outcomes = record { texts = some_texts; labels = some_labels; certificates = some_certificates; choices = some_choices; programs = some_programs; readings = some_reading; replays = some_replays; dependences = some_dependences; influences = some_influences }
+some_outcomes = record { texts = some_texts; labels = some_labels; certificates = some_certificates; choices = some_choices; programs = some_programs; replays = some_replays; dependences = some_dependences; influences = some_influences }
 
 -- the limits of what is dealt are those of what is made
 pub are_counts : (counts : Counts) → AreWithin counts → AreCounts counts

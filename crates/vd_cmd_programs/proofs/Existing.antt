@@ -14,7 +14,7 @@ use Rattle.vd_hostcode.specs.declared.fault.CodeFault.TheVariants.{Text, Range}
 use Rattle.vd_hostcode.specs.Ranges.{count_in, first_broken, most_steps, static_steps}
 use Rattle.vd_hostcode.specs.Outcome.{IsOutcome}
 use Rattle.vd_hostcode.proofs.Front.{all_within, first_is_broken, has_code, last_is_broken}
-use Rattle.vd_cmd_hasten.specs.Programs.{ProgramReading}
+use Rattle.vd_cmd_programs.specs.Programs.{ProgramOutcomes}
 
 abbrev SomeOutcome : List ℕ → Type 0
 SomeOutcome bytes = (r : Result HostProgram CodeFault) × IsOutcome bytes r
@@ -42,5 +42,5 @@ by_text bytes (Err at) e = (Err (Text (capped at)), (at, ((follow_grammar bytes)
 some_outcome : (bytes : List ℕ) → SomeOutcome bytes
 some_outcome bytes = by_text bytes (file_read bytes) refl
 
-pub some_reading : ProgramReading
-some_reading = record { read = λ bytes. (some_outcome bytes).0; read_is = λ bytes. (some_outcome bytes).1 }
+pub some_programs : ProgramOutcomes
+some_programs = record { read = λ bytes. (some_outcome bytes).0; read_is = λ bytes. (some_outcome bytes).1 }
