@@ -35,7 +35,7 @@ pub fn turn(
     if !truths.are_kept(form.body.as_slice()) {
         return Ok(None);
     }
-    if !walk.is_some_changed(form.body.as_slice()) {
+    if !walk.have_hidden_if(form.body.as_slice()) {
         return Ok(None);
     }
     match made_anew(alloc, &walk, form.body.as_slice()) {

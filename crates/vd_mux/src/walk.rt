@@ -112,26 +112,26 @@ impl<'a> Walk<'a> {
 
     /// Whether a statement is or holds a hidden If.
     #[cycle(changed)]
-    fn is_changed(&self, stmt: &Stmt) -> bool
+    fn has_hidden_if(&self, stmt: &Stmt) -> bool
         ensures { result ≡ (as_rewriting self.now stmt.now).is_changed }
     {
         match stmt {
             Stmt::If(guard, then_block, else_block, _) => {
                 self.is_hidden(*guard, then_block.as_slice(), else_block.as_slice())
-                    || self.is_some_changed(then_block.as_slice())
-                    || self.is_some_changed(else_block.as_slice())
+                    || self.have_hidden_if(then_block.as_slice())
+                    || self.have_hidden_if(else_block.as_slice())
             }
-            Stmt::For(_, body) => self.is_some_changed(body.as_slice()),
+            Stmt::For(_, body) => self.have_hidden_if(body.as_slice()),
             _ => false,
         }
     }
 
     #[cycle(changed)]
-    pub(crate) fn is_some_changed(&self, body: &[Stmt]) -> bool
+    pub(crate) fn have_hidden_if(&self, body: &[Stmt]) -> bool
         ensures { result ≡ some_changed (as_rewritings self.now body.now) }
     {
         for stmt in body {
-            if self.is_changed(stmt) {
+            if self.has_hidden_if(stmt) {
                 return true;
             }
         }

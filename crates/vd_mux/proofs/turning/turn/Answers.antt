@@ -33,7 +33,7 @@ new-requires c =
     let is_slots = c.as_slice.ensures ∙ ap (λ (f : NormalForm). f.slots) same in
     let is_body = c.as_slice-5.ensures ∙ ap (λ (f : NormalForm). f.body) same in
     let new =
-    fit_is_new hides program c.as_slice.result.now c.as_slice-5.result.now is_slots is_body c.as_slice-4.result.now (c.as_slice-4.ensures ∙ ap (λ (f : NormalForm). f.body) same) (sym (c.if-not-is_some_changed.ensures {u = tt}))
+    fit_is_new hides program c.as_slice.result.now c.as_slice-5.result.now is_slots is_body c.as_slice-4.result.now (c.as_slice-4.ensures ∙ ap (λ (f : NormalForm). f.body) same) (sym (c.if-not-have_hidden_if.ensures {u = tt}))
     c.as_slice-in-Ok.result.now (c.as_slice-in-Ok.ensures ∙ (c.in-Ok.ensures {u = tt}).body) (sym (c.if-not-fit.ensures {u = tt})) in
     let made = anew hides program c.as_slice.result.now c.as_slice-5.result.now is_slots is_body in
     let form =
@@ -51,7 +51,7 @@ returns-in_ok-form-in-Ok c =
     let is_slots = c.as_slice.ensures ∙ ap (λ (f : NormalForm). f.slots) same in
     let is_body = c.as_slice-5.ensures ∙ ap (λ (f : NormalForm). f.body) same in
     let new =
-    fit_is_new hides program c.as_slice.result.now c.as_slice-5.result.now is_slots is_body c.as_slice-4.result.now (c.as_slice-4.ensures ∙ ap (λ (f : NormalForm). f.body) same) (sym (c.if-not-is_some_changed.ensures {u = tt}))
+    fit_is_new hides program c.as_slice.result.now c.as_slice-5.result.now is_slots is_body c.as_slice-4.result.now (c.as_slice-4.ensures ∙ ap (λ (f : NormalForm). f.body) same) (sym (c.if-not-have_hidden_if.ensures {u = tt}))
     c.as_slice-in-Ok.result.now (c.as_slice-in-Ok.ensures ∙ (c.in-Ok.ensures {u = tt}).body) (sym (c.if-not-fit.ensures {u = tt})) in
     let made = anew hides program c.as_slice.result.now c.as_slice-5.result.now is_slots is_body in
     c.new.ensures ∙ c.in_ok-form-in-Ok.ensures {u = tt}
@@ -68,10 +68,10 @@ returns-then-not-are_kept c =
     boolean_if (marked c.args.hidden.now) c.args.program.now false
     (sym (kept_is (marked c.args.hidden.now) c.args.program.now c.as_slice-2.result.now c.as_slice-3.result.now (c.as_slice-2.ensures ∙ ap (λ (f : NormalForm). f.slots) same) (c.as_slice-3.ensures ∙ ap (λ (f : NormalForm). f.body) same)) ∙ sym (c.if-not-are_kept.ensures {u = tt}))
 
-pub returns-then-not-is_some_changed : goal.returns-then-not-is_some_changed
-returns-then-not-is_some_changed c =
+pub returns-then-not-have_hidden_if : goal.returns-then-not-have_hidden_if
+returns-then-not-have_hidden_if c =
     let same = c.form-form.ensures.same in
     (boolean_if (marked c.args.hidden.now) c.args.program.now true
     (sym (kept_is (marked c.args.hidden.now) c.args.program.now c.as_slice-2.result.now c.as_slice-3.result.now (c.as_slice-2.ensures ∙ ap (λ (f : NormalForm). f.slots) same) (c.as_slice-3.ensures ∙ ap (λ (f : NormalForm). f.body) same)) ∙ sym (c.if-not-are_kept.ensures {u = tt})))
     ∙ not_changed (marked c.args.hidden.now) c.args.program.now c.as_slice.result.now c.as_slice-4.result.now (c.as_slice.ensures ∙ ap (λ (f : NormalForm). f.slots) same) (c.as_slice-4.ensures ∙ ap (λ (f : NormalForm). f.body) same)
-    (sym (c.if-not-is_some_changed.ensures {u = tt}))
+    (sym (c.if-not-have_hidden_if.ensures {u = tt}))
