@@ -63,7 +63,7 @@ fn read_either(
     ensures { GivesOrMemory result cursor.new (dealt_at hosts me.0 cursor.old) }
 {
     if is_second(cursor) {
-        let SecretDeal { deal, secrets } = read_secret(alloc, cursor, hosts, me)?;
+        let SecretDeal { deal, secrets } = read_version_2(alloc, cursor, hosts, me)?;
         Ok(Dealt {
             deal,
             secrets: Some(secrets),
@@ -79,7 +79,7 @@ fn read_either(
 
 /// A file of version 2.
 #[tactic(auto, unfolding(crate::specs::Reading::secret_at))]
-fn read_secret(
+fn read_version_2(
     alloc: Global,
     cursor: &mut Cursor,
     hosts: u8,
