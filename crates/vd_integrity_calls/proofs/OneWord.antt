@@ -52,5 +52,5 @@ module _ (keeps : ℕ → Bool) (t : Tape) (from : HostId) (x : Reg) (word : ℕ
   said_to_all [] = λ next w w' known run says. record { still = still_start next w w' run; right = tt }
   said_to_all (h ∷ hs) = said_to_more h hs (said_to_all hs)
 
-pub one_word_is_right : OneWordIsRight
-one_word_is_right keeps p t next w w' known from x word departs run says = said_to_all keeps t from x word departs (holders p) next w w' known run says
+pub one_word_to_all_is_right : OneWordIsRight
+one_word_to_all_is_right keeps p t next w w' known from x word departs run says = said_to_all keeps t from x word departs (holders p) next w w' known run says

@@ -18,7 +18,7 @@ pub fn copies_stay_right()
 {}
 
 /// Where a host that departs hands one word to all holders of copies, that word is right from then on.
-pub fn one_word_is_right()
+pub fn one_word_to_all_is_right()
     ensures { OneWordIsRight }
 {}
 
