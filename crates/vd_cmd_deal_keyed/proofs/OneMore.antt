@@ -7,7 +7,7 @@ use Rattle.vd_deal_items.specs.declared.deal.Deal.{Deal}
 use Rattle.vd_deal_items.specs.declared.deal.Counts.{Counts}
 use Rattle.vd_cmd_plan.specs.Numbered.{file_name, numbered}
 use Rattle.vd_cmd_plan.proofs.Front.{numbered_more}
-use Rattle.vd_cmd_deal_keyed.specs.KeyDealing.{secret_file, secret_files}
+use Rattle.vd_cmd_deal_keyed.specs.KeyDealing.{keyed_deal_text, secret_files}
 
 texts : (text : Deal → List ℕ) (deals : List Deal) (i : ℕ) (deal : Deal) → i < length deals → deal ≡ get_or deals i deal → map text (take (i + 1) deals) ≡ map text (take i deals) ++ text deal ∷ []
 texts text deals i deal h is =
@@ -18,10 +18,10 @@ counted : (text : Deal → List ℕ) (deals : List Deal) (i : ℕ) → i < lengt
 counted text deals i h = let le = length-take-le i deals (omega arith) in let len = length-map (take i deals) text in omega (arith, le, len)
 
 pub one_more : (counts : Counts) (key prefix : List ℕ) (deals : List Deal) (i : ℕ) (deal : Deal) (name content : List ℕ) (old new : List Stored) → i < length deals → deal ≡ get_or deals i deal
-    → old ≡ secret_files counts key prefix (take i deals) → name ≡ file_name prefix i (codes ".deal") → content ≡ secret_file counts key deal
+    → old ≡ secret_files counts key prefix (take i deals) → name ≡ file_name prefix i (codes ".deal") → content ≡ keyed_deal_text counts key deal
     → new ≡ old ++ record { name = name; content = content } ∷ [] → new ≡ secret_files counts key prefix (take (i + 1) deals)
 one_more counts key prefix deals i deal name content old new h is so_far named filled more =
-    let text : Deal → List ℕ = secret_file counts key in
+    let text : Deal → List ℕ = keyed_deal_text counts key in
     more
     ∙ ap (λ (files : List Stored). files ++ record { name = name; content = content } ∷ []) so_far
     ∙ ap (λ (n : List ℕ). secret_files counts key prefix (take i deals) ++ record { name = n; content = content } ∷ []) named

@@ -12,12 +12,12 @@ use Rattle.vd_cmd_plan.specs.Plans.{ended}
 use Rattle.vd_cmd_plan.specs.declared.answer.Answer.{Answer}
 
 -- the file of a host: its deal, the name of the dealing, and the keys of its links
-abbrev pub secret_file : Counts → List ℕ → Deal → List ℕ
-secret_file counts key deal = secret_text (secret_of deal (secrets_of counts key deal.me.0))
+abbrev pub keyed_deal_text : Counts → List ℕ → Deal → List ℕ
+keyed_deal_text counts key deal = secret_text (secret_of deal (secrets_of counts key deal.me.0))
 
 -- a file for each host
 abbrev pub secret_files : Counts → (key prefix : List ℕ) → List Deal → List Stored
-secret_files counts key prefix deals = numbered prefix (codes ".deal") 0 (map (secret_file counts key) deals)
+secret_files counts key prefix deals = numbered prefix (codes ".deal") 0 (map (keyed_deal_text counts key) deals)
 
 -- what it comes to: it prints nothing
 abbrev pub key_answer : Counts → (key prefix : List ℕ) → Answer

@@ -3,7 +3,7 @@
 ghost use Rattle.std.specs.Prelude.{◌≡◌, ◌<◌, IfOk, map};
 ghost use Rattle.vd_cmd_plan.specs.Plans.{Computes};
 ghost use Rattle.vd_cmd.specs.Commands.{AreWithin};
-ghost use Rattle.vd_cmd_deal_keyed.specs.KeyDealing.{key_answer, secret_file, secret_files};
+ghost use Rattle.vd_cmd_deal_keyed.specs.KeyDealing.{key_answer, keyed_deal_text, secret_files};
 
 use std::alloc::{AllocError, Global};
 use vd_base::Bytes;
@@ -16,14 +16,14 @@ use vd_outside::Stored;
 use vd_tape::make_by_key;
 
 /// The text of a host's file: its deal, the name of the dealing, and the keys of its links.
-fn secret_file(
+fn keyed_deal_text(
     alloc: Global,
     counts: Counts,
     key: &[u8; 32],
     deal: &Deal,
 ) -> Result<Bytes, AllocError>
     requires { 0 < counts.hosts }
-    ensures { IfOk result (λ text. text ≡ secret_file counts key.now deal.now) }
+    ensures { IfOk result (λ text. text ≡ keyed_deal_text counts key.now deal.now) }
 {
     let secrets = secrets_of(alloc, counts, key, deal.me)?;
     write_secret(alloc, deal, &secrets)
@@ -43,7 +43,7 @@ fn files_of(
     let mut files = Items::new(alloc);
     for (number, deal) in deals.iter().enumerate() {
         let name = file_name(alloc, prefix, number, ".deal")?;
-        let content = secret_file(alloc, counts, key, deal)?;
+        let content = keyed_deal_text(alloc, counts, key, deal)?;
         files.push(Stored { name, content })?;
     }
     Ok(files)

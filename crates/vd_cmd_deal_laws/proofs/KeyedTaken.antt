@@ -19,7 +19,7 @@ use Rattle.vd_tape.proofs.Front.{consistent_if_keyed, valid_if_keyed, count_of_k
 use Rattle.vd_deal_versions.specs.Text.{IsSecretDealOf, secret_of}
 use Rattle.vd_cmd_plan.specs.Deliver.{stored}
 use Rattle.vd_cmd_plan.specs.Numbered.{file_name}
-use Rattle.vd_cmd_deal_keyed.specs.KeyDealing.{key_answer, secret_file}
+use Rattle.vd_cmd_deal_keyed.specs.KeyDealing.{key_answer, keyed_deal_text}
 use Rattle.vd_cmd_deal_keyed.proofs.Front.{are_secrets}
 use Rattle.vd_report_outcomes.specs.Outcomes.{ReplayOutcomes}
 use Rattle.vd_report_outcomes.proofs.Front.{judged_once}
@@ -50,22 +50,22 @@ module _ (counts : Counts) (key prefix : List ℕ) (before : Contents) (are : Ar
   fits number deal e = (keyed_of counts (items_key counts key) are_deals number deal e, are_secrets counts key deal.me.0)
 
   -- the file of a deal stands, whole
-  stands : (number : ℕ) (deal : Deal) → slice_get deals number ≡ Some deal → fetched (now (file_name prefix number (codes ".deal"))) most_deal_bytes ≡ Ok (secret_file counts key deal)
+  stands : (number : ℕ) (deal : Deal) → slice_get deals number ≡ Some deal → fetched (now (file_name prefix number (codes ".deal"))) most_deal_bytes ≡ Ok (keyed_deal_text counts key deal)
   stands number deal e =
-      let text = secret_file counts key deal in
+      let text = keyed_deal_text counts key deal in
       let hosts = are.hosts in
-      let size = length-map deals (secret_file counts key) in
+      let size = length-map deals (keyed_deal_text counts key) in
       let count = all in
-      let there : slice_get (map (secret_file counts key) deals) number ≡ Some text = slice_get-map (secret_file counts key) deals number ∙ ap (option_map (secret_file counts key)) e in
+      let there : slice_get (map (keyed_deal_text counts key) deals) number ≡ Some text = slice_get-map (keyed_deal_text counts key) deals number ∙ ap (option_map (keyed_deal_text counts key)) e in
       let is : now (file_name prefix number (codes ".deal")) ≡ Some text =
-      subst (λ (files : List Stored). stored files before (file_name prefix number (codes ".deal")) ≡ Some text) (sym (are_numbered prefix (codes ".deal") 0 (map (secret_file counts key) deals)))
-      (standing prefix (codes ".deal") (λ n content. content) (map (secret_file counts key) deals) before number text there (omega (arith, hosts, size, count))) in
+      subst (λ (files : List Stored). stored files before (file_name prefix number (codes ".deal")) ≡ Some text) (sym (are_numbered prefix (codes ".deal") 0 (map (keyed_deal_text counts key) deals)))
+      (standing prefix (codes ".deal") (λ n content. content) (map (keyed_deal_text counts key) deals) before number text there (omega (arith, hosts, size, count))) in
       subst (λ (o : Option (List ℕ)). fetched o most_deal_bytes ≡ Ok text) (sym is)
       (cond-false (nat_lt most_deal_bytes (length text)) _ (Ok text) (enough most_deal_bytes (length text) (secret_texts_are_short counts.hosts number (secret_of deal (secrets_of counts key deal.me.0)) (fits number deal e))))
 
   held : HoldDeals prefix counts.hosts now deals
   held number deal e = record {
-    bytes = secret_file counts key deal;
+    bytes = keyed_deal_text counts key deal;
     is_fetched = stands number deal e;
     holds = (Some (secrets_of counts key deal.me.0), (fits number deal e, refl));
   }
@@ -90,7 +90,7 @@ module _ (counts : Counts) (key prefix : List ℕ) (before : Contents) (are : Ar
 
   secret : (number : ℕ) → number < counts.hosts → HoldsKeyed counts key prefix now number
   secret number below = record {
-    bytes = secret_file counts key (keyed_deal counts (items_key counts key) number);
+    bytes = keyed_deal_text counts key (keyed_deal counts (items_key counts key) number);
     is_fetched = stands number (keyed_deal counts (items_key counts key) number) (there number below);
     holds = (fits number (keyed_deal counts (items_key counts key) number) (there number below), refl);
   }
