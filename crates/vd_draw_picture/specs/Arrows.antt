@@ -64,24 +64,24 @@ name_marks half y name (from ∷ froms) (to ∷ tos) =
     let place = at (name_x half from to) (plus y 3) in
     Text style.Halo place name ∷ Text style.Name place name ∷ []
 
-abbrev pub one_x : List Lane → Proto → List ℕ
-one_x lanes p = lane_x lanes p ∷ []
+abbrev pub xs_of_lane : List Lane → Proto → List ℕ
+xs_of_lane lanes p = lane_x lanes p ∷ []
 
 module _ (lanes : List Lane) (hosts : ℕ) where
   -- where an arrow begins: at each copy, where they are compared; where copies become shared words, at the later host
   abbrev pub from_copies : List ℕ → Proto → List ℕ
-  from_copies copies (Add a b) = one_x lanes (Local b)
-  from_copies copies (Xor a b) = one_x lanes (Local b)
+  from_copies copies (Add a b) = xs_of_lane lanes (Local b)
+  from_copies copies (Xor a b) = xs_of_lane lanes (Local b)
   from_copies copies to = copies
 
   abbrev pub begins : Proto → Proto → List ℕ
   begins (Rep set) to = from_copies (hosts_x lanes (has_host set) hosts) to
-  begins from to = one_x lanes from
+  begins from to = xs_of_lane lanes from
 
   -- where it ends: at each host that is told the word, where it goes to copies
   abbrev pub ends : Proto → Proto → List ℕ
   ends from (Rep set) = hosts_x lanes (λ h. is_told h from (Rep set)) hosts
-  ends from to = one_x lanes to
+  ends from to = xs_of_lane lanes to
 
   abbrev pub move_marks : ℕ → List Slot → ℕ → Move → List Mark
   move_marks half slots y m =

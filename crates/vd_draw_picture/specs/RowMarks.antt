@@ -21,7 +21,7 @@ use Rattle.vd_draw_rows.specs.declared.row.Line.{Line}
 use Rattle.vd_draw_rows.specs.declared.row.Row.{Row}
 use Rattle.vd_draw_layout.specs.declared.lanes.Lane.{Lane}
 use Rattle.vd_draw_layout.specs.declared.layout.Layout.{Layout}
-use Rattle.vd_draw_picture.specs.Arrows.{at, one_x, arrow_marks}
+use Rattle.vd_draw_picture.specs.Arrows.{at, xs_of_lane, arrow_marks}
 use Rattle.vd_draw_layout.specs.Dearest.{dear_place}
 use Rattle.vd_draw_layout.specs.Lanes.{hosts_x}
 use Rattle.vd_draw_layout.specs.Runs.{arrows_of, drawn_text, goes_on}
@@ -150,7 +150,7 @@ shape_mark s x = mark.Shape s (on_lane x)
 
 abbrev pub places_of : List Lane → ℕ → Proto → List ℕ
 places_of lanes hosts (Rep set) = hosts_x lanes (has_host set) hosts
-places_of lanes hosts p = one_x lanes p
+places_of lanes hosts p = xs_of_lane lanes p
 
 -- what joins copies, below the arrows; and the shapes, above them
 abbrev pub join_marks : List Lane → ℕ → Option Proto → List Mark

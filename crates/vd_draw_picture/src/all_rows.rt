@@ -94,7 +94,7 @@ fn push_line(
 }
 
 /// Adds the line of the source above a row, if there is one.
-fn push_line_above(
+fn push_source_line(
     alloc: Global,
     marks: &mut Marks,
     layout: &Layout,
@@ -162,7 +162,7 @@ fn push_above(
 {
     push_names_above(alloc, marks, scene, y, number)?;
     let below = y.saturating_add(names_height(number));
-    push_line_above(alloc, marks, scene.layout, below, last, row)
+    push_source_line(alloc, marks, scene.layout, below, last, row)
 }
 
 /// Adds a row with those before it that are drawn with it.

@@ -143,12 +143,12 @@ fn push_name(
 }
 
 /// One lane.
-pub(crate) fn one_x(
+pub(crate) fn xs_of_lane(
     alloc: Global,
     lanes: &[Lane],
     protocol: Proto,
 ) -> Result<Items<u64>, AllocError>
-    ensures { IfOk result (λ xs. xs ≡ arrows.one_x lanes.now protocol) }
+    ensures { IfOk result (λ xs. xs ≡ arrows.xs_of_lane lanes.now protocol) }
 {
     let mut xs = Items::new(alloc);
     xs.push(lane_x(lanes, protocol))?;
@@ -167,10 +167,10 @@ fn begins(
 {
     match (from, to) {
         (Proto::Rep(_), Proto::Add(_, later) | Proto::Xor(_, later)) => {
-            one_x(alloc, lanes, Proto::Local(later))
+            xs_of_lane(alloc, lanes, Proto::Local(later))
         }
         (Proto::Rep(set), _) => set_x(alloc, lanes, hosts, set),
-        _ => one_x(alloc, lanes, from),
+        _ => xs_of_lane(alloc, lanes, from),
     }
 }
 
@@ -204,7 +204,7 @@ fn ends(
 {
     match to {
         Proto::Rep(set) => told_x(alloc, lanes, hosts, from, set),
-        _ => one_x(alloc, lanes, to),
+        _ => xs_of_lane(alloc, lanes, to),
     }
 }
 

@@ -4,7 +4,7 @@ ghost use Rattle.std.specs.Prelude.{◌≡◌, ◌++◌, ◌≤◌, [], ◌∷�
 ghost use Rattle.vd_base.specs.Limits.{most_hosts};
 ghost use Rattle.vd_draw_picture.specs.RowMarks as row_marks;
 
-use crate::arrows::{Ground, Marks, one_x, push_arrows};
+use crate::arrows::{Ground, Marks, push_arrows, xs_of_lane};
 use std::alloc::{AllocError, Global};
 use vd_base::{Bytes, Names, Proto};
 use vd_base_lists::Items;
@@ -303,7 +303,7 @@ fn places_of(
 {
     match protocol {
         Proto::Rep(set) => set_x(alloc, lanes, hosts, set),
-        _ => one_x(alloc, lanes, protocol),
+        _ => xs_of_lane(alloc, lanes, protocol),
     }
 }
 
