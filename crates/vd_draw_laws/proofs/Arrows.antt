@@ -12,7 +12,7 @@ use Rattle.vd_base.specs.declared.protocols.Proto.TheVariants.{Local, Rep, Commi
 use Rattle.vd_base.specs.HostSets.{has_host, outside, same_host, size}
 use Rattle.vd_base.specs.Moves.{move_at, same_hosts}
 use Rattle.vd_draw_rows.specs.declared.row.Arrow.TheVariants.{Clear, Checked, Revealed}
-use Rattle.vd_draw_rows.specs.Moves.{arrow_if, is_told}
+use Rattle.vd_draw_rows.specs.Moves.{arrow_unless_stays, is_told}
 use Rattle.vd_draw_laws.specs.Showing.{ArrowsShow, brings, shows}
 
 -- ---- tests
@@ -46,15 +46,15 @@ taken true n cost is = refl
 taken false n cost is = absurd (cc is)
 
 -- nothing is drawn where a word stays
-clear_if : (b : Bool) → (not b && brings (arrow_if b Clear)) ≡ not b
+clear_if : (b : Bool) → (not b && brings (arrow_unless_stays b Clear)) ≡ not b
 clear_if true = refl
 clear_if false = refl
 
-checked_if : (b : Bool) → (not b && brings (arrow_if b Checked)) ≡ not b
+checked_if : (b : Bool) → (not b && brings (arrow_unless_stays b Checked)) ≡ not b
 checked_if true = refl
 checked_if false = refl
 
-revealed_if : (b : Bool) → (true && brings (arrow_if b Revealed)) ≡ not b
+revealed_if : (b : Bool) → (true && brings (arrow_unless_stays b Revealed)) ≡ not b
 revealed_if true = refl
 revealed_if false = refl
 

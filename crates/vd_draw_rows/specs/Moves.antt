@@ -19,23 +19,23 @@ use Rattle.vd_draw_rows.specs.declared.row.Move.{Move}
 
 -- ---- what leaves a host
 
-abbrev pub arrow_if : Bool → Arrow → Arrow
-arrow_if stays arrow = if stays then Stays else arrow
+abbrev pub arrow_unless_stays : Bool → Arrow → Arrow
+arrow_unless_stays stays arrow = if stays then Stays else arrow
 
 abbrev pub from_local : HostId → Proto → Arrow
-from_local h (Local k) = arrow_if (same_host h k) Clear
+from_local h (Local k) = arrow_unless_stays (same_host h k) Clear
 from_local h (Rep set) = Clear
 from_local h (Commit p v) = Committed
 from_local h (Add a b) = Shared
 from_local h (Xor a b) = Shared
 
 abbrev pub from_copies : HostSet → Proto → Arrow
-from_copies set (Local k) = arrow_if (has_host set k) Checked
-from_copies set (Rep other) = arrow_if (size (outside other set) == 0) Checked
+from_copies set (Local k) = arrow_unless_stays (has_host set k) Checked
+from_copies set (Rep other) = arrow_unless_stays (size (outside other set) == 0) Checked
 from_copies set to = Stays
 
 abbrev pub from_committed : HostId → Proto → Arrow
-from_committed p (Local k) = arrow_if (same_host p k) Revealed
+from_committed p (Local k) = arrow_unless_stays (same_host p k) Revealed
 from_committed p (Rep set) = Revealed
 from_committed p to = Stays
 

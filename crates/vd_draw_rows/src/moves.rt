@@ -26,8 +26,8 @@ pub fn arrow_of(from: Proto, to: Proto) -> Arrow
     }
 }
 
-fn arrow_if(stays: bool, arrow: Arrow) -> Arrow
-    ensures { result ≡ moves_spec.arrow_if stays arrow }
+fn arrow_unless_stays(stays: bool, arrow: Arrow) -> Arrow
+    ensures { result ≡ moves_spec.arrow_unless_stays stays arrow }
 {
     if stays { Arrow::Stays } else { arrow }
 }
@@ -36,7 +36,7 @@ fn from_local(host: HostId, to: Proto) -> Arrow
     ensures { result ≡ moves_spec.from_local host to }
 {
     match to {
-        Proto::Local(other) => arrow_if(host == other, Arrow::Clear),
+        Proto::Local(other) => arrow_unless_stays(host == other, Arrow::Clear),
         Proto::Rep(_) => Arrow::Clear,
         Proto::Commit(_, _) => Arrow::Committed,
         Proto::Add(_, _) | Proto::Xor(_, _) => Arrow::Shared,
@@ -47,8 +47,8 @@ fn from_copies(hosts: HostSet, to: Proto) -> Arrow
     ensures { result ≡ moves_spec.from_copies hosts to }
 {
     match to {
-        Proto::Local(host) => arrow_if(hosts.has(host), Arrow::Checked),
-        Proto::Rep(others) => arrow_if(others.outside(hosts).size() == 0, Arrow::Checked),
+        Proto::Local(host) => arrow_unless_stays(hosts.has(host), Arrow::Checked),
+        Proto::Rep(others) => arrow_unless_stays(others.outside(hosts).size() == 0, Arrow::Checked),
         Proto::Commit(_, _) | Proto::Add(_, _) | Proto::Xor(_, _) => Arrow::Stays,
     }
 }
@@ -57,7 +57,7 @@ fn from_committed(prover: HostId, to: Proto) -> Arrow
     ensures { result ≡ moves_spec.from_committed prover to }
 {
     match to {
-        Proto::Local(host) => arrow_if(prover == host, Arrow::Revealed),
+        Proto::Local(host) => arrow_unless_stays(prover == host, Arrow::Revealed),
         Proto::Rep(_) => Arrow::Revealed,
         Proto::Commit(_, _) | Proto::Add(_, _) | Proto::Xor(_, _) => Arrow::Stays,
     }
