@@ -25,6 +25,6 @@ pub fn inputs_that_agree_are_told_the_same()
 
 /// Of a variable that is set under a guard, where copies stand at both hosts: the other host's registers hold the guard and
 /// the word that is output to it.
-pub fn worked_registers()
+pub fn example_registers()
     ensures { WorkedRegisters }
 {}
