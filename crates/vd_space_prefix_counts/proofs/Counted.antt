@@ -5,7 +5,7 @@ use Rattle.vd_formula.specs.TruthTable.{both_of, either_of, never_of}
 use Rattle.vd_space.specs.Bounds.{high, low}
 use Rattle.vd_space.specs.Usual.{firm, hard, usual}
 use Rattle.vd_cost_network.specs.Network.{by_arcs}
-use Rattle.vd_space_hardness.specs.Worked.{negated, unreadable}
+use Rattle.vd_space_prefix_counts.specs.Worked.{negated, unreadable}
 
 pub low_is : low negated [] ≡ pos 1
 unfolding ones ones_in both_of either_of never_of

@@ -3,7 +3,7 @@
 
 ghost use Rattle.std.specs.Prelude.{◌≡◌, [], pos};
 ghost use Rattle.vd_cost_network.specs.Network.{by_arcs};
-ghost use Rattle.vd_space_hardness.specs.Worked.{negated, unreadable};
+ghost use Rattle.vd_space_prefix_counts.specs.Worked.{negated, unreadable};
 ghost use Rattle.vd_space.specs.Bounds.{high, low};
 ghost use Rattle.vd_space.specs.Usual.{firm, hard, usual};
 
