@@ -24,7 +24,7 @@ use Rattle.vd_cmd_deal_keyed.proofs.Front.{are_secrets}
 use Rattle.vd_report_outcomes.specs.Outcomes.{ReplayOutcomes}
 use Rattle.vd_report_outcomes.proofs.Front.{judged_once}
 use Rattle.vd_cmd_inputs.specs.Deals.{HoldDeals, HoldsDeal, as_consistent}
-use Rattle.vd_cmd_answers.proofs.Front.{standing}
+use Rattle.vd_cmd_choice_laws.proofs.Front.{standing}
 use Rattle.vd_cmd_deal_laws.specs.Dealt.{AreTaken}
 use Rattle.vd_cmd_deal_laws.specs.KeyedDealt.{HoldsKeyed, KeyedDealsTell}
 use Rattle.vd_cmd_deal_laws.proofs.SecretShort.{secret_texts_are_short}

@@ -14,8 +14,8 @@ use Rattle.vd_cmd_plan.specs.declared.answer.Answer.{Answer}
 use Rattle.vd_cmd_plan.specs.declared.status.Status.{Status}
 use Rattle.vd_cmd_plan.specs.declared.status.Status.TheVariants.{Ended}
 use Rattle.vd_cmd_deal.specs.Dealing.{deal_answer, deal_plan}
-use Rattle.vd_cmd_answers.specs.Answers.{TellsChoice, TellsCompiled, TellsLabels, TellsProof}
-use Rattle.vd_cmd_answers.proofs.Front.{choices_tell, compiled_tell, labels_tell, proofs_tell}
+use Rattle.vd_cmd_choice_laws.specs.Answers.{TellsChoice, TellsCompiled, TellsLabels, TellsProof}
+use Rattle.vd_cmd_choice_laws.proofs.Front.{choices_tell, compiled_tell, labels_tell, proofs_tell}
 use Rattle.vd_cmd_deal_laws.specs.Dealt.{TellsDeal}
 use Rattle.vd_cmd_deal_laws.proofs.Front.{deals_tell}
 use Rattle.vd_cmd_draw.proofs.Front.{drawings_tell}

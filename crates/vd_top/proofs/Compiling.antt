@@ -17,7 +17,7 @@ use Rattle.vd_cmd.specs.Commands.{form_of}
 use Rattle.vd_cmd_compile_laws.proofs.Front.{programs_held}
 use Rattle.vd_top.specs.Compiled.{KeepsStored, StoresForm, StoresOf}
 use Rattle.vd_top.specs.Headline.{KeepsExcuse, TellsOf}
-use Rattle.vd_cmd_answers.proofs.Front.{ending_answered as answered, never}
+use Rattle.vd_cmd_choice_laws.proofs.Front.{ending_answered as answered, never}
 
 module _ (plan : Contents → Plan) (before mid now : FilesView) (out_before out_now : SinkView) where
   compiled : (source prefix : List ℕ) (budget : ℕ) (came : Result Answer Status) (status : Status) → Executes true plan before mid came → Finishes came mid now out_before out_now status

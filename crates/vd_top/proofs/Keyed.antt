@@ -18,7 +18,7 @@ use Rattle.vd_cmd_plan.specs.declared.status.Status.{Status}
 use Rattle.vd_cmd_plan.specs.declared.status.Status.TheVariants.{Ended, Memory, ShortKey}
 use Rattle.vd_cmd_deal_keyed.specs.KeyDealing.{key_answer}
 use Rattle.vd_cmd_deal_keyed.specs.Sources.{FromDraw, FromFile, NoMemory, NotDrawn, RunsKeyDeal, bytes_plan, file_plan, key_in, not_drawn}
-use Rattle.vd_cmd_answers.proofs.Front.{answered, check_came, ends_as, file_came}
+use Rattle.vd_cmd_choice_laws.proofs.Front.{answered, check_came, ends_as, file_came}
 use Rattle.vd_cmd_deal_laws.specs.KeyedDealt.{TellsKeyed}
 use Rattle.vd_cmd_deal_laws.proofs.Front.{keyed_deals_tell}
 use Rattle.vd_top.specs.Answers.{AreWithinLimits, KeepsKeyed}

@@ -10,7 +10,7 @@ use Rattle.vd_cmd.specs.declared.command.KeyDealWords.{KeyDealWords}
 use Rattle.vd_cmd.specs.declared.command.FilesCommand.TheVariants.{Certify, Choose, Compile, Deal, Draw, Hasten, Labels}
 use Rattle.vd_cmd_plan.specs.declared.status.Status.{Status}
 use Rattle.vd_cmd_plan.specs.declared.status.Status.TheVariants.{Ended}
-use Rattle.vd_cmd_answers.specs.Answers.{TellsChoice, TellsCompiled, TellsLabels, TellsProof}
+use Rattle.vd_cmd_choice_laws.specs.Answers.{TellsChoice, TellsCompiled, TellsLabels, TellsProof}
 use Rattle.vd_cmd_deal_laws.specs.Dealt.{TellsDeal}
 use Rattle.vd_cmd_deal_laws.specs.KeyedDealt.{TellsKeyed}
 use Rattle.vd_cmd_draw.specs.Telling.{TellsDrawing}

@@ -53,12 +53,12 @@ use Rattle.vd_cmd_choose.specs.Searching.{Certified, GaveUp, Searched, is_accept
 use Rattle.vd_cmd_choose.specs.Outcomes.{CertificateOutcomes}
 use Rattle.vd_cmd_choose.specs.Problems.{problem_for}
 use Rattle.vd_cmd_choose.proofs.Front.{has_labels}
-use Rattle.vd_cmd_answers.specs.Answers.{IsCertified, TellsAssignment, TellsChoice, least_line}
-use Rattle.vd_cmd_answers.specs.Laws.{ChoicesTell}
-use Rattle.vd_cmd_answers.proofs.Plans.{Ends, Leads, NeverEnds, answered, check_came, check_leads, ends_as, file_leads}
-use Rattle.vd_cmd_answers.proofs.Proved.{Shown, confirmed_shows}
-use Rattle.vd_cmd_answers.proofs.Short.{marks_few, text_short}
-use Rattle.vd_cmd_answers.proofs.Sources.{labels_are, labels_never, made_of, problem_found, program_leads, read_came, same_status}
+use Rattle.vd_cmd_choice_laws.specs.Answers.{IsCertified, TellsAssignment, TellsChoice, least_line}
+use Rattle.vd_cmd_choice_laws.specs.Laws.{ChoicesTell}
+use Rattle.vd_cmd_choice_laws.proofs.Plans.{Ends, Leads, NeverEnds, answered, check_came, check_leads, ends_as, file_leads}
+use Rattle.vd_cmd_choice_laws.proofs.Proved.{Shown, confirmed_shows}
+use Rattle.vd_cmd_choice_laws.proofs.Short.{marks_few, text_short}
+use Rattle.vd_cmd_choice_laws.proofs.Sources.{labels_are, labels_never, made_of, problem_found, program_leads, read_came, same_status}
 
 -- ---- what a search answered
 

@@ -36,12 +36,12 @@ use Rattle.vd_cmd_frontend.specs.Sources.{HoldsSource}
 use Rattle.vd_cmd_choose.specs.Choice.{assigned_answer, chosen_by, printed_at}
 use Rattle.vd_cmd_compile.specs.Compiling.{compiled_at, compiled_for, host_file, host_files, plan_for}
 use Rattle.vd_cmd_compile.proofs.Front.{code_count}
-use Rattle.vd_cmd_answers.specs.Answers.{Stands, TellsCompiled}
-use Rattle.vd_cmd_answers.specs.Laws.{CompiledTell}
-use Rattle.vd_cmd_answers.proofs.Plans.{answered}
-use Rattle.vd_cmd_answers.proofs.Choices.{source_choice_came, tells}
-use Rattle.vd_cmd_answers.proofs.Sources.{made_of}
-use Rattle.vd_cmd_answers.proofs.Standing.{files_from, standing}
+use Rattle.vd_cmd_choice_laws.specs.Answers.{Stands, TellsCompiled}
+use Rattle.vd_cmd_choice_laws.specs.Laws.{CompiledTell}
+use Rattle.vd_cmd_choice_laws.proofs.Plans.{answered}
+use Rattle.vd_cmd_choice_laws.proofs.Choices.{source_choice_came, tells}
+use Rattle.vd_cmd_choice_laws.proofs.Sources.{made_of}
+use Rattle.vd_cmd_choice_laws.proofs.Standing.{files_from, standing}
 
 -- ---- the files
 

@@ -13,7 +13,7 @@ use Rattle.vd_cmd_choose.specs.Choosing.{choose_plan}
 use Rattle.vd_cmd_choose.specs.Searching.{Searched, searched_by}
 use Rattle.vd_cmd_choose.specs.Outcomes.{CertificateOutcomes}
 use Rattle.vd_cmd_compile.specs.Compiling.{compile_plan}
-use Rattle.vd_cmd_answers.specs.Answers.{TellsChoice, TellsCompiled, TellsLabels, TellsProof}
+use Rattle.vd_cmd_choice_laws.specs.Answers.{TellsChoice, TellsCompiled, TellsLabels, TellsProof}
 
 abbrev pub EndsWell : Plan → Type 0
 EndsWell plan = plan.answer.status ≡ Ended

@@ -23,12 +23,12 @@ use Rattle.vd_cmd_plan.specs.declared.status.Status.TheVariants.{CertificateText
 use Rattle.vd_cmd_choose.specs.Certifying.{as_certificate, as_proved, certificate_of, certificate_plan, certificate_then, certified_plan, certify_plan, confirmed_plan, proved_of, proved_text}
 use Rattle.vd_cmd_choose.specs.Outcomes.{CertificateOutcomes}
 use Rattle.vd_cmd_choose.specs.Problems.{problem_for}
-use Rattle.vd_cmd_answers.specs.Answers.{HasNone, IsLeastCost}
-use Rattle.vd_cmd_answers.specs.Laws.{ProofsTell}
+use Rattle.vd_cmd_choice_laws.specs.Answers.{HasNone, IsLeastCost}
+use Rattle.vd_cmd_choice_laws.specs.Laws.{ProofsTell}
 use Rattle.vd_cmd_plan.specs.Refusals.{check_status}
-use Rattle.vd_cmd_answers.proofs.Plans.{Ends, Leads, NeverEnds, answered, check_came, ends_as, file_came}
-use Rattle.vd_cmd_answers.proofs.Proved.{Shown, confirmed_shows}
-use Rattle.vd_cmd_answers.proofs.Sources.{made_of, problem_is, problem_never, read_came, same_status}
+use Rattle.vd_cmd_choice_laws.proofs.Plans.{Ends, Leads, NeverEnds, answered, check_came, ends_as, file_came}
+use Rattle.vd_cmd_choice_laws.proofs.Proved.{Shown, confirmed_shows}
+use Rattle.vd_cmd_choice_laws.proofs.Sources.{made_of, problem_is, problem_never, read_came, same_status}
 
 certificate_never_by : (said : Result Certificate ℕ) → NeverEnds (as_certificate said)
 certificate_never_by (Ok certificate) status is ended = absurd (cc is)

@@ -36,7 +36,7 @@ use Rattle.vd_cmd_frontend.proofs.Front.{labelled}
 use Rattle.vd_cmd_choose.specs.Problems.{IsProblemOf, as_problem, problem_for}
 use Rattle.vd_cmd_choose.specs.Programs.{program_then}
 use Rattle.vd_cmd_rewrite.specs.RunPrograms.{run_form}
-use Rattle.vd_cmd_answers.proofs.Plans.{Ends, Leads, NeverEnds, check_came, check_leads, ends_as, file_came, held_leads}
+use Rattle.vd_cmd_choice_laws.proofs.Plans.{Ends, Leads, NeverEnds, check_came, check_leads, ends_as, file_came, held_leads}
 
 -- ---- texts
 

@@ -2,7 +2,7 @@
 //! codes; nothing is computed.
 #![tactic(auto)]
 
-ghost use Rattle.vd_cmd_answers.specs.Laws.{ChoicesTell, CompiledTell, LabelsTell, ProofsTell};
+ghost use Rattle.vd_cmd_choice_laws.specs.Laws.{ChoicesTell, CompiledTell, LabelsTell, ProofsTell};
 
 /// Where the plan of `labels` ends well, it prints the least labelling of the source; where that of `certify` does, the least
 /// cost of the valid lists of protocols, or that there are none; where that of `choose` does, the choice of protocols with

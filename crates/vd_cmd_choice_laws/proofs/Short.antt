@@ -23,7 +23,7 @@ use Rattle.vd_search_stages.specs.Confirming.{confirmed, names_by, tree_by}
 use Rattle.vd_space.specs.declared.problem.Problem.{Problem}
 use Rattle.vd_space.specs.Spaces.{tree_of}
 use Rattle.vd_space.specs.Validity.{protocols}
-use Rattle.vd_cmd_answers.proofs.Proved.{unshifted}
+use Rattle.vd_cmd_choice_laws.proofs.Proved.{unshifted}
 
 -- ---- marks
 
