@@ -10,7 +10,7 @@ use Rattle.vd_base.specs.Limits.{most_deal_bytes}
 use Rattle.vd_cmd_plan.specs.Deliver.{stored}
 use Rattle.vd_cmd_plan.specs.Plans.{Plan}
 use Rattle.vd_cmd_deal.specs.Dealing.{deal_answer}
-use Rattle.vd_report_outcomes.specs.Outcomes.{ReplayOutcomes}
+use Rattle.vd_report_laws.specs.Outcomes.{ReplayOutcomes}
 use Rattle.vd_cmd_inputs.specs.Deals.{HoldDeals, deals_then, as_consistent}
 
 -- whatever a command does with the deals of hosts with these names, it does with these deals

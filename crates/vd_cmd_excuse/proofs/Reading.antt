@@ -11,7 +11,7 @@ use Rattle.vd_cmd_plan.proofs.Front.{step_keeps, step_tells}
 use Rattle.vd_cmd_frontend.specs.Outcomes.{TextOutcomes}
 use Rattle.vd_cmd_frontend.proofs.Front.{some_texts}
 use Rattle.vd_cmd_frontend.specs.Inputs.{inputs_then, HoldsInputs}
-use Rattle.vd_report_outcomes.specs.Outcomes.{ReplayOutcomes}
+use Rattle.vd_report_laws.specs.Outcomes.{ReplayOutcomes}
 use Rattle.vd_cmd_inputs.specs.Deals.{HoldDeals, deals_then}
 use Rattle.vd_base.specs.Words.{InputsAreWords}
 use Rattle.vd_cmd_excuse.specs.declared.runs.Runs.{Runs}

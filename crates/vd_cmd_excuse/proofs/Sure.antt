@@ -16,7 +16,7 @@ use Rattle.vd_cmd_choose.proofs.Front.{program_follows, choice_follows}
 use Rattle.vd_cmd_depends.specs.Depending.{as_host}
 use Rattle.vd_cmd_choose.specs.Outcomes.{CertificateOutcomes}
 use Rattle.vd_cmd_choose.specs.Searching.{Searched, searched_by, sure_search}
-use Rattle.vd_report_outcomes.specs.Outcomes.{ReplayOutcomes}
+use Rattle.vd_report_laws.specs.Outcomes.{ReplayOutcomes}
 use Rattle.vd_cmd_inputs.specs.Deals.{deal_of, deal_then, deals_from}
 use Rattle.vd_cmd_excuse.specs.declared.runs.Runs.{Runs}
 use Rattle.vd_cmd_excuse.specs.Runs.{runs_of}

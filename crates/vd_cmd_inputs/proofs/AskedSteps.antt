@@ -12,8 +12,8 @@ use Rattle.vd_cmd_plan.proofs.Front.{step_keeps, step_tells}
 use Rattle.vd_cmd_frontend.specs.Outcomes.{TextOutcomes}
 use Rattle.vd_cmd_frontend.proofs.Front.{some_texts}
 use Rattle.vd_cmd_frontend.specs.Inputs.{inputs_then, HoldsInputs}
-use Rattle.vd_report_outcomes.specs.Outcomes.{ReplayOutcomes}
-use Rattle.vd_report_outcomes.proofs.Front.{some_outcomes}
+use Rattle.vd_report_laws.specs.Outcomes.{ReplayOutcomes}
+use Rattle.vd_report_laws.proofs.Front.{some_outcomes}
 use Rattle.vd_cmd_inputs.specs.declared.asked.Asked.{Asked}
 use Rattle.vd_cmd_inputs.specs.Asking.{AreAsked, HoldAsked, asked_of, asked_then}
 use Rattle.vd_cmd_inputs.specs.Deals.{HoldDeals, deals_then}

@@ -14,8 +14,8 @@ use Rattle.vd_cmd_plan.specs.declared.answer.Answer.{Answer}
 use Rattle.vd_cmd_plan.specs.declared.status.Status.{Status}
 use Rattle.vd_cmd_plan.specs.declared.status.Status.TheVariants.{Memory}
 use Rattle.vd_cmd_plan.proofs.Front.{any_memory}
-use Rattle.vd_report_outcomes.specs.Outcomes.{ReplayOutcomes}
-use Rattle.vd_report_outcomes.proofs.Front.{some_outcomes}
+use Rattle.vd_report_laws.specs.Outcomes.{ReplayOutcomes}
+use Rattle.vd_report_laws.proofs.Front.{some_outcomes}
 use Rattle.vd_cmd_inputs.specs.Deals.{HoldDeals, HoldsDeal, deal_then, deals_from, deals_then}
 
 module _ (prefix : List ℕ) (names : List (List ℕ)) where

@@ -16,7 +16,7 @@ use Rattle.vd_cmd_plan.specs.Plans.{Checks, ExecutesStep, file_then, check_then}
 use Rattle.vd_cmd_plan.specs.declared.status.Status.{Status}
 use Rattle.vd_cmd_plan.specs.declared.status.Status.TheVariants.{DealText}
 use Rattle.vd_cmd_plan.proofs.Front.{loaded_is, both_steps, check_step, first_step, load_step}
-use Rattle.vd_report_outcomes.specs.Outcomes.{IsDealRead, ReplayOutcomes}
+use Rattle.vd_report_laws.specs.Outcomes.{IsDealRead, ReplayOutcomes}
 use Rattle.vd_cmd_inputs.specs.Deals.{as_deal, deal_of, deal_then}
 use Rattle.vd_cmd_inputs.specs.Schedules.{schedule_of, schedule_then}
 

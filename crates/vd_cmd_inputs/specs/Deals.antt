@@ -11,7 +11,7 @@ use Rattle.vd_cmd_plan.specs.Numbered.{file_name}
 use Rattle.vd_cmd_plan.specs.Plans.{Plan, ExecutesStep, file_then, check_then}
 use Rattle.vd_cmd_plan.specs.declared.status.Status.{Status}
 use Rattle.vd_cmd_plan.specs.declared.status.Status.TheVariants.{BadDeal, DealText}
-use Rattle.vd_report_outcomes.specs.Outcomes.{ReplayOutcomes}
+use Rattle.vd_report_laws.specs.Outcomes.{ReplayOutcomes}
 
 abbrev pub as_deal : List ℕ → (number : ℕ) → Result Deal ℕ → Result Deal Status
 as_deal name number (Ok deal) = Ok deal

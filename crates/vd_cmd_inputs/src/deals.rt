@@ -7,7 +7,7 @@ ghost use Rattle.vd_cmd_plan.specs.Plans.{Checks};
 ghost use Rattle.vd_tape.specs.Text.{AreDealsOf, IsDealOf};
 ghost use Rattle.vd_deal_versions.specs.Plain.{IsDealIn};
 ghost use Rattle.vd_cmd_inputs.specs.Deals.{HoldDeals, HoldsDeal, LoadsDeal, LoadsDeals, deal_of};
-ghost use Rattle.vd_report_outcomes.specs.Outcomes.{ReplayOutcomes};
+ghost use Rattle.vd_report_laws.specs.Outcomes.{ReplayOutcomes};
 
 use std::alloc::Global;
 use vd_base::limits::DEAL_BYTES;

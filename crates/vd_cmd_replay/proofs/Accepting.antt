@@ -33,7 +33,7 @@ use Rattle.vd_cmd_frontend.specs.Labelling.{as_labels, labels_of}
 use Rattle.vd_cmd_choose.specs.Choice.{Chosen, as_searched, chosen_by, search_then}
 use Rattle.vd_cmd_choose.specs.Searching.{sure_search}
 use Rattle.vd_cmd_plan.specs.Plans.{Plan}
-use Rattle.vd_report_outcomes.proofs.Front.{judged_once}
+use Rattle.vd_report_laws.proofs.Front.{judged_once}
 use Rattle.vd_cmd_replay.specs.Accepting.{EndsWell, IsAccepted}
 use Rattle.vd_cmd_inputs.specs.Asking.{HoldAsked}
 use Rattle.vd_cmd_inputs.specs.Deals.{as_consistent}

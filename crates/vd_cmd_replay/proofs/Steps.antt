@@ -33,8 +33,8 @@ use Rattle.vd_cmd_frontend.specs.Sources.{HoldsSource, IsSourceText, as_resolved
 use Rattle.vd_cmd_frontend.proofs.Front.{solution_is, solution_of}
 use Rattle.vd_cmd_choose.specs.Programs.{program_then}
 use Rattle.vd_cmd_frontend.specs.Inputs.{HoldsInputs, as_inputs, inputs_then, words_of}
-use Rattle.vd_report_outcomes.specs.Outcomes.{ReplayOutcomes}
-use Rattle.vd_report_outcomes.proofs.Front.{outcomes_are_single}
+use Rattle.vd_report_laws.specs.Outcomes.{ReplayOutcomes}
+use Rattle.vd_report_laws.proofs.Front.{outcomes_are_single}
 use Rattle.vd_cmd_inputs.specs.declared.asked.Asked.{Asked}
 use Rattle.vd_cmd_inputs.specs.Asking.{HoldAsked, asked_of, asked_then}
 use Rattle.vd_cmd_inputs.specs.Deals.{HoldsDeal, as_deal, deal_of, deal_then, deals_from}

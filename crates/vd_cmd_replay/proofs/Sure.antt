@@ -15,7 +15,7 @@ use Rattle.vd_cmd_frontend.specs.Inputs.{words_of, inputs_then}
 use Rattle.vd_cmd_choose.specs.Outcomes.{CertificateOutcomes}
 use Rattle.vd_cmd_choose.specs.Searching.{Searched, searched_by, sure_search}
 use Rattle.vd_cmd_choose.proofs.Front.{choice_follows, program_follows}
-use Rattle.vd_report_outcomes.specs.Outcomes.{ReplayOutcomes}
+use Rattle.vd_report_laws.specs.Outcomes.{ReplayOutcomes}
 use Rattle.vd_cmd_inputs.specs.declared.asked.Asked.{Asked}
 use Rattle.vd_cmd_inputs.specs.Asking.{asked_of}
 use Rattle.vd_cmd_inputs.specs.Deals.{deal_of, deal_then, deals_from}

@@ -12,7 +12,7 @@ use Rattle.vd_cmd_frontend.specs.Outcomes.{TextOutcomes, LabelOutcomes}
 use Rattle.vd_cmd_choose.specs.Searching.{sure_search}
 use Rattle.vd_cmd_plan.specs.declared.status.Status.TheVariants.{Ended}
 use Rattle.vd_cmd_choose.specs.Choice.{IsSelected}
-use Rattle.vd_report_outcomes.specs.Outcomes.{ReplayOutcomes}
+use Rattle.vd_report_laws.specs.Outcomes.{ReplayOutcomes}
 use Rattle.vd_cmd_replay.specs.Replaying.{replay_plan}
 use Rattle.vd_cmd_replay.specs.Telling.{HoldReplay}
 

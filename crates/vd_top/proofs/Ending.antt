@@ -18,7 +18,7 @@ use Rattle.vd_cmd_choose.specs.Searching.{sure_search}
 use Rattle.vd_cmd_choose.proofs.Front.{some_certificates}
 use Rattle.vd_search_stages.proofs.Front.{some_choices}
 use Rattle.vd_cmd_programs.proofs.Front.{some_programs}
-use Rattle.vd_report_outcomes.proofs.Front.{some_outcomes as some_replays}
+use Rattle.vd_report_laws.proofs.Front.{some_outcomes as some_replays}
 use Rattle.vd_cmd_choice_laws.proofs.Front.{ended, never, printed}
 use Rattle.vd_cmd_replay.proofs.Front.{ends_well}
 use Rattle.vd_cmd_depends.proofs.Front.{some_dependences, some_influences}

@@ -18,7 +18,7 @@ use Rattle.vd_cmd_compile.proofs.Front.{compile_follows}
 use Rattle.vd_cmd_draw.proofs.Front.{draw_follows}
 use Rattle.vd_cmd_programs.proofs.Front.{some_programs}
 use Rattle.vd_cmd_needs.proofs.Front.{needs_follows}
-use Rattle.vd_report_outcomes.proofs.Front.{some_outcomes as some_replays}
+use Rattle.vd_report_laws.proofs.Front.{some_outcomes as some_replays}
 use Rattle.vd_cmd_replay.proofs.Front.{replay_follows}
 use Rattle.vd_cmd_excuse.proofs.Front.{excuse_follows}
 use Rattle.vd_cmd_trial.proofs.Front.{trial_follows}

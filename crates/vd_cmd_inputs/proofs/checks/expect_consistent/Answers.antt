@@ -1,5 +1,5 @@
 use Rattle.std.proofs.Common.{None, Some, ap}
-use Rattle.vd_report_outcomes.proofs.Front.{judged_once}
+use Rattle.vd_report_laws.proofs.Front.{judged_once}
 use Rattle.vd_cmd_inputs.specs.Deals.{as_consistent}
 use Rattle.vd_cmd_inputs.proofs.checks.expect_consistent.Goals as goal
 

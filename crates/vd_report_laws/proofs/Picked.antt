@@ -8,9 +8,9 @@ use Rattle.vd_report.specs.declared.schedule.Schedule.{Schedule}
 use Rattle.vd_report.specs.Schedule.{schedule_read}
 use Rattle.vd_report.specs.ScheduleText.{SchedulesFollowGrammar}
 use Rattle.vd_report.proofs.Front.{schedules_follow}
-use Rattle.vd_report_outcomes.specs.Outcomes.{IsDealRead, IsScheduleRead, ReplayOutcomes, OutcomesAreSingle}
-use Rattle.vd_report_outcomes.proofs.Judged.{judged_once}
-use Rattle.vd_report_outcomes.proofs.Searching.{judge, judged}
+use Rattle.vd_report_laws.specs.Outcomes.{IsDealRead, IsScheduleRead, ReplayOutcomes, OutcomesAreSingle}
+use Rattle.vd_report_laws.proofs.Judged.{judged_once}
+use Rattle.vd_report_laws.proofs.Searching.{judge, judged}
 
 deal_is_read : (hosts me : ℕ) (bytes : List ℕ) → DealsFollowGrammar hosts me bytes → (said : Result Deal ℕ) → plain_read hosts me bytes ≡ said → IsDealRead hosts me bytes said
 deal_is_read hosts me bytes law (Ok deal) e = (law.given deal).0 e

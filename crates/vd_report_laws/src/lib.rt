@@ -2,7 +2,7 @@
 //! a law.
 #![tactic(auto)]
 
-ghost use Rattle.vd_report_outcomes.specs.Outcomes.{OutcomesAreSingle, ReplayOutcomes};
+ghost use Rattle.vd_report_laws.specs.Outcomes.{OutcomesAreSingle, ReplayOutcomes};
 
 /// Each deal file, each schedule file and the deals of all hosts have an outcome, so there are functions that pick it: the deal
 /// or the first offset at which the bytes go on as no deal does; the schedule or the fault of the first token that cannot

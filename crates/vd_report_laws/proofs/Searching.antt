@@ -14,7 +14,7 @@ use Rattle.vd_deal_items.specs.declared.deal.DealKind.{DealKind}
 use Rattle.vd_deal_items.specs.declared.deal.DealKind.TheVariants.{Own, Mul, And, Pair}
 use Rattle.vd_deal_items.specs.declared.deal.BadItem.{BadItem}
 use Rattle.vd_deal_items.specs.Validity.{AreDeals, IsConsistent, IsFirstBad, Meets, peer_place, rank, shared_with, sides}
-use Rattle.vd_report_outcomes.specs.Outcomes.{IsJudged}
+use Rattle.vd_report_laws.specs.Outcomes.{IsJudged}
 
 -- what was looked for holds, or what was found is wrong
 abbrev Judges : {X : Type 0} → Type 0 → (X → Type 0) → Option X → Type 0

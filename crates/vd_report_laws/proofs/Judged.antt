@@ -7,7 +7,7 @@ use Rattle.vd_deal_items.specs.declared.deal.DealKind.{DealKind}
 use Rattle.vd_deal_items.specs.declared.deal.DealKind.TheVariants.{Own, Mul, And, Pair}
 use Rattle.vd_deal_items.specs.declared.deal.BadItem.{BadItem}
 use Rattle.vd_deal_items.specs.Validity.{IsBefore, IsConsistent, IsFirstBad, Meets, Place, place_of, rank, sides}
-use Rattle.vd_report_outcomes.specs.Outcomes.{IsJudged}
+use Rattle.vd_report_laws.specs.Outcomes.{IsJudged}
 
 -- ---- one outcome
 
