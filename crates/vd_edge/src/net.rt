@@ -9,7 +9,7 @@ use crate::{PeerCall, PeerReason, RealLink, Sockets};
 use std::alloc::Global;
 use std::io::Error;
 use vd_base::CallFault;
-use vd_edge_causes::{count_fault, fault_of};
+use vd_edge_errors::{count_fault, fault_of};
 use vd_outside::{Link, Net};
 
 /// A net over sockets: its listeners, and how often it has failed.

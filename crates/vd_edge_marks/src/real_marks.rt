@@ -11,7 +11,7 @@ use std::alloc::Global;
 use std::io::{self, Error, ErrorKind};
 use vd_base::CallFault;
 use vd_edge::{Access, Directory};
-use vd_edge_causes::{count_fault, fault_of, reason_of};
+use vd_edge_errors::{count_fault, fault_of, reason_of};
 use vd_outside_marks::{Marks, mark_at};
 
 /// Marks as files of a directory, which only their owner may read, and the random bytes that a source gives.

@@ -8,7 +8,7 @@ use std::process::{Processes, SystemProcess};
 use std::time::Clock;
 use vd_base::{CallFault, Texts};
 use vd_base_lists::Items;
-use vd_edge_causes::{count_fault, fault_of, reason_of};
+use vd_edge_errors::{count_fault, fault_of, reason_of};
 use vd_outside::{Line, Spawner};
 
 /// The programs that a runtime starts. Contracts see the statuses that are known, and how often it has failed.
