@@ -8,8 +8,8 @@ use Rattle.vd_execution.specs.World.{Tape, words_of}
 use Rattle.vd_execution.specs.Joint.{Host, Hosts, said_to, has_heard, after_msg}
 use Rattle.vd_execution.proofs.Front.{same_or_not, put_same, put_other, put_twice, put_itself}
 use Rattle.std.proofs.lemmas.List.{append_assoc, append-nil}
-use Rattle.vd_choreography_exchange.specs.Turning.{Turn, Tells, gone_by, Look, look, AreAlike}
-use Rattle.vd_choreography_exchange.proofs.Front.{heard_look}
+use Rattle.vd_choreography_commuting.specs.Turning.{Turn, Tells, gone_by, Look, look, AreAlike}
+use Rattle.vd_choreography_commuting.proofs.Front.{heard_look}
 use Rattle.vd_choreography_packets.proofs.Front.{IsKept, Measure, SameSo, added, measure_gone, so_is_kept, words_told}
 
 abbrev Looks : Type 0

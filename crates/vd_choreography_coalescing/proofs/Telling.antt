@@ -8,8 +8,8 @@ use Rattle.vd_execution.specs.World.{Tape, Supply, followed_by_zeros, words_of}
 use Rattle.vd_execution.specs.Text.{flat}
 use Rattle.vd_execution.specs.Joint.{Part, Joint, Done, Do, Msg, If, For, Hosts, fresh, TakesPart, Within, IsTidy, IsSmooth, AllTurns, is_other, turn_begun, turns, joint, after_do, after_msg}
 use Rattle.vd_execution_confluence.specs.Claims.{RunsWell, RunsToItsEnd, last_of}
-use Rattle.vd_choreography_exchange.specs.Turning.{Look, look, AreAlike, TellsTheSame}
-use Rattle.vd_choreography_exchange.proofs.Front.{begun_alike, chosen_alike, joint_alike, smooth_alike}
+use Rattle.vd_choreography_commuting.specs.Turning.{Look, look, AreAlike, TellsTheSame}
+use Rattle.vd_choreography_commuting.proofs.Front.{begun_alike, chosen_alike, joint_alike, smooth_alike}
 use Rattle.vd_choreography_reorder.proofs.Front.{both, has_parts, same_lines, same_run, still_smooth, still_tidy}
 use Rattle.vd_choreography_reorder.specs.Order.{RunsOn, without_empty}
 use Rattle.vd_choreography_coalescing.specs.Joining.{can_share, message_before, joined, joined_lines}

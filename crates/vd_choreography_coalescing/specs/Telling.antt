@@ -5,7 +5,7 @@ use Rattle.vd_execution.specs.declared.instructions.Line.{Line}
 use Rattle.vd_execution.specs.World.{Tape, Supply, words_of}
 use Rattle.vd_execution.specs.Joint.{Joint, Done, Do, Msg, If, For, Hosts, joint, IsTidy, IsSmooth}
 use Rattle.vd_execution.specs.Text.{flat}
-use Rattle.vd_choreography_exchange.specs.Turning.{TellsTheSame}
+use Rattle.vd_choreography_commuting.specs.Turning.{TellsTheSame}
 use Rattle.vd_choreography_reorder.specs.Order.{RunsOn, without_empty}
 use Rattle.vd_choreography_coalescing.specs.Joining.{can_share, joined, joined_lines}
 

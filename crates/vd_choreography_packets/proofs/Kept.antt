@@ -2,7 +2,7 @@
 use Rattle.std.proofs.Common.{◌≡◌, ℕ, zero, suc, Bool, true, false, if◌then◌else◌, List, refl, sym, ◌∙◌, subst}
 use Rattle.vd_execution.specs.World.{Tape}
 use Rattle.vd_execution.specs.Joint.{Part, Joint, Done, Do, Msg, If, For, Hosts, is_other, turn_begun, turns, joint}
-use Rattle.vd_choreography_exchange.specs.Turning.{Turn, Does, Tells, then_goes, gone_by, Spot, Here, Behind, InFirst, InOther, InBody, BehindBranch, BehindLoop, with_joint}
+use Rattle.vd_choreography_commuting.specs.Turning.{Turn, Does, Tells, then_goes, gone_by, Spot, Here, Behind, InFirst, InOther, InBody, BehindBranch, BehindLoop, with_joint}
 
 -- a relation of hosts that what they do, branches and loops keep
 pub record IsKept (R : Hosts → Hosts → Type 0) : Type 0 where

@@ -9,8 +9,8 @@ use Rattle.vd_execution.specs.Step.{words_in}
 use Rattle.vd_execution.specs.World.{Tape}
 use Rattle.vd_execution.specs.Joint.{Part, Host, Hosts, acted, said_to, has_heard, if_part, is_other, turn_begun}
 use Rattle.vd_execution.proofs.Front.{same_or_not, put_same, put_other, put_itself}
-use Rattle.vd_choreography_exchange.specs.Turning.{Turn, Does, Tells, gone_by, Look, look, AreAlike}
-use Rattle.vd_choreography_exchange.proofs.Front.{gone_alike, begun_alike}
+use Rattle.vd_choreography_commuting.specs.Turning.{Turn, Does, Tells, gone_by, Look, look, AreAlike}
+use Rattle.vd_choreography_commuting.proofs.Front.{gone_alike, begun_alike}
 use Rattle.vd_choreography_packets.specs.Packets.{count_of}
 use Rattle.vd_choreography_packets.proofs.Kept.{IsKept}
 

@@ -11,7 +11,7 @@ use Rattle.vd_execution.specs.Joint.{Joint, Host, Hosts, acted, supplied, said_t
 use Rattle.vd_execution.proofs.Front.{same_or_not, put_same, put_other}
 use Rattle.vd_reorder_laws.specs.Testing.{is_simple, reads, writes, meet}
 use Rattle.vd_reorder_laws.proofs.Front.{words_stay}
-use Rattle.vd_choreography_exchange.specs.Turning.{Turn, Does, Tells, gone_by, Look, look, AreAlike, MayTurn, IsTurned, then_goes, with_joint}
+use Rattle.vd_choreography_commuting.specs.Turning.{Turn, Does, Tells, gone_by, Look, look, AreAlike, MayTurn, IsTurned, then_goes, with_joint}
 use Rattle.vd_choreography_reorder.specs.Testing.{Opened, may_turn, is_beside, are_beside}
 use Rattle.vd_choreography_reorder.specs.Order.{IsCarefullyTurned, CarefulTurns, IsCarefully, without_empty, IsBroughtForward}
 use Rattle.vd_choreography_reorder.proofs.Front.{apart, kept_words, same_run, both, then_not}

@@ -3,7 +3,7 @@ use Rattle.std.proofs.Common.{◌≡◌, ℕ, zero, suc, ◌≤◌, nat_eq, Bool
 use Rattle.std.proofs.lemmas.Bool.{eqb-true}
 use Rattle.vd_execution.specs.Joint.{Joint, Done, Do, Msg, If, For}
 use Rattle.vd_reorder_laws.specs.Testing.{is_simple, meet}
-use Rattle.vd_choreography_exchange.specs.Turning.{Turn, Does, Tells, then_goes, Spot, Here, Behind, InFirst, InOther, InBody, BehindBranch, BehindLoop, with_joint, IsTurned}
+use Rattle.vd_choreography_commuting.specs.Turning.{Turn, Does, Tells, then_goes, Spot, Here, Behind, InFirst, InOther, InBody, BehindBranch, BehindLoop, with_joint, IsTurned}
 use Rattle.vd_choreography_reorder.specs.Testing.{Opened, teller, tells_at, awaits_at, stays_behind}
 use Rattle.vd_choreography_reorder.specs.Order.{IsCarefullyTurned, CarefulTurns, IsCarefully}
 use Rattle.vd_choreography_reorder.proofs.Front.{both}

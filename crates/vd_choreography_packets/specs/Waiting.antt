@@ -1,7 +1,7 @@
 -- What a host has heard before it tells something.
 use Rattle.std.specs.Prelude.{ℕ, suc, ◌≤◌, Bool, ◌&&◌, if◌then◌else◌, List, [], ◌∷◌, ◌++◌}
 use Rattle.vd_execution.specs.Joint.{Joint, Done, Do, Msg, If, For}
-use Rattle.vd_choreography_exchange.specs.Turning.{Turn, Does, Tells}
+use Rattle.vd_choreography_commuting.specs.Turning.{Turn, Does, Tells}
 use Rattle.vd_choreography_reorder.specs.Testing.{Opened, awaits_at, tells_at}
 use Rattle.vd_choreography_reorder.specs.Order.{IsCarefully}
 

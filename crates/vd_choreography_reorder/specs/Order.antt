@@ -5,7 +5,7 @@ use Rattle.vd_execution.specs.Joint.{Part, Joint, Done, Do, Msg, If, For, Hosts,
 use Rattle.vd_execution.specs.World.{Tape, Supply}
 use Rattle.vd_execution.specs.Text.{flat}
 use Rattle.vd_execution_confluence.specs.Claims.{RunsWell, RunsToItsEnd, last_of}
-use Rattle.vd_choreography_exchange.specs.Turning.{Turn, Does, Tells, then_goes, IsTurned, TellsTheSame, AreAlike}
+use Rattle.vd_choreography_commuting.specs.Turning.{Turn, Does, Tells, then_goes, IsTurned, TellsTheSame, AreAlike}
 use Rattle.vd_choreography_reorder.specs.Testing.{Opened, may_turn, tells_at, stays_behind}
 
 -- Two neighbours are exchanged that do not need each other, and of which the second need not stay behind the first.

@@ -2,7 +2,7 @@
 
 ghost use Rattle.std.specs.Prelude.{◌≡◌};
 ghost use Rattle.vd_reorder_laws.specs.Testing.{meet};
-ghost use Rattle.vd_choreography_exchange.specs.Turning.{Does, Tells};
+ghost use Rattle.vd_choreography_commuting.specs.Turning.{Does, Tells};
 ghost use Rattle.vd_choreography_reorder.specs.Passing.{act_passes, passes, turn_of};
 ghost use Rattle.vd_choreography_reorder.specs.Testing as testing;
 ghost use Rattle.vd_choreography_reorder.specs.Testing.{opened_at};

@@ -5,7 +5,7 @@ use Rattle.vd_execution.specs.Code.{Code}
 use Rattle.vd_execution.specs.Joint.{Joint}
 use Rattle.vd_execution.specs.World.{Supply}
 use Rattle.vd_execution_confluence.specs.Claims.{RunsWell, last_of}
-use Rattle.vd_choreography_exchange.specs.Turning.{Look, AreAlike}
+use Rattle.vd_choreography_commuting.specs.Turning.{Look, AreAlike}
 use Rattle.vd_choreography_reorder.specs.Order.{RunsOn}
 use Rattle.vd_machine.specs.declared.lists.Lists.{Lists}
 use Rattle.vd_engine.specs.Drives.{Sessions, lines}

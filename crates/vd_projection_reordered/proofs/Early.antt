@@ -15,7 +15,7 @@ use Rattle.vd_execution_confluence.proofs.Front.{picks}
 use Rattle.vd_projection.specs.Programs.{CanRunAt, joint_of}
 use Rattle.vd_projection.proofs.Front.{ended_past, joint_is_tidy}
 use Rattle.vd_reorder.specs.Packets.{opened_in}
-use Rattle.vd_choreography_exchange.specs.Turning.{TellsTheSame}
+use Rattle.vd_choreography_commuting.specs.Turning.{TellsTheSame}
 use Rattle.vd_choreography_reorder.specs.Testing.{Opened, opened_at}
 use Rattle.vd_choreography_reorder.specs.Order.{IsBroughtForward, without_empty}
 use Rattle.vd_choreography_reorder.specs.Sorting.{early_order}

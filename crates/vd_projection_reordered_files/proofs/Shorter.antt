@@ -8,7 +8,7 @@ use Rattle.vd_execution.specs.Code.{Code, Then, Send, Recv, Choose, Repeat}
 use Rattle.vd_execution.specs.Joint.{Joint, Done, Do, Msg, If, For, if_part, code_of, IsTidy}
 use Rattle.vd_reorder_laws.specs.Hastening.{Piece, Acts, Sends, Awaits}
 use Rattle.vd_projection_files.proofs.Front.{at_most}
-use Rattle.vd_choreography_exchange.specs.Turning.{Turn, Does, Tells, then_goes, Spot, Here, Behind, InFirst, InOther, InBody, BehindBranch, BehindLoop, with_joint}
+use Rattle.vd_choreography_commuting.specs.Turning.{Turn, Does, Tells, then_goes, Spot, Here, Behind, InFirst, InOther, InBody, BehindBranch, BehindLoop, with_joint}
 use Rattle.vd_choreography_reorder.specs.Testing.{Opened}
 use Rattle.vd_choreography_reorder.specs.Order.{IsCarefullyTurned, CarefulTurns, without_empty}
 use Rattle.vd_choreography_reorder.proofs.Front.{forward_by, still_tidy}

@@ -2,8 +2,8 @@
 //! get another order at once. Nothing is computed here: each function's clauses are laws.
 #![tactic(auto)]
 
-ghost use Rattle.vd_choreography_exchange.specs.Turning.{TurnedCodeTellsTheSame, TurnedCodeIsTidy};
-ghost use Rattle.vd_choreography_exchange.specs.Neighbours.{ActsApart, ActsAtOne, ActBesideMessage, MessageBesideAct, MessagesApart};
+ghost use Rattle.vd_choreography_commuting.specs.Turning.{TurnedCodeTellsTheSame, TurnedCodeIsTidy};
+ghost use Rattle.vd_choreography_commuting.specs.Neighbours.{ActsApart, ActsAtOne, ActBesideMessage, MessageBesideAct, MessagesApart};
 
 /// Where neighbours in joint code are exchanged that may be, the hosts hold, have taken and have printed the same at its end: only the
 /// order of packets on links may differ. What was tidy is so, and where compared words were the same and guards agreed they do.

@@ -7,7 +7,7 @@ use Rattle.vd_execution.specs.Step.{Source, Cursors, advanced, need_of_action, w
 use Rattle.vd_execution.specs.World.{Tape}
 use Rattle.vd_execution.specs.Joint.{Part, Joint, Done, Do, Msg, If, For, Host, Hosts, acted, has_heard, said_to, supplied, with_print, if_part, is_other, turn_begun, turns, joint, Agrees, AllTurns, GuardsAre, IsSmooth}
 use Rattle.vd_execution.proofs.Front.{same_or_not, put_same, put_other}
-use Rattle.vd_choreography_exchange.specs.Turning.{Turn, Does, Tells, gone_by, Compares, Look, look, AreAlike}
+use Rattle.vd_choreography_commuting.specs.Turning.{Turn, Does, Tells, gone_by, Compares, Look, look, AreAlike}
 
 put_alike : (w v : Hosts) (h : ℕ) (x y : Host) → AreAlike w v → look x ≡ look y → AreAlike (put w h x) (put v h y)
 put_alike w v h x y all same g =

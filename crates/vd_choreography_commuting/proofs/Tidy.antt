@@ -1,7 +1,7 @@
 -- Exchanged joint code is tidy.
 use Rattle.std.proofs.Common.{◌≡◌, ◌≢◌, ℕ, zero, suc, List, length, sym, subst}
 use Rattle.vd_execution.specs.Joint.{Part, Joint, Do, Msg, If, For, TakesPart, Within, IsTidy}
-use Rattle.vd_choreography_exchange.specs.Turning.{Turn, Does, Tells, then_goes, Spot, Here, Behind, InFirst, InOther, InBody, BehindBranch, BehindLoop, with_joint, IsTurned, TurnedCodeIsTidy}
+use Rattle.vd_choreography_commuting.specs.Turning.{Turn, Does, Tells, then_goes, Spot, Here, Behind, InFirst, InOther, InBody, BehindBranch, BehindLoop, with_joint, IsTurned, TurnedCodeIsTidy}
 
 abbrev TurnIsWithin : List Part → Turn → Type 0
 TurnIsWithin ps (Does h a) = TakesPart ps h

@@ -6,7 +6,7 @@ use Rattle.vd_execution.specs.Registers.{Registers, put_each, written}
 use Rattle.vd_execution.specs.Step.{Need, words_in}
 use Rattle.vd_reorder_laws.specs.Neighbours.{AreApart, IsPlain, ListsDiffer}
 use Rattle.vd_reorder_laws.specs.Testing.{is_simple}
-use Rattle.vd_choreography_exchange.specs.Turning.{Turn, Does, Tells, MayTurn}
+use Rattle.vd_choreography_commuting.specs.Turning.{Turn, Does, Tells, MayTurn}
 
 -- Two hosts act by themselves.
 abbrev pub ActsApart : Type 0

@@ -7,10 +7,10 @@ use Rattle.vd_execution.specs.Step.{Source, Cursors, Need, Nothing, Item, Packet
 use Rattle.vd_execution.specs.Joint.{supplied, with_print}
 use Rattle.vd_execution.proofs.Front.{put_same}
 use Rattle.vd_reorder_laws.specs.Neighbours.{IsPlain, ListsDiffer}
-use Rattle.vd_choreography_exchange.specs.Turning.{Does, gone_by}
-use Rattle.vd_choreography_exchange.specs.Neighbours.{ActsAtOne}
-use Rattle.vd_choreography_exchange.proofs.Alike.{act_look}
-use Rattle.vd_choreography_exchange.proofs.Apart.{Looks, looked, new_look, LooksTurn, alike_by, near_turn, agrees}
+use Rattle.vd_choreography_commuting.specs.Turning.{Does, gone_by}
+use Rattle.vd_choreography_commuting.specs.Neighbours.{ActsAtOne}
+use Rattle.vd_choreography_commuting.proofs.Alike.{act_look}
+use Rattle.vd_choreography_commuting.proofs.Apart.{Looks, looked, new_look, LooksTurn, alike_by, near_turn, agrees}
 
 -- what the one takes is not what the other gets
 at_other : (c : Cursors) (s r : Source) → same_source r s ≡ false → one_further c s r ≡ c r

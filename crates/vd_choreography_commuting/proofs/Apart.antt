@@ -12,9 +12,9 @@ use Rattle.vd_execution.proofs.Front.{same_or_not, put_same, put_other, put_twic
 use Rattle.vd_reorder_laws.specs.Neighbours.{IsPlain, IsApart, AreApart}
 use Rattle.vd_reorder_laws.specs.Testing.{is_simple}
 use Rattle.vd_reorder_laws.proofs.Front.{words_stay}
-use Rattle.vd_choreography_exchange.specs.Turning.{Turn, Does, Tells, gone_by, Compares, Look, look, AreAlike, MayTurn}
-use Rattle.vd_choreography_exchange.specs.Neighbours.{ActsApart, IsBeside, ActBesideMessage, MessageBesideAct, AreBeside, MessagesApart}
-use Rattle.vd_choreography_exchange.proofs.Alike.{act_look, heard_look}
+use Rattle.vd_choreography_commuting.specs.Turning.{Turn, Does, Tells, gone_by, Compares, Look, look, AreAlike, MayTurn}
+use Rattle.vd_choreography_commuting.specs.Neighbours.{ActsApart, IsBeside, ActBesideMessage, MessageBesideAct, AreBeside, MessagesApart}
+use Rattle.vd_choreography_commuting.proofs.Alike.{act_look, heard_look}
 
 -- ---- what is seen of all hosts
 

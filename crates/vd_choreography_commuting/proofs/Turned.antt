@@ -2,8 +2,8 @@
 use Rattle.std.proofs.Common.{◌≡◌, ℕ, zero, suc, Bool, true, false, if◌then◌else◌, List, refl, sym, ap, ◌∙◌, subst}
 use Rattle.vd_execution.specs.World.{Tape}
 use Rattle.vd_execution.specs.Joint.{Part, Joint, Do, Msg, If, For, Hosts, is_other, turn_begun, turns, joint, AllTurns, IsSmooth}
-use Rattle.vd_choreography_exchange.specs.Turning.{Turn, Does, Tells, then_goes, gone_by, Compares, look, AreAlike, MayTurn, Spot, Here, Behind, InFirst, InOther, InBody, BehindBranch, BehindLoop, with_joint, IsTurned, Turns, TellsTheSame, TurnedCodeTellsTheSame}
-use Rattle.vd_choreography_exchange.proofs.Alike.{begun_alike, joint_alike, smooth_alike}
+use Rattle.vd_choreography_commuting.specs.Turning.{Turn, Does, Tells, then_goes, gone_by, Compares, look, AreAlike, MayTurn, Spot, Here, Behind, InFirst, InOther, InBody, BehindBranch, BehindLoop, with_joint, IsTurned, Turns, TellsTheSame, TurnedCodeTellsTheSame}
+use Rattle.vd_choreography_commuting.proofs.Alike.{begun_alike, joint_alike, smooth_alike}
 
 joint_then : (t : Tape) (x : Turn) (j : Joint) (w : Hosts) → joint t (then_goes x j) w ≡ joint t j (gone_by t x w)
 joint_then t (Does h a) j w = refl

@@ -1,6 +1,6 @@
-use Rattle.vd_choreography_exchange.proofs.Apart.{act_beside_message, acts_apart, message_beside_act, messages_apart}
-use Rattle.vd_choreography_exchange.proofs.Own.{acts_at_one}
-use Rattle.vd_choreography_exchange.proofs.neighbours_may_turn.Goals as goal
+use Rattle.vd_choreography_commuting.proofs.Apart.{act_beside_message, acts_apart, message_beside_act, messages_apart}
+use Rattle.vd_choreography_commuting.proofs.Own.{acts_at_one}
+use Rattle.vd_choreography_commuting.proofs.neighbours_may_turn.Goals as goal
 
 pub returns-clause-acts : goal.returns-clause-acts
 returns-clause-acts c = acts_apart
