@@ -25,8 +25,8 @@ use Rattle.vd_choreography.proofs.Front.{AreApart}
 use Rattle.vd_backend_laws.specs.Parts.{Parts, zeros_at, index_of, cell_read, cell_written}
 use Rattle.vd_backend_laws.specs.Suite.{Names, cell}
 use Rattle.vd_backend_laws.proofs.Front.{In, in_cell, hosts_cell, register_cell}
-use Rattle.vd_integrity_calls.specs.Departing.{AreRight, RunsGadgets}
-use Rattle.vd_integrity_calls.proofs.Front.{each_step, written}
+use Rattle.vd_integrity_backends.specs.Departing.{AreRight, RunsGadgets}
+use Rattle.vd_integrity_backends.proofs.Front.{each_step, written}
 use Rattle.vd_integrity_runs.proofs.Touching.{AllTouch, runs_framed}
 use Rattle.vd_integrity_runs.proofs.Fresh.{Free, IsFresh, each_fresh, known_later, taken_fresh}
 use Rattle.vd_integrity_runs.proofs.Calls.{right_register, still_of}

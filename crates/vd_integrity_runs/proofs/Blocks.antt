@@ -33,9 +33,9 @@ use Rattle.vd_backend_laws.specs.Suite.{IsOver, Names, suite, AreGiven}
 use Rattle.vd_noninter_laws.specs.Agreement.{Agree}
 use Rattle.vd_noninter_laws.specs.Flowing.{Knowledge, only_with, right_flows}
 use Rattle.vd_noninter_laws.proofs.Front.{agree_sym, agree_trans}
-use Rattle.vd_integrity_calls.specs.Departing.{RunsGadgets}
-use Rattle.vd_integrity_calls.specs.Copies.{IsInClear}
-use Rattle.vd_integrity_calls.proofs.Front.{gadgets_parts}
+use Rattle.vd_integrity_backends.specs.Departing.{RunsGadgets}
+use Rattle.vd_integrity_backends.specs.Copies.{IsInClear}
+use Rattle.vd_integrity_backends.proofs.Front.{gadgets_parts}
 use Rattle.vd_integrity_endorsed.specs.Endorsed.{Given, Doing, all_done, bound, given_step, is_given}
 use Rattle.vd_integrity_endorsed.proofs.Front.{hides, flows, run_of, hidden_still, hidden_runs, hidden_flows}
 use Rattle.vd_integrity_runs.specs.Runs.{GoThisWay, IsOneWord, RunsBlock, RunsTurns, turn_begun}

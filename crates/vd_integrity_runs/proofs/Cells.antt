@@ -28,8 +28,8 @@ use Rattle.vd_backend_laws.specs.Suite.{IsOver, Names, cell, suite, AreGiven}
 use Rattle.vd_backend_laws.proofs.Front.{index_at, In, holder_at, holders_apart, host_known, picked_in}
 use Rattle.vd_noninter_laws.specs.Flowing.{Knowledge, only_with}
 use Rattle.vd_noninter_laws.proofs.Front.{only}
-use Rattle.vd_integrity_calls.specs.Departing.{AreRight, RunsGadgets}
-use Rattle.vd_integrity_calls.specs.Copies.{IsInClear}
+use Rattle.vd_integrity_backends.specs.Departing.{AreRight, RunsGadgets}
+use Rattle.vd_integrity_backends.specs.Copies.{IsInClear}
 use Rattle.vd_integrity_endorsed.specs.Endorsed.{Doing, bound, given_step}
 use Rattle.vd_integrity_runs.proofs.Touching.{IsFramed, runs_framed}
 use Rattle.vd_integrity_runs.proofs.Fresh.{Free, IsFresh, cells_fresh, get_fresh, moved_fresh}

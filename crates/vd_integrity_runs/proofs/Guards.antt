@@ -27,9 +27,9 @@ use Rattle.vd_backend_laws.proofs.Front.{holder_at, host_known, input_stands}
 use Rattle.vd_noninter_registers.proofs.Front.{below}
 use Rattle.vd_noninter_laws.specs.Flowing.{Knowledge, right_hides}
 use Rattle.vd_noninter_laws.proofs.Front.{and_of, not_if}
-use Rattle.vd_integrity_calls.specs.Departing.{RunsGadgets}
-use Rattle.vd_integrity_calls.specs.Copies.{IsInClear, IsOperand}
-use Rattle.vd_integrity_calls.proofs.Front.{gadgets_parts}
+use Rattle.vd_integrity_backends.specs.Departing.{RunsGadgets}
+use Rattle.vd_integrity_backends.specs.Copies.{IsInClear, IsOperand}
+use Rattle.vd_integrity_backends.proofs.Front.{gadgets_parts}
 use Rattle.vd_integrity_endorsed.proofs.Front.{hides}
 use Rattle.vd_integrity_runs.specs.Runs.{GoThisWay}
 use Rattle.vd_integrity_runs.proofs.Touching.{runs_framed}

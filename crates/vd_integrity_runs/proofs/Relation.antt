@@ -17,8 +17,8 @@ use Rattle.vd_backend_laws.specs.Machine.{machine}
 use Rattle.vd_backend_laws.specs.Parts.{Parts, has_back_end}
 use Rattle.vd_backend_laws.specs.Suite.{cell, Names, stands, suite}
 use Rattle.vd_backend_laws.proofs.Front.{all_below, cells_of, in_names}
-use Rattle.vd_integrity_calls.specs.Departing.{AreRight}
-use Rattle.vd_integrity_calls.specs.Copies.{IsInClear, IsOperand}
+use Rattle.vd_integrity_backends.specs.Departing.{AreRight}
+use Rattle.vd_integrity_backends.specs.Copies.{IsInClear, IsOperand}
 use Rattle.vd_integrity_runs.proofs.Touching.{IsFramed}
 
 pub has_back : (p : Proto) → IsInClear p → has_back_end p ≡ true

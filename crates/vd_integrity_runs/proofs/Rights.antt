@@ -27,9 +27,9 @@ use Rattle.vd_backend_laws.specs.Suite.{IsOver, suite, AreGiven}
 use Rattle.vd_backend_laws.proofs.Front.{holder_at, host_known, all_below, cells_of, in_names, suite_laws}
 use Rattle.vd_noninter_laws.specs.Flowing.{Knowledge, only_with, right_flows}
 use Rattle.vd_noninter_laws.proofs.Front.{only}
-use Rattle.vd_integrity_calls.specs.Departing.{AreRight, RunsGadgets}
-use Rattle.vd_integrity_calls.specs.Copies.{AreOperands, IsInClear, IsOperand}
-use Rattle.vd_integrity_calls.proofs.Front.{gadgets_parts}
+use Rattle.vd_integrity_backends.specs.Departing.{AreRight, RunsGadgets}
+use Rattle.vd_integrity_backends.specs.Copies.{AreOperands, IsInClear, IsOperand}
+use Rattle.vd_integrity_backends.proofs.Front.{gadgets_parts}
 use Rattle.vd_integrity_endorsed.specs.Endorsed.{is_given}
 use Rattle.vd_integrity_runs.proofs.Touching.{IsFramed, runs_framed}
 use Rattle.vd_integrity_runs.proofs.Fresh.{Free, IsFresh, fresh_none, fresh_on, known_later, literal_fresh, keep_fresh, apply_fresh, turn_fresh, moved_fresh}

@@ -36,9 +36,9 @@ use Rattle.vd_backend_laws.specs.Suite.{IsOver, Names, suite, AreGiven}
 use Rattle.vd_backend_laws.proofs.Front.{in_names}
 use Rattle.vd_noninter_laws.specs.Flowing.{Knowledge, only_with, right_flows}
 use Rattle.vd_noninter_laws.proofs.Front.{only, item_set_other, later_at}
-use Rattle.vd_integrity_calls.specs.Departing.{AreRight, RunsGadgets}
-use Rattle.vd_integrity_calls.specs.Copies.{IsInClear, IsOperand}
-use Rattle.vd_integrity_calls.proofs.Front.{below_later, gadgets_parts}
+use Rattle.vd_integrity_backends.specs.Departing.{AreRight, RunsGadgets}
+use Rattle.vd_integrity_backends.specs.Copies.{IsInClear, IsOperand}
+use Rattle.vd_integrity_backends.proofs.Front.{below_later, gadgets_parts}
 use Rattle.vd_integrity_endorsed.specs.Endorsed.{Given, Doing, bound, given_step, is_given}
 use Rattle.vd_integrity_runs.specs.Runs.{IsOneWord}
 use Rattle.vd_integrity_runs.proofs.Touching.{AllTouch, IsFramed, runs_framed}

@@ -28,9 +28,9 @@ use Rattle.vd_backend_laws.specs.Machine.{machine}
 use Rattle.vd_backend_laws.specs.Parts.{Parts, suite_calls}
 use Rattle.vd_backend_laws.specs.Suite.{IsOver, suite, AreGiven}
 use Rattle.vd_noninter_laws.specs.Flowing.{Knowledge, only_with, right_flows}
-use Rattle.vd_integrity_calls.specs.Departing.{RunsGadgets}
-use Rattle.vd_integrity_calls.specs.Copies.{IsInClear}
-use Rattle.vd_integrity_calls.proofs.Front.{gadgets_parts}
+use Rattle.vd_integrity_backends.specs.Departing.{RunsGadgets}
+use Rattle.vd_integrity_backends.specs.Copies.{IsInClear}
+use Rattle.vd_integrity_backends.proofs.Front.{gadgets_parts}
 use Rattle.vd_integrity_endorsed.specs.Endorsed.{Given, Doing, all_done, bound, given_step}
 use Rattle.vd_integrity_endorsed.proofs.Front.{hides, flows, run_of, hidden_still}
 use Rattle.vd_integrity_runs.specs.Runs.{GoThisWay, RunsInto, RunsTurns, turn_begun}

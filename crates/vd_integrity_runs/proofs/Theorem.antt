@@ -43,8 +43,8 @@ use Rattle.vd_integrity_assigned.specs.Keeping.{is_kept}
 use Rattle.vd_integrity_assigned.proofs.Front.{words_guarded}
 use Rattle.vd_noninter_registers.specs.Told.{IsDealt}
 use Rattle.vd_noninter_registers.proofs.Front.{all_fit, no_turns, tied_at_start}
-use Rattle.vd_integrity_calls.specs.Copies.{IsInClear}
-use Rattle.vd_integrity_calls.specs.Departing.{AreRight}
+use Rattle.vd_integrity_backends.specs.Copies.{IsInClear}
+use Rattle.vd_integrity_backends.specs.Departing.{AreRight}
 use Rattle.vd_integrity_endorsed.specs.Endorsed.{Doing, Given, all_done, given_step}
 use Rattle.vd_integrity_endorsed.proofs.Front.{run_of}
 use Rattle.vd_integrity_runs.specs.Trusted.{Begins, FrontsAreExplained, IsExplained, IsExplainedSoFar, RunsAreExplained, RunsIntoAttack, RunsWithAttackers, StandInClear, parts_at_end}

@@ -14,7 +14,7 @@ use Rattle.vd_backend_laws.specs.Given.{zero_deal}
 use Rattle.vd_backend_laws.specs.Parts.{suite_calls}
 use Rattle.vd_backend_laws.specs.Whole.{inputs_of}
 use Rattle.vd_noninter_assigned.specs.Example.{slot}
-use Rattle.vd_integrity_calls.specs.Example.{alice, bob, carol, carol_departs}
+use Rattle.vd_integrity_backends.specs.Example.{alice, bob, carol, carol_departs}
 use Rattle.vd_integrity_endorsed.specs.Endorsed.{Given, all_done, given_step}
 use Rattle.vd_integrity_runs.specs.Runs.{RunsBlock}
 

@@ -13,7 +13,7 @@ use Rattle.vd_choreography.specs.Suite.{picked, hosts_of}
 use Rattle.vd_choreography.specs.Emission.{Emitting, Emission, parts_at, delivered, and_on, right_made, with_parts, in_turn, stmt_emission, store_made, put_made, output_made, if_made, for_made, loop_registers, after_loop_registers}
 use Rattle.vd_backend_laws.specs.Machine.{given_turn}
 use Rattle.vd_backend_laws.specs.Parts.{Parts, suite_calls}
-use Rattle.vd_integrity_calls.specs.Departing.{AreRight, RunsGadgets}
+use Rattle.vd_integrity_backends.specs.Departing.{AreRight, RunsGadgets}
 use Rattle.vd_integrity_endorsed.specs.Endorsed.{is_given}
 
 -- the hosts that keep to their programs, and that take part in a branch, go this way: the other one where the guard is 0

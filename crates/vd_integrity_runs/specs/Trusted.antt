@@ -19,8 +19,8 @@ use Rattle.vd_backend_laws.specs.Parts.{Parts, suite_calls}
 use Rattle.vd_integrity_laws.specs.Trust.{against, becomes_trusted, in_trust, trusts_host}
 use Rattle.vd_space_optimum.specs.Cheapest.{IsAssignment}
 use Rattle.vd_noninter_registers.specs.Told.{IsDealt}
-use Rattle.vd_integrity_calls.specs.Copies.{IsInClear}
-use Rattle.vd_integrity_calls.specs.Departing.{AreRight}
+use Rattle.vd_integrity_backends.specs.Copies.{IsInClear}
+use Rattle.vd_integrity_backends.specs.Departing.{AreRight}
 use Rattle.vd_integrity_endorsed.specs.Endorsed.{outputs_given, run_given}
 use Rattle.vd_integrity_runs.specs.Runs.{RunsBlock, RunsInto}
 
