@@ -1,6 +1,6 @@
 -- What is counted of one family is counted of another that belongs to it one to one.
 use Rattle.std.proofs.Common.{◌≡◌, ◌≢◌, suc, List, [], ◌∷◌, inl, inr, length, map, refl, sym, ap, subst, ◌∙◌}
-use Rattle.vd_views_calls.specs.Sides.{Each}
+use Rattle.vd_views_backends.specs.Sides.{Each}
 use Rattle.vd_views_programs.specs.PairUp.{AreDifferent}
 use Rattle.vd_views_programs.specs.Lengths.{IsIn, AreAll}
 

@@ -38,8 +38,8 @@ use Rattle.vd_views.specs.Plans.{NoGuard, run_turn, PlanKnows, PlanChooses}
 use Rattle.vd_views.proofs.Front.{takes_or_not, begun_alike}
 use Rattle.vd_noninter_assigned.specs.Hearing.{Heard, run_of, word_if, comes, comes_alone, index_comes, is_part, heard_in_order, heard_in_turns, heard_step, right_heard}
 use Rattle.vd_noninter_registers.proofs.Front.{below, runs_each, part_is}
-use Rattle.vd_views_calls.specs.Sides.{AreKin, Both, after, Telling}
-use Rattle.vd_views_calls.proofs.Front.{both_all, telling_quiet, telling_on, idle_hides, keep_quiet, renew_quiet, output_quiet, cells_quiet, put_quiet}
+use Rattle.vd_views_backends.specs.Sides.{AreKin, Both, after, Telling}
+use Rattle.vd_views_backends.proofs.Front.{both_all, telling_quiet, telling_on, idle_hides, keep_quiet, renew_quiet, output_quiet, cells_quiet, put_quiet}
 use Rattle.vd_views.specs.Hides.{Hides}
 use Rattle.vd_views_programs.proofs.Hiding.{idle, hides_behind}
 use Rattle.vd_views_programs.proofs.Compose.{acts_on, acts_tidy, nothing_along}

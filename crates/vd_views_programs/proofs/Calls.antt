@@ -31,8 +31,8 @@ use Rattle.vd_backend_laws.specs.Suite.{IsOver, stands as slot_stands, suite}
 use Rattle.vd_backend_laws.proofs.Front.{holder_at}
 use Rattle.vd_noninter_assigned.specs.Hearing.{has_clear, is_alone, stands, comes, comes_alone, index_comes}
 use Rattle.vd_noninter_registers.proofs.Front.{kept_at, in_clear}
-use Rattle.vd_views_calls.specs.Sides.{AreKin, after, Telling, Each as EachOf, HasClear}
-use Rattle.vd_views_calls.proofs.Front.{telling_quiet, telling_on, literal_quiet, apply_quiet, keep_quiet, turn_quiet, input_quiet, get_quiet, move_tells}
+use Rattle.vd_views_backends.specs.Sides.{AreKin, after, Telling, Each as EachOf, HasClear}
+use Rattle.vd_views_backends.proofs.Front.{telling_quiet, telling_on, literal_quiet, apply_quiet, keep_quiet, turn_quiet, input_quiet, get_quiet, move_tells}
 use Rattle.vd_views_programs.proofs.Words.{RightAgrees}
 
 -- ---- where a host stands

@@ -9,7 +9,7 @@ use Rattle.vd_execution.proofs.Front.{runs_first}
 use Rattle.vd_views.specs.Hiding.{AlongGadgets}
 use Rattle.vd_views.specs.Plans.{AlongPlan, run_branch, run_turn}
 use Rattle.vd_choreography.specs.Joint.{acts_then, and_then}
-use Rattle.vd_views_calls.specs.Sides.{after, Each, IsPlain, PlanIsPlain}
+use Rattle.vd_views_backends.specs.Sides.{after, Each, IsPlain, PlanIsPlain}
 
 module _ (h : ℕ) (P : Gadget → Hosts → Hosts → Type 0) (G : List Part → Hosts → Hosts → Type 0) (t u : Tape) where
   abbrev pub Along : Plan Gadget → Hosts → Hosts → Type 0

@@ -10,7 +10,7 @@ use Rattle.vd_views.specs.Hiding.{AlongGadgets, GadgetHides}
 use Rattle.vd_views.specs.Plans.{run_branch, run_turn, PlanHides}
 use Rattle.vd_views.specs.Hides.{Hides}
 use Rattle.vd_choreography.specs.Joint.{acts_then, and_then}
-use Rattle.vd_views_calls.specs.Sides.{after}
+use Rattle.vd_views_backends.specs.Sides.{after}
 
 module _ (h : ℕ) (t u : Tape) where
   -- a plan in which h takes no part

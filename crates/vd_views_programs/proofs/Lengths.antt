@@ -10,8 +10,8 @@ use Rattle.vd_execution.specs.Joint.{fresh, joint}
 use Rattle.vd_execution.specs.Plans.{joint_of}
 use Rattle.vd_views.specs.Contract.{InputWords, Explains, HasExplanation}
 use Rattle.vd_views.proofs.Front.{plan_counts}
-use Rattle.vd_views_calls.specs.Sides.{Each}
-use Rattle.vd_views_calls.proofs.Front.{plan_owns}
+use Rattle.vd_views_backends.specs.Sides.{Each}
+use Rattle.vd_views_backends.proofs.Front.{plan_owns}
 use Rattle.vd_views_programs.specs.Explained.{IsOfTwo, plan_of, input_words, AgreeFor}
 use Rattle.vd_views_programs.specs.PairUp.{IsDealOf, EachExplains}
 use Rattle.vd_views_programs.specs.Lengths.{Lengths, IsLongEnough, ExcusesAreAsLong, Shows, IsIn, AreAll, ShowEquallyMany}

@@ -17,7 +17,7 @@ use Rattle.vd_views.specs.Contract.{with_inputs, Explains, HasExplanation}
 use Rattle.vd_views.specs.Excused.{excused}
 use Rattle.vd_views.proofs.Front.{plan_counts, plan_with}
 use Rattle.vd_noninter_registers.specs.Told.{IsDealt}
-use Rattle.vd_views_calls.specs.Sides.{Each}
+use Rattle.vd_views_backends.specs.Sides.{Each}
 use Rattle.vd_views_programs.specs.Explained.{IsOfTwo, plan_of, input_words, AgreeFor}
 use Rattle.vd_views_programs.specs.PairUp.{IsDealOf, PairUp, DealsPairUp, EachExplains, AsMany, ThereAreAsMany}
 use Rattle.vd_views_programs.proofs.Theorem.{tree, plan_is, static, dealt_zeros, others_are_explained, explained_back}

@@ -12,8 +12,8 @@ use Rattle.vd_choreography.specs.Block.{Block, End, Let, NewVar, NewArray, Store
 use Rattle.vd_choreography.specs.Suite.{hosts_of, picked}
 use Rattle.vd_choreography.specs.Emission.{Emitting, Emission, parts_at, delivered, all_moved, right_made, in_turn, stmt_emission, after_loop_registers, loop_registers}
 use Rattle.vd_backend_laws.specs.Parts.{Parts, has_back_end, suite_calls, put_in, turned, back_end}
-use Rattle.vd_views_calls.specs.Sides.{IsPlain, PlanIsPlain}
-use Rattle.vd_views_calls.proofs.Front.{each_append, all_plain, literal_quiet, apply_quiet, keep_quiet, renew_quiet, turn_quiet, input_quiet, output_quiet, cells_quiet, get_quiet, put_quiet, ArePlain, move_plain}
+use Rattle.vd_views_backends.specs.Sides.{IsPlain, PlanIsPlain}
+use Rattle.vd_views_backends.proofs.Front.{each_append, all_plain, literal_quiet, apply_quiet, keep_quiet, renew_quiet, turn_quiet, input_quiet, output_quiet, cells_quiet, get_quiet, put_quiet, ArePlain, move_plain}
 use Rattle.vd_views_programs.proofs.Compose.{plain_on, plain_acts}
 
 module _ (hosts : ℕ) (proto : ℕ → Proto) (free : (x : ℕ) → has_back_end (proto x) ≡ true) where

@@ -11,8 +11,8 @@ use Rattle.vd_views.specs.Plans.{NoGuard, PlanKnows, PlanChooses}
 use Rattle.vd_choreography.specs.Joint.{acts_then, and_then, joint, Goes}
 use Rattle.vd_backend_laws.specs.Machine.{machine}
 use Rattle.vd_backend_laws.proofs.Front.{runs_alike, goes_smoothly}
-use Rattle.vd_views_calls.specs.Sides.{AreKin, Both, Telling, PlanIsPlain}
-use Rattle.vd_views_calls.proofs.Front.{plan_both}
+use Rattle.vd_views_backends.specs.Sides.{AreKin, Both, Telling, PlanIsPlain}
+use Rattle.vd_views_backends.proofs.Front.{plan_both}
 use Rattle.vd_views.specs.Hides.{Hides}
 use Rattle.vd_views.proofs.Front.{all_hidden}
 use Rattle.vd_views_programs.proofs.Hiding.{hides_split, hides_behind}

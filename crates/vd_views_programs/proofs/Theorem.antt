@@ -39,7 +39,7 @@ use Rattle.vd_noninter_laws.specs.Reading.{start}
 use Rattle.vd_noninter_assigned.specs.Hearing.{Heard, heard_step, heard_in_order}
 use Rattle.vd_noninter_registers.specs.Told.{IsDealt}
 use Rattle.vd_noninter_registers.proofs.Front.{all_fit, no_turns, tied_at_start}
-use Rattle.vd_views_calls.specs.Sides.{AreKin, Both}
+use Rattle.vd_views_backends.specs.Sides.{AreKin, Both}
 use Rattle.vd_views_programs.specs.Explained.{IsOfTwo, plan_of, input_words, AgreeFor, OthersAreExplained, ExplainedBack}
 use Rattle.vd_views_programs.proofs.Plain.{plan_plain}
 use Rattle.vd_views_programs.proofs.Steps.{Static, Concluded}

@@ -8,7 +8,7 @@ use Rattle.vd_core.specs.declared.normal.Right.{Right}
 use Rattle.vd_core.specs.declared.normal.Right.TheVariants.{Lit, Turn, Copy, Apply, Input, Declassify, Endorse, Load, Get}
 use Rattle.vd_semantics.specs.ProgramMeaning.{SlotState, word_at, array_at}
 use Rattle.vd_noninter_assigned.specs.Hearing.{word_if, comes, index_comes, right_heard}
-use Rattle.vd_views_calls.specs.Sides.{Each}
+use Rattle.vd_views_backends.specs.Sides.{Each}
 
 first_of : (p q : ℕ) (xs ys : List ℕ) → p ∷ xs ≡ q ∷ ys → (p ≡ q) × (xs ≡ ys)
 first_of p q xs ys e = (ap (λ (l : List ℕ). slice_index l 0) e, ap tail e)

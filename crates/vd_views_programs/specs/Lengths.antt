@@ -11,7 +11,7 @@ use Rattle.vd_execution.specs.Gadgets.{Gadget}
 use Rattle.vd_execution.specs.Plans.{Plan, joint_of}
 use Rattle.vd_views.specs.Views.{LooksAlike}
 use Rattle.vd_views.specs.Contract.{InputWords, Explains}
-use Rattle.vd_views_calls.specs.Sides.{Each}
+use Rattle.vd_views_backends.specs.Sides.{Each}
 use Rattle.vd_views_programs.specs.Explained.{IsOfTwo, plan_of, input_words, AgreeFor}
 use Rattle.vd_views_programs.specs.PairUp.{IsDealOf, AreDifferent}
 

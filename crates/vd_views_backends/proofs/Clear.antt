@@ -17,9 +17,9 @@ use Rattle.vd_duet.specs.Calls.{Places, hosts_of, Made}
 use Rattle.vd_duet.specs.Acting.{is_among}
 use Rattle.vd_duet.specs.Laws.{IsHost, Copies}
 use Rattle.vd_clear.specs.Copies.{passed, told, compared, adopted, first_register, shown, each_made}
-use Rattle.vd_views_calls.specs.Sides.{AreKin, after, Telling}
-use Rattle.vd_views_calls.proofs.Sides.{after_append, telling_then, telling_quiet, telling_on}
-use Rattle.vd_views_calls.proofs.Calls.{AreQuiet}
+use Rattle.vd_views_backends.specs.Sides.{AreKin, after, Telling}
+use Rattle.vd_views_backends.proofs.Sides.{after_append, telling_then, telling_quiet, telling_on}
+use Rattle.vd_views_backends.proofs.Calls.{AreQuiet}
 
 -- ---- registers of the hosts that hear nothing
 

@@ -17,7 +17,7 @@ use Rattle.vd_views.specs.Hiding.{GadgetHides}
 use Rattle.vd_views.specs.Back.{AreOfTwo}
 use Rattle.vd_views.specs.Plans.{run_branch, run_turn, PlanHides, PlanKnows, PlanChooses}
 use Rattle.vd_views.proofs.Front.{takes_or_not, told_the_same, CountsAlike, acts_count, begun_cursors, plan_tells}
-use Rattle.vd_views_calls.specs.Sides.{AreKin, Both, IsPlainAction, IsPlain, PlanIsPlain}
+use Rattle.vd_views_backends.specs.Sides.{AreKin, Both, IsPlainAction, IsPlain, PlanIsPlain}
 
 -- ---- h looks alike after a plan
 

@@ -8,7 +8,7 @@ use Rattle.vd_execution.specs.Gadgets.{Gadget, Alone, Tells, Shares, BothShare, 
 use Rattle.vd_execution.proofs.Front.{gadget_sound}
 use Rattle.vd_views.specs.Hiding.{AlongGadgets, GadgetHides, GadgetKnows, GadgetsHide, GadgetsKnow}
 use Rattle.vd_views.proofs.Front.{gadget_alike, run_append, acts_count}
-use Rattle.vd_views_calls.specs.Sides.{AreKin, Both, after, Telling, Each, IsPlain, IsQuiet}
+use Rattle.vd_views_backends.specs.Sides.{AreKin, Both, after, Telling, Each, IsPlain, IsQuiet}
 
 -- the state after gadgets is that after their acts
 pub after_acts : (t : Tape) (gs : List Gadget) (w : Hosts) → after t gs w ≡ run_acts t (acts_of_gadgets gs) w

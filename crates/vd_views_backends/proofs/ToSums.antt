@@ -26,10 +26,10 @@ use Rattle.vd_bits.specs.BitCalls.{circuit_shares, computed, bit_serves, bit_cal
 use Rattle.vd_bits.proofs.Front.{circuit_gives_few}
 use Rattle.vd_convert.specs.Convert.{pairing, drawn, finishing, finished, to_add_made}
 use Rattle.vd_views.specs.Hiding.{next_item, converted, pair_word}
-use Rattle.vd_views_calls.specs.Sides.{AreKin, after, Telling}
-use Rattle.vd_views_calls.proofs.Sides.{after_acts, both_step, telling_quiet, telling_on}
-use Rattle.vd_views_calls.proofs.Calls.{gates_quiet}
-use Rattle.vd_views_calls.proofs.Pairs.{HaveWord, both_open}
+use Rattle.vd_views_backends.specs.Sides.{AreKin, after, Telling}
+use Rattle.vd_views_backends.proofs.Sides.{after_acts, both_step, telling_quiet, telling_on}
+use Rattle.vd_views_backends.proofs.Calls.{gates_quiet}
+use Rattle.vd_views_backends.proofs.Pairs.{HaveWord, both_open}
 
 module _ (a b : HostId) (apart : a.0 ≢ b.0) (next : List ℕ) (x : Places) where
   abbrev n : ℕ

@@ -20,8 +20,8 @@ use Rattle.vd_backend_sharing.specs.PairCalls.{shares_of, product_shares}
 use Rattle.vd_words.specs.AddCalls.{add_apply}
 use Rattle.vd_bits.specs.BitCalls.{parts_at, gate_shares, gates_shares}
 use Rattle.vd_backend_laws.specs.Parts.{Parts, back_end, turn_part, turned, put_in, printed, zeros_at, new_cells, index_of, cell_read, cell_written}
-use Rattle.vd_views_calls.specs.Sides.{Each, IsQuiet}
-use Rattle.vd_views_calls.proofs.Sides.{each_append}
+use Rattle.vd_views_backends.specs.Sides.{Each, IsQuiet}
+use Rattle.vd_views_backends.proofs.Sides.{each_append}
 
 abbrev pub AreQuiet : List Gadget → Type 0
 AreQuiet gs = Each IsQuiet gs

@@ -18,10 +18,10 @@ use Rattle.vd_backend_sharing.specs.declared.shares.Shares.{Shares}
 use Rattle.vd_backend_sharing.specs.Sharings.{join, joined}
 use Rattle.vd_backend_sharing.specs.PairCalls.{opened_by, shown_at, shown_to_both}
 use Rattle.vd_views.specs.Hiding.{opened}
-use Rattle.vd_views_calls.specs.Sides.{AreKin, Telling}
-use Rattle.vd_views_calls.proofs.Sides.{telling_then, telling_quiet}
-use Rattle.vd_views_calls.proofs.Calls.{AreQuiet}
-use Rattle.vd_views_calls.proofs.Clear.{msg_other}
+use Rattle.vd_views_backends.specs.Sides.{AreKin, Telling}
+use Rattle.vd_views_backends.proofs.Sides.{telling_then, telling_quiet}
+use Rattle.vd_views_backends.proofs.Calls.{AreQuiet}
+use Rattle.vd_views_backends.proofs.Clear.{msg_other}
 
 opened_joined : (s : Sharing) (p q : ℕ) → opened s p q ≡ joined s p q
 opened_joined BySums p q = refl

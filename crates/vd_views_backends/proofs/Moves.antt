@@ -35,12 +35,12 @@ use Rattle.vd_backend_laws.specs.Moves.{only}
 use Rattle.vd_backend_laws.specs.Parts.{Parts as SlotParts, has_back_end, back_end, suite_calls}
 use Rattle.vd_backend_laws.specs.Suite.{IsOver, joins}
 use Rattle.vd_backend_laws.proofs.Front.{M, S, ready_at, operand_at, sole, equal_of, in_order, ordered_differ, no_back_end, members_of_pair}
-use Rattle.vd_views_calls.specs.Sides.{AreKin, Telling, Each, IsPlain, HasClear}
-use Rattle.vd_views_calls.proofs.Sides.{each_append, all_plain, telling_quiet}
-use Rattle.vd_views_calls.proofs.Calls.{AreQuiet, gates_quiet}
-use Rattle.vd_views_calls.proofs.Clear.{passed_tells, shown_tells, spread_tells}
-use Rattle.vd_views_calls.proofs.Pairs.{shown_tells as pair_shown, all_shown_tells}
-use Rattle.vd_views_calls.proofs.ToSums.{to_add_tells}
+use Rattle.vd_views_backends.specs.Sides.{AreKin, Telling, Each, IsPlain, HasClear}
+use Rattle.vd_views_backends.proofs.Sides.{each_append, all_plain, telling_quiet}
+use Rattle.vd_views_backends.proofs.Calls.{AreQuiet, gates_quiet}
+use Rattle.vd_views_backends.proofs.Clear.{passed_tells, shown_tells, spread_tells}
+use Rattle.vd_views_backends.proofs.Pairs.{shown_tells as pair_shown, all_shown_tells}
+use Rattle.vd_views_backends.proofs.ToSums.{to_add_tells}
 
 -- ---- what moves are made of
 

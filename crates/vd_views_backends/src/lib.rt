@@ -5,7 +5,7 @@ ghost use Rattle.std.specs.Prelude.{ℕ, List};
 ghost use Rattle.vd_execution.specs.World.{Tape};
 ghost use Rattle.vd_execution.specs.Joint.{Hosts};
 ghost use Rattle.vd_execution.specs.Gadgets.{Gadget};
-ghost use Rattle.vd_views_calls.specs.Sides.{AreKin, Each, IsQuiet, Telling};
+ghost use Rattle.vd_views_backends.specs.Sides.{AreKin, Each, IsQuiet, Telling};
 
 /// Where nothing is told openly but own words, two runs that go side by side tell a host the same.
 pub fn quiet_gadgets_tell_the_same()
