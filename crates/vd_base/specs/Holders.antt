@@ -22,6 +22,19 @@ is_holder (Commit p v) h = same_host p h || same_host v h
 is_holder (Add a b) h = same_host a h || same_host b h
 is_holder (Xor a b) h = same_host a h || same_host b h
 
+-- the host has in clear what stands there: alone, as a copy, or as the one that is bound to it
+abbrev pub has_clear : HostId → Proto → Bool
+has_clear h (Local k) = same_host k h
+has_clear h (Rep set) = has_host set h
+has_clear h (Commit p v) = same_host p h
+has_clear h (Add a b) = false
+has_clear h (Xor a b) = false
+
+-- it is the protocol of the host alone
+abbrev pub is_alone : HostId → Proto → Bool
+is_alone h (Local k) = same_host k h
+is_alone h other = false
+
 abbrev pub same_protocol : Proto → Proto → Bool
 same_protocol (Local h) (Local k) = same_host h k
 same_protocol (Rep set) (Rep other) = set.bits == other.bits

@@ -1,5 +1,5 @@
 ghost use Rattle.std.specs.Prelude.{◌≡◌, true};
-ghost use Rattle.vd_base.specs.Holders.{is_holder, proto_in, same_protocol};
+ghost use Rattle.vd_base.specs.Holders.{has_clear, is_holder, proto_in, same_protocol};
 ghost use Rattle.vd_base.specs.declared.protocols.Proto.{Proto as Protocols};
 
 use crate::{HostId, SlotId};
@@ -35,6 +35,18 @@ pub fn is_holder(protocol: Proto, host: HostId) -> bool
         Proto::Commit(first, second) | Proto::Add(first, second) | Proto::Xor(first, second) => {
             first == host || second == host
         }
+    }
+}
+
+/// Whether the host has in clear what is held at the protocol: alone, as a copy, or as the one that is bound to it.
+pub fn has_clear(protocol: Proto, host: HostId) -> bool
+    ensures { result ≡ has_clear host protocol }
+{
+    match protocol {
+        Proto::Local(at) => at == host,
+        Proto::Rep(set) => set.has(host),
+        Proto::Commit(prover, _) => prover == host,
+        Proto::Add(_, _) | Proto::Xor(_, _) => false,
     }
 }
 

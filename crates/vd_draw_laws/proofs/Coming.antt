@@ -9,18 +9,10 @@ use Rattle.vd_base.specs.declared.ids.SlotId.{SlotId}
 use Rattle.vd_base.specs.declared.protocols.Proto.{Proto}
 use Rattle.vd_base.specs.declared.protocols.Proto.TheVariants.{Local, Rep, Commit, Add, Xor}
 use Rattle.vd_base.specs.HostSets.{same_host, host}
-use Rattle.vd_base.specs.Holders.{proto_in, same_protocol}
+use Rattle.vd_base.specs.Holders.{has_clear, is_alone, proto_in, same_protocol}
 use Rattle.vd_base.proofs.Front.{same_is}
-use Rattle.vd_noninter_assigned.specs.Hearing.{has_clear, is_alone, stands}
-use Rattle.vd_draw_rows.specs.Moves as moves
+use Rattle.vd_noninter_assigned.specs.Hearing.{stands}
 use Rattle.vd_draw_laws.specs.Showing.{ToldWordsCome}
-
-same_clear : (h : HostId) (p : Proto) → has_clear h p ≡ moves.has_clear h p
-same_clear h (Local k) = refl
-same_clear h (Rep set) = refl
-same_clear h (Commit p v) = refl
-same_clear h (Add a b) = refl
-same_clear h (Xor a b) = refl
 
 -- a word that stays where it is is told to nobody
 by_place : (same here there : Bool) → (same ≡ true → here ≡ there) → ((there && not same) && not here) ≡ (there && not here)
@@ -55,10 +47,9 @@ pub words_come : ToldWordsCome
 words_come protocols h from onto p q is_from is_onto = record {
   moved =
       (λ i. (stands_at protocols h (has_clear h) onto q is_onto i && not (both_are protocols h from onto p q is_from is_onto i)) && not (stands_at protocols h (has_clear h) from p is_from i))
-      ∙ by_place (same_protocol p q) (has_clear h p) (has_clear h q) (λ same. ap (λ (k : Proto). has_clear h k) (same_is p q same))
-      ∙ (λ i. same_clear h q i && not (same_clear h p i));
+      ∙ by_place (same_protocol p q) (has_clear h p) (has_clear h q) (λ same. ap (λ (k : Proto). has_clear h k) (same_is p q same));
   alone =
       (λ i. not (stands_at protocols h (is_alone h) from p is_from i) && not (stands_at protocols h (has_clear h) from p is_from i))
       ∙ by_alone h p
-      ∙ (λ i. sym (itself h) i && not (same_clear h p i));
+      ∙ (λ i. sym (itself h) i && not (has_clear h p));
 }

@@ -6,7 +6,8 @@ use Rattle.vd_base.specs.declared.protocols.Proto.{Proto}
 use Rattle.vd_base.specs.declared.protocols.Proto.TheVariants.{Local, Rep}
 use Rattle.vd_base.specs.HostSets.{same_host}
 use Rattle.vd_base.specs.Moves.{move_at}
-use Rattle.vd_noninter_assigned.specs.Hearing.{comes, comes_alone, has_clear, stands}
+use Rattle.vd_base.specs.Holders.{has_clear}
+use Rattle.vd_noninter_assigned.specs.Hearing.{comes, comes_alone, stands}
 use Rattle.vd_draw_rows.specs.declared.row.Arrow.{Arrow}
 use Rattle.vd_draw_rows.specs.declared.row.Arrow.TheVariants.{Clear, Checked, Opened, Revealed}
 use Rattle.vd_draw_rows.specs.Moves.{arrow_of, is_seen, is_told}

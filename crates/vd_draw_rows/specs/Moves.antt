@@ -10,7 +10,7 @@ use Rattle.vd_base.specs.declared.protocols.Proto.TheVariants.{Local, Rep, Commi
 use Rattle.vd_base.specs.HostSets.{host, same_host, has_host, outside, size}
 use Rattle.vd_base.specs.Moves.{move_at}
 use Rattle.vd_base.specs.Costs.{op_cost_at}
-use Rattle.vd_base.specs.Holders.{is_holder, proto_in}
+use Rattle.vd_base.specs.Holders.{has_clear, is_holder, proto_in}
 use Rattle.vd_core.specs.declared.normal.Right.{Right}
 use Rattle.vd_core.specs.declared.normal.Right.TheVariants.{Lit, Turn, Copy, Apply, Input, Declassify, Endorse, Load, Get}
 use Rattle.vd_draw_rows.specs.declared.row.Arrow.{Arrow}
@@ -57,14 +57,6 @@ arrow_of (Rep set) to = from_copies set to
 arrow_of (Commit p v) to = from_committed p to
 arrow_of (Add a b) to = from_sums to
 arrow_of (Xor a b) to = from_bits to
-
--- a host has in clear what stands there: alone, as a copy, or as the one that is bound to it
-abbrev pub has_clear : HostId → Proto → Bool
-has_clear h (Local k) = same_host k h
-has_clear h (Rep set) = has_host set h
-has_clear h (Commit p v) = same_host p h
-has_clear h (Add a b) = false
-has_clear h (Xor a b) = false
 
 -- a host has the word in clear where it goes, and had it not where it comes from: it is told the word
 abbrev pub is_told : HostId → Proto → Proto → Bool

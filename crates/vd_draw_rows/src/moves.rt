@@ -8,7 +8,7 @@ ghost use Rattle.vd_draw_rows.specs.Moves as moves_spec;
 
 use crate::row::{Arrow, Move};
 use std::alloc::{AllocError, Global};
-use vd_base::{HostId, HostSet, Proto, SlotId, is_holder, proto_of};
+use vd_base::{HostId, HostSet, Proto, SlotId, has_clear, is_holder, proto_of};
 use vd_base_lists::Items;
 use vd_core::Right;
 use vd_cost::{move_cost, op_cost};
@@ -83,23 +83,11 @@ fn from_bits(to: Proto) -> Arrow
     }
 }
 
-/// Whether a host has a word in clear that stands at a protocol: alone, as a copy, or as the one that is bound to it.
-fn has_clear(host: HostId, protocol: Proto) -> bool
-    ensures { result ≡ moves_spec.has_clear host protocol }
-{
-    match protocol {
-        Proto::Local(other) => other == host,
-        Proto::Rep(set) => set.has(host),
-        Proto::Commit(prover, _) => prover == host,
-        Proto::Add(_, _) | Proto::Xor(_, _) => false,
-    }
-}
-
 /// Whether a host is told a word that goes from one protocol to another: it has the word in clear there, and had it not before.
 pub fn is_told(host: HostId, from: Proto, to: Proto) -> bool
     ensures { result ≡ moves_spec.is_told host from to }
 {
-    has_clear(host, to) && !has_clear(host, from)
+    has_clear(to, host) && !has_clear(from, host)
 }
 
 /// Whether a move is drawn: none is where a word stays where it is, or goes from copies to hosts that have one.

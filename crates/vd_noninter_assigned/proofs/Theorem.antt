@@ -9,6 +9,7 @@ use Rattle.vd_base.specs.declared.ids.HostId.{HostId}
 use Rattle.vd_base.specs.declared.ids.SlotId.{SlotId}
 use Rattle.vd_base.specs.declared.protocols.Proto.{Proto}
 use Rattle.vd_base.specs.Costs.{cost_at}
+use Rattle.vd_base.specs.Holders.{has_clear}
 use Rattle.vd_core.specs.declared.normal.NormalForm.{NormalForm}
 use Rattle.vd_core.specs.declared.normal.Stmt.{Stmt, roll-Stmt, map-Stmt, ind-Stmt}
 use Rattle.vd_core.specs.declared.normal.Stmt.TheOpen.{Stmt-F}
@@ -35,7 +36,7 @@ use Rattle.vd_noninter_laws.specs.Reading.{acts, reads_slot, reads_result, becom
 use Rattle.vd_noninter_laws.specs.Dependence.{Reach, IsClosed, AreReached, OfEachHost}
 use Rattle.vd_noninter_laws.proofs.Front.{Tells, named_are_visible, narrowed, narrowed_flows, same_slots, program_flows, becoming, results, kept_read, taps_of, hearing, given_is}
 use Rattle.vd_noninter.proofs.Front.{labels_over, body_closed, eight_hosts}
-use Rattle.vd_noninter_assigned.specs.Hearing.{has_clear, Heard, read_of, stands, heard_step, heard}
+use Rattle.vd_noninter_assigned.specs.Hearing.{Heard, read_of, stands, heard_step, heard}
 use Rattle.vd_noninter_assigned.specs.Assigned.{HearsOnly, HearsOnlyAssigned}
 use Rattle.vd_noninter_assigned.proofs.Clear.{clear_acts}
 use Rattle.vd_noninter_assigned.proofs.Slots.{label_of_slot, stand_at, of_host}

@@ -9,7 +9,7 @@ use Rattle.vd_base.specs.declared.ids.SlotId.{SlotId}
 use Rattle.vd_base.specs.declared.ids.HostId.{HostId}
 use Rattle.vd_base.specs.HostSets.{same_host}
 use Rattle.vd_base.specs.declared.protocols.Proto.{Proto}
-use Rattle.vd_base.specs.Holders.{is_holder, proto_in, same_protocol}
+use Rattle.vd_base.specs.Holders.{has_clear, is_holder, proto_in, same_protocol}
 use Rattle.vd_core.specs.declared.normal.Right.{Right}
 use Rattle.vd_core.specs.declared.normal.Right.TheVariants.{Lit, Turn, Copy, Apply, Input, Declassify, Endorse, Load, Get}
 use Rattle.vd_core.specs.declared.normal.Stmt.{Stmt, roll-Stmt, map-Stmt, ind-Stmt}
@@ -31,7 +31,7 @@ use Rattle.vd_noninter_laws.specs.Dependence.{Reach, right_closes, Closing, all_
 use Rattle.vd_noninter_laws.proofs.Front.{Seen, block, loop, seen_loop, only, right_in_step, taps_of, Keeps, stmt_keeps, body_keeps, run_is, hearing, narrowed, and_of, false_if}
 use Rattle.vd_noninter_assigned.proofs.Clear.{clear_holds}
 use Rattle.vd_noninter_assigned.proofs.Places.{part_is, stands_is}
-use Rattle.vd_noninter_assigned.specs.Hearing.{has_clear, Heard, run_of, read_of, heard_in_order, heard_in_turns, word_if, stands, comes, comes_alone, index_comes, right_heard, is_part, heard_step, heard}
+use Rattle.vd_noninter_assigned.specs.Hearing.{Heard, run_of, read_of, heard_in_order, heard_in_turns, word_if, stands, comes, comes_alone, index_comes, right_heard, is_part, heard_step, heard}
 
 both_words : (a a' b b' : List ℕ) → a ≡ a' → b ≡ b' → a ++ b ≡ a' ++ b'
 both_words a a' b b' e f = rw (e, f) refl

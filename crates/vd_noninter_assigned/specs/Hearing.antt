@@ -5,9 +5,8 @@ use Rattle.std.specs.Option.{option_map_or}
 use Rattle.vd_base.specs.declared.ids.SlotId.{SlotId}
 use Rattle.vd_base.specs.declared.ids.HostId.{HostId}
 use Rattle.vd_base.specs.declared.protocols.Proto.{Proto}
-use Rattle.vd_base.specs.declared.protocols.Proto.TheVariants.{Local, Rep, Commit, Add, Xor}
-use Rattle.vd_base.specs.HostSets.{has_host, same_host}
-use Rattle.vd_base.specs.Holders.{is_holder, proto_in, same_protocol}
+use Rattle.vd_base.specs.HostSets.{same_host}
+use Rattle.vd_base.specs.Holders.{has_clear, is_alone, is_holder, proto_in, same_protocol}
 use Rattle.vd_core.specs.declared.normal.Right.{Right}
 use Rattle.vd_core.specs.declared.normal.Right.TheVariants.{Lit, Turn, Copy, Apply, Input, Declassify, Endorse, Load, Get}
 use Rattle.vd_core.specs.declared.normal.Stmt.{Stmt, map-Stmt}
@@ -19,18 +18,6 @@ use Rattle.vd_semantics.specs.Turns.{turns}
 use Rattle.vd_space.specs.declared.problem.Guard.{Guard}
 use Rattle.vd_space.specs.Reading.{Read, guard_of, read_step}
 use Rattle.vd_noninter_laws.specs.Watching.{Words, taken}
-
--- the host has in clear what stands there: alone, as a copy, or as the one that is bound to it
-abbrev pub has_clear : HostId → Proto → Bool
-has_clear h (Local k) = same_host k h
-has_clear h (Rep set) = has_host set h
-has_clear h (Commit p v) = same_host p h
-has_clear h (Add a b) = false
-has_clear h (Xor a b) = false
-
-abbrev pub is_alone : HostId → Proto → Bool
-is_alone h (Local k) = same_host k h
-is_alone h other = false
 
 -- what a statement does, the words that come to the host in it, and what it names
 pub record Heard : Type 0 where

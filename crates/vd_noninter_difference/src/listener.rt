@@ -2,15 +2,15 @@
 
 ghost use Rattle.std.specs.Prelude.{◌≡◌, ◌∷◌, []};
 ghost use Rattle.std.specs.List.{list_any};
-ghost use Rattle.vd_noninter_assigned.specs.Hearing.{has_clear as is_clear_at, is_alone as is_alone_at, stands, comes, comes_alone, index_comes, is_part};
+ghost use Rattle.vd_noninter_assigned.specs.Hearing.{stands, comes, comes_alone, index_comes, is_part};
 ghost use Rattle.vd_base.specs.HostSets.{same_host};
-ghost use Rattle.vd_base.specs.Holders.{proto_in};
+ghost use Rattle.vd_base.specs.Holders.{has_clear as is_clear_at, is_alone as is_alone_at, proto_in};
 ghost use Rattle.vd_noninter_difference.specs.Parts.{told_there, held_there, slot_held};
 ghost use Rattle.vd_noninter_difference.specs.Runs.{all_heard, heard_by};
 ghost use Rattle.vd_space.specs.Reading.{named_by};
 
 use std::marker::Model;
-use vd_base::{HostId, Proto, SlotId, is_holder, is_same, proto_of};
+use vd_base::{HostId, Proto, SlotId, has_clear, is_holder, is_same, proto_of};
 use vd_core::{Right, Stmt};
 
 /// A host, and where the slots of a program stand.
@@ -57,19 +57,6 @@ impl<'a> Listener<'a> {
         proto_of(self.protocols, slot)
     }
 
-    /// Whether the host has in clear what stands at the protocol: alone, as a copy, or as the one that is bound to it.
-    fn has_clear_at(&self, protocol: Proto) -> bool
-        ensures { result ≡ is_clear_at self.now.host protocol }
-    {
-        match protocol {
-            Proto::Local(at) => at == self.host,
-            Proto::Rep(set) => set.has(self.host),
-            Proto::Commit(prover, _) => prover == self.host,
-            Proto::Add(_, _) => false,
-            Proto::Xor(_, _) => false,
-        }
-    }
-
     /// Whether it is the protocol of the host alone.
     fn is_alone_at(&self, protocol: Proto) -> bool
         ensures { result ≡ is_alone_at self.now.host protocol }
@@ -88,7 +75,7 @@ impl<'a> Listener<'a> {
         ensures { result ≡ stands self.now.protocols self.now.host (is_clear_at self.now.host) slot }
     {
         match self.protocols.get(usize::from(slot.0)) {
-            Some(protocol) => self.has_clear_at(*protocol),
+            Some(protocol) => has_clear(*protocol, self.host),
             None => false,
         }
     }

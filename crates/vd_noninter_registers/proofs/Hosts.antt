@@ -8,9 +8,9 @@ use Rattle.vd_base.specs.declared.ids.SlotId.{SlotId}
 use Rattle.vd_base.specs.declared.protocols.Proto.{Proto}
 use Rattle.vd_base.specs.declared.protocols.Proto.TheVariants.{Local, Rep, Commit, Add, Xor}
 use Rattle.vd_base.specs.HostSets.{host, same_host}
-use Rattle.vd_base.specs.Holders.{is_holder, proto_in, same_protocol}
+use Rattle.vd_base.specs.Holders.{has_clear, is_holder, proto_in, same_protocol}
 use Rattle.vd_choreography.specs.Suite.{picked}
-use Rattle.vd_noninter_assigned.specs.Hearing.{has_clear, word_if, stands, comes}
+use Rattle.vd_noninter_assigned.specs.Hearing.{word_if, stands, comes}
 
 -- ---- items of lists
 

@@ -6,6 +6,7 @@ use Rattle.vd_base.specs.declared.protocols.HostSet.{HostSet}
 use Rattle.vd_base.specs.declared.protocols.Proto.{Proto}
 use Rattle.vd_base.specs.declared.protocols.Proto.TheVariants.{Local, Rep, Commit, Add, Xor}
 use Rattle.vd_base.specs.HostSets.{same_host, has_host}
+use Rattle.vd_base.specs.Holders.{has_clear}
 use Rattle.vd_execution.specs.declared.instructions.Reg.{Reg}
 use Rattle.vd_execution.specs.Joint.{Hosts}
 use Rattle.vd_duet.specs.Calls.{Places, hosts_of, register_of}
@@ -18,7 +19,6 @@ use Rattle.vd_backend_laws.specs.Commits.{at_one, held_of, seen_of}
 use Rattle.vd_backend_laws.specs.Parts.{Parts}
 use Rattle.vd_backend_laws.specs.Suite.{StandForCells, IsBound, stands}
 use Rattle.vd_backend_laws.proofs.Front.{word_of, has_member}
-use Rattle.vd_noninter_assigned.specs.Hearing.{has_clear}
 
 abbrev Holds : Hosts → HostId → Places → ℕ → Type 0
 Holds w h x v = (w h.0).registers (register_of x h.0).0 ≡ v

@@ -6,7 +6,7 @@ use Rattle.vd_base.specs.declared.ids.SlotId.{SlotId}
 use Rattle.vd_base.specs.declared.protocols.Proto.{Proto}
 use Rattle.vd_base.specs.declared.protocols.Proto.TheVariants.{Local}
 use Rattle.vd_base.specs.HostSets.{host, same_host}
-use Rattle.vd_base.specs.Holders.{is_holder, proto_in}
+use Rattle.vd_base.specs.Holders.{has_clear, is_holder, proto_in}
 use Rattle.vd_core.specs.declared.normal.Right.{Right}
 use Rattle.vd_core.specs.declared.normal.Right.TheVariants.{Lit, Turn, Copy, Apply, Input, Declassify, Endorse, Load, Get}
 use Rattle.vd_core.specs.Facts.{Sight, right_sees}
@@ -17,7 +17,7 @@ use Rattle.vd_choreography.specs.Suite.{Word, Made, Suite, Operand, Ready, Laws,
 use Rattle.vd_choreography.specs.Emission.{Emitting, right_made}
 use Rattle.vd_choreography.specs.Validity.{RightFits, RightPlaced, Reaches}
 use Rattle.vd_choreography.proofs.Front.{and_left, and_right, Binding, Sees, Unchanging, Tied, Between, between_of, ready_past, operand_past, Movable, all_past, picked_join, Done, Turning, operand_of, movables, right_done}
-use Rattle.vd_noninter_assigned.specs.Hearing.{has_clear, word_if, comes, comes_alone, index_comes, right_heard}
+use Rattle.vd_noninter_assigned.specs.Hearing.{word_if, comes, comes_alone, index_comes, right_heard}
 use Rattle.vd_noninter_registers.specs.Telling.{given_word, operands_told, delivered_told, right_told}
 use Rattle.vd_noninter_registers.proofs.Hosts.{same_turned, comes_clear, kept_at, as_often, picked_once}
 use Rattle.vd_noninter_registers.proofs.Takers.{below}

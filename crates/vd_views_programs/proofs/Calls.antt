@@ -8,7 +8,7 @@ use Rattle.vd_base.specs.declared.protocols.Proto.{Proto}
 use Rattle.vd_base.specs.declared.protocols.Proto.TheVariants.{Local, Rep, Commit, Add, Xor}
 use Rattle.vd_base.specs.declared.rows.Row.TheVariants.{Variable as VariableRow}
 use Rattle.vd_base.specs.HostSets.{host}
-use Rattle.vd_base.specs.Holders.{is_holder, proto_in, same_protocol}
+use Rattle.vd_base.specs.Holders.{has_clear, is_alone, is_holder, proto_in, same_protocol}
 use Rattle.vd_base.proofs.Front.{same_is}
 use Rattle.vd_core.specs.declared.normal.Right.{Right}
 use Rattle.vd_core.specs.declared.normal.Right.TheVariants.{Lit, Turn, Copy, Apply, Input, Declassify, Endorse, Load, Get}
@@ -29,7 +29,7 @@ use Rattle.vd_backend_laws.specs.Machine.{machine}
 use Rattle.vd_backend_laws.specs.Parts.{Parts, has_back_end, suite_calls}
 use Rattle.vd_backend_laws.specs.Suite.{IsOver, stands as slot_stands, suite}
 use Rattle.vd_backend_laws.proofs.Front.{holder_at}
-use Rattle.vd_noninter_assigned.specs.Hearing.{has_clear, is_alone, stands, comes, comes_alone, index_comes}
+use Rattle.vd_noninter_assigned.specs.Hearing.{stands, comes, comes_alone, index_comes}
 use Rattle.vd_noninter_registers.proofs.Front.{kept_at, in_clear}
 use Rattle.vd_views_backends.specs.Sides.{AreKin, after, Telling, Each as EachOf, HasClear}
 use Rattle.vd_views_backends.proofs.Front.{telling_quiet, telling_on, literal_quiet, apply_quiet, keep_quiet, turn_quiet, input_quiet, get_quiet, move_tells}

@@ -7,7 +7,7 @@ use Rattle.vd_base.specs.declared.ids.SlotId.{SlotId}
 use Rattle.vd_base.specs.declared.protocols.Proto.{Proto}
 use Rattle.vd_base.specs.declared.protocols.Proto.TheVariants.{Local, Rep, Commit, Add, Xor}
 use Rattle.vd_base.specs.HostSets.{host, same_host}
-use Rattle.vd_base.specs.Holders.{is_holder, proto_in, same_protocol}
+use Rattle.vd_base.specs.Holders.{has_clear, is_holder, proto_in, same_protocol}
 use Rattle.vd_core.specs.declared.normal.Right.{Right}
 use Rattle.vd_core.specs.declared.normal.Right.TheVariants.{Lit, Turn, Copy, Apply, Input, Declassify, Endorse, Load, Get}
 use Rattle.vd_constraints.specs.declared.labels.Labels.{Labels}
@@ -18,7 +18,7 @@ use Rattle.vd_choreography.specs.Block.{Block, End, Let, NewVar, NewArray, Store
 use Rattle.vd_choreography.specs.Emission.{Emission, right_takes_part, in_turn, stmt_emission}
 use Rattle.vd_choreography.proofs.Front.{and_left, and_right, or_none_left, or_none_right}
 use Rattle.vd_backend_laws.specs.Parts.{suite_calls}
-use Rattle.vd_noninter_assigned.specs.Hearing.{Heard, run_of, has_clear, word_if, comes, comes_alone, index_comes, right_heard, heard_in_order, heard_in_turns, heard_step}
+use Rattle.vd_noninter_assigned.specs.Hearing.{Heard, run_of, word_if, comes, comes_alone, index_comes, right_heard, heard_in_order, heard_in_turns, heard_step}
 use Rattle.vd_noninter_registers.proofs.Front.{same_turned, kept_at, below, part_is}
 use Rattle.vd_views_programs.proofs.Calls.{item}
 
