@@ -54,7 +54,7 @@ pub record Calls (A P : Type 0) : Type 0 where
   pub get : Proto → P → List (ℕ × ℕ) → List ℕ → Made A P
   pub put : Proto → P → List (ℕ × ℕ) → P → List A
 
--- the hosts of a protocol, in order
+-- the hosts of a protocol among the suite's: those that pass `is_holder`, in the order of numbers, where `holders` goes by parts
 abbrev pub hosts_of : {A P : Type 0} → Calls A P → Proto → List HostId
 hosts_of s p = picked 0 s.hosts (λ h. is_holder p (host h))
 

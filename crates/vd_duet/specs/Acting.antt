@@ -27,7 +27,7 @@ acts_in h (Paired p q) = is_either h p.host q.host
 abbrev pub acts_at : List Gadget → ℕ → Bool
 acts_at gadgets h = list_any (acts_in h) gadgets
 
--- it is one of these hosts
+-- it is one of these hosts; of hosts below 8, those among the `holders` of a protocol are those that pass `is_holder`
 abbrev pub is_among : List HostId → ℕ → Bool
 is_among hosts h = list_any (λ k. nat_eq h k.0) hosts
 

@@ -29,7 +29,7 @@ pub record IsOver (names : ℕ) (label : Label) : Type 0 where
 abbrev pub AreOverSameNames : List Label → Type 0
 AreOverSameNames hosts = All (IsOver (names_of hosts)) hosts
 
--- the hosts of a protocol are among the first n
+-- the hosts of a protocol are among the first n: of copies the whole number of the set counts, where `holders` has the hosts below 8
 abbrev pub HasHosts : ℕ → Proto → Type 0
 HasHosts n (Local h) = h.0 < n
 HasHosts n (Rep set) = set.bits < 2 ^ n
