@@ -30,8 +30,8 @@ use Rattle.vd_search.specs.Answers.{nat_or_zero}
 use Rattle.vd_search_stages.specs.Choices.{ChoiceOutcomes, IsChosen, needed}
 use Rattle.vd_search_stages.specs.Confirming.{confirmed}
 use Rattle.vd_search_stages.specs.Optimum.{assigned, assignment_of}
-use Rattle.vd_search_stages.specs.declared.selecting.SelectFault.{SelectFault}
-use Rattle.vd_search_stages.specs.declared.selecting.SelectFault.TheVariants as select_fault
+use Rattle.vd_search.specs.declared.writing.SearchFault.{SearchFault}
+use Rattle.vd_search.specs.declared.writing.SearchFault.TheVariants as search_fault
 use Rattle.vd_space.specs.declared.problem.Problem.{Problem}
 use Rattle.vd_space.specs.Costs.{cost}
 use Rattle.vd_space.specs.Reading.{problem_of}
@@ -63,21 +63,21 @@ use Rattle.vd_cmd_choice_laws.proofs.Sources.{labels_are, labels_never, made_of,
 -- ---- what a search answered
 
 module _ (budget : ℕ) (program : NormalForm) where
-  searched_never : (said : Result (List ℕ) SelectFault) → NeverEnds (as_searched budget program said)
+  searched_never : (said : Result (List ℕ) SearchFault) → NeverEnds (as_searched budget program said)
   searched_never (Ok bytes) status is ended = cc is
-  searched_never (Err select_fault.Spent) status is ended = let wrong : Spent budget program ≡ Ended = same_status _ _ is ∙ ended in cc wrong
-  searched_never (Err select_fault.Memory) status is ended = let wrong : Memory ≡ Ended = same_status _ _ is ∙ ended in cc wrong
+  searched_never (Err search_fault.Spent) status is ended = let wrong : Spent budget program ≡ Ended = same_status _ _ is ∙ ended in cc wrong
+  searched_never (Err search_fault.Memory) status is ended = let wrong : Memory ≡ Ended = same_status _ _ is ∙ ended in cc wrong
 
-  searched_gave : (said : Result (List ℕ) SelectFault) (bytes : List ℕ) → as_searched budget program said ≡ Ok bytes → said ≡ Ok bytes
+  searched_gave : (said : Result (List ℕ) SearchFault) (bytes : List ℕ) → as_searched budget program said ≡ Ok bytes → said ≡ Ok bytes
   searched_gave (Ok given) bytes is = let same : given ≡ bytes = cc is in ap (λ (l : List ℕ). Ok l) same
-  searched_gave (Err select_fault.Spent) bytes is = absurd (cc is)
-  searched_gave (Err select_fault.Memory) bytes is = absurd (cc is)
+  searched_gave (Err search_fault.Spent) bytes is = absurd (cc is)
+  searched_gave (Err search_fault.Memory) bytes is = absurd (cc is)
 
-gave_nothing : (b : Bool) (bytes : List ℕ) → ◌≡◌ {A = Result (List ℕ) SelectFault} (if b then Err select_fault.Spent else Err select_fault.Memory) (Ok bytes) → ⊥
+gave_nothing : (b : Bool) (bytes : List ℕ) → ◌≡◌ {A = Result (List ℕ) SearchFault} (if b then Err search_fault.Spent else Err search_fault.Memory) (Ok bytes) → ⊥
 gave_nothing true bytes is = cc is
 gave_nothing false bytes is = cc is
 
-gave : (b : Bool) (given bytes : List ℕ) → ◌≡◌ {A = Result (List ℕ) SelectFault} (if b then Ok given else Err select_fault.Memory) (Ok bytes) → (b ≡ true) × (given ≡ bytes)
+gave : (b : Bool) (given bytes : List ℕ) → ◌≡◌ {A = Result (List ℕ) SearchFault} (if b then Ok given else Err search_fault.Memory) (Ok bytes) → (b ≡ true) × (given ≡ bytes)
 gave true given bytes is = (refl, cc is)
 gave false given bytes is = absurd (cc is)
 

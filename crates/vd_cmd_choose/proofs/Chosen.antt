@@ -22,7 +22,7 @@ use Rattle.vd_search_stages.specs.Selecting.{IsAccepted, IsOver}
 use Rattle.vd_search_stages.specs.Optimum.{IsOptimum, assigned}
 use Rattle.vd_search_stages.specs.declared.optimum.Assignment.{Assignment}
 use Rattle.vd_search_stages.specs.declared.optimum.Optimum.{Optimum}
-use Rattle.vd_search_stages.specs.declared.selecting.SelectFault.TheVariants as select_fault
+use Rattle.vd_search.specs.declared.writing.SearchFault.TheVariants as search_fault
 use Rattle.vd_search_stages.proofs.Front.{spent_needs, chosen_once}
 use Rattle.vd_cmd_plan.specs.Plans.{Executes}
 use Rattle.vd_cmd_plan.specs.declared.status.Status.TheVariants.{Memory, Spent}
@@ -40,7 +40,7 @@ reads_back certificates problem budget c is = outcome_once (text_of c) (Ok c) (c
 accepted : (certificates : CertificateOutcomes) (choices : ChoiceOutcomes) (problem : Problem) (budget : ℕ) (c : Certificate) → IsAccepted problem budget c → searched_by certificates choices (Certified (text_of c)) problem budget ≡ Ok (text_of c)
 accepted certificates choices problem budget c is =
     let yes : is_accepted problem budget (Ok c) ≡ true = and_from (is_ok (confirmed problem c)) (nat_le (count_of is_expanded c.marks) budget) (ap is_ok is.accepted) (le-leb _ _ is.within) in
-    cond-true (is_accepted problem budget (certificates.read (text_of c))) (Ok (text_of c)) (Err select_fault.Memory) (ap (is_accepted problem budget) (reads_back certificates problem budget c is) ∙ yes)
+    cond-true (is_accepted problem budget (certificates.read (text_of c))) (Ok (text_of c)) (Err search_fault.Memory) (ap (is_accepted problem budget) (reads_back certificates problem budget c is) ∙ yes)
 
 -- what was found, where this is the certificate
 abbrev pub given : NormalForm → Labels → Option Assignment → Certificate → Choice
@@ -88,8 +88,8 @@ module _ (program : NormalForm) (l : Labels) (budget : ℕ) where
   spent holds over = (
     GaveUp,
     λ certificates choices files rest.
-        let is : searched_by certificates choices GaveUp problem budget ≡ Err select_fault.Spent =
-        cond-true (nat_lt budget (needed problem (choices.choose problem))) (Err select_fault.Spent) (Err select_fault.Memory)
+        let is : searched_by certificates choices GaveUp problem budget ≡ Err search_fault.Spent =
+        cond-true (nat_lt budget (needed problem (choices.choose problem))) (Err search_fault.Spent) (Err search_fault.Memory)
         (lt-ltb _ _ (spent_needs problem holds budget (choices.choose problem) over (choices.choose_is problem)))
         in
         check_step (as_searched budget program (searched_by certificates choices GaveUp problem budget)) files (Err (Spent budget program))

@@ -8,8 +8,8 @@ use Rattle.vd_space.specs.declared.problem.Problem.{Problem}
 use Rattle.vd_space.specs.Reading.{problem_of}
 use Rattle.vd_search_stages.specs.Choices.{ChoiceOutcomes, needed}
 use Rattle.vd_search_stages.specs.declared.optimum.Assignment.{Assignment}
-use Rattle.vd_search_stages.specs.declared.selecting.SelectFault.{SelectFault}
-use Rattle.vd_search_stages.specs.declared.selecting.SelectFault.TheVariants as select_fault
+use Rattle.vd_search.specs.declared.writing.SearchFault.{SearchFault}
+use Rattle.vd_search.specs.declared.writing.SearchFault.TheVariants as search_fault
 use Rattle.vd_cmd_plan.specs.Plans.{Computes, Executes, Plan, check_then}
 use Rattle.vd_cmd_plan.specs.declared.answer.Answer.{Answer}
 use Rattle.vd_cmd_plan.specs.declared.status.Status.{Status}
@@ -85,32 +85,32 @@ module _ (program : NormalForm) (budget : ℕ) (certificates : CertificateOutcom
     abbrev problem : Problem
     problem = problem_of program l
 
-    abbrev after : Result (List ℕ) SelectFault → Plan
+    abbrev after : Result (List ℕ) SearchFault → Plan
     after answer = check_then (as_searched budget program answer) (λ bytes. rest (chosen_by choices program l bytes)) files
 
     status_after : (bytes : List ℕ) → (after (Ok bytes)).answer.status ≡ (rest (chosen_by choices program l bytes) files).answer.status
     unfolding check_then
     status_after bytes = refl
 
-    spent_after : (after (Err select_fault.Spent)).answer.status ≡ Spent budget program
+    spent_after : (after (Err search_fault.Spent)).answer.status ≡ Spent budget program
     unfolding check_then
     spent_after = refl
 
-    memory_after : (after (Err select_fault.Memory)).answer.status ≡ Memory
+    memory_after : (after (Err search_fault.Memory)).answer.status ≡ Memory
     unfolding check_then
     memory_after = refl
 
     found_follows : GoesByChoice → (sure bytes : List ℕ) → Follows (after (Ok sure)) (after (Ok bytes))
     found_follows same sure bytes e = inl (status_after bytes ∙ same l bytes sure ∙ sym (status_after sure) ∙ e)
 
-    memory_follows : (sure : Plan) → Follows sure (after (Err select_fault.Memory))
+    memory_follows : (sure : Plan) → Follows sure (after (Err search_fault.Memory))
     memory_follows sure e = inr memory_after
 
-    spent_follows : (over : Bool) → Follows (after (if over then Err select_fault.Spent else Ok [])) (after (if over then Err select_fault.Spent else Err select_fault.Memory))
+    spent_follows : (over : Bool) → Follows (after (if over then Err search_fault.Spent else Ok [])) (after (if over then Err search_fault.Spent else Err search_fault.Memory))
     spent_follows true e = inl e
     spent_follows false e = memory_follows (after (Ok [])) e
 
-    accepted_follows : GoesByChoice → (over passes : Bool) (bytes : List ℕ) → Follows (after (if over then Err select_fault.Spent else Ok [])) (after (if passes then Ok bytes else Err select_fault.Memory))
+    accepted_follows : GoesByChoice → (over passes : Bool) (bytes : List ℕ) → Follows (after (if over then Err search_fault.Spent else Ok [])) (after (if passes then Ok bytes else Err search_fault.Memory))
     accepted_follows same true passes bytes e = let is : Spent budget program ≡ Ended = sym spent_after ∙ e in absurd (cc is)
     accepted_follows same false true bytes e = found_follows same [] bytes e
     accepted_follows same false false bytes e = memory_follows (after (Ok [])) e

@@ -13,8 +13,8 @@ use Rattle.vd_space_optimum.specs.Cheapest.{IsAssignment, IsCheapest}
 use Rattle.vd_search_stages.specs.Choices.{ChoiceOutcomes}
 use Rattle.vd_search_stages.specs.Optimum.{assigned, assignment_of}
 use Rattle.vd_search_stages.specs.declared.optimum.Assignment.{Assignment}
-use Rattle.vd_search_stages.specs.declared.selecting.SelectFault.{SelectFault}
-use Rattle.vd_search_stages.specs.declared.selecting.SelectFault.TheVariants as select_fault
+use Rattle.vd_search.specs.declared.writing.SearchFault.{SearchFault}
+use Rattle.vd_search.specs.declared.writing.SearchFault.TheVariants as search_fault
 use Rattle.vd_cmd_plan.specs.Plans.{ExecutesStep, Plan, check_then, file_then}
 use Rattle.vd_cmd_plan.specs.declared.answer.Answer.{Answer}
 use Rattle.vd_cmd_plan.specs.declared.status.Status.{Status}
@@ -51,10 +51,10 @@ abbrev pub chosen_by : ChoiceOutcomes → NormalForm → Labels → List ℕ →
 chosen_by choices program l bytes = record { program = program; labels = l; assignment = assignment_of choices (problem_of program l); certificate = bytes }
 
 -- what a search with this budget for a program came to: where the budget is spent, the status carries the program
-abbrev pub as_searched : (budget : ℕ) → NormalForm → Result (List ℕ) SelectFault → Result (List ℕ) Status
+abbrev pub as_searched : (budget : ℕ) → NormalForm → Result (List ℕ) SearchFault → Result (List ℕ) Status
 as_searched budget program (Ok bytes) = Ok bytes
-as_searched budget program (Err select_fault.Spent) = Err (Spent budget program)
-as_searched budget program (Err select_fault.Memory) = Err Memory
+as_searched budget program (Err search_fault.Spent) = Err (Spent budget program)
+as_searched budget program (Err search_fault.Memory) = Err Memory
 
 -- search with a budget under these labels of a program, and go on with what is found
 abbrev pub search_then : ChoiceOutcomes → Search → (budget : ℕ) → NormalForm → Labels → (Chosen → Contents → Plan) → Contents → Plan

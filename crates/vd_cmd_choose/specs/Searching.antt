@@ -5,8 +5,8 @@ use Rattle.vd_bound.specs.Marks.{count_of, is_expanded}
 use Rattle.vd_space.specs.declared.problem.Problem.{Problem}
 use Rattle.vd_search_stages.specs.Choices.{ChoiceOutcomes, needed}
 use Rattle.vd_search_stages.specs.Confirming.{confirmed}
-use Rattle.vd_search_stages.specs.declared.selecting.SelectFault.{SelectFault}
-use Rattle.vd_search_stages.specs.declared.selecting.SelectFault.TheVariants.{Memory, Spent}
+use Rattle.vd_search.specs.declared.writing.SearchFault.{SearchFault}
+use Rattle.vd_search.specs.declared.writing.SearchFault.TheVariants.{Memory, Spent}
 use Rattle.vd_cmd_choose.specs.Outcomes.{CertificateOutcomes}
 
 -- What the rules leave to the search: whether its budget is spent, and which certificate it stores.
@@ -22,17 +22,17 @@ is_accepted problem budget (Err offset) = false
 -- The bytes of the certificate of a problem, or why the search gives up: that its budget is spent comes only where the
 -- budget may not do. What a search may not answer counts as running out of memory, so no run but one that is out of memory
 -- comes to it.
-abbrev pub searched_by : CertificateOutcomes → ChoiceOutcomes → Searched → Problem → ℕ → Result (List ℕ) SelectFault
+abbrev pub searched_by : CertificateOutcomes → ChoiceOutcomes → Searched → Problem → ℕ → Result (List ℕ) SearchFault
 searched_by certificates choices GaveUp problem budget = if nat_lt budget (needed problem (choices.choose problem)) then Err Spent else Err Memory
 searched_by certificates choices (Certified bytes) problem budget = if is_accepted problem budget (certificates.read bytes) then Ok bytes else Err Memory
 
 -- a search that gives up wherever it may
-abbrev pub sure_search : ChoiceOutcomes → Problem → ℕ → Result (List ℕ) SelectFault
+abbrev pub sure_search : ChoiceOutcomes → Problem → ℕ → Result (List ℕ) SearchFault
 sure_search choices problem budget = if nat_lt budget (needed problem (choices.choose problem)) then Err Spent else Ok []
 
 -- how a problem is searched with a budget
 abbrev pub Search : Type 0
-Search = Problem → ℕ → Result (List ℕ) SelectFault
+Search = Problem → ℕ → Result (List ℕ) SearchFault
 
 -- some answer of the search, with which this holds of all functions that pick outcomes
 abbrev pub SomeSearch : (ChoiceOutcomes → Search → Type 0) → Type 0

@@ -17,8 +17,9 @@ use vd_cmd_plan::{Answer, Status, load};
 use vd_constraints::Labels;
 use vd_core::Program;
 use vd_outside::Files;
+use vd_search::SearchFault;
 use vd_search_certificate::Certificate;
-use vd_search_stages::{Assignment, SelectFault, Sweeps, select};
+use vd_search_stages::{Assignment, Sweeps, select};
 use vd_space_api::Space;
 
 /// What the search for protocols came to.
@@ -61,8 +62,8 @@ fn choice_under(
             assignment: optimum.assignment,
             certificate: optimum.certificate,
         }),
-        Err(SelectFault::Spent) => Err(Status::Spent(budget, program)),
-        Err(SelectFault::Memory) => Err(Status::Memory),
+        Err(SearchFault::Spent) => Err(Status::Spent(budget, program)),
+        Err(SearchFault::Memory) => Err(Status::Memory),
     }
 }
 

@@ -14,7 +14,7 @@ use Rattle.vd_space.specs.Reading.{problem_of}
 use Rattle.vd_search_stages.specs.Choices.{ChoiceOutcomes, needed}
 use Rattle.vd_search_stages.specs.Optimum.{assignment_of}
 use Rattle.vd_search_stages.specs.declared.optimum.Assignment.{Assignment}
-use Rattle.vd_search_stages.specs.declared.selecting.SelectFault.TheVariants as select_fault
+use Rattle.vd_search.specs.declared.writing.SearchFault.TheVariants as search_fault
 use Rattle.vd_search_stages.proofs.Front.{some_choices}
 use Rattle.vd_cmd_plan.specs.Plans.{Plan, Executes, check_then, answer_then}
 use Rattle.vd_cmd_plan.specs.declared.answer.Answer.{Answer}
@@ -56,11 +56,11 @@ labels_end least program (Ok labels) = tt
 labels_end least program (Err number) = tt
 
 module _ (program : NormalForm) (budget : ℕ) where
-  spent_ends : (over : Bool) → IfErr (as_searched budget program (if over then Err select_fault.Spent else Err select_fault.Memory)) EndsTrial
+  spent_ends : (over : Bool) → IfErr (as_searched budget program (if over then Err search_fault.Spent else Err search_fault.Memory)) EndsTrial
   spent_ends true = tt
   spent_ends false = tt
 
-  accepted_ends : (bytes : List ℕ) (passes : Bool) → IfErr (as_searched budget program (if passes then Ok bytes else Err select_fault.Memory)) EndsTrial
+  accepted_ends : (bytes : List ℕ) (passes : Bool) → IfErr (as_searched budget program (if passes then Ok bytes else Err search_fault.Memory)) EndsTrial
   accepted_ends bytes true = tt
   accepted_ends bytes false = tt
 

@@ -4,13 +4,13 @@ ghost use Rattle.std.specs.Prelude.{◌≡◌, ◌<◌, suc, pos, [], IfOk, IsEr
 ghost use Rattle.std.specs.List.{All};
 ghost use Rattle.vd_search_tree.specs.Trees.{AtLeast};
 ghost use Rattle.vd_search.specs.Answers.{Answers};
-ghost use Rattle.vd_search.specs.declared.writing.Stop.TheVariants.{Spent};
+ghost use Rattle.vd_search.specs.declared.writing.SearchFault.TheVariants.{Spent};
 ghost use Rattle.vd_search_nogoods.specs.Untied.{WhySpent, is_at_cost};
 
 use crate::untied::Untied;
 use std::alloc::Global;
 use vd_base_lists::Items;
-use vd_search::{Answer, Stop, search};
+use vd_search::{Answer, SearchFault, search};
 use vd_search_tree::Prefixes;
 
 /// The choice of a tree, or that there is none, where ties are broken by prefixes that begin no list of that cost. The search
@@ -21,7 +21,7 @@ pub fn search_untied<P: Prefixes + Drop>(
     passed: Items<Items<u32>>,
     most: u32,
     budget: u32,
-) -> Result<Answer, Stop>
+) -> Result<Answer, SearchFault>
     requires root { P.path prefix ≡ [] }
     requires passed { All (AtLeast (P.tree prefix) (pos (suc most))) passed }
     requires budget { budget < 4294967295 }
@@ -31,7 +31,7 @@ pub fn search_untied<P: Prefixes + Drop>(
     let mut untied = Untied::new(alloc, prefix, most, passed)?;
     let answer = search(alloc, &mut untied, budget)?;
     if !is_at_cost(&answer, most) {
-        return Err(Stop::Spent);
+        return Err(SearchFault::Spent);
     }
     Ok(answer)
 }

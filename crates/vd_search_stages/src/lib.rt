@@ -16,4 +16,3 @@ pub use ascents::{ArcAscent, Ascents, Sweeps};
 pub use confirming::confirm;
 pub use laws::problems_have_one_choice;
 pub use optimum::{Assignment, Optimum, select};
-pub use selecting::SelectFault;

@@ -8,11 +8,11 @@ ghost use Rattle.vd_search_stages.specs.Network.{CanUseArcs, CanSelectByArcs, Ha
 ghost use Rattle.vd_search_stages.specs.Selecting.{CostsAtLeast, Selects};
 ghost use Rattle.vd_search_stages.specs.Spending.{GivesOnly, HasNoRootBound, IfUnended, IsOverBy, IsOverByArcs, IsRootBound, IsSpentByArcs, network_part};
 ghost use Rattle.vd_search_stages.specs.Stages.{CanSelect, Tries};
-ghost use Rattle.vd_search_stages.specs.declared.selecting.SelectFault.TheVariants as select_fault;
+ghost use Rattle.vd_search.specs.declared.writing.SearchFault.TheVariants as search_fault;
 ghost use Rattle.vd_space.specs.WellFormed.{IsWellFormed};
 
 use crate::ascents::{ArcAscent, Ascents};
-use crate::selecting::{SelectFault, Selection};
+use crate::selecting::Selection;
 use crate::stages::{network_budget, try_some};
 use crate::trying::Tried;
 use crate::walking::select_by_walk;
@@ -21,7 +21,7 @@ use vd_base_lists::Items;
 use vd_cost_network_ascent::Ascent;
 use vd_cost_network_prefix::{NetworkPath, NetworkTables};
 use vd_cost_network_tables::network_tables;
-use vd_search::{Answer, Stop, search};
+use vd_search::{Answer, SearchFault, search};
 use vd_search_certificate::{Certificate, Mark};
 use vd_search_tree::{Prefixes, Shift};
 use vd_space::Problem;
@@ -75,12 +75,12 @@ fn select_by_arcs(
     tables: &Tables,
     by_arcs: &NetworkTables,
     budget: u32,
-) -> Result<Option<Selection>, SelectFault>
+) -> Result<Option<Selection>, SearchFault>
     requires tables { CanSelectByArcs problem.now tables.now by_arcs.now }
     requires budget { budget < 4294967295 }
     ensures selects { IfOk result (λ found. IfSome found (Selects problem.now budget)) }
     ensures over { IfOk result (λ found. IfNone found (IsOverByArcs problem.now by_arcs.now.shifts budget)) }
-    ensures unspent { result ≢ Err select_fault.Spent }
+    ensures unspent { result ≢ Err search_fault.Spent }
 {
     let mut path = NetworkPath::new(alloc, problem, tables, by_arcs)?;
     match search(alloc, &mut path, budget) {
@@ -88,8 +88,8 @@ fn select_by_arcs(
             let selection = network_selection(alloc, by_arcs, answer)?;
             Ok(Some(selection))
         }
-        Err(Stop::Spent) => Ok(None),
-        Err(Stop::Memory) => Err(SelectFault::Memory),
+        Err(SearchFault::Spent) => Ok(None),
+        Err(SearchFault::Memory) => Err(SearchFault::Memory),
     }
 }
 
@@ -104,14 +104,14 @@ fn select_network<A: Ascents>(
     by_arcs: &NetworkTables,
     ascent: Ascent,
     budget: u32,
-) -> Result<Option<Selection>, SelectFault>
+) -> Result<Option<Selection>, SearchFault>
     requires tables { CanSelectByArcs problem.now tables.now by_arcs.now }
     requires without { AreNetworkTables problem.now without.now }
     requires budget { budget < 4294967295 }
     ensures selects { IfOk result (λ found. IfSome found (Selects problem.now budget)) }
     ensures spent { IfOk result (λ found. IfNone found
         (IsSpentByArcs problem.now budget (A.walks_give ascents.now problem.now) by_arcs.now.shifts)) }
-    ensures unspent { result ≢ Err select_fault.Spent }
+    ensures unspent { result ≢ Err search_fault.Spent }
 {
     match select_by_arcs(alloc, problem, tables, by_arcs, budget)? {
         Some(selection) => Ok(Some(selection)),
@@ -167,7 +167,7 @@ fn try_network<A: Ascents>(
     by_arcs: &NetworkTables,
     ascent: Ascent,
     budget: u32,
-) -> Result<Tried, SelectFault>
+) -> Result<Tried, SearchFault>
     requires better { IfSome better.now (CanSelect problem.now) }
     requires without { AreNetworkTables problem.now without.now }
     requires by_arcs { CanUseArcs problem.now by_arcs.now }
@@ -176,7 +176,7 @@ fn try_network<A: Ascents>(
     ensures over { IfOk result (IfUnended (IsOverBy problem.now better.now budget)) }
     ensures spent { IfOk result (IfUnended
         (IsSpentByArcs problem.now (network_part problem.now budget) (A.walks_give ascents.now problem.now) by_arcs.now.shifts)) }
-    ensures unspent { result ≢ Err select_fault.Spent }
+    ensures unspent { result ≢ Err search_fault.Spent }
 {
     let tables = tables(alloc, problem, Items::new(alloc))?;
     let floor = floor_by_arcs(alloc, problem, &tables, by_arcs)?;
@@ -216,7 +216,7 @@ fn try_ascent<A: Ascents>(
     without: &NetworkTables,
     found: ArcAscent,
     budget: u32,
-) -> Result<Tried, SelectFault>
+) -> Result<Tried, SearchFault>
     requires better { IfSome better.now (CanSelect problem.now) }
     requires without { AreNetworkTables problem.now without.now }
     requires shifts { HasArcShifts problem.now found.shifts }
@@ -225,7 +225,7 @@ fn try_ascent<A: Ascents>(
     ensures over { IfOk result (IfUnended (IsOverBy problem.now better.now budget)) }
     ensures spent { IfOk result (IfUnended
         (IsSpentByArcs problem.now (network_part problem.now budget) (A.walks_give ascents.now problem.now) found.shifts)) }
-    ensures unspent { result ≢ Err select_fault.Spent }
+    ensures unspent { result ≢ Err search_fault.Spent }
 {
     let ArcAscent { ascent, shifts } = found;
     let by_arcs = tables_of(alloc, problem, shifts)?;
@@ -242,7 +242,7 @@ pub(crate) fn try_arcs<A: Ascents>(
     problem: &Problem,
     better: &Option<Tables>,
     budget: u32,
-) -> Result<Tried, SelectFault>
+) -> Result<Tried, SearchFault>
     requires well_formed { IsWellFormed problem.now }
     requires better { IfSome better.now (CanSelect problem.now) }
     requires budget { budget < 4294967295 }
@@ -250,7 +250,7 @@ pub(crate) fn try_arcs<A: Ascents>(
     ensures over { IfOk result (IfUnended (IsOverBy problem.now better.now budget)) }
     ensures arcs { IfOk result (IfUnended (GivesOnly (A.arcs_give ascents.now problem.now)
         (IsSpentByArcs problem.now (network_part problem.now budget) (A.walks_give ascents.now problem.now)))) }
-    ensures unspent { result ≢ Err select_fault.Spent }
+    ensures unspent { result ≢ Err search_fault.Spent }
 {
     let without = network_tables(alloc, problem, Items::new(alloc))?;
     match ascents.over_arcs(alloc, problem, &without)? {

@@ -4,18 +4,19 @@ ghost use Rattle.std.specs.Prelude.{◌≡◌, ◌<◌, IfOk, Err, map};
 ghost use Rattle.vd_search_stages.specs.Optimum.{IsOptimum, optimum_of as optimum_at};
 ghost use Rattle.vd_search_stages.specs.Selecting.{IsOver};
 ghost use Rattle.vd_search_stages.specs.Spending.{IsSpent};
-ghost use Rattle.vd_search_stages.specs.declared.selecting.SelectFault.TheVariants as select_fault;
+ghost use Rattle.vd_search.specs.declared.writing.SearchFault.TheVariants as search_fault;
 ghost use Rattle.vd_space.specs.Labelled.{IsLabelled};
 ghost use Rattle.vd_space.specs.Usual.{usual as usual_shifts};
 ghost use Rattle.vd_space.specs.Validity.{protocol};
 ghost use Rattle.vd_space.specs.WellFormed.{IsWellFormed};
 
 use crate::ascents::Ascents;
-use crate::selecting::{SelectFault, Selection};
+use crate::selecting::Selection;
 use crate::stages::select_places;
 use std::alloc::{AllocError, Global};
 use vd_base::{Proto, protocol_at};
 use vd_base_lists::Items;
+use vd_search::SearchFault;
 use vd_search_certificate::Certificate;
 use vd_space::Problem;
 use vd_space_tables::all_protocols;
@@ -81,12 +82,12 @@ pub fn select<A: Ascents>(
     ascents: &A,
     problem: &Problem,
     budget: u32,
-) -> Result<Optimum, SelectFault>
+) -> Result<Optimum, SearchFault>
     requires well_formed { IsWellFormed problem.now }
     requires budget { budget < 4294967295 }
     ensures selects { IfOk result (IsOptimum problem.now budget) }
-    ensures spent { result ≡ Err select_fault.Spent → IsOver problem.now (usual_shifts problem.now) budget }
-    ensures stages { result ≡ Err select_fault.Spent →
+    ensures spent { result ≡ Err search_fault.Spent → IsOver problem.now (usual_shifts problem.now) budget }
+    ensures stages { result ≡ Err search_fault.Spent →
         IsSpent problem.now budget (A.uses_give ascents.now problem.now) (A.arcs_give ascents.now problem.now)
         (A.walks_give ascents.now problem.now) }
 {

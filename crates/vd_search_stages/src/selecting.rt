@@ -6,16 +6,14 @@ ghost use Rattle.vd_base.specs.Limits.{most_certificate_shifts};
 ghost use Rattle.vd_space_prefix.specs.Tables.{AreTables};
 ghost use Rattle.vd_search_stages.specs.Naming.{NamesUse};
 ghost use Rattle.vd_search_stages.specs.Selecting.{CostsAtLeast, IsOver, Selects};
-ghost use Rattle.vd_search_stages.specs.declared.selecting.SelectFault.TheVariants as select_fault;
+ghost use Rattle.vd_search.specs.declared.writing.SearchFault.TheVariants as search_fault;
 ghost use Rattle.vd_space.specs.Usual.{usual as usual_shifts};
 ghost use Rattle.vd_space.specs.WellFormed.{IsWellFormed};
 ghost use Rattle.vd_search_stages.specs.Stages.{CanSelect};
 
 use std::alloc::{AllocError, Global};
-use std::error::Error;
-use std::fmt;
 use vd_base_lists::Items;
-use vd_search::{Answer, Stop, search_above};
+use vd_search::{Answer, SearchFault, search_above};
 use vd_search_budget::is_exceeded;
 use vd_search_certificate::{Certificate, Mark};
 use vd_space::Problem;
@@ -30,34 +28,6 @@ pub(crate) enum Selection {
     Found(Items<u32>, u32, Certificate),
     /// No list of protocols is valid, as the certificate shows.
     NoAssignment(Certificate),
-}
-
-/// Why there is no selection.
-#[derive(Clone, Copy, PartialEq, Eq, Debug)]
-pub enum SelectFault {
-    /// The search must open more prefixes than the budget allows.
-    Spent,
-    /// There was no memory left.
-    Memory,
-}
-
-impl fmt::Display for SelectFault {
-    fn fmt<W: fmt::Write>(&self, f: &mut fmt::Formatter<W>) -> fmt::Result {
-        match self {
-            SelectFault::Spent => write!(f, "the budget is spent"),
-            SelectFault::Memory => write!(f, "out of memory"),
-        }
-    }
-}
-
-impl Error for SelectFault {}
-
-impl From<AllocError> for SelectFault {
-    ghost from_gives = { λ _ fault. fault ≡ select_fault.Memory };
-
-    fn from(_: AllocError) -> Self {
-        SelectFault::Memory
-    }
 }
 
 /// Whether it is seen in few steps that the budget does not do by the tables of shifts, where each valid list costs at least the
@@ -88,15 +58,15 @@ pub(crate) fn select_by(
     tables: &Tables,
     floor: u32,
     budget: u32,
-) -> Result<Selection, SelectFault>
+) -> Result<Selection, SearchFault>
     requires tables { CanSelect problem.now tables.now }
     requires floor { CostsAtLeast problem.now floor }
     requires budget { budget < 4294967295 }
     ensures selects { IfOk result (Selects problem.now budget) }
-    ensures spent { result ≡ Err select_fault.Spent → IsOver problem.now tables.now.shifts budget }
+    ensures spent { result ≡ Err search_fault.Spent → IsOver problem.now tables.now.shifts budget }
 {
     if is_over(alloc, problem, tables, floor, budget)? {
-        return Err(SelectFault::Spent);
+        return Err(SearchFault::Spent);
     }
     let mut path = Path::new(alloc, problem, tables)?;
     match search_above(alloc, &mut path, floor, budget) {
@@ -110,8 +80,8 @@ pub(crate) fn select_by(
             shifts: Items::new(alloc),
             marks,
         })),
-        Err(Stop::Spent) => Err(SelectFault::Spent),
-        Err(Stop::Memory) => Err(SelectFault::Memory),
+        Err(SearchFault::Spent) => Err(SearchFault::Spent),
+        Err(SearchFault::Memory) => Err(SearchFault::Memory),
     }
 }
 

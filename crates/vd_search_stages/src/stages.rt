@@ -8,7 +8,7 @@ ghost use Rattle.vd_search_stages.specs.Selecting.{CostsAtLeast, IsOver, Selects
 ghost use Rattle.vd_space_prefix.specs.Tables.{AreTables};
 ghost use Rattle.vd_search_stages.specs.Spending.{GivesOnly, IfUnended, IsOverBy, IsOverTwice, IsRootBound, IsSpent, IsSpentByArcs, early_part, late_part, network_part};
 ghost use Rattle.vd_search_stages.specs.Stages.{CanSelect, Tries};
-ghost use Rattle.vd_search_stages.specs.declared.selecting.SelectFault.TheVariants as select_fault;
+ghost use Rattle.vd_search.specs.declared.writing.SearchFault.TheVariants as search_fault;
 ghost use Rattle.vd_space.specs.Sizes.{IsWithinLimits};
 ghost use Rattle.vd_space.specs.Spaces.{tree_of};
 ghost use Rattle.vd_space.specs.Usual.{usual as usual_shifts};
@@ -16,9 +16,10 @@ ghost use Rattle.vd_space.specs.WellFormed.{IsWellFormed};
 
 use crate::ascents::Ascents;
 use crate::network::try_arcs;
-use crate::selecting::{SelectFault, Selection, select_by, usual_tables};
+use crate::selecting::{Selection, select_by, usual_tables};
 use crate::trying::Tried;
 use std::alloc::{AllocError, Global};
+use vd_search::SearchFault;
 use vd_search_tree::Prefixes;
 use vd_space::Problem;
 use vd_space_prefix::{Path, Tables};
@@ -71,18 +72,18 @@ fn try_by(
     tables: &Tables,
     floor: u32,
     budget: u32,
-) -> Result<Option<Selection>, SelectFault>
+) -> Result<Option<Selection>, SearchFault>
     requires tables { CanSelect problem.now tables.now }
     requires floor { CostsAtLeast problem.now floor }
     requires budget { budget < 4294967295 }
     ensures selects { IfOk result (λ found. IfSome found (Selects problem.now budget)) }
     ensures over { IfOk result (λ found. IfNone found (IsOver problem.now tables.now.shifts budget)) }
-    ensures unspent { result ≢ Err select_fault.Spent }
+    ensures unspent { result ≢ Err search_fault.Spent }
 {
     match select_by(alloc, problem, tables, floor, budget) {
         Ok(selection) => Ok(Some(selection)),
-        Err(SelectFault::Spent) => Ok(None),
-        Err(SelectFault::Memory) => Err(SelectFault::Memory),
+        Err(SearchFault::Spent) => Ok(None),
+        Err(SearchFault::Memory) => Err(SearchFault::Memory),
     }
 }
 
@@ -110,13 +111,13 @@ pub(crate) fn try_some(
     tables: &Option<Tables>,
     floor: u32,
     budget: u32,
-) -> Result<Option<Selection>, SelectFault>
+) -> Result<Option<Selection>, SearchFault>
     requires tables { IfSome tables.now (CanSelect problem.now) }
     requires floor { CostsAtLeast problem.now floor }
     requires budget { budget < 4294967295 }
     ensures selects { IfOk result (λ found. IfSome found (Selects problem.now budget)) }
     ensures over { IfOk result (λ found. IfNone found (IsOverBy problem.now tables.now budget)) }
-    ensures unspent { result ≢ Err select_fault.Spent }
+    ensures unspent { result ≢ Err search_fault.Spent }
 {
     match tables {
         Some(tables) => try_by(alloc, problem, tables, floor, budget),
@@ -170,7 +171,7 @@ fn try_few<A: Ascents>(
     problem: &Problem,
     tables: &Option<Tables>,
     budget: u32,
-) -> Result<Tried, SelectFault>
+) -> Result<Tried, SearchFault>
     requires well_formed { IsWellFormed problem.now }
     requires tables { IfSome tables.now (CanSelect problem.now) }
     requires budget { budget < 4294967295 }
@@ -178,7 +179,7 @@ fn try_few<A: Ascents>(
     ensures over { IfOk result (IfUnended (IsOverBy problem.now tables.now budget)) }
     ensures arcs { IfOk result (IfUnended (GivesOnly (A.arcs_give ascents.now problem.now)
         (IsSpentByArcs problem.now (network_part problem.now budget) (A.walks_give ascents.now problem.now)))) }
-    ensures unspent { result ≢ Err select_fault.Spent }
+    ensures unspent { result ≢ Err search_fault.Spent }
 {
     match try_some(alloc, problem, tables, 0, network_budget(problem, budget))? {
         Some(selection) => Ok(Tried::Selected(selection)),
@@ -195,7 +196,7 @@ fn try_small<A: Ascents>(
     usual: &Tables,
     tables: &Option<Tables>,
     budget: u32,
-) -> Result<Tried, SelectFault>
+) -> Result<Tried, SearchFault>
     requires usual { CanSelect problem.now usual.now }
     requires tables { IfSome tables.now (CanSelect problem.now) }
     requires budget { budget < 4294967295 }
@@ -203,7 +204,7 @@ fn try_small<A: Ascents>(
     ensures over { IfOk result (IfUnended (IsOverBy problem.now tables.now budget)) }
     ensures arcs { IfOk result (IfUnended (GivesOnly (A.arcs_give ascents.now problem.now)
         (IsSpentByArcs problem.now (network_part problem.now budget) (A.walks_give ascents.now problem.now)))) }
-    ensures unspent { result ≢ Err select_fault.Spent }
+    ensures unspent { result ≢ Err search_fault.Spent }
 {
     let floor = floor_by(alloc, problem, tables)?;
     match try_by(alloc, problem, usual, floor, budget)? {
@@ -220,13 +221,13 @@ fn try_above(
     tables: &Option<Tables>,
     floor: u32,
     budget: u32,
-) -> Result<Tried, SelectFault>
+) -> Result<Tried, SearchFault>
     requires tables { IfSome tables.now (CanSelect problem.now) }
     requires floor { CostsAtLeast problem.now floor }
     requires budget { budget < 4294967295 }
     ensures tries { IfOk result (Tries problem.now budget) }
     ensures over { IfOk result (IfUnended (IsOverBy problem.now tables.now budget)) }
-    ensures unspent { result ≢ Err select_fault.Spent }
+    ensures unspent { result ≢ Err search_fault.Spent }
 {
     match try_some(alloc, problem, tables, floor, budget)? {
         Some(selection) => Ok(Tried::Selected(selection)),
@@ -242,14 +243,14 @@ fn try_better<A: Ascents>(
     problem: &Problem,
     usual: &Tables,
     budget: u32,
-) -> Result<Tried, SelectFault>
+) -> Result<Tried, SearchFault>
     requires usual { CanSelect problem.now usual.now }
     requires budget { budget < 4294967295 }
     ensures tries { IfOk result (Tries problem.now budget) }
     ensures uses { IfOk result (IfUnended (GivesOnly (A.uses_give ascents.now problem.now) (IsOverTwice problem.now budget))) }
     ensures arcs { IfOk result (IfUnended (GivesOnly (A.arcs_give ascents.now problem.now)
         (IsSpentByArcs problem.now (network_part problem.now budget) (A.walks_give ascents.now problem.now)))) }
-    ensures unspent { result ≢ Err select_fault.Spent }
+    ensures unspent { result ≢ Err search_fault.Spent }
 {
     let better = better_tables(alloc, ascents, problem)?;
     match try_small(
@@ -273,14 +274,14 @@ fn try_early<A: Ascents>(
     problem: &Problem,
     usual: &Tables,
     budget: u32,
-) -> Result<Tried, SelectFault>
+) -> Result<Tried, SearchFault>
     requires usual { CanSelect problem.now usual.now }
     requires budget { budget < 4294967295 }
     ensures tries { IfOk result (Tries problem.now budget) }
     ensures uses { IfOk result (IfUnended (GivesOnly (A.uses_give ascents.now problem.now) (IsOverTwice problem.now budget))) }
     ensures arcs { IfOk result (IfUnended (GivesOnly (A.arcs_give ascents.now problem.now)
         (IsSpentByArcs problem.now (network_part problem.now budget) (A.walks_give ascents.now problem.now)))) }
-    ensures unspent { result ≢ Err select_fault.Spent }
+    ensures unspent { result ≢ Err search_fault.Spent }
 {
     match try_by(alloc, problem, usual, 0, network_budget(problem, budget))? {
         Some(selection) => Ok(Tried::Selected(selection)),
@@ -296,12 +297,12 @@ pub(crate) fn select_places<A: Ascents>(
     ascents: &A,
     problem: &Problem,
     budget: u32,
-) -> Result<Selection, SelectFault>
+) -> Result<Selection, SearchFault>
     requires well_formed { IsWellFormed problem.now }
     requires budget { budget < 4294967295 }
     ensures selects { IfOk result (Selects problem.now budget) }
-    ensures spent { result ≡ Err select_fault.Spent → IsOver problem.now (usual_shifts problem.now) budget }
-    ensures stages { result ≡ Err select_fault.Spent →
+    ensures spent { result ≡ Err search_fault.Spent → IsOver problem.now (usual_shifts problem.now) budget }
+    ensures stages { result ≡ Err search_fault.Spent →
         IsSpent problem.now budget (A.uses_give ascents.now problem.now) (A.arcs_give ascents.now problem.now)
         (A.walks_give ascents.now problem.now) }
 {

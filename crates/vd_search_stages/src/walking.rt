@@ -7,17 +7,17 @@ ghost use Rattle.vd_cost_network_prefix.specs.Tables.{AreNetworkTables};
 ghost use Rattle.vd_search_stages.specs.Network.{CanSelectByArcs, IsBeyond};
 ghost use Rattle.vd_search_stages.specs.Selecting.{Selects};
 ghost use Rattle.vd_search_stages.specs.Spending.{GivesOnly, IsOverByWalk};
-ghost use Rattle.vd_search_stages.specs.declared.selecting.SelectFault.TheVariants as select_fault;
+ghost use Rattle.vd_search.specs.declared.writing.SearchFault.TheVariants as search_fault;
 ghost use Rattle.vd_search_nogoods.specs.Untied.{WhySpent};
 
 use crate::ascents::Ascents;
 use crate::network::{bound_of_all, network_selection};
-use crate::selecting::{SelectFault, Selection};
+use crate::selecting::Selection;
 use std::alloc::Global;
 use vd_base_lists::Items;
 use vd_cost_network_ascent::Ascent;
 use vd_cost_network_prefix::{NetworkPath, NetworkTables};
-use vd_search::Stop;
+use vd_search::SearchFault;
 use vd_search_nogoods::search_untied;
 use vd_space::Problem;
 use vd_space_prefix::Tables;
@@ -32,13 +32,13 @@ fn select_untied(
     passed: Items<Items<u32>>,
     most: u32,
     budget: u32,
-) -> Result<Option<Selection>, SelectFault>
+) -> Result<Option<Selection>, SearchFault>
     requires tables { CanSelectByArcs problem.now tables.now by_arcs.now }
     requires passed { All (IsBeyond problem.now most) passed }
     requires budget { budget < 4294967295 }
     ensures selects { IfOk result (λ found. IfSome found (Selects problem.now budget)) }
     ensures over { IfOk result (λ found. IfNone found (WhySpent (network_tree problem.now by_arcs.now.shifts) most passed budget)) }
-    ensures unspent { result ≢ Err select_fault.Spent }
+    ensures unspent { result ≢ Err search_fault.Spent }
 {
     let root = NetworkPath::new(alloc, problem, tables, by_arcs)?;
     match search_untied(alloc, root, passed, most, budget) {
@@ -46,8 +46,8 @@ fn select_untied(
             let selection = network_selection(alloc, by_arcs, answer)?;
             Ok(Some(selection))
         }
-        Err(Stop::Spent) => Ok(None),
-        Err(Stop::Memory) => Err(SelectFault::Memory),
+        Err(SearchFault::Spent) => Ok(None),
+        Err(SearchFault::Memory) => Err(SearchFault::Memory),
     }
 }
 
@@ -64,7 +64,7 @@ fn select_at<A: Ascents>(
     ascent: Ascent,
     most: u32,
     budget: u32,
-) -> Result<Option<Selection>, SelectFault>
+) -> Result<Option<Selection>, SearchFault>
     requires tables { CanSelectByArcs problem.now tables.now by_arcs.now }
     requires without { AreNetworkTables problem.now without.now }
     requires path { path.problem.now ≡ problem.now }
@@ -72,7 +72,7 @@ fn select_at<A: Ascents>(
     ensures selects { IfOk result (λ found. IfSome found (Selects problem.now budget)) }
     ensures over { IfOk result (λ found. IfNone found (GivesOnly (A.walks_give ascents.now problem.now most)
         (λ passed. WhySpent (network_tree problem.now by_arcs.now.shifts) most passed budget))) }
-    ensures unspent { result ≢ Err select_fault.Spent }
+    ensures unspent { result ≢ Err search_fault.Spent }
 {
     match ascents.over_prefixes(alloc, problem, without, path, ascent, most)? {
         Some(passed) => select_untied(alloc, problem, tables, by_arcs, passed, most, budget),
@@ -91,14 +91,14 @@ pub(crate) fn select_by_walk<A: Ascents>(
     by_arcs: &NetworkTables,
     ascent: Ascent,
     budget: u32,
-) -> Result<Option<Selection>, SelectFault>
+) -> Result<Option<Selection>, SearchFault>
     requires tables { CanSelectByArcs problem.now tables.now by_arcs.now }
     requires without { AreNetworkTables problem.now without.now }
     requires budget { budget < 4294967295 }
     ensures selects { IfOk result (λ found. IfSome found (Selects problem.now budget)) }
     ensures over { IfOk result (λ found. IfNone found
         (IsOverByWalk problem.now by_arcs.now.shifts budget (A.walks_give ascents.now problem.now))) }
-    ensures unspent { result ≢ Err select_fault.Spent }
+    ensures unspent { result ≢ Err search_fault.Spent }
 {
     let path = NetworkPath::new(alloc, problem, tables, by_arcs)?;
     match bound_of_all(&path) {
