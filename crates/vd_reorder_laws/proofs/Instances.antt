@@ -7,10 +7,11 @@ use Rattle.vd_execution.specs.declared.instructions.Action.TheVariants as action
 use Rattle.vd_execution.specs.Registers.{Registers, put, put_each, written}
 use Rattle.vd_execution.specs.Code.{Code, Then, Send, Recv}
 use Rattle.vd_execution.specs.Step.{Source, Cursors, Need, Nothing, Item, Packet, Unequal, Ended, Given, same_source, answer, need, advanced, one_further, need_of_action, word_printed, deed_of_print, words_in}
+use Rattle.vd_execution.specs.Joint.{supplied}
 use Rattle.vd_execution.specs.World.{Local, done, moved_on}
 use Rattle.vd_execution.proofs.Front.{put_other, put_commutes}
 use Rattle.vd_reorder_laws.specs.Hastening.{Acts, Sends, Awaits, at, without_packets, MayPass}
-use Rattle.vd_reorder_laws.specs.Neighbours.{IsItemOrNothing, IsPlain, words_for, ListsDiffer, IsApart, AreApart}
+use Rattle.vd_reorder_laws.specs.Neighbours.{IsItemOrNothing, IsPlain, ListsDiffer, IsApart, AreApart}
 
 -- a plain action, as a function of the host
 abbrev acted : Local → Action → Need → Code → List ℕ → Local
@@ -25,7 +26,7 @@ acted_by l a n m c ys o e f =
 plain_moves : (a : Action) (n : Need) → IsPlain a n → (l : Local) (c : Code) (ys : List ℕ) → moved_on (at l (Then a c)) ys ≡ acted l a n c ys
 plain_moves a n p l c ys = acted_by l a n (need_of_action l.state.registers a) c ys (word_printed l.state.registers a) (p.needs l.state.registers) (p.silent l.state.registers)
 
-has_words : (items : Source → ℕ → List ℕ) (c : Cursors) (n : Need) → IsItemOrNothing n → answer (without_packets items) c n ≡ Some (words_for items c n)
+has_words : (items : Source → ℕ → List ℕ) (c : Cursors) (n : Need) → IsItemOrNothing n → answer (without_packets items) c n ≡ Some (supplied items c n)
 has_words items c Nothing i = refl
 has_words items c (Item s) i = refl
 has_words items c (Packet p n) i = absurd i
@@ -36,7 +37,7 @@ at_other : (c : Cursors) (s r : Source) → same_source r s ≡ false → one_fu
 at_other c s r e = ap (λ b. if b then suc (c r) else c r) e
 
 -- what the one takes is not what the other gets
-others_words : (items : Source → ℕ → List ℕ) (c : Cursors) (m n : Need) → ListsDiffer m n → words_for items (advanced c m) n ≡ words_for items c n
+others_words : (items : Source → ℕ → List ℕ) (c : Cursors) (m n : Need) → ListsDiffer m n → supplied items (advanced c m) n ≡ supplied items c n
 others_words items c Nothing n d = refl
 others_words items c (Item s) Nothing d = refl
 others_words items c (Item s) (Item r) d = ap (items r) (at_other c s r d.1)
@@ -150,7 +151,7 @@ send_before_print r p rs = record {
 pub action_before_receive : (q : ℕ) (qs : List Reg) (a : Action) (n : Need) → IsPlain a n
     → ((f : Registers) (xs ys : List ℕ) → written (put_each f qs xs) a ys ≡ put_each (written f a ys) qs xs) → MayPass (Awaits q qs) (Acts a)
 action_before_receive q qs a n plain stay = record {
-  words = λ items l. words_for items l.state.cursors n;
+  words = λ items l. supplied items l.state.cursors n;
   late = λ items l c xs. ap (answer (without_packets items) l.state.cursors) (plain.needs (put_each l.state.registers qs xs)) ∙ has_words items l.state.cursors n plain.has;
   early = λ items l c. ap (answer (without_packets items) l.state.cursors) (plain.needs l.state.registers) ∙ has_words items l.state.cursors n plain.has;
   kept = λ g l c d xs ys e. ap (λ (k : Local). answer g k.state.cursors (need k.state)) (plain_moves a n plain l (Recv q qs d) ys) ∙ e;
@@ -171,7 +172,7 @@ action_before_receive q qs a n plain stay = record {
 pub action_before_send : (q : ℕ) (qs : List Reg) (a : Action) (n : Need) → IsPlain a n
     → ((f : Registers) (ys : List ℕ) → words_in (written f a ys) qs ≡ words_in f qs) → MayPass (Sends q qs) (Acts a)
 action_before_send q qs a n plain stay = record {
-  words = λ items l. words_for items l.state.cursors n;
+  words = λ items l. supplied items l.state.cursors n;
   late = λ items l c xs. ap (answer (without_packets items) l.state.cursors) (plain.needs l.state.registers) ∙ has_words items l.state.cursors n plain.has;
   early = λ items l c. ap (answer (without_packets items) l.state.cursors) (plain.needs l.state.registers) ∙ has_words items l.state.cursors n plain.has;
   kept = λ g l c d xs ys e. ap (λ (k : Local). answer g k.state.cursors (need k.state)) (plain_moves a n plain l (Send q qs d) ys) ∙ e;
@@ -185,7 +186,7 @@ action_before_send q qs a n plain stay = record {
 
 pub action_before_print : (r : Reg) (a : Action) (n : Need) → IsPlain a n → ((f : Registers) (ys : List ℕ) → written f a ys r.0 ≡ f r.0) → MayPass (Acts (action.Print r)) (Acts a)
 action_before_print r a n plain stay = record {
-  words = λ items l. words_for items l.state.cursors n;
+  words = λ items l. supplied items l.state.cursors n;
   late = λ items l c xs. ap (answer (without_packets items) l.state.cursors) (plain.needs l.state.registers) ∙ has_words items l.state.cursors n plain.has;
   early = λ items l c. ap (answer (without_packets items) l.state.cursors) (plain.needs l.state.registers) ∙ has_words items l.state.cursors n plain.has;
   kept = λ g l c d xs ys e. ap (λ (k : Local). answer g k.state.cursors (need k.state)) (plain_moves a n plain l (Then (action.Print r) d) ys) ∙ answered g (advanced l.state.cursors n) l.state.cursors xs e;
@@ -203,7 +204,7 @@ action_before_print r a n plain stay = record {
 pub action_before_action : (b a : Action) (m n : Need) → IsPlain b m → IsPlain a n → ListsDiffer m n
     → ((f : Registers) (xs ys : List ℕ) → written (written f b xs) a ys ≡ written (written f a ys) b xs) → MayPass (Acts b) (Acts a)
 action_before_action b a m n pb pa differ stay = record {
-  words = λ items l. words_for items l.state.cursors n;
+  words = λ items l. supplied items l.state.cursors n;
   late = λ items l c xs.
       ap (λ (k : Local). answer (without_packets items) k.state.cursors (need k.state)) (plain_moves b m pb l (Then a c) xs)
       ∙ ap (answer (without_packets items) (advanced l.state.cursors m)) (pa.needs (written l.state.registers b xs))

@@ -4,7 +4,7 @@ use Rattle.vd_execution.specs.declared.instructions.Reg.{Reg}
 use Rattle.vd_execution.specs.declared.instructions.Action.{Action}
 use Rattle.vd_execution.specs.declared.instructions.Action.TheVariants as action
 use Rattle.vd_execution.specs.Registers.{Registers, put_each, written}
-use Rattle.vd_execution.specs.Step.{Source, Cursors, Need, Nothing, Item, Packet, Unequal, Ended, same_source, need_of_action, word_printed, words_in}
+use Rattle.vd_execution.specs.Step.{Need, Nothing, Item, Packet, Unequal, Ended, same_source, need_of_action, word_printed, words_in}
 use Rattle.vd_reorder_laws.specs.Hastening.{Acts, Sends, Awaits, MayPass}
 
 abbrev pub IsItemOrNothing : Need → Type 0
@@ -19,14 +19,6 @@ pub record IsPlain (a : Action) (n : Need) : Type 0 where
   pub needs : (f : Registers) → need_of_action f a ≡ n
   pub silent : (f : Registers) → word_printed f a ≡ None
   pub has : IsItemOrNothing n
-
--- the words that it gets
-abbrev pub words_for : (Source → ℕ → List ℕ) → Cursors → Need → List ℕ
-words_for items c Nothing = []
-words_for items c (Item s) = items s (c s)
-words_for items c (Packet p n) = []
-words_for items c (Unequal x y) = []
-words_for items c Ended = []
 
 -- no list from which both take
 abbrev pub ListsDiffer : Need → Need → Type 0
