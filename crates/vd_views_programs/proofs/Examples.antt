@@ -12,7 +12,8 @@ use Rattle.vd_choreography.specs.Block.{Block, End, Let, Output, block_of}
 use Rattle.vd_noninter_assigned.specs.Example.{alice, bob, slot}
 use Rattle.vd_views.specs.Items as items
 use Rattle.vd_views.specs.Excused.{with_item}
-use Rattle.vd_views_programs.specs.Example.{product, deal_with, excuse_of, bob_prints, bob_is_told, WorkedExcuse, conversion, excuse_with, WorkedConversion}
+use Rattle.vd_views_products.specs.Example.{deal_with}
+use Rattle.vd_views_programs.specs.Example.{product, excuse_of, bob_prints, bob_is_told, WorkedExcuse, conversion, excuse_with, WorkedConversion}
 
 abbrev product_block : Block
 product_block =

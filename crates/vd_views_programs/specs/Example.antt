@@ -1,12 +1,12 @@
 -- Worked programs: the product of two inputs, calculated in shares by sums and declassified; and a word that is converted.
-use Rattle.std.specs.Prelude.{◌≡◌, ℕ, zero, suc, nat_eq, if◌then◌else◌, List, [], ◌∷◌}
+use Rattle.std.specs.Prelude.{◌≡◌, ℕ, List, [], ◌∷◌}
 use Rattle.vd_base.specs.declared.form.Form as form
 use Rattle.vd_base.specs.declared.operations.Op.TheVariants as op
 use Rattle.vd_base.specs.declared.protocols.Proto.{Proto}
 use Rattle.vd_base.specs.Holders.{proto_in}
 use Rattle.vd_core.specs.declared.normal.Right.TheVariants.{Apply, Input, Declassify}
 use Rattle.vd_core.specs.declared.normal.Stmt.{Stmt, Let, Output}
-use Rattle.vd_execution.specs.Step.{Inputs, OwnWords, Triples, BitTriples, Pairs}
+use Rattle.vd_execution.specs.Step.{Triples, Pairs}
 use Rattle.vd_execution.specs.World.{Tape}
 use Rattle.vd_execution.specs.Joint.{fresh, joint}
 use Rattle.vd_execution.specs.Gadgets.{Gadget}
@@ -14,7 +14,8 @@ use Rattle.vd_execution.specs.Plans.{Plan, joint_of}
 use Rattle.vd_choreography.specs.Block.{Block, block_of, each}
 use Rattle.vd_choreography.specs.Emission.{in_turn, stmt_emission, emitting_at_start}
 use Rattle.vd_backend_laws.specs.Parts.{suite_calls}
-use Rattle.vd_views.specs.Contract.{InputWords, with_inputs}
+use Rattle.vd_views.specs.Contract.{with_inputs}
+use Rattle.vd_views_products.specs.Example.{deal_with, inputs_with}
 use Rattle.vd_noninter_assigned.specs.Example.{alice, bob, slot, at_alice, at_bob, sums_at_both, bits_at_both}
 use Rattle.vd_views.specs.Excused.{excused}
 
@@ -50,26 +51,6 @@ converted_once = at_alice ∷ at_bob ∷ bits_at_both ∷ sums_at_both ∷ at_al
 abbrev pub plan_with : Block → List Proto → Plan Gadget
 plan_with block protocols =
     ((in_turn (suite_calls 2) (proto_in protocols) (each (stmt_emission (suite_calls 2) (proto_in protocols)) block)).emit (emitting_at_start (suite_calls 2) (proto_in protocols))).tree
-
--- alice has this input, and bob 6
-abbrev pub inputs_with : ℕ → InputWords
-inputs_with input g i = if nat_eq g 0 then input else 6
-
--- an own word of each, and one triple of both, of which a is alice's first part; all others are 0
-abbrev pub own_word : ℕ → ℕ
-own_word g = if nat_eq g 0 then 4294967293 else 1
-
-abbrev pub triple : ℕ → ℕ → ℕ → ℕ → List ℕ
-triple a zero (suc zero) zero = a ∷ 4 ∷ 5 ∷ []
-triple a (suc zero) zero zero = 2 ∷ 0 ∷ 7 ∷ []
-triple a g p i = 0 ∷ 0 ∷ 0 ∷ []
-
-abbrev pub deal_with : ℕ → ℕ → Tape
-deal_with input a g Inputs i = inputs_with input g i ∷ []
-deal_with input a g OwnWords i = own_word g ∷ []
-deal_with input a g (Triples p) i = triple a g p i
-deal_with input a g (BitTriples p) i = 0 ∷ 0 ∷ 0 ∷ []
-deal_with input a g (Pairs p) i = 0 ∷ 0 ∷ []
 
 -- what excuses the second run to bob
 abbrev pub excuse_of : Block → Tape → ℕ → Tape
