@@ -14,7 +14,8 @@ use Rattle.vd_equivocation_laws.specs.Walks.{Both}
 use Rattle.vd_views_programs.specs.Explained.{IsOfTwo, plan_of, AgreeFor}
 use Rattle.vd_views_deals.specs.Files.{tape_of, AreEnough}
 use Rattle.vd_equivocation_deals.specs.Short.{short_kind}
-use Rattle.vd_equivocation_deals.specs.Excuses.{both_at_start, AreExcused, LeadTo}
+use Rattle.vd_equivocation_steps.specs.Claims.{LeadTo}
+use Rattle.vd_equivocation_deals.specs.Excuses.{both_at_start, AreExcused}
 use Rattle.vd_equivocation_deals.proofs.Front.{short_kinds_are_exact, excused_files_are_these, excused_files_explain}
 use Rattle.vd_equivocation_walk.specs.declared.explaining.Walked.{Walked}
 use Rattle.vd_equivocation_walk.specs.Claims.{EndsWithin, HaveSameShape, end_of}

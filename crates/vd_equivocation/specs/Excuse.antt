@@ -16,7 +16,8 @@ use Rattle.vd_base.specs.Words.{InputsAreWords}
 use Rattle.vd_views_programs.specs.Explained.{IsOfTwo, plan_of, AgreeFor}
 use Rattle.vd_views_deals.specs.Files.{IsExcuse}
 use Rattle.vd_equivocation_deals.specs.Short.{short_kind}
-use Rattle.vd_equivocation_deals.specs.Excuses.{LeadTo, excuse_files}
+use Rattle.vd_equivocation_steps.specs.Claims.{LeadTo}
+use Rattle.vd_equivocation_deals.specs.Excuses.{excuse_files}
 use Rattle.vd_equivocation_walk.specs.declared.explaining.Walked.{Walked}
 use Rattle.vd_equivocation_walk.specs.Claims.{EndsWithin, HaveSameShape, end_of}
 use Rattle.vd_equivocation_walk.specs.Files.{file_tape, first_short}

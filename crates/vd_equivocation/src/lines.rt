@@ -4,7 +4,7 @@ ghost use Rattle.std.specs.Prelude.{IfOk};
 ghost use Rattle.vd_constraints.specs.declared.labels.Labels.{Labels};
 ghost use Rattle.vd_projection.specs.Programs.{IsRunnable};
 ghost use Rattle.vd_views_programs.specs.Explained.{IsOfTwo, plan_of};
-ghost use Rattle.vd_equivocation_deals.specs.Excuses.{LeadTo};
+ghost use Rattle.vd_equivocation_steps.specs.Claims.{LeadTo};
 
 use std::alloc::{AllocError, Global};
 use vd_base::Proto;

@@ -7,8 +7,6 @@ use Rattle.vd_base.specs.declared.protocols.Proto.{Proto}
 use Rattle.vd_core.specs.declared.normal.NormalForm.{NormalForm}
 use Rattle.vd_constraints.specs.declared.labels.Labels.{Labels}
 use Rattle.vd_deal_items.specs.declared.deal.Deal.{Deal}
-use Rattle.vd_deal_items.specs.declared.items.Triple.{Triple}
-use Rattle.vd_deal_items.specs.declared.items.PairItem.{PairItem}
 use Rattle.vd_machine.specs.Machines.{list_of}
 use Rattle.vd_execution.specs.Registers.{nth}
 use Rattle.vd_execution.specs.Step.{Source, Inputs, OwnWords, Triples, BitTriples, Pairs}
@@ -19,8 +17,9 @@ use Rattle.vd_execution.specs.Plans.{Plan}
 use Rattle.vd_views.specs.Contract.{with_inputs}
 use Rattle.vd_views.specs.Excused.{excused}
 use Rattle.vd_equivocation_laws.specs.declared.step.Step.{Step}
-use Rattle.vd_equivocation_laws.specs.Claims.{explained_end}
 use Rattle.vd_equivocation_laws.specs.Walks.{Both, both_steps, walks}
+use Rattle.vd_equivocation_walk.specs.Items.{pair_of, triple_of}
+use Rattle.vd_equivocation_steps.specs.Claims.{LeadTo}
 use Rattle.vd_views_programs.specs.Explained.{IsOfTwo, plan_of, input_words, AgreeFor}
 use Rattle.vd_views_deals.specs.Files.{tape_of, counts_of, AreEnough, AreAsLong, IsExcuse}
 
@@ -31,10 +30,6 @@ both_at_start t second = record { deal = with_inputs t (input_words second); fir
 -- and after these steps, on lists that are followed by zeros
 abbrev pub both_after : ℕ → List Step → (first second : List (List ℕ)) → List Deal → Both
 both_after h steps first second deals = both_steps (walks h (tape_of first deals) steps) (both_at_start (tape_of first deals) second)
-
--- whoever goes along these steps in both runs has at the end the deal that explains, and both runs at their ends
-abbrev pub LeadTo : List Step → Plan Gadget → Type 0
-LeadTo steps plan = (h : ℕ) (t : Tape) (r : Both) → both_steps (walks h t steps) r ≡ explained_end h t plan r
 
 -- the second run takes no item past the end of these lists
 abbrev pub ReachesToo : List Deal → Both → Type 0
@@ -68,13 +63,6 @@ ExcusedFilesExplain =
     → IsExcuse h.0 (plan_of p protocols) first second deals stored
 
 -- ---- which files they are
-
--- an item by its words
-abbrev pub triple_of : List ℕ → Triple
-triple_of xs = record { a = nth xs 0; b = nth xs 1; c = nth xs 2 }
-
-abbrev pub pair_of : List ℕ → PairItem
-pair_of xs = record { s = nth xs 0; x = nth xs 1 }
 
 -- the first items of a list of a deal
 abbrev pub items_of : {X : Type 0} → (List ℕ → X) → (ℕ → List ℕ) → (count : ℕ) → List X

@@ -1,24 +1,18 @@
 -- The first kind of dealt items that does not reach for a run of two hosts.
-use Rattle.std.specs.Prelude.{◌≡◌, ◌≢◌, ◌↔◌, ℕ, ◌-◌, ◌≤◌, nat_lt, ◌||◌, Bool, if◌then◌else◌, List, [], ◌∷◌, Option, Some, None}
+use Rattle.std.specs.Prelude.{◌≡◌, ◌≢◌, ◌↔◌, ℕ, ◌-◌, ◌≤◌, nat_lt, ◌||◌, Bool, List, [], ◌∷◌, Option, Some, None}
+use Rattle.vd_base.specs.declared.protocols.Proto.{Proto}
 use Rattle.vd_core.specs.declared.normal.NormalForm.{NormalForm}
 use Rattle.vd_constraints.specs.declared.labels.Labels.{Labels}
 use Rattle.vd_deal_items.specs.declared.deal.Deal.{Deal}
 use Rattle.vd_deal_items.specs.declared.deal.DealKind.{DealKind}
 use Rattle.vd_deal_items.specs.declared.deal.DealKind.TheVariants.{Own, Mul, And, Pair}
-use Rattle.vd_execution.specs.Step.{Source, Inputs, OwnWords, Triples, BitTriples, Pairs}
+use Rattle.vd_execution.specs.Step.{Source, Inputs}
 use Rattle.vd_execution.specs.Joint.{Hosts, fresh, joint}
 use Rattle.vd_execution.specs.Gadgets.{Gadget}
 use Rattle.vd_execution.specs.Plans.{Plan, joint_of}
 use Rattle.vd_views_programs.specs.Explained.{IsOfTwo, plan_of}
 use Rattle.vd_views_deals.specs.Files.{tape_of, counts_of}
-use Rattle.vd_base.specs.declared.protocols.Proto.{Proto}
-
--- the list of a kind that a host shares with a peer; its own words are shared with nobody
-abbrev pub list_of_kind : DealKind → ℕ → Source
-list_of_kind Own peer = OwnWords
-list_of_kind Mul peer = Triples peer
-list_of_kind And peer = BitTriples peer
-list_of_kind Pair peer = Pairs peer
+use Rattle.vd_equivocation_walk.specs.Files.{first_of, list_of_kind}
 
 -- of two hosts, the list of a kind that one has with the other
 abbrev pub list_at : DealKind → (host : ℕ) → Source
@@ -34,10 +28,6 @@ takes_more deals last kind g = nat_lt (counts_of deals g (list_at kind g)) ((las
 
 abbrev pub is_short : List Deal → Hosts → DealKind → Bool
 is_short deals last kind = takes_more deals last kind 0 || takes_more deals last kind 1
-
-abbrev pub first_of : (DealKind → Bool) → List DealKind → Option DealKind
-first_of test [] = None
-first_of test (kind ∷ kinds) = if test kind then Some kind else first_of test kinds
 
 -- the first kind of which one of two hosts takes more than it was dealt
 abbrev pub short_kind : Plan Gadget → (inputs : List (List ℕ)) → List Deal → Option DealKind

@@ -4,7 +4,7 @@ use Rattle.vd_execution.specs.Gadgets.{Gadget}
 use Rattle.vd_execution.specs.Plans.{Plan}
 use Rattle.vd_equivocation_laws.specs.declared.step.Step.{Step}
 use Rattle.vd_views_programs.specs.Explained.{IsOfTwo, plan_of}
-use Rattle.vd_equivocation_deals.specs.Excuses.{LeadTo}
+use Rattle.vd_equivocation_steps.specs.Claims.{LeadTo}
 use Rattle.vd_equivocation.proofs.Stepped.{for_all, lead}
 use Rattle.vd_equivocation.proofs.lines.steps_at.Goals as goal
 
