@@ -1,16 +1,17 @@
 //! The status of a host that did not run to its end.
 
 ghost use Rattle.std.specs.Prelude.{◌≡◌, ◌<◌, length};
-ghost use Rattle.vd_cmd_host.specs.Statuses.{PeersAreNamed, name_of, status_of};
+ghost use Rattle.vd_report.specs.ChoiceLines.{host_name};
+ghost use Rattle.vd_cmd_host.specs.Statuses.{PeersAreNamed, status_of};
 
 use vd_base::{HostId, Name, Names};
 use vd_cmd_plan::{HostStatus, Status};
 use vd_host_session::HostFault;
 
 /// The name of a host, out of those of all.
-fn name_of(names: Names, host: HostId) -> Name
+fn host_name(names: Names, host: HostId) -> Name
     requires { host.0 < length names }
-    ensures { result ≡ name_of names host }
+    ensures { result ≡ host_name names host }
 {
     let mut names = names;
     names.remove(usize::from(host.0))
@@ -24,7 +25,7 @@ pub(crate) fn status_of(names: Names, fault: HostFault) -> Status
     match fault {
         HostFault::Memory => Status::Memory,
         HostFault::Write => Status::WriteFault,
-        HostFault::Peer(peer) => Status::Host(HostStatus::PeerFault(name_of(names, peer))),
+        HostFault::Peer(peer) => Status::Host(HostStatus::PeerFault(host_name(names, peer))),
         HostFault::BadFrame(offset, byte) => Status::Host(HostStatus::BadFrame(offset, byte)),
         HostFault::Unequal(left, right) => Status::Host(HostStatus::Unequal(left, right)),
         HostFault::WrongProgram(_, _) => Status::Host(HostStatus::WrongProgram),
@@ -33,6 +34,6 @@ pub(crate) fn status_of(names: Names, fault: HostFault) -> Status
         HostFault::ShortDeal(kind, cursor, count) => {
             Status::Host(HostStatus::ShortDeal(kind, cursor, count))
         }
-        HostFault::EndOfLink(peer) => Status::Host(HostStatus::EndOfLink(name_of(names, peer))),
+        HostFault::EndOfLink(peer) => Status::Host(HostStatus::EndOfLink(host_name(names, peer))),
     }
 }

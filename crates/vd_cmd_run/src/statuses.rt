@@ -1,7 +1,8 @@
 //! The status of a run.
 
 ghost use Rattle.std.specs.Prelude.{◌≡◌};
-ghost use Rattle.vd_cmd_run.specs.Statuses.{child_status, name_of, run_status};
+ghost use Rattle.vd_report.specs.ChoiceLines.{host_name};
+ghost use Rattle.vd_cmd_run.specs.Statuses.{child_status, run_status};
 
 use crate::RunFault;
 use std::alloc::Global;
@@ -10,8 +11,8 @@ use vd_cmd_plan::{ChildCause, Status};
 use vd_host_children::ChildrenFault;
 
 /// Takes the name of a host out of all names.
-fn name_of(alloc: Global, mut names: Names, host: HostId) -> Name
-    ensures { result ≡ name_of names host }
+fn host_name(alloc: Global, mut names: Names, host: HostId) -> Name
+    ensures { result ≡ host_name names host }
 {
     let place = usize::from(host.0);
     if place < names.as_slice().len() {
@@ -28,13 +29,13 @@ fn child_status(alloc: Global, names: Names, fault: ChildrenFault) -> Status
     match fault {
         ChildrenFault::Memory => Status::Memory,
         ChildrenFault::Failed(host) => {
-            Status::ChildFault(name_of(alloc, names, host), ChildCause::Failed)
+            Status::ChildFault(host_name(alloc, names, host), ChildCause::Failed)
         }
         ChildrenFault::Line(host) => {
-            Status::ChildFault(name_of(alloc, names, host), ChildCause::Line)
+            Status::ChildFault(host_name(alloc, names, host), ChildCause::Line)
         }
         ChildrenFault::Status(host, status) => {
-            Status::ChildFault(name_of(alloc, names, host), ChildCause::Status(status))
+            Status::ChildFault(host_name(alloc, names, host), ChildCause::Status(status))
         }
     }
 }
