@@ -10,4 +10,4 @@ mod Cells
 mod Blocks
 mod Stopping
 mod Theorem
-pub mod Example
+mod Example

@@ -1,1 +1,1 @@
-pub mod Loads
+mod Loads

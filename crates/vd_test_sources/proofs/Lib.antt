@@ -1,1 +1,1 @@
-pub mod ThreeHosts
+mod ThreeHosts
