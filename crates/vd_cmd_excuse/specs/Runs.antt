@@ -32,7 +32,7 @@ pub record AreConsistent (hosts : ℕ) (runs : Runs) : Type 0 where
   pub deals : IsConsistent runs.deals
 
 -- one of the two hosts of a program
-pub record IsOfTwo (program : NormalForm) (host : ℕ) : Type 0 where
+pub record IsHostOfTwo (program : NormalForm) (host : ℕ) : Type 0 where
   pub two : length program.hosts ≡ 2
   pub one : host < 2
 

@@ -9,7 +9,7 @@ ghost use Rattle.vd_cmd_choose.specs.Choice.{IsSelected};
 ghost use Rattle.vd_space.specs.Reading.{problem_of};
 ghost use Rattle.vd_backend_laws.specs.Parts.{has_back_end};
 ghost use Rattle.vd_cmd_excuse.specs.Excusing.{ExecutesChoice, ExecutesExcuse, ExecutesExcused, ExecutesHost, ExecutesProgram, ExecutesRuns};
-ghost use Rattle.vd_cmd_excuse.specs.Runs.{AreConsistent, AreRead, IsOfTwo};
+ghost use Rattle.vd_cmd_excuse.specs.Runs.{AreConsistent, AreRead, IsHostOfTwo};
 ghost use Rattle.vd_cmd_excuse.specs.Telling.{TellsAt, TellsExcuse, TellsOf, TellsProgram};
 
 use crate::answer::answer;
@@ -35,7 +35,7 @@ fn excuse_free(
     runs: Runs,
     out: &str,
 ) -> Result<Answer, Status>
-    requires host { IsOfTwo program.now host.0 }
+    requires host { IsHostOfTwo program.now host.0 }
     requires selected { IsSelected program.now assignment.now }
     requires free { (x : ℕ) → has_back_end (proto_in assignment.now.protocols x) ≡ true }
     requires runs { AreConsistent 2 runs }
