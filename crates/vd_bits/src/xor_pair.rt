@@ -133,24 +133,6 @@ impl XorPair {
         self.parts(made, to.alloc())
     }
 
-    /// Both words bit by bit, by a bit triple.
-    pub fn and(
-        &self,
-        x: &Parts<XorShare>,
-        y: &Parts<XorShare>,
-        to: &mut Duet,
-    ) -> Result<Parts<XorShare>, AllocError>
-        requires known { AreKnown (self.now.0 ∷ self.now.1 ∷ []) to.old.next }
-        requires room { HasCircuitRoom to.old.next }
-        ensures exact { IfOk result (λ z. Makes (computed self.now.0 self.now.1 op.And (parts_of x.now ∷ parts_of y.now ∷ [])) to.old
-            (parts_of z) to.new) }
-        ensures hosts { IfOk result (λ z. hosts_of (parts_of z) ≡ self.now.0 ∷ self.now.1 ∷ []) }
-        ensures few { OnOk result (TakesAtMost 1024 to.old.next to.new.next) }
-    {
-        let gates = bit_circuit(Op::And, to.alloc())?;
-        self.of_two(gates.as_slice(), x, y, to)
-    }
-
     /// The sum, modulo 2^32, of two words.
     pub fn add(
         &self,

@@ -46,11 +46,6 @@ impl Thinned {
         })
     }
 
-    /// Whether nothing went.
-    pub fn is_whole(&self) -> bool {
-        self.gone.is_empty()
-    }
-
     /// Gives shifts to those that went, where each point has so many settings: from the last to the first each takes from each of
     /// its arcs what this costs at least with the partners that have shifts. So no bound is less by them: such a setting then
     /// costs no less than the one for which it went.

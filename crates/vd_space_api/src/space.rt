@@ -82,7 +82,7 @@ impl Space {
     }
 
     /// How many uses there are.
-    pub(crate) fn uses(&self) -> u32
+    pub fn uses(&self) -> u32
         ensures { result ≡ length self.now.uses }
     {
         self.problem().uses.as_slice().len() as u32
@@ -137,7 +137,7 @@ impl Space {
 
     /// The bound of a valid prefix under the shifts of these terms: the greater of the sums of least terms without and with
     /// them.
-    pub(crate) fn high(&self, prefix: &[Proto], terms: &Tables) -> i64
+    pub fn high(&self, prefix: &[Proto], terms: &Tables) -> i64
         requires valid { IsTrue (is_valid self.now (places_in self.now prefix.now)) }
         requires terms { AreTables self.now terms.now }
         ensures { result ≡ high self.now terms.now.shifts (places_in self.now prefix.now) }
