@@ -54,7 +54,7 @@ pub fn derive(salt: &[u8], input: &[u8], purpose: &[u8], more: &[u8]) -> [u8; 32
 }
 
 /// Whether two codes are the same. All bytes are looked at, whatever they are.
-pub fn same(left: &[u8; 32], right: &[u8; 32]) -> bool
+pub(crate) fn same(left: &[u8; 32], right: &[u8; 32]) -> bool
     ensures { IsTrue result ↔ (left.now ≡ right.now) }
 {
     let mut equal = true;

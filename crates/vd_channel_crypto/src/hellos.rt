@@ -29,7 +29,7 @@ pub fn nonce(seed: &[u8; 32], peer: HostId, connection: u32) -> [u8; 32]
 }
 
 /// The keys of the direction in which this host sends, by the key of the link and the digest of both hellos.
-pub fn link_keys(link: &[u8; 32], sender: HostId, digest: &[u8; 32]) -> Keys
+pub(crate) fn link_keys(link: &[u8; 32], sender: HostId, digest: &[u8; 32]) -> Keys
     ensures { direction result ≡ link_direction link.now sender.0 digest.now }
 {
     Keys {

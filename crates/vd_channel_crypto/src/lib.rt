@@ -9,9 +9,9 @@ mod laws;
 mod records;
 mod streams;
 
-pub use codes::{derive, hmac, same};
+pub use codes::{derive, hmac};
 pub use frames::Frame;
-pub use hellos::{Hello, link_keys, nonce};
+pub use hellos::{Hello, nonce};
 pub use laws::{
     codes_cover_all, digests_cover_both_hellos, keys_have_one_purpose,
     records_give_back_their_bytes, streams_are_apart,

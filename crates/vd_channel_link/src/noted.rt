@@ -7,7 +7,7 @@ use std::marker::{Model, PhantomData};
 
 /// Bytes that only clauses read. They take no memory.
 #[derive(Drop)]
-pub struct Noted {
+pub(crate) struct Noted {
     marker: PhantomData<u8>,
     pub ghost bytes: { List ℕ },
 }

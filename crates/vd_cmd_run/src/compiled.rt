@@ -5,7 +5,7 @@ use vd_cmd_plan::Answer;
 
 /// The names of the hosts of a source, and what `compile` comes to.
 #[derive(Drop)]
-pub struct Compiled {
+pub(crate) struct Compiled {
     pub names: Names,
     pub answer: Answer,
 }

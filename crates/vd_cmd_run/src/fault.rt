@@ -9,7 +9,7 @@ use vd_host_children::ChildrenFault;
 
 /// Why the hosts of a program were not all run and reported.
 #[derive(Debug, Drop, Error)]
-pub enum RunFault {
+pub(crate) enum RunFault {
     /// There was no memory left.
     #[error("memory")]
     Memory,

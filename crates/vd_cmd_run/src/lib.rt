@@ -12,9 +12,5 @@ mod run_command;
 mod running;
 mod statuses;
 
-pub use compiled::Compiled;
-pub use fault::RunFault;
 pub use laws::{ended_runs_report, runs_are_complete, runs_ask_in_order, statuses_have_causes};
-pub use report::ended_text;
 pub use run_command::run;
-pub use running::run_hosts;

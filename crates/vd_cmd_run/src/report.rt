@@ -23,7 +23,11 @@ fn lines(alloc: Global, printed: &[Words]) -> Result<HostLines, AllocError>
 }
 
 /// A line for each host, all of which have ended: its name, how many words it printed, and the words.
-pub fn ended_text(alloc: Global, hosts: &Names, printed: &[Words]) -> Result<Bytes, AllocError>
+pub(crate) fn ended_text(
+    alloc: Global,
+    hosts: &Names,
+    printed: &[Words],
+) -> Result<Bytes, AllocError>
     ensures { IfOk result (λ text. text ≡ ended_lines hosts.now printed.now) }
 {
     let lines = lines(alloc, printed)?;

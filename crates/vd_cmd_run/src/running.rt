@@ -4,7 +4,7 @@ ghost use Rattle.std.specs.Prelude.{◌≤◌, length};
 ghost use Rattle.vd_base.specs.Limits.{most_hosts};
 ghost use Rattle.vd_cmd_run.specs.RunsHosts.{RunsHosts, outside};
 
-use crate::RunFault;
+use crate::fault::RunFault;
 use crate::report::ended_text;
 use std::alloc::Global;
 use vd_base::{Names, Texts};
@@ -14,7 +14,7 @@ use vd_outside::{Files, Sink, Spawner, Stored, write_all};
 
 /// Stores the files of all hosts, runs the hosts as children, each by the program with its command line, and writes a line
 /// for each of what it printed. The first fault ends the run.
-pub fn run_hosts<F: Files, O: Sink, S: Spawner>(
+pub(crate) fn run_hosts<F: Files, O: Sink, S: Spawner>(
     alloc: Global,
     stores: &[Stored],
     names: &Names,

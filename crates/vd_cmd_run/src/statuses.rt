@@ -4,7 +4,7 @@ ghost use Rattle.std.specs.Prelude.{◌≡◌};
 ghost use Rattle.vd_report.specs.ChoiceLines.{host_name};
 ghost use Rattle.vd_cmd_run.specs.Statuses.{child_status, run_status};
 
-use crate::RunFault;
+use crate::fault::RunFault;
 use std::alloc::Global;
 use vd_base::{HostId, Name, Names};
 use vd_cmd_plan::{ChildCause, Status};

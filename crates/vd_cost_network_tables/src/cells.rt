@@ -111,7 +111,7 @@ pub fn less(cost: Option<i64>, amount: i64) -> Option<i64>
 }
 
 /// What shifts take at a setting of the first side and at one of the second, together.
-pub fn taken(from: &[i64], first: usize, to: &[i64], second: usize) -> i64
+fn taken(from: &[i64], first: usize, to: &[i64], second: usize) -> i64
     requires from { (v : ℕ) → IsWithin 562949953421312 (slice_index_or from.now v (pos 0)) }
     requires to { (w : ℕ) → IsWithin 562949953421312 (slice_index_or to.now w (pos 0)) }
     ensures taken { result ≡ slice_index_or from.now first (pos 0) +ℤ slice_index_or to.now second (pos 0) }

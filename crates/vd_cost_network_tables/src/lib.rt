@@ -10,7 +10,7 @@ mod sums;
 mod switches;
 
 pub use assembly::{all_arcs, most_settings, network_tables, settings};
-pub use cells::{less, taken, value_at};
+pub use cells::{less, value_at};
 pub use points::{can_read, slot_costs};
 pub use raw::RawArc;
 pub use sums::{Rows, shift_sums};

@@ -7,7 +7,7 @@ use vd_core::{Right, Stmt};
 
 /// What is done in a branch that would tell that it is taken, or that has no selection.
 #[derive(Clone, Copy, PartialEq, Eq, Debug)]
-pub enum Barrier {
+pub(crate) enum Barrier {
     Loop,
     Array,
     Input,

@@ -7,7 +7,5 @@ mod law;
 mod phrases;
 mod remarks;
 
-pub use barriers::Barrier;
-pub use hidden::Branch;
 pub use law::barriers_are_what_is_not_pure;
 pub use remarks::branch_remark;

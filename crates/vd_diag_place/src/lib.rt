@@ -7,4 +7,3 @@ mod terminal;
 
 pub use excerpts::excerpt;
 pub use lines::{line_behind, line_number};
-pub use terminal::shown;

@@ -40,7 +40,7 @@ fn visible(alloc: Global, bytes: &[u8]) -> Result<Bytes, AllocError>
 }
 
 /// The bytes as text: a blank for each control character, and U+FFFD for what is no UTF-8.
-pub fn shown(alloc: Global, bytes: &[u8]) -> Result<String, AllocError>
+pub(crate) fn shown(alloc: Global, bytes: &[u8]) -> Result<String, AllocError>
     ensures { IfOk result (λ text. string_bytes text ≡ shown.shown bytes.now) }
 {
     let text = visible(alloc, bytes)?;

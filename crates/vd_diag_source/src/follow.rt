@@ -19,7 +19,7 @@ use vd_source_spelling::{all_kinds, spell};
 
 /// Why it is not told which tokens a source goes on with.
 #[derive(Clone, Copy, PartialEq, Eq, Debug, Error)]
-pub enum FollowFault {
+pub(crate) enum FollowFault {
     /// The tokens before, with a blank behind each, are longer than a source may be.
     #[error("the tokens are too many")]
     TooLong,

@@ -9,7 +9,6 @@ mod refusals;
 mod rules;
 mod syntax;
 
-pub use follow::FollowFault;
 pub use laws::goes_on_is_exact;
 pub use refusals::syntax_remark;
 pub use rules::rule_remark;

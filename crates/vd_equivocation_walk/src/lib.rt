@@ -10,4 +10,3 @@ mod walker;
 
 pub use explaining::{Walked, walk};
 pub use laws::walks_are_followed;
-pub use walker::Walker;

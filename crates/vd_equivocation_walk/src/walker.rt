@@ -15,7 +15,7 @@ use vd_execution::{Act, Reg};
 
 /// The host that looks, the first run, and the second, in which the items of the other host are changed on the way.
 #[derive(Drop)]
-pub struct Walker {
+pub(crate) struct Walker {
     pub host: HostId,
     pub first: Run,
     pub second: Run,

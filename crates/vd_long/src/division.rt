@@ -14,7 +14,7 @@ use vd_rewrite::{Made, Stop, copy_slot};
 
 /// A division of the first slot by the second.
 #[derive(Clone, Copy, PartialEq, Eq, Debug)]
-pub enum Division {
+pub(crate) enum Division {
     Quotient(SlotId, SlotId),
     Remainder(SlotId, SlotId),
 }

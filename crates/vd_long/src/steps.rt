@@ -16,7 +16,7 @@ use vd_rewrite::{Made, Stop, fresh_slot};
 
 /// Where the statements go: the number of the first new slot, the operands' numbers, and the offset and block of new slots.
 #[derive(Clone, Copy, PartialEq, Eq, Debug)]
-pub struct Place {
+pub(crate) struct Place {
     pub base: u16,
     pub dividend: SlotId,
     pub divisor: SlotId,
@@ -26,7 +26,7 @@ pub struct Place {
 
 /// A statement of a template. Numbers 0 and 1 are the operands, and the others the new slots in order.
 #[derive(Clone, Copy, PartialEq, Eq, Debug)]
-pub enum Step {
+pub(crate) enum Step {
     Lit(u8, u32),
     Copy(u8, u8),
     Load(u8, u8),
