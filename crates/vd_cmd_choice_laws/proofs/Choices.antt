@@ -47,12 +47,12 @@ use Rattle.vd_cmd_frontend.specs.Outcomes.{LabelOutcomes, TextOutcomes}
 use Rattle.vd_cmd_frontend.specs.Labelling.{labels_of}
 use Rattle.vd_cmd_frontend.specs.Sources.{HoldsSource}
 use Rattle.vd_cmd_choose.specs.Certifying.{as_certificate, as_proved, certificate_of, certificate_plan, certificate_then, certified_plan, confirmed_plan, proved_of, proved_text}
-use Rattle.vd_cmd_choose.specs.Choice.{Chosen, as_searched, choice_then, chosen_by, printed_at, search_then, source_choice_then}
+use Rattle.vd_cmd_choice.specs.Choice.{Chosen, as_searched, choice_then, chosen_by, printed_at, search_then, source_choice_then}
 use Rattle.vd_cmd_choose.specs.Choosing.{certificate_file, choice_answer, chosen_answer}
-use Rattle.vd_cmd_choose.specs.Searching.{Certified, GaveUp, Searched, is_accepted, searched_by}
-use Rattle.vd_cmd_choose.specs.Outcomes.{CertificateOutcomes}
+use Rattle.vd_cmd_choice.specs.Searching.{Certified, GaveUp, Searched, is_accepted, searched_by}
+use Rattle.vd_cmd_choice.specs.Outcomes.{CertificateOutcomes}
 use Rattle.vd_cmd_choose.specs.Problems.{problem_for}
-use Rattle.vd_cmd_choose.proofs.Front.{has_labels}
+use Rattle.vd_cmd_choice.proofs.Front.{has_labels}
 use Rattle.vd_cmd_choice_laws.specs.Answers.{IsCertified, TellsAssignment, TellsChoice, least_line}
 use Rattle.vd_cmd_choice_laws.specs.Laws.{ChoicesTell}
 use Rattle.vd_cmd_choice_laws.proofs.Plans.{Ends, Leads, NeverEnds, answered, check_came, check_leads, ends_as, file_leads}

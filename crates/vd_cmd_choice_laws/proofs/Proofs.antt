@@ -21,7 +21,7 @@ use Rattle.vd_cmd_plan.specs.declared.answer.Answer.{Answer}
 use Rattle.vd_cmd_plan.specs.declared.status.Status.{Status}
 use Rattle.vd_cmd_plan.specs.declared.status.Status.TheVariants.{CertificateText, Ended}
 use Rattle.vd_cmd_choose.specs.Certifying.{as_certificate, as_proved, certificate_of, certificate_plan, certificate_then, certified_plan, certify_plan, confirmed_plan, proved_of, proved_text}
-use Rattle.vd_cmd_choose.specs.Outcomes.{CertificateOutcomes}
+use Rattle.vd_cmd_choice.specs.Outcomes.{CertificateOutcomes}
 use Rattle.vd_cmd_choose.specs.Problems.{problem_for}
 use Rattle.vd_cmd_choice_laws.specs.Answers.{HasNone, IsLeastCost}
 use Rattle.vd_cmd_choice_laws.specs.Laws.{ProofsTell}

@@ -34,7 +34,7 @@ use Rattle.vd_cmd_frontend.specs.Outcomes.{LabelOutcomes, TextOutcomes}
 use Rattle.vd_cmd_frontend.specs.Sources.{HoldsSource, IsSourceText, as_resolved, as_source, caused, resolved_of, source_of, source_then, text_status, tree_then}
 use Rattle.vd_cmd_frontend.proofs.Front.{labelled}
 use Rattle.vd_cmd_choose.specs.Problems.{IsProblemOf, as_problem, problem_for}
-use Rattle.vd_cmd_choose.specs.Programs.{program_then}
+use Rattle.vd_cmd_choice.specs.Programs.{program_then}
 use Rattle.vd_cmd_rewrite.specs.RunPrograms.{run_form}
 use Rattle.vd_cmd_choice_laws.proofs.Plans.{Ends, Leads, NeverEnds, check_came, check_leads, ends_as, file_came, held_leads}
 

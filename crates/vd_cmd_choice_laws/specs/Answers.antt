@@ -23,9 +23,9 @@ use Rattle.vd_cmd_frontend.specs.Labelling.{labels_text}
 use Rattle.vd_cmd_frontend.specs.Outcomes.{LabelOutcomes, TextOutcomes}
 use Rattle.vd_cmd_frontend.specs.Sources.{HoldsSource}
 use Rattle.vd_cmd_choose.specs.Certifying.{certify_plan}
-use Rattle.vd_cmd_choose.specs.Outcomes.{CertificateOutcomes}
+use Rattle.vd_cmd_choice.specs.Outcomes.{CertificateOutcomes}
 use Rattle.vd_cmd_compile.specs.Compiling.{host_file, plan_for}
-use Rattle.vd_cmd_choose.specs.Choice.{IsSelected, printed_at}
+use Rattle.vd_cmd_choice.specs.Choice.{IsSelected, printed_at}
 
 -- ---- labels
 

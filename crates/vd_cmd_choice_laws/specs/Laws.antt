@@ -10,8 +10,8 @@ use Rattle.vd_cmd_frontend.specs.Labelling.{labels_plan}
 use Rattle.vd_cmd_frontend.specs.Outcomes.{LabelOutcomes, TextOutcomes}
 use Rattle.vd_cmd_choose.specs.Certifying.{certify_plan}
 use Rattle.vd_cmd_choose.specs.Choosing.{choose_plan}
-use Rattle.vd_cmd_choose.specs.Searching.{Searched, searched_by}
-use Rattle.vd_cmd_choose.specs.Outcomes.{CertificateOutcomes}
+use Rattle.vd_cmd_choice.specs.Searching.{Searched, searched_by}
+use Rattle.vd_cmd_choice.specs.Outcomes.{CertificateOutcomes}
 use Rattle.vd_cmd_compile.specs.Compiling.{compile_plan}
 use Rattle.vd_cmd_choice_laws.specs.Answers.{TellsChoice, TellsCompiled, TellsLabels, TellsProof}
 

@@ -1,6 +1,2 @@
 -- The lemmas that other crates cite.
-pub use Rattle.vd_cmd_choose.proofs.Labelled.{has_labels}
-pub use Rattle.vd_cmd_choose.proofs.Reading.{some_certificates}
-pub use Rattle.vd_cmd_choose.proofs.ReadPrograms.{tree_refused}
-pub use Rattle.vd_cmd_choose.proofs.Steps.{assigned_computes, choice_follows, choice_refused, choice_which, none_computes, source_refused, source_then, text_refused, text_then, which_is}
-pub use Rattle.vd_cmd_choose.proofs.Sure.{choose_follows, program_follows, source_choice_follows, text_choice_follows}
+pub use Rattle.vd_cmd_choose.proofs.Sure.{choose_follows}

@@ -8,12 +8,11 @@ use Rattle.vd_base.specs.declared.faults.FileFault.{FileFault}
 use Rattle.vd_base.specs.declared.faults.FileFault.TheVariants as file_fault
 use Rattle.vd_search_certificate.specs.Outcomes.{Answers, HasOneOutcome}
 use Rattle.vd_search_certificate.specs.Texts.{IsTextOf, claim_text, letter, marks_text}
-use Rattle.vd_search_certificate.proofs.Front.{one_outcome}
 use Rattle.vd_cmd_plan.specs.declared.status.Status.{Status}
 use Rattle.vd_cmd_plan.specs.Plans.{Checks, ExecutesStep, file_then, check_then}
 use Rattle.vd_cmd_plan.specs.Loads.{Loads}
 use Rattle.vd_cmd_plan.proofs.Front.{load_step, check_step, both_steps, first_step}
-use Rattle.vd_cmd_choose.specs.Outcomes.{CertificateOutcomes}
+use Rattle.vd_cmd_choice.specs.Outcomes.{CertificateOutcomes}
 use Rattle.vd_cmd_choose.specs.Certifying.{IsFromFile, certificate_of, certificate_then}
 
 pub certificate_err : (certificates : CertificateOutcomes) (name : List ℕ) (before now : FilesView) (status : Status) → Loads name most_certificate_bytes before now (Err status) → ExecutesStep {T = Certificate} (certificate_then certificates name) before now (Err status)
@@ -36,7 +35,3 @@ from_file c bytes is few = record { few_shifts = is.is.few; few_marks = marks }
         let two = length-append (map letter c.marks) (10 ∷ []) in
         let three = length-map c.marks letter in
         omega (arith, whole, one, two, three)
-
--- there is a function that gives each file its one outcome
-pub some_certificates : CertificateOutcomes
-some_certificates = record { read = λ bytes. (one_outcome bytes).outcome; read_is = λ bytes. (one_outcome bytes).has }

@@ -16,9 +16,9 @@ use Rattle.vd_cmd_plan.specs.Refusals.{check_status}
 use Rattle.vd_cmd_plan.specs.declared.status.Status.{Status}
 use Rattle.vd_cmd_plan.specs.declared.status.Status.TheVariants.{CertificateText}
 use Rattle.vd_cmd_frontend.specs.Outcomes.{TextOutcomes, LabelOutcomes}
-use Rattle.vd_cmd_choose.specs.Outcomes.{CertificateOutcomes}
+use Rattle.vd_cmd_choice.specs.Outcomes.{CertificateOutcomes}
 use Rattle.vd_cmd_choose.specs.Problems.{problem_for}
-use Rattle.vd_cmd_choose.specs.Programs.{program_then}
+use Rattle.vd_cmd_choice.specs.Programs.{program_then}
 
 abbrev pub as_certificate : Result Certificate ℕ → Result Certificate Status
 as_certificate (Ok certificate) = Ok certificate

@@ -10,8 +10,8 @@ use Rattle.vd_cmd_plan.specs.declared.answer.Answer.{Answer}
 use Rattle.vd_cmd_plan.specs.declared.status.Status.{Status}
 use Rattle.vd_cmd_plan.specs.declared.status.Status.TheVariants.{NoAssignment}
 use Rattle.vd_cmd_frontend.specs.Outcomes.{TextOutcomes, LabelOutcomes}
-use Rattle.vd_cmd_choose.specs.Choice.{Chosen, printed_at, source_choice_then}
-use Rattle.vd_cmd_choose.specs.Searching.{Search, SomeSearch}
+use Rattle.vd_cmd_choice.specs.Choice.{Chosen, printed_at, source_choice_then}
+use Rattle.vd_cmd_choice.specs.Searching.{Search, SomeSearch}
 
 -- SOURCE.cert
 abbrev pub certificate_file : List ℕ → List ℕ → Stored

@@ -4,7 +4,7 @@ ghost use Rattle.std.specs.Prelude.{◌≤◌, IfOk, length};
 ghost use Rattle.vd_base.specs.Limits.{most_certificate_bytes};
 ghost use Rattle.vd_cmd_plan.specs.Plans.{Checks};
 ghost use Rattle.vd_cmd_choose.specs.Certifying.{IsFromFile, LoadsCertificate, certificate_of};
-ghost use Rattle.vd_cmd_choose.specs.Outcomes.{CertificateOutcomes};
+ghost use Rattle.vd_cmd_choice.specs.Outcomes.{CertificateOutcomes};
 
 use std::alloc::Global;
 use vd_base::FileFault;

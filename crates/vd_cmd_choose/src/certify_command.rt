@@ -7,13 +7,13 @@ ghost use Rattle.vd_cmd_plan.specs.Plans.{Checks, Computes, Executes, ended};
 ghost use Rattle.vd_cmd_choose.specs.Certifying.{ExecutesCertified, ExecutesCertify, IsFromFile, confirmed_plan, proved_of, proved_text};
 
 use crate::certificates::load_certificate;
-use crate::programs::load_program;
 use crate::spaces::least_space;
 use itoa::Buffer;
 use std::alloc::{AllocError, Global};
 use vd_base::Bytes;
 use vd_base_lists::Items;
 use vd_bound::Proved;
+use vd_cmd_choice::load_program;
 use vd_cmd_plan::{Answer, Status, check_status};
 use vd_core::Program;
 use vd_outside::Files;

@@ -4,31 +4,16 @@ ghost use Rattle.std.specs.Prelude.{◌≡◌, ◌≤◌, [], ◌∷◌, IfOk};
 ghost use Rattle.vd_base.specs.Limits.{most_search_budget};
 ghost use Rattle.vd_search_certificate.specs.Texts.{text_of};
 ghost use Rattle.vd_cmd_plan.specs.Plans.{Computes};
-ghost use Rattle.vd_cmd_choose.specs.Choice.{chosen_of, printed_at};
+ghost use Rattle.vd_cmd_choice.specs.Choice.{chosen_of};
 ghost use Rattle.vd_cmd_choose.specs.Choosing.{ExecutesChoose, certificate_file, chosen_answer};
 
-use crate::choice::{Choice, choice_of};
 use std::alloc::{AllocError, Global};
 use vd_base::{Bytes, Text};
 use vd_base_lists::Items;
+use vd_cmd_choice::{Choice, assignment_text, choice_of};
 use vd_cmd_plan::{Answer, Status};
-use vd_core::Program;
 use vd_outside::{Files, Stored};
-use vd_report::choice_text;
 use vd_search_certificate::Certificate;
-use vd_search_stages::Assignment;
-
-/// The lines that tell an assignment and its cost.
-pub fn assignment_text(
-    alloc: Global,
-    program: &Program,
-    assignment: &Assignment,
-) -> Result<Bytes, AllocError>
-    ensures { IfOk result (λ text. text ≡ printed_at program.now assignment.now) }
-{
-    let protocols = assignment.protocols.as_slice();
-    choice_text(alloc, program, protocols, u64::from(assignment.cost))
-}
 
 /// The file in which a certificate is stored.
 fn certificate_files(

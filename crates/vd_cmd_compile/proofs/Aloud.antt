@@ -26,7 +26,7 @@ use Rattle.vd_host_text.specs.declared.program.Digest.{Digest}
 use Rattle.vd_projection.specs.Programs.{host_codes, joint_of}
 use Rattle.vd_search_stages.specs.declared.optimum.Assignment.{Assignment}
 use Rattle.vd_cmd_compile.specs.Compiling.{IsStoredFor, host_file, host_files, plan_for}
-use Rattle.vd_cmd_choose.specs.Choice.{IsSelected, printed_at}
+use Rattle.vd_cmd_choice.specs.Choice.{IsSelected, printed_at}
 use Rattle.vd_cmd_compile.specs.Selected.{AreCovered, Covers}
 use Rattle.vd_cmd_compile.proofs.Runnable.{code_count}
 

@@ -10,7 +10,7 @@ use Rattle.vd_search_stages.specs.declared.optimum.Assignment.{Assignment}
 use Rattle.vd_cmd_plan.specs.Plans.{Computes}
 use Rattle.vd_cmd_plan.specs.declared.answer.Answer.{Answer}
 use Rattle.vd_cmd_plan.specs.declared.status.Status.TheVariants.{Ended}
-use Rattle.vd_cmd_choose.specs.Choice.{printed_at}
+use Rattle.vd_cmd_choice.specs.Choice.{printed_at}
 use Rattle.vd_cmd_compile.specs.Compiling.{compiled_at, host_files, plan_for}
 
 abbrev made : List Stored → List ℕ → Answer

@@ -10,7 +10,7 @@ use Rattle.vd_execution.specs.Joint.{code_of}
 use Rattle.vd_execution.specs.Text.{text}
 use Rattle.vd_projection.specs.Programs.{IsRunnable, host_codes, joint_of}
 use Rattle.vd_search_stages.specs.declared.optimum.Assignment.{Assignment}
-use Rattle.vd_cmd_choose.specs.Choice.{IsSelected}
+use Rattle.vd_cmd_choice.specs.Choice.{IsSelected}
 use Rattle.vd_space.specs.Reading.{problem_of}
 use Rattle.vd_space_optimum.specs.Cheapest.{IsAssignment}
 

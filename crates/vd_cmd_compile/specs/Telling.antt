@@ -13,7 +13,7 @@ use Rattle.vd_cmd_plan.specs.declared.answer.Answer.{Answer}
 use Rattle.vd_cmd_plan.specs.declared.status.Status.{Status}
 use Rattle.vd_cmd_plan.specs.declared.status.Status.TheVariants.{Ended}
 use Rattle.vd_cmd_frontend.specs.Sources.{IsSourceText}
-use Rattle.vd_cmd_choose.specs.Choice.{IsSelected}
+use Rattle.vd_cmd_choice.specs.Choice.{IsSelected}
 use Rattle.vd_cmd_compile.specs.Compiling.{host_files, plan_for}
 
 -- The answer stores a file for each host, of the host's code at the choice of protocols. The plan is the digest of the source's bytes

@@ -3,14 +3,14 @@
 ghost use Rattle.std.specs.Prelude.{◌≡◌, ◌≤◌, length, IfOk};
 ghost use Rattle.vd_base.specs.Limits.{most_hosts, most_search_budget};
 ghost use Rattle.vd_cmd_plan.specs.Plans.{Computes};
-ghost use Rattle.vd_cmd_choose.specs.Choice.{IsChoiceIn, IsSelected, chosen_of};
+ghost use Rattle.vd_cmd_choice.specs.Choice.{IsChoiceIn, IsSelected, chosen_of};
 ghost use Rattle.vd_cmd_compile.specs.Compiling.{ExecutesCompile, compiled_at, compiled_for, host_file, host_files};
 ghost use Rattle.vd_cmd_compile.specs.Telling.{TellsPrograms, TellsSource, TellsText};
 
 use std::alloc::{AllocError, Global};
 use vd_base::{HostId, Names};
 use vd_base_lists::Items;
-use vd_cmd_choose::{ChosenSource, assignment_text, choice_of, no_assignment};
+use vd_cmd_choice::{ChosenSource, assignment_text, choice_of, no_assignment};
 use vd_cmd_plan::{Answer, Status, file_name};
 use vd_core::Program;
 use vd_execution::Instr;

@@ -15,7 +15,7 @@ use Rattle.vd_search_stages.specs.declared.optimum.Assignment.{Assignment}
 use Rattle.vd_cmd_plan.specs.Plans.{Computes}
 use Rattle.vd_cmd_plan.specs.declared.answer.Answer.{Answer}
 use Rattle.vd_cmd_plan.specs.declared.status.Status.TheVariants.{Ended}
-use Rattle.vd_cmd_choose.specs.Choice.{printed_at}
+use Rattle.vd_cmd_choice.specs.Choice.{printed_at}
 use Rattle.vd_cmd_compile.specs.Compiling.{host_files}
 use Rattle.vd_projection_reordered.specs.Early.{AreEarlyCodes, each_code}
 use Rattle.vd_cmd_compile_early.specs.Compiling.{early_at, early_plan_for}

@@ -4,8 +4,8 @@ use Rattle.vd_outside.specs.Files.{FilesView, Contents}
 use Rattle.vd_outside.specs.Sink.{SinkView}
 use Rattle.vd_cmd.specs.declared.command.EarlyWords.{EarlyWords}
 use Rattle.vd_cmd_frontend.proofs.Front.{some_labels, some_texts}
-use Rattle.vd_cmd_choose.specs.Searching.{searched_by}
-use Rattle.vd_cmd_choose.proofs.Front.{some_certificates}
+use Rattle.vd_cmd_choice.specs.Searching.{searched_by}
+use Rattle.vd_cmd_choice.proofs.Front.{some_certificates}
 use Rattle.vd_search_stages.proofs.Front.{some_choices}
 use Rattle.vd_cmd_plan.specs.Plans.{Executes, IsGiven, IsProper, Plan}
 use Rattle.vd_cmd_plan.specs.Runs.{Finishes}

@@ -13,9 +13,9 @@ use Rattle.vd_search_stages.specs.declared.optimum.Assignment.{Assignment}
 use Rattle.vd_cmd_plan.specs.declared.answer.Answer.{Answer}
 use Rattle.vd_cmd_plan.specs.declared.status.Status.{Status}
 use Rattle.vd_cmd_plan.specs.declared.status.Status.TheVariants.{Ended}
-use Rattle.vd_cmd_choose.specs.Choice.{HasText, IsSelected, no_list}
-use Rattle.vd_cmd_choose.specs.Programs.{IsProgramOf}
-use Rattle.vd_cmd_choose.specs.declared.choice.ChosenSource.{ChosenSource}
+use Rattle.vd_cmd_choice.specs.Choice.{HasText, IsSelected, no_list}
+use Rattle.vd_cmd_choice.specs.Programs.{IsProgramOf}
+use Rattle.vd_cmd_choice.specs.declared.choice.ChosenSource.{ChosenSource}
 use Rattle.vd_cmd_compile.specs.Compiling.{host_files}
 use Rattle.vd_projection_reordered.specs.Early.{AreEarlyCodes}
 use Rattle.vd_cmd_compile_early.specs.Compiling.{early_plan_for}

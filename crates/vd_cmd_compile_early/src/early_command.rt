@@ -3,7 +3,7 @@
 ghost use Rattle.std.specs.Prelude.{◌≡◌, ◌≤◌, ◌++◌, codes, IfOk};
 ghost use Rattle.vd_base.specs.Limits.{most_search_budget};
 ghost use Rattle.vd_cmd_plan.specs.Plans.{Computes};
-ghost use Rattle.vd_cmd_choose.specs.Choice.{IsChoiceIn, IsSelected, chosen_of};
+ghost use Rattle.vd_cmd_choice.specs.Choice.{IsChoiceIn, IsSelected, chosen_of};
 ghost use Rattle.vd_cmd_compile_early.specs.Compiling.{ExecutesEarly, SomeOrder, early_at, early_for};
 ghost use Rattle.vd_cmd.specs.Commands.{IsBudget};
 ghost use Rattle.vd_cmd_compile_early.specs.Running.{KeepsOrder, RunsEarly};
@@ -12,7 +12,7 @@ ghost use Rattle.vd_cmd_compile_early.specs.Telling.{TellsPrograms, TellsSource,
 use std::alloc::{AllocError, Global};
 use vd_base::Bytes;
 use vd_cmd::EarlyWords;
-use vd_cmd_choose::{ChosenSource, assignment_text, choice_of, no_assignment};
+use vd_cmd_choice::{ChosenSource, assignment_text, choice_of, no_assignment};
 use vd_cmd_compile::files_of;
 use vd_cmd_plan::{Answer, Status, finish};
 use vd_core::Program;

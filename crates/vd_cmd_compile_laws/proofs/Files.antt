@@ -18,7 +18,7 @@ use Rattle.vd_search_stages.specs.declared.optimum.Assignment.{Assignment}
 use Rattle.vd_cmd_plan.specs.Numbered.{file_name}
 use Rattle.vd_projection_files.specs.Stored.{IsDigest, CanBeStored, stored_program}
 use Rattle.vd_projection_files.proofs.Front.{is_digest, stored_programs_are_read_back, stored_texts_are_short}
-use Rattle.vd_cmd_choose.specs.Choice.{printed_at}
+use Rattle.vd_cmd_choice.specs.Choice.{printed_at}
 use Rattle.vd_cmd_compile.specs.Compiling.{host_files, plan_for, compiled_at}
 use Rattle.vd_cmd_compile_laws.specs.Compiled.{EachFrom, IsReadBack, IsShort, CompiledFilesAreReadBack}
 

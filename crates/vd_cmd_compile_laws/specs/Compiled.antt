@@ -17,7 +17,7 @@ use Rattle.vd_cmd_plan.specs.Numbered.{file_name}
 use Rattle.vd_hostcode.specs.Outcome.{IsOutcome}
 use Rattle.vd_projection.specs.Programs.{CanRunAt, joint_of}
 use Rattle.vd_projection_files.specs.Stored.{stored_program}
-use Rattle.vd_cmd_choose.specs.Choice.{IsSelected, printed_at}
+use Rattle.vd_cmd_choice.specs.Choice.{IsSelected, printed_at}
 use Rattle.vd_cmd_compile.specs.Compiling.{compiled_at, plan_for}
 
 -- Reading these bytes gives the program of the host with this number: with the names of all hosts, this number and this plan; and its

@@ -13,7 +13,7 @@ use Rattle.vd_cmd_plan.specs.Numbered.{file_name}
 use Rattle.vd_cmd_frontend.specs.Sources.{IsSourceText}
 use Rattle.vd_projection_files.specs.Stored.{CanBeStored}
 use Rattle.vd_cmd_compile.specs.Compiling.{plan_for}
-use Rattle.vd_cmd_choose.specs.Choice.{IsSelected}
+use Rattle.vd_cmd_choice.specs.Choice.{IsSelected}
 use Rattle.vd_cmd_compile_laws.specs.Compiled.{IsReadBack}
 
 -- The file of the host with this number, by its name, is read as the program of that host.

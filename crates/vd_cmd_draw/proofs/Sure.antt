@@ -5,9 +5,9 @@ use Rattle.vd_search_stages.specs.Choices.{ChoiceOutcomes}
 use Rattle.vd_cmd_plan.specs.Plans.{answer_then}
 use Rattle.vd_cmd_plan.proofs.Front.{Follows}
 use Rattle.vd_cmd_frontend.specs.Outcomes.{TextOutcomes, LabelOutcomes}
-use Rattle.vd_cmd_choose.specs.Outcomes.{CertificateOutcomes}
-use Rattle.vd_cmd_choose.specs.Searching.{Searched, searched_by, sure_search}
-use Rattle.vd_cmd_choose.proofs.Front.{source_choice_follows}
+use Rattle.vd_cmd_choice.specs.Outcomes.{CertificateOutcomes}
+use Rattle.vd_cmd_choice.specs.Searching.{Searched, searched_by, sure_search}
+use Rattle.vd_cmd_choice.proofs.Front.{source_choice_follows}
 use Rattle.vd_cmd_draw.specs.Drawing.{draw_plan, drawn_for}
 
 pub draw_follows : (texts : TextOutcomes) (least : LabelOutcomes) (certificates : CertificateOutcomes) (choices : ChoiceOutcomes) (searched : Searched) (name : List ℕ) (budget : ℕ) (files : Contents)

@@ -11,9 +11,9 @@ use Rattle.vd_search_stages.specs.declared.optimum.Assignment.{Assignment}
 use Rattle.vd_cmd_plan.specs.declared.status.Status.TheVariants.{Ended}
 use Rattle.vd_cmd_frontend.specs.Outcomes.{LabelOutcomes, TextOutcomes}
 use Rattle.vd_cmd_frontend.specs.Sources.{HoldsSource}
-use Rattle.vd_cmd_choose.specs.Searching.{Searched, searched_by}
-use Rattle.vd_cmd_choose.specs.Outcomes.{CertificateOutcomes}
-use Rattle.vd_cmd_choose.specs.Choice.{IsSelected}
+use Rattle.vd_cmd_choice.specs.Searching.{Searched, searched_by}
+use Rattle.vd_cmd_choice.specs.Outcomes.{CertificateOutcomes}
+use Rattle.vd_cmd_choice.specs.Choice.{IsSelected}
 use Rattle.vd_cmd_draw.specs.Drawing.{draw_plan}
 
 -- The file is the text of a source that meets every rule, and what is printed is the drawing of its choice of protocols: of the valid

@@ -3,12 +3,12 @@
 ghost use Rattle.std.specs.Prelude.{◌≤◌};
 ghost use Rattle.vd_base.specs.Limits.{most_search_budget};
 ghost use Rattle.vd_cmd_plan.specs.Plans.{Computes};
-ghost use Rattle.vd_cmd_choose.specs.Choice.{chosen_of};
+ghost use Rattle.vd_cmd_choice.specs.Choice.{chosen_of};
 ghost use Rattle.vd_cmd_draw.specs.Drawing.{ExecutesDraw, drawn_answer, drawn_for};
 
 use std::alloc::Global;
 use vd_base_lists::Items;
-use vd_cmd_choose::{Choice, ChosenSource, choice_of, no_assignment};
+use vd_cmd_choice::{Choice, ChosenSource, choice_of, no_assignment};
 use vd_cmd_plan::{Answer, Status};
 use vd_draw_picture::drawing;
 use vd_outside::Files;

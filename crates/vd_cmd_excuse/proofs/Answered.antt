@@ -18,8 +18,8 @@ use Rattle.vd_cmd_inputs.specs.Deals.{as_consistent}
 use Rattle.vd_cmd_excuse.specs.declared.runs.Runs.{Runs}
 use Rattle.vd_cmd_excuse.specs.Excusing.{ExecutesExcused, as_free, choice_plan, commitment_in, excuse_answer, excused_for, excused_plan, ExecutesChoice, ExecutesHost}
 use Rattle.vd_cmd_excuse.specs.Telling.{TellsAt}
-use Rattle.vd_cmd_choose.specs.Choice.{Chooses, no_list}
-use Rattle.vd_cmd_choose.specs.declared.choice.Choice.{Choice}
+use Rattle.vd_cmd_choice.specs.Choice.{Chooses, no_list}
+use Rattle.vd_cmd_choice.specs.declared.choice.Choice.{Choice}
 use Rattle.vd_cmd.specs.declared.command.ExcuseWords.{ExcuseWords}
 
 -- the answer that stores and prints this

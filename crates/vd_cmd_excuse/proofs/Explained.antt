@@ -28,7 +28,7 @@ use Rattle.vd_projection.specs.Programs.{joint_of}
 use Rattle.vd_world_report.specs.Supplies.{items_for}
 use Rattle.vd_report.specs.Hosts.{host_of}
 use Rattle.vd_cmd_plan.specs.declared.answer.Answer.{Answer}
-use Rattle.vd_cmd_choose.specs.Choice.{IsSelected}
+use Rattle.vd_cmd_choice.specs.Choice.{IsSelected}
 use Rattle.vd_views_programs.specs.Explained.{IsOfTwo, plan_of}
 use Rattle.vd_views_deals.specs.Files.{tape_of, dealt_count, counts_of}
 use Rattle.vd_equivocation_deals.specs.Short.{short_kind, end_of, TakesNoMore}

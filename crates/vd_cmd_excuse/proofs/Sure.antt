@@ -12,10 +12,10 @@ use Rattle.vd_cmd_plan.specs.Plans.{Plan, check_then}
 use Rattle.vd_cmd_plan.proofs.Front.{Follows, check_follows, file_follows}
 use Rattle.vd_cmd_frontend.specs.Outcomes.{TextOutcomes, LabelOutcomes}
 use Rattle.vd_cmd_frontend.specs.Inputs.{inputs_then, words_of}
-use Rattle.vd_cmd_choose.proofs.Front.{program_follows, choice_follows}
+use Rattle.vd_cmd_choice.proofs.Front.{program_follows, choice_follows}
 use Rattle.vd_cmd_depends.specs.Depending.{as_host}
-use Rattle.vd_cmd_choose.specs.Outcomes.{CertificateOutcomes}
-use Rattle.vd_cmd_choose.specs.Searching.{Searched, searched_by, sure_search}
+use Rattle.vd_cmd_choice.specs.Outcomes.{CertificateOutcomes}
+use Rattle.vd_cmd_choice.specs.Searching.{Searched, searched_by, sure_search}
 use Rattle.vd_report_laws.specs.Outcomes.{ReplayOutcomes}
 use Rattle.vd_cmd_inputs.specs.Deals.{deal_of, deal_then, deals_from}
 use Rattle.vd_cmd_excuse.specs.declared.runs.Runs.{Runs}

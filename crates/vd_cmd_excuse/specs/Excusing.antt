@@ -18,10 +18,10 @@ use Rattle.vd_cmd_plan.specs.declared.status.Status.{Status}
 use Rattle.vd_cmd_plan.specs.declared.status.Status.TheVariants.{Memory, NotTwo, HasCommit, DealShort, ViewDiffers}
 use Rattle.vd_cmd_deal.specs.Dealing.{deal_files}
 use Rattle.vd_cmd_frontend.specs.Outcomes.{TextOutcomes, LabelOutcomes}
-use Rattle.vd_cmd_choose.specs.Programs.{program_then}
+use Rattle.vd_cmd_choice.specs.Programs.{program_then}
 use Rattle.vd_cmd_depends.specs.Depending.{as_host}
-use Rattle.vd_cmd_choose.specs.Searching.{Search, SomeSearch}
-use Rattle.vd_cmd_choose.specs.Choice.{choice_then, no_list}
+use Rattle.vd_cmd_choice.specs.Searching.{Search, SomeSearch}
+use Rattle.vd_cmd_choice.specs.Choice.{choice_then, no_list}
 use Rattle.vd_report_laws.specs.Outcomes.{ReplayOutcomes}
 use Rattle.vd_cmd_inputs.specs.Deals.{as_consistent}
 use Rattle.vd_views_programs.specs.Explained.{plan_of}

@@ -16,7 +16,7 @@ use Rattle.vd_cmd_plan.specs.declared.status.Status.{Status}
 use Rattle.vd_cmd_plan.specs.declared.status.Status.TheVariants.{Ended}
 use Rattle.vd_cmd_deal.specs.Dealing.{deal_files}
 use Rattle.vd_cmd_frontend.specs.Sources.{HoldsSource}
-use Rattle.vd_cmd_choose.specs.Choice.{IsSelected}
+use Rattle.vd_cmd_choice.specs.Choice.{IsSelected}
 use Rattle.vd_views_programs.specs.Explained.{IsOfTwo, plan_of, AgreeFor}
 use Rattle.vd_views_deals.specs.Files.{IsExcuse}
 use Rattle.vd_views_transcript.specs.Talk.{talk}

@@ -7,9 +7,9 @@ use Rattle.vd_cmd.specs.declared.command.NeedsWords.{NeedsWords}
 use Rattle.vd_cmd_plan.specs.Plans.{Plan, answer_then}
 use Rattle.vd_cmd_plan.proofs.Front.{Follows, file_follows}
 use Rattle.vd_cmd_frontend.specs.Outcomes.{TextOutcomes, LabelOutcomes}
-use Rattle.vd_cmd_choose.specs.Outcomes.{CertificateOutcomes}
-use Rattle.vd_cmd_choose.specs.Searching.{Searched, searched_by, sure_search}
-use Rattle.vd_cmd_choose.proofs.Front.{text_choice_follows}
+use Rattle.vd_cmd_choice.specs.Outcomes.{CertificateOutcomes}
+use Rattle.vd_cmd_choice.specs.Searching.{Searched, searched_by, sure_search}
+use Rattle.vd_cmd_choice.proofs.Front.{text_choice_follows}
 use Rattle.vd_cmd_needs.specs.Needing.{bytes_plan, host_plan, is_program_text, needs_answer, needs_plan, text_plan}
 use Rattle.vd_cmd_programs.specs.Programs.{ProgramOutcomes}
 

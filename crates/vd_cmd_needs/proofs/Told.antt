@@ -26,8 +26,8 @@ use Rattle.vd_cmd_plan.specs.declared.answer.Answer.{Answer}
 use Rattle.vd_cmd_plan.specs.declared.status.Status.{Status}
 use Rattle.vd_cmd_plan.specs.declared.status.Status.TheVariants.{Ended, NoAssignment}
 use Rattle.vd_cmd_plan.proofs.Front.{loaded_is}
-use Rattle.vd_cmd_choose.specs.Choice.{IsSelected, no_list}
-use Rattle.vd_cmd_choose.specs.Programs.{IsProgramOf}
+use Rattle.vd_cmd_choice.specs.Choice.{IsSelected, no_list}
+use Rattle.vd_cmd_choice.specs.Programs.{IsProgramOf}
 use Rattle.vd_cmd_compile.proofs.Front.{runnable_of}
 use Rattle.vd_cmd_needs.specs.Lines.{program_lines}
 use Rattle.vd_cmd_needs.specs.Needing.{needs_text}

@@ -4,7 +4,7 @@ ghost use Rattle.std.specs.Prelude.{◌≡◌, ◌≤◌, [], length, IfErr, IfO
 ghost use Rattle.vd_base.specs.Limits.{most_search_budget, most_source_bytes};
 ghost use Rattle.vd_cmd_plan.specs.Plans.{Computes, ended};
 ghost use Rattle.vd_projection.specs.Programs.{IsRunnable};
-ghost use Rattle.vd_cmd_choose.specs.Choice.{IsSelected, chosen_of};
+ghost use Rattle.vd_cmd_choice.specs.Choice.{IsSelected, chosen_of};
 ghost use Rattle.vd_cmd_needs.specs.Needing.{ExecutesBytes, ExecutesNeeds, ExecutesText, IsNoSource, needs_answer, needs_text};
 ghost use Rattle.vd_cmd_needs.specs.Telling.{IsNeedsOf, TellsBytes, TellsNeeds, TellsProgram, TellsText};
 
@@ -15,7 +15,7 @@ use vd_base::limits::{HOST_FILE_BYTES, SOURCE_BYTES};
 use vd_base::{Bytes, Proto, Text};
 use vd_base_lists::Items;
 use vd_cmd::NeedsWords;
-use vd_cmd_choose::{Choice, choice_in, no_assignment};
+use vd_cmd_choice::{Choice, choice_in, no_assignment};
 use vd_cmd_plan::{Answer, Status, load};
 use vd_core::Program;
 use vd_deal_needs::sizes;

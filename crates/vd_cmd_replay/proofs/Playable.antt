@@ -34,7 +34,7 @@ use Rattle.vd_world_report.specs.Schedules.{replayed}
 use Rattle.vd_world_report.specs.Supplies.{AreFiles, supply_of_files}
 use Rattle.vd_world_report.specs.Told.{TellsUnder}
 use Rattle.vd_world_report.proofs.Front.{programs_tell}
-use Rattle.vd_cmd_choose.specs.Choice.{IsSelected}
+use Rattle.vd_cmd_choice.specs.Choice.{IsSelected}
 use Rattle.vd_cmd_compile.proofs.Front.{code_count, runnable_of, covered, stored_for}
 use Rattle.vd_cmd_inputs.specs.declared.asked.Asked.{Asked}
 use Rattle.vd_cmd_inputs.specs.Asking.{AreAsked}

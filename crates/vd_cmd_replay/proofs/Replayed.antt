@@ -8,8 +8,8 @@ use Rattle.vd_cmd_plan.specs.declared.answer.Answer.{Answer}
 use Rattle.vd_cmd_plan.specs.declared.status.Status.{Status}
 use Rattle.vd_cmd_plan.specs.declared.status.Status.TheVariants.{Ended, NoAssignment}
 use Rattle.vd_cmd_plan.proofs.Front.{answers, check_step}
-use Rattle.vd_cmd_choose.specs.Choice.{Chooses, no_list}
-use Rattle.vd_cmd_choose.specs.declared.choice.Choice.{Choice}
+use Rattle.vd_cmd_choice.specs.Choice.{Chooses, no_list}
+use Rattle.vd_cmd_choice.specs.declared.choice.Choice.{Choice}
 use Rattle.vd_report_laws.specs.Outcomes.{ReplayOutcomes}
 use Rattle.vd_cmd_inputs.specs.declared.asked.Asked.{Asked}
 use Rattle.vd_cmd_inputs.specs.Deals.{as_consistent}

@@ -12,9 +12,9 @@ use Rattle.vd_cmd_plan.specs.Plans.{Plan, check_then}
 use Rattle.vd_cmd_plan.proofs.Front.{Follows, file_follows, check_follows}
 use Rattle.vd_cmd_frontend.specs.Outcomes.{TextOutcomes, LabelOutcomes}
 use Rattle.vd_cmd_frontend.specs.Inputs.{words_of, inputs_then}
-use Rattle.vd_cmd_choose.specs.Outcomes.{CertificateOutcomes}
-use Rattle.vd_cmd_choose.specs.Searching.{Searched, searched_by, sure_search}
-use Rattle.vd_cmd_choose.proofs.Front.{choice_follows, program_follows}
+use Rattle.vd_cmd_choice.specs.Outcomes.{CertificateOutcomes}
+use Rattle.vd_cmd_choice.specs.Searching.{Searched, searched_by, sure_search}
+use Rattle.vd_cmd_choice.proofs.Front.{choice_follows, program_follows}
 use Rattle.vd_report_laws.specs.Outcomes.{ReplayOutcomes}
 use Rattle.vd_cmd_inputs.specs.declared.asked.Asked.{Asked}
 use Rattle.vd_cmd_inputs.specs.Asking.{asked_of}

@@ -16,9 +16,9 @@ use Rattle.vd_cmd_plan.specs.Plans.{Plan, Executes, check_then, answer_then, end
 use Rattle.vd_cmd_plan.specs.declared.answer.Answer.{Answer}
 use Rattle.vd_cmd_plan.specs.declared.status.Status.{Status}
 use Rattle.vd_cmd_frontend.specs.Outcomes.{TextOutcomes, LabelOutcomes}
-use Rattle.vd_cmd_choose.specs.Programs.{program_then}
-use Rattle.vd_cmd_choose.specs.Searching.{Search, SomeSearch}
-use Rattle.vd_cmd_choose.specs.Choice.{choice_then, no_list}
+use Rattle.vd_cmd_choice.specs.Programs.{program_then}
+use Rattle.vd_cmd_choice.specs.Searching.{Search, SomeSearch}
+use Rattle.vd_cmd_choice.specs.Choice.{choice_then, no_list}
 use Rattle.vd_report_laws.specs.Outcomes.{ReplayOutcomes}
 use Rattle.vd_cmd_inputs.specs.declared.asked.Asked.{Asked}
 use Rattle.vd_cmd_inputs.specs.Asking.{asked_then}

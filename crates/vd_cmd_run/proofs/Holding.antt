@@ -15,8 +15,8 @@ use Rattle.vd_cmd_plan.specs.declared.status.Status.TheVariants.{Ended}
 use Rattle.vd_cmd_frontend.proofs.Front.{some_labels, some_texts}
 use Rattle.vd_cmd_frontend.specs.Sources.{HoldsSource}
 use Rattle.vd_search_stages.proofs.Front.{some_choices}
-use Rattle.vd_cmd_choose.proofs.Front.{some_certificates}
-use Rattle.vd_cmd_choose.specs.Searching.{searched_by}
+use Rattle.vd_cmd_choice.proofs.Front.{some_certificates}
+use Rattle.vd_cmd_choice.specs.Searching.{searched_by}
 use Rattle.vd_cmd_compile.proofs.Front.{compile_follows}
 use Rattle.vd_cmd_compile.specs.Compiling.{compile_plan}
 use Rattle.vd_cmd_run.specs.Asking.{EndedRunsReport, RunsAskInOrder}

@@ -14,7 +14,7 @@ use Rattle.vd_cmd_plan.specs.declared.status.ChildCause.TheVariants as cause
 use Rattle.vd_cmd_plan.specs.declared.status.Status.{Status}
 use Rattle.vd_cmd_plan.specs.declared.status.Status.TheVariants.{Ended, Memory}
 use Rattle.vd_cmd_plan.specs.declared.status.Status.TheVariants as status
-use Rattle.vd_cmd_choose.specs.Searching.{sure_search}
+use Rattle.vd_cmd_choice.specs.Searching.{sure_search}
 use Rattle.vd_search_stages.specs.Choices.{ChoiceOutcomes}
 use Rattle.vd_cmd_run.specs.Running.{Runs}
 use Rattle.vd_cmd_run.specs.RunsHosts.{Outside}

@@ -10,7 +10,7 @@ use Rattle.vd_cmd_plan.specs.Plans.{Executes}
 use Rattle.vd_cmd_plan.specs.declared.answer.Answer.{Answer}
 use Rattle.vd_cmd_plan.specs.declared.status.Status.{Status}
 use Rattle.vd_cmd_plan.specs.declared.status.Status.TheVariants.{Ended, Memory, NoAssignment}
-use Rattle.vd_cmd_choose.specs.Searching.{SomeSearch}
+use Rattle.vd_cmd_choice.specs.Searching.{SomeSearch}
 use Rattle.vd_cmd_run.specs.CommandLines.{command_lines}
 use Rattle.vd_cmd_run.specs.Compiled.{AreHostsOf}
 use Rattle.vd_cmd_run.specs.RunsHosts.{Outside, RunsHosts}

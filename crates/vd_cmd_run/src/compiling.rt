@@ -10,7 +10,7 @@ use crate::compiled::Compiled;
 use std::alloc::{AllocError, Global};
 use vd_base::limits::SEARCH_BUDGET;
 use vd_base::{Name, Names};
-use vd_cmd_choose::choice_of;
+use vd_cmd_choice::choice_of;
 use vd_cmd_compile::compile_choice;
 use vd_cmd_plan::Status;
 use vd_core::Program;

@@ -25,10 +25,10 @@ use Rattle.vd_cmd_frontend.specs.Outcomes.{TextOutcomes, LabelOutcomes}
 use Rattle.vd_cmd_frontend.specs.Sources.{source_of, resolved_of}
 use Rattle.vd_cmd_frontend.proofs.Front.{some_labels, some_texts}
 use Rattle.vd_gen_laws.proofs.Front.{is_read}
-use Rattle.vd_cmd_choose.specs.Choice.{Chosen, as_searched, chosen_by, search_then}
-use Rattle.vd_cmd_choose.specs.Searching.{Searched, GaveUp, Certified, is_accepted, searched_by}
-use Rattle.vd_cmd_choose.specs.Outcomes.{CertificateOutcomes}
-use Rattle.vd_cmd_choose.proofs.Front.{some_certificates}
+use Rattle.vd_cmd_choice.specs.Choice.{Chosen, as_searched, chosen_by, search_then}
+use Rattle.vd_cmd_choice.specs.Searching.{Searched, GaveUp, Certified, is_accepted, searched_by}
+use Rattle.vd_cmd_choice.specs.Outcomes.{CertificateOutcomes}
+use Rattle.vd_cmd_choice.proofs.Front.{some_certificates}
 use Rattle.vd_cmd_trial.specs.Telling.{AnswersTrial, EndsTrial}
 use Rattle.vd_cmd_trial.specs.Trial.{ExecutesTrial, choice_plan, program_plan, source_plan, trial_plan}
 

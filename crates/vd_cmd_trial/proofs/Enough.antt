@@ -24,7 +24,7 @@ use Rattle.vd_deal_needs_programs.proofs.Front.{sizes_are_enough, deals_have_the
 use Rattle.vd_deal_needs_limits.specs.Items.{most_executed}
 use Rattle.vd_deal_needs_limits.proofs.Front.{small_programs_can_be_dealt, within}
 use Rattle.vd_search_stages.specs.declared.optimum.Assignment.{Assignment}
-use Rattle.vd_cmd_choose.specs.Choice.{IsSelected}
+use Rattle.vd_cmd_choice.specs.Choice.{IsSelected}
 use Rattle.vd_cmd_compile.proofs.Front.{runnable_of}
 use Rattle.vd_cmd_inputs.specs.declared.asked.Asked.{Asked}
 use Rattle.vd_cmd_inputs.specs.Asking.{AreAsked}

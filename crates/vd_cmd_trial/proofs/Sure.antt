@@ -10,9 +10,9 @@ use Rattle.vd_cmd_plan.specs.Plans.{check_then}
 use Rattle.vd_cmd_plan.proofs.Front.{Follows, check_follows}
 use Rattle.vd_cmd_frontend.specs.Outcomes.{TextOutcomes, LabelOutcomes}
 use Rattle.vd_cmd_frontend.specs.Sources.{source_of, resolved_of}
-use Rattle.vd_cmd_choose.specs.Outcomes.{CertificateOutcomes}
-use Rattle.vd_cmd_choose.specs.Searching.{Searched, searched_by, sure_search}
-use Rattle.vd_cmd_choose.proofs.Front.{choice_follows}
+use Rattle.vd_cmd_choice.specs.Outcomes.{CertificateOutcomes}
+use Rattle.vd_cmd_choice.specs.Searching.{Searched, searched_by, sure_search}
+use Rattle.vd_cmd_choice.proofs.Front.{choice_follows}
 use Rattle.vd_cmd_trial.specs.Trial.{choice_plan, program_plan, source_plan, trial_plan}
 
 module _ (least : LabelOutcomes) (certificates : CertificateOutcomes) (choices : ChoiceOutcomes) (searched : Searched) (coordinates : ℕ) (files : Contents) where

@@ -10,7 +10,7 @@ use Rattle.vd_cmd_plan.specs.declared.status.Status.{Status}
 use Rattle.vd_cmd_plan.proofs.Front.{check_step}
 use Rattle.vd_cmd_frontend.specs.Outcomes.{TextOutcomes, LabelOutcomes}
 use Rattle.vd_cmd_frontend.specs.Sources.{source_of, resolved_of}
-use Rattle.vd_cmd_choose.specs.Searching.{Search}
+use Rattle.vd_cmd_choice.specs.Searching.{Search}
 use Rattle.vd_cmd_trial.specs.Trial.{source_plan, trial_plan}
 
 module _ (texts : TextOutcomes) (least : LabelOutcomes) (choices : ChoiceOutcomes) (search : Search) (coordinates : ℕ) (bytes seen : List ℕ) (text : bytes ≡ generated coordinates) (same : seen ≡ bytes) (files : FilesView) where

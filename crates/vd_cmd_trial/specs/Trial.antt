@@ -23,8 +23,8 @@ use Rattle.vd_cmd_plan.specs.declared.answer.Answer.{Answer}
 use Rattle.vd_cmd_plan.specs.declared.status.Status.{Status}
 use Rattle.vd_cmd_frontend.specs.Outcomes.{TextOutcomes, LabelOutcomes}
 use Rattle.vd_cmd_frontend.specs.Sources.{source_of, resolved_of}
-use Rattle.vd_cmd_choose.specs.Searching.{Search, SomeSearch}
-use Rattle.vd_cmd_choose.specs.Choice.{choice_then, no_list}
+use Rattle.vd_cmd_choice.specs.Searching.{Search, SomeSearch}
+use Rattle.vd_cmd_choice.specs.Choice.{choice_then, no_list}
 use Rattle.vd_cmd_inputs.specs.declared.asked.Asked.{Asked}
 use Rattle.vd_cmd_replay.specs.Replaying.{report_for}
 

@@ -6,7 +6,7 @@ ghost use Rattle.vd_core.specs.Facts.{weight_sum};
 ghost use Rattle.vd_deal_items.specs.Validity.{IsConsistent};
 ghost use Rattle.vd_tape.specs.Made.{AreCounts};
 ghost use Rattle.vd_deal_needs.specs.Sizes.{sizes_of};
-ghost use Rattle.vd_cmd_choose.specs.Choice.{IsSelected};
+ghost use Rattle.vd_cmd_choice.specs.Choice.{IsSelected};
 ghost use Rattle.vd_deal_needs_limits.specs.Items.{most_executed};
 ghost use Rattle.vd_cmd_inputs.specs.Asking.{AreAsked};
 ghost use Rattle.vd_cmd_trial.specs.Trial.{Suffice, asked_by, most_inputs, trial_asked, trial_input, trial_inputs, trial_words};

@@ -12,7 +12,7 @@ use Rattle.vd_cmd_plan.specs.Plans.{Executes, fetch_calls}
 use Rattle.vd_cmd_plan.specs.declared.status.Status.{Status}
 use Rattle.vd_cmd_plan.specs.declared.status.Status.TheVariants.{Ended, Memory, Usage}
 use Rattle.vd_cmd_plan.proofs.Front.{same_within, any_memory, runs_err}
-use Rattle.vd_cmd_choose.specs.Searching.{GaveUp, searched_by}
+use Rattle.vd_cmd_choice.specs.Searching.{GaveUp, searched_by}
 use Rattle.vd_execution.specs.Joint.{Done}
 use Rattle.vd_cmd_compile_early.specs.Compiling.{early_plan}
 use Rattle.vd_cmd_host.specs.Hosts.{HostRuns, Marked, NetsView, NotLoaded, Plainly}

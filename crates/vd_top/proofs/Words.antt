@@ -12,8 +12,9 @@ use Rattle.vd_cmd_plan.specs.declared.answer.Answer.{Answer}
 use Rattle.vd_cmd_plan.proofs.Front.{Follows}
 use Rattle.vd_cmd_frontend.proofs.Front.{some_texts, some_labels}
 use Rattle.vd_search_stages.proofs.Front.{some_choices}
-use Rattle.vd_cmd_choose.specs.Searching.{Searched, sure_search}
-use Rattle.vd_cmd_choose.proofs.Front.{some_certificates, choose_follows}
+use Rattle.vd_cmd_choice.specs.Searching.{Searched, sure_search}
+use Rattle.vd_cmd_choice.proofs.Front.{some_certificates}
+use Rattle.vd_cmd_choose.proofs.Front.{choose_follows}
 use Rattle.vd_cmd_compile.proofs.Front.{compile_follows}
 use Rattle.vd_cmd_draw.proofs.Front.{draw_follows}
 use Rattle.vd_cmd_programs.proofs.Front.{some_programs}

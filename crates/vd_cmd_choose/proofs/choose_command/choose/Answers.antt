@@ -1,9 +1,9 @@
 use Rattle.std.proofs.lemmas.Result.{err_from_is_err_and}
 use Rattle.vd_cmd_plan.specs.Plans.{answer_then}
 use Rattle.vd_cmd_plan.proofs.Front.{answers}
-use Rattle.vd_cmd_choose.specs.Choice.{chosen_of}
+use Rattle.vd_cmd_choice.specs.Choice.{chosen_of}
 use Rattle.vd_cmd_choose.specs.Choosing.{chosen_answer}
-use Rattle.vd_cmd_choose.proofs.Steps.{source_refused, source_then}
+use Rattle.vd_cmd_choice.proofs.Front.{source_refused, source_then}
 use Rattle.vd_cmd_choose.proofs.choose_command.choose.Goals as goal
 
 pub returns-in_err-found : goal.returns-in_err-found

@@ -1,7 +1,7 @@
 use Rattle.std.proofs.Common.{Some, None}
 use Rattle.vd_search_stages.specs.declared.optimum.Assignment.{Assignment}
-use Rattle.vd_cmd_choose.specs.Choice.{IsSelected}
-use Rattle.vd_cmd_choose.proofs.Front.{assigned_computes, none_computes, which_is}
+use Rattle.vd_cmd_choice.specs.Choice.{IsSelected}
+use Rattle.vd_cmd_choice.proofs.Front.{assigned_computes, none_computes, which_is}
 use Rattle.vd_cmd_compile.specs.Compiling.{compiled_at}
 use Rattle.vd_cmd_compile.proofs.Telling.{none_told, run_told}
 use Rattle.vd_cmd_compile.proofs.compile_command.compile_choice.Goals as goal

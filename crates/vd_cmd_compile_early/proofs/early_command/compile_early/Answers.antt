@@ -2,8 +2,8 @@ use Rattle.std.proofs.lemmas.Result.{err_from_is_err_and}
 use Rattle.vd_execution.specs.Joint.{Done}
 use Rattle.vd_cmd_plan.specs.Plans.{answer_then}
 use Rattle.vd_cmd_plan.proofs.Front.{answers}
-use Rattle.vd_cmd_choose.specs.Choice.{chosen_of}
-use Rattle.vd_cmd_choose.proofs.Front.{source_refused, source_then}
+use Rattle.vd_cmd_choice.specs.Choice.{chosen_of}
+use Rattle.vd_cmd_choice.proofs.Front.{source_refused, source_then}
 use Rattle.vd_cmd_compile_early.specs.Compiling.{early_for}
 use Rattle.vd_cmd_compile_early.proofs.Telling.{source_stored}
 use Rattle.vd_cmd_compile_early.proofs.early_command.compile_early.Goals as goal

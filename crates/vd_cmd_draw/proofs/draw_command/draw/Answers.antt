@@ -1,8 +1,8 @@
 use Rattle.std.proofs.lemmas.Result.{err_from_is_err_and}
 use Rattle.vd_cmd_plan.specs.Plans.{answer_then}
 use Rattle.vd_cmd_plan.proofs.Front.{answers}
-use Rattle.vd_cmd_choose.specs.Choice.{chosen_of}
-use Rattle.vd_cmd_choose.proofs.Front.{source_refused, source_then}
+use Rattle.vd_cmd_choice.specs.Choice.{chosen_of}
+use Rattle.vd_cmd_choice.proofs.Front.{source_refused, source_then}
 use Rattle.vd_cmd_draw.specs.Drawing.{drawn_for}
 use Rattle.vd_cmd_draw.proofs.draw_command.draw.Goals as goal
 

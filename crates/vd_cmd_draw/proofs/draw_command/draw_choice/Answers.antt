@@ -1,6 +1,6 @@
 use Rattle.std.proofs.Common.{Some, None, subst}
 use Rattle.vd_cmd_plan.specs.Plans.{Computes}
-use Rattle.vd_cmd_choose.proofs.Front.{assigned_computes, none_computes}
+use Rattle.vd_cmd_choice.proofs.Front.{assigned_computes, none_computes}
 use Rattle.vd_cmd_draw.specs.Drawing.{drawn_answer}
 use Rattle.vd_cmd_draw.proofs.draw_command.draw_choice.Goals as goal
 

@@ -1,5 +1,5 @@
 use Rattle.std.proofs.lemmas.Result.{err_from_is_err_and}
-use Rattle.vd_cmd_choose.specs.Searching.{GaveUp, searched_by}
+use Rattle.vd_cmd_choice.specs.Searching.{GaveUp, searched_by}
 use Rattle.vd_cmd_excuse.specs.Excusing.{program_plan}
 use Rattle.vd_cmd_excuse.proofs.Held.{excuse_told}
 use Rattle.vd_cmd_excuse.proofs.excuse_command.excuse.Goals as goal

@@ -5,8 +5,8 @@ use Rattle.vd_space.specs.Reading.{problem_of}
 use Rattle.vd_space_optimum.specs.Cheapest.{IsAssignment}
 use Rattle.vd_search_stages.specs.declared.optimum.Assignment.{Assignment}
 use Rattle.vd_cmd_plan.proofs.Front.{answers}
-use Rattle.vd_cmd_choose.specs.Choice.{IsSelected, no_list}
-use Rattle.vd_cmd_choose.proofs.Front.{none_computes, which_is}
+use Rattle.vd_cmd_choice.specs.Choice.{IsSelected, no_list}
+use Rattle.vd_cmd_choice.proofs.Front.{none_computes, which_is}
 use Rattle.vd_cmd_excuse.specs.Telling.{TellsAt}
 use Rattle.vd_cmd_excuse.proofs.Answered.{host_refused, none_told, with_choice}
 use Rattle.vd_cmd_excuse.proofs.excuse_command.excuse_host.Goals as goal

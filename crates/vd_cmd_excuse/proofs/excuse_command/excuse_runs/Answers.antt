@@ -2,7 +2,7 @@ use Rattle.std.proofs.Common.{ℕ, ◌≤◌, length, ap, sym, subst, ◌∙◌}
 use Rattle.std.proofs.lemmas.Result.{err_from_is_err_and}
 use Rattle.vd_base.specs.Limits.{most_hosts}
 use Rattle.vd_core.specs.declared.normal.NormalForm.{NormalForm}
-use Rattle.vd_cmd_choose.specs.Searching.{GaveUp, searched_by}
+use Rattle.vd_cmd_choice.specs.Searching.{GaveUp, searched_by}
 use Rattle.vd_cmd_depends.proofs.Front.{named}
 use Rattle.vd_cmd_excuse.specs.Runs.{AreRead}
 use Rattle.vd_cmd_excuse.proofs.Naming.{is_low, not_two, of_two_hosts, unnamed}

@@ -1,5 +1,5 @@
 use Rattle.std.proofs.lemmas.Result.{err_from_is_err_and}
-use Rattle.vd_cmd_choose.specs.Searching.{GaveUp, searched_by}
+use Rattle.vd_cmd_choice.specs.Searching.{GaveUp, searched_by}
 use Rattle.vd_cmd_needs.proofs.Answered.{fetch_refused, fetched_then}
 use Rattle.vd_cmd_needs.proofs.Told.{file_told}
 use Rattle.vd_cmd_needs.proofs.needs_command.needs.Goals as goal

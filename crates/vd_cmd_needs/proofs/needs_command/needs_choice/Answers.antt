@@ -1,8 +1,8 @@
 use Rattle.std.proofs.Common.{Some, None, []}
 use Rattle.vd_search_stages.specs.declared.optimum.Assignment.{Assignment}
 use Rattle.vd_cmd_plan.specs.Plans.{ended}
-use Rattle.vd_cmd_choose.specs.Choice.{IsSelected}
-use Rattle.vd_cmd_choose.proofs.Front.{assigned_computes, none_computes, which_is}
+use Rattle.vd_cmd_choice.specs.Choice.{IsSelected}
+use Rattle.vd_cmd_choice.proofs.Front.{assigned_computes, none_computes, which_is}
 use Rattle.vd_cmd_needs.specs.Needing.{needs_text}
 use Rattle.vd_cmd_needs.proofs.Told.{none_told, told_then}
 use Rattle.vd_cmd_needs.proofs.needs_command.needs_choice.Goals as goal

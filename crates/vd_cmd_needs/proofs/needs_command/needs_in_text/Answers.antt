@@ -1,9 +1,9 @@
 use Rattle.std.proofs.lemmas.Result.{err_from_is_err_and}
 use Rattle.vd_cmd_plan.specs.Plans.{answer_then}
 use Rattle.vd_cmd_plan.proofs.Front.{answers}
-use Rattle.vd_cmd_choose.specs.Choice.{choice_then, chosen_of}
-use Rattle.vd_cmd_choose.specs.Searching.{GaveUp, searched_by}
-use Rattle.vd_cmd_choose.proofs.Front.{tree_refused, text_refused, text_then}
+use Rattle.vd_cmd_choice.specs.Choice.{choice_then, chosen_of}
+use Rattle.vd_cmd_choice.specs.Searching.{GaveUp, searched_by}
+use Rattle.vd_cmd_choice.proofs.Front.{tree_refused, text_refused, text_then}
 use Rattle.vd_cmd_needs.specs.Needing.{needs_answer}
 use Rattle.vd_cmd_needs.proofs.Told.{text_told}
 use Rattle.vd_cmd_needs.proofs.needs_command.needs_in_text.Goals as goal

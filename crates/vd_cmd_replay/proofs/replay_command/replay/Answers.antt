@@ -1,5 +1,5 @@
 use Rattle.std.proofs.lemmas.Result.{err_from_is_err_and}
-use Rattle.vd_cmd_choose.specs.Searching.{GaveUp, searched_by}
+use Rattle.vd_cmd_choice.specs.Searching.{GaveUp, searched_by}
 use Rattle.vd_cmd_replay.specs.Replaying.{program_plan}
 use Rattle.vd_cmd_replay.proofs.Counting.{replay_counted}
 use Rattle.vd_cmd_replay.proofs.Held.{headline_told}

@@ -3,8 +3,8 @@ use Rattle.std.proofs.lemmas.Result.{err_from_is_err_and}
 use Rattle.vd_core.specs.declared.normal.NormalForm.{NormalForm}
 use Rattle.vd_cmd_inputs.specs.Asking.{AreAsked}
 use Rattle.vd_cmd_plan.proofs.Front.{answers}
-use Rattle.vd_cmd_choose.specs.Choice.{IsSelected, no_list}
-use Rattle.vd_cmd_choose.proofs.Front.{none_computes, which_is}
+use Rattle.vd_cmd_choice.specs.Choice.{IsSelected, no_list}
+use Rattle.vd_cmd_choice.proofs.Front.{none_computes, which_is}
 use Rattle.vd_cmd_replay.specs.Counting.{CountsOf}
 use Rattle.vd_cmd_replay.specs.Telling.{TellsOf}
 use Rattle.vd_cmd_replay.proofs.Counting.{none_counted}

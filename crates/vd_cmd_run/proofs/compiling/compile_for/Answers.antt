@@ -3,8 +3,8 @@ use Rattle.std.proofs.lemmas.Result.{err_from_is_err_and}
 use Rattle.vd_base.specs.Limits.{most_search_budget}
 use Rattle.vd_cmd_plan.specs.Plans.{answer_then}
 use Rattle.vd_cmd_plan.proofs.Front.{answers, any_memory}
-use Rattle.vd_cmd_choose.specs.Choice.{chosen_of}
-use Rattle.vd_cmd_choose.proofs.Front.{source_refused, source_then}
+use Rattle.vd_cmd_choice.specs.Choice.{chosen_of}
+use Rattle.vd_cmd_choice.proofs.Front.{source_refused, source_then}
 use Rattle.vd_cmd_compile.specs.Compiling.{compiled_for}
 use Rattle.vd_cmd_run.proofs.compiling.compile_for.Goals as goal
 

@@ -6,8 +6,8 @@ use Rattle.vd_core.specs.Facts.{weight_sum}
 use Rattle.vd_deal_needs_limits.specs.Items.{most_executed}
 use Rattle.vd_cmd_plan.specs.Plans.{ended}
 use Rattle.vd_cmd_plan.proofs.Front.{answers}
-use Rattle.vd_cmd_choose.specs.Choice.{IsSelected, no_list}
-use Rattle.vd_cmd_choose.proofs.Front.{choice_refused, choice_which, none_computes, which_is}
+use Rattle.vd_cmd_choice.specs.Choice.{IsSelected, no_list}
+use Rattle.vd_cmd_choice.proofs.Front.{choice_refused, choice_which, none_computes, which_is}
 use Rattle.vd_cmd_trial.specs.Telling.{TellsProgram}
 use Rattle.vd_cmd_trial.specs.Trial.{choice_plan, trial_text}
 use Rattle.vd_cmd_trial.proofs.Told.{none_told}

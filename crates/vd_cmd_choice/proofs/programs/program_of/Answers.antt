@@ -1,6 +1,6 @@
 use Rattle.std.proofs.lemmas.Result.{err_from_is_err_and}
-use Rattle.vd_cmd_choose.proofs.ReadPrograms.{no_memory, program_is, program_read, rules_refused, tree_refused}
-use Rattle.vd_cmd_choose.proofs.programs.program_of.Goals as goal
+use Rattle.vd_cmd_choice.proofs.ReadPrograms.{no_memory, program_is, program_read, rules_refused, tree_refused}
+use Rattle.vd_cmd_choice.proofs.programs.program_of.Goals as goal
 
 pub returns-in_err-tree-clause-reads : goal.returns-in_err-tree-clause-reads
 returns-in_err-tree-clause-reads c = λ texts least name files.

@@ -7,7 +7,7 @@ use Rattle.vd_search_stages.specs.Choices.{ChoiceOutcomes, needed}
 use Rattle.vd_search_stages.specs.Confirming.{confirmed}
 use Rattle.vd_search.specs.declared.writing.SearchFault.{SearchFault}
 use Rattle.vd_search.specs.declared.writing.SearchFault.TheVariants.{Memory, Spent}
-use Rattle.vd_cmd_choose.specs.Outcomes.{CertificateOutcomes}
+use Rattle.vd_cmd_choice.specs.Outcomes.{CertificateOutcomes}
 
 -- What the rules leave to the search: whether its budget is spent, and which certificate it stores.
 pub data Searched : Type 0 where

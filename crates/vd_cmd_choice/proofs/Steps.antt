@@ -17,11 +17,11 @@ use Rattle.vd_cmd_plan.specs.declared.status.Status.TheVariants.{Ended, Memory, 
 use Rattle.vd_cmd_plan.proofs.Front.{Follows, check_follows}
 use Rattle.vd_cmd_frontend.specs.Labelling.{labels_of}
 use Rattle.vd_cmd_frontend.specs.Outcomes.{LabelOutcomes, TextOutcomes}
-use Rattle.vd_cmd_choose.specs.Choice.{Chosen, Chooses, ChoosesIn, ChoosesOf, as_searched, assigned_answer, choice_then, chosen_by, chosen_of, no_list, search_then, source_choice_then, text_choice_then}
-use Rattle.vd_cmd_choose.specs.Outcomes.{CertificateOutcomes}
-use Rattle.vd_cmd_choose.specs.Searching.{Certified, GaveUp, Searched, SomeSearch, is_accepted, searched_by, sure_search}
-use Rattle.vd_cmd_choose.specs.declared.choice.Choice.{Choice}
-use Rattle.vd_cmd_choose.specs.declared.choice.ChosenSource.{ChosenSource}
+use Rattle.vd_cmd_choice.specs.Choice.{Chosen, Chooses, ChoosesIn, ChoosesOf, as_searched, assigned_answer, choice_then, chosen_by, chosen_of, no_list, search_then, source_choice_then, text_choice_then}
+use Rattle.vd_cmd_choice.specs.Outcomes.{CertificateOutcomes}
+use Rattle.vd_cmd_choice.specs.Searching.{Certified, GaveUp, Searched, SomeSearch, is_accepted, searched_by, sure_search}
+use Rattle.vd_cmd_choice.specs.declared.choice.Choice.{Choice}
+use Rattle.vd_cmd_choice.specs.declared.choice.ChosenSource.{ChosenSource}
 
 -- what there is of an assignment, if it is there
 pub which_is : (P : Assignment → Type 0) (o : Option Assignment) (a : Assignment) → o ≡ Some a → IfSome o P → P a

@@ -21,10 +21,10 @@ use Rattle.vd_cmd_plan.specs.declared.status.Status.{Status}
 use Rattle.vd_cmd_plan.specs.declared.status.Status.TheVariants.{Memory, NoAssignment, Spent}
 use Rattle.vd_cmd_frontend.specs.Outcomes.{LabelOutcomes, TextOutcomes}
 use Rattle.vd_cmd_frontend.specs.Labelling.{labels_of}
-use Rattle.vd_cmd_choose.specs.Searching.{Search, SomeSearch}
-use Rattle.vd_cmd_choose.specs.Programs.{IsProgramOf, text_program_then}
-use Rattle.vd_cmd_choose.specs.declared.choice.Choice.{Choice}
-use Rattle.vd_cmd_choose.specs.declared.choice.ChosenSource.{ChosenSource}
+use Rattle.vd_cmd_choice.specs.Searching.{Search, SomeSearch}
+use Rattle.vd_cmd_choice.specs.Programs.{IsProgramOf, text_program_then}
+use Rattle.vd_cmd_choice.specs.declared.choice.Choice.{Choice}
+use Rattle.vd_cmd_choice.specs.declared.choice.ChosenSource.{ChosenSource}
 
 -- This is the choice for a program: the assignment that is valid under its least labels, of least cost, and the first of these in order.
 pub record IsSelected (program : NormalForm) (a : Assignment) : Type 0 where

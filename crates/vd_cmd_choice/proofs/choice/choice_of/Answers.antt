@@ -1,6 +1,6 @@
 use Rattle.std.proofs.lemmas.Result.{err_from_is_err_and}
-use Rattle.vd_cmd_choose.proofs.Sourced.{choice_found, choice_refused, fetch_refused}
-use Rattle.vd_cmd_choose.proofs.choice.choice_of.Goals as goal
+use Rattle.vd_cmd_choice.proofs.Sourced.{choice_found, choice_refused, fetch_refused}
+use Rattle.vd_cmd_choice.proofs.choice.choice_of.Goals as goal
 
 pub returns-in_err-text-clause-chooses : goal.returns-in_err-text-clause-chooses
 returns-in_err-text-clause-chooses g c =

@@ -5,10 +5,10 @@ ghost use Rattle.vd_base.specs.Limits.{most_search_budget, most_source_bytes};
 ghost use Rattle.vd_constraints.specs.Rules.{system_of};
 ghost use Rattle.vd_constraints.specs.Satisfies.{IsLeast};
 ghost use Rattle.vd_cmd_plan.specs.Held.{Finds};
-ghost use Rattle.vd_cmd_choose.specs.Choice.{Chooses, ChoosesIn, ChoosesOf, HasText, IsChoiceFor, IsChoiceIn, Searches, no_list};
+ghost use Rattle.vd_cmd_choice.specs.Choice.{Chooses, ChoosesIn, ChoosesOf, HasText, IsChoiceFor, IsChoiceIn, Searches, no_list, printed_at};
 
 use crate::programs::program_of;
-use std::alloc::Global;
+use std::alloc::{AllocError, Global};
 use vd_base::Bytes;
 use vd_base::limits::SOURCE_BYTES;
 use vd_base_lists::Items;
@@ -17,6 +17,7 @@ use vd_cmd_plan::{Answer, Status, load};
 use vd_constraints::Labels;
 use vd_core::Program;
 use vd_outside::Files;
+use vd_report::choice_text;
 use vd_search::SearchFault;
 use vd_search_certificate::Certificate;
 use vd_search_stages::{Assignment, Sweeps, select};
@@ -103,6 +104,18 @@ pub fn choice_of<F: Files>(
     let text = load(alloc, files, source, SOURCE_BYTES)?;
     let choice = choice_in(alloc, text.as_slice(), budget)?;
     Ok(ChosenSource { text, choice })
+}
+
+/// The lines of an assignment: a protocol for each slot, and the cost.
+pub fn assignment_text(
+    alloc: Global,
+    program: &Program,
+    assignment: &Assignment,
+) -> Result<Bytes, AllocError>
+    ensures { IfOk result (λ text. text ≡ printed_at program.now assignment.now) }
+{
+    let protocols = assignment.protocols.as_slice();
+    choice_text(alloc, program, protocols, u64::from(assignment.cost))
 }
 
 /// The answer where no assignment is valid for a program.

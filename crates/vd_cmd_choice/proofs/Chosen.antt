@@ -27,10 +27,10 @@ use Rattle.vd_search_stages.proofs.Front.{spent_needs, chosen_once}
 use Rattle.vd_cmd_plan.specs.Plans.{Executes}
 use Rattle.vd_cmd_plan.specs.declared.status.Status.TheVariants.{Memory, Spent}
 use Rattle.vd_cmd_plan.proofs.Front.{any_memory, check_step}
-use Rattle.vd_cmd_choose.specs.Choice.{IsChoiceFor, IsSelected, Searches, as_searched, chosen_by, chosen_of}
-use Rattle.vd_cmd_choose.specs.Outcomes.{CertificateOutcomes}
-use Rattle.vd_cmd_choose.specs.Searching.{GaveUp, Certified, is_accepted, searched_by}
-use Rattle.vd_cmd_choose.specs.declared.choice.Choice.{Choice}
+use Rattle.vd_cmd_choice.specs.Choice.{IsChoiceFor, IsSelected, Searches, as_searched, chosen_by, chosen_of}
+use Rattle.vd_cmd_choice.specs.Outcomes.{CertificateOutcomes}
+use Rattle.vd_cmd_choice.specs.Searching.{GaveUp, Certified, is_accepted, searched_by}
+use Rattle.vd_cmd_choice.specs.declared.choice.Choice.{Choice}
 
 -- the file of a certificate is read as that certificate
 reads_back : (certificates : CertificateOutcomes) (problem : Problem) (budget : ℕ) (c : Certificate) → IsAccepted problem budget c → certificates.read (text_of c) ≡ Ok c

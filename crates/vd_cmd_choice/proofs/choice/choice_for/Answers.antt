@@ -3,9 +3,9 @@ use Rattle.std.proofs.lemmas.Result.{err_from_is_err_and}
 use Rattle.vd_cmd_frontend.specs.Labelling.{labels_of}
 use Rattle.vd_cmd_plan.specs.Plans.{check_then}
 use Rattle.vd_cmd_plan.proofs.Front.{both_steps, check_step, first_step}
-use Rattle.vd_cmd_choose.specs.Choice.{chosen_in, search_then}
-use Rattle.vd_cmd_choose.specs.Searching.{GaveUp, searched_by}
-use Rattle.vd_cmd_choose.proofs.choice.choice_for.Goals as goal
+use Rattle.vd_cmd_choice.specs.Choice.{chosen_in, search_then}
+use Rattle.vd_cmd_choice.specs.Searching.{GaveUp, searched_by}
+use Rattle.vd_cmd_choice.proofs.choice.choice_for.Goals as goal
 
 pub choice_under-requires-clause-least : goal.choice_under-requires-clause-least
 choice_under-requires-clause-least c = (c.in_ok-labels.ensures {u = tt}).least

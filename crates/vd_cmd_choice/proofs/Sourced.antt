@@ -9,10 +9,10 @@ use Rattle.vd_cmd_plan.specs.Plans.{Plan}
 use Rattle.vd_cmd_plan.specs.declared.status.Status.{Status}
 use Rattle.vd_cmd_plan.proofs.Front.{both_steps, first_step, load_step}
 use Rattle.vd_cmd_frontend.specs.Outcomes.{LabelOutcomes, TextOutcomes}
-use Rattle.vd_cmd_choose.specs.Choice.{Chooses, ChoosesIn, ChoosesOf, Chosen, IsChoiceFor, IsChoiceIn, choice_then, chosen_in, text_choice_then}
-use Rattle.vd_cmd_choose.specs.Programs.{IsProgramOf, ReadsProgram, text_program_then}
-use Rattle.vd_cmd_choose.specs.Searching.{GaveUp, Search, searched_by}
-use Rattle.vd_cmd_choose.specs.declared.choice.Choice.{Choice}
+use Rattle.vd_cmd_choice.specs.Choice.{Chooses, ChoosesIn, ChoosesOf, Chosen, IsChoiceFor, IsChoiceIn, choice_then, chosen_in, text_choice_then}
+use Rattle.vd_cmd_choice.specs.Programs.{IsProgramOf, ReadsProgram, text_program_then}
+use Rattle.vd_cmd_choice.specs.Searching.{GaveUp, Search, searched_by}
+use Rattle.vd_cmd_choice.specs.declared.choice.Choice.{Choice}
 
 -- ---- from its text
 

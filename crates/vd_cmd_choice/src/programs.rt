@@ -3,7 +3,7 @@
 ghost use Rattle.std.specs.Prelude.{◌≤◌, IfOk, length};
 ghost use Rattle.vd_base.specs.Limits.{most_source_bytes};
 ghost use Rattle.vd_cmd_plan.specs.Held.{Finds};
-ghost use Rattle.vd_cmd_choose.specs.Programs.{HoldsProgram, IsProgramOf, LoadsProgram, ReadsProgram};
+ghost use Rattle.vd_cmd_choice.specs.Programs.{HoldsProgram, IsProgramOf, LoadsProgram, ReadsProgram};
 
 use std::alloc::Global;
 use vd_base::limits::SOURCE_BYTES;

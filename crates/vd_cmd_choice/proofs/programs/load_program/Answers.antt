@@ -1,6 +1,6 @@
 use Rattle.std.proofs.lemmas.Result.{err_from_is_err_and}
-use Rattle.vd_cmd_choose.proofs.ReadPrograms.{fetch_refused, program_held, program_loaded}
-use Rattle.vd_cmd_choose.proofs.programs.load_program.Goals as goal
+use Rattle.vd_cmd_choice.proofs.ReadPrograms.{fetch_refused, program_held, program_loaded}
+use Rattle.vd_cmd_choice.proofs.programs.load_program.Goals as goal
 
 pub returns-in_err-text-clause-loads : goal.returns-in_err-text-clause-loads
 returns-in_err-text-clause-loads g c =

@@ -17,7 +17,7 @@ use Rattle.vd_cmd_frontend.specs.Outcomes.{LabelOutcomes, TextOutcomes}
 use Rattle.vd_cmd_frontend.proofs.Front.{meets}
 use Rattle.vd_cmd_frontend.specs.Sources.{resolved_of, source_of}
 use Rattle.vd_cmd_rewrite.specs.RunPrograms.{IsRunProgram, TellsAs, run_form}
-use Rattle.vd_cmd_choose.specs.Programs.{HoldsProgram, IsProgramOf, LoadsProgram, ReadsProgram, text_program_then}
+use Rattle.vd_cmd_choice.specs.Programs.{HoldsProgram, IsProgramOf, LoadsProgram, ReadsProgram, text_program_then}
 
 -- ---- from a text
 

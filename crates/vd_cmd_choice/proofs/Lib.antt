@@ -1,0 +1,8 @@
+pub mod Front
+mod Labelled
+mod Certificates
+mod ReadPrograms
+mod Chosen
+mod Steps
+mod Sourced
+mod Sure

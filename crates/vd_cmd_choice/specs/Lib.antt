@@ -1,0 +1,4 @@
+pub mod Outcomes
+pub mod Searching
+pub mod Programs
+pub mod Choice
