@@ -26,7 +26,7 @@ const DEPTH: u64 = 65537;
 
 /// A line of joint code, and how it ranks.
 #[derive(Drop)]
-pub struct Ranked {
+pub(crate) struct Ranked {
     pub rank: u64,
     pub line: Line,
 }

@@ -16,7 +16,7 @@ use vd_outside::Files;
 
 /// The inputs of a run, other inputs, and the deals of the run.
 #[derive(Debug, Drop)]
-pub struct Runs {
+pub(crate) struct Runs {
     pub first: Inputs,
     pub second: Inputs,
     pub deals: Deals,

@@ -13,7 +13,7 @@ const LIFT: i64 = 16_777_216;
 
 /// What shifts come to, with room for what is lifted. It is made once and written again and again.
 #[derive(Drop)]
-pub struct Lifting {
+pub(crate) struct Lifting {
     /// What the shifts come to by all settings.
     pub nets: Nets,
     /// What is lifted of it.

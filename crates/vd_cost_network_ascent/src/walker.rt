@@ -25,7 +25,7 @@ const SHOWING: u64 = 3;
 
 /// A candidate of a slot: a setting of its point.
 #[derive(Clone, Copy, PartialEq, Eq, Debug)]
-pub struct Candidate {
+pub(crate) struct Candidate {
     point: usize,
     /// Among the settings that are left.
     number: usize,
@@ -44,7 +44,7 @@ pub(crate) enum Verdict {
 
 /// The state of sweeps that go by a prefix.
 #[derive(Drop)]
-pub struct Walker {
+pub(crate) struct Walker {
     climb: Climb,
     /// What shifts came to at the last refutation.
     lifting: Lifting,

@@ -110,7 +110,7 @@ fn least_after(prices: &[i32], held: &[i32]) -> i32 {
 
 /// The messages of sweeps one way: what they carry over all arcs.
 #[derive(Drop)]
-pub struct Messages {
+pub(crate) struct Messages {
     arcs: Vec<Carried>,
     /// By point, and then by its settings: what all arcs tell it together.
     incoming: Vec<Vec<i32>>,

@@ -6,7 +6,7 @@ use std::alloc::{AllocError, Global};
 
 /// How what a point gives is split over the arcs that are ahead: in equal parts for all of them, and for as many behind.
 #[derive(Clone, Copy, PartialEq, Eq, Debug)]
-pub struct Split {
+pub(crate) struct Split {
     ahead: u32,
     parts: u32,
     /// 2^`bits` divided by the parts, and 1 more: by this a number is divided without a division.
@@ -85,7 +85,7 @@ pub(crate) fn split_at(splits: &[Option<Split>], point: usize) -> Option<Split> 
 
 /// What a point costs by its settings, and what of it goes to its arcs.
 #[derive(Drop)]
-pub struct Shares {
+pub(crate) struct Shares {
     /// How many settings the point has.
     count: usize,
     totals: Vec<i32>,

@@ -10,7 +10,7 @@ use vd_cmd_plan::Status;
 
 /// A file that is read: the place of the word that names it, and the most bytes that it may have.
 #[derive(Clone, Copy)]
-pub struct Reading {
+pub(crate) struct Reading {
     pub word: usize,
     pub limit: u32,
 }

@@ -18,7 +18,7 @@ use vd_draw_svg::{Mark, Place, Style};
 
 /// Rows that are drawn as one: how many, what they cost, and their titles.
 #[derive(Debug, Drop)]
-pub struct Run {
+pub(crate) struct Run {
     pub count: u64,
     pub cost: u64,
     pub title: Bytes,

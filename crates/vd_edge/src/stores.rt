@@ -7,7 +7,7 @@ use std::marker::{Model, PhantomData};
 
 /// The names at which bytes were put, with these bytes, the last first. It takes no memory.
 #[derive(Drop)]
-pub struct Stores {
+pub(crate) struct Stores {
     marker: PhantomData<u8>,
     pub ghost pairs: { List (List ℕ × List ℕ) },
 }

@@ -7,7 +7,7 @@ use std::marker::{Model, PhantomData};
 
 /// The bytes that a stream said it took, in order. It takes no memory.
 #[derive(Drop)]
-pub struct Taken {
+pub(crate) struct Taken {
     marker: PhantomData<u8>,
     pub ghost bytes: { List ℕ },
 }

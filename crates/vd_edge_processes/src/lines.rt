@@ -18,7 +18,7 @@ const PIECE: usize = 4_096;
 
 /// What a child writes, line by line. A stream that never waits is read without waiting.
 #[derive(Drop)]
-pub struct Lines<O: Read + Drop> {
+pub(crate) struct Lines<O: Read + Drop> {
     alloc: Global,
     output: Option<O>,
     bytes: Bytes,

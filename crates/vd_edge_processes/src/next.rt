@@ -2,7 +2,7 @@ use vd_outside::Line;
 
 /// What there is of a child's next line.
 #[derive(Debug, Drop)]
-pub enum Next {
+pub(crate) enum Next {
     /// All of it.
     Line(Line),
     /// There is none: the output has ended.

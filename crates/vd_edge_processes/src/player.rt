@@ -8,7 +8,7 @@ use crate::next::Next;
 use vd_base::CallFault;
 
 /// A child program whose output is read without waiting.
-pub trait Player {
+pub(crate) trait Player {
     /// The bytes that are left of its output, where they are known.
     ghost left: { Self → Option (List ℕ) };
 

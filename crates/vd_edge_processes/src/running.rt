@@ -22,7 +22,7 @@ pub const PARENT: &str = "VIADUCT_PARENT";
 pub const REASONS: &str = "VIADUCT_REASONS";
 
 /// A child that was started. Where it is let go before its end was waited for, it is stopped.
-pub struct Running {
+pub(crate) struct Running {
     child: Child,
     lines: Lines<ChildStdout>,
     broken: bool,

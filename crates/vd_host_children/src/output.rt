@@ -11,7 +11,7 @@ const MOST_WORDS: usize = limits::WEIGHTS as usize;
 
 /// What a child has printed since its first line: its words, and whether it said that it ended.
 #[derive(Debug, Drop)]
-pub struct Output {
+pub(crate) struct Output {
     pub words: Words,
     pub over: bool,
 }

@@ -18,7 +18,7 @@ use vd_outside::Net;
 
 /// Why a peer was not met, and its link, if one was given.
 #[derive(Drop)]
-pub struct Unmet<L: Drop> {
+pub(crate) struct Unmet<L: Drop> {
     pub fault: HostFault,
     pub link: Option<L>,
 }

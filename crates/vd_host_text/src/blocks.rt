@@ -30,7 +30,7 @@ pub enum Arrays {
 
 /// What is known of the lines before the next one.
 #[derive(Drop)]
-pub struct Outline {
+pub(crate) struct Outline {
     arrays: Arrays,
     blocks: Items<Block>,
 }

@@ -18,7 +18,7 @@ pub(crate) const GREETING_TAG: u8 = 0x47;
 pub(crate) const GREETING_VERSION: u8 = 1;
 
 /// The bytes of a greeting.
-pub const GREETING_BYTES: usize = 36;
+pub(crate) const GREETING_BYTES: usize = 36;
 
 /// The first byte of a packet.
 pub(crate) const PACKET_TAG: u8 = 0x56;
@@ -41,7 +41,7 @@ pub fn greeting_of(plan: &Digest, from: HostId, to: HostId) -> [u8; GREETING_BYT
 
 /// The bytes of a greeting or a packet that goes out, in room that was taken beforehand.
 #[derive(Debug, Drop)]
-pub struct Frame {
+pub(crate) struct Frame {
     bytes: Vec<u8>,
 }
 

@@ -16,7 +16,7 @@ pub struct Lists {
 
 /// How many items of each list were taken. The lists of a peer are counted at the peer's number.
 #[derive(PartialEq, Eq, Debug, Drop)]
-pub struct Taken {
+pub(crate) struct Taken {
     pub inputs: usize,
     pub own: usize,
     pub triples: Items<usize>,

@@ -4,7 +4,7 @@ use vd_base::{HostId, SlotId};
 
 /// What can depend on something, or be depended on.
 #[derive(Clone, Copy, PartialEq, Eq, Debug)]
-pub enum Node {
+pub(crate) enum Node {
     /// All that reaches the host in clear.
     Told,
     /// The words of a slot.

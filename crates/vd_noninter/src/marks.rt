@@ -7,7 +7,7 @@ use vd_base_lists::Items;
 
 /// A set of small numbers, by whether each of them is in it, as far as the greatest.
 #[derive(Debug, Drop)]
-pub struct Marks {
+pub(crate) struct Marks {
     pub marks: Items<bool>,
 }
 

@@ -12,7 +12,7 @@ use vd_base_lists::Items;
 
 /// Slots that are reached, and hosts whose inputs are.
 #[derive(Debug, Drop)]
-pub struct Reached {
+pub(crate) struct Reached {
     pub slots: Marks,
     pub hosts: Marks,
 }

@@ -11,7 +11,7 @@ use vd_source_lexer::{Token, TokenKind};
 
 /// Why there is no tree; where, the cursor tells.
 #[derive(Drop)]
-pub enum Refusal {
+pub(crate) enum Refusal {
     Unexpected,
     Memory,
 }
@@ -34,7 +34,7 @@ impl<T: Drop> From<AllocFailed<T>> for Refusal {
 
 /// The tokens that are still to be read. The end of the text is none of them.
 #[derive(Drop)]
-pub struct Cursor<'a> {
+pub(crate) struct Cursor<'a> {
     left: &'a [Token],
 }
 

@@ -7,7 +7,7 @@ use vd_source_lexer::TokenKind;
 
 /// The levels of precedence of the infix operators that chain, from the loosest. Shifts stand between And and Sum.
 #[derive(Clone, Copy)]
-pub enum Level {
+pub(crate) enum Level {
     Or,
     Xor,
     And,

@@ -14,7 +14,7 @@ use vd_source_lexer::TokenKind;
 
 /// Reads the parts of a source, each by a method, from the tokens that a cursor has.
 #[derive(Drop)]
-pub struct Parser<'a> {
+pub(crate) struct Parser<'a> {
     pub alloc: Global,
     /// The bytes of the source, in which the names stand.
     pub text: &'a [u8],

@@ -17,7 +17,7 @@ pub fn is_simple(action: &Action) -> bool
 
 /// A list that an action takes an item from, or none.
 #[derive(Clone, Copy, PartialEq, Eq, Debug)]
-pub enum Taken {
+pub(crate) enum Taken {
     Nothing,
     Inputs,
     Own,

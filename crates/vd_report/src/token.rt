@@ -9,7 +9,7 @@ use vd_base::{digits_len, is_digit, is_keyword, is_letter, is_space, number, wor
 
 /// What a token is.
 #[derive(Clone, Copy)]
-pub enum TokenKind {
+pub(crate) enum TokenKind {
     /// The end of the file.
     End,
     /// A NAME of the source language.
@@ -26,7 +26,7 @@ pub enum TokenKind {
 
 /// A token and the offsets where it starts and ends.
 #[derive(Clone, Copy)]
-pub struct Token {
+pub(crate) struct Token {
     /// What it is.
     pub kind: TokenKind,
     /// The offset of its first byte.

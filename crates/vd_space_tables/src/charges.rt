@@ -19,7 +19,7 @@ use vd_space_prefix::number_of;
 
 /// What a slot alone costs for one term: by the place where it stands, and at least where it is not decided.
 #[derive(Drop)]
-pub struct Charge {
+pub(crate) struct Charge {
     pub slot: u32,
     pub costs: Items<i64>,
     pub free: i64,

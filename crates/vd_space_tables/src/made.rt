@@ -6,7 +6,7 @@ use vd_space_prefix::{Arc, Naming, Sums, Telling};
 
 /// What is moved between two slots: prices by place, and arcs by use and by index, without and under shifts.
 #[derive(Drop)]
-pub struct Moved {
+pub(crate) struct Moved {
     pub moves: Items<Items<Option<u32>>>,
     pub tells: Items<Items<Option<u32>>>,
     pub arcs: Items<Arc>,
@@ -16,7 +16,7 @@ pub struct Moved {
 
 /// What slots alone cost: for operations and for outputs, and for both together under shifts.
 #[derive(Drop)]
-pub struct Charges {
+pub(crate) struct Charges {
     pub operations: Items<Charge>,
     pub outputs: Items<Charge>,
     pub merged: Items<Charge>,
@@ -24,7 +24,7 @@ pub struct Charges {
 
 /// What is kept beside the arcs.
 #[derive(Drop)]
-pub struct Kept {
+pub(crate) struct Kept {
     pub tellings: Items<Telling>,
     pub gains: Items<Items<i64>>,
     pub shifted_gains: Items<Items<i64>>,

@@ -23,7 +23,7 @@ use vd_space::{Output, Problem};
 use vd_space_prefix::amount_at;
 
 /// The values of a term, by place: none where the slot cannot stand there or the value is not moved from there.
-pub type Values = Items<Option<i64>>;
+pub(crate) type Values = Items<Option<i64>>;
 
 /// What the slot's operation costs, by place.
 pub(crate) fn operation_values(

@@ -13,7 +13,7 @@ const ROOM: usize = 262_144;
 
 /// A link that waits at an address: the bytes that will come on it, and the calls that fail.
 #[derive(Drop)]
-pub struct Waiting {
+pub(crate) struct Waiting {
     pub address: String,
     pub coming: Bytes,
     pub failing: Items<u64>,
@@ -32,7 +32,7 @@ impl Waiting {
 
 /// A child: the lines that it writes, and the status with which it ends.
 #[derive(Drop)]
-pub struct Writing {
+pub(crate) struct Writing {
     pub lines: Items<Bytes>,
     pub status: u32,
 }

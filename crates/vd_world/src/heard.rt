@@ -11,7 +11,7 @@ use vd_machine::Want;
 
 /// How a host goes on at its next step.
 #[derive(Clone, Copy)]
-pub enum Turn<'a> {
+pub(crate) enum Turn<'a> {
     /// By itself.
     Alone,
     /// With a packet of these words, from a peer.

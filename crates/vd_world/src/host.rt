@@ -18,7 +18,7 @@ use vd_machine::{Machine, Outgoing, Want};
 
 /// A host: its machine, what it printed, what it sent to each host, and how many packets it took from each.
 #[derive(Drop)]
-pub struct Host {
+pub(crate) struct Host {
     machine: Machine,
     printed: Vec<u32>,
     links: Vec<Link>,

@@ -12,7 +12,7 @@ use vd_execution::Reg;
 
 /// All packets that were ever sent from one host to another, in order. The words of all of them stand in one list.
 #[derive(Drop)]
-pub struct Link {
+pub(crate) struct Link {
     words: Vec<u32>,
     /// Where each packet ends among the words, as long as 32 bits can tell it.
     ends: Vec<u32>,
