@@ -3,3 +3,5 @@ mod Shifts
 mod LexicalLemmas
 mod Same
 mod WordLists
+mod Members
+mod Holding

@@ -1,5 +1,6 @@
 -- The hosts of a protocol, and the protocols of slots.
-use Rattle.std.specs.Prelude.{ℕ, ◌==◌, Bool, false, ◌||◌, List, [], ◌∷◌, slice_index_or}
+use Rattle.std.specs.Prelude.{ℕ, ◌<◌, ◌==◌, nat_eq, Bool, false, ◌||◌, List, [], ◌∷◌, slice_index_or}
+use Rattle.std.specs.List.{AllByRecursion, list_any}
 use Rattle.vd_base.specs.declared.ids.HostId.{HostId}
 use Rattle.vd_base.specs.declared.protocols.Proto.{Proto}
 use Rattle.vd_base.specs.declared.protocols.Proto.TheVariants.{Local, Rep, Commit, Add, Xor}
@@ -14,7 +15,15 @@ holders (Commit p v) = p ∷ v ∷ []
 holders (Add a b) = a ∷ b ∷ []
 holders (Xor a b) = a ∷ b ∷ []
 
--- a host is one of them
+-- the host is one of these
+abbrev pub is_among : List HostId → ℕ → Bool
+is_among hosts h = list_any (λ k. nat_eq h k.0) hosts
+
+-- the hosts of a protocol are among the first n
+abbrev pub HasHosts : ℕ → Proto → Type 0
+HasHosts n p = AllByRecursion (λ h. h.0 < n) (holders p)
+
+-- a host is at a protocol; a host below 8 is so exactly where it is among the `holders`
 abbrev pub is_holder : Proto → HostId → Bool
 is_holder (Local k) h = same_host k h
 is_holder (Rep set) h = has_host set h

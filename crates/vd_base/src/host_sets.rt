@@ -1,9 +1,11 @@
-ghost use Rattle.std.specs.Prelude.{◌≡◌, ◌≤◌};
+ghost use Rattle.std.specs.Prelude.{◌≡◌, ◌≤◌, IfOk, length};
 
 use crate::{HostId, HostSet};
+use std::alloc::{AllocError, Global};
+use vd_base_lists::Items;
 
 impl HostSet {
-    ghost use Rattle.vd_base.specs.HostSets.{has_host, is_pair, outside, size};
+    ghost use Rattle.vd_base.specs.HostSets.{has_host, is_pair, members, outside, size};
 
     /// Whether the host is in the set.
     pub fn has(self, host: HostId) -> bool
@@ -19,6 +21,22 @@ impl HostSet {
         ensures small { result ≤ 8 }
     {
         self.bits.count_ones()
+    }
+
+    /// The hosts of the set, in order.
+    #[tactic(auto, using(crate::proofs::Members::few_hosts))]
+    pub fn members(self, alloc: Global) -> Result<Items<HostId>, AllocError>
+        ensures exact { IfOk result (λ hosts. hosts ≡ members 8 self) }
+        ensures few { IfOk result (λ hosts. length hosts ≤ 8) }
+    {
+        let mut hosts = Items::new(alloc);
+        for number in 0..8 {
+            let host = HostId(number);
+            if self.has(host) {
+                hosts.push(host)?;
+            }
+        }
+        Ok(hosts)
     }
 
     /// The hosts of this set that are not in the other.

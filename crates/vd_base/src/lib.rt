@@ -31,7 +31,8 @@ pub use lists::{Bytes, Inputs, Name, Names, Outputs, Words};
 pub use operations::{Kind, Op};
 pub use packet::Packet;
 pub use protocols::{
-    HostSet, Proto, has_clear, is_holder, is_same, proto_of, protocol_at, same_protocols_are_one,
+    HostSet, Proto, has_clear, holders, holders_are_listed, is_holder, is_same, proto_of,
+    protocol_at, same_protocols_are_one,
 };
 pub use rows::Row;
 pub use sight::{add_name, find_name};

@@ -1,8 +1,11 @@
-ghost use Rattle.std.specs.Prelude.{◌≡◌, true};
-ghost use Rattle.vd_base.specs.Holders.{has_clear, is_holder, proto_in, same_protocol};
+ghost use Rattle.std.specs.Prelude.{ℕ, ◌≡◌, ◌<◌, ◌≤◌, IfOk, length, true};
+ghost use Rattle.vd_base.specs.HostSets.{host};
+ghost use Rattle.vd_base.specs.Holders.{has_clear, holders, is_among, is_holder, proto_in, same_protocol};
 ghost use Rattle.vd_base.specs.declared.protocols.Proto.{Proto as Protocols};
 
 use crate::{HostId, SlotId};
+use std::alloc::{AllocError, Global};
+use vd_base_lists::Items;
 
 /// A set of hosts, by the number whose bit h stands for host h.
 #[derive(Clone, Copy, PartialEq, Eq, Debug)]
@@ -25,6 +28,20 @@ pub enum Proto {
     Xor(HostId, HostId),
 }
 
+/// The hosts of a protocol, in the order of their parts.
+pub fn holders(protocol: Proto, alloc: Global) -> Result<Items<HostId>, AllocError>
+    ensures exact { IfOk result (λ hosts. hosts ≡ holders protocol) }
+    ensures few { IfOk result (λ hosts. length hosts ≤ 8) }
+{
+    match protocol {
+        Proto::Local(host) => Ok(Items::from_slice(alloc, &[host])?),
+        Proto::Rep(set) => set.members(alloc),
+        Proto::Commit(first, second) | Proto::Add(first, second) | Proto::Xor(first, second) => {
+            Ok(Items::from_slice(alloc, &[first, second])?)
+        }
+    }
+}
+
 /// Whether the host has a part of what is held at the protocol.
 pub fn is_holder(protocol: Proto, host: HostId) -> bool
     ensures { result ≡ is_holder protocol host }
@@ -37,6 +54,11 @@ pub fn is_holder(protocol: Proto, host: HostId) -> bool
         }
     }
 }
+
+/// A host below 8 has a part exactly where it is among the hosts of the protocol.
+pub fn holders_are_listed()
+    ensures { (p : Protocols) (h : ℕ) → h < 8 → is_holder p (host h) ≡ is_among (holders p) h }
+{}
 
 /// Whether the host has in clear what is held at the protocol: alone, as a copy, or as the one that is bound to it.
 pub fn has_clear(protocol: Proto, host: HostId) -> bool
