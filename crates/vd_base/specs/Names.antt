@@ -11,6 +11,11 @@ abbrev pub at_name : {A : Type 0} → Named A → List ℕ → Option A
 at_name [] name = None
 at_name (e ∷ es) name = if bytes_eq e.0 name then Some e.1 else at_name es name
 
+-- what the first entry with a name stands for is changed
+abbrev pub changed : {A : Type 0} → (A → A) → List ℕ → Named A → Named A
+changed f name [] = []
+changed f name (e ∷ es) = if bytes_eq e.0 name then (e.0, f e.1) ∷ es else e ∷ changed f name es
+
 -- parameters, each with what it stands for
 abbrev pub bound : {A : Type 0} → (ℕ → A) → List (List ℕ) → List ℕ → Named A
 bound f [] ks = []

@@ -35,6 +35,6 @@ pub use protocols::{
     protocol_at, same_protocols_are_one,
 };
 pub use rows::Row;
-pub use sight::{add_name, find_name};
+pub use sight::{Scope, add_name, find_name};
 pub use text::{Text, Texts};
 pub use words::{inputs_fit, word_fits, words_fit};
