@@ -26,7 +26,7 @@ pub fn is_letter(byte: u8) -> bool
 }
 
 /// What may follow the first letter of a name.
-pub fn is_word_byte(byte: u8) -> bool
+pub(crate) fn is_word_byte(byte: u8) -> bool
     ensures { result ≡ lexical.is_word_byte byte }
 {
     is_letter(byte) || is_digit(byte)

@@ -24,8 +24,7 @@ pub use form::Form;
 pub use host_state::HostState;
 pub use ids::{HostId, SlotId, Span};
 pub use lexical::{
-    digits_len, is_digit, is_keyword, is_letter, is_name, is_numeral, is_space, is_word_byte,
-    number, word_len,
+    digits_len, is_digit, is_keyword, is_letter, is_name, is_numeral, is_space, number, word_len,
 };
 pub use lists::{Bytes, Inputs, Name, Names, Outputs, Words};
 pub use operations::{Kind, Op};
@@ -35,6 +34,6 @@ pub use protocols::{
     protocol_at, same_protocols_are_one,
 };
 pub use rows::Row;
-pub use sight::{Scope, add_name, find_name};
+pub use sight::Scope;
 pub use text::{Text, Texts};
 pub use words::{inputs_fit, word_fits, words_fit};

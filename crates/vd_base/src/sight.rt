@@ -98,29 +98,3 @@ fn replace_entry<T: Drop>(entries: &mut Vec<(Name, T)>, name: &[u8], is: T) -> O
     }
     None
 }
-
-/// What a name stands for: the first that is in sight has it.
-pub fn find_name<T: Copy>(names: &[(Name, T)], name: &[u8]) -> Option<T>
-    ensures { result ≡ at_name names.now name.now }
-{
-    for entry in names {
-        if entry.0.as_slice() == name {
-            return Some(entry.1);
-        }
-    }
-    None
-}
-
-/// Brings one more name into sight.
-pub fn add_name<T: Drop>(
-    alloc: Global,
-    names: &mut Vec<(Name, T)>,
-    name: &[u8],
-    is: T,
-) -> Result<(), AllocError>
-    ensures { OnOk result (names.new.items ≡ names.old.items ++ (name.now, is) ∷ []) }
-{
-    let name = Items::from_slice(alloc, name)?;
-    names.push((name, is))?;
-    Ok(())
-}
