@@ -44,15 +44,8 @@ impl Program {
     pub fn form(&self) -> &NormalForm
         ensures same { result.now ≡ self.now }
         ensures well_made { IsWellMade self.now }
+        ensures fit { NumbersFit self.now }
     {
         &self.form
-    }
-
-    /// Its numbers are words, and it is well made. Nothing is computed here.
-    pub fn numbers_fit(&self)
-        ensures fit { NumbersFit self.now }
-        ensures well_made { IsWellMade self.now }
-    {
-        let _form = &self.form;
     }
 }
