@@ -2,12 +2,13 @@
 
 ghost use Rattle.vd_space.specs.Labelled.{IsLabelled};
 
-use crate::lifting::Lifting;
 use std::alloc::{AllocError, Global};
 use vd_base_lists::Items;
 use vd_cost_network_dominance::Thinned;
 use vd_cost_network_prefix::{ArcTable, NetworkTables};
-use vd_cost_network_sweeps::{Ending, Layout, Nets, Reach, State, Tables, Witness};
+use vd_cost_network_sweeps::{
+    Ending, Last, Layout, Lift, Lifting, Nets, Reach, State, Tables, Witness,
+};
 use vd_protocol::protocols;
 use vd_space::Problem;
 use vd_space_terms::candidates;
@@ -17,7 +18,10 @@ const FIRST: Reach = Reach {
     sweeps: 256,
     work: 268_435_456,
     patience: 48,
+    visits_all: false,
     pause: 3,
+    reads_forward: false,
+    gap: 1,
 };
 
 /// Then so many over those settings that cost less than each other one of their point for some partners.
@@ -25,7 +29,10 @@ const THINNED: Reach = Reach {
     sweeps: 16_384,
     work: 268_435_456,
     patience: 400,
+    visits_all: false,
     pause: 15,
+    reads_forward: false,
+    gap: 1,
 };
 
 /// At last so many over all settings again.
@@ -33,7 +40,17 @@ const LAST: Reach = Reach {
     sweeps: 512,
     work: 402_653_184,
     patience: 48,
+    visits_all: false,
     pause: 3,
+    reads_forward: false,
+    gap: 1,
+};
+
+/// 65,536 units, so that some hundred lifts together still are an amount of 32 bits; at its other arcs a setting costs more only as
+/// far as it would cost too little there.
+const LIFT: Lift = Lift {
+    amount: 16_777_216,
+    elsewhere: 0,
 };
 
 /// The walk behind an ascent ends when so many prices of arcs were looked at in both, where other work counts as long as it
@@ -76,8 +93,7 @@ impl Climb {
         let Some(layout) = Layout::of(alloc, problem, by_arcs, candidates)? else {
             return Ok(None);
         };
-        let settings = layout.settings.as_slice();
-        let tables = Tables::of(alloc, by_arcs, &layout.network, &layout.order, settings)?;
+        let tables = layout.tables(alloc, by_arcs, 0)?;
         let state = State::of(alloc, &tables, &layout.network, layout.left.most)?;
         let mut climb = Climb {
             layout,
@@ -95,8 +111,15 @@ impl Climb {
     /// Sweeps over all settings.
     fn sweep(&mut self, alloc: Global, reach: Reach) -> Result<Ending, AllocError> {
         let witness = &mut self.witness;
-        self.state
-            .climb(alloc, &self.tables, &self.layout.network, reach, witness)
+        let mut kept = Last;
+        self.state.climb(
+            alloc,
+            &self.tables,
+            &self.layout.network,
+            reach,
+            witness,
+            &mut kept,
+        )
     }
 
     /// Goes on where the first sweeps did not do: over fewer settings, and then over all again.
@@ -106,23 +129,10 @@ impl Climb {
         self.state.come_back(&self.tables, &self.layout.network);
         let nets = self.thinned_nets(alloc, by_arcs, &thinned)?;
         let work = self.state.work();
-        self.state = self.state_from(alloc, &nets)?;
+        self.state = self.layout.state(alloc, &self.tables, &nets, false)?;
         self.state.count(work);
         self.sweep(alloc, LAST)?;
         Ok(())
-    }
-
-    /// The state behind a sweep backward that came to these amounts.
-    fn state_from(&self, alloc: Global, nets: &Nets) -> Result<State, AllocError> {
-        let layout = &self.layout;
-        State::from_nets(
-            alloc,
-            &self.tables,
-            &layout.network,
-            layout.left.most,
-            layout.settings.as_slice(),
-            nets,
-        )
     }
 
     /// What the shifts come to by sweeps over fewer settings, where the others get shifts behind these.
@@ -143,10 +153,12 @@ impl Climb {
             counts,
         )?;
         let few = thinned.settings.as_slice();
-        let tables = Tables::of(alloc, by_arcs, network, &layout.order, few)?;
-        let mut state = State::from_nets(alloc, &tables, network, layout.left.most, few, &nets)?;
+        let tables = Tables::of(alloc, by_arcs, network, &layout.order, few, 0)?;
+        let most = layout.left.most;
+        let mut state = State::from_nets(alloc, &tables, network, most, few, &nets, false)?;
         let mut witness = Witness::none(alloc);
-        state.climb(alloc, &tables, network, THINNED, &mut witness)?;
+        let mut kept = Last;
+        state.climb(alloc, &tables, network, THINNED, &mut witness, &mut kept)?;
         state.come_back(&tables, network);
         self.state.count(state.work());
         let mut nets = state.nets(alloc, &tables, network, few, counts)?;
@@ -163,20 +175,12 @@ impl Climb {
 
     /// Room for what shifts come to by all settings.
     pub(crate) fn lifting(&self, alloc: Global) -> Result<Lifting, AllocError> {
-        Lifting::of(alloc, &self.layout)
+        Lifting::of(alloc, &self.layout, LIFT)
     }
 
     /// Writes down what the shifts come to where points are fixed so, by all settings at which these may be.
     pub(crate) fn lift(&self, arcs: &[ArcTable], fixed: &[Option<usize>], lifting: &mut Lifting) {
-        let layout = &self.layout;
-        self.state.write_nets(
-            &self.tables,
-            &layout.network,
-            layout.settings.as_slice(),
-            fixed,
-            &mut lifting.nets,
-        );
-        lifting.lift(arcs, layout, fixed);
+        lifting.write(&self.state, &self.tables, arcs, &self.layout, fixed);
     }
 
     /// What it takes to have the amounts as shifts, and the bound of a prefix under these: so many prices are looked at.

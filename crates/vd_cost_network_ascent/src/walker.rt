@@ -2,10 +2,9 @@
 //! prefix.
 
 use crate::climbing::{Climb, WORK};
-use crate::lifting::Lifting;
 use std::alloc::{AllocError, Global};
 use vd_cost_network_prefix::ArcTable;
-use vd_cost_network_sweeps::{Nets, Witness};
+use vd_cost_network_sweeps::{Lifting, Nets, Witness};
 
 /// So many sweeps forward are made for one candidate at most, and as many backward.
 const ROUNDS: u32 = 12;

@@ -5,6 +5,8 @@ use crate::nets::Nets;
 use crate::network::Network;
 use crate::numbers::settings_at;
 use crate::order::Order;
+use crate::sweeps::State;
+use crate::tables::Tables;
 use std::alloc::{AllocError, Global};
 use vd_base_lists::Items;
 use vd_cost_network_prefix::NetworkTables;
@@ -58,6 +60,44 @@ impl Layout {
             alloc,
             self.network.firsts.as_slice(),
             self.counts.as_slice(),
+        )
+    }
+
+    /// What points and arcs cost at the settings that are left, where a step is at least so many bits more than a part.
+    pub fn tables(
+        &self,
+        alloc: Global,
+        by_arcs: &NetworkTables,
+        least_bits: u32,
+    ) -> Result<Tables, AllocError> {
+        let settings = self.settings.as_slice();
+        Tables::of(
+            alloc,
+            by_arcs,
+            &self.network,
+            &self.order,
+            settings,
+            least_bits,
+        )
+    }
+
+    /// The state behind a sweep that way that came to these amounts, in parts.
+    pub fn state(
+        &self,
+        alloc: Global,
+        tables: &Tables,
+        nets: &Nets,
+        forward: bool,
+    ) -> Result<State, AllocError> {
+        let settings = self.settings.as_slice();
+        State::from_nets(
+            alloc,
+            tables,
+            &self.network,
+            self.left.most,
+            settings,
+            nets,
+            forward,
         )
     }
 }

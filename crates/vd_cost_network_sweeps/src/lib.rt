@@ -1,9 +1,11 @@
-//! Sweeps over the points and arcs of a problem: amounts go to and fro between the terms of points and arcs, so that the sum
-//! of their least values rises. Nothing is promised of the amounts.
+//! Block-coordinate ascent on the dual of a cost network: sweeps over its points and arcs, in which amounts go to and fro between
+//! the terms of these, so that the sum of their least values rises. Nothing is promised of the amounts.
 #![tactic(auto)]
 
+mod climb;
 mod layout;
 mod left;
+mod lifting;
 mod messages;
 mod nets;
 mod network;
@@ -15,12 +17,14 @@ mod sweeps;
 mod tables;
 mod witness;
 
+pub use climb::{Keep, Last, Reach};
 pub use layout::Layout;
-pub use left::{Death, NOTHING_LEFT};
-pub use nets::{Nets, fixed_at};
+pub use left::NOTHING_LEFT;
+pub use lifting::{Lift, Lifting};
+pub use nets::Nets;
 pub use network::{End, Network, Side};
 pub use numbers::{FAR, UNIT, UNIT_BITS, number_at, row_at, settings_at};
-pub use progress::{Ending, Progress};
-pub use sweeps::{Reach, State, nearest_before};
-pub use tables::{Tables, cost_at};
+pub use progress::Ending;
+pub use sweeps::State;
+pub use tables::Tables;
 pub use witness::Witness;

@@ -83,7 +83,7 @@ fn may_be_at(fixed: Option<usize>, number: usize) -> bool {
 }
 
 /// Where a point is fixed, among the settings that are left.
-pub fn fixed_at(fixed: &[Option<usize>], point: usize) -> Option<usize> {
+pub(crate) fn fixed_at(fixed: &[Option<usize>], point: usize) -> Option<usize> {
     match fixed.get(point) {
         Some(number) => *number,
         None => None,

@@ -2,6 +2,7 @@
 //! then has above its least to the arcs that are ahead. A sweep visits a point again only where something changed that it is
 //! told, or that it costs.
 
+use crate::climb::{Keep, Reach};
 use crate::messages::Messages;
 use crate::nets::{Nets, count_at, spread};
 use crate::network::{End, Network};
@@ -14,19 +15,6 @@ use std::alloc::{AllocError, Global};
 
 /// To split what a point costs at a setting takes as long as to look at so many prices.
 const SPLIT: u64 = 16;
-
-/// How far a climb goes.
-#[derive(Clone, Copy, PartialEq, Eq, Debug)]
-pub struct Reach {
-    /// So many sweeps are made at most.
-    pub sweeps: u32,
-    /// The sweeps end when so much was computed.
-    pub work: u64,
-    /// They end after so many in which the bound did not rise.
-    pub patience: u32,
-    /// A list is read off once in so many sweeps and one more; a power of two less one.
-    pub pause: u32,
-}
 
 /// What sweeps either way came to.
 #[derive(Drop)]
@@ -65,8 +53,8 @@ impl State {
         })
     }
 
-    /// The state behind a sweep backward that came to these amounts by the setting, in parts, where each point was left these
-    /// settings, of at most so many.
+    /// The state behind a sweep that way that came to these amounts by the setting, in parts, where each point was left these
+    /// settings, of at most so many. Behind one forward the next sweep is the first of all.
     pub fn from_nets(
         alloc: Global,
         tables: &Tables,
@@ -74,24 +62,13 @@ impl State {
         most: usize,
         settings: &[Vec<usize>],
         nets: &Nets,
+        forward: bool,
     ) -> Result<State, AllocError> {
         let mut state = State::of(alloc, tables, network, most)?;
-        state.hold_all(tables, network, settings, nets, false);
-        Ok(state)
-    }
-
-    /// The same behind a sweep forward, before the first one of all.
-    pub fn from_nets_ahead(
-        alloc: Global,
-        tables: &Tables,
-        network: &Network,
-        most: usize,
-        settings: &[Vec<usize>],
-        nets: &Nets,
-    ) -> Result<State, AllocError> {
-        let mut state = State::of(alloc, tables, network, most)?;
-        state.shares.begin_turns();
-        state.hold_all(tables, network, settings, nets, true);
+        if forward {
+            state.shares.begin_turns();
+        }
+        state.hold_all(tables, network, settings, nets, forward);
         Ok(state)
     }
 
@@ -124,6 +101,13 @@ impl State {
     pub fn wake(&mut self, point: usize) {
         self.forward.wake(point);
         self.backward.wake(point);
+    }
+
+    /// Lets all points wait.
+    fn wake_all(&mut self, network: &Network) {
+        for point in 0..network.by_point.len() {
+            self.wake(point);
+        }
     }
 
     /// What the last sweep came to.
@@ -330,25 +314,33 @@ impl State {
         }
     }
 
-    /// Sweeps either way by turns, until a list costs no more than the bound, this does not rise any more, or the reach ends.
-    /// Answers why it ended; the cheapest list that it met is put in the place of a dearer one.
-    pub fn climb(
+    /// Sweeps either way by turns, until a list costs no more than the bound, or little enough more for the reach, until the bound
+    /// does not rise any more, or the reach ends. Answers why it ended; the cheapest list that it met is put in the place of a dearer
+    /// one.
+    pub fn climb<K: Keep>(
         &mut self,
         alloc: Global,
         tables: &Tables,
         network: &Network,
         reach: Reach,
         witness: &mut Witness,
+        kept: &mut K,
     ) -> Result<Ending, AllocError> {
         let mut progress = Progress::none();
         for turn in 0..reach.sweeps {
             let forward = !self.is_forward;
+            if reach.visits_all {
+                self.wake_all(network);
+            }
             self.sweep(tables, network, forward);
-            progress.note(self.bound());
-            if turn & reach.pause >= reach.pause.saturating_sub(1) && !self.is_forward {
+            if progress.note(self.bound()) {
+                kept.keep(self, tables, network);
+            }
+            if reach.reads(turn, forward) {
                 witness.take_cheaper(self.decoded(alloc, tables, network, &[])?);
             }
-            if let Some(ending) = progress.ending(witness.cost, reach.patience) {
+            let aim = reach.aim(witness.cost, tables.bits);
+            if let Some(ending) = progress.ending(aim, reach.patience) {
                 return Ok(ending);
             }
             if self.work() >= reach.work {
@@ -470,7 +462,7 @@ fn give(
 }
 
 /// The end of an arc whose other point is before this one, and of these the last; the first of equals.
-pub fn nearest_before(ends: &[End]) -> Option<End> {
+fn nearest_before(ends: &[End]) -> Option<End> {
     let mut nearest: Option<End> = None;
     for end in ends {
         if end.other < end.point && nearest.is_none_or(|found| found.other < end.other) {

@@ -45,19 +45,9 @@ pub struct Tables {
 }
 
 impl Tables {
-    /// The tables for the settings that are left for each point, by those without shifts.
+    /// The tables for the settings that are left for each point, by those without shifts, where a step is at least so many bits more
+    /// than a part.
     pub fn of(
-        alloc: Global,
-        tables: &NetworkTables,
-        network: &Network,
-        order: &Order,
-        settings: &[Vec<usize>],
-    ) -> Result<Tables, AllocError> {
-        Tables::in_steps(alloc, tables, network, order, settings, 0)
-    }
-
-    /// The same, where a step is at least so many bits more than a part.
-    pub fn in_steps(
         alloc: Global,
         tables: &NetworkTables,
         network: &Network,
@@ -191,7 +181,7 @@ fn in_steps(amount: i64, bits: u32) -> i32 {
 }
 
 /// What a point costs at a setting, in parts.
-pub fn cost_at(points: &[PointTable], point: usize, setting: usize) -> i64 {
+fn cost_at(points: &[PointTable], point: usize, setting: usize) -> i64 {
     match points.get(point) {
         Some(table) => match table.costs.as_slice().get(setting) {
             Some(cost) => *cost,

@@ -7,17 +7,16 @@ ghost use Rattle.vd_space.specs.Sizes.{IsWithinLimits};
 ghost use Rattle.vd_space.specs.WellFormed.{AreProtocols};
 
 use crate::climbing::climbed;
-use crate::home::send_home;
-use crate::lifting::lift;
-use crate::network::Plain;
+use crate::tables::plain_tables;
 use std::alloc::{AllocError, Global};
 use vd_base::Proto;
 use vd_base_lists::Items;
 use vd_cost_network_shifts::shifts_of;
-use vd_cost_network_sweeps::{Nets, UNIT_BITS};
+use vd_cost_network_sweeps::{Layout, Nets, UNIT_BITS};
 use vd_search_tree::Shift;
 use vd_space::Problem;
 use vd_space_tables::all_protocols;
+use vd_space_terms::candidates;
 
 /// Shifts of uses under which the bounds of a problem are greater than under most others. There are none where a slot has no
 /// protocol left, since then no list is valid; or where an amount became too great for a shift, or shifts too many for a certificate.
@@ -27,21 +26,15 @@ pub fn plain_shifts(alloc: Global, problem: &Problem) -> Result<Option<Items<Shi
     ensures { IfOk result (λ found. IfSome found (AreUseShifts problem.now)) }
 {
     let list = all_protocols(alloc, problem)?;
-    let Some(plain) = Plain::of(alloc, problem, list.as_slice())? else {
+    let places = candidates(alloc, problem, list.as_slice())?;
+    let by_uses = plain_tables(alloc, problem, list.as_slice(), places.as_slice())?;
+    let Some(layout) = Layout::of(alloc, problem, &by_uses, places.as_slice())? else {
         return Ok(None);
     };
-    let nets = nets_of(alloc, &plain)?;
-    use_shifts(alloc, problem, list.as_slice(), &nets)
-}
-
-/// What shifts come to in whole units, where what is not left is lifted.
-fn nets_of(alloc: Global, plain: &Plain) -> Result<Nets, AllocError> {
-    let mut nets = climbed(alloc, plain)?;
-    send_home(alloc, plain, &mut nets)?;
-    lift(alloc, plain, &mut nets)?;
+    let mut nets = climbed(alloc, &layout, &by_uses)?;
     in_units(&mut nets.firsts);
     in_units(&mut nets.seconds);
-    Ok(nets)
+    use_shifts(alloc, problem, list.as_slice(), &nets)
 }
 
 /// Amounts in parts, as whole units.

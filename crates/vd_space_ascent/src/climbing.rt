@@ -1,8 +1,11 @@
-//! The climb over the slots and uses of a problem: sweeps in ever greater parts of a unit, until parts are whole.
+//! The levels of the climb over slots and uses: sweeps in ever greater parts of a unit, until parts are whole.
 
-use crate::network::Plain;
 use std::alloc::{AllocError, Global};
-use vd_cost_network_sweeps::{Ending, Nets, Progress, State, Tables, UNIT, UNIT_BITS, Witness};
+use vd_cost_network_prefix::NetworkTables;
+use vd_cost_network_sweeps::{
+    Ending, Keep, Layout, Lift, Lifting, Nets, Network, Reach, State, Tables, UNIT, UNIT_BITS,
+    Witness,
+};
 
 /// A level of the climb.
 #[derive(Clone, Copy)]
@@ -11,6 +14,22 @@ struct Level {
     bits: u32,
     /// So many sweeps are made at most.
     sweeps: u32,
+}
+
+impl Level {
+    /// Each sweep visits all slots, and a list is read off behind each second sweep forward. Costs are whole units, so a list that
+    /// costs less than a unit more than the bound costs least.
+    fn reach(self) -> Reach {
+        Reach {
+            sweeps: self.sweeps,
+            work: u64::MAX,
+            patience: 12,
+            visits_all: true,
+            pause: 3,
+            reads_forward: true,
+            gap: UNIT,
+        }
+    }
 }
 
 /// The first try, in whole units.
@@ -39,58 +58,94 @@ const LEVELS: [Level; 4] = [
     },
 ];
 
-/// A level ends after so many sweeps in which the bound did not rise.
-const PATIENCE: u32 = 12;
+/// 1,000,000 units, at each arc of what is lifted.
+const LIFT: Lift = Lift {
+    amount: 256_000_000,
+    elsewhere: 256_000_000,
+};
 
-/// What shifts come to, in parts, at the end of all levels, or of the first try where that shows that a list costs least.
-pub(crate) fn climbed(alloc: Global, plain: &Plain) -> Result<Nets, AllocError> {
-    let start = plain.layout.no_nets(alloc)?;
-    let (first, ending) = climbed_from(alloc, plain, FIRST, start)?;
+/// The amounts of the greatest bound, the last of equals.
+#[derive(Drop)]
+struct Greatest<'a> {
+    /// The settings that are left for each point.
+    settings: &'a [Vec<usize>],
+    nets: Nets,
+}
+
+impl<'a> Greatest<'a> {
+    fn into_nets(self) -> Nets {
+        let Greatest { settings: _, nets } = self;
+        nets
+    }
+}
+
+impl<'a> Keep for Greatest<'a> {
+    fn keep(&mut self, state: &State, tables: &Tables, network: &Network) {
+        state.write_nets(tables, network, self.settings, &[], &mut self.nets);
+    }
+}
+
+/// What shifts come to, in parts, where what slots have above their least is sent home and what is not left is lifted; by what
+/// slots and uses cost.
+pub(crate) fn climbed(
+    alloc: Global,
+    layout: &Layout,
+    by_uses: &NetworkTables,
+) -> Result<Nets, AllocError> {
+    let mut nets = climbed_by_levels(alloc, layout, by_uses)?;
+    let network = &layout.network;
+    let tables = layout.tables(alloc, by_uses, UNIT_BITS)?;
+    let ahead = layout.state(alloc, &tables, &nets, true)?;
+    let settings = layout.settings.as_slice();
+    ahead.write_nets(&tables, network, settings, &[], &mut nets);
+    let mut state = layout.state(alloc, &tables, &nets, false)?;
+    state.send_home(&tables, network);
+    let mut lifting = Lifting::of(alloc, layout, LIFT)?;
+    lifting.write(&state, &tables, by_uses.arcs.as_slice(), layout, &[]);
+    Ok(lifting.into_nets())
+}
+
+/// What shifts come to at the end of all levels, or of the first try where that shows that a list costs least.
+fn climbed_by_levels(
+    alloc: Global,
+    layout: &Layout,
+    by_uses: &NetworkTables,
+) -> Result<Nets, AllocError> {
+    let start = layout.no_nets(alloc)?;
+    let (first, ending) = climbed_from(alloc, layout, by_uses, FIRST, start)?;
     if ending == Ending::Shown {
         return Ok(first);
     }
-    let mut nets = plain.layout.no_nets(alloc)?;
+    let mut nets = layout.no_nets(alloc)?;
     for level in LEVELS {
-        let (next, _) = climbed_from(alloc, plain, level, nets)?;
+        let (next, _) = climbed_from(alloc, layout, by_uses, level, nets)?;
         nets = next;
     }
     Ok(nets)
 }
 
-/// The same at the end of one level, at the greatest bound, the last of equals; and why the level ended. Costs are whole units, so
-/// a list that costs less than a unit more than the bound costs least.
+/// The same at the end of one level, from these amounts on; and why the level ended.
 fn climbed_from(
     alloc: Global,
-    plain: &Plain,
+    layout: &Layout,
+    by_uses: &NetworkTables,
     level: Level,
     start: Nets,
 ) -> Result<(Nets, Ending), AllocError> {
-    let tables = plain.in_steps(alloc, level.bits)?;
-    let unit = UNIT.wrapping_shr(tables.bits);
-    let mut state = plain.state_ahead(alloc, &tables, &start)?;
-    let mut nets = start;
-    let mut progress = Progress::none();
-    let mut known = Witness::none(alloc);
-    for turn in 0..level.sweeps {
-        sweep(plain, &tables, &mut state, turn % 2 == 1);
-        if progress.note(state.bound()) {
-            plain.write_nets(&tables, &state, &mut nets);
-        }
-        if turn % 4 == 3 {
-            known.take_cheaper(state.decoded(alloc, &tables, &plain.layout.network, &[])?);
-        }
-        let aim = known.cost.saturating_sub(unit).saturating_add(1);
-        if let Some(ending) = progress.ending(aim, PATIENCE) {
-            return Ok((nets, ending));
-        }
-    }
-    Ok((nets, Ending::Cut))
-}
-
-/// One sweep, over all points.
-fn sweep(plain: &Plain, tables: &Tables, state: &mut State, forward: bool) {
-    for point in 0..plain.layout.settings.len() {
-        state.wake(point);
-    }
-    state.sweep(tables, &plain.layout.network, forward);
+    let tables = layout.tables(alloc, by_uses, level.bits)?;
+    let mut state = layout.state(alloc, &tables, &start, true)?;
+    let mut kept = Greatest {
+        settings: layout.settings.as_slice(),
+        nets: start,
+    };
+    let mut witness = Witness::none(alloc);
+    let ending = state.climb(
+        alloc,
+        &tables,
+        &layout.network,
+        level.reach(),
+        &mut witness,
+        &mut kept,
+    )?;
+    Ok((kept.into_nets(), ending))
 }

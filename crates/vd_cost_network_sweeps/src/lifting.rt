@@ -1,15 +1,25 @@
 //! Lifts what is not left. A setting that went can stand in no valid list, but bounds count it. So it gets a greater cost at
 //! its point, which is taken from the arc where it has no partner left: no two that are left lose by that. At its other arcs it
-//! costs more only as far as it would cost too little there.
+//! costs more as far as it would cost too little there, or by so much at least.
 
+use crate::layout::Layout;
+use crate::left::Death;
+use crate::nets::{Nets, fixed_at};
+use crate::network::{End, Network};
+use crate::numbers::{FAR, number_at, settings_at};
+use crate::sweeps::State;
+use crate::tables::Tables;
 use std::alloc::{AllocError, Global};
 use vd_cost_network_prefix::ArcTable;
-use vd_cost_network_sweeps::{
-    Death, End, FAR, Layout, Nets, Network, fixed_at, number_at, settings_at,
-};
 
-/// So many parts more are put on each: 65,536 units, so that some hundred lifts together still are an amount of 32 bits.
-const LIFT: i64 = 16_777_216;
+/// How much is lifted.
+#[derive(Clone, Copy, PartialEq, Eq, Debug)]
+pub struct Lift {
+    /// So many parts more are put on each.
+    pub amount: i64,
+    /// So many parts more it costs at least at its other arcs.
+    pub elsewhere: i64,
+}
 
 /// What shifts come to, with room for what is lifted. It is made once and written again and again.
 #[derive(Drop)]
@@ -20,31 +30,48 @@ pub(crate) struct Lifting {
     lifts: Nets,
     /// By point, the settings that it has left, and those that went.
     known: Vec<Vec<usize>>,
+    lift: Lift,
 }
 
 impl Lifting {
-    /// Nothing is shifted yet.
-    pub fn of(alloc: Global, layout: &Layout) -> Result<Lifting, AllocError> {
+    /// Nothing is shifted yet, and so much is to be lifted.
+    pub fn of(alloc: Global, layout: &Layout, lift: Lift) -> Result<Lifting, AllocError> {
         Ok(Lifting {
             nets: layout.no_nets(alloc)?,
             lifts: layout.no_nets(alloc)?,
             known: known_settings(alloc, layout)?,
+            lift,
         })
     }
 
     /// What the shifts come to.
-    pub(crate) fn into_nets(self) -> Nets {
+    pub fn into_nets(self) -> Nets {
         let Lifting {
             nets,
             lifts: _,
             known: _,
+            lift: _,
         } = self;
         nets
     }
 
+    /// Writes down what the shifts of a state come to where points are fixed so, by all settings at which these may be.
+    pub fn write(
+        &mut self,
+        state: &State,
+        tables: &Tables,
+        arcs: &[ArcTable],
+        layout: &Layout,
+        fixed: &[Option<usize>],
+    ) {
+        let settings = layout.settings.as_slice();
+        state.write_nets(tables, &layout.network, settings, fixed, &mut self.nets);
+        self.lift_all(arcs, layout, fixed);
+    }
+
     /// Lifts all that went, from the last to the first: by that time those are lifted that it had for partners. A point that is
     /// fixed is at none of them, so these need not be.
-    pub(crate) fn lift(&mut self, arcs: &[ArcTable], layout: &Layout, fixed: &[Option<usize>]) {
+    fn lift_all(&mut self, arcs: &[ArcTable], layout: &Layout, fixed: &[Option<usize>]) {
         for death in &layout.left.deaths {
             self.take_back(&layout.network, death);
         }
@@ -65,7 +92,7 @@ impl Lifting {
 
     /// Lifts one, where the later ones were lifted. One that a point alone cannot have costs enough there already.
     fn lift_one(&mut self, arcs: &[ArcTable], network: &Network, death: &Death) {
-        let mut sum = LIFT;
+        let mut sum = self.lift.amount;
         for end in network.of_point(death.point) {
             if !death.is_at(*end) {
                 let need = self.needed(arcs, *end, death.setting);
@@ -87,12 +114,12 @@ impl Lifting {
         let there = end.turned();
         let amounts = self.nets.row(there);
         let lifts = self.lifts.row(there);
-        let mut most = 0;
+        let mut most = self.lift.elsewhere;
         for partner in settings_at(self.known.as_slice(), there.point) {
             let lift = number_at(lifts, *partner);
             let is_lifted = lift > 0;
             let asked = if is_lifted {
-                lift.saturating_add(LIFT)
+                lift.saturating_add(self.lift.amount)
             } else {
                 number_at(amounts, *partner)
             };
