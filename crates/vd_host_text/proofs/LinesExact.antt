@@ -5,6 +5,7 @@ use Rattle.std.specs.List.{flat_map}
 use Rattle.std.proofs.lemmas.List.{append-nil, take-append-drop, length-take-le, take_all, take_at, drop_at, drop_all}
 use Rattle.std.proofs.lemmas.List.Concat.{flat_map-cons}
 use Rattle.std.proofs.lemmas.Grind.{flat_map-append}
+use Rattle.vd_base.specs.Words.{IsWord}
 use Rattle.vd_base_codec.specs.Reading.{first, Reading, ◌>>=◌, byte_at, each_at, field}
 use Rattle.vd_base_codec.specs.Exact.{IsBreak, IsAnything, IsExact}
 use Rattle.vd_base_codec.proofs.Front.{done_exact, byte_exact, Picks, later, stopped_first, then_exact, AreEach, break_each, each_exact, exact_as}
@@ -15,7 +16,7 @@ use Rattle.vd_host_text.specs.declared.blocks.Block.TheVariants as block
 use Rattle.vd_host_text.specs.declared.blocks.Arrays.{Arrays}
 use Rattle.vd_host_text.specs.declared.blocks.Arrays.TheVariants as arrays
 use Rattle.vd_host_text.specs.Words.{spelling}
-use Rattle.vd_host_text.specs.Lines.{Line, line_text, lines_text, arity, is_packet, IsWord, HasNumbers, State, allows, after, is_last, Leads, may_stop}
+use Rattle.vd_host_text.specs.Lines.{Line, line_text, lines_text, arity, is_packet, HasNumbers, State, allows, after, is_last, Leads, may_stop}
 use Rattle.vd_host_text.specs.Reading.{number_at, many_at, numbers_at, rest_at, word_at, line_at, lines_at}
 use Rattle.vd_host_text.proofs.WordExact.{word_exact}
 use Rattle.vd_host_text.proofs.Many.{word_number_exact, IsLineEnd, break_line, AreWords, texts, many_exact}

@@ -4,14 +4,15 @@ use Rattle.std.specs.List.{flat_map, AllByRecursion}
 use Rattle.std.proofs.lemmas.List.{append-nil}
 use Rattle.std.proofs.lemmas.List.Concat.{flat_map-cons}
 use Rattle.std.proofs.lemmas.Bool.{eqb-true}
+use Rattle.vd_base.specs.Words.{IsWord}
 use Rattle.vd_base_codec.specs.Reading.{first, Reading, ◌>>=◌, field}
 use Rattle.vd_base_codec.specs.Exact.{IsBreak, IsExact}
-use Rattle.vd_base_codec.proofs.Front.{with_front, done_exact, Picks, first_append, later, stopped_first, then_exact, head_or, tail, field_exact}
-use Rattle.vd_host_text.specs.Lines.{IsWord}
+use Rattle.vd_base_codec.proofs.Front.{with_front, done_exact, Picks, first_append, later, stopped_first, then_exact, head_or, tail, AtMost, exact_for, field_exact}
 use Rattle.vd_host_text.specs.Reading.{number_at, starts_with, many_at}
 
 pub word_number_exact : (bytes : List ℕ) → IsExact IsBreak IsWord field bytes (number_at bytes)
-word_number_exact bytes = field_exact 4294967295 bytes (omega arith)
+word_number_exact bytes =
+    exact_for IsBreak (AtMost 4294967295) IsWord field bytes (number_at bytes) (λ n h. omega (arith, h)) (λ n h. omega (arith, h)) (field_exact 4294967295 bytes (omega arith))
 
 -- a number takes bytes
 shorter_by : (bytes : List ℕ) (r : Reading ℕ) → IsExact IsBreak IsWord field bytes r → (x : ℕ) (left : List ℕ) → r ≡ Ok (x, left) → length left < length bytes

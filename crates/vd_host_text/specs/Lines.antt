@@ -1,6 +1,7 @@
 -- The lines of a host's program, each a word and numbers, and in which order they stand.
 use Rattle.std.specs.Prelude.{◌≡◌, ℕ, ◌≤◌, Bool, true, false, List, [], ◌∷◌, ◌++◌, Option, Some, None, length, flat_map, codes}
 use Rattle.std.specs.List.{AllByRecursion}
+use Rattle.vd_base.specs.Words.{IsWord}
 use Rattle.vd_base_codec.specs.Reading.{field}
 use Rattle.vd_execution.specs.declared.instructions.Instr.{Instr}
 use Rattle.vd_host_text.specs.declared.words.Word.{Word}
@@ -55,9 +56,6 @@ abbrev pub is_packet : Word → Bool
 is_packet word.Send = true
 is_packet word.Recv = true
 is_packet w = false
-
-abbrev pub IsWord : ℕ → Type 0
-IsWord n = n ≤ 4294967295
 
 pub record HasNumbers (w : Word) (ns : List ℕ) : Type 0 where
   pub words : AllByRecursion IsWord ns

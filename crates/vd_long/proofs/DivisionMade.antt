@@ -1,6 +1,7 @@
 -- What a division becomes gives its word, and changes nothing else that was made before.
 use Rattle.std.proofs.Common.{◌≡◌, ◌⊎◌, inl, inr, ℕ, zero, suc, ◌+◌, ◌^◌, ◌<◌, nat_le, Bool, true, false, true≢false, ◌&&◌, if◌then◌else◌, List, [], ◌∷◌, ◌++◌, length, map, slice_index, Option, Some, None, refl, sym, ap, ap₂, ◌∙◌, subst, arith}
 use Rattle.std.proofs.lemmas.Bool.{and_parts, ltb-true}
+use Rattle.vd_base.specs.Words.{IsWord}
 use Rattle.vd_base.specs.declared.ids.SlotId.{SlotId}
 use Rattle.vd_base.specs.declared.operations.Op.{Op}
 use Rattle.vd_base.specs.declared.operations.Op.TheVariants.{Add, Sub, Mul, Scale, Div, Rem, And, Or, Xor, Not, Flip, Shl, Shr, Eq, Ne, Lt, Le, Min, Max, Mux}
@@ -20,7 +21,7 @@ use Rattle.vd_long.specs.Template.{place_at, placed, placed_slot, placed_right}
 use Rattle.vd_core.specs.Numbers.{NumbersFit, numbers_fit}
 use Rattle.vd_long.specs.Lengthened.{step_made, steps_made, looped, Template, quotient_template, remainder_template, template_made, Parts, parts_of, parts_made, long_let, nothing_hidden, with_long_divisions, some_lengthened, lengthened}
 use Rattle.vd_rewrite.proofs.Front.{item_old, item_last, length_push, pushed, Placed, placed_push, placed_later, Grown, Known, word, state, Adds, effect_let, Agree, effect_var, effect_store, effect_for, LetState, Laws, let_grown, let_adds, let_gives, outputs_kept}
-use Rattle.vd_long.proofs.Numbers.{IsWord, AllWords, Words, meant, words_at_start}
+use Rattle.vd_long.proofs.Numbers.{AllWords, Words, meant, words_at_start}
 use Rattle.vd_long.proofs.DivisionSteps.{view, IsApart, is_plain, all_plain, run, quotient_ran, remainder_ran}
 use Rattle.vd_long.proofs.DivisionOthers.{IsOutside, KeepsOthers, ran_keeps, rest_keeps}
 

@@ -3,6 +3,7 @@ use Rattle.std.proofs.Common.{◌≡◌, ◌⊎◌, inl, inr, ℕ, zero, suc, �
 use Rattle.std.specs.List.{list_all, list_any}
 use Rattle.std.proofs.lemmas.Bool.{and_parts, leb-true, eq-eqb, eqb-true}
 use Rattle.std.proofs.lemmas.List.Sums.{list_all-from_AllPass}
+use Rattle.vd_base.specs.Words.{IsWord}
 use Rattle.vd_base.specs.declared.ids.SlotId.{SlotId}
 use Rattle.vd_base.specs.declared.operations.Kind.{Kind}
 use Rattle.vd_base.specs.declared.operations.Kind.TheVariants.{Word}
@@ -22,7 +23,7 @@ use Rattle.vd_core.specs.Numbers.{numbers_fit}
 use Rattle.vd_long.specs.Lengthened.{kind_of_right, step_made, steps_made, looped, Template, quotient_template, remainder_template, template_made, long_let, nothing_hidden, with_long_divisions, some_lengthened, lengthened}
 use Rattle.vd_rewrite.specs.Rewriting.{with_new}
 use Rattle.vd_rewrite.proofs.Front.{length_push, Known, either_of, or_later, more_none, more_binding, more_variable, slots_push, cells_push, nesting_push, count_push, all_push, Makes, makes_none, makes_both, makes_stmt, makes_kept, makes_deeper, slots_let, slots_var, slots_store, slots_for, cells_let, cells_var, cells_store, cells_for, nest_let, nest_var, nest_store, nest_for, some_count, count_for, Looks, all_mapped, kept_keeps, test_let, test_var, test_store, test_for, Shows, shows_fewer, shows_binding, sight, SightAdds as Adds, stmt_adds, adds_none, adds_both, sight_let_adds as let_adds, see_let, see_var, see_store, see_for, LetsFit, kept_fits, entry_passes, item_passes, operands_look, shifts_look, declared_look, hosts_look, turns_look, rewritten_well_made}
-use Rattle.vd_long.proofs.Numbers.{IsWord, Words}
+use Rattle.vd_long.proofs.Numbers.{Words}
 use Rattle.vd_long.proofs.DivisionMade.{IsDivision, TemplateLaw, operands_seen, long_cases, long_laws}
 
 -- ---- slots in order

@@ -1,5 +1,5 @@
 -- All words of all states are words, where the numbers of a program and the inputs are.
-use Rattle.std.proofs.Common.{◌≡◌, ◌⊎◌, inl, inr, ℕ, zero, suc, ◌+◌, ◌-◌, ◌*◌, ◌/◌, ◌%◌, ◌^◌, ◌<◌, ◌≤◌, nat_eq, nat_lt, Bool, true, false, ◌&&◌, not, if◌then◌else◌, List, [], ◌∷◌, map, slice_index, slice_index_or, slice_set, replicate, sym, subst, subst₂, arith}
+use Rattle.std.proofs.Common.{◌≡◌, ◌⊎◌, inl, inr, ℕ, zero, suc, ◌+◌, ◌-◌, ◌*◌, ◌/◌, ◌%◌, ◌^◌, ◌≤◌, nat_eq, nat_lt, Bool, true, false, ◌&&◌, not, if◌then◌else◌, List, [], ◌∷◌, map, slice_index, slice_index_or, slice_set, replicate, sym, subst, subst₂, arith}
 use Rattle.std.specs.List.{list_all}
 use Rattle.std.proofs.lemmas.Bool.{cases_eq, and_parts, ltb-true}
 use Rattle.std.proofs.lemmas.Bool.Decides.{nat_tests}
@@ -9,6 +9,7 @@ use Rattle.vd_base.specs.declared.ids.SlotId.{SlotId}
 use Rattle.vd_base.specs.declared.operations.Op.{Op}
 use Rattle.vd_base.specs.declared.operations.Op.TheVariants.{Add, Sub, Mul, Scale, Div, Rem, And, Or, Xor, Not, Flip, Shl, Shr, Eq, Ne, Lt, Le, Min, Max, Mux}
 use Rattle.vd_base.specs.Operations.{operation, truth_word}
+use Rattle.vd_base.specs.Words.{IsWord}
 use Rattle.vd_core.specs.declared.normal.Right.{Right}
 use Rattle.vd_core.specs.declared.normal.Right.TheVariants.{Lit, Turn, Copy, Apply, Input, Declassify, Endorse, Load, Get}
 use Rattle.vd_core.specs.declared.normal.Stmt.{Stmt, roll-Stmt, map-Stmt, ind-Stmt}
@@ -21,9 +22,6 @@ use Rattle.vd_semantics.specs.World.{World, world_at_start, first_word, later_wo
 use Rattle.vd_semantics.specs.ProgramMeaning.{SlotState, word_at, array_at, with_word, with_array, right_word, after_right, Effect, in_order, stmt_effect, effect, state_at_start}
 use Rattle.vd_core.specs.Numbers.{numbers_fit, number_fits}
 use Rattle.vd_rewrite.proofs.Front.{item_put, item_put_other}
-
-abbrev pub IsWord : ℕ → Type 0
-IsWord n = n < 2 ^ 32
 
 abbrev pub AreWords : List ℕ → Type 0
 AreWords xs = (i : ℕ) → IsWord (slice_index xs i)

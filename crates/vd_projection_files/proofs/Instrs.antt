@@ -5,6 +5,7 @@ use Rattle.std.specs.List.{list_all, AllByRecursion}
 use Rattle.std.proofs.lemmas.Bool.{ne_eqb}
 use Rattle.vd_base.specs.HostSets.{host}
 use Rattle.vd_base.specs.Limits.{most_registers, most_cells}
+use Rattle.vd_base.specs.Words.{IsWord}
 use Rattle.vd_base.specs.declared.ids.HostId.{HostId}
 use Rattle.vd_execution.specs.declared.instructions.Reg.{Reg}
 use Rattle.vd_execution.specs.declared.instructions.Action.{Action}
@@ -16,7 +17,7 @@ use Rattle.vd_execution.specs.Ranges.{ActionFits}
 use Rattle.vd_execution.specs.Text.{register}
 use Rattle.vd_code_sizes.specs.Fits.{PacketFits}
 use Rattle.vd_host_text.specs.Words.{word_of, action_word, operands, action_operands}
-use Rattle.vd_host_text.specs.Lines.{arity, IsWord, HasNumbers}
+use Rattle.vd_host_text.specs.Lines.{arity, HasNumbers}
 use Rattle.vd_hostcode.specs.Ranges.{is_register, are_registers, is_array, is_peer, is_within, action_is_within, packet_is_within}
 use Rattle.vd_projection_files.proofs.Numbers.{is_below, is_at_most, both}
 use Rattle.vd_projection_files.proofs.Few.{ActionIsSmall}

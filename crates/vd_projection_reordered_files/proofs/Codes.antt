@@ -3,6 +3,7 @@ use Rattle.std.proofs.Common.{◌≡◌, ℕ, suc, ◌+◌, ◌*◌, ◌-◌, �
 use Rattle.std.proofs.lemmas.List.{length-append}
 use Rattle.std.specs.List.{list_all, AllByRecursion}
 use Rattle.vd_base.specs.HostSets.{host}
+use Rattle.vd_base.specs.Words.{IsWord}
 use Rattle.vd_base.specs.declared.ids.HostId.{HostId}
 use Rattle.vd_execution.specs.declared.instructions.Reg.{Reg}
 use Rattle.vd_execution.specs.declared.instructions.Instr.{Instr}
@@ -11,7 +12,7 @@ use Rattle.vd_execution.specs.Code.{Code, Finished, Then, Send, Recv, Choose, Re
 use Rattle.vd_execution.specs.Joint.{Part, if_part}
 use Rattle.vd_execution.specs.Ranges.{depth}
 use Rattle.vd_reorder_laws.specs.Hastening.{Piece, Acts, Sends, Awaits, before}
-use Rattle.vd_host_text.specs.Lines.{IsWord, HasNumbers}
+use Rattle.vd_host_text.specs.Lines.{HasNumbers}
 use Rattle.vd_hostcode.specs.Ranges.{is_register, is_peer, packet_is_within}
 use Rattle.vd_projection_files.proofs.Front.{both, is_at_most, code_bulk, CanStand, AllCanStand}
 
