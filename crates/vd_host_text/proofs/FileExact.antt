@@ -1,24 +1,24 @@
 -- The whole file of a host's program is read exactly.
-use Rattle.std.proofs.Common.{◌≡◌, ℕ, zero, suc, ◌+◌, ◌-◌, ◌*◌, ◌/◌, ◌%◌, ◌<◌, ◌≤◌, Bool, true, false, cond, eqb, ◌&&◌, ◌||◌, List, [], ◌∷◌, ◌++◌, length, Option, Some, None, Ok, inr, refl, sym, ap, subst, ◌∙◌, arith, true≢false}
-use Rattle.std.specs.Prelude.{codes, nat_le}
-use Rattle.std.specs.List.{flat_map}
+use Rattle.std.proofs.Common.{◌≡◌, ℕ, ◌-◌, ◌≤◌, Bool, true, false, cond, eqb, ◌||◌, List, [], ◌∷◌, ◌++◌, length, Option, Some, None, Ok, inr, refl, sym, ap, subst, ◌∙◌, arith, true≢false}
+use Rattle.std.specs.Prelude.{codes}
 use Rattle.std.proofs.lemmas.List.{append-nil}
-use Rattle.std.proofs.lemmas.Bool.{and_parts, eqb-true, leb-true, lt-ltb, le-ltb}
+use Rattle.std.proofs.lemmas.Bool.{eqb-true}
 use Rattle.vd_base.specs.Lexical.{keywords}
-use Rattle.vd_base_codec.specs.Reading.{first, ◌>>=◌, byte_at, literal_at, field_at, each_at, field}
+use Rattle.vd_base_codec.specs.Reading.{first, ◌>>=◌, byte_at, literal_at, field_at, field}
 use Rattle.vd_base_codec.specs.Exact.{IsBreak, IsAnything, IsExact, IsExactWhole}
-use Rattle.vd_base_codec.proofs.Front.{done_exact, byte_exact, literal_exact, Picks, then_exact, AreEach, each_exact, AtMost, field_exact, whole_exact}
+use Rattle.vd_base_codec.specs.Digits.{key_text, key_at, IsKey}
+use Rattle.vd_base_codec.proofs.Front.{done_exact, byte_exact, literal_exact, Picks, then_exact, AtMost, field_exact, whole_exact, key_exact, some_key}
 use Rattle.vd_host_text.specs.declared.words.Word.{Word}
 use Rattle.vd_host_text.specs.declared.words.Word.TheVariants as word
 use Rattle.vd_host_text.specs.declared.blocks.Block.{Block}
 use Rattle.vd_host_text.specs.declared.blocks.Arrays.{Arrays}
 use Rattle.vd_host_text.specs.declared.blocks.Arrays.TheVariants as arrays
 use Rattle.vd_host_text.specs.Words.{is_array_word}
-use Rattle.vd_host_text.specs.Text.{version, hex_digit, hex_byte, names_line, number_line, plan_line}
+use Rattle.vd_host_text.specs.Text.{version, names_line, number_line, plan_line}
 use Rattle.vd_host_text.specs.Lines.{Line, lines_text, State, start, allows, after, is_last, may_array, may_stop, may_end, none_open, Leads}
 use Rattle.vd_host_text.specs.Reading.{lines_at}
 use Rattle.vd_host_text.specs.File.{File, has_arrays, file_text, from_version, IsFile}
-use Rattle.vd_host_text.specs.Heading.{with_byte, one_at, version_of, hex_value, hex_at, hosts_at, plan_at, file_at, file_read}
+use Rattle.vd_host_text.specs.Heading.{with_byte, one_at, version_of, hosts_at, plan_at, file_at, file_read}
 use Rattle.vd_host_text.proofs.Many.{IsLineEnd}
 use Rattle.vd_host_text.proofs.LinesExact.{lines_exact, some_lines}
 use Rattle.vd_host_text.proofs.NamesExact.{FewNames, names_text, hosts_exact}
@@ -70,104 +70,12 @@ one_exact Fits code f [] table = record {
 }
 one_exact Fits code f (b ∷ bs) table = one_by Fits code f table b bs (f b) refl
 
--- ---- hexadecimal digits
-
-decimal_digit : (x b : ℕ) → x < 10 → 48 + x ≡ b → hex_digit x ≡ b
-decimal_digit x b h e = rw (lt-ltb x 10 h) e
-
-letter_digit : (x b : ℕ) → 10 ≤ x → 87 + x ≡ b → hex_digit x ≡ b
-letter_digit x b h e = rw (le-ltb x 10 h) e
-
-letter_there : (b x : ℕ) (t : Bool) → (nat_le 97 b && nat_le b 102) ≡ t → cond t (Some (b - 87)) None ≡ Some x → (x < 16) × (hex_digit x ≡ b)
-letter_there b x true e is =
-    let p = and_parts (nat_le 97 b) (nat_le b 102) e in
-    let low = leb-true 97 b p.0 in
-    let high = leb-true b 102 p.1 in
-    let same : b - 87 ≡ x = cc in
-    (omega (arith, low, high, same), letter_digit x b (omega (arith, low, high, same)) (omega (arith, low, high, same)))
-letter_there b x false e is = absurd cc
-
-digit_there : (b x : ℕ) (t : Bool) → (nat_le 48 b && nat_le b 57) ≡ t → cond t (Some (b - 48)) (cond (nat_le 97 b && nat_le b 102) (Some (b - 87)) None) ≡ Some x → (x < 16) × (hex_digit x ≡ b)
-digit_there b x true e is =
-    let p = and_parts (nat_le 48 b) (nat_le b 57) e in
-    let low = leb-true 48 b p.0 in
-    let high = leb-true b 57 p.1 in
-    let same : b - 48 ≡ x = cc in
-    (omega (arith, low, high, same), decimal_digit x b (omega (arith, low, high, same)) (omega (arith, low, high, same)))
-digit_there b x false e is = letter_there b x (nat_le 97 b && nat_le b 102) refl is
-
-hex_back : (d : ℕ) → d < 16 → hex_value (hex_digit d) ≡ Some d
-hex_back zero h = refl
-hex_back (suc zero) h = refl
-hex_back (suc (suc zero)) h = refl
-hex_back (suc (suc (suc zero))) h = refl
-hex_back (suc (suc (suc (suc zero)))) h = refl
-hex_back (suc (suc (suc (suc (suc zero))))) h = refl
-hex_back (suc (suc (suc (suc (suc (suc zero)))))) h = refl
-hex_back (suc (suc (suc (suc (suc (suc (suc zero))))))) h = refl
-hex_back (suc (suc (suc (suc (suc (suc (suc (suc zero)))))))) h = refl
-hex_back (suc (suc (suc (suc (suc (suc (suc (suc (suc zero))))))))) h = refl
-hex_back (suc (suc (suc (suc (suc (suc (suc (suc (suc (suc zero)))))))))) h = refl
-hex_back (suc (suc (suc (suc (suc (suc (suc (suc (suc (suc (suc zero))))))))))) h = refl
-hex_back (suc (suc (suc (suc (suc (suc (suc (suc (suc (suc (suc (suc zero)))))))))))) h = refl
-hex_back (suc (suc (suc (suc (suc (suc (suc (suc (suc (suc (suc (suc (suc zero))))))))))))) h = refl
-hex_back (suc (suc (suc (suc (suc (suc (suc (suc (suc (suc (suc (suc (suc (suc zero)))))))))))))) h = refl
-hex_back (suc (suc (suc (suc (suc (suc (suc (suc (suc (suc (suc (suc (suc (suc (suc zero))))))))))))))) h = refl
-hex_back (suc (suc (suc (suc (suc (suc (suc (suc (suc (suc (suc (suc (suc (suc (suc (suc d)))))))))))))))) h = absurd (omega (arith, h))
-
-abbrev digit_text : ℕ → List ℕ
-digit_text d = hex_digit d ∷ []
-
-abbrev IsHex : ℕ → Type 0
-IsHex d = d < 16
-
-abbrev IsByte : ℕ → Type 0
-IsByte b = b < 256
-
-digit_exact : (bytes : List ℕ) → IsExact IsAnything IsHex digit_text bytes (one_at hex_value bytes)
-digit_exact bytes = one_exact IsHex hex_digit hex_value bytes (record { some = 0; fits = omega arith; there = λ b x e. digit_there b x (nat_le 48 b && nat_le b 57) refl e; back = hex_back })
-
-picks_high : Picks IsAnything IsHex digit_text IsAnything IsByte hex_byte (λ b. digit_text (b % 16)) (λ b. b / 16)
-unfolding hex_byte
-picks_high = record {
-  part_fits = λ b h. omega (arith, h);
-  split = λ b h. refl;
-  some = λ d h. (d * 16, (omega (arith, h), omega (arith, h)));
-  break = λ b behind h k. tt;
-}
-
-picks_low : (high : ℕ) → IsHex high → Picks IsAnything IsHex digit_text IsAnything (λ b. IsByte b × (b / 16 ≡ high)) (λ b. digit_text (b % 16)) (λ _. []) (λ b. b % 16)
-picks_low high fits = record {
-  part_fits = λ b h. omega arith;
-  split = λ b h. refl;
-  some = λ d h. (high * 16 + d, ((omega (arith, h, fits), omega (arith, h, fits)), omega (arith, h, fits)));
-  break = λ b behind h k. tt;
-}
-
-hex_exact : (bytes : List ℕ) → IsExact IsAnything IsByte hex_byte bytes (hex_at bytes)
-unfolding hex_at
-hex_exact bytes =
-    then_exact IsAnything IsHex digit_text IsAnything IsByte hex_byte (λ b. digit_text (b % 16)) (λ b. b / 16) picks_high bytes (one_at hex_value bytes)
-    (λ high. one_at hex_value high.1 >>= λ low. Ok (high.0 * 16 + low.0, low.1)) (digit_exact bytes)
-    (λ high mid h.
-    then_exact IsAnything IsHex digit_text IsAnything (λ b. IsByte b × (b / 16 ≡ high)) (λ b. digit_text (b % 16)) (λ _. []) (λ b. b % 16) (picks_low high h) mid (one_at hex_value mid)
-    (λ low. Ok (high * 16 + low.0, low.1)) (digit_exact mid)
-    (λ low over l.
-    done_exact IsAnything (λ b. (IsByte b × (b / 16 ≡ high)) × (b % 16 ≡ low)) (high * 16 + low) over ((omega (arith, h, l), omega (arith, h, l)), omega (arith, h, l)) (λ b g. omega (arith, g.0.1, g.1))))
-
 -- ---- the plan
 
-abbrev IsPlan : List ℕ → Type 0
-IsPlan p = AreEach IsByte 32 p
-
-some_bytes : (m : ℕ) → (bs : List ℕ) × AreEach IsByte m bs
-some_bytes zero = ([], (refl, tt))
-some_bytes (suc m) = let rest = some_bytes m in (0 ∷ rest.0, (ap suc rest.1.0, (omega arith, rest.1.1)))
-
 abbrev plan_text : List ℕ → List ℕ
-plan_text p = flat_map hex_byte p ++ 10 ∷ []
+plan_text key = key_text key ++ 10 ∷ []
 
-picks_plan : Picks IsAnything IsPlan (flat_map hex_byte) IsAnything IsPlan plan_text (λ _. 10 ∷ []) (λ p. p)
+picks_plan : Picks IsAnything IsKey key_text IsAnything IsKey plan_text (λ _. 10 ∷ []) (λ p. p)
 picks_plan = record {
   part_fits = λ p h. h;
   split = λ p h. refl;
@@ -175,17 +83,16 @@ picks_plan = record {
   break = λ p behind h k. tt;
 }
 
-plan_exact : (bytes : List ℕ) → IsExact IsAnything IsPlan plan_line bytes (plan_at bytes)
+plan_exact : (bytes : List ℕ) → IsExact IsAnything IsKey plan_line bytes (plan_at bytes)
 unfolding plan_at
 plan_exact bytes =
-    let some = some_bytes 32 in
-    literal_exact IsAnything IsPlan plan_text (codes "\nplan ") bytes some.0 (λ mid. each_at hex_at 32 mid >>= λ plan. byte_at 10 plan.1 >>= λ end. Ok (plan.0, end.1)) some.1
+    literal_exact IsAnything IsKey plan_text (codes "\nplan ") bytes some_key.0 (λ mid. key_at mid >>= λ plan. byte_at 10 plan.1 >>= λ end. Ok (plan.0, end.1)) some_key.1
     (λ mid.
-    then_exact IsAnything IsPlan (flat_map hex_byte) IsAnything IsPlan plan_text (λ _. 10 ∷ []) (λ p. p) picks_plan mid (each_at hex_at 32 mid)
-    (λ plan. byte_at 10 plan.1 >>= λ end. Ok (plan.0, end.1)) (each_exact IsAnything IsByte hex_byte 0 hex_at 32 mid (λ b bs. tt) some_bytes hex_exact)
+    then_exact IsAnything IsKey key_text IsAnything IsKey plan_text (λ _. 10 ∷ []) (λ p. p) picks_plan mid (key_at mid)
+    (λ plan. byte_at 10 plan.1 >>= λ end. Ok (plan.0, end.1)) (key_exact mid)
     (λ plan over h.
-    byte_exact IsAnything (λ p. IsPlan p × (p ≡ plan)) (λ _. []) 10 over plan (λ last. Ok (plan, last)) (h, refl)
-    (λ last. done_exact IsAnything (λ p. IsPlan p × (p ≡ plan)) plan last (h, refl) (λ p g. g.1))))
+    byte_exact IsAnything (λ p. IsKey p × (p ≡ plan)) (λ _. []) 10 over plan (λ last. Ok (plan, last)) (h, refl)
+    (λ last. done_exact IsAnything (λ p. IsKey p × (p ≡ plan)) plan last (h, refl) (λ p g. g.1))))
 
 -- ---- the version
 
@@ -314,7 +221,7 @@ kind f = from_version (has_arrays f.lines)
 abbrev file_with : List (List ℕ) → ℕ → List ℕ → List Line → File
 file_with hosts me plan lines = record { hosts = hosts; me = me; plan = plan; lines = lines }
 
-is_file : (a : Arrays) (hosts : List (List ℕ)) (me : ℕ) (plan : List ℕ) (lines : List Line) → IsVersion a → FewNames hosts → me ≤ length hosts - 1 → IsPlan plan → Leads (start a) lines
+is_file : (a : Arrays) (hosts : List (List ℕ)) (me : ℕ) (plan : List ℕ) (lines : List Line) → IsVersion a → FewNames hosts → me ≤ length hosts - 1 → IsKey plan → Leads (start a) lines
     → IsFile (file_with hosts me plan lines) × (kind (file_with hosts me plan lines) ≡ a)
 is_file a hosts me plan lines v few below is_plan leads =
     let same = version_of_lines a lines v leads in (
@@ -391,7 +298,7 @@ picks_me a hosts v few = record {
   break = λ f behind h k. inr refl;
 }
 
-picks_plans : (a : Arrays) (hosts : List (List ℕ)) (me : ℕ) → IsVersion a → FewNames hosts → me ≤ length hosts - 1 → Picks IsAnything IsPlan plan_line IsAnything (Of3 a hosts me) plan_on lines_on (λ f. f.plan)
+picks_plans : (a : Arrays) (hosts : List (List ℕ)) (me : ℕ) → IsVersion a → FewNames hosts → me ≤ length hosts - 1 → Picks IsAnything IsKey plan_line IsAnything (Of3 a hosts me) plan_on lines_on (λ f. f.plan)
 picks_plans a hosts me v few below = record {
   part_fits = λ f h. h.0.0.0.plan;
   split = λ f h. refl;
@@ -399,7 +306,7 @@ picks_plans a hosts me v few below = record {
   break = λ f behind h k. tt;
 }
 
-picks_code : (a : Arrays) (hosts : List (List ℕ)) (me : ℕ) (plan : List ℕ) → IsVersion a → FewNames hosts → me ≤ length hosts - 1 → IsPlan plan
+picks_code : (a : Arrays) (hosts : List (List ℕ)) (me : ℕ) (plan : List ℕ) → IsVersion a → FewNames hosts → me ≤ length hosts - 1 → IsKey plan
     → Picks IsAnything (Leads (start a)) lines_text IsAnything (Of4 a hosts me plan) lines_on (λ _. []) (λ f. f.lines)
 picks_code a hosts me plan v few below is_plan = record {
   part_fits = λ f h. subst (λ b. Leads (start b) f.lines) h.0.0.0.1 h.0.0.0.0.lines;
@@ -412,7 +319,7 @@ same_file : (f : File) (hosts : List (List ℕ)) (me : ℕ) (plan : List ℕ) (l
 same_file f hosts me plan lines d e g h =
     ap (λ x. file_with x f.me f.plan f.lines) d ∙ ap (λ x. file_with hosts x f.plan f.lines) e ∙ ap (λ x. file_with hosts me x f.lines) g ∙ ap (file_with hosts me plan) h
 
-code_exact : (a : Arrays) (hosts : List (List ℕ)) (me : ℕ) (plan bytes : List ℕ) → IsVersion a → FewNames hosts → me ≤ length hosts - 1 → IsPlan plan
+code_exact : (a : Arrays) (hosts : List (List ℕ)) (me : ℕ) (plan bytes : List ℕ) → IsVersion a → FewNames hosts → me ≤ length hosts - 1 → IsKey plan
     → IsExact IsAnything (Of4 a hosts me plan) lines_on bytes (lines_at (length bytes) (start a) bytes >>= λ code. Ok (file_with hosts me plan code.0, code.1))
 code_exact a hosts me plan bytes v few below is_plan =
     then_exact IsAnything (Leads (start a)) lines_text IsAnything (Of4 a hosts me plan) lines_on (λ _. []) (λ f. f.lines) (picks_code a hosts me plan v few below is_plan) bytes (lines_at (length bytes) (start a) bytes)
@@ -424,7 +331,7 @@ code_exact a hosts me plan bytes v few below is_plan =
 plans_exact : (a : Arrays) (hosts : List (List ℕ)) (me : ℕ) (bytes : List ℕ) → IsVersion a → FewNames hosts → me ≤ length hosts - 1
     → IsExact IsAnything (Of3 a hosts me) plan_on bytes (plan_at bytes >>= λ plan. lines_at (length plan.1) (start a) plan.1 >>= λ code. Ok (file_with hosts me plan.0 code.0, code.1))
 plans_exact a hosts me bytes v few below =
-    then_exact IsAnything IsPlan plan_line IsAnything (Of3 a hosts me) plan_on lines_on (λ f. f.plan) (picks_plans a hosts me v few below) bytes (plan_at bytes)
+    then_exact IsAnything IsKey plan_line IsAnything (Of3 a hosts me) plan_on lines_on (λ f. f.plan) (picks_plans a hosts me v few below) bytes (plan_at bytes)
     (λ plan. lines_at (length plan.1) (start a) plan.1 >>= λ code. Ok (file_with hosts me plan.0 code.0, code.1)) (plan_exact bytes) (λ plan mid h. code_exact a hosts me plan mid v few below h)
 
 -- some file with these hosts

@@ -1,9 +1,10 @@
 -- The file of a host's program: what it says, and its one text.
 use Rattle.std.specs.Prelude.{◌≡◌, ℕ, ◌<◌, ◌≤◌, Bool, true, ◌&&◌, not, List, [], ◌∷◌, ◌++◌, length, codes, if◌then◌else◌}
-use Rattle.std.specs.List.{AllByRecursion, list_any}
+use Rattle.std.specs.List.{list_any}
 use Rattle.vd_base.specs.Lexical.{is_name}
 use Rattle.vd_base.specs.Names.{is_among}
 use Rattle.vd_base.specs.Limits.{most_hosts}
+use Rattle.vd_base_codec.specs.Digits.{IsKey}
 use Rattle.vd_host_text.specs.declared.blocks.Arrays.{Arrays}
 use Rattle.vd_host_text.specs.declared.blocks.Arrays.TheVariants as arrays
 use Rattle.vd_host_text.specs.Words.{is_array_word}
@@ -40,5 +41,5 @@ pub record IsFile (f : File) : Type 0 where
   pub some : 1 ≤ length f.hosts
   pub few : length f.hosts ≤ most_hosts
   pub me : f.me < length f.hosts
-  pub plan : (length f.plan ≡ 32) × AllByRecursion (λ b. b < 256) f.plan
+  pub plan : IsKey f.plan
   pub lines : Leads (start (from_version (has_arrays f.lines))) f.lines

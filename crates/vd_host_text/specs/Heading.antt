@@ -1,9 +1,10 @@
 -- What is read of the lines before the code, and of the whole file.
-use Rattle.std.specs.Prelude.{◌==◌, ℕ, zero, suc, ◌+◌, ◌-◌, ◌*◌, Bool, false, ◌&&◌, List, [], ◌∷◌, ◌++◌, Option, Some, None, Result, Ok, Err, length, take, drop, codes, nat_le, if◌then◌else◌}
+use Rattle.std.specs.Prelude.{◌==◌, ℕ, zero, suc, ◌-◌, Bool, false, List, [], ◌∷◌, ◌++◌, Option, Some, None, Result, Ok, Err, length, take, drop, codes, if◌then◌else◌}
 use Rattle.std.specs.List.{prefix_len}
 use Rattle.vd_base.specs.Lexical.{is_letter, is_word_byte}
-use Rattle.vd_base_codec.specs.Reading.{Reading, ◌>>=◌, byte_at, literal_at, field_at, each_at}
+use Rattle.vd_base_codec.specs.Reading.{Reading, ◌>>=◌, byte_at, literal_at, field_at}
 use Rattle.vd_base_codec.specs.Exact.{whole}
+use Rattle.vd_base_codec.specs.Digits.{key_at}
 use Rattle.vd_host_text.specs.declared.blocks.Arrays.{Arrays}
 use Rattle.vd_host_text.specs.declared.blocks.Arrays.TheVariants as arrays
 use Rattle.vd_host_text.specs.Lines.{start}
@@ -21,15 +22,6 @@ one_at f (b ∷ bs) = with_byte b bs (f b)
 
 abbrev pub version_of : ℕ → Option Arrays
 version_of b = if b == 49 then Some arrays.Never else (if b == 50 then Some arrays.Owed else None)
-
-abbrev pub hex_value : ℕ → Option ℕ
-hex_value b = if nat_le 48 b && nat_le b 57 then Some (b - 48) else (if nat_le 97 b && nat_le b 102 then Some (b - 87) else None)
-
-unfoldable pub hex_at : List ℕ → Reading ℕ
-hex_at bs = do
-  high ← one_at hex_value bs
-  low ← one_at hex_value high.1
-  Ok (high.0 * 16 + low.0, low.1)
 
 -- ---- names
 
@@ -66,7 +58,7 @@ hosts_at bs = next_name_at [] bs >>= λ x. (names_at 3 (x.0 ∷ []) x.1 >>= λ x
 unfoldable pub plan_at : List ℕ → Reading (List ℕ)
 plan_at bs = do
   word ← literal_at (codes "\nplan ") bs
-  plan ← each_at hex_at 32 word.1
+  plan ← key_at word.1
   end ← byte_at 10 plan.1
   Ok (plan.0, end.1)
 

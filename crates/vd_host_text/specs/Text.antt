@@ -1,7 +1,8 @@
 -- The text of a host's program.
-use Rattle.std.specs.Prelude.{ℕ, ◌+◌, ◌/◌, ◌%◌, List, [], ◌∷◌, ◌++◌, Bool, nat_lt, if◌then◌else◌, codes, flat_map}
+use Rattle.std.specs.Prelude.{ℕ, List, [], ◌∷◌, ◌++◌, Bool, if◌then◌else◌, codes, flat_map}
 use Rattle.std.specs.List.{list_any}
 use Rattle.vd_execution.specs.declared.instructions.Instr.{Instr}
+use Rattle.vd_base_codec.specs.Digits.{key_text}
 use Rattle.vd_base_codec.specs.Reading.{field}
 use Rattle.vd_host_text.specs.declared.program.HostProgram.{HostProgram}
 use Rattle.vd_host_text.specs.Words.{spelling, word_of, operands, is_array}
@@ -13,13 +14,6 @@ line i = spelling (word_of i) ++ (flat_map field (operands i) ++ 10 ∷ [])
 -- a name behind a space
 unfoldable pub name_field : List ℕ → List ℕ
 name_field name = 32 ∷ name
-
--- a digest as 64 hexadecimal digits
-abbrev pub hex_digit : ℕ → ℕ
-hex_digit d = if nat_lt d 10 then 48 + d else 87 + d
-
-unfoldable pub hex_byte : ℕ → List ℕ
-hex_byte b = hex_digit (b / 16) ∷ hex_digit (b % 16) ∷ []
 
 -- the format of the file: 2 exactly where an instruction on arrays is there
 unfoldable pub version : Bool → List ℕ
@@ -35,7 +29,7 @@ abbrev pub number_line : ℕ → List ℕ
 number_line me = codes "\nme" ++ field me
 
 abbrev pub plan_line : List ℕ → List ℕ
-plan_line bytes = codes "\nplan " ++ (flat_map hex_byte bytes ++ 10 ∷ [])
+plan_line bytes = codes "\nplan " ++ (key_text bytes ++ 10 ∷ [])
 
 -- the four lines before the code
 unfoldable pub head : HostProgram → List ℕ

@@ -1,10 +1,10 @@
 //! The reader of the lines before the code, and of the whole file.
 
-ghost use Rattle.std.specs.Prelude.{◌≡◌, ◌<◌, ◌≤◌, IfOk, length};
+ghost use Rattle.std.specs.Prelude.{◌≡◌, ◌≤◌, IfOk, length};
 ghost use Rattle.std.specs.List.{list_any};
 ghost use Rattle.std.specs.Str.{bytes_eq};
 ghost use Rattle.vd_base.specs.Limits.{most_hosts};
-ghost use Rattle.vd_base_codec.specs.Reading.{Gives, GivesOrMemory, each_at};
+ghost use Rattle.vd_base_codec.specs.Reading.{Gives, GivesOrMemory};
 ghost use Rattle.vd_base.specs.Names as names;
 ghost use Rattle.vd_host_text.specs.Heading as heading;
 ghost use Rattle.vd_host_text.specs.Outcome as outcome;
@@ -15,7 +15,7 @@ use crate::reading::{read_code, stands_at};
 use std::alloc::Global;
 use vd_base::limits::HOSTS;
 use vd_base::{HostId, Name, Names, is_letter, is_name, word_len};
-use vd_base_codec::{Cursor, ReadFault, Stopped};
+use vd_base_codec::{Cursor, ReadFault, Stopped, read_key};
 
 /// Whether instructions on arrays may come, by the number of the format.
 fn version(byte: u8) -> Option<Arrays>
@@ -50,43 +50,6 @@ fn read_version(cursor: &mut Cursor) -> Result<Arrays, Stopped>
 {
     cursor.literal(b"viaduct-host ")?;
     read_version_byte(cursor)
-}
-
-/// What a hexadecimal digit stands for.
-fn hex_value(byte: u8) -> Option<u8>
-    ensures { result ≡ heading.hex_value byte }
-{
-    match byte {
-        b'0'..=b'9' => Some(byte - b'0'),
-        b'a'..=b'f' => Some(byte - b'a' + 10),
-        _ => None,
-    }
-}
-
-/// A hexadecimal digit.
-#[tactic(auto, using(crate::proofs::HostSteps::one_none, crate::proofs::HostSteps::one_other, crate::proofs::HostSteps::one_found, crate::proofs::HostSteps::one_there))]
-fn read_digit(cursor: &mut Cursor) -> Result<u8, Stopped>
-    ensures digit { Gives result cursor.new (heading.one_at heading.hex_value cursor.old) }
-    ensures small { IfOk result (λ digit. digit < 16) }
-{
-    let Some(byte) = cursor.first() else {
-        return Err(Stopped);
-    };
-    let Some(digit) = hex_value(byte) else {
-        return Err(Stopped);
-    };
-    cursor.skip(1);
-    Ok(digit)
-}
-
-/// A byte, as two hexadecimal digits.
-#[tactic(auto, unfolding(crate::specs::Heading::hex_at))]
-fn read_hex(cursor: &mut Cursor) -> Result<u8, Stopped>
-    ensures { Gives result cursor.new (heading.hex_at cursor.old) }
-{
-    let high = read_digit(cursor)?;
-    let low = read_digit(cursor)?;
-    Ok(high * 16 + low)
 }
 
 /// Whether one of these is this name.
@@ -163,19 +126,8 @@ fn read_plan(cursor: &mut Cursor) -> Result<[u8; 32], Stopped>
     ensures { Gives result cursor.new (heading.plan_at cursor.old) }
 {
     cursor.literal(b"\nplan ")?;
-    let bytes = read_bytes(cursor)?;
+    let bytes = read_key(cursor)?;
     cursor.byte(b'\n')?;
-    Ok(bytes)
-}
-
-/// 32 bytes, as hexadecimal digits.
-fn read_bytes(cursor: &mut Cursor) -> Result<[u8; 32], Stopped>
-    ensures { Gives result cursor.new (each_at heading.hex_at 32 cursor.old) }
-{
-    let mut bytes = [0; 32];
-    for place in 0..32 {
-        bytes[place] = read_hex(cursor)?;
-    }
     Ok(bytes)
 }
 

@@ -1,6 +1,6 @@
 //! The writer of host programs.
 
-ghost use Rattle.std.specs.Prelude.{◌≡◌, ◌++◌, ◌<◌, IfOk, OnOk, flat_map, map};
+ghost use Rattle.std.specs.Prelude.{◌≡◌, ◌++◌, IfOk, OnOk, flat_map, map};
 ghost use Rattle.std.specs.List.{list_any};
 ghost use Rattle.vd_base_codec.specs.Reading.{field};
 ghost use Rattle.vd_host_text.specs.Words as words;
@@ -10,7 +10,7 @@ use crate::program::HostProgram;
 use crate::words::{is_array, spelling, word_of};
 use std::alloc::{AllocError, Global};
 use vd_base::{Bytes, Name};
-use vd_base_codec::push_field;
+use vd_base_codec::{push_field, push_key};
 use vd_execution::{Action, Instr, Reg};
 
 /// The one text of a host's program.
@@ -91,31 +91,8 @@ fn push_plan(bytes: &mut Bytes, plan: &[u8]) -> Result<(), AllocError>
     ensures { OnOk result (bytes.new ≡ bytes.old ++ text.plan_line plan.now) }
 {
     bytes.extend_from_slice(b"\nplan ")?;
-    for byte in plan {
-        push_hex(bytes, *byte)?;
-    }
+    push_key(bytes, plan)?;
     bytes.push(b'\n')
-}
-
-/// Puts two hexadecimal digits at the end.
-#[tactic(auto, unfolding(crate::specs::Text::hex_byte))]
-fn push_hex(bytes: &mut Bytes, byte: u8) -> Result<(), AllocError>
-    ensures { OnOk result (bytes.new ≡ bytes.old ++ text.hex_byte byte) }
-{
-    bytes.push(hex_digit(byte / 16))?;
-    bytes.push(hex_digit(byte % 16))
-}
-
-/// A hexadecimal digit.
-fn hex_digit(digit: u8) -> u8
-    requires { digit < 16 }
-    ensures { result ≡ text.hex_digit digit }
-{
-    if digit < 10 {
-        b'0' + digit
-    } else {
-        b'a' - 10 + digit
-    }
 }
 
 /// Puts the lines of instructions at the end.

@@ -6,6 +6,7 @@ use Rattle.std.proofs.lemmas.Fmt.{length-decimal-le}
 use Rattle.std.proofs.lemmas.List.Concat.{flat_map-cons}
 use Rattle.vd_base.specs.HostSets.{host}
 use Rattle.vd_base.specs.Words.{IsWord}
+use Rattle.vd_base_codec.specs.Digits.{hex_byte}
 use Rattle.vd_base_codec.specs.Reading.{field}
 use Rattle.vd_execution.specs.declared.instructions.Binary.TheVariants as binary
 use Rattle.vd_execution.specs.declared.instructions.Action.{Action}
@@ -18,7 +19,7 @@ use Rattle.vd_host_text.specs.declared.words.Word.{Word}
 use Rattle.vd_host_text.specs.declared.words.Word.TheVariants as word
 use Rattle.vd_host_text.specs.declared.program.HostProgram.{HostProgram}
 use Rattle.vd_host_text.specs.Words.{spelling, word_of, operands, action_operands, is_array}
-use Rattle.vd_host_text.specs.Text.{line, version, name_field, hex_byte, version_line, names_line, number_line, plan_line, head, program_text}
+use Rattle.vd_host_text.specs.Text.{line, version, name_field, version_line, names_line, number_line, plan_line, head, program_text}
 use Rattle.vd_projection_files.proofs.Instrs.{AllCanStand}
 use Rattle.vd_projection_files.proofs.Bulk.{code_bulk}
 
