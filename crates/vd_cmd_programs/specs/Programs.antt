@@ -24,7 +24,7 @@ as_program (Err Memory) = Err OutOfMemory
 abbrev pub program_in : ProgramOutcomes → List ℕ → Result HostProgram Status
 program_in programs bytes = as_program (programs.read bytes)
 
--- why the bytes are refused, unless memory is wanting
+-- why the bytes are refused, unless memory runs out
 abbrev pub IsProgramEnd : List ℕ → Status → Type 0
 IsProgramEnd bytes OutOfMemory = Unit {0}
 IsProgramEnd bytes (Host (ProgramText offset)) = IsOutcome bytes (Err (Text offset))

@@ -80,8 +80,7 @@ pub(crate) fn select_by(
             shifts: Items::new(alloc),
             marks,
         })),
-        Err(SearchFault::Spent) => Err(SearchFault::Spent),
-        Err(SearchFault::Memory) => Err(SearchFault::Memory),
+        Err(fault) => Err(fault),
     }
 }
 
