@@ -16,8 +16,8 @@ use std::alloc::{AllocError, Global};
 use vd_base::{HostId, Proto};
 use vd_base_lists::Items;
 use vd_cost_network_prefix::SwitchTable;
-use vd_cost_network_tables::{can_read, slot_costs};
-use vd_space::{Guard, Problem};
+use vd_cost_network_tables::slot_costs;
+use vd_space::{Guard, Problem, can_read};
 use vd_space_tables::merged_values;
 
 /// What a slot alone costs, by place.

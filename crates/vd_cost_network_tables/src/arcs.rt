@@ -26,7 +26,7 @@ use vd_protocol::joins;
 use vd_space::{Guard, Index, Problem, Use};
 
 /// A unit of cost, in parts.
-const UNIT: i64 = 256;
+pub(crate) const UNIT: i64 = 256;
 
 /// So often the price, in parts.
 fn scaled(weight: u32, price: Option<u32>) -> Option<i64>

@@ -11,7 +11,7 @@ mod switches;
 
 pub use assembly::{all_arcs, most_settings, network_tables, settings};
 pub use cells::{less, value_at};
-pub use points::{can_read, slot_costs};
+pub use points::slot_costs;
 pub use raw::RawArc;
 pub use sums::{Rows, shift_sums};
 pub use switches::switch_tables;

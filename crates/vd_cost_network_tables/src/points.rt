@@ -11,10 +11,11 @@ ghost use Rattle.vd_space_prefix.specs.Transfers.{IsWithin, by_place};
 ghost use Rattle.vd_space.specs.Bounds.{only_if};
 ghost use Rattle.vd_space.specs.Labelled.{IsLabelled};
 ghost use Rattle.vd_space.specs.Sizes.{IsWithinLimits};
-ghost use Rattle.vd_space.specs.Validity.{acts_for, all_hosts, holds_at, may_read, protocols};
+ghost use Rattle.vd_space.specs.Validity.{all_hosts, holds_at, may_read, protocols};
 ghost use Rattle.vd_space.specs.WellFormed.{AreProtocols, IsWellFormed};
 ghost use Rattle.vd_cost_network_tables.specs.Sources.{AreSettingsOf, AreSumsByPoint, IsNetworkOf};
 
+use crate::arcs::UNIT;
 use crate::cells::{point_table, value_at};
 use crate::raw::RawArc;
 use crate::sums::{Rows, shift_sums};
@@ -22,37 +23,10 @@ use std::alloc::{AllocError, Global};
 use vd_base::{HostId, Proto, SlotId, is_holder, protocol_at};
 use vd_base_lists::Items;
 use vd_cost_network_prefix::{PointTable, SwitchTable};
-use vd_formula::Formula;
 use vd_search_tree::Shift;
-use vd_space::{Guard, Index, Problem};
+use vd_space::{Guard, Index, Problem, can_read};
 use vd_space_prefix::amount_at;
 use vd_space_tables::merged_values;
-
-/// A unit of cost, in parts.
-const UNIT: i64 = 256;
-
-/// Whether the one formula acts for the other.
-fn can_act(formula: &Formula, other: &Formula) -> bool
-    requires { formula.now.names ≡ other.now.names }
-    ensures { result ≡ acts_for formula.now other.now }
-{
-    formula.acts_for(other)
-}
-
-/// Whether the host may read what has the slot's label.
-pub fn can_read(problem: &Problem, host: HostId, slot: SlotId) -> bool
-    requires labelled { IsLabelled problem.now }
-    requires host { host.0 < length problem.now.hosts }
-    ensures { result ≡ may_read problem.now host slot.0 }
-{
-    let makings = problem.slots.as_slice();
-    let at = usize::from(slot.0);
-    if at >= makings.len() {
-        return false;
-    }
-    let hosts = problem.hosts.as_slice();
-    can_act(&hosts[usize::from(host.0)].conf, &makings[at].label.conf)
-}
 
 /// Whether the place is not kept at the host, or the host may read the index.
 fn can_host_read(problem: &Problem, list: &[Proto], place: u32, host: HostId, index: SlotId) -> bool

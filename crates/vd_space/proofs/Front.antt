@@ -11,7 +11,6 @@ pub use Rattle.vd_space.proofs.Shifted.{each_at, shifted_has, shifted_sum}
 pub use Rattle.vd_space.proofs.Bounded.{high_below, high_whole, low_whole, tree_bounded}
 pub use Rattle.vd_space.proofs.Growth.{same_guard, same_item, same_one, same_pair, total_grows, valid_grows}
 pub use Rattle.vd_space.proofs.Joining.{guard_told_grows, part_grows}
-pub use Rattle.vd_space.proofs.Acting.{acts_is}
 pub use Rattle.vd_space.proofs.Places.{one_by_place, pair_by_place}
 pub use Rattle.vd_space.proofs.Walks.{on_ok, turns_fit, weigh_fits}
 pub use Rattle.vd_space.proofs.Listed.{has_hosts_at}

@@ -14,6 +14,6 @@ pub use laws::{
 pub use problem::{Guard, Index, Making, Output, Problem, Use};
 pub use sums::lesser_of;
 pub use validity::{
-    are_holders_told, has_candidate, is_candidate_at, is_guard_told, is_index_told, is_part,
-    output_can_move, use_can_move,
+    are_holders_told, can_read, has_candidate, is_candidate_at, is_guard_told, is_index_told,
+    is_part, output_can_move, use_can_move,
 };
