@@ -19,7 +19,8 @@ use Rattle.vd_cost_network_prefix.specs.declared.made.PointTable.{PointTable}
 use Rattle.vd_cost_network_prefix.specs.States.{AreSettings, IsSmallPoint, as_states, count_of_points, point_at, point_part, settings}
 use Rattle.vd_cost_network_tables.specs.declared.raw.RawArc.{RawArc}
 use Rattle.vd_cost_network_tables.specs.declared.sums.Rows.TheVariants.{Points}
-use Rattle.vd_cost_network_tables.specs.Sums.{AreSmallShifts, sums_of}
+use Rattle.vd_space_terms.specs.Sums.{AreSmallShifts}
+use Rattle.vd_cost_network_tables.specs.Sums.{sums_of}
 use Rattle.vd_cost_network_tables.specs.Tables.{point_table, point_tables_of, raw_arc, tests_of}
 use Rattle.vd_cost_network_tables.proofs.Front.{map_map, tests_size, gain_is, point_light, point_tables_small}
 use Rattle.vd_cost_network_bound.specs.Bounds.{free_at, values_at}

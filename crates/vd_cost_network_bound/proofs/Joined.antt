@@ -19,7 +19,8 @@ use Rattle.vd_cost_network_prefix.specs.States.{AreSettings, IsSmallArc, as_stat
 use Rattle.vd_cost_network_prefix.proofs.Front.{pairs_size}
 use Rattle.vd_cost_network_tables.specs.declared.raw.RawArc.{RawArc}
 use Rattle.vd_cost_network_tables.specs.declared.sums.Rows.TheVariants.{Firsts, Seconds}
-use Rattle.vd_cost_network_tables.specs.Sums.{AreSmallShifts, part}
+use Rattle.vd_space_terms.specs.Sums.{AreSmallShifts}
+use Rattle.vd_cost_network_tables.specs.Sums.{part}
 use Rattle.vd_cost_network_tables.specs.Tables.{cells_of, arc_table, arc_tables_of, raw_arc, tests_of}
 use Rattle.vd_cost_network_tables.proofs.Front.{tests_found, map_map, tests_size, arc_tables_small, pair_at, taken}
 use Rattle.vd_cost_network_bound.specs.Bounds.{free_at}

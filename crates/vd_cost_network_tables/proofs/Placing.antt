@@ -11,7 +11,8 @@ use Rattle.vd_space_prefix.proofs.Front.{at_place, size_by_place}
 use Rattle.vd_space_terms.proofs.Front.{place_within}
 use Rattle.vd_cost_network_tables.specs.declared.raw.RawArc.{RawArc}
 use Rattle.vd_cost_network_tables.specs.declared.sums.Rows.{Rows}
-use Rattle.vd_cost_network_tables.specs.Sums.{AreSmallShifts, AreSmallSums, part, sums_of}
+use Rattle.vd_space_terms.specs.Sums.{AreSmallShifts, AreSmallSums}
+use Rattle.vd_cost_network_tables.specs.Sums.{part, sums_of}
 use Rattle.vd_cost_network_tables.proofs.Counting.{total_within, no_longer, part_within}
 
 -- ---- sums of shifts are small

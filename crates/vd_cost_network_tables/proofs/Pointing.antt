@@ -29,7 +29,8 @@ use Rattle.vd_cost_network_prefix.specs.declared.made.PointTable.{PointTable}
 use Rattle.vd_cost_network_prefix.specs.States.{AreSmallPoints, IsSmallPoint, count_of_points, settings}
 use Rattle.vd_cost_network_tables.specs.declared.raw.RawArc.{RawArc}
 use Rattle.vd_cost_network_tables.specs.declared.sums.Rows.TheVariants.{Points}
-use Rattle.vd_cost_network_tables.specs.Sums.{AreSmallShifts, AreSmallSums, part, sums_of}
+use Rattle.vd_space_terms.specs.Sums.{AreSmallShifts, AreSmallSums}
+use Rattle.vd_cost_network_tables.specs.Sums.{part, sums_of}
 use Rattle.vd_cost_network_tables.specs.Tables.{point_table, point_tables_of, raw_arc, switch_values, table_at, table_by, table_of_values, tests_of}
 use Rattle.vd_cost_network_tables.proofs.Costs.{map_map}
 use Rattle.vd_cost_network_tables.proofs.Counting.{if_within, points_shifted}

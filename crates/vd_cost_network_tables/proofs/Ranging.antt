@@ -26,7 +26,7 @@ use Rattle.vd_cost_network.specs.Network.{network_pair, network_pairs, no_parts_
 use Rattle.vd_cost_network.proofs.Front.{each_flat}
 use Rattle.vd_cost_network_prefix.specs.States.{AreSmallArcs, IsSmallArc, IsSmallPoint, settings}
 use Rattle.vd_cost_network_tables.specs.declared.raw.RawArc.{RawArc}
-use Rattle.vd_cost_network_tables.specs.Sums.{AreSmallShifts}
+use Rattle.vd_space_terms.specs.Sums.{AreSmallShifts}
 use Rattle.vd_cost_network_tables.specs.Tables.{arc_table, arc_table_of, arc_tables_of, point_table_of, raw_arc, tests_of}
 use Rattle.vd_cost_network_tables.proofs.Counting.{if_within}
 use Rattle.vd_cost_network_tables.proofs.Placing.{whole_within}

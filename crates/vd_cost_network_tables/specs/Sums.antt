@@ -1,11 +1,10 @@
 -- What shifts come to, all together, by row and setting.
-use Rattle.std.specs.Prelude.{ℕ, false, ◌&&◌, ◌==◌, if◌then◌else◌, Option, Some, None, option_map, List, slice_get, All, ℤ, pos}
+use Rattle.std.specs.Prelude.{ℕ, false, ◌&&◌, ◌==◌, if◌then◌else◌, Option, Some, None, option_map, List, slice_get, ℤ, pos}
 use Rattle.std.specs.Option.{option_map_or}
 use Rattle.vd_search_tree.specs.declared.shift.Shift.{Shift}
 use Rattle.vd_space.specs.Costs.{total}
 use Rattle.vd_space.specs.Bounds.{signed}
-use Rattle.vd_space_prefix.specs.Transfers.{IsWithin, by_place}
-use Rattle.vd_space_prefix.specs.Tables.{gain_at}
+use Rattle.vd_space_prefix.specs.Transfers.{by_place}
 use Rattle.vd_cost_network_tables.specs.declared.raw.RawArc.{RawArc}
 use Rattle.vd_cost_network_tables.specs.declared.sums.Rows.{Rows}
 use Rattle.vd_cost_network_tables.specs.declared.sums.Rows.TheVariants.{Firsts, Seconds, Points}
@@ -26,11 +25,3 @@ part arcs rows row place shift = if option_map_or (λ r. r == row) (row_of arcs 
 -- of so many rows and settings
 abbrev pub sums_of : List RawArc → Rows → ℕ → ℕ → List Shift → List (List ℤ)
 sums_of arcs rows count places shifts = by_place count (λ row. by_place places (λ place. total (part arcs rows row place) shifts))
-
--- 2^32: an amount is a number of 32 bits
-abbrev pub AreSmallShifts : List Shift → Type 0
-AreSmallShifts shifts = All (λ shift. IsWithin 4294967296 (signed shift)) shifts
-
--- 2^49: shifts are at most 2^17, each of less than 2^32
-abbrev pub AreSmallSums : List (List ℤ) → Type 0
-AreSmallSums sums = (row place : ℕ) → IsWithin 562949953421312 (gain_at sums row place)

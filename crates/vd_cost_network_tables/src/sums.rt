@@ -3,7 +3,8 @@
 
 ghost use Rattle.std.specs.Prelude.{◌≡◌, ◌+ℤ◌, ◌≤◌, ◌<◌, IfOk, length, pos, replicate, slice_index_or, slice_set};
 ghost use Rattle.vd_base.specs.Limits.{most_certificate_shifts};
-ghost use Rattle.vd_cost_network_tables.specs.Sums.{AreSmallShifts, row_of, side_of, sums_of};
+ghost use Rattle.vd_space_terms.specs.Sums.{AreSmallShifts};
+ghost use Rattle.vd_cost_network_tables.specs.Sums.{row_of, side_of, sums_of};
 ghost use Rattle.vd_space_prefix.specs.Transfers.{IsWithin};
 ghost use Rattle.vd_space.specs.Bounds.{signed};
 
