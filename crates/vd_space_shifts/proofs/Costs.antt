@@ -15,14 +15,14 @@ use Rattle.vd_space.specs.declared.problem.Problem.{Problem}
 use Rattle.vd_space.specs.declared.problem.Making.{Making}
 use Rattle.vd_space.specs.declared.problem.Output.{Output}
 use Rattle.vd_space.specs.Validity.{protocols, protocol, can_stand, is_candidate}
-use Rattle.vd_space.specs.Costs.{weigh, operation_value, output_value}
+use Rattle.vd_space.specs.Costs.{weigh, operation_value, output_value, plus}
 use Rattle.vd_space.specs.Bounds.{only_if, add, outputs_value}
 use Rattle.vd_space.specs.Sizes.{heft, IsWithinLimits}
 use Rattle.vd_space.specs.Labelled.{IsLabelled}
 use Rattle.vd_space.specs.Spaces.{IsProblem}
 use Rattle.vd_space.proofs.Front.{row_price, small, told_price}
 use Rattle.vd_space_shifts.specs.Rows.{weighed}
-use Rattle.vd_space_shifts.specs.Terms.{row_at, operation_at, operations_of, sum_of, with_output, IsTable, costs_with, greatest, AreCosts}
+use Rattle.vd_space_shifts.specs.Terms.{row_at, operation_at, operations_of, with_output, IsTable, costs_with, greatest, AreCosts}
 use Rattle.vd_space_shifts.proofs.Numbers.{if_pos, weigh_pos, sum_pos, passes_low, weighed_low, sum_low}
 use Rattle.vd_space_shifts.specs.Ledger.{AreSmallTerms}
 use Rattle.vd_space_shifts.proofs.Burden.{heft_set, greatest_at, small_terms, by_low, at_by, size_by}
@@ -96,11 +96,11 @@ module _ (problem : Problem) where
 
       output_table : IsTable problem (costs_with problem (o ∷ rest)) (set terms o.slot.0 (with_output (protocols problem) o row))
       output_table = set_table problem (costs_with problem rest) (costs_with problem (o ∷ rest)) terms o.slot.0 (with_output (protocols problem) o row) are.table low
-          (size_by many (λ p. sum_of (weighed o.weight (told p)) (get_or row p None)))
+          (size_by many (λ p. plus (weighed o.weight (told p)) (get_or row p None)))
           (λ s p other low_p. ap (add (operation_value problem s p))
           (cond-false (o.slot.0 == s) (add (output_value problem o p) (outputs_value problem s p rest)) (outputs_value problem s p rest) (ne_eqb o.slot.0 s (λ same. other (sym same)))))
           (λ p low_p.
-          ap (option_map pos) (at_by many (λ k. sum_of (weighed o.weight (told k)) (get_or row k None)) p None low_p)
+          ap (option_map pos) (at_by many (λ k. plus (weighed o.weight (told k)) (get_or row k None)) p None low_p)
           ∙ sym (sum_pos (weighed o.weight (told p)) (get_or row p None))
           ∙ ap₂ add (sym (weigh_pos o.weight (told p))) (are.table.terms o.slot.0 p low low_p)
           ∙ add_only (is_candidate problem o.slot.0 p) (output_value problem o p) (costs_with problem rest o.slot.0 p)
@@ -114,7 +114,7 @@ module _ (problem : Problem) where
           let light = are.light in
           let change = heft_set greatest terms o.slot.0 (with_output (protocols problem) o row) [] (omega (arith, slots, low)) in
           let here : greatest (with_output (protocols problem) o row) ≤ 212 * o.weight + greatest row =
-          by_low many (λ p. sum_of (weighed o.weight (told p)) (get_or row p None)) (212 * o.weight + greatest row) (λ p low_p.
+          by_low many (λ p. plus (weighed o.weight (told p)) (get_or row p None)) (212 * o.weight + greatest row) (λ p low_p.
           sum_low (weighed o.weight (told p)) (get_or row p None) (212 * o.weight) (greatest row) (weighed_low o.weight 212 (told p) (told_price problem few o.host p)) (greatest_at row p)) in
           omega (arith, light, change, here)
 

@@ -3,10 +3,9 @@ use Rattle.std.proofs.Common.{◌≡◌, ℕ, zero, suc, ◌+◌, ◌*◌, ◌<�
 use Rattle.std.specs.Prelude.{option_map, unwrap_or}
 use Rattle.std.specs.Int.{int_min}
 use Rattle.std.proofs.lemmas.Int.{ints, int_min_is}
-use Rattle.vd_space.specs.Costs.{weigh}
+use Rattle.vd_space.specs.Costs.{weigh, plus}
 use Rattle.vd_space.specs.Bounds.{lesser, least_below, only_if, add}
 use Rattle.vd_space_shifts.specs.Rows.{if_passes, weighed, lesser_number, least_number}
-use Rattle.vd_space_shifts.specs.Terms.{sum_of}
 
 pub if_pos : (test : Bool) (o : Option ℕ) → only_if test (option_map pos o) ≡ option_map pos (if_passes test o)
 if_pos true o = refl
@@ -16,7 +15,7 @@ pub weigh_pos : (weight : ℕ) (o : Option ℕ) → weigh weight o ≡ option_ma
 weigh_pos weight None = refl
 weigh_pos weight (Some c) = refl
 
-pub sum_pos : (a b : Option ℕ) → add (option_map pos a) (option_map pos b) ≡ option_map pos (sum_of a b)
+pub sum_pos : (a b : Option ℕ) → add (option_map pos a) (option_map pos b) ≡ option_map pos (plus a b)
 sum_pos None None = refl
 sum_pos None (Some b) = refl
 sum_pos (Some a) None = refl
@@ -60,7 +59,7 @@ pub more_low : (o : Option ℕ) (n most : ℕ) → unwrap_or o 0 ≤ most → un
 more_low None n most low = omega arith
 more_low (Some v) n most low = omega (arith, low)
 
-pub sum_low : (a b : Option ℕ) (m n : ℕ) → unwrap_or a 0 ≤ m → unwrap_or b 0 ≤ n → unwrap_or (sum_of a b) 0 ≤ m + n
+pub sum_low : (a b : Option ℕ) (m n : ℕ) → unwrap_or a 0 ≤ m → unwrap_or b 0 ≤ n → unwrap_or (plus a b) 0 ≤ m + n
 sum_low None b m n first second = omega arith
 sum_low (Some a) None m n first second = omega arith
 sum_low (Some a) (Some b) m n first second = omega (arith, first, second)

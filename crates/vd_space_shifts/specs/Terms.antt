@@ -10,7 +10,7 @@ use Rattle.vd_space.specs.declared.problem.Problem.{Problem}
 use Rattle.vd_space.specs.declared.problem.Making.{Making}
 use Rattle.vd_space.specs.declared.problem.Output.{Output}
 use Rattle.vd_space.specs.Validity.{protocols, protocol, can_stand, is_candidate}
-use Rattle.vd_space.specs.Costs.{operation_value}
+use Rattle.vd_space.specs.Costs.{operation_value, plus}
 use Rattle.vd_space.specs.Bounds.{only_if, add, outputs_value, shifted_one}
 use Rattle.vd_space.specs.Sizes.{heft}
 use Rattle.vd_space_shifts.specs.Rows.{if_passes, weighed, by_place}
@@ -31,13 +31,8 @@ operations_of problem making = by_place (length (protocols problem)) (operation_
 
 -- ---- the outputs of its value
 
-abbrev pub sum_of : Option ℕ → Option ℕ → Option ℕ
-sum_of None b = None
-sum_of (Some a) None = None
-sum_of (Some a) (Some b) = Some (a + b)
-
 abbrev pub with_output : List Proto → Output → List (Option ℕ) → List (Option ℕ)
-with_output list o row = by_place (length list) (λ p. sum_of (weighed o.weight (move_at (proto_in list p) (Local o.host))) (slice_index_or row p None))
+with_output list o row = by_place (length list) (λ p. plus (weighed o.weight (move_at (proto_in list p) (Local o.host))) (slice_index_or row p None))
 
 -- with the output added to what its slot costs
 abbrev pub terms_with : List Proto → Output → List (List (Option ℕ)) → List (List (Option ℕ))

@@ -6,9 +6,10 @@ ghost use Rattle.vd_base.specs.Moves.{move_at};
 ghost use Rattle.vd_base.specs.declared.protocols.Proto.TheVariants.{Local as local};
 ghost use Rattle.vd_base.specs.Holders.{proto_in};
 ghost use Rattle.vd_protocol.specs.Authority.{IsOver, names_of};
+ghost use Rattle.vd_space.specs.Costs.{plus};
 ghost use Rattle.vd_space.specs.WellFormed.{AreProtocols, IsWellFormed};
 ghost use Rattle.vd_space_shifts.specs.Rows.{weighed};
-ghost use Rattle.vd_space_shifts.specs.Terms.{AreCosts, candidates_of, operation_at, operations_of, row_at, sum_of, terms_with, with_output};
+ghost use Rattle.vd_space_shifts.specs.Terms.{AreCosts, candidates_of, operation_at, operations_of, row_at, terms_with, with_output};
 
 use crate::rows::{price, product};
 use std::alloc::{AllocError, Global};
@@ -125,7 +126,7 @@ fn all_operations(
 fn sum_of(first: Option<u64>, second: Option<u64>) -> Option<u64>
     requires second { unwrap_or second 0 < 4294967296 }
     requires first { unwrap_or first 0 < 18446744065119617026 }
-    ensures { result ≡ sum_of first second }
+    ensures { result ≡ plus first second }
 {
     match (first, second) {
         (Some(number), Some(other)) => Some(number + other),

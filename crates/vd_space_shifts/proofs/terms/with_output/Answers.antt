@@ -2,8 +2,8 @@ use Rattle.std.proofs.Common.{None, get_or, ap, ◌∙◌}
 use Rattle.vd_base.specs.declared.protocols.Proto.TheVariants.{Local}
 use Rattle.vd_base.specs.Moves.{move_at}
 use Rattle.vd_base.specs.Holders.{proto_in}
+use Rattle.vd_space.specs.Costs.{plus}
 use Rattle.vd_space_shifts.specs.Rows.{weighed}
-use Rattle.vd_space_shifts.specs.Terms.{sum_of}
 use Rattle.vd_space_shifts.proofs.Loops.{grows}
 use Rattle.vd_space_shifts.proofs.terms.with_output.Goals as goal
 
@@ -11,5 +11,5 @@ pub loop-place-preserved : goal.loop-place-preserved
 loop-place-preserved c =
     let row = c.args.row.now in
     let o = c.args.output.now in
-    grows (λ p. sum_of (weighed o.weight (move_at (proto_in c.args.list.now p) (Local o.host))) (get_or row p None)) c.loop-place.place c.loop-place.sums c.push.new.self c.sum_of.result
-    c.loop-place.invariant (c.sum_of.ensures ∙ ap (λ told. sum_of told (get_or row c.loop-place.place None)) c.told_at-told.ensures.value) c.in_ok-push.ensures.ok
+    grows (λ p. plus (weighed o.weight (move_at (proto_in c.args.list.now p) (Local o.host))) (get_or row p None)) c.loop-place.place c.loop-place.sums c.push.new.self c.sum_of.result
+    c.loop-place.invariant (c.sum_of.ensures ∙ ap (λ told. plus told (get_or row c.loop-place.place None)) c.told_at-told.ensures.value) c.in_ok-push.ensures.ok
