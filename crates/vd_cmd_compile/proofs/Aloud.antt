@@ -15,7 +15,8 @@ use Rattle.vd_protocol.specs.Authority.{authority_of}
 use Rattle.vd_noninter_laws.proofs.Front.{acts_for}
 use Rattle.vd_space.specs.declared.problem.Problem.{Problem}
 use Rattle.vd_space.specs.Reading.{problem_of}
-use Rattle.vd_space.specs.Validity.{acts_for as acts, covers, protocol, protocols}
+use Rattle.vd_formula.specs.TruthTable.{acts}
+use Rattle.vd_space.specs.Validity.{covers, protocol, protocols}
 use Rattle.vd_space.proofs.Front.{as_many, parts_of}
 use Rattle.vd_space_optimum.proofs.Front.{proto_is}
 use Rattle.vd_noninter_assigned.proofs.Front.{label_of_slot, stand_at}

@@ -63,6 +63,10 @@ implies_of f g = formula_where f.names (λ set. list_all (λ larger. not (is_sub
 abbrev pub ActsFor : TruthTable → TruthTable → Type 0
 ActsFor f g = (set : ℕ) → set < 2 ^ f.names → IsTrue (at f set) → IsTrue (at g set)
 
+-- the test of that
+abbrev pub acts : TruthTable → TruthTable → Bool
+acts f g = list_all (λ set. not (at f set) || at g set) (sets f.names)
+
 -- where it is true at a set, it is true at all larger sets
 abbrev pub IsMonotone : TruthTable → Type 0
 IsMonotone f = (set larger : ℕ) → larger < 2 ^ f.names → IsTrue (is_subset set larger) → IsTrue (at f set) → IsTrue (at f larger)

@@ -20,7 +20,7 @@ use Rattle.vd_core.specs.declared.normal.NormalForm.{NormalForm}
 use Rattle.vd_core.specs.declared.normal.Written.{Written}
 use Rattle.vd_formula.specs.Forms.{formula_of}
 use Rattle.vd_formula.proofs.Front.{if_so}
-use Rattle.vd_formula.specs.TruthTable.{at}
+use Rattle.vd_formula.specs.TruthTable.{at, acts}
 use Rattle.vd_formula.specs.declared.label.Label.{Label}
 use Rattle.vd_protocol.proofs.Front.{is_over}
 use Rattle.vd_protocol.specs.Authority.{HasHosts, authority_of, label_of, names_of}
@@ -32,7 +32,7 @@ use Rattle.vd_space.specs.declared.problem.Guard.{Guard}
 use Rattle.vd_space.specs.declared.problem.Problem.{Problem}
 use Rattle.vd_space.specs.Labelled.{HasLabels, IsLabelled}
 use Rattle.vd_space.specs.Reading.{problem_of}
-use Rattle.vd_space.specs.Validity.{acts_for, covers, guard_told, if_decided, is_told, may_read, move_to_host, protocol, protocols, takes_part}
+use Rattle.vd_space.specs.Validity.{covers, guard_told, if_decided, is_told, may_read, move_to_host, protocol, protocols, takes_part}
 use Rattle.vd_space.proofs.Front.{as_many as as_many_slots, listed_at, IsValid, parts_of, has_hosts_at, is_labelled, names_below}
 use Rattle.vd_space_optimum.specs.Cheapest.{IsAssignment}
 use Rattle.vd_space_optimum.proofs.Front.{proto_is}
@@ -135,7 +135,7 @@ module _ (p : NormalForm) (l : Labels) (well : IsWellMade p) (satisfies : Satisf
       let proto = protocol problem q in
       let authority = authority_of proto problem.hosts in
       let parts = and_parts (nat_lt q (length (protocols problem)) && is_some (cost_at making.row proto)) (covers authority making.label) found.1.1 in
-      let covered = and_parts (acts_for authority.conf making.label.conf) (acts_for authority.integ making.label.integ) parts.1 in
+      let covered = and_parts (acts authority.conf making.label.conf) (acts authority.integ making.label.integ) parts.1 in
       let listed = listed_at problem making q found.1.1 in
       let has : HasHosts (length problem.hosts) proto = has_hosts_at (length problem.hosts) q _ listed in
       let has' : HasHosts (length p.hosts) proto = subst (λ n. HasHosts n proto) as_many has in

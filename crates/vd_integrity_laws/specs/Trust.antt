@@ -4,13 +4,13 @@ use Rattle.std.specs.List.{list_any}
 use Rattle.vd_base.specs.declared.ids.HostId.{HostId}
 use Rattle.vd_core.specs.declared.normal.NormalForm.{NormalForm}
 use Rattle.vd_core.specs.Facts.{IsWellMade}
-use Rattle.vd_formula.specs.TruthTable.{TruthTable, ActsFor, at}
+use Rattle.vd_formula.specs.TruthTable.{TruthTable, ActsFor, at, acts}
 use Rattle.vd_constraints.specs.declared.labels.Labels.{Labels}
 use Rattle.vd_constraints.specs.declared.system.Place.TheVariants.{Slot}
 use Rattle.vd_constraints.specs.Rules.{host_label, system_of}
 use Rattle.vd_constraints.specs.Satisfies.{label_at, Satisfies}
 use Rattle.vd_noninter_laws.specs.Watching.{Showing}
-use Rattle.vd_noninter_laws.specs.Reading.{acts, visible_slots, declassified_words, endorsed_words, shown_words, outputs_to, SameInputs}
+use Rattle.vd_noninter_laws.specs.Reading.{visible_slots, declassified_words, endorsed_words, shown_words, outputs_to, SameInputs}
 
 -- A test of integrities over so many names: what acts for a trusted integrity is trusted.
 abbrev pub IsTrust : ℕ → (TruthTable → Bool) → Type 0

@@ -5,7 +5,7 @@ use Rattle.vd_core.specs.declared.normal.NormalForm.{NormalForm}
 use Rattle.vd_formula.specs.declared.label.Label.{Label}
 use Rattle.vd_constraints.specs.Rules.{host_label}
 use Rattle.vd_constraints.specs.declared.labels.Labels.{Labels}
-use Rattle.vd_noninter_laws.specs.Reading.{acts}
+use Rattle.vd_formula.specs.TruthTable.{acts}
 use Rattle.vd_mux.specs.Selections.{turned_where_boolean}
 use Rattle.vd_rewrite.specs.Rewriting.{marked}
 

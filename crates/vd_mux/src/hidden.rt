@@ -6,7 +6,7 @@ ghost use Rattle.vd_base.specs.Limits.{most_hosts, most_principals};
 ghost use Rattle.vd_constraints.specs.Rules.{host_label, system_of};
 ghost use Rattle.vd_constraints.specs.Satisfies.{Satisfies};
 ghost use Rattle.vd_constraints.specs.Systems.{IsLabelOver};
-ghost use Rattle.vd_noninter_laws.specs.Reading.{acts};
+ghost use Rattle.vd_formula.specs.TruthTable.{acts};
 ghost use Rattle.vd_mux.specs.Hidden.{some_reads, hidden_from, hidden_marks, turn_of};
 
 use crate::turning::turn;

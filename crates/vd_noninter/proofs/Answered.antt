@@ -7,7 +7,7 @@ use Rattle.vd_base.specs.declared.ids.SlotId.{SlotId}
 use Rattle.vd_base.specs.declared.ids.HostId.{HostId}
 use Rattle.vd_core.specs.declared.normal.NormalForm.{NormalForm}
 use Rattle.vd_core.specs.Facts.{IsWellMade}
-use Rattle.vd_formula.specs.TruthTable.{TruthTable, ActsFor}
+use Rattle.vd_formula.specs.TruthTable.{TruthTable, ActsFor, acts}
 use Rattle.vd_formula.specs.declared.label.Label.{Label}
 use Rattle.vd_constraints.specs.declared.labels.Labels.{Labels}
 use Rattle.vd_constraints.specs.declared.system.Place.TheVariants.{Block}
@@ -16,7 +16,7 @@ use Rattle.vd_constraints.specs.Satisfies.{no_label, Satisfies}
 use Rattle.vd_constraints.specs.Systems.{IsLabelOver}
 use Rattle.vd_constraints.specs.Scoped.{is_below}
 use Rattle.vd_constraints.proofs.Front.{well_made_scoped}
-use Rattle.vd_noninter_laws.specs.Reading.{acts, reads_slot}
+use Rattle.vd_noninter_laws.specs.Reading.{reads_slot}
 use Rattle.vd_noninter_laws.specs.Dependence.{Reach, IsDependence, AreReached, AreReadable, AreEnough}
 use Rattle.vd_noninter_laws.proofs.Front.{acts_for, for_acts, same_principals, same_slots, reached_are_readable, reached_are_enough}
 use Rattle.vd_noninter.specs.declared.edge.Edge.{Edge}

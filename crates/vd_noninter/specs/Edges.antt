@@ -10,7 +10,7 @@ use Rattle.vd_core.specs.declared.normal.Stmt.TheFolds.{fold-Stmt}
 use Rattle.vd_core.specs.declared.normal.NormalForm.{NormalForm}
 use Rattle.vd_formula.specs.declared.label.Label.{Label}
 use Rattle.vd_constraints.specs.Rules.{host_label}
-use Rattle.vd_noninter_laws.specs.Reading.{acts}
+use Rattle.vd_formula.specs.TruthTable.{acts}
 use Rattle.vd_noninter.specs.declared.edge.Node.{Node}
 use Rattle.vd_noninter.specs.declared.edge.Node.TheVariants.{Told, Slot, Inputs}
 use Rattle.vd_noninter.specs.declared.edge.Edge.{Edge}

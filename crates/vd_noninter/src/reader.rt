@@ -4,7 +4,7 @@ ghost use Rattle.std.specs.Prelude.{◌≡◌, ◌≤◌, IfOk, length, All};
 ghost use Rattle.vd_base.specs.Limits.{most_principals};
 ghost use Rattle.vd_constraints.specs.Rules.{host_label};
 ghost use Rattle.vd_constraints.specs.Systems.{IsLabelOver};
-ghost use Rattle.vd_noninter_laws.specs.Reading.{acts};
+ghost use Rattle.vd_formula.specs.TruthTable.{acts};
 
 use std::alloc::{AllocError, Global};
 use vd_base::{HostId, SlotId};

@@ -9,11 +9,10 @@ use Rattle.vd_base.specs.declared.protocols.Proto.{Proto}
 use Rattle.vd_base.specs.declared.protocols.Proto.TheVariants.{Local, Rep, Commit, Add, Xor}
 use Rattle.vd_base.specs.HostSets.{host, has_host, same_host, members}
 use Rattle.vd_base.specs.Holders.{has_clear, is_holder}
-use Rattle.vd_formula.specs.TruthTable.{TruthTable, at, never_of}
+use Rattle.vd_formula.specs.TruthTable.{TruthTable, at, never_of, acts}
 use Rattle.vd_formula.specs.declared.label.Label.{Label}
 use Rattle.vd_formula.proofs.Front.{at-formula_where}
 use Rattle.vd_protocol.specs.Authority.{label, label_of, names_of, AreOverSameNames, copies_of, authority_of}
-use Rattle.vd_noninter_laws.specs.Reading.{acts}
 use Rattle.vd_noninter_laws.proofs.Front.{acts_for, for_acts}
 
 -- ---- one of a set of copies passes

@@ -25,14 +25,15 @@ use Rattle.vd_constraints.specs.Rules.{label, no_authority, host_label, at_start
 use Rattle.vd_space.specs.declared.problem.Problem.{Problem}
 use Rattle.vd_space.specs.declared.problem.Making.{Making}
 use Rattle.vd_space.specs.Reading.{Read, all_parts, read_step, read_stmt, problem_of}
-use Rattle.vd_space.specs.Validity.{protocols, protocol, all_hosts, acts_for, covers, may_read, guard_told, index_told}
+use Rattle.vd_space.specs.Validity.{protocols, protocol, all_hosts, covers, may_read, guard_told, index_told}
 use Rattle.vd_space.specs.Labelled.{IsLabelled, HasLabels}
 use Rattle.vd_space.proofs.Front.{IsValid, parts_of, is_labelled}
 use Rattle.vd_space_optimum.specs.Cheapest.{IsAssignment}
 use Rattle.vd_noninter_laws.specs.Flowing.{all_flow, flow}
 use Rattle.vd_noninter_laws.specs.Agreement.{Agree}
 use Rattle.vd_noninter_laws.specs.Watching.{Taps}
-use Rattle.vd_noninter_laws.specs.Reading.{acts, reads_slot, reads_result, becomes_readable_to, reads_host, in_view, visible_slots, start}
+use Rattle.vd_formula.specs.TruthTable.{acts}
+use Rattle.vd_noninter_laws.specs.Reading.{reads_slot, reads_result, becomes_readable_to, reads_host, in_view, visible_slots, start}
 use Rattle.vd_noninter_laws.specs.Dependence.{Reach, IsClosed, AreReached, OfEachHost}
 use Rattle.vd_noninter_laws.proofs.Front.{Tells, named_are_visible, narrowed, narrowed_flows, same_slots, program_flows, becoming, results, kept_read, taps_of, hearing, given_is}
 use Rattle.vd_noninter.proofs.Front.{labels_over, body_closed, eight_hosts}
@@ -126,13 +127,13 @@ module _ (p : NormalForm) (l : Labels) (h : HostId) (well : IsWellMade p) (satis
           let making = found.0 in
           let authority = authority_of (protocol problem q) problem.hosts in
           let covered = (and_parts (nat_lt q (length (protocols problem)) && is_some (cost_at making.row (protocol problem q))) (covers authority making.label) found.1.1).1 in
-          let conf = (and_parts (acts_for authority.conf making.label.conf) (acts_for authority.integ making.label.integ) covered).0 in
+          let conf = (and_parts (acts authority.conf making.label.conf) (acts authority.integ making.label.integ) covered).0 in
           read_slot x making found.1.0 (clear_acts problem.hosts labelled.hosts h low (protocol problem q) making.label.conf clear conf)
 
   told_read : (x : SlotId) → may_read problem h x.0 ≡ true → reads x.0 ≡ true
   told_read x is = by (slice_get problem.slots x.0) refl is
     where
-      by : (o : Option Making) → slice_get problem.slots x.0 ≡ o → option_map_or (λ (making : Making). acts_for (label_of problem.hosts h).conf making.label.conf) o false ≡ true → reads x.0 ≡ true
+      by : (o : Option Making) → slice_get problem.slots x.0 ≡ o → option_map_or (λ (making : Making). acts (label_of problem.hosts h).conf making.label.conf) o false ≡ true → reads x.0 ≡ true
       by None at may = absurd (true≢false (sym may))
       by (Some making) at may = read_slot x making at may
 

@@ -1,8 +1,7 @@
 -- What a host may read, as a test and as acting for.
 use Rattle.std.proofs.Common.{◌≡◌, true, ◌||◌, not}
-use Rattle.vd_formula.specs.TruthTable.{TruthTable, ActsFor, at}
+use Rattle.vd_formula.specs.TruthTable.{TruthTable, ActsFor, at, acts}
 use Rattle.vd_formula.proofs.Front.{acts_trans, at_each_set, all_sets_from, if_so, then_so}
-use Rattle.vd_noninter_laws.specs.Reading.{acts}
 
 pub acts_for : (f g : TruthTable) → acts f g ≡ true → ActsFor f g
 acts_for f g all set low = if_so (at f set) (at g set) (at_each_set f.names (λ s. not (at f s) || at g s) all set low)

@@ -17,7 +17,7 @@ use Rattle.vd_core.specs.declared.normal.Written.{Written}
 use Rattle.vd_core.specs.declared.normal.NormalForm.{NormalForm}
 use Rattle.vd_core.specs.Facts.{Sight, Seeing, is_binding, is_variable, is_array, right_sees, seeing_all, seeing_step, seeing}
 use Rattle.vd_formula.specs.Forms.{formula_of}
-use Rattle.vd_formula.specs.TruthTable.{TruthTable, ActsFor, any_of}
+use Rattle.vd_formula.specs.TruthTable.{TruthTable, ActsFor, any_of, acts}
 use Rattle.vd_formula.specs.declared.label.Label.{Label}
 use Rattle.vd_constraints.specs.declared.system.Place.{Place}
 use Rattle.vd_constraints.specs.declared.system.Place.TheVariants.{Slot, Block}
@@ -29,7 +29,7 @@ use Rattle.vd_constraints.specs.Satisfies.{label_at, HoldsRule, HoldsCheck}
 use Rattle.vd_constraints.specs.Scoped.{is_below, right_below, stmt_below, slots_below}
 use Rattle.vd_constraints.specs.Rules.{flows as flow_rules, label, no_authority, host_label, offset_of, written_at, right_rules, right_checks, with_rules, with_checks, with_block, with_optional, written_rules, written_checks, output_rules, output_checks, with_branch, in_order, stmt_step, with_stmt}
 use Rattle.vd_noninter_laws.specs.Flowing.{Knowledge, only_with, right_flows, right_hides, Flow, all_flow, all_hide, flow_step, flow}
-use Rattle.vd_noninter_laws.specs.Reading.{acts, reads_slot, reads_host, Makes, all_visible, all_hidden, makes_step, makes}
+use Rattle.vd_noninter_laws.specs.Reading.{reads_slot, reads_host, Makes, all_visible, all_hidden, makes_step, makes}
 use Rattle.vd_noninter_laws.proofs.Formulas.{acts_through, for_acts}
 use Rattle.vd_noninter_laws.proofs.Whole.{hearing}
 

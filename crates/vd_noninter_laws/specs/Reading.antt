@@ -1,5 +1,5 @@
 -- What a host may read, and what it learns.
-use Rattle.std.specs.Prelude.{◌≡◌, ℕ, Bool, true, false, ◌&&◌, ◌||◌, not, nat_eq, if◌then◌else◌, List, [], ◌∷◌, ◌++◌, length, map, slice_index_or}
+use Rattle.std.specs.Prelude.{◌≡◌, ℕ, Bool, true, false, ◌&&◌, not, nat_eq, if◌then◌else◌, List, [], ◌∷◌, ◌++◌, length, map, slice_index_or}
 use Rattle.std.specs.List.{list_all, list_any, concat}
 use Rattle.vd_base.specs.declared.ids.HostId.{HostId}
 use Rattle.vd_core.specs.declared.normal.Right.{Right}
@@ -8,7 +8,7 @@ use Rattle.vd_core.specs.declared.normal.Stmt.{Stmt}
 use Rattle.vd_core.specs.declared.normal.Stmt.TheOpen.{Stmt-F}
 use Rattle.vd_core.specs.declared.normal.Stmt.TheFolds.{fold-Stmt}
 use Rattle.vd_core.specs.declared.normal.NormalForm.{NormalForm}
-use Rattle.vd_formula.specs.TruthTable.{TruthTable, at, sets}
+use Rattle.vd_formula.specs.TruthTable.{acts}
 use Rattle.vd_constraints.specs.declared.labels.Labels.{Labels}
 use Rattle.vd_constraints.specs.declared.system.Place.TheVariants.{Slot}
 use Rattle.vd_constraints.specs.Rules.{host_label}
@@ -17,10 +17,6 @@ use Rattle.vd_semantics.specs.World.{world_at_start}
 use Rattle.vd_semantics.specs.ProgramMeaning.{SlotState, state_at_start, program_outputs}
 use Rattle.vd_noninter_laws.specs.Agreement.{SameWords}
 use Rattle.vd_noninter_laws.specs.Watching.{Watched, Words, Downgrades, Taps, Showing, declassifications, endorsements, no_downgrades, given_by, shown_by, words_in_order, watched}
-
--- the other formula is true at every set at which this one is
-abbrev pub acts : TruthTable → TruthTable → Bool
-acts f g = list_all (λ set. not (at f set) || at g set) (sets f.names)
 
 -- the host's confidentiality acts for that of the slot's label
 abbrev pub reads_slot : NormalForm → Labels → HostId → ℕ → Bool

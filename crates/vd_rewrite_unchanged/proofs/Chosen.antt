@@ -30,9 +30,9 @@ use Rattle.vd_space.specs.declared.problem.Problem.{Problem}
 use Rattle.vd_space.specs.declared.problem.Making.{Making}
 use Rattle.vd_space.specs.declared.problem.Guard.{Guard}
 use Rattle.vd_space.specs.Reading.{Read, named_by, all_parts, all_named, guard_of, read_step, read_stmt, problem_of}
-use Rattle.vd_space.specs.Validity.{protocols, protocol, acts_for, covers, may_read, holds_at, if_decided, move_to_host, is_told, takes_part, guard_told}
+use Rattle.vd_space.specs.Validity.{protocols, protocol, covers, may_read, holds_at, if_decided, move_to_host, is_told, takes_part, guard_told}
 use Rattle.vd_space.proofs.Front.{IsValid, parts_of, as_many as as_many_slots}
-use Rattle.vd_noninter_laws.specs.Reading.{acts}
+use Rattle.vd_formula.specs.TruthTable.{acts}
 use Rattle.vd_space_optimum.specs.Cheapest.{IsValid as IsValidList}
 use Rattle.vd_noninter_assigned.proofs.Front.{label_of_slot, stand_at, of_host}
 use Rattle.vd_rewrite.specs.Rewriting.{Rewriting, all_pure, some_changed, is_some as some_in, is_hidden, kept_let, rewriting_step, rewriting, rewritings, is_within}
@@ -110,7 +110,7 @@ module _ (p : NormalForm) (l : Labels) (list : List ℕ) (well : IsWellMade p) (
   not_read : (g : SlotId) (h : HostId) → h.0 < length p.hosts → hides g ≡ true → may_read problem h g.0 ≡ true → ⊥
   not_read g h low hidden may = by (slice_get problem.slots g.0) refl may
     where
-      by : (o : Option Making) → slice_get problem.slots g.0 ≡ o → option_map_or (λ (making : Making). acts_for (label_of problem.hosts h).conf making.label.conf) o false ≡ true → ⊥
+      by : (o : Option Making) → slice_get problem.slots g.0 ≡ o → option_map_or (λ (making : Making). acts (label_of problem.hosts h).conf making.label.conf) o false ≡ true → ⊥
       by None at m = true≢false (sym m)
       by (Some making) at m =
           let same : making.label ≡ label_at l (slot_place g) = label_of_slot l p well g.0 making at in

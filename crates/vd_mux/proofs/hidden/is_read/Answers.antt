@@ -1,7 +1,6 @@
 use Rattle.std.proofs.Common.{◌≡◌, ◌<◌, true, false, length, sym, ap, ◌∙◌, arith}
 use Rattle.vd_core.specs.declared.normal.NormalForm.{NormalForm}
-use Rattle.vd_formula.specs.TruthTable.{TruthTable}
-use Rattle.vd_noninter_laws.specs.Reading.{acts}
+use Rattle.vd_formula.specs.TruthTable.{TruthTable, acts}
 use Rattle.vd_mux.proofs.Reading.{one_more, found}
 use Rattle.vd_mux.proofs.hidden.is_read.Goals as goal
 

@@ -1,6 +1,6 @@
 use Rattle.std.proofs.Common.{◌≡◌, map, take}
 use Rattle.vd_constraints.specs.Rules.{host_label}
-use Rattle.vd_noninter_laws.specs.Reading.{acts}
+use Rattle.vd_formula.specs.TruthTable.{acts}
 use Rattle.vd_noninter.proofs.reader.Reader.new.Given as goal
 
 abbrev pub invariant-loop-label : goal.invariant-loop-label
