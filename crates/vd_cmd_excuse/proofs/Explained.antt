@@ -30,7 +30,8 @@ use Rattle.vd_report.specs.Hosts.{host_of}
 use Rattle.vd_cmd_plan.specs.declared.answer.Answer.{Answer}
 use Rattle.vd_cmd_choice.specs.Choice.{IsSelected}
 use Rattle.vd_views_programs.specs.Explained.{IsOfTwo, plan_of}
-use Rattle.vd_views_deals.specs.Files.{tape_of, dealt_count, counts_of}
+use Rattle.vd_machine.specs.Dealt.{dealt_count, counts_of}
+use Rattle.vd_views_deals.specs.Files.{tape_of}
 use Rattle.vd_equivocation_deals.specs.Short.{short_kind, end_of, TakesNoMore}
 use Rattle.vd_equivocation_deals.proofs.Front.{short_kinds_are_exact}
 use Rattle.vd_equivocation.specs.Excuse.{AreAsked, IsExcused, fault_of}

@@ -9,7 +9,8 @@ use Rattle.vd_tape.specs.Text.{AreDealsOf}
 use Rattle.vd_execution.specs.Step.{Source, Inputs, OwnWords, Triples, BitTriples, Pairs}
 use Rattle.vd_machine.specs.Machines.{list_of}
 use Rattle.vd_equivocation_laws.specs.declared.step.Step.{Step}
-use Rattle.vd_views_deals.specs.Files.{AreAsLong, dealt_count}
+use Rattle.vd_machine.specs.Dealt.{dealt_count}
+use Rattle.vd_views_deals.specs.Files.{AreAsLong}
 use Rattle.vd_views_deals.proofs.Front.{Part, file, are_two_files}
 use Rattle.vd_equivocation_deals.specs.Excuses.{AreExcused, IsOneOfTwo, both_after}
 use Rattle.vd_equivocation_walk.specs.Claims.{EndsWithin, HasSameShape, HaveSameShape}

@@ -24,7 +24,8 @@ use Rattle.vd_equivocation_laws.specs.Claims.{explained_end}
 use Rattle.vd_views_programs.specs.Explained.{IsOfTwo, plan_of, input_words, AgreeFor}
 use Rattle.vd_views_programs.specs.Lengths.{IsLongEnough}
 use Rattle.vd_views_programs.proofs.Front.{others_are_explained, excuses_are_as_long}
-use Rattle.vd_views_deals.specs.Files.{tape_of, dealt_count, counts_of, AreEnough, AreAsLong, IsExcuse}
+use Rattle.vd_machine.specs.Dealt.{dealt_count, counts_of}
+use Rattle.vd_views_deals.specs.Files.{tape_of, AreEnough, AreAsLong, IsExcuse}
 use Rattle.vd_views_deals.proofs.Front.{past_end, Part, file, are_two_files, IsAsLong, read_files, read_part, first_back, second_back, are_files}
 use Rattle.vd_equivocation_steps.specs.Claims.{LeadTo}
 use Rattle.vd_equivocation_deals.specs.Excuses.{both_at_start, both_after, ReachesToo, EndsToo, IsOneOfTwo, AreExcused, ExcusedFilesExplain, excuse_files, ExcusedFilesAreThese}

@@ -9,9 +9,10 @@ use Rattle.vd_deal_items.specs.declared.deal.DealKind.TheVariants.{Own, Mul, And
 use Rattle.vd_execution.specs.Step.{Source, Inputs, OwnWords, Triples, BitTriples, Pairs}
 use Rattle.vd_views_programs.specs.Explained.{IsOfTwo, plan_of}
 use Rattle.vd_views_programs.proofs.Front.{Static, plan_is, static, dealt_zeros}
-use Rattle.vd_views_deals.specs.Files.{tape_of, counts_of}
-use Rattle.vd_equivocation_walk.specs.Files.{list_of_kind}
-use Rattle.vd_equivocation_deals.specs.Short.{list_at, end_of, takes_more, is_short, short_kind, TakesNoMore, ShortKindsAreExact}
+use Rattle.vd_machine.specs.Dealt.{counts_of}
+use Rattle.vd_views_deals.specs.Files.{tape_of}
+use Rattle.vd_equivocation_walk.specs.Files.{list_of_kind, takes_more, is_short}
+use Rattle.vd_equivocation_deals.specs.Short.{list_at, end_of, short_kind, TakesNoMore, ShortKindsAreExact}
 use Rattle.vd_equivocation_deals.proofs.Strangers.{IsStranger, none_taken, third_takes_none, stranger_takes_none}
 use Rattle.vd_base.specs.declared.protocols.Proto.{Proto}
 

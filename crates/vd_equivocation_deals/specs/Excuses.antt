@@ -21,7 +21,8 @@ use Rattle.vd_equivocation_laws.specs.Walks.{Both, both_steps, walks}
 use Rattle.vd_equivocation_walk.specs.Items.{pair_of, triple_of}
 use Rattle.vd_equivocation_steps.specs.Claims.{LeadTo}
 use Rattle.vd_views_programs.specs.Explained.{IsOfTwo, plan_of, input_words, AgreeFor}
-use Rattle.vd_views_deals.specs.Files.{tape_of, counts_of, AreEnough, AreAsLong, IsExcuse}
+use Rattle.vd_machine.specs.Dealt.{counts_of}
+use Rattle.vd_views_deals.specs.Files.{tape_of, AreEnough, AreAsLong, IsExcuse}
 
 -- both runs at their starts: the second one has the second inputs, and so far the deal of the first
 abbrev pub both_at_start : Tape → (second : List (List ℕ)) → Both

@@ -1,18 +1,18 @@
 -- The first kind of dealt items that does not reach for a run of two hosts.
-use Rattle.std.specs.Prelude.{◌≡◌, ◌≢◌, ◌↔◌, ℕ, ◌-◌, ◌≤◌, nat_lt, ◌||◌, Bool, List, [], ◌∷◌, Option, Some, None}
+use Rattle.std.specs.Prelude.{◌≡◌, ◌≢◌, ◌↔◌, ℕ, ◌-◌, ◌≤◌, List, Option, None}
 use Rattle.vd_base.specs.declared.protocols.Proto.{Proto}
 use Rattle.vd_core.specs.declared.normal.NormalForm.{NormalForm}
 use Rattle.vd_constraints.specs.declared.labels.Labels.{Labels}
 use Rattle.vd_deal_items.specs.declared.deal.Deal.{Deal}
 use Rattle.vd_deal_items.specs.declared.deal.DealKind.{DealKind}
-use Rattle.vd_deal_items.specs.declared.deal.DealKind.TheVariants.{Own, Mul, And, Pair}
 use Rattle.vd_execution.specs.Step.{Source, Inputs}
 use Rattle.vd_execution.specs.Joint.{Hosts, fresh, joint}
 use Rattle.vd_execution.specs.Gadgets.{Gadget}
 use Rattle.vd_execution.specs.Plans.{Plan, joint_of}
+use Rattle.vd_machine.specs.Dealt.{counts_of}
 use Rattle.vd_views_programs.specs.Explained.{IsOfTwo, plan_of}
-use Rattle.vd_views_deals.specs.Files.{tape_of, counts_of}
-use Rattle.vd_equivocation_walk.specs.Files.{first_of, list_of_kind}
+use Rattle.vd_views_deals.specs.Files.{tape_of}
+use Rattle.vd_equivocation_walk.specs.Files.{first_short, list_of_kind}
 
 -- of two hosts, the list of a kind that one has with the other
 abbrev pub list_at : DealKind → (host : ℕ) → Source
@@ -22,16 +22,9 @@ list_at kind g = list_of_kind kind (1 - g)
 abbrev pub end_of : Plan Gadget → (inputs : List (List ℕ)) → List Deal → Hosts
 end_of plan inputs deals = joint (tape_of inputs deals) (joint_of plan) fresh
 
--- of this kind a host has taken more than it was dealt
-abbrev pub takes_more : List Deal → Hosts → DealKind → (host : ℕ) → Bool
-takes_more deals last kind g = nat_lt (counts_of deals g (list_at kind g)) ((last g).cursors (list_at kind g))
-
-abbrev pub is_short : List Deal → Hosts → DealKind → Bool
-is_short deals last kind = takes_more deals last kind 0 || takes_more deals last kind 1
-
 -- the first kind of which one of two hosts takes more than it was dealt
 abbrev pub short_kind : Plan Gadget → (inputs : List (List ℕ)) → List Deal → Option DealKind
-short_kind plan inputs deals = first_of (is_short deals (end_of plan inputs deals)) (Own ∷ Mul ∷ And ∷ Pair ∷ [])
+short_kind plan inputs deals = first_short deals (end_of plan inputs deals)
 
 -- no item is taken past the end of any list
 abbrev pub TakesNoMore : Plan Gadget → (inputs : List (List ℕ)) → List Deal → Type 0

@@ -21,7 +21,8 @@ use Rattle.vd_equivocation_walk.specs.declared.walker.Walker.{Walker}
 use Rattle.vd_equivocation_walk.specs.Data.{all_both, data_walks}
 use Rattle.vd_equivocation_walk.specs.Supplies.{Lists, lists_of, supplies, dealt}
 use Rattle.vd_equivocation_walk.specs.Following.{placed, IsIn, Stands, Known, Follows, WalksAreFollowed}
-use Rattle.vd_equivocation_walk.specs.Files.{AreOfTwo, file_tape, counts_of, dealt_sides, takes_more, is_short, first_of, first_short}
+use Rattle.vd_machine.specs.Dealt.{counts_of}
+use Rattle.vd_equivocation_walk.specs.Files.{AreOfTwo, file_tape, dealt_sides, takes_more, is_short, first_of, first_short}
 use Rattle.vd_deal_items.specs.declared.deal.DealKind.{DealKind}
 use Rattle.vd_deal_items.specs.declared.deal.DealKind.TheVariants.{Own, Mul, And, Pair}
 use Rattle.vd_equivocation_walk.proofs.Along.{first_lists}

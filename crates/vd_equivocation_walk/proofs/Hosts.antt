@@ -15,7 +15,8 @@ use Rattle.vd_machine.specs.Machines.{item_or_none, word_item, list_of}
 use Rattle.vd_equivocation_runs.specs.Sides.{triple_words, pair_words}
 use Rattle.vd_equivocation_runs.specs.Runs.{side_at}
 use Rattle.vd_equivocation_walk.specs.Supplies.{lists_of, supplies, dealt}
-use Rattle.vd_equivocation_walk.specs.Files.{IsOneOfTwo, AreOfTwo, file_tape, counts_of, dealt_sides}
+use Rattle.vd_machine.specs.Dealt.{counts_of}
+use Rattle.vd_equivocation_walk.specs.Files.{IsOneOfTwo, AreOfTwo, file_tape, dealt_sides}
 use Rattle.vd_equivocation_walk.proofs.Stands.{word_or_zero}
 
 -- ---- one list for one peer

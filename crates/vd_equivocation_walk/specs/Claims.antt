@@ -13,7 +13,8 @@ use Rattle.vd_equivocation_laws.specs.Walks.{Both, both_steps, walks}
 use Rattle.vd_equivocation_runs.specs.declared.side.Side.{Side}
 use Rattle.vd_equivocation_runs.specs.Runs.{side_at}
 use Rattle.vd_equivocation_walk.specs.declared.walker.Walker.{Walker}
-use Rattle.vd_equivocation_walk.specs.Files.{counts_of, dealt_sides, file_tape, first_of}
+use Rattle.vd_machine.specs.Dealt.{counts_of}
+use Rattle.vd_equivocation_walk.specs.Files.{dealt_sides, file_tape, first_of}
 
 -- both runs at their start: the second by the first deal, with its own inputs
 abbrev pub at_start : List (List ℕ) → List (List ℕ) → List Deal → Both

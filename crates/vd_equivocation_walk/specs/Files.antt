@@ -3,10 +3,11 @@ use Rattle.std.specs.Prelude.{◌≡◌, ℕ, ◌+◌, List, [], ◌∷◌, Opti
 use Rattle.vd_deal_items.specs.declared.deal.Deal.{Deal}
 use Rattle.vd_deal_items.specs.declared.deal.DealKind.{DealKind}
 use Rattle.vd_deal_items.specs.declared.deal.DealKind.TheVariants.{Own, Mul, And, Pair}
-use Rattle.vd_execution.specs.Step.{Source, Inputs, OwnWords, Triples, BitTriples, Pairs}
+use Rattle.vd_execution.specs.Step.{Source, OwnWords, Triples, BitTriples, Pairs}
 use Rattle.vd_execution.specs.World.{Tape, followed_by_zeros}
 use Rattle.vd_execution.specs.Joint.{Hosts}
-use Rattle.vd_machine.specs.Machines.{items_of, list_of}
+use Rattle.vd_machine.specs.Dealt.{counts_of}
+use Rattle.vd_machine.specs.Machines.{items_of}
 use Rattle.vd_equivocation_runs.specs.declared.side.Side.{Side}
 use Rattle.vd_equivocation_runs.specs.Sides.{dealt_side}
 
@@ -18,18 +19,6 @@ file_items inputs h (Some deal) source i = items_of (record { inputs = slice_ind
 -- the files of all hosts, each list followed by zeros
 abbrev pub file_tape : List (List ℕ) → List Deal → Tape
 file_tape inputs deals = followed_by_zeros (λ h. file_items inputs h (slice_get deals h))
-
--- how many items a host was dealt of each source
-abbrev pub dealt_count : Option Deal → Source → ℕ
-dealt_count None s = 0
-dealt_count (Some d) Inputs = 0
-dealt_count (Some d) OwnWords = length d.own
-dealt_count (Some d) (Triples p) = length (list_of d.triples d.me.0 p)
-dealt_count (Some d) (BitTriples p) = length (list_of d.bits d.me.0 p)
-dealt_count (Some d) (Pairs p) = length (list_of d.pairs d.me.0 p)
-
-abbrev pub counts_of : List Deal → ℕ → Source → ℕ
-counts_of deals g s = dealt_count (slice_get deals g) s
 
 -- one of two hosts' deal: a list of each kind for its only peer
 pub record IsOneOfTwo (me : ℕ) (d : Deal) : Type 0 where

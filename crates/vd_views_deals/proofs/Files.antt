@@ -27,7 +27,8 @@ use Rattle.vd_views_programs.specs.Explained.{IsOfTwo, plan_of, input_words, Agr
 use Rattle.vd_views_programs.specs.PairUp.{IsDealOf as IsDealWith}
 use Rattle.vd_views_programs.specs.Lengths.{Lengths, IsLongEnough, Shows, AreAll}
 use Rattle.vd_views_programs.proofs.Front.{others_are_explained, excuses_are_as_long, show_equally_many}
-use Rattle.vd_views_deals.specs.Files.{tape_of, dealt_count, counts_of, AreEnough, AreAsLong, IsExcuse, FilesAreExplained, ShowsTheSame, FilesShowEquallyMany}
+use Rattle.vd_machine.specs.Dealt.{dealt_count, counts_of}
+use Rattle.vd_views_deals.specs.Files.{tape_of, AreEnough, AreAsLong, IsExcuse, FilesAreExplained, ShowsTheSame, FilesShowEquallyMany}
 use Rattle.vd_views_deals.proofs.Lists.{word_of, triple_of, pair_of, read_count, past_end, input_is}
 use Rattle.vd_views_deals.proofs.Hosts.{first_host, second_host, kind_count, Part, file, are_two_files, IsAsLong, read_files, read_part, first_back, second_back, tape_again, are_files}
 use Rattle.vd_views_deals.proofs.Counted.{mapped_count, all_there}

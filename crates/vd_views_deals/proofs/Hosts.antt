@@ -21,7 +21,8 @@ use Rattle.vd_base.specs.Words.{InputsAreWords}
 use Rattle.vd_world_report.specs.Supplies.{AreFiles}
 use Rattle.vd_views_programs.specs.Explained.{input_words}
 use Rattle.vd_views.specs.Contract.{HasInputs}
-use Rattle.vd_views_deals.specs.Files.{tape_of, counts_of}
+use Rattle.vd_machine.specs.Dealt.{counts_of}
+use Rattle.vd_views_deals.specs.Files.{tape_of}
 use Rattle.vd_views_deals.proofs.Lists.{word_of, triple_of, pair_of, word_is, triple_is, pair_is, read_items, read_count, read_all, read_is, item_is, read_back, input_is}
 use mathlib.Core.Path.{fun_ext}
 

@@ -1,37 +1,25 @@
 -- Deals in files: which explain other inputs, and how many show a host the same.
-use Rattle.std.specs.Prelude.{◌≡◌, ◌≢◌, ℕ, ◌≤◌, ◌<◌, List, Option, Some, None, length, slice_get}
+use Rattle.std.specs.Prelude.{◌≡◌, ◌≢◌, ℕ, ◌≤◌, ◌<◌, List, length, slice_get}
 use Rattle.vd_base.specs.declared.ids.HostId.{HostId}
 use Rattle.vd_base.specs.declared.protocols.Proto.{Proto}
 use Rattle.vd_core.specs.declared.normal.NormalForm.{NormalForm}
 use Rattle.vd_constraints.specs.declared.labels.Labels.{Labels}
 use Rattle.vd_deal_items.specs.declared.deal.Deal.{Deal}
-use Rattle.vd_execution.specs.Step.{Source, Inputs, OwnWords, Triples, BitTriples, Pairs}
+use Rattle.vd_execution.specs.Step.{Source, Inputs}
 use Rattle.vd_execution.specs.World.{Tape, followed_by_zeros}
 use Rattle.vd_execution.specs.Joint.{fresh, joint}
 use Rattle.vd_execution.specs.Gadgets.{Gadget}
 use Rattle.vd_execution.specs.Plans.{Plan, joint_of}
-use Rattle.vd_machine.specs.Machines.{list_of}
+use Rattle.vd_machine.specs.Dealt.{counts_of}
 use Rattle.vd_world_report.specs.Supplies.{supply_of_files, AreFiles}
 use Rattle.vd_views.specs.Views.{LooksAlike}
 use Rattle.vd_views.specs.Contract.{Explains}
 use Rattle.vd_views_programs.specs.Explained.{IsOfTwo, plan_of, input_words, AgreeFor}
-use Rattle.vd_views_programs.specs.Lengths.{Lengths, AreAll}
+use Rattle.vd_views_programs.specs.Lengths.{AreAll}
 
 -- the files of all hosts, each list followed by zeros
 abbrev pub tape_of : (inputs : List (List ℕ)) → List Deal → Tape
 tape_of inputs deals = followed_by_zeros (supply_of_files inputs deals)
-
--- how many items a host was dealt of each source; one that was dealt nothing has none
-abbrev pub dealt_count : Option Deal → Source → ℕ
-dealt_count None s = 0
-dealt_count (Some d) Inputs = 0
-dealt_count (Some d) OwnWords = length d.own
-dealt_count (Some d) (Triples p) = length (list_of d.triples d.me.0 p)
-dealt_count (Some d) (BitTriples p) = length (list_of d.bits d.me.0 p)
-dealt_count (Some d) (Pairs p) = length (list_of d.pairs d.me.0 p)
-
-abbrev pub counts_of : List Deal → Lengths
-counts_of deals g s = dealt_count (slice_get deals g) s
 
 -- consistent deal files of two hosts, of which the run on these inputs takes no item past the end
 pub record AreEnough (plan : Plan Gadget) (inputs : List (List ℕ)) (deals : List Deal) : Type 0 where
