@@ -278,7 +278,7 @@ picks_version : Picks IsAnything IsVersion (λ a. version_byte a ∷ []) IsAnyth
 picks_version = record {
   part_fits = λ f h. is_version (has_arrays f.lines);
   split = λ f h. ap (λ bs. bs ++ (names_line f.hosts ++ number_on f)) (version_is (has_arrays f.lines));
-  some = λ a h. let lines = some_lines (start a) in let plan = some_bytes 32 in (file_with ((95 ∷ []) ∷ []) 0 plan.0 lines.0, is_file a ((95 ∷ []) ∷ []) 0 plan.0 lines.0 h one_host (omega arith) plan.1 lines.1);
+  some = λ a h. let lines = some_lines (start a) in let plan = some_key in (file_with ((95 ∷ []) ∷ []) 0 plan.0 lines.0, is_file a ((95 ∷ []) ∷ []) 0 plan.0 lines.0 h one_host (omega arith) plan.1 lines.1);
   break = λ f behind h k. tt;
 }
 
@@ -286,7 +286,7 @@ picks_hosts : (a : Arrays) → IsVersion a → Picks IsLineEnd FewNames names_te
 picks_hosts a v = record {
   part_fits = λ f h. few_of f h.0;
   split = λ f h. refl;
-  some = λ hosts h. let lines = some_lines (start a) in let plan = some_bytes 32 in (file_with hosts 0 plan.0 lines.0, (is_file a hosts 0 plan.0 lines.0 v h (omega arith) plan.1 lines.1, refl));
+  some = λ hosts h. let lines = some_lines (start a) in let plan = some_key in (file_with hosts 0 plan.0 lines.0, (is_file a hosts 0 plan.0 lines.0 v h (omega arith) plan.1 lines.1, refl));
   break = λ f behind h k. refl;
 }
 
@@ -294,7 +294,7 @@ picks_me : (a : Arrays) (hosts : List (List ℕ)) → IsVersion a → FewNames h
 picks_me a hosts v few = record {
   part_fits = λ f h. omega (arith, h.0.0.me, ap length h.1);
   split = λ f h. refl;
-  some = λ me h. let lines = some_lines (start a) in let plan = some_bytes 32 in (file_with hosts me plan.0 lines.0, ((is_file a hosts me plan.0 lines.0 v few h plan.1 lines.1, refl), refl));
+  some = λ me h. let lines = some_lines (start a) in let plan = some_key in (file_with hosts me plan.0 lines.0, ((is_file a hosts me plan.0 lines.0 v few h plan.1 lines.1, refl), refl));
   break = λ f behind h k. inr refl;
 }
 
@@ -336,7 +336,7 @@ plans_exact a hosts me bytes v few below =
 
 -- some file with these hosts
 a_file : (a : Arrays) (hosts : List (List ℕ)) → IsVersion a → FewNames hosts → (f : File) × Of2 a hosts f
-a_file a hosts v few = let lines = some_lines (start a) in let plan = some_bytes 32 in (file_with hosts 0 plan.0 lines.0, (is_file a hosts 0 plan.0 lines.0 v few (omega arith) plan.1 lines.1, refl))
+a_file a hosts v few = let lines = some_lines (start a) in let plan = some_key in (file_with hosts 0 plan.0 lines.0, (is_file a hosts 0 plan.0 lines.0 v few (omega arith) plan.1 lines.1, refl))
 
 me_exact : (a : Arrays) (hosts : List (List ℕ)) (bytes : List ℕ) → IsVersion a → FewNames hosts → length hosts ≤ 4
     → IsExact IsAnything (Of2 a hosts) number_on bytes
