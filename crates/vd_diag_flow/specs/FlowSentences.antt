@@ -1,8 +1,8 @@
 -- The sentence of a check that fails, by what asks for it. `own` is the formula that fails to act, the check's constant, and
 -- `asked` the one that it would have to act for, that of the check's part.
-use Rattle.std.specs.Prelude.{ℕ, List, [], codes, slice_index_or}
-use Rattle.vd_base.specs.declared.ids.HostId.{HostId}
+use Rattle.std.specs.Prelude.{ℕ, List, [], codes}
 use Rattle.vd_formula.specs.TruthTable.{TruthTable}
+use Rattle.vd_report.specs.ChoiceLines.{host_name}
 use Rattle.vd_report.specs.LabelLines.{formula_text}
 use Rattle.vd_diag.specs.Parts.{three}
 use Rattle.vd_constraints.specs.declared.system.Check.{Check}
@@ -49,10 +49,6 @@ readers_sentence own asked = three (three (codes "the written confidentiality `"
 
 abbrev pub answerers_sentence : List ℕ → List ℕ → List ℕ
 answerers_sentence own asked = three (three (codes "the written integrity `") own (codes "` does not answer for ")) (vouched asked) (raised asked)
-
--- the name of a host
-abbrev pub host_name : List (List ℕ) → HostId → List ℕ
-host_name hosts h = slice_index_or hosts h.0 []
 
 abbrev pub sentence_of : List (List ℕ) → Origin → List ℕ → List ℕ → List ℕ
 sentence_of hosts (origin.Input h) own asked = input_sentence (host_name hosts h) asked

@@ -1,21 +1,11 @@
 //! Parts of sentences on formulas.
 
-ghost use Rattle.std.specs.Prelude.{◌≡◌, [], IfOk, slice_index_or};
+ghost use Rattle.std.specs.Prelude.{◌≡◌, IfOk};
 ghost use Rattle.vd_diag_flow.specs.Phrases as phrases;
 
 use std::alloc::{AllocError, Global};
-use vd_base::{Bytes, HostId, Names};
+use vd_base::Bytes;
 use vd_diag::three;
-
-/// The name of a host; empty where there is none.
-pub(crate) fn host_name(hosts: &Names, host: HostId) -> &[u8]
-    ensures { result.now ≡ slice_index_or hosts.now host.0 [] }
-{
-    match hosts.as_slice().get(usize::from(host.0)) {
-        Some(name) => name.as_slice(),
-        None => &[],
-    }
-}
 
 /// What a formula of this text does, by whether it has one name or more.
 fn guard_word(text: &[u8]) -> &'static [u8]

@@ -4,13 +4,13 @@
 ghost use Rattle.std.specs.Prelude.{◌≡◌, IfOk};
 ghost use Rattle.vd_diag_flow.specs.FlowSentences as sentences;
 
-use crate::phrases::{guarded, host_name, vouched};
+use crate::phrases::{guarded, vouched};
 use std::alloc::{AllocError, Global};
 use vd_base::{Bytes, Names};
 use vd_constraints::{Check, Origin};
 use vd_diag::three;
 use vd_formula::Formula;
-use vd_report::formula_text;
+use vd_report::{formula_text, name_of};
 
 /// What lets a value be read.
 fn lowered(alloc: Global, own: &[u8]) -> Result<Bytes, AllocError>
@@ -172,11 +172,21 @@ fn sentence_of(
     ensures { IfOk result (λ text. text ≡ sentences.sentence_of hosts.now origin own.now asked.now) }
 {
     match origin {
-        Origin::Input(host) => input_sentence(alloc, host_name(hosts, host), asked),
-        Origin::Asked(host) => asked_sentence(alloc, host_name(hosts, host), own, asked),
+        Origin::Input(host) => input_sentence(alloc, name_of(hosts, usize::from(host.0)), asked),
+        Origin::Asked(host) => asked_sentence(
+            alloc,
+            name_of(hosts, usize::from(host.0)),
+            own,
+            asked,
+        ),
         Origin::Endorse => endorse_sentence(alloc, own, asked),
-        Origin::Output(host) => output_sentence(alloc, host_name(hosts, host), own, asked),
-        Origin::Told(host) => told_sentence(alloc, host_name(hosts, host), own, asked),
+        Origin::Output(host) => output_sentence(
+            alloc,
+            name_of(hosts, usize::from(host.0)),
+            own,
+            asked,
+        ),
+        Origin::Told(host) => told_sentence(alloc, name_of(hosts, usize::from(host.0)), own, asked),
         Origin::Readers => readers_sentence(alloc, own, asked),
         Origin::Answerers => answerers_sentence(alloc, own, asked),
     }
