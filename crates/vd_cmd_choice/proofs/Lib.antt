@@ -4,5 +4,4 @@ mod Certificates
 mod ReadPrograms
 mod Chosen
 mod Steps
-mod Sourced
 mod Sure

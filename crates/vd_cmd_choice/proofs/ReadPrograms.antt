@@ -17,7 +17,8 @@ use Rattle.vd_cmd_frontend.specs.Outcomes.{LabelOutcomes, TextOutcomes}
 use Rattle.vd_cmd_frontend.proofs.Front.{meets}
 use Rattle.vd_cmd_frontend.specs.Sources.{resolved_of, source_of}
 use Rattle.vd_cmd_rewrite.specs.RunPrograms.{IsRunProgram, TellsAs, run_form}
-use Rattle.vd_cmd_choice.specs.Programs.{HoldsProgram, IsProgramOf, LoadsProgram, ReadsProgram, text_program_then}
+use Rattle.vd_cmd_choice.specs.Programs.{HoldsProgram, IsProgramOf, LoadsProgram, LoadsSourceProgram, ReadsProgram, text_program_then}
+use Rattle.vd_cmd_choice.specs.declared.programs.SourceProgram.{SourceProgram}
 
 -- ---- from a text
 
@@ -74,3 +75,21 @@ module _ (name : List ℕ) (before now : FilesView) where
       → Finds before result (HoldsProgram name)
   program_held text seen (Ok program) loads same is t = loaded_is name most_source_bytes before now text seen (λ b. IsProgramOf b program) loads same is t
   program_held text seen (Err status) loads same is t = tt
+
+-- ---- from a file, with its text kept
+
+abbrev with_text : (SourceProgram → Contents → Plan) → (text : List ℕ) → NormalForm → Contents → Plan
+with_text rest text program = rest (record { text = text; program = program })
+
+module _ (name : List ℕ) (before now : FilesView) where
+  pub source_unfetched : (status : Status) → Loads name most_source_bytes before now (Err status) → LoadsSourceProgram name before now (Err status)
+  source_unfetched status loads texts least = λ rest. load_step name most_source_bytes before now (Err status) loads (λ text. text_program_then texts least name text (with_text rest text))
+
+  pub source_unread : (text : List ℕ) (status : Status) → Loads name most_source_bytes before now (Ok text) → ReadsProgram text (Err status) → LoadsSourceProgram name before now (Err status)
+  source_unread text status loads reads texts least = λ rest.
+      load_step name most_source_bytes before now (Ok text) loads (λ t. text_program_then texts least name t (with_text rest t)) now (Err status) (reads texts least name now (with_text rest text))
+
+  pub source_loaded : (text : List ℕ) (program : NormalForm) → Loads name most_source_bytes before now (Ok text) → ReadsProgram text (Ok program)
+      → LoadsSourceProgram name before now (Ok (record { text = text; program = program }))
+  source_loaded text program loads reads texts least = λ rest last result then.
+      load_step name most_source_bytes before now (Ok text) loads (λ t. text_program_then texts least name t (with_text rest t)) last result (reads texts least name now (with_text rest text) last result then)

@@ -17,11 +17,12 @@ use Rattle.vd_cmd_plan.specs.declared.status.Status.TheVariants.{Ended, Memory, 
 use Rattle.vd_cmd_plan.proofs.Front.{Follows, check_follows}
 use Rattle.vd_cmd_frontend.specs.Labelling.{labels_of}
 use Rattle.vd_cmd_frontend.specs.Outcomes.{LabelOutcomes, TextOutcomes}
-use Rattle.vd_cmd_choice.specs.Choice.{Chosen, Chooses, ChoosesIn, ChoosesOf, as_searched, assigned_answer, choice_then, chosen_by, chosen_of, no_list, search_then, source_choice_then, text_choice_then}
+use Rattle.vd_cmd_choice.specs.Choice.{Chosen, Chooses, IsChoiceFor, IsChoiceIn, as_searched, assigned_answer, choice_of_then, chosen_by, chosen_of, no_list, search_then, source_choice_then, text_choice_then}
 use Rattle.vd_cmd_choice.specs.Outcomes.{CertificateOutcomes}
-use Rattle.vd_cmd_choice.specs.Searching.{Certified, GaveUp, Searched, SomeSearch, is_accepted, searched_by, sure_search}
+use Rattle.vd_cmd_choice.specs.Searching.{Certified, GaveUp, Search, Searched, SomeSearch, is_accepted, searched_by, sure_search}
 use Rattle.vd_cmd_choice.specs.declared.choice.Choice.{Choice}
-use Rattle.vd_cmd_choice.specs.declared.choice.ChosenSource.{ChosenSource}
+use Rattle.vd_cmd_choice.specs.Programs.{IsProgramOf, LoadsSourceProgram, ReadsProgram}
+use Rattle.vd_cmd_choice.specs.declared.programs.SourceProgram.{SourceProgram}
 
 -- what there is of an assignment, if it is there
 pub which_is : (P : Assignment → Type 0) (o : Option Assignment) (a : Assignment) → o ≡ Some a → IfSome o P → P a
@@ -38,29 +39,68 @@ pub assigned_computes : (program : NormalForm) (answer : Assignment → Answer) 
     → Computes (assigned_answer program answer o) result
 assigned_computes program answer o other result is computes = subst (λ (x : Option Assignment). Computes (assigned_answer program answer x) result) (sym is) computes
 
+-- for the program of a source that was fetched
 module _ (name : List ℕ) (budget : ℕ) (rest : List ℕ → Chosen → Contents → Plan) (before now : FilesView) where
   abbrev pub RunsOf : Result Answer Status → Type 0
   RunsOf result = SomeSearch (λ choices search. (texts : TextOutcomes) (least : LabelOutcomes) → Executes true (source_choice_then texts least choices search name budget rest) before now result)
 
-  pub source_then : (found : ChosenSource) (result : Result Answer Status) → ChoosesOf name budget before now (Ok found) → Executes true (rest found.text (chosen_of found.choice)) now now result → RunsOf result
-  source_then found result chooses runs = (chooses.0, λ certificates choices texts least. chooses.1 certificates choices texts least (λ x. rest x.0 x.1) now result runs)
+  abbrev chosen : LabelOutcomes → ChoiceOutcomes → Search → SourceProgram → Contents → Plan
+  chosen least choices search loaded = choice_of_then least choices search budget loaded.program (rest loaded.text)
 
-  pub source_refused : (status : Status) → ChoosesOf name budget before now (Err status) → RunsOf (Err status)
-  source_refused status chooses = (chooses.0, λ certificates choices texts least. chooses.1 certificates choices texts least (λ x. rest x.0 x.1))
+  pub source_then : (loaded : SourceProgram) (choice : Choice) (result : Result Answer Status) → LoadsSourceProgram name before now (Ok loaded) → Chooses loaded.program budget (Ok choice)
+      → Executes true (rest loaded.text (chosen_of choice)) now now result → RunsOf result
+  source_then loaded choice result loads chooses runs = (
+    chooses.0,
+    λ certificates choices texts least.
+        loads texts least (chosen least choices (searched_by certificates choices chooses.0)) now result
+        (chooses.1 certificates choices least now (rest loaded.text) now result runs),
+  )
 
+  pub source_choice_refused : (loaded : SourceProgram) (status : Status) → LoadsSourceProgram name before now (Ok loaded) → Chooses loaded.program budget (Err status) → RunsOf (Err status)
+  source_choice_refused loaded status loads chooses = (
+    chooses.0,
+    λ certificates choices texts least.
+        loads texts least (chosen least choices (searched_by certificates choices chooses.0)) now (Err status) (chooses.1 certificates choices least now (rest loaded.text)),
+  )
+
+  pub source_refused : (status : Status) → LoadsSourceProgram name before now (Err status) → RunsOf (Err status)
+  source_refused status loads = (GaveUp, λ certificates choices texts least. loads texts least (chosen least choices (searched_by certificates choices GaveUp)))
+
+-- for the program of a text
 module _ (name text : List ℕ) (budget : ℕ) (rest : Chosen → Contents → Plan) where
   abbrev pub RunsIn : Result Answer Status → Type 0
   RunsIn result = SomeSearch (λ choices search. (texts : TextOutcomes) (least : LabelOutcomes) (files : FilesView) → Executes true (text_choice_then texts least choices search name budget text rest) files files result)
 
-  pub text_then : (choice : Choice) (result : Result Answer Status) → ChoosesIn text budget (Ok choice) → ((files : FilesView) → Executes true (rest (chosen_of choice)) files files result) → RunsIn result
-  text_then choice result chooses runs = (chooses.0, λ certificates choices texts least files. chooses.1 certificates choices texts least name files rest files result (runs files))
+  abbrev chosen_for : LabelOutcomes → ChoiceOutcomes → Search → NormalForm → Contents → Plan
+  chosen_for least choices search program = choice_of_then least choices search budget program rest
 
-  pub text_refused : (status : Status) → ChoosesIn text budget (Err status) → RunsIn (Err status)
-  text_refused status chooses = (chooses.0, λ certificates choices texts least files. chooses.1 certificates choices texts least name files rest)
+  pub text_then : (program : NormalForm) (choice : Choice) (result : Result Answer Status) → ReadsProgram text (Ok program) → Chooses program budget (Ok choice)
+      → ((files : FilesView) → Executes true (rest (chosen_of choice)) files files result) → RunsIn result
+  text_then program choice result reads chooses runs = (
+    chooses.0,
+    λ certificates choices texts least files.
+        reads texts least name files (chosen_for least choices (searched_by certificates choices chooses.0)) files result
+        (chooses.1 certificates choices least files rest files result (runs files)),
+  )
 
+  pub text_choice_refused : (program : NormalForm) (status : Status) → ReadsProgram text (Ok program) → Chooses program budget (Err status) → RunsIn (Err status)
+  text_choice_refused program status reads chooses = (
+    chooses.0,
+    λ certificates choices texts least files.
+        reads texts least name files (chosen_for least choices (searched_by certificates choices chooses.0)) files (Err status) (chooses.1 certificates choices least files rest),
+  )
+
+  pub text_refused : (status : Status) → ReadsProgram text (Err status) → RunsIn (Err status)
+  text_refused status reads = (GaveUp, λ certificates choices texts least files. reads texts least name files (chosen_for least choices (searched_by certificates choices GaveUp)))
+
+-- what was found for the program of a text was found for the text
+pub choice_is : (text : List ℕ) (program : NormalForm) (choice : Choice) → IsProgramOf text program → IsChoiceFor program choice → IsChoiceIn text choice
+choice_is text program choice of is = record { of = subst (IsProgramOf text) (sym is.same) of; selected = is.selected }
+
+-- for a program
 module _ (program : NormalForm) (budget : ℕ) (rest : Chosen → Contents → Plan) where
   abbrev pub RunsFor : Result Answer Status → Type 0
-  RunsFor result = SomeSearch (λ choices search. (least : LabelOutcomes) (files : FilesView) → Executes true (choice_then least choices search budget program rest) files files result)
+  RunsFor result = SomeSearch (λ choices search. (least : LabelOutcomes) (files : FilesView) → Executes true (choice_of_then least choices search budget program rest) files files result)
 
   choice_with : (choice : Choice) (result : Result Answer Status) → Chooses program budget (Ok choice) → ((files : FilesView) → Executes true (rest (chosen_of choice)) files files result) → RunsFor result
   choice_with choice result chooses runs = (chooses.0, λ certificates choices least files. chooses.1 certificates choices least files rest files result (runs files))
@@ -121,7 +161,7 @@ module _ (program : NormalForm) (budget : ℕ) (certificates : CertificateOutcom
     search_follows same (Certified bytes) = accepted_follows same (nat_lt budget (needed problem (choices.choose problem))) (is_accepted problem budget (certificates.read bytes)) bytes
 
   pub choice_follows : GoesByChoice → (least : LabelOutcomes) (searched : Searched)
-      → Follows (choice_then least choices (sure_search choices) budget program rest files) (choice_then least choices (searched_by certificates choices searched) budget program rest files)
+      → Follows (choice_of_then least choices (sure_search choices) budget program rest files) (choice_of_then least choices (searched_by certificates choices searched) budget program rest files)
   choice_follows same least searched =
       check_follows (labels_of least program) (λ l. search_then choices (sure_search choices) budget program l rest) (λ l. search_then choices (searched_by certificates choices searched) budget program l rest) files
       (λ l. search_follows l same searched)

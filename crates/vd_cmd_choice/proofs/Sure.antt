@@ -12,7 +12,7 @@ use Rattle.vd_cmd_plan.proofs.Front.{Follows, file_follows, check_follows}
 use Rattle.vd_cmd_frontend.specs.Outcomes.{TextOutcomes, LabelOutcomes}
 use Rattle.vd_cmd_frontend.specs.Sources.{source_of, resolved_of}
 use Rattle.vd_cmd_choice.specs.Outcomes.{CertificateOutcomes}
-use Rattle.vd_cmd_choice.specs.Choice.{Chosen, choice_then, source_choice_then, text_choice_then}
+use Rattle.vd_cmd_choice.specs.Choice.{Chosen, choice_of_then, source_choice_then, text_choice_then}
 use Rattle.vd_cmd_choice.specs.Programs.{program_then, text_program_then}
 use Rattle.vd_cmd_choice.specs.Searching.{Searched, searched_by, sure_search}
 use Rattle.vd_cmd_choice.proofs.Steps.{GoesByChoice, choice_follows}
@@ -35,7 +35,7 @@ module _ (texts : TextOutcomes) (least : LabelOutcomes) (certificates : Certific
   pub text_choice_follows : (text : List ℕ) (rest : Chosen → Contents → Plan) → GoesOn rest
       → Follows (text_choice_then texts least choices (sure_search choices) name budget text rest files) (text_choice_then texts least choices (searched_by certificates choices searched) name budget text rest files)
   text_choice_follows text rest goes =
-      text_follows texts least name (λ program. choice_then least choices (sure_search choices) budget program rest) (λ program. choice_then least choices (searched_by certificates choices searched) budget program rest) files
+      text_follows texts least name (λ program. choice_of_then least choices (sure_search choices) budget program rest) (λ program. choice_of_then least choices (searched_by certificates choices searched) budget program rest) files
       (λ program. choice_follows program budget certificates choices rest files (goes program) least searched) text
 
   pub source_choice_follows : (rest : List ℕ → Chosen → Contents → Plan) → ((text : List ℕ) → GoesOn (rest text))

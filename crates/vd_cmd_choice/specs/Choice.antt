@@ -1,7 +1,7 @@
 -- The choice of protocols for a program, and the step that finds it.
 use Rattle.std.specs.Prelude.{◌≡◌, ℕ, Option, Some, None, List, [], Result, Ok, Err, IfSome}
 use Rattle.vd_base.specs.Limits.{most_source_bytes}
-use Rattle.vd_outside.specs.Files.{Contents, FilesView, fetched}
+use Rattle.vd_outside.specs.Files.{Contents, FilesView}
 use Rattle.vd_core.specs.declared.normal.NormalForm.{NormalForm}
 use Rattle.vd_report.specs.ChoiceLines.{choice_lines}
 use Rattle.vd_constraints.specs.Rules.{system_of}
@@ -24,7 +24,6 @@ use Rattle.vd_cmd_frontend.specs.Labelling.{labels_of}
 use Rattle.vd_cmd_choice.specs.Searching.{Search, SomeSearch}
 use Rattle.vd_cmd_choice.specs.Programs.{IsProgramOf, text_program_then}
 use Rattle.vd_cmd_choice.specs.declared.choice.Choice.{Choice}
-use Rattle.vd_cmd_choice.specs.declared.choice.ChosenSource.{ChosenSource}
 
 -- This is the choice for a program: the assignment that is valid under its least labels, of least cost, and the first of these in order.
 pub record IsSelected (program : NormalForm) (a : Assignment) : Type 0 where
@@ -60,14 +59,14 @@ as_searched budget program (Err search_fault.Memory) = Err Memory
 abbrev pub search_then : ChoiceOutcomes → Search → (budget : ℕ) → NormalForm → Labels → (Chosen → Contents → Plan) → Contents → Plan
 search_then choices search budget program l rest = check_then (as_searched budget program (search (problem_of program l) budget)) (λ bytes. rest (chosen_by choices program l bytes))
 
--- the same under its least labels
-abbrev pub choice_then : LabelOutcomes → ChoiceOutcomes → Search → (budget : ℕ) → NormalForm → (Chosen → Contents → Plan) → Contents → Plan
-choice_then least choices search budget program rest = check_then (labels_of least program) (λ l. search_then choices search budget program l rest)
+-- the step: the same under its least labels
+abbrev pub choice_of_then : LabelOutcomes → ChoiceOutcomes → Search → (budget : ℕ) → NormalForm → (Chosen → Contents → Plan) → Contents → Plan
+choice_of_then least choices search budget program rest = check_then (labels_of least program) (λ l. search_then choices search budget program l rest)
 
 -- for the program that is run for the source with this text, which goes by this name
 abbrev pub text_choice_then : TextOutcomes → LabelOutcomes → ChoiceOutcomes → Search → (name : List ℕ) → (budget : ℕ) → (text : List ℕ) → (Chosen → Contents → Plan) → Contents → Plan
 text_choice_then texts least choices search name budget text rest =
-    text_program_then texts least name text (λ program. choice_then least choices search budget program rest)
+    text_program_then texts least name text (λ program. choice_of_then least choices search budget program rest)
 
 -- and for the source in a file, whose text is kept
 abbrev pub source_choice_then : TextOutcomes → LabelOutcomes → ChoiceOutcomes → Search → (name : List ℕ) → (budget : ℕ) → (List ℕ → Chosen → Contents → Plan) → Contents → Plan
@@ -100,22 +99,7 @@ Searches program l budget result =
 
 abbrev pub Chooses : NormalForm → (budget : ℕ) → Result Choice Status → Type 0
 Chooses program budget result =
-    SomeSearch (λ choices search. (least : LabelOutcomes) (files : FilesView) → ExecutesStep (choice_then least choices search budget program) files files (chosen_in result))
-
-abbrev pub ChoosesIn : (text : List ℕ) → (budget : ℕ) → Result Choice Status → Type 0
-ChoosesIn text budget result =
-    SomeSearch (λ choices search. (texts : TextOutcomes) (least : LabelOutcomes) (name : List ℕ) (files : FilesView)
-    → ExecutesStep (text_choice_then texts least choices search name budget text) files files (chosen_in result))
-
--- the text, and what was found
-abbrev pub found_in : Result ChosenSource Status → Result (List ℕ × Chosen) Status
-found_in (Ok found) = Ok (found.text, chosen_of found.choice)
-found_in (Err status) = Err status
-
-abbrev pub ChoosesOf : (name : List ℕ) → (budget : ℕ) → FilesView → FilesView → Result ChosenSource Status → Type 0
-ChoosesOf name budget before now result =
-    SomeSearch (λ choices search. (texts : TextOutcomes) (least : LabelOutcomes)
-    → ExecutesStep {T = List ℕ × Chosen} (λ rest. source_choice_then texts least choices search name budget (λ text c. rest (text, c))) before now (found_in result))
+    SomeSearch (λ choices search. (least : LabelOutcomes) (files : FilesView) → ExecutesStep (choice_of_then least choices search budget program) files files (chosen_in result))
 
 -- ---- what they find
 
@@ -129,7 +113,3 @@ pub record IsChoiceFor (program : NormalForm) (choice : Choice) : Type 0 where
 pub record IsChoiceIn (text : List ℕ) (choice : Choice) : Type 0 where
   pub of : IsProgramOf text choice.program
   pub selected : IfSome choice.assignment (IsSelected choice.program)
-
--- the file of this name has the text of what was found
-abbrev pub HasText : (name : List ℕ) → Contents → ChosenSource → Type 0
-HasText name contents found = fetched (contents name) most_source_bytes ≡ Ok found.text

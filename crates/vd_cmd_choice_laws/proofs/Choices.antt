@@ -47,7 +47,7 @@ use Rattle.vd_cmd_frontend.specs.Outcomes.{LabelOutcomes, TextOutcomes}
 use Rattle.vd_cmd_frontend.specs.Labelling.{labels_of}
 use Rattle.vd_cmd_frontend.specs.Sources.{HoldsSource}
 use Rattle.vd_cmd_choose.specs.Certifying.{as_certificate, as_proved, certificate_of, certificate_plan, certificate_then, certified_plan, confirmed_plan, proved_of, proved_text}
-use Rattle.vd_cmd_choice.specs.Choice.{Chosen, as_searched, choice_then, chosen_by, printed_at, search_then, source_choice_then}
+use Rattle.vd_cmd_choice.specs.Choice.{Chosen, as_searched, choice_of_then, chosen_by, printed_at, search_then, source_choice_then}
 use Rattle.vd_cmd_choose.specs.Choosing.{certificate_file, choice_answer, chosen_answer}
 use Rattle.vd_cmd_choice.specs.Searching.{Certified, GaveUp, Searched, is_accepted, searched_by}
 use Rattle.vd_cmd_choice.specs.Outcomes.{CertificateOutcomes}
@@ -227,7 +227,7 @@ module _ (name : List ℕ) (contents : Contents) (source : Source) (held : Holds
 
 module _ (contents : Contents) (certificates : CertificateOutcomes) (choices : ChoiceOutcomes) (searched : Searched) (least : LabelOutcomes) (budget : ℕ) (program : NormalForm) (rest : Chosen → Contents → Plan) where
   abbrev step : Contents → Plan
-  step = choice_then least choices (searched_by certificates choices searched) budget program rest
+  step = choice_of_then least choices (searched_by certificates choices searched) budget program rest
 
   -- the program has labels, the search found a certificate, and this is done with them
   pub record Came : Type 0 where
@@ -263,7 +263,7 @@ module _ (contents : Contents) (certificates : CertificateOutcomes) (choices : C
 
   pub source_choice_came : Ends contents whole → CameOf
   source_choice_came ends =
-      let choosing : List ℕ → Source → Contents → Plan = λ text source. choice_then least choices (searched_by certificates choices searched) budget (run_form least (normal_form source)) (rest text) in
+      let choosing : List ℕ → Source → Contents → Plan = λ text source. choice_of_then least choices (searched_by certificates choices searched) budget (run_form least (normal_form source)) (rest text) in
       let file = read_came contents texts name choosing whole refl ends in
       let source = file.0 in
       let held : HoldsSource name contents source = file.1 in

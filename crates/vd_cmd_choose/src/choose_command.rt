@@ -10,7 +10,7 @@ ghost use Rattle.vd_cmd_choose.specs.Choosing.{ExecutesChoose, certificate_file,
 use std::alloc::{AllocError, Global};
 use vd_base::{Bytes, Text};
 use vd_base_lists::Items;
-use vd_cmd_choice::{Choice, assignment_text, choice_of};
+use vd_cmd_choice::{Choice, assignment_text, choice_of, load_source_program};
 use vd_cmd_plan::{Answer, Status};
 use vd_outside::{Files, Stored};
 use vd_search_certificate::Certificate;
@@ -60,6 +60,7 @@ pub fn choose<F: Files>(
     requires { budget ≤ most_search_budget }
     ensures { ExecutesChoose source.now budget (F.view files.old) (F.view files.new) result }
 {
-    let found = choice_of(alloc, files, source, budget)?;
-    answer_choice(alloc, source, found.choice)
+    let loaded = load_source_program(alloc, files, source)?;
+    let choice = choice_of(alloc, loaded.program, budget)?;
+    answer_choice(alloc, source, choice)
 }

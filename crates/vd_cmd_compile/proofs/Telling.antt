@@ -14,9 +14,8 @@ use Rattle.vd_search_stages.specs.declared.optimum.Assignment.{Assignment}
 use Rattle.vd_cmd_plan.specs.declared.answer.Answer.{Answer}
 use Rattle.vd_cmd_plan.specs.declared.status.Status.{Status}
 use Rattle.vd_cmd_plan.specs.declared.status.Status.TheVariants.{Ended}
-use Rattle.vd_cmd_choice.specs.Choice.{HasText, IsSelected, no_list}
-use Rattle.vd_cmd_choice.specs.Programs.{IsProgramOf}
-use Rattle.vd_cmd_choice.specs.declared.choice.ChosenSource.{ChosenSource}
+use Rattle.vd_cmd_choice.specs.Choice.{IsSelected, no_list}
+use Rattle.vd_cmd_choice.specs.Programs.{HasText, IsProgramOf}
 use Rattle.vd_cmd_compile.specs.Compiling.{host_files, plan_for}
 use Rattle.vd_cmd_compile.specs.Telling.{TellsPrograms, TellsSource, TellsText}
 use Rattle.vd_cmd_compile.proofs.Runnable.{runnable_of}
@@ -48,7 +47,7 @@ run_told text prefix program (Ok answer) of tells = λ e. record { source = of.s
 run_told text prefix program (Err status) of tells = tt
 
 -- and of the file that has this text
-pub source_stored : (name prefix : List ℕ) (before : FilesView) (found : ChosenSource) (result : Result Answer Status) → (IsTrue before.told → HasText name before.contents found)
-    → TellsText found.text prefix result → TellsSource name prefix before result
-source_stored name prefix before found (Ok answer) has tells = λ t e. record { bytes = found.text; is_fetched = has t; holds = tells e }
-source_stored name prefix before found (Err status) has tells = λ t. tt
+pub source_stored : (name prefix : List ℕ) (before : FilesView) (text : List ℕ) (result : Result Answer Status) → (IsTrue before.told → HasText name before.contents text)
+    → TellsText text prefix result → TellsSource name prefix before result
+source_stored name prefix before text (Ok answer) has tells = λ t e. record { bytes = text; is_fetched = has t; holds = tells e }
+source_stored name prefix before text (Err status) has tells = λ t. tt

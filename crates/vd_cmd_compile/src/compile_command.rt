@@ -10,7 +10,7 @@ ghost use Rattle.vd_cmd_compile.specs.Telling.{TellsPrograms, TellsSource, Tells
 use std::alloc::{AllocError, Global};
 use vd_base::{HostId, Names};
 use vd_base_lists::Items;
-use vd_cmd_choice::{ChosenSource, assignment_text, choice_of, no_assignment};
+use vd_cmd_choice::{ChosenSource, assignment_text, choice_of, load_source_program, no_assignment};
 use vd_cmd_plan::{Answer, Status, file_name};
 use vd_core::Program;
 use vd_execution::Instr;
@@ -108,6 +108,11 @@ pub fn compile<F: Files>(
     ensures executes { ExecutesCompile source.now prefix.now budget (F.view files.old) (F.view files.new) result }
     ensures tells { TellsSource source.now prefix.now (F.view files.old) result }
 {
-    let found = choice_of(alloc, files, source, budget)?;
+    let loaded = load_source_program(alloc, files, source)?;
+    let choice = choice_of(alloc, loaded.program, budget)?;
+    let found = ChosenSource {
+        text: loaded.text,
+        choice,
+    };
     compile_choice(alloc, found, prefix)
 }

@@ -12,7 +12,7 @@ ghost use Rattle.vd_cmd_compile_early.specs.Telling.{TellsPrograms, TellsSource,
 use std::alloc::{AllocError, Global};
 use vd_base::Bytes;
 use vd_cmd::EarlyWords;
-use vd_cmd_choice::{ChosenSource, assignment_text, choice_of, no_assignment};
+use vd_cmd_choice::{ChosenSource, assignment_text, choice_of, load_source_program, no_assignment};
 use vd_cmd_compile::files_of;
 use vd_cmd_plan::{Answer, Status, finish};
 use vd_core::Program;
@@ -83,7 +83,12 @@ fn compile_early<F: Files>(
     ensures executes { ExecutesEarly source.now prefix.now budget (F.view files.old) (F.view files.new) result }
     ensures tells { TellsSource source.now prefix.now (F.view files.old) result }
 {
-    let found = choice_of(alloc, files, source, budget)?;
+    let loaded = load_source_program(alloc, files, source)?;
+    let choice = choice_of(alloc, loaded.program, budget)?;
+    let found = ChosenSource {
+        text: loaded.text,
+        choice,
+    };
     compile_choice(alloc, found, prefix)
 }
 

@@ -8,7 +8,7 @@ ghost use Rattle.vd_cmd_draw.specs.Drawing.{ExecutesDraw, drawn_answer, drawn_fo
 
 use std::alloc::Global;
 use vd_base_lists::Items;
-use vd_cmd_choice::{Choice, ChosenSource, choice_of, no_assignment};
+use vd_cmd_choice::{Choice, ChosenSource, choice_of, load_source_program, no_assignment};
 use vd_cmd_plan::{Answer, Status};
 use vd_draw_picture::drawing;
 use vd_outside::Files;
@@ -62,6 +62,11 @@ pub fn draw<F: Files>(
     requires { budget ≤ most_search_budget }
     ensures { ExecutesDraw source.now budget (F.view files.old) (F.view files.new) result }
 {
-    let found = choice_of(alloc, files, source, budget)?;
+    let loaded = load_source_program(alloc, files, source)?;
+    let choice = choice_of(alloc, loaded.program, budget)?;
+    let found = ChosenSource {
+        text: loaded.text,
+        choice,
+    };
     draw_choice(alloc, source, found)
 }

@@ -21,7 +21,7 @@ use Rattle.vd_cmd_frontend.specs.Outcomes.{TextOutcomes, LabelOutcomes}
 use Rattle.vd_cmd_choice.specs.Programs.{program_then}
 use Rattle.vd_cmd_depends.specs.Depending.{as_host}
 use Rattle.vd_cmd_choice.specs.Searching.{Search, SomeSearch}
-use Rattle.vd_cmd_choice.specs.Choice.{choice_then, no_list}
+use Rattle.vd_cmd_choice.specs.Choice.{choice_of_then, no_list}
 use Rattle.vd_report_laws.specs.Outcomes.{ReplayOutcomes}
 use Rattle.vd_cmd_inputs.specs.Deals.{as_consistent}
 use Rattle.vd_views_programs.specs.Explained.{plan_of}
@@ -88,7 +88,7 @@ choice_plan outcomes h runs out p l (Some a) = assignment_plan outcomes p l h ru
 -- with a program, one of its two hosts, and both runs
 abbrev pub host_plan : ReplayOutcomes → LabelOutcomes → ChoiceOutcomes → Search → ExcuseWords → NormalForm → HostId → Runs → Contents → Plan
 host_plan outcomes least choices search words p h runs =
-    choice_then least choices search words.budget p (λ c. choice_plan outcomes h runs words.out c.program c.labels c.assignment)
+    choice_of_then least choices search words.budget p (λ c. choice_plan outcomes h runs words.out c.program c.labels c.assignment)
 
 -- with a program, and both runs
 abbrev pub runs_plan : ReplayOutcomes → LabelOutcomes → ChoiceOutcomes → Search → ExcuseWords → NormalForm → Runs → Contents → Plan

@@ -18,7 +18,7 @@ use crate::runs::{Runs, load_runs};
 use std::alloc::Global;
 use vd_base::HostId;
 use vd_cmd::ExcuseWords;
-use vd_cmd_choice::{choice_for, load_program, no_assignment};
+use vd_cmd_choice::{choice_of, load_program, no_assignment};
 use vd_cmd_depends::host_named;
 use vd_cmd_inputs::expect_consistent;
 use vd_cmd_plan::{Answer, Status};
@@ -101,7 +101,7 @@ fn excuse_host(
     ensures executes { ExecutesHost words.now program host runs result }
     ensures tells { TellsAt host program words.now.out runs result }
 {
-    let choice = choice_for(alloc, program, words.budget)?;
+    let choice = choice_of(alloc, program, words.budget)?;
     match &choice.assignment {
         Some(assignment) => excuse_choice(
             alloc,

@@ -15,7 +15,7 @@ use vd_base::limits::{HOST_FILE_BYTES, SOURCE_BYTES};
 use vd_base::{Bytes, Proto, Text};
 use vd_base_lists::Items;
 use vd_cmd::NeedsWords;
-use vd_cmd_choice::{Choice, choice_in, no_assignment};
+use vd_cmd_choice::{Choice, choice_of, no_assignment, program_of};
 use vd_cmd_plan::{Answer, Status, load};
 use vd_core::Program;
 use vd_deal_needs::sizes;
@@ -101,7 +101,8 @@ fn needs_in_text(alloc: Global, words: &NeedsWords, bytes: &[u8]) -> Result<Answ
     ensures tells { TellsText words.now bytes.now result }
 {
     expect_short(alloc, words.file.as_str(), bytes)?;
-    let choice = choice_in(alloc, bytes, words.budget)?;
+    let program = program_of(alloc, bytes)?;
+    let choice = choice_of(alloc, program, words.budget)?;
     needs_choice(alloc, choice, words.each)
 }
 

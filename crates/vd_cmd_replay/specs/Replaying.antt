@@ -18,7 +18,7 @@ use Rattle.vd_cmd_plan.specs.declared.status.Status.{Status}
 use Rattle.vd_cmd_frontend.specs.Outcomes.{TextOutcomes, LabelOutcomes}
 use Rattle.vd_cmd_choice.specs.Programs.{program_then}
 use Rattle.vd_cmd_choice.specs.Searching.{Search, SomeSearch}
-use Rattle.vd_cmd_choice.specs.Choice.{choice_then, no_list}
+use Rattle.vd_cmd_choice.specs.Choice.{choice_of_then, no_list}
 use Rattle.vd_report_laws.specs.Outcomes.{ReplayOutcomes}
 use Rattle.vd_cmd_inputs.specs.declared.asked.Asked.{Asked}
 use Rattle.vd_cmd_inputs.specs.Asking.{asked_then}
@@ -50,7 +50,7 @@ choice_plan outcomes asked program (Some a) = assignment_plan outcomes asked pro
 
 -- with a program, and all that it is to run on
 abbrev pub asked_plan : ReplayOutcomes → LabelOutcomes → ChoiceOutcomes → Search → (budget : ℕ) → NormalForm → Asked → Contents → Plan
-asked_plan outcomes least choices search budget program asked = choice_then least choices search budget program (λ c. choice_plan outcomes asked c.program c.assignment)
+asked_plan outcomes least choices search budget program asked = choice_of_then least choices search budget program (λ c. choice_plan outcomes asked c.program c.assignment)
 
 -- with a program, and with the one that is run for a source
 abbrev pub program_plan : TextOutcomes → ReplayOutcomes → LabelOutcomes → ChoiceOutcomes → Search → ReplayWords → NormalForm → Contents → Plan

@@ -15,7 +15,7 @@ use std::alloc::Global;
 use vd_base::Bytes;
 use vd_base_lists::Items;
 use vd_cmd::ReplayWords;
-use vd_cmd_choice::{choice_for, load_program, no_assignment};
+use vd_cmd_choice::{choice_of, load_program, no_assignment};
 use vd_cmd_inputs::{Asked, expect_consistent, load_asked};
 use vd_cmd_plan::{Answer, Status};
 use vd_core::Program;
@@ -114,7 +114,7 @@ fn replay_asked(
     ensures tells { TellsOf program asked result }
     ensures counts { CountsOf program asked packets.new result }
 {
-    let choice = choice_for(alloc, program, budget)?;
+    let choice = choice_of(alloc, program, budget)?;
     match &choice.assignment {
         Some(assignment) => replay_choice(alloc, &choice.program, assignment, asked, packets),
         None => Ok(no_assignment(alloc, choice.program)),

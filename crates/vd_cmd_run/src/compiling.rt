@@ -10,7 +10,7 @@ use crate::compiled::Compiled;
 use std::alloc::{AllocError, Global};
 use vd_base::limits::SEARCH_BUDGET;
 use vd_base::{Name, Names};
-use vd_cmd_choice::choice_of;
+use vd_cmd_choice::{ChosenSource, choice_of, load_source_program};
 use vd_cmd_compile::compile_choice;
 use vd_cmd_plan::Status;
 use vd_core::Program;
@@ -41,8 +41,13 @@ pub(crate) fn compile_for<F: Files>(
     ensures few { IfOk result (λ compiled. length compiled.names ≤ most_hosts) }
     ensures given { IfOk result (λ compiled. IsGiven compiled.answer.status compiled.answer.printed) }
 {
-    let found = choice_of(alloc, files, source, SEARCH_BUDGET)?;
-    let names = names_of(alloc, &found.choice.program)?;
+    let loaded = load_source_program(alloc, files, source)?;
+    let choice = choice_of(alloc, loaded.program, SEARCH_BUDGET)?;
+    let names = names_of(alloc, &choice.program)?;
+    let found = ChosenSource {
+        text: loaded.text,
+        choice,
+    };
     let answer = compile_choice(alloc, found, prefix)?;
     Ok(Compiled { names, answer })
 }

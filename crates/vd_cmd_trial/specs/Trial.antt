@@ -24,7 +24,7 @@ use Rattle.vd_cmd_plan.specs.declared.status.Status.{Status}
 use Rattle.vd_cmd_frontend.specs.Outcomes.{TextOutcomes, LabelOutcomes}
 use Rattle.vd_cmd_frontend.specs.Sources.{source_of, resolved_of}
 use Rattle.vd_cmd_choice.specs.Searching.{Search, SomeSearch}
-use Rattle.vd_cmd_choice.specs.Choice.{choice_then, no_list}
+use Rattle.vd_cmd_choice.specs.Choice.{choice_of_then, no_list}
 use Rattle.vd_cmd_inputs.specs.declared.asked.Asked.{Asked}
 use Rattle.vd_cmd_replay.specs.Replaying.{report_for}
 
@@ -84,7 +84,7 @@ choice_plan coordinates program (Some a) = answer_then (ended [] (trial_text coo
 
 -- with a program, and with a source that meets every rule
 abbrev pub program_plan : LabelOutcomes → ChoiceOutcomes → Search → (coordinates : ℕ) → NormalForm → Contents → Plan
-program_plan least choices search coordinates program = choice_then least choices search most_search_budget program (λ c. choice_plan coordinates c.program c.assignment)
+program_plan least choices search coordinates program = choice_of_then least choices search most_search_budget program (λ c. choice_plan coordinates c.program c.assignment)
 
 abbrev pub source_plan : LabelOutcomes → ChoiceOutcomes → Search → (coordinates : ℕ) → Source → Contents → Plan
 source_plan least choices search coordinates source = program_plan least choices search coordinates (normal_form source)

@@ -16,7 +16,7 @@ use itoa::Buffer;
 use std::alloc::{AllocError, Global};
 use vd_base::Bytes;
 use vd_base::limits::SEARCH_BUDGET;
-use vd_cmd_choice::{choice_for, no_assignment};
+use vd_cmd_choice::{choice_of, no_assignment};
 use vd_cmd_frontend::{read_source, resolve_source};
 use vd_cmd_plan::{Answer, Status};
 use vd_cmd_replay::replay_at;
@@ -80,7 +80,7 @@ fn trial_program(alloc: Global, program: Program, coordinates: u32) -> Result<An
     ensures executes { ExecutesProgram coordinates program result }
     ensures tells { TellsProgram coordinates program result }
 {
-    let choice = choice_for(alloc, program, SEARCH_BUDGET)?;
+    let choice = choice_of(alloc, program, SEARCH_BUDGET)?;
     match &choice.assignment {
         Some(assignment) => trial_at(alloc, &choice.program, assignment, coordinates),
         None => Ok(no_assignment(alloc, choice.program)),

@@ -3,16 +3,24 @@ use Rattle.vd_cmd_plan.specs.Plans.{answer_then}
 use Rattle.vd_cmd_plan.proofs.Front.{answers}
 use Rattle.vd_cmd_choice.specs.Choice.{chosen_of}
 use Rattle.vd_cmd_choose.specs.Choosing.{chosen_answer}
-use Rattle.vd_cmd_choice.proofs.Front.{source_refused, source_then}
+use Rattle.vd_cmd_choice.proofs.Front.{source_choice_refused, source_refused, source_then}
 use Rattle.vd_cmd_choose.proofs.choose_command.choose.Goals as goal
 
-pub returns-in_err-found : goal.returns-in_err-found
-returns-in_err-found g c =
+pub returns-in_err-loaded : goal.returns-in_err-loaded
+returns-in_err-loaded g c =
     let p = err_from_is_err_and c.from_residual.result c.from_residual.ensures.1 in
     rw (p.1, p.2)
-    (source_refused c.args.source.now c.args.budget (λ text x. answer_then (chosen_answer c.args.source.now x)) _ _ c.in_err-found.field-0.0 (c.in_err-found.ensures {u = tt}).chooses)
+    (source_refused c.args.source.now c.args.budget (λ text x. answer_then (chosen_answer c.args.source.now x)) _ _ c.in_err-loaded.field-0.0 (c.in_err-loaded.ensures {u = tt}).loads)
+
+pub returns-in_err-choice : goal.returns-in_err-choice
+returns-in_err-choice g c =
+    let p = err_from_is_err_and c.from_residual-in_err-choice.result c.from_residual-in_err-choice.ensures.1 in
+    rw (p.1, p.2)
+    (source_choice_refused c.args.source.now c.args.budget (λ text x. answer_then (chosen_answer c.args.source.now x)) _ _ c.in_ok-loaded.loaded c.in_err-choice.field-0.0
+    (c.in_ok-loaded.ensures {u = tt}).loads (c.in_err-choice.ensures {u = tt}).chooses)
 
 pub returns : goal.returns
 returns g c =
-    source_then c.args.source.now c.args.budget (λ text x. answer_then (chosen_answer c.args.source.now x)) _ _ c.in_ok-found.found c.answer_choice.result (c.in_ok-found.ensures {u = tt}).chooses
-    (answers (chosen_answer c.args.source.now (chosen_of c.in_ok-found.found.choice)) _ c.answer_choice.result c.answer_choice.ensures)
+    source_then c.args.source.now c.args.budget (λ text x. answer_then (chosen_answer c.args.source.now x)) _ _ c.in_ok-loaded.loaded c.in_ok-choice.choice c.answer_choice.result
+    (c.in_ok-loaded.ensures {u = tt}).loads (c.in_ok-choice.ensures {u = tt}).chooses
+    (answers (chosen_answer c.args.source.now (chosen_of c.in_ok-choice.choice)) _ c.answer_choice.result c.answer_choice.ensures)
