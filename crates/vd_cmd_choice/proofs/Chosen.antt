@@ -24,6 +24,7 @@ use Rattle.vd_search_stages.specs.declared.optimum.Assignment.{Assignment}
 use Rattle.vd_search_stages.specs.declared.optimum.Optimum.{Optimum}
 use Rattle.vd_search.specs.declared.writing.SearchFault.TheVariants as search_fault
 use Rattle.vd_search_stages.proofs.Front.{spent_needs, chosen_once}
+use Rattle.vd_cmd_plan.specs.Labelled.{labelled_form}
 use Rattle.vd_cmd_plan.specs.Plans.{Executes}
 use Rattle.vd_cmd_plan.specs.declared.status.Status.TheVariants.{Memory, Spent}
 use Rattle.vd_cmd_plan.proofs.Front.{any_memory, check_step}
@@ -57,8 +58,8 @@ module _ (program : NormalForm) (l : Labels) (budget : ℕ) where
     Certified (text_of c),
     λ certificates choices files rest last result runs.
         let same : choices.choose problem ≡ choice = chosen_once problem (choices.choose problem) choice (choices.choose_is problem) chosen in
-        check_step (as_searched budget program (searched_by certificates choices (Certified (text_of c)) problem budget)) files (Ok (text_of c))
-        (record { ok = ap (as_searched budget program) (accepted certificates choices problem budget c is); err = tt })
+        check_step (as_searched budget (labelled_form program l) (searched_by certificates choices (Certified (text_of c)) problem budget)) files (Ok (text_of c))
+        (record { ok = ap (as_searched budget (labelled_form program l)) (accepted certificates choices problem budget c is); err = tt })
         (λ bytes. rest (chosen_by choices program l bytes)) last result
         (subst (λ (o : Option (List ℕ)). Executes true (rest (chosen_of (given program l (option_map (assigned problem) o) c))) files last result) (sym same) runs),
   )
@@ -77,14 +78,14 @@ module _ (program : NormalForm) (l : Labels) (budget : ℕ) where
         let is = cheapest problem list holds chosen in
         let selected : IsSelected program (assigned problem list) = record { labels = l; least = least; places = list; cheapest = is; is = refl } in
         let valid : IsAssignment problem (assigned problem list).protocols = record { places = list; is_valid = is.is_valid; named = refl } in
-        record { same = refl; selected = selected; valid = valid }
-    of_choice None chosen c = record { same = refl; selected = tt; valid = tt }
+        record { same = refl; least = least; selected = selected; valid = valid }
+    of_choice None chosen c = record { same = refl; least = least; selected = tt; valid = tt }
 
     pub found_is : (optimum : Optimum) → IsOptimum problem budget optimum → IsChoiceFor program (given program l optimum.assignment optimum.certificate)
     found_is optimum is = subst (λ (o : Option Assignment). IsChoiceFor program (given program l o optimum.certificate)) (sym is.assignment) (of_choice is.choice is.chosen optimum.certificate)
 
   -- a search that gave up does so where its budget may not do
-  pub spent : IsProblem problem → IsOver problem (usual problem) budget → Searches program l budget (Err (Spent budget program))
+  pub spent : IsProblem problem → IsOver problem (usual problem) budget → Searches program l budget (Err (Spent budget (labelled_form program l)))
   spent holds over = (
     GaveUp,
     λ certificates choices files rest.
@@ -92,7 +93,7 @@ module _ (program : NormalForm) (l : Labels) (budget : ℕ) where
         cond-true (nat_lt budget (needed problem (choices.choose problem))) (Err search_fault.Spent) (Err search_fault.Memory)
         (lt-ltb _ _ (spent_needs problem holds budget (choices.choose problem) over (choices.choose_is problem)))
         in
-        check_step (as_searched budget program (searched_by certificates choices GaveUp problem budget)) files (Err (Spent budget program))
-        (record { ok = tt; err = ap (as_searched budget program) is })
+        check_step (as_searched budget (labelled_form program l) (searched_by certificates choices GaveUp problem budget)) files (Err (Spent budget (labelled_form program l)))
+        (record { ok = tt; err = ap (as_searched budget (labelled_form program l)) is })
         (λ bytes. rest (chosen_by choices program l bytes)),
   )

@@ -10,6 +10,7 @@ use Rattle.vd_search_stages.specs.Choices.{ChoiceOutcomes, needed}
 use Rattle.vd_search_stages.specs.declared.optimum.Assignment.{Assignment}
 use Rattle.vd_search.specs.declared.writing.SearchFault.{SearchFault}
 use Rattle.vd_search.specs.declared.writing.SearchFault.TheVariants as search_fault
+use Rattle.vd_cmd_plan.specs.Labelled.{LabelledForm, labelled_form}
 use Rattle.vd_cmd_plan.specs.Plans.{Computes, Executes, Plan, check_then}
 use Rattle.vd_cmd_plan.specs.declared.answer.Answer.{Answer}
 use Rattle.vd_cmd_plan.specs.declared.status.Status.{Status}
@@ -31,13 +32,13 @@ which_is P o a is has = subst (λ (x : Option Assignment). IfSome x P) is has
 -- ---- what a command goes on with
 
 -- no assignment is valid
-pub none_computes : (program : NormalForm) (answer : Answer) → answer ≡ no_list program → Computes (no_list program) (Ok answer)
-none_computes program answer is = subst (λ (a : Answer). Computes (no_list program) (Ok a)) (sym is) (record { proper = (refl, refl); no_fault = λ file e. cc e; settled = refl })
+pub none_computes : (form : LabelledForm) (answer : Answer) → answer ≡ no_list form → Computes (no_list form) (Ok answer)
+none_computes form answer is = subst (λ (a : Answer). Computes (no_list form) (Ok a)) (sym is) (record { proper = (refl, refl); no_fault = λ file e. cc e; settled = refl })
 
 -- the answer of an assignment, if this is what there is
-pub assigned_computes : (program : NormalForm) (answer : Assignment → Answer) (o other : Option Assignment) (result : Result Answer Status) → o ≡ other → Computes (assigned_answer program answer other) result
-    → Computes (assigned_answer program answer o) result
-assigned_computes program answer o other result is computes = subst (λ (x : Option Assignment). Computes (assigned_answer program answer x) result) (sym is) computes
+pub assigned_computes : (form : LabelledForm) (answer : Assignment → Answer) (o other : Option Assignment) (result : Result Answer Status) → o ≡ other → Computes (assigned_answer form answer other) result
+    → Computes (assigned_answer form answer o) result
+assigned_computes form answer o other result is computes = subst (λ (x : Option Assignment). Computes (assigned_answer form answer x) result) (sym is) computes
 
 -- for the program of a source that was fetched
 module _ (name : List ℕ) (budget : ℕ) (rest : List ℕ → Chosen → Contents → Plan) (before now : FilesView) where
@@ -109,10 +110,10 @@ module _ (program : NormalForm) (budget : ℕ) (rest : Chosen → Contents → P
   choice_refused status chooses = (chooses.0, λ certificates choices least files. chooses.1 certificates choices least files rest)
 
 -- with its assignment, if there is one
-pub choice_which : (program : NormalForm) (budget : ℕ) (rest : NormalForm → Option Assignment → Contents → Plan) (choice : Choice) (o : Option Assignment) (result : Result Answer Status) → Chooses program budget (Ok choice)
-    → choice.assignment ≡ o → ((files : FilesView) → Executes true (rest choice.program o) files files result) → RunsFor program budget (λ c. rest c.program c.assignment) result
+pub choice_which : (program : NormalForm) (budget : ℕ) (rest : LabelledForm → Option Assignment → Contents → Plan) (choice : Choice) (o : Option Assignment) (result : Result Answer Status) → Chooses program budget (Ok choice)
+    → choice.assignment ≡ o → ((files : FilesView) → Executes true (rest (labelled_form choice.program choice.labels) o) files files result) → RunsFor program budget (λ c. rest (labelled_form c.program c.labels) c.assignment) result
 choice_which program budget rest choice o result chooses is runs =
-    choice_with program budget (λ c. rest c.program c.assignment) choice result chooses (λ files. subst (λ (a : Option Assignment). Executes true (rest choice.program a) files files result) (sym is) (runs files))
+    choice_with program budget (λ c. rest (labelled_form c.program c.labels) c.assignment) choice result chooses (λ files. subst (λ (a : Option Assignment). Executes true (rest (labelled_form choice.program choice.labels) a) files files result) (sym is) (runs files))
 
 -- ---- a search that gives up wherever it may, beside any other
 
@@ -126,13 +127,13 @@ module _ (program : NormalForm) (budget : ℕ) (certificates : CertificateOutcom
     problem = problem_of program l
 
     abbrev after : Result (List ℕ) SearchFault → Plan
-    after answer = check_then (as_searched budget program answer) (λ bytes. rest (chosen_by choices program l bytes)) files
+    after answer = check_then (as_searched budget (labelled_form program l) answer) (λ bytes. rest (chosen_by choices program l bytes)) files
 
     status_after : (bytes : List ℕ) → (after (Ok bytes)).answer.status ≡ (rest (chosen_by choices program l bytes) files).answer.status
     unfolding check_then
     status_after bytes = refl
 
-    spent_after : (after (Err search_fault.Spent)).answer.status ≡ Spent budget program
+    spent_after : (after (Err search_fault.Spent)).answer.status ≡ Spent budget (labelled_form program l)
     unfolding check_then
     spent_after = refl
 
@@ -151,7 +152,7 @@ module _ (program : NormalForm) (budget : ℕ) (certificates : CertificateOutcom
     spent_follows false e = memory_follows (after (Ok [])) e
 
     accepted_follows : GoesByChoice → (over passes : Bool) (bytes : List ℕ) → Follows (after (if over then Err search_fault.Spent else Ok [])) (after (if passes then Ok bytes else Err search_fault.Memory))
-    accepted_follows same true passes bytes e = let is : Spent budget program ≡ Ended = sym spent_after ∙ e in absurd (cc is)
+    accepted_follows same true passes bytes e = let is : Spent budget (labelled_form program l) ≡ Ended = sym spent_after ∙ e in absurd (cc is)
     accepted_follows same false true bytes e = found_follows same [] bytes e
     accepted_follows same false false bytes e = memory_follows (after (Ok [])) e
 

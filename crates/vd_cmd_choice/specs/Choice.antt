@@ -15,6 +15,7 @@ use Rattle.vd_search_stages.specs.Optimum.{assigned, assignment_of}
 use Rattle.vd_search_stages.specs.declared.optimum.Assignment.{Assignment}
 use Rattle.vd_search.specs.declared.writing.SearchFault.{SearchFault}
 use Rattle.vd_search.specs.declared.writing.SearchFault.TheVariants as search_fault
+use Rattle.vd_cmd_plan.specs.Labelled.{LabelledForm, labelled_form}
 use Rattle.vd_cmd_plan.specs.Plans.{ExecutesStep, Plan, check_then, file_then}
 use Rattle.vd_cmd_plan.specs.declared.answer.Answer.{Answer}
 use Rattle.vd_cmd_plan.specs.declared.status.Status.{Status}
@@ -49,15 +50,15 @@ pub record Chosen : Type 0 where
 abbrev pub chosen_by : ChoiceOutcomes → NormalForm → Labels → List ℕ → Chosen
 chosen_by choices program l bytes = record { program = program; labels = l; assignment = assignment_of choices (problem_of program l); certificate = bytes }
 
--- what a search with this budget for a program came to: where the budget is spent, the status carries the program
-abbrev pub as_searched : (budget : ℕ) → NormalForm → Result (List ℕ) SearchFault → Result (List ℕ) Status
-as_searched budget program (Ok bytes) = Ok bytes
-as_searched budget program (Err search_fault.Spent) = Err (Spent budget program)
-as_searched budget program (Err search_fault.Memory) = Err Memory
+-- what a search with this budget for a program came to: where the budget is spent, the status carries the program with its labels
+abbrev pub as_searched : (budget : ℕ) → LabelledForm → Result (List ℕ) SearchFault → Result (List ℕ) Status
+as_searched budget form (Ok bytes) = Ok bytes
+as_searched budget form (Err search_fault.Spent) = Err (Spent budget form)
+as_searched budget form (Err search_fault.Memory) = Err Memory
 
 -- search with a budget under these labels of a program, and go on with what is found
 abbrev pub search_then : ChoiceOutcomes → Search → (budget : ℕ) → NormalForm → Labels → (Chosen → Contents → Plan) → Contents → Plan
-search_then choices search budget program l rest = check_then (as_searched budget program (search (problem_of program l) budget)) (λ bytes. rest (chosen_by choices program l bytes))
+search_then choices search budget program l rest = check_then (as_searched budget (labelled_form program l) (search (problem_of program l) budget)) (λ bytes. rest (chosen_by choices program l bytes))
 
 -- the step: the same under its least labels
 abbrev pub choice_of_then : LabelOutcomes → ChoiceOutcomes → Search → (budget : ℕ) → NormalForm → (Chosen → Contents → Plan) → Contents → Plan
@@ -75,14 +76,14 @@ source_choice_then texts least choices search name budget rest =
 
 -- ---- the answer to it
 
--- where no assignment is valid for a program: the status carries it
-abbrev pub no_list : NormalForm → Answer
-no_list program = record { status = NoAssignment program; stores = []; printed = [] }
+-- where no assignment is valid for a program: the status carries it with its labels
+abbrev pub no_list : LabelledForm → Answer
+no_list form = record { status = NoAssignment form; stores = []; printed = [] }
 
 -- this one of an assignment for a program, if there is one
-abbrev pub assigned_answer : NormalForm → (Assignment → Answer) → Option Assignment → Answer
-assigned_answer program answer None = no_list program
-assigned_answer program answer (Some a) = answer a
+abbrev pub assigned_answer : LabelledForm → (Assignment → Answer) → Option Assignment → Answer
+assigned_answer form answer None = no_list form
+assigned_answer form answer (Some a) = answer a
 
 -- ---- what its parts do, whatever functions pick outcomes
 
@@ -103,13 +104,15 @@ Chooses program budget result =
 
 -- ---- what they find
 
--- what was found for a program
+-- what was found for a program, and that its labels are the least
 pub record IsChoiceFor (program : NormalForm) (choice : Choice) : Type 0 where
   pub same : choice.program ≡ program
+  pub least : IsLeast (system_of choice.program) choice.labels
   pub selected : IfSome choice.assignment (IsSelected choice.program)
   pub valid : IfSome choice.assignment (λ a. IsAssignment (problem_of choice.program choice.labels) a.protocols)
 
--- what was found for the source with this text
+-- what was found for the source with this text, and that its labels are the least
 pub record IsChoiceIn (text : List ℕ) (choice : Choice) : Type 0 where
   pub of : IsProgramOf text choice.program
+  pub least : IsLeast (system_of choice.program) choice.labels
   pub selected : IfSome choice.assignment (IsSelected choice.program)

@@ -4,13 +4,14 @@ ghost use Rattle.std.specs.Prelude.{◌≡◌, ◌≤◌, IfOk};
 ghost use Rattle.vd_base.specs.Limits.{most_search_budget};
 ghost use Rattle.vd_constraints.specs.Rules.{system_of};
 ghost use Rattle.vd_constraints.specs.Satisfies.{IsLeast};
+ghost use Rattle.vd_cmd_plan.specs.Labelled.{labelled_form};
 ghost use Rattle.vd_cmd_choice.specs.Choice.{Chooses, IsChoiceFor, Searches, no_list, printed_at};
 
 use std::alloc::{AllocError, Global};
 use vd_base::Bytes;
 use vd_base_lists::Items;
 use vd_cmd_frontend::least_labels;
-use vd_cmd_plan::{Answer, Status};
+use vd_cmd_plan::{Answer, Labelled, Status};
 use vd_constraints::Labels;
 use vd_core::Program;
 use vd_report::choice_text;
@@ -59,7 +60,7 @@ fn choice_under(
             assignment: optimum.assignment,
             certificate: optimum.certificate,
         }),
-        Err(SearchFault::Spent) => Err(Status::Spent(budget, program)),
+        Err(SearchFault::Spent) => Err(Status::Spent(budget, Labelled::new(program, labels))),
         Err(SearchFault::Memory) => Err(Status::Memory),
     }
 }
@@ -87,12 +88,13 @@ pub fn assignment_text(
     choice_text(alloc, program, protocols, u64::from(assignment.cost))
 }
 
-/// The answer where no assignment is valid for a program.
-pub fn no_assignment(alloc: Global, program: Program) -> Answer
-    ensures { result ≡ no_list program }
+/// The answer where no assignment is valid for the program of a choice.
+pub fn no_assignment(alloc: Global, choice: Choice) -> Answer
+    requires { IsLeast (system_of choice.program) choice.labels }
+    ensures { result ≡ no_list (labelled_form choice.program choice.labels) }
 {
     Answer {
-        status: Status::NoAssignment(program),
+        status: Status::NoAssignment(Labelled::new(choice.program, choice.labels)),
         stores: Items::new(alloc),
         printed: Bytes::new(alloc),
     }

@@ -38,6 +38,7 @@ use Rattle.vd_space.specs.Reading.{problem_of}
 use Rattle.vd_space.specs.Spaces.{IsProblem}
 use Rattle.vd_space.specs.Validity.{protocols}
 use Rattle.vd_space.proofs.Front.{few_in, is_labelled, is_problem}
+use Rattle.vd_cmd_plan.specs.Labelled.{LabelledForm, labelled_form}
 use Rattle.vd_cmd_plan.specs.Deliver.{stored}
 use Rattle.vd_cmd_plan.specs.Plans.{Plan, answer_then, check_then, ended}
 use Rattle.vd_cmd_plan.specs.declared.answer.Answer.{Answer}
@@ -62,13 +63,13 @@ use Rattle.vd_cmd_choice_laws.proofs.Sources.{labels_are, labels_never, made_of,
 
 -- ---- what a search answered
 
-module _ (budget : ℕ) (program : NormalForm) where
-  searched_never : (said : Result (List ℕ) SearchFault) → NeverEnds (as_searched budget program said)
+module _ (budget : ℕ) (form : LabelledForm) where
+  searched_never : (said : Result (List ℕ) SearchFault) → NeverEnds (as_searched budget form said)
   searched_never (Ok bytes) status is ended = cc is
-  searched_never (Err search_fault.Spent) status is ended = let wrong : Spent budget program ≡ Ended = same_status _ _ is ∙ ended in cc wrong
+  searched_never (Err search_fault.Spent) status is ended = let wrong : Spent budget form ≡ Ended = same_status _ _ is ∙ ended in cc wrong
   searched_never (Err search_fault.Memory) status is ended = let wrong : Memory ≡ Ended = same_status _ _ is ∙ ended in cc wrong
 
-  searched_gave : (said : Result (List ℕ) SearchFault) (bytes : List ℕ) → as_searched budget program said ≡ Ok bytes → said ≡ Ok bytes
+  searched_gave : (said : Result (List ℕ) SearchFault) (bytes : List ℕ) → as_searched budget form said ≡ Ok bytes → said ≡ Ok bytes
   searched_gave (Ok given) bytes is = let same : given ≡ bytes = cc is in ap (λ (l : List ℕ). Ok l) same
   searched_gave (Err search_fault.Spent) bytes is = absurd (cc is)
   searched_gave (Err search_fault.Memory) bytes is = absurd (cc is)
@@ -216,9 +217,9 @@ module _ (name : List ℕ) (contents : Contents) (source : Source) (held : Holds
   }
 
   -- the answer to a choice
-  told : (choice : Option (List ℕ)) → IsChosen problem choice → (bytes : List ℕ) → IsAnswer problem budget bytes → (answer : Answer) → answer ≡ choice_answer program (option_map (assigned problem) choice) (certificate_file name bytes)
+  told : (choice : Option (List ℕ)) → IsChosen problem choice → (bytes : List ℕ) → IsAnswer problem budget bytes → (answer : Answer) → answer ≡ choice_answer (labelled_form program labels) (option_map (assigned problem) choice) (certificate_file name bytes)
       → answer.status ≡ Ended → TellsChoice name contents (stored answer.stores contents) answer.printed
-  told None chosen bytes a answer is ends = let wrong : NoAssignment program ≡ Ended = sym (ap (λ (x : Answer). x.status) is) ∙ ends in absurd (cc wrong)
+  told None chosen bytes a answer is ends = let wrong : NoAssignment (labelled_form program labels) ≡ Ended = sym (ap (λ (x : Answer). x.status) is) ∙ ends in absurd (cc wrong)
   told (Some list) chosen bytes a answer is ends =
       let best = cheapest problem list holds chosen in
       subst (λ (x : Answer). TellsChoice name contents (stored x.stores contents) x.printed) (sym is) (record { choice = tells list best; certified = certified list bytes best a })
@@ -245,8 +246,8 @@ module _ (contents : Contents) (certificates : CertificateOutcomes) (choices : C
       let labels : Labels = of.0 in
       let after : List ℕ → Contents → Plan = λ bytes. rest (chosen_by choices program labels bytes) in
       let said = search (problem_of program labels) budget in
-      let found = check_came contents (as_searched budget program said) after (searched_never budget program said) (ends_as contents step (searching labels) ends of.2) in
-      record { labels = labels; is_least = labels_are least program made labels of.1; bytes = found.0; gives = searched_gave budget program said found.0 found.1; leads = of.2 ∙ found.2 }
+      let found = check_came contents (as_searched budget (labelled_form program labels) said) after (searched_never budget (labelled_form program labels) said) (ends_as contents step (searching labels) ends of.2) in
+      record { labels = labels; is_least = labels_are least program made labels of.1; bytes = found.0; gives = searched_gave budget (labelled_form program labels) said found.0 found.1; leads = of.2 ∙ found.2 }
 
 module _ (contents : Contents) (certificates : CertificateOutcomes) (choices : ChoiceOutcomes) (searched : Searched) (texts : TextOutcomes) (least : LabelOutcomes) (name : List ℕ) (budget : ℕ) (rest : List ℕ → Chosen → Contents → Plan) where
   abbrev whole : Contents → Plan
@@ -280,4 +281,4 @@ choices_tell texts least certificates choices searched name budget contents low 
     let problem : Problem = problem_of came.program step.labels in
     let a = is_answer problem budget step.bytes (certificates.read step.bytes) (certificates.read_is step.bytes) (search_gave certificates choices problem budget searched step.bytes step.gives) in
     told name contents came.source came.held came.program came.is_run step.labels step.is_least budget low (choices.choose problem) (choices.choose_is problem) step.bytes a _
-    (came.leads ∙ answered contents (choice_answer came.program (assignment_of choices problem) (certificate_file name step.bytes))) ends
+    (came.leads ∙ answered contents (choice_answer (labelled_form came.program step.labels) (assignment_of choices problem) (certificate_file name step.bytes))) ends

@@ -27,6 +27,7 @@ use Rattle.vd_search_stages.specs.Optimum.{assigned}
 use Rattle.vd_space.specs.declared.problem.Problem.{Problem}
 use Rattle.vd_space.specs.Reading.{problem_of}
 use Rattle.vd_space.proofs.Front.{is_problem}
+use Rattle.vd_cmd_plan.specs.Labelled.{labelled_form}
 use Rattle.vd_cmd_plan.specs.Deliver.{stored}
 use Rattle.vd_cmd_plan.specs.Numbered.{file_name}
 use Rattle.vd_cmd_plan.specs.Plans.{answer_then}
@@ -68,9 +69,9 @@ module _ (name prefix : List ℕ) (contents : Contents) (source : Source) (held 
   abbrev problem : Problem
   problem = problem_of program labels
 
-  told : (choice : Option (List ℕ)) → IsChosen problem choice → (answer : Answer) → answer ≡ assigned_answer program (λ a. compiled_at program a held.bytes prefix) (option_map (assigned problem) choice) → answer.status ≡ Ended
+  told : (choice : Option (List ℕ)) → IsChosen problem choice → (answer : Answer) → answer ≡ assigned_answer (labelled_form program labels) (λ a. compiled_at program a held.bytes prefix) (option_map (assigned problem) choice) → answer.status ≡ Ended
       → TellsCompiled name prefix contents (stored answer.stores contents) answer.printed
-  told None chosen answer is ends = let wrong : NoAssignment program ≡ Ended = sym (ap (λ (x : Answer). x.status) is) ∙ ends in absurd (cc wrong)
+  told None chosen answer is ends = let wrong : NoAssignment (labelled_form program labels) ≡ Ended = sym (ap (λ (x : Answer). x.status) is) ∙ ends in absurd (cc wrong)
   told (Some list) chosen answer is ends =
       let made = run_well_made source program (made_of name contents source held) is_run in
       let few : length program.hosts ≤ 4 = let limit = made.limits.hosts in omega (arith, limit) in

@@ -3,6 +3,8 @@
 ghost use Rattle.std.specs.Prelude.{◌≡◌, ◌≤◌, [], ◌∷◌, IfOk};
 ghost use Rattle.vd_base.specs.Limits.{most_search_budget};
 ghost use Rattle.vd_search_certificate.specs.Texts.{text_of};
+ghost use Rattle.vd_constraints.specs.Rules.{system_of};
+ghost use Rattle.vd_constraints.specs.Satisfies.{IsLeast};
 ghost use Rattle.vd_cmd_plan.specs.Plans.{Computes};
 ghost use Rattle.vd_cmd_choice.specs.Choice.{chosen_of};
 ghost use Rattle.vd_cmd_choose.specs.Choosing.{ExecutesChoose, certificate_file, chosen_answer};
@@ -11,7 +13,7 @@ use std::alloc::{AllocError, Global};
 use vd_base::{Bytes, Text};
 use vd_base_lists::Items;
 use vd_cmd_choice::{Choice, assignment_text, choice_of, load_source_program};
-use vd_cmd_plan::{Answer, Status};
+use vd_cmd_plan::{Answer, Labelled, Status};
 use vd_outside::{Files, Stored};
 use vd_search_certificate::Certificate;
 
@@ -33,6 +35,7 @@ fn certificate_files(
 
 /// Stores the certificate, and prints the choice, if there is one.
 fn answer_choice(alloc: Global, source: &str, choice: Choice) -> Result<Answer, Status>
+    requires { IsLeast (system_of choice.program) choice.labels }
     ensures { Computes (chosen_answer source.now (chosen_of choice)) result }
 {
     let stores = certificate_files(alloc, source, &choice.certificate)?;
@@ -43,7 +46,7 @@ fn answer_choice(alloc: Global, source: &str, choice: Choice) -> Result<Answer, 
             printed: assignment_text(alloc, &choice.program, assignment)?,
         }),
         None => Ok(Answer {
-            status: Status::NoAssignment(choice.program),
+            status: Status::NoAssignment(Labelled::new(choice.program, choice.labels)),
             stores,
             printed: Bytes::new(alloc),
         }),

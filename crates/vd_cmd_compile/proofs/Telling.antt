@@ -11,6 +11,7 @@ use Rattle.vd_host_text.specs.declared.program.Digest.{Digest}
 use Rattle.vd_projection.specs.Programs.{host_codes}
 use Rattle.vd_projection_files.proofs.Front.{is_digest}
 use Rattle.vd_search_stages.specs.declared.optimum.Assignment.{Assignment}
+use Rattle.vd_cmd_plan.specs.Labelled.{LabelledForm}
 use Rattle.vd_cmd_plan.specs.declared.answer.Answer.{Answer}
 use Rattle.vd_cmd_plan.specs.declared.status.Status.{Status}
 use Rattle.vd_cmd_plan.specs.declared.status.Status.TheVariants.{Ended}
@@ -38,8 +39,8 @@ module _ (program : NormalForm) (text prefix : List ℕ) where
       }
 
 -- where no assignment is valid, nothing is stored
-pub none_told : (text prefix : List ℕ) (program : NormalForm) (answer : Answer) → answer ≡ no_list program → TellsText text prefix (Ok answer)
-none_told text prefix program answer none e = let status = ap (λ (a : Answer). a.status) none in absurd (cc status)
+pub none_told : (text prefix : List ℕ) (form : LabelledForm) (answer : Answer) → answer ≡ no_list form → TellsText text prefix (Ok answer)
+none_told text prefix form answer none e = let status = ap (λ (a : Answer). a.status) none in absurd (cc status)
 
 -- what is stored of the program that is run is stored of the text
 pub run_told : (text prefix : List ℕ) (program : NormalForm) (result : Result Answer Status) → IsProgramOf text program → TellsPrograms program text prefix result → TellsText text prefix result

@@ -11,6 +11,7 @@ use Rattle.vd_host_text.specs.Text.{program_text}
 use Rattle.vd_projection.specs.Programs.{host_codes}
 use Rattle.vd_search_stages.specs.Choices.{ChoiceOutcomes}
 use Rattle.vd_search_stages.specs.declared.optimum.Assignment.{Assignment}
+use Rattle.vd_cmd_plan.specs.Labelled.{labelled_form}
 use Rattle.vd_cmd_plan.specs.Numbered.{file_name}
 use Rattle.vd_cmd_plan.specs.Plans.{Plan, Executes, answer_then, ended}
 use Rattle.vd_cmd_plan.specs.declared.answer.Answer.{Answer}
@@ -51,7 +52,7 @@ IsStoredFor program a h code = (text prefix : List ℕ)
 
 -- with what was found for the source with this text
 abbrev pub compiled_for : (text prefix : List ℕ) → Chosen → Answer
-compiled_for text prefix c = assigned_answer c.program (λ a. compiled_at c.program a text prefix) c.assignment
+compiled_for text prefix c = assigned_answer (labelled_form c.program c.labels) (λ a. compiled_at c.program a text prefix) c.assignment
 
 abbrev pub compile_plan : TextOutcomes → LabelOutcomes → ChoiceOutcomes → Search → (source prefix : List ℕ) → (budget : ℕ) → Contents → Plan
 compile_plan texts least choices search source prefix budget = source_choice_then texts least choices search source budget (λ text c. answer_then (compiled_for text prefix c))

@@ -6,6 +6,7 @@ use Rattle.vd_execution.specs.Joint.{Joint}
 use Rattle.vd_host_text.specs.declared.program.Digest.{Digest}
 use Rattle.vd_search_stages.specs.Choices.{ChoiceOutcomes}
 use Rattle.vd_search_stages.specs.declared.optimum.Assignment.{Assignment}
+use Rattle.vd_cmd_plan.specs.Labelled.{labelled_form}
 use Rattle.vd_cmd_plan.specs.Plans.{Plan, Executes, answer_then, ended}
 use Rattle.vd_cmd_plan.specs.declared.answer.Answer.{Answer}
 use Rattle.vd_cmd_plan.specs.declared.status.Status.{Status}
@@ -30,7 +31,7 @@ early_at program joint a text prefix =
 
 -- with what was found for the source with this text
 abbrev pub early_for : Joint → (text prefix : List ℕ) → Chosen → Answer
-early_for joint text prefix c = assigned_answer c.program (λ a. early_at c.program joint a text prefix) c.assignment
+early_for joint text prefix c = assigned_answer (labelled_form c.program c.labels) (λ a. early_at c.program joint a text prefix) c.assignment
 
 -- the plan, where the search has found this order
 abbrev pub early_plan : TextOutcomes → LabelOutcomes → ChoiceOutcomes → Search → Joint → (source prefix : List ℕ) → (budget : ℕ) → Contents → Plan

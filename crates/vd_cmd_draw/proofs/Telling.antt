@@ -16,6 +16,7 @@ use Rattle.vd_search_stages.specs.Optimum.{assigned}
 use Rattle.vd_space.specs.declared.problem.Problem.{Problem}
 use Rattle.vd_space.specs.Reading.{problem_of}
 use Rattle.vd_space.proofs.Front.{as_many, is_problem}
+use Rattle.vd_cmd_plan.specs.Labelled.{labelled_form}
 use Rattle.vd_cmd_plan.specs.Plans.{answer_then}
 use Rattle.vd_cmd_plan.specs.declared.answer.Answer.{Answer}
 use Rattle.vd_cmd_plan.specs.declared.status.Status.TheVariants.{Ended, NoAssignment}
@@ -30,9 +31,9 @@ module _ (name : List ℕ) (contents : Contents) (source : Source) (held : Holds
   abbrev problem : Problem
   problem = problem_of program labels
 
-  told : (choice : Option (List ℕ)) → IsChosen problem choice → (answer : Answer) → answer ≡ assigned_answer program (drawn_answer name held.bytes program labels) (option_map (assigned problem) choice) → answer.status ≡ Ended
+  told : (choice : Option (List ℕ)) → IsChosen problem choice → (answer : Answer) → answer ≡ assigned_answer (labelled_form program labels) (drawn_answer name held.bytes program labels) (option_map (assigned problem) choice) → answer.status ≡ Ended
       → TellsDrawing name contents answer.printed
-  told None chosen answer is ends = let wrong : NoAssignment program ≡ Ended = sym (ap (λ (x : Answer). x.status) is) ∙ ends in absurd (cc wrong)
+  told None chosen answer is ends = let wrong : NoAssignment (labelled_form program labels) ≡ Ended = sym (ap (λ (x : Answer). x.status) is) ∙ ends in absurd (cc wrong)
   told (Some list) chosen answer is ends =
       let made : IsWellMade program = run_well_made source program (made_of name contents source held) is_run in
       let best = cheapest problem list (is_problem program labels made) chosen in

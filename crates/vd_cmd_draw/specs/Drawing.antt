@@ -6,6 +6,7 @@ use Rattle.vd_constraints.specs.declared.labels.Labels.{Labels}
 use Rattle.vd_draw_picture.specs.Picture as pictures
 use Rattle.vd_search_stages.specs.Choices.{ChoiceOutcomes}
 use Rattle.vd_search_stages.specs.declared.optimum.Assignment.{Assignment}
+use Rattle.vd_cmd_plan.specs.Labelled.{labelled_form}
 use Rattle.vd_cmd_plan.specs.Plans.{Plan, Executes, answer_then, ended}
 use Rattle.vd_cmd_plan.specs.declared.answer.Answer.{Answer}
 use Rattle.vd_cmd_plan.specs.declared.status.Status.{Status}
@@ -21,7 +22,7 @@ drawn_answer name text program l a = ended [] (pictures.drawn name text program 
 
 -- with what was found for the source with this text
 abbrev pub drawn_for : (name text : List ℕ) → Chosen → Answer
-drawn_for name text c = assigned_answer c.program (drawn_answer name text c.program c.labels) c.assignment
+drawn_for name text c = assigned_answer (labelled_form c.program c.labels) (drawn_answer name text c.program c.labels) c.assignment
 
 abbrev pub draw_plan : TextOutcomes → LabelOutcomes → ChoiceOutcomes → Search → (name : List ℕ) → (budget : ℕ) → Contents → Plan
 draw_plan texts least choices search name budget = source_choice_then texts least choices search name budget (λ text c. answer_then (drawn_for name text c))

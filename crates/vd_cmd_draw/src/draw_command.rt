@@ -2,6 +2,8 @@
 
 ghost use Rattle.std.specs.Prelude.{◌≤◌};
 ghost use Rattle.vd_base.specs.Limits.{most_search_budget};
+ghost use Rattle.vd_constraints.specs.Rules.{system_of};
+ghost use Rattle.vd_constraints.specs.Satisfies.{IsLeast};
 ghost use Rattle.vd_cmd_plan.specs.Plans.{Computes};
 ghost use Rattle.vd_cmd_choice.specs.Choice.{chosen_of};
 ghost use Rattle.vd_cmd_draw.specs.Drawing.{ExecutesDraw, drawn_answer, drawn_for};
@@ -42,12 +44,13 @@ fn draw_at(
 
 /// What `draw` comes to with what was found for a source.
 fn draw_choice(alloc: Global, name: &str, found: ChosenSource) -> Result<Answer, Status>
+    requires { IsLeast (system_of found.choice.program) found.choice.labels }
     ensures { Computes (drawn_for name.now found.text (chosen_of found.choice)) result }
 {
     let ChosenSource { text, choice } = found;
     match &choice.assignment {
         Some(assignment) => draw_at(alloc, &choice, assignment, name, text.as_slice()),
-        None => Ok(no_assignment(alloc, choice.program)),
+        None => Ok(no_assignment(alloc, choice)),
     }
 }
 

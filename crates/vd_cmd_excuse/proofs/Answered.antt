@@ -8,6 +8,7 @@ use Rattle.vd_core.specs.declared.normal.NormalForm.{NormalForm}
 use Rattle.vd_constraints.specs.declared.labels.Labels.{Labels}
 use Rattle.vd_deal_items.specs.declared.deal.Deal.{Deal}
 use Rattle.vd_search_stages.specs.declared.optimum.Assignment.{Assignment}
+use Rattle.vd_cmd_plan.specs.Labelled.{LabelledForm}
 use Rattle.vd_cmd_plan.specs.Plans.{Checks, Computes, Executes, ended, answer_then, check_then}
 use Rattle.vd_cmd_plan.specs.declared.answer.Answer.{Answer}
 use Rattle.vd_cmd_plan.specs.declared.status.Status.{Status}
@@ -91,5 +92,5 @@ module _ (words : ExcuseWords) (p : NormalForm) (h : HostId) (runs : Runs) where
   )
 
 -- where no assignment is valid, nothing is told
-pub none_told : (h : HostId) (p : NormalForm) (out : List ℕ) (runs : Runs) (found : NormalForm) (answer : Answer) → answer ≡ no_list found → TellsAt h p out runs (Ok answer)
+pub none_told : (h : HostId) (p : NormalForm) (out : List ℕ) (runs : Runs) (found : LabelledForm) (answer : Answer) → answer ≡ no_list found → TellsAt h p out runs (Ok answer)
 none_told h p out runs found answer is = λ name named e. let wrong : NoAssignment found ≡ Ended = sym (ap (λ (a : Answer). a.status) is) ∙ e in absurd (cc wrong)

@@ -12,6 +12,7 @@ use Rattle.vd_deal_items.specs.declared.deal.Deal.{Deal}
 use Rattle.vd_report.specs.Lines.{words_line}
 use Rattle.vd_search_stages.specs.Choices.{ChoiceOutcomes}
 use Rattle.vd_search_stages.specs.declared.optimum.Assignment.{Assignment}
+use Rattle.vd_cmd_plan.specs.Labelled.{labelled_form}
 use Rattle.vd_cmd_plan.specs.Plans.{Plan, Executes, check_then, answer_then, ended}
 use Rattle.vd_cmd_plan.specs.declared.answer.Answer.{Answer}
 use Rattle.vd_cmd_plan.specs.declared.status.Status.{Status}
@@ -82,7 +83,7 @@ assignment_plan outcomes p l h runs out a =
 
 -- if there is one
 abbrev pub choice_plan : ReplayOutcomes → HostId → Runs → (out : List ℕ) → NormalForm → Labels → Option Assignment → Contents → Plan
-choice_plan outcomes h runs out p l None = answer_then (no_list p)
+choice_plan outcomes h runs out p l None = answer_then (no_list (labelled_form p l))
 choice_plan outcomes h runs out p l (Some a) = assignment_plan outcomes p l h runs out a
 
 -- with a program, one of its two hosts, and both runs

@@ -20,6 +20,7 @@ use Rattle.vd_deal_needs_programs.specs.Enough.{sizes_for}
 use Rattle.vd_deal_needs_programs.proofs.Front.{code_is, of_can_run, sizes_are_enough, sizes_are_least, deals_have_their_sizes}
 use Rattle.vd_cmd.specs.declared.command.NeedsWords.{NeedsWords}
 use Rattle.vd_search_stages.specs.declared.optimum.Assignment.{Assignment}
+use Rattle.vd_cmd_plan.specs.Labelled.{LabelledForm}
 use Rattle.vd_cmd_plan.specs.Loads.{Loads}
 use Rattle.vd_cmd_plan.specs.Plans.{Computes, ended}
 use Rattle.vd_cmd_plan.specs.declared.answer.Answer.{Answer}
@@ -64,8 +65,8 @@ told_then each program (Ok answer) is = λ e. is
 told_then each program (Err status) is = tt
 
 -- where no list is valid, nothing is told
-pub none_told : (each : Bool) (program : NormalForm) (answer : Answer) → answer ≡ no_list program → TellsProgram each program (Ok answer)
-none_told each program answer is = λ e. let wrong : NoAssignment program ≡ Ended = sym (ap (λ (a : Answer). a.status) is) ∙ e in absurd (cc wrong)
+pub none_told : (each : Bool) (program : NormalForm) (form : LabelledForm) (answer : Answer) → answer ≡ no_list form → TellsProgram each program (Ok answer)
+none_told each program form answer is = λ e. let wrong : NoAssignment form ≡ Ended = sym (ap (λ (a : Answer). a.status) is) ∙ e in absurd (cc wrong)
 
 -- ---- with the text of a source
 

@@ -9,6 +9,7 @@ use Rattle.vd_core.specs.declared.source.Source.{Source}
 use Rattle.vd_deal_needs.specs.Sizes.{sizes_of}
 use Rattle.vd_search_stages.specs.Choices.{ChoiceOutcomes}
 use Rattle.vd_cmd.specs.declared.command.NeedsWords.{NeedsWords}
+use Rattle.vd_cmd_plan.specs.Labelled.{labelled_form}
 use Rattle.vd_cmd_plan.specs.Plans.{Checks, Plan, Executes, answer_then, check_then, ended, file_then}
 use Rattle.vd_cmd_plan.specs.declared.answer.Answer.{Answer}
 use Rattle.vd_cmd_plan.specs.declared.status.Status.{Status}
@@ -28,7 +29,7 @@ needs_text each program protocols = if each then each_lines program.hosts (needs
 
 -- with what was found for a source
 abbrev pub needs_answer : (each : Bool) → Chosen → Answer
-needs_answer each c = assigned_answer c.program (λ a. ended [] (needs_text each c.program a.protocols)) c.assignment
+needs_answer each c = assigned_answer (labelled_form c.program c.labels) (λ a. ended [] (needs_text each c.program a.protocols)) c.assignment
 
 -- with the bytes of a source
 abbrev pub text_plan : TextOutcomes → LabelOutcomes → ChoiceOutcomes → Search → NeedsWords → List ℕ → Contents → Plan

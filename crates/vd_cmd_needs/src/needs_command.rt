@@ -2,6 +2,8 @@
 
 ghost use Rattle.std.specs.Prelude.{◌≡◌, ◌≤◌, [], length, IfErr, IfOk, IfSome};
 ghost use Rattle.vd_base.specs.Limits.{most_search_budget, most_source_bytes};
+ghost use Rattle.vd_constraints.specs.Rules.{system_of};
+ghost use Rattle.vd_constraints.specs.Satisfies.{IsLeast};
 ghost use Rattle.vd_cmd_plan.specs.Plans.{Computes, ended};
 ghost use Rattle.vd_projection.specs.Programs.{IsRunnable};
 ghost use Rattle.vd_cmd_choice.specs.Choice.{IsSelected, chosen_of};
@@ -72,13 +74,14 @@ fn needs_at(
 
 /// What `needs` comes to with what was found for a source.
 fn needs_choice(alloc: Global, choice: Choice, each: bool) -> Result<Answer, Status>
-    requires { IfSome choice.assignment (IsSelected choice.program) }
+    requires least { IsLeast (system_of choice.program) choice.labels }
+    requires selected { IfSome choice.assignment (IsSelected choice.program) }
     ensures computes { Computes (needs_answer each (chosen_of choice)) result }
     ensures tells { TellsProgram each choice.program result }
 {
     match &choice.assignment {
         Some(assignment) => needs_at(alloc, &choice.program, assignment, each),
-        None => Ok(no_assignment(alloc, choice.program)),
+        None => Ok(no_assignment(alloc, choice)),
     }
 }
 

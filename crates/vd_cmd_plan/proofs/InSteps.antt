@@ -39,7 +39,7 @@ pub check_step : {T : Type 0} (wanted : Result T Status) (now : FilesView) (resu
 check_step wanted now (Ok value) c = λ rest last result w. subst (λ (t : Contents → Plan). Executes true t now last result) (sym (check_ok wanted value c.ok rest)) w
 check_step wanted now (Err Memory) c = λ rest. any_memory (check_then wanted rest) now
 check_step wanted now (Err Ended) c = absurd c.err
-check_step wanted now (Err (NoAssignment program)) c = absurd c.err
+check_step wanted now (Err (NoAssignment labelled)) c = absurd c.err
 check_step wanted now (Err Usage) c = absurd c.err
 check_step wanted now (Err (ReadFault name)) c = absurd c.err
 check_step wanted now (Err WriteFault) c = absurd c.err

@@ -23,7 +23,7 @@ no_form fits e n = cc (e, n)
 
 given_done : (status : Status) (printed : List ℕ) → IsGiven status printed → IsDone status
 given_done Ended printed given = tt
-given_done (NoAssignment program) printed given = tt
+given_done (NoAssignment labelled) printed given = tt
 given_done other printed given = absurd given
 
 runs_quiet : (fits : Bool) (plan : Contents → Plan) (before now : FilesView) (out : SinkView) (status : Status) → Executes fits plan before now (Err status)
@@ -55,7 +55,7 @@ runs_quiet fits plan before now out status w planned usage comes no_write answer
 
 pub runs_err : (fits : Bool) (plan : Contents → Plan) (before now : FilesView) (out : SinkView) (status : Status) → Executes fits plan before now (Err status) → Runs fits plan before now out out status
 runs_err fits plan before now out Ended w = absurd w.proper
-runs_err fits plan before now out (NoAssignment program) w = absurd w.proper
+runs_err fits plan before now out (NoAssignment labelled) w = absurd w.proper
 runs_err fits plan before now out WriteFault w = absurd w.proper
 runs_err fits plan before now out Memory w = runs_quiet fits plan before now out Memory w tt (λ e. absurd (cc e)) (λ e. absurd (no_form fits w.proper e)) (λ e. cc e) (λ t. tt) (λ e. e) (λ p. refl) (λ t. (0, w.contents t))
 runs_err fits plan before now out Usage w = runs_quiet fits plan before now out Usage w tt (λ e. w.proper) (λ e. refl) (λ e. cc e) (λ t. ap (λ (a : Answer). a.status) (w.settled t)) (λ e. e) (λ p. refl) (λ t. (0, w.contents t))
@@ -109,7 +109,7 @@ runs_given fits plan before mid now out_before out_now given status w d planned 
 
 pub runs_ok : (fits : Bool) (plan : Contents → Plan) (before mid now : FilesView) (out_before out_now : SinkView) (given : Answer) (status : Status) → Executes fits plan before mid (Ok given) → Delivers given mid now out_before out_now status → Runs fits plan before now out_before out_now status
 runs_ok fits plan before mid now out_before out_now given Ended w d = runs_given fits plan before mid now out_before out_now given Ended w d tt (λ e. cc e) (λ name e. cc e) (λ t. d.ends ∙ ap (λ (a : Answer). a.status) (w.settled t)) (λ o e f. absurd (e tt))
-runs_ok fits plan before mid now out_before out_now given (NoAssignment program) w d = runs_given fits plan before mid now out_before out_now given (NoAssignment program) w d tt (λ e. cc e) (λ name e. cc e) (λ t. d.ends ∙ ap (λ (a : Answer). a.status) (w.settled t)) (λ o e f. d.left o)
+runs_ok fits plan before mid now out_before out_now given (NoAssignment labelled) w d = runs_given fits plan before mid now out_before out_now given (NoAssignment labelled) w d tt (λ e. cc e) (λ name e. cc e) (λ t. d.ends ∙ ap (λ (a : Answer). a.status) (w.settled t)) (λ o e f. d.left o)
 runs_ok fits plan before mid now out_before out_now given Memory w d = runs_given fits plan before mid now out_before out_now given Memory w d tt (λ e. cc e) (λ name e. cc e) (λ t. tt) (λ o e f. d.left o)
 runs_ok fits plan before mid now out_before out_now given WriteFault w d = runs_given fits plan before mid now out_before out_now given WriteFault w d tt (λ e. cc e) (λ name e. cc e) (λ t. subst (λ (a : Answer). IsDone a.status) (w.settled t) (given_done given.status given.printed w.proper.0)) (λ o e f. absurd (f refl))
 runs_ok fits plan before mid now out_before out_now given other w d = absurd (subst (λ (s : Status). IsGiven s given.printed) (sym d.ends) w.proper.0)
@@ -133,7 +133,7 @@ deliver_ok given Ended before now out_before out_now is fits p w = record {
   left = w.whole;
   unwritten = λ e f. absurd (cc e);
 }
-deliver_ok given (NoAssignment program) before now out_before out_now is fits p w = record {
+deliver_ok given (NoAssignment labelled) before now out_before out_now is fits p w = record {
   later = p.later;
   out_later = w.later;
   ends = sym is;

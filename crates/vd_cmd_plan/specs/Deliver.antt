@@ -86,7 +86,7 @@ IsEnded status = ⊥
 -- the statuses of a command that was carried out: all files stand
 abbrev pub IsDone : Status → Type 0
 IsDone Ended = Unit {0}
-IsDone (NoAssignment program) = Unit {0}
+IsDone (NoAssignment labelled) = Unit {0}
 IsDone status = ⊥
 
 -- after a given answer

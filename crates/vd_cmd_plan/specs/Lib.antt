@@ -1,3 +1,4 @@
+pub mod Labelled
 pub mod Plans
 pub mod Loads
 pub mod Held

@@ -71,7 +71,7 @@ Settles answer (Err status) = refused status ≡ answer
 -- the statuses with which an answer may be delivered; it prints with Ended alone
 abbrev pub IsGiven : Status → List ℕ → Type 0
 IsGiven Ended printed = Unit {0}
-IsGiven (NoAssignment program) printed = printed ≡ []
+IsGiven (NoAssignment labelled) printed = printed ≡ []
 IsGiven status printed = ⊥
 
 -- a file that is no program of a host within the ranges is refused by a plan; all else of one host comes where it is run
@@ -90,7 +90,7 @@ IsPlanned status = Unit {0}
 abbrev pub IsProper : Bool → Result Answer Status → Type 0
 IsProper fits (Ok given) = IsGiven given.status given.printed × (fits ≡ true)
 IsProper fits (Err Ended) = ⊥
-IsProper fits (Err (NoAssignment program)) = ⊥
+IsProper fits (Err (NoAssignment labelled)) = ⊥
 IsProper fits (Err Usage) = fits ≡ false
 IsProper fits (Err WriteFault) = ⊥
 IsProper fits (Err (Host cause)) = IsOfProgram cause × (fits ≡ true)
@@ -123,7 +123,7 @@ pub record Computes (answer : Answer) (result : Result Answer Status) : Type 0 w
 -- a test refuses where its definition does, and with no outside fault
 abbrev pub IsRefusal : {T : Type 0} → Result T Status → Status → Type 0
 IsRefusal wanted Ended = ⊥
-IsRefusal wanted (NoAssignment program) = ⊥
+IsRefusal wanted (NoAssignment labelled) = ⊥
 IsRefusal wanted Memory = Unit {0}
 IsRefusal wanted Usage = ⊥
 IsRefusal wanted (ReadFault name) = ⊥

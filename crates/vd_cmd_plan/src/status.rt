@@ -4,11 +4,11 @@ ghost use Rattle.std.specs.Prelude.{◌≡◌};
 ghost use Rattle.vd_cmd_plan.specs.declared.status.Status.TheVariants.{Memory};
 ghost use Rattle.vd_cmd_plan.specs.Lines.{code_of, host_code};
 
+use crate::labelled::Labelled;
 use std::alloc::AllocError;
 use vd_base::{Name, Names, Text};
 use vd_bound::CheckFault;
 use vd_constraints::Check;
-use vd_core::Program;
 use vd_deal_items::{BadItem, DealKind};
 use vd_formula::Formula;
 use vd_parser::ParseFault;
@@ -87,7 +87,8 @@ pub enum ChildCause {
 }
 
 /// How a run ended. A fault of a text is carried as the pass that found it gave it; where that wanted memory, or the text was too
-/// long for it, the status is `Memory` or `TooLong`. A search that found no assignment gives back the program that it was made for.
+/// long for it, the status is `Memory` or `TooLong`. A search that found no assignment gives back the program that it was made for,
+/// with its least labels.
 #[derive(Debug, Drop)]
 pub enum Status {
     /// The command was carried out.
@@ -109,9 +110,9 @@ pub enum Status {
     /// No labelling satisfies the flow rules.
     Flow(FlowFault),
     /// The command was carried out, and came to this: no assignment of protocols is valid for this program.
-    NoAssignment(Program),
+    NoAssignment(Labelled),
     /// The search had this budget, and needs more for this program.
-    Spent(u32, Program),
+    Spent(u32, Labelled),
     /// The text of the inputs is refused.
     InputText(ReadFault),
     /// The text of the deal of the host with this name and number is refused: no deal of its goes on at this offset as the file does.

@@ -32,6 +32,7 @@ use Rattle.vd_search_stages.proofs.Front.{chosen_once}
 use Rattle.vd_cmd_frontend.specs.Labelling.{as_labels, labels_of}
 use Rattle.vd_cmd_choice.specs.Choice.{Chosen, as_searched, chosen_by, search_then}
 use Rattle.vd_cmd_choice.specs.Searching.{sure_search}
+use Rattle.vd_cmd_plan.specs.Labelled.{labelled_form}
 use Rattle.vd_cmd_plan.specs.Plans.{Plan}
 use Rattle.vd_report_laws.proofs.Front.{judged_once}
 use Rattle.vd_cmd_replay.specs.Accepting.{EndsWell, IsAccepted}
@@ -97,16 +98,16 @@ module _ (words : ReplayWords) (contents : Contents) (accepted : IsAccepted word
         let places = accepted.selected.places in
         let choice : choices.choose problem ≡ Some places = chosen_once problem (choices.choose problem) (Some places) (choices.choose_is problem) chosen in
         let judged = judged_once accepted.held.asked.deals (outcomes.judge accepted.held.asked.deals) None (outcomes.judge_is accepted.held.asked.deals are_deals) accepted.consistent in
-        let rest : Chosen → Contents → Plan = λ c. choice_plan outcomes accepted.held.asked c.program c.assignment in
+        let rest : Chosen → Contents → Plan = λ c. choice_plan outcomes accepted.held.asked (labelled_form c.program c.labels) c.assignment in
         let a : Assignment = assigned problem places in
         let listed : Ends contents (assignment_plan outcomes accepted.held.asked program a) =
         check_ends contents (as_consistent (outcomes.judge accepted.held.asked.deals)) tt _ (ap as_consistent judged) (answer_ends contents (report_for program a.protocols accepted.held.asked)) in
-        let ends : Ends contents (choice_plan outcomes accepted.held.asked program (assignment_of choices problem)) =
-        subst (λ (o : Option (List ℕ)). Ends contents (choice_plan outcomes accepted.held.asked program (option_map (assigned problem) o))) (sym choice) listed in
+        let ends : Ends contents (choice_plan outcomes accepted.held.asked (labelled_form program accepted.selected.labels) (assignment_of choices problem)) =
+        subst (λ (o : Option (List ℕ)). Ends contents (choice_plan outcomes accepted.held.asked (labelled_form program accepted.selected.labels) (option_map (assigned problem) o))) (sym choice) listed in
         program_ends contents texts least words.source source (program_plan texts outcomes least choices (sure_search choices) words) accepted.held.is_source
         (subst (λ (p : NormalForm). Ends contents (program_plan texts outcomes least choices (sure_search choices) words p)) (run_once source program source_made accepted.is_run least)
         (asked_ends contents outcomes texts words program.hosts accepted.held.asked (asked_plan outcomes least choices (sure_search choices) words.budget program) few are_asked
         (check_ends contents (labels_of least program) accepted.selected.labels (λ l. search_then choices (sure_search choices) words.budget program l rest) (ap (λ (r : Result Labels ℕ). as_labels least program r) labelled)
-        (check_ends contents (as_searched words.budget program (sure_search choices problem words.budget)) [] (λ (bytes : List ℕ). rest (chosen_by choices program accepted.selected.labels bytes))
-        (ap (as_searched words.budget program) (searched choices problem words.budget places choice accepted.enough)) ends)))),
+        (check_ends contents (as_searched words.budget (labelled_form program accepted.selected.labels) (sure_search choices problem words.budget)) [] (λ (bytes : List ℕ). rest (chosen_by choices program accepted.selected.labels bytes))
+        (ap (as_searched words.budget (labelled_form program accepted.selected.labels)) (searched choices problem words.budget places choice accepted.enough)) ends)))),
   )

@@ -4,6 +4,7 @@ use Rattle.vd_outside.specs.Files.{FilesView, Contents}
 use Rattle.vd_core.specs.declared.normal.NormalForm.{NormalForm}
 use Rattle.vd_cmd.specs.declared.command.ReplayWords.{ReplayWords}
 use Rattle.vd_search_stages.specs.declared.optimum.Assignment.{Assignment}
+use Rattle.vd_cmd_plan.specs.Labelled.{LabelledForm}
 use Rattle.vd_cmd_plan.specs.declared.answer.Answer.{Answer}
 use Rattle.vd_cmd_plan.specs.declared.status.Status.{Status}
 use Rattle.vd_cmd_plan.specs.declared.status.Status.TheVariants.{Ended, NoAssignment}
@@ -22,7 +23,7 @@ choice_counted program a asked packets (Ok answer) selected is = λ e. record { 
 choice_counted program a asked packets (Err status) selected is = tt
 
 -- where no list is valid, nothing is counted
-pub none_counted : (program : NormalForm) (asked : Asked) (packets : Option ℕ) (found : NormalForm) (answer : Answer) → answer ≡ no_list found → CountsOf program asked packets (Ok answer)
+pub none_counted : (program : NormalForm) (asked : Asked) (packets : Option ℕ) (found : LabelledForm) (answer : Answer) → answer ≡ no_list found → CountsOf program asked packets (Ok answer)
 none_counted program asked packets found answer is = λ e. let wrong : NoAssignment found ≡ Ended = sym (ap (λ (a : Answer). a.status) is) ∙ e in absurd (cc wrong)
 
 module _ (words : ReplayWords) (before : FilesView) (packets : Option ℕ) where

@@ -3,6 +3,7 @@ use Rattle.std.proofs.Common.{◌≡◌, ℕ, true, Option, [], Result, Ok, Err,
 use Rattle.vd_outside.specs.Files.{FilesView}
 use Rattle.vd_core.specs.declared.normal.NormalForm.{NormalForm}
 use Rattle.vd_search_stages.specs.declared.optimum.Assignment.{Assignment}
+use Rattle.vd_cmd_plan.specs.Labelled.{LabelledForm, labelled_form}
 use Rattle.vd_cmd_plan.specs.Plans.{Checks, Computes, Executes, ended, answer_then}
 use Rattle.vd_cmd_plan.specs.declared.answer.Answer.{Answer}
 use Rattle.vd_cmd_plan.specs.declared.status.Status.{Status}
@@ -34,18 +35,18 @@ module _ (program : NormalForm) (asked : Asked) where
 
   module _ (budget : ℕ) where
     pub with_choice : (choice : Choice) (o : Option Assignment) (result : Result Answer Status) → Chooses program budget (Ok choice) → choice.assignment ≡ o
-        → ((outcomes : ReplayOutcomes) (files : FilesView) → Executes true (choice_plan outcomes asked choice.program o) files files result) → ExecutesAsked program asked budget result
+        → ((outcomes : ReplayOutcomes) (files : FilesView) → Executes true (choice_plan outcomes asked (labelled_form choice.program choice.labels) o) files files result) → ExecutesAsked program asked budget result
     with_choice choice o result chooses is then = (
       chooses.0,
       λ certificates choices outcomes least files.
-          chooses.1 certificates choices least files (λ c. choice_plan outcomes asked c.program c.assignment) files result
-          (subst (λ (a : Option Assignment). Executes true (choice_plan outcomes asked choice.program a) files files result) (sym is) (then outcomes files)),
+          chooses.1 certificates choices least files (λ c. choice_plan outcomes asked (labelled_form c.program c.labels) c.assignment) files result
+          (subst (λ (a : Option Assignment). Executes true (choice_plan outcomes asked (labelled_form choice.program choice.labels) a) files files result) (sym is) (then outcomes files)),
     )
 
     pub asked_refused : (status : Status) → Chooses program budget (Err status) → ExecutesAsked program asked budget (Err status)
     asked_refused status chooses =
-        (chooses.0, λ certificates choices outcomes least files. chooses.1 certificates choices least files (λ c. choice_plan outcomes asked c.program c.assignment))
+        (chooses.0, λ certificates choices outcomes least files. chooses.1 certificates choices least files (λ c. choice_plan outcomes asked (labelled_form c.program c.labels) c.assignment))
 
 -- where no list is valid, nothing is told
-pub none_told : (program : NormalForm) (asked : Asked) (found : NormalForm) (answer : Answer) → answer ≡ no_list found → TellsOf program asked (Ok answer)
+pub none_told : (program : NormalForm) (asked : Asked) (found : LabelledForm) (answer : Answer) → answer ≡ no_list found → TellsOf program asked (Ok answer)
 none_told program asked found answer is = λ e. let wrong : NoAssignment found ≡ Ended = sym (ap (λ (a : Answer). a.status) is) ∙ e in absurd (cc wrong)

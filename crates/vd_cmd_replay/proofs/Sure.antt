@@ -7,6 +7,7 @@ use Rattle.vd_deal_items.specs.declared.deal.Deal.{Deal}
 use Rattle.vd_cmd.specs.declared.command.ReplayWords.{ReplayWords}
 use Rattle.vd_report.specs.declared.schedule.Schedule.{Schedule}
 use Rattle.vd_search_stages.specs.Choices.{ChoiceOutcomes}
+use Rattle.vd_cmd_plan.specs.Labelled.{labelled_form}
 use Rattle.vd_cmd_plan.specs.Numbered.{file_name}
 use Rattle.vd_cmd_plan.specs.Plans.{Plan, check_then}
 use Rattle.vd_cmd_plan.proofs.Front.{Follows, file_follows, check_follows}
@@ -54,7 +55,7 @@ module _ (files : Contents) where
 module _ (texts : TextOutcomes) (outcomes : ReplayOutcomes) (least : LabelOutcomes) (certificates : CertificateOutcomes) (choices : ChoiceOutcomes) (searched : Searched) (words : ReplayWords) (files : Contents) where
   asked_follows : (program : NormalForm) (asked : Asked)
       → Follows (asked_plan outcomes least choices (sure_search choices) words.budget program asked files) (asked_plan outcomes least choices (searched_by certificates choices searched) words.budget program asked files)
-  asked_follows program asked = choice_follows program words.budget certificates choices (λ c. choice_plan outcomes asked c.program c.assignment) files (λ l one other. refl) least searched
+  asked_follows program asked = choice_follows program words.budget certificates choices (λ c. choice_plan outcomes asked (labelled_form c.program c.labels) c.assignment) files (λ l one other. refl) least searched
 
   program_goes : (program : NormalForm) → Follows (program_plan texts outcomes least choices (sure_search choices) words program files) (program_plan texts outcomes least choices (searched_by certificates choices searched) words program files)
   program_goes program =

@@ -12,6 +12,7 @@ use Rattle.vd_projection.specs.Programs.{joint_of}
 use Rattle.vd_world_report.specs.Supplies.{supply_of_files}
 use Rattle.vd_world_report.specs.Schedules.{replayed}
 use Rattle.vd_world_report.specs.Reports.{report_of}
+use Rattle.vd_cmd_plan.specs.Labelled.{LabelledForm, labelled_form}
 use Rattle.vd_cmd_plan.specs.Plans.{Plan, Executes, check_then, answer_then, ended}
 use Rattle.vd_cmd_plan.specs.declared.answer.Answer.{Answer}
 use Rattle.vd_cmd_plan.specs.declared.status.Status.{Status}
@@ -44,13 +45,13 @@ assignment_plan outcomes asked program a =
     check_then (as_consistent (outcomes.judge asked.deals)) (λ consistent. answer_then (ended [] (report_for program a.protocols asked)))
 
 -- if there is one
-abbrev pub choice_plan : ReplayOutcomes → Asked → NormalForm → Option Assignment → Contents → Plan
-choice_plan outcomes asked program None = answer_then (no_list program)
-choice_plan outcomes asked program (Some a) = assignment_plan outcomes asked program a
+abbrev pub choice_plan : ReplayOutcomes → Asked → LabelledForm → Option Assignment → Contents → Plan
+choice_plan outcomes asked form None = answer_then (no_list form)
+choice_plan outcomes asked form (Some a) = assignment_plan outcomes asked form.program a
 
 -- with a program, and all that it is to run on
 abbrev pub asked_plan : ReplayOutcomes → LabelOutcomes → ChoiceOutcomes → Search → (budget : ℕ) → NormalForm → Asked → Contents → Plan
-asked_plan outcomes least choices search budget program asked = choice_of_then least choices search budget program (λ c. choice_plan outcomes asked c.program c.assignment)
+asked_plan outcomes least choices search budget program asked = choice_of_then least choices search budget program (λ c. choice_plan outcomes asked (labelled_form c.program c.labels) c.assignment)
 
 -- with a program, and with the one that is run for a source
 abbrev pub program_plan : TextOutcomes → ReplayOutcomes → LabelOutcomes → ChoiceOutcomes → Search → ReplayWords → NormalForm → Contents → Plan

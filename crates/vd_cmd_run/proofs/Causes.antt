@@ -53,6 +53,6 @@ module _ (before now : Outside) (compiled : FilesView) where
   pub plays_cause : (words : RunWords) (names : List (List ℕ)) (plan : Contents → Plan) (came : Result Answer Status) (end : Status) → Executes true plan before.files compiled came
       → Plays words names (record before { files = compiled }) now came end → HasCause before now end
   plays_cause words names plan came end e (Refused status same) = refused_cause plan status e same
-  plays_cause words names plan came end e (Unassigned answer program is same) = tt
+  plays_cause words names plan came end e (Unassigned answer form is same) = tt
   plays_cause words names plan came end e (NoMemory answer same) = tt
   plays_cause words names plan came end e (Played answer result ended runs) = hosts_cause answer.stores names words.program _ result e.later runs

@@ -5,11 +5,11 @@ use Rattle.vd_host_children.specs.Causes.{IsCaused}
 use Rattle.vd_host_children.specs.declared.fault.ChildrenFault.{ChildrenFault}
 use Rattle.vd_host_children.specs.declared.fault.ChildrenFault.TheVariants as children
 use Rattle.vd_cmd.specs.declared.command.RunWords.{RunWords}
-use Rattle.vd_core.specs.declared.normal.NormalForm.{NormalForm}
 use Rattle.vd_outside.specs.Causes.{Rose}
 use Rattle.vd_outside.specs.Files.{Contents, FilesView}
 use Rattle.vd_outside.specs.declared.child.Child.{Child}
 use Rattle.vd_outside.specs.declared.stored.Stored.{Stored}
+use Rattle.vd_cmd_plan.specs.Labelled.{LabelledForm}
 use Rattle.vd_cmd_plan.specs.Deliver.{StoresAll}
 use Rattle.vd_cmd_plan.specs.Plans.{Executes, Plan, Settles}
 use Rattle.vd_cmd_plan.specs.declared.answer.Answer.{Answer}
@@ -41,9 +41,9 @@ refused_well wanted (ReadFault name) is no_read good = absurd (no_read name refl
 refused_well wanted status is no_read (inl good) = inl (ap (λ (a : Answer). a.status) is ∙ good)
 refused_well wanted status is no_read (inr good) = inr (ap (λ (a : Answer). a.status) is ∙ good)
 
-unassigned_never : (program : NormalForm) (wanted : Status) → NoAssignment program ≡ wanted → EndsWell wanted → ⊥
-unassigned_never program wanted is (inl good) = let e : NoAssignment program ≡ Ended = is ∙ good in cc e
-unassigned_never program wanted is (inr good) = let e : NoAssignment program ≡ Memory = is ∙ good in cc e
+unassigned_never : (form : LabelledForm) (wanted : Status) → NoAssignment form ≡ wanted → EndsWell wanted → ⊥
+unassigned_never form wanted is (inl good) = let e : NoAssignment form ≡ Ended = is ∙ good in cc e
+unassigned_never form wanted is (inr good) = let e : NoAssignment form ≡ Memory = is ∙ good in cc e
 
 stored_well : (stores : List Stored) (first : ℕ) (before now : FilesView) (status : Status) → first ≤ before.faults → StoresAll stores before now (Err status) → (Rose first now.faults → ⊥) → EndsWell status
 stored_well stores first before now Memory later s quiet = inr refl
@@ -71,7 +71,7 @@ module _ (words : RunWords) (names : List (List ℕ)) (before now : Outside) (co
   plays_well plan came end e told hosts quiet good wait (Refused status same) =
       refused_well (plan before.files.contents).answer status (e.settled told)
       (λ name is. quiet.files (subst (λ (o : Outside). Rose before.files.faults o.files.faults) (sym same) (e.fault name (ap (λ (s : Status). Err s) is)))) good
-  plays_well plan came end e told hosts quiet good wait (Unassigned answer program is same) =
-      absurd (unassigned_never program (plan before.files.contents).answer.status (sym is ∙ ap (λ (a : Answer). a.status) (e.settled told)) good)
+  plays_well plan came end e told hosts quiet good wait (Unassigned answer form is same) =
+      absurd (unassigned_never form (plan before.files.contents).answer.status (sym is ∙ ap (λ (a : Answer). a.status) (e.settled told)) good)
   plays_well plan came end e told hosts quiet good wait (NoMemory answer same) = inr refl
   plays_well plan came end e told hosts quiet good wait (Played answer result ended runs) = hosts_well answer.stores result e.later quiet (wait hosts) runs

@@ -45,7 +45,7 @@ module _ (words : RunWords) (names : List (List ℕ)) (before now : Outside) (co
   pub plays_asks : (came : Result Answer Status) (end : Status) → (IsTrue before.files.told → OnOk came (AreHostsOf words.source before.files.contents names)) → IsTrue before.spawner.told
       → Plays words names (record before { files = compiled }) now came end → (now.spawner ≡ before.spawner) ⊎ AsksFor words before now
   plays_asks came end hosts told (Refused status same) = inl (ap (λ (o : Outside). o.spawner) same)
-  plays_asks came end hosts told (Unassigned answer program is same) = inl (ap (λ (o : Outside). o.spawner) same)
+  plays_asks came end hosts told (Unassigned answer form is same) = inl (ap (λ (o : Outside). o.spawner) same)
   plays_asks came end hosts told (NoMemory answer same) = inl (ap (λ (o : Outside). o.spawner) same)
   plays_asks came end hosts told (Played answer result ended runs) = asked_by answer.stores result hosts told runs
 
@@ -68,6 +68,6 @@ module _ (words : RunWords) (names : List (List ℕ)) (before now : Outside) (co
       → (IsTrue before.files.told → OnOk came (AreHostsOf words.source before.files.contents names)) → end ≡ Ended
       → Plays words names (record before { files = compiled }) now came end → ReportsHosts words before now
   plays_report plan came end e hosts is (Refused status same) = let proper : IsProper true (Err Ended) = subst (λ (s : Status). IsProper true (Err s)) is e.proper in absurd proper
-  plays_report plan came end e hosts is (Unassigned answer program none same) = absurd (cc is)
+  plays_report plan came end e hosts is (Unassigned answer form none same) = absurd (cc is)
   plays_report plan came end e hosts is (NoMemory answer same) = absurd (cc is)
   plays_report plan came end e hosts is (Played answer result ended runs) = reported_by answer.stores result hosts is runs

@@ -5,10 +5,10 @@ use Rattle.vd_base.specs.declared.faults.Failed.{Failed}
 use Rattle.vd_base.specs.Limits.{most_hosts}
 use Rattle.vd_host_children.specs.Runs.{RunsChildren}
 use Rattle.vd_cmd.specs.declared.command.RunWords.{RunWords}
-use Rattle.vd_core.specs.declared.normal.NormalForm.{NormalForm}
 use Rattle.vd_outside.specs.Files.{Contents, FilesView}
 use Rattle.vd_outside.specs.declared.stored.Stored.{Stored}
 use Rattle.vd_outside.specs.Sink.{WritesAll}
+use Rattle.vd_cmd_plan.specs.Labelled.{LabelledForm}
 use Rattle.vd_cmd_plan.specs.Deliver.{StoresAll}
 use Rattle.vd_cmd_plan.specs.Plans.{IsGiven}
 use Rattle.vd_cmd_plan.specs.declared.answer.Answer.{Answer}
@@ -61,9 +61,9 @@ played words names before now answer stores program lines result ended same_stor
     (subst (λ (l : List (List (List ℕ))). RunsHosts stores names program l before now result) same_lines runs)))
 
 -- an answer that is given and did not end well came where no assignment is valid
-unassigned : (status : Status) (printed : List ℕ) → IsGiven status printed → (status ≡ Ended → ⊥) → (program : NormalForm) × (status ≡ NoAssignment program)
+unassigned : (status : Status) (printed : List ℕ) → IsGiven status printed → (status ≡ Ended → ⊥) → (form : LabelledForm) × (status ≡ NoAssignment form)
 unassigned Ended printed given other = absurd (other refl)
-unassigned (NoAssignment program) printed given other = (program, refl)
+unassigned (NoAssignment form) printed given other = (form, refl)
 unassigned status printed given other = absurd given
 
 pub not_played : (words : RunWords) (names : List (List ℕ)) (at : Outside) (answer : Answer) → IsGiven answer.status answer.printed → (answer.status ≡ Ended → ⊥) → Plays words names at at (Ok answer) answer.status

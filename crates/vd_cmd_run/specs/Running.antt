@@ -4,8 +4,8 @@ use Rattle.vd_base.specs.Limits.{most_search_budget}
 use Rattle.vd_cmd.specs.declared.command.RunWords.{RunWords}
 use Rattle.vd_cmd_compile.specs.Compiling.{compile_plan}
 use Rattle.vd_cmd_frontend.specs.Outcomes.{LabelOutcomes, TextOutcomes}
-use Rattle.vd_core.specs.declared.normal.NormalForm.{NormalForm}
 use Rattle.vd_outside.specs.Files.{FilesView}
+use Rattle.vd_cmd_plan.specs.Labelled.{LabelledForm}
 use Rattle.vd_cmd_plan.specs.Plans.{Executes}
 use Rattle.vd_cmd_plan.specs.declared.answer.Answer.{Answer}
 use Rattle.vd_cmd_plan.specs.declared.status.Status.{Status}
@@ -21,7 +21,7 @@ use Rattle.vd_cmd_run.specs.declared.fault.RunFault.{RunFault}
 -- valid, or there was no memory for the command lines; else all hosts are run.
 pub data Plays (words : RunWords) (names : List (List ℕ)) (before now : Outside) : Result Answer Status → Status → Type 0 where
   Refused : (status : Status) → now ≡ before → Plays words names before now (Err status) status
-  Unassigned : (answer : Answer) (program : NormalForm) → answer.status ≡ NoAssignment program → now ≡ before → Plays words names before now (Ok answer) (NoAssignment program)
+  Unassigned : (answer : Answer) (form : LabelledForm) → answer.status ≡ NoAssignment form → now ≡ before → Plays words names before now (Ok answer) (NoAssignment form)
   NoMemory : (answer : Answer) → now ≡ before → Plays words names before now (Ok answer) Memory
   Played : (answer : Answer) (result : Result (Unit {0}) RunFault) → answer.status ≡ Ended
       → RunsHosts answer.stores names words.program (command_lines words.prefix words.inputs words.port (length names)) before now result

@@ -16,6 +16,7 @@ use Rattle.vd_search_stages.specs.Optimum.{assignment_of}
 use Rattle.vd_search_stages.specs.declared.optimum.Assignment.{Assignment}
 use Rattle.vd_search.specs.declared.writing.SearchFault.TheVariants as search_fault
 use Rattle.vd_search_stages.proofs.Front.{some_choices}
+use Rattle.vd_cmd_plan.specs.Labelled.{LabelledForm, labelled_form}
 use Rattle.vd_cmd_plan.specs.Plans.{Plan, Executes, check_then, answer_then}
 use Rattle.vd_cmd_plan.specs.declared.answer.Answer.{Answer}
 use Rattle.vd_cmd_plan.specs.declared.status.Status.{Status}
@@ -55,32 +56,32 @@ labels_end : (least : LabelOutcomes) (program : NormalForm) (found : Result Labe
 labels_end least program (Ok labels) = tt
 labels_end least program (Err number) = tt
 
-module _ (program : NormalForm) (budget : ℕ) where
-  spent_ends : (over : Bool) → IfErr (as_searched budget program (if over then Err search_fault.Spent else Err search_fault.Memory)) EndsTrial
+module _ (form : LabelledForm) (budget : ℕ) where
+  spent_ends : (over : Bool) → IfErr (as_searched budget form (if over then Err search_fault.Spent else Err search_fault.Memory)) EndsTrial
   spent_ends true = tt
   spent_ends false = tt
 
-  accepted_ends : (bytes : List ℕ) (passes : Bool) → IfErr (as_searched budget program (if passes then Ok bytes else Err search_fault.Memory)) EndsTrial
+  accepted_ends : (bytes : List ℕ) (passes : Bool) → IfErr (as_searched budget form (if passes then Ok bytes else Err search_fault.Memory)) EndsTrial
   accepted_ends bytes true = tt
   accepted_ends bytes false = tt
 
-  search_ends : (certificates : CertificateOutcomes) (choices : ChoiceOutcomes) (searched : Searched) (problem : Problem) → IfErr (as_searched budget program (searched_by certificates choices searched problem budget)) EndsTrial
+  search_ends : (certificates : CertificateOutcomes) (choices : ChoiceOutcomes) (searched : Searched) (problem : Problem) → IfErr (as_searched budget form (searched_by certificates choices searched problem budget)) EndsTrial
   search_ends certificates choices GaveUp problem = spent_ends (nat_lt budget (needed problem (choices.choose problem)))
   search_ends certificates choices (Certified bytes) problem = accepted_ends bytes (is_accepted problem budget (certificates.read bytes))
 
-choice_ends : (coordinates : ℕ) (program : NormalForm) (choice : Option Assignment) (files : Contents) → Ends (choice_plan coordinates program choice files)
+choice_ends : (coordinates : ℕ) (form : LabelledForm) (choice : Option Assignment) (files : Contents) → Ends (choice_plan coordinates form choice files)
 unfolding answer_then
-choice_ends coordinates program None files = record { stores = refl; status = tt }
-choice_ends coordinates program (Some a) files = record { stores = refl; status = tt }
+choice_ends coordinates form None files = record { stores = refl; status = tt }
+choice_ends coordinates form (Some a) files = record { stores = refl; status = tt }
 
 module _ (texts : TextOutcomes) (least : LabelOutcomes) (certificates : CertificateOutcomes) (choices : ChoiceOutcomes) (searched : Searched) (coordinates : ℕ) (files : Contents) where
   program_ends : (program : NormalForm) → Ends (program_plan least choices (searched_by certificates choices searched) coordinates program files)
   program_ends program =
       let search = searched_by certificates choices searched in
-      let rest : Chosen → Contents → Plan = λ c. choice_plan coordinates c.program c.assignment in
+      let rest : Chosen → Contents → Plan = λ c. choice_plan coordinates (labelled_form c.program c.labels) c.assignment in
       check_ends (labels_of least program) (λ l. search_then choices search most_search_budget program l rest) files (labels_end least program (least.label (system_of program)))
-      (λ l. check_ends (as_searched most_search_budget program (search (problem_of program l) most_search_budget)) (λ bytes. rest (chosen_by choices program l bytes)) files
-      (search_ends program most_search_budget certificates choices searched (problem_of program l)) (λ bytes. choice_ends coordinates program (assignment_of choices (problem_of program l)) files))
+      (λ l. check_ends (as_searched most_search_budget (labelled_form program l) (search (problem_of program l) most_search_budget)) (λ bytes. rest (chosen_by choices program l bytes)) files
+      (search_ends (labelled_form program l) most_search_budget certificates choices searched (problem_of program l)) (λ bytes. choice_ends coordinates (labelled_form program l) (assignment_of choices (problem_of program l)) files))
 
   -- ---- the generated source, which is read and meets every rule
 

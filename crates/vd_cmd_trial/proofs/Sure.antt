@@ -6,6 +6,7 @@ use Rattle.vd_core.specs.declared.normal.NormalForm.{NormalForm}
 use Rattle.vd_anf.specs.Normal.{normal_form}
 use Rattle.vd_gen.specs.Source.{generated}
 use Rattle.vd_search_stages.specs.Choices.{ChoiceOutcomes}
+use Rattle.vd_cmd_plan.specs.Labelled.{labelled_form}
 use Rattle.vd_cmd_plan.specs.Plans.{check_then}
 use Rattle.vd_cmd_plan.proofs.Front.{Follows, check_follows}
 use Rattle.vd_cmd_frontend.specs.Outcomes.{TextOutcomes, LabelOutcomes}
@@ -18,7 +19,7 @@ use Rattle.vd_cmd_trial.specs.Trial.{choice_plan, program_plan, source_plan, tri
 module _ (least : LabelOutcomes) (certificates : CertificateOutcomes) (choices : ChoiceOutcomes) (searched : Searched) (coordinates : ℕ) (files : Contents) where
   program_follows : (program : NormalForm)
       → Follows (program_plan least choices (sure_search choices) coordinates program files) (program_plan least choices (searched_by certificates choices searched) coordinates program files)
-  program_follows program = choice_follows program most_search_budget certificates choices (λ c. choice_plan coordinates c.program c.assignment) files (λ l one other. refl) least searched
+  program_follows program = choice_follows program most_search_budget certificates choices (λ c. choice_plan coordinates (labelled_form c.program c.labels) c.assignment) files (λ l one other. refl) least searched
 
   pub trial_follows : (texts : TextOutcomes)
       → Follows (trial_plan texts least choices (sure_search choices) coordinates files) (trial_plan texts least choices (searched_by certificates choices searched) coordinates files)

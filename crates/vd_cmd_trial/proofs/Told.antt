@@ -35,6 +35,7 @@ use Rattle.vd_search_stages.specs.Choices.{IsChosen}
 use Rattle.vd_search_stages.specs.Optimum.{assigned}
 use Rattle.vd_search_stages.specs.declared.optimum.Assignment.{Assignment}
 use Rattle.vd_search_stages.proofs.Front.{chosen_once}
+use Rattle.vd_cmd_plan.specs.Labelled.{LabelledForm}
 use Rattle.vd_cmd_plan.specs.Plans.{Checks}
 use Rattle.vd_cmd_plan.specs.declared.answer.Answer.{Answer}
 use Rattle.vd_cmd_plan.specs.declared.status.Status.{Status}
@@ -110,7 +111,7 @@ module _ (coordinates : ℕ) (program : NormalForm) where
       }
 
   -- where no list is valid, nothing is told
-  pub none_told : (found : NormalForm) (answer : Answer) → answer ≡ no_list found → TellsProgram coordinates program (Ok answer)
+  pub none_told : (found : LabelledForm) (answer : Answer) → answer ≡ no_list found → TellsProgram coordinates program (Ok answer)
   none_told found answer is = λ e. let wrong : NoAssignment found ≡ Ended = sym (ap (λ (a : Answer). a.status) is) ∙ e in absurd (cc wrong)
 
 -- ---- the source

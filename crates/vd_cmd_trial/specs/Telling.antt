@@ -66,8 +66,8 @@ EndsTrial Ended = Unit {0}
 EndsTrial Memory = Unit {0}
 EndsTrial WriteFault = Unit {0}
 EndsTrial (Flow fault) = Unit {0}
-EndsTrial (NoAssignment program) = Unit {0}
-EndsTrial (Spent budget program) = Unit {0}
+EndsTrial (NoAssignment form) = Unit {0}
+EndsTrial (Spent budget form) = Unit {0}
 EndsTrial status = ⊥
 
 -- the answer of a trial ends so, and stores no file; and so does a refusal

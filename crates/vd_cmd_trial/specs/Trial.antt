@@ -18,6 +18,7 @@ use Rattle.vd_gen.specs.Source.{generated}
 use Rattle.vd_report.specs.ChoiceLines.{cost_line}
 use Rattle.vd_search_stages.specs.Choices.{ChoiceOutcomes}
 use Rattle.vd_search_stages.specs.declared.optimum.Assignment.{Assignment}
+use Rattle.vd_cmd_plan.specs.Labelled.{LabelledForm, labelled_form}
 use Rattle.vd_cmd_plan.specs.Plans.{Plan, Executes, check_then, answer_then, ended}
 use Rattle.vd_cmd_plan.specs.declared.answer.Answer.{Answer}
 use Rattle.vd_cmd_plan.specs.declared.status.Status.{Status}
@@ -78,13 +79,13 @@ trial_text coordinates program a = cost_line a.cost ++ report_for program a.prot
 -- ---- the plan
 
 -- with the choice for a program, if there is one
-abbrev pub choice_plan : (coordinates : ℕ) → NormalForm → Option Assignment → Contents → Plan
-choice_plan coordinates program None = answer_then (no_list program)
-choice_plan coordinates program (Some a) = answer_then (ended [] (trial_text coordinates program a))
+abbrev pub choice_plan : (coordinates : ℕ) → LabelledForm → Option Assignment → Contents → Plan
+choice_plan coordinates form None = answer_then (no_list form)
+choice_plan coordinates form (Some a) = answer_then (ended [] (trial_text coordinates form.program a))
 
 -- with a program, and with a source that meets every rule
 abbrev pub program_plan : LabelOutcomes → ChoiceOutcomes → Search → (coordinates : ℕ) → NormalForm → Contents → Plan
-program_plan least choices search coordinates program = choice_of_then least choices search most_search_budget program (λ c. choice_plan coordinates c.program c.assignment)
+program_plan least choices search coordinates program = choice_of_then least choices search most_search_budget program (λ c. choice_plan coordinates (labelled_form c.program c.labels) c.assignment)
 
 abbrev pub source_plan : LabelOutcomes → ChoiceOutcomes → Search → (coordinates : ℕ) → Source → Contents → Plan
 source_plan least choices search coordinates source = program_plan least choices search coordinates (normal_form source)

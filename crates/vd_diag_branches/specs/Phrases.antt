@@ -1,7 +1,6 @@
 -- What is said of a branch that cannot be hidden.
-use Rattle.std.specs.Prelude.{◌≡◌, ℕ, List, ◌++◌, Option, Some, None, codes, option_map}
+use Rattle.std.specs.Prelude.{◌≡◌, ℕ, List, ◌++◌, Option, codes, option_map}
 use Rattle.vd_core.specs.declared.normal.NormalForm.{NormalForm}
-use Rattle.vd_constraints.specs.Outcomes.{HasNoLabelling}
 use Rattle.vd_constraints.specs.Rules.{system_of}
 use Rattle.vd_constraints.specs.Satisfies.{IsLeast}
 use Rattle.vd_constraints.specs.declared.labels.Labels.{Labels}
@@ -35,7 +34,7 @@ branch_remark branch = at branch.offset (sentence branch.barrier)
 abbrev pub IsHiddenRemark : NormalForm → Labels → Option Remark → Type 0
 IsHiddenRemark p l remark = remark ≡ option_map branch_remark (first_branch (marked (hidden_marks p l)) p.body)
 
--- under the least labels of the program, if it has labels
-pub data IsBranchRemark (p : NormalForm) (remark : Option Remark) : Type 0 where
-  Under : (labels : Labels) → IsLeast (system_of p) labels → IsHiddenRemark p labels remark → IsBranchRemark p remark
-  Without : (check : ℕ) → HasNoLabelling (system_of p) check → remark ≡ None → IsBranchRemark p remark
+-- under labels that are the least of the program
+pub record IsBranchRemark (p : NormalForm) (labels : Labels) (remark : Option Remark) : Type 0 where
+  pub least : IsLeast (system_of p) labels
+  pub is : IsHiddenRemark p labels remark

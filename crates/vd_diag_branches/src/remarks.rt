@@ -2,17 +2,16 @@
 
 ghost use Rattle.std.specs.Prelude.{IfOk};
 ghost use Rattle.vd_constraints.specs.Rules.{system_of};
-ghost use Rattle.vd_constraints.specs.Satisfies.{Satisfies};
+ghost use Rattle.vd_constraints.specs.Satisfies.{IsLeast, Satisfies};
 ghost use Rattle.vd_diag_branches.specs.Phrases.{IsBranchRemark, IsHiddenRemark};
 
 use crate::hidden::first_branch;
 use crate::phrases::sentence;
 use std::alloc::{AllocError, Global};
-use vd_constraints::{Labels, constraints};
+use vd_constraints::Labels;
 use vd_core::Program;
-use vd_diag::{Remark, TellFault};
+use vd_diag::Remark;
 use vd_mux::hidden_guards;
-use vd_solver::solve;
 
 /// The remark on the first branch of a program whose guard no host may read and that cannot become a selection, under these labels.
 /// None where there is no such branch.
@@ -37,17 +36,15 @@ fn hidden_remark(
     }
 }
 
-/// The same under the program's least labels. None where it has no labels.
-pub fn branch_remark(alloc: Global, program: &Program) -> Result<Option<Remark>, TellFault>
-    ensures { IfOk result (IsBranchRemark program.now) }
+/// The same under the program's least labels.
+pub fn branch_remark(
+    alloc: Global,
+    program: &Program,
+    labels: &Labels,
+) -> Result<Option<Remark>, AllocError>
+    requires { IsLeast (system_of program.now) labels.now }
+    ensures { IfOk result (IsBranchRemark program.now labels.now) }
 {
-    let system = constraints(alloc, program)?;
-    let solved = solve(alloc, &system)?;
-    match solved {
-        Ok(labels) => {
-            let remark = hidden_remark(alloc, program, &labels)?;
-            Ok(remark)
-        }
-        Err(_check) => Ok(None),
-    }
+    let remark = hidden_remark(alloc, program, labels)?;
+    Ok(remark)
 }

@@ -1,3 +1,4 @@
+mod Least
 mod Parts
 mod Others
 mod Looks

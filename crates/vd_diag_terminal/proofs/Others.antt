@@ -1,6 +1,6 @@
 -- What holds of all other statuses and faults.
 use Rattle.std.proofs.Common.{◌≡◌, ◌≢◌, ℕ, List, [], Option, None, refl}
-use Rattle.vd_core.specs.declared.normal.NormalForm.{NormalForm}
+use Rattle.vd_cmd_plan.specs.Labelled.{LabelledForm}
 use Rattle.vd_cmd_plan.specs.declared.status.HostStatus.{HostStatus}
 use Rattle.vd_cmd_plan.specs.declared.status.HostStatus.TheVariants as host_status
 use Rattle.vd_cmd_plan.specs.declared.status.Status.{Status}
@@ -14,8 +14,8 @@ use Rattle.vd_diag_terminal.specs.Files.{reading_of}
 use Rattle.vd_diag_terminal.specs.Remarks.{IsRemarkOn}
 
 -- a status of which no file is read
-pub unread : (words : List (List ℕ)) (s : Status) → ((f : ParseFault) → s ≢ status.Syntax f) → ((f : NameFault) → s ≢ status.Names f) → ((f : FlowFault) → s ≢ status.Flow f) → ((p : NormalForm) → s ≢ status.NoAssignment p)
-    → ((budget : ℕ) (p : NormalForm) → s ≢ status.Spent budget p) → ((f : ReadFault) → s ≢ status.InputText f) → ((f : ReadFault) → s ≢ status.ScheduleText f)
+pub unread : (words : List (List ℕ)) (s : Status) → ((f : ParseFault) → s ≢ status.Syntax f) → ((f : NameFault) → s ≢ status.Names f) → ((f : FlowFault) → s ≢ status.Flow f) → ((p : LabelledForm) → s ≢ status.NoAssignment p)
+    → ((budget : ℕ) (p : LabelledForm) → s ≢ status.Spent budget p) → ((f : ReadFault) → s ≢ status.InputText f) → ((f : ReadFault) → s ≢ status.ScheduleText f)
     → None ≡ reading_of words s
 unread words (status.Syntax f) a b c d e g h = absurd (a f refl)
 unread words (status.Names f) a b c d e g h = absurd (b f refl)
@@ -40,8 +40,8 @@ unsaid_of_host words (host_status.ProgramText offset) other = absurd (other offs
 unsaid_of_host words f other = refl
 
 -- one of which there is no remark
-pub unremarked : (bytes : List ℕ) (s : Status) → ((f : ParseFault) → s ≢ status.Syntax f) → ((f : NameFault) → s ≢ status.Names f) → ((f : FlowFault) → s ≢ status.Flow f) → ((p : NormalForm) → s ≢ status.NoAssignment p)
-    → ((budget : ℕ) (p : NormalForm) → s ≢ status.Spent budget p) → ((f : ReadFault) → s ≢ status.InputText f) → ((f : ReadFault) → s ≢ status.ScheduleText f) → IsRemarkOn bytes s None
+pub unremarked : (bytes : List ℕ) (s : Status) → ((f : ParseFault) → s ≢ status.Syntax f) → ((f : NameFault) → s ≢ status.Names f) → ((f : FlowFault) → s ≢ status.Flow f) → ((p : LabelledForm) → s ≢ status.NoAssignment p)
+    → ((budget : ℕ) (p : LabelledForm) → s ≢ status.Spent budget p) → ((f : ReadFault) → s ≢ status.InputText f) → ((f : ReadFault) → s ≢ status.ScheduleText f) → IsRemarkOn bytes s None
 unremarked bytes (status.Syntax f) a b c d e g h = absurd (a f refl)
 unremarked bytes (status.Names f) a b c d e g h = absurd (b f refl)
 unremarked bytes (status.Flow f) a b c d e g h = absurd (c f refl)

@@ -3,34 +3,35 @@ use Rattle.std.proofs.Common.{◌≡◌, ℕ, Bool, List, [], Option, Some, None
 use Rattle.vd_core.specs.declared.normal.NormalForm.{NormalForm}
 use Rattle.vd_space.specs.declared.problem.Problem.{Problem}
 use Rattle.vd_diag_choice.specs.Spaces.{IsSpaceFor}
-use Rattle.vd_diag_choice.specs.Spent.{TellsSearch}
 use Rattle.vd_diag_branches.specs.Phrases.{IsBranchRemark}
+use Rattle.vd_constraints.specs.declared.labels.Labels.{Labels}
+use Rattle.vd_cmd_plan.specs.Labelled.{LabelledForm}
 use Rattle.vd_cmd_plan.specs.declared.status.Status.{Status}
 use Rattle.vd_diag.specs.Remarks.{told}
 use Rattle.vd_diag.specs.declared.remark.Remark.{Remark}
-use Rattle.vd_diag_terminal.specs.Programs.{IsAssignmentRemark, IsOfSpace, IsSearchRemark, IsSlotRemark}
+use Rattle.vd_diag_terminal.specs.Programs.{IsAssignmentRemark, IsOfSpace, IsSlotRemark}
 use Rattle.vd_diag_terminal.specs.Remarks.{IsRemarkOn}
 use Rattle.vd_diag_terminal.specs.Said.{IsRemarkTold}
 
 -- ---- of a program, and of its space
 
-module _ (Says : Problem → Remark → Type 0) (form : NormalForm) (space : Option Problem) where
-  pub of_space : (q : Problem) (remark : Remark) → space ≡ Some q → IsSpaceFor form space → Says q remark → IsOfSpace Says form (Some remark)
-  of_space q remark same is says = record { space = Some q; is = subst (IsSpaceFor form) same is; says = says }
+-- the parts of a form are its program and its labels
+module _ (Says : Problem → Remark → Type 0) (form : LabelledForm) (program : NormalForm) (labels : Labels) (same_program : program ≡ form.program) (same_labels : labels ≡ form.labels) where
+  there : (space : Problem) → IsSpaceFor program labels space → IsSpaceFor form.program form.labels space
+  there space is = subst (λ (p : NormalForm). IsSpaceFor p form.labels space) same_program (subst (λ (l : Labels). IsSpaceFor program l space) same_labels is)
 
-  pub of_no_space : space ≡ None → IsSpaceFor form space → IsOfSpace Says form None
-  of_no_space same is = record { space = None; is = subst (IsSpaceFor form) same is; says = refl }
+  pub of_space : (space : Problem) (remark : Remark) → IsSpaceFor program labels space → Says space remark → IsOfSpace Says form (Some remark)
+  of_space space remark is says = record { space = space; is = there space is; says = says }
 
-module _ (form : NormalForm) (hidden : Option Remark) where
-  pub of_branch : (remark : Remark) → hidden ≡ Some remark → IsBranchRemark form hidden → IsAssignmentRemark form (Some remark)
-  of_branch remark same is = record { hidden = Some remark; is = subst (IsBranchRemark form) same is; says = refl }
+module _ (form : LabelledForm) (program : NormalForm) (labels : Labels) (same_program : program ≡ form.program) (same_labels : labels ≡ form.labels) (hidden : Option Remark) where
+  here : IsBranchRemark program labels hidden → IsBranchRemark form.program form.labels hidden
+  here is = subst (λ (p : NormalForm). IsBranchRemark p form.labels hidden) same_program (subst (λ (l : Labels). IsBranchRemark program l hidden) same_labels is)
 
-  pub of_slots : (remark : Option Remark) → hidden ≡ None → IsBranchRemark form hidden → IsSlotRemark form remark → IsAssignmentRemark form remark
-  of_slots remark same is says = record { hidden = None; is = subst (IsBranchRemark form) same is; says = says }
+  pub of_branch : (remark : Remark) → hidden ≡ Some remark → IsBranchRemark program labels hidden → IsAssignmentRemark form (Some remark)
+  of_branch remark same is = record { hidden = Some remark; is = subst (IsBranchRemark form.program form.labels) same (here is); says = refl }
 
-pub of_search : (budget : ℕ) (form : NormalForm) (space : Option Problem) (q : Problem) (sentence : List ℕ) → space ≡ Some q → IsSpaceFor form space → TellsSearch q budget sentence
-    → IsSearchRemark budget form (Some (record { offset = None; sentence = sentence }))
-of_search budget form space q sentence same is tells = record { space = Some q; is = subst (IsSpaceFor form) same is; says = record { place = refl; tells = tells } }
+  pub of_slots : (remark : Option Remark) → hidden ≡ None → IsBranchRemark program labels hidden → IsSlotRemark form remark → IsAssignmentRemark form remark
+  of_slots remark same is says = record { hidden = None; is = subst (IsBranchRemark form.program form.labels) same (here is); says = says }
 
 -- ---- of a remark as it is printed
 

@@ -41,8 +41,8 @@ abbrev pub reading_of : List (List ℕ) → Status → Option Reading
 reading_of words (status.Syntax fault) = source_unless (codes "trial") words
 reading_of words (status.Names fault) = source_unless (codes "trial") words
 reading_of words (status.Flow fault) = source_unless (codes "trial") words
-reading_of words (status.NoAssignment program) = source_unless (codes "trial") words
-reading_of words (status.Spent budget program) = source_unless (codes "trial") words
+reading_of words (status.NoAssignment form) = source_unless (codes "trial") words
+reading_of words (status.Spent budget form) = source_unless (codes "trial") words
 reading_of words (status.InputText fault) = inputs_of words
 reading_of words (status.ScheduleText fault) = Some schedule
 reading_of words status = None

@@ -25,8 +25,8 @@ abbrev pub IsRemarkOn : List ℕ → Status → Option Remark → Type 0
 IsRemarkOn bytes (status.Syntax fault) remark = SaysOfSyntax bytes fault remark
 IsRemarkOn bytes (status.Names fault) remark = SaysOne (IsRuleRemark bytes) fault remark
 IsRemarkOn bytes (status.Flow fault) remark = remark ≡ Some (flow_remark fault.principals fault.hosts fault.check fault.asked)
-IsRemarkOn bytes (status.NoAssignment program) remark = IsAssignmentRemark program remark
-IsRemarkOn bytes (status.Spent budget program) remark = IsSearchRemark budget program remark
+IsRemarkOn bytes (status.NoAssignment form) remark = IsAssignmentRemark form remark
+IsRemarkOn bytes (status.Spent budget form) remark = IsSearchRemark budget form remark
 IsRemarkOn bytes (status.InputText fault) remark = SaysOne (IsTextRemark bytes inputs_sentence) fault remark
 IsRemarkOn bytes (status.ScheduleText fault) remark = SaysOne (IsTextRemark bytes schedule_sentence) fault remark
 IsRemarkOn bytes status remark = remark ≡ None

@@ -4,56 +4,52 @@ ghost use Rattle.std.specs.Prelude.{IfOk};
 ghost use Rattle.vd_diag_terminal.specs.Programs as programs;
 
 use std::alloc::Global;
-use vd_core::Program;
+use vd_cmd_plan::Labelled;
 use vd_diag::{Remark, TellFault};
 use vd_diag_branches::branch_remark;
 use vd_diag_choice::{no_assignment_remark, search_sentence, space_for};
 
 /// The remark on the slots of a program for which no choice of protocols is valid.
-fn remark_on_slots(alloc: Global, program: &Program) -> Result<Option<Remark>, TellFault>
-    ensures { IfOk result (programs.IsSlotRemark program.now) }
+fn remark_on_slots(alloc: Global, found: &Labelled) -> Result<Option<Remark>, TellFault>
+    ensures { IfOk result (programs.IsSlotRemark found.now) }
 {
-    let found = space_for(alloc, program)?;
-    match found {
-        Some(space) => {
-            let remark = no_assignment_remark(alloc, program, &space)?;
-            Ok(Some(remark))
-        }
-        None => Ok(None),
-    }
+    let program = found.program();
+    let labels = found.labels();
+    let space = space_for(alloc, program, labels)?;
+    let remark = no_assignment_remark(alloc, program, &space)?;
+    Ok(Some(remark))
 }
 
 /// The remark on a program for which no choice of protocols is valid: on a branch that cannot be hidden, or on its slots.
 pub(crate) fn remark_on_assignment(
     alloc: Global,
-    program: &Program,
+    found: &Labelled,
 ) -> Result<Option<Remark>, TellFault>
-    ensures { IfOk result (programs.IsAssignmentRemark program.now) }
+    ensures { IfOk result (programs.IsAssignmentRemark found.now) }
 {
-    let hidden = branch_remark(alloc, program)?;
+    let program = found.program();
+    let labels = found.labels();
+    let hidden = branch_remark(alloc, program, labels)?;
     match hidden {
         Some(remark) => Ok(Some(remark)),
-        None => remark_on_slots(alloc, program),
+        None => remark_on_slots(alloc, found),
     }
 }
 
 /// The remark on a search for protocols for a program, which had this budget.
 pub(crate) fn remark_on_search(
     alloc: Global,
-    program: &Program,
+    found: &Labelled,
     budget: u32,
 ) -> Result<Option<Remark>, TellFault>
-    ensures { IfOk result (programs.IsSearchRemark budget program.now) }
+    ensures { IfOk result (programs.IsSearchRemark budget found.now) }
 {
-    let found = space_for(alloc, program)?;
-    match found {
-        Some(space) => {
-            let sentence = search_sentence(alloc, &space, budget)?;
-            Ok(Some(Remark {
-                offset: None,
-                sentence,
-            }))
-        }
-        None => Ok(None),
-    }
+    let program = found.program();
+    let labels = found.labels();
+    let space = space_for(alloc, program, labels)?;
+    let sentence = search_sentence(alloc, &space, budget)?;
+    Ok(Some(Remark {
+        offset: None,
+        sentence,
+    }))
 }

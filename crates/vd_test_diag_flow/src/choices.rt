@@ -4,6 +4,7 @@ use crate::programs::program_of;
 use anyhow::anyhow;
 use std::alloc::Global;
 use vd_base::Bytes;
+use vd_cmd_frontend::least_labels;
 use vd_core::Program;
 use vd_diag::{Remark, tell};
 use vd_diag_choice::{no_assignment_remark, search_sentence, space_for};
@@ -11,9 +12,9 @@ use vd_space_api::Space;
 
 /// The space of choices for a program that has labels.
 fn space_of(alloc: Global, program: &Program) -> anyhow::Result<Space> {
-    match space_for(alloc, program)? {
-        Some(space) => Ok(space),
-        None => Err(anyhow!("no labels")),
+    match least_labels(alloc, program) {
+        Ok(labels) => Ok(space_for(alloc, program, &labels)?),
+        Err(_) => Err(anyhow!("no labels")),
     }
 }
 

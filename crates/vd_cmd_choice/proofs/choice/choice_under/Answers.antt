@@ -29,5 +29,6 @@ returns-in-Ok-clause-found c =
 pub returns-in-Err-Spent-clause-searches : goal.returns-in-Err-Spent-clause-searches
 returns-in-Err-Spent-clause-searches c =
     let spaced = c.in_ok-space.ensures {u = tt} in
-    spent c.args.program c.args.labels c.args.budget (subst IsProblem spaced c.problem.ensures.well_formed.holds)
-    (subst (λ (p : Problem). IsOver p (usual p) c.args.budget) (c.problem.ensures.same ∙ spaced) (c.in-Err-Spent.ensures.spent (rw c.in-Err-Spent.field-0-is refl)))
+    rw c.new.ensures
+    (spent c.args.program c.args.labels c.args.budget (subst IsProblem spaced c.problem.ensures.well_formed.holds)
+    (subst (λ (p : Problem). IsOver p (usual p) c.args.budget) (c.problem.ensures.same ∙ spaced) (c.in-Err-Spent.ensures.spent (rw c.in-Err-Spent.field-0-is refl))))

@@ -6,6 +6,9 @@ use Rattle.vd_cmd_choose.specs.Choosing.{chosen_answer}
 use Rattle.vd_cmd_choice.proofs.Front.{source_choice_refused, source_refused, source_then}
 use Rattle.vd_cmd_choose.proofs.choose_command.choose.Goals as goal
 
+pub answer_choice-requires : goal.answer_choice-requires
+answer_choice-requires g c = (c.in_ok-choice.ensures {u = tt}).found.least
+
 pub returns-in_err-loaded : goal.returns-in_err-loaded
 returns-in_err-loaded g c =
     let p = err_from_is_err_and c.from_residual.result c.from_residual.ensures.1 in

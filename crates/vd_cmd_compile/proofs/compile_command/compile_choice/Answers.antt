@@ -5,16 +5,20 @@ use Rattle.vd_cmd_choice.proofs.Front.{assigned_computes, none_computes, which_i
 use Rattle.vd_cmd_compile.specs.Compiling.{compiled_at}
 use Rattle.vd_cmd_compile.proofs.Telling.{none_told, run_told}
 use Rattle.vd_cmd_compile.proofs.compile_command.compile_choice.Goals as goal
+use Rattle.vd_cmd_plan.specs.Labelled.{labelled_form}
 
 pub compile_at-requires : goal.compile_at-requires
 compile_at-requires c =
     let choice = c.args.found.choice in
     which_is (IsSelected choice.program) choice.assignment c.in-Some.assignment c.in-Some.is c.requires.selected
 
+pub no_assignment-requires : goal.no_assignment-requires
+no_assignment-requires c = c.requires.least
+
 pub returns-in-Some-clause-computes : goal.returns-in-Some-clause-computes
 returns-in-Some-clause-computes c =
     let found = c.args.found in
-    assigned_computes found.choice.program (λ (a : Assignment). compiled_at found.choice.program a found.text c.args.prefix.now) found.choice.assignment (Some c.in-Some.assignment) c.compile_at.result c.in-Some.is
+    assigned_computes (labelled_form found.choice.program found.choice.labels) (λ (a : Assignment). compiled_at found.choice.program a found.text c.args.prefix.now) found.choice.assignment (Some c.in-Some.assignment) c.compile_at.result c.in-Some.is
     (rw c.as_slice.ensures at c.compile_at.ensures.computes)
 
 pub returns-in-Some-clause-tells : goal.returns-in-Some-clause-tells
@@ -25,8 +29,8 @@ returns-in-Some-clause-tells c =
 pub returns-clause-computes : goal.returns-clause-computes
 returns-clause-computes c =
     let found = c.args.found in
-    assigned_computes found.choice.program (λ (a : Assignment). compiled_at found.choice.program a found.text c.args.prefix.now) found.choice.assignment None _ c.in-None.is
-    (none_computes found.choice.program c.no_assignment.result c.no_assignment.ensures)
+    assigned_computes (labelled_form found.choice.program found.choice.labels) (λ (a : Assignment). compiled_at found.choice.program a found.text c.args.prefix.now) found.choice.assignment None _ c.in-None.is
+    (none_computes (labelled_form found.choice.program found.choice.labels) c.no_assignment.result c.no_assignment.ensures)
 
 pub returns-clause-tells : goal.returns-clause-tells
-returns-clause-tells c = none_told c.args.found.text c.args.prefix.now c.args.found.choice.program c.no_assignment.result c.no_assignment.ensures
+returns-clause-tells c = none_told c.args.found.text c.args.prefix.now (labelled_form c.args.found.choice.program c.args.found.choice.labels) c.no_assignment.result c.no_assignment.ensures

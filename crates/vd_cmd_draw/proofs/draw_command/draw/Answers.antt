@@ -6,6 +6,9 @@ use Rattle.vd_cmd_choice.proofs.Front.{source_choice_refused, source_refused, so
 use Rattle.vd_cmd_draw.specs.Drawing.{drawn_for}
 use Rattle.vd_cmd_draw.proofs.draw_command.draw.Goals as goal
 
+pub draw_choice-requires : goal.draw_choice-requires
+draw_choice-requires g c = (c.in_ok-choice.ensures {u = tt}).found.least
+
 pub returns-in_err-loaded : goal.returns-in_err-loaded
 returns-in_err-loaded g c =
     let p = err_from_is_err_and c.from_residual.result c.from_residual.ensures.1 in

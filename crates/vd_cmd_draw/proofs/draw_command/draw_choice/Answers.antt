@@ -1,17 +1,21 @@
 use Rattle.std.proofs.Common.{Some, None, subst}
+use Rattle.vd_cmd_plan.specs.Labelled.{labelled_form}
 use Rattle.vd_cmd_plan.specs.Plans.{Computes}
 use Rattle.vd_cmd_choice.proofs.Front.{assigned_computes, none_computes}
 use Rattle.vd_cmd_draw.specs.Drawing.{drawn_answer}
 use Rattle.vd_cmd_draw.proofs.draw_command.draw_choice.Goals as goal
 
+pub no_assignment-requires : goal.no_assignment-requires
+no_assignment-requires c = c.requires
+
 pub returns-in-Some : goal.returns-in-Some
 returns-in-Some c =
     let found = c.args.found in
-    assigned_computes found.choice.program (drawn_answer c.args.name.now found.text found.choice.program found.choice.labels) found.choice.assignment (Some c.in-Some.assignment) c.draw_at.result c.in-Some.is
+    assigned_computes (labelled_form found.choice.program found.choice.labels) (drawn_answer c.args.name.now found.text found.choice.program found.choice.labels) found.choice.assignment (Some c.in-Some.assignment) c.draw_at.result c.in-Some.is
     (subst (λ text. Computes (drawn_answer c.args.name.now text found.choice.program found.choice.labels c.in-Some.assignment) c.draw_at.result) c.as_slice.ensures c.draw_at.ensures)
 
 pub returns : goal.returns
 returns c =
     let found = c.args.found in
-    assigned_computes found.choice.program (drawn_answer c.args.name.now found.text found.choice.program found.choice.labels) found.choice.assignment None _ c.in-None.is
-    (none_computes found.choice.program c.no_assignment.result c.no_assignment.ensures)
+    assigned_computes (labelled_form found.choice.program found.choice.labels) (drawn_answer c.args.name.now found.text found.choice.program found.choice.labels) found.choice.assignment None _ c.in-None.is
+    (none_computes (labelled_form found.choice.program found.choice.labels) c.no_assignment.result c.no_assignment.ensures)

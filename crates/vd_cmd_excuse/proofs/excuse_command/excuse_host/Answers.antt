@@ -4,6 +4,7 @@ use Rattle.vd_core.specs.declared.normal.NormalForm.{NormalForm}
 use Rattle.vd_space.specs.Reading.{problem_of}
 use Rattle.vd_space_optimum.specs.Cheapest.{IsAssignment}
 use Rattle.vd_search_stages.specs.declared.optimum.Assignment.{Assignment}
+use Rattle.vd_cmd_plan.specs.Labelled.{labelled_form}
 use Rattle.vd_cmd_plan.proofs.Front.{answers}
 use Rattle.vd_cmd_choice.specs.Choice.{IsSelected, no_list}
 use Rattle.vd_cmd_choice.proofs.Front.{none_computes, which_is}
@@ -17,6 +18,9 @@ excuse_choice-requires-clause-hosts c = subst (λ (p : NormalForm). length p.hos
 pub excuse_choice-requires-clause-selected : goal.excuse_choice-requires-clause-selected
 excuse_choice-requires-clause-selected c =
     which_is (IsSelected c.in_ok-choice.choice.program) c.in_ok-choice.choice.assignment c.in-Some.assignment c.in-Some.is (c.in_ok-choice.ensures {u = tt}).found.selected
+
+pub no_assignment-requires : goal.no_assignment-requires
+no_assignment-requires c = (c.in_ok-choice.ensures {u = tt}).found.least
 
 pub returns-in_err-choice-clause-executes : goal.returns-in_err-choice-clause-executes
 returns-in_err-choice-clause-executes c =
@@ -41,7 +45,7 @@ returns-in-Some-clause-tells c =
 pub returns-in-None-clause-executes : goal.returns-in-None-clause-executes
 returns-in-None-clause-executes c =
     with_choice c.args.words.now c.args.program c.args.host c.args.runs c.in_ok-choice.choice None _ (c.in_ok-choice.ensures {u = tt}).chooses c.in-None.is
-    (λ outcomes files. answers (no_list c.in_ok-choice.choice.program) files _ (none_computes c.in_ok-choice.choice.program c.no_assignment.result c.no_assignment.ensures))
+    (λ outcomes files. answers (no_list (labelled_form c.in_ok-choice.choice.program c.in_ok-choice.choice.labels)) files _ (none_computes (labelled_form c.in_ok-choice.choice.program c.in_ok-choice.choice.labels) c.no_assignment.result c.no_assignment.ensures))
 
 pub returns-in-None-clause-tells : goal.returns-in-None-clause-tells
-returns-in-None-clause-tells c = none_told c.args.host c.args.program c.args.words.now.out c.args.runs c.in_ok-choice.choice.program c.no_assignment.result c.no_assignment.ensures
+returns-in-None-clause-tells c = none_told c.args.host c.args.program c.args.words.now.out c.args.runs (labelled_form c.in_ok-choice.choice.program c.in_ok-choice.choice.labels) c.no_assignment.result c.no_assignment.ensures

@@ -11,8 +11,11 @@ use Rattle.vd_cmd_needs.proofs.needs_command.needs_in_text.Goals as goal
 pub program_of-requires : goal.program_of-requires
 program_of-requires c = (c.in_ok-expect_short.ensures {u = tt}).short
 
-pub needs_choice-requires : goal.needs_choice-requires
-needs_choice-requires c = (c.in_ok-choice.ensures {u = tt}).found.selected
+pub needs_choice-requires-clause-least : goal.needs_choice-requires-clause-least
+needs_choice-requires-clause-least c = (c.in_ok-choice.ensures {u = tt}).found.least
+
+pub needs_choice-requires-clause-selected : goal.needs_choice-requires-clause-selected
+needs_choice-requires-clause-selected c = (c.in_ok-choice.ensures {u = tt}).found.selected
 
 pub returns-in_err-expect_short-clause-executes : goal.returns-in_err-expect_short-clause-executes
 returns-in_err-expect_short-clause-executes c = (

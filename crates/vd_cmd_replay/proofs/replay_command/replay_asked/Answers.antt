@@ -2,6 +2,7 @@ use Rattle.std.proofs.Common.{Some, None, length, subst, sym}
 use Rattle.std.proofs.lemmas.Result.{err_from_is_err_and}
 use Rattle.vd_core.specs.declared.normal.NormalForm.{NormalForm}
 use Rattle.vd_cmd_inputs.specs.Asking.{AreAsked}
+use Rattle.vd_cmd_plan.specs.Labelled.{labelled_form}
 use Rattle.vd_cmd_plan.proofs.Front.{answers}
 use Rattle.vd_cmd_choice.specs.Choice.{IsSelected, no_list}
 use Rattle.vd_cmd_choice.proofs.Front.{none_computes, which_is}
@@ -17,6 +18,9 @@ replay_choice-requires-clause-selected c =
 
 pub replay_choice-requires-clause-asked : goal.replay_choice-requires-clause-asked
 replay_choice-requires-clause-asked c = subst (λ (p : NormalForm). AreAsked (length p.hosts) c.args.asked) (sym (c.in_ok-choice.ensures {u = tt}).found.same) c.requires.asked
+
+pub no_assignment-requires : goal.no_assignment-requires
+no_assignment-requires c = (c.in_ok-choice.ensures {u = tt}).found.least
 
 pub returns-in_err-choice-clause-executes : goal.returns-in_err-choice-clause-executes
 returns-in_err-choice-clause-executes c =
@@ -37,10 +41,10 @@ returns-in-Some-clause-counts c =
 pub returns-in-None-clause-executes : goal.returns-in-None-clause-executes
 returns-in-None-clause-executes c =
     with_choice c.args.program c.args.asked c.args.budget c.in_ok-choice.choice None _ (c.in_ok-choice.ensures {u = tt}).chooses c.in-None.is
-    (λ outcomes files. answers (no_list c.in_ok-choice.choice.program) files _ (none_computes c.in_ok-choice.choice.program c.no_assignment.result c.no_assignment.ensures))
+    (λ outcomes files. answers (no_list (labelled_form c.in_ok-choice.choice.program c.in_ok-choice.choice.labels)) files _ (none_computes (labelled_form c.in_ok-choice.choice.program c.in_ok-choice.choice.labels) c.no_assignment.result c.no_assignment.ensures))
 
 pub returns-in-None-clause-tells : goal.returns-in-None-clause-tells
-returns-in-None-clause-tells c = none_told c.args.program c.args.asked c.in_ok-choice.choice.program c.no_assignment.result c.no_assignment.ensures
+returns-in-None-clause-tells c = none_told c.args.program c.args.asked (labelled_form c.in_ok-choice.choice.program c.in_ok-choice.choice.labels) c.no_assignment.result c.no_assignment.ensures
 
 pub returns-in-None-clause-counts : goal.returns-in-None-clause-counts
-returns-in-None-clause-counts c = none_counted c.args.program c.args.asked c.args.packets.now c.in_ok-choice.choice.program c.no_assignment.result c.no_assignment.ensures
+returns-in-None-clause-counts c = none_counted c.args.program c.args.asked c.args.packets.now (labelled_form c.in_ok-choice.choice.program c.in_ok-choice.choice.labels) c.no_assignment.result c.no_assignment.ensures

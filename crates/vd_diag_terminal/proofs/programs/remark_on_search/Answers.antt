@@ -1,10 +1,14 @@
+use Rattle.std.proofs.Common.{None, refl}
 use Rattle.vd_diag_terminal.specs.Programs.{IsBudgetRemark}
-use Rattle.vd_diag_terminal.proofs.Parts.{of_search, of_no_space}
+use Rattle.vd_diag_terminal.proofs.Least.{least_of}
+use Rattle.vd_diag_terminal.proofs.Parts.{of_space}
 use Rattle.vd_diag_terminal.proofs.programs.remark_on_search.Goals as goal
 
-pub returns-in_ok-sentence-in-Some : goal.returns-in_ok-sentence-in-Some
-returns-in_ok-sentence-in-Some c =
-    of_search c.args.budget c.args.program.now c.in_ok-found.found c.in-Some.space c.in_ok-sentence-in-Some.sentence c.in-Some.is (c.in_ok-found.ensures {u = tt}) (c.in_ok-sentence-in-Some.ensures {u = tt})
+pub space_for-requires : goal.space_for-requires
+space_for-requires c = least_of c.args.found.now c.program.result.now c.labels.result.now c.program.ensures c.labels.ensures.same c.labels.ensures.least
 
-pub returns-in-None : goal.returns-in-None
-returns-in-None c = of_no_space (IsBudgetRemark c.args.budget) c.args.program.now c.in_ok-found.found c.in-None.is (c.in_ok-found.ensures {u = tt})
+pub returns : goal.returns
+returns c =
+    let sentence = c.in_ok-sentence.sentence in
+    of_space (IsBudgetRemark c.args.budget) c.args.found.now c.program.result.now c.labels.result.now c.program.ensures c.labels.ensures.same c.in_ok-space.space (record { offset = None; sentence = sentence })
+    (c.in_ok-space.ensures {u = tt}) (record { place = refl; tells = c.in_ok-sentence.ensures {u = tt} })

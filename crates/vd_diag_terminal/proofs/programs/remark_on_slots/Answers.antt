@@ -1,10 +1,17 @@
+use Rattle.std.proofs.Common.{subst}
+use Rattle.vd_core.specs.declared.normal.NormalForm.{NormalForm}
 use Rattle.vd_diag_choice.specs.Remarks.{IsNoAssignmentRemark}
-use Rattle.vd_diag_terminal.proofs.Parts.{of_space, of_no_space}
+use Rattle.vd_diag_terminal.proofs.Least.{least_of}
+use Rattle.vd_diag_terminal.proofs.Parts.{of_space}
 use Rattle.vd_diag_terminal.proofs.programs.remark_on_slots.Goals as goal
 
-pub returns-in_ok-remark-in-Some : goal.returns-in_ok-remark-in-Some
-returns-in_ok-remark-in-Some c =
-    of_space (IsNoAssignmentRemark c.args.program.now) c.args.program.now c.in_ok-found.found c.in-Some.space c.in_ok-remark-in-Some.remark c.in-Some.is (c.in_ok-found.ensures {u = tt}) (c.in_ok-remark-in-Some.ensures {u = tt})
+pub space_for-requires : goal.space_for-requires
+space_for-requires c = least_of c.args.found.now c.program.result.now c.labels.result.now c.program.ensures c.labels.ensures.same c.labels.ensures.least
 
-pub returns-in-None : goal.returns-in-None
-returns-in-None c = of_no_space (IsNoAssignmentRemark c.args.program.now) c.args.program.now c.in_ok-found.found c.in-None.is (c.in_ok-found.ensures {u = tt})
+pub returns : goal.returns
+returns c =
+    let form = c.args.found.now in
+    let space = c.in_ok-space.space in
+    let remark = c.in_ok-remark.remark in
+    of_space (IsNoAssignmentRemark form.program) form c.program.result.now c.labels.result.now c.program.ensures c.labels.ensures.same space remark (c.in_ok-space.ensures {u = tt})
+    (subst (λ (p : NormalForm). IsNoAssignmentRemark p space remark) c.program.ensures (c.in_ok-remark.ensures {u = tt}))
