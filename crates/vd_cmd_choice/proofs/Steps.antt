@@ -96,7 +96,7 @@ module _ (name text : List ℕ) (budget : ℕ) (rest : Chosen → Contents → P
 
 -- what was found for the program of a text was found for the text
 pub choice_is : (text : List ℕ) (program : NormalForm) (choice : Choice) → IsProgramOf text program → IsChoiceFor program choice → IsChoiceIn text choice
-choice_is text program choice of is = record { of = subst (IsProgramOf text) (sym is.same) of; selected = is.selected }
+choice_is text program choice of is = record { of = subst (IsProgramOf text) (sym is.same) of; least = is.least; selected = is.selected }
 
 -- for a program
 module _ (program : NormalForm) (budget : ℕ) (rest : Chosen → Contents → Plan) where
