@@ -14,9 +14,8 @@ ghost use Rattle.vd_backend_moves.specs.Formed.{AreFormed};
 ghost use Rattle.vd_backend_all.specs.Offered.{AreApart};
 
 use crate::held::Held;
-use crate::loops::holders;
 use std::alloc::AllocError;
-use vd_base::{HostId, Proto};
+use vd_base::{HostId, Proto, holders};
 use vd_base_lists::Items;
 use vd_clear::{Step, each_host};
 use vd_duet::{Clear, Duet, Parts, register_at};

@@ -1,6 +1,6 @@
-//! The hosts of a protocol, and what each does for the number of a turn.
+//! What each host of a protocol does for the number of a turn.
 
-ghost use Rattle.std.specs.Prelude.{◌≡◌, ◌<◌, ◌≤◌, ◌+◌, ◌^◌, IfOk, OnOk, length, slice_index};
+ghost use Rattle.std.specs.Prelude.{◌≡◌, ◌<◌, ◌+◌, ◌^◌, IfOk, OnOk, length, slice_index};
 ghost use Rattle.vd_execution.specs.declared.instructions.Action.TheVariants as action;
 ghost use Rattle.vd_duet.specs.Builder.{HasRoom, TakesAtMost, TakesFew, next_at};
 ghost use Rattle.vd_duet.specs.Calls.{Makes, in_clear};
@@ -13,24 +13,9 @@ ghost use Rattle.vd_backend_all.specs.Turns.{shared_turn};
 
 use std::alloc::{AllocError, Global};
 use vd_base::{HostId, Proto};
-use vd_base_lists::Items;
-use vd_clear::{Step, each_host, hosts_in};
+use vd_clear::{Step, each_host};
 use vd_duet::{Clear, Duet, Parts};
 use vd_execution::{Act, Action, Reg};
-
-/// The hosts of a protocol, in order.
-pub(crate) fn holders(at: Proto, alloc: Global) -> Result<Items<HostId>, AllocError>
-    ensures exact { IfOk result (λ hosts. hosts ≡ holders_of at) }
-    ensures few { IfOk result (λ hosts. length hosts ≤ 8) }
-{
-    match at {
-        Proto::Local(host) => Ok(Items::from_slice(alloc, &[host])?),
-        Proto::Rep(set) => hosts_in(set, alloc),
-        Proto::Add(first, second) => Ok(Items::from_slice(alloc, &[first, second])?),
-        Proto::Xor(first, second) => Ok(Items::from_slice(alloc, &[first, second])?),
-        Proto::Commit(bound, keeper) => Ok(Items::from_slice(alloc, &[bound, keeper])?),
-    }
-}
 
 /// A host's register among those of a loop.
 fn turn_at(turns: &[u32], host: HostId) -> Reg
@@ -99,7 +84,7 @@ pub(crate) fn turn(at: Proto, turns: &[u32], to: &mut Duet) -> Result<Parts<Clea
     match at {
         Proto::Local(host) => each_host(&[host], &CopyTurn(turns), to),
         Proto::Rep(set) => {
-            let hosts = hosts_in(set, to.alloc())?;
+            let hosts = set.members(to.alloc())?;
             each_host(hosts.as_slice(), &CopyTurn(turns), to)
         }
         Proto::Add(first, second) => { each_host(&[first, second], &ShareTurn(first, turns), to) }

@@ -1,5 +1,5 @@
 -- The hosts of a protocol.
-use Rattle.std.proofs.Common.{◌≡◌, ◌≢◌, ℕ, zero, suc, ◌+◌, ◌<◌, ◌≤◌, Bool, true, false, not, ◌&&◌, ◌||◌, cond, if◌then◌else◌, nat_eq, nat_lt, List, [], ◌∷◌, ◌⊎◌, inl, inr, length, map, refl, sym, ap, subst, ◌∙◌, arith, rules}
+use Rattle.std.proofs.Common.{◌≡◌, ◌≢◌, ℕ, zero, suc, ◌+◌, ◌<◌, ◌≤◌, Bool, true, false, not, ◌&&◌, ◌||◌, cond, if◌then◌else◌, nat_eq, nat_lt, List, [], ◌∷◌, ◌⊎◌, inl, inr, map, refl, sym, ap, subst, ◌∙◌, arith, rules}
 use Rattle.std.specs.Prelude.{filter}
 use Rattle.std.specs.List.{range_with_len}
 use Rattle.std.proofs.lemmas.Bool.{eq-eqb}
@@ -14,7 +14,6 @@ use Rattle.vd_base.specs.Holders.{holders, is_holder}
 use Rattle.vd_duet.specs.Laws.{Each, IsHost}
 use Rattle.vd_duet.specs.Acting.{is_among}
 use Rattle.vd_choreography.specs.Suite.{picked}
-use Rattle.vd_clear.proofs.Front.{few_members}
 use Rattle.vd_backend_laws.specs.Suite.{is_in_order}
 use Rattle.vd_choreography.proofs.Front.{AreApart, and_left, and_right, or_left, or_right}
 
@@ -132,13 +131,6 @@ holders_apart (Rep set) o = members_apart 8 set
 holders_apart (Commit a b) o = two_apart a b (bound_differ a b o)
 holders_apart (Add a b) o = two_apart a b (ordered_differ a b o)
 holders_apart (Xor a b) o = two_apart a b (ordered_differ a b o)
-
-pub few_holders : (p : Proto) → length (holders p) ≤ 8
-few_holders (Local h) = omega arith
-few_holders (Rep set) = few_members set
-few_holders (Commit a b) = omega arith
-few_holders (Add a b) = omega arith
-few_holders (Xor a b) = omega arith
 
 -- ---- hosts that pass a test
 

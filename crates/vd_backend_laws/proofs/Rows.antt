@@ -20,7 +20,8 @@ use Rattle.vd_choreography.proofs.Front.{AreApart}
 use Rattle.vd_backend_laws.specs.Parts.{made_of, has_back_end, back_end}
 use Rattle.vd_backend_laws.specs.Suite.{cell, IsOver}
 use Rattle.vd_backend_laws.proofs.Standing.{no_back_end}
-use Rattle.vd_backend_laws.proofs.Over.{host_known, few_holders}
+use Rattle.vd_base.proofs.Front.{few_holders}
+use Rattle.vd_backend_laws.proofs.Over.{host_known}
 use Rattle.vd_backend_laws.proofs.Gives.{M, S, proto_is, gives_word}
 
 -- ---- words by host

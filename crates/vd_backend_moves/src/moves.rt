@@ -26,7 +26,7 @@ use vd_base::{HostId, HostSet, Proto};
 use vd_base_lists::Items;
 use vd_bits::XorPair;
 use vd_circuit::CircuitPair;
-use vd_clear::{Replica, hosts_in, spread};
+use vd_clear::{Replica, spread};
 use vd_convert::{to_add, to_xor};
 use vd_duet::{Backend, Clear, Duet, Parts, register_at};
 use vd_execution::Reg;
@@ -163,7 +163,7 @@ fn open_sums(
     ensures few { OnOk result (TakesFew to.old.next to.new.next) }
 {
     let all = Sums(pair).show_all(x, to)?;
-    let hosts = hosts_in(set, to.alloc())?;
+    let hosts = set.members(to.alloc())?;
     copies_at(hosts.as_slice(), &all, to.alloc())
 }
 
@@ -201,7 +201,7 @@ fn open_bits(
     ensures few { OnOk result (TakesFew to.old.next to.new.next) }
 {
     let all = Bits(pair).show_all(x, to)?;
-    let hosts = hosts_in(set, to.alloc())?;
+    let hosts = set.members(to.alloc())?;
     copies_at(hosts.as_slice(), &all, to.alloc())
 }
 
@@ -309,7 +309,7 @@ fn open_bound(
     ensures few { OnOk result (TakesFew to.old.next to.new.next) }
 {
     let all = show_both(bound, keeper, x, to)?;
-    let hosts = hosts_in(set, to.alloc())?;
+    let hosts = set.members(to.alloc())?;
     copies_at(hosts.as_slice(), &all, to.alloc())
 }
 

@@ -9,6 +9,7 @@ use Rattle.vd_base.specs.declared.protocols.Proto.TheVariants.{Local, Rep, Commi
 use Rattle.vd_base.specs.Arity.{arity}
 use Rattle.vd_base.specs.Operations.{result_of}
 use Rattle.vd_base.specs.Holders.{holders}
+use Rattle.vd_base.proofs.Front.{few_holders}
 use Rattle.vd_execution.specs.declared.instructions.Reg.{Reg}
 use Rattle.vd_execution.specs.declared.instructions.Action.TheVariants as action
 use Rattle.vd_execution.specs.Registers.{put}
@@ -21,7 +22,7 @@ use Rattle.vd_duet.specs.Calls.{Places, hosts_of, Made, AllAre, register_of}
 use Rattle.vd_duet.specs.Laws.{Each, IsIn, IsInOne, IsHost, nowhere, words_at, AreKnown, AreBelow, Leads, GivesThere, GivesWord, Copies, StandFor, Operand, Operands, IsReady, Reaches, Renews, NumberFits, BackendLaws}
 use Rattle.vd_duet.proofs.Front.{Writes, wrote, writes_own, leads_nothing, leads_writing, leads_on, orderly_still, orderly_wider, below_later, Since, since_start, Holds, Found, found}
 use Rattle.vd_clear.specs.Copies.{literal_at, passed, adopted, kept_by, first_of, after_first, applied_at, shown, each_made, renewed, clear_calls, spread_to}
-use Rattle.vd_clear.proofs.Members.{few_members, few_places, length_hosts}
+use Rattle.vd_clear.proofs.Members.{few_places, length_hosts}
 use Rattle.vd_clear.proofs.EachLaw.{each_law}
 use Rattle.vd_clear.proofs.HostLaws.{adopted_there, written_there, passed_there, operated_there}
 use Rattle.vd_clear.proofs.ShowLaws.{shown_there, copies_later}
@@ -73,13 +74,6 @@ stand_for (Rep set) clear w x v at c = record { at = at; word = copies_all w x v
 stand_for (Commit p v) clear w x u at c = absurd clear
 stand_for (Add a b) clear w x v at c = absurd clear
 stand_for (Xor a b) clear w x v at c = absurd clear
-
-few_holders : (p : Proto) → IsClear p → length (holders p) ≤ 8
-few_holders (Local h) clear = omega arith
-few_holders (Rep set) clear = few_members set
-few_holders (Commit p v) clear = absurd clear
-few_holders (Add a b) clear = absurd clear
-few_holders (Xor a b) clear = absurd clear
 
 -- ---- facts of each host
 
@@ -184,7 +178,7 @@ module _ (p : Proto) (clear : IsClear p) (t : Tape) (next : List ℕ) (w : Hosts
       → ((h : HostId) → IsHost (holders p) h.0 → (next' : List ℕ) (u : Hosts) → Since next w next' u → h.0 < length next' → GivesThere 8 t next' source h (f h next') u v)
       → GivesWord (clear_calls p) t next source (each_made f (holders p) next) w v
   each_word source f v law =
-      let few = few_holders p clear in
+      let few = few_holders p in
       let g = each_law t source f v next w (λ h. (h.0 < length next) × IsHost (holders p) h.0)
       (λ h q next' u s. law h q.1 next' u s (subst (λ n. h.0 < n) (sym s.known) q.0))
       (holders p) (with_hosts (λ h. h.0 < length next) (holders p) ready.known) next w (since_start next w ready.sound) in
@@ -200,7 +194,7 @@ module _ (p : Proto) (clear : IsClear p) (t : Tape) (next : List ℕ) (w : Hosts
       found next w x h v (subst (λ (l : List HostId). IsHost l h.0) (sym o.stands.at) i) o.below (copies_of p clear w x v o.stands)
 
   few_in : (x : Places) → hosts_of x ≡ holders p → length x ≤ 8
-  few_in x e = let few = few_holders p clear in subst (λ n. n ≤ 8) (sym (ap (λ (l : List HostId). length l) e) ∙ length_hosts x) few
+  few_in x e = let few = few_holders p in subst (λ n. n ≤ 8) (sym (ap (λ (l : List HostId). length l) e) ∙ length_hosts x) few
 
   literal_law : (v : ℕ) → v < 2 ^ 32 → GivesWord (clear_calls p) t next nowhere ((clear_calls p).literal v next) w v
   literal_law v small =

@@ -1,5 +1,4 @@
-ghost use Rattle.std.specs.Prelude.{◌≡◌, ◌≤◌, IfOk, OnOk, length};
-ghost use Rattle.vd_base.specs.HostSets.{members as members_of};
+ghost use Rattle.std.specs.Prelude.{◌≡◌, IfOk, OnOk};
 ghost use Rattle.vd_base.specs.declared.protocols.Proto.TheVariants as proto;
 ghost use Rattle.vd_base.specs.Holders.{holders};
 ghost use Rattle.vd_duet.specs.Builder.{HasRoom, TakesFew};
@@ -89,22 +88,6 @@ impl Backend for LocalHost {
     }
 }
 
-/// The hosts of a set, in order.
-#[tactic(auto, using(crate::proofs::Members::few_hosts))]
-pub fn hosts_in(set: HostSet, alloc: Global) -> Result<Items<HostId>, AllocError>
-    ensures exact { IfOk result (λ hosts. hosts ≡ members_of 8 set) }
-    ensures few { IfOk result (λ hosts. length hosts ≤ 8) }
-{
-    let mut hosts = Items::new(alloc);
-    for number in 0..8 {
-        let host = HostId(number);
-        if set.has(host) {
-            hosts.push(host)?;
-        }
-    }
-    Ok(hosts)
-}
-
 impl Backend for Replica {
     type Part = Clear;
 
@@ -121,17 +104,17 @@ impl Backend for Replica {
     }
 
     fn literal(&self, word: u32, to: &mut Duet) -> Result<Parts<Clear>, AllocError> {
-        let hosts = hosts_in(self.0, to.alloc())?;
+        let hosts = self.0.members(to.alloc())?;
         each_host(hosts.as_slice(), &Literal(word), to)
     }
 
     fn share(&self, from: HostId, x: Reg, to: &mut Duet) -> Result<Parts<Clear>, AllocError> {
-        let hosts = hosts_in(self.0, to.alloc())?;
+        let hosts = self.0.members(to.alloc())?;
         each_host(hosts.as_slice(), &Share(from, x), to)
     }
 
     fn adopt(&self, x: &Parts<Clear>, to: &mut Duet) -> Result<Parts<Clear>, AllocError> {
-        let hosts = hosts_in(self.0, to.alloc())?;
+        let hosts = self.0.members(to.alloc())?;
         each_host(hosts.as_slice(), &Adopt(x), to)
     }
 
@@ -144,7 +127,7 @@ impl Backend for Replica {
     }
 
     fn keep(&self, x: &Parts<Clear>, to: &mut Duet) -> Result<Parts<Clear>, AllocError> {
-        let hosts = hosts_in(self.0, to.alloc())?;
+        let hosts = self.0.members(to.alloc())?;
         each_host(hosts.as_slice(), &Keep(x), to)
     }
 
@@ -158,7 +141,7 @@ impl Backend for Replica {
     }
 
     fn apply(&self, op: Op, args: &Args<Clear>, to: &mut Duet) -> Result<Parts<Clear>, AllocError> {
-        let hosts = hosts_in(self.0, to.alloc())?;
+        let hosts = self.0.members(to.alloc())?;
         each_host(hosts.as_slice(), &Apply(op, args), to)
     }
 }
@@ -178,6 +161,6 @@ pub fn spread(
     ensures hosts { IfOk result (λ y. hosts_of (in_clear y) ≡ holders (proto.Rep to)) }
     ensures few { OnOk result (TakesFew code.old.next code.new.next) }
 {
-    let hosts = hosts_in(to, code.alloc())?;
+    let hosts = to.members(code.alloc())?;
     each_host(hosts.as_slice(), &Show(x), code)
 }

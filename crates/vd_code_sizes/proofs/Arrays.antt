@@ -4,6 +4,7 @@ use Rattle.std.proofs.lemmas.Bool.{eqb-true, eq-eqb}
 use Rattle.vd_base.specs.declared.ids.HostId.{HostId}
 use Rattle.vd_base.specs.declared.protocols.Proto.{Proto}
 use Rattle.vd_base.specs.Holders.{holders}
+use Rattle.vd_base.proofs.Front.{few_holders}
 use Rattle.vd_duet.specs.Builder.{taken}
 use Rattle.vd_duet.specs.Laws.{IsHost}
 use Rattle.vd_clear.specs.Copies.{each_made}
@@ -11,7 +12,7 @@ use Rattle.vd_choreography.proofs.Front.{AreApart}
 use Rattle.vd_backend_laws.specs.Parts.{zeros_at, new_cells}
 use Rattle.vd_backend_laws.specs.Suite.{IsOver}
 use Rattle.vd_backend_laws.proofs.Front.{holders_apart}
-use Rattle.vd_code_sizes.proofs.ClearCalls.{few_holders, each_length}
+use Rattle.vd_code_sizes.proofs.ClearCalls.{each_length}
 use Rattle.vd_code_sizes.proofs.Counts.{acts_in, one_grows}
 
 -- another host's registers are kept

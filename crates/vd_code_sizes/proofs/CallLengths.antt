@@ -5,6 +5,7 @@ use Rattle.vd_base.specs.declared.operations.Op.{Op}
 use Rattle.vd_base.specs.declared.protocols.Proto.{Proto}
 use Rattle.vd_base.specs.declared.protocols.Proto.TheVariants.{Local, Rep, Commit, Add, Xor}
 use Rattle.vd_base.specs.Holders.{holders}
+use Rattle.vd_base.proofs.Front.{few_holders}
 use Rattle.vd_execution.specs.declared.instructions.Reg.{Reg}
 use Rattle.vd_execution.specs.declared.instructions.Action.TheVariants as action
 use Rattle.vd_execution.specs.Gadgets.{Gadget, Alone}
@@ -15,7 +16,6 @@ use Rattle.vd_clear.specs.Copies.{written_by, shown}
 use Rattle.vd_choreography.specs.Suite.{Made as AnyMade}
 use Rattle.vd_backend_laws.specs.Moves.{Route, Share, Adopt, Show, ShowAll, Spread, Same, SameBound, ToXor, ToAdd, only, copies_at, moved}
 use Rattle.vd_backend_laws.specs.Parts.{Parts, made_of, back_end, route, turn_part, turned, put_in, index_of, cell_read, cell_written}
-use Rattle.vd_code_sizes.proofs.ClearCalls.{few_holders}
 use Rattle.vd_code_sizes.proofs.Counts.{acts_in, Takes, takes_none, takes_more, WordTakes, CallsTake, most_plain, most_applied, most_moved}
 use Rattle.vd_code_sizes.proofs.Shared.{sums_take, circuits_take, to_bits_take, to_sums_take, commits_take}
 use Rattle.vd_code_sizes.proofs.ClearLengths.{EachTakes, written_takes, shown_takes, each_word, clear_takes}

@@ -6,6 +6,7 @@ use Rattle.vd_base.specs.declared.operations.Op.{Op}
 use Rattle.vd_base.specs.declared.protocols.Proto.{Proto}
 use Rattle.vd_base.specs.declared.protocols.Proto.TheVariants.{Local, Rep, Commit, Add, Xor}
 use Rattle.vd_base.specs.Holders.{holders}
+use Rattle.vd_base.proofs.Front.{few_holders}
 use Rattle.vd_execution.specs.declared.instructions.Reg.{Reg}
 use Rattle.vd_execution.specs.declared.instructions.Action.TheVariants as action
 use Rattle.vd_execution.specs.Joint.{Part}
@@ -23,7 +24,7 @@ use Rattle.vd_backend_laws.specs.Parts.{Parts, made_of, back_end, route, turn_pa
 use Rattle.vd_code_sizes.specs.Fits.{IsLow, AreHere, GadgetFits, PlacesFit, PartsFit, WordMade, Room, CallsFit}
 use Rattle.vd_code_sizes.proofs.Bounds.{low_more, taken_low, places_more, RegFits, host_word}
 use Rattle.vd_code_sizes.proofs.Clear.{register_fits, written_fits, each_fits}
-use Rattle.vd_code_sizes.proofs.ClearCalls.{few_holders, few_parts, each_length, word_fits, clear_fits, spread_fits}
+use Rattle.vd_code_sizes.proofs.ClearCalls.{few_parts, each_length, word_fits, clear_fits, spread_fits}
 use Rattle.vd_code_sizes.proofs.Pairs.{shares_fit, SharesMade, shared_word}
 use Rattle.vd_code_sizes.proofs.PairsOfCalls.{sums_fit, circuits_fit}
 use Rattle.vd_code_sizes.proofs.Conversions.{to_bits_fit, to_sums_fit}

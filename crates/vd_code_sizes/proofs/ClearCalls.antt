@@ -4,24 +4,17 @@ use Rattle.vd_base.specs.declared.ids.HostId.{HostId}
 use Rattle.vd_base.specs.declared.operations.Op.{Op}
 use Rattle.vd_base.specs.declared.protocols.HostSet.{HostSet}
 use Rattle.vd_base.specs.declared.protocols.Proto.{Proto}
-use Rattle.vd_base.specs.declared.protocols.Proto.TheVariants.{Local, Rep, Commit, Add, Xor}
+use Rattle.vd_base.specs.declared.protocols.Proto.TheVariants.{Rep}
 use Rattle.vd_base.specs.Holders.{holders}
 use Rattle.vd_execution.specs.declared.instructions.Reg.{Reg}
 use Rattle.vd_execution.specs.declared.instructions.Action.TheVariants as action
 use Rattle.vd_duet.specs.Calls.{Places, Made, register_of}
 use Rattle.vd_duet.specs.Laws.{Each}
 use Rattle.vd_clear.specs.Copies.{literal_at, passed, adopted, kept_by, applied_at, shown, each_made, clear_calls, spread_to}
-use Rattle.vd_clear.proofs.Front.{few_members}
+use Rattle.vd_base.proofs.Front.{few_holders}
 use Rattle.vd_code_sizes.specs.Fits.{IsLow, AreHere, PlacesFit, PartsFit, WordMade, Room, MoveFits, CallsFit}
 use Rattle.vd_code_sizes.proofs.Bounds.{places_more, all_places, RegFits, host_word, stays}
 use Rattle.vd_code_sizes.proofs.Clear.{register_fits, written_fits, passed_fits, adopted_fits, applied_fits, shown_fits, each_fits, renewed_fits}
-
-pub few_holders : (p : Proto) → length (holders p) ≤ 8
-few_holders (Local h) = omega arith
-few_holders (Rep set) = few_members set
-few_holders (Commit a b) = omega arith
-few_holders (Add a b) = omega arith
-few_holders (Xor a b) = omega arith
 
 pub each_length : (f : HostId → List ℕ → Made Reg) (hs : List HostId) (next : List ℕ) → length (each_made f hs next).given ≡ length hs
 each_length f [] next = refl

@@ -2,5 +2,5 @@
 pub use Rattle.vd_code_sizes.proofs.Blocks.{BlockFits, StateFits, block_fits, cost, emission_of, holds, size}
 pub use Rattle.vd_code_sizes.proofs.Fits.{PlanFits}
 pub use Rattle.vd_code_sizes.proofs.Programs.{code_is_in_range}
-pub use Rattle.vd_code_sizes.proofs.ClearCalls.{each_length, few_holders}
+pub use Rattle.vd_code_sizes.proofs.ClearCalls.{each_length}
 pub use Rattle.vd_code_sizes.proofs.ProgramLengths.{statements_make_few}

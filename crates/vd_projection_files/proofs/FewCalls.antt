@@ -6,6 +6,7 @@ use Rattle.vd_base.specs.declared.operations.Op.{Op}
 use Rattle.vd_base.specs.declared.protocols.Proto.{Proto}
 use Rattle.vd_base.specs.declared.protocols.Proto.TheVariants.{Local, Rep, Commit, Add, Xor}
 use Rattle.vd_base.specs.Holders.{holders}
+use Rattle.vd_base.proofs.Front.{few_holders}
 use Rattle.vd_core.specs.Facts.{amount_fits}
 use Rattle.vd_execution.specs.declared.instructions.Reg.{Reg}
 use Rattle.vd_execution.specs.declared.instructions.Action.TheVariants as action
@@ -19,7 +20,6 @@ use Rattle.vd_commit.specs.Commit.{revealed}
 use Rattle.vd_backend_laws.specs.Commits.{place, held_of, seen_of, taken_over, shown_bound, commit_calls}
 use Rattle.vd_backend_laws.specs.Moves.{Route, Share, Adopt, Show, ShowAll, Spread, Same, SameBound, ToXor, ToAdd, only, copies_at, moved}
 use Rattle.vd_backend_laws.specs.Parts.{Parts, made_of, back_end, route, turn_part, turned, put_in, printed, zeros_at, new_cells, index_of, cell_read, cell_written}
-use Rattle.vd_code_sizes.proofs.Front.{few_holders}
 use Rattle.vd_projection_files.proofs.Few.{AreFew, few_none, few_more}
 use Rattle.vd_projection_files.proofs.FewClear.{most_gadgets, WordFew, CallsAreFew, EachFew, shown_few as told_few, each_word, clear_few}
 use Rattle.vd_projection_files.proofs.FewShared.{sums_few, circuits_few, to_bits_few, to_sums_few}
