@@ -10,9 +10,8 @@ use Rattle.vd_base.specs.declared.protocols.HostSet.{HostSet}
 use Rattle.vd_base.specs.declared.protocols.Proto.{Proto}
 use Rattle.vd_base.specs.declared.protocols.Proto.TheVariants.{Local, Rep, Commit, Add, Xor}
 use Rattle.vd_base.specs.HostSets.{host, hosts, has_host, members}
-use Rattle.vd_base.specs.Holders.{holders, is_holder}
+use Rattle.vd_base.specs.Holders.{holders, is_holder, is_among}
 use Rattle.vd_duet.specs.Laws.{Each, IsHost}
-use Rattle.vd_duet.specs.Acting.{is_among}
 use Rattle.vd_choreography.specs.Suite.{picked}
 use Rattle.vd_backend_laws.specs.Suite.{is_in_order}
 use Rattle.vd_choreography.proofs.Front.{AreApart, and_left, and_right, or_left, or_right}

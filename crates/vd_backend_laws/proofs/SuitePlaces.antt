@@ -8,7 +8,8 @@ use Rattle.vd_base.specs.declared.protocols.Proto.{Proto}
 use Rattle.vd_base.specs.declared.protocols.Proto.TheVariants.{Local, Rep, Commit, Add, Xor}
 use Rattle.vd_base.specs.declared.rows.Row.TheVariants.{Constant, Input}
 use Rattle.vd_base.specs.HostSets.{host}
-use Rattle.vd_base.specs.Holders.{holders, is_holder}
+use Rattle.vd_base.specs.Holders.{holders, is_holder, is_among}
+use Rattle.vd_base.proofs.Front.{holder_is_listed}
 use Rattle.vd_execution.specs.declared.instructions.Reg.{Reg}
 use Rattle.vd_execution.specs.declared.instructions.Action.TheVariants as action
 use Rattle.vd_execution.specs.World.{Tape}
@@ -18,7 +19,7 @@ use Rattle.vd_execution.specs.Acts.{run_acts}
 use Rattle.vd_execution.specs.Gadgets.{Gadget, Alone, acts_of_gadget, GadgetIsTidy, GadgetsAreTidy}
 use Rattle.vd_duet.specs.Calls.{Places as RegisterPlaces, hosts_of, Made, register_of}
 use Rattle.vd_duet.specs.Laws.{IsHost}
-use Rattle.vd_duet.specs.Acting.{is_either, acts_at, is_among, pass_at, told_at, apply_at, is_negation, ActsWhereItSays}
+use Rattle.vd_duet.specs.Acting.{is_either, acts_at, pass_at, told_at, apply_at, is_negation, ActsWhereItSays}
 use Rattle.vd_duet.proofs.Front.{tidy_append}
 use Rattle.vd_duet.specs.Builder.{next_at}
 use Rattle.vd_clear.specs.Copies.{written_by, each_made}
@@ -40,7 +41,6 @@ use Rattle.vd_backend_laws.specs.Parts.{Parts, has_back_end, back_end, route, tu
 use Rattle.vd_backend_laws.specs.Suite.{IsOver, holds, joins, suite}
 use Rattle.vd_backend_laws.proofs.Standing.{no_back_end, cells_of}
 use Rattle.vd_backend_laws.proofs.Over.{host_known, holder_at, among_host}
-use Rattle.vd_backend_laws.proofs.TwoHosts.{has_member}
 use Rattle.vd_backend_laws.proofs.Gives.{M, S, proto_is, serves, laws_of, for_constant, for_variable, for_operation, ready_at, operand_at, operands_at}
 use Rattle.vd_backend_laws.proofs.BackEnds.{length_map, move_law}
 use Rattle.vd_backend_laws.proofs.SuiteLaws.{input_stands}
@@ -247,26 +247,6 @@ turn_acts (Commit a b) loop h k next = or_false (nat_eq h k.0)
 turn_acts (Add a b) loop h k next = shared_acts (nat_eq k.0 a.0) k loop next h
 turn_acts (Xor a b) loop h k next = shared_acts (nat_eq k.0 a.0) k loop next h
 
--- the hosts of a protocol are those that hold it
-host_among : (hs : List HostId) (h : ℕ) → IsHost hs h → is_among hs h ≡ true
-host_among [] h i = absurd i
-host_among (k ∷ hs) h (inl e) = or_left (nat_eq h k.0) (is_among hs h) (eq-eqb h k.0 e)
-host_among (k ∷ hs) h (inr i) = or_right (nat_eq h k.0) (is_among hs h) (host_among hs h i)
-
-two_among : (a b : HostId) (h : ℕ) → (nat_eq a.0 h || nat_eq b.0 h) ≡ true → is_among (a ∷ b ∷ []) h ≡ true
-two_among a b h e = at (or_cases (nat_eq a.0 h) (nat_eq b.0 h) e)
-  where
-    at : (nat_eq a.0 h ≡ true) ⊎ (nat_eq b.0 h ≡ true) → is_among (a ∷ b ∷ []) h ≡ true
-    at (inl i) = host_among (a ∷ b ∷ []) h (inl (sym (eqb-true a.0 h i)))
-    at (inr i) = host_among (a ∷ b ∷ []) h (inr (inl (sym (eqb-true b.0 h i))))
-
-at_holder : (p : Proto) (h : ℕ) → h < 8 → is_holder p (host h) ≡ true → is_among (holders p) h ≡ true
-at_holder (Local k) h lt e = host_among (k ∷ []) h (inl (sym (eqb-true k.0 h e)))
-at_holder (Rep set) h lt e = host_among (holders (Rep set)) h (has_member set (host h) lt e)
-at_holder (Commit a b) h lt e = two_among a b h e
-at_holder (Add a b) h lt e = two_among a b h e
-at_holder (Xor a b) h lt e = two_among a b h e
-
 module _ (t : Tape) (deal : IsValidDeal t) (inputs : ℕ → List ℕ) (hosts : ℕ) (few : hosts ≤ 8) where
   -- gadgets at hosts of the protocol
   where_held : (p : Proto) → IsOver hosts p → (gadgets : List Gadget) → GadgetsAreTidy gadgets → ((h : ℕ) → acts_at gadgets h ≡ is_among (holders p) h)
@@ -274,7 +254,7 @@ module _ (t : Tape) (deal : IsValidDeal t) (inputs : ℕ → List ℕ) (hosts : 
   where_held p d gadgets tidy acts = record {
     tidy = all_tidy gadgets tidy;
     at = λ h e. let i = among_host (holders p) h (sym (acts h) ∙ e) in (host_known hosts (holders p) h d.known i, holder_at p h i);
-    all = λ h lt e. acts h ∙ at_holder p h (omega (arith, few, lt)) e;
+    all = λ h lt e. acts h ∙ sym (holder_is_listed p h (omega (arith, few, lt))) ∙ e;
   }
 
   -- each host of the protocol acts once

@@ -1,6 +1,7 @@
 -- What fails where copies or digests differ, and what a nonce is.
 use Rattle.std.proofs.Common.{◌≡◌, ◌≢◌, ℕ, zero, suc, ◌+◌, ◌<◌, nat_eq, Bool, true, false, if◌then◌else◌, ◌||◌, List, [], ◌∷◌, ◌++◌, length, map, slice_index, refl, sym, ap, ap₂, subst, ◌∙◌, arith, add-zero, rules}
 use Rattle.vd_base.specs.declared.ids.HostId.{HostId}
+use Rattle.vd_base.specs.Holders.{is_among}
 use Rattle.vd_execution.specs.declared.instructions.Reg.{Reg}
 use Rattle.vd_execution.specs.declared.instructions.Action.TheVariants as action
 use Rattle.vd_execution.specs.declared.instructions.Act.{Act}
@@ -14,7 +15,6 @@ use Rattle.vd_execution.specs.Text.{register}
 use Rattle.vd_execution.proofs.Front.{put_itself, put_same}
 use Rattle.vd_duet.specs.Builder.{next_at, taken}
 use Rattle.vd_duet.specs.Calls.{Places, hosts_of, Made}
-use Rattle.vd_duet.specs.Acting.{is_among}
 use Rattle.vd_duet.specs.Laws.{Copies, words_at}
 use Rattle.vd_duet.proofs.Front.{taken_known, taken_there, gadgets_append}
 use Rattle.vd_clear.specs.Copies.{adopted, told, compared, first_register}

@@ -5,12 +5,11 @@ use Rattle.vd_base.specs.declared.operations.Op.{Op}
 use Rattle.vd_base.specs.declared.operations.Op.TheVariants as op
 use Rattle.vd_execution.specs.declared.instructions.Reg.{Reg}
 use Rattle.vd_base.specs.declared.protocols.Proto.TheVariants.{Rep}
-use Rattle.vd_base.specs.Holders.{holders}
+use Rattle.vd_base.specs.Holders.{holders, is_among}
 use Rattle.vd_execution.specs.declared.instructions.Action.TheVariants as action
 use Rattle.vd_execution.specs.Gadgets.{Sharing, BySums, ByXors, Gadget, Alone, Tells}
 use Rattle.vd_duet.specs.Builder.{next_at, taken}
 use Rattle.vd_duet.specs.Calls.{Places, hosts_of, Made}
-use Rattle.vd_duet.specs.Acting.{is_among}
 use Rattle.vd_clear.specs.Copies.{literal_at, passed, adopted, kept_by, first_of, after_first, operated, applied_at, told, compared, first_register, shown, each_made, renewed}
 use Rattle.vd_backend_algebra.specs.Gates.{Gate, And, Xor, Shl, Shr, Not, Flip, Lowest, Mask, gates_of}
 use Rattle.vd_backend_sharing.specs.declared.shares.Shares.{Shares}

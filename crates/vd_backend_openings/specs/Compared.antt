@@ -1,6 +1,7 @@
 -- What fails where copies or digests differ, and what a nonce is.
 use Rattle.std.specs.Prelude.{◌≡◌, ◌≢◌, ◌<◌, ◌≤◌, ℕ, zero, suc, ◌+◌, false, List, [], ◌∷◌, length, slice_index}
 use Rattle.vd_base.specs.declared.ids.HostId.{HostId}
+use Rattle.vd_base.specs.Holders.{is_among}
 use Rattle.vd_execution.specs.declared.instructions.Reg.{Reg}
 use Rattle.vd_execution.specs.Registers.{nth, words_from, digest_of}
 use Rattle.vd_execution.specs.Step.{OwnWords}
@@ -9,7 +10,6 @@ use Rattle.vd_execution.specs.Joint.{Hosts}
 use Rattle.vd_execution.specs.Acts.{run_acts, ActsAgree}
 use Rattle.vd_execution.specs.Gadgets.{Gadget, acts_of_gadgets}
 use Rattle.vd_duet.specs.Calls.{Places, hosts_of, Made}
-use Rattle.vd_duet.specs.Acting.{is_among}
 use Rattle.vd_duet.specs.Laws.{Copies}
 use Rattle.vd_clear.specs.Copies.{shown}
 use Rattle.vd_commit.specs.declared.ends.Held.{Held}

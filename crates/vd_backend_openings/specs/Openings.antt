@@ -5,9 +5,8 @@ use Rattle.vd_base.specs.declared.operations.Op.{Op}
 use Rattle.vd_execution.specs.declared.instructions.Reg.{Reg}
 use Rattle.vd_execution.specs.Gadgets.{Gadget, Alone, Tells, Shares, BothShare, Opens, Masked, Paired}
 use Rattle.vd_base.specs.declared.protocols.Proto.{Proto}
-use Rattle.vd_base.specs.Holders.{holders}
+use Rattle.vd_base.specs.Holders.{holders, is_among}
 use Rattle.vd_duet.specs.Calls.{Places, hosts_of, Calls}
-use Rattle.vd_duet.specs.Acting.{is_among}
 use Rattle.vd_clear.specs.Copies.{clear_calls}
 use Rattle.vd_backend_sharing.specs.PairCalls.{shares_of}
 

@@ -5,9 +5,9 @@ use Rattle.vd_base.specs.declared.operations.Op.{Op}
 use Rattle.vd_execution.specs.declared.instructions.Binary.{Binary}
 use Rattle.vd_execution.specs.declared.instructions.Reg.{Reg}
 use Rattle.vd_execution.specs.Gadgets.{Sharing, BySums, ByXors}
-use Rattle.vd_base.specs.Holders.{holders}
+use Rattle.vd_base.specs.Holders.{holders, is_among}
 use Rattle.vd_duet.specs.Calls.{Places, Made}
-use Rattle.vd_duet.specs.Acting.{is_either, acts_at, is_among, share_at, adopt_at, show_at, show_all_at, apply_at, ActsWhereItSays}
+use Rattle.vd_duet.specs.Acting.{is_either, acts_at, share_at, adopt_at, show_at, show_all_at, apply_at, ActsWhereItSays}
 use Rattle.vd_backend_sharing.specs.declared.shares.Shares.{Shares}
 use Rattle.vd_backend_sharing.specs.Sharings.{shared_by}
 use Rattle.vd_backend_sharing.specs.PairCalls.{split_off, exchanged, shared_from, opened_by, shown_at, applied_shares, numbered_shares, product_shares, shares_of, pair_calls}

@@ -8,13 +8,13 @@ use Rattle.vd_base.specs.declared.operations.Op.TheVariants as op
 use Rattle.vd_base.specs.declared.protocols.HostSet.{HostSet}
 use Rattle.vd_base.specs.declared.protocols.Proto.{Proto}
 use Rattle.vd_base.specs.declared.protocols.Proto.TheVariants.{Local, Rep, Commit, Add, Xor}
-use Rattle.vd_base.specs.Holders.{holders}
+use Rattle.vd_base.specs.Holders.{holders, is_among}
 use Rattle.vd_execution.specs.declared.instructions.Reg.{Reg}
 use Rattle.vd_execution.specs.declared.instructions.Action.TheVariants as action
 use Rattle.vd_execution.specs.Gadgets.{Alone, Tells}
 use Rattle.vd_duet.specs.Builder.{next_at, taken}
 use Rattle.vd_duet.specs.Calls.{Places, hosts_of, Made}
-use Rattle.vd_duet.specs.Acting.{is_either, acts_in, acts_at, is_among, pass_at, share_at, adopt_at, told_at, show_at, show_all_at, apply_at, ActsWhereItSays}
+use Rattle.vd_duet.specs.Acting.{is_either, acts_in, acts_at, pass_at, share_at, adopt_at, told_at, show_at, show_all_at, apply_at, ActsWhereItSays}
 use Rattle.vd_clear.specs.Copies.{literal_at, passed, adopted, kept_by, operated, first_of, after_first, applied_at, told, compared, first_register, shown, each_made, renewed, clear_calls, spread_to}
 use Rattle.vd_clear.proofs.ClearLaws.{IsClear}
 

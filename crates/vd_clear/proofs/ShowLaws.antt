@@ -1,6 +1,7 @@
 -- Copies that are told to a host, which compares them.
 use Rattle.std.proofs.Common.{◌≡◌, ◌≢◌, ℕ, suc, ◌+◌, ◌<◌, ◌≤◌, nat_eq, Bool, true, false, if◌then◌else◌, ◌||◌, List, [], ◌∷◌, ◌++◌, inl, inr, length, map, slice_index, refl, sym, ap, subst, ◌∙◌, arith}
 use Rattle.vd_base.specs.declared.ids.HostId.{HostId}
+use Rattle.vd_base.specs.Holders.{is_among}
 use Rattle.vd_execution.specs.declared.instructions.Reg.{Reg}
 use Rattle.vd_execution.specs.declared.instructions.Action.TheVariants as action
 use Rattle.vd_execution.specs.Registers.{put}
@@ -13,7 +14,6 @@ use Rattle.vd_execution.specs.Gadgets.{Gadget, Alone, Tells, acts_of_gadgets, Ga
 use Rattle.vd_execution.proofs.Front.{put_itself}
 use Rattle.vd_duet.specs.Builder.{next_at, taken}
 use Rattle.vd_duet.specs.Calls.{Places, hosts_of, Made}
-use Rattle.vd_duet.specs.Acting.{is_among}
 use Rattle.vd_duet.specs.Laws.{Leads, IsOrderly, Gives, GivesThere, IsIn, IsHost, nowhere, AreBelow, Copies}
 use Rattle.vd_duet.proofs.Front.{differ_of, equal_of, found, writes_heard, leads_nothing, leads_writing, leads_on, orderly_still, orderly_fresh, orderly_on, orderly_wider, tidy_append, taken_known, taken_bounds, below_later}
 use Rattle.vd_clear.specs.Copies.{adopted, told, compared, first_register, shown}

@@ -1,11 +1,11 @@
 -- A word that is shown to a host, as code.
 use Rattle.std.proofs.Common.{◌≡◌, Bool, true, false, if◌then◌else◌, List, ◌++◌, sym, ap, ◌∙◌, append_assoc, append-nil}
 use Rattle.vd_base.specs.declared.ids.HostId.{HostId}
+use Rattle.vd_base.specs.Holders.{is_among}
 use Rattle.vd_execution.specs.declared.instructions.Line.{Line}
 use Rattle.vd_execution.specs.declared.instructions.Reg.{Reg}
 use Rattle.vd_duet.specs.Builder.{Builder}
 use Rattle.vd_duet.specs.Calls.{Places, hosts_of, Made, called, appended, register_of}
-use Rattle.vd_duet.specs.Acting.{is_among}
 use Rattle.vd_clear.specs.Copies.{adopted, told, compared, first_register, shown}
 use Rattle.vd_duet.proofs.Front.{emitted_append}
 

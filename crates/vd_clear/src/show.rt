@@ -1,7 +1,7 @@
 ghost use Rattle.std.specs.Prelude.{◌≡◌, ◌<◌, ◌≤◌, ◌+◌, ◌^◌, IfOk, OnOk, length, slice_index};
 ghost use Rattle.vd_duet.specs.Builder.{TakesAtMost};
 ghost use Rattle.vd_duet.specs.Calls.{Makes, appended, hosts_of, in_clear};
-ghost use Rattle.vd_duet.specs.Acting.{is_among};
+ghost use Rattle.vd_base.specs.Holders.{is_among};
 ghost use Rattle.vd_clear.specs.Copies.{told, compared, first_register, shown};
 
 use std::alloc::AllocError;

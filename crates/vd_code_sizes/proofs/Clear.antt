@@ -3,6 +3,7 @@ use Rattle.std.proofs.Common.{ℕ, suc, ◌+◌, ◌*◌, ◌<◌, ◌≤◌, na
 use Rattle.vd_base.specs.declared.ids.HostId.{HostId}
 use Rattle.vd_base.specs.declared.operations.Op.{Op}
 use Rattle.vd_base.specs.declared.operations.Op.TheVariants as op
+use Rattle.vd_base.specs.Holders.{is_among}
 use Rattle.vd_execution.specs.declared.instructions.Reg.{Reg}
 use Rattle.vd_execution.specs.declared.instructions.Binary.{Binary}
 use Rattle.vd_execution.specs.declared.instructions.Binary.TheVariants as binary
@@ -13,7 +14,6 @@ use Rattle.vd_execution.specs.Ranges.{ActionFits}
 use Rattle.vd_duet.specs.Builder.{next_at, taken}
 use Rattle.vd_duet.specs.Calls.{Places, hosts_of, Made, register_of}
 use Rattle.vd_duet.specs.Laws.{Each}
-use Rattle.vd_duet.specs.Acting.{is_among}
 use Rattle.vd_clear.specs.Copies.{written_by, with_number, passed, adopted, first_of, after_first, operated, applied_at, told, compared, first_register, shown, each_made, renewed}
 use Rattle.vd_code_sizes.specs.Fits.{IsLow, GadgetFits, PlacesFit}
 use Rattle.vd_code_sizes.proofs.Bounds.{low_more, taken_low, one_fits, gadgets_fit, places_more, RegFits, PlacesMade}

@@ -6,7 +6,7 @@ use Rattle.vd_base.specs.declared.operations.Op.{Op}
 use Rattle.vd_base.specs.declared.operations.Op.TheVariants.{Not, Flip}
 use Rattle.vd_base.specs.declared.protocols.Proto.{Proto}
 use Rattle.vd_base.specs.declared.protocols.Proto.TheVariants.{Local, Rep, Commit, Add, Xor}
-use Rattle.vd_base.specs.Holders.{holders}
+use Rattle.vd_base.specs.Holders.{holders, is_among}
 use Rattle.vd_execution.specs.declared.instructions.Reg.{Reg}
 use Rattle.vd_execution.specs.Gadgets.{Gadget, Alone, Tells, Shares, BothShare, Opens, Masked, Paired}
 use Rattle.vd_duet.specs.Calls.{Places, hosts_of, Calls}
@@ -26,10 +26,6 @@ acts_in h (Paired p q) = is_either h p.host q.host
 
 abbrev pub acts_at : List Gadget → ℕ → Bool
 acts_at gadgets h = list_any (acts_in h) gadgets
-
--- it is one of these hosts; of hosts below 8, those among the `holders` of a protocol are those that pass `is_holder`
-abbrev pub is_among : List HostId → ℕ → Bool
-is_among hosts h = list_any (λ k. nat_eq h k.0) hosts
 
 -- a word goes from a to b, or stays
 abbrev pub pass_at : HostId → HostId → ℕ → Bool

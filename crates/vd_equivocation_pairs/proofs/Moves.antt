@@ -5,13 +5,12 @@ use Rattle.vd_base.specs.declared.ids.HostId.{HostId}
 use Rattle.vd_base.specs.declared.protocols.Proto.{Proto}
 use Rattle.vd_base.specs.declared.protocols.Proto.TheVariants.{Local, Rep, Commit, Add, Xor}
 use Rattle.vd_base.specs.declared.operations.Op.TheVariants as op
-use Rattle.vd_base.specs.Holders.{holders}
+use Rattle.vd_base.specs.Holders.{holders, is_among}
 use Rattle.vd_execution.specs.declared.instructions.Reg.{Reg}
 use Rattle.vd_execution.specs.declared.instructions.Action.TheVariants as action
 use Rattle.vd_execution.specs.Gadgets.{Sharing, BySums, ByXors, Alone, Tells}
 use Rattle.vd_duet.specs.Builder.{next_at, taken}
 use Rattle.vd_duet.specs.Calls.{Places, hosts_of, Made}
-use Rattle.vd_duet.specs.Acting.{is_among}
 use Rattle.vd_clear.specs.Copies.{passed, told, compared, adopted, first_register, shown, each_made}
 use Rattle.vd_backend_sharing.specs.declared.shares.Shares.{Shares}
 use Rattle.vd_backend_sharing.specs.PairCalls.{shares_of, split_off, exchanged, shared_from, opened_by, shown_at, places_at, product_shares}

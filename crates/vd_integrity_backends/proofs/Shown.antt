@@ -3,13 +3,13 @@ use Rattle.std.proofs.Common.{◌≡◌, ◌≢◌, ℕ, ◌<◌, ◌≤◌, nat
 use Rattle.std.proofs.lemmas.Bool.{or_cases}
 use native.Mathlib.Decide.{ℕ_discrete}
 use Rattle.vd_base.specs.declared.ids.HostId.{HostId}
+use Rattle.vd_base.specs.Holders.{is_among}
 use Rattle.vd_execution.specs.declared.instructions.Action.TheVariants as action
 use Rattle.vd_execution.specs.declared.instructions.Reg.{Reg}
 use Rattle.vd_execution.specs.Gadgets.{Alone}
 use Rattle.vd_execution.specs.Joint.{Host, Hosts, acted, after_do}
 use Rattle.vd_execution.specs.World.{Tape}
 use Rattle.vd_execution.proofs.Front.{put_other, put_same}
-use Rattle.vd_duet.specs.Acting.{is_among}
 use Rattle.vd_duet.specs.Builder.{next_at, taken}
 use Rattle.vd_duet.specs.Calls.{Made, Places, hosts_of, register_of}
 use Rattle.vd_duet.specs.Laws.{AreBelow, IsHost}

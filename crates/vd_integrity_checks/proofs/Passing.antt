@@ -2,6 +2,7 @@
 use Rattle.std.proofs.Common.{◌≡◌, ℕ, zero, suc, ◌+◌, ◌<◌, nat_eq, Bool, true, false, ◌||◌, if◌then◌else◌, List, [], ◌∷◌, ◌++◌, length, map, refl, sym, ap, ap₂, subst, ◌∙◌, arith, add-zero}
 use Rattle.std.proofs.lemmas.Bool.{ne_eqb}
 use Rattle.vd_base.specs.declared.ids.HostId.{HostId}
+use Rattle.vd_base.specs.Holders.{is_among}
 use Rattle.vd_execution.specs.declared.instructions.Reg.{Reg}
 use Rattle.vd_execution.specs.declared.instructions.Action.TheVariants as action
 use Rattle.vd_execution.specs.Gadgets.{Gadget, Alone}
@@ -10,7 +11,6 @@ use Rattle.vd_execution.specs.Registers.{Registers, digest_of, nth, put, put_eac
 use Rattle.vd_execution.specs.Step.{State, next, words_in}
 use Rattle.vd_execution.specs.Text.{register}
 use Rattle.vd_execution.proofs.Front.{put_same, put_other}
-use Rattle.vd_duet.specs.Acting.{is_among}
 use Rattle.vd_duet.specs.Builder.{next_at, taken}
 use Rattle.vd_duet.specs.Calls.{Made, Places, hosts_of}
 use Rattle.vd_clear.specs.Copies.{adopted, compared, first_register, shown, told}

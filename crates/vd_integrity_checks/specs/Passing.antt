@@ -1,6 +1,7 @@
 -- What a host knows that came past its comparisons.
 use Rattle.std.specs.Prelude.{◌≡◌, ◌≢◌, ℕ, ◌+◌, ◌≤◌, false, List, [], ◌∷◌, length}
 use Rattle.vd_base.specs.declared.ids.HostId.{HostId}
+use Rattle.vd_base.specs.Holders.{is_among}
 use Rattle.vd_execution.specs.declared.instructions.Reg.{Reg}
 use Rattle.vd_execution.specs.Acts.{do_then}
 use Rattle.vd_execution.specs.Code.{Code}
@@ -8,7 +9,6 @@ use Rattle.vd_execution.specs.Gadgets.{Gadget, acts_of_gadgets}
 use Rattle.vd_execution.specs.Joint.{Joint, code_of}
 use Rattle.vd_execution.specs.Registers.{Registers, digest_of, words_from}
 use Rattle.vd_execution.specs.Step.{State}
-use Rattle.vd_duet.specs.Acting.{is_among}
 use Rattle.vd_duet.specs.Calls.{Places, hosts_of}
 use Rattle.vd_clear.specs.Copies.{compared, shown, told}
 use Rattle.vd_commit.specs.Commit.{revealing}

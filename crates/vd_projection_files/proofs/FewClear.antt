@@ -4,7 +4,7 @@ use Rattle.vd_base.specs.declared.ids.HostId.{HostId}
 use Rattle.vd_base.specs.declared.operations.Op.{Op}
 use Rattle.vd_base.specs.declared.operations.Op.TheVariants as op
 use Rattle.vd_base.specs.declared.protocols.Proto.{Proto}
-use Rattle.vd_base.specs.Holders.{holders}
+use Rattle.vd_base.specs.Holders.{holders, is_among}
 use Rattle.vd_base.proofs.Front.{few_holders}
 use Rattle.vd_core.specs.Facts.{amount_fits}
 use Rattle.vd_execution.specs.declared.instructions.Reg.{Reg}
@@ -12,7 +12,6 @@ use Rattle.vd_execution.specs.declared.instructions.Action.TheVariants as action
 use Rattle.vd_execution.specs.Gadgets.{Alone, Tells}
 use Rattle.vd_duet.specs.Builder.{next_at, taken}
 use Rattle.vd_duet.specs.Calls.{Places, hosts_of, Made, Calls}
-use Rattle.vd_duet.specs.Acting.{is_among}
 use Rattle.vd_clear.specs.Copies.{literal_at, passed, adopted, kept_by, operated, applied_at, first_of, after_first, told, compared, first_register, shown, each_made, renewed, clear_calls}
 use Rattle.vd_code_sizes.proofs.Front.{each_length}
 use Rattle.vd_projection_files.proofs.Few.{AreFew, few_none, few_more, few_both}

@@ -3,6 +3,7 @@ use Rattle.std.proofs.Common.{◌≡◌, ◌≢◌, ℕ, nat_eq, Bool, true, fal
 use Rattle.std.specs.Prelude.{map}
 use Rattle.std.proofs.lemmas.Bool.{eq-eqb}
 use Rattle.vd_base.specs.declared.ids.HostId.{HostId}
+use Rattle.vd_base.specs.Holders.{is_among}
 use Rattle.vd_execution.specs.declared.instructions.Reg.{Reg}
 use Rattle.vd_execution.specs.declared.instructions.Action.{Action}
 use Rattle.vd_execution.specs.declared.instructions.Action.TheVariants as action
@@ -14,7 +15,6 @@ use Rattle.vd_execution.specs.Gadgets.{Gadget, Alone, Tells}
 use Rattle.vd_execution.proofs.Front.{same_or_not, put_same, put_other}
 use Rattle.vd_duet.specs.Builder.{next_at, taken}
 use Rattle.vd_duet.specs.Calls.{Places, hosts_of, Made}
-use Rattle.vd_duet.specs.Acting.{is_among}
 use Rattle.vd_duet.specs.Laws.{IsHost, Copies}
 use Rattle.vd_clear.specs.Copies.{passed, told, compared, adopted, first_register, shown, each_made}
 use Rattle.vd_views_backends.specs.Sides.{AreKin, after, Telling}

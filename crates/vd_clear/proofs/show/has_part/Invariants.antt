@@ -1,6 +1,6 @@
 use Rattle.std.proofs.Common.{◌≡◌, drop}
 use Rattle.vd_duet.specs.Calls.{in_clear, hosts_of}
-use Rattle.vd_duet.specs.Acting.{is_among}
+use Rattle.vd_base.specs.Holders.{is_among}
 use Rattle.vd_clear.proofs.show.has_part.Given as goal
 
 abbrev pub invariant-loop-part : goal.invariant-loop-part
