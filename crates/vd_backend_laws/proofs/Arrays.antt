@@ -24,7 +24,7 @@ use Rattle.vd_duet.proofs.Front.{wrote, leads_nothing, leads_on, taken_known, ta
 use Rattle.vd_clear.specs.Copies.{written_by, each_made}
 use Rattle.vd_clear.proofs.Front.{written_there}
 use Rattle.vd_choreography.specs.Joint.{Each as EachPart}
-use Rattle.vd_choreography.specs.Suite.{Cells, Word, Gives, Ready, Below, Delivered, nothing, hosts_of as hosts_at}
+use Rattle.vd_choreography.specs.Suite.{Cells, Word, Gives, Ready, Below, Delivered, nothing, holders_among}
 use Rattle.vd_choreography.proofs.Front.{AreApart}
 use Rattle.vd_backend_laws.specs.Parts.{Parts, has_back_end, zeros_at, new_cells, index_of}
 use Rattle.vd_backend_laws.specs.Suite.{cell, StandForCells, stands, IsOver, holds}
@@ -173,7 +173,7 @@ module _ (t : Tape) (deal : IsValidDeal t) (inputs : ℕ → List ℕ) (hosts : 
           subst (λ (b : Bool). ((w h).registers (if b then register q.1 else index_of at h).0 ≡ i) × ((if b then register q.1 else index_of at h).0 < slice_index next h)) (sym (ne_eqb h q.0 d))
           (ih k e.1)
 
-  pub index_at : (p : Proto) → IsOver hosts p → (next : List ℕ) (w : Hosts) (at : List Part) (i : ℕ) → Delivered (M t inputs hosts) (S t inputs hosts) next w (hosts_at (S t inputs hosts).calls p) at i
+  pub index_at : (p : Proto) → IsOver hosts p → (next : List ℕ) (w : Hosts) (at : List Part) (i : ℕ) → Delivered (M t inputs hosts) (S t inputs hosts) next w (holders_among (S t inputs hosts).calls p) at i
       → (h : ℕ) → IsHost (holders p) h → ((w h).registers (index_of at h).0 ≡ i) × ((index_of at h).0 < slice_index next h)
   index_at p d next w at i index h j =
       index_found next w at i h (subst (In h) (sym index.placed) (picked_in (λ k. is_holder p (host k)) 0 hosts h (omega arith) (let lt = host_known hosts (holders p) h d.known j in omega (arith, lt)) (holder_at p h j))) index.words
@@ -191,7 +191,7 @@ module _ (t : Tape) (deal : IsValidDeal t) (inputs : ℕ → List ℕ) (hosts : 
   cell_low p next x below at i lt h j = below h ((register_of x.at h).0 + i) (i, lt, in_cell i x.at h (subst (λ (l : List HostId). IsHost l h) (sym at) j))
 
   pub get_law : (p : Proto) → IsOver hosts p → IsTrue (holds Variable p) → (x : Parts) (ws : List ℕ) (at : List Part) (i : ℕ) (next : List ℕ) (w : Hosts) → Ready (M t inputs hosts) (S t inputs hosts) next w
-      → Below (M t inputs hosts) (S t inputs hosts) next x → stands w p x (Cells ws) → Delivered (M t inputs hosts) (S t inputs hosts) next w (hosts_at (S t inputs hosts).calls p) at i
+      → Below (M t inputs hosts) (S t inputs hosts) next x → stands w p x (Cells ws) → Delivered (M t inputs hosts) (S t inputs hosts) next w (holders_among (S t inputs hosts).calls p) at i
       → Gives (M t inputs hosts) (S t inputs hosts) next nothing ((S t inputs hosts).calls.get p x at next) w p (Word (slice_index ws i))
   get_law p d row x ws at i next w r below stood index =
       each_stands t inputs hosts p made_here d next w r (λ h. written_by h (λ k. action.Get k (register_of x.at h.0) x.size (index_of at h.0)))

@@ -18,7 +18,7 @@ use Rattle.vd_execution.proofs.Front.{put_same, put_other}
 use Rattle.vd_duet.specs.Calls.{Places, hosts_of, Stand, register_of}
 use Rattle.vd_duet.specs.Laws.{IsHost, IsIn, words_at, Leads as DuetLeads}
 use Rattle.vd_duet.proofs.Front.{leads_nothing, leads_on}
-use Rattle.vd_choreography.specs.Suite.{Word, Cells, Ready, Below, Operand, Delivered, Renews, hosts_of as hosts_at}
+use Rattle.vd_choreography.specs.Suite.{Word, Cells, Ready, Below, Operand, Delivered, Renews, holders_among}
 use Rattle.vd_choreography.proofs.Front.{AreApart}
 use Rattle.vd_backend_laws.specs.Parts.{Parts, has_back_end, index_of, cell_written}
 use Rattle.vd_backend_laws.specs.Suite.{cell, Names, StandForCells, stands, IsOver, holds}
@@ -83,7 +83,7 @@ module _ (t : Tape) (deal : IsValidDeal t) (kept : Parts) (at : List Part) (x : 
 
 module _ (t : Tape) (deal : IsValidDeal t) (inputs : ℕ → List ℕ) (hosts : ℕ) (p : Proto) (d : IsOver hosts p) (row : IsTrue (holds Variable p)) (kept : Parts) (ws : List ℕ) (at : List Part) (i : ℕ) (x : Parts) (v : ℕ)
     (next : List ℕ) (w : Hosts) (ready : Ready (M t inputs hosts) (S t inputs hosts) next w) (below : Below (M t inputs hosts) (S t inputs hosts) next kept) (stood : stands w p kept (Cells ws))
-    (index : Delivered (M t inputs hosts) (S t inputs hosts) next w (hosts_at (S t inputs hosts).calls p) at i) (o : Operand (M t inputs hosts) (S t inputs hosts) next w p x v) where
+    (index : Delivered (M t inputs hosts) (S t inputs hosts) next w (holders_among (S t inputs hosts).calls p) at i) (o : Operand (M t inputs hosts) (S t inputs hosts) next w p x v) where
   abbrev made_here : has_back_end p ≡ true
   made_here = for_variable p row
 

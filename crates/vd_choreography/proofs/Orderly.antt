@@ -16,7 +16,7 @@ use Rattle.vd_execution.specs.Plans.{Plan, Ends, Then, Branch, Loop}
 use Rattle.vd_duet.specs.Laws.{IsHost}
 use Rattle.vd_choreography.specs.Block.{Block, End, Let, NewVar, NewArray, Store, Put, Output, If as IfB, For as ForB, each}
 use Rattle.vd_choreography.specs.Joint.{Hosts, Each, IsIn, acts_then, and_then}
-use Rattle.vd_choreography.specs.Suite.{picked, Made, Suite, Laws, hosts_of}
+use Rattle.vd_choreography.specs.Suite.{picked, Made, Suite, Laws, holders_among}
 use Rattle.vd_choreography.specs.Emission.{Emission, Emitted, delivered, delivered_at, right_acts_at, loop_registers, after_loop_registers}
 use Rattle.vd_choreography.specs.Validity.{Fits, emission_of, turns_at, Placed}
 use Rattle.vd_choreography.specs.Places.{is_part, acting, active, Tidy, NeedsItsLoops, Where, Places}
@@ -405,8 +405,8 @@ module _ (m : Hosts) (s : Suite m) (proto : ℕ → Proto) (laws : Laws m s) (pl
   orderly (Put v i x rest) o k row all fits placed e w c turn has is needs small t ts =
       let here = and_left _ _ all in
       let a = put_after m s proto laws declared o e w c v i x t (and_left _ _ (and_left _ _ here)) (and_right _ _ (and_left _ _ here)) (and_right _ _ here) placed.0 placed.1 placed.2 in
-      and_next m n _ _ (λ h. delivered_at s.calls proto (proto i.0) (hosts_of s.calls (proto v.0)) h || s.calls.moves_at (proto x.0) (proto v.0) h || is_holder (proto v.0) (host h)) (emits rest).acts_at
-      (of_acts m n _ (λ h. delivered_at s.calls proto (proto i.0) (hosts_of s.calls (proto v.0)) h || s.calls.moves_at (proto x.0) (proto v.0) h || is_holder (proto v.0) (host h))
+      and_next m n _ _ (λ h. delivered_at s.calls proto (proto i.0) (holders_among s.calls (proto v.0)) h || s.calls.moves_at (proto x.0) (proto v.0) h || is_holder (proto v.0) (host h)) (emits rest).acts_at
+      (of_acts m n _ (λ h. delivered_at s.calls proto (proto i.0) (holders_among s.calls (proto v.0)) h || s.calls.moves_at (proto x.0) (proto v.0) h || is_holder (proto v.0) (host h))
       (put_where m s proto laws places declared o e w c t v i x (and_right _ _ (and_left _ _ here)) (and_right _ _ here) placed.0 placed.1 placed.2))
       (rest_does rest (orderly rest) o o e _ 0 k w c _ turn has is (no_slots m s proto laws declared k _ row) (and_right _ _ all) fits placed.3 needs small t ts a)
   orderly (Output x h offset rest) o k row all fits placed e w c turn has is needs small t ts =

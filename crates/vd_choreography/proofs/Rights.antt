@@ -16,7 +16,7 @@ use Rattle.vd_core.specs.Facts.{Sight, is_binding, right_sees}
 use Rattle.vd_semantics.specs.World.{World, first_word, later_words}
 use Rattle.vd_semantics.specs.ProgramMeaning.{SlotState, word_at, array_at, right_word, after_right}
 use Rattle.vd_choreography.specs.Joint.{Hosts, Each}
-use Rattle.vd_choreography.specs.Suite.{Word, Cells, Made, Suite, nothing, Leads, Below, Fresh, Gives, Operand, NamedBy, Laws, hosts_of}
+use Rattle.vd_choreography.specs.Suite.{Word, Cells, Made, Suite, nothing, Leads, Below, Fresh, Gives, Operand, NamedBy, Laws, holders_among}
 use Rattle.vd_choreography.specs.Emission.{Emitting, delivered, all_moved, and_on, right_made}
 use Rattle.vd_choreography.specs.Validity.{RightFits, RightPlaced, Reaches}
 use Rattle.vd_choreography.proofs.Lists.{and_left, and_right}
@@ -101,9 +101,9 @@ module _ (m : Hosts) (s : Suite m) (proto : ℕ → Proto) (laws : Laws m s) (de
     length_map f (y ∷ ys) = ap suc (length_map f ys)
 
     pub index_reached : (v i : SlotId) → Sees o Binding i.0 → Reaches m s proto i (λ h. is_holder (proto v.0) (host h))
-        → Reached m s laws next w (hosts_of s.calls (proto v.0)) (delivered s.calls proto (proto i.0) (held_at held i.0) (hosts_of s.calls (proto v.0)) next) (word_at c i)
+        → Reached m s laws next w (holders_among s.calls (proto v.0)) (delivered s.calls proto (proto i.0) (held_at held i.0) (holders_among s.calls (proto v.0)) next) (word_at c i)
     index_reached v i sees reaches =
-        deliver m s laws proto (proto i.0) (declared i.0) (held_at held i.0) (word_at c i) (hosts_of s.calls (proto v.0))
+        deliver m s laws proto (proto i.0) (declared i.0) (held_at held i.0) (word_at c i) (holders_among s.calls (proto v.0))
         (picked_join m s laws proto (proto i.0) (λ h. is_holder (proto v.0) (host h)) 0 s.calls.hosts (λ h lt is. reaches h (at lt) is) (omega arith)) next w t.ready (operand_of i.0 sees)
       where
         at : {h : ℕ} → h < 0 + s.calls.hosts → h < s.calls.hosts
@@ -169,7 +169,7 @@ module _ (m : Hosts) (s : Suite m) (proto : ℕ → Proto) (laws : Laws m s) (de
         (gives_from m s e.next nothing (Kept o e.held) kept w (proto v.0) (Word (slice_index c.words v.0)) (λ h r n. absurd n) g))
     right_done x (Get v i) sees fits placed small reach turning =
         let sees_array : Sees o Array v.0 = and_left _ _ sees in
-        let index = delivered s.calls proto (proto i.0) (held_at e.held i.0) (hosts_of s.calls (proto v.0)) e.next in
+        let index = delivered s.calls proto (proto i.0) (held_at e.held i.0) (holders_among s.calls (proto v.0)) e.next in
         let all = index_reached o e.next e.held w c t v i (and_right _ _ sees) placed.2 in
         let words = array_at c v in
         let got = s.calls.get (proto v.0) (held_at e.held v.0) index.given index.next in

@@ -16,7 +16,7 @@ use Rattle.vd_semantics.specs.World.{after_output}
 use Rattle.vd_semantics.specs.ProgramMeaning.{SlotState, word_at, array_at, with_word, with_array, in_world, right_word, after_right}
 use Rattle.vd_execution.specs.Plans.{Ends}
 use Rattle.vd_choreography.specs.Joint.{Hosts, acts_then, and_then, run_acts, joint, Goes}
-use Rattle.vd_choreography.specs.Suite.{Content, Word, Cells, Made, Suite, nothing, Leads, Fresh, Renews, Laws, hosts_of}
+use Rattle.vd_choreography.specs.Suite.{Content, Word, Cells, Made, Suite, nothing, Leads, Fresh, Renews, Laws, holders_among}
 use Rattle.vd_choreography.specs.Emission.{Emitting, Emitted, delivered, and_on, right_made, with_parts, with_acts, store_made, put_made, output_made}
 use Rattle.vd_choreography.specs.Validity.{RightFits, RightPlaced, Reaches}
 use Rattle.vd_choreography.proofs.Lists.{front_kept}
@@ -266,7 +266,7 @@ module _ (m : Hosts) (s : Suite m) (proto : ℕ → Proto) where
     pub put_after : (o : Sight) (e : E) (w : m.World) (c : SlotState) (v i x : SlotId) → Ties o e w c → Sees o Array v.0 → Sees o Binding i.0 → Sees o Binding x.0 → s.holds VariableRow (proto v.0) ≡ true
         → s.joins (proto x.0) (proto v.0) ≡ true → Reaches m s proto i (λ h. is_holder (proto v.0) (host h)) → After o o e (put_made s.calls proto v i x e) 0 w (with_array v (slice_set (array_at c v) (word_at c i) (word_at c x)) c)
     put_after o e w c v i x t sees_v sees_i sees_x holds joins reaches =
-        let index = delivered s.calls proto (proto i.0) (part m s proto e.held i.0) (hosts_of s.calls (proto v.0)) e.next in
+        let index = delivered s.calls proto (proto i.0) (part m s proto e.held i.0) (holders_among s.calls (proto v.0)) e.next in
         let all = index_reached m s proto laws declared o e.next e.held w c t v i sees_i reaches in
         let a = all.between in
         let t1 = tied_past m s proto laws o e.next index.next e.held w a.reached c index.acts t a.leads a.quiet a.known a.longer in
@@ -277,7 +277,7 @@ module _ (m : Hosts) (s : Suite m) (proto : ℕ → Proto) where
         let both : Between m s e.next w (index.acts ++ one.acts) one.next = between_on m s e.next w index.acts one.acts index.next one.next a b in
         let ws = slice_set (array_at c v) (word_at c i) (word_at c x) in
         let r = laws.put_law (proto v.0) (declared v.0) holds (part m s proto e.held v.0) (array_at c v) index.given (word_at c i) one.given (word_at c x) one.next b.reached t2.ready
-        (t2.below Array v.0 sees_v) (t2.stands Array v.0 sees_v) (delivered_past m s laws index.next a.reached one.acts one.next b (hosts_of s.calls (proto v.0)) index.given (word_at c i) all.there)
+        (t2.below Array v.0 sees_v) (t2.stands Array v.0 sees_v) (delivered_past m s laws index.next a.reached one.acts one.next b (holders_among s.calls (proto v.0)) index.given (word_at c i) all.there)
         (record { below = g.fresh.below; stands = g.stands }) in
         write_after o e w c (with_array v ws c) Array v.0 (index.acts ++ one.acts) (s.calls.put (proto v.0) (part m s proto e.held v.0) index.given one.given) one.next t sees_v refl both
         (subst (Renews m s one.next (part m s proto e.held v.0) (s.calls.put (proto v.0) (part m s proto e.held v.0) index.given one.given) b.reached (proto v.0)) (ap Cells (sym (item_put [] c.arrays v.0 ws))) r)

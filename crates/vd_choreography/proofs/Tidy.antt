@@ -12,7 +12,7 @@ use Rattle.vd_core.specs.declared.normal.Right.{Right}
 use Rattle.vd_core.specs.declared.normal.Right.TheVariants.{Lit, Turn, Copy, Apply, Input, Declassify, Endorse, Load, Get}
 use Rattle.vd_choreography.specs.Block.{Block, End, Let, NewVar, NewArray, Store, Put, Output, If as IfB, For as ForB}
 use Rattle.vd_choreography.specs.Joint.{Hosts}
-use Rattle.vd_choreography.specs.Suite.{picked, Suite, hosts_of}
+use Rattle.vd_choreography.specs.Suite.{picked, Suite, holders_among}
 use Rattle.vd_choreography.specs.Emission.{Emission, delivered_at, right_acts_at, right_takes_part}
 use Rattle.vd_choreography.specs.Validity.{emission_of, RightPlaced, Placed}
 use Rattle.vd_choreography.specs.Places.{Places}
@@ -108,8 +108,8 @@ module _ (m : Hosts) (s : Suite m) (proto : ℕ → Proto) (laws : Places m s) w
   right_inside q (Load v) h placed e =
       or_both (here v.0 h) (s.calls.moves_at (proto v.0) q h) (is_holder q (host h) || here v.0 h) (or_right (is_holder q (host h)) (here v.0 h)) (moved_in (proto v.0) q h) e
   right_inside q (Get v i) h placed e =
-      or_both (delivered_at s.calls proto (proto i.0) (hosts_of s.calls (proto v.0)) h || here v.0 h) (s.calls.moves_at (proto v.0) q h) (is_holder q (host h) || (here v.0 h || here i.0 h))
-      (or_both (delivered_at s.calls proto (proto i.0) (hosts_of s.calls (proto v.0)) h) (here v.0 h) (is_holder q (host h) || (here v.0 h || here i.0 h))
+      or_both (delivered_at s.calls proto (proto i.0) (holders_among s.calls (proto v.0)) h || here v.0 h) (s.calls.moves_at (proto v.0) q h) (is_holder q (host h) || (here v.0 h || here i.0 h))
+      (or_both (delivered_at s.calls proto (proto i.0) (holders_among s.calls (proto v.0)) h) (here v.0 h) (is_holder q (host h) || (here v.0 h || here i.0 h))
       (λ d. either (here i.0 h) (here v.0 h) (is_holder q (host h) || (here v.0 h || here i.0 h)) (told_inside (proto i.0) (λ k. here v.0 k) h d) index array) array)
       (λ d. or_both (is_holder q (host h)) (here v.0 h) (is_holder q (host h) || (here v.0 h || here i.0 h)) (or_left (is_holder q (host h)) (here v.0 h || here i.0 h)) array (moved_in (proto v.0) q h d)) e
     where
@@ -146,10 +146,10 @@ module _ (m : Hosts) (s : Suite m) (proto : ℕ → Proto) (laws : Places m s) w
       word : here x.0 h ≡ true → (here v.0 h || here i.0 h || here x.0 h) ≡ true
       word t = or_right (here v.0 h || here i.0 h) (here x.0 h) t
 
-      written : (delivered_at s.calls proto (proto i.0) (hosts_of s.calls (proto v.0)) h || s.calls.moves_at (proto x.0) (proto v.0) h || here v.0 h) ≡ true → (here v.0 h || here i.0 h || here x.0 h) ≡ true
+      written : (delivered_at s.calls proto (proto i.0) (holders_among s.calls (proto v.0)) h || s.calls.moves_at (proto x.0) (proto v.0) h || here v.0 h) ≡ true → (here v.0 h || here i.0 h || here x.0 h) ≡ true
       written t =
-          or_both (delivered_at s.calls proto (proto i.0) (hosts_of s.calls (proto v.0)) h || s.calls.moves_at (proto x.0) (proto v.0) h) (here v.0 h) (here v.0 h || here i.0 h || here x.0 h)
-          (or_both (delivered_at s.calls proto (proto i.0) (hosts_of s.calls (proto v.0)) h) (s.calls.moves_at (proto x.0) (proto v.0) h) (here v.0 h || here i.0 h || here x.0 h)
+          or_both (delivered_at s.calls proto (proto i.0) (holders_among s.calls (proto v.0)) h || s.calls.moves_at (proto x.0) (proto v.0) h) (here v.0 h) (here v.0 h || here i.0 h || here x.0 h)
+          (or_both (delivered_at s.calls proto (proto i.0) (holders_among s.calls (proto v.0)) h) (s.calls.moves_at (proto x.0) (proto v.0) h) (here v.0 h || here i.0 h || here x.0 h)
           (λ d. either (here i.0 h) (here v.0 h) (here v.0 h || here i.0 h || here x.0 h) (told_inside (proto i.0) (λ k. here v.0 k) h d) index array)
           (λ d. or_both (here v.0 h) (here x.0 h) (here v.0 h || here i.0 h || here x.0 h) array word (moved_in (proto x.0) (proto v.0) h d))) array t
   acts_inside (Output x k offset rest) h p e = or_map _ _ _ _ told (acts_inside rest h p.1) e

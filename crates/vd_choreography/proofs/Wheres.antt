@@ -14,7 +14,7 @@ use Rattle.vd_core.specs.declared.normal.Right.TheVariants.{Lit, Turn, Copy, App
 use Rattle.vd_core.specs.Facts.{Sight, right_sees}
 use Rattle.vd_semantics.specs.ProgramMeaning.{SlotState, word_at, array_at}
 use Rattle.vd_choreography.specs.Joint.{Hosts, Each}
-use Rattle.vd_choreography.specs.Suite.{Word, Cells, Suite, nothing, Below, Ready, Operand, Laws, hosts_of}
+use Rattle.vd_choreography.specs.Suite.{Word, Cells, Suite, nothing, Below, Ready, Operand, Laws, holders_among}
 use Rattle.vd_choreography.specs.Emission.{Emitting, delivered, delivered_at, all_moved, right_made, right_acts_at}
 use Rattle.vd_choreography.specs.Validity.{RightFits, RightPlaced, Reaches}
 use Rattle.vd_choreography.specs.Places.{acting, Where, Places}
@@ -90,9 +90,9 @@ module _ (m : Hosts) (s : Suite m) (proto : ℕ → Proto) (laws : Laws m s) (pl
         places.move_at (proto x) q (declared x) dq j (part m s proto held x) (slice_index c.words x) next w t.ready (operand_of m s proto laws declared o next held w c t x i)
 
     index_where : (v i : SlotId) → Sees o Binding i.0 → Reaches m s proto i (λ h. is_holder (proto v.0) (host h))
-        → Where m n (delivered s.calls proto (proto i.0) (part m s proto held i.0) (hosts_of s.calls (proto v.0)) next).acts (delivered_at s.calls proto (proto i.0) (hosts_of s.calls (proto v.0)))
+        → Where m n (delivered s.calls proto (proto i.0) (part m s proto held i.0) (holders_among s.calls (proto v.0)) next).acts (delivered_at s.calls proto (proto i.0) (holders_among s.calls (proto v.0)))
     index_where v i sees reaches =
-        delivered_where (proto i.0) (declared i.0) (part m s proto held i.0) (word_at c i) (hosts_of s.calls (proto v.0))
+        delivered_where (proto i.0) (declared i.0) (part m s proto held i.0) (word_at c i) (holders_among s.calls (proto v.0))
         (picked_join m s laws proto (proto i.0) (λ h. is_holder (proto v.0) (host h)) 0 s.calls.hosts (λ h lt is. reaches h (at lt) is) (omega arith)) next w t.ready
         (operand_of m s proto laws declared o next held w c t i.0 sees)
       where
@@ -129,7 +129,7 @@ module _ (m : Hosts) (s : Suite m) (proto : ℕ → Proto) (laws : Laws m s) (pl
     right_where x (Get v i) sees fits placed =
         let sees_array : Sees o Array v.0 = and_left _ _ sees in
         let sees_index : Sees o Binding i.0 = and_right _ _ sees in
-        let index = delivered s.calls proto (proto i.0) (part m s proto e.held i.0) (hosts_of s.calls (proto v.0)) e.next in
+        let index = delivered s.calls proto (proto i.0) (part m s proto e.held i.0) (holders_among s.calls (proto v.0)) e.next in
         let all = index_reached m s proto laws declared o e.next e.held w c t v i sees_index placed.2 in
         let words = array_at c v in
         let got = s.calls.get (proto v.0) (part m s proto e.held v.0) index.given index.next in
@@ -138,8 +138,8 @@ module _ (m : Hosts) (s : Suite m) (proto : ℕ → Proto) (laws : Laws m s) (pl
         let g = laws.get_law (proto v.0) (declared v.0) placed.0 (part m s proto e.held v.0) words index.given (word_at c i) index.next b.reached (ready_past m s e.next w index.acts index.next t.ready b)
         below (laws.still w b.reached (proto v.0) (part m s proto e.held v.0) (Cells words) (t.stands Array v.0 sees_array) (λ h r z. b.leads.kept h r (t.below Array v.0 sees_array h r z) (λ y. y))) all.there in
         let a : Between m s index.next b.reached got.acts got.next = between_of m s index.next nothing got b.reached (proto v.0) (Word (slice_index words (word_at c i))) g in
-        where_on m n (index.acts ++ got.acts) (s.calls.move (proto v.0) (proto x) got.given got.next).acts (λ h. delivered_at s.calls proto (proto i.0) (hosts_of s.calls (proto v.0)) h || is_holder (proto v.0) (host h)) (s.calls.moves_at (proto v.0) (proto x))
-        (where_on m n index.acts got.acts (delivered_at s.calls proto (proto i.0) (hosts_of s.calls (proto v.0))) (λ h. is_holder (proto v.0) (host h))
+        where_on m n (index.acts ++ got.acts) (s.calls.move (proto v.0) (proto x) got.given got.next).acts (λ h. delivered_at s.calls proto (proto i.0) (holders_among s.calls (proto v.0)) h || is_holder (proto v.0) (host h)) (s.calls.moves_at (proto v.0) (proto x))
+        (where_on m n index.acts got.acts (delivered_at s.calls proto (proto i.0) (holders_among s.calls (proto v.0))) (λ h. is_holder (proto v.0) (host h))
         (index_where o e.next e.held w c t v i sees_index placed.2) (places.get_at (proto v.0) (declared v.0) placed.0 (part m s proto e.held v.0) index.given index.next))
         (places.move_at (proto v.0) (proto x) (declared v.0) (declared x) placed.1 got.given (slice_index words (word_at c i)) got.next a.reached
         (ready_past m s index.next b.reached got.acts got.next (ready_past m s e.next w index.acts index.next t.ready b) a) (record { below = g.fresh.below; stands = g.stands }))
@@ -170,19 +170,19 @@ module _ (m : Hosts) (s : Suite m) (proto : ℕ → Proto) (laws : Laws m s) (pl
 
     pub put_where : (v i x : SlotId) → Sees o Binding i.0 → Sees o Binding x.0 → s.holds VariableRow (proto v.0) ≡ true → s.joins (proto x.0) (proto v.0) ≡ true
         → Reaches m s proto i (λ h. is_holder (proto v.0) (host h))
-        → let index = delivered s.calls proto (proto i.0) (part m s proto e.held i.0) (hosts_of s.calls (proto v.0)) e.next in
+        → let index = delivered s.calls proto (proto i.0) (part m s proto e.held i.0) (holders_among s.calls (proto v.0)) e.next in
         let one = s.calls.move (proto x.0) (proto v.0) (part m s proto e.held x.0) index.next in
         Where m n ((index.acts ++ one.acts) ++ s.calls.put (proto v.0) (part m s proto e.held v.0) index.given one.given)
-        (λ h. delivered_at s.calls proto (proto i.0) (hosts_of s.calls (proto v.0)) h || s.calls.moves_at (proto x.0) (proto v.0) h || is_holder (proto v.0) (host h))
+        (λ h. delivered_at s.calls proto (proto i.0) (holders_among s.calls (proto v.0)) h || s.calls.moves_at (proto x.0) (proto v.0) h || is_holder (proto v.0) (host h))
     put_where v i x sees_i sees_x holds joins reaches =
-        let index = delivered s.calls proto (proto i.0) (part m s proto e.held i.0) (hosts_of s.calls (proto v.0)) e.next in
+        let index = delivered s.calls proto (proto i.0) (part m s proto e.held i.0) (holders_among s.calls (proto v.0)) e.next in
         let one = s.calls.move (proto x.0) (proto v.0) (part m s proto e.held x.0) index.next in
         let all = index_reached m s proto laws declared o e.next e.held w c t v i sees_i reaches in
         let a = all.between in
         let t1 = tied_past m s proto laws o e.next index.next e.held w a.reached c index.acts t a.leads a.quiet a.known a.longer in
         where_on m n (index.acts ++ one.acts) (s.calls.put (proto v.0) (part m s proto e.held v.0) index.given one.given)
-        (λ h. delivered_at s.calls proto (proto i.0) (hosts_of s.calls (proto v.0)) h || s.calls.moves_at (proto x.0) (proto v.0) h) (λ h. is_holder (proto v.0) (host h))
-        (where_on m n index.acts one.acts (delivered_at s.calls proto (proto i.0) (hosts_of s.calls (proto v.0))) (s.calls.moves_at (proto x.0) (proto v.0))
+        (λ h. delivered_at s.calls proto (proto i.0) (holders_among s.calls (proto v.0)) h || s.calls.moves_at (proto x.0) (proto v.0) h) (λ h. is_holder (proto v.0) (host h))
+        (where_on m n index.acts one.acts (delivered_at s.calls proto (proto i.0) (holders_among s.calls (proto v.0))) (s.calls.moves_at (proto x.0) (proto v.0))
         (index_where o e.next e.held w c t v i sees_i reaches) (moved_where o index.next e.held a.reached c t1 x.0 sees_x (proto v.0) (declared v.0) joins))
         (places.put_at (proto v.0) (declared v.0) holds (part m s proto e.held v.0) index.given one.given)
 

@@ -14,7 +14,7 @@ use Rattle.vd_core.specs.declared.normal.Stmt.TheOpen.{Stmt-F}
 use Rattle.vd_core.specs.declared.normal.Stmt.TheFolds.{fold-Stmt}
 use Rattle.vd_execution.specs.Plans.{Plan, Ends, Branch, Loop}
 use Rattle.vd_choreography.specs.Joint.{acts_then, and_then}
-use Rattle.vd_choreography.specs.Suite.{picked, Made, Calls, hosts_of}
+use Rattle.vd_choreography.specs.Suite.{picked, Made, Calls, holders_among}
 
 -- the hosts that have a loop get a register for it
 abbrev pub loop_registers : (ℕ → Bool) → ℕ → List ℕ → List (ℕ × ℕ)
@@ -82,7 +82,7 @@ module _ {A P : Type 0} (s : Calls A P) (proto : ℕ → Proto) where
   right_made q (Endorse y to) e = s.move (proto y.0) q (parts_at e y) e.next
   right_made q (Load v) e = and_on (s.keep (proto v.0) (parts_at e v) e.next) (s.move (proto v.0) q)
   right_made q (Get v i) e =
-      and_on (and_on (delivered (proto i.0) (parts_at e i) (hosts_of s (proto v.0)) e.next) (s.get (proto v.0) (parts_at e v))) (s.move (proto v.0) q)
+      and_on (and_on (delivered (proto i.0) (parts_at e i) (holders_among s (proto v.0)) e.next) (s.get (proto v.0) (parts_at e v))) (s.move (proto v.0) q)
 
   abbrev pub right_takes_part : Right → ℕ → Bool
   right_takes_part (Lit n) h = false
@@ -104,7 +104,7 @@ module _ {A P : Type 0} (s : Calls A P) (proto : ℕ → Proto) where
   right_acts_at q (Declassify y to) h = s.moves_at (proto y.0) q h
   right_acts_at q (Endorse y to) h = s.moves_at (proto y.0) q h
   right_acts_at q (Load v) h = at_slot v h || s.moves_at (proto v.0) q h
-  right_acts_at q (Get v i) h = delivered_at (proto i.0) (hosts_of s (proto v.0)) h || at_slot v h || s.moves_at (proto v.0) q h
+  right_acts_at q (Get v i) h = delivered_at (proto i.0) (holders_among s (proto v.0)) h || at_slot v h || s.moves_at (proto v.0) q h
 
   -- the acts of a call, whose parts are those of the next slot
   abbrev pub with_parts : Made A P → Emitting → Emitted
@@ -131,7 +131,7 @@ module _ {A P : Type 0} (s : Calls A P) (proto : ℕ → Proto) where
 
   abbrev pub put_made : SlotId → SlotId → SlotId → Emitting → Emitted
   put_made v i x e =
-      let index = delivered (proto i.0) (parts_at e i) (hosts_of s (proto v.0)) e.next in
+      let index = delivered (proto i.0) (parts_at e i) (holders_among s (proto v.0)) e.next in
       let moved = s.move (proto x.0) (proto v.0) (parts_at e x) index.next in
       with_acts ((index.acts ++ moved.acts) ++ s.put (proto v.0) (parts_at e v) index.given moved.given) moved.next e
 
@@ -174,7 +174,7 @@ module _ {A P : Type 0} (s : Calls A P) (proto : ℕ → Proto) where
   }
   stmt_emission (Stmt-F.Put v i x) = record {
     takes_part = λ h. at_slot v h || at_slot i h || at_slot x h;
-    acts_at = λ h. delivered_at (proto i.0) (hosts_of s (proto v.0)) h || s.moves_at (proto x.0) (proto v.0) h || at_slot v h;
+    acts_at = λ h. delivered_at (proto i.0) (holders_among s (proto v.0)) h || s.moves_at (proto x.0) (proto v.0) h || at_slot v h;
     emit = put_made v i x;
   }
   stmt_emission (Stmt-F.Output x k offset) = record {

@@ -54,9 +54,9 @@ pub record Calls (A P : Type 0) : Type 0 where
   pub get : Proto → P → List (ℕ × ℕ) → List ℕ → Made A P
   pub put : Proto → P → List (ℕ × ℕ) → P → List A
 
--- the hosts of a protocol among the suite's: those that pass `is_holder`, in the order of numbers, where `holders` goes by parts
-abbrev pub hosts_of : {A P : Type 0} → Calls A P → Proto → List HostId
-hosts_of s p = picked 0 s.hosts (λ h. is_holder p (host h))
+-- the hosts of a program that pass `is_holder` for the protocol, in the order of hosts, where `holders` goes by parts
+abbrev pub holders_among : {A P : Type 0} → Calls A P → Proto → List HostId
+holders_among s p = picked 0 s.hosts (λ h. is_holder p (host h))
 
 -- The calls of all protocols, and what the parts that they make stand for.
 pub record Suite (m : Hosts) : Type 1 where
@@ -192,7 +192,7 @@ module _ (m : Hosts) (s : Suite m) where
     pub cells_law : (p : Proto) → s.Declared p → IsTrue (s.holds Variable p) → (n : ℕ) (next : List ℕ) (w : m.World) → Ready next w
         → Gives next nothing (s.calls.cells p n next) w p (Cells (replicate n 0))
     pub get_law : (p : Proto) → s.Declared p → IsTrue (s.holds Variable p) → (x : s.Parts) (ws : List ℕ) (at : List (ℕ × ℕ)) (i : ℕ) (next : List ℕ) (w : m.World) → Ready next w
-        → Below next x → s.Stands w p x (Cells ws) → Delivered next w (hosts_of s.calls p) at i → Gives next nothing (s.calls.get p x at next) w p (Word (slice_index ws i))
+        → Below next x → s.Stands w p x (Cells ws) → Delivered next w (holders_among s.calls p) at i → Gives next nothing (s.calls.get p x at next) w p (Word (slice_index ws i))
     pub put_law : (p : Proto) → s.Declared p → IsTrue (s.holds Variable p) → (kept : s.Parts) (ws : List ℕ) (at : List (ℕ × ℕ)) (i : ℕ) (x : s.Parts) (v : ℕ) (next : List ℕ) (w : m.World) → Ready next w
-        → Below next kept → s.Stands w p kept (Cells ws) → Delivered next w (hosts_of s.calls p) at i → Operand next w p x v
+        → Below next kept → s.Stands w p kept (Cells ws) → Delivered next w (holders_among s.calls p) at i → Operand next w p x v
         → Renews next kept (s.calls.put p kept at x) w p (Cells (slice_set ws i v))

@@ -21,7 +21,7 @@ use Rattle.vd_execution.specs.Plans.{Ends, Branch}
 use Rattle.vd_duet.specs.Laws.{Each}
 use Rattle.vd_choreography.specs.Block.{Block, End, Let, NewVar, NewArray, Store, Put, Output, If, For, each}
 use Rattle.vd_choreography.specs.Joint.{acts_then, and_then}
-use Rattle.vd_choreography.specs.Suite.{picked, Made, Calls, hosts_of}
+use Rattle.vd_choreography.specs.Suite.{picked, Made, Calls, holders_among}
 use Rattle.vd_choreography.specs.Emission.{Emitted, parts_at, delivered, all_moved, and_on, right_made, with_parts, in_turn, store_made, put_made, output_made, if_made, for_made, after_loop_registers}
 use Rattle.vd_choreography.proofs.Front.{and_left, and_right}
 use Rattle.vd_split.proofs.Front.{picked_few}
@@ -160,7 +160,7 @@ module _ (hosts : ℕ) (proto : ℕ → Proto) (few_hosts : hosts ≤ 4) (over :
       }
   right_takes q (Get v i) operands e f =
       let p = proto v.0 in
-      let index = delivered s proto (proto i.0) (parts_at s proto e i) (hosts_of s p) e.next in
+      let index = delivered s proto (proto i.0) (parts_at s proto e i) (holders_among s p) e.next in
       let told = some_told (λ h. is_holder p (host h)) (proto i.0) (parts_at s proto e i) (slot_of e i f) e.next in
       let read = s.get p (parts_at s proto e v) index.given index.next in
       let one = get_takes p (parts_at s proto e v) index.given index.next in
@@ -345,7 +345,7 @@ module _ (hosts : ℕ) (proto : ℕ → Proto) (few_hosts : hosts ≤ 4) (over :
       }
   block_short (Put v i x rest) p e f =
       let t = proto v.0 in
-      let index = delivered s proto (proto i.0) (parts_at s proto e i) (hosts_of s t) e.next in
+      let index = delivered s proto (proto i.0) (parts_at s proto e i) (holders_among s t) e.next in
       let told = some_told (λ h. is_holder t (host h)) (proto i.0) (parts_at s proto e i) (slot_of e i f) e.next in
       let moved = s.move (proto x.0) t (parts_at s proto e x) index.next in
       let one = move_takes (proto x.0) t (parts_at s proto e x) (slot_of e x f) index.next in

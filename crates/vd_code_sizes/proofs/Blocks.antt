@@ -21,7 +21,7 @@ use Rattle.vd_execution.specs.Plans.{Ends, Branch}
 use Rattle.vd_duet.specs.Laws.{Each}
 use Rattle.vd_choreography.specs.Block.{Block, End, Let, NewVar, NewArray, Store, Put, Output, If, For, each}
 use Rattle.vd_choreography.specs.Joint.{and_then}
-use Rattle.vd_choreography.specs.Suite.{picked, Made, Calls, hosts_of}
+use Rattle.vd_choreography.specs.Suite.{picked, Made, Calls, holders_among}
 use Rattle.vd_choreography.specs.Emission.{Emitting, Emitted, Emission, parts_at, delivered, all_moved, and_on, right_made, with_parts, with_acts, in_turn, store_made, put_made, output_made, if_made, for_made, loop_registers, after_loop_registers, stmt_emission}
 use Rattle.vd_choreography.proofs.Front.{and_left, and_right}
 use Rattle.vd_split.proofs.Front.{picked_below, picked_few}
@@ -222,7 +222,7 @@ module _ (hosts N : ℕ) (proto : ℕ → Proto) (known : (x : ℕ) → IsKnown 
       call_then (m + 384) n kept (s.move p q kept.given kept.next) one two
   right_fits q onto (Get v i) operands declared e m n f more most =
       let p = proto v.0 in
-      let index = delivered s proto (proto i.0) (parts_at s proto e i) (hosts_of s p) e.next in
+      let index = delivered s proto (proto i.0) (parts_at s proto e i) (holders_among s p) e.next in
       let told = told_some (λ h. is_holder p (host h)) (proto i.0) (known i.0) (parts_at s proto e i) m (m + 1536) e.next (parts_fit m e i f) (omega arith) (omega (arith, more, most)) f.next in
       let read = s.get p (parts_at s proto e v) index.given index.next in
       let one = get_fits hosts N p (known v.0) (parts_at s proto e v) index.given (m + 1536) (m + 1920) index.next (slot_more hosts N m (m + 1536) (parts_at s proto e v) (omega arith) (parts_fit m e v f)) told.given (omega arith) (omega (arith, more, most)) told.low in
@@ -348,7 +348,7 @@ module _ (hosts N : ℕ) (proto : ℕ → Proto) (known : (x : ℕ) → IsKnown 
   block_fits (Put v i x rest) p q e m n f more most =
       let a = m + 2560 in
       let t = proto v.0 in
-      let index = delivered s proto (proto i.0) (parts_at s proto e i) (hosts_of s t) e.next in
+      let index = delivered s proto (proto i.0) (parts_at s proto e i) (holders_among s t) e.next in
       let told = told_some (λ h. is_holder t (host h)) (proto i.0) (known i.0) (parts_at s proto e i) m (m + 1536) e.next (parts_fit m e i f) (omega arith) (let z = at_most m (cost rest) n more most in omega (arith, z)) f.next in
       let moved = s.move (proto x.0) t (parts_at s proto e x) index.next in
       let one = move_fits hosts N (proto x.0) t (known x.0) (known v.0) (parts_at s proto e x) (m + 1536) a index.next (slot_more hosts N m (m + 1536) (parts_at s proto e x) (omega arith) (parts_fit m e x f)) (omega arith) (at_most m (cost rest) n more most) told.low in

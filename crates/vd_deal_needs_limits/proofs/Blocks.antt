@@ -13,7 +13,7 @@ use Rattle.vd_execution.specs.Plans.{Plan, Ends, Branch, joint_of}
 use Rattle.vd_execution.specs.Step.{Source}
 use Rattle.vd_choreography.specs.Block.{Block, End, Let, NewVar, NewArray, Store, Put, Output, If, For, each}
 use Rattle.vd_choreography.specs.Joint.{acts_then, and_then}
-use Rattle.vd_choreography.specs.Suite.{Calls, Made, hosts_of, picked}
+use Rattle.vd_choreography.specs.Suite.{Calls, Made, holders_among, picked}
 use Rattle.vd_choreography.specs.Emission.{Emitted, and_on, delivered, for_made, if_made, in_turn, parts_at, right_made}
 use Rattle.vd_deal_needs_laws.specs.Needs.{greater, takes}
 use Rattle.vd_backend_laws.specs.Parts.{Parts, suite_calls}
@@ -116,7 +116,7 @@ module _ (hosts : ℕ) (proto : ℕ → Proto) (h : ℕ) (r : Source) where
       let after = (made_by hosts proto (Stmt-F.Store v x) e).state in
       simple (Store v x rest) rest (moved.acts ++ s.renew (proto v.0) (parts_at s proto e v) moved.given) (made_of rest after).tree (f.0.code h) (λ k. weigh_next (λ i. i) (each weigh_step rest) k) (block_takes rest after f.1) n
   block_takes (Put v i x rest) e f n =
-      let index = delivered s proto (proto i.0) (parts_at s proto e i) (hosts_of s (proto v.0)) e.next in
+      let index = delivered s proto (proto i.0) (parts_at s proto e i) (holders_among s (proto v.0)) e.next in
       let moved = s.move (proto x.0) (proto v.0) (parts_at s proto e x) index.next in
       let after = (made_by hosts proto (Stmt-F.Put v i x) e).state in
       simple (Put v i x rest) rest ((index.acts ++ moved.acts) ++ s.put (proto v.0) (parts_at s proto e v) index.given moved.given) (made_of rest after).tree (f.0.code h) (λ k. weigh_next (λ i. i) (each weigh_step rest) k) (block_takes rest after f.1) n

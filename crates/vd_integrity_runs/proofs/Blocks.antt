@@ -22,7 +22,7 @@ use Rattle.vd_execution.specs.Deals.{IsValidDeal}
 use Rattle.vd_duet.specs.Laws.{IsHost}
 use Rattle.vd_choreography.specs.Block.{Block, End, Let, NewVar, NewArray, Store, Put, Output, If, For, each}
 use Rattle.vd_choreography.specs.Joint.{Each as EachOf, IsIn, choice}
-use Rattle.vd_choreography.specs.Suite.{Word, Cells, Made, Suite, Laws, picked, hosts_of as hosts_at}
+use Rattle.vd_choreography.specs.Suite.{Word, Cells, Made, Suite, Laws, picked, holders_among}
 use Rattle.vd_choreography.specs.Emission.{Emitting, Emitted, Emission, delivered, right_made, if_made, for_made, loop_registers, after_loop_registers}
 use Rattle.vd_choreography.specs.Validity.{Fits, Placed, RightFits, RightPlaced, Reaches, emission_of, turns_at}
 use Rattle.vd_choreography.proofs.Front.{InRow, front_kept, row_front, row_back, and_left, and_right, or_left, or_right, Use, Binding, Variable, Array, Sees, content, with_use, After, TurnsIn, array_after, let_after, output_after, put_after, store_after, turns_past, unchanging_past, var_after, picked_join, operand_of, slots, sees, effect_of, turn_here, turn_later, turns_act, no_slots, both_idle, means}
@@ -149,7 +149,7 @@ module _ (hosts : ℕ) (t : Tape) (deal : IsValidDeal t) (inputs : ℕ → List 
   let_step o e w0 c0 turn has x (Load v) ties is sees fits placed small reach flow w u c trust loop run one =
       let_leads hosts t deal inputs dealt proto clear declared k declassified stays heard o e w0 c0 ties turn has w c trust x (Load v) tt is sees fits placed small reach loop flow u run one
   let_step o e w0 c0 turn has x (Get v i) ties is sees fits placed small reach flow w u c trust loop run one =
-      let index = delivered (suite_calls hosts) proto (proto i.0) (part_of hosts t inputs proto clear e.held i.0) (hosts_at (suite_calls hosts) (proto v.0)) e.next in
+      let index = delivered (suite_calls hosts) proto (proto i.0) (part_of hosts t inputs proto clear e.held i.0) (holders_among (suite_calls hosts) (proto v.0)) e.next in
       let got = (suite_calls hosts).get (proto v.0) (part_of hosts t inputs proto clear e.held v.0) index.given index.next in
       let moved = (suite_calls hosts).move (proto v.0) (proto x.0) got.given got.next in
       let last = gadgets_parts k.known t (index.acts ++ got.acts) moved.acts w u run in
@@ -556,7 +556,7 @@ module _ (hosts : ℕ) (t : Tape) (deal : IsValidDeal t) (inputs : ℕ → List 
       let flow' = and_parts (only_with (k.kept v.0) (k.kept i.0 && k.kept y.0)) (flows k rest) flow in
       let a0 = put_after (machine t inputs) (suite t inputs hosts) proto theory declared o e w0 c0 v i y ties sees_v sees_i sees_y placed.0 placed.1 placed.2 in
       let array = part_of hosts t inputs proto clear e.held v.0 in
-      let index = delivered (suite_calls hosts) proto (proto i.0) (part_of hosts t inputs proto clear e.held i.0) (hosts_at (suite_calls hosts) (proto v.0)) e.next in
+      let index = delivered (suite_calls hosts) proto (proto i.0) (part_of hosts t inputs proto clear e.held i.0) (holders_among (suite_calls hosts) (proto v.0)) e.next in
       let moved = (suite_calls hosts).move (proto y.0) (proto v.0) (part_of hosts t inputs proto clear e.held y.0) index.next in
       let last = gadgets_parts k.known t (index.acts ++ moved.acts) ((suite_calls hosts).put (proto v.0) array index.given moved.given) w run.0 run.1.0 in
       let first = gadgets_parts k.known t index.acts moved.acts w last.0 last.1.0 in

@@ -18,7 +18,7 @@ use Rattle.vd_execution.specs.World.{Tape}
 use Rattle.vd_execution.specs.Deals.{IsValidDeal}
 use Rattle.vd_duet.specs.Laws.{AreKnown, IsHost}
 use Rattle.vd_choreography.specs.Joint.{Each as EachOf}
-use Rattle.vd_choreography.specs.Suite.{Cells, Made, Below, Laws, hosts_of as hosts_at}
+use Rattle.vd_choreography.specs.Suite.{Cells, Made, Below, Laws, holders_among}
 use Rattle.vd_choreography.specs.Emission.{Emitting, delivered}
 use Rattle.vd_choreography.specs.Validity.{Reaches}
 use Rattle.vd_choreography.proofs.Front.{Binding, Array, Sees, with_use, item_put, other_array, other_word, tied_past, Reached, picked_join, ready_past, index_reached, moved, operand_of}
@@ -76,23 +76,23 @@ module _ (hosts : ℕ) (t : Tape) (deal : IsValidDeal t) (inputs : ℕ → List 
 
     -- ---- an index is told to the hosts of an array
     module _ (v i : SlotId) (sees_i : Sees o Binding i.0) (sees_v : Sees o Array v.0) (reaches : Reaches _ (suite t inputs hosts) proto i (λ h. is_holder (proto v.0) (host h))) (m : Hosts)
-        (run : RunsGadgets k.known t (delivered (suite_calls hosts) proto (proto i.0) (part_of hosts t inputs proto clear e.held i.0) (hosts_at (suite_calls hosts) (proto v.0)) e.next).acts w m) where
+        (run : RunsGadgets k.known t (delivered (suite_calls hosts) proto (proto i.0) (part_of hosts t inputs proto clear e.held i.0) (holders_among (suite_calls hosts) (proto v.0)) e.next).acts w m) where
       abbrev index : Made Gadget (List Part)
-      index = delivered (suite_calls hosts) proto (proto i.0) (part_of hosts t inputs proto clear e.held i.0) (hosts_at (suite_calls hosts) (proto v.0)) e.next
+      index = delivered (suite_calls hosts) proto (proto i.0) (part_of hosts t inputs proto clear e.held i.0) (holders_among (suite_calls hosts) (proto v.0)) e.next
 
       within : {g : ℕ} → g < 0 + hosts → g < hosts
       within lt = omega arith
 
-      joins : EachOf (λ g. (g.0 < hosts) × ((suite t inputs hosts).joins (proto i.0) (Local g) ≡ true)) (hosts_at (suite_calls hosts) (proto v.0))
+      joins : EachOf (λ g. (g.0 < hosts) × ((suite t inputs hosts).joins (proto i.0) (Local g) ≡ true)) (holders_among (suite_calls hosts) (proto v.0))
       joins = picked_join _ (suite t inputs hosts) theory proto (proto i.0) (λ h. is_holder (proto v.0) (host h)) 0 hosts (λ g lt is. reaches g (within lt) is) (omega arith)
 
       index_fresh : IsFresh e.next index.acts index.next
-      index_fresh = delivered_fresh hosts t deal inputs dealt proto clear declared (proto i.0) (clear i.0) (part_of hosts t inputs proto clear e.held i.0) (hosts_at (suite_calls hosts) (proto v.0)) joins e.next ties.ready.known
+      index_fresh = delivered_fresh hosts t deal inputs dealt proto clear declared (proto i.0) (clear i.0) (part_of hosts t inputs proto clear e.held i.0) (holders_among (suite_calls hosts) (proto v.0)) joins e.next ties.ready.known
 
       index_framed : IsFramed (Free e.next) w m
       index_framed = runs_framed (Free e.next) k.known t index.acts w m index_fresh.touches run
 
-      shadow : Reached (machine t inputs) (suite t inputs hosts) theory e.next w0 (hosts_at (suite_calls hosts) (proto v.0)) index (word_at c0 i)
+      shadow : Reached (machine t inputs) (suite t inputs hosts) theory e.next w0 (holders_among (suite_calls hosts) (proto v.0)) index (word_at c0 i)
       shadow = index_reached (machine t inputs) (suite t inputs hosts) proto theory declared o e.next e.held w0 c0 ties v i sees_i reaches
 
       index_low : (h : ℕ) → IsHost (holders (proto v.0)) h → (index_of index.given h).0 < slice_index index.next h
@@ -101,9 +101,9 @@ module _ (hosts : ℕ) (t : Tape) (deal : IsValidDeal t) (inputs : ℕ → List 
       index_there : k.kept i.0 ≡ true → (h : ℕ) → IsHost (holders (proto v.0)) h → k.known h ≡ true → (m h).registers (index_of index.given h).0 ≡ word_at c i
       index_there is h j keep =
           index_right k.known m (word_at c i) index.given h
-          (subst (In h) (sym (given_hosts hosts t deal inputs dealt proto clear declared (proto i.0) (part_of hosts t inputs proto clear e.held i.0) (hosts_at (suite_calls hosts) (proto v.0)) e.next))
+          (subst (In h) (sym (given_hosts hosts t deal inputs dealt proto clear declared (proto i.0) (part_of hosts t inputs proto clear e.held i.0) (holders_among (suite_calls hosts) (proto v.0)) e.next))
           (picked_in (λ g. is_holder (proto v.0) (host g)) 0 hosts h (omega arith) (let lt = host_known hosts (holders (proto v.0)) h (declared v.0).known j in omega (arith, lt)) (holder_at (proto v.0) h j)))
-          (delivered_right hosts t deal inputs dealt proto clear declared k declassified stays (proto i.0) (clear i.0) (declared i.0) (stays i.0 is) (part_of hosts t inputs proto clear e.held i.0) (word_at c0 i) (word_at c i) (hosts_at (suite_calls hosts) (proto v.0)) joins e.next w0 ties.ready
+          (delivered_right hosts t deal inputs dealt proto clear declared k declassified stays (proto i.0) (clear i.0) (declared i.0) (stays i.0 is) (part_of hosts t inputs proto clear e.held i.0) (word_at c0 i) (word_at c i) (holders_among (suite_calls hosts) (proto v.0)) joins e.next w0 ties.ready
           (operand_of _ (suite t inputs hosts) proto theory declared o e.next e.held w0 c0 ties i.0 sees_i) w m
           (operand hosts t inputs proto clear k.known k.kept o e.next e.held w0 c0 ties w c trust i.0 sees_i is) run) keep
 

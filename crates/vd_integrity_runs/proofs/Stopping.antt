@@ -19,7 +19,7 @@ use Rattle.vd_execution.specs.World.{Tape}
 use Rattle.vd_execution.specs.Deals.{IsValidDeal}
 use Rattle.vd_choreography.specs.Block.{Block, End, Let, NewVar, NewArray, Store, Put, Output, If, For, each}
 use Rattle.vd_choreography.specs.Joint.{choice}
-use Rattle.vd_choreography.specs.Suite.{Laws, hosts_of as hosts_at}
+use Rattle.vd_choreography.specs.Suite.{Laws, holders_among}
 use Rattle.vd_choreography.specs.Emission.{Emission, Emitted, delivered}
 use Rattle.vd_choreography.specs.Validity.{Fits, Placed, Reaches, turns_at}
 use Rattle.vd_choreography.proofs.Front.{InRow, row_front, row_back, and_left, and_right, or_left, or_right, Binding, Variable, Array, Sees, with_use, After, TurnsIn, array_after, let_after, output_after, put_after, store_after, turns_past, var_after, slots, sees, effect_of, turn_here, turn_later, turns_act, no_slots}
@@ -350,7 +350,7 @@ module _ (hosts : ℕ) (t : Tape) (deal : IsValidDeal t) (inputs : ℕ → List 
       let flow' = and_parts (only_with (k.kept v.0) (k.kept i.0 && k.kept y.0)) (flows k rest) flow in
       let a0 = put_after (machine t inputs) (suite t inputs hosts) proto theory declared o e w0 c0 v i y ties sees_v sees_i sees_y placed.0 placed.1 placed.2 in
       let array = part_of hosts t inputs proto clear e.held v.0 in
-      let index = delivered (suite_calls hosts) proto (proto i.0) (part_of hosts t inputs proto clear e.held i.0) (hosts_at (suite_calls hosts) (proto v.0)) e.next in
+      let index = delivered (suite_calls hosts) proto (proto i.0) (part_of hosts t inputs proto clear e.held i.0) (holders_among (suite_calls hosts) (proto v.0)) e.next in
       let moved = (suite_calls hosts).move (proto y.0) (proto v.0) (part_of hosts t inputs proto clear e.held y.0) index.next in
       let last = gadgets_parts k.known t (index.acts ++ moved.acts) ((suite_calls hosts).put (proto v.0) array index.given moved.given) w run.0 run.1.0 in
       let first = gadgets_parts k.known t index.acts moved.acts w last.0 last.1.0 in

@@ -9,7 +9,7 @@ use Rattle.vd_execution.specs.World.{Tape}
 use Rattle.vd_duet.specs.Calls.{Places}
 use Rattle.vd_choreography.specs.Block.{Block, End, Let, NewVar, NewArray, Store, Put, Output, If, For, each}
 use Rattle.vd_choreography.specs.Joint.{choice}
-use Rattle.vd_choreography.specs.Suite.{picked, hosts_of}
+use Rattle.vd_choreography.specs.Suite.{picked, holders_among}
 use Rattle.vd_choreography.specs.Emission.{Emitting, Emission, parts_at, delivered, and_on, right_made, with_parts, in_turn, stmt_emission, store_made, put_made, output_made, if_made, for_made, loop_registers, after_loop_registers}
 use Rattle.vd_backend_laws.specs.Machine.{given_turn}
 use Rattle.vd_backend_laws.specs.Parts.{Parts, suite_calls}
@@ -67,7 +67,7 @@ module _ (hosts : ℕ) (proto : ℕ → Proto) (keeps : ℕ → Bool) (t : Tape)
       let moved = (suite_calls hosts).move (proto y.0) (proto v.0) (held_of e y) e.next in
       (u : Hosts) × (Acts (moved.acts ++ (suite_calls hosts).renew (proto v.0) (held_of e v) moved.given) w u × RunsBlock rest (store_made (suite_calls hosts) proto v y e).state u w')
   RunsBlock (Put v i y rest) e w w' =
-      let index = delivered (suite_calls hosts) proto (proto i.0) (held_of e i) (hosts_of (suite_calls hosts) (proto v.0)) e.next in
+      let index = delivered (suite_calls hosts) proto (proto i.0) (held_of e i) (holders_among (suite_calls hosts) (proto v.0)) e.next in
       let moved = (suite_calls hosts).move (proto y.0) (proto v.0) (held_of e y) index.next in
       (u : Hosts) × (Acts ((index.acts ++ moved.acts) ++ (suite_calls hosts).put (proto v.0) (held_of e v) index.given moved.given) w u × RunsBlock rest (put_made (suite_calls hosts) proto v i y e).state u w')
   RunsBlock (Output y k offset rest) e w w' =
@@ -102,7 +102,7 @@ module _ (hosts : ℕ) (proto : ℕ → Proto) (keeps : ℕ → Bool) (t : Tape)
       let moved = (suite_calls hosts).move (proto y.0) (proto v.0) (held_of e y) e.next in
       (w' ≡ w) ⊎ ((u : Hosts) × (Acts (moved.acts ++ (suite_calls hosts).renew (proto v.0) (held_of e v) moved.given) w u × RunsInto rest (store_made (suite_calls hosts) proto v y e).state u w'))
   RunsInto (Put v i y rest) e w w' =
-      let index = delivered (suite_calls hosts) proto (proto i.0) (held_of e i) (hosts_of (suite_calls hosts) (proto v.0)) e.next in
+      let index = delivered (suite_calls hosts) proto (proto i.0) (held_of e i) (holders_among (suite_calls hosts) (proto v.0)) e.next in
       let moved = (suite_calls hosts).move (proto y.0) (proto v.0) (held_of e y) index.next in
       (w' ≡ w)
       ⊎ ((u : Hosts) × (Acts ((index.acts ++ moved.acts) ++ (suite_calls hosts).put (proto v.0) (held_of e v) index.given moved.given) w u × RunsInto rest (put_made (suite_calls hosts) proto v i y e).state u w'))

@@ -14,7 +14,7 @@ use Rattle.vd_semantics.specs.Turns.{turns}
 use Rattle.vd_semantics.specs.ProgramMeaning.{SlotState, Effect, word_at, in_order, stmt_effect}
 use Rattle.vd_choreography.specs.Block.{Block, End, Let, NewVar, NewArray, Store, Put, Output, If, For, each}
 use Rattle.vd_choreography.specs.Joint.{Hosts, run_acts, Each, branch, choice, joint}
-use Rattle.vd_choreography.specs.Suite.{picked, Made, Suite, Laws, hosts_of}
+use Rattle.vd_choreography.specs.Suite.{picked, Made, Suite, Laws, holders_among}
 use Rattle.vd_choreography.specs.Emission.{Emitted, Emission, delivered, if_made, for_made, loop_registers, after_loop_registers}
 use Rattle.vd_choreography.specs.Validity.{Fits, emission_of, turns_at, Placed, Reaches}
 use Rattle.vd_choreography.proofs.Front.{and_left, and_right, or_left, or_right, or_none_left, or_none_right, InRow, row_front, row_back, Binding, Variable, Array, Sees, with_use, part, Tied, tied_past, moved, operand_of, index_reached, Reached, picked_join, E, Ties, TurnsIn, After, turns_past, let_after, var_after, array_after, store_after, put_after, output_after, slots, sees, effect_of, emits, turn_here, turn_later, turns_act, no_slots, both_idle, means}
@@ -242,7 +242,7 @@ module _ (m : Hosts) (s : Suite m) (protocols : List Proto) (h : HostId) (l : La
       let sees_i = and_right _ _ (and_left _ _ here) in
       let sees_y = and_right _ _ here in
       let a = put_after m s proto laws declared o e w c v i y t (and_left _ _ (and_left _ _ here)) sees_i sees_y placed.0 placed.1 placed.2 in
-      let index = delivered s.calls proto (proto i.0) (part m s proto e.held i.0) (hosts_of s.calls (proto v.0)) e.next in
+      let index = delivered s.calls proto (proto i.0) (part m s proto e.held i.0) (holders_among s.calls (proto v.0)) e.next in
       let b = (index_reached m s proto laws declared o e.next e.held w c t v i sees_i placed.2).between in
       let t1 = tied_past m s proto laws o e.next index.next e.held w b.reached c index.acts t b.leads b.quiet b.known b.longer in
       ap₂ (λ (p q : List ℕ). p ++ q)

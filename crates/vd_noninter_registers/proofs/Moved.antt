@@ -13,7 +13,7 @@ use Rattle.vd_core.specs.Facts.{Sight, right_sees}
 use Rattle.vd_constraints.specs.Scoped.{is_below, right_below}
 use Rattle.vd_semantics.specs.ProgramMeaning.{SlotState, word_at, right_word, after_right}
 use Rattle.vd_choreography.specs.Joint.{Hosts, run_acts, Each}
-use Rattle.vd_choreography.specs.Suite.{Word, Made, Suite, Operand, Ready, Laws, hosts_of}
+use Rattle.vd_choreography.specs.Suite.{Word, Made, Suite, Operand, Ready, Laws, holders_among}
 use Rattle.vd_choreography.specs.Emission.{Emitting, right_made}
 use Rattle.vd_choreography.specs.Validity.{RightFits, RightPlaced, Reaches}
 use Rattle.vd_choreography.proofs.Front.{and_left, and_right, Binding, Sees, Unchanging, Tied, Between, between_of, ready_past, operand_past, Movable, all_past, picked_join, Done, Turning, operand_of, movables, right_done}
@@ -82,9 +82,9 @@ module _ (m : Hosts) (s : Suite m) (protocols : List Proto) (h : HostId) (laws :
   module _ (known : h.0 < s.calls.hosts) (o : Sight) (e : Emitting s.calls proto) (w : m.World) (c : SlotState) (t : Tied m s proto o e.next e.held w c) where
     -- an index comes to each host at which the array is kept
     pub index_is : (v i : SlotId) → is_below (length protocols) v ≡ true → Sees o Binding i.0 → Reaches m s proto i (λ k. is_holder (proto v.0) (host k))
-        → delivered_told m s.calls protocols h i e (hosts_of s.calls (proto v.0)) e.next w ≡ word_if (index_comes protocols h v i) (word_at c i)
+        → delivered_told m s.calls protocols h i e (holders_among s.calls (proto v.0)) e.next w ≡ word_if (index_comes protocols h v i) (word_at c i)
     index_is v i low sees reaches =
-        delivered_is i e (word_at c i) (hosts_of s.calls (proto v.0))
+        delivered_is i e (word_at c i) (holders_among s.calls (proto v.0))
         (picked_join m s laws proto (proto i.0) (λ k. is_holder (proto v.0) (host k)) 0 s.calls.hosts (λ k lt is. reaches k (within lt) is) (omega arith))
         e.next w t.ready (operand_of m s proto laws declared o e.next e.held w c t i.0 sees)
         ∙ picked_once h (comes_alone protocols h i) (word_at c i) (λ k. is_holder (proto v.0) (host k)) s.calls.hosts known

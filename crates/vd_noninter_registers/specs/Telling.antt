@@ -13,7 +13,7 @@ use Rattle.vd_core.specs.declared.normal.Stmt.TheOpen.{Stmt-F}
 use Rattle.vd_semantics.specs.Turns.{turns}
 use Rattle.vd_choreography.specs.Block.{Block, End, Let, NewVar, NewArray, Store, Put, Output, If, For, each}
 use Rattle.vd_choreography.specs.Joint.{Hosts, run_acts, branch, joint}
-use Rattle.vd_choreography.specs.Suite.{picked, Made, Calls, hosts_of}
+use Rattle.vd_choreography.specs.Suite.{picked, Made, Calls, holders_among}
 use Rattle.vd_choreography.specs.Emission.{Emitting, Emitted, Emission, parts_at, delivered, right_made, in_turn, stmt_emission, loop_registers, after_loop_registers}
 use Rattle.vd_noninter_assigned.specs.Hearing.{word_if, comes, comes_alone}
 
@@ -62,7 +62,7 @@ module _ (m : Hosts) {P : Type 0} (s : Calls m.Act P) (protocols : List Proto) (
   right_told x (Declassify y to) e w = moved_told y x (Declassify y to) e w
   right_told x (Endorse y to) e w = moved_told y x (Endorse y to) e w
   right_told x (Load v) e w = moved_told v x (Load v) e w
-  right_told x (Get v i) e w = delivered_told i e (hosts_of s (proto v.0)) e.next w ++ moved_told v x (Get v i) e w
+  right_told x (Get v i) e w = delivered_told i e (holders_among s (proto v.0)) e.next w ++ moved_told v x (Get v i) e w
 
   -- a word that is moved to where the slot stands
   abbrev pub word_told : SlotId → SlotId → Emitting s proto → List ℕ → m.World → List ℕ
@@ -89,7 +89,7 @@ module _ (m : Hosts) {P : Type 0} (s : Calls m.Act P) (protocols : List Proto) (
       let one = made (Stmt-F.Store v y) e in
       word_told y v e e.next w ++ told rest one.state (joint m one.tree w)
   told (Put v i y rest) e w =
-      let hosts = hosts_of s (proto v.0) in
+      let hosts = holders_among s (proto v.0) in
       let index = delivered s proto (proto i.0) (parts_at s proto e i) hosts e.next in
       let moved = word_told y v e index.next (run_acts m index.acts w) in
       let one = made (Stmt-F.Put v i y) e in

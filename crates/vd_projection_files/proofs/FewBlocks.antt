@@ -20,7 +20,7 @@ use Rattle.vd_execution.specs.Plans.{Plan, Ends, Then, Branch, Loop}
 use Rattle.vd_duet.specs.Laws.{Each}
 use Rattle.vd_choreography.specs.Block.{Block, End, Let, NewVar, NewArray, Store, Put, Output, If, For, each}
 use Rattle.vd_choreography.specs.Joint.{acts_then, and_then}
-use Rattle.vd_choreography.specs.Suite.{picked, Made, Calls, hosts_of}
+use Rattle.vd_choreography.specs.Suite.{picked, Made, Calls, holders_among}
 use Rattle.vd_choreography.specs.Emission.{Emitting, Emitted, Emission, parts_at, delivered, all_moved, and_on, right_made, with_parts, in_turn, store_made, put_made, output_made, if_made, for_made, loop_registers, after_loop_registers, stmt_emission}
 use Rattle.vd_choreography.proofs.Front.{and_left, and_right}
 use Rattle.vd_split.proofs.Front.{picked_few}
@@ -172,7 +172,7 @@ module _ (hosts : ℕ) (proto : ℕ → Proto) (few_hosts : hosts ≤ 4) where
       record { acts = few_more 680 2040 (kept.acts ++ moved.acts) (lit≤ tt) (few_both 340 340 kept.acts moved.acts one.acts two.acts); given = two.given }
   right_few q (Get v i) operands shift e f =
       let p = proto v.0 in
-      let index = delivered s proto (proto i.0) (parts_at s proto e i) (hosts_of s p) e.next in
+      let index = delivered s proto (proto i.0) (parts_at s proto e i) (holders_among s p) e.next in
       let told = told_few (λ h. is_holder p (host h)) (proto i.0) (parts_at s proto e i) (slot_of e i f) e.next in
       let read = s.get p (parts_at s proto e v) index.given index.next in
       let one = get_few p (parts_at s proto e v) index.given (slot_of e v f) index.next in
@@ -295,7 +295,7 @@ module _ (hosts : ℕ) (proto : ℕ → Proto) (few_hosts : hosts ≤ 4) where
       (block_small rest p q r (no_cells 0 (Store v x rest) rest (cells_next 0 (each cells_step rest)) le) after.state f)
   block_small (Put v i x rest) p q r le e f =
       let t = proto v.0 in
-      let index = delivered s proto (proto i.0) (parts_at s proto e i) (hosts_of s t) e.next in
+      let index = delivered s proto (proto i.0) (parts_at s proto e i) (holders_among s t) e.next in
       let told = told_few (λ h. is_holder t (host h)) (proto i.0) (parts_at s proto e i) (slot_of e i f) e.next in
       let moved = s.move (proto x.0) t (parts_at s proto e x) index.next in
       let one = move_few (proto x.0) t (parts_at s proto e x) (slot_of e x f) index.next in

@@ -8,7 +8,7 @@ use Rattle.vd_base.specs.Holders.{proto_in}
 use Rattle.vd_core.specs.declared.normal.Right.{Right}
 use Rattle.vd_core.specs.declared.normal.Stmt.{Stmt, Let, NewVar, Store, NewArray, Put, Output, For}
 use Rattle.vd_execution.specs.Gadgets.{Gadget}
-use Rattle.vd_choreography.specs.Suite.{Calls, hosts_of}
+use Rattle.vd_choreography.specs.Suite.{Calls, holders_among}
 use Rattle.vd_choreography.specs.Emission.{Emission, at_slot, delivered_at, right_acts_at, emission}
 use Rattle.vd_split.specs.Places.{acting}
 use Rattle.vd_split.proofs.Variants.{let_e, variable_e, array_e, store_e, put_e, output_e, for_e}
@@ -30,7 +30,7 @@ module _ {P : Type 0} (s : Calls Gadget P) (protos : List Proto) where
   acts_store v x h b is = is ∙ ap (λ (f : Emission s pr). f.acts_at h) (sym (store_e s protos v x))
 
   pub acts_put : (v i x : SlotId) (h : ℕ) (b : Bool)
-      → b ≡ (delivered_at s pr (pr i.0) (hosts_of s (pr v.0)) h || s.moves_at (pr x.0) (pr v.0) h || at_slot s pr v h) → b ≡ (emission s pr (Put v i x)).acts_at h
+      → b ≡ (delivered_at s pr (pr i.0) (holders_among s (pr v.0)) h || s.moves_at (pr x.0) (pr v.0) h || at_slot s pr v h) → b ≡ (emission s pr (Put v i x)).acts_at h
   acts_put v i x h b is = is ∙ ap (λ (f : Emission s pr). f.acts_at h) (sym (put_e s protos v i x))
 
   pub acts_output : (x : SlotId) (k : HostId) (o h : ℕ) (b : Bool) → b ≡ (s.moves_at (pr x.0) (Local k) h || nat_eq k.0 h) → b ≡ (emission s pr (Output x k o)).acts_at h

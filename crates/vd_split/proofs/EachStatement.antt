@@ -9,7 +9,7 @@ use Rattle.vd_core.specs.declared.normal.Right.{Right}
 use Rattle.vd_execution.specs.Gadgets.{Gadget}
 use Rattle.vd_duet.specs.Builder.{Builder}
 use Rattle.vd_duet.specs.Calls.{appended}
-use Rattle.vd_choreography.specs.Suite.{Calls, hosts_of}
+use Rattle.vd_choreography.specs.Suite.{Calls, holders_among}
 use Rattle.vd_choreography.specs.Emission.{delivered, and_on, right_made}
 use Rattle.vd_split.specs.Lines.{called}
 use Rattle.vd_split.specs.Places.{state, right_onto, let_onto, variable_onto, array_onto, store_onto, put_onto, output_onto}
@@ -53,6 +53,6 @@ module _ {P : Type 0} (s : Calls Gadget P) (protos : List Proto) where
   output_is x h held c moved c1 c2 is is' = acts_onto s pr (s.move (pr x.0) (Local h) (parts held x) c.next) (s.output h) (state s protos c held []) c (moved, c1) c2 is is'
 
   pub put_is : (v i x : SlotId) (held : List P) (c : Builder) (index : List (ℕ × ℕ)) (c1 : Builder) (moved : P) (c2 c3 : Builder)
-      → (index, c1) ≡ called (delivered s pr (pr i.0) (parts held i) (hosts_of s (pr v.0)) c.next) c → (moved, c2) ≡ called (s.move (pr x.0) (pr v.0) (parts held x) c1.next) c1
+      → (index, c1) ≡ called (delivered s pr (pr i.0) (parts held i) (holders_among s (pr v.0)) c.next) c → (moved, c2) ≡ called (s.move (pr x.0) (pr v.0) (parts held x) c1.next) c1
       → c3 ≡ appended (s.put (pr v.0) (parts held v) index moved) c2 → (c3, held) ≡ put_onto s protos v i x held c
   put_is v i x held c index c1 moved c2 c3 is is' is'' = put_made_onto s protos v i x held c (index, c1) (moved, c2) c3 is is' is''

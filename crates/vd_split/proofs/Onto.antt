@@ -16,7 +16,7 @@ use Rattle.vd_duet.specs.Builder.{Builder}
 use Rattle.vd_duet.specs.Calls.{emitted, appended}
 use Rattle.vd_duet.proofs.Front.{gadgets_append}
 use Rattle.vd_choreography.specs.Joint.{acts_then, and_then}
-use Rattle.vd_choreography.specs.Suite.{picked, Made, Calls, hosts_of}
+use Rattle.vd_choreography.specs.Suite.{picked, Made, Calls, holders_among}
 use Rattle.vd_choreography.proofs.Front.{loop_kept, loop_kept_by}
 use Rattle.vd_choreography.specs.Emission.{Emitting, Emitted, delivered, all_moved, and_on, with_parts, with_acts, emission, block_emission, if_made, for_made, loop_registers, after_loop_registers}
 use Rattle.vd_split.specs.Lines.{called, with_more, plan_lines, if_lines, else_lines, end_lines, for_lines, emitted_onto}
@@ -91,7 +91,7 @@ module _ {P : Type 0} (s : Calls Gadget P) (protos : List Proto) where
   pr = proto_in protos
 
   pub put_made_onto : (v i x : SlotId) (held : List P) (c : Builder) (first : List (ℕ × ℕ) × Builder) (second : P × Builder) (last : Builder)
-      → first ≡ called (delivered s pr (pr i.0) (slice_index_or held i.0 s.nowhere) (hosts_of s (pr v.0)) c.next) c
+      → first ≡ called (delivered s pr (pr i.0) (slice_index_or held i.0 s.nowhere) (holders_among s (pr v.0)) c.next) c
       → second ≡ called (s.move (pr x.0) (pr v.0) (slice_index_or held x.0 s.nowhere) first.1.next) first.1
       → last ≡ appended (s.put (pr v.0) (slice_index_or held v.0 s.nowhere) first.0 second.0) second.1
       → (last, held) ≡ put_onto s protos v i x held c
@@ -101,7 +101,7 @@ module _ {P : Type 0} (s : Calls Gadget P) (protos : List Proto) where
       ((first.0, second.0), second.1) last (both first second is is') is''
     where
       index : Made Gadget (List (ℕ × ℕ))
-      index = delivered s pr (pr i.0) (slice_index_or held i.0 s.nowhere) (hosts_of s (pr v.0)) c.next
+      index = delivered s pr (pr i.0) (slice_index_or held i.0 s.nowhere) (holders_among s (pr v.0)) c.next
 
       two : Made Gadget P
       two = s.move (pr x.0) (pr v.0) (slice_index_or held x.0 s.nowhere) index.next

@@ -2,7 +2,7 @@ ghost use Rattle.std.specs.Prelude.{◌≡◌, ◌||◌, nat_eq};
 ghost use Rattle.std.specs.List.{list_any};
 ghost use Rattle.vd_base.specs.declared.protocols.Proto.TheVariants.{Local as AtHost};
 ghost use Rattle.vd_base.specs.Holders.{is_holder, proto_in};
-ghost use Rattle.vd_choreography.specs.Suite.{picked, hosts_of};
+ghost use Rattle.vd_choreography.specs.Suite.{picked, holders_among};
 ghost use Rattle.vd_choreography.specs.Emission.{right_acts_at, emission};
 ghost use Rattle.vd_split.specs.Places.{takers, acting, guard_acts, branch_acts};
 
@@ -15,7 +15,7 @@ use vd_core::{Right, Stmt};
 #[tactic(auto, using(crate::proofs::Picked::any_none, crate::proofs::Picked::any_here, crate::proofs::Picked::any_absent, crate::proofs::Picked::any_fails))]
 fn acts_in_index<P: Protocols>(protocols: &P, from: Proto, proto: Proto, host: HostId) -> bool
     ensures { result ≡ list_any (λ k. (P.offer protocols.now).calls.moves_at from (AtHost k) host.0)
-        (hosts_of (P.offer protocols.now).calls proto) }
+        (holders_among (P.offer protocols.now).calls proto) }
 {
     for number in 0..protocols.hosts() {
         if is_holder(proto, HostId(number)) {
@@ -105,7 +105,7 @@ fn acts_in_put<P: Protocols>(
     host: HostId,
 ) -> bool
     ensures { let s = (P.offer protocols.now).calls in let onto = proto_in protos.now array.0 in
-        result ≡ list_any (λ k. s.moves_at (proto_in protos.now index.0) (AtHost k) host.0) (hosts_of s onto)
+        result ≡ list_any (λ k. s.moves_at (proto_in protos.now index.0) (AtHost k) host.0) (holders_among s onto)
         || s.moves_at (proto_in protos.now slot.0) onto host.0 || is_holder onto host }
 {
     let proto = proto_of(protos, array);
@@ -159,7 +159,7 @@ fn acts_in_element<P: Protocols>(
     host: HostId,
 ) -> bool
     ensures { let s = (P.offer protocols.now).calls in let from = proto_in protos.now array.0 in
-        result ≡ list_any (λ k. s.moves_at (proto_in protos.now index.0) (AtHost k) host.0) (hosts_of s from)
+        result ≡ list_any (λ k. s.moves_at (proto_in protos.now index.0) (AtHost k) host.0) (holders_among s from)
         || is_holder from host || s.moves_at from at host.0 }
 {
     let proto = proto_of(protos, array);

@@ -1,5 +1,5 @@
 ghost use Rattle.std.specs.Prelude.{◌≡◌, IfOk, slice_index_or};
-ghost use Rattle.vd_choreography.specs.Suite.{hosts_of as hosts_at_proto};
+ghost use Rattle.vd_choreography.specs.Suite.{holders_among};
 
 use crate::protocols::Protocols;
 use std::alloc::AllocError;
@@ -28,7 +28,7 @@ pub(crate) fn hosts_at<P: Protocols>(
     proto: Proto,
     to: &Duet,
 ) -> Result<Items<HostId>, AllocError>
-    ensures { IfOk result (λ hosts. hosts ≡ hosts_at_proto (P.offer protocols.now).calls proto) }
+    ensures { IfOk result (λ hosts. hosts ≡ holders_among (P.offer protocols.now).calls proto) }
 {
     let mut hosts = Items::new(to.alloc());
     for number in 0..protocols.hosts() {

@@ -24,7 +24,7 @@ use Rattle.vd_execution.specs.Plans.{Plan, Ends, Branch, Loop}
 use Rattle.vd_duet.specs.Laws.{IsHost}
 use Rattle.vd_choreography.specs.Block.{Block, End, Let, NewVar, NewArray, Store, Put, Output, If, For, each}
 use Rattle.vd_choreography.specs.Joint.{Hosts as AnyHosts, acts_then, and_then, Each, joint}
-use Rattle.vd_choreography.specs.Suite.{picked, Made, Suite, Laws, hosts_of}
+use Rattle.vd_choreography.specs.Suite.{picked, Made, Suite, Laws, holders_among}
 use Rattle.vd_choreography.specs.Emission.{Emitting, Emitted, Emission, delivered, right_made, in_turn, stmt_emission, if_made, for_made, loop_registers, after_loop_registers, store_made, put_made, output_made, with_parts}
 use Rattle.vd_choreography.specs.Validity.{Fits, turns_at, Placed, Reaches}
 use Rattle.vd_choreography.proofs.Front.{and_left, and_right, or_left, or_right, or_none_left, or_none_right, InRow, row_front, row_back, Binding, Variable, Array, Sees, with_use, part, tied_past, Reached, picked_join, operand_of, index_reached, Ties, TurnsIn, After, turns_past, let_after, var_after, array_after, store_after, put_after, output_after, slots, sees, effect_of, turn_here, turn_later, turns_act, no_slots, both_idle, means}
@@ -612,7 +612,7 @@ module _ (h : HostId) (few : h.0 < 8) (two : h.0 < 2) (t u : Tape) (kin : AreKin
       let sees_a = and_left _ _ (and_left _ _ seen_here) in
       let sees_i = and_right _ _ (and_left _ _ seen_here) in
       let sees_y = and_right _ _ seen_here in
-      let index = delivered (suite_calls hosts) proto (proto i.0) (part m s proto e.held i.0) (hosts_of (suite_calls hosts) (proto a.0)) e.next in
+      let index = delivered (suite_calls hosts) proto (proto i.0) (part m s proto e.held i.0) (holders_among (suite_calls hosts) (proto a.0)) e.next in
       let moved = (suite_calls hosts).move (proto y.0) (proto a.0) (part m s proto e.held y.0) index.next in
       let acts = (suite_calls hosts).put (proto a.0) (part m s proto e.held a.0) index.given moved.given in
       let c1 = with_array a (slice_set (array_at c a) (word_at c i) (word_at c y)) c in

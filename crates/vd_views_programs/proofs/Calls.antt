@@ -21,7 +21,7 @@ use Rattle.vd_execution.specs.Gadgets.{Gadget, acts_of_gadget}
 use Rattle.vd_duet.specs.Laws.{IsHost}
 use Rattle.vd_duet.specs.Calls.{register_of}
 use Rattle.vd_choreography.specs.Joint.{Hosts as AnyHosts, run_acts, Each}
-use Rattle.vd_choreography.specs.Suite.{picked, Word, Cells, Suite, nothing, Gives, Ready, Operand, Below, Laws, hosts_of}
+use Rattle.vd_choreography.specs.Suite.{picked, Word, Cells, Suite, nothing, Gives, Ready, Operand, Below, Laws, holders_among}
 use Rattle.vd_choreography.specs.Emission.{Emitting, parts_at, delivered, all_moved, right_made}
 use Rattle.vd_choreography.specs.Validity.{RightPlaced, Reaches}
 use Rattle.vd_choreography.proofs.Front.{and_left, and_right, Binding, Variable, Array, Sees, part, Unchanging, Tied, Between, between_of, ready_past, gives_on, operand_past, Movable, all_past, picked_join, operand_of, operand_of_variable, movables, index_reached}
@@ -83,11 +83,11 @@ module _ (m : AnyHosts) (s : Suite m) (proto : ℕ → Proto) (laws : Laws m s) 
   kept_gives v sees holds = laws.keep_law (proto v.0) (declared v.0) holds (part m s proto e.held v.0) (word_at c v) e.next w t.ready (operand_of_variable m s proto laws declared o e.next e.held w c t v.0 sees)
 
   got_gives : (v i : SlotId) → Sees o Array v.0 → Sees o Binding i.0 → s.holds VariableRow (proto v.0) ≡ true → Reaches m s proto i (λ k. is_holder (proto v.0) (host k))
-      → let index = delivered s.calls proto (proto i.0) (part m s proto e.held i.0) (hosts_of s.calls (proto v.0)) e.next in
+      → let index = delivered s.calls proto (proto i.0) (part m s proto e.held i.0) (holders_among s.calls (proto v.0)) e.next in
       let got = s.calls.get (proto v.0) (part m s proto e.held v.0) index.given index.next in
       Gives m s e.next nothing (record { given = got.given; acts = index.acts ++ got.acts; next = got.next }) w (proto v.0) (Word (slice_index (array_at c v) (word_at c i)))
   got_gives v i sees_v sees_i holds reaches =
-      let index = delivered s.calls proto (proto i.0) (part m s proto e.held i.0) (hosts_of s.calls (proto v.0)) e.next in
+      let index = delivered s.calls proto (proto i.0) (part m s proto e.held i.0) (holders_among s.calls (proto v.0)) e.next in
       let all = index_reached m s proto laws declared o e.next e.held w c t v i sees_i reaches in
       let words = array_at c v in
       let got = s.calls.get (proto v.0) (part m s proto e.held v.0) index.given index.next in
@@ -224,9 +224,9 @@ module _ (h : HostId) (low : h.0 < 8) (t u : Tape) (kin : AreKin h.0 t u) (input
 
     -- an index, moved to each host at which the array is kept
     pub index_tells : (a i : SlotId) → a.0 < length protocols → Sees o Binding i.0 → Reaches m s proto i (λ k. is_holder (proto a.0) (host k)) → (index_comes protocols h a i ≡ true → word_at c i ≡ word_at d i)
-        → Tells (delivered (suite_calls hosts) proto (proto i.0) (held i) (hosts_of (suite_calls hosts) (proto a.0)) e.next).acts w v
+        → Tells (delivered (suite_calls hosts) proto (proto i.0) (held i) (holders_among (suite_calls hosts) (proto a.0)) e.next).acts w v
     index_tells a i below sees reaches agrees =
-        delivered_tells (proto i.0) (free i.0) (over i.0) (held i) (word_at c i) (word_at d i) (hosts_of (suite_calls hosts) (proto a.0))
+        delivered_tells (proto i.0) (free i.0) (over i.0) (held i) (word_at c i) (word_at d i) (holders_among (suite_calls hosts) (proto a.0))
         (picked_join m s laws proto (proto i.0) (λ k. is_holder (proto a.0) (host k)) 0 hosts (λ k lt is. reaches k (within lt) is) (omega arith)) e.next w v t1.ready t2.ready
         (operand_of m s proto laws over o e.next e.held w c t1 i.0 sees) (operand_of n s' proto laws' over o e.next e.held v d t2 i.0 sees)
         (λ same among. same_alone i (held i) w v (word_at c i) (word_at d i) same (t1.stands Binding i.0 sees) (t2.stands Binding i.0 sees)
@@ -271,7 +271,7 @@ module _ (h : HostId) (low : h.0 < 8) (t u : Tape) (kin : AreKin h.0 t u) (input
     right_tells x (Get a i) below sees placed known agrees =
         let sees_a : Sees o Array a.0 = and_left _ _ sees in
         let sees_i : Sees o Binding i.0 = and_right _ _ sees in
-        let index = delivered (suite_calls hosts) proto (proto i.0) (held i) (hosts_of (suite_calls hosts) (proto a.0)) e.next in
+        let index = delivered (suite_calls hosts) proto (proto i.0) (held i) (holders_among (suite_calls hosts) (proto a.0)) e.next in
         let got = (suite_calls hosts).get (proto a.0) (held a) index.given index.next in
         let p : ℕ = slice_index (array_at c a) (word_at c i) in
         let q : ℕ = slice_index (array_at d a) (word_at d i) in

@@ -9,7 +9,7 @@ use Rattle.vd_core.specs.declared.normal.Right.TheVariants.{Lit, Turn, Copy, App
 use Rattle.vd_execution.specs.Gadgets.{Gadget}
 use Rattle.vd_execution.specs.Plans.{Ends, Branch, Loop}
 use Rattle.vd_choreography.specs.Block.{Block, End, Let, NewVar, NewArray, Store, Put, Output, If, For, each}
-use Rattle.vd_choreography.specs.Suite.{hosts_of, picked}
+use Rattle.vd_choreography.specs.Suite.{holders_among, picked}
 use Rattle.vd_choreography.specs.Emission.{Emitting, Emission, parts_at, delivered, all_moved, right_made, in_turn, stmt_emission, after_loop_registers, loop_registers}
 use Rattle.vd_backend_laws.specs.Parts.{Parts, has_back_end, suite_calls, put_in, turned, back_end}
 use Rattle.vd_views_backends.specs.Sides.{IsPlain, PlanIsPlain}
@@ -55,10 +55,10 @@ module _ (hosts : ℕ) (proto : ℕ → Proto) (free : (x : ℕ) → has_back_en
       (move_plain hosts (proto v.0) q (free v.0) f kept.given kept.next)
   right_plain q f (Get v i) e =
       let x = parts_at (suite_calls hosts) proto e v in
-      let index = delivered (suite_calls hosts) proto (proto i.0) (parts_at (suite_calls hosts) proto e i) (hosts_of (suite_calls hosts) (proto v.0)) e.next in
+      let index = delivered (suite_calls hosts) proto (proto i.0) (parts_at (suite_calls hosts) proto e i) (holders_among (suite_calls hosts) (proto v.0)) e.next in
       let got = (suite_calls hosts).get (proto v.0) x index.given index.next in
       both_plain (index.acts ++ got.acts) ((suite_calls hosts).move (proto v.0) q got.given got.next).acts
-      (both_plain index.acts got.acts (delivered_plain (proto i.0) (free i.0) (parts_at (suite_calls hosts) proto e i) (hosts_of (suite_calls hosts) (proto v.0)) e.next) (all_plain got.acts (get_quiet (proto v.0) x index.given index.next)))
+      (both_plain index.acts got.acts (delivered_plain (proto i.0) (free i.0) (parts_at (suite_calls hosts) proto e i) (holders_among (suite_calls hosts) (proto v.0)) e.next) (all_plain got.acts (get_quiet (proto v.0) x index.given index.next)))
       (move_plain hosts (proto v.0) q (free v.0) f got.given got.next)
 
   pub plan_plain : (b : Block) (e : E) → PlanIsPlain ((emits b).emit e).tree
@@ -89,14 +89,14 @@ module _ (hosts : ℕ) (proto : ℕ → Proto) (free : (x : ℕ) → has_back_en
       (all_plain acts (renew_quiet (proto v.0) (parts_at (suite_calls hosts) proto e v).at moved.given.at))) tt)
       (plan_plain rest s1)
   plan_plain (Put v i x rest) e =
-      let index = delivered (suite_calls hosts) proto (proto i.0) (parts_at (suite_calls hosts) proto e i) (hosts_of (suite_calls hosts) (proto v.0)) e.next in
+      let index = delivered (suite_calls hosts) proto (proto i.0) (parts_at (suite_calls hosts) proto e i) (holders_among (suite_calls hosts) (proto v.0)) e.next in
       let moved = (suite_calls hosts).move (proto x.0) (proto v.0) (parts_at (suite_calls hosts) proto e x) index.next in
       let acts = (suite_calls hosts).put (proto v.0) (parts_at (suite_calls hosts) proto e v) index.given moved.given in
       let s1 : E = record { next = moved.next; held = e.held; loop = e.loop } in
       plain_on _ ((emits rest).emit s1).tree
       (plain_acts ((index.acts ++ moved.acts) ++ acts) Ends
       (both_plain (index.acts ++ moved.acts) acts
-      (both_plain index.acts moved.acts (delivered_plain (proto i.0) (free i.0) (parts_at (suite_calls hosts) proto e i) (hosts_of (suite_calls hosts) (proto v.0)) e.next)
+      (both_plain index.acts moved.acts (delivered_plain (proto i.0) (free i.0) (parts_at (suite_calls hosts) proto e i) (holders_among (suite_calls hosts) (proto v.0)) e.next)
       (move_plain hosts (proto x.0) (proto v.0) (free x.0) (free v.0) (parts_at (suite_calls hosts) proto e x) index.next))
       (all_plain acts (put_quiet (proto v.0) (parts_at (suite_calls hosts) proto e v) index.given moved.given.at))) tt)
       (plan_plain rest s1)

@@ -2,7 +2,7 @@ use Rattle.std.proofs.Common.{slice_index_or, ◌∙◌}
 use Rattle.vd_base.specs.HostSets.{host}
 use Rattle.vd_base.specs.Limits.{most_hosts}
 use Rattle.vd_base.specs.Holders.{is_holder, proto_in}
-use Rattle.vd_choreography.specs.Suite.{hosts_of}
+use Rattle.vd_choreography.specs.Suite.{holders_among}
 use Rattle.vd_choreography.specs.Emission.{delivered, and_on}
 use Rattle.vd_split.proofs.Onto.{called_on}
 use Rattle.vd_split.proofs.Picked.{hosts_below, hosts_few}
@@ -23,7 +23,7 @@ returns-clause-exact g c =
     let s = (g.P.Protocols.offer c.args.protocols.now).calls in
     let pr = proto_in c.args.protos.now in
     let p = pr c.args.array.0 in
-    let told = delivered s pr (pr c.args.index.0) (slice_index_or c.args.held.now c.args.index.0 s.nowhere) (hosts_of s p) c.args.to.now.next in
+    let told = delivered s pr (pr c.args.index.0) (slice_index_or c.args.held.now c.args.index.0 s.nowhere) (holders_among s p) c.args.to.now.next in
     called_on s pr (and_on s pr told (s.get p (slice_index_or c.args.held.now c.args.array.0 s.nowhere))) (s.move p c.args.at) c.args.to.now
     (c.in_ok-cell.cell, c.get.new.to) (c.in_ok-parts.parts, c.bring.new.to)
     (called_on s pr told (s.get p (slice_index_or c.args.held.now c.args.array.0 s.nowhere)) c.args.to.now (c.in_ok-index.index, c.deliver.new.to) (c.in_ok-cell.cell, c.get.new.to)
