@@ -6,14 +6,14 @@ use Rattle.vd_base.specs.declared.protocols.Proto.TheVariants.{Local, Rep, Commi
 use Rattle.vd_base.specs.declared.rows.Row.{Row}
 use Rattle.vd_base.specs.Costs.{cost_at}
 use Rattle.vd_base.specs.Moves.{move_at}
-use Rattle.vd_base.specs.Holders.{holders}
+use Rattle.vd_base.specs.Holders.{holders, HasHosts}
 use Rattle.vd_execution.specs.Registers.{nth, words_from, digest_of}
 use Rattle.vd_execution.specs.Step.{Inputs}
 use Rattle.vd_execution.specs.World.{Tape}
 use Rattle.vd_execution.specs.Joint.{Hosts}
 use Rattle.vd_execution.specs.Text.{register}
 use Rattle.vd_duet.specs.Calls.{Places, hosts_of, Stand}
-use Rattle.vd_duet.specs.Laws.{Each, IsIn, IsHost, words_at}
+use Rattle.vd_duet.specs.Laws.{IsIn, IsHost, words_at}
 use Rattle.vd_choreography.specs.Suite.{Suite, Content, Word, Cells}
 use Rattle.vd_backend_laws.specs.Machine.{machine}
 use Rattle.vd_backend_laws.specs.Commits.{committed_at, held_of, seen_of}
@@ -57,7 +57,7 @@ is_in_order (Xor a b) = nat_lt a.0 b.0 && nat_lt b.0 8
 -- the protocol has a host, and its hosts are among the first ones, in order
 pub record IsOver (hosts : ℕ) (p : Proto) : Type 0 where
   pub some : (h : ℕ) × IsHost (holders p) h
-  pub known : Each (λ h. h.0 < hosts) (holders p)
+  pub known : HasHosts hosts p
   pub ordered : IsTrue (is_in_order p)
 
 -- the tables

@@ -1,5 +1,6 @@
 -- What the calls of a back end do, for all valid deals and all states.
 use Rattle.std.specs.Prelude.{◌≡◌, ℕ, ◌^◌, ◌<◌, ◌≤◌, IsTrue, is_some, List, [], ◌∷◌, ◌⊎◌, length, map, slice_index}
+use Rattle.std.specs.List.{AllByRecursion}
 use Rattle.vd_base.specs.declared.ids.HostId.{HostId}
 use Rattle.vd_base.specs.declared.operations.Op.{Op}
 use Rattle.vd_base.specs.declared.operations.Op.TheVariants as op
@@ -20,8 +21,7 @@ use Rattle.vd_duet.specs.Builder.{most_taken, TakesAtMost}
 use Rattle.vd_duet.specs.Calls.{Places, hosts_of, Made, Calls, Stand}
 
 abbrev pub Each : {X : Type 0} → (X → Type 0) → List X → Type 0
-Each P [] = Unit {0}
-Each P (x ∷ xs) = P x × Each P xs
+Each P xs = AllByRecursion P xs
 
 -- a register of a host is among these
 abbrev pub IsIn : Places → ℕ → ℕ → Type 0

@@ -14,7 +14,7 @@ use Rattle.vd_base.specs.declared.protocols.HostSet.{HostSet}
 use Rattle.vd_base.specs.HostSets.{has_host, host}
 use Rattle.vd_base.specs.Costs.{cost_at}
 use Rattle.vd_base.specs.Moves.{move_at}
-use Rattle.vd_base.specs.Holders.{proto_in}
+use Rattle.vd_base.specs.Holders.{proto_in, HasHosts}
 use Rattle.vd_core.specs.Facts.{IsWellMade}
 use Rattle.vd_core.specs.declared.normal.NormalForm.{NormalForm}
 use Rattle.vd_core.specs.declared.normal.Written.{Written}
@@ -23,7 +23,7 @@ use Rattle.vd_formula.proofs.Front.{if_so}
 use Rattle.vd_formula.specs.TruthTable.{at, acts}
 use Rattle.vd_formula.specs.declared.label.Label.{Label}
 use Rattle.vd_protocol.proofs.Front.{is_over}
-use Rattle.vd_protocol.specs.Authority.{HasHosts, authority_of, label_of, names_of}
+use Rattle.vd_protocol.specs.Authority.{authority_of, label_of, names_of}
 use Rattle.vd_constraints.specs.declared.labels.Labels.{Labels}
 use Rattle.vd_constraints.specs.declared.system.Place.TheVariants.{Block}
 use Rattle.vd_constraints.specs.Rules.{at_start, host_label, label, no_authority, system_of}
@@ -61,18 +61,18 @@ module _ (n : ℕ) (f g : HostId → Bool) (same : (k : ℕ) → k < n → f (ho
       by false more = more
 
   kept_same : (q : Proto) → HasHosts n q → is_kept f n q ≡ is_kept g n q
-  kept_same (Local h) has = same h.0 has
+  kept_same (Local h) has = same h.0 has.0
   kept_same (Rep set) has = any_member set 0 n (omega arith)
-  kept_same (Commit p v) has = ap₂ (λ (x y : Bool). x || y) (same p.0 has.0) (same v.0 has.1)
-  kept_same (Add a b) has = ap₂ (λ (x y : Bool). x && y) (same a.0 has.0) (same b.0 has.1)
-  kept_same (Xor a b) has = ap₂ (λ (x y : Bool). x && y) (same a.0 has.0) (same b.0 has.1)
+  kept_same (Commit p v) has = ap₂ (λ (x y : Bool). x || y) (same p.0 has.0) (same v.0 has.1.0)
+  kept_same (Add a b) has = ap₂ (λ (x y : Bool). x && y) (same a.0 has.0) (same b.0 has.1.0)
+  kept_same (Xor a b) has = ap₂ (λ (x y : Bool). x && y) (same a.0 has.0) (same b.0 has.1.0)
 
   seen_same : (q : Proto) → HasHosts n q → is_seen f n q ≡ is_seen g n q
-  seen_same (Local h) has = same h.0 has
+  seen_same (Local h) has = same h.0 has.0
   seen_same (Rep set) has = any_member set 0 n (omega arith)
   seen_same (Commit p v) has = same p.0 has.0
-  seen_same (Add a b) has = ap₂ (λ (x y : Bool). x && y) (same a.0 has.0) (same b.0 has.1)
-  seen_same (Xor a b) has = ap₂ (λ (x y : Bool). x && y) (same a.0 has.0) (same b.0 has.1)
+  seen_same (Add a b) has = ap₂ (λ (x y : Bool). x && y) (same a.0 has.0) (same b.0 has.1.0)
+  seen_same (Xor a b) has = ap₂ (λ (x y : Bool). x && y) (same a.0 has.0) (same b.0 has.1.0)
 
 turned : (a b k : Bool) → (a ≡ true → b ≡ true) → a ≡ not k → not b ≡ true → k ≡ true
 turned true true k h is off = absurd (true≢false (sym off))

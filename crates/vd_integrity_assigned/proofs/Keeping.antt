@@ -5,10 +5,11 @@ use Rattle.vd_base.specs.declared.ids.HostId.{HostId}
 use Rattle.vd_base.specs.declared.protocols.Proto.{Proto}
 use Rattle.vd_base.specs.declared.protocols.Proto.TheVariants.{Local, Rep, Commit, Add, Xor}
 use Rattle.vd_base.specs.HostSets.{members}
+use Rattle.vd_base.specs.Holders.{HasHosts}
 use Rattle.vd_formula.specs.TruthTable.{TruthTable, at, both_of, either_of, never_of}
 use Rattle.vd_formula.specs.declared.label.Label.{Label}
 use Rattle.vd_formula.proofs.Front.{at-formula_where}
-use Rattle.vd_protocol.specs.Authority.{AreOverSameNames, HasHosts, IsOver, label, label_of, names_of}
+use Rattle.vd_protocol.specs.Authority.{AreOverSameNames, IsOver, label, label_of, names_of}
 use Rattle.vd_integrity_assigned.specs.Keeping.{AuthoritiesAreExact, IsExact}
 
 not_not : (b : Bool) → b ≡ not (not b)

@@ -5,9 +5,10 @@ use Rattle.vd_base.specs.declared.ids.HostId.{HostId}
 use Rattle.vd_base.specs.declared.protocols.Proto.{Proto}
 use Rattle.vd_base.specs.declared.protocols.Proto.TheVariants.{Local, Rep, Commit, Add, Xor}
 use Rattle.vd_base.specs.HostSets.{members}
+use Rattle.vd_base.specs.Holders.{HasHosts}
 use Rattle.vd_formula.specs.TruthTable.{at}
 use Rattle.vd_formula.specs.declared.label.Label.{Label}
-use Rattle.vd_protocol.specs.Authority.{AreOverSameNames, HasHosts, authority_of, label_of, names_of}
+use Rattle.vd_protocol.specs.Authority.{AreOverSameNames, authority_of, label_of, names_of}
 
 -- Of n hosts these keep to their programs, and the others may do anything. The word that stands at a protocol is right where the
 -- host keeps; of copies where one holder keeps, since who is shown them compares all; of a commitment where the one that is bound

@@ -4,9 +4,10 @@ use Rattle.std.proofs.lemmas.List.Elements.{All-get_or}
 use Rattle.vd_base.specs.declared.ids.HostId.{HostId}
 use Rattle.vd_base.specs.declared.protocols.Proto.{Proto}
 use Rattle.vd_base.specs.declared.protocols.Proto.TheVariants.{Local, Rep, Commit, Add, Xor}
+use Rattle.vd_base.specs.Holders.{HasHosts}
 use Rattle.vd_formula.specs.declared.label.Label.{Label}
 use Rattle.vd_formula.specs.TruthTable.{TruthTable, both_of, either_of}
-use Rattle.vd_protocol.specs.Authority.{label, label_of, names_of, IsOver, AreOverSameNames, HasHosts, committed_of, shared_of, authority_of}
+use Rattle.vd_protocol.specs.Authority.{label, label_of, names_of, IsOver, AreOverSameNames, committed_of, shared_of, authority_of}
 
 module _ (hosts : List Label) (over : AreOverSameNames hosts) where
   label_over : (h : HostId) → h.0 < length hosts → IsOver (names_of hosts) (label_of hosts h)
@@ -21,7 +22,7 @@ module _ (hosts : List Label) (over : AreOverSameNames hosts) where
   shared_over a b low = let own = label_over a low in record { conf = own.conf; integ = own.integ }
 
   authority_over : (p : Proto) → HasHosts (length hosts) p → IsOver (names_of hosts) (authority_of p hosts)
-  authority_over (Local h) has = label_over h has
+  authority_over (Local h) has = label_over h has.0
   authority_over (Rep set) has = record { conf = refl; integ = refl }
   authority_over (Commit p v) has = committed_over p v has.0
   authority_over (Add a b) has = shared_over a b has.0

@@ -1,5 +1,5 @@
 -- The authority of a protocol: the label that its hosts have together.
-use Rattle.std.specs.Prelude.{◌≡◌, ℕ, ◌<◌, ◌^◌, List, length, map, slice_index_or, All}
+use Rattle.std.specs.Prelude.{◌≡◌, ℕ, List, length, map, slice_index_or, All}
 use Rattle.std.specs.List.{list_any, list_all}
 use Rattle.vd_base.specs.declared.ids.HostId.{HostId}
 use Rattle.vd_base.specs.declared.protocols.HostSet.{HostSet}
@@ -28,14 +28,6 @@ pub record IsOver (names : ℕ) (label : Label) : Type 0 where
 -- all labels are over the same names
 abbrev pub AreOverSameNames : List Label → Type 0
 AreOverSameNames hosts = All (IsOver (names_of hosts)) hosts
-
--- the hosts of a protocol are among the first n: of copies the whole number of the set counts, where `holders` has the hosts below 8
-abbrev pub HasHosts : ℕ → Proto → Type 0
-HasHosts n (Local h) = h.0 < n
-HasHosts n (Rep set) = set.bits < 2 ^ n
-HasHosts n (Commit p v) = (p.0 < n) × (v.0 < n)
-HasHosts n (Add a b) = (a.0 < n) × (b.0 < n)
-HasHosts n (Xor a b) = (a.0 < n) × (b.0 < n)
 
 -- true where one of them is
 abbrev pub disjunction_of : ℕ → List TruthTable → TruthTable

@@ -1,6 +1,7 @@
 ghost use Rattle.std.specs.Prelude.{◌≡◌, ◌<◌, ◌≤◌, length};
 ghost use Rattle.vd_base.specs.Limits.{most_hosts};
-ghost use Rattle.vd_protocol.specs.Authority.{AreOverSameNames, HasHosts, IsOver, authority_of, committed_of, copies_of, names_of, shared_of};
+ghost use Rattle.vd_base.specs.Holders.{HasHosts};
+ghost use Rattle.vd_protocol.specs.Authority.{AreOverSameNames, IsOver, authority_of, committed_of, copies_of, names_of, shared_of};
 
 use vd_base::{HostId, HostSet, Proto};
 use vd_base_lists::Items;

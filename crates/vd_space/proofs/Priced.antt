@@ -1,19 +1,19 @@
 -- The cost of a list is at most so many times the weights of what has a cost.
 use Rattle.std.proofs.Common.{◌≡◌, ℕ, suc, ◌+◌, ◌*◌, ◌^◌, ◌<◌, ◌≤◌, Bool, true, false, cond, Option, Some, None, ◌⊎◌, ltb, List, [], ◌∷◌, ◌++◌, map, filter, length, sym, ap, subst, arith, mul-le-mul_left, ℤ, pos, ◌+ℤ◌, ◌≤ℤ◌, inl, inr, slice_get}
-use Rattle.std.specs.Prelude.{unwrap_or, if◌then◌else◌}
+use Rattle.std.specs.Prelude.{All, unwrap_or, if◌then◌else◌}
 use Rattle.std.specs.List.{range_with_len}
 use Rattle.std.specs.Option.{option_map_or, option_and_then}
 use Rattle.std.proofs.Math.Nat.{pow-le-pow_right}
 use Rattle.std.proofs.lemmas.Int.{ints}
 use Rattle.std.proofs.lemmas.List.{length-map, get_or_past}
+use Rattle.std.proofs.lemmas.List.Elements.{All-get_or}
 use Rattle.std.proofs.lemmas.List.FromFn.{length-range_with_len}
 use Rattle.std.proofs.lemmas.Bool.{cond-true, cond-false, cases_Bool, ltb-true, ltb-false}
 use Rattle.vd_base.specs.Costs.{cost_at}
 use Rattle.vd_base.specs.declared.ids.HostId.{HostId}
-use Rattle.vd_base.specs.declared.protocols.Proto.{Proto}
-use Rattle.vd_base.specs.declared.protocols.Proto.TheVariants.{Local, Rep, Commit, Add, Xor}
+use Rattle.vd_base.specs.declared.protocols.HostSet.{HostSet}
+use Rattle.vd_base.specs.declared.protocols.Proto.TheVariants.{Local}
 use Rattle.vd_base.specs.HostSets.{host}
-use Rattle.vd_protocol.specs.Authority.{HasHosts}
 use Rattle.vd_space.specs.declared.problem.Problem.{Problem}
 use Rattle.vd_space.specs.declared.problem.Making.{Making}
 use Rattle.vd_space.specs.declared.problem.Use.{Use}
@@ -23,7 +23,7 @@ use Rattle.vd_space.specs.declared.problem.Index.{Index}
 use Rattle.vd_space.specs.Validity.{protocols, protocol, move, move_to_host, all_hosts, holds_at, takes_part}
 use Rattle.vd_space.specs.Costs.{Pair, weigh, plus, moves_to, hosts_at, operation_value, operation_term, output_term, use_term, index_term, guard_term, total, slots_of, one_at, pair_at, cost}
 use Rattle.vd_space.specs.Sizes.{heft, amount}
-use Rattle.vd_space.proofs.Listed.{has_hosts_at}
+use Rattle.vd_space.proofs.Listed.{all_listed}
 use Rattle.vd_space.proofs.Prices.{IsSmall, row_price, move_price}
 use Rattle.vd_space.proofs.Totals.{total_append, total_map}
 
@@ -105,19 +105,18 @@ fewer test (x ∷ xs) = elim (cases_Bool (test x)) [
 ]
 
 module _ (problem : Problem) (few : length problem.hosts ≤ 4) where
-  small_at : (p : Proto) → HasHosts (length problem.hosts) p → IsSmall p
-  small_at (Local h) has = tt
-  small_at (Rep set) has =
+  copies_small : (set : HostSet) → set.bits < 2 ^ length problem.hosts → set.bits < 2 ^ 4
+  copies_small set low =
       let two : 0 < 2 = omega arith in
       let power : 2 ^ length problem.hosts ≤ 2 ^ 4 = pow-le-pow_right two few in
-      omega (arith, has, power)
-  small_at (Commit p v) has = tt
-  small_at (Add a b) has = tt
-  small_at (Xor a b) has = tt
+      omega (arith, low, power)
+
+  all_small : All IsSmall (protocols problem)
+  all_small = all_listed (length problem.hosts) IsSmall (λ h low. tt) copies_small (λ a b low low_b. (tt, (tt, tt)))
 
   pub small : (p : ℕ) → IsSmall (protocol problem p)
   small p = elim (listed_or_not (length (protocols problem)) p) [
-    | inl within ↦ small_at (protocol problem p) (has_hosts_at (length problem.hosts) p (Local (host 0)) within)
+    | inl within ↦ All-get_or IsSmall (protocols problem) p (Local (host 0)) within all_small
     | inr past ↦ subst IsSmall (sym (get_or_past (protocols problem) p (Local (host 0)) past)) tt
   ]
 

@@ -1,7 +1,7 @@
 //! The authorities of protocols.
 
 ghost use Rattle.std.specs.Prelude.{IsTrue};
-ghost use Rattle.vd_protocol.specs.Authority.{HasHosts};
+ghost use Rattle.vd_base.specs.Holders.{HasHosts};
 
 use std::alloc::Global;
 use std::test::Fail;
@@ -11,6 +11,7 @@ use vd_formula::{Formula, Label};
 use vd_protocol::authority;
 
 /// Whether the hosts of the protocol are among the first three.
+#[tactic(auto, using(crate::proofs::ThreeHosts::one_of_three, crate::proofs::ThreeHosts::copies_of_three, crate::proofs::ThreeHosts::two_of_three))]
 fn is_of_three(protocol: Proto) -> bool
     ensures { IsTrue result → HasHosts 3 protocol }
 {
