@@ -11,6 +11,7 @@ use crate::tables::plain_tables;
 use std::alloc::{AllocError, Global};
 use vd_base::Proto;
 use vd_base_lists::Items;
+use vd_cost_network_prefix::NetworkTables;
 use vd_cost_network_shifts::shifts_of;
 use vd_cost_network_sweeps::{Layout, Nets, UNIT_BITS};
 use vd_search_tree::Shift;
@@ -31,10 +32,16 @@ pub fn plain_shifts(alloc: Global, problem: &Problem) -> Result<Option<Items<Shi
     let Some(layout) = Layout::of(alloc, problem, &by_uses, places.as_slice())? else {
         return Ok(None);
     };
-    let mut nets = climbed(alloc, &layout, &by_uses)?;
+    let nets = nets_of(alloc, &layout, &by_uses)?;
+    use_shifts(alloc, problem, list.as_slice(), &nets)
+}
+
+/// What shifts come to in whole units.
+fn nets_of(alloc: Global, layout: &Layout, by_uses: &NetworkTables) -> Result<Nets, AllocError> {
+    let mut nets = climbed(alloc, layout, by_uses)?;
     in_units(&mut nets.firsts);
     in_units(&mut nets.seconds);
-    use_shifts(alloc, problem, list.as_slice(), &nets)
+    Ok(nets)
 }
 
 /// Amounts in parts, as whole units.
