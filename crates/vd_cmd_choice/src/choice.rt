@@ -88,13 +88,13 @@ pub fn assignment_text(
     choice_text(alloc, program, protocols, u64::from(assignment.cost))
 }
 
-/// The answer where no assignment is valid for the program of a choice.
-pub fn no_assignment(alloc: Global, choice: Choice) -> Answer
-    requires { IsLeast (system_of choice.program) choice.labels }
-    ensures { result ≡ no_list (labelled_form choice.program choice.labels) }
+/// The answer where no assignment is valid for a program under its least labels.
+pub fn no_assignment(alloc: Global, program: Program, labels: Labels) -> Answer
+    requires { IsLeast (system_of program) labels }
+    ensures { result ≡ no_list (labelled_form program labels) }
 {
     Answer {
-        status: Status::NoAssignment(Labelled::new(choice.program, choice.labels)),
+        status: Status::NoAssignment(Labelled::new(program, labels)),
         stores: Items::new(alloc),
         printed: Bytes::new(alloc),
     }

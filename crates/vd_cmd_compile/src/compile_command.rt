@@ -91,7 +91,7 @@ pub fn compile_choice(alloc: Global, found: ChosenSource, prefix: &str) -> Resul
     let ChosenSource { text, choice } = found;
     match &choice.assignment {
         Some(assignment) => compile_at(alloc, &choice.program, assignment, text.as_slice(), prefix),
-        None => Ok(no_assignment(alloc, choice)),
+        None => Ok(no_assignment(alloc, choice.program, choice.labels)),
     }
 }
 

@@ -66,7 +66,7 @@ fn compile_choice(alloc: Global, found: ChosenSource, prefix: &str) -> Result<An
     let ChosenSource { text, choice } = found;
     match &choice.assignment {
         Some(assignment) => compile_at(alloc, &choice.program, assignment, text.as_slice(), prefix),
-        None => Ok(no_assignment(alloc, choice)),
+        None => Ok(no_assignment(alloc, choice.program, choice.labels)),
     }
 }
 

@@ -50,7 +50,7 @@ fn draw_choice(alloc: Global, name: &str, found: ChosenSource) -> Result<Answer,
     let ChosenSource { text, choice } = found;
     match &choice.assignment {
         Some(assignment) => draw_at(alloc, &choice, assignment, name, text.as_slice()),
-        None => Ok(no_assignment(alloc, choice)),
+        None => Ok(no_assignment(alloc, choice.program, choice.labels)),
     }
 }
 

@@ -111,7 +111,7 @@ fn excuse_host(
             runs,
             words.out.as_str(),
         ),
-        None => Ok(no_assignment(alloc, choice)),
+        None => Ok(no_assignment(alloc, choice.program, choice.labels)),
     }
 }
 

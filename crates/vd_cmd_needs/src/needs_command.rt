@@ -81,7 +81,7 @@ fn needs_choice(alloc: Global, choice: Choice, each: bool) -> Result<Answer, Sta
 {
     match &choice.assignment {
         Some(assignment) => needs_at(alloc, &choice.program, assignment, each),
-        None => Ok(no_assignment(alloc, choice)),
+        None => Ok(no_assignment(alloc, choice.program, choice.labels)),
     }
 }
 

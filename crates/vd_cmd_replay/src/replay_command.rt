@@ -117,7 +117,7 @@ fn replay_asked(
     let choice = choice_of(alloc, program, budget)?;
     match &choice.assignment {
         Some(assignment) => replay_choice(alloc, &choice.program, assignment, asked, packets),
-        None => Ok(no_assignment(alloc, choice)),
+        None => Ok(no_assignment(alloc, choice.program, choice.labels)),
     }
 }
 

@@ -83,7 +83,7 @@ fn trial_program(alloc: Global, program: Program, coordinates: u32) -> Result<An
     let choice = choice_of(alloc, program, SEARCH_BUDGET)?;
     match &choice.assignment {
         Some(assignment) => trial_at(alloc, &choice.program, assignment, coordinates),
-        None => Ok(no_assignment(alloc, choice)),
+        None => Ok(no_assignment(alloc, choice.program, choice.labels)),
     }
 }
 

@@ -36,7 +36,8 @@ fn hidden_remark(
     }
 }
 
-/// The same under the program's least labels.
+/// The remark on the first branch of a program that no host may read and that cannot be hidden, under the program's least labels. None
+/// where there is no such branch.
 pub fn branch_remark(
     alloc: Global,
     program: &Program,
